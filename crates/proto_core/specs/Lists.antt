@@ -1,0 +1,23 @@
+-- Lists of words by index: a protocol's equation gives the word at each index.
+use Rattle.std.specs.Prelude.{ℕ, ◌+◌, ◌*◌, ◌<◌, ◌^◌, List, [], ◌∷◌, ◌++◌, map, slice_index}
+use Rattle.std.specs.List.{range_with_len}
+
+-- the word at an index, and 0 past the end
+abbrev pub at : List ℕ → ℕ → ℕ
+at xs k = slice_index xs k
+
+-- n words, f of each index
+unfoldable pub each : ℕ → (ℕ → ℕ) → List ℕ
+each n f = map f (range_with_len 0 n)
+
+-- the words of each field, one field after another
+abbrev pub fields : ℕ → List (ℕ → ℕ) → List ℕ
+fields n [] = []
+fields n (f ∷ fs) = each n f ++ fields n fs
+
+abbrev pub AreWords : List ℕ → Type 0
+AreWords xs = (k : ℕ) → at xs k < 2 ^ 64
+
+-- field number j, of n words, in words that hold one field after another
+unfoldable pub part : ℕ → ℕ → List ℕ → List ℕ
+part n j xs = each n (λ k. at xs (j * n + k))

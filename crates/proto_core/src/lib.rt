@@ -1,0 +1,26 @@
+//! What protocols between three miners are made of: parties, links, shares, blocks, messages, and what a protocol is.
+#![tactic(auto)]
+
+mod block;
+mod interactive;
+mod link;
+mod messages;
+mod msg;
+mod party;
+mod refused;
+mod resharing;
+mod schedule;
+mod share;
+#[cfg(test)]
+mod tests;
+
+pub use block::{Block, Full};
+pub use interactive::{Interactive, interactive_is_lawful};
+pub use link::Link;
+pub use messages::Messages;
+pub use msg::{Msg, check_bits};
+pub use party::{Number, P1, P2, P3, Party};
+pub use refused::{BadMessage, Refused};
+pub use resharing::{reshare, sum_of_shares};
+pub use schedule::Schedule;
+pub use share::Share;
