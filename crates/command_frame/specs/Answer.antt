@@ -1,0 +1,68 @@
+-- What a command decides of the files that it reads: an effect, or why it is refused.
+use Rattle.std.specs.Prelude.{ℕ, List, [], ◌∷◌, ◌++◌, map, Result, Ok, Err, String, string_bytes, codes}
+use Rattle.std.specs.declared.alloc.Global.{Global}
+use Rattle.std.specs.Option.{ok_or}
+use Rattle.outside.specs.Files.{Contents, file_at, with_file}
+use Rattle.command_frame.specs.declared.status.Status.{Status}
+use Rattle.command_frame.specs.declared.status.Status.TheVariants.{File, Usage}
+use Rattle.command_frame.specs.declared.refusal.Refusal.{Refusal}
+use Rattle.command_frame.specs.declared.plan.Plan.{Plan}
+use Rattle.command_frame.specs.declared.plan.PlannedWrite.{PlannedWrite}
+
+-- a refusal: its status, and the line that is written to the error stream
+pub record Cause : Type 0 where
+  pub status : Status
+  pub line : List ℕ
+
+-- a file that is written: its path and its bytes
+pub record Written : Type 0 where
+  pub path : List ℕ
+  pub bytes : List ℕ
+
+-- the files to write, in order, then the text and the status
+pub record Effect : Type 0 where
+  pub writes : List Written
+  pub text : List ℕ
+  pub status : Status
+
+abbrev pub Answer : Type 0
+Answer = Result Effect Cause
+
+-- a step and then another, where the first isn't refused
+infixl 10 ◌>>=◌
+abbrev pub ◌>>=◌ : {A B : Type 0} → Result A Cause → (A → Result B Cause) → Result B Cause
+(Ok x) >>= f = f x
+(Err e) >>= f = Err e
+
+-- the line of a file that can't be read or written
+unfoldable pub file_line : List ℕ → List ℕ
+file_line path = codes "error: file " ++ path ++ 10 ∷ []
+
+abbrev pub missing : List ℕ → Cause
+missing path = record { status = File; line = file_line path }
+
+abbrev pub usage : Cause
+usage = record { status = Usage; line = codes "error: usage\n" }
+
+-- the bytes of a file
+unfoldable pub bytes_at : Contents → List ℕ → Result (List ℕ) Cause
+bytes_at files path = ok_or (file_at files path) (missing path)
+
+-- a refusal without where it lies in memory
+abbrev pub cause_of : Refusal → Cause
+cause_of r = record { status = r.status; line = string_bytes r.line }
+
+abbrev pub writes_of : List PlannedWrite → List Written
+writes_of writes = map (λ w. record { path = string_bytes w.path; bytes = w.bytes.items }) writes
+
+-- a plan without where it lies in memory
+abbrev pub effect_of : Plan → Effect
+effect_of p = record { writes = writes_of p.writes.items; text = p.text.items; status = p.status }
+
+abbrev pub paths_in : List Written → List (List ℕ)
+paths_in writes = map (λ w. w.path) writes
+
+-- the files after these writes, one after another
+abbrev pub after_writes : List Written → Contents → Contents
+after_writes [] files = files
+after_writes (w ∷ ws) files = after_writes ws (with_file files w.path w.bytes)

@@ -1,0 +1,6 @@
+pub mod Answer
+pub mod Finish
+pub mod Reads
+pub mod Status
+pub mod Stops
+pub mod Whole

@@ -1,0 +1,48 @@
+-- What a function that reads files answered.
+use Rattle.std.specs.Prelude.{ℕ, ◌≡◌, ◌≤◌, List, true, Result, Ok, Err, MatchResult, Contains, string_bytes}
+use Rattle.outside.specs.Causes.{Rose}
+use Rattle.outside.specs.Files.{FilesState, SameFiles}
+use Rattle.command_frame.specs.declared.plan.Plan.{Plan}
+use Rattle.command_frame.specs.declared.status.Status.TheVariants.{File}
+use Rattle.command_frame.specs.declared.stop.Stop.{Stop}
+use Rattle.command_frame.specs.declared.stop.Stop.TheVariants as stops
+use Rattle.command_frame.specs.Answer.{Cause, cause_of, file_line, paths_in, writes_of}
+
+-- nothing was written
+pub record OnlyRead (old new : FilesState) : Type 0 where
+  pub same : SameFiles old new
+  pub later : old.faults ≤ new.faults
+  pub still : old.steady ≡ true → new.steady ≡ true
+
+-- the count of faults rose, and that of a steady store only where the file is missing
+pub record Faulted {Y : Type 0} (old new : FilesState) (line : List ℕ) (decided : Result Y Cause) : Type 0 where
+  pub rose : Rose old.faults new.faults
+  pub missing : old.steady ≡ true → old.told ≡ true → decided ≡ Err (record { status = File; line = line })
+
+abbrev pub Stops : {Y : Type 0} → FilesState → FilesState → Stop → Result Y Cause → Type 0
+Stops old new stops.Memory decided = Unit {0}
+Stops old new (stops.Refused r) decided = old.told ≡ true → decided ≡ Err (cause_of r)
+Stops old new stops.Usage decided = ⊥
+Stops old new (stops.File line) decided = Faulted old new (string_bytes line) decided
+Stops old new stops.Out decided = ⊥
+
+-- what the function returned, seen by `view`, is what is decided of the files' contents, where they are told
+abbrev pub Gives : {X Y : Type 0} → (X → Y) → FilesState → FilesState → Result X Stop → Result Y Cause → Type 0
+Gives view old new (Ok x) decided = old.told ≡ true → decided ≡ Ok (view x)
+Gives view old new (Err e) decided = Stops old new e decided
+
+-- the line of a file fault names one of these paths
+abbrev pub IsLineOf : List (List ℕ) → List ℕ → Type 0
+IsLineOf paths line = (path : List ℕ) × Contains paths path × (line ≡ file_line path)
+
+-- a stop for a file names one of these paths
+pub record StopNames (paths : List (List ℕ)) (stop : Stop) : Type 0 where
+  pub named : (line : _) → stop ≡ stops.File line → IsLineOf paths (string_bytes line)
+
+-- all files that the plan writes are among these paths
+pub record PlanNames (paths : List (List ℕ)) (plan : Plan) : Type 0 where
+  pub written : (path : List ℕ) → Contains (paths_in (writes_of plan.writes.items)) path → Contains paths path
+
+-- a command reads and writes these paths and no others
+abbrev pub KeepsTo : List (List ℕ) → Result Plan Stop → Type 0
+KeepsTo paths result = MatchResult result (PlanNames paths) (StopNames paths)

@@ -1,0 +1,90 @@
+-- What a whole command does: it reads, decides, writes, prints, and says why it stopped.
+--
+-- `ask` is what the words name, if they name a command. `answer` is what that command decides of the files' contents.
+-- f, o and e are the states of the files, the output and the error stream before, f', o' and e' after.
+use Rattle.std.specs.Prelude.{ℕ, ◌≡◌, ◌≤◌, ◌⊎◌, List, true, Option, None, IsSome, Result, Ok, Err, IfOk, IfErr, IsOkAnd, MatchResult, Contains, string_bytes}
+use Rattle.outside.specs.Causes.{Rose}
+use Rattle.outside.specs.Files.{FilesState, SameFiles, file_at}
+use Rattle.outside.specs.Sink.{SinkState, SameSink, Appends}
+use Rattle.command_frame.specs.declared.status.Status.{Status}
+use Rattle.command_frame.specs.declared.stop.Stop.{Stop}
+use Rattle.command_frame.specs.declared.stop.Stop.TheVariants as stops
+use Rattle.command_frame.specs.Answer.{Answer, Cause, Effect, after_writes, cause_of, file_line, missing, paths_in}
+use Rattle.command_frame.specs.Finish.{Begun, PutPrefix}
+use Rattle.command_frame.specs.Reads.{Faulted, StopNames}
+use Rattle.command_frame.specs.Status.{is_end}
+use Rattle.command_frame.specs.Stops.{status_of, line_of}
+
+-- only the files that the command writes are changed
+pub record OnlyWritten (answer : Answer) (f f' : FilesState) : Type 0 where
+  pub told : f'.told ≡ f.told
+  pub others : f.told ≡ true → (q : List ℕ) → IfOk answer (λ e. Contains (paths_in e.writes) q → ⊥) → file_at f'.contents q ≡ file_at f.contents q
+  pub later : f.faults ≤ f'.faults
+
+-- the whole effect: all files, the text, and this status
+pub record IsDone (effect : Effect) (f f' : FilesState) (o o' : SinkState) (given : Status) : Type 0 where
+  pub status : given ≡ effect.status
+  pub files : f'.contents ≡ after_writes effect.writes f.contents
+  pub text : Appends o o' effect.text
+
+-- all files, and a prefix of the text
+pub record IsCut (effect : Effect) (f f' : FilesState) (o o' : SinkState) : Type 0 where
+  pub files : f'.contents ≡ after_writes effect.writes f.contents
+  pub text : PutPrefix effect.text o o'
+
+-- the count of the output rose, which a steady one's doesn't
+pub record OutFaulted (old new : SinkState) : Type 0 where
+  pub rose : Rose old.faults new.faults
+  pub unsteady : old.steady ≡ true → ⊥
+
+-- no file changed, or some of the command's files were written in order
+abbrev pub SomeWritten : Answer → FilesState → FilesState → Type 0
+SomeWritten answer f f' = SameFiles f f' ⊎ (f.told ≡ true → IsOkAnd answer (λ e. Begun (paths_in e.writes) f f'))
+
+abbrev pub StopsAt : Answer → FilesState → FilesState → SinkState → SinkState → Stop → Type 0
+StopsAt answer f f' o o' stops.Memory = SameSink o o' ⊎ (f.told ≡ true → IsOkAnd answer (λ e. PutPrefix e.text o o'))
+StopsAt answer f f' o o' stops.Usage = ⊥
+StopsAt answer f f' o o' (stops.Refused r) = (f.told ≡ true → answer ≡ Err (cause_of r)) × SameSink o o' × SameFiles f f'
+StopsAt answer f f' o o' (stops.File line) = Faulted f f' (string_bytes line) answer × SameSink o o' × SomeWritten answer f f'
+StopsAt answer f f' o o' stops.Out = OutFaulted o o' × (f.told ≡ true → IsOkAnd answer (λ e. IsCut e f f' o o'))
+
+abbrev pub EndsAs : Answer → FilesState → FilesState → SinkState → SinkState → Result Status Stop → Type 0
+EndsAs answer f f' o o' (Ok status) = (is_end status ≡ true) × (f.told ≡ true → IsOkAnd answer (λ e. IsDone e f f' o o' status))
+EndsAs answer f f' o o' (Err stop) = StopsAt answer f f' o o' stop
+
+-- the same for words that may name no command
+abbrev pub Acts : {A : Type 0} → Option A → Answer → FilesState → FilesState → SinkState → SinkState → Result Status Stop → Type 0
+Acts ask answer f f' o o' (Ok status) = IsSome ask × EndsAs answer f f' o o' (Ok status)
+Acts ask answer f f' o o' (Err stops.Memory) = StopsAt answer f f' o o' stops.Memory
+Acts ask answer f f' o o' (Err stops.Usage) = (ask ≡ None) × SameSink o o' × SameFiles f f'
+Acts ask answer f f' o o' (Err (stops.Refused r)) = IsSome ask × StopsAt answer f f' o o' (stops.Refused r)
+Acts ask answer f f' o o' (Err (stops.File line)) = IsSome ask × StopsAt answer f f' o o' (stops.File line)
+Acts ask answer f f' o o' (Err stops.Out) = IsSome ask × StopsAt answer f f' o o' stops.Out
+
+-- what is said on the error stream
+abbrev pub Says : Result Status Stop → SinkState → SinkState → Type 0
+Says (Ok status) e e' = SameSink e e'
+Says (Err stop) e e' = PutPrefix (line_of stop) e e'
+
+abbrev pub status_in : Result Status Stop → Status
+status_in (Ok status) = status
+status_in (Err stop) = status_of stop
+
+-- ---- what the caller of the program is told
+
+-- the effect is there whole and nothing is said; or nothing but the refusal's line is there, or a prefix of it
+abbrev pub CarriedOut : Answer → FilesState → FilesState → SinkState → SinkState → SinkState → SinkState → Status → Type 0
+CarriedOut (Ok effect) f f' o o' e e' given = IsDone effect f f' o o' given × SameSink e e'
+CarriedOut (Err cause) f f' o o' e e' given = (given ≡ cause.status) × PutPrefix cause.line e e' × SameSink o o' × SameFiles f f'
+
+-- the error stream names one of these paths, or a prefix of its line is there
+abbrev pub NamesOne : List (List ℕ) → SinkState → SinkState → Type 0
+NamesOne paths e e' = (path : List ℕ) × Contains paths path × PutPrefix (file_line path) e e'
+
+-- the command is refused because a file that it reads is missing
+abbrev pub IsMissed : Answer → SinkState → SinkState → Type 0
+IsMissed answer e e' = (path : List ℕ) × (answer ≡ Err (missing path)) × PutPrefix (file_line path) e e'
+
+-- what the answer's status is
+abbrev pub IsAnswered : Answer → Status → Type 0
+IsAnswered answer given = MatchResult answer (λ e. given ≡ e.status) (λ c. given ≡ c.status)

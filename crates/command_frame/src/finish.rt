@@ -1,0 +1,71 @@
+ghost use Rattle.std.specs.Prelude.{◌≡◌, ◌≤◌, true, [], ◌∷◌, OnOk, IfErr, string_bytes};
+ghost use Rattle.outside.specs.Files.{Wrote, OnlyAt};
+ghost use Rattle.command_frame.specs.Answer.{effect_of, writes_of, paths_in};
+ghost use Rattle.command_frame.specs.Reads.{StopNames};
+ghost use Rattle.command_frame.specs.Finish.{OnlyAmong, WroteAll, StopsWriting, StopsWritingOne, Finishes};
+
+use crate::stop::file_stop;
+use crate::{Plan, PlannedWrite, Status, Stop};
+use outside::{FileErr, Files, Sink, put_all};
+use std::alloc::Global;
+
+fn write_file<F: Files>(
+    alloc: Global,
+    files: &mut F,
+    path: &String,
+    bytes: &[u8],
+) -> Result<(), Stop>
+    ensures ok { OnOk result (Wrote (F.state files.old) (F.state files.new) (string_bytes path.now) bytes.now) }
+    ensures only { OnlyAt (F.state files.old) (F.state files.new) (string_bytes path.now) }
+    ensures later { (F.state files.old).faults ≤ (F.state files.new).faults }
+    ensures still { (F.state files.old).steady ≡ true → (F.state files.new).steady ≡ true }
+    ensures err { IfErr result (λ e. StopsWritingOne (F.state files.old) (F.state files.new) e) }
+    ensures names { IfErr result (StopNames (string_bytes path.now ∷ [])) }
+{
+    match files.write(alloc, path, bytes) {
+        Ok(()) => Ok(()),
+        Err(FileErr::Memory) => Err(Stop::Memory),
+        Err(FileErr::Failed) => Err(file_stop(alloc, path)),
+    }
+}
+
+// Writes the files in order.
+fn write_files<F: Files>(
+    alloc: Global,
+    files: &mut F,
+    writes: &[PlannedWrite],
+) -> Result<(), Stop>
+    ensures ok { OnOk result (WroteAll (writes_of writes.now) (F.state files.old) (F.state files.new)) }
+    ensures only { OnlyAmong (paths_in (writes_of writes.now)) (F.state files.old) (F.state files.new) }
+    ensures err { IfErr result (λ e. StopsWriting (paths_in (writes_of writes.now)) (F.state files.old) (F.state files.new) e) }
+    ensures names { IfErr result (StopNames (paths_in (writes_of writes.now))) }
+{
+    for entry in writes {
+        if let Err(stop) = write_file(alloc, files, &entry.path, &entry.bytes) {
+            return Err(stop);
+        }
+    }
+    Ok(())
+}
+
+/// Writes the plan's files in order, then puts its text on `out`, and answers its status.
+///
+/// `File` where a file could not be written: none behind it was begun and `out` is as before. `Out` where the output
+/// failed: it then holds a prefix of the text. `Memory` at any point.
+pub fn finish_plan<F: Files, O: Sink>(
+    alloc: Global,
+    files: &mut F,
+    out: &mut O,
+    plan: &Plan,
+) -> Result<Status, Stop>
+    ensures only { OnlyAmong (paths_in (effect_of plan.now).writes) (F.state files.old) (F.state files.new) }
+    ensures finishes { Finishes (effect_of plan.now) (F.state files.old) (F.state files.new) (O.state out.old) (O.state out.new) result }
+    ensures names { IfErr result (StopNames (paths_in (effect_of plan.now).writes)) }
+{
+    write_files(alloc, files, &plan.writes)?;
+    match put_all(out, &plan.text) {
+        Ok(()) => Ok(plan.status),
+        Err(FileErr::Memory) => Err(Stop::Memory),
+        Err(FileErr::Failed) => Err(Stop::Out),
+    }
+}

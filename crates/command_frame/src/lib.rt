@@ -1,0 +1,21 @@
+//! What every command of the program does: it reads files, decides, writes files, prints its text, and says why it stopped.
+//!
+//! A command's own part only reads and decides. It answers a [`Plan`] (the files to write, the text, the status) or a
+//! [`Stop`]. What then happens to files, output and errors is done and proved here, once for all commands.
+#![tactic(auto)]
+
+mod finish;
+mod plan;
+mod reading;
+mod refusal;
+mod saying;
+mod status;
+mod stop;
+
+pub use finish::finish_plan;
+pub use plan::{Plan, PlannedWrite};
+pub use reading::read_file;
+pub use refusal::Refusal;
+pub use saying::{ended_status, say};
+pub use status::Status;
+pub use stop::Stop;

@@ -1,0 +1,12 @@
+ghost use Rattle.std.specs.Prelude.{◌≡◌, true};
+ghost use Rattle.command_frame.specs.Status.{is_refusal};
+
+use crate::Status;
+
+/// Why what was read is refused: the status, and the line for the error stream with its newline.
+#[derive(Debug, Drop)]
+pub struct Refusal {
+    pub status: Status,
+    pub line: String,
+    pub ghost refuses: { is_refusal status ≡ true },
+}

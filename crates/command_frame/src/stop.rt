@@ -1,0 +1,76 @@
+ghost use Rattle.std.specs.Prelude.{◌≡◌};
+ghost use Rattle.command_frame.specs.Stops.{status_of, line_of, IsFileStop};
+ghost use Rattle.command_frame.specs.declared.stop.Stop.TheVariants.{Memory};
+
+use crate::{Refusal, Status};
+use std::alloc::{AllocError, AllocFailed, Global};
+
+/// Why a command stopped before its end.
+#[derive(Debug, Drop)]
+pub enum Stop {
+    /// Memory ran out.
+    Memory,
+    /// The words name no command.
+    Usage,
+    /// What was read is refused.
+    Refused(Refusal),
+    /// A file could not be read or written: the line that names it.
+    File(String),
+    /// Standard output failed.
+    Out,
+}
+
+impl From<AllocError> for Stop {
+    ghost from_gives = { λ _ e. e ≡ Memory };
+
+    fn from(_: AllocError) -> Self {
+        Stop::Memory
+    }
+}
+
+impl<T: Drop> From<AllocFailed<T>> for Stop {
+    ghost from_gives = { λ _ e. e ≡ Memory };
+
+    fn from(_: AllocFailed<T>) -> Self {
+        Stop::Memory
+    }
+}
+
+impl Stop {
+    /// The status that the command ends with.
+    pub fn status(&self) -> Status
+        ensures { result ≡ status_of self.now }
+    {
+        match self {
+            Stop::Memory => Status::Memory,
+            Stop::Usage => Status::Usage,
+            Stop::Refused(refusal) => refusal.status,
+            Stop::File(_) => Status::File,
+            Stop::Out => Status::Write,
+        }
+    }
+
+    /// The line for the error stream, with its newline.
+    pub fn line(&self) -> &[u8]
+        ensures { result.now ≡ line_of self.now }
+    {
+        match self {
+            Stop::Memory => b"error: memory\n",
+            Stop::Usage => b"error: usage\n",
+            Stop::Refused(refusal) => refusal.line.as_bytes(),
+            Stop::File(line) => line.as_bytes(),
+            Stop::Out => b"error: write\n",
+        }
+    }
+}
+
+/// That the file at this path could not be read or written; `Memory` where the line can't be made.
+#[tactic(auto, unfolding(crate::specs::Answer::file_line))]
+pub fn file_stop(alloc: Global, path: &str) -> Stop
+    ensures { IsFileStop path.now result }
+{
+    match format!(in alloc; "error: file {path}\n") {
+        Ok(line) => Stop::File(line),
+        Err(_) => Stop::Memory,
+    }
+}

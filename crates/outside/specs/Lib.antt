@@ -1,0 +1,13 @@
+pub mod Causes
+pub mod Files
+pub mod Links
+pub mod MemFiles
+pub mod MemLinks
+pub mod MemPeer
+pub mod MemSink
+pub mod Pairs
+pub mod Plan
+pub mod Sink
+pub mod Spawner
+pub mod SpawnCall
+pub mod MemSpawner

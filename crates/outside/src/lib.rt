@@ -1,0 +1,32 @@
+//! What a program reaches outside itself: files, sinks of bytes, links to peers and other programs.
+//!
+//! Each trait counts the faults of its object, tells what the object holds where that is known, and says
+//! whether the object is steady, that is whether its calls fail only for a cause of the caller's own. The
+//! `Mem` types stand in memory, for tests.
+#![tactic(auto)]
+
+mod error;
+mod fault_plan;
+mod files;
+mod links;
+mod mem_files;
+mod mem_links;
+mod mem_peer;
+mod mem_sink;
+mod mem_spawner;
+mod sink;
+mod spawn_call;
+mod spawner;
+#[cfg(test)]
+mod tests;
+
+pub use error::{Failed, FileErr, SpawnErr};
+pub use files::Files;
+pub use links::Links;
+pub use mem_files::MemFiles;
+pub use mem_links::MemLinks;
+pub use mem_sink::MemSink;
+pub use mem_spawner::MemSpawner;
+pub use sink::{Sink, put_all};
+pub use spawn_call::SpawnCall;
+pub use spawner::Spawner;
