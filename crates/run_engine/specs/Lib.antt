@@ -1,0 +1,10 @@
+pub mod Dealing
+pub mod Input
+pub mod Names
+pub mod Program
+pub mod Run
+pub mod Runs
+pub mod Sum
+pub mod Tape
+pub mod Vectors
+pub mod Words
