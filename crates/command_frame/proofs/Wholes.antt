@@ -155,3 +155,13 @@ file_missed ask answer paths f f' o o' e e' (Err stops.Usage) a says names is fs
 file_missed ask answer paths f f' o o' e e' (Err (stops.Refused r)) a says names is fs t = absurd (no_refusal r.status r.refuses is)
 file_missed ask answer paths f f' o o' e e' (Err (stops.File line)) a says names is fs t = misses_line answer paths (string_bytes line) e e' (a.1.0.missing fs t) (names.named line refl) says
 file_missed ask answer paths f f' o o' e e' (Err stops.Out) a says names is fs t = absurd cc
+
+-- ---- a command that comes to its end says nothing
+
+pub end_says_nothing : (e e' : SinkState) (r : Result Status Stop) → Says r e e' → is_end (status_in r) ≡ true → is_refusal (status_in r) ≡ false → SameSink e e'
+end_says_nothing e e' (Ok s) says ends unrefused = says
+end_says_nothing e e' (Err stops.Memory) says ends unrefused = absurd cc
+end_says_nothing e e' (Err stops.Usage) says ends unrefused = absurd cc
+end_says_nothing e e' (Err (stops.Refused r)) says ends unrefused = let refuses : is_refusal r.status ≡ true = r.refuses in absurd cc
+end_says_nothing e e' (Err (stops.File line)) says ends unrefused = absurd cc
+end_says_nothing e e' (Err stops.Out) says ends unrefused = absurd cc

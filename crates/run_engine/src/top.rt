@@ -6,7 +6,7 @@ ghost use Rattle.outside.specs.Sink.{SameSink, Appends};
 ghost use Rattle.command_frame.specs.Answer.{effect_of, usage};
 ghost use Rattle.command_frame.specs.Finish.{PutPrefix};
 ghost use Rattle.command_frame.specs.Reads.{OnlyRead, Gives, KeepsTo, StopNames};
-ghost use Rattle.command_frame.specs.Status.{is_end, is_fault};
+ghost use Rattle.command_frame.specs.Status.{is_end, is_fault, is_refusal};
 ghost use Rattle.command_frame.specs.Stops.{write_line, memory_line};
 ghost use Rattle.command_frame.specs.Whole.{OnlyWritten, SomeWritten, EndsAs, Acts, Says, IsCut, OutFaulted, CarriedOut, NamesOne, IsMissed, IsAnswered, status_in};
 ghost use Rattle.run_engine.specs.declared.input.SumInputs.{SumInputs};
@@ -114,7 +114,8 @@ pub fn secrec<F: Files, O: Sink, E: Sink, L: Links, C: Spawner>(
         ⊎ ((F.state files.old).told ≡ true → IsOkAnd (answer_of (words_in words.now) (F.state files.old).contents)
         (λ e. PutPrefix e.text (O.state out.old) (O.state out.new))) }
 
-    // A command that stops for another reason leaves the output as it was; one that doesn't stop says nothing.
+    // A command that comes to its end says nothing; one that stops for another reason than output or memory prints nothing.
+    ensures end_says_nothing { is_end result ≡ true → is_refusal result ≡ false → SameSink (E.state err.old) (E.state err.new) }
     ensures refused_prints_nothing { is_end result ≡ false → result ≢ Status.Write → result ≢ Status.Memory → SameSink (O.state out.old) (O.state out.new) }
     ensures files_only_as_answered { OnlyWritten (answer_of (words_in words.now) (F.state files.old).contents) (F.state files.old) (F.state files.new) }
     ensures links_unused { links.new ≡ links.old }

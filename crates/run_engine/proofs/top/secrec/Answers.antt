@@ -1,4 +1,4 @@
-use Rattle.command_frame.proofs.Wholes.{complete, carried_out, file_named, file_missed}
+use Rattle.command_frame.proofs.Wholes.{complete, carried_out, end_says_nothing, file_named, file_missed}
 use Rattle.run_engine.proofs.Complete.{no_command}
 use Rattle.run_engine.proofs.Runs.{sum_printed, not_yet_only, not_yet_if}
 use Rattle.run_engine.proofs.Sums.{miners_open}
@@ -29,3 +29,6 @@ returns-clause-not_yet_if_out_of_form g c = λ paths asks out t. not_yet_if _ pa
 
 pub returns-clause-sum_opened_by_miners : goal.returns-clause-sum_opened_by_miners
 returns-clause-sum_opened_by_miners g c = miners_open
+
+pub returns-clause-end_says_nothing : goal.returns-clause-end_says_nothing
+returns-clause-end_says_nothing g c = rw c.ended_status.ensures (end_says_nothing _ _ _ c.say.ensures)
