@@ -29,7 +29,8 @@ fn run_command(
     second: &str,
     tape: &str,
 ) -> Result<Option<Command>, AllocError>
-    ensures { IfOk result (λ command. option_map ask_of command ≡ run_words name.now program.now first.now input.now second.now tape.now) }
+    ensures { IfOk result (λ command.
+        option_map ask_of command ≡ run_words name.now program.now first.now input.now second.now tape.now) }
 {
     if name == "run" && first == "--input" && second == "--tape" {
         return Ok(Some(Command::Run(RunWords {

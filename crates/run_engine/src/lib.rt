@@ -12,11 +12,5 @@ mod sum;
 mod tape;
 mod top;
 
-pub use command::{Command, RunWords, read_words};
-pub use dealing::deal;
-pub use input::{SumInputs, read_inputs};
-pub use program::{SumNames, read_program, sum_program_is_spelled};
-pub use run::plan_run;
-pub use sum::open_sum;
-pub use tape::{DealerMasks, SumTape, read_tape};
+pub use program::sum_program_is_spelled;
 pub use top::secrec;

@@ -49,7 +49,8 @@ fn text_of(alloc: Global, name: &[u8], total: u64) -> Result<Vec<u8>, AllocError
 #[tactic(auto, unfolding(crate::specs::Run::run_of, crate::specs::Run::run_paths), using(command_frame::proofs::Naming::names_first, command_frame::proofs::Naming::names_later))]
 pub fn plan_run<F: Files>(alloc: Global, files: &mut F, words: &RunWords) -> Result<Plan, Stop>
     ensures files { OnlyRead (F.state files.old) (F.state files.new) }
-    ensures answer { Gives effect_of (F.state files.old) (F.state files.new) result (run_of (paths_of words.now) (F.state files.old).contents) }
+    ensures answer { Gives effect_of (F.state files.old) (F.state files.new) result
+        (run_of (paths_of words.now) (F.state files.old).contents) }
     ensures names { KeepsTo (run_paths (paths_of words.now)) result }
 {
     let program = read_file(alloc, files, &words.program)?;

@@ -1,25 +1,26 @@
 // The top call.
-ghost use Rattle.std.specs.Prelude.{◌≡◌, ◌≢◌, ◌≤◌, ◌⊎◌, true, false, List, ℕ, None, Some, IsOkAnd, IfErr};
+ghost use Rattle.std.specs.Prelude.{◌≡◌, ◌≢◌, ◌⊎◌, true, false, None, Some, IsOkAnd, IfErr};
 ghost use Rattle.outside.specs.Causes.{Rose};
-ghost use Rattle.outside.specs.Files.{SameFiles};
 ghost use Rattle.outside.specs.Sink.{SameSink, Appends};
 ghost use Rattle.command_frame.specs.Answer.{effect_of, usage};
 ghost use Rattle.command_frame.specs.Finish.{PutPrefix};
 ghost use Rattle.command_frame.specs.Reads.{OnlyRead, Gives, KeepsTo, StopNames};
 ghost use Rattle.command_frame.specs.Status.{is_end, is_fault, is_refusal};
 ghost use Rattle.command_frame.specs.Stops.{write_line, memory_line};
-ghost use Rattle.command_frame.specs.Whole.{OnlyWritten, SomeWritten, EndsAs, Acts, Says, IsCut, OutFaulted, CarriedOut, NamesOne, IsMissed, IsAnswered, status_in};
+ghost use Rattle.command_frame.specs.Whole.{OnlyWritten, SomeWritten, EndsAs, Acts, IsCut};
+ghost use Rattle.command_frame.specs.Whole.{OutFaulted, CarriedOut, NamesOne, IsMissed, IsAnswered};
 ghost use Rattle.run_engine.specs.declared.input.SumInputs.{SumInputs};
 ghost use Rattle.run_engine.specs.declared.tape.SumTape.{SumTape};
 ghost use Rattle.run_engine.specs.Program.{SumNames as Names};
 ghost use Rattle.run_engine.specs.Run.{RunPaths, sum_text};
 ghost use Rattle.run_engine.specs.Runs.{HoldSum, OutOfForm};
 ghost use Rattle.run_engine.specs.Sum.{sum_of, MinersOpen};
-ghost use Rattle.run_engine.specs.Words.{run, words_in, ask_in, ask_of, answer_to, answer_of, paths_to, paths_named};
+ghost use Rattle.run_engine.specs.Words.{run, words_in, ask_in, ask_of, answer_to, answer_of};
+ghost use Rattle.run_engine.specs.Words.{paths_to, paths_named};
 
 use crate::command::{Command, read_words};
 use crate::run::plan_run;
-use command_frame::{Plan, Status, Stop, ended_status, finish_plan, read_file, say};
+use command_frame::{Plan, Status, Stop, ended_status, finish_plan, say};
 use outside::{Files, Links, Sink, Spawner};
 use std::alloc::Global;
 
@@ -27,7 +28,8 @@ use std::alloc::Global;
 #[tactic(auto, unfolding(crate::specs::Words::answer_to, crate::specs::Words::paths_to))]
 fn plan<F: Files>(alloc: Global, files: &mut F, command: &Command) -> Result<Plan, Stop>
     ensures files { OnlyRead (F.state files.old) (F.state files.new) }
-    ensures answer { Gives effect_of (F.state files.old) (F.state files.new) result (answer_to (ask_of command.now) (F.state files.old).contents) }
+    ensures answer { Gives effect_of (F.state files.old) (F.state files.new) result
+        (answer_to (ask_of command.now) (F.state files.old).contents) }
     ensures names { KeepsTo (paths_to (ask_of command.now)) result }
 {
     match command {
@@ -42,8 +44,10 @@ fn obey<F: Files, O: Sink>(
     out: &mut O,
     command: &Command,
 ) -> Result<Status, Stop>
-    ensures files { OnlyWritten (answer_to (ask_of command.now) (F.state files.old).contents) (F.state files.old) (F.state files.new) }
-    ensures ends { EndsAs (answer_to (ask_of command.now) (F.state files.old).contents) (F.state files.old) (F.state files.new) (O.state out.old) (O.state out.new) result }
+    ensures files { OnlyWritten (answer_to (ask_of command.now) (F.state files.old).contents)
+        (F.state files.old) (F.state files.new) }
+    ensures ends { EndsAs (answer_to (ask_of command.now) (F.state files.old).contents)
+        (F.state files.old) (F.state files.new) (O.state out.old) (O.state out.new) result }
     ensures names { IfErr result (StopNames (paths_to (ask_of command.now))) }
 {
     let plan = plan(alloc, files, command)?;
@@ -58,7 +62,8 @@ fn act<F: Files, O: Sink>(
     files: &mut F,
     out: &mut O,
 ) -> Result<Status, Stop>
-    ensures files { OnlyWritten (answer_of (words_in words.now) (F.state files.old).contents) (F.state files.old) (F.state files.new) }
+    ensures files { OnlyWritten (answer_of (words_in words.now) (F.state files.old).contents)
+        (F.state files.old) (F.state files.new) }
     ensures acts { Acts (ask_in (words_in words.now)) (answer_of (words_in words.now) (F.state files.old).contents)
         (F.state files.old) (F.state files.new) (O.state out.old) (O.state out.new) result }
     ensures names { IfErr result (StopNames (paths_named (words_in words.now))) }
@@ -84,22 +89,29 @@ pub fn secrec<F: Files, O: Sink, E: Sink, L: Links, C: Spawner>(
 ) -> Status
     // Usage comes exactly where the words spell no command.
     ensures usage_only_without_command { result ≡ Status.Usage → ask_in (words_in words.now) ≡ None }
-    ensures usage_without_command { ask_in (words_in words.now) ≡ None → (result ≡ Status.Usage) ⊎ (result ≡ Status.Memory) }
+    ensures usage_without_command { ask_in (words_in words.now) ≡ None →
+        (result ≡ Status.Usage) ⊎ (result ≡ Status.Memory) }
     ensures usage_said { result ≡ Status.Usage → PutPrefix usage.line (E.state err.old) (E.state err.new) }
 
     // Where no file, no output and no memory failed, the answer is carried out: all of its files and its text and
     // nothing on `err`; or its refusal's line or a prefix of it on `err`, nothing on `out` and no file changed.
     ensures answer_carried_out { is_fault result ≡ false → (F.state files.old).told ≡ true →
-        CarriedOut (answer_of (words_in words.now) (F.state files.old).contents) (F.state files.old) (F.state files.new)
-        (O.state out.old) (O.state out.new) (E.state err.old) (E.state err.new) result }
+        CarriedOut (answer_of (words_in words.now) (F.state files.old).contents)
+        (F.state files.old) (F.state files.new) (O.state out.old) (O.state out.new)
+        (E.state err.old) (E.state err.new) result }
 
     // A file failed: it is one that the words name, and over steady files one that is missing.
-    ensures file_fault_counted { result ≡ Status.File → Rose (F.state files.old).faults (F.state files.new).faults }
-    ensures file_fault_named { result ≡ Status.File → NamesOne (paths_named (words_in words.now)) (E.state err.old) (E.state err.new) }
-    ensures file_missing_if_steady { result ≡ Status.File → (F.state files.old).steady ≡ true → (F.state files.old).told ≡ true →
-        IsMissed (answer_of (words_in words.now) (F.state files.old).contents) (E.state err.old) (E.state err.new) }
+    ensures file_fault_counted { result ≡ Status.File →
+        Rose (F.state files.old).faults (F.state files.new).faults }
+    ensures file_fault_named { result ≡ Status.File →
+        NamesOne (paths_named (words_in words.now)) (E.state err.old) (E.state err.new) }
+    ensures file_missing_if_steady { result ≡ Status.File →
+        (F.state files.old).steady ≡ true → (F.state files.old).told ≡ true →
+        IsMissed (answer_of (words_in words.now) (F.state files.old).contents)
+        (E.state err.old) (E.state err.new) }
     ensures file_fault_writes_in_order { result ≡ Status.File →
-        SomeWritten (answer_of (words_in words.now) (F.state files.old).contents) (F.state files.old) (F.state files.new) }
+        SomeWritten (answer_of (words_in words.now) (F.state files.old).contents)
+        (F.state files.old) (F.state files.new) }
 
     // The output failed: all files are written, and it holds a prefix of the text.
     ensures write_fault_counted { result ≡ Status.Write → OutFaulted (O.state out.old) (O.state out.new) }
@@ -114,29 +126,39 @@ pub fn secrec<F: Files, O: Sink, E: Sink, L: Links, C: Spawner>(
         ⊎ ((F.state files.old).told ≡ true → IsOkAnd (answer_of (words_in words.now) (F.state files.old).contents)
         (λ e. PutPrefix e.text (O.state out.old) (O.state out.new))) }
 
-    // A command that comes to its end says nothing; one that stops for another reason than output or memory prints nothing.
-    ensures end_says_nothing { is_end result ≡ true → is_refusal result ≡ false → SameSink (E.state err.old) (E.state err.new) }
-    ensures refused_prints_nothing { is_end result ≡ false → result ≢ Status.Write → result ≢ Status.Memory → SameSink (O.state out.old) (O.state out.new) }
-    ensures files_only_as_answered { OnlyWritten (answer_of (words_in words.now) (F.state files.old).contents) (F.state files.old) (F.state files.new) }
+    // A command that comes to its end says nothing; one that stops for another reason than output or memory
+    // prints nothing. Nothing else is changed.
+    ensures end_says_nothing { is_end result ≡ true → is_refusal result ≡ false →
+        SameSink (E.state err.old) (E.state err.new) }
+    ensures refused_prints_nothing { is_end result ≡ false → result ≢ Status.Write → result ≢ Status.Memory →
+        SameSink (O.state out.old) (O.state out.new) }
+    ensures files_only_as_answered { OnlyWritten (answer_of (words_in words.now) (F.state files.old).contents)
+        (F.state files.old) (F.state files.new) }
     ensures links_unused { links.new ≡ links.old }
     ensures children_unused { children.new ≡ children.old }
 
     // Over steady objects the status is the answer's, or memory ran out.
-    ensures complete { (F.state files.old).steady ≡ true → (O.state out.old).steady ≡ true → (F.state files.old).told ≡ true →
+    ensures complete { (F.state files.old).steady ≡ true → (O.state out.old).steady ≡ true →
+        (F.state files.old).told ≡ true →
         IsAnswered (answer_of (words_in words.now) (F.state files.old).contents) result ⊎ (result ≡ Status.Memory) }
 
-    // `run` over three files of the form, all steady: the sum modulo 2^64 is printed, and it is what each of the three
-    // miners opens; or memory ran out.
-    ensures sum_opened_and_printed { (paths : RunPaths) (names : Names) (inputs : SumInputs) (tape : SumTape) → ask_in (words_in words.now) ≡ Some (run paths) →
+    // `run` over three files of the form, all steady: the sum modulo 2^64 is printed, or memory ran out.
+    ensures sum_opened_and_printed { (paths : RunPaths) (names : Names) (inputs : SumInputs) (tape : SumTape) →
+        ask_in (words_in words.now) ≡ Some (run paths) →
         HoldSum paths (F.state files.old).contents names inputs tape →
         (F.state files.old).steady ≡ true → (O.state out.old).steady ≡ true → (F.state files.old).told ≡ true →
-        ((result ≡ Status.Done) × Appends (O.state out.old) (O.state out.new) (sum_text names.published (sum_of inputs))) ⊎ (result ≡ Status.Memory) }
+        ((result ≡ Status.Done)
+        × Appends (O.state out.old) (O.state out.new) (sum_text names.published (sum_of inputs)))
+        ⊎ (result ≡ Status.Memory) }
+
+    // That sum is what each of the three miners opens, of its own share and word and of the others' messages.
     ensures sum_opened_by_miners { (inputs : SumInputs) (tape : SumTape) → MinersOpen inputs tape (sum_of inputs) }
 
     // X0 comes exactly where a file that was read is out of form.
-    ensures not_yet_only_out_of_form { (paths : RunPaths) → ask_in (words_in words.now) ≡ Some (run paths) → result ≡ Status.Program → (F.state files.old).told ≡ true →
-        OutOfForm paths (F.state files.old).contents }
-    ensures not_yet_if_out_of_form { (paths : RunPaths) → ask_in (words_in words.now) ≡ Some (run paths) → OutOfForm paths (F.state files.old).contents → (F.state files.old).told ≡ true →
+    ensures not_yet_only_out_of_form { (paths : RunPaths) → ask_in (words_in words.now) ≡ Some (run paths) →
+        result ≡ Status.Program → (F.state files.old).told ≡ true → OutOfForm paths (F.state files.old).contents }
+    ensures not_yet_if_out_of_form { (paths : RunPaths) → ask_in (words_in words.now) ≡ Some (run paths) →
+        OutOfForm paths (F.state files.old).contents → (F.state files.old).told ≡ true →
         (result ≡ Status.Program) ⊎ (is_fault result ≡ true) }
 {
     let ended = act(alloc, words, files, out);
