@@ -1,5 +1,5 @@
 -- The commands as their contracts see them.
-use Rattle.std.specs.Prelude.{◌≡◌, ◌≢◌, ℕ, Option, option_map, Some, None, Result, Ok, Err, String, string_bytes, List, map}
+use Rattle.std.specs.Prelude.{◌≡◌, ◌≢◌, Option, option_map, Some, None, Result, Ok, Err, String, string_bytes, List, map}
 use Rattle.std.specs.declared.alloc.Global.{Global}
 use Rattle.std.specs.Borrow.{Bor}
 use Rattle.clap.specs.Words.{Text}
