@@ -1,8 +1,7 @@
 -- A stop that names one path names one of a longer list.
-use Rattle.std.proofs.Common.{◌≡◌, ℕ, ◌+◌, ◌<◌, List, [], ◌∷◌, length, get_or, refl, ap, sym, subst, ◌∙◌, arith, zero, suc, Contains, string_bytes}
+use Rattle.std.proofs.Common.{◌≡◌, ℕ, List, [], ◌∷◌, refl, ap, sym, ◌∙◌, arith, zero, suc, Contains, string_bytes}
 use Rattle.command_frame.specs.Answer.{file_line}
 use Rattle.command_frame.specs.declared.stop.Stop.{Stop}
-use Rattle.command_frame.specs.declared.stop.Stop.TheVariants as stops
 use Rattle.command_frame.specs.Reads.{IsLineOf, StopNames}
 
 -- what a list of one path contains is that path

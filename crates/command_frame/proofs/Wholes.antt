@@ -1,7 +1,6 @@
 -- What a whole command does, told of its status alone.
-use Rattle.std.proofs.Common.{◌≡◌, ◌⊎◌, ℕ, List, ◌∷◌, true, false, Option, None, Some, Ok, Err, Result, refl, ap, subst, sym, ◌∙◌, inl, inr, arith, Contains, string_bytes}
+use Rattle.std.proofs.Common.{◌≡◌, ◌⊎◌, ℕ, List, true, false, Option, None, Ok, Err, Result, refl, ap, subst, sym, ◌∙◌, inl, inr, arith, Contains, string_bytes}
 use Rattle.std.specs.Prelude.{IsOkAnd, IfOk, IfErr}
-use Rattle.outside.specs.Causes.{Rose}
 use Rattle.outside.specs.Files.{Contents, FilesState, SameFiles, file_at}
 use Rattle.outside.specs.Sink.{SinkState, SameSink, Appends}
 use Rattle.command_frame.specs.declared.plan.Plan.{Plan}
@@ -9,11 +8,10 @@ use Rattle.command_frame.specs.declared.status.Status.{Status}
 use Rattle.command_frame.specs.declared.status.Status.TheVariants as statuses
 use Rattle.command_frame.specs.declared.stop.Stop.{Stop}
 use Rattle.command_frame.specs.declared.stop.Stop.TheVariants as stops
-use Rattle.command_frame.specs.Answer.{Answer, Cause, Effect, after_writes, cause_of, effect_of, file_line, missing, paths_in, usage}
+use Rattle.command_frame.specs.Answer.{Answer, Cause, Effect, after_writes, cause_of, effect_of, paths_in, usage}
 use Rattle.command_frame.specs.Finish.{Begun, Finishes, OnlyAmong, PutPrefix, WriteFaulted, WroteAll}
 use Rattle.command_frame.specs.Reads.{Faulted, OnlyRead, PlanNames, StopNames, IsLineOf}
 use Rattle.command_frame.specs.Status.{is_end, is_fault, is_refusal}
-use Rattle.command_frame.specs.Stops.{status_of}
 use Rattle.command_frame.specs.Whole.{Acts, CarriedOut, EndsAs, IsAnswered, IsCut, IsDone, IsMissed, NamesOne, OnlyWritten, Says, SomeWritten, status_in}
 
 -- ---- a plan, and then its effect

@@ -1,5 +1,5 @@
 -- Writing files one after another.
-use Rattle.std.proofs.Common.{◌≡◌, ℕ, ◌+◌, ◌<◌, ◌≤◌, List, [], ◌∷◌, length, get_or, drop, take, map, true, refl, ap, sym, subst, ◌∙◌, arith, add-one, drop-cons, string_bytes, Contains}
+use Rattle.std.proofs.Common.{◌≡◌, ℕ, ◌+◌, ◌<◌, ◌≤◌, List, [], ◌∷◌, length, get_or, drop, take, map, true, refl, ap, sym, ◌∙◌, arith, add-one, drop-cons, string_bytes, Contains}
 use Rattle.std.proofs.lemmas.List.{get_or-map, length-map, length-take, get_or-take}
 use Rattle.outside.specs.Files.{Contents, FilesState, Wrote, OnlyAt, with_file}
 use Rattle.command_frame.specs.Answer.{Written, writes_of, after_writes, paths_in}

@@ -1,6 +1,5 @@
 -- What a command decides of the files that it reads: an effect, or why it is refused.
-use Rattle.std.specs.Prelude.{ℕ, List, [], ◌∷◌, ◌++◌, map, Result, Ok, Err, String, string_bytes, codes}
-use Rattle.std.specs.declared.alloc.Global.{Global}
+use Rattle.std.specs.Prelude.{ℕ, List, [], ◌∷◌, ◌++◌, map, Result, Ok, Err, string_bytes, codes}
 use Rattle.std.specs.Option.{ok_or}
 use Rattle.outside.specs.Files.{Contents, file_at, with_file}
 use Rattle.command_frame.specs.declared.status.Status.{Status}

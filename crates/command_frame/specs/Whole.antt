@@ -2,16 +2,16 @@
 --
 -- `ask` is what the words name, if they name a command. `answer` is what that command decides of the files' contents.
 -- f, o and e are the states of the files, the output and the error stream before, f', o' and e' after.
-use Rattle.std.specs.Prelude.{ℕ, ◌≡◌, ◌≤◌, ◌⊎◌, List, true, Option, None, IsSome, Result, Ok, Err, IfOk, IfErr, IsOkAnd, MatchResult, Contains, string_bytes}
+use Rattle.std.specs.Prelude.{ℕ, ◌≡◌, ◌≤◌, ◌⊎◌, List, true, Option, None, IsSome, Result, Ok, Err, IfOk, IsOkAnd, MatchResult, Contains, string_bytes}
 use Rattle.outside.specs.Causes.{Rose}
 use Rattle.outside.specs.Files.{FilesState, SameFiles, file_at}
 use Rattle.outside.specs.Sink.{SinkState, SameSink, Appends}
 use Rattle.command_frame.specs.declared.status.Status.{Status}
 use Rattle.command_frame.specs.declared.stop.Stop.{Stop}
 use Rattle.command_frame.specs.declared.stop.Stop.TheVariants as stops
-use Rattle.command_frame.specs.Answer.{Answer, Cause, Effect, after_writes, cause_of, file_line, missing, paths_in}
+use Rattle.command_frame.specs.Answer.{Answer, Effect, after_writes, cause_of, file_line, missing, paths_in}
 use Rattle.command_frame.specs.Finish.{Begun, PutPrefix}
-use Rattle.command_frame.specs.Reads.{Faulted, StopNames}
+use Rattle.command_frame.specs.Reads.{Faulted}
 use Rattle.command_frame.specs.Status.{is_end}
 use Rattle.command_frame.specs.Stops.{status_of, line_of}
 

@@ -30,11 +30,7 @@ fn write_file<F: Files>(
 }
 
 // Writes the files in order.
-fn write_files<F: Files>(
-    alloc: Global,
-    files: &mut F,
-    writes: &[PlannedWrite],
-) -> Result<(), Stop>
+fn write_files<F: Files>(alloc: Global, files: &mut F, writes: &[PlannedWrite]) -> Result<(), Stop>
     ensures ok { OnOk result (WroteAll (writes_of writes.now) (F.state files.old) (F.state files.new)) }
     ensures only { OnlyAmong (paths_in (writes_of writes.now)) (F.state files.old) (F.state files.new) }
     ensures err { IfErr result (λ e. StopsWriting (paths_in (writes_of writes.now)) (F.state files.old) (F.state files.new) e) }

@@ -1,14 +1,13 @@
 -- A run of three files of the form, and of files out of form.
 use Rattle.std.proofs.Common.{◌≡◌, ◌⊎◌, ℕ, List, true, false, Option, Some, None, Ok, Err, Result, refl, ap, subst, sym, ◌∙◌, inl, inr}
-use Rattle.std.specs.Prelude.{IsOkAnd}
 use Rattle.std.specs.Option.{ok_or}
 use Rattle.outside.specs.Files.{Contents, FilesState, file_at}
 use Rattle.outside.specs.Sink.{SinkState, Appends}
 use Rattle.command_frame.specs.declared.status.Status.{Status}
 use Rattle.command_frame.specs.declared.status.Status.TheVariants as statuses
-use Rattle.command_frame.specs.Answer.{Answer, Cause, Effect, bytes_at, missing, ◌>>=◌}
+use Rattle.command_frame.specs.Answer.{Answer, Cause, bytes_at, missing, ◌>>=◌}
 use Rattle.command_frame.specs.Status.{is_fault}
-use Rattle.command_frame.specs.Whole.{CarriedOut, IsAnswered, IsDone}
+use Rattle.command_frame.specs.Whole.{CarriedOut, IsAnswered}
 use Rattle.run_engine.specs.declared.input.SumInputs.{SumInputs}
 use Rattle.run_engine.specs.declared.tape.SumTape.{SumTape}
 use Rattle.run_engine.specs.Input.{inputs_of}
@@ -119,9 +118,9 @@ only_so paths files r is program =
         elim (steps (ok_or (inputs_of n i) not_yet) _ r is) [
           | inl (c, e, is_r) ↦ bad_input b i n pb pn pi (not_formed (inputs_of n i) c e)
           | inr (v, e, rest) ↦ elim (steps (bytes_at files paths.tape) _ r rest) [
-              | inl (c, e2, is_r) ↦ not_missing files paths.tape c r e2 is_r program
-              | inr (t, there3, rest2) ↦ at_words b n i v pb pn pi (formed (inputs_of n i) v e) t (there files paths.tape t there3) rest2
-            ]
+            | inl (c, e2, is_r) ↦ not_missing files paths.tape c r e2 is_r program
+            | inr (t, there3, rest2) ↦ at_words b n i v pb pn pi (formed (inputs_of n i) v e) t (there files paths.tape t there3) rest2
+          ]
         ]
 
     at_names : (b : List ℕ) → file_at files paths.program ≡ Some b
@@ -130,9 +129,9 @@ only_so paths files r is program =
         elim (steps (ok_or (program_of b) not_yet) _ r is) [
           | inl (c, e, is_r) ↦ bad_program b pb (not_formed (program_of b) c e)
           | inr (n, e, rest) ↦ elim (steps (bytes_at files paths.input) _ r rest) [
-              | inl (c, e2, is_r) ↦ not_missing files paths.input c r e2 is_r program
-              | inr (i, there2, rest2) ↦ at_values b n pb (formed (program_of b) n e) i (there files paths.input i there2) rest2
-            ]
+            | inl (c, e2, is_r) ↦ not_missing files paths.input c r e2 is_r program
+            | inr (i, there2, rest2) ↦ at_values b n pb (formed (program_of b) n e) i (there files paths.input i there2) rest2
+          ]
         ]
 
 carried_status : (answer : Answer) (f f' : FilesState) (o o' e e' : SinkState) (s : Status) → CarriedOut answer f f' o o' e e' s → status_in_answer answer ≡ s

@@ -1,5 +1,5 @@
 -- The three miners open the sum of the inputs.
-use Rattle.std.proofs.Common.{◌≡◌, ℕ, ◌<◌, ◌^◌, List, [], ◌∷◌, refl, ap, sym, ◌∙◌, arith, length}
+use Rattle.std.proofs.Common.{◌≡◌, ℕ, List, [], ◌∷◌, ap, sym, ◌∙◌}
 use Rattle.share_ring.specs.Ring.{Ring, RingLaws}
 use Rattle.share_ring.specs.Rings.{add_ring}
 use Rattle.share_ring.specs.RingsKeepLaws.{add_ring_laws}
@@ -9,7 +9,7 @@ use Rattle.proto_core.specs.Resharing.{sum_of_three}
 use Rattle.proto_core.proofs.ResharingLaws.{opened_by_first, opened_by_second, opened_by_third}
 use Rattle.run_engine.specs.declared.input.SumInputs.{SumInputs}
 use Rattle.run_engine.specs.declared.tape.SumTape.{SumTape}
-use Rattle.run_engine.specs.Sum.{MinersOpen, opened_by, sum_joint, sum_of, sum_share}
+use Rattle.run_engine.specs.Sum.{MinersOpen, sum_of, sum_share}
 
 module _ {r : Ring} (laws : RingLaws r) where
   add-left_comm : (x y z : ℕ) → r.add x (r.add y z) ≡ r.add y (r.add x z)
@@ -24,9 +24,9 @@ module _ {r : Ring} (laws : RingLaws r) where
       r.add (r.add (r.add d1 e1) (r.add d2 e2)) (r.add (r.sub (r.sub x d1) d2) (r.sub (r.sub y e1) e2)) ≡ r.add x y
   shares_add_up x y d1 d2 e1 e2 =
       let sorted :
-          r.add (r.add (r.add d1 e1) (r.add d2 e2)) (r.add (r.sub (r.sub x d1) d2) (r.sub (r.sub y e1) e2))
-          ≡ r.add (r.add x y) (r.add (r.add d1 (r.neg d1)) (r.add (r.add d2 (r.neg d2)) (r.add (r.add e1 (r.neg e1)) (r.add e2 (r.neg e2))))) =
-          simp (laws.sub_is, laws.add_assoc, laws.add_comm, add-left_comm) in
+      r.add (r.add (r.add d1 e1) (r.add d2 e2)) (r.add (r.sub (r.sub x d1) d2) (r.sub (r.sub y e1) e2))
+      ≡ r.add (r.add x y) (r.add (r.add d1 (r.neg d1)) (r.add (r.add d2 (r.neg d2)) (r.add (r.add e1 (r.neg e1)) (r.add e2 (r.neg e2))))) =
+      simp (laws.sub_is, laws.add_assoc, laws.add_comm, add-left_comm) in
       let none : r.add r.zero r.zero ≡ r.zero = laws.add_zero r.zero laws.zero_word in
       sorted ∙ simp (laws.cancel, none) (add_none x y)
 

@@ -1,12 +1,12 @@
 -- Three files that can be run, and three that can't.
-use Rattle.std.specs.Prelude.{◌≡◌, ◌↔◌, ℕ, List, Some, None, Err}
+use Rattle.std.specs.Prelude.{◌≡◌, ℕ, List, Some, None}
 use Rattle.outside.specs.Files.{Contents, file_at}
 use Rattle.run_engine.specs.declared.input.SumInputs.{SumInputs}
 use Rattle.run_engine.specs.declared.tape.SumTape.{SumTape}
 use Rattle.run_engine.specs.Program.{SumNames, program_of}
 use Rattle.run_engine.specs.Input.{inputs_of}
 use Rattle.run_engine.specs.Tape.{tape_of}
-use Rattle.run_engine.specs.Run.{RunPaths, run_of, not_yet}
+use Rattle.run_engine.specs.Run.{RunPaths}
 
 -- the files at these paths are a program of these names, an input file of these values and a tape file of these words
 pub record HoldSum (paths : RunPaths) (files : Contents) (names : SumNames) (inputs : SumInputs) (tape : SumTape) : Type 0 where

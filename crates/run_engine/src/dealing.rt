@@ -17,9 +17,5 @@ pub fn deal<R: ShareRing>(
     ensures third { result.2 ≡ share_of R.ring value masks.d1 masks.d2 Three }
 {
     let rest = R::sub(R::sub(value, masks.d1), masks.d2);
-    (
-        Share::new(masks.d1),
-        Share::new(masks.d2),
-        Share::new(rest),
-    )
+    (Share::new(masks.d1), Share::new(masks.d2), Share::new(rest))
 }

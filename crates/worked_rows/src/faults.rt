@@ -3,9 +3,11 @@ use crate::call::{Faults, STEADY, call, tape};
 use command_frame::Status;
 use std::test::Fail;
 
-const SUM: &str = "import stdlib; import shared3p; domain p shared3p; void main() {\np uint64 a = argument(\"a\"); p uint64 b = argument(\"b\"); publish(\"s\", declassify(a + b));\n}\n";
+const SUM: &str =
+    "import stdlib; import shared3p; domain p shared3p; void main() {\np uint64 a = argument(\"a\"); p uint64 b = argument(\"b\"); publish(\"s\", declassify(a + b));\n}\n";
 
-const INPUT: &str = "{\"inputs\":[{\"name\":\"a\",\"domain\":\"private\",\"type\":\"uint64\",\"value\":6},{\"name\":\"b\",\"domain\":\"private\",\"type\":\"uint64\",\"value\":7}]}";
+const INPUT: &str =
+    "{\"inputs\":[{\"name\":\"a\",\"domain\":\"private\",\"type\":\"uint64\",\"value\":6},{\"name\":\"b\",\"domain\":\"private\",\"type\":\"uint64\",\"value\":7}]}";
 
 // The words, the status, and the line on the error stream.
 const CALLS: [(&[&str], Status, &str); 10] = [
@@ -72,37 +74,61 @@ fn wrong_words_and_missing_files_are_named(rt: HostRuntime) -> Result<(), Fail> 
 // Which calls fail, and then the status, the output and the error stream. The output takes 7 bytes a call.
 const FAULTS: [(Faults<'static>, Status, &str, &str); 6] = [
     (
-        Faults { files: &[0], out: &[], err: &[] },
+        Faults {
+            files: &[0],
+            out: &[],
+            err: &[],
+        },
         Status::File,
         "",
         "error: file sum.sc\n",
     ),
     (
-        Faults { files: &[1], out: &[], err: &[] },
+        Faults {
+            files: &[1],
+            out: &[],
+            err: &[],
+        },
         Status::File,
         "",
         "error: file sum.json\n",
     ),
     (
-        Faults { files: &[2], out: &[], err: &[] },
+        Faults {
+            files: &[2],
+            out: &[],
+            err: &[],
+        },
         Status::File,
         "",
         "error: file sum.tape\n",
     ),
     (
-        Faults { files: &[], out: &[0], err: &[] },
+        Faults {
+            files: &[],
+            out: &[0],
+            err: &[],
+        },
         Status::Write,
         "",
         "error: write\n",
     ),
     (
-        Faults { files: &[], out: &[2], err: &[] },
+        Faults {
+            files: &[],
+            out: &[2],
+            err: &[],
+        },
         Status::Write,
         "open 13\npublis",
         "error: write\n",
     ),
     (
-        Faults { files: &[2], out: &[], err: &[1] },
+        Faults {
+            files: &[2],
+            out: &[],
+            err: &[1],
+        },
         Status::File,
         "",
         "error: ",

@@ -3,9 +3,11 @@ use crate::call::{STEADY, call, tape};
 use command_frame::Status;
 use std::test::Fail;
 
-const SUM: &str = "import stdlib; import shared3p; domain p shared3p; void main() {\np uint64 a = argument(\"a\"); p uint64 b = argument(\"b\"); publish(\"s\", declassify(a + b));\n}\n";
+const SUM: &str =
+    "import stdlib; import shared3p; domain p shared3p; void main() {\np uint64 a = argument(\"a\"); p uint64 b = argument(\"b\"); publish(\"s\", declassify(a + b));\n}\n";
 
-const INPUT: &str = "{\"inputs\":[{\"name\":\"a\",\"domain\":\"private\",\"type\":\"uint64\",\"value\":6},{\"name\":\"b\",\"domain\":\"private\",\"type\":\"uint64\",\"value\":7}]}";
+const INPUT: &str =
+    "{\"inputs\":[{\"name\":\"a\",\"domain\":\"private\",\"type\":\"uint64\",\"value\":6},{\"name\":\"b\",\"domain\":\"private\",\"type\":\"uint64\",\"value\":7}]}";
 
 const RUN: [&str; 6] = ["run", "sum.sc", "--input", "sum.json", "--tape", "sum.tape"];
 

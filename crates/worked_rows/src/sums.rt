@@ -3,7 +3,8 @@ use crate::call::{STEADY, call, tape};
 use command_frame::Status;
 use std::test::Fail;
 
-const SUM: &str = "import stdlib; import shared3p; domain p shared3p; void main() {\np uint64 a = argument(\"a\"); p uint64 b = argument(\"b\"); publish(\"s\", declassify(a + b));\n}\n";
+const SUM: &str =
+    "import stdlib; import shared3p; domain p shared3p; void main() {\np uint64 a = argument(\"a\"); p uint64 b = argument(\"b\"); publish(\"s\", declassify(a + b));\n}\n";
 
 const RUN: [&str; 6] = ["run", "sum.sc", "--input", "sum.json", "--tape", "sum.tape"];
 
@@ -60,7 +61,10 @@ const SUMS: [Sum; 6] = [
 fn sums_are_opened_and_published(rt: HostRuntime) -> Result<(), Fail> {
     let alloc = rt.alloc();
     for sum in &SUMS {
-        let input = format!(in alloc; "{{\"inputs\":[{{\"name\":\"{}\",\"domain\":\"private\",\"type\":\"uint64\",\"value\":{}}},{{\"name\":\"{}\",\"domain\":\"private\",\"type\":\"uint64\",\"value\":{}}}]}}", sum.first.0, sum.first.1, sum.second.0, sum.second.1)?;
+        let input = format!(in alloc;
+            "{{\"inputs\":[{{\"name\":\"{}\",\"domain\":\"private\",\"type\":\"uint64\",\"value\":{}}},{{\"name\":\"{}\",\"domain\":\"private\",\"type\":\"uint64\",\"value\":{}}}]}}",
+            sum.first.0, sum.first.1, sum.second.0, sum.second.1
+        )?;
         let words = tape(alloc, [4, 1, 1, 1], &sum.words)?;
         let held = [
             ("sum.sc", SUM.as_bytes()),

@@ -1,4 +1,4 @@
-use Rattle.std.proofs.Common.{◌≡◌, ◌≤◌, ◌<◌, ◌∙◌, length, true, ap, arith}
+use Rattle.std.proofs.Common.{◌∙◌, arith}
 use Rattle.command_frame.proofs.Writes.{among_more, among_whole, stops_more, written_more, names_here}
 use Rattle.command_frame.proofs.finish.write_files.Goals as goal
 

@@ -1,0 +1,5 @@
+pub mod WordLists
+pub mod Laws
+pub mod OwnLaws
+pub mod Memory
+pub mod SeedLaws
