@@ -1,0 +1,6 @@
+pub mod Fits
+pub mod Laws
+pub mod Matched
+pub mod NumberLemmas
+pub mod Options
+pub mod Seeds

@@ -1,0 +1,105 @@
+-- What words ask for.
+use Rattle.std.specs.Prelude.{ℕ, List, [], ◌∷◌, codes, Option, Some, None, nat_le, if◌then◌else◌, unwrap_or, option_and_then, option_map}
+use Rattle.std.specs.Str.{bytes_eq}
+use Rattle.clap.specs.Words.{Kinds, Row, Text, fault_of, first_of, subcommand_of}
+use Rattle.command_words.specs.Numbers.{number_of, seed_of}
+use Rattle.command_words.specs.Shapes.{secrec_app}
+
+-- where the tapes come from: a tape file, or a seed and how many words each tape has
+pub data Source : Type 0 where
+  file : Text → Source
+  seeded : List ℕ → ℕ → Source
+
+pub record RunAsk : Type 0 where
+  pub program : Text
+  pub input : Text
+  pub source : Source
+  pub budget : ℕ
+
+pub record DealAsk : Type 0 where
+  pub input : Text
+  pub tape : Text
+  pub to : Text
+
+-- a command, without where its words lie in memory
+pub data Ask : Type 0 where
+  run : RunAsk → Ask
+  deal : DealAsk → Ask
+
+infixl 10 ◌>>=◌
+abbrev pub ◌>>=◌ : {A B : Type 0} → Option A → (A → Option B) → Option B
+o >>= f = option_and_then f o
+
+abbrev pub default_budget : ℕ
+default_budget = 1000000
+
+abbrev pub default_words : ℕ
+default_words = 65536
+
+abbrev pub most_words : ℕ
+most_words = 16777216
+
+-- the value of an argument that `clap` requires
+unfoldable pub required_of : Text → List Row → Text
+required_of id rows = unwrap_or (first_of id rows) []
+
+-- a number, or the default where it is left out
+unfoldable pub number_or : ℕ → Option Text → Option ℕ
+number_or default None = Some default
+number_or default (Some text) = number_of text
+
+-- tapes from a seed
+unfoldable pub seeded_source : Text → Option Text → Option Source
+seeded_source seed words = do
+  bytes ← seed_of seed
+  n ← number_or default_words words
+  if nat_le n most_words then Some (seeded bytes n) else None
+
+-- of a tape file, a seed and a number of words: the file alone, or the seed with or without the number
+unfoldable pub source_of : Option Text → Option Text → Option Text → Option Source
+source_of (Some tape) None None = Some (file tape)
+source_of None (Some seed) words = seeded_source seed words
+source_of _ _ _ = None
+
+unfoldable pub run_of : List Row → Option RunAsk
+run_of rows = do
+  source ← source_of (first_of (codes "tape") rows) (first_of (codes "seed") rows) (first_of (codes "words") rows)
+  budget ← number_or default_budget (first_of (codes "budget") rows)
+  Some (record {
+    program = required_of (codes "program") rows;
+    input = required_of (codes "input") rows;
+    source = source;
+    budget = budget;
+  })
+
+unfoldable pub deal_of : List Row → Option DealAsk
+deal_of rows = Some (record {
+  input = required_of (codes "input") rows;
+  tape = required_of (codes "tape") rows;
+  to = required_of (codes "to") rows;
+})
+
+-- the command of this name, with what `clap` matched behind its name
+unfoldable pub named : Text → List Row → Option Ask
+named name rows =
+    if bytes_eq name (codes "run") then option_map run (run_of rows)
+    else if bytes_eq name (codes "deal") then option_map deal (deal_of rows)
+    else None
+
+-- this, where nothing refuses the words
+abbrev pub unless : {X : Type 0} → Kinds → X → Option X
+unless [] x = Some x
+unless (k ∷ ks) x = None
+
+-- what `clap` matches in the words, unless it refuses them: the command's name, if one stands there, and what it matched behind the name
+unfoldable pub matched : List Text → Option (Option (Text × List Row))
+matched words = unless (fault_of secrec_app words) (subcommand_of secrec_app words)
+
+-- words that name no command ask for none
+unfoldable pub named_in : Option (Text × List Row) → Option Ask
+named_in None = None
+named_in (Some met) = named met.0 met.1
+
+-- the command that the words ask for; None is Usage
+unfoldable pub words_of : List Text → Option Ask
+words_of words = matched words >>= named_in

@@ -1,0 +1,21 @@
+-- Numbers and seeds as text.
+use Rattle.std.specs.Prelude.{ℕ, Bool, List, length, ◌&&◌, ◌||◌, ◌==◌, ◌^◌, nat_lt, nat_le, if◌then◌else◌, Option, Some, None}
+use Rattle.std.specs.List.{list_all}
+use Rattle.std.specs.Result.{result_ok}
+use Rattle.std.specs.Char.{is_ascii_digit}
+use Rattle.std.specs.Str.Parse.{digits_value}
+use Rattle.hex.specs.Hex.{decode_sized}
+
+-- decimal digits with a value below 2^64: no sign, and leading zeros are fine
+unfoldable pub number_of : List ℕ → Option ℕ
+number_of text =
+    if nat_lt 0 (length text) && list_all is_ascii_digit text && nat_lt (digits_value 10 text) (2 ^ 64)
+    then Some (digits_value 10 text) else None
+
+-- `0` to `9` and `a` to `f`
+abbrev pub is_lower_hex : ℕ → Bool
+is_lower_hex c = (nat_le 48 c && nat_le c 57) || (nat_le 97 c && nat_le c 102)
+
+-- 64 lower-case hexadecimal digits, as 32 bytes
+unfoldable pub seed_of : List ℕ → Option (List ℕ)
+seed_of text = if length text == 64 && list_all is_lower_hex text then result_ok (decode_sized text 32) else None

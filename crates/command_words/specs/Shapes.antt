@@ -1,0 +1,42 @@
+-- The `clap` command that reads the words, as `clap`'s own definitions see it.
+use Rattle.std.specs.Prelude.{Some, Bool, true, false, codes, fold, List, [], ◌∷◌}
+use Rattle.clap.specs.Words.{App, Rule, Text, new_app, new_rule, with_rule, with_subcommand}
+
+-- a word at a place of its own, which must be there
+unfoldable pub word_rule : Text → Rule
+word_rule id = record (new_rule id) { required = true }
+
+-- `--id VALUE`, which must be there or may be left out
+unfoldable pub option_rule : Bool → Text → Rule
+option_rule required id = record (new_rule id) { long = Some id; required = required }
+
+-- a command with one more option
+abbrev pub with_option : Bool → App → Text → App
+with_option required a id = with_rule a (option_rule required id)
+
+unfoldable pub with_options : Bool → App → List Text → App
+with_options required a ids = fold (with_option required) a ids
+
+-- a command of this name: its words, the options that must be there, and those that may be left out
+unfoldable pub command_app : Text → List Text → List Text → List Text → App
+command_app name words required optional =
+    with_options false (with_options true (fold (λ a id. with_rule a (word_rule id)) (new_app name) words) required) optional
+
+unfoldable pub run_options : List Text
+run_options = codes "tape" ∷ codes "seed" ∷ codes "words" ∷ codes "budget" ∷ []
+
+-- run PROGRAM --input F, and the options
+unfoldable pub run_app : App
+run_app = command_app (codes "run") (codes "program" ∷ []) (codes "input" ∷ []) run_options
+
+-- deal --input F --tape F --to PREFIX
+unfoldable pub deal_app : App
+deal_app = command_app (codes "deal") [] (codes "input" ∷ codes "tape" ∷ codes "to" ∷ []) []
+
+-- no command yet: the words begin after the program's name, and `help` is no command
+unfoldable pub bare_app : App
+bare_app = record (new_app (codes "secrec")) { top = record (new_app (codes "secrec")).top { no_binary_name = true; disable_help_subcommand = true } }
+
+-- all commands
+unfoldable pub secrec_app : App
+secrec_app = with_subcommand (with_subcommand bare_app run_app.top) deal_app.top

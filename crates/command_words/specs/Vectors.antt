@@ -1,0 +1,125 @@
+-- Words, and what they ask for.
+use Rattle.std.specs.Prelude.{◌≡◌, refl, ℕ, List, [], ◌∷◌, Option, Some, None, codes, replicate}
+use Rattle.std.specs.Bool.{⊤}
+use Rattle.clap.specs.Words.{Text}
+use Rattle.clap.proofs.OnLiterals.{clap_on_literals}
+use Rattle.hex.proofs.OnLiterals.{hex_on_literals}
+use Rattle.command_words.specs.Ask.{Ask, run, deal, file, seeded, words_of, named_in, named, matched, run_of, deal_of, source_of, seeded_source, number_or, required_of}
+use Rattle.command_words.specs.Numbers.{number_of, seed_of}
+use Rattle.command_words.specs.Shapes.{secrec_app, run_app, deal_app, command_app, bare_app, run_options, with_options, word_rule, option_rule}
+
+-- opens the definitions, so that they compute at words that are written out
+unfoldable pub words_on_literals : ⊤
+unfolding clap_on_literals hex_on_literals secrec_app run_app deal_app command_app bare_app run_options with_options word_rule option_rule words_of named_in named matched run_of deal_of source_of seeded_source number_or required_of number_of seed_of
+words_on_literals = tt
+
+-- run p.sc --input i, and then these words
+abbrev pub run_with : List Text → Option Ask
+run_with more = words_of (codes "run" ∷ codes "p.sc" ∷ codes "--input" ∷ codes "i" ∷ more)
+
+run_with_tape : run_with (codes "--tape" ∷ codes "t" ∷ [])
+    ≡ Some (run (record { program = codes "p.sc"; input = codes "i"; source = file (codes "t"); budget = 1000000 }))
+unfolding words_on_literals
+run_with_tape = refl
+
+run_with_budget : run_with (codes "--budget=006" ∷ codes "--tape" ∷ codes "t" ∷ [])
+    ≡ Some (run (record { program = codes "p.sc"; input = codes "i"; source = file (codes "t"); budget = 6 }))
+unfolding words_on_literals
+run_with_budget = refl
+
+abbrev pub seed_bytes : List ℕ
+seed_bytes = 0 ∷ 1 ∷ 2 ∷ 3 ∷ 4 ∷ 5 ∷ 6 ∷ 7 ∷ 8 ∷ 9 ∷ 10 ∷ 11 ∷ 12 ∷ 13 ∷ 14 ∷ 15 ∷ 16 ∷ 17 ∷ 18 ∷ 19 ∷ 20 ∷ 21 ∷ 22 ∷ 23 ∷ 24 ∷ 25 ∷ 26 ∷ 27 ∷ 28 ∷ 29 ∷ 30 ∷ 31 ∷ []
+
+run_with_seed : run_with (codes "--seed" ∷ codes "000102030405060708090a0b0c0d0e0f101112131415161718191a1b1c1d1e1f" ∷ [])
+    ≡ Some (run (record { program = codes "p.sc"; input = codes "i"; source = seeded seed_bytes 65536; budget = 1000000 }))
+unfolding words_on_literals
+run_with_seed = refl
+
+-- 64 digits `7` are 32 bytes 119
+run_with_words : run_with (codes "--words" ∷ codes "16777216" ∷ codes "--seed" ∷ replicate 64 55 ∷ [])
+    ≡ Some (run (record { program = codes "p.sc"; input = codes "i"; source = seeded (replicate 32 119) 16777216; budget = 1000000 }))
+unfolding words_on_literals
+run_with_words = refl
+
+too_many_words : run_with (codes "--words" ∷ codes "16777217" ∷ codes "--seed" ∷ replicate 64 55 ∷ []) ≡ None
+unfolding words_on_literals
+too_many_words = refl
+
+words_without_seed : run_with (codes "--words" ∷ codes "7" ∷ codes "--tape" ∷ codes "t" ∷ []) ≡ None
+unfolding words_on_literals
+words_without_seed = refl
+
+both_sources : run_with (codes "--tape" ∷ codes "t" ∷ codes "--seed" ∷ replicate 64 55 ∷ []) ≡ None
+unfolding words_on_literals
+both_sources = refl
+
+no_source : run_with [] ≡ None
+unfolding words_on_literals
+no_source = refl
+
+-- 64 digits `A`
+upper_case_seed : run_with (codes "--seed" ∷ replicate 64 65 ∷ []) ≡ None
+unfolding words_on_literals
+upper_case_seed = refl
+
+short_seed : run_with (codes "--seed" ∷ replicate 63 55 ∷ []) ≡ None
+unfolding words_on_literals
+short_seed = refl
+
+signed_budget : run_with (codes "--tape" ∷ codes "t" ∷ codes "--budget" ∷ codes "+6" ∷ []) ≡ None
+unfolding words_on_literals
+signed_budget = refl
+
+-- 2^64
+large_budget : run_with (codes "--tape" ∷ codes "t" ∷ codes "--budget" ∷ codes "18446744073709551616" ∷ []) ≡ None
+unfolding words_on_literals
+large_budget = refl
+
+no_input : words_of (codes "run" ∷ codes "p.sc" ∷ codes "--tape" ∷ codes "t" ∷ []) ≡ None
+unfolding words_on_literals
+no_input = refl
+
+unknown_option : run_with (codes "--tape" ∷ codes "t" ∷ codes "--views" ∷ codes "v" ∷ []) ≡ None
+unfolding words_on_literals
+unknown_option = refl
+
+deal_words : words_of (codes "deal" ∷ codes "--to" ∷ codes "out" ∷ codes "--tape=t" ∷ codes "--input" ∷ codes "i" ∷ [])
+    ≡ Some (deal (record { input = codes "i"; tape = codes "t"; to = codes "out" }))
+unfolding words_on_literals
+deal_words = refl
+
+-- an empty value is a value, a value that begins with `-` needs a `=`, and `-` alone doesn't
+odd_values : words_of (codes "deal" ∷ codes "--to=" ∷ codes "--tape" ∷ codes "-" ∷ codes "--input=-i" ∷ [])
+    ≡ Some (deal (record { input = codes "-i"; tape = codes "-"; to = [] }))
+unfolding words_on_literals
+odd_values = refl
+
+dash_value : words_of (codes "deal" ∷ codes "--to" ∷ codes "-o" ∷ codes "--tape=t" ∷ codes "--input=i" ∷ []) ≡ None
+unfolding words_on_literals
+dash_value = refl
+
+option_twice : words_of (codes "deal" ∷ codes "--to=o" ∷ codes "--tape=t" ∷ codes "--tape=t" ∷ codes "--input=i" ∷ []) ≡ None
+unfolding words_on_literals
+option_twice = refl
+
+no_value : words_of (codes "deal" ∷ codes "--to=o" ∷ codes "--tape=t" ∷ codes "--input" ∷ []) ≡ None
+unfolding words_on_literals
+no_value = refl
+
+-- `--` ends the options
+after_dashes : words_of (codes "run" ∷ codes "--input=i" ∷ codes "--tape=t" ∷ codes "--" ∷ codes "--p" ∷ [])
+    ≡ Some (run (record { program = codes "--p"; input = codes "i"; source = file (codes "t"); budget = 1000000 }))
+unfolding words_on_literals
+after_dashes = refl
+
+no_words : words_of [] ≡ None
+unfolding words_on_literals
+no_words = refl
+
+help : words_of (codes "run" ∷ codes "--help" ∷ []) ≡ None
+unfolding words_on_literals
+help = refl
+
+help_command : words_of (codes "help" ∷ codes "run" ∷ []) ≡ None
+unfolding words_on_literals
+help_command = refl

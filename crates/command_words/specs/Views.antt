@@ -1,0 +1,53 @@
+-- The commands as their contracts see them.
+use Rattle.std.specs.Prelude.{◌≡◌, ◌≢◌, Option, option_map, Some, None, Result, Ok, Err, String, string_bytes, List, map}
+use Rattle.std.specs.declared.alloc.Global.{Global}
+use Rattle.std.specs.Borrow.{Bor}
+use Rattle.clap.specs.Words.{Text}
+use Rattle.clap.specs.declared.error.ErrorKind.{ErrorKind}
+use Rattle.clap.specs.declared.error.ErrorKind.TheVariants.{OutOfMemory}
+use Rattle.command_words.specs.declared.command.TapeSource.{TapeSource}
+use Rattle.command_words.specs.declared.command.TapeSource.TheVariants as sources
+use Rattle.command_words.specs.declared.command.RunWords.{RunWords}
+use Rattle.command_words.specs.declared.command.DealWords.{DealWords}
+use Rattle.command_words.specs.declared.command.Command.{Command}
+use Rattle.command_words.specs.declared.command.Command.TheVariants as commands
+use Rattle.command_words.specs.declared.command.WordsErr.{WordsErr}
+use Rattle.command_words.specs.declared.command.WordsErr.TheVariants.{Usage, Memory}
+use Rattle.command_words.specs.Ask.{Ask, DealAsk, RunAsk, Source, deal, file, run, seeded}
+
+abbrev pub source_ask : TapeSource → Source
+source_ask (sources.File path) = file (string_bytes path)
+source_ask (sources.Seed seed words) = seeded seed words
+
+abbrev pub run_ask : RunWords → RunAsk
+run_ask w = record {
+  program = string_bytes w.program;
+  input = string_bytes w.input;
+  source = source_ask w.source;
+  budget = w.budget;
+}
+
+abbrev pub deal_ask : DealWords → DealAsk
+deal_ask w = record { input = string_bytes w.input; tape = string_bytes w.tape; to = string_bytes w.to }
+
+abbrev pub ask_of : Command → Ask
+ask_of (commands.Run w) = run (run_ask w)
+ask_of (commands.Deal w) = deal (deal_ask w)
+
+-- the answer, seen by `view`, is the value that is wanted; Usage says that there is none, and Memory says nothing
+abbrev pub Reads : {X Y : Type 0} → (X → Y) → Option Y → Result X WordsErr → Type 0
+Reads view wanted (Ok x) = wanted ≡ Some (view x)
+Reads view wanted (Err Usage) = wanted ≡ None
+Reads view wanted (Err Memory) = Unit {0}
+
+abbrev pub texts : List (String Global) → List Text
+texts words = map string_bytes words
+
+-- a text behind a reference, if it is there
+abbrev pub text_in : Option (Bor Text) → Option Text
+text_in = option_map (λ s. s.now)
+
+-- Memory is `clap`'s kind of memory, and Usage any other
+abbrev pub WhyOf : ErrorKind → WordsErr → Type 0
+WhyOf kind Usage = kind ≢ OutOfMemory
+WhyOf kind Memory = kind ≡ OutOfMemory

@@ -1,0 +1,87 @@
+//! The `clap` command that reads the words.
+ghost use Rattle.std.specs.Prelude.{◌≡◌, IfOk, map};
+ghost use Rattle.command_words.specs.Shapes.{word_rule, option_rule, run_options, run_app, deal_app, secrec_app};
+ghost use Rattle.command_words.specs.Builds.{Builds, GetsOptions, IsLocal};
+
+use clap::{Arg, Command};
+use std::alloc::{AllocError, Global};
+
+// A word at a place of its own, which must be there.
+#[tactic(auto, unfolding(crate::specs::Shapes::word_rule))]
+fn word<'a>(alloc: Global, id: &'a str) -> Arg<'a>
+    ensures { IsLocal (word_rule id.entry.now) result }
+{
+    Arg::new(alloc, id).required(true)
+}
+
+// `--id VALUE`.
+#[tactic(auto, unfolding(crate::specs::Shapes::option_rule))]
+fn option<'a>(alloc: Global, required: bool, id: &'a str) -> Arg<'a>
+    ensures { IsLocal (option_rule required id.entry.now) result }
+{
+    Arg::new(alloc, id).long(id).required(required)
+}
+
+// The command with these options.
+#[tactic(auto, unfolding(crate::specs::Shapes::with_options))]
+fn with_options<'a>(
+    alloc: Global,
+    command: Command<'a>,
+    required: bool,
+    ids: &'static [&'static str],
+) -> Result<Command<'a>, AllocError>
+    ensures { IfOk result (λ c. GetsOptions command.entry required (map (λ s. s.now) ids.now) c) }
+{
+    let mut command = command;
+    for id in ids {
+        command = command.arg(option(alloc, required, id))?;
+    }
+    Ok(command)
+}
+
+static RUN_REQUIRED: [&str; 1] = ["input"];
+
+static RUN_OPTIONS: [&str; 4] = ["tape", "seed", "words", "budget"];
+
+static DEAL_REQUIRED: [&str; 3] = ["input", "tape", "to"];
+
+// The options of `run` that may be left out.
+#[tactic(auto, unfolding(crate::specs::Shapes::run_options))]
+fn run_options() -> &'static [&'static str]
+    ensures { map (λ s. s.now) result.now ≡ run_options }
+{
+    RUN_OPTIONS.as_slice()
+}
+
+#[tactic(auto, unfolding(crate::specs::Shapes::run_app, crate::specs::Shapes::command_app))]
+fn run_command<'a>(alloc: Global) -> Result<Command<'a>, AllocError>
+    ensures { IfOk result (λ c. Builds run_app c) }
+{
+    let command = Command::new(alloc, "run").arg(word(alloc, "program"))?;
+    let command = with_options(alloc, command, true, RUN_REQUIRED.as_slice())?;
+    with_options(alloc, command, false, run_options())
+}
+
+#[tactic(auto, unfolding(crate::specs::Shapes::deal_app, crate::specs::Shapes::command_app, crate::specs::Shapes::with_options))]
+fn deal_command<'a>(alloc: Global) -> Result<Command<'a>, AllocError>
+    ensures { IfOk result (λ c. Builds deal_app c) }
+{
+    with_options(
+        alloc,
+        Command::new(alloc, "deal"),
+        true,
+        DEAL_REQUIRED.as_slice(),
+    )
+}
+
+/// The whole command. The words begin after the program's name, and `help` names no command.
+#[tactic(auto, unfolding(crate::specs::Shapes::secrec_app, crate::specs::Shapes::bare_app))]
+pub(crate) fn secrec_command<'a>(alloc: Global) -> Result<Command<'a>, AllocError>
+    ensures { IfOk result (λ c. Builds secrec_app c) }
+{
+    Command::new(alloc, "secrec")
+        .no_binary_name(true)
+        .disable_help_subcommand(true)
+        .subcommand(run_command(alloc)?)?
+        .subcommand(deal_command(alloc)?)
+}

@@ -1,0 +1,55 @@
+//! The commands, with their words.
+ghost use Rattle.std.specs.Prelude.{◌≡◌};
+ghost use Rattle.command_words.specs.declared.command.WordsErr.TheVariants.{Memory};
+
+use std::alloc::AllocError;
+
+/// Where the tapes of a run come from.
+#[derive(Debug, Drop)]
+pub enum TapeSource {
+    /// The path of a tape file.
+    File(String),
+    /// A seed, and how many words each tape made from it has.
+    Seed { seed: [u8; 32], words: u64 },
+}
+
+/// The words of `run`: the paths of the program and the input file, the tapes, and the most that the run may cost.
+#[derive(Debug, Drop)]
+pub struct RunWords {
+    pub program: String,
+    pub input: String,
+    pub source: TapeSource,
+    pub budget: u64,
+}
+
+/// The words of `deal`: the paths of the input file and the tape file, and the start of the paths that are written.
+#[derive(Debug, Drop)]
+pub struct DealWords {
+    pub input: String,
+    pub tape: String,
+    pub to: String,
+}
+
+/// A command, with its words.
+#[derive(Debug, Drop)]
+pub enum Command {
+    Run(RunWords),
+    Deal(DealWords),
+}
+
+/// Why words aren't read as a command.
+#[derive(Clone, Copy, Debug, PartialEq, Eq)]
+pub enum WordsErr {
+    /// The words ask for no command.
+    Usage,
+    /// No memory was left.
+    Memory,
+}
+
+impl From<AllocError> for WordsErr {
+    ghost from_gives = { λ _ e. e ≡ Memory };
+
+    fn from(_error: AllocError) -> WordsErr {
+        WordsErr::Memory
+    }
+}

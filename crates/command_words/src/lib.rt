@@ -1,0 +1,16 @@
+//! The words of the command line, read as a command.
+//!
+//! `clap` says which words have the form of a command. What else they have to meet (numbers, seeds, one source of the
+//! tapes) is tested here. Words that fail either are [`WordsErr::Usage`].
+#![tactic(auto)]
+
+mod builders;
+mod command;
+mod numbers;
+mod reading;
+#[cfg(test)]
+mod tests;
+mod values;
+
+pub use command::{Command, DealWords, RunWords, TapeSource, WordsErr};
+pub use reading::read;

@@ -1,0 +1,121 @@
+//! What a command's words give, once `clap` has matched them.
+ghost use Rattle.std.specs.Prelude.{◌≡◌, option_map, IfOk, string_bytes};
+ghost use Rattle.clap.specs.Words.{found_of, first_of, rows_of};
+ghost use Rattle.command_words.specs.Ask.{required_of, number_or, seeded_source, source_of, run_of, deal_of, named};
+ghost use Rattle.command_words.specs.Views.{Reads, text_in, source_ask, run_ask, deal_ask, ask_of};
+
+use crate::command::{Command, DealWords, RunWords, TapeSource, WordsErr};
+use crate::numbers::{number, seed};
+use clap::ArgMatches;
+use std::alloc::{AllocError, Global};
+
+const DEFAULT_BUDGET: u64 = 1_000_000;
+
+const DEFAULT_WORDS: u64 = 65_536;
+
+const MOST_WORDS: u64 = 16_777_216;
+
+// The value of `id`, if it has one.
+fn value<'a>(matches: &ArgMatches<'a>, id: &str) -> Option<&'a str>
+    ensures { text_in result ≡ first_of id.now (rows_of (found_of matches.now)) }
+{
+    matches.get_str(id)
+}
+
+// The value of `id`, which `clap` requires.
+#[tactic(auto, unfolding(crate::specs::Ask::required_of))]
+fn required(alloc: Global, matches: &ArgMatches, id: &str) -> Result<String, AllocError>
+    ensures { IfOk result (λ s. string_bytes s ≡ required_of id.now (rows_of (found_of matches.now))) }
+{
+    String::from_str(alloc, value(matches, id).unwrap_or(""))
+}
+
+// A number that may be left out.
+#[tactic(auto, unfolding(crate::specs::Ask::number_or))]
+fn number_or(default: u64, text: Option<&str>) -> Option<u64>
+    ensures { result ≡ number_or default (text_in text.entry) }
+{
+    match text {
+        None => Some(default),
+        Some(text) => number(text),
+    }
+}
+
+// Tapes from a seed.
+#[tactic(auto, unfolding(crate::specs::Ask::seeded_source))]
+fn seeded_source(text: &str, words: Option<&str>) -> Option<TapeSource>
+    ensures { option_map source_ask result ≡ seeded_source text.now (text_in words.entry) }
+{
+    let seed = seed(text)?;
+    let words = number_or(DEFAULT_WORDS, words)?;
+    if words <= MOST_WORDS {
+        Some(TapeSource::Seed { seed, words })
+    } else {
+        None
+    }
+}
+
+// Where the tapes come from.
+#[tactic(auto, unfolding(crate::specs::Ask::source_of))]
+fn source(
+    alloc: Global,
+    tape: Option<&str>,
+    seed: Option<&str>,
+    words: Option<&str>,
+) -> Result<TapeSource, WordsErr>
+    ensures { Reads source_ask (source_of (text_in tape.entry) (text_in seed.entry) (text_in words.entry)) result }
+{
+    match (tape, seed, words) {
+        (Some(path), None, None) => Ok(TapeSource::File(String::from_str(alloc, path)?)),
+        (None, Some(seed), words) => seeded_source(seed, words).ok_or(WordsErr::Usage),
+        _ => Err(WordsErr::Usage),
+    }
+}
+
+// The words of `run`.
+#[tactic(auto, unfolding(crate::specs::Ask::run_of))]
+fn run_words(alloc: Global, matches: &ArgMatches) -> Result<RunWords, WordsErr>
+    ensures { Reads run_ask (run_of (rows_of (found_of matches.now))) result }
+{
+    let source = source(
+        alloc,
+        value(matches, "tape"),
+        value(matches, "seed"),
+        value(matches, "words"),
+    )?;
+    let Some(budget) = number_or(DEFAULT_BUDGET, value(matches, "budget")) else {
+        return Err(WordsErr::Usage);
+    };
+    Ok(RunWords {
+        program: required(alloc, matches, "program")?,
+        input: required(alloc, matches, "input")?,
+        source,
+        budget,
+    })
+}
+
+// The words of `deal`.
+#[tactic(auto, unfolding(crate::specs::Ask::deal_of))]
+fn deal_words(alloc: Global, matches: &ArgMatches) -> Result<DealWords, WordsErr>
+    ensures { Reads deal_ask (deal_of (rows_of (found_of matches.now))) result }
+{
+    Ok(DealWords {
+        input: required(alloc, matches, "input")?,
+        tape: required(alloc, matches, "tape")?,
+        to: required(alloc, matches, "to")?,
+    })
+}
+
+/// The command of this name, with what `clap` matched behind its name.
+#[tactic(auto, unfolding(crate::specs::Ask::named))]
+pub(crate) fn named(alloc: Global, name: &str, matches: &ArgMatches) -> Result<Command, WordsErr>
+    ensures { Reads ask_of (named name.now (rows_of (found_of matches.now))) result }
+{
+    if name == "run" {
+        return Ok(Command::Run(run_words(alloc, matches)?));
+    }
+    if name == "deal" {
+        return Ok(Command::Deal(deal_words(alloc, matches)?));
+    }
+    Err(WordsErr::Usage)
+}
