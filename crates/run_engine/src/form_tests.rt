@@ -1,4 +1,6 @@
-use crate::{DealerMasks, SumInputs, SumNames, SumTape, read_inputs, read_program, read_tape};
+use crate::input::{SumInputs, read_inputs};
+use crate::program::{SumNames, read_program};
+use crate::tape::{DealerMasks, SumTape, read_tape};
 use std::alloc::{AllocError, Global};
 use std::test::Fail;
 
