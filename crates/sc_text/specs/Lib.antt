@@ -1,1 +1,5 @@
+pub mod Elements
+pub mod End
+pub mod Event
+pub mod Fault
 pub mod Name

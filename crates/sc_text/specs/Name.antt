@@ -1,5 +1,5 @@
 -- Names: what a program's identifiers and strings, and the inputs and results of a run, are called.
-use Rattle.std.specs.Prelude.{ℕ, ◌+◌, Bool, IsTrue, ◌==◌, ◌&&◌, ◌||◌, nat_le, List, length}
+use Rattle.std.specs.Prelude.{ℕ, Bool, IsTrue, ◌==◌, ◌&&◌, ◌||◌, nat_le, List, length}
 use Rattle.std.specs.List.{list_all}
 use Rattle.std.specs.Char.{is_ascii_alphanumeric}
 
@@ -7,7 +7,7 @@ use Rattle.std.specs.Char.{is_ascii_alphanumeric}
 abbrev pub is_name_byte : ℕ → Bool
 is_name_byte byte = is_ascii_alphanumeric byte || byte == 95
 
--- a name is 1 to 64 ASCII letters, digits and `_`
+-- a name: 1 to 64 ASCII letters, digits and `_`
 unfoldable pub is_name : List ℕ → Bool
 is_name bytes = nat_le 1 (length bytes) && nat_le (length bytes) 64 && list_all is_name_byte bytes
 
