@@ -3,3 +3,4 @@ pub mod End
 pub mod Event
 pub mod Fault
 pub mod Name
+pub mod Vectors

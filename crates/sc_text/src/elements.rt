@@ -77,7 +77,7 @@ impl Elements {
 impl fmt::Display for Elements {
     ghost output = { λ elements. Some (elements_text elements) };
 
-    #[tactic(auto, using(crate::proofs::Lines::one_more_element), unfolding(crate::specs::Elements::elements_text))]
+    #[tactic(auto, unfolding(crate::specs::Elements::elements_text))]
     fn fmt<W: fmt::Write>(&self, f: &mut fmt::Formatter<W>) -> fmt::Result {
         for element in self.as_slice() {
             write!(f, " {element}")?;

@@ -132,6 +132,6 @@ impl fmt::Display for End {
     #[tactic(auto, unfolding(crate::specs::End::end_line))]
     fn fmt<W: fmt::Write>(&self, f: &mut fmt::Formatter<W>) -> fmt::Result {
         let (how, cost) = (self.how, self.cost);
-        write!(f, "end {how} cost {cost}\n")
+        writeln!(f, "end {how} cost {cost}")
     }
 }

@@ -21,10 +21,10 @@ impl fmt::Display for Event {
     #[tactic(auto, unfolding(crate::specs::Event::event_line))]
     fn fmt<W: fmt::Write>(&self, f: &mut fmt::Formatter<W>) -> fmt::Result {
         match self {
-            Event::Open(opened) => write!(f, "open{opened}\n"),
+            Event::Open(opened) => writeln!(f, "open{opened}"),
             Event::Publish(name, published) => {
                 let name = name.as_str();
-                write!(f, "publish {name}{published}\n")
+                writeln!(f, "publish {name}{published}")
             }
         }
     }
