@@ -64,6 +64,24 @@ pub fn call(
     })
 }
 
+/// The words of a run over three files.
+pub const RUN: [&str; 6] = ["run", "sum.sc", "--input", "sum.json", "--tape", "sum.tape"];
+
+/// Runs a program over an input and a tape file, all held by a store that never fails.
+pub fn run<'a>(
+    alloc: Global,
+    program: &'a str,
+    input: &'a str,
+    tape: &'a [u8],
+) -> Result<Outcome, AllocError> {
+    let held = [
+        ("sum.sc", program.as_bytes()),
+        ("sum.json", input.as_bytes()),
+        ("sum.tape", tape),
+    ];
+    call(alloc, &RUN, &held, STEADY)
+}
+
 /// A tape file of tapes of these lengths, with these words one after another.
 pub fn tape(alloc: Global, lengths: [u64; 4], words: &[u64]) -> Result<Vec<u8>, AllocError> {
     let mut bytes = Vec::new(alloc);

@@ -1,5 +1,5 @@
 // Files that are refused, and some that are not.
-use crate::call::{STEADY, call, tape};
+use crate::call::{run, tape};
 use command_frame::Status;
 use std::test::Fail;
 
@@ -8,8 +8,6 @@ const SUM: &str =
 
 const INPUT: &str =
     "{\"inputs\":[{\"name\":\"a\",\"domain\":\"private\",\"type\":\"uint64\",\"value\":6},{\"name\":\"b\",\"domain\":\"private\",\"type\":\"uint64\",\"value\":7}]}";
-
-const RUN: [&str; 6] = ["run", "sum.sc", "--input", "sum.json", "--tape", "sum.tape"];
 
 // A program and an input file, and whether they are of the form.
 struct Row {
@@ -106,12 +104,7 @@ fn programs_and_inputs_out_of_form_are_refused(rt: HostRuntime) -> Result<(), Fa
     let alloc = rt.alloc();
     let words = tape(alloc, [4, 1, 1, 1], &[0; 7])?;
     for row in &ROWS {
-        let held = [
-            ("sum.sc", row.program.as_bytes()),
-            ("sum.json", row.input.as_bytes()),
-            ("sum.tape", words.as_slice()),
-        ];
-        let outcome = call(alloc, &RUN, &held, STEADY)?;
+        let outcome = run(alloc, row.program, row.input, &words)?;
         let (status, out, err) = wanted(row.good);
         assert_eq!(rt; outcome.status, status, "{}", row.what);
         assert_eq!(rt; outcome.out.bytes(), out, "{}", row.what);
@@ -141,12 +134,7 @@ fn tapes_out_of_form_are_refused(rt: HostRuntime) -> Result<(), Fail> {
         for _ in 0..surplus {
             bytes.push(0)?;
         }
-        let held = [
-            ("sum.sc", SUM.as_bytes()),
-            ("sum.json", INPUT.as_bytes()),
-            ("sum.tape", bytes.as_slice()),
-        ];
-        let outcome = call(alloc, &RUN, &held, STEADY)?;
+        let outcome = run(alloc, SUM, INPUT, &bytes)?;
         let (status, out, err) = wanted(good);
         assert_eq!(rt; outcome.status, status, "{lengths:?} {count} {surplus}");
         assert_eq!(rt; outcome.out.bytes(), out);
