@@ -1,0 +1,6 @@
+pub mod Values
+pub mod ShareFile
+pub mod Dealing
+pub mod AddUp
+pub mod Refusal
+pub mod Written

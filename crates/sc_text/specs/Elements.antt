@@ -1,0 +1,16 @@
+-- The elements of a printed value, as text.
+use Rattle.std.specs.Prelude.{ℕ, List, ◌++◌, codes, true, false}
+use Rattle.std.specs.Fmt.{decimal}
+use Rattle.std.specs.List.{flat_map}
+use Rattle.sc_text.specs.declared.elements.Element.{Element}
+use Rattle.sc_text.specs.declared.elements.Element.TheVariants as elements
+
+-- a word in decimal, a truth value as a word of English
+unfoldable pub element_text : Element → List ℕ
+element_text (elements.Word word) = decimal word
+element_text (elements.Truth true) = codes "true"
+element_text (elements.Truth false) = codes "false"
+
+-- a space and then the element, for each
+unfoldable pub elements_text : List Element → List ℕ
+elements_text list = flat_map (λ element. codes " " ++ element_text element) list

@@ -1,0 +1,6 @@
+pub mod Elements
+pub mod End
+pub mod Event
+pub mod Fault
+pub mod Name
+pub mod Vectors
