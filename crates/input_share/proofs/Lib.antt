@@ -3,3 +3,6 @@ pub mod Elements
 pub mod Found
 pub mod AddUpLaws
 pub mod WrittenLaws
+pub mod ShapeLaws
+pub mod RoundTrip
+pub mod FormLaws

@@ -7,11 +7,11 @@ use Rattle.value_file.specs.declared.value.Domain.{Domain}
 use Rattle.value_file.specs.declared.value.Domain.TheVariants as domain
 use Rattle.value_file.specs.declared.value.Value.{Value}
 use Rattle.value_file.specs.declared.inputs.Entry.{Entry}
-use Rattle.value_file.specs.Values.{type_of, count_of}
+use Rattle.value_file.specs.Values.{type_of, count_of, shape_of}
 use Rattle.input_share.specs.declared.entry.Part.{Part}
 use Rattle.input_share.specs.declared.entry.Part.TheVariants as part
 use Rattle.input_share.specs.declared.entry.ShareEntry.{ShareEntry}
-use Rattle.input_share.specs.Values.{elements_of, ring_of, shape_of}
+use Rattle.input_share.specs.Values.{elements_of, ring_of}
 use Rattle.input_share.specs.ShareFile.{MinerFile}
 
 -- what two masks leave of each element, in a ring

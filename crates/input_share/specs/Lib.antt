@@ -4,3 +4,6 @@ pub mod Dealing
 pub mod AddUp
 pub mod Refusal
 pub mod Written
+pub mod Reading
+pub mod Shapes
+pub mod Vectors

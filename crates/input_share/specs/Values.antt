@@ -6,8 +6,6 @@ use Rattle.value_file.specs.declared.value.DataType.{DataType}
 use Rattle.value_file.specs.declared.value.DataType.TheVariants as data_type
 use Rattle.value_file.specs.declared.value.Value.{Value}
 use Rattle.value_file.specs.declared.value.Value.TheVariants.{Number, Truth, Numbers, Truths}
-use Rattle.input_share.specs.declared.entry.Shape.{Shape}
-use Rattle.input_share.specs.declared.entry.Shape.TheVariants.{Scalar, Array}
 
 -- a truth value as a word
 abbrev pub bit_word : Bool → ℕ
@@ -25,9 +23,3 @@ elements_of (Truths bs) = map bit_word bs
 abbrev pub ring_of : DataType → Ring
 ring_of data_type.Uint64 = add_ring
 ring_of data_type.Bool = xor_ring
-
-abbrev pub shape_of : Value → Shape
-shape_of (Number n) = Scalar
-shape_of (Truth b) = Scalar
-shape_of (Numbers ns) = Array
-shape_of (Truths bs) = Array

@@ -1,15 +1,15 @@
 // The dealer.
 ghost use Rattle.std.specs.Prelude.{◌≡◌, ◌≤◌, ◌<◌, ◌*◌, ◌^◌, ℕ, List, All, length, map, drop, IfOk, IfErr, OnOk};
 ghost use Rattle.proto_core.specs.declared.party.Number.TheVariants.{One, Two, Three};
-ghost use Rattle.value_file.specs.Values.{type_of, count_of};
-ghost use Rattle.input_share.specs.Values.{elements_of, ring_of, shape_of};
+ghost use Rattle.value_file.specs.Values.{type_of, count_of, shape_of};
+ghost use Rattle.input_share.specs.Values.{elements_of, ring_of};
 ghost use Rattle.input_share.specs.Dealing.{left_of, share_of, part_of, draws_of, need_of, dealt_entry, dealt_entries, dealt};
 ghost use Rattle.input_share.specs.Refusal.{Refuses};
 ghost use Rattle.input_share.specs.declared.dealing.DealErr.TheVariants.{Memory};
 
 use crate::entry::{Part, ShareEntry, Shared};
 use crate::share_file::ShareFile;
-use crate::values::{copy, count, elements, shape};
+use crate::values::{count, elements};
 use proto_core::Number;
 use share_ring::{AddRing, ShareRing, XorRing};
 use std::alloc::{AllocError, Global};
@@ -98,6 +98,7 @@ fn share(
 }
 
 /// A miner's share of a private value.
+
 fn shared(alloc: Global, miner: Number, value: &Value, words: &[u64]) -> Result<Shared, AllocError>
     requires { 2 * count_of value.now ≤ length words.now }
     ensures { IfOk result (λ shared. shared ≡ record {
@@ -111,7 +112,7 @@ fn shared(alloc: Global, miner: Number, value: &Value, words: &[u64]) -> Result<
     let words = share(alloc, miner, data_type, &elements, words)?;
     Ok(Shared {
         data_type,
-        shape: shape(value),
+        shape: value.shape(),
         words: Words::new(words),
     })
 }
@@ -143,7 +144,7 @@ fn part(alloc: Global, miner: Number, entry: &Entry, words: &[u64]) -> Result<Pa
     ensures { IfOk result (λ part. part ≡ part_of miner entry.now.domain entry.now.value words.now) }
 {
     match entry.domain {
-        Domain::Public => Ok(Part::Public(copy(alloc, &entry.value)?)),
+        Domain::Public => Ok(Part::Public(entry.value.copy(alloc)?)),
         Domain::Private => Ok(Part::Private(shared(alloc, miner, &entry.value, words)?)),
     }
 }

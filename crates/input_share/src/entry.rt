@@ -3,14 +3,7 @@ ghost use Rattle.std.specs.Prelude.{◌≡◌, option_map};
 ghost use Rattle.input_share.specs.ShareFile.{words_in};
 
 use sc_text::Name;
-use value_file::{DataType, Value, Words};
-
-/// The shape of a private value: one element, or an array of as many as there are words.
-#[derive(Clone, Copy, PartialEq, Eq, Debug)]
-pub enum Shape {
-    Scalar,
-    Array,
-}
+use value_file::{DataType, Shape, Value, Words};
 
 /// One miner's share of a private value: a word for each element, in order.
 #[derive(Drop)]

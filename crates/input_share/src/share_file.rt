@@ -1,5 +1,5 @@
 // A miner's share file.
-ghost use Rattle.std.specs.Prelude.{◌≡◌, option_map};
+ghost use Rattle.std.specs.Prelude.{◌≡◌, length, option_map};
 ghost use Rattle.std.specs.Str.{bytes_eq};
 ghost use Rattle.input_share.specs.ShareFile.{share_in};
 
@@ -17,6 +17,7 @@ pub struct ShareFile {
 }
 
 impl Model for ShareFile {
+    ghost use Rattle.std.specs.Prelude.{◌≡◌, length};
     ghost use Rattle.input_share.specs.ShareFile.{MinerFile};
 
     ghost Value = { MinerFile };
@@ -26,6 +27,8 @@ impl Model for ShareFile {
       lens = file.lens;
       miner = file.miner;
     } };
+
+    ghost invariant = { λ file. length file.lens ≡ 4 };
 }
 
 fn is_named(entry: &ShareEntry, name: &[u8]) -> bool
@@ -55,7 +58,8 @@ impl ShareFile {
 
     /// The lengths of the tapes of the dealer and of miners 1, 2 and 3.
     pub fn lens(&self) -> [u64; 4]
-        ensures { result ≡ self.now.lens }
+        ensures lens { result ≡ self.now.lens }
+        ensures four { length self.now.lens ≡ 4 }
     {
         self.lens
     }

@@ -1,11 +1,10 @@
-// The elements of a value as words, and copies of values.
+// The elements of a value as words.
 ghost use Rattle.std.specs.Prelude.{◌≡◌, ◌<◌, ◌^◌, map, IfOk};
 ghost use Rattle.value_file.specs.Values.{count_of};
-ghost use Rattle.input_share.specs.Values.{bit_word, elements_of, shape_of};
+ghost use Rattle.input_share.specs.Values.{bit_word, elements_of};
 
-use crate::entry::Shape;
 use std::alloc::{AllocError, Global};
-use value_file::{Bits, Value, Words};
+use value_file::Value;
 
 fn bit_word(bit: bool) -> u64
     ensures { result ≡ bit_word bit }
@@ -45,26 +44,4 @@ pub fn count(value: &Value) -> usize
         Value::Numbers(numbers) => numbers.as_slice().len(),
         Value::Truths(bits) => bits.as_slice().len(),
     }
-}
-
-/// The shape of a value.
-pub fn shape(value: &Value) -> Shape
-    ensures { result ≡ shape_of value.now }
-{
-    match value {
-        Value::Number(_) | Value::Truth(_) => Shape::Scalar,
-        Value::Numbers(_) | Value::Truths(_) => Shape::Array,
-    }
-}
-
-/// The same value in memory of its own.
-pub fn copy(alloc: Global, value: &Value) -> Result<Value, AllocError>
-    ensures { IfOk result (λ same. same ≡ value.now) }
-{
-    Ok(match value {
-        Value::Number(number) => Value::Number(*number),
-        Value::Truth(bit) => Value::Truth(*bit),
-        Value::Numbers(numbers) => Value::Numbers(Words::new(numbers.as_slice().to_vec(alloc)?)),
-        Value::Truths(bits) => Value::Truths(Bits::new(bits.as_slice().to_vec(alloc)?)),
-    })
 }

@@ -1,15 +1,16 @@
 // Share files as JSON.
-ghost use Rattle.std.specs.Prelude.{◌≡◌, Some, IfOk};
-ghost use Rattle.serde_json.specs.Data.{boolean};
-ghost use Rattle.serde_json.specs.Read.{read};
+ghost use Rattle.std.specs.Prelude.{◌≡◌, length, Ok, IfOk, OnOk};
+ghost use Rattle.proto_core.specs.Parties.{count_of as number_of};
 ghost use Rattle.serde_json.specs.View.{view};
-ghost use Rattle.input_share.specs.Written.{number_data, list_data, value_data, type_text, shape_data, public_data, private_data, entry_data, file_data, share_text};
+ghost use Rattle.value_file.specs.Public.{number_data};
+ghost use Rattle.input_share.specs.Reading.{read_share_of, AreWritable};
+ghost use Rattle.input_share.specs.Written.{list_data, public_data, private_data, entry_data, file_data, file_bytes};
 
-use crate::entry::{Part, Shape, ShareEntry, Shared};
+use crate::entry::{Part, ShareEntry, Shared};
 use crate::share_file::ShareFile;
 use serde_json::{Value as Json, json};
 use std::alloc::{AllocError, Global};
-use value_file::{DataType, Value};
+use value_file::{Value, shape_json, type_json, value_json};
 
 fn numbers(alloc: Global, words: &[u64]) -> Result<Json, AllocError>
     ensures { IfOk result (λ json. view json ≡ list_data number_data words.now) }
@@ -21,49 +22,10 @@ fn numbers(alloc: Global, words: &[u64]) -> Result<Json, AllocError>
     Ok(Json::Array(list))
 }
 
-fn truths(alloc: Global, bits: &[bool]) -> Result<Json, AllocError>
-    ensures { IfOk result (λ json. view json ≡ list_data boolean bits.now) }
-{
-    let mut list = Vec::with_capacity(alloc, bits.len())?;
-    for bit in bits {
-        list.push(Json::Bool(*bit))?;
-    }
-    Ok(Json::Array(list))
-}
-
-fn value_json(alloc: Global, value: &Value) -> Result<Json, AllocError>
-    ensures { IfOk result (λ json. view json ≡ value_data value.now) }
-{
-    match value {
-        Value::Number(number) => Ok(Json::from(*number)),
-        Value::Truth(bit) => Ok(Json::Bool(*bit)),
-        Value::Numbers(words) => numbers(alloc, words.as_slice()),
-        Value::Truths(bits) => truths(alloc, bits.as_slice()),
-    }
-}
-
-fn type_text(data_type: DataType) -> &'static str
-    ensures { result.now ≡ type_text data_type }
-{
-    match data_type {
-        DataType::Uint64 => "uint64",
-        DataType::Bool => "bool",
-    }
-}
-
-fn shape_json(alloc: Global, shape: Shape, words: &[u64]) -> Result<Json, AllocError>
-    ensures { IfOk result (λ json. view json ≡ shape_data shape words.now) }
-{
-    match shape {
-        Shape::Scalar => json!(in alloc; "scalar"),
-        Shape::Array => json!(in alloc; words.len()),
-    }
-}
-
 fn public_json(alloc: Global, name: &str, value: &Value) -> Result<Json, AllocError>
     ensures { IfOk result (λ json. view json ≡ public_data name.now value.now) }
 {
-    let data_type = type_text(value.data_type());
+    let data_type = type_json(alloc, value.data_type())?;
     let value = value_json(alloc, value)?;
     json!(in alloc; {"domain": "public", "name": name, "type": data_type, "value": value})
 }
@@ -71,10 +33,9 @@ fn public_json(alloc: Global, name: &str, value: &Value) -> Result<Json, AllocEr
 fn private_json(alloc: Global, name: &str, shared: &Shared) -> Result<Json, AllocError>
     ensures { IfOk result (λ json. view json ≡ private_data name.now shared.now) }
 {
-    let data_type = type_text(shared.data_type);
-    let words = shared.words.as_slice();
-    let shape = shape_json(alloc, shared.shape, words)?;
-    let share = numbers(alloc, words)?;
+    let data_type = type_json(alloc, shared.data_type)?;
+    let shape = shape_json(alloc, shared.shape)?;
+    let share = numbers(alloc, shared.words.as_slice())?;
     json!(in alloc; {"domain": "private", "name": name, "shape": shape, "share": share, "type": data_type})
 }
 
@@ -98,7 +59,8 @@ fn entries_json(alloc: Global, entries: &[ShareEntry]) -> Result<Json, AllocErro
 }
 
 fn file_json(alloc: Global, file: &ShareFile) -> Result<Json, AllocError>
-    ensures { IfOk result (λ json. view json ≡ file_data file.now) }
+    ensures json { IfOk result (λ json. view json ≡ file_data file.now) }
+    ensures four { OnOk result (length file.now.lens ≡ 4) }
 {
     let inputs = entries_json(alloc, file.entries())?;
     let lens = numbers(alloc, file.lens().as_slice())?;
@@ -106,10 +68,14 @@ fn file_json(alloc: Global, file: &ShareFile) -> Result<Json, AllocError>
     json!(in alloc; {"inputs": inputs, "lens": lens, "miner": miner})
 }
 
-/// Writes a share file: compact JSON, the keys of each object in the order of their bytes, with no newline.
+/// Writes a share file: compact JSON, the keys of each object in the order of their bytes, with no newline. `read_share`
+/// reads it as this file if no name stands twice, no entry has more than 65,536 elements and each share has as many words
+/// as its shape says.
 pub fn write_share(alloc: Global, file: &ShareFile) -> Result<Vec<u8>, AllocError>
-    ensures text { IfOk result (λ bytes. bytes.items ≡ share_text file.now) }
-    ensures read_again { IfOk result (λ bytes. read bytes.items ≡ Some (file_data file.now)) }
+    ensures bytes { IfOk result (λ bytes. bytes.items ≡ file_bytes file.now) }
+    ensures read_again { IfOk result (λ bytes. AreWritable file.now.entries →
+        read_share_of (number_of file.now.miner) bytes.items ≡ Ok file.now) }
 {
-    file_json(alloc, file)?.to_vec(alloc)
+    let bytes = file_json(alloc, file)?.to_vec(alloc)?;
+    Ok(bytes)
 }

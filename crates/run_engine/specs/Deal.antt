@@ -5,7 +5,7 @@ use Rattle.command_frame.specs.declared.status.Status.TheVariants.{Done, Tape}
 use Rattle.command_frame.specs.Answer.{Answer, Cause, Effect, Written, ◌>>=◌}
 use Rattle.command_words.specs.Ask.{DealAsk}
 use Rattle.input_share.specs.Dealing.{dealt, need_of}
-use Rattle.input_share.specs.Written.{share_text}
+use Rattle.input_share.specs.Written.{file_bytes}
 use Rattle.proto_core.specs.declared.party.Number.{Number}
 use Rattle.proto_core.specs.declared.party.Number.TheVariants.{One, Two, Three}
 use Rattle.sc_text.specs.declared.fault.Fault.TheVariants.{ShortTape}
@@ -29,7 +29,7 @@ lengths_of tapes = length tapes.dealer ∷ length tapes.one ∷ length tapes.two
 
 -- a miner's share file
 abbrev pub share_of : Number → List Entry → FourTapes → List ℕ
-share_of miner entries tapes = share_text (dealt miner entries tapes.dealer (lengths_of tapes))
+share_of miner entries tapes = file_bytes (dealt miner entries tapes.dealer (lengths_of tapes))
 
 abbrev pub file_of : List ℕ → List ℕ → List ℕ → Written
 file_of prefix suffix bytes = record { path = path_to prefix suffix; bytes = bytes }

@@ -37,7 +37,7 @@ names_at files path = bytes_at files path >>= λ bytes. ok_or (program_of bytes)
 unfoldable pub bad_tape : ℕ → Cause
 bad_tape place = record { status = TapeFile; line = fault_line (faults.BadTape place) }
 
--- a field of an entry; the list of entries is none
+-- a field of an entry; those at top are none
 abbrev pub entry_field : Field → Option EntryField
 entry_field fields.Inputs = None
 entry_field fields.Name = Some entry_fields.Name
@@ -45,16 +45,28 @@ entry_field fields.Domain = Some entry_fields.Domain
 entry_field fields.Type = Some entry_fields.Type
 entry_field fields.Value = Some entry_fields.Value
 entry_field fields.Shape = Some entry_fields.Shape
+entry_field fields.Share = Some entry_fields.Share
+entry_field fields.Lens = None
+entry_field fields.Miner = None
 
-abbrev pub field_fault : Option ℕ → Option EntryField → InputFault
-field_fault (Some entry) (Some field) = input_faults.BadField entry field
-field_fault (Some entry) None = input_faults.NoInputs
-field_fault None field = input_faults.NoInputs
+-- the fault of a field at top
+abbrev pub top_fault : Field → InputFault
+top_fault fields.Lens = input_faults.BadLens
+top_fault fields.Miner = input_faults.BadMiner
+top_fault _ = input_faults.NoInputs
+
+abbrev pub fault_in : Option ℕ → Option EntryField → Field → InputFault
+fault_in (Some entry) (Some field) named = input_faults.BadField entry field
+fault_in (Some entry) None named = top_fault named
+fault_in None field named = top_fault named
+
+abbrev pub field_fault : Option ℕ → Field → InputFault
+field_fault entry named = fault_in entry (entry_field named) named
 
 -- the fault that a reader of inputs finds; it decides nothing of want of memory
 abbrev pub input_fault : ReadErr → Fault
 input_fault read_errs.Syntax = faults.Input input_faults.NotJson
-input_fault (read_errs.BadField entry name) = faults.Input (field_fault entry (entry_field name))
+input_fault (read_errs.BadField entry name) = faults.Input (field_fault entry name)
 input_fault (read_errs.TooLong entry) = faults.Input (input_faults.TooMany entry)
 input_fault read_errs.Memory = faults.Memory
 

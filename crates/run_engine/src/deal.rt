@@ -4,7 +4,7 @@ ghost use Rattle.command_frame.specs.Answer.{effect_of, writes_of};
 ghost use Rattle.command_frame.specs.Reads.{OnlyRead, Gives, KeepsTo};
 ghost use Rattle.command_frame.specs.Stops.{IsRefusalFor};
 ghost use Rattle.command_words.specs.Views.{deal_ask};
-ghost use Rattle.input_share.specs.Written.{share_text};
+ghost use Rattle.input_share.specs.Written.{file_bytes};
 ghost use Rattle.tape_file.specs.Format.{own_bytes};
 ghost use Rattle.run_engine.specs.Deal.{short_tape, path_to, lengths_of, file_of, deal_of, deal_paths};
 
@@ -40,7 +40,7 @@ fn share_write(
     file: &ShareFile,
 ) -> Result<PlannedWrite, AllocError>
     ensures path { IfOk result (λ write. string_bytes write.path ≡ path_to prefix.now suffix.now) }
-    ensures bytes { IfOk result (λ write. write.bytes.items ≡ share_text file.now) }
+    ensures bytes { IfOk result (λ write. write.bytes.items ≡ file_bytes file.now) }
 {
     Ok(PlannedWrite {
         path: path(alloc, prefix, suffix)?,
@@ -72,9 +72,9 @@ fn writes(
     tapes: &Tapes,
 ) -> Result<Vec<PlannedWrite>, AllocError>
     ensures { IfOk result (λ writes. writes_of writes.items ≡
-        file_of (string_bytes prefix.now) (codes ".1") (share_text dealt.now.first)
-        ∷ file_of (string_bytes prefix.now) (codes ".2") (share_text dealt.now.second)
-        ∷ file_of (string_bytes prefix.now) (codes ".3") (share_text dealt.now.third)
+        file_of (string_bytes prefix.now) (codes ".1") (file_bytes dealt.now.first)
+        ∷ file_of (string_bytes prefix.now) (codes ".2") (file_bytes dealt.now.second)
+        ∷ file_of (string_bytes prefix.now) (codes ".3") (file_bytes dealt.now.third)
         ∷ file_of (string_bytes prefix.now) (codes ".t1") (own_bytes tapes.now.one)
         ∷ file_of (string_bytes prefix.now) (codes ".t2") (own_bytes tapes.now.two)
         ∷ file_of (string_bytes prefix.now) (codes ".t3") (own_bytes tapes.now.three) ∷ []) }

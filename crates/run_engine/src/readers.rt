@@ -6,7 +6,7 @@ ghost use Rattle.command_frame.specs.Stops.{IsRefusalFor};
 ghost use Rattle.sc_text.specs.Fault.{fault_line};
 ghost use Rattle.command_frame.specs.declared.status.Status.TheVariants.{Input};
 ghost use Rattle.sc_text.specs.declared.fault.Fault.TheVariants.{Input as InputFile};
-ghost use Rattle.run_engine.specs.Run.{bad_tape, field_fault, entry_field, inputs_at, tape_file_at};
+ghost use Rattle.run_engine.specs.Run.{bad_tape, field_fault, top_fault, entry_field, inputs_at, tape_file_at};
 
 use command_frame::{Refusal, Status, Stop, read_file};
 use outside::Files;
@@ -36,15 +36,28 @@ fn entry_field(name: Field) -> Option<EntryField>
         Field::Type => Some(EntryField::Type),
         Field::Value => Some(EntryField::Value),
         Field::Shape => Some(EntryField::Shape),
+        Field::Share => Some(EntryField::Share),
+        Field::Lens => None,
+        Field::Miner => None,
+    }
+}
+
+fn top_fault(name: Field) -> InputFault
+    ensures { result ≡ top_fault name }
+{
+    match name {
+        Field::Lens => InputFault::BadLens,
+        Field::Miner => InputFault::BadMiner,
+        _ => InputFault::NoInputs,
     }
 }
 
 fn field_fault(entry: Option<u64>, name: Field) -> InputFault
-    ensures { result ≡ field_fault entry (entry_field name) }
+    ensures { result ≡ field_fault entry name }
 {
     match (entry, entry_field(name)) {
         (Some(entry), Some(field)) => InputFault::BadField { entry, field },
-        _ => InputFault::NoInputs,
+        _ => top_fault(name),
     }
 }
 

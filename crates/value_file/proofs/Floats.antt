@@ -15,21 +15,21 @@ use Rattle.value_file.specs.declared.public.PublicEntry.{PublicEntry}
 use Rattle.value_file.specs.Values.{type_of}
 use Rattle.value_file.specs.Public.{number_data, value_data, shape_data, type_data, entry_data, entry_data_of, part_data}
 
-items_have_float-map : {A : Type 0} (f : A → Data) → ((x : A) → has_float (f x) ≡ false) → (xs : List A) → items_have_float (items_of (map f xs)) ≡ false
+pub items_have_float-map : {A : Type 0} (f : A → Data) → ((x : A) → has_float (f x) ≡ false) → (xs : List A) → items_have_float (items_of (map f xs)) ≡ false
 items_have_float-map f none [] = refl
 items_have_float-map f none (x ∷ xs) = rw (none x, items_have_float-map f none xs) refl
 
-has_float-value : (v : Value) → has_float (value_data v) ≡ false
+pub has_float-value : (v : Value) → has_float (value_data v) ≡ false
 has_float-value (Number n) = refl
 has_float-value (Truth b) = refl
 has_float-value (Numbers ns) = items_have_float-map number_data (λ n. refl) ns
 has_float-value (Truths bs) = items_have_float-map boolean (λ b. refl) bs
 
-has_float-shape : (s : Shape) → has_float (shape_data s) ≡ false
+pub has_float-shape : (s : Shape) → has_float (shape_data s) ≡ false
 has_float-shape shape.Scalar = refl
 has_float-shape (shape.Array count) = refl
 
-has_float-type : (kind : DataType) → has_float (type_data kind) ≡ false
+pub has_float-type : (kind : DataType) → has_float (type_data kind) ≡ false
 has_float-type data_type.Uint64 = refl
 has_float-type data_type.Bool = refl
 

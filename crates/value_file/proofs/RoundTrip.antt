@@ -25,21 +25,21 @@ use Rattle.value_file.specs.Input.{AreEntries, data_type_of, domain_of, new_name
 use Rattle.value_file.specs.PublicFile.{public_entry_of, public_name_of, public_elements_of, public_within_limit, public_count, read_public_of, shape_of_data, IsWritable}
 
 -- the elements of an array
-all_in-map : {A : Type 0} (one : Data → Option A) (f : A → Data) → ((x : A) → one (f x) ≡ Some x) → (xs : List A) → all_in one (items_of (map f xs)) ≡ Some xs
+pub all_in-map : {A : Type 0} (one : Data → Option A) (f : A → Data) → ((x : A) → one (f x) ≡ Some x) → (xs : List A) → all_in one (items_of (map f xs)) ≡ Some xs
 all_in-map one f good [] = refl
 all_in-map one f good (x ∷ xs) = rw (good x, all_in-map one f good xs) refl
 
-value_of-data : (v : Value) → value_of (type_of v) (value_data v) ≡ Some v
+pub value_of-data : (v : Value) → value_of (type_of v) (value_data v) ≡ Some v
 value_of-data (Number n) = refl
 value_of-data (Truth b) = refl
 value_of-data (Numbers ns) = rw (all_in-map number_in number_data (λ n. refl) ns) refl
 value_of-data (Truths bs) = rw (all_in-map as_bool boolean (λ b. refl) bs) refl
 
-shape_of-data : (s : Shape) → shape_of_data (shape_data s) ≡ Some s
+pub shape_of-data : (s : Shape) → shape_of_data (shape_data s) ≡ Some s
 shape_of-data shape.Scalar = refl
 shape_of-data (shape.Array count) = refl
 
-type_of-data : (kind : DataType) → option_and_then data_type_of (as_str (type_data kind)) ≡ Some kind
+pub type_of-data : (kind : DataType) → option_and_then data_type_of (as_str (type_data kind)) ≡ Some kind
 unfolding data_type_of
 type_of-data data_type.Uint64 = refl
 type_of-data data_type.Bool = refl
@@ -66,21 +66,21 @@ read_public_of-written bytes part text found good =
     rw (whole, found) (entries_after-data [] part good)
 
 -- how deep the data nest
-items_depth-map : {A : Type 0} (f : A → Data) (k : ℕ) → ((x : A) → depth (f x) ≤ k) → (xs : List A) → items_depth (items_of (map f xs)) ≤ k
+pub items_depth-map : {A : Type 0} (f : A → Data) (k : ℕ) → ((x : A) → depth (f x) ≤ k) → (xs : List A) → items_depth (items_of (map f xs)) ≤ k
 items_depth-map f k low [] = omega arith
 items_depth-map f k low (x ∷ xs) = max-le (low x) (items_depth-map f k low xs)
 
-depth-value : (v : Value) → depth (value_data v) ≤ 1
+pub depth-value : (v : Value) → depth (value_data v) ≤ 1
 depth-value (Number n) = omega arith
 depth-value (Truth b) = omega arith
 depth-value (Numbers ns) = let h = items_depth-map number_data 0 (λ n. omega arith) ns in omega arith
 depth-value (Truths bs) = let h = items_depth-map boolean 0 (λ b. omega arith) bs in omega arith
 
-depth-shape : (s : Shape) → depth (shape_data s) ≡ 0
+pub depth-shape : (s : Shape) → depth (shape_data s) ≡ 0
 depth-shape shape.Scalar = refl
 depth-shape (shape.Array count) = refl
 
-depth-type : (kind : DataType) → depth (type_data kind) ≡ 0
+pub depth-type : (kind : DataType) → depth (type_data kind) ≡ 0
 depth-type data_type.Uint64 = refl
 depth-type data_type.Bool = refl
 

@@ -2,9 +2,9 @@
 //! shape.
 #![tactic(auto)]
 
-mod fields;
+pub mod fields;
 mod inputs;
-mod json;
+pub mod json;
 mod lists;
 mod public;
 mod public_reading;
@@ -17,11 +17,12 @@ mod value_reading;
 pub use inputs::{Entry, Inputs};
 pub use lists::{Bits, Words};
 pub use public::{PublicEntry, PublicPart, PublicValue, public_part};
-pub use public_reading::read_public;
-pub use public_writing::write_public;
+pub use public_reading::{read_public, shape_field};
+pub use public_writing::{shape_json, type_json, value_json, write_public};
 pub use read_err::{Field, ReadErr};
 pub use reading::read;
 pub use value::{DataType, Domain, Shape, Value};
+pub use value_reading::numbers;
 
 #[cfg(test)]
 mod tests;

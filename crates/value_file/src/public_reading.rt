@@ -25,7 +25,7 @@ fn shape(json: &Json) -> Option<Shape>
 }
 
 /// The shape of an entry, if it is good.
-fn shape_field(json: &Json) -> Option<Shape>
+pub fn shape_field(json: &Json) -> Option<Shape>
     ensures { result ≡ shape_in (view json.now) }
 {
     shape(json.get("shape")?)

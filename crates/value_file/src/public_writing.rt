@@ -30,7 +30,8 @@ fn truths(alloc: Global, truths: &[bool]) -> Result<Vec<Json>, AllocError>
     Ok(list)
 }
 
-fn value_json(alloc: Global, value: &Value) -> Result<Json, AllocError>
+/// A value as JSON.
+pub fn value_json(alloc: Global, value: &Value) -> Result<Json, AllocError>
     ensures { IfOk result (λ json. view json ≡ value_data value.now) }
 {
     match value {
@@ -41,7 +42,8 @@ fn value_json(alloc: Global, value: &Value) -> Result<Json, AllocError>
     }
 }
 
-fn type_json(alloc: Global, data_type: DataType) -> Result<Json, AllocError>
+/// The name of a data type as JSON.
+pub fn type_json(alloc: Global, data_type: DataType) -> Result<Json, AllocError>
     ensures { IfOk result (λ json. view json ≡ type_data data_type) }
 {
     match data_type {
@@ -50,7 +52,8 @@ fn type_json(alloc: Global, data_type: DataType) -> Result<Json, AllocError>
     }
 }
 
-fn shape_json(alloc: Global, shape: Shape) -> Result<Json, AllocError>
+/// A shape as JSON: a scalar's is a word, an array's the count of its elements.
+pub fn shape_json(alloc: Global, shape: Shape) -> Result<Json, AllocError>
     ensures { IfOk result (λ json. view json ≡ shape_data shape) }
 {
     match shape {

@@ -9,7 +9,8 @@ use crate::value::{DataType, Value};
 use serde_json::Value as Json;
 use std::alloc::{AllocError, Global};
 
-fn numbers(alloc: Global, list: &[Json]) -> Result<Option<Vec<u64>>, AllocError>
+/// The numbers of a list, if each is one below 2^64.
+pub fn numbers(alloc: Global, list: &[Json]) -> Result<Option<Vec<u64>>, AllocError>
     ensures { IfOk result (λ found. option_map (λ v. v.items) found ≡ all_in number_in (items_view list.now)) }
 {
     let mut numbers = Vec::new(alloc);

@@ -1,6 +1,6 @@
 use Rattle.std.proofs.Common.{◌≡◌, map, take}
 use Rattle.serde_json.specs.View.{view}
-use Rattle.input_share.specs.Written.{number_data}
+use Rattle.value_file.specs.Public.{number_data}
 use Rattle.input_share.proofs.writing.numbers.Given as goal
 
 abbrev pub invariant-loop-word : goal.invariant-loop-word
