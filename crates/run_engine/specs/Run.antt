@@ -56,12 +56,12 @@ top_fault fields.Miner = input_faults.BadMiner
 top_fault _ = input_faults.NoInputs
 
 abbrev pub fault_in : Option ℕ → Option EntryField → Field → InputFault
-fault_in (Some entry) (Some field) named = input_faults.BadField entry field
-fault_in (Some entry) None named = top_fault named
-fault_in None field named = top_fault named
+fault_in (Some entry) (Some field) what = input_faults.BadField entry field
+fault_in (Some entry) None what = top_fault what
+fault_in None field what = top_fault what
 
 abbrev pub field_fault : Option ℕ → Field → InputFault
-field_fault entry named = fault_in entry (entry_field named) named
+field_fault entry what = fault_in entry (entry_field what) what
 
 -- the fault that a reader of inputs finds; it decides nothing of want of memory
 abbrev pub input_fault : ReadErr → Fault
