@@ -13,6 +13,8 @@ mod ends;
 #[cfg(test)]
 mod faults;
 #[cfg(test)]
+mod hostile;
+#[cfg(test)]
 mod refusals;
 #[cfg(test)]
 mod sums;
