@@ -1,5 +1,5 @@
 //! That words are read, and which are refused: what `clap` makes of them is told here by examples.
-use crate::{Command, TapeSeed, TapeSource, WordsErr, read};
+use crate::{Command, TapeSource, WordsErr, read};
 use std::alloc::{AllocError, Global};
 use std::test::Fail;
 
@@ -16,7 +16,9 @@ fn words_in(alloc: Global, line: &str) -> Result<Vec<String>, AllocError> {
 fn shown_source(alloc: Global, source: &TapeSource) -> Result<String, AllocError> {
     match source {
         TapeSource::File(path) => format!(in alloc; "file {path}"),
-        TapeSource::Seed(TapeSeed { seed, words, .. }) => {
+        TapeSource::Seed(given) => {
+            let seed = given.seed;
+            let words = given.words;
             format!(in alloc; "seed {} {} {words}", seed[0], seed[31])
         }
     }
