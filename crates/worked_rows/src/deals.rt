@@ -1,5 +1,5 @@
 // Inputs that are dealt.
-use crate::call::{INPUT, SUM, call_on, zero_tape};
+use crate::call::{INPUT, Outcome, SUM, call_on, zero_tape};
 use command_frame::Status;
 use std::test::Fail;
 
@@ -23,6 +23,17 @@ const SHARES: [(&str, &str); 3] = [
     ),
 ];
 
+// A tape file of one word, which is zero.
+const OWN_TAPE: [u8; 16] = [1, 0, 0, 0, 0, 0, 0, 0, 0, 0, 0, 0, 0, 0, 0, 0];
+
+// Whether this file has these bytes.
+fn holds(outcome: &Outcome, path: &str, bytes: &[u8]) -> bool {
+    match outcome.files.get(path) {
+        Some(found) => found == bytes,
+        None => false,
+    }
+}
+
 #[test]
 fn inputs_are_dealt_into_six_files(rt: HostRuntime) -> Result<(), Fail> {
     let alloc = rt.alloc();
@@ -32,11 +43,10 @@ fn inputs_are_dealt_into_six_files(rt: HostRuntime) -> Result<(), Fail> {
     assert_eq!(rt; outcome.out.bytes(), b"".as_slice());
     assert_eq!(rt; outcome.err.bytes(), b"".as_slice());
     for (path, text) in SHARES {
-        assert_eq!(rt; outcome.files.get(path), Some(text.as_bytes()));
+        assert!(rt; holds(&outcome, path, text.as_bytes()), "{path}");
     }
     for path in ["out.t1", "out.t2", "out.t3"] {
-        let own = [1, 0, 0, 0, 0, 0, 0, 0, 0, 0, 0, 0, 0, 0, 0, 0];
-        assert_eq!(rt; outcome.files.get(path), Some(own.as_slice()));
+        assert!(rt; holds(&outcome, path, &OWN_TAPE), "{path}");
     }
     Ok(())
 }

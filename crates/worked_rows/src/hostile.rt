@@ -4,13 +4,17 @@ use command_frame::Status;
 use std::alloc::{AllocError, Global};
 use std::test::Fail;
 
-// Runs the sum over these bytes as its input file.
-fn run_on(alloc: Global, input: &[u8]) -> Result<Outcome, AllocError> {
-    let tape = zero_tape(alloc, [4, 1, 1, 1], 7)?;
+// Runs a program over these bytes as its input file.
+fn run_on<'a>(
+    alloc: Global,
+    program: &'a str,
+    input: &'a [u8],
+    tape: &'a [u8],
+) -> Result<Outcome, AllocError> {
     let held = [
-        ("sum.sc", SUM.as_bytes()),
+        ("sum.sc", program.as_bytes()),
         ("sum.json", input),
-        ("sum.tape", tape.as_slice()),
+        ("sum.tape", tape),
     ];
     call(alloc, &RUN, &held, STEADY)
 }
@@ -29,8 +33,9 @@ const BYTES: [(&[u8], &str); 7] = [
 #[test]
 fn bytes_that_are_no_input_file_are_refused(rt: HostRuntime) -> Result<(), Fail> {
     let alloc = rt.alloc();
+    let tape = zero_tape(alloc, [4, 1, 1, 1], 7)?;
     for (bytes, line) in BYTES {
-        let outcome = run_on(alloc, bytes)?;
+        let outcome = run_on(alloc, SUM, bytes, &tape)?;
         assert_eq!(rt; outcome.status, Status::Input, "{line}");
         assert_eq!(rt; outcome.out.bytes(), b"".as_slice());
         assert_eq!(rt; outcome.err.bytes(), line.as_bytes());
@@ -54,12 +59,15 @@ fn nested(alloc: Global, depth: usize) -> Result<String, AllocError> {
 #[test]
 fn nesting_is_read_127_deep(rt: HostRuntime) -> Result<(), Fail> {
     let alloc = rt.alloc();
-    let deep = run_on(alloc, nested(alloc, 126)?.as_bytes())?;
+    let tape = zero_tape(alloc, [4, 1, 1, 1], 7)?;
+    let read = nested(alloc, 126)?;
+    let deep = run_on(alloc, SUM, read.as_bytes(), &tape)?;
     assert_eq!(rt;
         deep.out.bytes(),
         b"end trap Argument line 2 cost 1\n".as_slice()
     );
-    let deeper = run_on(alloc, nested(alloc, 127)?.as_bytes())?;
+    let refused = nested(alloc, 127)?;
+    let deeper = run_on(alloc, SUM, refused.as_bytes(), &tape)?;
     assert_eq!(rt; deeper.err.bytes(), b"error: I1\n".as_slice());
     Ok(())
 }
