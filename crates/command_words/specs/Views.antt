@@ -17,7 +17,7 @@ use Rattle.command_words.specs.Ask.{Ask, DealAsk, RunAsk, Source, deal, file, ru
 
 abbrev pub source_ask : TapeSource → Source
 source_ask (sources.File path) = file (string_bytes path)
-source_ask (sources.Seed seed words) = seeded seed words
+source_ask (sources.Seed s) = seeded s.seed s.words
 
 abbrev pub run_ask : RunWords → RunAsk
 run_ask w = record {

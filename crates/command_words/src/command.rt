@@ -2,6 +2,7 @@
 ghost use Rattle.std.specs.Prelude.{◌≡◌};
 ghost use Rattle.command_words.specs.declared.command.WordsErr.TheVariants.{Memory};
 
+use crate::tape_seed::TapeSeed;
 use std::alloc::AllocError;
 
 /// Where the tapes of a run come from.
@@ -9,8 +10,8 @@ use std::alloc::AllocError;
 pub enum TapeSource {
     /// The path of a tape file.
     File(String),
-    /// A seed, and how many words each tape made from it has.
-    Seed { seed: [u8; 32], words: u64 },
+    /// A seed, from which they are drawn.
+    Seed(TapeSeed),
 }
 
 /// The words of `run`: the paths of the program and the input file, the tapes, and the most that the run may cost.

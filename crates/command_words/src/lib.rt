@@ -8,9 +8,11 @@ mod builders;
 mod command;
 mod numbers;
 mod reading;
+mod tape_seed;
 #[cfg(test)]
 mod tests;
 mod values;
 
 pub use command::{Command, DealWords, RunWords, TapeSource, WordsErr};
 pub use reading::read;
+pub use tape_seed::TapeSeed;

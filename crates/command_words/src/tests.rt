@@ -16,7 +16,9 @@ fn words_in(alloc: Global, line: &str) -> Result<Vec<String>, AllocError> {
 fn shown_source(alloc: Global, source: &TapeSource) -> Result<String, AllocError> {
     match source {
         TapeSource::File(path) => format!(in alloc; "file {path}"),
-        TapeSource::Seed { seed, words } => {
+        TapeSource::Seed(given) => {
+            let seed = given.seed;
+            let words = given.words;
             format!(in alloc; "seed {} {} {words}", seed[0], seed[31])
         }
     }

@@ -6,6 +6,7 @@ ghost use Rattle.command_words.specs.Views.{Reads, text_in, source_ask, run_ask,
 
 use crate::command::{Command, DealWords, RunWords, TapeSource, WordsErr};
 use crate::numbers::{number, seed};
+use crate::tape_seed::TapeSeed;
 use clap::ArgMatches;
 use std::alloc::{AllocError, Global};
 
@@ -49,7 +50,7 @@ fn seeded_source(text: &str, words: Option<&str>) -> Option<TapeSource>
     let seed = seed(text)?;
     let words = number_or(DEFAULT_WORDS, words)?;
     if words <= MOST_WORDS {
-        Some(TapeSource::Seed { seed, words })
+        Some(TapeSource::Seed(TapeSeed { seed, words }))
     } else {
         None
     }

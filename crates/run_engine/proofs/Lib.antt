@@ -1,6 +1,5 @@
-pub mod Both
-pub mod Complete
+pub mod Planned
+pub mod Refusals
 pub mod Runs
-pub mod Six
 pub mod Spelling
 pub mod Sums

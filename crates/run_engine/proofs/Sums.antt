@@ -1,14 +1,14 @@
 -- The three miners open the sum of the inputs.
-use Rattle.std.proofs.Common.{◌≡◌, ℕ, List, [], ◌∷◌, ap, sym, ◌∙◌}
+use Rattle.std.proofs.Common.{◌≡◌, ℕ, List, [], ◌∷◌, ◌+◌, ap, sym, ◌∙◌}
 use Rattle.share_ring.specs.Ring.{Ring, RingLaws}
 use Rattle.share_ring.specs.Rings.{add_ring}
 use Rattle.share_ring.specs.RingsKeepLaws.{add_ring_laws}
 use Rattle.proto_core.specs.declared.party.Number.TheVariants.{One, Two, Three}
-use Rattle.proto_core.specs.Lists.{each}
+use Rattle.proto_core.specs.Lists.{at, each}
 use Rattle.proto_core.specs.Resharing.{sum_of_three}
 use Rattle.proto_core.proofs.ResharingLaws.{opened_by_first, opened_by_second, opened_by_third}
-use Rattle.run_engine.specs.declared.input.SumInputs.{SumInputs}
-use Rattle.run_engine.specs.declared.tape.SumTape.{SumTape}
+use Rattle.tape_file.specs.Tapes.{FourTapes}
+use Rattle.run_engine.specs.Arguments.{Argument}
 use Rattle.run_engine.specs.Sum.{MinersOpen, sum_of, sum_share}
 
 module _ {r : Ring} (laws : RingLaws r) where
@@ -31,13 +31,21 @@ module _ {r : Ring} (laws : RingLaws r) where
       sorted ∙ simp (laws.cancel, none) (add_none x y)
 
 -- the three shares of the sum
-pub shares_of_sum : (inputs : SumInputs) (tape : SumTape) →
-    sum_of_three add_ring 1 (sum_share inputs tape One ∷ []) (sum_share inputs tape Two ∷ []) (sum_share inputs tape Three ∷ []) ≡ sum_of inputs ∷ []
+pub shares_of_sum :
+    (dealer : List ℕ) (left right : Argument) →
+    sum_of_three add_ring 1 (sum_share dealer left right One ∷ []) (sum_share dealer left right Two ∷ [])
+    (sum_share dealer left right Three ∷ [])
+    ≡ sum_of left right ∷ []
 unfolding sum_of_three each
-shares_of_sum inputs tape =
-    ap (λ (n : ℕ). n ∷ []) (shares_add_up add_ring_laws inputs.first inputs.second tape.first.d1 tape.first.d2 tape.second.d1 tape.second.d2)
+shares_of_sum dealer left right =
+    ap (λ (n : ℕ). n ∷ [])
+    (shares_add_up add_ring_laws left.value right.value (at dealer left.place) (at dealer (left.place + 1))
+    (at dealer right.place) (at dealer (right.place + 1)))
 
-pub miners_open : (inputs : SumInputs) (tape : SumTape) → MinersOpen inputs tape (sum_of inputs)
-miners_open inputs tape One = ap (λ (l : List ℕ). l ∷ []) (opened_by_first add_ring_laws 1 _ _ _ _ _ _ ∙ shares_of_sum inputs tape)
-miners_open inputs tape Two = ap (λ (l : List ℕ). l ∷ []) (opened_by_second add_ring_laws 1 _ _ _ _ _ _ ∙ shares_of_sum inputs tape)
-miners_open inputs tape Three = ap (λ (l : List ℕ). l ∷ []) (opened_by_third add_ring_laws 1 _ _ _ _ _ _ ∙ shares_of_sum inputs tape)
+pub miners_open : (tapes : FourTapes) (left right : Argument) → MinersOpen tapes left right (sum_of left right)
+miners_open tapes left right One =
+    ap (λ (l : List ℕ). l ∷ []) (opened_by_first add_ring_laws 1 _ _ _ _ _ _ ∙ shares_of_sum tapes.dealer left right)
+miners_open tapes left right Two =
+    ap (λ (l : List ℕ). l ∷ []) (opened_by_second add_ring_laws 1 _ _ _ _ _ _ ∙ shares_of_sum tapes.dealer left right)
+miners_open tapes left right Three =
+    ap (λ (l : List ℕ). l ∷ []) (opened_by_third add_ring_laws 1 _ _ _ _ _ _ ∙ shares_of_sum tapes.dealer left right)

@@ -1,10 +1,13 @@
+pub mod Arguments
+pub mod Deal
 pub mod Dealing
-pub mod Input
 pub mod Names
+pub mod Outcome
+pub mod Outcomes
 pub mod Program
 pub mod Run
 pub mod Runs
 pub mod Sum
-pub mod Tape
 pub mod Vectors
+pub mod Views
 pub mod Words

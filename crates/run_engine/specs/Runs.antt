@@ -1,30 +1,38 @@
--- Three files that can be run, and three that can't.
-use Rattle.std.specs.Prelude.{◌≡◌, ℕ, List, Some, None}
+-- Files that can be run, and files that are refused.
+use Rattle.std.specs.Prelude.{◌≡◌, ℕ, List, Some, None, Ok, Err}
 use Rattle.outside.specs.Files.{Contents, file_at}
-use Rattle.run_engine.specs.declared.input.SumInputs.{SumInputs}
-use Rattle.run_engine.specs.declared.tape.SumTape.{SumTape}
+use Rattle.command_frame.specs.declared.status.Status.{Status}
+use Rattle.command_frame.specs.declared.status.Status.TheVariants.{Input, Program, TapeFile}
+use Rattle.command_words.specs.Ask.{RunAsk, DealAsk, file}
+use Rattle.tape_file.specs.Format.{read_of as tapes_read_of}
+use Rattle.tape_file.specs.Tapes.{FourTapes}
+use Rattle.value_file.specs.declared.inputs.Entry.{Entry}
+use Rattle.value_file.specs.declared.read_err.ReadErr.{ReadErr}
+use Rattle.value_file.specs.Input.{read_of as inputs_read_of}
 use Rattle.run_engine.specs.Program.{SumNames, program_of}
-use Rattle.run_engine.specs.Input.{inputs_of}
-use Rattle.run_engine.specs.Tape.{tape_of}
-use Rattle.run_engine.specs.Run.{RunPaths}
+use Rattle.run_engine.specs.Run.{inputs_at, tapes_at, tape_file_at}
 
--- the files at these paths are a program of these names, an input file of these values and a tape file of these words
-pub record HoldSum (paths : RunPaths) (files : Contents) (names : SumNames) (inputs : SumInputs) (tape : SumTape) : Type 0 where
-  pub program_bytes : List ℕ
-  pub input_bytes : List ℕ
-  pub tape_bytes : List ℕ
-  pub program_there : file_at files paths.program ≡ Some program_bytes
-  pub input_there : file_at files paths.input ≡ Some input_bytes
-  pub tape_there : file_at files paths.tape ≡ Some tape_bytes
-  pub program_is : program_of program_bytes ≡ Some names
-  pub input_is : inputs_of names input_bytes ≡ Some inputs
-  pub tape_is : tape_of tape_bytes ≡ Some tape
+-- a program of the form is there, of these names
+pub record HoldsProgram (path : List ℕ) (files : Contents) (names : SumNames) : Type 0 where
+  pub bytes : List ℕ
+  pub there : file_at files path ≡ Some bytes
+  pub is : program_of bytes ≡ Some names
 
--- the first file that is out of form, where all before it are there and of the form
-pub data OutOfForm (paths : RunPaths) (files : Contents) : Type 0 where
-  bad_program : (bytes : List ℕ) → file_at files paths.program ≡ Some bytes → program_of bytes ≡ None → OutOfForm paths files
-  bad_input : (program bytes : List ℕ) (names : SumNames) → file_at files paths.program ≡ Some program → program_of program ≡ Some names
-      → file_at files paths.input ≡ Some bytes → inputs_of names bytes ≡ None → OutOfForm paths files
-  bad_tape : (program input bytes : List ℕ) (names : SumNames) (inputs : SumInputs) → file_at files paths.program ≡ Some program → program_of program ≡ Some names
-      → file_at files paths.input ≡ Some input → inputs_of names input ≡ Some inputs
-      → file_at files paths.tape ≡ Some bytes → tape_of bytes ≡ None → OutOfForm paths files
+-- the files that `run` reads are there: a program of these names, these inputs and these tapes
+pub record HoldsRun (ask : RunAsk) (files : Contents) (names : SumNames) (entries : List Entry) (given : FourTapes) : Type 0 where
+  pub program : HoldsProgram ask.program files names
+  pub inputs : inputs_at files ask.input ≡ Ok entries
+  pub tapes : tapes_at files ask.source ≡ Ok given
+
+-- the files that `deal` reads are there: these inputs and these tapes
+pub record HoldsDeal (ask : DealAsk) (files : Contents) (entries : List Entry) (given : FourTapes) : Type 0 where
+  pub inputs : inputs_at files ask.input ≡ Ok entries
+  pub tapes : tape_file_at files ask.tape ≡ Ok given
+
+-- why `run` is refused with this status: the first file that is there and not as it must be
+pub data RunRefused (ask : RunAsk) (files : Contents) (status : Status) : Type 0 where
+  bad_program : status ≡ Program → (bytes : List ℕ) → file_at files ask.program ≡ Some bytes → program_of bytes ≡ None → RunRefused ask files status
+  bad_input : status ≡ Input → (names : SumNames) → HoldsProgram ask.program files names
+      → (bytes : List ℕ) (err : ReadErr) → file_at files ask.input ≡ Some bytes → inputs_read_of bytes ≡ Err err → RunRefused ask files status
+  bad_tape : status ≡ TapeFile → (names : SumNames) → HoldsProgram ask.program files names → (entries : List Entry) → inputs_at files ask.input ≡ Ok entries
+      → (path bytes : List ℕ) (place : ℕ) → ask.source ≡ file path → file_at files path ≡ Some bytes → tapes_read_of bytes ≡ Err place → RunRefused ask files status

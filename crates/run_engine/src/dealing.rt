@@ -3,9 +3,17 @@ ghost use Rattle.std.specs.Prelude.{◌≡◌};
 ghost use Rattle.proto_core.specs.declared.party.Number.TheVariants.{One, Two, Three};
 ghost use Rattle.run_engine.specs.Dealing.{share_of};
 
-use crate::tape::DealerMasks;
 use proto_core::{P1, P2, P3, Share};
 use share_ring::ShareRing;
+
+/// The two words by which the dealer masks one value.
+#[derive(Clone, Copy, Debug)]
+pub struct DealerMasks {
+    /// The word that is drawn first: miner 1's share.
+    pub d1: u64,
+    /// The word that is drawn next: miner 2's share.
+    pub d2: u64,
+}
 
 /// Splits a value into the three miners' shares, with the two words that the dealer drew for it.
 pub fn deal<R: ShareRing>(

@@ -1,15 +1,15 @@
 //! The top call: what the program does with the words of its command line.
 #![tactic(auto)]
 
-mod command;
+mod arguments;
+mod deal;
 mod dealing;
-#[cfg(test)]
-mod form_tests;
-mod input;
+mod outcome;
 mod program;
+mod readers;
 mod run;
 mod sum;
-mod tape;
+mod text;
 mod top;
 
 pub use program::sum_program_is_spelled;

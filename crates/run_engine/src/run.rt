@@ -1,73 +1,75 @@
 // The command `run`.
-ghost use Rattle.std.specs.Prelude.{◌≡◌, IfOk};
+ghost use Rattle.std.specs.Prelude.{◌≡◌, IfErr};
 ghost use Rattle.command_frame.specs.Answer.{effect_of};
-ghost use Rattle.command_frame.specs.Reads.{OnlyRead, Gives, KeepsTo};
+ghost use Rattle.command_frame.specs.Reads.{OnlyRead, Gives, KeepsTo, StopNames};
 ghost use Rattle.command_frame.specs.Stops.{IsRefusalFor};
-ghost use Rattle.run_engine.specs.Run.{not_yet, sum_text, run_of, run_paths};
-ghost use Rattle.run_engine.specs.Words.{paths_of};
+ghost use Rattle.command_words.specs.Views.{run_ask, source_ask};
+ghost use Rattle.run_engine.specs.Outcome.{status_of};
+ghost use Rattle.run_engine.specs.Run.{not_yet, tapes_at, run_of, run_paths, source_paths};
 
-use crate::command::RunWords;
-use crate::input::read_inputs;
+use crate::outcome::run_sum;
 use crate::program::read_program;
-use crate::sum::open_sum;
-use crate::tape::read_tape;
-use command_frame::{Plan, Refusal, Status, Stop, read_file};
+use crate::readers::{read_inputs, read_tape_file, refusal_of};
+use crate::text::text_of;
+use command_frame::{Plan, Status, Stop, read_file};
+use command_words::{RunWords, TapeSource};
 use outside::Files;
-use std::alloc::{AllocError, Global};
+use sc_text::{Ending, Fault};
+use std::alloc::Global;
+use tape_file::{Tapes, from_seed};
 
-// That a file isn't of the form that can be run today.
-#[tactic(auto, unfolding(crate::specs::Run::not_yet_line))]
+// That the program isn't of the form that can be run today.
+#[tactic(auto, unfolding(crate::specs::Run::not_yet))]
 fn not_yet(alloc: Global) -> Stop
     ensures { IsRefusalFor not_yet result }
 {
-    match String::from_str(alloc, "error: X0\n") {
-        Ok(line) => Stop::Refused(Refusal {
-            status: Status::Program,
-            line,
-        }),
-        Err(_) => Stop::Memory,
+    refusal_of(alloc, Status::Program, &Fault::NotYet)
+}
+
+// The exit status of a run's end.
+fn status(how: Ending) -> Status
+    ensures { result ≡ status_of how }
+{
+    match how {
+        Ending::Done => Status::Done,
+        Ending::Trap { .. } => Status::Trap,
+        Ending::Budget => Status::Budget,
+        Ending::Tape { .. } => Status::Tape,
     }
 }
 
-#[tactic(auto, unfolding(crate::specs::Run::sum_text))]
-fn text_of(alloc: Global, name: &[u8], total: u64) -> Result<Vec<u8>, AllocError>
-    ensures { IfOk result (λ text. text.items ≡ sum_text name.now total) }
+// The tapes of a file, or those that are drawn from a seed.
+#[tactic(auto, unfolding(crate::specs::Run::tapes_at))]
+fn read_tapes<F: Files>(alloc: Global, files: &mut F, source: &TapeSource) -> Result<Tapes, Stop>
+    ensures files { OnlyRead (F.state files.old) (F.state files.new) }
+    ensures answer { Gives (λ tapes. tapes) (F.state files.old) (F.state files.new) result
+        (tapes_at (F.state files.old).contents (source_ask source.now)) }
+    ensures names { IfErr result (StopNames (source_paths (source_ask source.now))) }
 {
-    let digits = total.to_string(alloc)?;
-    let mut text = Vec::new(alloc);
-    text.extend_from_slice(b"open ")?;
-    text.extend_from_slice(digits.as_bytes())?;
-    text.extend_from_slice(b"\npublish ")?;
-    text.extend_from_slice(name)?;
-    text.extend_from_slice(b" ")?;
-    text.extend_from_slice(digits.as_bytes())?;
-    text.extend_from_slice(b"\nend done cost 7\n")?;
-    Ok(text)
+    match source {
+        TapeSource::File(path) => read_tape_file(alloc, files, path),
+        TapeSource::Seed(seed) => Ok(from_seed(alloc, seed.seed, seed.words)?),
+    }
 }
 
-/// Reads and checks the three files, runs the three miners, and says what is to be printed.
-#[tactic(auto, unfolding(crate::specs::Run::run_of, crate::specs::Run::run_paths), using(command_frame::proofs::Naming::names_first, command_frame::proofs::Naming::names_later))]
+/// Reads and checks the files, runs the three miners, and says what is to be printed.
+#[tactic(auto, unfolding(crate::specs::Run::run_of, crate::specs::Run::names_at, crate::specs::Run::run_paths), using(command_frame::proofs::Naming::names_first, command_frame::proofs::Naming::names_later))]
 pub fn plan_run<F: Files>(alloc: Global, files: &mut F, words: &RunWords) -> Result<Plan, Stop>
     ensures files { OnlyRead (F.state files.old) (F.state files.new) }
     ensures answer { Gives effect_of (F.state files.old) (F.state files.new) result
-        (run_of (paths_of words.now) (F.state files.old).contents) }
-    ensures names { KeepsTo (run_paths (paths_of words.now)) result }
+        (run_of (run_ask words.now) (F.state files.old).contents) }
+    ensures names { KeepsTo (run_paths (run_ask words.now)) result }
 {
     let program = read_file(alloc, files, &words.program)?;
     let Some(names) = read_program(alloc, &program)? else {
         return Err(not_yet(alloc));
     };
-    let input = read_file(alloc, files, &words.input)?;
-    let Some(inputs) = read_inputs(alloc, names, &input)? else {
-        return Err(not_yet(alloc));
-    };
-    let tape = read_file(alloc, files, &words.tape)?;
-    let Some(tape) = read_tape(&tape) else {
-        return Err(not_yet(alloc));
-    };
+    let inputs = read_inputs(alloc, files, &words.input)?;
+    let tapes = read_tapes(alloc, files, &words.source)?;
+    let outcome = run_sum(names, inputs.entries(), &tapes, words.budget);
     Ok(Plan {
         writes: Vec::new(alloc),
-        text: text_of(alloc, names.published, open_sum(inputs, tape))?,
-        status: Status::Done,
+        text: text_of(alloc, names.published, outcome.told, outcome.end)?,
+        status: status(outcome.end.how),
     })
 }

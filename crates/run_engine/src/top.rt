@@ -1,26 +1,33 @@
 // The top call.
-ghost use Rattle.std.specs.Prelude.{◌≡◌, ◌≢◌, ◌⊎◌, true, false, None, Some, IsOkAnd, IfErr};
+ghost use Rattle.std.specs.Prelude.{◌≡◌, ◌≢◌, ◌≤◌, ◌⊎◌, List, length, true, false, None, Some, IsOkAnd, IfErr};
 ghost use Rattle.outside.specs.Causes.{Rose};
 ghost use Rattle.outside.specs.Sink.{SameSink, Appends};
-ghost use Rattle.command_frame.specs.Answer.{effect_of, usage};
+ghost use Rattle.command_frame.specs.Answer.{after_writes, effect_of, usage};
 ghost use Rattle.command_frame.specs.Finish.{PutPrefix};
 ghost use Rattle.command_frame.specs.Reads.{OnlyRead, Gives, KeepsTo, StopNames};
 ghost use Rattle.command_frame.specs.Status.{is_end, is_fault, is_refusal};
 ghost use Rattle.command_frame.specs.Stops.{write_line, memory_line};
 ghost use Rattle.command_frame.specs.Whole.{OnlyWritten, SomeWritten, EndsAs, Acts, IsCut};
 ghost use Rattle.command_frame.specs.Whole.{OutFaulted, CarriedOut, NamesOne, IsMissed, IsAnswered};
-ghost use Rattle.run_engine.specs.declared.input.SumInputs.{SumInputs};
-ghost use Rattle.run_engine.specs.declared.tape.SumTape.{SumTape};
+ghost use Rattle.command_frame.specs.declared.status.Status.{Status};
+ghost use Rattle.command_words.specs.Ask.{RunAsk, DealAsk, run, deal, words_of};
+ghost use Rattle.command_words.specs.Views.{ask_of, texts};
+ghost use Rattle.input_share.specs.Dealing.{need_of};
+ghost use Rattle.tape_file.specs.Tapes.{FourTapes};
+ghost use Rattle.value_file.specs.declared.inputs.Entry.{Entry};
+ghost use Rattle.run_engine.specs.Arguments.{Argument};
+ghost use Rattle.run_engine.specs.Deal.{deal_writes};
+ghost use Rattle.run_engine.specs.Outcome.{outcome_of, status_of};
 ghost use Rattle.run_engine.specs.Program.{SumNames as Names};
-ghost use Rattle.run_engine.specs.Run.{RunPaths, sum_text};
-ghost use Rattle.run_engine.specs.Runs.{HoldSum, OutOfForm};
+ghost use Rattle.run_engine.specs.Run.{outcome_text};
+ghost use Rattle.run_engine.specs.Runs.{HoldsRun, HoldsDeal, RunRefused};
 ghost use Rattle.run_engine.specs.Sum.{sum_of, MinersOpen};
-ghost use Rattle.run_engine.specs.Words.{run, words_in, ask_in, ask_of, answer_to, answer_of};
-ghost use Rattle.run_engine.specs.Words.{paths_to, paths_named};
+ghost use Rattle.run_engine.specs.Words.{answer_to, answer_of, paths_to, paths_named};
 
-use crate::command::{Command, read_words};
+use crate::deal::plan_deal;
 use crate::run::plan_run;
 use command_frame::{Plan, Status, Stop, ended_status, finish_plan, say};
+use command_words::{Command, WordsErr, read};
 use outside::{Files, Links, Sink, Spawner};
 use std::alloc::Global;
 
@@ -34,6 +41,7 @@ fn plan<F: Files>(alloc: Global, files: &mut F, command: &Command) -> Result<Pla
 {
     match command {
         Command::Run(words) => plan_run(alloc, files, words),
+        Command::Deal(words) => plan_deal(alloc, files, words),
     }
 }
 
@@ -62,15 +70,16 @@ fn act<F: Files, O: Sink>(
     files: &mut F,
     out: &mut O,
 ) -> Result<Status, Stop>
-    ensures files { OnlyWritten (answer_of (words_in words.now) (F.state files.old).contents)
+    ensures files { OnlyWritten (answer_of (texts words.now) (F.state files.old).contents)
         (F.state files.old) (F.state files.new) }
-    ensures acts { Acts (ask_in (words_in words.now)) (answer_of (words_in words.now) (F.state files.old).contents)
+    ensures acts { Acts (words_of (texts words.now)) (answer_of (texts words.now) (F.state files.old).contents)
         (F.state files.old) (F.state files.new) (O.state out.old) (O.state out.new) result }
-    ensures names { IfErr result (StopNames (paths_named (words_in words.now))) }
+    ensures names { IfErr result (StopNames (paths_named (texts words.now))) }
 {
-    match read_words(alloc, words)? {
-        Some(command) => obey(alloc, files, out, &command),
-        None => Err(Stop::Usage),
+    match read(alloc, words) {
+        Ok(command) => obey(alloc, files, out, &command),
+        Err(WordsErr::Usage) => Err(Stop::Usage),
+        Err(WordsErr::Memory) => Err(Stop::Memory),
     }
 }
 
@@ -88,15 +97,15 @@ pub fn secrec<F: Files, O: Sink, E: Sink, L: Links, C: Spawner>(
     children: &mut C,
 ) -> Status
     // Usage comes exactly where the words spell no command.
-    ensures usage_only_without_command { result ≡ Status.Usage → ask_in (words_in words.now) ≡ None }
-    ensures usage_without_command { ask_in (words_in words.now) ≡ None →
+    ensures usage_only_without_command { result ≡ Status.Usage → words_of (texts words.now) ≡ None }
+    ensures usage_without_command { words_of (texts words.now) ≡ None →
         (result ≡ Status.Usage) ⊎ (result ≡ Status.Memory) }
     ensures usage_said { result ≡ Status.Usage → PutPrefix usage.line (E.state err.old) (E.state err.new) }
 
     // Where no file, no output and no memory failed, the answer is carried out: all of its files and its text and
     // nothing on `err`; or its refusal's line or a prefix of it on `err`, nothing on `out` and no file changed.
     ensures answer_carried_out { is_fault result ≡ false → (F.state files.old).told ≡ true →
-        CarriedOut (answer_of (words_in words.now) (F.state files.old).contents)
+        CarriedOut (answer_of (texts words.now) (F.state files.old).contents)
         (F.state files.old) (F.state files.new) (O.state out.old) (O.state out.new)
         (E.state err.old) (E.state err.new) result }
 
@@ -104,26 +113,26 @@ pub fn secrec<F: Files, O: Sink, E: Sink, L: Links, C: Spawner>(
     ensures file_fault_counted { result ≡ Status.File →
         Rose (F.state files.old).faults (F.state files.new).faults }
     ensures file_fault_named { result ≡ Status.File →
-        NamesOne (paths_named (words_in words.now)) (E.state err.old) (E.state err.new) }
+        NamesOne (paths_named (texts words.now)) (E.state err.old) (E.state err.new) }
     ensures file_missing_if_steady { result ≡ Status.File →
         (F.state files.old).steady ≡ true → (F.state files.old).told ≡ true →
-        IsMissed (answer_of (words_in words.now) (F.state files.old).contents)
+        IsMissed (answer_of (texts words.now) (F.state files.old).contents)
         (E.state err.old) (E.state err.new) }
     ensures file_fault_writes_in_order { result ≡ Status.File →
-        SomeWritten (answer_of (words_in words.now) (F.state files.old).contents)
+        SomeWritten (answer_of (texts words.now) (F.state files.old).contents)
         (F.state files.old) (F.state files.new) }
 
     // The output failed: all files are written, and it holds a prefix of the text.
     ensures write_fault_counted { result ≡ Status.Write → OutFaulted (O.state out.old) (O.state out.new) }
     ensures write_fault_said { result ≡ Status.Write → PutPrefix write_line (E.state err.old) (E.state err.new) }
     ensures write_fault_cuts_text { result ≡ Status.Write → (F.state files.old).told ≡ true →
-        IsOkAnd (answer_of (words_in words.now) (F.state files.old).contents)
+        IsOkAnd (answer_of (texts words.now) (F.state files.old).contents)
         (λ e. IsCut e (F.state files.old) (F.state files.new) (O.state out.old) (O.state out.new)) }
 
     // Memory ran out: the output is as it was, or holds a prefix of the text.
     ensures memory_said { result ≡ Status.Memory → PutPrefix memory_line (E.state err.old) (E.state err.new) }
     ensures memory_cuts_text { result ≡ Status.Memory → SameSink (O.state out.old) (O.state out.new)
-        ⊎ ((F.state files.old).told ≡ true → IsOkAnd (answer_of (words_in words.now) (F.state files.old).contents)
+        ⊎ ((F.state files.old).told ≡ true → IsOkAnd (answer_of (texts words.now) (F.state files.old).contents)
         (λ e. PutPrefix e.text (O.state out.old) (O.state out.new))) }
 
     // A command that comes to its end says nothing; one that stops for another reason than output or memory
@@ -132,7 +141,7 @@ pub fn secrec<F: Files, O: Sink, E: Sink, L: Links, C: Spawner>(
         SameSink (E.state err.old) (E.state err.new) }
     ensures refused_prints_nothing { is_end result ≡ false → result ≢ Status.Write → result ≢ Status.Memory →
         SameSink (O.state out.old) (O.state out.new) }
-    ensures files_only_as_answered { OnlyWritten (answer_of (words_in words.now) (F.state files.old).contents)
+    ensures files_only_as_answered { OnlyWritten (answer_of (texts words.now) (F.state files.old).contents)
         (F.state files.old) (F.state files.new) }
     ensures links_unused { links.new ≡ links.old }
     ensures children_unused { children.new ≡ children.old }
@@ -140,26 +149,38 @@ pub fn secrec<F: Files, O: Sink, E: Sink, L: Links, C: Spawner>(
     // Over steady objects the status is the answer's, or memory ran out.
     ensures complete { (F.state files.old).steady ≡ true → (O.state out.old).steady ≡ true →
         (F.state files.old).told ≡ true →
-        IsAnswered (answer_of (words_in words.now) (F.state files.old).contents) result ⊎ (result ≡ Status.Memory) }
+        IsAnswered (answer_of (texts words.now) (F.state files.old).contents) result ⊎ (result ≡ Status.Memory) }
 
-    // `run` over three files of the form, all steady: the sum modulo 2^64 is printed, or memory ran out.
-    ensures sum_opened_and_printed { (paths : RunPaths) (names : Names) (inputs : SumInputs) (tape : SumTape) →
-        ask_in (words_in words.now) ≡ Some (run paths) →
-        HoldSum paths (F.state files.old).contents names inputs tape →
+    // `run` over files that are all as they must be, all steady: the text of the run's end, or memory ran out.
+    ensures run_printed { (ask : RunAsk) (names : Names) (entries : List Entry) (tapes : FourTapes) →
+        words_of (texts words.now) ≡ Some (run ask) → HoldsRun ask (F.state files.old).contents names entries tapes →
         (F.state files.old).steady ≡ true → (O.state out.old).steady ≡ true → (F.state files.old).told ≡ true →
-        ((result ≡ Status.Done)
-        × Appends (O.state out.old) (O.state out.new) (sum_text names.published (sum_of inputs)))
+        ((result ≡ status_of (outcome_of names entries tapes ask.budget).end.how)
+        × Appends (O.state out.old) (O.state out.new) (outcome_text (outcome_of names entries tapes ask.budget)))
         ⊎ (result ≡ Status.Memory) }
 
-    // That sum is what each of the three miners opens, of its own share and word and of the others' messages.
-    ensures sum_opened_by_miners { (inputs : SumInputs) (tape : SumTape) → MinersOpen inputs tape (sum_of inputs) }
+    // The sum that such a run opens is what each of the three miners opens, of its own share and word and of the
+    // others' messages.
+    ensures sum_opened_by_miners { (tapes : FourTapes) (left right : Argument) →
+        MinersOpen tapes left right (sum_of left right) }
 
-    // X0 comes exactly where a file that was read is out of form.
-    ensures not_yet_only_out_of_form { (paths : RunPaths) → ask_in (words_in words.now) ≡ Some (run paths) →
-        result ≡ Status.Program → (F.state files.old).told ≡ true → OutOfForm paths (F.state files.old).contents }
-    ensures not_yet_if_out_of_form { (paths : RunPaths) → ask_in (words_in words.now) ≡ Some (run paths) →
-        OutOfForm paths (F.state files.old).contents → (F.state files.old).told ≡ true →
-        (result ≡ Status.Program) ⊎ (is_fault result ≡ true) }
+    // `run` is refused exactly for the first file that is there and not as it must be.
+    ensures run_refused_only { (ask : RunAsk) → words_of (texts words.now) ≡ Some (run ask) →
+        is_refusal result ≡ true → is_end result ≡ false → (F.state files.old).told ≡ true →
+        RunRefused ask (F.state files.old).contents result }
+    ensures run_refused_if { (ask : RunAsk) (status : Status) → words_of (texts words.now) ≡ Some (run ask) →
+        RunRefused ask (F.state files.old).contents status → (F.state files.old).told ≡ true →
+        (result ≡ status) ⊎ (is_fault result ≡ true) }
+
+    // `deal` over files that are as they must be, all steady, and a dealer's tape that has words enough: its six
+    // files are written, or memory ran out.
+    ensures deal_written { (ask : DealAsk) (entries : List Entry) (tapes : FourTapes) →
+        words_of (texts words.now) ≡ Some (deal ask) → HoldsDeal ask (F.state files.old).contents entries tapes →
+        need_of entries ≤ length tapes.dealer →
+        (F.state files.old).steady ≡ true → (O.state out.old).steady ≡ true → (F.state files.old).told ≡ true →
+        ((result ≡ Status.Done)
+        × ((F.state files.new).contents ≡ after_writes (deal_writes ask.to entries tapes) (F.state files.old).contents))
+        ⊎ (result ≡ Status.Memory) }
 {
     let ended = act(alloc, words, files, out);
     say(err, &ended);

@@ -64,12 +64,21 @@ pub fn call(
     })
 }
 
+/// A program that adds `a` and `b`, opens the sum and publishes it as `s`.
+pub const SUM: &str =
+    "import stdlib; import shared3p; domain p shared3p; void main() {\np uint64 a = argument(\"a\"); p uint64 b = argument(\"b\"); publish(\"s\", declassify(a + b));\n}\n";
+
+/// The inputs 6 and 7.
+pub const INPUT: &str =
+    "{\"inputs\":[{\"name\":\"a\",\"domain\":\"private\",\"type\":\"uint64\",\"value\":6},{\"name\":\"b\",\"domain\":\"private\",\"type\":\"uint64\",\"value\":7}]}";
+
 /// The words of a run over three files.
 pub const RUN: [&str; 6] = ["run", "sum.sc", "--input", "sum.json", "--tape", "sum.tape"];
 
-/// Runs a program over an input and a tape file, all held by a store that never fails.
-pub fn run<'a>(
+/// Calls the program over a program, an input and a tape, all held by a store that never fails.
+pub fn call_on<'a>(
     alloc: Global,
+    words: &[&str],
     program: &'a str,
     input: &'a str,
     tape: &'a [u8],
@@ -79,7 +88,7 @@ pub fn run<'a>(
         ("sum.json", input.as_bytes()),
         ("sum.tape", tape),
     ];
-    call(alloc, &RUN, &held, STEADY)
+    call(alloc, words, &held, STEADY)
 }
 
 /// A tape file of tapes of these lengths, with these words one after another.
@@ -90,6 +99,15 @@ pub fn tape(alloc: Global, lengths: [u64; 4], words: &[u64]) -> Result<Vec<u8>, 
     }
     for word in words {
         bytes.extend_from_slice(&word.to_le_bytes())?;
+    }
+    Ok(bytes)
+}
+
+/// A tape file whose words are all zero.
+pub fn zero_tape(alloc: Global, lengths: [u64; 4], count: usize) -> Result<Vec<u8>, AllocError> {
+    let mut bytes = tape(alloc, lengths, &[])?;
+    for _ in 0..count {
+        bytes.extend_from_slice(&[0; 8])?;
     }
     Ok(bytes)
 }

@@ -1,31 +1,53 @@
 // Words that name no command, files that are missing, and streams that fail.
-use crate::call::{Faults, STEADY, call, tape};
+use crate::call::{Faults, INPUT, RUN, STEADY, SUM, call, tape};
 use command_frame::Status;
 use std::test::Fail;
 
-const SUM: &str =
-    "import stdlib; import shared3p; domain p shared3p; void main() {\np uint64 a = argument(\"a\"); p uint64 b = argument(\"b\"); publish(\"s\", declassify(a + b));\n}\n";
-
-const INPUT: &str =
-    "{\"inputs\":[{\"name\":\"a\",\"domain\":\"private\",\"type\":\"uint64\",\"value\":6},{\"name\":\"b\",\"domain\":\"private\",\"type\":\"uint64\",\"value\":7}]}";
-
 // The words, the status, and the line on the error stream.
-const CALLS: [(&[&str], Status, &str); 10] = [
+const CALLS: [(&[&str], Status, &str); 14] = [
     (&[], Status::Usage, "error: usage\n"),
     (&["run"], Status::Usage, "error: usage\n"),
-    (&["run", "sum.sc"], Status::Usage, "error: usage\n"),
     (
-        &["run", "sum.sc", "--tape", "sum.tape", "--input", "sum.json"],
+        &["run", "sum.sc", "--input", "sum.json"],
         Status::Usage,
         "error: usage\n",
     ),
     (
         &[
-            "run", "sum.sc", "--input", "sum.json", "--tape", "sum.tape", "",
+            "run", "sum.sc", "--input", "sum.json", "--tape", "sum.tape", "more",
         ],
         Status::Usage,
         "error: usage\n",
     ),
+    (
+        &[
+            "run",
+            "sum.sc",
+            "--input",
+            "sum.json",
+            "--tape",
+            "sum.tape",
+            "--seed",
+            "0000000000000000000000000000000000000000000000000000000000000000",
+        ],
+        Status::Usage,
+        "error: usage\n",
+    ),
+    (
+        &[
+            "run", "sum.sc", "--input", "sum.json", "--tape", "sum.tape", "--budget", "-1",
+        ],
+        Status::Usage,
+        "error: usage\n",
+    ),
+    (
+        &[
+            "run", "sum.sc", "--input", "sum.json", "--tape", "sum.tape", "--words", "3",
+        ],
+        Status::Usage,
+        "error: usage\n",
+    ),
+    (&["help"], Status::Usage, "error: usage\n"),
     (
         &["Run", "sum.sc", "--input", "sum.json", "--tape", "sum.tape"],
         Status::Usage,
@@ -42,14 +64,21 @@ const CALLS: [(&[&str], Status, &str); 10] = [
         "error: file \n",
     ),
     (
-        &["run", "sum.sc", "--input", "sum.json", "--tape", "--tape"],
+        &["run", "--tape=no.tape", "sum.sc", "--input", "sum.json"],
         Status::File,
-        "error: file --tape\n",
+        "error: file no.tape\n",
     ),
     (
         &["run", "sum.sc", "--input", "sum.sc", "--tape", "no.tape"],
-        Status::Program,
-        "error: X0\n",
+        Status::Input,
+        "error: I1\n",
+    ),
+    (
+        &[
+            "deal", "--input", "no.json", "--tape", "sum.tape", "--to", "x",
+        ],
+        Status::File,
+        "error: file no.json\n",
     ),
 ];
 
@@ -145,8 +174,7 @@ fn faults_leave_a_prefix_and_are_named(rt: HostRuntime) -> Result<(), Fail> {
         ("sum.tape", words.as_slice()),
     ];
     for (faults, status, out, err) in FAULTS {
-        let run = ["run", "sum.sc", "--input", "sum.json", "--tape", "sum.tape"];
-        let outcome = call(alloc, &run, &held, faults)?;
+        let outcome = call(alloc, &RUN, &held, faults)?;
         assert_eq!(rt; outcome.status, status, "{err}");
         assert_eq!(rt; outcome.out.bytes(), out.as_bytes());
         assert_eq!(rt; outcome.err.bytes(), err.as_bytes());

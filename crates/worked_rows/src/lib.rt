@@ -1,13 +1,20 @@
-//! Worked rows: whole calls of the program over files in memory, with the exact bytes that they must print.
+//! Worked rows: whole calls of the program over files in memory, with the exact bytes that they must print and write.
 //!
-//! The expected texts come from the description of the language, worked by hand, and never from the program's own output.
+//! The expected texts come from the description of the language and of the files, worked by hand, and never from the
+//! program's own output.
 #![tactic(auto)]
 
 #[cfg(test)]
 mod call;
 #[cfg(test)]
+mod deals;
+#[cfg(test)]
+mod ends;
+#[cfg(test)]
 mod faults;
 #[cfg(test)]
-mod forms;
+mod hostile;
+#[cfg(test)]
+mod refusals;
 #[cfg(test)]
 mod sums;

@@ -1,10 +1,7 @@
 // Sums that are opened and published.
-use crate::call::{run, tape};
+use crate::call::{RUN, SUM, call_on, tape};
 use command_frame::Status;
 use std::test::Fail;
-
-const SUM: &str =
-    "import stdlib; import shared3p; domain p shared3p; void main() {\np uint64 a = argument(\"a\"); p uint64 b = argument(\"b\"); publish(\"s\", declassify(a + b));\n}\n";
 
 // Two inputs in file order, the words of the dealer and of the three miners, and what is printed.
 struct Sum {
@@ -64,7 +61,7 @@ fn sums_are_opened_and_published(rt: HostRuntime) -> Result<(), Fail> {
             sum.first.0, sum.first.1, sum.second.0, sum.second.1
         )?;
         let words = tape(alloc, [4, 1, 1, 1], &sum.words)?;
-        let outcome = run(alloc, SUM, &input, &words)?;
+        let outcome = call_on(alloc, &RUN, SUM, &input, &words)?;
         assert_eq!(rt; outcome.status, Status::Done);
         assert_eq!(rt; outcome.out.bytes(), sum.text.as_bytes());
         assert_eq!(rt; outcome.err.bytes(), b"".as_slice());

@@ -1,0 +1,9 @@
+pub mod Values
+pub mod ShareFile
+pub mod Dealing
+pub mod AddUp
+pub mod Refusal
+pub mod Written
+pub mod Reading
+pub mod Shapes
+pub mod Vectors

@@ -1,0 +1,25 @@
+-- The values of inputs, as words in a ring.
+use Rattle.std.specs.Prelude.{ℕ, List, [], ◌∷◌, map, Bool, true, false}
+use Rattle.share_ring.specs.Ring.{Ring}
+use Rattle.share_ring.specs.Rings.{add_ring, xor_ring}
+use Rattle.value_file.specs.declared.value.DataType.{DataType}
+use Rattle.value_file.specs.declared.value.DataType.TheVariants as data_type
+use Rattle.value_file.specs.declared.value.Value.{Value}
+use Rattle.value_file.specs.declared.value.Value.TheVariants.{Number, Truth, Numbers, Truths}
+
+-- a truth value as a word
+abbrev pub bit_word : Bool → ℕ
+bit_word true = 1
+bit_word false = 0
+
+-- the elements of a value, each as a word
+abbrev pub elements_of : Value → List ℕ
+elements_of (Number n) = n ∷ []
+elements_of (Truth b) = bit_word b ∷ []
+elements_of (Numbers ns) = ns
+elements_of (Truths bs) = map bit_word bs
+
+-- numbers are shared in the integers modulo 2^64, truth values in the words under xor
+abbrev pub ring_of : DataType → Ring
+ring_of data_type.Uint64 = add_ring
+ring_of data_type.Bool = xor_ring

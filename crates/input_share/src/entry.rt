@@ -1,0 +1,40 @@
+// The entries of a share file.
+ghost use Rattle.std.specs.Prelude.{◌≡◌, option_map};
+ghost use Rattle.input_share.specs.ShareFile.{words_in};
+
+use sc_text::Name;
+use value_file::{DataType, Shape, Value, Words};
+
+/// One miner's share of a private value: a word for each element, in order.
+#[derive(Drop)]
+pub struct Shared {
+    pub data_type: DataType,
+    pub shape: Shape,
+    pub words: Words,
+}
+
+/// What a miner has of an input: a public value as it is, a private one as its share.
+#[derive(Drop)]
+pub enum Part {
+    Public(Value),
+    Private(Shared),
+}
+
+impl Part {
+    /// The share words, if the part is private.
+    pub fn words(&self) -> Option<&[u64]>
+        ensures { option_map (λ words. words.now) result ≡ words_in self.now }
+    {
+        match self {
+            Part::Public(_) => None,
+            Part::Private(shared) => Some(shared.words.as_slice()),
+        }
+    }
+}
+
+/// One input in a share file.
+#[derive(Drop)]
+pub struct ShareEntry {
+    pub name: Name,
+    pub part: Part,
+}

@@ -1,0 +1,25 @@
+//! The dealing of a run's inputs: each miner's share file, in which a private value is replaced by words that say nothing
+//! of it without the other two files.
+#![tactic(auto)]
+
+mod add_up;
+mod dealing;
+mod entry;
+mod forms;
+mod reading;
+mod shapes;
+mod share_file;
+mod values;
+mod writing;
+
+pub use add_up::shares_add_up;
+pub use dealing::{DealErr, Dealt, deal, draws, need};
+pub use entry::{Part, ShareEntry, Shared};
+pub use forms::dealt_files_are_writable;
+pub use reading::read_share;
+pub use shapes::{dealing_keeps_shapes, shape_part};
+pub use share_file::ShareFile;
+pub use writing::write_share;
+
+#[cfg(test)]
+mod tests;

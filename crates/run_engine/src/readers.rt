@@ -1,0 +1,115 @@
+// Input and tape files, read from their paths.
+ghost use Rattle.std.specs.Prelude.{◌≡◌, ◌∷◌, [], true, IfOk, IfErr};
+ghost use Rattle.command_frame.specs.Reads.{OnlyRead, Gives, StopNames};
+ghost use Rattle.command_frame.specs.Status.{is_refusal};
+ghost use Rattle.command_frame.specs.Stops.{IsRefusalFor};
+ghost use Rattle.sc_text.specs.Fault.{fault_line};
+ghost use Rattle.command_frame.specs.declared.status.Status.TheVariants.{Input};
+ghost use Rattle.sc_text.specs.declared.fault.Fault.TheVariants.{Input as InputFile};
+ghost use Rattle.run_engine.specs.Run.{bad_tape, field_fault, top_fault, entry_field, inputs_at, tape_file_at};
+
+use command_frame::{Refusal, Status, Stop, read_file};
+use outside::Files;
+use sc_text::{EntryField, Fault, InputFault};
+use std::alloc::Global;
+use tape_file::Tapes;
+use value_file::{Field, Inputs};
+
+/// The refusal of what was read, with this status and the line of this fault; `Memory` where the line can't be made.
+pub fn refusal_of(alloc: Global, status: Status, fault: &Fault) -> Stop
+    requires { is_refusal status ≡ true }
+    ensures { IsRefusalFor (record { status = status; line = fault_line fault.now }) result }
+{
+    match format!(in alloc; "{fault}") {
+        Ok(line) => Stop::Refused(Refusal { status, line }),
+        Err(_) => Stop::Memory,
+    }
+}
+
+fn entry_field(name: Field) -> Option<EntryField>
+    ensures { result ≡ entry_field name }
+{
+    match name {
+        Field::Inputs => None,
+        Field::Name => Some(EntryField::Name),
+        Field::Domain => Some(EntryField::Domain),
+        Field::Type => Some(EntryField::Type),
+        Field::Value => Some(EntryField::Value),
+        Field::Shape => Some(EntryField::Shape),
+        Field::Share => Some(EntryField::Share),
+        Field::Lens => None,
+        Field::Miner => None,
+    }
+}
+
+fn top_fault(name: Field) -> InputFault
+    ensures { result ≡ top_fault name }
+{
+    match name {
+        Field::Lens => InputFault::BadLens,
+        Field::Miner => InputFault::BadMiner,
+        _ => InputFault::NoInputs,
+    }
+}
+
+fn field_fault(entry: Option<u64>, name: Field) -> InputFault
+    ensures { result ≡ field_fault entry name }
+{
+    match (entry, entry_field(name)) {
+        (Some(entry), Some(field)) => InputFault::BadField { entry, field },
+        _ => top_fault(name),
+    }
+}
+
+// That an input file is refused for this fault.
+fn input_stop(alloc: Global, fault: InputFault) -> Stop
+    ensures { IsRefusalFor (record { status = Input; line = fault_line (InputFile fault) }) result }
+{
+    refusal_of(alloc, Status::Input, &Fault::Input(fault))
+}
+
+/// The inputs of the file at this path.
+#[tactic(auto, unfolding(crate::specs::Run::inputs_at, crate::specs::Run::bad_input))]
+pub fn read_inputs<F: Files>(alloc: Global, files: &mut F, path: &str) -> Result<Inputs, Stop>
+    ensures files { OnlyRead (F.state files.old) (F.state files.new) }
+    ensures answer { Gives (λ inputs. inputs) (F.state files.old) (F.state files.new) result
+        (inputs_at (F.state files.old).contents path.now) }
+    ensures names { IfErr result (StopNames (path.now ∷ [])) }
+{
+    let bytes = read_file(alloc, files, path)?;
+    match value_file::read(alloc, &bytes) {
+        Ok(inputs) => Ok(inputs),
+        Err(value_file::ReadErr::Memory) => Err(Stop::Memory),
+        Err(value_file::ReadErr::Syntax) => Err(input_stop(alloc, InputFault::NotJson)),
+        Err(value_file::ReadErr::BadField { entry, name }) => {
+            Err(input_stop(alloc, field_fault(entry, name)))
+        }
+        Err(value_file::ReadErr::TooLong { entry }) => {
+            Err(input_stop(alloc, InputFault::TooMany { entry }))
+        }
+    }
+}
+
+// Why a tape file is refused.
+#[tactic(auto, unfolding(crate::specs::Run::bad_tape))]
+fn tape_stop(alloc: Global, place: u64) -> Stop
+    ensures { IsRefusalFor (bad_tape place) result }
+{
+    refusal_of(alloc, Status::TapeFile, &Fault::BadTape { place })
+}
+
+/// The tapes of the file at this path.
+#[tactic(auto, unfolding(crate::specs::Run::tape_file_at))]
+pub fn read_tape_file<F: Files>(alloc: Global, files: &mut F, path: &str) -> Result<Tapes, Stop>
+    ensures files { OnlyRead (F.state files.old) (F.state files.new) }
+    ensures answer { Gives (λ tapes. tapes) (F.state files.old) (F.state files.new) result
+        (tape_file_at (F.state files.old).contents path.now) }
+    ensures names { IfErr result (StopNames (path.now ∷ [])) }
+{
+    let bytes = read_file(alloc, files, path)?;
+    match tape_file::read(alloc, &bytes) {
+        Ok(tapes) => Ok(tapes),
+        Err(tape_file::ReadErr::BadTape { place }) => Err(tape_stop(alloc, place)),
+        Err(tape_file::ReadErr::Memory) => Err(Stop::Memory),
+    }
+}

@@ -1,0 +1,61 @@
+-- The value of an entry, over the data in its file.
+use Rattle.std.specs.Prelude.{ℕ, List, [], ◌∷◌, length, Option, Some, None, option_map, option_and_then}
+use Rattle.serde_json.specs.Data.{Data, Items, no_items, item}
+use Rattle.serde_json.specs.Find as find
+use Rattle.value_file.specs.declared.value.DataType.{DataType}
+use Rattle.value_file.specs.declared.value.DataType.TheVariants as data_type
+use Rattle.value_file.specs.declared.value.Shape.{Shape}
+use Rattle.value_file.specs.declared.value.Shape.TheVariants as shape
+use Rattle.value_file.specs.declared.value.Value.{Value}
+use Rattle.value_file.specs.declared.value.Value.TheVariants.{Number, Truth, Numbers, Truths}
+
+-- the data type of a value
+abbrev pub type_of : Value → DataType
+type_of (Number n) = data_type.Uint64
+type_of (Truth b) = data_type.Bool
+type_of (Numbers ns) = data_type.Uint64
+type_of (Truths bs) = data_type.Bool
+
+-- the count of a value's elements; a scalar is one
+abbrev pub count_of : Value → ℕ
+count_of (Number n) = 1
+count_of (Truth b) = 1
+count_of (Numbers ns) = length ns
+count_of (Truths bs) = length bs
+
+-- a scalar, or an array of so many elements
+abbrev pub shape_of : Value → Shape
+shape_of (Number n) = shape.Scalar
+shape_of (Truth b) = shape.Scalar
+shape_of (Numbers ns) = shape.Array (length ns)
+shape_of (Truths bs) = shape.Array (length bs)
+
+-- the count of elements of a shape
+abbrev pub size_of : Shape → ℕ
+size_of shape.Scalar = 1
+size_of (shape.Array count) = count
+
+-- a number below 2^64, without a point, an exponent or a sign
+abbrev pub number_in : Data → Option ℕ
+number_in d = option_and_then find.as_u64 (find.as_number d)
+
+-- one more element in front, where each is good
+abbrev pub joined : {A : Type 0} → Option A → Option (List A) → Option (List A)
+joined (Some x) (Some xs) = Some (x ∷ xs)
+joined (Some x) None = None
+joined None xs = None
+
+-- the elements, where each passes
+abbrev pub all_in : {A : Type 0} → (Data → Option A) → Items → Option (List A)
+all_in one no_items = Some []
+all_in one (item d ds) = joined (one d) (all_in one ds)
+
+-- the value of an array, where there is an array, else that of a scalar
+abbrev pub value_from : {A : Type 0} → (A → Value) → (List A → Value) → (Data → Option A) → Option Items → Data → Option Value
+value_from scalar list one (Some ds) d = option_map list (all_in one ds)
+value_from scalar list one None d = option_map scalar (one d)
+
+-- a scalar or an array of the type
+abbrev pub value_of : DataType → Data → Option Value
+value_of data_type.Uint64 d = value_from Number Numbers number_in (find.as_array d) d
+value_of data_type.Bool d = value_from Truth Truths find.as_bool (find.as_array d) d

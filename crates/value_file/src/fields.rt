@@ -1,0 +1,104 @@
+// The fields of an entry.
+ghost use Rattle.std.specs.Prelude.{◌≡◌, ◌++◌, ◌∷◌, [], Some, codes, not, map, IfOk, IfSome, IsTrue};
+ghost use Rattle.std.specs.List.{list_any};
+ghost use Rattle.std.specs.Str.{bytes_eq};
+ghost use Rattle.serde_json.specs.View.{view};
+ghost use Rattle.value_file.specs.Input.{name_in, new_name, domain_in, data_type_in, value_in};
+ghost use Rattle.value_file.specs.declared.read_err.ReadErr.TheVariants.{BadField};
+
+use crate::json::text_field;
+use crate::read_err::{Field, ReadErr};
+use crate::value::{DataType, Domain, Value};
+use crate::value_reading::value;
+use indexmap::IndexSet;
+use sc_text::Name;
+use serde_json::Value as Json;
+use std::alloc::{AllocError, Global};
+
+/// The most elements that an entry may have.
+pub const MAX_ELEMENTS: u64 = 65_536;
+
+/// The refusal of a field of the entry at this place.
+pub fn bad(place: u64, name: Field) -> ReadErr
+    ensures { result ≡ BadField (Some place) name }
+{
+    ReadErr::BadField {
+        entry: Some(place),
+        name,
+    }
+}
+
+/// Whether a name is new; it is remembered.
+fn is_new<'v>(names: &mut IndexSet<&'v str>, name: &'v str) -> Result<bool, AllocError>
+    ensures new { IfOk result (λ new. new ≡ not (list_any (bytes_eq name.now) (map (λ n. n.now) names.old.keys))) }
+    ensures remembered { IfOk result (λ new. IsTrue new →
+        map (λ n. n.now) names.new.keys ≡ map (λ n. n.now) names.old.keys ++ name.now ∷ []) }
+{
+    match names.insert(name) {
+        Ok(new) => Ok(new),
+        Err(_) => Err(AllocError),
+    }
+}
+
+/// The name of an entry, if it is of good form and new; it is remembered.
+#[tactic(auto, unfolding(crate::specs::Input::new_name))]
+pub fn name<'v>(
+    alloc: Global,
+    names: &mut IndexSet<&'v str>,
+    json: &'v Json,
+) -> Result<Option<Name>, AllocError>
+    ensures name { IfOk result (λ found. found ≡ name_in (map (λ n. n.now) names.old.keys) (view json.now)) }
+    ensures new { IfOk result (λ found. IfSome found (λ name. new_name (map (λ n. n.now) names.old.keys) name ≡ Some name)) }
+    ensures remembered { IfOk result (λ found. IfSome found (λ name.
+        map (λ n. n.now) names.new.keys ≡ map (λ n. n.now) names.old.keys ++ name ∷ [])) }
+{
+    let Some(text) = text_field(json, "name") else {
+        return Ok(None);
+    };
+    let Some(name) = Name::from_str(alloc, text)? else {
+        return Ok(None);
+    };
+    if is_new(names, text)? {
+        Ok(Some(name))
+    } else {
+        Ok(None)
+    }
+}
+
+/// The domain of an entry, if it is good.
+#[tactic(auto, unfolding(crate::specs::Input::domain_of))]
+pub fn domain(json: &Json) -> Option<Domain>
+    ensures { result ≡ domain_in (view json.now) }
+{
+    match text_field(json, "domain")? {
+        "public" => Some(Domain::Public),
+        "private" => Some(Domain::Private),
+        _ => None,
+    }
+}
+
+/// The data type of an entry, if it is good.
+#[tactic(auto, unfolding(crate::specs::Input::data_type_of))]
+pub fn data_type(json: &Json) -> Option<DataType>
+    ensures { result ≡ data_type_in (view json.now) }
+{
+    match text_field(json, "type")? {
+        "uint64" => Some(DataType::Uint64),
+        "bool" => Some(DataType::Bool),
+        _ => None,
+    }
+}
+
+/// The value of an entry of this type, if it is good.
+pub fn value_field(
+    alloc: Global,
+    data_type: DataType,
+    json: &Json,
+) -> Result<Option<Value>, AllocError>
+    ensures { IfOk result (λ found. found ≡ value_in data_type (view json.now)) }
+{
+    match json.get("value") {
+        Some(json) => value(alloc, data_type, json),
+        None => Ok(None),
+    }
+}

@@ -1,0 +1,74 @@
+// The elements of arrays.
+ghost use Rattle.std.specs.Prelude.{◌≡◌, ℕ, List, Bool};
+
+use std::marker::Model;
+
+/// The numbers of an array. Clauses see their list.
+#[derive(Drop, Debug)]
+pub struct Words {
+    words: Vec<u64>,
+}
+
+impl Model for Words {
+    ghost Value = { List ℕ };
+
+    ghost view = { λ w. w.words.items };
+}
+
+impl Words {
+    /// The numbers of a vector.
+    pub fn new(words: Vec<u64>) -> Self
+        ensures { result ≡ words.items }
+    {
+        Words { words }
+    }
+
+    /// The numbers, in order.
+    pub fn as_slice(&self) -> &[u64]
+        ensures { result.now ≡ self.now }
+    {
+        &self.words
+    }
+
+    /// The vector of the numbers. No memory is taken.
+    pub fn into_vec(self) -> Vec<u64>
+        ensures { result.items ≡ self }
+    {
+        self.words
+    }
+}
+
+/// The truth values of an array. Clauses see their list.
+#[derive(Drop, Debug)]
+pub struct Bits {
+    bits: Vec<bool>,
+}
+
+impl Model for Bits {
+    ghost Value = { List Bool };
+
+    ghost view = { λ b. b.bits.items };
+}
+
+impl Bits {
+    /// The truth values of a vector.
+    pub fn new(bits: Vec<bool>) -> Self
+        ensures { result ≡ bits.items }
+    {
+        Bits { bits }
+    }
+
+    /// The truth values, in order.
+    pub fn as_slice(&self) -> &[bool]
+        ensures { result.now ≡ self.now }
+    {
+        &self.bits
+    }
+
+    /// The vector of the truth values. No memory is taken.
+    pub fn into_vec(self) -> Vec<bool>
+        ensures { result.items ≡ self }
+    {
+        self.bits
+    }
+}
