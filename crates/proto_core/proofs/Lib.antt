@@ -3,3 +3,7 @@ pub mod Parts
 pub mod MessageFields
 pub mod MessageListsLemmas
 pub mod ResharingLaws
+pub mod Beginnings
+pub mod Strands
+pub mod Nets
+pub mod Nodes

@@ -1,37 +1,64 @@
--- Messages of one and more fields.
-use Rattle.std.proofs.Common.{◌≡◌, ℕ, ◌<◌, ◌*◌, List, [], ◌∷◌, ◌++◌, length, refl, sym, ◌∙◌, ap, inl, inr, arith, length-append}
-use Rattle.std.proofs.lemmas.Bool.{cases_lt}
+-- When a message has the shape that is wanted.
+use Rattle.std.proofs.Common.{◌≡◌, ℕ, ◌*◌, ◌==◌, Bool, true, false, ◌&&◌, List, [], ◌∷◌, ◌++◌, length, take, drop, refl, sym, ◌∙◌, ap, arith, length-append}
+use Rattle.std.specs.List.{list_all}
+use Rattle.std.proofs.Math.Seq.{take-append_seam, drop-append_seam}
 use Rattle.std.proofs.lemmas.List.{append-nil}
-use Rattle.proto_core.specs.Lists.{at, each, AreWords}
-use Rattle.proto_core.specs.Protocol.{Field, Words, Bits, IsField, IsMessage}
-use Rattle.proto_core.proofs.Each.{length-each, at-each, at-each_past}
+use Rattle.proto_core.specs.Strand.{Field, Words, Bits, Shape, shaped, accepts, has_bits, is_bit}
 
-pub one_field : (n : ℕ) (f : Field) (xs : List ℕ) → IsField n f xs → IsMessage n (f ∷ []) xs
-one_field n f xs is = (xs, [], sym (append-nil xs), is, refl)
+both_true : (a b : Bool) → a ≡ true → b ≡ true → (a && b) ≡ true
+both_true true true h k = refl
+both_true true false h k = k
+both_true false b h k = h
 
-pub more_fields : (n : ℕ) (f : Field) (fs : List Field) (xs ys : List ℕ) → IsField n f xs → IsMessage n fs ys → IsMessage n (f ∷ fs) (xs ++ ys)
-more_fields n f fs xs ys is rest = (xs, ys, refl, is, rest)
+first_true : (a b : Bool) → (a && b) ≡ true → a ≡ true
+first_true true b h = refl
+first_true false b h = h
 
-pub words_field : (n : ℕ) (xs : List ℕ) → length xs ≡ n → AreWords xs → IsField n Words xs
-words_field n xs len words = record { len = len; words = words }
+second_true : (a b : Bool) → (a && b) ≡ true → b ≡ true
+second_true true b h = h
+second_true false b h = cc
 
--- the length of a message
-pub length-message : (n : ℕ) (fs : List Field) (m : List ℕ) → IsMessage n fs m → length m ≡ length fs * n
-length-message n [] m e = ap length e ∙ omega arith
-length-message n (f ∷ fs) m is =
-    let rest : length is.1 ≡ length fs * n = length-message n fs is.1 is.4 in
-    let here : length is.0 ≡ n = is.3.len in
-    ap length is.2 ∙ length-append is.0 is.1 ∙ grind arith
+equal_test : (a b : ℕ) → a ≡ b → (a == b) ≡ true
+equal_test a b h = grind arith
 
--- n bits, each given by its index
-pub bits_field : (n : ℕ) (f : ℕ → ℕ) → ((k : ℕ) → f k < 2) → IsField n Bits (each n f)
-bits_field n f small =
-    record {
-      len = length-each n f;
-      words = λ k.
-          elim (cases_lt k n) as (λ c. at (each n f) k < 2)
-          [ inl below ↦ under _ _ (at-each n f k below) (small k) | inr past ↦ under _ _ (at-each_past n f k past) (omega arith) ];
-    }
-  where
-    under : (x y : ℕ) → x ≡ y → y < 2 → x < 2
-    under x y e l = omega arith
+equal_from : (a b : ℕ) → (a == b) ≡ true → a ≡ b
+equal_from a b h = grind arith
+
+-- the length of an accepted message
+pub accepted-length : (s : Shape) (m : List ℕ) → accepts s m ≡ true → length m ≡ length s.fields * s.count
+accepted-length s m h = equal_from (length m) (length s.fields * s.count) (first_true _ _ h)
+
+take-front : (n : ℕ) (xs ys : List ℕ) → length xs ≡ n → take n (xs ++ ys) ≡ xs
+take-front n xs ys e = ap (λ k. take k (xs ++ ys)) (sym e) ∙ take-append_seam xs ys
+
+drop-front : (n : ℕ) (xs ys : List ℕ) → length xs ≡ n → drop n (xs ++ ys) ≡ ys
+drop-front n xs ys e = ap (λ k. drop k (xs ++ ys)) (sym e) ∙ drop-append_seam xs ys
+
+pub accepts-none : (n : ℕ) → accepts (shaped n []) [] ≡ true
+accepts-none n = both_true _ _ (equal_test 0 (0 * n) (omega arith)) refl
+
+-- n words in front
+pub accepts-words : (n : ℕ) (fields : List Field) (xs ys : List ℕ) → length xs ≡ n → accepts (shaped n fields) ys ≡ true → accepts (shaped n (Words ∷ fields)) (xs ++ ys) ≡ true
+accepts-words n fields xs ys len rest =
+    let size : length ys ≡ length fields * n = accepted-length (shaped n fields) ys rest in
+    both_true _ _
+    (equal_test _ _ (length-append xs ys ∙ grind arith))
+    (ap (has_bits n fields) (drop-front n xs ys len) ∙ second_true _ _ rest)
+
+-- n bits in front
+pub accepts-bits : (n : ℕ) (fields : List Field) (xs ys : List ℕ) → length xs ≡ n → list_all is_bit xs ≡ true → accepts (shaped n fields) ys ≡ true → accepts (shaped n (Bits ∷ fields)) (xs ++ ys) ≡ true
+accepts-bits n fields xs ys len bits rest =
+    let size : length ys ≡ length fields * n = accepted-length (shaped n fields) ys rest in
+    both_true _ _
+    (equal_test _ _ (length-append xs ys ∙ grind arith))
+    (both_true _ _ (ap (list_all is_bit) (take-front n xs ys len) ∙ bits) (ap (has_bits n fields) (drop-front n xs ys len) ∙ second_true _ _ rest))
+
+-- a message of one field
+pub accepts-one_words : (n : ℕ) (xs : List ℕ) → length xs ≡ n → accepts (shaped n (Words ∷ [])) xs ≡ true
+accepts-one_words n xs len = ap (accepts (shaped n (Words ∷ []))) (sym (append-nil xs)) ∙ accepts-words n [] xs [] len (accepts-none n)
+
+pub accepts-one_bits : (n : ℕ) (xs : List ℕ) → length xs ≡ n → list_all is_bit xs ≡ true → accepts (shaped n (Bits ∷ [])) xs ≡ true
+accepts-one_bits n xs len bits = ap (accepts (shaped n (Bits ∷ []))) (sym (append-nil xs)) ∙ accepts-bits n [] xs [] len bits (accepts-none n)
+
+pub accepted-one_words : (n : ℕ) (xs : List ℕ) → accepts (shaped n (Words ∷ [])) xs ≡ true → length xs ≡ n
+accepted-one_words n xs h = let l : length xs ≡ 1 * n = accepted-length (shaped n (Words ∷ [])) xs h in omega arith

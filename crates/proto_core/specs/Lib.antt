@@ -1,5 +1,8 @@
 pub mod Parties
 pub mod Lists
+pub mod Strand
+pub mod Net
+pub mod Script
 pub mod Protocol
 pub mod Refusals
 pub mod MessageLists

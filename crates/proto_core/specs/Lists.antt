@@ -1,5 +1,5 @@
 -- Lists of words by index: a protocol's equation gives the word at each index.
-use Rattle.std.specs.Prelude.{ℕ, ◌+◌, ◌*◌, ◌<◌, ◌^◌, List, [], ◌∷◌, ◌++◌, map, slice_index}
+use Rattle.std.specs.Prelude.{ℕ, ◌+◌, ◌*◌, ◌<◌, ◌^◌, List, map, slice_index}
 use Rattle.std.specs.List.{range_with_len}
 
 -- the word at an index, and 0 past the end
@@ -9,11 +9,6 @@ at xs k = slice_index xs k
 -- n words, f of each index
 unfoldable pub each : ℕ → (ℕ → ℕ) → List ℕ
 each n f = map f (range_with_len 0 n)
-
--- the words of each field, one field after another
-abbrev pub fields : ℕ → List (ℕ → ℕ) → List ℕ
-fields n [] = []
-fields n (f ∷ fs) = each n f ++ fields n fs
 
 abbrev pub AreWords : List ℕ → Type 0
 AreWords xs = (k : ℕ) → at xs k < 2 ^ 64

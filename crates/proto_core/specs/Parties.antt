@@ -53,6 +53,13 @@ to_previous One = Link13
 to_previous Two = Link21
 to_previous Three = Link32
 
+-- the link from the previous miner, and the one from the next
+abbrev pub from_previous : Number → Link
+from_previous i = to_next (previous_of i)
+
+abbrev pub from_next : Number → Link
+from_next i = to_previous (next_of i)
+
 -- whether a link goes to its sender's next
 abbrev pub is_forward : Link → Bool
 is_forward Link12 = true
