@@ -23,6 +23,8 @@ pub record Protocol : Type 0 where
   -- how many words each draws for n elements, and how many all three learn
   pub draws : ℕ → Number → ℕ
   pub opens : ℕ → ℕ
+  -- how many elements each of the blocks has that a miner has at the end
+  pub made : ℕ → List ℕ
   -- of one miner, by its shares u and v and the words that it draws: its part, which ends with its blocks
   pub strand : ℕ → Number → (u v words : List ℕ) → Strand (List (List ℕ))
   pub script : ℕ → Number → List Move
@@ -62,9 +64,11 @@ pub record IsBlock (n : ℕ) (xs : List ℕ) : Type 0 where
   pub len : length xs ≡ n
   pub words : AreWords xs
 
-abbrev pub AreBlocks : ℕ → List (List ℕ) → Type 0
-AreBlocks n [] = Unit {0}
-AreBlocks n (xs ∷ blocks) = IsBlock n xs × AreBlocks n blocks
+abbrev pub AreBlocks : List ℕ → List (List ℕ) → Type 0
+AreBlocks [] [] = Unit {0}
+AreBlocks [] (xs ∷ blocks) = ⊥
+AreBlocks (n ∷ sizes) [] = ⊥
+AreBlocks (n ∷ sizes) (xs ∷ blocks) = IsBlock n xs × AreBlocks sizes blocks
 
 -- the three miners' parts together do what the joint equations say, by scripts that match
 pub record Sound (p : Protocol) : Type 0 where
@@ -78,7 +82,7 @@ pub record Sound (p : Protocol) : Type 0 where
   pub messages :
       (n : ℕ) (j : Joint) → Fits p n j → (l : Link) →
       AreMessages (sends_on l (p.script n (sender_of l))) (p.messages n j l)
-  pub blocks : (n : ℕ) (j : Joint) → Fits p n j → (i : Number) → AreBlocks n (p.output n j i)
+  pub blocks : (n : ℕ) (j : Joint) → Fits p n j → (i : Number) → AreBlocks (p.made n) (p.output n j i)
   pub opened :
       (n : ℕ) (j : Joint) → Fits p n j → (i : Number) →
       opened_by (strands_of p n j) (p.messages n j) i ≡ p.opened n j
