@@ -93,7 +93,7 @@ module _ {A B : Type 0} (first : Number → Strand A) (next : Number → A → S
   abbrev pub second : Number → Strand B
   second i = next i (outputs i)
 
-  run-both : (mail : Mail) (i : Number) → run_of both (added full mail) i ≡ followed (run_of first full i) (run_of second mail i)
+  pub run-both : (mail : Mail) (i : Number) → run_of both (added full mail) i ≡ followed (run_of first full i) (run_of second mail i)
   run-both mail i =
       ap (run (both i)) (into-added i full mail)
       ∙ run-then (first i) (next i) (into i full) (into i mail) (outputs i) (f.ended i)

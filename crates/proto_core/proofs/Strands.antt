@@ -5,7 +5,7 @@ use Rattle.proto_core.specs.Net.{added, MailBegins}
 use Rattle.proto_core.proofs.Beginnings.{begins-append, begins-rest, append-none, agree-begins, longer, begins-longer, agree-longer}
 use Rattle.proto_core.specs.declared.link.Link.{Link}
 use Rattle.proto_core.specs.declared.link.Link.TheVariants.{Link12, Link13, Link21, Link23, Link31, Link32}
-use Rattle.proto_core.specs.Strand.{Shape, accepts, same_link, Act, Sent, Drew, Opened, Mail, Strand, Ends, Acts, Waits, taken, came, Ran, acted, run, then_do, on_link, drawn_in, opened_in, Begins, Agree, IsEnded}
+use Rattle.proto_core.specs.Strand.{Shape, accepts, same_link, Act, Sent, Opened, Mail, Strand, Ends, Acts, Waits, taken, came, Ran, acted, run, then_do, on_link, opened_in, Begins, Agree, IsEnded}
 
 pub same-link_is : (l k : Link) → same_link l k ≡ true → l ≡ k
 same-link_is Link12 Link12 h = refl
@@ -82,20 +82,12 @@ on_link-append l [] ys = refl
 on_link-append l (Sent k m ∷ xs) ys =
     elim (same_link l k) as (λ b. (if b then m ∷ on_link l (xs ++ ys) else on_link l (xs ++ ys)) ≡ (if b then m ∷ on_link l xs else on_link l xs) ++ on_link l ys)
     [ true ↦ ap (λ v. m ∷ v) (on_link-append l xs ys) | false ↦ on_link-append l xs ys ]
-on_link-append l (Drew w ∷ xs) ys = on_link-append l xs ys
 on_link-append l (Opened w ∷ xs) ys = on_link-append l xs ys
 
 pub opened-append : (xs ys : List Act) → opened_in (xs ++ ys) ≡ opened_in xs ++ opened_in ys
 opened-append [] ys = refl
 opened-append (Sent k m ∷ xs) ys = opened-append xs ys
-opened-append (Drew w ∷ xs) ys = opened-append xs ys
 opened-append (Opened w ∷ xs) ys = ap (λ v. w ++ v) (opened-append xs ys) ∙ sym (append_assoc w (opened_in xs) (opened_in ys))
-
-pub drawn-append : (xs ys : List Act) → drawn_in (xs ++ ys) ≡ drawn_in xs ++ drawn_in ys
-drawn-append [] ys = refl
-drawn-append (Sent k m ∷ xs) ys = drawn-append xs ys
-drawn-append (Drew w ∷ xs) ys = ap (λ v. w ++ v) (drawn-append xs ys) ∙ sym (append_assoc w (drawn_in xs) (drawn_in ys))
-drawn-append (Opened w ∷ xs) ys = drawn-append xs ys
 
 -- ---- what follows from it
 

@@ -33,10 +33,9 @@ accepts s m = (length m == length s.fields * s.count) && has_bits s.count s.fiel
 
 -- ---- what a miner does
 
--- a message that it sends, words that it draws from its tape, words that it learns
+-- a message that it sends, words that it learns
 pub data Act : Type 0 where
   Sent : (link : Link) (message : List ℕ) → Act
-  Drew : (words : List ℕ) → Act
   Opened : (words : List ℕ) → Act
 
 pub data Strand (A : Type 0) : Type 0 where
@@ -109,21 +108,12 @@ IsEnded (Waits l shape k) = ⊥
 abbrev pub on_link : Link → List Act → List (List ℕ)
 on_link l [] = []
 on_link l (Sent k m ∷ acts) = if same_link l k then m ∷ on_link l acts else on_link l acts
-on_link l (Drew w ∷ acts) = on_link l acts
 on_link l (Opened w ∷ acts) = on_link l acts
-
--- the words that it draws, one after another
-abbrev pub drawn_in : List Act → List ℕ
-drawn_in [] = []
-drawn_in (Sent k m ∷ acts) = drawn_in acts
-drawn_in (Drew w ∷ acts) = w ++ drawn_in acts
-drawn_in (Opened w ∷ acts) = drawn_in acts
 
 -- the words that it learns, one after another
 abbrev pub opened_in : List Act → List ℕ
 opened_in [] = []
 opened_in (Sent k m ∷ acts) = opened_in acts
-opened_in (Drew w ∷ acts) = opened_in acts
 opened_in (Opened w ∷ acts) = w ++ opened_in acts
 
 -- ---- lists of which one begins the other

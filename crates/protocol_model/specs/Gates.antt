@@ -1,0 +1,79 @@
+-- Gates in order, over numbered values: what one miner does with its shares and its tape.
+use Rattle.std.specs.Prelude.{◌≡◌, ℕ, zero, suc, ◌+◌, List, [], ◌∷◌, ◌++◌, length, map, take, drop, Option, Some, None}
+use Rattle.proto_core.specs.declared.party.Number.{Number}
+use Rattle.proto_core.specs.Strand.{Strand, Ends, then_do}
+use Rattle.proto_core.specs.Script.{Move}
+use Rattle.proto_core.specs.Protocol.{Protocol, Sound, Private}
+
+-- one block of an interactive gate, with the numbers of its operands; or a local gate that makes a value of this size,
+-- by what each miner does with its own shares
+pub data Gate : Type 0 where
+  Joined : (protocol : Protocol) (size u : ℕ) (v : Option ℕ) → Gate
+  Local : (size : ℕ) → (Number → List (List ℕ) → List ℕ) → Gate
+
+-- the value of a number, counted from 0
+abbrev pub value_at : List (List ℕ) → ℕ → List ℕ
+value_at [] k = []
+value_at (x ∷ xs) zero = x
+value_at (x ∷ xs) (suc k) = value_at xs k
+
+abbrev pub operand : List (List ℕ) → Option ℕ → List ℕ
+operand values None = []
+operand values (Some k) = value_at values k
+
+-- ---- sizes
+
+abbrev pub size_at : List ℕ → ℕ → Option ℕ
+size_at [] k = None
+size_at (n ∷ sizes) zero = Some n
+size_at (n ∷ sizes) (suc k) = size_at sizes k
+
+-- the operand is there and has this size; no operand has size 0
+abbrev pub HasSize : List ℕ → Option ℕ → ℕ → Type 0
+HasSize sizes None n = n ≡ 0
+HasSize sizes (Some k) n = size_at sizes k ≡ Some n
+
+abbrev pub sizes_of : List (List ℕ) → List ℕ
+sizes_of values = map length values
+
+abbrev pub IsSized : ℕ → (Number → List (List ℕ) → List ℕ) → List ℕ → Type 0
+IsSized n f sizes = (i : Number) (values : List (List ℕ)) → sizes_of values ≡ sizes → length (f i values) ≡ n
+
+-- each gate's operands are there and have the sizes that it wants, where the values before have these
+abbrev pub Sized : List Gate → List ℕ → Type 0
+Sized [] sizes = Unit {0}
+Sized (Joined p n u v ∷ gates) sizes =
+    (size_at sizes u ≡ Some n) × HasSize sizes v (p.second n) × Sized gates (sizes ++ p.made n)
+Sized (Local n f ∷ gates) sizes = IsSized n f sizes × Sized gates (sizes ++ n ∷ [])
+
+-- every protocol is right and private
+abbrev pub AreSound : List Gate → Type 0
+AreSound [] = Unit {0}
+AreSound (Joined p n u v ∷ gates) = Sound p × AreSound gates
+AreSound (Local n f ∷ gates) = AreSound gates
+
+abbrev pub ArePrivate : List Gate → Type 0
+ArePrivate [] = Unit {0}
+ArePrivate (Joined p n u v ∷ gates) = Private p × ArePrivate gates
+ArePrivate (Local n f ∷ gates) = ArePrivate gates
+
+-- ---- one miner
+
+-- how many words a miner draws in all
+abbrev pub needed : List Gate → Number → ℕ
+needed [] i = 0
+needed (Joined p n u v ∷ gates) i = p.draws n i + needed gates i
+needed (Local n f ∷ gates) i = needed gates i
+
+-- it draws a block's words from the front of its tape, does its part, and goes on with the values that it then has
+abbrev pub gates_strand : Number → List Gate → (values : List (List ℕ)) → (tape : List ℕ) → Strand (List (List ℕ))
+gates_strand i [] values tape = Ends values
+gates_strand i (Joined p n u v ∷ gates) values tape =
+    then_do (p.strand n i (value_at values u) (operand values v) (take (p.draws n i) tape))
+    (λ made. gates_strand i gates (values ++ made) (drop (p.draws n i) tape))
+gates_strand i (Local n f ∷ gates) values tape = gates_strand i gates (values ++ f i values ∷ []) tape
+
+abbrev pub gates_script : Number → List Gate → List Move
+gates_script i [] = []
+gates_script i (Joined p n u v ∷ gates) = p.script n i ++ gates_script i gates
+gates_script i (Local n f ∷ gates) = gates_script i gates

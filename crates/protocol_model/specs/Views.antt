@@ -1,0 +1,64 @@
+-- What a miner sees of a run, made of the opened words and of tapes that correspond one to one with the drawn ones.
+use Rattle.std.specs.Prelude.{◌≡◌, ℕ, ◌+◌, List, [], ◌∷◌, ◌++◌, length, take, drop, Option, Some, None}
+use Rattle.proto_core.specs.declared.party.Number.{Number}
+use Rattle.proto_core.specs.declared.link.Link.{Link}
+use Rattle.proto_core.specs.Strand.{Mail, Ends, Acts, Waits, Strand, run}
+use Rattle.proto_core.specs.Net.{into}
+use Rattle.proto_core.specs.Protocol.{Joint, Protocol}
+use Rattle.protocol_model.specs.Gates.{Gate, Joined, Local, value_at, operand}
+use Rattle.protocol_model.specs.Runs.{Shares, Tapes, drawn, left, joint_of, after, after_local}
+
+-- ---- the map of the tapes
+
+-- the tapes that miner i's view is made of: each block's words by the block's row, words behind the last as they are
+abbrev pub to_view : Number → List Gate → Shares → Tapes → Tapes
+to_view i [] values tapes m = tapes m
+to_view i (Joined p n u v ∷ gates) values tapes m =
+    p.tape n i (joint_of u v values (drawn p n tapes)) m
+    ++ to_view i gates (after p n u v values (drawn p n tapes)) (left p n tapes) m
+to_view i (Local n f ∷ gates) values tapes m = to_view i gates (after_local f values) tapes m
+
+-- the words of a block that these mapped words come from
+abbrev pub found : Number → Protocol → ℕ → ℕ → Option ℕ → Shares → Tapes → Tapes
+found i p n u v values mapped m = p.back n i (joint_of u v values (drawn p n mapped)) m
+
+-- the way back: each block's words, and the shares that they make, before the next block's
+abbrev pub from_view : Number → List Gate → Shares → Tapes → Tapes
+from_view i [] values mapped m = mapped m
+from_view i (Joined p n u v ∷ gates) values mapped m =
+    found i p n u v values mapped m
+    ++ from_view i gates (after p n u v values (found i p n u v values mapped)) (left p n mapped) m
+from_view i (Local n f ∷ gates) values mapped m = from_view i gates (after_local f values) mapped m
+
+-- ---- the simulator: no share of another miner, and no tape but the mapped ones
+
+-- the messages that a block brings miner i
+abbrev pub made_mail : Number → Protocol → ℕ → ℕ → Option ℕ → List (List ℕ) → List ℕ → Tapes → Mail
+made_mail i p n u v own opened mapped =
+    into i (p.received n i (value_at own u) (operand own v) (drawn p n mapped) (take (p.opens n) opened))
+
+abbrev pub blocks_at_end : Strand (List (List ℕ)) → List (List ℕ)
+blocks_at_end (Ends blocks) = blocks
+blocks_at_end (Acts a s) = []
+blocks_at_end (Waits l shape k) = []
+
+-- its own blocks at the end of a block's part
+abbrev pub made_blocks : Number → Protocol → ℕ → ℕ → Option ℕ → List (List ℕ) → List ℕ → Tapes → List (List ℕ)
+made_blocks i p n u v own opened mapped =
+    blocks_at_end
+    (run (p.strand n i (value_at own u) (operand own v) (drawn p n mapped i)) (made_mail i p n u v own opened mapped)).left
+
+-- all messages that come to miner i
+abbrev pub made_messages : Number → List Gate → (own : List (List ℕ)) → (opened : List ℕ) → Tapes → Mail
+made_messages i [] own opened mapped l = []
+made_messages i (Joined p n u v ∷ gates) own opened mapped l =
+    made_mail i p n u v own opened mapped l
+    ++ made_messages i gates (own ++ made_blocks i p n u v own opened mapped) (drop (p.opens n) opened) (left p n mapped) l
+made_messages i (Local n f ∷ gates) own opened mapped l = made_messages i gates (own ++ f i own ∷ []) opened mapped l
+
+-- its own shares of all values
+abbrev pub made_values : Number → List Gate → (own : List (List ℕ)) → (opened : List ℕ) → Tapes → List (List ℕ)
+made_values i [] own opened mapped = own
+made_values i (Joined p n u v ∷ gates) own opened mapped =
+    made_values i gates (own ++ made_blocks i p n u v own opened mapped) (drop (p.opens n) opened) (left p n mapped)
+made_values i (Local n f ∷ gates) own opened mapped = made_values i gates (own ++ f i own ∷ []) opened mapped
