@@ -28,10 +28,10 @@ equal_from a b h = grind arith
 pub accepted-length : (s : Shape) (m : List ℕ) → accepts s m ≡ true → length m ≡ length s.fields * s.count
 accepted-length s m h = equal_from (length m) (length s.fields * s.count) (first_true _ _ h)
 
-take-front : (n : ℕ) (xs ys : List ℕ) → length xs ≡ n → take n (xs ++ ys) ≡ xs
+pub take-front : (n : ℕ) (xs ys : List ℕ) → length xs ≡ n → take n (xs ++ ys) ≡ xs
 take-front n xs ys e = ap (λ k. take k (xs ++ ys)) (sym e) ∙ take-append_seam xs ys
 
-drop-front : (n : ℕ) (xs ys : List ℕ) → length xs ≡ n → drop n (xs ++ ys) ≡ ys
+pub drop-front : (n : ℕ) (xs ys : List ℕ) → length xs ≡ n → drop n (xs ++ ys) ≡ ys
 drop-front n xs ys e = ap (λ k. drop k (xs ++ ys)) (sym e) ∙ drop-append_seam xs ys
 
 pub accepts-none : (n : ℕ) → accepts (shaped n []) [] ≡ true

@@ -1,16 +1,14 @@
 -- Three miners that do the same gates come to the end, with the joint run's messages, values and opened words.
-use Rattle.std.proofs.Common.{◌≡◌, ℕ, Bool, true, false, if◌then◌else◌, List, [], ◌∷◌, ◌++◌, take, drop, refl, sym, ◌∙◌, ap, subst}
-use Rattle.std.specs.Prelude.{Option, Some, None}
+use Rattle.std.proofs.Common.{◌≡◌, ℕ, true, false, if◌then◌else◌, List, [], ◌∷◌, ◌++◌, refl, ◌∙◌, ap}
 use Rattle.proto_core.specs.declared.party.Number.{Number}
 use Rattle.proto_core.specs.declared.link.Link.{Link}
 use Rattle.proto_core.specs.Parties.{receiver_of, is_same}
-use Rattle.proto_core.specs.Strand.{Mail, Strand, Ends, then_do, opened_in}
-use Rattle.proto_core.specs.Script.{Moves}
-use Rattle.proto_core.specs.Net.{added, into, run_of, nothing, opened_by, Finishes}
-use Rattle.proto_core.specs.Protocol.{Joint, Protocol, Fits, Sound, strands_of}
+use Rattle.proto_core.specs.Strand.{Strand, opened_in}
+use Rattle.proto_core.specs.Net.{into, run_of, nothing, opened_by, Finishes}
+use Rattle.proto_core.specs.Protocol.{Protocol, Fits, strands_of}
 use Rattle.proto_core.proofs.Strands.{opened-append}
 use Rattle.proto_core.proofs.Nets.{finishes-both, run-both}
-use Rattle.protocol_model.specs.Gates.{Gate, Joined, Local, value_at, operand, Sized, AreSound, needed, gates_strand, gates_script}
+use Rattle.protocol_model.specs.Gates.{Gate, Joined, Local, AreSound, gates_strand}
 use Rattle.protocol_model.specs.Runs.{Shares, Tapes, drawn, left, joint_of, after, after_local, run_messages, run_values, run_opened, nodes_of, Ready}
 use Rattle.protocol_model.proofs.Sizes.{block-fits, ready-next, ready-local}
 

@@ -1,2 +1,3 @@
 pub mod Sizes
 pub mod GateRuns
+pub mod GateViews

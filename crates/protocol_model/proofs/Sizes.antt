@@ -1,11 +1,11 @@
 -- Shares and tapes that suffice for a list of gates suffice at each of its blocks.
-use Rattle.std.proofs.Common.{◌≡◌, ℕ, zero, suc, ◌+◌, ◌≤◌, ◌<◌, ◌^◌, List, [], ◌∷◌, ◌++◌, length, map, take, drop, refl, sym, ◌∙◌, ap, subst, arith}
+use Rattle.std.proofs.Common.{◌≡◌, ℕ, zero, suc, ◌+◌, ◌≤◌, ◌<◌, ◌^◌, List, [], ◌∷◌, ◌++◌, length, take, drop, refl, sym, ◌∙◌, ap, subst, arith}
 use Rattle.std.specs.Prelude.{Option, Some, None}
 use Rattle.std.proofs.lemmas.List.{length-take-le, length-drop, map-append}
 use Rattle.proto_core.specs.declared.party.Number.{Number}
 use Rattle.proto_core.specs.Lists.{at, AreWords}
-use Rattle.proto_core.specs.Protocol.{Joint, Protocol, Fits, Sound, IsBlock, AreBlocks}
-use Rattle.protocol_model.specs.Gates.{Gate, Joined, Local, value_at, operand, size_at, HasSize, sizes_of, Sized, needed}
+use Rattle.proto_core.specs.Protocol.{Protocol, Fits, Sound, AreBlocks}
+use Rattle.protocol_model.specs.Gates.{Gate, Joined, Local, value_at, operand, size_at, HasSize, sizes_of, needed}
 use Rattle.protocol_model.specs.Runs.{Shares, Tapes, drawn, left, joint_of, after, after_local, Ready}
 
 -- ---- words

@@ -1,3 +1,4 @@
 pub mod Gates
 pub mod Runs
 pub mod Views
+pub mod Schedules

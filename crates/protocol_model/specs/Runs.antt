@@ -1,11 +1,11 @@
 -- The joint run of a list of gates: all three miners at once, gate by gate.
-use Rattle.std.specs.Prelude.{◌≡◌, ℕ, ◌+◌, ◌≤◌, List, [], ◌∷◌, ◌++◌, length, take, drop, Option, Some, None}
+use Rattle.std.specs.Prelude.{◌≡◌, ℕ, ◌≤◌, List, [], ◌∷◌, ◌++◌, length, take, drop, Option}
 use Rattle.proto_core.specs.declared.party.Number.{Number}
-use Rattle.proto_core.specs.declared.link.Link.{Link}
 use Rattle.proto_core.specs.Lists.{AreWords}
 use Rattle.proto_core.specs.Strand.{Mail, Strand}
+use Rattle.proto_core.specs.Net.{Finishes, opened_by}
 use Rattle.proto_core.specs.Protocol.{Joint, Protocol}
-use Rattle.protocol_model.specs.Gates.{Gate, Joined, Local, value_at, operand, sizes_of, Sized, AreSound, needed, gates_strand}
+use Rattle.protocol_model.specs.Gates.{Gate, Joined, Local, value_at, operand, sizes_of, Sized, needed, gates_strand}
 
 -- each miner's shares of the values so far, and each miner's tape
 abbrev pub Shares : Type 0
@@ -63,3 +63,10 @@ pub record Ready (gates : List Gate) (values : Shares) (tapes : Tapes) : Type 0 
   pub shares : (i : Number) → sizes_of (values i) ≡ sizes
   pub tapes_reach : (i : Number) → needed gates i ≤ length (tapes i)
   pub tapes_are_words : (i : Number) → AreWords (tapes i)
+
+-- the three miners do what the joint run says, whatever the words are
+pub record RunTogether (gates : List Gate) (values : Shares) (tapes : Tapes) : Type 0 where
+  pub finishes : Finishes (nodes_of gates values tapes) (run_messages gates values tapes) (run_values gates values tapes)
+  pub opens :
+      (i : Number) →
+      opened_by (nodes_of gates values tapes) (run_messages gates values tapes) i ≡ run_opened gates values tapes

@@ -1,12 +1,14 @@
 -- What a miner sees of a run, made of the opened words and of tapes that correspond one to one with the drawn ones.
-use Rattle.std.specs.Prelude.{◌≡◌, ℕ, ◌+◌, List, [], ◌∷◌, ◌++◌, length, take, drop, Option, Some, None}
+use Rattle.std.specs.Prelude.{◌≡◌, ℕ, List, [], ◌∷◌, ◌++◌, length, take, drop, Option}
 use Rattle.proto_core.specs.declared.party.Number.{Number}
 use Rattle.proto_core.specs.declared.link.Link.{Link}
+use Rattle.proto_core.specs.Parties.{receiver_of}
+use Rattle.proto_core.specs.Lists.{AreWords}
 use Rattle.proto_core.specs.Strand.{Mail, Ends, Acts, Waits, Strand, run}
 use Rattle.proto_core.specs.Net.{into}
-use Rattle.proto_core.specs.Protocol.{Joint, Protocol}
+use Rattle.proto_core.specs.Protocol.{Protocol}
 use Rattle.protocol_model.specs.Gates.{Gate, Joined, Local, value_at, operand}
-use Rattle.protocol_model.specs.Runs.{Shares, Tapes, drawn, left, joint_of, after, after_local}
+use Rattle.protocol_model.specs.Runs.{Shares, Tapes, drawn, left, joint_of, after, after_local, run_messages, run_values, run_opened}
 
 -- ---- the map of the tapes
 
@@ -62,3 +64,24 @@ made_values i [] own opened mapped = own
 made_values i (Joined p n u v ∷ gates) own opened mapped =
     made_values i gates (own ++ made_blocks i p n u v own opened mapped) (drop (p.opens n) opened) (left p n mapped)
 made_values i (Local n f ∷ gates) own opened mapped = made_values i gates (own ++ f i own ∷ []) opened mapped
+
+-- all that comes to miner i, and all shares that it has, is made by the simulator of its own shares, the opened words
+-- and the mapped tapes
+pub record MadeBy (i : Number) (gates : List Gate) (values : Shares) (tapes : Tapes) : Type 0 where
+  pub messages :
+      (l : Link) → receiver_of l ≡ i →
+      run_messages gates values tapes l
+      ≡ made_messages i gates (values i) (run_opened gates values tapes) (to_view i gates values tapes) l
+  pub shares :
+      run_values gates values tapes i
+      ≡ made_values i gates (values i) (run_opened gates values tapes) (to_view i gates values tapes)
+
+-- the map keeps each tape's length, and miner i's own tape, and has an inverse on both sides
+pub record OneToOne (i : Number) (gates : List Gate) (values : Shares) (tapes : Tapes) : Type 0 where
+  pub there_and_back : (m : Number) → from_view i gates values (to_view i gates values tapes) m ≡ tapes m
+  pub back_and_there : (m : Number) → to_view i gates values (from_view i gates values tapes) m ≡ tapes m
+  pub own : to_view i gates values tapes i ≡ tapes i
+  pub kept : (m : Number) → length (to_view i gates values tapes m) ≡ length (tapes m)
+  pub back_kept : (m : Number) → length (from_view i gates values tapes m) ≡ length (tapes m)
+  pub words : (m : Number) → AreWords (to_view i gates values tapes m)
+  pub back_words : (m : Number) → AreWords (from_view i gates values tapes m)

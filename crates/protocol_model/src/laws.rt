@@ -1,0 +1,48 @@
+ghost use Rattle.std.specs.Prelude.{ℕ, List};
+ghost use Rattle.proto_core.specs.declared.link.Link.{Link};
+ghost use Rattle.proto_core.specs.declared.party.Number.{Number};
+ghost use Rattle.proto_core.specs.Net.{MailBegins, Finishes, posted};
+ghost use Rattle.proto_core.specs.Strand.{Begins, Mail, Strand, run};
+ghost use Rattle.protocol_model.specs.Gates.{Gate, AreSound, ArePrivate};
+ghost use Rattle.protocol_model.specs.Runs.{Shares, Tapes, Ready, RunTogether};
+ghost use Rattle.protocol_model.specs.Schedules.{AnyOrder, ThreeNodes};
+ghost use Rattle.protocol_model.specs.Views.{MadeBy, OneToOne};
+
+/// Law: with more messages a miner does what it did with fewer, and perhaps more.
+pub fn more_mail_extends()
+    ensures { (s : Strand (List (List ℕ))) (x y : Mail) → MailBegins x y → Begins (run s x).acts (run s y).acts }
+{}
+
+/// Law: in every order of deliveries, complete or not, the messages of each link begin those of the full run, and they
+/// are those of the full run where no message is under way. So no order makes the miners stand for ever.
+pub fn every_order_is_the_run()
+    ensures { (nodes : Number → Strand (List (List ℕ))) (full : Mail) (outputs : Number → List (List ℕ)) (order : List Link) →
+        Finishes nodes full outputs → AnyOrder nodes full order }
+{}
+
+/// Law: three nodes, of which it is only known that what each received begins what the others sent, agree with the full
+/// run in what they sent, received and opened.
+pub fn three_nodes_agree()
+    ensures { (nodes : Number → Strand (List (List ℕ))) (full mail : Mail) (outputs : Number → List (List ℕ)) →
+        Finishes nodes full outputs → MailBegins mail (posted nodes mail) → ThreeNodes nodes full mail }
+{}
+
+/// Law: three miners that do the same gates, of sound protocols, finish with the joint run's messages and shares, and each
+/// opens the joint run's words.
+pub fn gates_run_together()
+    ensures { (gates : List Gate) (values : Shares) (tapes : Tapes) →
+        AreSound gates → Ready gates values tapes → RunTogether gates values tapes }
+{}
+
+/// Law: the tapes that a miner's view is made of correspond one to one with those that the miners draw from.
+pub fn tapes_correspond()
+    ensures { (i : Number) (gates : List Gate) (values : Shares) (tapes : Tapes) →
+        AreSound gates → ArePrivate gates → Ready gates values tapes → OneToOne i gates values tapes }
+{}
+
+/// Law: what a miner receives in a run, and the shares that it then has, are what the simulator makes of the miner's own
+/// shares, the opened words and the corresponding tapes.
+pub fn views_are_made()
+    ensures { (i : Number) (gates : List Gate) (values : Shares) (tapes : Tapes) →
+        AreSound gates → ArePrivate gates → Ready gates values tapes → MadeBy i gates values tapes }
+{}
