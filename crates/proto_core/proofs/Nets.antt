@@ -18,7 +18,7 @@ module _ {A : Type 0} (nodes : Number → Strand A) where
   pub posted-more : (x y : Mail) → MailBegins x y → MailBegins (posted nodes x) (posted nodes y)
   posted-more x y h l = begins-on_link l _ _ (run-more (nodes (sender_of l)) _ _ (into-more (sender_of l) x y h))
 
-  delivered-begins : (mail full : Mail) (l : Link) → MailBegins mail full → MailBegins (posted nodes mail) full → MailBegins (delivered nodes mail l) full
+  pub delivered-begins : (mail full : Mail) (l : Link) → MailBegins mail full → MailBegins (posted nodes mail) full → MailBegins (delivered nodes mail l) full
   delivered-begins mail full l h k j =
       elim (same_link l j) as (λ b. Begins (if b then mail j ++ under_way nodes mail j else mail j) (full j))
       [ true ↦ begins-next (mail j) (posted nodes mail j) (full j) (h j) (k j) | false ↦ h j ]
@@ -43,7 +43,7 @@ module _ {A : Type 0} (nodes : Number → Strand A) where
   ended-is : (full : Mail) (outputs : Number → A) → Finishes nodes full outputs → (i : Number) → IsEnded (run_of nodes full i).left
   ended-is full outputs f i = subst (λ s. IsEnded s) (sym (f.ended i)) tt
 
-  covers : (full : Mail) (outputs : Number → A) → Finishes nodes full outputs → MailBegins (posted nodes full) full
+  pub covers : (full : Mail) (outputs : Number → A) → Finishes nodes full outputs → MailBegins (posted nodes full) full
   covers full outputs f l = subst (λ v. Begins v (full l)) (sym (f.sent l)) (begins-self (full l))
 
   -- every schedule, complete or not, gives a beginning of the full run

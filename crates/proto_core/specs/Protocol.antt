@@ -1,11 +1,11 @@
 -- A protocol of three miners on one block of n elements: what each draws, sends, receives and has at the end.
-use Rattle.std.specs.Prelude.{◌≡◌, ℕ, true, List, [], ◌∷◌, length}
+use Rattle.std.specs.Prelude.{◌≡◌, ℕ, true, List, [], ◌∷◌, length, map}
 use Rattle.proto_core.specs.declared.party.Number.{Number}
 use Rattle.proto_core.specs.declared.link.Link.{Link}
 use Rattle.proto_core.specs.Parties.{sender_of, receiver_of}
 use Rattle.proto_core.specs.Lists.{AreWords}
 use Rattle.proto_core.specs.Strand.{Shape, accepts, Mail, Strand}
-use Rattle.proto_core.specs.Script.{Move, Moves, Matched, UsesOwnLinks, sends_on}
+use Rattle.proto_core.specs.Script.{Move, Moves, EndsWith, Matched, UsesOwnLinks, sends_on}
 use Rattle.proto_core.specs.Net.{Finishes, opened_by}
 
 -- the shares of the operands (an operand that a gate hasn't is empty) and the words drawn
@@ -77,6 +77,10 @@ pub record Sound (p : Protocol) : Type 0 where
   pub moves :
       (n : ℕ) (i : Number) (u v words : List ℕ) →
       length u ≡ n → length v ≡ p.second n → length words ≡ p.draws n i → Moves (p.strand n i u v words) (p.script n i)
+  pub sizes :
+      (n : ℕ) (i : Number) (u v words : List ℕ) →
+      length u ≡ n → length v ≡ p.second n → length words ≡ p.draws n i →
+      EndsWith (λ blocks. map length blocks ≡ p.made n) (p.strand n i u v words)
   pub finishes :
       (n : ℕ) (j : Joint) → Fits p n j → Finishes (strands_of p n j) (p.messages n j) (p.output n j)
   pub messages :

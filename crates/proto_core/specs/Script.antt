@@ -22,6 +22,12 @@ Moves (Waits k shape f) (Takes l wanted ∷ moves) =
 Moves (Waits k shape f) (Sends l wanted ∷ moves) = ⊥
 Moves (Waits k shape f) [] = ⊥
 
+-- whatever the words are, this holds of what it ends with
+abbrev pub EndsWith : {A : Type 0} → (A → Type 0) → Strand A → Type 0
+EndsWith P (Ends a) = P a
+EndsWith P (Acts a s) = EndsWith P s
+EndsWith P (Waits l shape k) = (m : List ℕ) → accepts shape m ≡ true → EndsWith P (k m)
+
 -- the shapes that are sent on a link, and those that are taken from it
 abbrev pub sends_on : Link → List Move → List Shape
 sends_on l [] = []

@@ -2,3 +2,4 @@ pub mod Gates
 pub mod Runs
 pub mod Views
 pub mod Schedules
+pub mod Network

@@ -1,10 +1,11 @@
-ghost use Rattle.std.specs.Prelude.{ℕ, List};
+ghost use Rattle.std.specs.Prelude.{◌≡◌, ℕ, List};
 ghost use Rattle.proto_core.specs.declared.link.Link.{Link};
 ghost use Rattle.proto_core.specs.declared.party.Number.{Number};
-ghost use Rattle.proto_core.specs.Net.{MailBegins, Finishes, posted};
+ghost use Rattle.proto_core.specs.Net.{MailBegins, Finishes, nothing, posted};
 ghost use Rattle.proto_core.specs.Strand.{Begins, Mail, Strand, run};
-ghost use Rattle.protocol_model.specs.Gates.{Gate, AreSound, ArePrivate};
-ghost use Rattle.protocol_model.specs.Runs.{Shares, Tapes, Ready, RunTogether};
+ghost use Rattle.protocol_model.specs.Gates.{Gate, AreSound, ArePrivate, gates_script};
+ghost use Rattle.protocol_model.specs.Network.{Accepted, Default, Delivery, Shuffled, net, order_of, walked};
+ghost use Rattle.protocol_model.specs.Runs.{Shares, Tapes, Ready, RunTogether, nodes_of};
 ghost use Rattle.protocol_model.specs.Schedules.{AnyOrder, ThreeNodes};
 ghost use Rattle.protocol_model.specs.Views.{MadeBy, OneToOne};
 
@@ -45,4 +46,21 @@ pub fn tapes_correspond()
 pub fn views_are_made()
     ensures { (i : Number) (gates : List Gate) (values : Shares) (tapes : Tapes) →
         AreSound gates → ArePrivate gates → Ready gates values tapes → MadeBy i gates values tapes }
+{}
+
+/// Law: whether a schedule is accepted, which of its entries is refused and which miner it leaves waiting is said by the
+/// scripts of the gates, which hold lengths and no words.
+pub fn schedules_are_counted()
+    ensures { (gates : List Gate) (values : Shares) (tapes : Tapes) (delivery : Delivery) →
+        AreSound gates → Ready gates values tapes →
+        walked (nodes_of gates values tapes) 0 nothing (order_of (λ i. gates_script i gates) delivery)
+        ≡ net (λ i. gates_script i gates) delivery }
+{}
+
+/// Law: the default delivery and every shuffled one are accepted.
+pub fn made_orders_are_accepted()
+    ensures default { (gates : List Gate) (values : Shares) (tapes : Tapes) →
+        AreSound gates → Ready gates values tapes → net (λ i. gates_script i gates) Default ≡ Accepted }
+    ensures shuffled { (gates : List Gate) (values : Shares) (tapes : Tapes) (words : ℕ → ℕ) →
+        AreSound gates → Ready gates values tapes → net (λ i. gates_script i gates) (Shuffled words) ≡ Accepted }
 {}

@@ -1,0 +1,140 @@
+-- The net by counts alone: which entry of a schedule is refused, and which miner is left waiting. No word is read.
+use Rattle.std.specs.Prelude.{ℕ, zero, suc, pred, ◌+◌, ◌%◌, Bool, nat_lt, if◌then◌else◌, List, [], ◌∷◌, length, Option, Some, None}
+use Rattle.proto_core.specs.declared.party.Number.{Number}
+use Rattle.proto_core.specs.declared.party.Number.TheVariants.{One, Two, Three}
+use Rattle.proto_core.specs.declared.link.Link.{Link}
+use Rattle.proto_core.specs.declared.link.Link.TheVariants.{Link12, Link13, Link21, Link23, Link31, Link32}
+use Rattle.proto_core.specs.Parties.{sender_of, receiver_of, is_same}
+use Rattle.proto_core.specs.Strand.{same_link, Mail, Strand, Ends, Acts, Waits}
+use Rattle.proto_core.specs.Script.{Move, Sends, Takes, sends_on}
+use Rattle.proto_core.specs.Net.{run_of, posted, delivered}
+
+pub data Answer : Type 0 where
+  Accepted : Answer
+  -- the entry of a link of which all messages that were sent were delivered before
+  EmptyLink : (entry : ℕ) (link : Link) (sent : ℕ) → Answer
+  -- behind the last entry a miner still waits; the lowest one is named
+  Stalled : (miner : Number) (link : Link) → Answer
+
+abbrev pub or_stalled : Number → Option Link → Answer → Answer
+or_stalled i None answer = answer
+or_stalled i (Some l) answer = Stalled i l
+
+abbrev pub at_the_end : (Number → Option Link) → Answer
+at_the_end waiting = or_stalled One (waiting One) (or_stalled Two (waiting Two) (or_stalled Three (waiting Three) Accepted))
+
+-- ---- with the messages
+
+abbrev pub waits_for : {A : Type 0} → Strand A → Option Link
+waits_for (Ends a) = None
+waits_for (Acts a s) = None
+waits_for (Waits l shape k) = Some l
+
+-- entry by entry, from a state in which this mail was delivered
+abbrev pub walked : {A : Type 0} → (Number → Strand A) → ℕ → Mail → List Link → Answer
+walked nodes entry mail [] = at_the_end (λ i. waits_for (run_of nodes mail i).left)
+walked nodes entry mail (l ∷ ls) =
+    if nat_lt (length (mail l)) (length (posted nodes mail l))
+    then walked nodes (entry + 1) (delivered nodes mail l) ls
+    else EmptyLink entry l (length (posted nodes mail l))
+
+-- ---- with their numbers
+
+-- how many messages of each link were delivered
+abbrev pub Counts : Type 0
+Counts = Link → ℕ
+
+abbrev pub one_less : Link → Counts → Counts
+one_less l got k = if same_link l k then pred (got k) else got k
+
+abbrev pub one_more : Link → Counts → Counts
+one_more l got k = if same_link l k then got k + 1 else got k
+
+abbrev pub into_counts : Number → Counts → Counts
+into_counts i got l = if is_same (receiver_of l) i then got l else 0
+
+-- how many a miner has sent on a link, and which link it waits for
+abbrev pub sent_by : List Move → Counts → Link → ℕ
+sent_by [] got l = 0
+sent_by (Sends k shape ∷ moves) got l = (if same_link l k then 1 else 0) + sent_by moves got l
+sent_by (Takes k shape ∷ moves) got l = elim (got k) as (λ _. ℕ) [ zero ↦ 0 | suc _ ↦ sent_by moves (one_less k got) l ]
+
+abbrev pub stands_at : List Move → Counts → Option Link
+stands_at [] got = None
+stands_at (Sends k shape ∷ moves) got = stands_at moves got
+stands_at (Takes k shape ∷ moves) got =
+    elim (got k) as (λ _. Option Link) [ zero ↦ Some k | suc _ ↦ stands_at moves (one_less k got) ]
+
+abbrev pub posted_count : (Number → List Move) → Counts → Link → ℕ
+posted_count scripts got l = sent_by (scripts (sender_of l)) (into_counts (sender_of l) got) l
+
+abbrev pub counted : (Number → List Move) → ℕ → Counts → List Link → Answer
+counted scripts entry got [] = at_the_end (λ i. stands_at (scripts i) (into_counts i got))
+counted scripts entry got (l ∷ ls) =
+    if nat_lt (got l) (posted_count scripts got l)
+    then counted scripts (entry + 1) (one_more l got) ls
+    else EmptyLink entry l (posted_count scripts got l)
+
+-- ---- orders that are made, not given
+
+abbrev pub all_links : List Link
+all_links = Link12 ∷ Link13 ∷ Link21 ∷ Link23 ∷ Link31 ∷ Link32 ∷ []
+
+-- those of which a test holds, in order
+abbrev pub those : (Link → Bool) → List Link → List Link
+those p [] = []
+those p (l ∷ ls) = if p l then l ∷ those p ls else those p ls
+
+-- whether a link has a message under way
+abbrev pub is_full : (Number → List Move) → Counts → Link → Bool
+is_full scripts got l = nat_lt (got l) (posted_count scripts got l)
+
+abbrev pub link_at : List Link → ℕ → Option Link
+link_at [] k = None
+link_at (l ∷ ls) zero = Some l
+link_at (l ∷ ls) (suc k) = link_at ls k
+
+-- a word chooses one of them; the word 0 always the first
+abbrev pub chosen : ℕ → List Link → Option Link
+chosen word links = link_at links (word % length links)
+
+abbrev pub entry_then : Option Link → (Link → List Link) → List Link
+entry_then None more = []
+entry_then (Some l) more = l ∷ more l
+
+-- an entry for each word, as long as a message is under way and `fuel` lasts
+abbrev pub made_order : (Number → List Move) → (words : ℕ → ℕ) → (fuel entry : ℕ) → Counts → List Link
+made_order scripts words zero entry got = []
+made_order scripts words (suc fuel) entry got =
+    entry_then (chosen (words entry) (those (is_full scripts got) all_links))
+    (λ l. made_order scripts words fuel (entry + 1) (one_more l got))
+
+-- how many were delivered in all
+abbrev pub total : Counts → ℕ
+total got = got Link12 + (got Link13 + (got Link21 + (got Link23 + (got Link31 + got Link32))))
+
+abbrev pub none_delivered : Counts
+none_delivered l = 0
+
+-- how many messages the scripts send in all
+abbrev pub sends_in_all : (Number → List Move) → ℕ
+sends_in_all scripts = total (λ l. length (sends_on l (scripts (sender_of l))))
+
+-- ---- the deliveries of a schedule
+
+pub data Delivery : Type 0 where
+  -- always the first link, in the order of `all_links`, with a message under way
+  Default : Delivery
+  -- these links
+  Listed : List Link → Delivery
+  -- chosen by a word for each delivery
+  Shuffled : (ℕ → ℕ) → Delivery
+
+abbrev pub order_of : (Number → List Move) → Delivery → List Link
+order_of scripts Default = made_order scripts (λ k. 0) (sends_in_all scripts) 0 none_delivered
+order_of scripts (Listed links) = links
+order_of scripts (Shuffled words) = made_order scripts words (sends_in_all scripts) 0 none_delivered
+
+-- what a delivery comes to, by the scripts alone
+abbrev pub net : (Number → List Move) → Delivery → Answer
+net scripts delivery = counted scripts 0 none_delivered (order_of scripts delivery)
