@@ -1,0 +1,14 @@
+use Rattle.std.proofs.Common.{◌≡◌, ◌≤◌, ◌+◌, length}
+use Rattle.proto_core.specs.Lists.{at, each}
+use Rattle.multiply.proofs.arithmetic.masked_products.Given as goal
+
+abbrev pub invariant-loop-at : goal.invariant-loop-at
+invariant-loop-at g l =
+    let r = g.R.ShareRing.ring in
+    (l.at ≤ l.n)
+    × (l.share
+    ≡ each l.at
+    (λ k.
+    r.add
+    (r.add (r.add (r.mul (at l.u k) (at l.v k)) (r.mul (at l.u k) (at l.previous (l.n + k)))) (r.mul (at l.previous k) (at l.v k)))
+    (at l.mask k)))

@@ -1,0 +1,10 @@
+use Rattle.std.proofs.Common.{◌≡◌, ◌*◌, ◌∙◌, length, refl, arith}
+use Rattle.multiply.specs.ProductLaws.{minus-field}
+use Rattle.multiply.proofs.arithmetic.take_field.Goals as goal
+
+pub returns-clause-difference : goal.returns-clause-difference
+returns-clause-difference g c =
+    let n = length c.args.x.now in
+    let done : c.loop-at.at ≡ n = omega (arith, c.len-at-end.ensures.len) in
+    c.loop-at.invariant.1
+    ∙ simp (done, c.len.ensures.len) (minus-field g.R.ShareRing.ring n c.args.number (c.args.number * n) c.args.x.now c.args.words.now refl)

@@ -1,0 +1,112 @@
+-- Products of shares in any ring.
+use Rattle.std.proofs.Common.{◌≡◌, ℕ, ◌+◌, ◌*◌, ◌<◌, List, ◌++◌, length, refl, sym, ◌∙◌, ap, arith}
+use Rattle.share_ring.specs.Ring.{Ring, RingLaws}
+use Rattle.share_ring.proofs.Sums.{products_of_three}
+use Rattle.proto_core.specs.Lists.{at, each, part}
+use Rattle.proto_core.specs.Resharing.{reshared, sum_of_three}
+use Rattle.proto_core.proofs.Each.{length-each, at-each, each-ext, each_none, each_more}
+use Rattle.proto_core.proofs.Parts.{at-part, part-is, two_first, two_second}
+use Rattle.proto_core.proofs.ResharingLaws.{at-reshared, length-reshared, sum-reshared}
+use Rattle.multiply.specs.Products.{plus, minus, times, cross}
+use Rattle.multiply.specs.MulStrand.{Held, product}
+
+module _ (r : Ring) where
+  pub length-plus : (n : ℕ) (x y : List ℕ) → length (plus r n x y) ≡ n
+  unfolding plus
+  length-plus n x y = length-each n (λ k. r.add (at x k) (at y k))
+
+  pub length-minus : (n : ℕ) (x y : List ℕ) → length (minus r n x y) ≡ n
+  unfolding minus
+  length-minus n x y = length-each n (λ k. r.sub (at x k) (at y k))
+
+  pub length-cross : (n : ℕ) (u v up vp : List ℕ) → length (cross r n u v up vp) ≡ n
+  unfolding cross
+  length-cross n u v up vp = length-each n _
+
+  at-plus : (n : ℕ) (x y : List ℕ) (k : ℕ) → k < n → at (plus r n x y) k ≡ r.add (at x k) (at y k)
+  unfolding plus
+  at-plus n x y k h = at-each n (λ i. r.add (at x i) (at y i)) k h
+
+  at-minus : (n : ℕ) (x y : List ℕ) (k : ℕ) → k < n → at (minus r n x y) k ≡ r.sub (at x k) (at y k)
+  unfolding minus
+  at-minus n x y k h = at-each n (λ i. r.sub (at x i) (at y i)) k h
+
+  -- the own mask is added first, and then the previous miner's is taken away
+  pub minus-plus : (n : ℕ) (u a got : List ℕ) → minus r n (plus r n u a) got ≡ reshared r n u a got
+  unfolding minus reshared
+  minus-plus n u a got = each-ext n _ _ (λ k h. ap (λ w. r.sub w (at got k)) (at-plus n u a k h))
+
+  -- words of a field, read where they stand
+  pub plus-field : (n j from : ℕ) (x words : List ℕ) → from ≡ j * n → each n (λ k. r.add (at x k) (at words (from + k))) ≡ plus r n x (part n j words)
+  unfolding plus
+  plus-field n j from x words e =
+      ap (λ f. each n (λ k. r.add (at x k) (at words (f + k)))) e
+      ∙ each-ext n _ _ (λ k h. ap (r.add (at x k)) (sym (at-part n j words k h)))
+
+  pub minus-field : (n j from : ℕ) (x words : List ℕ) → from ≡ j * n → each n (λ k. r.sub (at x k) (at words (from + k))) ≡ minus r n x (part n j words)
+  unfolding minus
+  minus-field n j from x words e =
+      ap (λ f. each n (λ k. r.sub (at x k) (at words (f + k)))) e
+      ∙ each-ext n _ _ (λ k h. ap (r.sub (at x k)) (sym (at-part n j words k h)))
+
+module _ {r : Ring} (laws : RingLaws r) where
+  -- c - c_p added at once
+  plus-minus : (n : ℕ) (w c cp : List ℕ) → plus r n w (minus r n c cp) ≡ reshared r n w c cp
+  unfolding plus reshared
+  plus-minus n w c cp =
+      each-ext n _ _
+      (λ k h.
+      ap (r.add (at w k)) (at-minus r n c cp k h ∙ laws.sub_is (at c k) (at cp k))
+      ∙ sym (laws.add_assoc (at w k) (at c k) (r.neg (at cp k))) ∙ sym (laws.sub_is (r.add (at w k) (at c k)) (at cp k)))
+
+  -- a miner's products, by the factors as they were masked
+  pub product-is :
+      (n : ℕ) (u v a b ga gb c gc got : List ℕ) →
+      let x = reshared r n u a ga in
+      let y = reshared r n v b gb in
+      product r n (record { u = minus r n (plus r n u a) ga; v = minus r n (plus r n v b) gb; mask = minus r n c gc }) got
+      ≡ reshared r n (cross r n (part n 0 (x ++ y)) (part n 1 (x ++ y)) (part n 0 got) (part n 1 got)) c gc
+  product-is n u v a b ga gb c gc got =
+      let x = reshared r n u a ga in
+      let y = reshared r n v b gb in
+      let first : minus r n (plus r n u a) ga ≡ part n 0 (x ++ y) = minus-plus r n u a ga ∙ sym (two_first n x y (length-reshared r n u a ga)) in
+      let second : minus r n (plus r n v b) gb ≡ part n 1 (x ++ y) = minus-plus r n v b gb ∙ sym (two_second n x y (length-reshared r n u a ga) (length-reshared r n v b gb)) in
+      plus-minus n _ c gc
+      ∙ ap (λ w. reshared r n (cross r n w (minus r n (plus r n v b) gb) (part n 0 got) (part n 1 got)) c gc) first
+      ∙ ap (λ w. reshared r n (cross r n (part n 0 (x ++ y)) w (part n 0 got) (part n 1 got)) c gc) second
+
+  -- the nine products, three at each miner, add up to the product
+  pub products-sum :
+      (n : ℕ) (x1 x2 x3 y1 y2 y3 c1 c2 c3 : List ℕ) →
+      sum_of_three r n (reshared r n (cross r n x1 y1 x3 y3) c1 c3) (reshared r n (cross r n x2 y2 x1 y1) c2 c1)
+      (reshared r n (cross r n x3 y3 x2 y2) c3 c2)
+      ≡ times r n (sum_of_three r n x1 x2 x3) (sum_of_three r n y1 y2 y3)
+  unfolding sum_of_three times reshared cross
+  products-sum n x1 x2 x3 y1 y2 y3 c1 c2 c3 =
+      each-ext n _ _
+      (λ k h.
+      simp (at-each, h)
+      (products_of_three laws (at x1 k) (at x2 k) (at x3 k) (at y1 k) (at y2 k) (at y3 k) (at c1 k) (at c2 k) (at c3 k)))
+
+-- the words of two fields, read where they stand
+pub cross-fields :
+    (r : Ring) (n : ℕ) (u v mask got : List ℕ) →
+    each n
+    (λ k.
+    r.add
+    (r.add (r.add (r.mul (at u k) (at v k)) (r.mul (at u k) (at got (n + k)))) (r.mul (at got k) (at v k)))
+    (at mask k))
+    ≡ plus r n (cross r n u v (part n 0 got) (part n 1 got)) mask
+unfolding plus cross
+cross-fields r n u v mask got =
+    each-ext n _ _
+    (λ k h.
+    let first : at (part n 0 got) k ≡ at got k = at-part n 0 got k h ∙ ap (at got) (omega arith) in
+    let second : at (part n 1 got) k ≡ at got (n + k) = at-part n 1 got k h ∙ ap (at got) (omega arith) in
+    simp (at-each, h, first, second))
+
+pub ruleset plus_steps = (length-each, each_none, each_more, plus-field, length-plus)
+
+pub ruleset minus_steps = (length-each, each_none, each_more, minus-field, length-minus)
+
+pub ruleset cross_steps = (length-each, each_none, each_more, cross-fields, length-plus)

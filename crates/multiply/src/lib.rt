@@ -1,0 +1,13 @@
+//! The protocol that multiplies shared values in any ring, as steps that each take the next message.
+#![tactic(auto)]
+
+mod arithmetic;
+mod gate;
+mod multiply;
+#[cfg(test)]
+mod tests;
+mod together;
+
+pub use gate::{MulGate, mul_is_lawful};
+pub use multiply::{Crossed, Masked, Mul};
+pub use together::{Operands, Part, multiply_together};
