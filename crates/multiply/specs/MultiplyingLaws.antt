@@ -1,5 +1,5 @@
 -- The protocol multiplies, and each view can be made without the others' shares.
-use Rattle.std.proofs.Common.{◌≡◌, ℕ, suc, ◌+◌, ◌*◌, true, false, cond, if◌then◌else◌, List, [], ◌∷◌, ◌++◌, length, refl, sym, ◌∙◌, ap, subst, arith, length-append, append_assoc}
+use Rattle.std.proofs.Common.{◌≡◌, ℕ, suc, ◌+◌, ◌*◌, true, false, cond, if◌then◌else◌, List, [], ◌∷◌, ◌++◌, length, refl, sym, ◌∙◌, ap, subst, arith, map, length-append, append_assoc}
 use Rattle.share_ring.specs.Ring.{Ring, RingLaws}
 use Rattle.proto_core.specs.declared.link.Link.{Link}
 use Rattle.proto_core.specs.declared.link.Link.TheVariants.{Link12, Link13, Link21, Link23, Link31, Link32}
@@ -9,7 +9,7 @@ use Rattle.proto_core.specs.Parties.{next_of, previous_of, to_next, from_previou
 use Rattle.proto_core.specs.Lists.{part, AreWords}
 use Rattle.proto_core.specs.Strand.{Words, Shape, shaped, accepts, Act, Sent, Mail, Strand, Ends, Ran, acted, run, on_link, opened_in, Begins}
 use Rattle.proto_core.specs.Net.{into, mail_of, posted, run_of, nothing, Finishes}
-use Rattle.proto_core.specs.Script.{Moves, Matched, UsesOwnLinks, sends_on}
+use Rattle.proto_core.specs.Script.{EndsWith, Moves, Matched, UsesOwnLinks, sends_on}
 use Rattle.proto_core.specs.Protocol.{Joint, Fits, Lawful, with_words, strands_of, IsMessage, AreMessages, AreBlocks}
 use Rattle.proto_core.specs.Resharing.{reshared}
 use Rattle.proto_core.proofs.Parts.{length-part, AreWords-part, AreWords-append, three_first, three_second, three_third, two_first, two_second, parts_of_three}
@@ -17,7 +17,7 @@ use Rattle.proto_core.proofs.ResharingLaws.{length-reshared, AreWords-reshared, 
 use Rattle.proto_core.proofs.MessageFields.{accepts-words, accepts-one_words}
 use Rattle.proto_core.proofs.Beginnings.{begins-self}
 use Rattle.proto_core.proofs.Nodes.{into-is, mail-none, run-previous, run-waits_previous}
-use Rattle.multiply.specs.ProductLaws.{products-sum, minus-plus, product-is, length-minus}
+use Rattle.multiply.specs.ProductLaws.{products-sum, minus-plus, product-is, length-minus, length-plus}
 use Rattle.multiply.specs.MulStrand.{Held, masked, crossed, product, masks_shape, factors_shape, mul_strand, mul_masked, mul_passes, mul_crossed, mul_ends}
 use Rattle.multiply.specs.Multiplying.{factors_of, cross_of, product_of, mul_messages, mul_script, mul_tape, mul_received, mul_protocol, Multiplies}
 
@@ -54,6 +54,12 @@ module _ (r : Ring) where
           (refl, factors_fit n _ _ (length-minus r n _ _) (length-minus r n _ _), (refl, refl, λ theirs e2. tt)),
     ),
   )
+
+  sizes :
+      (n : ℕ) (i : Number) (u v words : List ℕ) → length u ≡ n → length v ≡ n → length words ≡ 3 * n →
+      EndsWith (λ blocks. map length blocks ≡ n ∷ []) (mul_strand r n i u v words)
+  sizes n i u v words hu hv hw =
+      λ got e theirs e2. ap (λ k. k ∷ []) (length-plus r n _ _)
 
   -- ---- one miner's run, with the previous miner's words w and factors x
 
@@ -261,6 +267,7 @@ module _ {r : Ring} (laws : RingLaws r) where
           matched = mul_matched;
           own_links = mul_own_links;
           moves = moves r;
+          sizes = sizes r;
           finishes = finishes;
           messages = messages;
           blocks = blocks;
