@@ -117,4 +117,12 @@ pub part-is : (n j from : ℕ) (xs : List ℕ) → from ≡ j * n → each n (λ
 unfolding part
 part-is n j from xs e = ap (λ f. each n (λ k. at xs (f + k))) e
 
-pub ruleset field_steps = (length-each, each_none, each_more, part-is)
+part-shifted : (n j from : ℕ) (xs : List ℕ) → from ≡ j * n → part n 0 (drop from xs) ≡ part n j xs
+unfolding part
+part-shifted n j from xs e = each-ext n _ _ (λ k below. get_or-drop from xs (0 * n + k) 0 ∙ ap (at xs) (grind arith))
+
+-- a field is a slice
+pub part_slice : (n j from : ℕ) (xs : List ℕ) → from ≡ j * n → from + n ≤ length xs → take n (drop from xs) ≡ part n j xs
+part_slice n j from xs e h =
+    let l = length-drop from xs in
+    sym (part-take n (drop from xs) (omega arith)) ∙ part-shifted n j from xs e

@@ -1,4 +1,4 @@
-ghost use Rattle.std.specs.Prelude.{◌≡◌, ◌<◌, ◌≤◌, ◌↔◌, ℕ, List, [], ◌∷◌, ◌++◌, length, take, slice_index, slice_get, IsTrue, MatchResult};
+ghost use Rattle.std.specs.Prelude.{◌≡◌, ◌+◌, ◌<◌, ◌≤◌, ◌↔◌, ℕ, List, [], ◌∷◌, ◌++◌, length, take, slice_index, slice_get, IsTrue, MatchResult};
 
 use crate::share::Share;
 use std::marker::{Model, PhantomData};
@@ -44,9 +44,7 @@ impl<R, P> Block<R, P> {
         ensures { result ≡ words.now }
     {
         let mut block = Block::new();
-        for word in words {
-            block.append(*word);
-        }
+        block.append_words(words);
         block
     }
 
@@ -85,6 +83,16 @@ impl<R, P> Block<R, P> {
     {
         self.words[self.len] = word;
         self.len += 1;
+    }
+
+    /// These words after what is there.
+    pub fn append_words(&mut self, words: &[u64])
+        requires { length self.old + length words.now ≤ 512 }
+        ensures { self.new ≡ self.old ++ words.now }
+    {
+        let end = self.len + words.len();
+        self.words[self.len..end].copy_from_slice(words);
+        self.len = end;
     }
 
     /// A block of the same words.

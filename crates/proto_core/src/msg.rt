@@ -81,9 +81,9 @@ impl Msg {
         requires { length self.old + length words.now ≤ 2048 }
         ensures { self.new ≡ self.old ++ words.now }
     {
-        for word in words {
-            self.push(*word);
-        }
+        let end = self.len + words.len();
+        self.words[self.len..end].copy_from_slice(words);
+        self.len = end;
     }
 
     /// The words of a block after what is there.
@@ -95,7 +95,6 @@ impl Msg {
     }
 
     /// Field `number`, from 0, where each field of the message has `n` words.
-    #[tactic(auto, using(crate::proofs::Parts::field_steps))]
     pub fn field<R, P>(&self, number: usize, n: usize) -> Block<R, P>
         requires few { n ≤ 512 }
         requires within { number * n + n ≤ length self.now }
@@ -103,11 +102,7 @@ impl Msg {
     {
         let words = self.words();
         let from = number * n;
-        let mut block = Block::new();
-        for at in 0..n {
-            block.append(words[from + at]);
-        }
-        block
+        Block::from_words(&words[from..from + n])
     }
 
     /// A message of the same words.
