@@ -13,7 +13,7 @@ use Rattle.reshare.specs.ResharingRuns.{reshare-run}
 use Rattle.reshare.specs.ResharingLaws.{reshares}
 use Rattle.reshare.specs.Joints.{of_three}
 use Rattle.reshare.specs.Parts.{IsPart}
-use Rattle.reshare.specs.Steps.{left_sent, Reshared}
+use Rattle.reshare.specs.Steps.{left_sent, after_sent, Reshared}
 
 module _ (r : Ring) (i : Number) where
   -- after the start the mask is sent, and the rest is the state's
@@ -24,14 +24,10 @@ module _ (r : Ring) (i : Number) where
       ap (λ m. Acts (Sent (to_next i) m) (left_sent r i (u, words))) (sym sent)
       ∙ ap (λ s. Acts (Sent (to_next i) mask) (left_sent r i s)) (sym same)
 
-  -- what a state does with a message
-  abbrev pub after_sent : List ℕ × List ℕ → List ℕ → Strand (List (List ℕ))
-  after_sent state m = Ends (reshared r (length state.0) state.0 state.1 m ∷ [])
-
-  pub waits_is : (state : List ℕ × List ℕ) → left_sent r i state ≡ Waits (from_previous i) (one_field (length state.0)) (after_sent state)
+  pub waits_is : (state : List ℕ × List ℕ) → left_sent r i state ≡ Waits (from_previous i) (one_field (length state.0)) (after_sent r state)
   waits_is state = refl
 
-  pub got_is : (before : List ℕ × List ℕ) (message share : List ℕ) → Reshared r before message share → after_sent before message ≡ Ends (share ∷ [])
+  pub got_is : (before : List ℕ × List ℕ) (message share : List ℕ) → Reshared r before message share → after_sent r before message ≡ Ends (share ∷ [])
   got_is before message share is = ap (λ s. Ends (s ∷ [])) (sym is.is)
 
 -- the new share, where the state and the message are known
