@@ -1,4 +1,7 @@
 //! The protocol that shares a value anew, as steps that each take the next message.
+//!
+//! It is the resharing of D. Bogdanov, M. Niitsoo, T. Toft and J. Willemson, "High-performance secure multi-party
+//! computation for data mining applications", International Journal of Information Security 11(6), 2012.
 #![tactic(auto)]
 
 mod gate;
