@@ -91,7 +91,7 @@ module _ (r : Ring) (n : ℕ) (j : Joint) (words : (i : Number) → length (j.wo
     same_sum = elim [ One ↦ swap_last laws n _ _ _ | Two ↦ swap_first laws n _ _ _ | Three ↦ swap_ends laws n _ _ _ ]
 
     -- each miner, with all messages: they open the same words
-    pub open-run : (i : Number) → run_of nodes (open_messages r n j) i ≡ done i (j.words i) (reshared_of r n j i) (opened_words r n j)
+    pub open-run : (i : Number) → run_of nodes (open_messages r n j) i ≡ finished i (j.words i) (reshared_of r n j i) (reshared_of r n j i) (opened_words r n j)
     open-run i = own_run i ∙ ap (done i (j.words i) (reshared_of r n j i)) (same_sum i)
 
     pub open-finishes : Finishes nodes (open_messages r n j) (λ i. opened_words r n j ∷ [])
