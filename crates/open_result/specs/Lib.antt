@@ -1,6 +1,6 @@
 pub mod Opening
+pub mod OpeningRuns
 pub mod OpeningLaws
 pub mod Steps
-pub mod Together
 pub mod Parts
 pub mod Vectors

@@ -1,75 +1,103 @@
--- The protocol that opens a value: each miner masks its share, passes its mask on, and sends what it has to both others.
-use Rattle.std.specs.Prelude.{◌≡◌, ℕ, suc, zero, Bool, true, false, if◌then◌else◌, List, [], ◌∷◌}
+-- The protocol that opens a value: the three miners share it anew, each sends its new share to both others, and each
+-- adds up all three.
+use Rattle.std.specs.Prelude.{◌≡◌, ℕ, if◌then◌else◌, List, [], ◌∷◌}
 use Rattle.share_ring.specs.Ring.{Ring}
 use Rattle.proto_core.specs.declared.party.Number.{Number}
 use Rattle.proto_core.specs.declared.party.Number.TheVariants.{One, Two, Three}
-use Rattle.proto_core.specs.Parties.{next_of, previous_of, to_next, to_previous, sender_of, is_forward, is_same}
+use Rattle.proto_core.specs.Parties.{next_of, previous_of, to_next, to_previous, from_previous, from_next, sender_of, is_forward, is_same}
 use Rattle.proto_core.specs.Lists.{at, each}
-use Rattle.proto_core.specs.Protocol.{Joint, Mail, Protocol, Step, Sends, Receives, Words}
+use Rattle.proto_core.specs.Strand.{Mail, Sent, Opened, Strand, Ends, Acts, Waits, Ran}
+use Rattle.proto_core.specs.Script.{Move, Sends, Takes}
+use Rattle.proto_core.specs.Net.{mail_of, nothing}
+use Rattle.proto_core.specs.Protocol.{Joint, Protocol}
 use Rattle.proto_core.specs.Resharing.{reshared, reshared_of, sum_of_three}
+use Rattle.reshare.specs.Resharing.{one_field}
 
-abbrev pub open_script : Number → List Step
-open_script i =
-    Sends (to_next i) 0 0 (Words ∷ []) ∷ Receives (to_next (previous_of i)) 0 1 (Words ∷ [])
-    ∷ Sends (to_next i) 1 1 (Words ∷ []) ∷ Sends (to_previous i) 0 1 (Words ∷ [])
-    ∷ Receives (to_next (previous_of i)) 1 2 (Words ∷ []) ∷ Receives (to_previous (next_of i)) 0 2 (Words ∷ []) ∷ []
+-- ---- one miner
 
--- to the next miner first the mask and then the masked share, to the previous one the masked share
-abbrev pub open_sent : Ring → ℕ → Number → List ℕ → List ℕ → Mail → Bool → ℕ → List ℕ
-open_sent r n i u words mail true zero = words
-open_sent r n i u words mail true (suc k) = reshared r n u words (mail (to_next (previous_of i)) 0)
-open_sent r n i u words mail false k = reshared r n u words (mail (to_next (previous_of i)) 0)
+-- it learns these words, and ends with them
+abbrev pub open_ends : List ℕ → Strand (List (List ℕ))
+open_ends opened = Acts (Opened opened) (Ends (opened ∷ []))
 
--- the sum of its masked share and the two received ones
-abbrev pub open_ends : Ring → ℕ → Number → List ℕ → List ℕ → Mail → List (List ℕ)
-open_ends r n i u words mail =
-    sum_of_three r n (reshared r n u words (mail (to_next (previous_of i)) 0)) (mail (to_next (previous_of i)) 1)
-    (mail (to_previous (next_of i)) 0)
-    ∷ []
+-- it has its new share and the previous miner's; the next miner's comes
+abbrev pub open_from_next : Ring → ℕ → Number → (share other : List ℕ) → Strand (List (List ℕ))
+open_from_next r n i share other = Waits (from_next i) (one_field n) (λ m. open_ends (sum_of_three r n share other m))
 
--- the same of all three miners
-abbrev pub open_posted : Ring → ℕ → Joint → Number → Bool → ℕ → List ℕ
-open_posted r n j i true zero = j.words i
-open_posted r n j i true (suc k) = reshared_of r n j i
-open_posted r n j i false k = reshared_of r n j i
+-- it has its new share; the previous miner's comes
+abbrev pub open_from_previous : Ring → ℕ → Number → (share : List ℕ) → Strand (List (List ℕ))
+open_from_previous r n i share = Waits (from_previous i) (one_field n) (λ m. open_from_next r n i share m)
 
-abbrev pub open_message : Ring → ℕ → Joint → Mail
-open_message r n j l k = open_posted r n j (sender_of l) (is_forward l) k
+-- its new share goes to the next miner, then to the previous one
+abbrev pub open_sends : Ring → ℕ → Number → (share : List ℕ) → Strand (List (List ℕ))
+open_sends r n i share = Acts (Sent (to_next i) share) (Acts (Sent (to_previous i) share) (open_from_previous r n i share))
+
+-- it has its share and its mask; the previous miner's mask comes
+abbrev pub open_masked : Ring → ℕ → Number → (share mask : List ℕ) → Strand (List (List ℕ))
+open_masked r n i share mask = Waits (from_previous i) (one_field n) (λ m. open_sends r n i (reshared r n share mask m))
+
+-- its mask goes to the next miner
+abbrev pub open_strand : Ring → ℕ → Number → (u words : List ℕ) → Strand (List (List ℕ))
+open_strand r n i u words = Acts (Sent (to_next i) words) (open_masked r n i u words)
+
+-- all that it does: its mask and its new share to the next miner, its new share to the previous one, and the opened
+-- words, with which it ends; no message is left
+abbrev pub finished : Number → (mask forward backward opened : List ℕ) → Ran (List (List ℕ))
+finished i mask forward backward opened =
+    record {
+      acts = Sent (to_next i) mask ∷ Sent (to_next i) forward ∷ Sent (to_previous i) backward ∷ Opened opened ∷ [];
+      left = Ends (opened ∷ []);
+      unread = nothing;
+    }
+
+abbrev pub open_script : ℕ → Number → List Move
+open_script n i =
+    Sends (to_next i) (one_field n) ∷ Takes (from_previous i) (one_field n) ∷ Sends (to_next i) (one_field n)
+    ∷ Sends (to_previous i) (one_field n) ∷ Takes (from_previous i) (one_field n) ∷ Takes (from_next i) (one_field n) ∷ []
+
+-- ---- all three
+
+-- to the next miner first the mask and then the new share, to the previous one the new share
+abbrev pub open_messages : Ring → ℕ → Joint → Mail
+open_messages r n j l =
+    if is_forward l
+    then j.words (sender_of l) ∷ reshared_of r n j (sender_of l) ∷ []
+    else reshared_of r n j (sender_of l) ∷ []
 
 abbrev pub opened_words : Ring → ℕ → Joint → List ℕ
 opened_words r n j = sum_of_three r n (reshared_of r n j One) (reshared_of r n j Two) (reshared_of r n j Three)
 
--- the next miner's mask becomes the masked share of the previous one; the same map leads back
+-- the next miner's mask becomes the previous one's new share; the same map leads back
 abbrev pub open_tape : Ring → ℕ → Number → Joint → Number → List ℕ
 open_tape r n i j m =
     if is_same m (next_of i)
     then reshared r n (j.u (previous_of i)) (j.words (previous_of i)) (j.words m)
     else j.words m
 
--- from the previous miner its mask, then the slot of the next miner's mask;
--- from the next miner what the opened words leave
-abbrev pub open_received : Ring → ℕ → Number → List ℕ → (Number → List ℕ) → List ℕ → Bool → ℕ → List ℕ
-open_received r n i u words opened true zero = words (previous_of i)
-open_received r n i u words opened true (suc k) = words (next_of i)
-open_received r n i u words opened false k =
-    each n
-    (λ k.
-    r.sub (r.sub (at opened k) (at (reshared r n u (words i) (words (previous_of i))) k)) (at (words (next_of i)) k))
+-- what is left of the opened words without a miner's own new share and the previous one's
+abbrev pub left_of_opened : Ring → ℕ → (opened share other : List ℕ) → List ℕ
+left_of_opened r n opened share other = each n (λ k. r.sub (r.sub (at opened k) (at share k)) (at other k))
+
+-- from the previous miner its mask, then the slot of the next one's mask; from the next one what the opened words leave
+abbrev pub open_received : Ring → ℕ → Number → (u : List ℕ) → (words : Number → List ℕ) → (opened : List ℕ) → Mail
+open_received r n i u words opened =
+    mail_of i (words (previous_of i) ∷ words (next_of i) ∷ [])
+    (left_of_opened r n opened (reshared r n u (words i) (words (previous_of i))) (words (next_of i)) ∷ [])
 
 abbrev pub open_protocol : Ring → Protocol
 open_protocol r =
     record {
       second = λ n. 0;
       draws = λ n i. n;
+      opens = λ n. n;
+      made = λ n. n ∷ [];
+      strand = λ n i u v words. open_strand r n i u words;
       script = open_script;
-      sent = λ n i u v words mail l k. open_sent r n i u words mail (is_forward l) k;
-      ends = λ n i u v words mail. open_ends r n i u words mail;
-      message = open_message r;
+      messages = open_messages r;
       output = λ n j i. opened_words r n j ∷ [];
+      opened = opened_words r;
       tape = open_tape r;
       back = open_tape r;
-      received = λ n i u v words opened l k. open_received r n i u words opened (is_forward l) k;
-      opened = opened_words r;
+      received = λ n i u v words opened. open_received r n i u words opened;
     }
 
 -- each miner has the value: the ring's sum of the three shares

@@ -1,27 +1,93 @@
 -- The protocol is right, and each view can be made from the opened words.
-use Rattle.std.proofs.Common.{◌≡◌, ℕ, true, false, cond, List, [], ◌∷◌, length, refl, sym, ap}
+use Rattle.std.proofs.Common.{◌≡◌, ℕ, true, false, cond, List, [], ◌∷◌, length, refl, sym, ◌∙◌, ap, subst}
 use Rattle.share_ring.specs.Ring.{Ring, RingLaws}
-use Rattle.proto_core.proofs.ResharingLaws.{length-sum_of_three, AreWords-sum_of_three, length-reshared, AreWords-reshared, reshared-twice, left_over, swap_last, swap_first, swap_ends, sum-reshared}
-use Rattle.proto_core.specs.declared.link.Link.TheVariants.{Link12, Link13, Link21, Link23, Link31, Link32}
 use Rattle.proto_core.specs.declared.party.Number.{Number}
 use Rattle.proto_core.specs.declared.party.Number.TheVariants.{One, Two, Three}
-use Rattle.proto_core.specs.Parties.{next_of, previous_of, is_same, is_forward}
+use Rattle.proto_core.specs.declared.link.Link.{Link}
+use Rattle.proto_core.specs.declared.link.Link.TheVariants.{Link12, Link13, Link21, Link23, Link31, Link32}
+use Rattle.proto_core.specs.Parties.{next_of, previous_of, is_same, sender_of, receiver_of}
 use Rattle.proto_core.specs.Lists.{AreWords}
-use Rattle.proto_core.specs.Protocol.{Joint, Fits, Lawful, Matched, with_words, AtEach, IsField, IsMessage, AreBlocks, Words, AtSends, SameAt, Mail, sends, receives}
-use Rattle.proto_core.proofs.MessageFields.{one_field, words_field}
-use Rattle.proto_core.specs.Resharing.{reshared, reshared_of}
-use Rattle.open_result.specs.Opening.{open_protocol, open_script, open_message, open_sent, open_ends, open_tape, open_received, opened_words, Opens}
+use Rattle.proto_core.specs.Script.{Matched, Moves, UsesOwnLinks, sends_on}
+use Rattle.proto_core.specs.Strand.{opened_in}
+use Rattle.proto_core.specs.Net.{opened_by}
+use Rattle.proto_core.specs.Protocol.{Joint, Fits, with_words, strands_of, AreMessages, IsMessage, AreBlocks, Sound, Private, Lawful}
+use Rattle.proto_core.specs.Resharing.{reshared, reshared_of, sum_of_three}
+use Rattle.proto_core.proofs.Beginnings.{append-none}
+use Rattle.proto_core.proofs.MessageFields.{accepts-one_words}
+use Rattle.proto_core.proofs.ResharingLaws.{length-sum_of_three, AreWords-sum_of_three, length-reshared, AreWords-reshared, reshared-twice, left_over, swap_last, swap_first, swap_ends, sum-reshared}
+use Rattle.reshare.specs.Resharing.{one_field}
+use Rattle.open_result.specs.Opening.{open_protocol, open_script, open_strand, open_messages, open_tape, open_received, left_of_opened, opened_words, Opens}
+use Rattle.open_result.specs.OpeningRuns.{open-run, open-finishes}
 
-pub open_matched : Matched open_script
-open_matched =
-    record {
-      links = elim [ Link12 ↦ refl | Link13 ↦ refl | Link21 ↦ refl | Link23 ↦ refl | Link31 ↦ refl | Link32 ↦ refl ];
-      rounds = elim [ One ↦ refl | Two ↦ refl | Three ↦ refl ];
-    }
+matched : (n : ℕ) → Matched (open_script n)
+matched n = elim [ Link12 ↦ refl | Link13 ↦ refl | Link21 ↦ refl | Link23 ↦ refl | Link31 ↦ refl | Link32 ↦ refl ]
+
+own_links : (n : ℕ) (i : Number) → UsesOwnLinks i (open_script n i)
+own_links n =
+    elim [
+      | One ↦ (refl, (refl, (refl, (refl, (refl, (refl, tt))))))
+      | Two ↦ (refl, (refl, (refl, (refl, (refl, (refl, tt))))))
+      | Three ↦ (refl, (refl, (refl, (refl, (refl, (refl, tt))))))
+    ]
+
+moves :
+    (r : Ring) (n : ℕ) (i : Number) (u words : List ℕ) → length words ≡ n → Moves (open_strand r n i u words) (open_script n i)
+moves r n i u words len = (
+  refl,
+  accepts-one_words n words len,
+  (
+    refl,
+    refl,
+    λ m h.
+        let fits = accepts-one_words n (reshared r n u words m) (length-reshared r n u words m) in
+        (refl, fits, (refl, fits, (refl, refl, λ m2 h2. (refl, refl, λ m3 h3. tt)))),
+  ),
+)
 
 module _ {r : Ring} (laws : RingLaws r) where
-  pub opens : (n : ℕ) (j : Joint) → Opens r n j
-  opens n j = sum-reshared laws n (j.u One) (j.u Two) (j.u Three) (j.words One) (j.words Two) (j.words Three)
+  messages :
+      (n : ℕ) (j : Joint) → Fits (open_protocol r) n j → (l : Link) →
+      AreMessages (sends_on l (open_script n (sender_of l))) (open_messages r n j l)
+  messages n j fits =
+      elim [
+        | Link12 ↦ (mask One, (share One, tt))
+        | Link13 ↦ (share One, tt)
+        | Link21 ↦ (share Two, tt)
+        | Link23 ↦ (mask Two, (share Two, tt))
+        | Link31 ↦ (mask Three, (share Three, tt))
+        | Link32 ↦ (share Three, tt)
+      ]
+    where
+      mask : (i : Number) → IsMessage (one_field n) (j.words i)
+      mask i = record { shape = accepts-one_words n (j.words i) (fits.words i); words = fits.are_words i }
+
+      share : (i : Number) → IsMessage (one_field n) (reshared_of r n j i)
+      share i =
+          record {
+            shape = accepts-one_words n (reshared_of r n j i) (length-reshared r n _ _ _);
+            words = AreWords-reshared laws n _ _ _;
+          }
+
+  blocks : (n : ℕ) (j : Joint) → AreBlocks (n ∷ []) (opened_words r n j ∷ [])
+  blocks n j = (record { len = length-sum_of_three r n _ _ _; words = AreWords-sum_of_three laws n _ _ _ }, tt)
+
+  opened :
+      (n : ℕ) (j : Joint) → Fits (open_protocol r) n j → (i : Number) →
+      opened_by (strands_of (open_protocol r) n j) (open_messages r n j) i ≡ opened_words r n j
+  opened n j fits i = ap (λ v. opened_in v.acts) (open-run r n j fits.words laws i) ∙ append-none (opened_words r n j)
+
+  pub open-sound : Sound (open_protocol r)
+  open-sound =
+      record {
+        matched = matched;
+        own_links = own_links;
+        moves = λ n i u v words hu hv hw. moves r n i u words hw;
+        finishes = λ n j fits. open-finishes r n j fits.words laws;
+        messages = messages;
+        blocks = λ n j fits i. blocks n j;
+        opened = opened;
+        opens = λ n j fits. length-sum_of_three r n _ _ _;
+      }
 
   tape-own : (n : ℕ) (i : Number) (j : Joint) → open_tape r n i j i ≡ j.words i
   tape-own n One j = refl
@@ -56,104 +122,38 @@ module _ {r : Ring} (laws : RingLaws r) where
   tape-tape n Three j fits Two = refl
   tape-tape n Three j fits Three = refl
 
-  reshared_field : (n : ℕ) (u mask got : List ℕ) → IsField n Words (reshared r n u mask got)
-  reshared_field n u mask got = words_field n _ (length-reshared r n u mask got) (AreWords-reshared laws n u mask got)
-
-  messages : (n : ℕ) (j : Joint) → Fits (open_protocol r) n j → (i : Number) → AtEach (λ s. IsMessage n s.message (open_message r n j s.link s.place)) (sends (open_script i))
-  messages n j fits =
-      elim [
-        | One ↦ (mask One, (share One, (share One, tt)))
-        | Two ↦ (mask Two, (share Two, (share Two, tt)))
-        | Three ↦ (mask Three, (share Three, (share Three, tt)))
-      ]
-    where
-      mask : (i : Number) → IsMessage n (Words ∷ []) (j.words i)
-      mask i = one_field n Words (j.words i) (words_field n (j.words i) (fits.words i) (fits.are_words i))
-
-      share : (i : Number) → IsMessage n (Words ∷ []) (reshared_of r n j i)
-      share i = one_field n Words (reshared_of r n j i) (reshared_field n _ _ _)
-
-  blocks : (n : ℕ) (j : Joint) → AreBlocks n (opened_words r n j ∷ [])
-  blocks n j = (words_field n _ (length-sum_of_three r n _ _ _) (AreWords-sum_of_three laws n _ _ _), tt)
-
   seen :
-      (n : ℕ) (i : Number) (j : Joint) →
-      AtEach
-      (λ s. open_message r n j s.link s.place
-      ≡ open_received r n i (j.u i) (open_tape r n i j) (opened_words r n j) (is_forward s.link) s.place)
-      (receives (open_script i))
-  seen n One j = (
-    refl,
-    (
-      refl,
-      (
-        sym (left_over laws n (reshared_of r n j One) (reshared_of r n j Three) (reshared_of r n j Two) (opened_words r n j) (length-reshared r n _ _ _) (AreWords-reshared laws n _ _ _) (swap_last laws n _ _ _)),
-        tt,
-      ),
-    ),
-  )
-  seen n Two j = (
-    refl,
-    (
-      refl,
-      (
-        sym (left_over laws n (reshared_of r n j Two) (reshared_of r n j One) (reshared_of r n j Three) (opened_words r n j) (length-reshared r n _ _ _) (AreWords-reshared laws n _ _ _) (swap_first laws n _ _ _)),
-        tt,
-      ),
-    ),
-  )
-  seen n Three j = (
-    refl,
-    (
-      refl,
-      (
-        sym (left_over laws n (reshared_of r n j Three) (reshared_of r n j Two) (reshared_of r n j One) (opened_words r n j) (length-reshared r n _ _ _) (AreWords-reshared laws n _ _ _) (swap_ends laws n _ _ _)),
-        tt,
-      ),
-    ),
-  )
+      (n : ℕ) (j : Joint) (i : Number) (l : Link) → receiver_of l ≡ i →
+      open_messages r n j l ≡ open_received r n i (j.u i) (open_tape r n i j) (opened_words r n j) l
+  seen n j i l h = subst (λ k. open_messages r n j l ≡ open_received r n k (j.u k) (open_tape r n k j) (opened_words r n j) l) h (at_link l)
+    where
+      left : (x y z : List ℕ) → length z ≡ n → AreWords z → opened_words r n j ≡ sum_of_three r n x y z → z ∷ [] ≡ left_of_opened r n (opened_words r n j) x y ∷ []
+      left x y z e words is = ap (λ l. l ∷ []) (sym (left_over laws n x y z (opened_words r n j) e words is))
 
-  sends_right :
-      (n : ℕ) (i : Number) (j : Joint) (mail : Mail) → Fits (open_protocol r) n j →
-      AtSends
-      (λ before s.
-      SameAt mail (open_message r n j) before →
-      open_sent r n i (j.u i) (j.words i) mail (is_forward s.link) s.place ≡ open_message r n j s.link s.place)
-      [] (open_script i)
-  sends_right n One j mail fits = (λ h. refl, (λ h. ap (reshared r n (j.u One) (j.words One)) h.0, (λ h. ap (reshared r n (j.u One) (j.words One)) h.0, tt)))
-  sends_right n Two j mail fits = (λ h. refl, (λ h. ap (reshared r n (j.u Two) (j.words Two)) h.0, (λ h. ap (reshared r n (j.u Two) (j.words Two)) h.0, tt)))
-  sends_right n Three j mail fits = (λ h. refl, (λ h. ap (reshared r n (j.u Three) (j.words Three)) h.0, (λ h. ap (reshared r n (j.u Three) (j.words Three)) h.0, tt)))
+      at_link : (l : Link) → open_messages r n j l ≡ open_received r n (receiver_of l) (j.u (receiver_of l)) (open_tape r n (receiver_of l) j) (opened_words r n j) l
+      at_link =
+          elim [
+            | Link12 ↦ refl
+            | Link23 ↦ refl
+            | Link31 ↦ refl
+            | Link21 ↦ left (reshared_of r n j One) (reshared_of r n j Three) (reshared_of r n j Two) (length-reshared r n _ _ _) (AreWords-reshared laws n _ _ _) (swap_last laws n _ _ _)
+            | Link32 ↦ left (reshared_of r n j Two) (reshared_of r n j One) (reshared_of r n j Three) (length-reshared r n _ _ _) (AreWords-reshared laws n _ _ _) (swap_first laws n _ _ _)
+            | Link13 ↦ left (reshared_of r n j Three) (reshared_of r n j Two) (reshared_of r n j One) (length-reshared r n _ _ _) (AreWords-reshared laws n _ _ _) (swap_ends laws n _ _ _)
+          ]
 
-  ends_right :
-      (n : ℕ) (i : Number) (j : Joint) (mail : Mail) →
-      SameAt mail (open_message r n j) (receives (open_script i)) → open_ends r n i (j.u i) (j.words i) mail ≡ opened_words r n j ∷ []
-  ends_right n One j mail h = simp (h.0, h.1.0, h.1.1.0) (ap (λ l. l ∷ []) (sym (swap_last laws n _ _ _)))
-  ends_right n Two j mail h = simp (h.0, h.1.0, h.1.1.0) (ap (λ l. l ∷ []) (sym (swap_first laws n _ _ _)))
-  ends_right n Three j mail h = simp (h.0, h.1.0, h.1.1.0) (ap (λ l. l ∷ []) (sym (swap_ends laws n _ _ _)))
-
-  pub open_lawful : Lawful (open_protocol r) (Opens r)
-  open_lawful =
+  pub open-private : Private (open_protocol r)
+  open-private =
       record {
-        sound = record {
-          matched = open_matched;
-          messages = messages;
-          blocks = λ n j fits i. blocks n j;
-          sends_right = sends_right;
-          ends_right = λ n i j mail fits. ends_right n i j mail;
-        };
-        private = record {
-          own = λ n i j fits. tape-own n i j;
-          kept = tape-kept;
-          back_kept = tape-kept;
-          back_tape = tape-tape;
-          tape_back = tape-tape;
-          seen = λ n i j fits. seen n i j;
-        };
-        clear = λ n j fits. opens n j;
+        own = λ n i j fits. tape-own n i j;
+        kept = tape-kept;
+        back_kept = tape-kept;
+        back_tape = tape-tape;
+        tape_back = tape-tape;
+        seen = λ n i j fits l h. seen n j i l h;
       }
 
-  -- with the messages of the joint run each miner's own sum is the opened words
-  pub ends-joint : (n : ℕ) (i : Number) (j : Joint) → open_ends r n i (j.u i) (j.words i) (open_message r n j) ≡ opened_words r n j ∷ []
-  ends-joint n One j = ends_right n One j (open_message r n j) (refl, (refl, (refl, tt)))
-  ends-joint n Two j = ends_right n Two j (open_message r n j) (refl, (refl, (refl, tt)))
-  ends-joint n Three j = ends_right n Three j (open_message r n j) (refl, (refl, (refl, tt)))
+  pub opens : (n : ℕ) (j : Joint) → Opens r n j
+  opens n j = sum-reshared laws n (j.u One) (j.u Two) (j.u Three) (j.words One) (j.words Two) (j.words Three)
+
+  pub open-lawful : Lawful (open_protocol r) (Opens r)
+  open-lawful = record { sound = open-sound; private = open-private; clear = λ n j fits. opens n j }

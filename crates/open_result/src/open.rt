@@ -1,8 +1,9 @@
-ghost use Rattle.std.specs.Prelude.{◌≡◌, ◌≤◌, ◌↔◌, ℕ, List, length, IfOk, IfErr, IfSome, IsOk, IsSome};
+ghost use Rattle.std.specs.Prelude.{◌≡◌, ◌≤◌, ◌↔◌, ℕ, List, length, IfOk, IfErr, IsOk};
 ghost use Rattle.proto_core.specs.Refusals.{WrongLength};
 ghost use Rattle.open_result.specs.Steps.{Masks, Keeps, Sums};
 
-use proto_core::{Block, Msg, Party, Refused, reshare, sum_of_shares};
+use proto_core::{Block, Msg, Party, Refused, sum_of_shares};
+use reshare::take_mask;
 use share_ring::ShareRing;
 use std::marker::{Model, PhantomData};
 
@@ -10,17 +11,18 @@ use std::marker::{Model, PhantomData};
 #[derive(Drop)]
 pub struct Masked;
 
-/// The previous miner's masked share is awaited.
+/// The previous miner's new share is awaited.
 #[derive(Drop)]
 pub struct FromPrev;
 
-/// The next miner's masked share is awaited.
+/// The next miner's new share is awaited.
 #[derive(Drop)]
 pub struct FromNext;
 
 /// One party's part in opening a block, in the state `S`, which says what message is awaited.
 ///
-/// It holds the party's share, and beside it the party's mask or, once that came, the previous miner's masked share.
+/// The three miners share the block anew, and then send their new shares to one another. A state holds the party's share
+/// and beside it the party's mask or, once that came, the previous miner's new share.
 /// Each message has as many words as the block has elements.
 #[derive(Drop)]
 pub struct Open<R, P, S> {
@@ -35,19 +37,6 @@ impl<R, P, S> Model for Open<R, P, S> {
     ghost view = { λ o. (o.share, o.other) };
 
     ghost invariant = { λ o. (length o.share ≤ 512) × (length o.other ≡ length o.share) };
-}
-
-/// The message as a block of `n` words; `None` where it has more or fewer.
-fn block_of<R, P>(msg: &Msg, n: usize) -> Option<Block<R, P>>
-    requires { n ≤ 512 }
-    ensures fits { IsSome result ↔ (length msg.now ≡ n) }
-    ensures words { IfSome result (λ block. block ≡ msg.now) }
-{
-    if msg.len() == n {
-        Some(Block::from_words(msg.words()))
-    } else {
-        None
-    }
 }
 
 impl<R, P, S> Open<R, P, S> {
@@ -79,18 +68,17 @@ impl<R: ShareRing, P: Party> Open<R, P, Masked> {
         )
     }
 
-    /// Takes the previous miner's mask. The messages, both the masked share, are for the next and the previous miner.
+    /// Takes the previous miner's mask. The messages, both the new share, are for the next and the previous miner.
     /// A message of a wrong length is refused.
     pub fn got(self, msg: &Msg) -> Result<(Open<R, P, FromPrev>, Msg, Msg), Refused<Self>>
         ensures taken { IsOk result ↔ (length msg.now ≡ length self.0) }
         ensures ok { IfOk result (λ x. Masks R.ring self msg.now x.0 x.1 x.2) }
         ensures err { IfErr result (WrongLength self (length self.0) (length msg.now)) }
     {
-        let n = self.share.len();
-        let Some(previous) = block_of(msg, n) else {
-            return Err(Refused::wrong_length(self, n, msg.len()));
+        let share = match take_mask(&self.share, &self.other, msg) {
+            Ok(share) => share,
+            Err(cause) => return Err(Refused { state: self, cause }),
         };
-        let share = reshare(&self.share, &self.other, &previous);
         let to_next = Msg::from_block(&share);
         let to_previous = Msg::from_block(&share);
         Ok((
@@ -106,26 +94,26 @@ impl<R: ShareRing, P: Party> Open<R, P, Masked> {
 }
 
 impl<R: ShareRing, P: Party> Open<R, P, FromPrev> {
-    /// Takes the previous miner's masked share. A message of a wrong length is refused.
+    /// Takes the previous miner's new share. A message of a wrong length is refused.
     pub fn got(self, msg: &Msg) -> Result<Open<R, P, FromNext>, Refused<Self>>
         ensures taken { IsOk result ↔ (length msg.now ≡ length self.0) }
         ensures ok { IfOk result (λ after. Keeps self msg.now after) }
         ensures err { IfErr result (WrongLength self (length self.0) (length msg.now)) }
     {
         let n = self.share.len();
-        let Some(other) = block_of(msg, n) else {
+        if msg.len() != n {
             return Err(Refused::wrong_length(self, n, msg.len()));
-        };
+        }
         Ok(Open {
             share: self.share,
-            other,
+            other: Block::from_words(msg.words()),
             of: PhantomData,
         })
     }
 }
 
 impl<R: ShareRing, P: Party> Open<R, P, FromNext> {
-    /// Takes the next miner's masked share, and answers the opened words. A message of a wrong length is refused.
+    /// Takes the next miner's new share, and answers the opened words. A message of a wrong length is refused.
     pub fn got(self, msg: &Msg) -> Result<Msg, Refused<Self>>
         ensures taken { IsOk result ↔ (length msg.now ≡ length self.0) }
         ensures ok { IfOk result (λ opened. Sums R.ring self msg.now opened) }
@@ -133,9 +121,10 @@ impl<R: ShareRing, P: Party> Open<R, P, FromNext> {
         ensures err { IfErr result (WrongLength self (length self.0) (length msg.now)) }
     {
         let n = self.share.len();
-        let Some(next) = block_of(msg, n) else {
+        if msg.len() != n {
             return Err(Refused::wrong_length(self, n, msg.len()));
-        };
+        }
+        let next = Block::from_words(msg.words());
         let sum = sum_of_shares(&self.share, &self.other, &next);
         Ok(Msg::from_block(&sum))
     }

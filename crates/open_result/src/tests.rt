@@ -1,5 +1,5 @@
-use crate::{Open, Part, open_together};
-use proto_core::{BadMessage, Block, Msg, P1};
+use crate::{Open, Part, Result3, open_together};
+use proto_core::{BadMessage, Block, Msg, P1, P3};
 use share_ring::{AddRing, ShareRing, XorRing};
 
 const TOP: u64 = 18_446_744_073_709_551_615;
@@ -76,4 +76,15 @@ fn a_wrong_length_hands_the_state_back(rt: HostRuntime) {
     assert_eq!(rt; refused.cause, BadMessage::BadLength { want: 2, have: 0 });
     let opened = refused.state.got(&Msg::from_words(&[8, 2])).unwrap();
     assert_eq!(rt; opened.words(), &[10, 6][..]);
+}
+
+#[test]
+fn a_result_is_handed_over_as_new_shares(rt: HostRuntime) {
+    let u: Block<XorRing, P3> = Block::from_words(&[3, 42]);
+    let (state, mask) = Result3::start(&u, &[TOP, 0]);
+    assert_eq!(rt; mask.words(), &[TOP, 0][..]);
+    let refused = state.got(&Msg::from_words(&[0, 0, 0])).err().unwrap();
+    assert_eq!(rt; refused.cause, BadMessage::BadLength { want: 2, have: 3 });
+    let share = refused.state.got(&Msg::from_words(&[0, 0])).unwrap();
+    assert_eq!(rt; share.words(), &[TOP - 3, 42][..]);
 }

@@ -1,15 +1,21 @@
 -- The three miners open the sum of the inputs.
-use Rattle.std.proofs.Common.{◌≡◌, ℕ, List, [], ◌∷◌, ◌+◌, ap, sym, ◌∙◌}
+use Rattle.std.proofs.Common.{◌≡◌, ℕ, List, [], ◌∷◌, ◌+◌, length, ap, refl, subst, sym, ◌∙◌}
 use Rattle.share_ring.specs.Ring.{Ring, RingLaws}
 use Rattle.share_ring.specs.Rings.{add_ring}
 use Rattle.share_ring.specs.RingsKeepLaws.{add_ring_laws}
+use Rattle.proto_core.specs.declared.party.Number.{Number}
 use Rattle.proto_core.specs.declared.party.Number.TheVariants.{One, Two, Three}
 use Rattle.proto_core.specs.Lists.{at, each}
 use Rattle.proto_core.specs.Resharing.{sum_of_three}
-use Rattle.proto_core.proofs.ResharingLaws.{opened_by_first, opened_by_second, opened_by_third}
+use Rattle.proto_core.specs.Strand.{opened_in}
+use Rattle.proto_core.specs.Net.{Finishes}
+use Rattle.proto_core.proofs.Beginnings.{append-none}
+use Rattle.open_result.specs.Opening.{opened_words}
+use Rattle.open_result.specs.OpeningRuns.{open-run, open-finishes}
+use Rattle.open_result.specs.OpeningLaws.{opens}
 use Rattle.tape_file.specs.Tapes.{FourTapes}
 use Rattle.run_engine.specs.Arguments.{Argument}
-use Rattle.run_engine.specs.Sum.{MinersOpen, sum_of, sum_share}
+use Rattle.run_engine.specs.Sum.{MinersOpen, sum_of, sum_share, sum_joint, sum_parts, sum_messages}
 
 module _ {r : Ring} (laws : RingLaws r) where
   add-left_comm : (x y z : ℕ) → r.add x (r.add y z) ≡ r.add y (r.add x z)
@@ -42,10 +48,19 @@ shares_of_sum dealer left right =
     (shares_add_up add_ring_laws left.value right.value (at dealer left.place) (at dealer (left.place + 1))
     (at dealer right.place) (at dealer (right.place + 1)))
 
+words_of_sum : (tapes : FourTapes) (left right : Argument) (i : Number) → length ((sum_joint tapes left right).words i) ≡ 1
+words_of_sum tapes left right = elim [ One ↦ refl | Two ↦ refl | Three ↦ refl ]
+
+opened_sum : (tapes : FourTapes) (left right : Argument) → opened_words add_ring 1 (sum_joint tapes left right) ≡ sum_of left right ∷ []
+opened_sum tapes left right = opens add_ring_laws 1 (sum_joint tapes left right) ∙ shares_of_sum tapes.dealer left right
+
 pub miners_open : (tapes : FourTapes) (left right : Argument) → MinersOpen tapes left right (sum_of left right)
-miners_open tapes left right One =
-    ap (λ (l : List ℕ). l ∷ []) (opened_by_first add_ring_laws 1 _ _ _ _ _ _ ∙ shares_of_sum tapes.dealer left right)
-miners_open tapes left right Two =
-    ap (λ (l : List ℕ). l ∷ []) (opened_by_second add_ring_laws 1 _ _ _ _ _ _ ∙ shares_of_sum tapes.dealer left right)
-miners_open tapes left right Three =
-    ap (λ (l : List ℕ). l ∷ []) (opened_by_third add_ring_laws 1 _ _ _ _ _ _ ∙ shares_of_sum tapes.dealer left right)
+miners_open tapes left right =
+    let j = sum_joint tapes left right in
+    let words = words_of_sum tapes left right in
+    record {
+      finishes = subst (λ w. Finishes (sum_parts tapes left right) (sum_messages tapes left right) (λ i. w ∷ [])) (opened_sum tapes left right)
+          (open-finishes add_ring 1 j words add_ring_laws);
+      opened = λ i. ap (λ v. opened_in v.acts) (open-run add_ring 1 j words add_ring_laws i) ∙ append-none (opened_words add_ring 1 j)
+          ∙ opened_sum tapes left right;
+    }

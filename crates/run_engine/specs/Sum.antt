@@ -4,9 +4,11 @@ use Rattle.share_ring.specs.Rings.{add_ring}
 use Rattle.proto_core.specs.declared.party.Number.{Number}
 use Rattle.proto_core.specs.declared.party.Number.TheVariants.{One, Two, Three}
 use Rattle.proto_core.specs.Lists.{at}
-use Rattle.proto_core.specs.Protocol.{Joint}
-use Rattle.open_result.specs.Opening.{open_ends, open_message}
-use Rattle.open_result.specs.Together.{joint_of}
+use Rattle.proto_core.specs.Strand.{Mail, Strand}
+use Rattle.proto_core.specs.Net.{Finishes, opened_by}
+use Rattle.proto_core.specs.Protocol.{Joint, strands_of}
+use Rattle.reshare.specs.Joints.{joint_of}
+use Rattle.open_result.specs.Opening.{open_protocol, open_messages}
 use Rattle.tape_file.specs.Tapes.{FourTapes}
 use Rattle.run_engine.specs.Arguments.{Argument}
 use Rattle.run_engine.specs.Dealing.{share_of}
@@ -30,11 +32,16 @@ sum_joint tapes left right =
     joint_of (sum_share tapes.dealer left right One ∷ []) (sum_share tapes.dealer left right Two ∷ [])
     (sum_share tapes.dealer left right Three ∷ []) (at tapes.one 0 ∷ []) (at tapes.two 0 ∷ []) (at tapes.three 0 ∷ [])
 
--- what a miner opens: of its own share and word, and of the messages that the others send it
-abbrev pub opened_by : Number → FourTapes → Argument → Argument → List (List ℕ)
-opened_by i tapes left right =
-    let j = sum_joint tapes left right in open_ends add_ring 1 i (j.u i) (j.words i) (open_message add_ring 1 j)
+-- the three miners' parts in the opening, each of its own share and word alone
+abbrev pub sum_parts : FourTapes → Argument → Argument → Number → Strand (List (List ℕ))
+sum_parts tapes left right = strands_of (open_protocol add_ring) 1 (sum_joint tapes left right)
 
--- each of the three miners opens this word
-abbrev pub MinersOpen : FourTapes → Argument → Argument → ℕ → Type 0
-MinersOpen tapes left right word = (i : Number) → opened_by i tapes left right ≡ (word ∷ []) ∷ []
+-- the messages that they send one another
+abbrev pub sum_messages : FourTapes → Argument → Argument → Mail
+sum_messages tapes left right = open_messages add_ring 1 (sum_joint tapes left right)
+
+-- the three parts, each message being taken after it was sent, send these messages and no other, and come to their end;
+-- with them each of the three miners opens this word
+pub record MinersOpen (tapes : FourTapes) (left right : Argument) (word : ℕ) : Type 0 where
+  pub finishes : Finishes (sum_parts tapes left right) (sum_messages tapes left right) (λ i. (word ∷ []) ∷ [])
+  pub opened : (i : Number) → opened_by (sum_parts tapes left right) (sum_messages tapes left right) i ≡ word ∷ []

@@ -159,8 +159,8 @@ pub fn secrec<F: Files, O: Sink, E: Sink, L: Links, C: Spawner>(
         × Appends (O.state out.old) (O.state out.new) (outcome_text (outcome_of names entries tapes ask.budget)))
         ⊎ (result ≡ Status.Memory) }
 
-    // The sum that such a run opens is what each of the three miners opens, of its own share and word and of the
-    // others' messages.
+    // The sum that such a run opens: the three miners' parts, each of its own share and word alone, run together come to
+    // their end, and each of them opens it.
     ensures sum_opened_by_miners { (tapes : FourTapes) (left right : Argument) →
         MinersOpen tapes left right (sum_of left right) }
 

@@ -9,6 +9,7 @@ of_three x y z One = x
 of_three x y z Two = y
 of_three x y z Three = z
 
+-- for a protocol of one operand
 abbrev pub joint_of : (u1 u2 u3 words1 words2 words3 : List ℕ) → Joint
 joint_of u1 u2 u3 words1 words2 words3 =
     record { u = of_three u1 u2 u3; v = λ i. []; words = of_three words1 words2 words3 }

@@ -1,0 +1,5 @@
+use Rattle.reshare.specs.ResharingLaws.{reshare-lawful}
+use Rattle.reshare.proofs.gate.reshare_is_lawful.Goals as goal
+
+pub returns : goal.returns
+returns g c = reshare-lawful g.R.ShareRing.laws

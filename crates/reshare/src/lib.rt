@@ -1,0 +1,15 @@
+//! The protocol that shares a value anew, as steps that each take the next message.
+//!
+//! It is the resharing of D. Bogdanov, M. Niitsoo, T. Toft and J. Willemson, "High-performance secure multi-party
+//! computation for data mining applications", International Journal of Information Security 11(6), 2012.
+#![tactic(auto)]
+
+mod gate;
+mod resharing;
+#[cfg(test)]
+mod tests;
+mod together;
+
+pub use gate::{ReshareGate, reshare_is_lawful};
+pub use resharing::{Reshare, Sent, take_mask};
+pub use together::{Part, reshare_together};
