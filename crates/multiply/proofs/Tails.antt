@@ -6,7 +6,7 @@ use Rattle.proto_core.specs.Parties.{to_next, previous_of}
 use Rattle.proto_core.specs.Lists.{part}
 use Rattle.proto_core.specs.Protocol.{Joint}
 use Rattle.proto_core.specs.Strand.{Ends, Acts, Sent}
-use Rattle.multiply.specs.Products.{plus, minus}
+use Rattle.proto_core.specs.Elementwise.{plus, minus}
 use Rattle.multiply.specs.MulStrand.{Held, masked, crossed, product, mul_strand, mul_masked, mul_passes, mul_crossed, mul_ends}
 use Rattle.multiply.specs.Multiplying.{factors_of, product_of}
 use Rattle.multiply.specs.MultiplyingLaws.{held_of, factors-held, product-held}

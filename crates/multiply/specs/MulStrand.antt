@@ -4,8 +4,9 @@ use Rattle.share_ring.specs.Ring.{Ring}
 use Rattle.proto_core.specs.declared.party.Number.{Number}
 use Rattle.proto_core.specs.Parties.{to_next, from_previous}
 use Rattle.proto_core.specs.Lists.{part}
+use Rattle.proto_core.specs.Elementwise.{plus, minus}
 use Rattle.proto_core.specs.Strand.{Words, Shape, shaped, Strand, Ends, Acts, Waits, Sent}
-use Rattle.multiply.specs.Products.{plus, minus, cross}
+use Rattle.multiply.specs.Products.{cross}
 
 -- the factors as far as they are masked, and what masks the product
 pub record Held : Type 0 where

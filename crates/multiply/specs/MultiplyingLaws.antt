@@ -14,10 +14,11 @@ use Rattle.proto_core.specs.Protocol.{Joint, Fits, Lawful, with_words, strands_o
 use Rattle.proto_core.specs.Resharing.{reshared}
 use Rattle.proto_core.proofs.Parts.{length-part, AreWords-part, AreWords-append, three_first, three_second, three_third, two_first, two_second, parts_of_three}
 use Rattle.proto_core.proofs.ResharingLaws.{length-reshared, AreWords-reshared, reshared-twice, sum-reshared}
+use Rattle.proto_core.proofs.ElementwiseLaws.{length-minus, minus-plus, length-plus}
 use Rattle.proto_core.proofs.MessageFields.{accepts-words, accepts-one_words}
 use Rattle.proto_core.proofs.Beginnings.{begins-self}
 use Rattle.proto_core.proofs.Nodes.{into-is, mail-none, run-previous, run-waits_previous}
-use Rattle.multiply.specs.ProductLaws.{products-sum, minus-plus, product-is, length-minus, length-plus}
+use Rattle.multiply.specs.ProductLaws.{products-sum, product-is}
 use Rattle.multiply.specs.MulStrand.{Held, masked, crossed, product, masks_shape, factors_shape, mul_strand, mul_masked, mul_passes, mul_crossed, mul_ends}
 use Rattle.multiply.specs.Multiplying.{factors_of, cross_of, product_of, mul_messages, mul_script, mul_tape, mul_received, mul_protocol, Multiplies}
 

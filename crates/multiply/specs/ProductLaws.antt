@@ -3,38 +3,19 @@ use Rattle.std.proofs.Common.{◌≡◌, ℕ, ◌+◌, ◌*◌, ◌<◌, List, �
 use Rattle.share_ring.specs.Ring.{Ring, RingLaws}
 use Rattle.share_ring.proofs.Sums.{products_of_three}
 use Rattle.proto_core.specs.Lists.{at, each, part}
+use Rattle.proto_core.specs.Elementwise.{plus, minus}
 use Rattle.proto_core.specs.Resharing.{reshared, sum_of_three}
 use Rattle.proto_core.proofs.Each.{length-each, at-each, each-ext, each_none, each_more}
 use Rattle.proto_core.proofs.Parts.{at-part, part-is, two_first, two_second}
+use Rattle.proto_core.proofs.ElementwiseLaws.{length-plus, length-minus, minus-plus, plus-minus}
 use Rattle.proto_core.proofs.ResharingLaws.{at-reshared, length-reshared, sum-reshared}
-use Rattle.multiply.specs.Products.{plus, minus, times, cross}
+use Rattle.multiply.specs.Products.{times, cross}
 use Rattle.multiply.specs.MulStrand.{Held, product}
 
 module _ (r : Ring) where
-  pub length-plus : (n : ℕ) (x y : List ℕ) → length (plus r n x y) ≡ n
-  unfolding plus
-  length-plus n x y = length-each n (λ k. r.add (at x k) (at y k))
-
-  pub length-minus : (n : ℕ) (x y : List ℕ) → length (minus r n x y) ≡ n
-  unfolding minus
-  length-minus n x y = length-each n (λ k. r.sub (at x k) (at y k))
-
   pub length-cross : (n : ℕ) (u v up vp : List ℕ) → length (cross r n u v up vp) ≡ n
   unfolding cross
   length-cross n u v up vp = length-each n _
-
-  at-plus : (n : ℕ) (x y : List ℕ) (k : ℕ) → k < n → at (plus r n x y) k ≡ r.add (at x k) (at y k)
-  unfolding plus
-  at-plus n x y k h = at-each n (λ i. r.add (at x i) (at y i)) k h
-
-  at-minus : (n : ℕ) (x y : List ℕ) (k : ℕ) → k < n → at (minus r n x y) k ≡ r.sub (at x k) (at y k)
-  unfolding minus
-  at-minus n x y k h = at-each n (λ i. r.sub (at x i) (at y i)) k h
-
-  -- the own mask is added first, and then the previous miner's is taken away
-  pub minus-plus : (n : ℕ) (u a got : List ℕ) → minus r n (plus r n u a) got ≡ reshared r n u a got
-  unfolding minus reshared
-  minus-plus n u a got = each-ext n _ _ (λ k h. ap (λ w. r.sub w (at got k)) (at-plus n u a k h))
 
   -- words of a field, read where they stand
   pub plus-field : (n j from : ℕ) (x words : List ℕ) → from ≡ j * n → each n (λ k. r.add (at x k) (at words (from + k))) ≡ plus r n x (part n j words)
@@ -50,15 +31,6 @@ module _ (r : Ring) where
       ∙ each-ext n _ _ (λ k h. ap (r.sub (at x k)) (sym (at-part n j words k h)))
 
 module _ {r : Ring} (laws : RingLaws r) where
-  -- c - c_p added at once
-  plus-minus : (n : ℕ) (w c cp : List ℕ) → plus r n w (minus r n c cp) ≡ reshared r n w c cp
-  unfolding plus reshared
-  plus-minus n w c cp =
-      each-ext n _ _
-      (λ k h.
-      ap (r.add (at w k)) (at-minus r n c cp k h ∙ laws.sub_is (at c k) (at cp k))
-      ∙ sym (laws.add_assoc (at w k) (at c k) (r.neg (at cp k))) ∙ sym (laws.sub_is (r.add (at w k) (at c k)) (at cp k)))
-
   -- a miner's products, by the factors as they were masked
   pub product-is :
       (n : ℕ) (u v a b ga gb c gc got : List ℕ) →
@@ -71,7 +43,7 @@ module _ {r : Ring} (laws : RingLaws r) where
       let y = reshared r n v b gb in
       let first : minus r n (plus r n u a) ga ≡ part n 0 (x ++ y) = minus-plus r n u a ga ∙ sym (two_first n x y (length-reshared r n u a ga)) in
       let second : minus r n (plus r n v b) gb ≡ part n 1 (x ++ y) = minus-plus r n v b gb ∙ sym (two_second n x y (length-reshared r n u a ga) (length-reshared r n v b gb)) in
-      plus-minus n _ c gc
+      plus-minus laws n _ c gc
       ∙ ap (λ w. reshared r n (cross r n w (minus r n (plus r n v b) gb) (part n 0 got) (part n 1 got)) c gc) first
       ∙ ap (λ w. reshared r n (cross r n (part n 0 (x ++ y)) w (part n 0 got) (part n 1 got)) c gc) second
 

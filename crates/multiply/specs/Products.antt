@@ -1,13 +1,7 @@
--- Sums, differences and products of words, element by element.
+-- Products of words, element by element.
 use Rattle.std.specs.Prelude.{ℕ, List}
 use Rattle.share_ring.specs.Ring.{Ring}
 use Rattle.proto_core.specs.Lists.{at, each}
-
-unfoldable pub plus : Ring → ℕ → List ℕ → List ℕ → List ℕ
-plus r n x y = each n (λ k. r.add (at x k) (at y k))
-
-unfoldable pub minus : Ring → ℕ → List ℕ → List ℕ → List ℕ
-minus r n x y = each n (λ k. r.sub (at x k) (at y k))
 
 unfoldable pub times : Ring → ℕ → List ℕ → List ℕ → List ℕ
 times r n x y = each n (λ k. r.mul (at x k) (at y k))

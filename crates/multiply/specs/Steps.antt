@@ -2,7 +2,7 @@
 use Rattle.std.specs.Prelude.{◌≡◌, ℕ, ◌*◌, ◌++◌, List, length}
 use Rattle.share_ring.specs.Ring.{Ring}
 use Rattle.proto_core.specs.Lists.{part}
-use Rattle.multiply.specs.Products.{plus, minus}
+use Rattle.proto_core.specs.Elementwise.{plus, minus}
 use Rattle.multiply.specs.MulStrand.{Held, product}
 
 -- at the start: the words drawn go to the next miner

@@ -1,6 +1,7 @@
 ghost use Rattle.std.specs.Prelude.{◌≡◌, ◌+◌, ◌*◌, ◌≤◌, length};
 ghost use Rattle.proto_core.specs.Lists.{part};
-ghost use Rattle.multiply.specs.Products.{plus, minus, cross};
+ghost use Rattle.proto_core.specs.Elementwise.{plus, minus};
+ghost use Rattle.multiply.specs.Products.{cross};
 
 use proto_core::Block;
 use share_ring::ShareRing;

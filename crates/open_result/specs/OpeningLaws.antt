@@ -1,5 +1,5 @@
 -- The protocol is right, and each view can be made from the opened words.
-use Rattle.std.proofs.Common.{◌≡◌, ℕ, true, false, cond, List, [], ◌∷◌, length, refl, sym, ◌∙◌, ap, subst}
+use Rattle.std.proofs.Common.{◌≡◌, ℕ, true, false, cond, List, [], ◌∷◌, map, length, refl, sym, ◌∙◌, ap, subst}
 use Rattle.share_ring.specs.Ring.{Ring, RingLaws}
 use Rattle.proto_core.specs.declared.party.Number.{Number}
 use Rattle.proto_core.specs.declared.party.Number.TheVariants.{One, Two, Three}
@@ -7,7 +7,7 @@ use Rattle.proto_core.specs.declared.link.Link.{Link}
 use Rattle.proto_core.specs.declared.link.Link.TheVariants.{Link12, Link13, Link21, Link23, Link31, Link32}
 use Rattle.proto_core.specs.Parties.{next_of, previous_of, is_same, sender_of, receiver_of}
 use Rattle.proto_core.specs.Lists.{AreWords}
-use Rattle.proto_core.specs.Script.{Matched, Moves, UsesOwnLinks, sends_on}
+use Rattle.proto_core.specs.Script.{EndsWith, Matched, Moves, UsesOwnLinks, sends_on}
 use Rattle.proto_core.specs.Strand.{opened_in}
 use Rattle.proto_core.specs.Net.{opened_by}
 use Rattle.proto_core.specs.Protocol.{Joint, Fits, with_words, strands_of, AreMessages, IsMessage, AreBlocks, Sound, Private, Lawful}
@@ -43,6 +43,11 @@ moves r n i u words len = (
         (refl, fits, (refl, fits, (refl, refl, λ m2 h2. (refl, refl, λ m3 h3. tt)))),
   ),
 )
+
+sizes :
+    (r : Ring) (n : ℕ) (i : Number) (u words : List ℕ) →
+    EndsWith (λ blocks. map length blocks ≡ n ∷ []) (open_strand r n i u words)
+sizes r n i u words = λ m h m2 h2 m3 h3. ap (λ k. k ∷ []) (length-sum_of_three r n _ _ _)
 
 module _ {r : Ring} (laws : RingLaws r) where
   messages :
@@ -82,6 +87,7 @@ module _ {r : Ring} (laws : RingLaws r) where
         matched = matched;
         own_links = own_links;
         moves = λ n i u v words hu hv hw. moves r n i u words hw;
+        sizes = λ n i u v words hu hv hw. sizes r n i u words;
         finishes = λ n j fits. open-finishes r n j fits.words laws;
         messages = messages;
         blocks = λ n j fits i. blocks n j;

@@ -1,12 +1,12 @@
 -- Resharing is right, and what a miner receives are words that another drew.
-use Rattle.std.proofs.Common.{◌≡◌, ℕ, List, [], ◌∷◌, length, refl, ap, subst}
+use Rattle.std.proofs.Common.{◌≡◌, ℕ, List, [], ◌∷◌, map, length, refl, ap, subst}
 use Rattle.share_ring.specs.Ring.{Ring, RingLaws}
 use Rattle.proto_core.specs.declared.party.Number.{Number}
 use Rattle.proto_core.specs.declared.party.Number.TheVariants.{One, Two, Three}
 use Rattle.proto_core.specs.declared.link.Link.{Link}
 use Rattle.proto_core.specs.declared.link.Link.TheVariants.{Link12, Link13, Link21, Link23, Link31, Link32}
 use Rattle.proto_core.specs.Parties.{sender_of, receiver_of}
-use Rattle.proto_core.specs.Script.{Matched, Moves, UsesOwnLinks, sends_on}
+use Rattle.proto_core.specs.Script.{EndsWith, Matched, Moves, UsesOwnLinks, sends_on}
 use Rattle.proto_core.specs.Strand.{opened_in}
 use Rattle.proto_core.specs.Protocol.{Joint, Fits, AreMessages, IsMessage, AreBlocks, Sound, Private, Lawful}
 use Rattle.proto_core.proofs.MessageFields.{accepts-one_words}
@@ -22,6 +22,11 @@ own_links n = elim [ One ↦ (refl, (refl, tt)) | Two ↦ (refl, (refl, tt)) | T
 
 moves : (r : Ring) (n : ℕ) (i : Number) (u words : List ℕ) → length words ≡ n → Moves (reshare_strand r n i u words) (reshare_script n i)
 moves r n i u words len = (refl, accepts-one_words n words len, (refl, refl, λ m h. tt))
+
+sizes :
+    (r : Ring) (n : ℕ) (i : Number) (u words : List ℕ) →
+    EndsWith (λ blocks. map length blocks ≡ n ∷ []) (reshare_strand r n i u words)
+sizes r n i u words = λ m h. ap (λ k. k ∷ []) (length-reshared r n u words m)
 
 messages : (r : Ring) (n : ℕ) (j : Joint) → Fits (reshare_protocol r) n j → (l : Link) → AreMessages (sends_on l (reshare_script n (sender_of l))) (reshare_messages j l)
 messages r n j fits =
@@ -64,6 +69,7 @@ module _ {r : Ring} (laws : RingLaws r) where
         matched = matched;
         own_links = own_links;
         moves = λ n i u v words hu hv hw. moves r n i u words hw;
+        sizes = λ n i u v words hu hv hw. sizes r n i u words;
         finishes = λ n j fits. reshare-finishes r n j fits.words;
         messages = messages r;
         blocks = λ n j fits i. blocks n j i;
