@@ -1,0 +1,8 @@
+pub mod Bits
+pub mod ConvStrand
+pub mod Converting
+pub mod BitLaws
+pub mod ConvertingLaws
+pub mod Steps
+pub mod Together
+pub mod Vectors
