@@ -74,11 +74,10 @@ pub AreWords-flipped : (n : ℕ) (x y : List ℕ) → AreWords x → AreWords (f
 unfolding flipped
 AreWords-flipped n x y words = AreWords-each n _ (λ k. xor-bit_word (at x k) (at y k) (words k))
 
-pub AreAllBits : List ℕ → Type 0
+abbrev pub AreAllBits : List ℕ → Type 0
 AreAllBits xs = (k : ℕ) → at xs k < 2
 
 AreAllBits-each : (n : ℕ) (f : ℕ → ℕ) → ((k : ℕ) → f k < 2) → AreAllBits (each n f)
-unfolding AreAllBits
 AreAllBits-each n f h k =
     elim (cases_lt k n) as (λ c. at (each n f) k < 2)
     [ inl below ↦ small _ _ (at-each n f k below) (h k) | inr past ↦ small _ _ (at-each_past n f k past) (omega arith) ]
@@ -107,12 +106,10 @@ bit_test : (x : ℕ) → x < 2 → is_bit x ≡ true
 bit_test x h = grind arith
 
 pub all-bits : (xs : List ℕ) → AreAllBits xs → list_all is_bit xs ≡ true
-unfolding AreAllBits
 all-bits [] h = refl
 all-bits (x ∷ xs) h = both_true _ _ (bit_test x (h 0)) (all-bits xs (λ k. h (suc k)))
 
 pub AreWords-all_bits : (xs : List ℕ) → AreAllBits xs → AreWords xs
-unfolding AreAllBits
 AreWords-all_bits xs h k = let b : at xs k < 2 = h k in omega arith
 
 -- ---- equations of lists

@@ -34,25 +34,25 @@ conv_own_links n Three = (refl, (refl, (refl, (refl, tt))))
 
 -- ---- shapes
 
-fits12 : (n : ℕ) (w : List ℕ) → accepts (shape12 n) (to_two n w) ≡ true
+pub fits12 : (n : ℕ) (w : List ℕ) → accepts (shape12 n) (to_two n w) ≡ true
 fits12 n w =
     ap (accepts (shape12 n)) (append_assoc (m_of n w) (bits n (e_of n w)) (a_of n w))
     ∙ accepts-words n (Bits ∷ Words ∷ []) (m_of n w) (bits n (e_of n w) ++ a_of n w) (length-part n 2 w)
     (accepts-bits n (Words ∷ []) (bits n (e_of n w)) (a_of n w) (length-bits n _) (all-bits _ (AreAllBits-bits n _))
     (accepts-one_words n (a_of n w) (length-part n 3 w)))
 
-fits13 : (n : ℕ) (u w : List ℕ) → accepts (shape13 n) (to_three n u w) ≡ true
+pub fits13 : (n : ℕ) (u w : List ℕ) → accepts (shape13 n) (to_three n u w) ≡ true
 fits13 n u w =
     accepts-words n (Bits ∷ []) (bits_less n (b_of n w) u (m_of n w)) (xor_bits n (b_of n w) (e_of n w)) (length-bits_less n _ _ _)
     (accepts-one_bits n _ (length-xor_bits n _ _) (all-bits _ (AreAllBits-xor_bits n _ _)))
 
-fits23 : (n : ℕ) (x y a : List ℕ) → length a ≡ n → accepts (shape23 n) (xor_bits n x y ++ a) ≡ true
+pub fits23 : (n : ℕ) (x y a : List ℕ) → length a ≡ n → accepts (shape23 n) (xor_bits n x y ++ a) ≡ true
 fits23 n x y a e = accepts-bits n (Words ∷ []) (xor_bits n x y) a (length-xor_bits n x y) (all-bits _ (AreAllBits-xor_bits n x y)) (accepts-one_words n a e)
 
 fits32 : (n : ℕ) (x y : List ℕ) → accepts (shape32 n) (xor_bits n x y) ≡ true
 fits32 n x y = accepts-one_bits n _ (length-xor_bits n x y) (all-bits _ (AreAllBits-xor_bits n x y))
 
-fits32_of_three : (n : ℕ) (x y z : List ℕ) → accepts (shape32 n) (xor_bits_of_three n x y z) ≡ true
+pub fits32_of_three : (n : ℕ) (x y z : List ℕ) → accepts (shape32 n) (xor_bits_of_three n x y z) ≡ true
 fits32_of_three n x y z = accepts-one_bits n _ (length-xor_bits_of_three n x y z) (all-bits _ (AreAllBits-xor_bits_of_three n x y z))
 
 moves :
@@ -68,21 +68,13 @@ moves n Three u v words hu hv hw = (
 
 -- ---- three miners together
 
-module _ (n : ℕ) (j : Joint) (fits : Fits conv_protocol n j) where
-  abbrev sends_of : Number → List Act
-  sends_of One = Sent Link12 (to_two n (j.words One)) ∷ Sent Link13 (to_three n (j.u One) (j.words One)) ∷ []
-  sends_of Two = Sent Link23 (from_two n j) ∷ []
-  sends_of Three = Sent Link31 (j.words Three) ∷ Sent Link32 (from_three n j) ∷ []
-
-  abbrev done_of : Number → Ran (List (List ℕ))
-  done_of i = record { acts = sends_of i; left = Ends (converted n j i ∷ []); unread = nothing }
-
+module _ (n : ℕ) (j : Joint) where
   -- what miners 2 and 3 hold and send once the first message came
-  abbrev got12 : Held
-  got12 = two_held n (begun (j.u Two) (j.words Two)) (to_two n (j.words One))
+  abbrev pub held12 : Held
+  held12 = two_held n (begun (j.u Two) (j.words Two)) (to_two n (j.words One))
 
-  abbrev got13 : Held
-  got13 = three_held n (begun (j.u Three) (j.words Three)) (to_three n (j.u One) (j.words One))
+  abbrev pub held13 : Held
+  held13 = three_held n (begun (j.u Three) (j.words Three)) (to_three n (j.u One) (j.words One))
 
   e-sent : part n 1 (to_two n (j.words One)) ≡ bits n (e_of n (j.words One))
   e-sent = three_second n (m_of n (j.words One)) (bits n (e_of n (j.words One))) (a_of n (j.words One)) (length-part n 2 _) (length-bits n _)
@@ -93,34 +85,44 @@ module _ (n : ℕ) (j : Joint) (fits : Fits conv_protocol n j) where
   bits-two : xor_bits n (part n 1 (to_two n (j.words One))) (j.u Two) ≡ xor_bits n (e_of n (j.words One)) (j.u Two)
   bits-two = ap (λ e. xor_bits n e (j.u Two)) e-sent ∙ xor_bits-bits n _ _
 
-  bits-three : xor_bits n (part n 1 (to_three n (j.u One) (j.words One))) (j.u Three) ≡ from_three n j
+  pub bits-three : xor_bits n (part n 1 (to_three n (j.u One) (j.words One))) (j.u Three) ≡ from_three n j
   bits-three = ap (λ e. xor_bits n e (j.u Three)) be-sent ∙ xor_bits-xor_bits n _ _ _
 
-  two-sent : xor_bits n (part n 1 (to_two n (j.words One))) (j.u Two) ++ j.words Two ≡ from_two n j
+  pub two-sent : xor_bits n (part n 1 (to_two n (j.words One))) (j.u Two) ++ j.words Two ≡ from_two n j
   two-sent = ap (λ x. x ++ j.words Two) bits-two
 
-  ends-two : plus n (one_less_where n (xor_bits n got12.bits (from_three n j)) got12.word) got12.mask ≡ converted n j Two
+  pub ends-two : plus n (one_less_where n (xor_bits n held12.bits (from_three n j)) held12.word) held12.mask ≡ converted n j Two
   ends-two =
       plus-minus n _ _ _
-      ∙ ap (λ x. reshared add_ring n (one_less_where n (xor_bits n x (from_three n j)) got12.word) (j.words Two) (part n 2 (to_two n (j.words One)))) bits-two
-      ∙ ap (λ s. reshared add_ring n (one_less_where n s got12.word) (j.words Two) (part n 2 (to_two n (j.words One)))) (choice-is n _ _ _ _)
+      ∙ ap (λ x. reshared add_ring n (one_less_where n (xor_bits n x (from_three n j)) held12.word) (j.words Two) (part n 2 (to_two n (j.words One)))) bits-two
+      ∙ ap (λ s. reshared add_ring n (one_less_where n s held12.word) (j.words Two) (part n 2 (to_two n (j.words One)))) (choice-is n _ _ _ _)
       ∙ ap (λ m. reshared add_ring n (one_less_where n (choice n j) m) (j.words Two) (part n 2 (to_two n (j.words One))))
       (three_first n (m_of n (j.words One)) (bits n (e_of n (j.words One))) (a_of n (j.words One)) (length-part n 2 _))
       ∙ ap (λ a. reshared add_ring n (unmasked n j Two) (j.words Two) a)
       (three_third n (m_of n (j.words One)) (bits n (e_of n (j.words One))) (a_of n (j.words One)) (length-part n 2 _) (length-bits n _) (length-part n 3 _))
 
-  ends-three :
-      reshared add_ring n (negative_where n (xor_bits n (part n 0 (from_two n j)) got13.bits) got13.word) got13.mask (part n 1 (from_two n j))
+  pub ends-three :
+      length (j.words Two) ≡ n →
+      reshared add_ring n (negative_where n (xor_bits n (part n 0 (from_two n j)) held13.bits) held13.word) held13.mask (part n 1 (from_two n j))
       ≡ converted n j Three
-  ends-three =
+  ends-three size =
       let first : part n 0 (from_two n j) ≡ xor_bits n (e_of n (j.words One)) (j.u Two) = two_first n _ (j.words Two) (length-xor_bits n _ _) in
-      let second : part n 1 (from_two n j) ≡ j.words Two = two_second n _ (j.words Two) (length-xor_bits n _ _) (fits.words Two) in
-      let f : got13.word ≡ bits_less n (b_of n (j.words One)) (j.u One) (m_of n (j.words One)) = two_first n _ _ (length-bits_less n _ _ _) in
-      ap (λ x. reshared add_ring n (negative_where n (xor_bits n x got13.bits) got13.word) (j.words Three) (part n 1 (from_two n j))) first
-      ∙ ap (λ x. reshared add_ring n (negative_where n (xor_bits n (xor_bits n (e_of n (j.words One)) (j.u Two)) x) got13.word) (j.words Three) (part n 1 (from_two n j))) bits-three
-      ∙ ap (λ s. reshared add_ring n (negative_where n s got13.word) (j.words Three) (part n 1 (from_two n j))) (choice-is n _ _ _ _)
+      let second : part n 1 (from_two n j) ≡ j.words Two = two_second n _ (j.words Two) (length-xor_bits n _ _) size in
+      let f : held13.word ≡ bits_less n (b_of n (j.words One)) (j.u One) (m_of n (j.words One)) = two_first n _ _ (length-bits_less n _ _ _) in
+      ap (λ x. reshared add_ring n (negative_where n (xor_bits n x held13.bits) held13.word) (j.words Three) (part n 1 (from_two n j))) first
+      ∙ ap (λ x. reshared add_ring n (negative_where n (xor_bits n (xor_bits n (e_of n (j.words One)) (j.u Two)) x) held13.word) (j.words Three) (part n 1 (from_two n j))) bits-three
+      ∙ ap (λ s. reshared add_ring n (negative_where n s held13.word) (j.words Three) (part n 1 (from_two n j))) (choice-is n _ _ _ _)
       ∙ ap (λ x. reshared add_ring n (negative_where n (choice n j) x) (j.words Three) (part n 1 (from_two n j))) f
       ∙ ap (λ a. reshared add_ring n (unmasked n j Three) (j.words Three) a) second
+
+module _ (n : ℕ) (j : Joint) (fits : Fits conv_protocol n j) where
+  abbrev sends_of : Number → List Act
+  sends_of One = Sent Link12 (to_two n (j.words One)) ∷ Sent Link13 (to_three n (j.u One) (j.words One)) ∷ []
+  sends_of Two = Sent Link23 (from_two n j) ∷ []
+  sends_of Three = Sent Link31 (j.words Three) ∷ Sent Link32 (from_three n j) ∷ []
+
+  abbrev done_of : Number → Ran (List (List ℕ))
+  done_of i = record { acts = sends_of i; left = Ends (converted n j i ∷ []); unread = nothing }
 
   whole : (i : Number) → run_of (strands_of conv_protocol n j) (conv_messages n j) i ≡ done_of i
   whole One =
@@ -132,19 +134,19 @@ module _ (n : ℕ) (j : Joint) (fits : Fits conv_protocol n j) where
       ap (run (conv_strand n Two (j.u Two) (j.words Two))) (into-is Two (conv_messages n j))
       ∙ run-previous Two (shape12 n) (two_passes n (begun (j.u Two) (j.words Two))) (to_two n (j.words One)) [] (from_three n j ∷ []) (fits12 n _)
       ∙ ap (acted (Sent Link23 (xor_bits n (part n 1 (to_two n (j.words One))) (j.u Two) ++ j.words Two)))
-      (run-next Two (shape32 n) (two_ends n got12) (from_three n j) [] [] (fits32_of_three n _ _ _)
-      ∙ ap (λ m. record { acts = []; left = two_ends n got12 (from_three n j); unread = m }) (mail-none Two)
-      ∙ ap (λ x. record { acts = []; left = Ends (x ∷ []); unread = nothing }) ends-two)
-      ∙ ap (λ x. record { acts = Sent Link23 x ∷ []; left = Ends (converted n j Two ∷ []); unread = nothing }) two-sent
+      (run-next Two (shape32 n) (two_ends n (held12 n j)) (from_three n j) [] [] (fits32_of_three n _ _ _)
+      ∙ ap (λ m. record { acts = []; left = two_ends n (held12 n j) (from_three n j); unread = m }) (mail-none Two)
+      ∙ ap (λ x. record { acts = []; left = Ends (x ∷ []); unread = nothing }) (ends-two n j))
+      ∙ ap (λ x. record { acts = Sent Link23 x ∷ []; left = Ends (converted n j Two ∷ []); unread = nothing }) (two-sent n j)
   whole Three =
       ap (run (conv_strand n Three (j.u Three) (j.words Three))) (into-is Three (conv_messages n j))
       ∙ ap (acted (Sent Link31 (j.words Three)))
       (run-next Three (shape13 n) (three_passes n (begun (j.u Three) (j.words Three))) (to_three n (j.u One) (j.words One)) (from_two n j ∷ []) [] (fits13 n _ _)
       ∙ ap (acted (Sent Link32 (xor_bits n (part n 1 (to_three n (j.u One) (j.words One))) (j.u Three))))
-      (run-previous Three (shape23 n) (three_ends n got13) (from_two n j) [] [] (fits23 n _ _ _ (fits.words Two))
-      ∙ ap (λ m. record { acts = []; left = three_ends n got13 (from_two n j); unread = m }) (mail-none Three)
-      ∙ ap (λ x. record { acts = []; left = Ends (x ∷ []); unread = nothing }) ends-three)
-      ∙ ap (λ x. record { acts = Sent Link32 x ∷ []; left = Ends (converted n j Three ∷ []); unread = nothing }) bits-three)
+      (run-previous Three (shape23 n) (three_ends n (held13 n j)) (from_two n j) [] [] (fits23 n _ _ _ (fits.words Two))
+      ∙ ap (λ m. record { acts = []; left = three_ends n (held13 n j) (from_two n j); unread = m }) (mail-none Three)
+      ∙ ap (λ x. record { acts = []; left = Ends (x ∷ []); unread = nothing }) (ends-three n j (fits.words Two)))
+      ∙ ap (λ x. record { acts = Sent Link32 x ∷ []; left = Ends (converted n j Three ∷ []); unread = nothing }) (bits-three n j))
 
   abbrev first_posted : Mail
   first_posted = posted (strands_of conv_protocol n j) nothing
@@ -159,15 +161,15 @@ module _ (n : ℕ) (j : Joint) (fits : Fits conv_protocol n j) where
       ∙ ap (λ v. v.acts)
       (run-previous Two (shape12 n) (two_passes n (begun (j.u Two) (j.words Two))) (to_two n (j.words One)) [] [] (fits12 n _))
       ∙ ap (λ v. Sent Link23 (xor_bits n (part n 1 (to_two n (j.words One))) (j.u Two) ++ j.words Two) ∷ v.acts)
-      (run-waits_next Two (shape32 n) (two_ends n got12) [])
-      ∙ ap (λ x. Sent Link23 x ∷ []) two-sent
+      (run-waits_next Two (shape32 n) (two_ends n (held12 n j)) [])
+      ∙ ap (λ x. Sent Link23 x ∷ []) (two-sent n j)
   half Three =
       ap (λ m. (run (conv_strand n Three (j.u Three) (j.words Three)) m).acts) (into-is Three first_posted)
       ∙ ap (λ v. Sent Link31 (j.words Three) ∷ v.acts)
       (run-next Three (shape13 n) (three_passes n (begun (j.u Three) (j.words Three))) (to_three n (j.u One) (j.words One)) [] [] (fits13 n _ _))
       ∙ ap (λ v. Sent Link31 (j.words Three) ∷ Sent Link32 (xor_bits n (part n 1 (to_three n (j.u One) (j.words One))) (j.u Three)) ∷ v.acts)
-      (run-waits_previous Three (shape23 n) (three_ends n got13) [])
-      ∙ ap (λ x. Sent Link31 (j.words Three) ∷ Sent Link32 x ∷ []) bits-three
+      (run-waits_previous Three (shape23 n) (three_ends n (held13 n j)) [])
+      ∙ ap (λ x. Sent Link31 (j.words Three) ∷ Sent Link32 x ∷ []) (bits-three n j)
 
   sent_all : (l : Link) → on_link l (sends_of (sender_of l)) ≡ conv_messages n j l
   sent_all Link12 = refl

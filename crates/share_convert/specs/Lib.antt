@@ -5,4 +5,5 @@ pub mod BitLaws
 pub mod ConvertingLaws
 pub mod Steps
 pub mod Together
+pub mod Parts
 pub mod Vectors

@@ -1,4 +1,4 @@
-ghost use Rattle.std.specs.Prelude.{◌≡◌, ◌+◌, ◌≤◌, length, OnOk, IfErr};
+ghost use Rattle.std.specs.Prelude.{◌≡◌, ◌+◌, ◌≤◌, ◌↔◌, length, IsOk, IfErr};
 ghost use Rattle.share_convert.specs.Bits.{chosen, bits, xor_bits, bits_less, one_less_where, negative_where, zeros, plus, minus};
 ghost use Rattle.share_convert.specs.Steps.{HasBits, LacksBits};
 ghost use Rattle.share_ring.specs.Rings.{add_ring};
@@ -9,7 +9,7 @@ use share_ring::{AddRing, ShareRing, XorRing};
 /// Whether a message has `want` words of which the n from number `from` on are bits; else why not, the length first.
 pub fn check_message(msg: &Msg, want: usize, from: usize, n: usize) -> Result<(), BadMessage>
     requires { from + n ≤ want }
-    ensures ok { OnOk result (HasBits msg.now want from n) }
+    ensures taken { IsOk result ↔ HasBits msg.now want from n }
     ensures err { IfErr result (λ cause. LacksBits msg.now want from n cause) }
 {
     let have = msg.len();

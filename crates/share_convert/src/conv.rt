@@ -1,7 +1,7 @@
 ghost use Rattle.std.specs.Prelude.{◌≡◌, ◌*◌, ◌≤◌, ◌↔◌, ℕ, length, IfOk, IfErr, IsOk};
 ghost use Rattle.proto_core.specs.Refusals.{WrongLength, RefusesBits};
 ghost use Rattle.share_convert.specs.ConvStrand.{begun};
-ghost use Rattle.share_convert.specs.Steps.{OneStarts, Got31, Got12, Got32, Got13, Got23};
+ghost use Rattle.share_convert.specs.Steps.{HasBits, OneStarts, Got31, Got12, Got32, Got13, Got23};
 
 use crate::bits::{
     add, check_message, lowest_bits, masked_bits, negated, one_less, subtract, xored_bits, zeros,
@@ -146,6 +146,7 @@ impl Conv<P2, First> {
     /// wrong length is refused, and one whose second field has a word over 1, at the first such word.
     #[tactic(auto, using(proto_core::proofs::Parts::part_steps))]
     pub fn got12(self, msg: &Msg) -> Result<(Conv<P2, Second>, Msg), Refused<Self>>
+        ensures taken { IsOk result ↔ HasBits msg.now (3 * length self.mask) (length self.mask) (length self.mask) }
         ensures ok { IfOk result (λ x. Got12 self msg.now x.0 x.1) }
         ensures err { IfErr result (RefusesBits self msg.now (3 * length self.mask) (length self.mask) (length self.mask)) }
     {
@@ -172,6 +173,7 @@ impl Conv<P2, Second> {
     /// Takes the third miner's n bits, and answers the second miner's share. A message of a wrong length is refused,
     /// and one with a word over 1, at the first such word.
     pub fn got32(self, msg: &Msg) -> Result<Block<AddRing, P2>, Refused<Self>>
+        ensures taken { IsOk result ↔ HasBits msg.now (length self.mask) 0 (length self.mask) }
         ensures ok { IfOk result (λ share. Got32 self msg.now share) }
         ensures err { IfErr result (RefusesBits self msg.now (length self.mask) 0 (length self.mask)) }
     {
@@ -209,6 +211,7 @@ impl Conv<P3, First> {
     /// length is refused, and one whose second field has a word over 1, at the first such word.
     #[tactic(auto, using(proto_core::proofs::Parts::part_steps))]
     pub fn got13(self, msg: &Msg) -> Result<(Conv<P3, Second>, Msg), Refused<Self>>
+        ensures taken { IsOk result ↔ HasBits msg.now (2 * length self.mask) (length self.mask) (length self.mask) }
         ensures ok { IfOk result (λ x. Got13 self msg.now x.0 x.1) }
         ensures err { IfErr result (RefusesBits self msg.now (2 * length self.mask) (length self.mask) (length self.mask)) }
     {
@@ -235,6 +238,7 @@ impl Conv<P3, Second> {
     /// length is refused, and one whose first field has a word over 1, at the first such word.
     #[tactic(auto, using(proto_core::proofs::Parts::part_steps))]
     pub fn got23(self, msg: &Msg) -> Result<Block<AddRing, P3>, Refused<Self>>
+        ensures taken { IsOk result ↔ HasBits msg.now (2 * length self.mask) 0 (length self.mask) }
         ensures ok { IfOk result (λ share. Got23 self msg.now share) }
         ensures err { IfErr result (RefusesBits self msg.now (2 * length self.mask) 0 (length self.mask)) }
     {

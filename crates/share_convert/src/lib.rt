@@ -4,6 +4,10 @@
 mod bits;
 mod conv;
 mod gate;
+#[cfg(test)]
+mod tests;
+mod together;
 
 pub use conv::{Conv, First, Second, Sent, Stage};
 pub use gate::{ConvGate, conv_is_lawful};
+pub use together::{Conversion, Operand, convert_together};
