@@ -3,6 +3,7 @@ pub mod Parts
 pub mod MessageFields
 pub mod MessageListsLemmas
 pub mod ResharingLaws
+pub mod ElementwiseLaws
 pub mod Beginnings
 pub mod Strands
 pub mod Nets

@@ -7,4 +7,5 @@ pub mod Protocol
 pub mod Refusals
 pub mod MessageLists
 pub mod Resharing
+pub mod Elementwise
 pub mod Vectors

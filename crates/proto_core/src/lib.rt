@@ -2,6 +2,7 @@
 #![tactic(auto)]
 
 mod block;
+mod elementwise;
 mod interactive;
 mod link;
 mod messages;
@@ -15,6 +16,7 @@ mod share;
 mod tests;
 
 pub use block::{Block, Full};
+pub use elementwise::{add_blocks, subtract_blocks, zero_block};
 pub use interactive::{Interactive, interactive_is_lawful};
 pub use link::Link;
 pub use messages::Messages;

@@ -1,6 +1,6 @@
 use crate::{
-    BadMessage, Block, Link, Messages, Msg, Number, P1, P2, P3, Party, Schedule, Share, check_bits,
-    reshare, sum_of_shares,
+    BadMessage, Block, Link, Messages, Msg, Number, P1, P2, P3, Party, Schedule, Share, add_blocks,
+    check_bits, reshare, subtract_blocks, sum_of_shares, zero_block,
 };
 use share_ring::{AddRing, ShareRing, XorRing};
 use std::test::Fail;
@@ -114,8 +114,8 @@ fn the_first_word_that_is_no_bit_is_named(rt: HostRuntime) {
     assert_eq!(rt; msg.copy().word(4), 3);
 }
 
-// u + a - a_p of one share, the sum of three, and a share's sum, difference and product
-fn worked<R: ShareRing>() -> [u64; 5] {
+// u + a - a_p of one share, sums and a difference of blocks, and a share's sum, difference and product
+fn worked<R: ShareRing>() -> [u64; 8] {
     let u: Block<R, P3> = Block::from_words(&[5]);
     let mask = Block::from_words(&[7]);
     let got = Block::from_words(&[2]);
@@ -124,6 +124,9 @@ fn worked<R: ShareRing>() -> [u64; 5] {
     [
         reshare(&u, &mask, &got).word(0),
         sum_of_shares(&u, &mask, &got).word(0),
+        add_blocks(&u, &got).word(0),
+        subtract_blocks(&got, &u).word(0),
+        subtract_blocks(&zero_block(1), &got).word(0),
         share.add(&other).word(),
         other.sub(&share).word(),
         share.mul_public(5).word(),
@@ -134,7 +137,16 @@ fn worked<R: ShareRing>() -> [u64; 5] {
 fn shares_are_masked_and_added_in_their_ring(rt: HostRuntime) {
     assert_eq!(rt;
         worked::<AddRing>(),
-        [10, 14, 9, 18_446_744_073_709_551_613, 30]
+        [
+            10,
+            14,
+            7,
+            18_446_744_073_709_551_613,
+            18_446_744_073_709_551_614,
+            9,
+            18_446_744_073_709_551_613,
+            30
+        ]
     );
-    assert_eq!(rt; worked::<XorRing>(), [0, 0, 5, 5, 4]);
+    assert_eq!(rt; worked::<XorRing>(), [0, 0, 7, 7, 2, 5, 5, 4]);
 }

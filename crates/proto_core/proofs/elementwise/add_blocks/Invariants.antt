@@ -1,0 +1,6 @@
+use Rattle.std.proofs.Common.{◌≡◌, ◌≤◌, length}
+use Rattle.proto_core.specs.Elementwise.{plus}
+use Rattle.proto_core.proofs.elementwise.add_blocks.Given as goal
+
+abbrev pub invariant-loop-at : goal.invariant-loop-at
+invariant-loop-at g l = (l.at ≤ length l.x) × (l.sum ≡ plus g.R.ShareRing.ring l.at l.x l.y)
