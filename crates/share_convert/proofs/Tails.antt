@@ -3,11 +3,12 @@ use Rattle.std.proofs.Common.{◌≡◌, ℕ, ◌*◌, List, [], ◌∷◌, ◌+
 use Rattle.share_ring.specs.Rings.{add_ring}
 use Rattle.proto_core.specs.declared.link.Link.TheVariants.{Link12, Link13, Link23, Link31, Link32}
 use Rattle.proto_core.specs.declared.party.Number.TheVariants.{One, Two, Three}
+use Rattle.proto_core.specs.Elementwise.{plus, zeros}
 use Rattle.proto_core.specs.Lists.{part}
 use Rattle.proto_core.specs.Protocol.{Joint}
 use Rattle.proto_core.specs.Resharing.{reshared}
 use Rattle.proto_core.specs.Strand.{accepts, Ends, Acts, Sent}
-use Rattle.share_convert.specs.Bits.{xor_bits, zeros, plus, one_less_where, negative_where}
+use Rattle.share_convert.specs.Bits.{xor_bits, one_less_where, negative_where}
 use Rattle.share_convert.specs.ConvStrand.{Held, a_of, to_two, to_three, one_held, one_ends, awaits31, begun, two_held, two_ends, two_passes, awaits12, awaits32, three_held, three_ends, three_passes, awaits13, awaits23, conv_strand, shape12}
 use Rattle.share_convert.specs.Converting.{from_two, from_three, converted}
 use Rattle.share_convert.specs.ConvertingLaws.{held12, held13, two-sent, bits-three, ends-two, ends-three}
@@ -123,16 +124,16 @@ module _ (n : ℕ) (j : Joint) (start1 start2 start3 after2 after3 : Held) (m12 
   pub share1-is : (share : List ℕ) → Got31 start1 m31 share → share ≡ converted n j One
   share1-is share s =
       let len : length start1.mask ≡ n = b.first.len ∙ b.size1 in
-      s.made ∙ ap (λ k. reshared add_ring k (zeros k) start1.mask m31) len
-      ∙ ap (λ h. reshared add_ring n (zeros n) h.mask m31) (started1 n (j.u One) (j.words One) start1 m12 m13 b.size1 b.first)
-      ∙ ap (reshared add_ring n (zeros n) (a_of n (j.words One))) b.mask
+      s.made ∙ ap (λ k. reshared add_ring k (zeros add_ring k) start1.mask m31) len
+      ∙ ap (λ h. reshared add_ring n (zeros add_ring n) h.mask m31) (started1 n (j.u One) (j.words One) start1 m12 m13 b.size1 b.first)
+      ∙ ap (reshared add_ring n (zeros add_ring n) (a_of n (j.words One))) b.mask
 
   pub share2-is : (share : List ℕ) → Got32 after2 m32 share → share ≡ converted n j Two
   share2-is share s =
       let len : length after2.mask ≡ n = b.reply2.len ∙ len2 in
-      s.made ∙ ap (λ k. plus k (one_less_where k (xor_bits k after2.bits m32) after2.word) after2.mask) len
-      ∙ ap (λ h. plus n (one_less_where n (xor_bits n h.bits m32) h.word) h.mask) after2-is
-      ∙ ap (λ m. plus n (one_less_where n (xor_bits n (held12 n j).bits m) (held12 n j).word) (held12 n j).mask) on32
+      s.made ∙ ap (λ k. plus add_ring k (one_less_where k (xor_bits k after2.bits m32) after2.word) after2.mask) len
+      ∙ ap (λ h. plus add_ring n (one_less_where n (xor_bits n h.bits m32) h.word) h.mask) after2-is
+      ∙ ap (λ m. plus add_ring n (one_less_where n (xor_bits n (held12 n j).bits m) (held12 n j).word) (held12 n j).mask) on32
       ∙ ends-two n j
 
   pub share3-is : (share : List ℕ) → Got23 after3 m23 share → share ≡ converted n j Three

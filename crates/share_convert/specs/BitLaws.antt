@@ -10,9 +10,8 @@ use Rattle.share_ring.specs.RingsKeepLaws.{add_ring_laws}
 use Rattle.share_ring.proofs.Sums.{sub-sub}
 use Rattle.proto_core.specs.Lists.{at, each, AreWords}
 use Rattle.proto_core.specs.Strand.{is_bit}
-use Rattle.proto_core.specs.Resharing.{reshared}
 use Rattle.proto_core.proofs.Each.{length-each, at-each, at-each_past, each-ext, each-is, AreWords-each}
-use Rattle.share_convert.specs.Bits.{bit, bits, xor_bits, xor_bits_of_three, bits_less, chosen, one_less_where, negative_where, zeros, plus, minus}
+use Rattle.share_convert.specs.Bits.{bit, bits, xor_bits, xor_bits_of_three, bits_less, chosen, one_less_where, negative_where}
 use Rattle.share_convert.specs.Converting.{flipped}
 
 -- ---- one element
@@ -152,17 +151,6 @@ choice_of b e u2 u3 =
 pub choice-is : (n : ℕ) (b e u2 u3 : List ℕ) → xor_bits n (xor_bits n e u2) (xor_bits_of_three n b e u3) ≡ xor_bits_of_three n b u2 u3
 unfolding xor_bits xor_bits_of_three
 choice-is n b e u2 u3 = each-ext n _ _ (λ k h. simp (at-each, h) (choice_of (at b k) (at e k) (at u2 k) (at u3 k)))
-
--- a mask less another, added at once
-pub plus-minus : (n : ℕ) (w a got : List ℕ) → plus n w (minus n a got) ≡ reshared add_ring n w a got
-unfolding plus minus reshared
-plus-minus n w a got =
-    each-ext n _ _
-    (λ k h.
-    simp (at-each, h)
-    (ap (add_ring.add (at w k)) (add_ring_laws.sub_is (at a k) (at got k))
-    ∙ sym (add_ring_laws.add_assoc (at w k) (at a k) (add_ring.neg (at got k)))
-    ∙ sym (add_ring_laws.sub_is (add_ring.add (at w k) (at a k)) (at got k))))
 
 -- ---- the sum
 

@@ -33,12 +33,3 @@ one_less_where n s m = each n (λ k. chosen (at s k) (at m k) (add_ring.sub 1 (a
 -- f, or -f where the bit is set
 unfoldable pub negative_where : ℕ → (bits f : List ℕ) → List ℕ
 negative_where n s f = each n (λ k. chosen (at s k) (at f k) (add_ring.neg (at f k)))
-
-unfoldable pub zeros : ℕ → List ℕ
-zeros n = each n (λ k. 0)
-
-unfoldable pub plus : ℕ → List ℕ → List ℕ → List ℕ
-plus n x y = each n (λ k. add_ring.add (at x k) (at y k))
-
-unfoldable pub minus : ℕ → List ℕ → List ℕ → List ℕ
-minus n x y = each n (λ k. add_ring.sub (at x k) (at y k))

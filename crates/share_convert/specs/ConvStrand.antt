@@ -5,9 +5,10 @@ use Rattle.proto_core.specs.declared.party.Number.{Number}
 use Rattle.proto_core.specs.declared.party.Number.TheVariants.{One, Two, Three}
 use Rattle.proto_core.specs.declared.link.Link.TheVariants.{Link12, Link13, Link23, Link31, Link32}
 use Rattle.proto_core.specs.Lists.{part}
+use Rattle.proto_core.specs.Elementwise.{plus, minus, zeros}
 use Rattle.proto_core.specs.Resharing.{reshared}
 use Rattle.proto_core.specs.Strand.{Words, Bits, Shape, shaped, Strand, Ends, Acts, Waits, Sent}
-use Rattle.share_convert.specs.Bits.{bits, xor_bits, bits_less, one_less_where, negative_where, zeros, plus, minus}
+use Rattle.share_convert.specs.Bits.{bits, xor_bits, bits_less, one_less_where, negative_where}
 
 -- the messages on links 12, 13, 23, 32 and 31
 abbrev pub shape12 : ℕ → Shape
@@ -58,7 +59,7 @@ one_held n w = record { bits = []; word = []; mask = a_of n w }
 
 -- 0 + a - a_3
 abbrev pub one_ends : ℕ → Held → List ℕ → Strand (List (List ℕ))
-one_ends n held got = Ends (reshared add_ring n (zeros n) held.mask got ∷ [])
+one_ends n held got = Ends (reshared add_ring n (zeros add_ring n) held.mask got ∷ [])
 
 abbrev pub awaits31 : ℕ → Held → Strand (List (List ℕ))
 awaits31 n held = Waits Link31 (shape31 n) (one_ends n held)
@@ -74,12 +75,12 @@ two_held n held got =
     record {
       bits = xor_bits n (part n 1 got) held.bits;
       word = part n 0 got;
-      mask = minus n held.mask (part n 2 got);
+      mask = minus add_ring n held.mask (part n 2 got);
     }
 
 -- with the bits of b xor e xor u_3 it knows those of b xor u xor u_3
 abbrev pub two_ends : ℕ → Held → List ℕ → Strand (List (List ℕ))
-two_ends n held got = Ends (plus n (one_less_where n (xor_bits n held.bits got) held.word) held.mask ∷ [])
+two_ends n held got = Ends (plus add_ring n (one_less_where n (xor_bits n held.bits got) held.word) held.mask ∷ [])
 
 abbrev pub awaits32 : ℕ → Held → Strand (List (List ℕ))
 awaits32 n held = Waits Link32 (shape32 n) (two_ends n held)

@@ -9,8 +9,9 @@ use Rattle.proto_core.specs.Lists.{at, each}
 use Rattle.proto_core.specs.Strand.{Mail}
 use Rattle.proto_core.specs.Script.{Move, Sends, Takes}
 use Rattle.proto_core.specs.Protocol.{Joint, Protocol}
+use Rattle.proto_core.specs.Elementwise.{zeros}
 use Rattle.proto_core.specs.Resharing.{reshared, sum_of_three}
-use Rattle.share_convert.specs.Bits.{bit, bits, xor_bits, xor_bits_of_three, bits_less, one_less_where, negative_where, zeros}
+use Rattle.share_convert.specs.Bits.{bit, bits, xor_bits, xor_bits_of_three, bits_less, one_less_where, negative_where}
 use Rattle.share_convert.specs.ConvStrand.{shape12, shape13, shape23, shape32, shape31, b_of, e_of, m_of, a_of, to_two, to_three, conv_strand}
 
 abbrev pub conv_draws : ℕ → Number → ℕ
@@ -47,7 +48,7 @@ choice n j = xor_bits_of_three n (b_of n (j.words One)) (j.u Two) (j.u Three)
 
 -- the shares before they are masked anew: 0; m or 1 - m; f or -f
 abbrev pub unmasked : ℕ → Joint → Number → List ℕ
-unmasked n j One = zeros n
+unmasked n j One = zeros add_ring n
 unmasked n j Two = one_less_where n (choice n j) (m_of n (j.words One))
 unmasked n j Three = negative_where n (choice n j) (bits_less n (b_of n (j.words One)) (j.u One) (m_of n (j.words One)))
 

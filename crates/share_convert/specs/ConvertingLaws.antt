@@ -12,15 +12,17 @@ use Rattle.proto_core.specs.Strand.{Words, Bits, shaped, accepts, Act, Sent, Mai
 use Rattle.proto_core.specs.Net.{into, mail_of, posted, run_of, nothing, Finishes}
 use Rattle.proto_core.specs.Script.{Moves, Matched, UsesOwnLinks, sends_on}
 use Rattle.proto_core.specs.Protocol.{Joint, Fits, Lawful, with_words, strands_of, IsMessage, AreMessages, AreBlocks}
+use Rattle.proto_core.specs.Elementwise.{plus, zeros}
 use Rattle.proto_core.specs.Resharing.{reshared, sum_of_three}
 use Rattle.proto_core.proofs.Each.{at-each, each-ext}
 use Rattle.proto_core.proofs.Parts.{length-part, AreWords-part, AreWords-append, two_first, two_second, three_first, three_second, three_third, four_first, four_second, four_third, four_fourth, parts_of_four}
+use Rattle.proto_core.proofs.ElementwiseLaws.{plus-minus}
 use Rattle.proto_core.proofs.ResharingLaws.{length-reshared, AreWords-reshared, sum-reshared}
 use Rattle.proto_core.proofs.MessageFields.{accepts-words, accepts-bits, accepts-one_words, accepts-one_bits}
 use Rattle.proto_core.proofs.Beginnings.{begins-self}
 use Rattle.proto_core.proofs.Nodes.{into-is, mail-none, run-previous, run-next, run-waits_previous, run-waits_next}
-use Rattle.share_convert.specs.Bits.{bits, xor_bits, xor_bits_of_three, bits_less, one_less_where, negative_where, zeros, plus, minus}
-use Rattle.share_convert.specs.BitLaws.{length-bits, length-xor_bits, length-xor_bits_of_three, length-bits_less, length-flipped, AreWords-bits_less, AreWords-flipped, AreAllBits-bits, AreAllBits-xor_bits, AreAllBits-xor_bits_of_three, all-bits, AreWords-all_bits, bits-flipped, bits-flipped_by_two, flipped-twice, bits_less-twice, xor_bits-bits, xor_bits-xor_bits, choice-is, plus-minus, summed}
+use Rattle.share_convert.specs.Bits.{bits, xor_bits, xor_bits_of_three, bits_less, one_less_where, negative_where}
+use Rattle.share_convert.specs.BitLaws.{length-bits, length-xor_bits, length-xor_bits_of_three, length-bits_less, length-flipped, AreWords-bits_less, AreWords-flipped, AreAllBits-bits, AreAllBits-xor_bits, AreAllBits-xor_bits_of_three, all-bits, AreWords-all_bits, bits-flipped, bits-flipped_by_two, flipped-twice, bits_less-twice, xor_bits-bits, xor_bits-xor_bits, choice-is, summed}
 use Rattle.share_convert.specs.ConvStrand.{Held, shape12, shape13, shape23, shape32, shape31, b_of, e_of, m_of, a_of, to_two, to_three, one_held, one_ends, awaits31, begun, two_held, two_ends, awaits32, two_passes, awaits12, three_held, three_ends, awaits23, three_passes, awaits13, conv_strand}
 use Rattle.share_convert.specs.Converting.{conv_draws, conv_script, conv_messages, from_two, from_three, choice, unmasked, mask_of, converted, flipped, four, two_map, three_map, three_back, conv_tape, conv_back, conv_received, conv_protocol, Converts}
 
@@ -91,9 +93,9 @@ module _ (n : ℕ) (j : Joint) where
   pub two-sent : xor_bits n (part n 1 (to_two n (j.words One))) (j.u Two) ++ j.words Two ≡ from_two n j
   two-sent = ap (λ x. x ++ j.words Two) bits-two
 
-  pub ends-two : plus n (one_less_where n (xor_bits n held12.bits (from_three n j)) held12.word) held12.mask ≡ converted n j Two
+  pub ends-two : plus add_ring n (one_less_where n (xor_bits n held12.bits (from_three n j)) held12.word) held12.mask ≡ converted n j Two
   ends-two =
-      plus-minus n _ _ _
+      plus-minus add_ring_laws n _ _ _
       ∙ ap (λ x. reshared add_ring n (one_less_where n (xor_bits n x (from_three n j)) held12.word) (j.words Two) (part n 2 (to_two n (j.words One)))) bits-two
       ∙ ap (λ s. reshared add_ring n (one_less_where n s held12.word) (j.words Two) (part n 2 (to_two n (j.words One)))) (choice-is n _ _ _ _)
       ∙ ap (λ m. reshared add_ring n (one_less_where n (choice n j) m) (j.words Two) (part n 2 (to_two n (j.words One))))

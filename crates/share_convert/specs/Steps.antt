@@ -3,10 +3,11 @@ use Rattle.std.specs.Prelude.{◌≡◌, ◌≢◌, ℕ, ◌*◌, ◌++◌, ◌�
 use Rattle.share_ring.specs.Rings.{add_ring}
 use Rattle.proto_core.specs.declared.refused.BadMessage.{BadMessage}
 use Rattle.proto_core.specs.declared.refused.BadMessage.TheVariants.{BadLength}
+use Rattle.proto_core.specs.Elementwise.{plus, minus, zeros}
 use Rattle.proto_core.specs.Lists.{part}
 use Rattle.proto_core.specs.Refusals.{AreBits, WrongBit}
 use Rattle.proto_core.specs.Resharing.{reshared}
-use Rattle.share_convert.specs.Bits.{xor_bits, one_less_where, negative_where, zeros, plus, minus}
+use Rattle.share_convert.specs.Bits.{xor_bits, one_less_where, negative_where}
 use Rattle.share_convert.specs.ConvStrand.{Held, a_of, to_two, to_three}
 
 -- a message of so many words, of which those of the bit field are bits
@@ -32,7 +33,7 @@ pub record OneStarts (u words : List ℕ) (after : Held) (message12 message13 : 
 
 pub record Got31 (before : Held) (message share : List ℕ) : Type 0 where
   pub fits : length message ≡ length before.mask
-  pub made : share ≡ reshared add_ring (length before.mask) (zeros (length before.mask)) before.mask message
+  pub made : share ≡ reshared add_ring (length before.mask) (zeros add_ring (length before.mask)) before.mask message
 
 -- ---- miner 2
 
@@ -40,7 +41,7 @@ pub record Got12 (before : Held) (message : List ℕ) (after : Held) (reply : Li
   pub fits : HasBits message (3 * length before.mask) (length before.mask) (length before.mask)
   pub bits : after.bits ≡ xor_bits (length before.mask) (part (length before.mask) 1 message) before.bits
   pub word : after.word ≡ part (length before.mask) 0 message
-  pub mask : after.mask ≡ minus (length before.mask) before.mask (part (length before.mask) 2 message)
+  pub mask : after.mask ≡ minus add_ring (length before.mask) before.mask (part (length before.mask) 2 message)
   pub len : length after.mask ≡ length before.mask
   pub sent : reply ≡ after.bits ++ before.mask
 
@@ -48,7 +49,7 @@ pub record Got32 (before : Held) (message share : List ℕ) : Type 0 where
   pub fits : HasBits message (length before.mask) 0 (length before.mask)
   pub made :
       share
-      ≡ plus (length before.mask)
+      ≡ plus add_ring (length before.mask)
       (one_less_where (length before.mask) (xor_bits (length before.mask) before.bits message) before.word) before.mask
 
 -- ---- miner 3

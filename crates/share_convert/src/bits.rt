@@ -1,5 +1,5 @@
 ghost use Rattle.std.specs.Prelude.{◌≡◌, ◌+◌, ◌≤◌, ◌↔◌, length, IsOk, IfErr};
-ghost use Rattle.share_convert.specs.Bits.{chosen, bits, xor_bits, bits_less, one_less_where, negative_where, zeros, plus, minus};
+ghost use Rattle.share_convert.specs.Bits.{chosen, bits, xor_bits, bits_less, one_less_where, negative_where};
 ghost use Rattle.share_convert.specs.Steps.{HasBits, LacksBits};
 ghost use Rattle.share_ring.specs.Rings.{add_ring};
 
@@ -111,46 +111,4 @@ fn negative(word: u64) -> u64
     ensures { result ≡ add_ring.neg word }
 {
     AddRing::sub(0, word)
-}
-
-/// `n` zeros.
-#[tactic(auto, using(proto_core::proofs::Each::each_steps), unfolding(crate::specs::Bits::zeros))]
-pub fn zeros<P>(n: usize) -> Block<AddRing, P>
-    requires { n ≤ 512 }
-    ensures words { result ≡ zeros n }
-    ensures len { length result ≡ n }
-{
-    let mut made = Block::new();
-    for _at in 0..n {
-        made.append(0);
-    }
-    made
-}
-
-/// The sum, element by element.
-#[tactic(auto, using(proto_core::proofs::Each::each_steps), unfolding(crate::specs::Bits::plus))]
-pub fn add<P>(x: &Block<AddRing, P>, y: &Block<AddRing, P>) -> Block<AddRing, P>
-    requires { length y.now ≡ length x.now }
-    ensures sum { result ≡ plus (length x.now) x.now y.now }
-    ensures len { length result ≡ length x.now }
-{
-    let mut sum = Block::new();
-    for at in 0..x.len() {
-        sum.append(AddRing::add(x.word(at), y.word(at)));
-    }
-    sum
-}
-
-/// The difference, element by element.
-#[tactic(auto, using(proto_core::proofs::Each::each_steps), unfolding(crate::specs::Bits::minus))]
-pub fn subtract<P>(x: &Block<AddRing, P>, y: &Block<AddRing, P>) -> Block<AddRing, P>
-    requires { length y.now ≡ length x.now }
-    ensures difference { result ≡ minus (length x.now) x.now y.now }
-    ensures len { length result ≡ length x.now }
-{
-    let mut difference = Block::new();
-    for at in 0..x.len() {
-        difference.append(AddRing::sub(x.word(at), y.word(at)));
-    }
-    difference
 }

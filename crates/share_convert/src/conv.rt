@@ -3,10 +3,10 @@ ghost use Rattle.proto_core.specs.Refusals.{WrongLength, RefusesBits};
 ghost use Rattle.share_convert.specs.ConvStrand.{begun};
 ghost use Rattle.share_convert.specs.Steps.{HasBits, OneStarts, Got31, Got12, Got32, Got13, Got23};
 
-use crate::bits::{
-    add, check_message, lowest_bits, masked_bits, negated, one_less, subtract, xored_bits, zeros,
+use crate::bits::{check_message, lowest_bits, masked_bits, negated, one_less, xored_bits};
+use proto_core::{
+    Block, Msg, P1, P2, P3, Refused, add_blocks, reshare, subtract_blocks, zero_block,
 };
-use proto_core::{Block, Msg, P1, P2, P3, Refused, reshare};
 use share_ring::{AddRing, XorRing};
 use std::marker::{Model, PhantomData};
 
@@ -123,7 +123,7 @@ impl Conv<P1, Sent> {
             return Err(Refused::wrong_length(self, n, msg.len()));
         }
         let got = Block::from_words(msg.words());
-        Ok(reshare(&zeros(n), &self.mask, &got))
+        Ok(reshare(&zero_block(n), &self.mask, &got))
     }
 }
 
@@ -161,7 +161,7 @@ impl Conv<P2, First> {
             Conv {
                 bits,
                 word: msg.field(0, n),
-                mask: subtract(&self.mask, &msg.field(2, n)),
+                mask: subtract_blocks(&self.mask, &msg.field(2, n)),
                 of: PhantomData,
             },
             to_three,
@@ -182,7 +182,7 @@ impl Conv<P2, Second> {
             return Err(Refused { state: self, cause });
         }
         let choice = xored_bits(&self.bits, &Block::from_words(msg.words()));
-        Ok(add(&one_less(&choice, &self.word), &self.mask))
+        Ok(add_blocks(&one_less(&choice, &self.word), &self.mask))
     }
 }
 
