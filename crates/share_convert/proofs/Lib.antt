@@ -1,0 +1,2 @@
+pub mod BitFields
+pub mod Tails

@@ -1,0 +1,9 @@
+pub mod Bits
+pub mod ConvStrand
+pub mod Converting
+pub mod BitLaws
+pub mod ConvertingLaws
+pub mod Steps
+pub mod Together
+pub mod Parts
+pub mod Vectors

@@ -1,0 +1,13 @@
+//! The protocol that turns shared bits into shared numbers, as steps that each take the next message.
+#![tactic(auto)]
+
+mod bits;
+mod conv;
+mod gate;
+#[cfg(test)]
+mod tests;
+mod together;
+
+pub use conv::{Conv, First, Second, Sent, Stage};
+pub use gate::{ConvGate, conv_is_lawful};
+pub use together::{Conversion, Operand, convert_together};

@@ -1,0 +1,12 @@
+//! The protocol that splits shared numbers into shared words, as steps that each take the next message.
+#![tactic(auto)]
+
+mod gate;
+mod split;
+#[cfg(test)]
+mod tests;
+mod together;
+
+pub use gate::{NegatedSplitGate, SplitGate, split_is_lawful};
+pub use split::{Sent, Split, Waiting};
+pub use together::{Splitting, split_together};
