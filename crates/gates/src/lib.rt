@@ -1,0 +1,18 @@
+//! Gates: the single operations on shared values of which a run of three miners is a list.
+//!
+//! Values are numbered in the order in which they are made. A gate names its operands by their numbers, and the values that it
+//! makes get the next ones. What a gate means on clear values stands in `specs/Clear.antt`: which values fit a list of gates.
+#![tactic(auto)]
+
+mod cutting;
+mod gate;
+mod ring_kind;
+mod words;
+
+pub use cutting::{BLOCK_LEN, blocks};
+pub use gate::Gate;
+pub use ring_kind::RingKind;
+pub use words::Words;
+
+#[cfg(test)]
+mod tests;
