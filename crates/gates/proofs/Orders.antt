@@ -7,6 +7,7 @@ use Rattle.std.proofs.lemmas.Nat.Bits.{same_from_bits_below, bit_at_not, bit_at_
 use Rattle.std.proofs.lemmas.Bool.{cases_lt}
 use Rattle.std.proofs.lemmas.Bool.Decides.{nat_tests}
 use Rattle.share_ring.specs.Rings.{add_ring, xor_ring}
+use Rattle.gates.specs.Tests.{zero_test, less_test}
 use Rattle.gates.proofs.Carries.{carried, carry, carry-zero, carry_out, carry_more, bit_at-xored, bit_at-anded, bit_at-shifted_down, SpansDown, down_end}
 
 -- ---- less
@@ -30,18 +31,14 @@ down_start a b h j le =
     final : (a b n g p c out : ℕ) → a < 2 → b < 2 → n ≡ 1 - a → g ≡ min b n → p ≡ 1 - (a + b) % 2 → out ≡ carried (min n b) ((n + b) % 2) c → out ≡ carried g p c
     final a b n g p c out ha hb e1 e2 e3 e4 = omega arith
 
--- 1 where the first number is less, else 0
-abbrev pub less : ℕ → ℕ → ℕ
-less a b = if nat_lt a b then 1 else 0
+less_is : (a b t : ℕ) → (a < b → t ≡ 1) → (b ≤ a → t ≡ 0) → t ≡ less_test a b
+less_is a b t yes_ no_ = elim (cases_lt a b) as (λ _. t ≡ less_test a b) [ inl lt ↦ grind (arith, nat_tests, yes_ lt) | inr ge ↦ grind (arith, nat_tests, no_ ge) ]
 
-less_is : (a b t : ℕ) → (a < b → t ≡ 1) → (b ≤ a → t ≡ 0) → t ≡ less a b
-less_is a b t yes_ no_ = elim (cases_lt a b) as (λ _. t ≡ less a b) [ inl lt ↦ grind (arith, nat_tests, yes_ lt) | inr ge ↦ grind (arith, nat_tests, no_ ge) ]
-
-last_carry : (a b : ℕ) → a < 2 ^ 64 → b < 2 ^ 64 → carry (bit_not w64 a) b 64 ≡ less a b
+last_carry : (a b : ℕ) → a < 2 ^ 64 → b < 2 ^ 64 → carry (bit_not w64 a) b 64 ≡ less_test a b
 last_carry a b ha hb =
     carry_out (bit_not w64 a) b (omega arith) hb ∙ less_is a b ((bit_not w64 a + b) / 2 ^ 64) (λ lt. omega arith) (λ ge. omega arith)
 
-pub less_by_carries : (a b g p : ℕ) → a < 2 ^ 64 → b < 2 ^ 64 → SpansDown (carry (bit_not w64 a) b) 64 g p → g % 2 ≡ less a b
+pub less_by_carries : (a b g p : ℕ) → a < 2 ^ 64 → b < 2 ^ 64 → SpansDown (carry (bit_not w64 a) b) 64 g p → g % 2 ≡ less_test a b
 less_by_carries a b g p ha hb spans =
     sym (bit_at_lowest g) ∙ down_end (carry (bit_not w64 a) b) (carry-zero (bit_not w64 a) b) g p spans ∙ last_carry a b ha hb
 
@@ -76,10 +73,6 @@ AllOnes-from_folded s p le ones j lt =
           let within : j - s < 64 = omega arith in
           ap (bit_at p) (omega arith) ∙ (both_ones (bit_at p (j - s)) (bit_at p (s + (j - s))) (bit_at-lt p (j - s)) (bit_at-lt p (s + (j - s))) (sym (bit_at-folded s p (j - s) within) ∙ ones (j - s) below)).1
     ]
-
--- 1 where the number is 0, else 0
-abbrev pub zero_test : ℕ → ℕ
-zero_test d = if d == 0 then 1 else 0
 
 same_word : (x y : ℕ) → x < 2 ^ 64 → y < 2 ^ 64 → AllOnes (bit_not w64 (xor_ring.add x y)) 64 → x ≡ y
 same_word x y hx hy ones =
