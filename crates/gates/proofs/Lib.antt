@@ -1,3 +1,4 @@
 pub mod Carries
 pub mod Orders
 pub mod Columns
+pub mod Sizes
