@@ -9,6 +9,7 @@ use Rattle.gates.specs.Counts.Miner.{Miner1, Miner2, Miner3}
 use Rattle.gates.proofs.Sizes.{size_of-value}
 use Rattle.gates.proofs.Columns.{word, Column, TwoColumns, stands, Column-of, Column-same, Column-ext, Column-map, Column-each_two, Column-split, same_columns, TwoColumns-same, TwoColumns-append, TwoColumns-each_two, first_part, second_part}
 use Rattle.gates.proofs.Carries.{carry, carry-zero, carry-lt, SpansUp, shifted_up, up_generate, up_propagate, up_start, up_step, sum_by_carries}
+use Rattle.std.proofs.lemmas.Nat.{mod_below, pow_pos}
 use Rattle.std.proofs.lemmas.List.{append_assoc, drop_more}
 use Rattle.bit_extract.specs.Plan.{carry_step, carrying, widths, bits_plan}
 use Rattle.bit_extract.specs.Law.{GivesBits, TakesWords, words_taken}
@@ -69,7 +70,7 @@ carrying_law inputs values n x y (count ∷ widths) width h next ng np m g p dou
     step.fit (e ∙ omega arith)
 
 pub gives_bits : (first word n : ℕ) → GivesBits first word n (bits_plan first word n)
-gives_bits first number n inputs values size words fit =
+gives_bits first number n inputs values size fit =
     let us = value values number in
     let split = fit.1.2 in
     let both = Column-split false split (Column-of n us size) in
@@ -84,6 +85,16 @@ gives_bits first number n inputs values size words fit =
     (refl, (refl, (refl, (refl, (refl, (refl, refl)))))) sum generate sum (λ k lt. up_start (x k) (y k)) rest (omega arith) in
     let added = Column-same (sym split.join) (Column-each_two add_ring.add both.0 both.1) in
     end.1 ∙ ap Some (same_columns n (λ k. add_ring.add (x k) (y k)) end.0 us end.2 added)
+
+-- what fits is made of words, since it is a sum modulo 2^64
+pub are_words : (inputs values : Values) (first number n : ℕ) → length (value values number) ≡ n → FitFrom inputs values first (bits_plan first number n) → (k : ℕ) → k < n → word (value values number) k < 2 ^ 64
+are_words inputs values first number n size fit k lt =
+    let split = fit.1.2 in
+    let both = Column-split false split (Column-of n (value values number) size) in
+    let x = word (value values first) k in
+    let y = word (value values (first + 1)) k in
+    let added : word (value values number) k ≡ add_ring.add x y = (Column-same (sym split.join) (Column-each_two add_ring.add both.0 both.1)).words k lt in
+    subst (λ w. w < 2 ^ 64) (sym added) (mod_below (x + y) (2 ^ 64) (pow_pos 64))
 
 -- ---- the words that the gates take
 

@@ -1,7 +1,7 @@
 -- What the gates of a bit extraction mean, and the random words that they take.
 use Rattle.std.specs.Prelude.{◌≡◌, ℕ, ◌+◌, ◌*◌, List, Some, map, length, slice_get}
 use Rattle.gates.specs.declared.gate.Gate.{Gate}
-use Rattle.gates.specs.Clear.{Values, value, AreWords, FitFrom}
+use Rattle.gates.specs.Clear.{Values, value, FitFrom}
 use Rattle.gates.specs.Counts.{Miner, words_of_all}
 use Rattle.gates.specs.Counts.Miner.{Miner1, Miner2, Miner3}
 
@@ -10,7 +10,6 @@ abbrev pub GivesBits : ℕ → ℕ → ℕ → List Gate → Type 0
 GivesBits first word n gates =
     (inputs values : Values)
     → length (value values word) ≡ n
-    → AreWords (value values word)
     → FitFrom inputs values first gates
     → slice_get values (first + 53) ≡ Some (value values word)
 

@@ -53,7 +53,7 @@ joining_law inputs values n q (count ∷ counts) width same m p halve le column 
     (λ k lt. halved width count (p k) (q k) halve.0 le (stand k lt)) fit.2.2 (e ∙ omega arith)
 
 pub tests_for_zero : (first difference : ℕ) → TestsForZero first difference (eq_plan first difference)
-tests_for_zero first difference inputs values words fit =
+tests_for_zero first difference inputs values fit =
     let us = value values difference in
     let n = length us in
     let split = fit.1.2 in

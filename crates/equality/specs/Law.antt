@@ -1,7 +1,7 @@
 -- What the gates of a test for zero mean, and the random words that they take.
 use Rattle.std.specs.Prelude.{◌≡◌, ℕ, ◌+◌, ◌*◌, List, Some, map, length, slice_get}
 use Rattle.gates.specs.declared.gate.Gate.{Gate}
-use Rattle.gates.specs.Clear.{Values, value, AreWords, FitFrom}
+use Rattle.gates.specs.Clear.{Values, value, FitFrom}
 use Rattle.gates.specs.Tests.{zero_test}
 use Rattle.gates.specs.Counts.{Miner, words_of_all}
 use Rattle.gates.specs.Counts.Miner.{Miner1, Miner2, Miner3}
@@ -10,7 +10,6 @@ use Rattle.gates.specs.Counts.Miner.{Miner1, Miner2, Miner3}
 abbrev pub TestsForZero : ℕ → ℕ → List Gate → Type 0
 TestsForZero first difference gates =
     (inputs values : Values)
-    → AreWords (value values difference)
     → FitFrom inputs values first gates
     → slice_get values (first + 16) ≡ Some (map zero_test (value values difference))
 

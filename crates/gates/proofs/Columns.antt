@@ -54,12 +54,12 @@ Column-each_two {n = n} {f = f} {g = g} {xs = xs} {ys = ys} h c d =
     record {
       size = length-map (zip xs ys) (λ (p : ℕ × ℕ). h p.0 p.1) ∙ omega (arith, length-zip xs ys, c.size, d.size);
       words = λ k lt.
-        let in_first : k < length xs = omega (arith, c.size) in
-        let in_second : k < length ys = omega (arith, d.size) in
-        let in_both : k < length (zip xs ys) = omega (arith, length-zip xs ys) in
-        get_or-map (λ (p : ℕ × ℕ). h p.0 p.1) (zip xs ys) k (0, 0) 0 in_both
-        ∙ ap (λ (p : ℕ × ℕ). h p.0 p.1) (get_or-zip xs ys k (0, 0) in_first in_second)
-        ∙ ap (λ x. h x (word ys k)) (c.words k lt) ∙ ap (h (f k)) (d.words k lt);
+          let in_first : k < length xs = omega (arith, c.size) in
+          let in_second : k < length ys = omega (arith, d.size) in
+          let in_both : k < length (zip xs ys) = omega (arith, length-zip xs ys) in
+          get_or-map (λ (p : ℕ × ℕ). h p.0 p.1) (zip xs ys) k (0, 0) 0 in_both
+          ∙ ap (λ (p : ℕ × ℕ). h p.0 p.1) (get_or-zip xs ys k (0, 0) in_first in_second)
+          ∙ ap (λ x. h x (word ys k)) (c.words k lt) ∙ ap (h (f k)) (d.words k lt);
     }
 
 -- ---- two columns in a row
