@@ -2,3 +2,4 @@ pub mod Carries
 pub mod Orders
 pub mod Columns
 pub mod Sizes
+pub mod BlockSizes
