@@ -3,3 +3,4 @@ pub mod Orders
 pub mod Columns
 pub mod Sizes
 pub mod BlockSizes
+pub mod Growing

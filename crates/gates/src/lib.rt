@@ -6,11 +6,13 @@
 
 mod cutting;
 mod gate;
+mod laws;
 mod ring_kind;
 mod words;
 
 pub use cutting::{BLOCK_LEN, blocks};
 pub use gate::Gate;
+pub use laws::{evaluated_values_fit, later_values_change_nothing};
 pub use ring_kind::RingKind;
 pub use words::Words;
 
