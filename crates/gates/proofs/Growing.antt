@@ -1,7 +1,7 @@
 -- Values behind those that fit change nothing, and evaluation gives values that fit.
 use Rattle.std.proofs.Common.{◌≡◌, ℕ, zero, suc, ◌+◌, ◌-◌, ◌%◌, ◌^◌, ◌<◌, ◌≤◌, Bool, true, false, Some, None, List, [], ◌∷◌, ◌++◌, length, map, get_or, refl, sym, ◌∙◌, ap, subst, arith, append_assoc, length-append}
 use Rattle.std.specs.Prelude.{slice_get}
-use Rattle.std.proofs.lemmas.List.{get_or_append_left, length-map, append-nil, get_or-map}
+use Rattle.std.proofs.lemmas.List.{get_or_append_left, length-replicate, get_or-replicate, append-nil}
 use Rattle.std.proofs.lemmas.List.Elements.{All-from_get_or}
 use Rattle.std.proofs.lemmas.Nat.{mod_below, pow_pos}
 use Rattle.share_ring.specs.Rings.{add_ring}
@@ -9,7 +9,7 @@ use Rattle.gates.specs.declared.gate.Gate.{Gate}
 use Rattle.gates.specs.declared.gate.Gate.TheVariants.{Input, Const, Add, Sub, MulPub, Mul, Xor, And, Not, Shl, Shr, Low, Cat, Part, Put, Rep, Spread, Sum, Split, Conv, Open, Result}
 use Rattle.gates.specs.Counts.{made_by, made_by_all}
 use Rattle.gates.specs.Clear.{Values, value, clear_value, each_two, AreWords, IsSplit, joined, AreOperands, Suits, Makes, FitFrom}
-use Rattle.gates.specs.Evaluated.{unmasked, made, evaluated, SplitsWords, AllSuit}
+use Rattle.gates.specs.Evaluated.{unmasked, masks_for, made, evaluated, SplitsWords, AllSuit}
 use Rattle.gates.proofs.Columns.{word, Column, stands, Column-of, Column-ext, Column-map, Column-each_two, same_columns}
 
 -- ---- lists
@@ -137,41 +137,41 @@ back_masked u m hu hm = omega arith
 back_negated : (u m : ℕ) → u < 2 ^ 64 → m < 2 ^ 64 → add_ring.sub (add_ring.add u m) m ≡ u
 back_negated u m hu hm = omega arith
 
-masks-words : (m : ℕ) (us : List ℕ) → m < 2 ^ 64 → AreWords (map (λ _. m) us)
-masks-words m us hm =
-    All-from_get_or (λ x. x < 2 ^ 64) (map (λ _. m) us) 0
-    (λ i lt. let within : i < length us = omega (arith, length-map us (λ _. m)) in subst (λ x. x < 2 ^ 64) (sym (get_or-map (λ _. m) us i 0 0 within)) hm)
+masks-column : (m : ℕ) (us : List ℕ) → Column (length us) (λ _. m) (masks_for m us)
+masks-column m us = record { size = length-replicate (length us) m; words = λ k lt. get_or-replicate (length us) k m 0 lt }
 
-unmasked-words : (m : ℕ) (us : List ℕ) (f : ℕ → ℕ) → ((x : ℕ) → f x < 2 ^ 64) → AreWords (map f us)
-unmasked-words m us f small =
-    All-from_get_or (λ x. x < 2 ^ 64) (map f us) 0
-    (λ i lt. let within : i < length us = omega (arith, length-map us f) in subst (λ x. x < 2 ^ 64) (sym (get_or-map f us i 0 0 within)) (small (word us i)))
+words-of : (n : ℕ) (f : ℕ → ℕ) (xs : List ℕ) → Column n f xs → ((k : ℕ) → f k < 2 ^ 64) → AreWords xs
+words-of n f xs c small =
+    All-from_get_or (λ x. x < 2 ^ 64) xs 0
+    (λ i lt. let within : i < n = omega (arith, c.size) in subst (λ x. x < 2 ^ 64) (sym (c.words i within)) (small i))
 
--- a Split by a mask is a Split
-pub is_split : (negated : Bool) (m : ℕ) (us : List ℕ) → m < 2 ^ 64 → AreWords us → IsSplit negated us (unmasked negated m us) (map (λ _. m) us)
+-- a Split by masks is a Split
+pub is_split : (negated : Bool) (m : ℕ) (us : List ℕ) → m < 2 ^ 64 → AreWords us → IsSplit negated us (unmasked negated us (masks_for m us)) (masks_for m us)
 is_split false m us hm words =
     let n = length us in
     let column = Column-of n us refl in
+    let masks = masks-column m us in
+    let rest = Column-each_two add_ring.sub column masks in
     record {
-      same_size = length-map us (λ u. add_ring.sub u m) ∙ sym (length-map us (λ _. m));
-      words = unmasked-words m us (λ u. add_ring.sub u m) (λ x. mod_below (x + (2 ^ 64 - m % 2 ^ 64)) (2 ^ 64) (pow_pos 64));
-      other_words = masks-words m us hm;
+      same_size = rest.size ∙ sym masks.size;
+      words = words-of n _ _ rest (λ k. mod_below (word us k + (2 ^ 64 - m % 2 ^ 64)) (2 ^ 64) (pow_pos 64));
+      other_words = words-of n _ _ masks (λ k. hm);
       join =
-          same_columns n (word us) (each_two add_ring.add (map (λ u. add_ring.sub u m) us) (map (λ _. m) us)) us
-          (Column-ext (λ k lt. back_masked (word us k) m (words k 0 lt) hm) (Column-each_two add_ring.add (Column-map (λ u. add_ring.sub u m) column) (Column-map (λ _. m) column)))
-          column;
+          same_columns n (word us) (each_two add_ring.add (each_two add_ring.sub us (masks_for m us)) (masks_for m us)) us
+          (Column-ext (λ k lt. back_masked (word us k) m (words k 0 lt) hm) (Column-each_two add_ring.add rest masks)) column;
     }
 is_split true m us hm words =
     let n = length us in
     let column = Column-of n us refl in
+    let masks = masks-column m us in
+    let rest = Column-each_two add_ring.add column masks in
     record {
-      same_size = length-map us (λ u. add_ring.add u m) ∙ sym (length-map us (λ _. m));
-      words = unmasked-words m us (λ u. add_ring.add u m) (λ x. mod_below (x + m) (2 ^ 64) (pow_pos 64));
-      other_words = masks-words m us hm;
+      same_size = rest.size ∙ sym masks.size;
+      words = words-of n _ _ rest (λ k. mod_below (word us k + m) (2 ^ 64) (pow_pos 64));
+      other_words = words-of n _ _ masks (λ k. hm);
       join =
-          same_columns n (word us) (each_two add_ring.sub (map (λ u. add_ring.add u m) us) (map (λ _. m) us)) us
-          (Column-ext (λ k lt. back_negated (word us k) m (words k 0 lt) hm) (Column-each_two add_ring.sub (Column-map (λ u. add_ring.add u m) column) (Column-map (λ _. m) column)))
-          column;
+          same_columns n (word us) (each_two add_ring.sub (each_two add_ring.add us (masks_for m us)) (masks_for m us)) us
+          (Column-ext (λ k lt. back_negated (word us k) m (words k 0 lt) hm) (Column-each_two add_ring.sub rest masks)) column;
     }
 
 at_number : (values : Values) (m : ℕ) {xs : List ℕ} → slice_get values m ≡ Some xs → slice_get values m ≡ Some (value values m)
@@ -181,8 +181,8 @@ at_number values m e = e ∙ ap Some (sym (stands values m e))
 pub Makes-made : (mask : ℕ) → mask < 2 ^ 64 → (inputs values : Values) (gate : Gate) → Suits inputs values (length values) gate → SplitsWords values gate → Makes inputs (values ++ made mask inputs values gate) (length values) gate
 Makes-made mask small inputs values (Split u negated) s words =
     let us = value values u in
-    let xs = unmasked negated mask us in
-    let ys = map (λ _. mask) us in
+    let ys = masks_for mask us in
+    let xs = unmasked negated us ys in
     let first = slice_get-at values xs (ys ∷ []) in
     let second = slice_get-behind values xs ys in
     let grown = values ++ xs ∷ ys ∷ [] in (

@@ -34,7 +34,7 @@ abbrev pub first_word : List ℕ → ℕ
 first_word xs = get_or xs 0 0
 
 -- the 64 bits of a word, bit 0 first
-abbrev pub bits_of : ℕ → List ℕ
+unfoldable pub bits_of : ℕ → List ℕ
 bits_of x = map (bit_at x) (range_with_len 0 64)
 
 -- the value that a gate makes, of the private inputs and of the values before it; Split is no function, and stands below

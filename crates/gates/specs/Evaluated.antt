@@ -1,18 +1,22 @@
 -- Evaluation: the values of a list of gates, made one after another.
-use Rattle.std.specs.Prelude.{ℕ, ◌^◌, ◌<◌, List, [], ◌∷◌, ◌++◌, Bool, true, false, length, map}
+use Rattle.std.specs.Prelude.{ℕ, ◌^◌, ◌<◌, List, [], ◌∷◌, ◌++◌, Bool, true, false, length, replicate}
 use Rattle.share_ring.specs.Rings.{add_ring}
 use Rattle.gates.specs.declared.gate.Gate.{Gate}
 use Rattle.gates.specs.declared.gate.Gate.TheVariants.{Split, Low}
-use Rattle.gates.specs.Clear.{Values, value, clear_value, AreWords, Suits}
+use Rattle.gates.specs.Clear.{Values, value, clear_value, each_two, AreWords, Suits}
 
--- the first of two values that a Split may make where the second has the word `mask` throughout
-abbrev pub unmasked : Bool → ℕ → List ℕ → List ℕ
-unmasked false mask us = map (λ u. add_ring.sub u mask) us
-unmasked true mask us = map (λ u. add_ring.add u mask) us
+-- the first of two values that a Split may make where the second are these masks
+abbrev pub unmasked : Bool → List ℕ → List ℕ → List ℕ
+unmasked false us masks = each_two add_ring.sub us masks
+unmasked true us masks = each_two add_ring.add us masks
+
+-- a mask for each word
+abbrev pub masks_for : ℕ → List ℕ → List ℕ
+masks_for mask us = replicate (length us) mask
 
 -- the values that one gate makes
 abbrev pub made : ℕ → Values → Values → Gate → Values
-made mask inputs values (Split u negated) = unmasked negated mask (value values u) ∷ map (λ _. mask) (value values u) ∷ []
+made mask inputs values (Split u negated) = unmasked negated (value values u) (masks_for mask (value values u)) ∷ masks_for mask (value values u) ∷ []
 made mask inputs values gate = clear_value inputs values gate ∷ []
 
 -- the values that are there, and behind them those of the gates

@@ -2,7 +2,7 @@
 use Rattle.std.specs.Prelude.{◌≡◌, [], ◌∷◌, refl, length, take, drop}
 use Rattle.gates.specs.declared.ring_kind.RingKind.TheVariants.{Arithmetic, Boolean}
 use Rattle.gates.specs.declared.gate.Gate.TheVariants.{Add, Sub, MulPub, Mul, Xor, And, Not, Shl, Shr, Low, Cat, Part, Put, Rep, Sum, Spread}
-use Rattle.gates.specs.Clear.{Values, clear_value}
+use Rattle.gates.specs.Clear.{Values, clear_value, bits_of}
 use Rattle.gates.specs.Blocks.{block_sizes}
 
 two : Values
@@ -73,15 +73,15 @@ unfolding two
 added_up = refl
 
 spread_out : length (clear_value [] two (Spread 1)) ≡ 128
-unfolding two
+unfolding two bits_of
 spread_out = refl
 
 bits_of_the_first : take 4 (clear_value [] two (Spread 1)) ≡ 1 ∷ 1 ∷ 0 ∷ 0 ∷ []
-unfolding two
+unfolding two bits_of
 bits_of_the_first = refl
 
 bits_of_the_next : take 3 (drop 64 (clear_value [] two (Spread 1))) ≡ 1 ∷ 0 ∷ 1 ∷ []
-unfolding two
+unfolding two bits_of
 bits_of_the_next = refl
 
 blocks_of_513 : block_sizes 513 ≡ 512 ∷ 1 ∷ []

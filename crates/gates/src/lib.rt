@@ -4,16 +4,21 @@
 //! makes get the next ones. What a gate means on clear values stands in `specs/Clear.antt`: which values fit a list of gates.
 #![tactic(auto)]
 
+mod clear;
+mod clear_words;
 mod cutting;
 mod gate;
 mod laws;
 mod ring_kind;
+mod values;
 mod words;
 
+pub use clear::evaluated;
 pub use cutting::{BLOCK_LEN, blocks};
 pub use gate::Gate;
 pub use laws::{evaluated_values_fit, later_values_change_nothing};
 pub use ring_kind::RingKind;
+pub use values::Values;
 pub use words::Words;
 
 #[cfg(test)]
