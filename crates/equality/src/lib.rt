@@ -1,0 +1,9 @@
+//! Equality of shared numbers, as a list of gates over their difference.
+#![tactic(auto)]
+
+mod planning;
+
+pub use planning::plan;
+
+#[cfg(test)]
+mod tests;

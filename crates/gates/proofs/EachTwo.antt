@@ -1,0 +1,78 @@
+-- Steps of the loops that evaluate gates.
+use Rattle.std.proofs.Common.{◌≡◌, ℕ, zero, suc, ◌+◌, ◌-◌, ◌*◌, ◌/◌, ◌%◌, ◌^◌, ◌<◌, ◌≤◌, List, [], ◌∷◌, ◌++◌, length, map, take, drop, set, get_or, refl, sym, ◌∙◌, ap, arith, append_assoc, length-drop}
+use Rattle.std.specs.Prelude.{min}
+use Rattle.std.specs.List.{zip, flat_map, range_with_len, slice_range}
+use Rattle.std.specs.Int.{bit_at}
+use Rattle.std.proofs.Math.Nat.{add-mul-mod_self_right}
+use Rattle.std.proofs.lemmas.List.{take_more, take_all, take_min, drop_min, set_past, length-map, append-nil}
+use Rattle.std.proofs.lemmas.List.FromFn.{map-range_with_len_more}
+use Rattle.std.proofs.lemmas.Slice.Zip.{length-zip, get_or-zip}
+use Rattle.std.proofs.lemmas.Nat.{pow-add, pow_pos, shr_below}
+use Rattle.gates.specs.Clear.{each_two, bits_of}
+use Rattle.gates.proofs.Columns.{word, Column-of, Column-each_two}
+
+length-each_two : (f : ℕ → ℕ → ℕ) (xs ys : List ℕ) → length (each_two f xs ys) ≡ min (length xs) (length ys)
+length-each_two f xs ys = length-map (zip xs ys) (λ (p : ℕ × ℕ). f p.0 p.1) ∙ length-zip xs ys
+
+word-each_two : (f : ℕ → ℕ → ℕ) (xs ys : List ℕ) (i : ℕ) → i < length xs → i < length ys → word (each_two f xs ys) i ≡ f (word xs i) (word ys i)
+word-each_two f (x ∷ xs) (y ∷ ys) zero h k = refl
+word-each_two f (x ∷ xs) (y ∷ ys) (suc i) h k = word-each_two f xs ys i (omega arith) (omega arith)
+word-each_two f [] ys i h k = absurd (omega arith)
+word-each_two f (x ∷ xs) [] i h k = absurd (omega arith)
+
+pub take_each_two_more : (f : ℕ → ℕ → ℕ) (xs ys : List ℕ) (i : ℕ) → i < length xs → i < length ys → take (i + 1) (each_two f xs ys) ≡ take i (each_two f xs ys) ++ f (get_or xs i 0) (get_or ys i 0) ∷ []
+take_each_two_more f xs ys i h k =
+    let within : i < length (each_two f xs ys) = omega (arith, length-each_two f xs ys) in
+    take_more (each_two f xs ys) i 0 within ∙ ap (λ w. take i (each_two f xs ys) ++ w ∷ []) (word-each_two f xs ys i h k)
+
+pub take_each_two_all : (f : ℕ → ℕ → ℕ) (xs ys : List ℕ) (n : ℕ) → min (length xs) (length ys) ≤ n → take n (each_two f xs ys) ≡ each_two f xs ys
+take_each_two_all f xs ys n le = take_all n (each_two f xs ys) (omega (arith, length-each_two f xs ys))
+
+pub ruleset each_two_steps = (take_each_two_more, take_each_two_all)
+
+-- ---- shifts by 64 and more
+
+pub shifted_out_up : (x count : ℕ) → 64 ≤ count → 0 ≡ x * 2 ^ count % 2 ^ 64
+shifted_out_up x count le =
+    let split : count ≡ count - 64 + 64 = omega arith in
+    sym (ap (λ n. x * 2 ^ n % 2 ^ 64) split ∙ ap (λ n. x * n % 2 ^ 64) (pow-add 2 (count - 64) 64) ∙ ap (λ n. n % 2 ^ 64) (regroup x (2 ^ (count - 64)) (2 ^ 64)) ∙ add-mul-mod_self_right 0 (x * 2 ^ (count - 64)) (2 ^ 64))
+  where
+    regroup : (a b c : ℕ) → a * (b * c) ≡ 0 + a * b * c
+    regroup a b c = grind arith
+
+pub shifted_out_down : (x count : ℕ) → x < 2 ^ 64 → 64 ≤ count → 0 ≡ x / 2 ^ count
+shifted_out_down x count small le =
+    let bound : 2 ^ count ≡ 2 ^ (count - 64) * 2 ^ 64 = ap (λ n. 2 ^ n) (omega arith) ∙ pow-add 2 (count - 64) 64 in
+    let positive = pow_pos (count - 64) in
+    let large : 2 ^ 64 ≤ 2 ^ count = at_least (2 ^ count) (2 ^ (count - 64)) bound positive in
+    let same : 2 ^ count ≡ 2 ^ (0 + count) = ap (λ n. 2 ^ n) (omega arith) in
+    let low : x / 2 ^ count < 1 = shr_below x 0 count (omega arith) in
+    omega arith
+  where
+    at_least : (n k : ℕ) → n ≡ k * 2 ^ 64 → 0 < k → 2 ^ 64 ≤ n
+    at_least n k e h = omega arith
+
+-- ---- parts
+
+pub ruleset part_steps = (take_min, drop_min)
+
+pub set_past_end : (xs : List ℕ) (i y : ℕ) → length xs ≤ i → xs ≡ set xs i y
+set_past_end xs i y le = sym (set_past xs i y le)
+
+-- ---- bits
+
+pub bits_more : (x n : ℕ) → map (bit_at x) (range_with_len 0 (n + 1)) ≡ map (bit_at x) (range_with_len 0 n) ++ bit_at x n ∷ []
+bits_more x n = map-range_with_len_more (bit_at x) 0 n n (omega arith)
+
+pub bits_whole : (x n : ℕ) → n ≤ 64 → 64 ≤ n → map (bit_at x) (range_with_len 0 n) ≡ bits_of x
+unfolding bits_of
+bits_whole x n le ge = let whole : n ≡ 64 = omega arith in ap (λ k. map (bit_at x) (range_with_len 0 k)) whole
+
+pub ruleset bit_steps = (bits_more, bits_whole, append_assoc)
+
+pub spread_more : (xs : List ℕ) (i : ℕ) → i < length xs → flat_map bits_of (take (i + 1) xs) ≡ flat_map bits_of (take i xs) ++ bits_of (get_or xs i 0)
+spread_more xs i lt = ap (flat_map bits_of) (take_more xs i 0 lt) ∙ spread_push (take i xs) (get_or xs i 0)
+  where
+    spread_push : (ys : List ℕ) (y : ℕ) → flat_map bits_of (ys ++ y ∷ []) ≡ flat_map bits_of ys ++ bits_of y
+    spread_push [] y = append-nil (bits_of y)
+    spread_push (x ∷ ys) y = ap (λ l. bits_of x ++ l) (spread_push ys y) ∙ sym (append_assoc (bits_of x) (flat_map bits_of ys) (bits_of y))

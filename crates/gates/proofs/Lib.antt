@@ -1,0 +1,7 @@
+pub mod Carries
+pub mod Orders
+pub mod Columns
+pub mod Sizes
+pub mod BlockSizes
+pub mod Growing
+pub mod EachTwo

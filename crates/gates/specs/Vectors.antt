@@ -1,0 +1,94 @@
+-- Worked values of single gates, on the values (1, 2^64 - 1) and (3, 5).
+use Rattle.std.specs.Prelude.{◌≡◌, [], ◌∷◌, refl, length, take, drop}
+use Rattle.gates.specs.declared.ring_kind.RingKind.TheVariants.{Arithmetic, Boolean}
+use Rattle.gates.specs.declared.gate.Gate.TheVariants.{Add, Sub, MulPub, Mul, Xor, And, Not, Shl, Shr, Low, Cat, Part, Put, Rep, Sum, Spread}
+use Rattle.gates.specs.Clear.{Values, clear_value, bits_of}
+use Rattle.gates.specs.Blocks.{block_sizes}
+
+two : Values
+two = (1 ∷ 18446744073709551615 ∷ []) ∷ (3 ∷ 5 ∷ []) ∷ (9 ∷ []) ∷ []
+
+sum_wraps : clear_value [] two (Add 0 1) ≡ 4 ∷ 4 ∷ []
+unfolding two
+sum_wraps = refl
+
+difference_wraps : clear_value [] two (Sub 0 1) ≡ 18446744073709551614 ∷ 18446744073709551610 ∷ []
+unfolding two
+difference_wraps = refl
+
+product_wraps : clear_value [] two (Mul 0 1) ≡ 3 ∷ 18446744073709551611 ∷ []
+unfolding two
+product_wraps = refl
+
+public_product : clear_value [] two (MulPub Arithmetic 1 (2 ∷ 9223372036854775808 ∷ [])) ≡ 6 ∷ 9223372036854775808 ∷ []
+unfolding two
+public_product = refl
+
+public_mask : clear_value [] two (MulPub Boolean 1 (1 ∷ 4 ∷ [])) ≡ 1 ∷ 4 ∷ []
+unfolding two
+public_mask = refl
+
+exclusive_or : clear_value [] two (Xor 0 1) ≡ 2 ∷ 18446744073709551610 ∷ []
+unfolding two
+exclusive_or = refl
+
+conjunction : clear_value [] two (And 0 1) ≡ 1 ∷ 5 ∷ []
+unfolding two
+conjunction = refl
+
+complement : clear_value [] two (Not 0) ≡ 18446744073709551614 ∷ 0 ∷ []
+unfolding two
+complement = refl
+
+shifted_up : clear_value [] two (Shl 0 63) ≡ 9223372036854775808 ∷ 9223372036854775808 ∷ []
+unfolding two
+shifted_up = refl
+
+shifted_down : clear_value [] two (Shr 0 63) ≡ 0 ∷ 1 ∷ []
+unfolding two
+shifted_down = refl
+
+lowest : clear_value [] two (Low 1) ≡ 1 ∷ 1 ∷ []
+unfolding two
+lowest = refl
+
+behind : clear_value [] two (Cat 1 2) ≡ 3 ∷ 5 ∷ 9 ∷ []
+unfolding two
+behind = refl
+
+a_part : clear_value [] two (Part 1 1 1) ≡ 5 ∷ []
+unfolding two
+a_part = refl
+
+put_there : clear_value [] two (Put 1 1 2) ≡ 3 ∷ 9 ∷ []
+unfolding two
+put_there = refl
+
+three_times : clear_value [] two (Rep 2 3) ≡ 9 ∷ 9 ∷ 9 ∷ []
+unfolding two
+three_times = refl
+
+added_up : clear_value [] two (Sum 0) ≡ 0 ∷ []
+unfolding two
+added_up = refl
+
+spread_out : length (clear_value [] two (Spread 1)) ≡ 128
+unfolding two bits_of
+spread_out = refl
+
+bits_of_the_first : take 4 (clear_value [] two (Spread 1)) ≡ 1 ∷ 1 ∷ 0 ∷ 0 ∷ []
+unfolding two bits_of
+bits_of_the_first = refl
+
+bits_of_the_next : take 3 (drop 64 (clear_value [] two (Spread 1))) ≡ 1 ∷ 0 ∷ 1 ∷ []
+unfolding two bits_of
+bits_of_the_next = refl
+
+blocks_of_513 : block_sizes 513 ≡ 512 ∷ 1 ∷ []
+blocks_of_513 = refl
+
+blocks_of_512 : block_sizes 512 ≡ 512 ∷ []
+blocks_of_512 = refl
+
+no_blocks : block_sizes 0 ≡ []
+no_blocks = refl

@@ -1,0 +1,200 @@
+// The operations of gates on clear words.
+ghost use Rattle.std.specs.Prelude.{◌≡◌, ◌+◌, ◌*◌, ◌/◌, ◌^◌, ◌%◌, ◌<◌, ◌≤◌, [], ◌∷◌, ◌++◌, length, map, take, drop, set, sum, replicate, OnOk, IfOk};
+ghost use Rattle.std.specs.List.{flat_map};
+ghost use Rattle.std.specs.Int.{w64, bit_not};
+ghost use Rattle.gates.specs.Clear.{bits_of, each_two, first_word};
+
+use crate::words::Words;
+use share_ring::ShareRing;
+use std::alloc::{AllocError, Global};
+
+/// The sums of the two words at each index, in a ring.
+#[tactic(auto, using(crate::proofs::EachTwo::each_two_steps))]
+pub(crate) fn sums<R: ShareRing>(alloc: Global, xs: &[u64], ys: &[u64]) -> Result<Words, AllocError>
+    ensures { IfOk result (λ words. words ≡ each_two R.ring.add xs.now ys.now) }
+{
+    let mut words = Vec::new(alloc);
+    for at in 0..xs.len().min(ys.len()) {
+        words.push(R::add(xs[at], ys[at]))?;
+    }
+    Ok(Words::new(words))
+}
+
+/// The differences of the two words at each index, in a ring.
+#[tactic(auto, using(crate::proofs::EachTwo::each_two_steps))]
+pub(crate) fn differences<R: ShareRing>(
+    alloc: Global,
+    xs: &[u64],
+    ys: &[u64],
+) -> Result<Words, AllocError>
+    ensures { IfOk result (λ words. words ≡ each_two R.ring.sub xs.now ys.now) }
+{
+    let mut words = Vec::new(alloc);
+    for at in 0..xs.len().min(ys.len()) {
+        words.push(R::sub(xs[at], ys[at]))?;
+    }
+    Ok(Words::new(words))
+}
+
+/// The products of the two words at each index, in a ring.
+#[tactic(auto, using(crate::proofs::EachTwo::each_two_steps))]
+pub(crate) fn products<R: ShareRing>(
+    alloc: Global,
+    xs: &[u64],
+    ys: &[u64],
+) -> Result<Words, AllocError>
+    ensures { IfOk result (λ words. words ≡ each_two R.ring.mul xs.now ys.now) }
+{
+    let mut words = Vec::new(alloc);
+    for at in 0..xs.len().min(ys.len()) {
+        words.push(R::mul(xs[at], ys[at]))?;
+    }
+    Ok(Words::new(words))
+}
+
+/// Each word with all its bits turned round.
+pub(crate) fn complements(alloc: Global, xs: &[u64]) -> Result<Words, AllocError>
+    ensures { IfOk result (λ words. words ≡ map (bit_not w64) xs.now) }
+{
+    let words = xs.iter().map(|x| !*x).collect(alloc)?;
+    Ok(Words::new(words))
+}
+
+/// Bit 0 of each word.
+pub(crate) fn low_bits(alloc: Global, xs: &[u64]) -> Result<Words, AllocError>
+    ensures { IfOk result (λ words. words ≡ map (λ x. x % 2) xs.now) }
+{
+    let words = xs.iter().map(|x| *x % 2).collect(alloc)?;
+    Ok(Words::new(words))
+}
+
+/// A word shifted up; what passes bit 63 is lost.
+#[tactic(auto, using(crate::proofs::EachTwo::shifted_out_up))]
+fn word_up(x: u64, count: u64) -> u64
+    ensures { result ≡ x * 2 ^ count % 2 ^ 64 }
+{
+    if count < 64 { x << count } else { 0 }
+}
+
+/// A word shifted down; what passes bit 0 is lost.
+#[tactic(auto, using(crate::proofs::EachTwo::shifted_out_down))]
+fn word_down(x: u64, count: u64) -> u64
+    ensures { result ≡ x / 2 ^ count }
+{
+    if count < 64 { x >> count } else { 0 }
+}
+
+/// Each word shifted up.
+pub(crate) fn shifted_up(alloc: Global, xs: &[u64], count: u64) -> Result<Words, AllocError>
+    ensures { IfOk result (λ words. words ≡ map (λ x. x * 2 ^ count % 2 ^ 64) xs.now) }
+{
+    let mut words = Vec::new(alloc);
+    for x in xs {
+        words.push(word_up(*x, count))?;
+    }
+    Ok(Words::new(words))
+}
+
+/// Each word shifted down.
+pub(crate) fn shifted_down(alloc: Global, xs: &[u64], count: u64) -> Result<Words, AllocError>
+    ensures { IfOk result (λ words. words ≡ map (λ x. x / 2 ^ count) xs.now) }
+{
+    let mut words = Vec::new(alloc);
+    for x in xs {
+        words.push(word_down(*x, count))?;
+    }
+    Ok(Words::new(words))
+}
+
+/// Some words in a row, as many of them as there are.
+#[tactic(auto, using(crate::proofs::EachTwo::part_steps))]
+pub(crate) fn part(
+    alloc: Global,
+    xs: &[u64],
+    from: usize,
+    count: usize,
+) -> Result<Words, AllocError>
+    ensures { IfOk result (λ words. words ≡ take count (drop from xs.now)) }
+{
+    let start = from.min(xs.len());
+    let len = count.min(xs.len() - start);
+    let mut words = Vec::new(alloc);
+    words.extend_from_slice(&xs[start..start + len])?;
+    Ok(Words::new(words))
+}
+
+/// The words of one list and then of another.
+pub(crate) fn joined(alloc: Global, xs: &[u64], ys: &[u64]) -> Result<Words, AllocError>
+    ensures { IfOk result (λ words. words ≡ xs.now ++ ys.now) }
+{
+    let mut words = Vec::new(alloc);
+    words.extend_from_slice(xs)?;
+    words.extend_from_slice(ys)?;
+    Ok(Words::new(words))
+}
+
+/// The words with one given anew, where it is there.
+#[tactic(auto, using(crate::proofs::EachTwo::set_past_end))]
+pub(crate) fn with_word(
+    alloc: Global,
+    xs: &[u64],
+    index: usize,
+    word: u64,
+) -> Result<Words, AllocError>
+    ensures { IfOk result (λ words. words ≡ set xs.now index word) }
+{
+    let mut words = Vec::new(alloc);
+    words.extend_from_slice(xs)?;
+    if index < words.len() {
+        words[index] = word;
+    }
+    Ok(Words::new(words))
+}
+
+/// One word several times.
+pub(crate) fn repeated(alloc: Global, word: u64, count: usize) -> Result<Words, AllocError>
+    ensures { IfOk result (λ words. words ≡ replicate count word) }
+{
+    Ok(Words::new(vec![in alloc; word; count]?))
+}
+
+/// The 64 bits of a word behind what is there, bit 0 first.
+#[tactic(auto, using(crate::proofs::EachTwo::bit_steps))]
+fn push_bits(words: &mut Vec<u64>, x: u64) -> Result<(), AllocError>
+    ensures { OnOk result (words.new.items ≡ words.old.items ++ bits_of x) }
+{
+    for place in 0..64u64 {
+        words.push((x >> place) % 2)?;
+    }
+    Ok(())
+}
+
+/// The 64 bits of each word.
+#[tactic(auto, using(crate::proofs::EachTwo::spread_more))]
+pub(crate) fn spread(alloc: Global, xs: &[u64]) -> Result<Words, AllocError>
+    ensures { IfOk result (λ words. words ≡ flat_map bits_of xs.now) }
+{
+    let mut words = Vec::new(alloc);
+    for x in xs {
+        push_bits(&mut words, *x)?;
+    }
+    Ok(Words::new(words))
+}
+
+/// The sum of all words modulo 2^64.
+pub(crate) fn total(xs: &[u64]) -> u64
+    ensures { result ≡ sum xs.now % 2 ^ 64 }
+{
+    let mut total: u64 = 0;
+    for x in xs {
+        total = total.wrapping_add(*x);
+    }
+    total
+}
+
+/// The first word, and 0 where there is none.
+pub(crate) fn first_word(xs: &[u64]) -> u64
+    ensures { result ≡ first_word xs.now }
+{
+    if xs.is_empty() { 0 } else { xs[0] }
+}
