@@ -1,49 +1,84 @@
 #!/usr/bin/env bash
-# Times `secrec run` over large files and over files of a sixteenth of their size, and prints both with their ratios.
-# Large: tapes of 4 x 16,777,216 words, and an input file of 64 arrays of 65,536 elements. It measures; it tests nothing.
+# Times `secrec run` over large files and over files of a sixteenth of their size, and prints both with their ratios. Large:
+# tapes of 4 x 16,777,216 words, and an input file of 64 arrays of 65,536 elements. Between them, large tapes with the small
+# inputs show what time and memory go into. It measures; it tests nothing. It wants bash, python3, about 700 MB in TMPDIR
+# (or /tmp), and 2 GB of memory.
 set -eu
 top=$(cd "$(dirname "$0")/.." && pwd)
 work=$(mktemp -d)
 trap 'rm -rf "$work"' EXIT
 "$top/secrec" run "$top/examples/sum/sum.sc" --input "$top/examples/sum/sum.json" --tape "$top/examples/sum/sum.tape" >"$work/out"
 
-# A tape file of four tapes of so many words, and an input file of so many private arrays beside `a` and `b`.
-files() {
-  python3 - "$work" "$1" "$2" "$3" <<'PY'
+# A file of four tapes of so many words each.
+tapes() {
+  python3 - "$work/$1.tape" "$2" <<'PY'
 import struct, sys
-work, name, words, arrays = sys.argv[1], sys.argv[2], int(sys.argv[3]), int(sys.argv[4])
-with open(f"{work}/{name}.tape", "wb") as tape:
+path, words = sys.argv[1], int(sys.argv[2])
+with open(path, "wb") as tape:
     tape.write(struct.pack("<4Q", words, words, words, words))
     block = bytes(range(256)) * 4096
     left = 4 * words * 8
     while left:
         left -= tape.write(block[:left])
+PY
+}
+
+# An input file of so many private arrays of 65,536 elements beside `a` and `b`.
+inputs() {
+  python3 - "$work/$1.json" "$2" <<'PY'
+import sys
+path, arrays = sys.argv[1], int(sys.argv[2])
 entry = '{"name":"%s","domain":"private","type":"uint64","value":%s}'
 values = "[" + ",".join(str(k * 2862933555777941757 % 2**64) for k in range(65536)) + "]"
-with open(f"{work}/{name}.json", "w") as inputs:
-    inputs.write('{"inputs":[' + entry % ("a", 6) + "," + entry % ("b", 7))
+with open(path, "w") as file:
+    file.write('{"inputs":[' + entry % ("a", 6) + "," + entry % ("b", 7))
     for k in range(arrays):
-        inputs.write("," + entry % (f"x{k}", values))
-    inputs.write("]}")
+        file.write("," + entry % (f"x{k}", values))
+    file.write("]}")
 PY
 }
 
-# Seconds and peak memory (kilobytes) of one run over these files.
+# Of five runs over these tapes and these inputs the one with the least processor time: its processor time in the program and in
+# the kernel, the time that went by (seconds), and its peak memory (kilobytes).
 measure() {
-  python3 - "$top/.build/secrec" "$top/examples/sum/sum.sc" "$work/$1" <<'PY'
-import resource, subprocess, sys, time
-program, source, files = sys.argv[1:]
-start = time.monotonic()
-ran = subprocess.run([program, "run", source, "--input", files + ".json", "--tape", files + ".tape"], stdout=subprocess.PIPE)
-seconds = time.monotonic() - start
-assert ran.returncode == 0 and ran.stdout == b"open 13\npublish s 13\nend done cost 7\n", ran
-print("%.3f %d" % (seconds, resource.getrusage(resource.RUSAGE_CHILDREN).ru_maxrss))
+  python3 - "$top/.build/secrec" "$top/examples/sum/sum.sc" "$work/$1.tape" "$work/$2.json" <<'PY'
+import os, sys, time
+program, source, tape, inputs = sys.argv[1:]
+def run():
+    out, into = os.pipe()
+    start = time.monotonic()
+    words = [program, "run", source, "--input", inputs, "--tape", tape]
+    child = os.posix_spawn(program, words, {}, file_actions=[(os.POSIX_SPAWN_DUP2, into, 1), (os.POSIX_SPAWN_CLOSE, out)])
+    os.close(into)
+    text = os.read(out, 4096)
+    _, status, used = os.wait4(child, 0)
+    seconds = time.monotonic() - start
+    os.close(out)
+    assert status == 0 and text == b"open 13\npublish s 13\nend done cost 7\n", (status, text)
+    return used.ru_utime + used.ru_stime, used.ru_utime, used.ru_stime, seconds, used.ru_maxrss
+print("%.3f %.3f %.3f %d" % min(run() for _ in range(5))[1:])
 PY
 }
 
-files small 1048576 4
-files large 16777216 64
-read -r small_seconds small_memory <<<"$(measure small)"
-read -r large_seconds large_memory <<<"$(measure large)"
-printf 'small: %s s, %s kB\nlarge: %s s, %s kB\n' "$small_seconds" "$small_memory" "$large_seconds" "$large_memory"
-python3 -c "print('large over small: time %.1f, memory %.1f (the files: 16)' % ($large_seconds/$small_seconds, $large_memory/$small_memory))"
+size() { echo $(($(stat -c %s "$work/$1") / 1024)); }
+
+tapes small 1048576
+tapes large 16777216
+inputs small 4
+inputs large 64
+declare -A found
+row() { printf '%-6s %-6s %9s %9s %9s %9s %9s %9s\n' "$@"; }
+row tapes inputs 'tapes kB' 'inputs kB' 'program s' 'kernel s' 'passed s' 'peak kB'
+for of in 'small small' 'large small' 'large large'; do
+  read -r tape input <<<"$of"
+  found[$of]=$(measure "$tape" "$input")
+  # shellcheck disable=SC2086
+  row "$tape" "$input" "$(size "$tape.tape")" "$(size "$input.json")" ${found[$of]}
+done
+python3 - ${found[large large]} ${found[small small]} <<'PY'
+import sys
+more, less = [float(word) for word in sys.argv[1:5]], [float(word) for word in sys.argv[5:]]
+processor = (more[0] + more[1]) / (less[0] + less[1])
+print(f"large over small: files 16, processor time {processor:.1f} (program {more[0] / less[0]:.1f}, kernel {more[1] / less[1]:.1f}), "
+      f"time passed {more[2] / less[2]:.1f}, memory {more[3] / less[3]:.1f}")
+PY

@@ -1,6 +1,6 @@
 -- A stop that names one path names one of a longer list.
 use Rattle.std.proofs.Common.{◌≡◌, ℕ, List, [], ◌∷◌, refl, ap, sym, ◌∙◌, arith, zero, suc, Contains, string_bytes}
-use Rattle.command_frame.specs.Answer.{file_line}
+use Rattle.sc_text.specs.Fault.{file_line}
 use Rattle.command_frame.specs.declared.stop.Stop.{Stop}
 use Rattle.command_frame.specs.Reads.{IsLineOf, StopNames}
 

@@ -1,7 +1,9 @@
 -- What a command decides of the files that it reads: an effect, or why it is refused.
-use Rattle.std.specs.Prelude.{ℕ, List, [], ◌∷◌, ◌++◌, map, Result, Ok, Err, string_bytes, codes}
+use Rattle.std.specs.Prelude.{ℕ, List, [], ◌∷◌, map, Result, Ok, Err, string_bytes}
 use Rattle.std.specs.Option.{ok_or}
 use Rattle.outside.specs.Files.{Contents, file_at, with_file}
+use Rattle.sc_text.specs.declared.fault.Fault.TheVariants as faults
+use Rattle.sc_text.specs.Fault.{fault_line, file_line}
 use Rattle.command_frame.specs.declared.status.Status.{Status}
 use Rattle.command_frame.specs.declared.status.Status.TheVariants.{File, Usage}
 use Rattle.command_frame.specs.declared.refusal.Refusal.{Refusal}
@@ -33,15 +35,11 @@ abbrev pub ◌>>=◌ : {A B : Type 0} → Result A Cause → (A → Result B Cau
 (Ok x) >>= f = f x
 (Err e) >>= f = Err e
 
--- the line of a file that can't be read or written
-unfoldable pub file_line : List ℕ → List ℕ
-file_line path = codes "error: file " ++ path ++ 10 ∷ []
-
 abbrev pub missing : List ℕ → Cause
 missing path = record { status = File; line = file_line path }
 
 abbrev pub usage : Cause
-usage = record { status = Usage; line = codes "error: usage\n" }
+usage = record { status = Usage; line = fault_line faults.Usage }
 
 -- the bytes of a file
 unfoldable pub bytes_at : Contents → List ℕ → Result (List ℕ) Cause

@@ -2,11 +2,12 @@
 use Rattle.std.specs.Prelude.{ℕ, ◌≡◌, ◌≤◌, List, true, Result, Ok, Err, MatchResult, Contains, string_bytes}
 use Rattle.outside.specs.Causes.{Rose}
 use Rattle.outside.specs.Files.{FilesState, SameFiles}
+use Rattle.sc_text.specs.Fault.{file_line}
 use Rattle.command_frame.specs.declared.plan.Plan.{Plan}
 use Rattle.command_frame.specs.declared.status.Status.TheVariants.{File}
 use Rattle.command_frame.specs.declared.stop.Stop.{Stop}
 use Rattle.command_frame.specs.declared.stop.Stop.TheVariants as stops
-use Rattle.command_frame.specs.Answer.{Cause, cause_of, file_line, paths_in, writes_of}
+use Rattle.command_frame.specs.Answer.{Cause, cause_of, paths_in, writes_of}
 
 -- nothing was written
 pub record OnlyRead (old new : FilesState) : Type 0 where

@@ -1,10 +1,12 @@
 -- What a stop means for the caller: its status and its line.
-use Rattle.std.specs.Prelude.{ℕ, ◌≡◌, List, codes, string_bytes}
+use Rattle.std.specs.Prelude.{ℕ, ◌≡◌, List, string_bytes}
+use Rattle.sc_text.specs.declared.fault.Fault.TheVariants as faults
+use Rattle.sc_text.specs.Fault.{fault_line, file_line}
 use Rattle.command_frame.specs.declared.status.Status.{Status}
 use Rattle.command_frame.specs.declared.status.Status.TheVariants as statuses
 use Rattle.command_frame.specs.declared.stop.Stop.{Stop}
 use Rattle.command_frame.specs.declared.stop.Stop.TheVariants as stops
-use Rattle.command_frame.specs.Answer.{Cause, cause_of, file_line, usage}
+use Rattle.command_frame.specs.Answer.{Cause, cause_of, usage}
 
 abbrev pub status_of : Stop → Status
 status_of stops.Memory = statuses.Memory
@@ -14,10 +16,10 @@ status_of (stops.File line) = statuses.File
 status_of stops.Out = statuses.Write
 
 abbrev pub memory_line : List ℕ
-memory_line = codes "error: memory\n"
+memory_line = fault_line faults.Memory
 
 abbrev pub write_line : List ℕ
-write_line = codes "error: write\n"
+write_line = fault_line faults.Write
 
 abbrev pub line_of : Stop → List ℕ
 line_of stops.Memory = memory_line

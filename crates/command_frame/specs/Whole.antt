@@ -6,10 +6,11 @@ use Rattle.std.specs.Prelude.{ℕ, ◌≡◌, ◌≤◌, ◌⊎◌, List, true, 
 use Rattle.outside.specs.Causes.{Rose}
 use Rattle.outside.specs.Files.{FilesState, SameFiles, file_at}
 use Rattle.outside.specs.Sink.{SinkState, SameSink, Appends}
+use Rattle.sc_text.specs.Fault.{file_line}
 use Rattle.command_frame.specs.declared.status.Status.{Status}
 use Rattle.command_frame.specs.declared.stop.Stop.{Stop}
 use Rattle.command_frame.specs.declared.stop.Stop.TheVariants as stops
-use Rattle.command_frame.specs.Answer.{Answer, Effect, after_writes, cause_of, file_line, missing, paths_in}
+use Rattle.command_frame.specs.Answer.{Answer, Effect, after_writes, cause_of, missing, paths_in}
 use Rattle.command_frame.specs.Finish.{Begun, PutPrefix}
 use Rattle.command_frame.specs.Reads.{Faulted}
 use Rattle.command_frame.specs.Status.{is_end}

@@ -4,14 +4,14 @@ ghost use Rattle.command_frame.specs.Status.{is_end};
 use crate::Status;
 
 /// One file that a command is to write: its path and its bytes.
-#[derive(Debug, Drop)]
+#[derive(Drop)]
 pub struct PlannedWrite {
     pub path: String,
     pub bytes: Vec<u8>,
 }
 
 /// What a command that isn't refused does: it writes its files in order, then prints its text, and ends with its status.
-#[derive(Debug, Drop)]
+#[derive(Drop)]
 pub struct Plan {
     pub writes: Vec<PlannedWrite>,
     pub text: Vec<u8>,

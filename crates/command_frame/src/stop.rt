@@ -51,6 +51,7 @@ impl Stop {
     }
 
     /// The line for the error stream, with its newline.
+    #[tactic(auto, unfolding(sc_text::specs::Fault::fault_line, sc_text::specs::Fault::fault_text))]
     pub fn line(&self) -> &[u8]
         ensures { result.now ≡ line_of self.now }
     {
@@ -65,7 +66,7 @@ impl Stop {
 }
 
 /// That the file at this path could not be read or written; `Memory` where the line can't be made.
-#[tactic(auto, unfolding(crate::specs::Answer::file_line))]
+#[tactic(auto, unfolding(sc_text::specs::Fault::file_line))]
 pub fn file_stop(alloc: Global, path: &str) -> Stop
     ensures { IsFileStop path.now result }
 {

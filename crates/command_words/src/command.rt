@@ -6,7 +6,7 @@ use crate::tape_seed::TapeSeed;
 use std::alloc::AllocError;
 
 /// Where the tapes of a run come from.
-#[derive(Debug, Drop)]
+#[derive(Drop)]
 pub enum TapeSource {
     /// The path of a tape file.
     File(String),
@@ -15,7 +15,7 @@ pub enum TapeSource {
 }
 
 /// The words of `run`: the paths of the program and the input file, the tapes, and the most that the run may cost.
-#[derive(Debug, Drop)]
+#[derive(Drop)]
 pub struct RunWords {
     pub program: String,
     pub input: String,
@@ -32,7 +32,7 @@ pub struct DealWords {
 }
 
 /// A command, with its words.
-#[derive(Debug, Drop)]
+#[derive(Drop)]
 pub enum Command {
     Run(RunWords),
     Deal(DealWords),

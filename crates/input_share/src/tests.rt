@@ -1,7 +1,7 @@
 // Files dealt by hand, and share files that are good or bad.
 use crate::{DealErr, Dealt, ShareFile, deal, read_share, shape_part, write_share};
 use sc_text::Name;
-use std::alloc::Global;
+use std::alloc::{AllocError, Global};
 use std::test::Fail;
 use value_file::{
     Bits, Domain, Entry, Field, Inputs, ReadErr, Value, Words, public_part, write_public,
@@ -150,75 +150,81 @@ fn text(alloc: Global, entry: &str, top: &str) -> Result<String, Fail> {
     Ok(text)
 }
 
+const GOOD: &str =
+    "{\"name\":\"a\",\"domain\":\"private\",\"type\":\"bool\",\"shape\":2,\"share\":[6,0],\"value\":1}";
+
+const TOP: &str = ",\"lens\":[1,2,3,4],\"miner\":2";
+
+/// Why the file of miner 2 that has this entry and these fields at top is refused, if it is.
+fn refusal(alloc: Global, entry: &str, top: &str) -> Result<Option<ReadErr>, Fail> {
+    let text = text(alloc, entry, top)?;
+    Ok(read_share(alloc, text.as_bytes(), 2).err())
+}
+
+/// A private entry with these fields behind its type.
+fn private_entry(alloc: Global, fields: &str) -> Result<String, AllocError> {
+    format!(in alloc; "{{\"name\":\"a\",\"domain\":\"private\",\"type\":\"bool\",{fields}}}")
+}
+
 #[test]
-fn a_bad_file_is_refused_at_its_first_fault(rt: HostRuntime) -> Result<(), Fail> {
-    let good =
-        "{\"name\":\"a\",\"domain\":\"private\",\"type\":\"bool\",\"shape\":2,\"share\":[6,0],\"value\":1}";
-    let top = ",\"lens\":[1,2,3,4],\"miner\":2";
-    for (entry, top, wanted) in [
-        (good, top, None),
-        ("", top, None),
-        (good, ",", Some(ReadErr::Syntax)),
-        ("1", top, bad(Field::Name)),
-        ("{\"name\":\"a\"}", "", bad(Field::Domain)),
-        (
-            "{\"name\":\"a\",\"domain\":\"private\"}",
-            top,
-            bad(Field::Type),
-        ),
+fn a_good_file_is_read(rt: HostRuntime) -> Result<(), Fail> {
+    assert_eq!(rt; refusal(rt.alloc(), GOOD, TOP)?, None);
+    assert_eq!(rt; refusal(rt.alloc(), "", TOP)?, None);
+    assert_eq!(rt; refusal(rt.alloc(), GOOD, ",")?, Some(ReadErr::Syntax));
+    Ok(())
+}
+
+#[test]
+fn a_bad_entry_is_refused_before_the_top(rt: HostRuntime) -> Result<(), Fail> {
+    for (entry, field) in [
+        ("1", Field::Name),
+        ("{\"name\":\"a\"}", Field::Domain),
+        ("{\"name\":\"a\",\"domain\":\"private\"}", Field::Type),
         (
             "{\"name\":\"a\",\"domain\":\"public\",\"type\":\"bool\",\"shape\":0,\"share\":[]}",
-            top,
-            bad(Field::Value),
-        ),
-        (
-            "{\"name\":\"a\",\"domain\":\"private\",\"type\":\"bool\",\"value\":true}",
-            top,
-            bad(Field::Shape),
-        ),
-        (
-            "{\"name\":\"a\",\"domain\":\"private\",\"type\":\"bool\",\"shape\":\"array\",\"share\":[1]}",
-            top,
-            bad(Field::Shape),
-        ),
-        (
-            "{\"name\":\"a\",\"domain\":\"private\",\"type\":\"bool\",\"shape\":\"scalar\",\"share\":1}",
-            top,
-            bad(Field::Share),
-        ),
-        (
-            "{\"name\":\"a\",\"domain\":\"private\",\"type\":\"bool\",\"shape\":\"scalar\",\"share\":[true]}",
-            top,
-            bad(Field::Share),
-        ),
-        (
-            "{\"name\":\"a\",\"domain\":\"private\",\"type\":\"bool\",\"shape\":65537,\"share\":[1]}",
-            top,
-            bad(Field::Share),
-        ),
-        (good, "", bad_top(Field::Lens)),
-        (good, ",\"lens\":[1,2,3],\"miner\":1", bad_top(Field::Lens)),
-        (
-            good,
-            ",\"lens\":[1,2,3,4,5],\"miner\":2",
-            bad_top(Field::Lens),
-        ),
-        (good, ",\"lens\":[1,2,3,4]", bad_top(Field::Miner)),
-        (
-            good,
-            ",\"lens\":[1,2,3,4],\"miner\":3",
-            bad_top(Field::Miner),
-        ),
-        (
-            good,
-            ",\"lens\":[1,2,3,4],\"miner\":\"2\"",
-            bad_top(Field::Miner),
+            Field::Value,
         ),
     ] {
-        let text = text(rt.alloc(), entry, top)?;
-        let answer = read_share(rt.alloc(), text.as_bytes(), 2).err();
-        assert_eq!(rt; answer, wanted, "of {text}");
+        let answer = refusal(rt.alloc(), entry, "")?;
+        assert_eq!(rt; answer, bad(field), "of {entry}");
     }
+    Ok(())
+}
+
+#[test]
+fn a_bad_share_is_refused(rt: HostRuntime) -> Result<(), Fail> {
+    for (fields, field) in [
+        ("\"value\":true", Field::Shape),
+        ("\"shape\":\"array\",\"share\":[1]", Field::Shape),
+        ("\"shape\":\"scalar\",\"share\":1", Field::Share),
+        ("\"shape\":\"scalar\",\"share\":[true]", Field::Share),
+        ("\"shape\":65537,\"share\":[1]", Field::Share),
+    ] {
+        let entry = private_entry(rt.alloc(), fields)?;
+        let answer = refusal(rt.alloc(), &entry, TOP)?;
+        assert_eq!(rt; answer, bad(field), "of {fields}");
+    }
+    Ok(())
+}
+
+#[test]
+fn bad_lengths_are_refused_before_a_bad_miner(rt: HostRuntime) -> Result<(), Fail> {
+    for (top, field) in [
+        ("", Field::Lens),
+        (",\"lens\":[1,2,3],\"miner\":1", Field::Lens),
+        (",\"lens\":[1,2,3,4,5],\"miner\":2", Field::Lens),
+        (",\"lens\":[1,2,3,4]", Field::Miner),
+        (",\"lens\":[1,2,3,4],\"miner\":3", Field::Miner),
+        (",\"lens\":[1,2,3,4],\"miner\":\"2\"", Field::Miner),
+    ] {
+        let answer = refusal(rt.alloc(), GOOD, top)?;
+        assert_eq!(rt; answer, bad_top(field), "of {top}");
+    }
+    Ok(())
+}
+
+#[test]
+fn a_file_without_inputs_is_read_for_its_miner(rt: HostRuntime) -> Result<(), Fail> {
     for (bytes, miner, wanted) in [
         ("{}", 1, bad_top(Field::Inputs)),
         (

@@ -8,7 +8,7 @@ use input_share::draws;
 use value_file::{Domain, Entry, Value};
 
 /// A private number that the program asks for, and how many words the dealer draws before it splits this number.
-#[derive(Clone, Copy, Debug)]
+#[derive(Clone, Copy)]
 pub struct Argument {
     pub value: u64,
     pub place: u128,

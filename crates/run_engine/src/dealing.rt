@@ -7,7 +7,7 @@ use proto_core::{P1, P2, P3, Share};
 use share_ring::ShareRing;
 
 /// The two words by which the dealer masks one value.
-#[derive(Clone, Copy, Debug)]
+#[derive(Clone, Copy)]
 pub struct DealerMasks {
     /// The word that is drawn first: miner 1's share.
     pub d1: u64,

@@ -67,6 +67,10 @@ input_fault_text inputs.BadLens = codes "I2 lens"
 input_fault_text inputs.BadMiner = codes "I2 miner"
 input_fault_text (inputs.TooMany entry) = codes "I3 entry " ++ decimal entry
 
+-- a file that could not be read or written
+abbrev pub file_text : List ℕ → List ℕ
+file_text path = codes "file " ++ path
+
 -- a fault, without what every line has
 unfoldable pub fault_text : Fault → List ℕ
 fault_text faults.Usage = codes "usage"
@@ -78,10 +82,18 @@ fault_text (faults.BadView line) = codes "V1 line " ++ decimal line
 fault_text (faults.BadTape place) = codes "Q1 place " ++ decimal place
 fault_text (faults.ShortTape need have) = codes "Q2 need " ++ decimal need ++ codes " have " ++ decimal have
 fault_text (faults.BadSchedule line) = codes "S1 line " ++ decimal line
-fault_text (faults.File path) = codes "file " ++ string_bytes path
+fault_text (faults.File path) = file_text (string_bytes path)
 fault_text faults.Write = codes "write"
 fault_text faults.Memory = codes "memory"
 
--- the line for the error stream
+-- a line of the error stream
+abbrev pub error_line : List ℕ → List ℕ
+error_line text = codes "error: " ++ text ++ codes "\n"
+
+-- the line that says why a command stopped
 unfoldable pub fault_line : Fault → List ℕ
-fault_line fault = codes "error: " ++ fault_text fault ++ codes "\n"
+fault_line fault = error_line (fault_text fault)
+
+-- the same for a file, of its path alone
+unfoldable pub file_line : List ℕ → List ℕ
+file_line path = error_line (file_text path)

@@ -1,5 +1,5 @@
 -- Texts by hand.
-use Rattle.std.specs.Prelude.{◌≡◌, ◌^◌, ◌-◌, [], ◌∷◌, codes, true, false}
+use Rattle.std.specs.Prelude.{◌≡◌, ◌^◌, ◌-◌, [], ◌∷◌, codes, string_bytes, true, false}
 use Rattle.std.proofs.Common.{refl}
 use Rattle.std.specs.Fmt.{digits}
 use Rattle.sc_text.specs.declared.code.PlacedFault.TheVariants as placed
@@ -14,7 +14,7 @@ use Rattle.sc_text.specs.declared.input_fault.InputFault.TheVariants as inputs
 use Rattle.sc_text.specs.Elements.{element_text, elements_text}
 use Rattle.sc_text.specs.End.{trap_word, owner_digit, ending_text, end_line}
 use Rattle.sc_text.specs.Event.{event_line, run_text}
-use Rattle.sc_text.specs.Fault.{placed_code, span_text, field_word, input_fault_text, fault_text, fault_line}
+use Rattle.sc_text.specs.Fault.{placed_code, span_text, field_word, input_fault_text, fault_text, fault_line, file_line}
 
 pub opened_truths : event_line (events.Open (Truth true ∷ Truth false ∷ [])) ≡ codes "open true false\n"
 unfolding event_line elements_text element_text
@@ -51,3 +51,12 @@ bad_value = refl
 pub short_dealer_tape : fault_line (faults.ShortTape 4 3) ≡ codes "error: Q2 need 4 have 3\n"
 unfolding fault_line fault_text digits
 short_dealer_tape = refl
+
+pub unreadable_file : file_line (codes "a.sc") ≡ codes "error: file a.sc\n"
+unfolding file_line
+unreadable_file = refl
+
+-- the fault of a file has the line of its path
+pub file_line_of_fault : (path : _) → fault_line (faults.File path) ≡ file_line (string_bytes path)
+unfolding fault_line fault_text file_line
+file_line_of_fault path = refl

@@ -4,7 +4,7 @@ ghost use Rattle.std.specs.Prelude.{◌≡◌};
 use std::marker::Model;
 
 /// The tapes of the dealer and of miners 1, 2 and 3: the words that each draws in a run, in order.
-#[derive(Drop, Debug)]
+#[derive(Drop)]
 pub struct Tapes {
     dealer: Vec<u64>,
     miner1: Vec<u64>,

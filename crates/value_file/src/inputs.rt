@@ -6,7 +6,7 @@ use sc_text::Name;
 use std::marker::Model;
 
 /// One input of a run: its name, who may know it, and its value.
-#[derive(Drop, Debug)]
+#[derive(Drop)]
 pub struct Entry {
     pub name: Name,
     pub domain: Domain,
@@ -14,7 +14,7 @@ pub struct Entry {
 }
 
 /// The inputs of a run, in the order of their file. Clauses see the list of the entries.
-#[derive(Drop, Debug)]
+#[derive(Drop)]
 pub struct Inputs {
     entries: Vec<Entry>,
 }

@@ -4,7 +4,7 @@ ghost use Rattle.std.specs.Prelude.{◌≡◌, ℕ, List, Bool};
 use std::marker::Model;
 
 /// The numbers of an array. Clauses see their list.
-#[derive(Drop, Debug)]
+#[derive(Drop)]
 pub struct Words {
     words: Vec<u64>,
 }
@@ -39,7 +39,7 @@ impl Words {
 }
 
 /// The truth values of an array. Clauses see their list.
-#[derive(Drop, Debug)]
+#[derive(Drop)]
 pub struct Bits {
     bits: Vec<bool>,
 }

@@ -11,7 +11,7 @@ use std::alloc::{AllocError, Global};
 use std::marker::Model;
 
 /// What everybody may know of an input: the value of a public one, type and shape of a private one.
-#[derive(Drop, Debug)]
+#[derive(Drop)]
 pub enum PublicValue {
     Known(Value),
     Hidden { data_type: DataType, shape: Shape },
@@ -33,14 +33,14 @@ impl PublicValue {
 }
 
 /// What everybody may know of one input, with its name.
-#[derive(Drop, Debug)]
+#[derive(Drop)]
 pub struct PublicEntry {
     pub name: Name,
     pub value: PublicValue,
 }
 
 /// What everybody may know of the inputs of a run, in the order of their file. Clauses see the list of the entries.
-#[derive(Drop, Debug)]
+#[derive(Drop)]
 pub struct PublicPart {
     entries: Vec<PublicEntry>,
 }

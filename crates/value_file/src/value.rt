@@ -39,7 +39,7 @@ impl Shape {
 }
 
 /// A value: a number, a truth value, or an array of either.
-#[derive(Drop, Debug)]
+#[derive(Drop)]
 pub enum Value {
     Number(u64),
     Truth(bool),
