@@ -1,1 +1,6 @@
+pub mod Bytes
+pub mod Lexis
+pub mod Pieces
+pub mod Places
+pub mod Signs
 pub mod Tokens

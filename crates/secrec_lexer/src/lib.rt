@@ -4,8 +4,11 @@
 //! there. What can't be cut is refused at its first fault.
 #![tactic(auto)]
 
+mod lex_err;
+mod piece;
 mod sign;
 mod token;
 
+pub use lex_err::{LexErr, LexFault};
 pub use sign::Sign;
 pub use token::{Kind, Token, Tokens};
