@@ -4,3 +4,4 @@ pub mod Pieces
 pub mod Places
 pub mod Signs
 pub mod Tokens
+pub mod Vectors
