@@ -4,9 +4,11 @@
 //! there. What can't be cut is refused at its first fault.
 #![tactic(auto)]
 
+mod bytes;
 mod lex_err;
 mod piece;
 mod sign;
+mod spelling;
 mod token;
 
 pub use lex_err::{LexErr, LexFault};
