@@ -1,5 +1,5 @@
 // Which bytes are what, and how many stand at a front.
-ghost use Rattle.std.specs.Prelude.{◌≡◌, ℕ, IsTrue, length};
+ghost use Rattle.std.specs.Prelude.{◌≡◌, ◌≤◌, IsTrue, IfSome, length};
 ghost use Rattle.std.specs.List.{list_all};
 ghost use Rattle.sc_text.specs.Name.{is_name_byte};
 ghost use Rattle.secrec_lexer.specs.Bytes.{is_blank, is_newline, name_run, first_line, size_to_close};
@@ -48,7 +48,8 @@ pub fn line_size(bytes: &[u8]) -> usize
 
 /// How many bytes there are up to the first `*/` and with it.
 pub fn size_to_close(bytes: &[u8]) -> Option<usize>
-    ensures { result ≡ size_to_close bytes.now }
+    ensures size { result ≡ size_to_close bytes.now }
+    ensures within { IfSome result (λ size. size ≤ length bytes.now) }
 {
     for at in 0..bytes.len() {
         if bytes[at..].starts_with(b"*/") {

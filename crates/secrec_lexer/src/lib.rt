@@ -6,6 +6,7 @@
 
 mod bytes;
 mod lex_err;
+mod number;
 mod piece;
 mod sign;
 mod spelling;
