@@ -1,3 +1,6 @@
 pub mod Numbers
+pub mod Places
 pub mod Runs
 pub mod Signs
+pub mod Tests
+pub mod Within

@@ -10,6 +10,7 @@ use Rattle.std.proofs.lemmas.Str.{IsUtf8-from_ascii}
 use Rattle.std.proofs.Math.Seq.{drop-cons}
 use Rattle.sc_text.specs.Name.{is_name_byte}
 use Rattle.secrec_lexer.specs.Bytes.{name_run, begins, size_to_close}
+use Rattle.secrec_lexer.proofs.Tests.{and_left, and_right}
 
 -- so many bytes from the front are the run
 pub take-length-name_run : (bytes : List ℕ) → take (length (name_run bytes)) bytes ≡ name_run bytes
@@ -17,14 +18,6 @@ take-length-name_run bytes = ap (λ n. take n bytes) (length-prefix_len is_name_
 
 is_name_byte-small : (byte : ℕ) → is_name_byte byte ≡ true → byte < 128
 is_name_byte-small byte h = grind (arith, nat_tests)
-
-and_left : (a b : Bool) → (a && b) ≡ true → a ≡ true
-and_left true b h = refl
-and_left false b h = h
-
-and_right : (a b : Bool) → (a && b) ≡ true → b ≡ true
-and_right true b h = h
-and_right false b h = cc
 
 names_are_ascii : (bytes : List ℕ) → list_all is_name_byte bytes ≡ true → IsAscii bytes
 names_are_ascii [] h i = omega arith

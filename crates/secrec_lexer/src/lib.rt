@@ -8,6 +8,7 @@ mod bytes;
 mod lex_err;
 mod number;
 mod piece;
+mod place;
 mod sign;
 mod spelling;
 mod token;
