@@ -36,6 +36,12 @@ pub data IsRefused (text : List ℕ) : LexFault → Span → Type 0 where
   too_long : 1048576 < length text → IsRefused text faults.TooLong (place_at text 1048576)
   within : {fault : LexFault} {place : Span} → length text ≤ 1048576 → Refuses text 0 fault place → IsRefused text fault place
 
+-- what was answered from this offset on: these tokens, or this fault
+abbrev pub AnswersFrom : List ℕ → ℕ → Result (List Token) LexErr → Type 0
+AnswersFrom text offset (Ok found) = Lexes text offset found
+AnswersFrom text offset (Err Memory) = Unit {0}
+AnswersFrom text offset (Err (Refused fault place)) = Refuses text offset fault place
+
 -- what was answered: these tokens, if memory was found
 abbrev pub IsTokens : Result (List Token) LexErr → List Token → Type 0
 IsTokens (Ok found) tokens = found ≡ tokens

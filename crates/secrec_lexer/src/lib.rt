@@ -5,6 +5,7 @@
 #![tactic(auto)]
 
 mod bytes;
+mod lex;
 mod lex_err;
 mod number;
 mod piece;
