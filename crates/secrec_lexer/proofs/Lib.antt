@@ -1,4 +1,5 @@
 pub mod Ended
+pub mod Laws
 pub mod Numbers
 pub mod Places
 pub mod Runs

@@ -1,6 +1,6 @@
 -- What `from_str_radix` reads is what the definition spells.
-use Rattle.std.proofs.Common.{◌≡◌, ℕ, zero, suc, ◌+◌, ◌<◌, ◌≤◌, ◌^◌, List, [], ◌∷◌, refl, sym, ap, ◌∙◌, subst, length, drop, arith, Bool, true, false, Option, Some, None, cond, Result, Ok, Err}
-use Rattle.std.specs.Prelude.{◌&&◌, ◌==◌, nat_lt, slice_index, IsTrue}
+use Rattle.std.proofs.Common.{◌≡◌, ℕ, ◌<◌, ◌^◌, List, [], ◌∷◌, refl, sym, subst, length, arith, Bool, true, false, Some, None, cond, Result, Ok, Err}
+use Rattle.std.specs.Prelude.{◌&&◌, ◌==◌, nat_lt, IsTrue}
 use Rattle.std.specs.List.{list_all}
 use Rattle.std.specs.Char.{is_digit, digit_value}
 use Rattle.std.specs.Result.{OkIff, result_ok}

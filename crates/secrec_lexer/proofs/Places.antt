@@ -1,12 +1,12 @@
 -- Places behind more and more bytes.
-use Rattle.std.proofs.Common.{◌≡◌, ℕ, zero, suc, ◌+◌, ◌-◌, ◌<◌, ◌≤◌, List, [], ◌∷◌, ◌++◌, refl, sym, ap, ◌∙◌, subst, append_assoc, append-nil, length, take, drop, arith, Bool, true, false, cond, length-drop, length-append}
-use Rattle.std.specs.Prelude.{not, reverse}
-use Rattle.std.specs.List.{fold, count_by, after_last, suffix_len, prefix_len}
+use Rattle.std.proofs.Common.{◌≡◌, ℕ, ◌+◌, ◌-◌, ◌≤◌, List, [], ◌∷◌, ◌++◌, refl, sym, ap, ◌∙◌, append_assoc, append-nil, length, arith, Bool, true, false, cond, length-drop}
+use Rattle.std.specs.Prelude.{not}
+use Rattle.std.specs.List.{fold, count_by, suffix_len, prefix_len}
 use Rattle.std.proofs.lemmas.List.{reverse-append}
 use Rattle.std.proofs.lemmas.List.Sums.{count_by-le-length, suffix_len-le-length, fold-append}
 use Rattle.sc_text.specs.declared.span.Span.{Span}
 use Rattle.secrec_lexer.specs.Bytes.{is_newline}
-use Rattle.secrec_lexer.specs.Places.{place_behind, place_at, next_place}
+use Rattle.secrec_lexer.specs.Places.{place_behind, next_place}
 
 -- the column is counted back from the end
 column_is : (bytes : List ℕ) → (place_behind bytes).column ≡ 1 + suffix_len (λ byte. not (is_newline byte)) bytes

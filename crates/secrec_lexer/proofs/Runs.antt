@@ -1,6 +1,6 @@
 -- Runs of letters, digits and `_`, and the end of a comment.
-use Rattle.std.proofs.Common.{◌≡◌, ℕ, zero, suc, ◌+◌, ◌<◌, ◌≤◌, List, [], ◌∷◌, refl, sym, ap, ◌∙◌, length, take, drop, arith, Bool, true, false, Option, Some, None, cond, Result, Ok, Err, get_or, add-one, ◌-◌, length-drop}
-use Rattle.std.specs.Prelude.{◌&&◌, codes, option_map, IsTrue, MatchResult, IsOk}
+use Rattle.std.proofs.Common.{◌≡◌, ℕ, zero, suc, ◌+◌, ◌<◌, List, [], ◌∷◌, refl, sym, ap, ◌∙◌, length, take, drop, arith, Bool, true, false, Option, Some, None, cond, Result, Ok, Err, get_or, add-one, ◌-◌, length-drop}
+use Rattle.std.specs.Prelude.{codes, option_map, IsTrue, MatchResult, IsOk}
 use Rattle.std.specs.List.{list_all, prefix_len}
 use Rattle.std.specs.Str.{IsAscii, IsUtf8}
 use Rattle.std.proofs.lemmas.Bool.Decides.{nat_tests}

@@ -1,15 +1,12 @@
 -- Each piece lies within the text, and takes some of it.
-use Rattle.std.proofs.Common.{◌≡◌, ℕ, zero, suc, ◌+◌, ◌<◌, ◌≤◌, List, [], ◌∷◌, refl, sym, subst, length, drop, arith, Bool, true, false, Option, Some, None, cond, length-drop, add-one}
-use Rattle.std.specs.Prelude.{◌&&◌, ◌==◌, nat_eq, codes, option_map, not, if◌then◌else◌}
-use Rattle.std.specs.List.{prefix_len}
+use Rattle.std.proofs.Common.{◌≡◌, ℕ, suc, ◌+◌, ◌<◌, ◌≤◌, List, [], ◌∷◌, refl, sym, subst, length, drop, arith, true, false, Option, Some, None, length-drop, add-one}
+use Rattle.std.specs.Prelude.{◌==◌, nat_eq, codes, option_map, not}
 use Rattle.std.specs.Char.{is_ascii_digit}
-use Rattle.std.proofs.lemmas.Bool.Decides.{nat_tests}
 use Rattle.std.proofs.lemmas.List.Folds.{length-prefix_len}
 use Rattle.std.proofs.lemmas.List.Sums.{prefix_len-le-length}
 use Rattle.sc_text.specs.Name.{is_name, is_name_byte}
 use Rattle.secrec_lexer.specs.declared.sign.Sign.{Sign}
 use Rattle.secrec_lexer.specs.declared.piece.Piece.{Piece}
-use Rattle.secrec_lexer.specs.declared.piece.Piece.TheVariants.{End, Blank, Lexeme, Fault}
 use Rattle.secrec_lexer.specs.Bytes.{is_blank, is_newline, name_run, first_line, begins, size_to_close}
 use Rattle.secrec_lexer.specs.Signs.{single_sign, longer_sign, keyword}
 use Rattle.secrec_lexer.specs.Pieces.{comment, word_value, number, word, text, longest, sign, first, IsWithin}

@@ -9,7 +9,7 @@ abbrev pub place_behind : List ℕ → Span
 place_behind bytes = record { line = 1 + count_by is_newline bytes; column = 1 + length (after_last is_newline bytes) }
 
 -- the line and the column of the byte at this offset of a text
-abbrev pub place_at : List ℕ → ℕ → Span
+unfoldable pub place_at : List ℕ → ℕ → Span
 place_at text offset = place_behind (take offset text)
 
 -- the place one byte further

@@ -5,8 +5,8 @@
 #![tactic(auto)]
 
 mod bytes;
-mod lex;
 mod lex_err;
+mod lexing;
 mod number;
 mod piece;
 mod place;
@@ -15,5 +15,6 @@ mod spelling;
 mod token;
 
 pub use lex_err::{LexErr, LexFault};
+pub use lexing::lex;
 pub use sign::Sign;
 pub use token::{Kind, Token, Tokens};

@@ -1,7 +1,7 @@
 // Lines and columns.
-ghost use Rattle.std.specs.Prelude.{◌≡◌, ◌+◌, ◌<◌, ◌^◌, [], length};
+ghost use Rattle.std.specs.Prelude.{◌≡◌, ◌+◌, ◌<◌, ◌≤◌, ◌^◌, [], length};
 ghost use Rattle.std.specs.List.{fold};
-ghost use Rattle.secrec_lexer.specs.Places.{place_behind, next_place};
+ghost use Rattle.secrec_lexer.specs.Places.{place_behind, place_at, next_place};
 
 use crate::bytes::is_newline;
 use sc_text::Span;
@@ -42,4 +42,14 @@ pub fn moved(place: Span, bytes: &[u8]) -> Span
         moved = next_place(moved, *byte);
     }
     moved
+}
+
+/// The place of the byte at this offset of a text.
+#[tactic(auto, unfolding(crate::specs::Places::place_at))]
+pub fn place_at(text: &[u8], offset: usize) -> Span
+    requires within { offset ≤ length text.now }
+    requires room { offset + 1 < 2 ^ 32 }
+    ensures { result ≡ place_at text.now offset }
+{
+    moved(start(), &text[..offset])
 }

@@ -6,10 +6,10 @@ ghost use Rattle.secrec_lexer.specs.declared.lex_err.LexFault.{LexFault};
 ghost use Rattle.secrec_lexer.specs.declared.lex_err.LexErr.TheVariants.{Memory};
 ghost use Rattle.secrec_lexer.specs.declared.token.Kind.TheVariants.{End as EndOfText};
 ghost use Rattle.secrec_lexer.specs.Tokens.{is_end};
-ghost use Rattle.secrec_lexer.specs.Lexis.{HasTokens, IsRefused, IsTokens, IsRefusal, RefusesRightly, AnswersFrom};
+ghost use Rattle.secrec_lexer.specs.Lexis.{HasTokens, IsRefused, IsAnswer, IsTokens, IsRefusal};
 
 use crate::piece::{Piece, first};
-use crate::place::{moved, start};
+use crate::place::{moved, place_at, start};
 use crate::{Kind, LexErr, LexFault, Token, Tokens};
 use sc_text::Span;
 use std::alloc::Global;
@@ -32,7 +32,7 @@ fn with_end(mut tokens: Vec<Token>, place: Span) -> Result<Tokens, LexErr>
 // The tokens of a text that is not too long, piece after piece.
 fn cut(alloc: Global, text: &[u8]) -> Result<Tokens, LexErr>
     requires { length text.now ≤ 1048576 }
-    ensures { AnswersFrom text.now 0 result }
+    ensures { IsAnswer text.now result }
 {
     let mut tokens = Vec::new(alloc);
     let mut at = 0;
@@ -54,4 +54,33 @@ fn cut(alloc: Global, text: &[u8]) -> Result<Tokens, LexErr>
         place = moved(place, &rest[..size]);
         at += size;
     }
+}
+
+/// The tokens of a program's text, the end of it behind them; or its first fault, and the line and column where it stands.
+///
+/// A text of more than 1,048,576 bytes is refused for its length, before all else, at the byte behind as many.
+pub fn lex(alloc: Global, text: &[u8]) -> Result<Tokens, LexErr>
+    ensures answer { IsAnswer text.now result }
+
+    // Exactly these tokens, and exactly this refusal, unless memory ran short.
+    ensures only_tokens { (tokens : List Token) → HasTokens text.now tokens → IsTokens result tokens }
+    ensures only_refusal { (fault : LexFault) (place : Span) → IsRefused text.now fault place
+        → IsRefusal result fault place }
+
+    // A text has at most one list of tokens, at most one refusal, and not both.
+    ensures one_list { (tokens others : List Token) → HasTokens text.now tokens → HasTokens text.now others
+        → tokens ≡ others }
+    ensures one_refusal { (fault other : LexFault) (place spot : Span) → IsRefused text.now fault place
+        → IsRefused text.now other spot → (fault ≡ other) × (place ≡ spot) }
+    ensures not_both { (tokens : List Token) (fault : LexFault) (place : Span) → HasTokens text.now tokens
+        → IsRefused text.now fault place → ⊥ }
+{
+    if text.len() > LONGEST_TEXT {
+        let place = place_at(text, LONGEST_TEXT);
+        return Err(LexErr::Refused {
+            fault: LexFault::TooLong,
+            place,
+        });
+    }
+    cut(alloc, text)
 }

@@ -1,6 +1,6 @@
 use Rattle.std.proofs.Common.{◌-◌, length}
 use Rattle.secrec_lexer.proofs.Turns.{IsCut}
-use Rattle.secrec_lexer.proofs.lex.cut.Given as goal
+use Rattle.secrec_lexer.proofs.lexing.cut.Given as goal
 
 abbrev pub invariant-loop-tokens : goal.invariant-loop-tokens
 invariant-loop-tokens l = IsCut l.text l.at l.place l.tokens.items
