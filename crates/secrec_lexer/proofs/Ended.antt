@@ -4,7 +4,7 @@ use Rattle.std.specs.Prelude.{not}
 use Rattle.std.specs.List.{list_all}
 use Rattle.secrec_lexer.specs.declared.token.Token.{Token}
 use Rattle.secrec_lexer.specs.Tokens.{is_end, IsEnded}
-use Rattle.secrec_lexer.proofs.Tests.{and_left, and_right, and_both}
+use Rattle.secrec_lexer.proofs.Choices.{and_left, and_right, and_both}
 
 pub ended_behind : (tokens : List Token) (last : Token) → list_all (λ token. not (is_end token.kind)) tokens ≡ true → is_end last.kind ≡ true → IsEnded (tokens ++ last ∷ [])
 ended_behind [] last h e = e

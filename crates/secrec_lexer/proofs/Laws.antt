@@ -1,5 +1,6 @@
 -- A text has one answer.
-use Rattle.std.proofs.Common.{◌≡◌, ℕ, ◌+◌, ◌<◌, List, ◌∷◌, refl, sym, ap, ◌∙◌, subst, length, drop, arith, Result, Ok, Err}
+use Rattle.std.proofs.Common.{◌≤◌, zero, suc, ◌-◌, ◌⊎◌, inl, inr, ◌≡◌, ℕ, ◌+◌, ◌<◌, List, ◌∷◌, refl, sym, ap, ◌∙◌, subst, length, drop, arith, Result, Ok, Err}
+use Rattle.std.proofs.lemmas.Bool.{cases_lt}
 use Rattle.sc_text.specs.declared.span.Span.{Span}
 use Rattle.secrec_lexer.specs.declared.token.Kind.{Kind}
 use Rattle.secrec_lexer.specs.declared.token.Token.{Token}
@@ -9,9 +10,10 @@ use Rattle.secrec_lexer.specs.declared.lex_err.LexErr.{LexErr}
 use Rattle.secrec_lexer.specs.declared.lex_err.LexErr.TheVariants.{Memory, Refused}
 use Rattle.secrec_lexer.specs.declared.piece.Piece.{Piece}
 use Rattle.secrec_lexer.specs.declared.piece.Piece.TheVariants.{End, Blank, Lexeme, Fault}
-use Rattle.secrec_lexer.specs.Pieces.{first}
+use Rattle.secrec_lexer.specs.Pieces.{first, IsWithin}
+use Rattle.secrec_lexer.proofs.Turns.{found_within}
 use Rattle.secrec_lexer.specs.Places.{place_at}
-use Rattle.secrec_lexer.specs.Lexis.{Lexes, ended, blank, lexeme, Refuses, here, behind_blank, behind_lexeme, HasTokens, IsRefused, too_long, within, IsAnswer, IsTokens, IsRefusal, token_at}
+use Rattle.secrec_lexer.specs.Lexis.{Lexes, ended, blank, lexeme, Refuses, here, behind_blank, behind_lexeme, HasTokens, IsRefused, too_long, within, IsAnswer, IsTokens, IsRefusal, token_at, IsDecided}
 
 -- what a piece is: its number of bytes, and its token
 size_of : Piece → ℕ
@@ -126,3 +128,37 @@ only_refusal text (Err (Refused other spot)) h fault place g = one_refusal text 
 
 pub is_too_long : (text : List ℕ) (place : Span) → 1048576 < length text → place ≡ place_at text 1048576 → IsAnswer text (Err (Refused faults.TooLong place))
 is_too_long text place long e = subst (IsRefused text faults.TooLong) (sym e) (too_long long)
+
+-- what stands from an offset on: tokens, or a fault
+abbrev Decides : List ℕ → ℕ → Type 0
+Decides text offset = ((tokens : List Token) × Lexes text offset tokens) ⊎ ((fault : LexFault) × (place : Span) × Refuses text offset fault place)
+
+behind : (text : List ℕ) (offset : ℕ) (piece : Piece) → first (drop offset text) ≡ piece → IsWithin piece (length text - offset) → ((size : ℕ) → 0 < size → size ≤ length text - offset → Decides text (offset + size)) → Decides text offset
+behind text offset End e h k = inl (_, ended e)
+behind text offset (Blank size) e h k =
+    elim (k size h.0 h.1) [
+      | inl r ↦ inl (r.0, blank size e r.1)
+      | inr r ↦ inr (r.0, r.1, behind_blank size e r.2)
+    ]
+behind text offset (Lexeme kind size) e h k =
+    elim (k size h.0 h.1) [
+      | inl r ↦ inl (_, lexeme kind size e r.1)
+      | inr r ↦ inr (r.0, r.1, behind_lexeme kind size e r.2)
+    ]
+behind text offset (Fault fault before) e h k = inr (fault, _, here before e)
+
+decided_from : (n : ℕ) (text : List ℕ) (offset : ℕ) → length text ≤ offset + n → Decides text offset
+decided_from zero text offset le =
+    behind text offset (first (drop offset text)) refl (found_within text offset (first (drop offset text)) refl) (λ size some fits. absurd (omega arith))
+decided_from (suc n) text offset le =
+    behind text offset (first (drop offset text)) refl (found_within text offset (first (drop offset text)) refl)
+    (λ size some fits. decided_from n text (offset + size) (omega arith))
+
+pub decided : (text : List ℕ) → IsDecided text
+decided text = elim (cases_lt 1048576 (length text)) [
+  | inl long ↦ inr (faults.TooLong, place_at text 1048576, too_long long)
+  | inr short ↦ elim (decided_from (length text) text 0 (omega arith)) [
+    | inl r ↦ inl (r.0, (short, r.1))
+    | inr r ↦ inr (r.0, r.1, within short r.2)
+  ]
+]

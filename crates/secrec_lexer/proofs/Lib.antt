@@ -4,6 +4,6 @@ pub mod Numbers
 pub mod Places
 pub mod Runs
 pub mod Signs
-pub mod Tests
+pub mod Choices
 pub mod Turns
 pub mod Within

@@ -8,7 +8,7 @@ use Rattle.std.specs.Str.Parse.{IsNumeral, AllDigits, digits_value, ParsesUnsign
 use Rattle.std.proofs.lemmas.Bool.Decides.{nat_tests, Decides-ltb}
 use Rattle.sc_text.specs.Name.{is_name_byte}
 use Rattle.secrec_lexer.specs.Pieces.{number_spelled}
-use Rattle.secrec_lexer.proofs.Tests.{and_left, and_right, and_both, not_true}
+use Rattle.secrec_lexer.proofs.Choices.{and_left, and_right, and_both, not_true}
 
 no_plus : (byte : ℕ) → is_name_byte byte ≡ true → byte == 43 ≡ false
 no_plus byte h = grind (arith, nat_tests)

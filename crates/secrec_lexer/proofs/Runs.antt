@@ -10,7 +10,7 @@ use Rattle.std.proofs.lemmas.Str.{IsUtf8-from_ascii}
 use Rattle.std.proofs.Math.Seq.{drop-cons}
 use Rattle.sc_text.specs.Name.{is_name_byte}
 use Rattle.secrec_lexer.specs.Bytes.{name_run, begins, size_to_close}
-use Rattle.secrec_lexer.proofs.Tests.{and_left, and_right}
+use Rattle.secrec_lexer.proofs.Choices.{and_left, and_right}
 
 -- so many bytes from the front are the run
 pub take-length-name_run : (bytes : List ℕ) → take (length (name_run bytes)) bytes ≡ name_run bytes

@@ -17,7 +17,7 @@ use Rattle.secrec_lexer.specs.Pieces.{first, IsWithin}
 use Rattle.secrec_lexer.specs.Places.{place_behind, place_at, next_place}
 use Rattle.secrec_lexer.specs.Lexis.{Lexes, ended, blank, lexeme, Refuses, here, behind_blank, behind_lexeme, IsRefused, within, IsAnswer, token_at}
 use Rattle.secrec_lexer.proofs.Runs.{rest_from}
-use Rattle.secrec_lexer.proofs.Tests.{and_both}
+use Rattle.secrec_lexer.proofs.Choices.{and_both}
 use Rattle.secrec_lexer.proofs.Places.{place_behind-append, line-le, column-le}
 use Rattle.secrec_lexer.proofs.Within.{first_within}
 
@@ -45,7 +45,7 @@ place_moved text offset size place next e f =
     f ∙ ap (λ bytes. fold next_place place (take size bytes)) (rest_from text offset)
     ∙ ap (λ p. fold next_place p (take size (drop offset text))) e ∙ sym (place_at-more text offset size)
 
-found_within : (text : List ℕ) (offset : ℕ) (piece : Piece) → first (drop offset text) ≡ piece → IsWithin piece (length text - offset)
+pub found_within : (text : List ℕ) (offset : ℕ) (piece : Piece) → first (drop offset text) ≡ piece → IsWithin piece (length text - offset)
 found_within text offset piece e = subst (λ n. IsWithin piece n) (length-drop offset text) (subst (λ p. IsWithin p (length (drop offset text))) e (first_within (drop offset text)))
 
 line_within : (text : List ℕ) (offset : ℕ) (place : Span) → place ≡ place_at text offset → place.line ≤ offset + 1

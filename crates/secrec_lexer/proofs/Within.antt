@@ -11,7 +11,7 @@ use Rattle.secrec_lexer.specs.Bytes.{is_blank, is_newline, name_run, first_line,
 use Rattle.secrec_lexer.specs.Signs.{single_sign, longer_sign, keyword}
 use Rattle.secrec_lexer.specs.Pieces.{comment, word_value, number, word, text, longest, sign, first, IsWithin}
 use Rattle.std.proofs.lemmas.Bool.{eqb-true}
-use Rattle.secrec_lexer.proofs.Tests.{and_left, and_right, split}
+use Rattle.secrec_lexer.proofs.Choices.{and_left, and_right, split}
 
 name_run-le : (bytes : List ℕ) → length (name_run bytes) ≤ length bytes
 name_run-le bytes = rw (length-prefix_len is_name_byte bytes) (prefix_len-le-length is_name_byte bytes)

@@ -1,5 +1,5 @@
 -- The tokens of a text, and its first fault: piece after piece.
-use Rattle.std.specs.Prelude.{◌≡◌, ℕ, ◌+◌, ◌<◌, ◌≤◌, List, [], ◌∷◌, length, drop, Result, Ok, Err}
+use Rattle.std.specs.Prelude.{◌≡◌, ◌⊎◌, ℕ, ◌+◌, ◌<◌, ◌≤◌, List, [], ◌∷◌, length, drop, Result, Ok, Err}
 use Rattle.sc_text.specs.declared.span.Span.{Span}
 use Rattle.secrec_lexer.specs.declared.token.Kind.{Kind}
 use Rattle.secrec_lexer.specs.declared.token.Kind.TheVariants as kinds
@@ -35,6 +35,12 @@ HasTokens text tokens = (length text ≤ 1048576) × Lexes text 0 tokens
 pub data IsRefused (text : List ℕ) : LexFault → Span → Type 0 where
   too_long : 1048576 < length text → IsRefused text faults.TooLong (place_at text 1048576)
   within : {fault : LexFault} {place : Span} → length text ≤ 1048576 → Refuses text 0 fault place → IsRefused text fault place
+
+-- the text has tokens or is refused
+abbrev pub IsDecided : List ℕ → Type 0
+IsDecided text =
+    ((tokens : List Token) × HasTokens text tokens)
+    ⊎ ((fault : LexFault) × (place : Span) × IsRefused text fault place)
 
 -- what is answered to a text: its tokens, its refusal, or that memory ran short
 abbrev pub IsAnswer : List ℕ → Result (List Token) LexErr → Type 0

@@ -6,7 +6,7 @@ ghost use Rattle.secrec_lexer.specs.declared.lex_err.LexFault.{LexFault};
 ghost use Rattle.secrec_lexer.specs.declared.lex_err.LexErr.TheVariants.{Memory};
 ghost use Rattle.secrec_lexer.specs.declared.token.Kind.TheVariants.{End as EndOfText};
 ghost use Rattle.secrec_lexer.specs.Tokens.{is_end};
-ghost use Rattle.secrec_lexer.specs.Lexis.{HasTokens, IsRefused, IsAnswer, IsTokens, IsRefusal};
+ghost use Rattle.secrec_lexer.specs.Lexis.{HasTokens, IsRefused, IsDecided, IsAnswer, IsTokens, IsRefusal};
 
 use crate::piece::{Piece, first};
 use crate::place::{moved, place_at, start};
@@ -67,7 +67,8 @@ pub fn lex(alloc: Global, text: &[u8]) -> Result<Tokens, LexErr>
     ensures only_refusal { (fault : LexFault) (place : Span) → IsRefused text.now fault place
         → IsRefusal result fault place }
 
-    // A text has at most one list of tokens, at most one refusal, and not both.
+    // A text has one list of tokens or one refusal, and not both.
+    ensures decided { IsDecided text.now }
     ensures one_list { (tokens others : List Token) → HasTokens text.now tokens → HasTokens text.now others
         → tokens ≡ others }
     ensures one_refusal { (fault other : LexFault) (place spot : Span) → IsRefused text.now fault place

@@ -12,6 +12,8 @@ mod piece;
 mod place;
 mod sign;
 mod spelling;
+#[cfg(test)]
+mod tests;
 mod token;
 
 pub use lex_err::{LexErr, LexFault};

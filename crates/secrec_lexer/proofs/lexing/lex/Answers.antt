@@ -1,7 +1,7 @@
 use Rattle.std.proofs.Common.{Err}
 use Rattle.secrec_lexer.specs.declared.lex_err.LexErr.TheVariants.{Refused}
 use Rattle.secrec_lexer.specs.declared.lex_err.LexFault.TheVariants.{TooLong}
-use Rattle.secrec_lexer.proofs.Laws.{is_too_long, one_list, one_refusal, not_both, only_tokens, only_refusal}
+use Rattle.secrec_lexer.proofs.Laws.{decided, is_too_long, one_list, one_refusal, not_both, only_tokens, only_refusal}
 use Rattle.secrec_lexer.proofs.lexing.lex.Goals as goal
 
 pub returns-then-text-gt-LONGEST_TEXT-clause-answer : goal.returns-then-text-gt-LONGEST_TEXT-clause-answer
@@ -38,3 +38,9 @@ returns-clause-one_refusal c = one_refusal c.args.text.now
 
 pub returns-clause-not_both : goal.returns-clause-not_both
 returns-clause-not_both c = not_both c.args.text.now
+
+pub returns-clause-decided : goal.returns-clause-decided
+returns-clause-decided c = decided c.args.text.now
+
+pub returns-then-text-gt-LONGEST_TEXT-clause-decided : goal.returns-then-text-gt-LONGEST_TEXT-clause-decided
+returns-then-text-gt-LONGEST_TEXT-clause-decided c = decided c.args.text.now
