@@ -1,0 +1,4 @@
+pub mod Tree
+pub mod Statements
+pub mod Programs
+pub mod Heights

@@ -1,0 +1,82 @@
+use crate::expression::{DataType, Expression};
+use sc_text::{Name, Span};
+
+/// A name in the text, with its place.
+#[derive(Drop)]
+pub struct Identifier {
+    pub place: Span,
+    pub text: Name,
+}
+
+/// Who may see a value: everybody, or only what a protection domain or domain variable of this name protects.
+#[derive(Drop)]
+pub enum Domain {
+    Public,
+    Named(Identifier),
+}
+
+/// A type as it is written: its domain, the type of its elements, and whether it is an array.
+#[derive(Drop)]
+pub struct DeclaredType {
+    pub place: Span,
+    pub domain: Domain,
+    pub element: DataType,
+    pub array: bool,
+}
+
+/// A declaration of a variable, with its size and its first value where they are given.
+#[derive(Drop)]
+pub struct Declaration {
+    pub declared: DeclaredType,
+    pub variable: Identifier,
+    pub size: Option<Expression>,
+    pub value: Option<Expression>,
+}
+
+/// What is assigned to: a variable, or an element of one.
+#[derive(Drop)]
+pub struct Target {
+    pub variable: Identifier,
+    pub index: Option<Expression>,
+}
+
+#[derive(Drop)]
+pub struct Assignment {
+    pub target: Target,
+    pub value: Expression,
+}
+
+/// The first part of a `for`.
+#[derive(Drop)]
+pub enum ForStart {
+    Nothing,
+    Declaration(Declaration),
+    Assignment(Assignment),
+}
+
+/// The third part of a `for`.
+#[derive(Drop)]
+pub enum ForStep {
+    Nothing,
+    Assignment(Assignment),
+    Expression(Expression),
+}
+
+/// A statement. A declaration begins at its type, an assignment at its target.
+#[cycle(statements)]
+#[derive(Drop)]
+pub enum Statement {
+    Block(Span, Vec<Statement>),
+    Empty(Span),
+    If(Span, Expression, Box<Statement>, Option<Box<Statement>>),
+    While(Span, Expression, Box<Statement>),
+    DoWhile(Span, Box<Statement>, Expression),
+    For(Span, ForStart, Option<Expression>, ForStep, Box<Statement>),
+    Break(Span),
+    Continue(Span),
+    Return(Span, Option<Expression>),
+    Assert(Span, Expression),
+    Declaration(Declaration),
+    Assignment(Assignment),
+    Expression(Expression),
+}
