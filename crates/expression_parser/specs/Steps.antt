@@ -145,7 +145,7 @@ argument_behind p w =
 abbrev pub publish_behind : (List Token → Outcome Tree) → Span → List Token → Outcome Tree
 publish_behind inner p w =
     expect signs.LeftParenthesis w
-        >>= λ o. text o.1 >>= λ t. expect signs.Comma t.1 >>= λ c. inner c.1 >>= λ e. expect signs.RightParenthesis e.1 >>= λ q. Ok (publish p t.0 e.0, q.1)
+    >>= λ o. text o.1 >>= λ t. expect signs.Comma t.1 >>= λ c. inner c.1 >>= λ e. expect signs.RightParenthesis e.1 >>= λ q. Ok (publish p t.0 e.0, q.1)
 
 -- a primary that begins with a sign or keyword
 unfoldable pub signed : (List Token → Outcome Tree) → Token → List Token → Outcome Tree
