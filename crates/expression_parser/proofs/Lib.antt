@@ -1,2 +1,4 @@
 pub mod Reading
 pub mod Peek
+pub mod Tokens
+pub mod Nodes

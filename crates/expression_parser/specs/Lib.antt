@@ -1,3 +1,4 @@
 pub mod Phrases
 pub mod Grammar
+pub mod Follow
 pub mod Steps
