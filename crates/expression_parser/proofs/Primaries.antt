@@ -16,7 +16,7 @@ use Rattle.expression_parser.specs.Grammar.{IsPrimary, IsExpression, AreArgument
 use Rattle.expression_parser.specs.Follow.{goes_on, Free}
 use Rattle.expression_parser.specs.Steps.{Outcome, ◌>>=◌, expect, text, least, why_not, after_name, parentheses_behind, declassify_behind, argument_behind, publish_behind, signed, primary, primary_at}
 use Rattle.expression_parser.proofs.Reading.{Good, Bad, Reads, Then, Only, Stops, cons_head, second, bind_reads, pure_reads, reads_as}
-use Rattle.expression_parser.proofs.Tokens.{Any, All, Alive, origin, any_stops, ended_cons, head_kind, is_sign-true, is_sign-false, token_then, sign_then, text_then, Closing, closing, closes, closing_is, is_closing}
+use Rattle.expression_parser.proofs.Tokens.{Any, All, Alive, origin, choose, any_stops, ended_cons, head_kind, is_sign-true, is_sign-false, token_then, sign_then, text_then, Closing, closing, closes, closing_is, is_closing}
 use Rattle.expression_parser.proofs.Nodes.{Low, leaf, leaf_token, start_fits, Enclosed, enclosed_is, is_enclosed, enclosed_reads, enclosed_alive}
 use Rattle.expression_parser.proofs.Arguments.{FreeName, NamePhrase, name_cases, variable_named, call_named, name_reads}
 
@@ -346,3 +346,67 @@ module _ (h : ℕ) (inner operand : List Token → Outcome Tree)
       never = λ c s' m' m2 v al st eq. other c (headed c s' m' m2 x v eq) v.0;
       begun = tt;
     }
+
+    room_for : (s : Sign) (x : Token) → x.kind ≡ kinds.Sign s → least (kinds.Sign s) ≡ Some 2 → why_not (suc h) (least x.kind) ≡ None → 1 ≤ h
+    room_for s x k two fits =
+        let f = start_fits (suc h) (least x.kind) fits in
+        let g : Some 2 ≡ Some f.0 = sym two ∙ ap least (sym k) ∙ f.1 in
+        let same : 2 ≡ f.0 = cc in
+        let low = f.2 in
+        omega arith
+
+    -- a sign or keyword that begins none
+    not_signed : (s : Sign) (x : Token) → x.kind ≡ kinds.Sign s → (x.kind ≡ kinds.Sign signs.True → ⊥) → (x.kind ≡ kinds.Sign signs.False → ⊥) → (x.kind ≡ kinds.Sign signs.LeftParenthesis → ⊥) → (x.kind ≡ kinds.Sign signs.Declassify → ⊥) → (x.kind ≡ kinds.Sign signs.Argument → ⊥) → (x.kind ≡ kinds.Sign signs.Publish → ⊥) → (c : Tree) → first_kind c ≡ x.kind → IsPrimary c → ⊥
+    not_signed s x k f1 f2 f3 f4 f5 f6 (truth p true) e v = f1 (sym e)
+    not_signed s x k f1 f2 f3 f4 f5 f6 (truth p false) e v = f2 (sym e)
+    not_signed s x k f1 f2 f3 f4 f5 f6 (parentheses p i) e v = f3 (sym e)
+    not_signed s x k f1 f2 f3 f4 f5 f6 (declassify p i) e v = f4 (sym e)
+    not_signed s x k f1 f2 f3 f4 f5 f6 (argument p i) e v = f5 (sym e)
+    not_signed s x k f1 f2 f3 f4 f5 f6 (publish p i a) e v = f6 (sym e)
+    not_signed s x k f1 f2 f3 f4 f5 f6 (number p n) e v = let g : kinds.Number n ≡ kinds.Sign s = e ∙ k in cc
+    not_signed s x k f1 f2 f3 f4 f5 f6 (variable p i) e v = let g : kinds.Name i ≡ kinds.Sign s = e ∙ k in cc
+    not_signed s x k f1 f2 f3 f4 f5 f6 (call p i es) e v = let g : kinds.Name i ≡ kinds.Sign s = e ∙ k in cc
+    not_signed s x k f1 f2 f3 f4 f5 f6 (index p a i) e v = v
+    not_signed s x k f1 f2 f3 f4 f5 f6 (negation p i) e v = v
+    not_signed s x k f1 f2 f3 f4 f5 f6 (cast p t i) e v = v
+    not_signed s x k f1 f2 f3 f4 f5 f6 (binary p op a b) e v = v
+
+    signed_reads : (s : Sign) (x : Token) (m : List Token) → x.kind ≡ kinds.Sign s → why_not (suc h) (least x.kind) ≡ None → IsEnded (x ∷ m) → Reads Primary (Low (suc h)) FreeName (x ∷ m) (signed inner x m)
+    unfolding signed
+    signed_reads s x m k fits en =
+        let choice = choose Primary (Low (suc h)) FreeName (x ∷ m) in
+        let is = λ (s : Sign) (t : is_sign s x ≡ true). is_sign-true s x t in
+        let isnt = λ (s : Sign) (t : is_sign s x ≡ false). is_sign-false s x t in
+        choice (is_sign signs.True x) _ _ (λ t. true_reads x m (is signs.True t) en)
+        (λ f1. choice (is_sign signs.False x) _ _ (λ t. false_reads x m (is signs.False t) en)
+        (λ f2. choice (is_sign signs.LeftParenthesis x) _ _ (λ t. let k2 = is signs.LeftParenthesis t in parentheses_reads (room_for signs.LeftParenthesis x k2 refl fits) x m k2 en)
+        (λ f3. choice (is_sign signs.Declassify x) _ _ (λ t. let k2 = is signs.Declassify t in declassify_reads (room_for signs.Declassify x k2 refl fits) x m k2 en)
+        (λ f4. choice (is_sign signs.Argument x) _ _ (λ t. argument_reads x m (is signs.Argument t) en)
+        (λ f5. choice (is_sign signs.Publish x) _ _ (λ t. let k2 = is signs.Publish t in publish_reads (room_for signs.Publish x k2 refl fits) x m k2 en)
+        (λ f6. no_primary x m (not_signed s x k (isnt signs.True f1) (isnt signs.False f2) (isnt signs.LeftParenthesis f3) (isnt signs.Declassify f4) (isnt signs.Argument f5) (isnt signs.Publish f6))))))))
+
+    -- a token that is neither a sign nor a leaf
+    not_text : (bytes : List ℕ) (x : Token) → x.kind ≡ kinds.Text bytes → (c : Tree) → first_kind c ≡ x.kind → IsPrimary c → ⊥
+    not_text bytes x k (truth p true) e v = let g : kinds.Sign signs.True ≡ kinds.Text bytes = e ∙ k in cc
+    not_text bytes x k (truth p false) e v = let g : kinds.Sign signs.False ≡ kinds.Text bytes = e ∙ k in cc
+    not_text bytes x k c e v = let g : first_kind c ≡ kinds.Text bytes = e ∙ k in cc
+
+    not_end : (x : Token) → x.kind ≡ kinds.End → (c : Tree) → first_kind c ≡ x.kind → IsPrimary c → ⊥
+    not_end x k (truth p true) e v = let g : kinds.Sign signs.True ≡ kinds.End = e ∙ k in cc
+    not_end x k (truth p false) e v = let g : kinds.Sign signs.False ≡ kinds.End = e ∙ k in cc
+    not_end x k (index p a i) e v = v
+    not_end x k (negation p i) e v = v
+    not_end x k (cast p t i) e v = v
+    not_end x k (binary p op a b) e v = v
+    not_end x k c e v = let g : first_kind c ≡ kinds.End = e ∙ k in cc
+
+    pub primary_reads : (x : Token) (m : List Token) → why_not (suc h) (least x.kind) ≡ None → IsEnded (x ∷ m) → Reads Primary (Low (suc h)) FreeName (x ∷ m) (primary inner (x ∷ m))
+    unfolding primary
+    primary_reads x m fits en = go x.kind refl
+      where
+        go : (kind : Kind) → x.kind ≡ kind → Reads Primary (Low (suc h)) FreeName (x ∷ m) (primary_at inner kind x m)
+        go (kinds.Number n) k = number_reads n x m k en
+        go (kinds.Name bytes) k = name_primary bytes x m k en
+        go (kinds.Text bytes) k = no_primary x m (not_text bytes x k)
+        go (kinds.Sign s) k = signed_reads s x m k fits en
+        go kinds.End k = no_primary x m (not_end x k)

@@ -189,3 +189,8 @@ closing_is s c d t v = (v.5.0, (v.0, v.3 ∙ ap (λ l. l ++ v.2) v.4 ∙ ap (λ 
 
 pub is_closing : {C : Type 0} (s : Sign) (c : C) (t : List Token) → sign s t → Closing s c c t
 is_closing s c t v = (v.0, token v.0 (kinds.Sign s) ∷ [], [], v.1, refl, (refl, refl))
+
+-- a choice by a test
+pub choose : {C : Type 0} (W : C → Phrase) (Fits : C → Type 0) (F : C → Token → Type 0) (w : List Token) (b : Bool) (o1 o2 : Outcome C) → (b ≡ true → Reads W Fits F w o1) → (b ≡ false → Reads W Fits F w o2) → Reads W Fits F w (cond b o1 o2)
+choose W Fits F w true o1 o2 yes_reads no_reads = yes_reads refl
+choose W Fits F w false o1 o2 yes_reads no_reads = no_reads refl
