@@ -24,7 +24,7 @@ abbrev pub Primary : Tree → Phrase
 Primary c ts = IsPrimary c × IsExpression unary c ts
 
 -- the token that a primary begins with
-abbrev first_kind : Tree → Kind
+abbrev pub first_kind : Tree → Kind
 first_kind (number p n) = kinds.Number n
 first_kind (truth p true) = kinds.Sign signs.True
 first_kind (truth p false) = kinds.Sign signs.False

@@ -1,0 +1,89 @@
+-- Operators, their signs and their levels.
+use Rattle.std.proofs.Common.{◌≡◌, ℕ, zero, suc, ◌+◌, ◌<◌, ◌≤◌, refl, sym, ap, ◌∙◌, Option, Some, None, arith, Bool, true, false, cond}
+use Rattle.std.specs.Prelude.{nat_eq, nat_le}
+use Rattle.std.proofs.lemmas.Bool.{eqb-true, eqb-false, leb-true, leb-false, le-leb}
+use Rattle.secrec_lexer.specs.declared.sign.Sign.{Sign}
+use Rattle.secrec_lexer.specs.declared.sign.Sign.TheVariants as signs
+use Rattle.secrec_lexer.specs.declared.token.Kind.{Kind}
+use Rattle.secrec_lexer.specs.declared.token.Kind.TheVariants as kinds
+use Rattle.secrec_ast.specs.declared.expression.Operator.{Operator}
+use Rattle.secrec_ast.specs.declared.expression.Operator.TheVariants as operators
+use Rattle.expression_parser.specs.Grammar.{sign_of, operator_of, level}
+use Rattle.expression_parser.specs.Follow.{operator_goes_on, sign_goes_on, goes_on}
+use Rattle.expression_parser.specs.Steps.{operator_at, at_level}
+
+pub level_positive : (op : Operator) → 1 ≤ level op
+level_positive operators.Add = omega arith
+level_positive operators.Subtract = omega arith
+level_positive operators.Multiply = omega arith
+level_positive operators.Divide = omega arith
+level_positive operators.Remainder = omega arith
+level_positive operators.Equal = omega arith
+level_positive operators.NotEqual = omega arith
+level_positive operators.Less = omega arith
+level_positive operators.LessOrEqual = omega arith
+level_positive operators.Greater = omega arith
+level_positive operators.GreaterOrEqual = omega arith
+level_positive operators.And = omega arith
+level_positive operators.Or = omega arith
+level_positive operators.Xor = omega arith
+level_positive operators.AndAlso = omega arith
+level_positive operators.OrElse = omega arith
+
+-- each operator is told from its sign
+pub operator_of-sign_of : (op : Operator) → operator_of (sign_of op) ≡ Some op
+operator_of-sign_of operators.Add = refl
+operator_of-sign_of operators.Subtract = refl
+operator_of-sign_of operators.Multiply = refl
+operator_of-sign_of operators.Divide = refl
+operator_of-sign_of operators.Remainder = refl
+operator_of-sign_of operators.Equal = refl
+operator_of-sign_of operators.NotEqual = refl
+operator_of-sign_of operators.Less = refl
+operator_of-sign_of operators.LessOrEqual = refl
+operator_of-sign_of operators.Greater = refl
+operator_of-sign_of operators.GreaterOrEqual = refl
+operator_of-sign_of operators.And = refl
+operator_of-sign_of operators.Or = refl
+operator_of-sign_of operators.Xor = refl
+operator_of-sign_of operators.AndAlso = refl
+operator_of-sign_of operators.OrElse = refl
+
+-- a sign that is told to be an operator is its sign
+pub operator_of-some : (s : Sign) (op : Operator) → operator_of s ≡ Some op → s ≡ sign_of op
+operator_of-some signs.Plus op e = let f : operators.Add ≡ op = cc in ap sign_of f
+operator_of-some signs.Minus op e = let f : operators.Subtract ≡ op = cc in ap sign_of f
+operator_of-some signs.Star op e = let f : operators.Multiply ≡ op = cc in ap sign_of f
+operator_of-some signs.Slash op e = let f : operators.Divide ≡ op = cc in ap sign_of f
+operator_of-some signs.Percent op e = let f : operators.Remainder ≡ op = cc in ap sign_of f
+operator_of-some signs.Equal op e = let f : operators.Equal ≡ op = cc in ap sign_of f
+operator_of-some signs.NotEqual op e = let f : operators.NotEqual ≡ op = cc in ap sign_of f
+operator_of-some signs.Less op e = let f : operators.Less ≡ op = cc in ap sign_of f
+operator_of-some signs.LessOrEqual op e = let f : operators.LessOrEqual ≡ op = cc in ap sign_of f
+operator_of-some signs.Greater op e = let f : operators.Greater ≡ op = cc in ap sign_of f
+operator_of-some signs.GreaterOrEqual op e = let f : operators.GreaterOrEqual ≡ op = cc in ap sign_of f
+operator_of-some signs.Ampersand op e = let f : operators.And ≡ op = cc in ap sign_of f
+operator_of-some signs.Bar op e = let f : operators.Or ≡ op = cc in ap sign_of f
+operator_of-some signs.Caret op e = let f : operators.Xor ≡ op = cc in ap sign_of f
+operator_of-some signs.DoubleAmpersand op e = let f : operators.AndAlso ≡ op = cc in ap sign_of f
+operator_of-some signs.DoubleBar op e = let f : operators.OrElse ≡ op = cc in ap sign_of f
+operator_of-some other op e = cc
+
+-- an operator's sign is what an expression of its level goes on with, and nothing else stands in for it
+pub goes_on-operator : (k : ℕ) (op : Operator) → goes_on k (kinds.Sign (sign_of op)) ≡ nat_le (level op) k
+goes_on-operator k operators.Add = refl
+goes_on-operator k operators.Subtract = refl
+goes_on-operator k operators.Multiply = refl
+goes_on-operator k operators.Divide = refl
+goes_on-operator k operators.Remainder = refl
+goes_on-operator k operators.Equal = refl
+goes_on-operator k operators.NotEqual = refl
+goes_on-operator k operators.Less = refl
+goes_on-operator k operators.LessOrEqual = refl
+goes_on-operator k operators.Greater = refl
+goes_on-operator k operators.GreaterOrEqual = refl
+goes_on-operator k operators.And = refl
+goes_on-operator k operators.Or = refl
+goes_on-operator k operators.Xor = refl
+goes_on-operator k operators.AndAlso = refl
+goes_on-operator k operators.OrElse = refl
