@@ -6,3 +6,4 @@ pub mod Nodes
 pub mod Arguments
 pub mod Primaries
 pub mod Unaries
+pub mod Levels

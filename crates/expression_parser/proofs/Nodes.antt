@@ -133,8 +133,8 @@ pub record Begun (x : Token) : Type 0 where
   pub here : (k : ℕ) → IsExpression k tree (x ∷ behind)
 
 begun_sign : (s : Sign) (x : Token) (n : ℕ) → x.kind ≡ kinds.Sign s → least_of_sign s ≡ Some n → Begun x
-begun_sign signs.True x n e l = record { tree = truth x.place true; behind = []; here = λ k. ap (λ z. token x.place z ∷ []) e; }
-begun_sign signs.False x n e l = record { tree = truth x.place false; behind = []; here = λ k. ap (λ z. token x.place z ∷ []) e; }
+begun_sign signs.True x n e l = record { tree = truth x.place true; behind = []; here = λ k. ap (λ z. token x.place z ∷ []) e }
+begun_sign signs.False x n e l = record { tree = truth x.place false; behind = []; here = λ k. ap (λ z. token x.place z ∷ []) e }
 begun_sign signs.LeftParenthesis x n e l =
     let close = token origin (kinds.Sign signs.RightParenthesis) in
     record {
@@ -177,8 +177,8 @@ begun_sign signs.Publish x n e l =
 begun_sign other x n e l = cc
 
 pub begun : (kind : Kind) (x : Token) (n : ℕ) → x.kind ≡ kind → least kind ≡ Some n → Begun x
-begun (kinds.Name bytes) x n e l = record { tree = variable x.place bytes; behind = []; here = λ k. ap (λ z. token x.place z ∷ []) e; }
-begun (kinds.Number i) x n e l = record { tree = number x.place i; behind = []; here = λ k. ap (λ z. token x.place z ∷ []) e; }
+begun (kinds.Name bytes) x n e l = record { tree = variable x.place bytes; behind = []; here = λ k. ap (λ z. token x.place z ∷ []) e }
+begun (kinds.Number i) x n e l = record { tree = number x.place i; behind = []; here = λ k. ap (λ z. token x.place z ∷ []) e }
 begun (kinds.Text bytes) x n e l = cc
 begun (kinds.Sign s) x n e l = begun_sign s x n e l
 begun kinds.End x n e l = cc
@@ -238,6 +238,27 @@ start_fits room (Some n) e = go (nat_lt room n) refl e
     go : (b : Bool) → nat_lt room n ≡ b → cond b (Some TooHigh) None ≡ None → (i : ℕ) × (Some n ≡ Some i) × (i ≤ room)
     go true t e = cc
     go false t e = (n, refl, ltb-false room n t)
+
+-- no expression is lower than a leaf
+pub least_positive : (kind : Kind) (n : ℕ) → least kind ≡ Some n → 0 < n
+least_positive kind n e = go kind e
+  where
+    sign_go : (s : Sign) → least_of_sign s ≡ Some n → 0 < n
+    sign_go signs.True e = let f : 1 ≡ n = cc in omega arith
+    sign_go signs.False e = let f : 1 ≡ n = cc in omega arith
+    sign_go signs.Argument e = let f : 1 ≡ n = cc in omega arith
+    sign_go signs.LeftParenthesis e = let f : 2 ≡ n = cc in omega arith
+    sign_go signs.Exclamation e = let f : 2 ≡ n = cc in omega arith
+    sign_go signs.Declassify e = let f : 2 ≡ n = cc in omega arith
+    sign_go signs.Publish e = let f : 2 ≡ n = cc in omega arith
+    sign_go other e = cc
+
+    go : (kind : Kind) → least kind ≡ Some n → 0 < n
+    go (kinds.Name bytes) e = let f : 1 ≡ n = cc in omega arith
+    go (kinds.Number i) e = let f : 1 ≡ n = cc in omega arith
+    go (kinds.Text bytes) e = cc
+    go (kinds.Sign s) e = sign_go s e
+    go kinds.End e = cc
 
 -- an expression, a closing sign, and the tree that f makes of it
 abbrev pub Enclosed : Sign → (Tree → Tree) → Tree → Phrase

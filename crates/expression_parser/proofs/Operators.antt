@@ -87,3 +87,81 @@ goes_on-operator k operators.Or = refl
 goes_on-operator k operators.Xor = refl
 goes_on-operator k operators.AndAlso = refl
 goes_on-operator k operators.OrElse = refl
+
+-- each operator is of its level
+pub at_level-own : (op : Operator) → at_level (level op) (operator_of (sign_of op)) ≡ Some op
+at_level-own operators.Add = refl
+at_level-own operators.Subtract = refl
+at_level-own operators.Multiply = refl
+at_level-own operators.Divide = refl
+at_level-own operators.Remainder = refl
+at_level-own operators.Equal = refl
+at_level-own operators.NotEqual = refl
+at_level-own operators.Less = refl
+at_level-own operators.LessOrEqual = refl
+at_level-own operators.Greater = refl
+at_level-own operators.GreaterOrEqual = refl
+at_level-own operators.And = refl
+at_level-own operators.Or = refl
+at_level-own operators.Xor = refl
+at_level-own operators.AndAlso = refl
+at_level-own operators.OrElse = refl
+
+pub same_sign : (a b : Operator) → sign_of a ≡ sign_of b → a ≡ b
+same_sign a b e =
+    let f : Some a ≡ Some b = sym (operator_of-sign_of a) ∙ ap operator_of e ∙ operator_of-sign_of b in
+    cc
+
+operator_at-some : (kind : Kind) (op : Operator) → operator_at kind ≡ Some op → kind ≡ kinds.Sign (sign_of op)
+operator_at-some (kinds.Sign s) op e = ap kinds.Sign (operator_of-some s op e)
+operator_at-some (kinds.Name bytes) op e = cc
+operator_at-some (kinds.Number n) op e = cc
+operator_at-some (kinds.Text bytes) op e = cc
+operator_at-some kinds.End op e = cc
+
+at_level-some : (k : ℕ) (o : Option Operator) (op : Operator) → at_level k o ≡ Some op → (o ≡ Some op) × (level op ≡ k)
+at_level-some k None op e = cc
+at_level-some k (Some op2) op e = go (nat_eq (level op2) k) refl e
+  where
+    go : (b : Bool) → nat_eq (level op2) k ≡ b → cond b (Some op2) None ≡ Some op → (Some op2 ≡ Some op) × (level op ≡ k)
+    go true t e = let f : op2 ≡ op = cc in (e, ap level (sym f) ∙ eqb-true (level op2) k t)
+    go false t e = cc
+
+-- what is told to be an operator of a level is one
+pub operator_is : (k : ℕ) (kind : Kind) (op : Operator) → at_level k (operator_at kind) ≡ Some op → (kind ≡ kinds.Sign (sign_of op)) × (level op ≡ k)
+operator_is k kind op e =
+    let f = at_level-some k (operator_at kind) op e in
+    (operator_at-some kind op f.0, f.1)
+
+-- an operator of the level is what the level goes on with
+pub not_free : (op : Operator) (k : ℕ) → level op ≤ k → goes_on k (kinds.Sign (sign_of op)) ≡ false → ⊥
+not_free op k l f =
+    let g : true ≡ false = sym (le-leb (level op) k l) ∙ sym (goes_on-operator k op) ∙ f in
+    cc
+
+above : (n k : ℕ) → k < n → nat_le n k ≡ false
+above n k l = go (nat_le n k) refl
+  where
+    go : (b : Bool) → nat_le n k ≡ b → nat_le n k ≡ false
+    go true t = let f = leb-true n k t in absurd (omega arith)
+    go false t = t
+
+pub free_below : (op : Operator) (k : ℕ) → k < level op → goes_on k (kinds.Sign (sign_of op)) ≡ false
+free_below op k l = goes_on-operator k op ∙ above (level op) k l
+
+operator_tighter : (k : ℕ) (o : Option Operator) → operator_goes_on (suc k) o ≡ false → operator_goes_on k o ≡ false
+operator_tighter k None f = refl
+operator_tighter k (Some op) f = let l = leb-false (level op) (suc k) f in above (level op) k (omega arith)
+
+sign_tighter : (k : ℕ) (s : Sign) → sign_goes_on (suc k) s ≡ false → sign_goes_on k s ≡ false
+sign_tighter k signs.LeftParenthesis f = f
+sign_tighter k signs.LeftBracket f = f
+sign_tighter k s f = operator_tighter k (operator_of s) f
+
+-- what may stand behind a level may stand behind a tighter one
+pub tighter : (k : ℕ) (kind : Kind) → goes_on (suc k) kind ≡ false → goes_on k kind ≡ false
+tighter k (kinds.Sign s) f = sign_tighter k s f
+tighter k (kinds.Name bytes) f = refl
+tighter k (kinds.Number n) f = refl
+tighter k (kinds.Text bytes) f = refl
+tighter k kinds.End f = refl

@@ -386,9 +386,9 @@ module _ (h : ℕ) (inner operand : List Token → Outcome Tree)
         let choice = choose (IndexTail a) (Low (suc h)) (Free unary) (x ∷ m) in
         choice (is_sign signs.LeftBracket x) _ _
         (λ t. let k = is_sign-true signs.LeftBracket x t in
-            choice (nat_le (suc h) (height a)) _ _
-            (λ le. index_too_high a x m k (leb-true (suc h) (height a) le))
-            (λ lt. let less = leb-false (suc h) (height a) lt in index_reads a x m k (omega arith) en))
+        choice (nat_le (suc h) (height a)) _ _
+        (λ le. index_too_high a x m k (leb-true (suc h) (height a) le))
+        (λ lt. let less = leb-false (suc h) (height a) lt in index_reads a x m k (omega arith) en))
         (λ f. no_index a x m (is_sign-false signs.LeftBracket x f) low)
 
     postfix_reads : (x : Token) (m : List Token) → why_not (suc h) (least x.kind) ≡ None → IsEnded (x ∷ m) → Reads Postfix (Low (suc h)) (Free unary) (x ∷ m) (postfix (suc h) inner (x ∷ m))
