@@ -2,3 +2,4 @@ pub mod Phrases
 pub mod Grammar
 pub mod Follow
 pub mod Steps
+pub mod Given
