@@ -4,6 +4,7 @@ use Rattle.std.specs.Prelude.{max, nat_le}
 use Rattle.std.proofs.lemmas.Bool.{leb-true, leb-false, lt-ltb, cases_lt}
 use Rattle.sc_text.specs.declared.span.Span.{Span}
 use Rattle.secrec_lexer.specs.Tokens.{IsEnded}
+use Rattle.secrec_lexer.specs.declared.token.Kind.{Kind}
 use Rattle.secrec_lexer.specs.declared.token.Kind.TheVariants as kinds
 use Rattle.secrec_lexer.specs.declared.token.Token.{Token}
 use Rattle.secrec_ast.specs.declared.expression.Operator.{Operator}
@@ -217,10 +218,14 @@ some_problem None positive = (Unexpected, refl)
 some_problem (Some zero) positive = let f = positive 0 refl in absurd (omega arith)
 some_problem (Some (suc n)) positive = (TooHigh, ap (λ b. cond b (Some TooHigh) None) (lt-ltb 0 (suc n) (omega arith)))
 
+-- where no node has room, each token is refused
+pub nowhere : (kind : Kind) → (p : Problem) × (why_not 0 (least kind) ≡ Some p)
+nowhere kind = some_problem (least kind) (least_positive kind)
+
 pub at_most_reads : (h k : ℕ) (w : List Token) → IsEnded w → Reads (IsExpression k) (Low h) (Free k) w (at_most h k w)
 unfolding at_most
 at_most_reads h k [] en = cc
 at_most_reads zero k (x ∷ m) en =
-    let p = some_problem (least x.kind) (least_positive x.kind) in
+    let p = nowhere x.kind in
     subst (Reads (IsExpression k) (Low 0) (Free k) (x ∷ m)) (sym (no_room k (λ j v. Err (TooHigh, v)) x m p.0 p.1)) (start_bad k 0 x m p.0 p.1)
 at_most_reads (suc h) k (x ∷ m) en = climb_reads h (at_most h) (at_most_reads h) k (x ∷ m) en

@@ -3,11 +3,15 @@
 //! Each function reads one phrase from the front of the tokens and gives the tokens behind it.
 #![tactic(auto)]
 
+mod parse;
+mod parsed;
 mod problem;
 mod sign;
 mod stopped;
 mod token;
 
+pub use parse::expression;
+pub use parsed::{binary, Parsed, ParsedTrees};
 pub use problem::Problem;
 pub use stopped::{Read, Stopped};
 pub use token::{begins_data_type, data_type, expect, identifier, text};
