@@ -11,7 +11,7 @@ mod stopped;
 mod token;
 
 pub use parse::expression;
-pub use parsed::{binary, Parsed, ParsedTrees};
+pub use parsed::{Parsed, ParsedTrees, binary};
 pub use problem::Problem;
 pub use stopped::{Read, Stopped};
 pub use token::{begins_data_type, data_type, expect, identifier, text};

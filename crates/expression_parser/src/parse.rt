@@ -15,6 +15,7 @@ use std::alloc::Global;
 
 // The levels of operators: 0 for what has none between two operands outside brackets.
 const UNARY: u8 = 0;
+
 const LOOSEST: u8 = 9;
 
 /// An expression of at most this height.
@@ -45,7 +46,13 @@ fn operators<'a>(alloc: Global, tokens: &'a [Token], room: u8, level: u8) -> Rea
 // A left operand, and the operators of this level behind it.
 #[cycle(expressions)]
 #[tactic(auto, unfolding(crate::specs::Steps::grow))]
-fn grow<'a>(alloc: Global, left: Parsed, tokens: &'a [Token], room: u8, level: u8) -> Read<'a, Parsed>
+fn grow<'a>(
+    alloc: Global,
+    left: Parsed,
+    tokens: &'a [Token],
+    room: u8,
+    level: u8,
+) -> Read<'a, Parsed>
     requires level { (0 < level) × (level ≤ 9) }
     requires height { (left.height ≡ tree_height left) × (left.height ≤ room) }
     ensures step { Gives (λ x. (tree_of x.0, x.1.now)) result (grow level room (at_most (room - 1) (level - 1)) (length tokens.now) (tree_of left) tokens.now) }
@@ -267,7 +274,13 @@ fn publish<'a>(alloc: Global, place: Span, tokens: &'a [Token], room: u8) -> Rea
 // What stands behind a name: a call's arguments, or nothing of the primary.
 #[cycle(expressions)]
 #[tactic(auto, unfolding(crate::specs::Steps::after_name))]
-fn after_name<'a>(alloc: Global, place: Span, name: &Name, tokens: &'a [Token], room: u8) -> Read<'a, Parsed>
+fn after_name<'a>(
+    alloc: Global,
+    place: Span,
+    name: &Name,
+    tokens: &'a [Token],
+    room: u8,
+) -> Read<'a, Parsed>
     requires { 0 < room }
     ensures step { Gives (λ x. (tree_of x.0, x.1.now)) result (after_name (at_most (room - 1) 9) place name.now tokens.now) }
     ensures height { IfOk result (λ x. (x.0.height ≡ tree_height x.0) × (x.0.height ≤ room)) }
@@ -297,7 +310,10 @@ fn arguments<'a>(alloc: Global, tokens: &'a [Token], room: u8) -> Read<'a, Parse
     let Some((token, _)) = tokens.split_first() else {
         return Err(Stopped::At(Problem::Unexpected, tokens));
     };
-    let none = ParsedTrees { trees: Vec::new(alloc), height: 0 };
+    let none = ParsedTrees {
+        trees: Vec::new(alloc),
+        height: 0,
+    };
     if token.is(Sign::RightParenthesis) {
         return Ok((none, tokens));
     }
@@ -309,7 +325,12 @@ fn arguments<'a>(alloc: Global, tokens: &'a [Token], room: u8) -> Read<'a, Parse
 // The arguments behind those that were found.
 #[cycle(expressions)]
 #[tactic(auto, using(crate::proofs::Turns::more_turns), unfolding(crate::specs::Steps::more))]
-fn more<'a>(alloc: Global, found: ParsedTrees, tokens: &'a [Token], room: u8) -> Read<'a, ParsedTrees>
+fn more<'a>(
+    alloc: Global,
+    found: ParsedTrees,
+    tokens: &'a [Token],
+    room: u8,
+) -> Read<'a, ParsedTrees>
     requires room { 0 < room }
     requires height { (found.height ≡ trees_height found) × (found.height < room) }
     ensures step { Gives (λ x. (trees_in x.0, x.1.now)) result (front (list_of found) (more (at_most (room - 1) 9) (length tokens.now) tokens.now)) }

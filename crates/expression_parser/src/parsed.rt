@@ -41,7 +41,10 @@ pub fn binary<'a>(
     let place = left.tree.place();
     let first = Box::new(alloc, left.tree)?;
     let second = Box::new(alloc, right.tree)?;
-    Ok(Parsed { tree: Expression::Binary(place, operator, first, second), height: height + 1 })
+    Ok(Parsed {
+        tree: Expression::Binary(place, operator, first, second),
+        height: height + 1,
+    })
 }
 
 /// One more tree at the end.
