@@ -1,6 +1,6 @@
 -- Operators of one level behind a left operand, and the levels one over another.
-use Rattle.std.proofs.Common.{◌≡◌, ℕ, zero, suc, ◌+◌, ◌-◌, ◌<◌, ◌≤◌, List, [], ◌∷◌, ◌++◌, ◌⊎◌, inl, inr, refl, sym, ap, ◌∙◌, subst, append_assoc, append-nil, Result, Ok, Err, Option, Some, None, length, arith, Bool, true, false, cond}
-use Rattle.std.specs.Prelude.{max, nat_le}
+use Rattle.std.proofs.Common.{◌≡◌, ℕ, zero, suc, ◌-◌, ◌<◌, ◌≤◌, List, [], ◌∷◌, ◌++◌, ◌⊎◌, inl, inr, refl, sym, ap, ◌∙◌, subst, append_assoc, append-nil, Ok, Err, Option, Some, None, length, arith, true, false, cond}
+use Rattle.std.specs.Prelude.{nat_le}
 use Rattle.std.proofs.lemmas.Bool.{leb-true, leb-false, lt-ltb, cases_lt}
 use Rattle.sc_text.specs.declared.span.Span.{Span}
 use Rattle.secrec_lexer.specs.Tokens.{IsEnded}
@@ -8,17 +8,17 @@ use Rattle.secrec_lexer.specs.declared.token.Kind.{Kind}
 use Rattle.secrec_lexer.specs.declared.token.Kind.TheVariants as kinds
 use Rattle.secrec_lexer.specs.declared.token.Token.{Token}
 use Rattle.secrec_ast.specs.declared.expression.Operator.{Operator}
-use Rattle.secrec_ast.specs.Tree.{Tree, Trees, number, truth, variable, call, index, parentheses, negation, cast, binary, declassify, argument, publish, none, also}
-use Rattle.secrec_ast.specs.Heights.{height, heights, place_of}
+use Rattle.secrec_ast.specs.Tree.{Tree, number, truth, variable, call, index, parentheses, negation, cast, binary, declassify, argument, publish}
+use Rattle.secrec_ast.specs.Heights.{height, place_of}
 use Rattle.expression_parser.specs.declared.problem.Problem.{Problem}
 use Rattle.expression_parser.specs.declared.problem.Problem.TheVariants.{Unexpected, TooHigh}
-use Rattle.expression_parser.specs.Phrases.{Phrase, token, one_at, one, sign_at, sign, ◌then◌}
+use Rattle.expression_parser.specs.Phrases.{Phrase, token, sign_at}
 use Rattle.expression_parser.specs.Grammar.{IsExpression, sign_of, level, loosest, unary}
 use Rattle.expression_parser.specs.Follow.{goes_on, Free}
 use Rattle.expression_parser.specs.Steps.{Outcome, ◌>>=◌, least, why_not, unless, unary_at, unary_of, operator_at, at_level, grow, grow_at, climb, at_most}
-use Rattle.expression_parser.proofs.Reading.{Good, Bad, Reads, Then, Only, Stops, cons_head, second, bind_reads, pure_reads, reads_as}
-use Rattle.expression_parser.proofs.Tokens.{Any, All, origin, choose, any_stops, good_ended, good_shorter, after_kind, head_kind, token_then}
-use Rattle.expression_parser.proofs.Operators.{level_positive, at_level-own, same_sign, operator_is, not_free, free_below, tighter}
+use Rattle.expression_parser.proofs.Reading.{Good, Bad, Reads, Then, Only, Stops, cons_head, bind_reads, pure_reads, reads_as}
+use Rattle.expression_parser.proofs.Tokens.{Any, choose, any_stops, good_ended, good_shorter, head_kind, token_then}
+use Rattle.expression_parser.proofs.Operators.{at_level-own, same_sign, operator_is, not_free, free_below, tighter}
 use Rattle.expression_parser.proofs.Nodes.{Low, tall, leaf, leaf_token, start_bad, least_positive}
 use Rattle.expression_parser.proofs.Unaries.{unary_reads}
 

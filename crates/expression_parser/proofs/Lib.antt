@@ -8,3 +8,4 @@ pub mod Primaries
 pub mod Unaries
 pub mod Levels
 pub mod Turns
+pub mod Told

@@ -1,5 +1,5 @@
 -- What it means that a step of a parser reads a phrase, and how steps compose.
-use Rattle.std.proofs.Common.{◌≡◌, ℕ, ◌+◌, ◌≤◌, List, [], ◌∷◌, ◌++◌, ◌⊎◌, inl, inr, refl, sym, ap, ◌∙◌, subst, append_assoc, Result, Ok, Err}
+use Rattle.std.proofs.Common.{◌≡◌, List, [], ◌∷◌, ◌++◌, ◌⊎◌, inl, inr, refl, sym, ap, ◌∙◌, subst, append_assoc, Ok, Err}
 use Rattle.secrec_lexer.specs.declared.token.Token.{Token}
 use Rattle.expression_parser.specs.declared.problem.Problem.{Problem}
 use Rattle.expression_parser.specs.declared.problem.Problem.TheVariants.{Unexpected, TooHigh}
@@ -134,7 +134,7 @@ module _ {A C : Type 0} (W1 : A → Phrase) (Fits1 : A → Type 0) (F1 : A → T
       begun = begun_two p g.s h.s h.x a g.here h.begun;
     }
 
-    bad_one : (w r : List Token) (p : Problem) → Bad W1 Fits1 F1 w p r → Bad (Then W1 W2) Fits2 F2 w p r
+    pub bad_one : (w r : List Token) (p : Problem) → Bad W1 Fits1 F1 w p r → Bad (Then W1 W2) Fits2 F2 w p r
     bad_one w r p h = record {
       s = h.s;
       x = h.x;

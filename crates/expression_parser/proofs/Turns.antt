@@ -1,5 +1,5 @@
 -- The steps, as the code comes to them.
-use Rattle.std.proofs.Common.{◌≡◌, ℕ, zero, suc, ◌+◌, ◌-◌, ◌<◌, ◌≤◌, List, [], ◌∷◌, ◌++◌, refl, sym, ap, ◌∙◌, subst, Result, Ok, Err, Option, Some, None, length, arith, Bool, true, false, cond}
+use Rattle.std.proofs.Common.{◌≡◌, ℕ, zero, suc, ◌-◌, ◌<◌, ◌≤◌, List, [], ◌∷◌, ◌++◌, refl, sym, ap, ◌∙◌, subst, Ok, Err, length, arith, true, false, cond}
 use Rattle.std.specs.Prelude.{max}
 use Rattle.secrec_lexer.specs.Tokens.{is_sign}
 use Rattle.secrec_lexer.specs.declared.sign.Sign.TheVariants as signs
@@ -9,7 +9,7 @@ use Rattle.secrec_ast.specs.Heights.{height, heights}
 use Rattle.expression_parser.specs.declared.problem.Problem.{Problem}
 use Rattle.expression_parser.specs.declared.problem.Problem.TheVariants.{Unexpected, TooHigh}
 use Rattle.expression_parser.specs.Grammar.{loosest, unary}
-use Rattle.expression_parser.specs.Steps.{Outcome, ◌>>=◌, least, why_not, unless, unary_at, unary_of, climb, grow, at_most, more, more_at, join, front}
+use Rattle.expression_parser.specs.Steps.{Outcome, ◌>>=◌, unless, unary_at, unary_of, climb, grow, at_most, more, more_at, join, front}
 use Rattle.expression_parser.proofs.Levels.{nowhere}
 
 unary_zero : (f g f2 g2 : List Token → Outcome Tree) (w : List Token) → unary_of 0 f g w ≡ unary_of 0 f2 g2 w

@@ -4,7 +4,6 @@ use Rattle.secrec_lexer.specs.declared.token.Token.{Token}
 use Rattle.secrec_ast.specs.declared.expression.Operator.{Operator}
 use Rattle.secrec_ast.specs.Tree.{Tree, Trees, binary, expression, trees_of}
 use Rattle.secrec_ast.specs.Heights.{height, heights, place_of}
-use Rattle.expression_parser.specs.declared.problem.Problem.{Problem}
 use Rattle.expression_parser.specs.declared.stopped.Stopped.{Stopped}
 use Rattle.expression_parser.specs.declared.stopped.Stopped.TheVariants.{Memory, At}
 use Rattle.expression_parser.specs.declared.parsed.Parsed.{Parsed}

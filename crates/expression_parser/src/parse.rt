@@ -2,6 +2,8 @@
 
 ghost use Rattle.std.specs.Prelude.{◌≡◌, ◌-◌, ◌<◌, ◌≤◌, ◌∷◌, length, IfOk};
 ghost use Rattle.expression_parser.specs.Steps.{at_most, unary_of, negation_behind, cast_behind, postfix, indexed, primary, signed, parentheses_behind, declassify_behind, argument_behind, publish_behind, after_name, arguments, more, front, grow};
+ghost use Rattle.secrec_lexer.specs.Tokens.{IsEnded};
+ghost use Rattle.expression_parser.specs.Answer.{Answers};
 ghost use Rattle.expression_parser.specs.Given.{Gives, tree_of, tree_height, list_of, trees_height, trees_in};
 
 use crate::parsed::{Parsed, ParsedTrees, added, binary, leaf};
@@ -18,11 +20,18 @@ const UNARY: u8 = 0;
 
 const LOOSEST: u8 = 9;
 
-/// An expression of at most this height.
+/// An expression of at most this height, and the tokens behind it.
+///
+/// It stops at the first token such that no expression of at most this height begins with the tokens up to it: as unexpected
+/// where no expression of any height does. Each token is read once, but for one token of look ahead, and the recursion is no
+/// deeper than a fixed number of calls for each node of the height.
 pub fn expression<'a>(alloc: Global, tokens: &'a [Token], room: u8) -> Read<'a, Parsed>
-    ensures step { Gives (λ x. (tree_of x.0, x.1.now)) result (at_most room 9 tokens.now) }
+    // What the grammar says of the tokens.
+    ensures answer { IsEnded tokens.now → Answers (λ x. (tree_of x.0, x.1.now)) room tokens.now result }
     ensures height { IfOk result (λ x. (x.0.height ≡ tree_height x.0) × (x.0.height ≤ room)) }
     ensures shorter { IfOk result (λ x. length x.1.now < length tokens.now) }
+    // The same as a function of the tokens, for the parsers of what expressions stand in.
+    ensures step { Gives (λ x. (tree_of x.0, x.1.now)) result (at_most room 9 tokens.now) }
 {
     operators(alloc, tokens, room, LOOSEST)
 }

@@ -1,4 +1,4 @@
-use Rattle.std.proofs.Common.{◌-◌, ap, ◌∙◌, sym, arith, length}
+use Rattle.std.proofs.Common.{◌-◌, ap, ◌∙◌, sym, arith}
 use Rattle.expression_parser.specs.Given.{tree_of, list_of}
 use Rattle.expression_parser.specs.Steps.{at_most, front, more}
 use Rattle.expression_parser.proofs.Turns.{more_stop, more_comma}

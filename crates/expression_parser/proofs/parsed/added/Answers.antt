@@ -1,4 +1,4 @@
-use Rattle.std.proofs.Common.{◌≡◌, List, [], ◌∷◌, ◌++◌, ap, ◌∙◌, sym}
+use Rattle.std.proofs.Common.{◌≡◌, [], ◌∷◌, ◌++◌, ap, ◌∙◌, sym}
 use Rattle.std.specs.Prelude.{map, max}
 use Rattle.std.proofs.lemmas.List.{map-append}
 use Rattle.secrec_ast.specs.Tree.{expression, trees_of}
