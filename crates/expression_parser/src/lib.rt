@@ -8,6 +8,8 @@ mod parsed;
 mod problem;
 mod sign;
 mod stopped;
+#[cfg(test)]
+mod tests;
 mod token;
 
 pub use parse::expression;
