@@ -1,0 +1,5 @@
+pub mod Tree
+pub mod Statements
+pub mod Programs
+pub mod Heights
+pub mod Equations
