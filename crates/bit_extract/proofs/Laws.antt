@@ -3,11 +3,11 @@ use Rattle.std.proofs.Common.{◌≡◌, ℕ, ◌+◌, ◌*◌, ◌/◌, ◌%◌
 use Rattle.std.specs.Prelude.{slice_get}
 use Rattle.share_ring.specs.Rings.{add_ring, xor_ring}
 use Rattle.gates.specs.declared.gate.Gate.{Gate}
-use Rattle.gates.specs.Clear.{Values, value, AreWords, each_two, FitFrom}
+use Rattle.gates.specs.Clear.{Values, value, each_two, FitFrom}
 use Rattle.gates.specs.Counts.{Miner, size_of, words_of_all, words_of_split}
 use Rattle.gates.specs.Counts.Miner.{Miner1, Miner2, Miner3}
 use Rattle.gates.proofs.Sizes.{size_of-value}
-use Rattle.gates.proofs.Columns.{word, Column, TwoColumns, stands, Column-of, Column-same, Column-ext, Column-map, Column-each_two, Column-split, same_columns, TwoColumns-same, TwoColumns-append, TwoColumns-each_two, first_part, second_part}
+use Rattle.gates.proofs.Columns.{word, Column, stands, Column-of, Column-same, Column-ext, Column-map, Column-each_two, Column-split, same_columns, TwoColumns-same, TwoColumns-append, TwoColumns-each_two, first_part, second_part}
 use Rattle.gates.proofs.Carries.{carry, carry-zero, carry-lt, SpansUp, shifted_up, up_generate, up_propagate, up_start, up_step, sum_by_carries}
 use Rattle.std.proofs.lemmas.Nat.{mod_below, pow_pos}
 use Rattle.std.proofs.lemmas.List.{append_assoc, drop_more}

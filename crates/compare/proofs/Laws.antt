@@ -3,11 +3,11 @@ use Rattle.std.proofs.Common.{◌≡◌, ℕ, ◌+◌, ◌*◌, ◌/◌, ◌%◌
 use Rattle.std.specs.Prelude.{slice_get}
 use Rattle.std.specs.Int.{w64, bit_not}
 use Rattle.std.proofs.lemmas.List.{append_assoc, drop_more}
-use Rattle.share_ring.specs.Rings.{add_ring, xor_ring}
+use Rattle.share_ring.specs.Rings.{xor_ring}
 use Rattle.gates.specs.declared.gate.Gate.{Gate}
 use Rattle.gates.specs.declared.gate.Gate.TheVariants.{Cat}
-use Rattle.gates.specs.Clear.{Values, value, AreWords, each_two, FitFrom}
-use Rattle.gates.specs.Tests.{less_test}
+use Rattle.gates.specs.Clear.{Values, value, each_two, FitFrom}
+use Rattle.gates.specs.WordTests.{less_test}
 use Rattle.gates.specs.Counts.{Miner, size_of, words_of_all}
 use Rattle.gates.specs.Counts.Miner.{Miner1, Miner2, Miner3}
 use Rattle.gates.proofs.Sizes.{size_of-value, words_of_all-append, FitFrom-append}

@@ -2,7 +2,7 @@
 use Rattle.std.specs.Prelude.{◌≡◌, ℕ, ◌+◌, ◌*◌, List, Some, map, length, slice_get}
 use Rattle.gates.specs.declared.gate.Gate.{Gate}
 use Rattle.gates.specs.Clear.{Values, value, each_two, FitFrom}
-use Rattle.gates.specs.Tests.{less_test}
+use Rattle.gates.specs.WordTests.{less_test}
 use Rattle.gates.specs.Counts.{Miner, words_of_all}
 use Rattle.gates.specs.Counts.Miner.{Miner1, Miner2, Miner3}
 

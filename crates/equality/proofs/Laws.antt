@@ -4,8 +4,8 @@ use Rattle.std.specs.Prelude.{slice_get}
 use Rattle.std.specs.Int.{w64, bit_not}
 use Rattle.share_ring.specs.Rings.{add_ring, xor_ring}
 use Rattle.gates.specs.declared.gate.Gate.{Gate}
-use Rattle.gates.specs.Clear.{Values, value, AreWords, each_two, FitFrom}
-use Rattle.gates.specs.Tests.{zero_test}
+use Rattle.gates.specs.Clear.{Values, value, FitFrom}
+use Rattle.gates.specs.WordTests.{zero_test}
 use Rattle.gates.specs.Counts.{Miner, words_of_all, words_of_split}
 use Rattle.gates.specs.Counts.Miner.{Miner1, Miner2, Miner3}
 use Rattle.gates.proofs.Sizes.{size_of-value}

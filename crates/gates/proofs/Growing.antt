@@ -1,5 +1,5 @@
 -- Values behind those that fit change nothing, and evaluation gives values that fit.
-use Rattle.std.proofs.Common.{◌≡◌, ℕ, zero, suc, ◌+◌, ◌-◌, ◌%◌, ◌^◌, ◌<◌, ◌≤◌, Bool, true, false, Some, None, List, [], ◌∷◌, ◌++◌, length, map, get_or, refl, sym, ◌∙◌, ap, subst, arith, append_assoc, length-append}
+use Rattle.std.proofs.Common.{◌≡◌, ℕ, zero, suc, ◌+◌, ◌-◌, ◌%◌, ◌^◌, ◌<◌, ◌≤◌, Bool, true, false, Some, List, [], ◌∷◌, ◌++◌, length, refl, sym, ◌∙◌, ap, subst, arith, append_assoc, length-append}
 use Rattle.std.specs.Prelude.{slice_get}
 use Rattle.std.proofs.lemmas.List.{get_or_append_left, length-replicate, get_or-replicate, append-nil}
 use Rattle.std.proofs.lemmas.List.Elements.{All-from_get_or}
@@ -8,9 +8,9 @@ use Rattle.share_ring.specs.Rings.{add_ring}
 use Rattle.gates.specs.declared.gate.Gate.{Gate}
 use Rattle.gates.specs.declared.gate.Gate.TheVariants.{Input, Const, Add, Sub, MulPub, Mul, Xor, And, Not, Shl, Shr, Low, Cat, Part, Put, Rep, Spread, Sum, Split, Conv, Open, Result}
 use Rattle.gates.specs.Counts.{made_by, made_by_all}
-use Rattle.gates.specs.Clear.{Values, value, clear_value, each_two, AreWords, IsSplit, joined, AreOperands, Suits, Makes, FitFrom}
+use Rattle.gates.specs.Clear.{Values, value, clear_value, each_two, AreWords, IsSplit, AreOperands, Suits, Makes, FitFrom, Fit}
 use Rattle.gates.specs.Evaluated.{unmasked, masks_for, made, evaluated, SplitsWords, AllSuit}
-use Rattle.gates.proofs.Columns.{word, Column, stands, Column-of, Column-ext, Column-map, Column-each_two, same_columns}
+use Rattle.gates.proofs.Columns.{word, Column, stands, Column-of, Column-ext, Column-each_two, same_columns}
 
 -- ---- lists
 
@@ -225,3 +225,13 @@ evaluated_fits mask small inputs values (gate ∷ gates) suit =
       subst (λ all. Makes inputs all (length values) gate) (sym rest.1) makes_all,
       subst (λ next. FitFrom inputs (evaluated mask inputs (values ++ new) gates) next gates) count (evaluated_fits mask small inputs (values ++ new) gates suit.2),
     )
+
+length-evaluated : (mask : ℕ) (inputs values : Values) (gates : List Gate) → length (evaluated mask inputs values gates) ≡ length values + made_by_all gates
+length-evaluated mask inputs values [] = omega arith
+length-evaluated mask inputs values (gate ∷ gates) =
+    let new = made mask inputs values gate in
+    omega (arith, length-evaluated mask inputs (values ++ new) gates, length-append values new, length-made mask inputs values gate)
+
+pub evaluated_run_fits : (mask : ℕ) → mask < 2 ^ 64 → (inputs : Values) (gates : List Gate) → AllSuit mask inputs [] gates → Fit inputs gates (evaluated mask inputs [] gates)
+evaluated_run_fits mask small inputs gates suit =
+    record { fit = evaluated_fits mask small inputs [] gates suit; count = length-evaluated mask inputs [] gates ∙ omega arith }

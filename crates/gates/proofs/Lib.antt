@@ -4,4 +4,4 @@ pub mod Columns
 pub mod Sizes
 pub mod BlockSizes
 pub mod Growing
-pub mod EachTwo
+pub mod WordSteps

@@ -1,6 +1,6 @@
 -- The sizes of values, and the words that rows of gates take.
 use Rattle.std.proofs.Math.Nat.{add-zero, add_assoc}
-use Rattle.std.proofs.Common.{◌≡◌, ℕ, zero, suc, ◌+◌, List, [], ◌∷◌, ◌++◌, length, map, get_or, refl, sym, ◌∙◌, ap, arith}
+use Rattle.std.proofs.Common.{◌≡◌, ℕ, zero, suc, ◌+◌, List, [], ◌∷◌, ◌++◌, length, map, refl, ◌∙◌, ap, arith}
 use Rattle.gates.specs.declared.gate.Gate.{Gate}
 use Rattle.gates.specs.Clear.{Values, value, FitFrom}
 use Rattle.gates.specs.Counts.{Miner, size_of, made_by, made_by_all, words_of, words_of_all}

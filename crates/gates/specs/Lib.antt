@@ -1,6 +1,6 @@
 pub mod Blocks
 pub mod Counts
 pub mod Clear
-pub mod Tests
+pub mod WordTests
 pub mod Evaluated
 pub mod Vectors

@@ -9,7 +9,7 @@ use share_ring::ShareRing;
 use std::alloc::{AllocError, Global};
 
 /// The sums of the two words at each index, in a ring.
-#[tactic(auto, using(crate::proofs::EachTwo::each_two_steps))]
+#[tactic(auto, using(crate::proofs::WordSteps::each_two_steps))]
 pub(crate) fn sums<R: ShareRing>(alloc: Global, xs: &[u64], ys: &[u64]) -> Result<Words, AllocError>
     ensures { IfOk result (λ words. words ≡ each_two R.ring.add xs.now ys.now) }
 {
@@ -21,7 +21,7 @@ pub(crate) fn sums<R: ShareRing>(alloc: Global, xs: &[u64], ys: &[u64]) -> Resul
 }
 
 /// The differences of the two words at each index, in a ring.
-#[tactic(auto, using(crate::proofs::EachTwo::each_two_steps))]
+#[tactic(auto, using(crate::proofs::WordSteps::each_two_steps))]
 pub(crate) fn differences<R: ShareRing>(
     alloc: Global,
     xs: &[u64],
@@ -37,7 +37,7 @@ pub(crate) fn differences<R: ShareRing>(
 }
 
 /// The products of the two words at each index, in a ring.
-#[tactic(auto, using(crate::proofs::EachTwo::each_two_steps))]
+#[tactic(auto, using(crate::proofs::WordSteps::each_two_steps))]
 pub(crate) fn products<R: ShareRing>(
     alloc: Global,
     xs: &[u64],
@@ -69,7 +69,7 @@ pub(crate) fn low_bits(alloc: Global, xs: &[u64]) -> Result<Words, AllocError>
 }
 
 /// A word shifted up; what passes bit 63 is lost.
-#[tactic(auto, using(crate::proofs::EachTwo::shifted_out_up))]
+#[tactic(auto, using(crate::proofs::WordSteps::shifted_out_up))]
 fn word_up(x: u64, count: u64) -> u64
     ensures { result ≡ x * 2 ^ count % 2 ^ 64 }
 {
@@ -77,7 +77,7 @@ fn word_up(x: u64, count: u64) -> u64
 }
 
 /// A word shifted down; what passes bit 0 is lost.
-#[tactic(auto, using(crate::proofs::EachTwo::shifted_out_down))]
+#[tactic(auto, using(crate::proofs::WordSteps::shifted_out_down))]
 fn word_down(x: u64, count: u64) -> u64
     ensures { result ≡ x / 2 ^ count }
 {
@@ -107,7 +107,7 @@ pub(crate) fn shifted_down(alloc: Global, xs: &[u64], count: u64) -> Result<Word
 }
 
 /// Some words in a row, as many of them as there are.
-#[tactic(auto, using(crate::proofs::EachTwo::part_steps))]
+#[tactic(auto, using(crate::proofs::WordSteps::part_steps))]
 pub(crate) fn part(
     alloc: Global,
     xs: &[u64],
@@ -134,7 +134,7 @@ pub(crate) fn joined(alloc: Global, xs: &[u64], ys: &[u64]) -> Result<Words, All
 }
 
 /// The words with one given anew, where it is there.
-#[tactic(auto, using(crate::proofs::EachTwo::set_past_end))]
+#[tactic(auto, using(crate::proofs::WordSteps::set_past_end))]
 pub(crate) fn with_word(
     alloc: Global,
     xs: &[u64],
@@ -159,7 +159,7 @@ pub(crate) fn repeated(alloc: Global, word: u64, count: usize) -> Result<Words, 
 }
 
 /// The 64 bits of a word behind what is there, bit 0 first.
-#[tactic(auto, using(crate::proofs::EachTwo::bit_steps))]
+#[tactic(auto, using(crate::proofs::WordSteps::bit_steps))]
 fn push_bits(words: &mut Vec<u64>, x: u64) -> Result<(), AllocError>
     ensures { OnOk result (words.new.items ≡ words.old.items ++ bits_of x) }
 {
@@ -170,7 +170,7 @@ fn push_bits(words: &mut Vec<u64>, x: u64) -> Result<(), AllocError>
 }
 
 /// The 64 bits of each word.
-#[tactic(auto, using(crate::proofs::EachTwo::spread_more))]
+#[tactic(auto, using(crate::proofs::WordSteps::spread_more))]
 pub(crate) fn spread(alloc: Global, xs: &[u64]) -> Result<Words, AllocError>
     ensures { IfOk result (λ words. words ≡ flat_map bits_of xs.now) }
 {

@@ -16,7 +16,7 @@ mod words;
 pub use clear::evaluated;
 pub use cutting::{BLOCK_LEN, blocks};
 pub use gate::Gate;
-pub use laws::{evaluated_values_fit, later_values_change_nothing};
+pub use laws::{evaluated_runs_fit, evaluated_values_fit, later_values_change_nothing};
 pub use ring_kind::RingKind;
 pub use values::Values;
 pub use words::Words;

@@ -1,15 +1,15 @@
 -- Steps of the loops that evaluate gates.
 use Rattle.std.proofs.Common.{◌≡◌, ℕ, zero, suc, ◌+◌, ◌-◌, ◌*◌, ◌/◌, ◌%◌, ◌^◌, ◌<◌, ◌≤◌, List, [], ◌∷◌, ◌++◌, length, map, take, drop, set, get_or, refl, sym, ◌∙◌, ap, arith, append_assoc, length-drop}
 use Rattle.std.specs.Prelude.{min}
-use Rattle.std.specs.List.{zip, flat_map, range_with_len, slice_range}
+use Rattle.std.specs.List.{zip, flat_map, range_with_len}
 use Rattle.std.specs.Int.{bit_at}
 use Rattle.std.proofs.Math.Nat.{add-mul-mod_self_right}
 use Rattle.std.proofs.lemmas.List.{take_more, take_all, take_min, drop_min, set_past, length-map, append-nil}
 use Rattle.std.proofs.lemmas.List.FromFn.{map-range_with_len_more}
-use Rattle.std.proofs.lemmas.Slice.Zip.{length-zip, get_or-zip}
+use Rattle.std.proofs.lemmas.Slice.Zip.{length-zip}
 use Rattle.std.proofs.lemmas.Nat.{pow-add, pow_pos, shr_below}
 use Rattle.gates.specs.Clear.{each_two, bits_of}
-use Rattle.gates.proofs.Columns.{word, Column-of, Column-each_two}
+use Rattle.gates.proofs.Columns.{word}
 
 length-each_two : (f : ℕ → ℕ → ℕ) (xs ys : List ℕ) → length (each_two f xs ys) ≡ min (length xs) (length ys)
 length-each_two f xs ys = length-map (zip xs ys) (λ (p : ℕ × ℕ). f p.0 p.1) ∙ length-zip xs ys

@@ -1,5 +1,5 @@
 -- Tests on words that answer a word: 1 for yes, 0 for no.
-use Rattle.std.specs.Prelude.{ℕ, nat_eq, nat_lt, ◌==◌, if◌then◌else◌}
+use Rattle.std.specs.Prelude.{ℕ, nat_lt, ◌==◌, if◌then◌else◌}
 
 -- whether the word is 0
 abbrev pub zero_test : ℕ → ℕ
