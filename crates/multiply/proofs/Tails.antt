@@ -1,15 +1,16 @@
 -- Each step of the code is the strand's: what it sends and holds is what the miner's part does next.
-use Rattle.std.proofs.Common.{◌≡◌, ℕ, List, [], ◌∷◌, ◌++◌, length, refl, sym, ◌∙◌, ap, subst}
+use Rattle.std.proofs.Common.{◌≡◌, ℕ, ◌*◌, true, List, [], ◌∷◌, ◌++◌, length, sym, ◌∙◌, ap, subst}
 use Rattle.share_ring.specs.Ring.{Ring, RingLaws}
 use Rattle.proto_core.specs.declared.party.Number.{Number}
 use Rattle.proto_core.specs.Parties.{to_next, previous_of}
 use Rattle.proto_core.specs.Lists.{part}
 use Rattle.proto_core.specs.Protocol.{Joint}
-use Rattle.proto_core.specs.Strand.{Ends, Acts, Sent}
-use Rattle.proto_core.specs.Elementwise.{plus, minus}
-use Rattle.multiply.specs.MulStrand.{Held, masked, crossed, product, mul_strand, mul_masked, mul_passes, mul_crossed, mul_ends}
+use Rattle.proto_core.specs.Strand.{accepts, Ends, Acts, Sent}
+use Rattle.proto_core.proofs.MessageFields.{accepted-length}
+use Rattle.proto_core.proofs.Parts.{length-part, parts_of_two}
+use Rattle.multiply.specs.MulStrand.{Held, masked, crossed, product, masks_shape, factors_shape, mul_strand, mul_masked, mul_passes, mul_crossed, mul_ends}
 use Rattle.multiply.specs.Multiplying.{factors_of, product_of}
-use Rattle.multiply.specs.MultiplyingLaws.{held_of, factors-held, product-held}
+use Rattle.multiply.specs.MultiplyingLaws.{masks_fit, factors_fit, held_of, factors-held, product-held}
 use Rattle.multiply.specs.Steps.{Starts, Crosses, Multiplied}
 
 abbrev holds : List ℕ → List ℕ → List ℕ → Held
@@ -74,3 +75,18 @@ module _ {r : Ring} (laws : RingLaws r) (n : ℕ) (j : Joint) (i : Number) where
     share-is theirs share e s =
         s.share ∙ ap (λ k. product r k held theirs) (b.crosses.len ∙ size) ∙ ap (λ h. product r n h theirs) holds-of
         ∙ ap (product r n (held_of laws n j i)) e ∙ product-held laws n j i
+
+-- ---- a message is refused exactly where it has not the shape that the strand waits for
+
+pub accepts-masks : (n : ℕ) (m : List ℕ) → length m ≡ 3 * n → accepts (masks_shape n) m ≡ true
+accepts-masks n m e = masks_fit n m e
+
+pub accepted-masks : (n : ℕ) (m : List ℕ) → accepts (masks_shape n) m ≡ true → length m ≡ 3 * n
+accepted-masks n m h = accepted-length (masks_shape n) m h
+
+pub accepts-factors : (n : ℕ) (m : List ℕ) → length m ≡ 2 * n → accepts (factors_shape n) m ≡ true
+accepts-factors n m e =
+    ap (accepts (factors_shape n)) (sym (parts_of_two n m e)) ∙ factors_fit n (part n 0 m) (part n 1 m) (length-part n 0 m) (length-part n 1 m)
+
+pub accepted-factors : (n : ℕ) (m : List ℕ) → accepts (factors_shape n) m ≡ true → length m ≡ 2 * n
+accepted-factors n m h = accepted-length (factors_shape n) m h

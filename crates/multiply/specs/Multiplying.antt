@@ -3,10 +3,9 @@ use Rattle.std.specs.Prelude.{◌≡◌, ℕ, ◌*◌, if◌then◌else◌, List
 use Rattle.share_ring.specs.Ring.{Ring}
 use Rattle.proto_core.specs.declared.party.Number.{Number}
 use Rattle.proto_core.specs.declared.party.Number.TheVariants.{One, Two, Three}
-use Rattle.proto_core.specs.declared.link.Link.{Link}
 use Rattle.proto_core.specs.Parties.{next_of, previous_of, to_next, from_previous, sender_of, is_forward, is_same}
 use Rattle.proto_core.specs.Lists.{part}
-use Rattle.proto_core.specs.Strand.{Field, Words, shaped, Mail, Strand}
+use Rattle.proto_core.specs.Strand.{Mail}
 use Rattle.proto_core.specs.Script.{Move, Sends, Takes}
 use Rattle.proto_core.specs.Protocol.{Joint, Protocol}
 use Rattle.proto_core.specs.Resharing.{reshared, sum_of_three}

@@ -5,7 +5,7 @@ use Rattle.proto_core.specs.declared.link.Link.{Link}
 use Rattle.proto_core.specs.declared.link.Link.TheVariants.{Link12, Link13, Link21, Link23, Link31, Link32}
 use Rattle.proto_core.specs.declared.party.Number.{Number}
 use Rattle.proto_core.specs.declared.party.Number.TheVariants.{One, Two, Three}
-use Rattle.proto_core.specs.Parties.{next_of, previous_of, to_next, from_previous, sender_of, receiver_of, is_same}
+use Rattle.proto_core.specs.Parties.{next_of, previous_of, to_next, sender_of, receiver_of, is_same}
 use Rattle.proto_core.specs.Lists.{part, AreWords}
 use Rattle.proto_core.specs.Strand.{Words, Shape, shaped, accepts, Act, Sent, Mail, Strand, Ends, Ran, acted, run, on_link, opened_in, Begins}
 use Rattle.proto_core.specs.Net.{into, mail_of, posted, run_of, nothing, Finishes}
@@ -19,8 +19,8 @@ use Rattle.proto_core.proofs.MessageFields.{accepts-words, accepts-one_words}
 use Rattle.proto_core.proofs.Beginnings.{begins-self}
 use Rattle.proto_core.proofs.Nodes.{into-is, mail-none, run-previous, run-waits_previous}
 use Rattle.multiply.specs.ProductLaws.{products-sum, product-is}
-use Rattle.multiply.specs.MulStrand.{Held, masked, crossed, product, masks_shape, factors_shape, mul_strand, mul_masked, mul_passes, mul_crossed, mul_ends}
-use Rattle.multiply.specs.Multiplying.{factors_of, cross_of, product_of, mul_messages, mul_script, mul_tape, mul_received, mul_protocol, Multiplies}
+use Rattle.multiply.specs.MulStrand.{Held, masked, crossed, product, masks_shape, factors_shape, mul_strand, mul_passes, mul_ends}
+use Rattle.multiply.specs.Multiplying.{factors_of, product_of, mul_messages, mul_script, mul_tape, mul_received, mul_protocol, Multiplies}
 
 mul_matched : (n : ℕ) → Matched (mul_script n)
 mul_matched n = elim [ Link12 ↦ refl | Link13 ↦ refl | Link21 ↦ refl | Link23 ↦ refl | Link31 ↦ refl | Link32 ↦ refl ]
@@ -32,13 +32,13 @@ mul_own_links n Three = (refl, (refl, (refl, (refl, tt))))
 
 -- ---- shapes
 
-masks_fit : (n : ℕ) (w : List ℕ) → length w ≡ 3 * n → accepts (masks_shape n) w ≡ true
+pub masks_fit : (n : ℕ) (w : List ℕ) → length w ≡ 3 * n → accepts (masks_shape n) w ≡ true
 masks_fit n w e =
     ap (accepts (masks_shape n)) (sym (parts_of_three n w e))
     ∙ accepts-words n (Words ∷ Words ∷ []) (part n 0 w) (part n 1 w ++ part n 2 w) (length-part n 0 w)
     (accepts-words n (Words ∷ []) (part n 1 w) (part n 2 w) (length-part n 1 w) (accepts-one_words n (part n 2 w) (length-part n 2 w)))
 
-factors_fit : (n : ℕ) (x y : List ℕ) → length x ≡ n → length y ≡ n → accepts (factors_shape n) (x ++ y) ≡ true
+pub factors_fit : (n : ℕ) (x y : List ℕ) → length x ≡ n → length y ≡ n → accepts (factors_shape n) (x ++ y) ≡ true
 factors_fit n x y hx hy = accepts-words n (Words ∷ []) x y hx (accepts-one_words n y hy)
 
 module _ (r : Ring) where

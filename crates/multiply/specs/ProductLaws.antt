@@ -1,16 +1,16 @@
 -- Products of shares in any ring.
-use Rattle.std.proofs.Common.{◌≡◌, ℕ, ◌+◌, ◌*◌, ◌<◌, List, ◌++◌, length, refl, sym, ◌∙◌, ap, arith}
+use Rattle.std.proofs.Common.{◌≡◌, ℕ, ◌+◌, ◌*◌, List, ◌++◌, length, sym, ◌∙◌, ap, arith}
 use Rattle.share_ring.specs.Ring.{Ring, RingLaws}
 use Rattle.share_ring.proofs.Sums.{products_of_three}
 use Rattle.proto_core.specs.Lists.{at, each, part}
 use Rattle.proto_core.specs.Elementwise.{plus, minus}
 use Rattle.proto_core.specs.Resharing.{reshared, sum_of_three}
 use Rattle.proto_core.proofs.Each.{length-each, at-each, each-ext, each_none, each_more}
-use Rattle.proto_core.proofs.Parts.{at-part, part-is, two_first, two_second}
+use Rattle.proto_core.proofs.Parts.{at-part, two_first, two_second}
 use Rattle.proto_core.proofs.ElementwiseLaws.{length-plus, length-minus, minus-plus, plus-minus}
-use Rattle.proto_core.proofs.ResharingLaws.{at-reshared, length-reshared, sum-reshared}
+use Rattle.proto_core.proofs.ResharingLaws.{length-reshared}
 use Rattle.multiply.specs.Products.{times, cross}
-use Rattle.multiply.specs.MulStrand.{Held, product}
+use Rattle.multiply.specs.MulStrand.{product}
 
 module _ (r : Ring) where
   pub length-cross : (n : ℕ) (u v up vp : List ℕ) → length (cross r n u v up vp) ≡ n

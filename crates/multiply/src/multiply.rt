@@ -18,8 +18,9 @@ pub struct Crossed;
 /// One party's part in multiplying two blocks, in the state `S`, which says what message is awaited.
 ///
 /// It holds the party's shares of the factors as far as they are masked, and what masks its share of the product: first
-/// with the party's own words added, then with the previous miner's taken away. The method is Du and Atallah's as the
-/// Sharemind protocols have it: each party adds three of the nine products of reshared factors.
+/// with the party's own words added, then with the previous miner's taken away. The method is that of Bogdanov, Niitsoo,
+/// Toft and Willemson, "High-performance secure multi-party computation for data mining applications" (2012): the factors
+/// are masked anew, and each party adds three of the nine products of their shares.
 #[derive(Drop)]
 pub struct Mul<R, P, S> {
     u: Block<R, P>,

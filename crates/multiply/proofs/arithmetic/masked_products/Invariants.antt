@@ -1,4 +1,4 @@
-use Rattle.std.proofs.Common.{◌≡◌, ◌≤◌, ◌+◌, length}
+use Rattle.std.proofs.Common.{◌≡◌, ◌≤◌, ◌+◌}
 use Rattle.proto_core.specs.Lists.{at, each}
 use Rattle.multiply.proofs.arithmetic.masked_products.Given as goal
 

@@ -1,8 +1,8 @@
-use Rattle.std.proofs.Common.{◌≡◌, ◌∙◌, List, [], ◌∷◌, length, refl, ap}
+use Rattle.std.proofs.Common.{◌∙◌, [], ◌∷◌, length, refl, ap}
 use Rattle.proto_core.specs.declared.party.Number.TheVariants.{One, Two, Three}
 use Rattle.proto_core.specs.Resharing.{sum_of_three}
 use Rattle.multiply.specs.Together.{joint_of}
-use Rattle.multiply.specs.Multiplying.{product_of, mul_messages}
+use Rattle.multiply.specs.Multiplying.{product_of}
 use Rattle.multiply.specs.MultiplyingLaws.{multiplies}
 use Rattle.multiply.proofs.Tails.{Begun, factors-are, share-is}
 use Rattle.multiply.proofs.together.multiply_together.Goals as goal
