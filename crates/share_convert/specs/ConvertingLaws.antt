@@ -1,5 +1,5 @@
 -- The protocol converts, and each view can be made without the others' shares.
-use Rattle.std.proofs.Common.{◌≡◌, ℕ, ◌+◌, ◌*◌, true, List, [], ◌∷◌, ◌++◌, length, refl, sym, ◌∙◌, ap, subst, arith, length-append, append_assoc}
+use Rattle.std.proofs.Common.{◌≡◌, ℕ, ◌*◌, true, List, [], ◌∷◌, ◌++◌, length, refl, sym, ◌∙◌, ap, subst, arith, length-append, append_assoc}
 use Rattle.share_ring.specs.Rings.{add_ring}
 use Rattle.share_ring.specs.RingsKeepLaws.{add_ring_laws}
 use Rattle.proto_core.specs.declared.link.Link.{Link}
@@ -8,10 +8,10 @@ use Rattle.proto_core.specs.declared.party.Number.{Number}
 use Rattle.proto_core.specs.declared.party.Number.TheVariants.{One, Two, Three}
 use Rattle.proto_core.specs.Parties.{sender_of, receiver_of}
 use Rattle.proto_core.specs.Lists.{at, part, AreWords}
-use Rattle.proto_core.specs.Strand.{Words, Bits, shaped, accepts, Act, Sent, Mail, Ends, Ran, acted, run, on_link, opened_in, Begins}
-use Rattle.proto_core.specs.Net.{into, mail_of, posted, run_of, nothing, Finishes}
+use Rattle.proto_core.specs.Strand.{Words, Bits, accepts, Act, Sent, Mail, Ends, Ran, acted, run, on_link, opened_in, Begins}
+use Rattle.proto_core.specs.Net.{posted, run_of, nothing, Finishes}
 use Rattle.proto_core.specs.Script.{Moves, Matched, UsesOwnLinks, sends_on}
-use Rattle.proto_core.specs.Protocol.{Joint, Fits, Lawful, with_words, strands_of, IsMessage, AreMessages, AreBlocks}
+use Rattle.proto_core.specs.Protocol.{Joint, Fits, Lawful, with_words, strands_of, AreMessages, AreBlocks}
 use Rattle.proto_core.specs.Elementwise.{plus, zeros}
 use Rattle.proto_core.specs.Resharing.{reshared, sum_of_three}
 use Rattle.proto_core.proofs.Each.{at-each, each-ext}
@@ -23,8 +23,8 @@ use Rattle.proto_core.proofs.Beginnings.{begins-self}
 use Rattle.proto_core.proofs.Nodes.{into-is, mail-none, run-previous, run-next, run-waits_previous, run-waits_next}
 use Rattle.share_convert.specs.Bits.{bits, xor_bits, xor_bits_of_three, bits_less, one_less_where, negative_where}
 use Rattle.share_convert.specs.BitLaws.{length-bits, length-xor_bits, length-xor_bits_of_three, length-bits_less, length-flipped, AreWords-bits_less, AreWords-flipped, AreAllBits-bits, AreAllBits-xor_bits, AreAllBits-xor_bits_of_three, all-bits, AreWords-all_bits, bits-flipped, bits-flipped_by_two, flipped-twice, bits_less-twice, xor_bits-bits, xor_bits-xor_bits, choice-is, summed}
-use Rattle.share_convert.specs.ConvStrand.{Held, shape12, shape13, shape23, shape32, shape31, b_of, e_of, m_of, a_of, to_two, to_three, one_held, one_ends, awaits31, begun, two_held, two_ends, awaits32, two_passes, awaits12, three_held, three_ends, awaits23, three_passes, awaits13, conv_strand}
-use Rattle.share_convert.specs.Converting.{conv_draws, conv_script, conv_messages, from_two, from_three, choice, unmasked, mask_of, converted, flipped, four, two_map, three_map, three_back, conv_tape, conv_back, conv_received, conv_protocol, Converts}
+use Rattle.share_convert.specs.ConvStrand.{Held, shape12, shape13, shape23, shape32, shape31, b_of, e_of, m_of, a_of, to_two, to_three, one_held, one_ends, begun, two_held, two_ends, two_passes, three_held, three_ends, three_passes, conv_strand}
+use Rattle.share_convert.specs.Converting.{conv_draws, conv_script, conv_messages, from_two, from_three, choice, unmasked, converted, four, two_map, three_map, three_back, conv_tape, conv_back, conv_received, conv_protocol, Converts}
 
 conv_matched : (n : ℕ) → Matched (conv_script n)
 conv_matched n = elim [ Link12 ↦ refl | Link13 ↦ refl | Link21 ↦ refl | Link23 ↦ refl | Link31 ↦ refl | Link32 ↦ refl ]
