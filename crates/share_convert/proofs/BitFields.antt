@@ -1,5 +1,5 @@
 -- A message has the shape that is wanted exactly where it has the length and its bit field has only bits.
-use Rattle.std.proofs.Common.{◌≡◌, ℕ, zero, suc, ◌+◌, ◌*◌, ◌<◌, ◌≤◌, ◌==◌, Bool, true, false, ◌&&◌, List, [], ◌∷◌, length, take, drop, refl, sym, ◌∙◌, ap, arith, inl, inr, subst, ◌++◌}
+use Rattle.std.proofs.Common.{◌≡◌, ℕ, zero, suc, ◌+◌, ◌*◌, ◌<◌, ◌==◌, Bool, true, false, ◌&&◌, List, [], ◌∷◌, length, take, drop, refl, sym, ◌∙◌, arith, inl, inr, subst}
 use Rattle.std.specs.List.{list_all}
 use Rattle.std.proofs.lemmas.List.{get_or-take, get_or-drop, get_or_past, length-take}
 use Rattle.std.proofs.lemmas.Bool.{cases_lt}
@@ -7,9 +7,9 @@ use Rattle.proto_core.specs.declared.party.Number.TheVariants.{One, Two, Three}
 use Rattle.proto_core.specs.Protocol.{Joint}
 use Rattle.proto_core.specs.Lists.{at}
 use Rattle.proto_core.specs.Refusals.{AreBits}
-use Rattle.proto_core.specs.Strand.{Words, Bits, shaped, accepts, has_bits, is_bit}
+use Rattle.proto_core.specs.Strand.{accepts, is_bit}
 use Rattle.proto_core.proofs.MessageFields.{accepted-length}
-use Rattle.share_convert.specs.BitLaws.{AreAllBits, all-bits}
+use Rattle.share_convert.specs.BitLaws.{all-bits}
 use Rattle.share_convert.specs.ConvStrand.{shape12, shape13, shape23, shape32, b_of, e_of, to_two, to_three}
 use Rattle.share_convert.specs.Converting.{from_two, from_three}
 use Rattle.share_convert.specs.ConvertingLaws.{fits12, fits13, fits23, fits32_of_three}

@@ -1,5 +1,5 @@
 -- Each step of the code is the strand's: what it sends and holds is what the miner's part does next.
-use Rattle.std.proofs.Common.{◌≡◌, ℕ, ◌*◌, List, [], ◌∷◌, ◌++◌, length, refl, sym, ◌∙◌, ap, subst}
+use Rattle.std.proofs.Common.{◌≡◌, ℕ, List, [], ◌∷◌, ◌++◌, length, sym, ◌∙◌, ap, subst}
 use Rattle.share_ring.specs.Rings.{add_ring}
 use Rattle.proto_core.specs.declared.link.Link.TheVariants.{Link12, Link13, Link23, Link31, Link32}
 use Rattle.proto_core.specs.declared.party.Number.TheVariants.{One, Two, Three}
@@ -7,9 +7,9 @@ use Rattle.proto_core.specs.Elementwise.{plus, zeros}
 use Rattle.proto_core.specs.Lists.{part}
 use Rattle.proto_core.specs.Protocol.{Joint}
 use Rattle.proto_core.specs.Resharing.{reshared}
-use Rattle.proto_core.specs.Strand.{accepts, Ends, Acts, Sent}
+use Rattle.proto_core.specs.Strand.{Ends, Acts, Sent}
 use Rattle.share_convert.specs.Bits.{xor_bits, one_less_where, negative_where}
-use Rattle.share_convert.specs.ConvStrand.{Held, a_of, to_two, to_three, one_held, one_ends, awaits31, begun, two_held, two_ends, two_passes, awaits12, awaits32, three_held, three_ends, three_passes, awaits13, awaits23, conv_strand, shape12}
+use Rattle.share_convert.specs.ConvStrand.{Held, a_of, to_two, to_three, one_held, one_ends, awaits31, begun, two_held, two_ends, two_passes, awaits12, awaits32, three_held, three_ends, three_passes, awaits13, awaits23, conv_strand}
 use Rattle.share_convert.specs.Converting.{from_two, from_three, converted}
 use Rattle.share_convert.specs.ConvertingLaws.{held12, held13, two-sent, bits-three, ends-two, ends-three}
 use Rattle.share_convert.specs.Steps.{OneStarts, Got31, Got12, Got32, Got13, Got23}

@@ -1,5 +1,5 @@
 -- Lowest bits, element by element: what they are of an xor, and what undoes itself.
-use Rattle.std.proofs.Common.{◌≡◌, ℕ, zero, suc, ◌<◌, ◌≤◌, ◌^◌, ◌+◌, ◌-◌, ◌*◌, ◌%◌, Bool, true, false, ◌&&◌, nat_lt, List, [], ◌∷◌, ◌++◌, length, refl, sym, ◌∙◌, ap, arith, inl, inr, bit_xor}
+use Rattle.std.proofs.Common.{◌≡◌, ℕ, zero, suc, ◌<◌, ◌^◌, ◌+◌, ◌-◌, ◌%◌, Bool, true, false, ◌&&◌, List, [], ◌∷◌, length, refl, sym, ◌∙◌, ap, arith, inl, inr, bit_xor}
 use Rattle.std.specs.List.{list_all}
 use Rattle.std.specs.Int.Bits.{xor_self, xor_zero_r, xor_assoc}
 use Rattle.std.proofs.lemmas.Nat.{xor_lt, mod_below}
@@ -11,7 +11,7 @@ use Rattle.share_ring.proofs.Sums.{sub-sub}
 use Rattle.proto_core.specs.Lists.{at, each, AreWords}
 use Rattle.proto_core.specs.Strand.{is_bit}
 use Rattle.proto_core.proofs.Each.{length-each, at-each, at-each_past, each-ext, each-is, AreWords-each}
-use Rattle.share_convert.specs.Bits.{bit, bits, xor_bits, xor_bits_of_three, bits_less, chosen, one_less_where, negative_where}
+use Rattle.share_convert.specs.Bits.{bit, bits, xor_bits, xor_bits_of_three, bits_less, chosen}
 use Rattle.share_convert.specs.Converting.{flipped}
 
 -- ---- one element

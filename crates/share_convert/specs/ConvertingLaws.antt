@@ -23,8 +23,8 @@ use Rattle.proto_core.proofs.Beginnings.{begins-self}
 use Rattle.proto_core.proofs.Nodes.{into-is, mail-none, run-previous, run-next, run-waits_previous, run-waits_next}
 use Rattle.share_convert.specs.Bits.{bits, xor_bits, xor_bits_of_three, bits_less, one_less_where, negative_where}
 use Rattle.share_convert.specs.BitLaws.{length-bits, length-xor_bits, length-xor_bits_of_three, length-bits_less, length-flipped, AreWords-bits_less, AreWords-flipped, AreAllBits-bits, AreAllBits-xor_bits, AreAllBits-xor_bits_of_three, all-bits, AreWords-all_bits, bits-flipped, bits-flipped_by_two, flipped-twice, bits_less-twice, xor_bits-bits, xor_bits-xor_bits, choice-is, summed}
-use Rattle.share_convert.specs.ConvStrand.{Held, shape12, shape13, shape23, shape32, shape31, b_of, e_of, m_of, a_of, to_two, to_three, one_held, one_ends, awaits31, begun, two_held, two_ends, awaits32, two_passes, awaits12, three_held, three_ends, awaits23, three_passes, awaits13, conv_strand}
-use Rattle.share_convert.specs.Converting.{conv_draws, conv_script, conv_messages, from_two, from_three, choice, unmasked, mask_of, converted, flipped, four, two_map, three_map, three_back, conv_tape, conv_back, conv_received, conv_protocol, Converts}
+use Rattle.share_convert.specs.ConvStrand.{Held, shape12, shape13, shape23, shape32, shape31, b_of, e_of, m_of, a_of, to_two, to_three, one_held, one_ends, begun, two_held, two_ends, two_passes, three_held, three_ends, three_passes, conv_strand}
+use Rattle.share_convert.specs.Converting.{conv_draws, conv_script, conv_messages, from_two, from_three, choice, unmasked, converted, four, two_map, three_map, three_back, conv_tape, conv_back, conv_received, conv_protocol, Converts}
 
 conv_matched : (n : ℕ) → Matched (conv_script n)
 conv_matched n = elim [ Link12 ↦ refl | Link13 ↦ refl | Link21 ↦ refl | Link23 ↦ refl | Link31 ↦ refl | Link32 ↦ refl ]

@@ -53,6 +53,12 @@ impl Stage for Second {
 ///
 /// It holds what masks its share at the end; miners 2 and 3 hold bits too, at first their shares and then those that
 /// they sent, and once the first miner's message came the word of it that their share is made of.
+///
+/// The first miner deals the bit of b xor its share, where b is drawn, to the other two as a sum m + f. They find the bit
+/// of b xor both their shares: one tells the other e xor its share, and the other b xor e xor its own, which say nothing to
+/// one who knows e alone or b xor e alone. The result is m + f where that bit is clear, and (1 - m) - f where it is set;
+/// each masks its summand anew. It is a protocol in the manner of Bogdanov, Niitsoo, Toft and Willemson,
+/// "High-performance secure multi-party computation for data mining applications" (2012).
 #[derive(Drop)]
 pub struct Conv<P, S: Stage> {
     bits: Block<XorRing, P>,
@@ -92,7 +98,7 @@ impl Conv<P1, Sent> {
         let n = u.len();
         let drawn = Msg::from_words(words);
         let b = drawn.field(0, n);
-        let e = drawn.field(1, n);
+        let e: Block<XorRing, P1> = drawn.field(1, n);
         let m = drawn.field(2, n);
         let mask = drawn.field(3, n);
         let mut to_two = Msg::from_block(&m);

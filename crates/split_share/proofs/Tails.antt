@@ -1,13 +1,14 @@
 -- Each step of the code is the strand's: what it sends and has is what the miner's part does next.
-use Rattle.std.proofs.Common.{◌≡◌, ℕ, Bool, false, List, [], ◌∷◌, length, refl, sym, ◌∙◌, ap}
+use Rattle.std.proofs.Common.{◌≡◌, ℕ, Bool, true, false, List, [], ◌∷◌, length, sym, ◌∙◌, ap}
 use Rattle.share_ring.specs.Rings.{add_ring, xor_ring}
 use Rattle.proto_core.specs.declared.link.Link.TheVariants.{Link12, Link13}
 use Rattle.proto_core.specs.declared.party.Number.TheVariants.{One, Two, Three}
 use Rattle.proto_core.specs.Elementwise.{minus, zeros}
 use Rattle.proto_core.specs.Protocol.{Joint}
 use Rattle.proto_core.specs.Resharing.{sum_of_three}
-use Rattle.proto_core.specs.Strand.{Ends, Acts, Sent}
-use Rattle.split_share.specs.SplitStrand.{Held, held_of, signed_sum, two_ends, three_ends, awaits12, awaits13, split_strand}
+use Rattle.proto_core.specs.Strand.{accepts, Ends, Acts, Sent}
+use Rattle.proto_core.proofs.MessageFields.{accepts-one_words, accepted-one_words}
+use Rattle.split_share.specs.SplitStrand.{Held, held_of, signed_sum, words_shape, two_ends, three_ends, awaits12, awaits13, split_strand}
 use Rattle.split_share.specs.Splitting.{rest_of_one, first_word, second_word, value_of, joined}
 use Rattle.split_share.specs.SplittingLaws.{splits}
 use Rattle.split_share.specs.Parts.{AreShares}
@@ -87,3 +88,11 @@ module _ (negated : Bool) (n : ℕ) (j : Joint) where
       (held : Held) (m x y : List ℕ) → held ≡ held_of (j.u Three) negated → length (j.u Three) ≡ n → m ≡ rest_of_one n j → Got13 held m x y →
       AreShares negated n Three j x y
   shares3-are held m x y e size is s = record { first = three-first held m x y e size s; second = three-second held m x y e size is s }
+
+-- ---- a message is refused exactly where it has not the shape that the strand waits for
+
+pub accepts-words : (n : ℕ) (m : List ℕ) → length m ≡ n → accepts (words_shape n) m ≡ true
+accepts-words n m e = accepts-one_words n m e
+
+pub accepted-words : (n : ℕ) (m : List ℕ) → accepts (words_shape n) m ≡ true → length m ≡ n
+accepted-words n m h = accepted-one_words n m h

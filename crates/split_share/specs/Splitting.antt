@@ -1,11 +1,9 @@
 -- The protocol that splits a number shared modulo 2^64 into two words, shared by xor, whose sum or difference it is.
 use Rattle.std.specs.Prelude.{◌≡◌, ℕ, Bool, true, false, List, [], ◌∷◌}
 use Rattle.share_ring.specs.Rings.{add_ring, xor_ring}
-use Rattle.proto_core.specs.declared.link.Link.{Link}
 use Rattle.proto_core.specs.declared.link.Link.TheVariants.{Link12, Link13, Link21, Link23, Link31, Link32}
 use Rattle.proto_core.specs.declared.party.Number.{Number}
 use Rattle.proto_core.specs.declared.party.Number.TheVariants.{One, Two, Three}
-use Rattle.proto_core.specs.Lists.{at, each}
 use Rattle.proto_core.specs.Elementwise.{plus, minus, zeros}
 use Rattle.proto_core.specs.Strand.{Mail}
 use Rattle.proto_core.specs.Script.{Move, Sends, Takes}

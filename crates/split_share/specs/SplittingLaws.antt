@@ -9,7 +9,7 @@ use Rattle.proto_core.specs.declared.link.Link.TheVariants.{Link12, Link13, Link
 use Rattle.proto_core.specs.declared.party.Number.{Number}
 use Rattle.proto_core.specs.declared.party.Number.TheVariants.{One, Two, Three}
 use Rattle.proto_core.specs.Parties.{sender_of, receiver_of}
-use Rattle.proto_core.specs.Lists.{at, each, AreWords}
+use Rattle.proto_core.specs.Lists.{at, AreWords}
 use Rattle.proto_core.specs.Elementwise.{plus, minus, zeros}
 use Rattle.proto_core.specs.Strand.{Words, accepts, Act, Sent, Mail, Ends, Ran, acted, run, on_link, opened_in, Begins}
 use Rattle.proto_core.specs.Net.{into, mail_of, posted, run_of, nothing, Finishes}
@@ -20,9 +20,9 @@ use Rattle.proto_core.proofs.Each.{length-each, at-each, each-ext, each-is, AreW
 use Rattle.proto_core.proofs.ElementwiseLaws.{length-minus, length-zeros, AreWords-minus, AreWords-zeros}
 use Rattle.proto_core.proofs.MessageFields.{accepts-one_words}
 use Rattle.proto_core.proofs.Beginnings.{begins-self}
-use Rattle.proto_core.proofs.Nodes.{into-is, mail-none, run-previous, run-next, run-waits_previous, run-waits_next}
-use Rattle.split_share.specs.SplitStrand.{held_of, signed, signed_sum, words_shape, one_ends, two_ends, three_ends, awaits12, awaits13, split_strand}
-use Rattle.split_share.specs.Splitting.{split_draws, split_script, rest_of_one, split_messages, first_word, second_word, split_tape, split_received, split_protocol, value_of, joined, Splits}
+use Rattle.proto_core.proofs.Nodes.{into-is, mail-none, run-previous, run-next}
+use Rattle.split_share.specs.SplitStrand.{held_of, signed, signed_sum, words_shape, two_ends, three_ends, split_strand}
+use Rattle.split_share.specs.Splitting.{split_draws, split_script, rest_of_one, split_messages, first_word, second_word, split_tape, split_received, split_protocol, Splits}
 
 split_matched : (n : ℕ) → Matched (split_script n)
 split_matched n = elim [ Link12 ↦ refl | Link13 ↦ refl | Link21 ↦ refl | Link23 ↦ refl | Link31 ↦ refl | Link32 ↦ refl ]

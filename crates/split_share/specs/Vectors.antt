@@ -1,5 +1,5 @@
 -- Worked values: 13 by shares 5, 6, 2 with the word 20, whole and negated.
-use Rattle.std.specs.Prelude.{◌≡◌, ℕ, Bool, true, false, List, [], ◌∷◌, ◌++◌, refl}
+use Rattle.std.specs.Prelude.{◌≡◌, true, false, [], ◌∷◌, ◌++◌, refl}
 use Rattle.proto_core.specs.declared.link.Link.TheVariants.{Link12, Link13}
 use Rattle.proto_core.specs.declared.party.Number.TheVariants.{One, Two, Three}
 use Rattle.proto_core.specs.Lists.{each}

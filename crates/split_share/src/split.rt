@@ -19,6 +19,9 @@ pub struct Waiting;
 ///
 /// The two blocks that a miner has at the end are its shares of the first words and of the second. The words' sum, or
 /// the first less the second where the splitting is negated, is the number.
+///
+/// The first miner deals its share to the other two, so that each has one summand of the number, and hands it on as a
+/// word that it alone knows: its shares by xor are the word and two zeros.
 #[derive(Drop)]
 pub struct Split<P, S> {
     share: Block<AddRing, P>,
@@ -59,7 +62,7 @@ impl Split<P1, Sent> {
     {
         let _ = negated;
         let n = u.len();
-        let parts = Block::from_words(words);
+        let parts: Block<AddRing, P1> = Block::from_words(words);
         let to_two = Msg::from_block(&parts);
         let to_three = Msg::from_block(&subtract_blocks(u, &parts));
         (to_two, to_three, zero_block(n), zero_block(n))

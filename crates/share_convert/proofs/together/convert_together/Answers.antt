@@ -1,6 +1,6 @@
-use Rattle.std.proofs.Common.{◌≡◌, ◌∙◌, List, [], ◌∷◌, length, refl, ap}
+use Rattle.std.proofs.Common.{◌∙◌, [], ◌∷◌, length, refl, ap}
 use Rattle.share_ring.specs.Rings.{add_ring}
-use Rattle.proto_core.specs.declared.party.Number.TheVariants.{One, Two, Three}
+use Rattle.proto_core.specs.declared.party.Number.TheVariants.{One, Two}
 use Rattle.proto_core.specs.Resharing.{sum_of_three}
 use Rattle.share_convert.specs.Together.{joint_of}
 use Rattle.share_convert.specs.Converting.{converted}

@@ -1,4 +1,4 @@
-use Rattle.std.proofs.Common.{◌≡◌, ◌∙◌, List, [], ◌∷◌, length, sym, ap}
+use Rattle.std.proofs.Common.{◌∙◌, [], ◌∷◌, length, sym, ap}
 use Rattle.share_ring.specs.Rings.{add_ring}
 use Rattle.proto_core.proofs.ElementwiseLaws.{length-minus}
 use Rattle.split_share.specs.Together.{joint_of}
