@@ -11,6 +11,7 @@ use Rattle.secrec_ast.specs.Tree.{Tree, Trees, number, truth, variable, call, in
 use Rattle.secrec_ast.specs.Heights.{place_of}
 use Rattle.expression_parser.specs.Phrases.{Phrase, nothing, one_at, one, sign_at, sign, ◌then◌}
 
+-- the sign of an operator
 abbrev pub sign_of : Operator → Sign
 sign_of operators.Add = signs.Plus
 sign_of operators.Subtract = signs.Minus
@@ -90,6 +91,7 @@ IsPrimary (declassify p e) = Unit {0}
 IsPrimary (argument p x) = Unit {0}
 IsPrimary (publish p x e) = Unit {0}
 
+-- the type of an element: `uint` is `uint64`
 abbrev pub IsDataType : DataType → Phrase
 IsDataType types.Uint64 ts = sign signs.Uint64 ts ⊎ sign signs.Uint ts
 IsDataType types.Bool ts = sign signs.Bool ts

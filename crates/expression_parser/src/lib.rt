@@ -1,6 +1,8 @@
 //! The parser of expressions, and what the parsers of all productions share.
 //!
-//! Each function reads one phrase from the front of the tokens and gives the tokens behind it.
+//! Each function reads one phrase from the front of the tokens and gives the tokens behind it. `specs/Grammar.antt` has the
+//! grammar of expressions, by cases on the tree, and `expression` answers what it says. A tree's height is carried along with
+//! it, so that no tree is walked again.
 #![tactic(auto)]
 
 mod parse;
@@ -13,7 +15,7 @@ mod tests;
 mod token;
 
 pub use parse::expression;
-pub use parsed::{Parsed, ParsedTrees, binary};
+pub use parsed::{Parsed, binary};
 pub use problem::Problem;
 pub use stopped::{Read, Stopped};
-pub use token::{begins_data_type, data_type, expect, identifier, text};
+pub use token::{begins_data_type, data_type, expect, identifier};

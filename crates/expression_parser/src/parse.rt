@@ -22,9 +22,11 @@ const LOOSEST: u8 = 9;
 
 /// An expression of at most this height, and the tokens behind it.
 ///
-/// It stops at the first token such that no expression of at most this height begins with the tokens up to it: as unexpected
-/// where no expression of any height does. Each token is read once, but for one token of look ahead, and the recursion is no
-/// deeper than a fixed number of calls for each node of the height.
+/// It stops at the first token such that no expression of at most this height begins with the tokens up to it: that token is
+/// unexpected where no expression of any height begins so, and else the tree is too high. Where memory runs out it says so.
+///
+/// Recursive descent with one level of operators over another. It goes over the tokens once and looks one token ahead; no
+/// more than 16 * (room + 1) calls nest.
 pub fn expression<'a>(alloc: Global, tokens: &'a [Token], room: u8) -> Read<'a, Parsed>
     // What the grammar says of the tokens.
     ensures answer { IsEnded tokens.now → Answers (λ x. (tree_of x.0, x.1.now)) room tokens.now result }
