@@ -1,5 +1,5 @@
 -- The protocol multiplies, and each view can be made without the others' shares.
-use Rattle.std.proofs.Common.{◌≡◌, ℕ, suc, ◌+◌, ◌*◌, true, false, cond, if◌then◌else◌, List, [], ◌∷◌, ◌++◌, length, refl, sym, ◌∙◌, ap, subst, arith, map, length-append, append_assoc}
+use Rattle.std.proofs.Common.{◌≡◌, ℕ, ◌*◌, true, false, cond, List, [], ◌∷◌, ◌++◌, length, refl, sym, ◌∙◌, ap, subst, arith, map, length-append, append_assoc}
 use Rattle.share_ring.specs.Ring.{Ring, RingLaws}
 use Rattle.proto_core.specs.declared.link.Link.{Link}
 use Rattle.proto_core.specs.declared.link.Link.TheVariants.{Link12, Link13, Link21, Link23, Link31, Link32}
@@ -7,8 +7,8 @@ use Rattle.proto_core.specs.declared.party.Number.{Number}
 use Rattle.proto_core.specs.declared.party.Number.TheVariants.{One, Two, Three}
 use Rattle.proto_core.specs.Parties.{next_of, previous_of, to_next, sender_of, receiver_of, is_same}
 use Rattle.proto_core.specs.Lists.{part, AreWords}
-use Rattle.proto_core.specs.Strand.{Words, Shape, shaped, accepts, Act, Sent, Mail, Strand, Ends, Ran, acted, run, on_link, opened_in, Begins}
-use Rattle.proto_core.specs.Net.{into, mail_of, posted, run_of, nothing, Finishes}
+use Rattle.proto_core.specs.Strand.{Words, accepts, Act, Sent, Mail, Ends, Ran, acted, run, on_link, opened_in, Begins}
+use Rattle.proto_core.specs.Net.{mail_of, posted, run_of, nothing, Finishes}
 use Rattle.proto_core.specs.Script.{EndsWith, Moves, Matched, UsesOwnLinks, sends_on}
 use Rattle.proto_core.specs.Protocol.{Joint, Fits, Lawful, with_words, strands_of, IsMessage, AreMessages, AreBlocks}
 use Rattle.proto_core.specs.Resharing.{reshared}

@@ -1,5 +1,5 @@
 -- The protocol converts, and each view can be made without the others' shares.
-use Rattle.std.proofs.Common.{◌≡◌, ℕ, ◌+◌, ◌*◌, true, List, [], ◌∷◌, ◌++◌, map, length, refl, sym, ◌∙◌, ap, subst, arith, length-append, append_assoc}
+use Rattle.std.proofs.Common.{◌≡◌, ℕ, ◌*◌, true, List, [], ◌∷◌, ◌++◌, map, length, refl, sym, ◌∙◌, ap, subst, arith, length-append, append_assoc}
 use Rattle.share_ring.specs.Rings.{add_ring}
 use Rattle.share_ring.specs.RingsKeepLaws.{add_ring_laws}
 use Rattle.proto_core.specs.declared.link.Link.{Link}
@@ -8,10 +8,10 @@ use Rattle.proto_core.specs.declared.party.Number.{Number}
 use Rattle.proto_core.specs.declared.party.Number.TheVariants.{One, Two, Three}
 use Rattle.proto_core.specs.Parties.{sender_of, receiver_of}
 use Rattle.proto_core.specs.Lists.{at, part, AreWords}
-use Rattle.proto_core.specs.Strand.{Words, Bits, shaped, accepts, Act, Sent, Mail, Ends, Ran, acted, run, on_link, opened_in, Begins}
-use Rattle.proto_core.specs.Net.{into, mail_of, posted, run_of, nothing, Finishes}
+use Rattle.proto_core.specs.Strand.{Words, Bits, accepts, Act, Sent, Mail, Ends, Ran, acted, run, on_link, opened_in, Begins}
+use Rattle.proto_core.specs.Net.{posted, run_of, nothing, Finishes}
 use Rattle.proto_core.specs.Script.{EndsWith, Moves, Matched, UsesOwnLinks, sends_on}
-use Rattle.proto_core.specs.Protocol.{Joint, Fits, Lawful, with_words, strands_of, IsMessage, AreMessages, AreBlocks}
+use Rattle.proto_core.specs.Protocol.{Joint, Fits, Lawful, with_words, strands_of, AreMessages, AreBlocks}
 use Rattle.proto_core.specs.Elementwise.{plus, zeros}
 use Rattle.proto_core.specs.Resharing.{reshared, sum_of_three}
 use Rattle.proto_core.proofs.Each.{at-each, each-ext}
