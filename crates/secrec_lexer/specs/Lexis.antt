@@ -12,6 +12,7 @@ use Rattle.secrec_lexer.specs.declared.piece.Piece.TheVariants.{End, Blank, Lexe
 use Rattle.secrec_lexer.specs.Pieces.{first}
 use Rattle.secrec_lexer.specs.Places.{place_at}
 
+-- a token whose first byte has this offset
 abbrev pub token_at : List ℕ → ℕ → Kind → Token
 token_at text offset kind = record { place = place_at text offset; kind = kind }
 

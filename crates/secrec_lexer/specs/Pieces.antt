@@ -15,6 +15,7 @@ use Rattle.secrec_lexer.specs.Tokens.{is_end}
 
 -- Each piece goes with its number of bytes, and a fault with the number of bytes before it.
 
+-- a comment of many lines, by the number of bytes behind its `/*`, if it is closed
 abbrev pub comment : Option ℕ → Piece
 comment None = Fault faults.OpenComment 0
 comment (Some size) = Blank (2 + size)
@@ -29,6 +30,7 @@ number_spelled radix digits =
 abbrev pub word_value : List ℕ → Option ℕ
 word_value word = if begins word (codes "0x") then number_spelled 16 (drop 2 word) else number_spelled 10 word
 
+-- a number of this value, if it has one, and of so many bytes
 abbrev pub number : Option ℕ → ℕ → Piece
 number None size = Fault faults.BadNumber 0
 number (Some value) size = Lexeme (kinds.Number value) size
@@ -46,10 +48,12 @@ text bytes (next ∷ more) =
     else if next == 10 then Fault faults.OpenText 0
     else Fault faults.BadByte (length bytes + 1)
 
+-- a sign of one byte, or the longer one that begins with it
 abbrev pub longest : Sign → Option Sign → Piece
 longest sign None = Lexeme (kinds.Sign sign) 1
 longest sign (Some longer) = Lexeme (kinds.Sign longer) 2
 
+-- the longest sign that begins with this byte, if a sign does
 abbrev pub sign : Option Sign → ℕ → List ℕ → Piece
 sign None byte more = Fault faults.BadByte 0
 sign (Some first) byte more = longest first (longer_sign first byte more)

@@ -67,6 +67,7 @@ number signs.Argument = 55
 number signs.Publish = 56
 number signs.Declassify = 57
 
+-- whether this sign is what a token is
 abbrev pub kind_is : Sign → Kind → Bool
 kind_is sign (kinds.Name bytes) = false
 kind_is sign (kinds.Number value) = false
@@ -78,6 +79,7 @@ kind_is sign kinds.End = false
 abbrev pub is_sign : Sign → Token → Bool
 is_sign sign token = kind_is sign token.kind
 
+-- whether it is the end of the text
 abbrev pub is_end : Kind → Bool
 is_end (kinds.Name bytes) = false
 is_end (kinds.Number value) = false

@@ -1,12 +1,13 @@
 -- Texts by hand.
 use Rattle.std.specs.Prelude.{◌≡◌, ◌^◌, ◌-◌, [], ◌∷◌, ◌++◌, codes, map, replicate}
-use Rattle.std.proofs.Common.{refl}
+use Rattle.std.proofs.Common.{refl, lit≤}
 use Rattle.secrec_lexer.specs.declared.sign.Sign.TheVariants as signs
 use Rattle.secrec_lexer.specs.declared.token.Kind.TheVariants as kinds
 use Rattle.secrec_lexer.specs.declared.lex_err.LexFault.TheVariants as faults
 use Rattle.secrec_lexer.specs.declared.piece.Piece.TheVariants.{End, Blank, Lexeme, Fault}
 use Rattle.secrec_lexer.specs.Pieces.{first}
 use Rattle.secrec_lexer.specs.Places.{place_at}
+use Rattle.secrec_lexer.specs.Lexis.{HasTokens, IsRefused, within, ended, blank, lexeme, here, behind_blank, behind_lexeme}
 use Rattle.secrec_lexer.specs.Signs.{single_sign, keyword}
 use Rattle.sc_text.specs.Name.{is_name}
 
@@ -168,9 +169,9 @@ byte_128 : first (128 ∷ []) ≡ Fault faults.BadByte 0
 unfolding single_sign keyword is_name
 byte_128 = refl
 
-ended : first ([]) ≡ End
+no_text : first [] ≡ End
 unfolding single_sign keyword is_name
-ended = refl
+no_text = refl
 
 place_at_start : place_at (codes "ab") 0 ≡ record { line = 1; column = 1 }
 unfolding place_at
@@ -183,3 +184,19 @@ place_behind_newlines = refl
 place_behind_the_text : place_at (codes "a\n") 2 ≡ record { line = 2; column = 1 }
 unfolding place_at
 place_behind_the_text = refl
+
+-- a whole text
+tokens_of_a_text : HasTokens (codes "a<=\n1")
+    (record { place = record { line = 1; column = 1 }; kind = kinds.Name (codes "a") }
+    ∷ record { place = record { line = 1; column = 2 }; kind = kinds.Sign signs.LessOrEqual }
+    ∷ record { place = record { line = 2; column = 1 }; kind = kinds.Number 1 }
+    ∷ record { place = record { line = 2; column = 2 }; kind = kinds.End }
+    ∷ [])
+unfolding single_sign keyword is_name place_at
+tokens_of_a_text =
+    (lit≤ tt, lexeme (kinds.Name (codes "a")) 1 refl (lexeme (kinds.Sign signs.LessOrEqual) 2 refl (blank 1 refl (lexeme (kinds.Number 1) 1 refl (ended refl)))))
+
+-- a text that is refused at its second piece
+refusal_of_a_text : IsRefused (codes "1 \"a!@") faults.BadByte (record { line = 1; column = 5 })
+unfolding single_sign keyword is_name place_at
+refusal_of_a_text = within (lit≤ tt) (behind_lexeme (kinds.Number 1) 1 refl (behind_blank 1 refl (here 2 refl)))

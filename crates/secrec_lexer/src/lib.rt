@@ -2,6 +2,9 @@
 //!
 //! A program is bytes. They are cut, from the front, into pieces: blanks, comments and tokens, each the longest that stands
 //! there. What can't be cut is refused at its first fault.
+//!
+//! What stands at a front is defined in `specs/Pieces.antt`, with the spellings in `specs/Signs.antt`; the tokens and the
+//! refusal of a text in `specs/Lexis.antt`, and lines and columns in `specs/Places.antt`.
 #![tactic(auto)]
 
 mod bytes;

@@ -13,7 +13,7 @@ use sc_text::Name;
 use std::alloc::{AllocError, Global};
 
 /// What stands at the front of a text.
-#[derive(Debug, Drop)]
+#[derive(Drop)]
 pub enum Piece {
     /// Nothing: the text ends.
     End,

@@ -156,7 +156,7 @@ fn refusals(rt: HostRuntime) -> Result<(), Fail> {
         (b"0x10000000000000000", LexFault::BadNumber, 1, 1),
         (b"a \"ab", LexFault::OpenText, 1, 3),
         (b"a \"ab\n$", LexFault::OpenText, 1, 3),
-        (b"\n/* /* */ /*/", LexFault::OpenComment, 2, 11),
+        (b"\n/* /* */ /*/", LexFault::OpenComment, 2, 10),
         (b"/*/", LexFault::OpenComment, 1, 1),
         (b"(\"\")", LexFault::BadName, 1, 2),
         (b"1a @", LexFault::BadNumber, 1, 1),
