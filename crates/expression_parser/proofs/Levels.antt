@@ -229,3 +229,7 @@ at_most_reads zero k (x ∷ m) en =
     let p = nowhere x.kind in
     subst (Reads (IsExpression k) (Low 0) (Free k) (x ∷ m)) (sym (no_room k (λ j v. Err (TooHigh, v)) x m p.0 p.1)) (start_bad k 0 x m p.0 p.1)
 at_most_reads (suc h) k (x ∷ m) en = climb_reads h (at_most h) (at_most_reads h) k (x ∷ m) en
+
+-- the parser of expressions reads the grammar's expressions
+pub expression_reads : (room : ℕ) (w : List Token) → IsEnded w → Reads (IsExpression loosest) (Low room) (Free loosest) w (at_most room loosest w)
+expression_reads room w en = at_most_reads room loosest w en

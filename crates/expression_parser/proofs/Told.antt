@@ -14,7 +14,7 @@ use Rattle.expression_parser.specs.Given.{Gives}
 use Rattle.expression_parser.specs.Answer.{Ends, IsRead, RulesOut, IsCause, IsStopped, Answers}
 use Rattle.expression_parser.proofs.Reading.{Good, Bad, Reads, Allowed, Begun, Stops}
 use Rattle.expression_parser.proofs.Nodes.{Low}
-use Rattle.expression_parser.proofs.Levels.{at_most_reads}
+use Rattle.expression_parser.proofs.Levels.{expression_reads}
 
 ends : (e : Tree) (m : List Token) → Ends m → Stops (Free loosest e) m
 ends e [] h = h
@@ -52,7 +52,7 @@ is_stopped room ts p rest g = record {
 -- however the text ends, the step's answer is told in the grammar's words
 pub told : {X : Type 0} (view : X → Tree × List Token) (room : ℕ) (ts : List Token) (result : Result X Stopped) → Gives view result (at_most room 9 ts) → IsEnded ts → Answers view room ts result
 told view room ts (Ok x) g en =
-    is_read room ts (view x).0 (view x).1 (subst (Reads (IsExpression loosest) (Low room) (Free loosest) ts) g (at_most_reads room loosest ts en))
+    is_read room ts (view x).0 (view x).1 (subst (Reads (IsExpression loosest) (Low room) (Free loosest) ts) g (expression_reads room ts en))
 told view room ts (Err Memory) g en = tt
 told view room ts (Err (At p rest)) g en =
-    is_stopped room ts p rest.now (subst (Reads (IsExpression loosest) (Low room) (Free loosest) ts) g (at_most_reads room loosest ts en))
+    is_stopped room ts p rest.now (subst (Reads (IsExpression loosest) (Low room) (Free loosest) ts) g (expression_reads room ts en))

@@ -1,6 +1,6 @@
-use crate::{Parsed, Problem, Read, Stopped, expression};
-use secrec_ast::{DataType, Expression, Operator};
-use secrec_lexer::lex;
+use crate::{Parsed, Problem, Read, Stopped, expect, expression, identifier};
+use secrec_ast::{DataType, Expression, Operator, Target};
+use secrec_lexer::{Sign, lex};
 use std::alloc::{AllocError, Global};
 use std::test::Fail;
 
@@ -85,11 +85,11 @@ fn spell(alloc: Global, tree: &Expression) -> Result<String, AllocError> {
     }
 }
 
-// The tree, its height and the column of the token behind it; or what is wrong, and the column where.
+// A copy of the tree, its height and the column of the token behind it; or what is wrong, and the column where.
 fn outcome(alloc: Global, read: Read<Parsed>) -> Result<String, Fail> {
     match read {
         Ok((parsed, rest)) => {
-            let tree = spell(alloc, &parsed.tree)?;
+            let tree = spell(alloc, &parsed.tree.copy(alloc)?)?;
             let (height, next) = (
                 parsed.height,
                 rest.first().ok_or("no token behind")?.place.column,
@@ -234,5 +234,25 @@ fn parentheses_as_deep_as_the_height_allows(rt: HostRuntime) -> Result<(), Fail>
         let next = rest.first().ok_or("no token behind")?;
         assert_eq!(rt; next.place.column, column, "at {depth}");
     }
+    Ok(())
+}
+
+#[test]
+fn copies_what_is_assigned_to(rt: HostRuntime) -> Result<(), Fail> {
+    let alloc = rt.alloc();
+    let tokens = lex(alloc, b"name[2 * i]").map_err(|_| Fail::from("no tokens"))?;
+    let (variable, rest) = identifier(alloc, tokens.as_slice()).map_err(|_| Fail::from("no name"))?;
+    let (place, rest) = expect(Sign::LeftBracket, rest).map_err(|_| Fail::from("no bracket"))?;
+    assert_eq!(rt; place.column, 5);
+    let (index, _) = expression(alloc, rest, 2).map_err(|_| Fail::from("no index"))?;
+    let target = Target {
+        variable,
+        index: Some(index.tree),
+    };
+    let copy = target.copy(alloc)?;
+    assert_eq!(rt; copy.variable.text.as_str(), "name");
+    assert_eq!(rt; copy.variable.place.column, 1);
+    let index = copy.index.ok_or("no index in the copy")?;
+    assert_eq!(rt; spell(alloc, &index)?.as_str(), "[*@6 2@6 i@10]");
     Ok(())
 }

@@ -1,7 +1,7 @@
 //! The tree of a program, as the grammar of `docs/language.md` has it: each node with the place where it begins.
 //!
 //! What `x op= y`, `x++` and `x--` stand for is written out in the tree (`x = x op y`). Each node has a pure twin in
-//! `specs/`, which contracts cite, and a copy call.
+//! `specs/`, which contracts cite; an expression and what is assigned to have a copy call.
 #![tactic(auto)]
 
 mod expression;
