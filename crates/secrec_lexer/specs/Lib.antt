@@ -1,0 +1,7 @@
+pub mod Bytes
+pub mod Lexis
+pub mod Pieces
+pub mod Places
+pub mod Signs
+pub mod Tokens
+pub mod Vectors
