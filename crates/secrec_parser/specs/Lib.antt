@@ -1,0 +1,3 @@
+pub mod Phrases
+pub mod Expressions
+pub mod Grammar

@@ -1,0 +1,2 @@
+//! The parser of programs.
+#![tactic(auto)]
