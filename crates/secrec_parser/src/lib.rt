@@ -1,2 +1,6 @@
 //! The parser of programs.
 #![tactic(auto)]
+
+mod assignment;
+mod leader;
+mod problem;
