@@ -2,5 +2,9 @@
 #![tactic(auto)]
 
 mod assignment;
+mod declaration;
+mod expression;
 mod leader;
 mod problem;
+mod tokens;
+mod types;

@@ -1,0 +1,17 @@
+ghost use Rattle.std.specs.Prelude.{◌≡◌, ◌<◌, ◌≤◌, length, IfOk};
+ghost use Rattle.secrec_ast.specs.Tree.{expression};
+ghost use Rattle.secrec_ast.specs.Heights.{height};
+ghost use Rattle.secrec_parser.specs.Expressions.{at_most, loosest};
+ghost use Rattle.secrec_parser.specs.Given.{Gives};
+
+use crate::problem::{Parsed, Read, Stopped};
+use secrec_lexer::Token;
+use std::alloc::Global;
+
+pub fn expression<'a>(_alloc: Global, _tokens: &'a [Token], _room: u8) -> Read<'a, Parsed>
+    ensures step { Gives (λ x. (expression x.0.tree, x.1.now)) result (at_most _room loosest _tokens.now) }
+    ensures height { IfOk result (λ x. (x.0.height ≡ height (expression x.0.tree)) × (x.0.height ≤ _room)) }
+    ensures shorter { IfOk result (λ x. length x.1.now < length _tokens.now) }
+{
+    Err(Stopped::Memory)
+}
