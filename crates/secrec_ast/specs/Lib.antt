@@ -2,3 +2,4 @@ pub mod Tree
 pub mod Statements
 pub mod Programs
 pub mod Heights
+pub mod Equations

@@ -1,4 +1,8 @@
+ghost use Rattle.std.specs.Prelude.{◌≡◌, IfOk};
+ghost use Rattle.secrec_ast.specs.Tree.{expression};
+
 use sc_text::{Name, Span};
+use std::alloc::{AllocError, Global};
 
 /// The type of an element.
 #[derive(Clone, Copy, Debug, PartialEq, Eq)]
@@ -52,4 +56,66 @@ pub enum Expression {
     Argument(Span, Name),
     /// Gives a value to the client, under a name.
     Publish(Span, Name, Box<Expression>),
+}
+
+impl Expression {
+    /// An equal tree in memory of its own.
+    pub fn copy(&self, alloc: Global) -> Result<Expression, AllocError>
+        ensures { IfOk result (λ e. expression e ≡ expression self.now) }
+    {
+        match self {
+            Expression::Number(place, word) => Ok(Expression::Number(*place, *word)),
+            Expression::Truth(place, truth) => Ok(Expression::Truth(*place, *truth)),
+            Expression::Variable(place, name) => Ok(Expression::Variable(
+                *place,
+                name.copy(alloc)?,
+            )),
+            Expression::Call(place, name, arguments) => {
+                let mut copies = Vec::new(alloc);
+                for argument in arguments {
+                    copies.push(argument.copy(alloc)?)?;
+                }
+                Ok(Expression::Call(*place, name.copy(alloc)?, copies))
+            }
+            Expression::Index(place, array, position) => {
+                let array = array.copy(alloc)?;
+                let position = position.copy(alloc)?;
+                Ok(Expression::Index(*place, Box::new(alloc, array)?, Box::new(alloc, position)?))
+            }
+            Expression::Parentheses(place, e) => {
+                let inner = e.copy(alloc)?;
+                Ok(Expression::Parentheses(*place, Box::new(alloc, inner)?))
+            }
+            Expression::Not(place, e) => {
+                let operand = e.copy(alloc)?;
+                Ok(Expression::Not(*place, Box::new(alloc, operand)?))
+            }
+            Expression::Cast(place, data_type, e) => {
+                let operand = e.copy(alloc)?;
+                Ok(Expression::Cast(*place, *data_type, Box::new(alloc, operand)?))
+            }
+            Expression::Binary(place, operator, a, b) => {
+                let left = a.copy(alloc)?;
+                let right = b.copy(alloc)?;
+                Ok(Expression::Binary(
+                    *place,
+                    *operator,
+                    Box::new(alloc, left)?,
+                    Box::new(alloc, right)?,
+                ))
+            }
+            Expression::Declassify(place, e) => {
+                let operand = e.copy(alloc)?;
+                Ok(Expression::Declassify(*place, Box::new(alloc, operand)?))
+            }
+            Expression::Argument(place, name) => Ok(Expression::Argument(
+                *place,
+                name.copy(alloc)?,
+            )),
+            Expression::Publish(place, name, e) => {
+                let value = e.copy(alloc)?;
+                Ok(Expression::Publish(*place, name.copy(alloc)?, Box::new(alloc, value)?))
+            }
+        }
+    }
 }

@@ -1,11 +1,27 @@
+ghost use Rattle.std.specs.Prelude.{◌≡◌, IfOk};
+ghost use Rattle.secrec_ast.specs.Statements.{target_tree};
+
 use crate::expression::{DataType, Expression};
 use sc_text::{Name, Span};
+use std::alloc::{AllocError, Global};
 
 /// A name in the text, with its place.
 #[derive(Drop)]
 pub struct Identifier {
     pub place: Span,
     pub text: Name,
+}
+
+impl Identifier {
+    /// The same name in memory of its own.
+    pub fn copy(&self, alloc: Global) -> Result<Identifier, AllocError>
+        ensures { IfOk result (λ identifier. identifier ≡ self.now) }
+    {
+        Ok(Identifier {
+            place: self.place,
+            text: self.text.copy(alloc)?,
+        })
+    }
 }
 
 /// Who may see a value: everybody, or only what a protection domain or domain variable of this name protects.
@@ -38,6 +54,20 @@ pub struct Declaration {
 pub struct Target {
     pub variable: Identifier,
     pub index: Option<Expression>,
+}
+
+impl Target {
+    /// An equal target in memory of its own.
+    pub fn copy(&self, alloc: Global) -> Result<Target, AllocError>
+        ensures { IfOk result (λ target. target_tree target ≡ target_tree self.now) }
+    {
+        let variable = self.variable.copy(alloc)?;
+        let index = match &self.index {
+            None => None,
+            Some(index) => Some(index.copy(alloc)?),
+        };
+        Ok(Target { variable, index })
+    }
 }
 
 #[derive(Drop)]

@@ -15,9 +15,9 @@ unfoldable pub single_sign : ℕ → Option Sign
 single_sign byte =
     sign_beside byte (codes "()[]{}<>,;:=+-*/%&|^!")
     (signs.LeftParenthesis ∷ signs.RightParenthesis ∷ signs.LeftBracket ∷ signs.RightBracket ∷ signs.LeftBrace ∷ signs.RightBrace
-      ∷ signs.Less ∷ signs.Greater ∷ signs.Comma ∷ signs.Semicolon ∷ signs.Colon ∷ signs.Assign
-      ∷ signs.Plus ∷ signs.Minus ∷ signs.Star ∷ signs.Slash ∷ signs.Percent
-      ∷ signs.Ampersand ∷ signs.Bar ∷ signs.Caret ∷ signs.Exclamation ∷ [])
+    ∷ signs.Less ∷ signs.Greater ∷ signs.Comma ∷ signs.Semicolon ∷ signs.Colon ∷ signs.Assign
+    ∷ signs.Plus ∷ signs.Minus ∷ signs.Star ∷ signs.Slash ∷ signs.Percent
+    ∷ signs.Ampersand ∷ signs.Bar ∷ signs.Caret ∷ signs.Exclamation ∷ [])
 
 -- the sign that is this one with `=` behind it
 abbrev pub with_equals : Sign → Option Sign
@@ -58,8 +58,8 @@ sign_spelled word (entry ∷ more) = if bytes_eq word entry.0 then Some entry.1 
 unfoldable pub keyword : List ℕ → Option Sign
 keyword word = sign_spelled word
     ((codes "import", signs.Import) ∷ (codes "kind", signs.Kind) ∷ (codes "domain", signs.Domain) ∷ (codes "template", signs.Template)
-      ∷ (codes "public", signs.Public) ∷ (codes "void", signs.Void) ∷ (codes "uint64", signs.Uint64) ∷ (codes "uint", signs.Uint)
-      ∷ (codes "bool", signs.Bool) ∷ (codes "if", signs.If) ∷ (codes "else", signs.Else) ∷ (codes "while", signs.While)
-      ∷ (codes "do", signs.Do) ∷ (codes "for", signs.For) ∷ (codes "break", signs.Break) ∷ (codes "continue", signs.Continue)
-      ∷ (codes "return", signs.Return) ∷ (codes "assert", signs.Assert) ∷ (codes "true", signs.True) ∷ (codes "false", signs.False)
-      ∷ (codes "argument", signs.Argument) ∷ (codes "publish", signs.Publish) ∷ (codes "declassify", signs.Declassify) ∷ [])
+    ∷ (codes "public", signs.Public) ∷ (codes "void", signs.Void) ∷ (codes "uint64", signs.Uint64) ∷ (codes "uint", signs.Uint)
+    ∷ (codes "bool", signs.Bool) ∷ (codes "if", signs.If) ∷ (codes "else", signs.Else) ∷ (codes "while", signs.While)
+    ∷ (codes "do", signs.Do) ∷ (codes "for", signs.For) ∷ (codes "break", signs.Break) ∷ (codes "continue", signs.Continue)
+    ∷ (codes "return", signs.Return) ∷ (codes "assert", signs.Assert) ∷ (codes "true", signs.True) ∷ (codes "false", signs.False)
+    ∷ (codes "argument", signs.Argument) ∷ (codes "publish", signs.Publish) ∷ (codes "declassify", signs.Declassify) ∷ [])

@@ -13,38 +13,38 @@ use Rattle.sc_text.specs.Name.{is_name}
 -- every sign, with a space behind it
 signs_spelled : map first
     (codes "( " ∷ codes ") " ∷ codes "[ " ∷ codes "] " ∷ codes "{ " ∷ codes "} " ∷ codes "< " ∷ codes "> " ∷
-      codes ", " ∷ codes "; " ∷ codes ": " ∷ codes "= " ∷ codes "+ " ∷ codes "- " ∷ codes "* " ∷ codes "/ " ∷
-      codes "% " ∷ codes "& " ∷ codes "| " ∷ codes "^ " ∷ codes "! " ∷ codes "== " ∷ codes "!= " ∷ codes "<= " ∷
-      codes ">= " ∷ codes "&& " ∷ codes "|| " ∷ codes "+= " ∷ codes "-= " ∷ codes "*= " ∷ codes "&= " ∷ codes "|= " ∷
-      codes "^= " ∷ codes "++ " ∷ codes "-- " ∷ [])
+    codes ", " ∷ codes "; " ∷ codes ": " ∷ codes "= " ∷ codes "+ " ∷ codes "- " ∷ codes "* " ∷ codes "/ " ∷
+    codes "% " ∷ codes "& " ∷ codes "| " ∷ codes "^ " ∷ codes "! " ∷ codes "== " ∷ codes "!= " ∷ codes "<= " ∷
+    codes ">= " ∷ codes "&& " ∷ codes "|| " ∷ codes "+= " ∷ codes "-= " ∷ codes "*= " ∷ codes "&= " ∷ codes "|= " ∷
+    codes "^= " ∷ codes "++ " ∷ codes "-- " ∷ [])
     ≡ (Lexeme (kinds.Sign signs.LeftParenthesis) 1 ∷ Lexeme (kinds.Sign signs.RightParenthesis) 1 ∷ Lexeme (kinds.Sign signs.LeftBracket) 1 ∷
-      Lexeme (kinds.Sign signs.RightBracket) 1 ∷ Lexeme (kinds.Sign signs.LeftBrace) 1 ∷ Lexeme (kinds.Sign signs.RightBrace) 1 ∷
-      Lexeme (kinds.Sign signs.Less) 1 ∷ Lexeme (kinds.Sign signs.Greater) 1 ∷ Lexeme (kinds.Sign signs.Comma) 1 ∷
-      Lexeme (kinds.Sign signs.Semicolon) 1 ∷ Lexeme (kinds.Sign signs.Colon) 1 ∷ Lexeme (kinds.Sign signs.Assign) 1 ∷
-      Lexeme (kinds.Sign signs.Plus) 1 ∷ Lexeme (kinds.Sign signs.Minus) 1 ∷ Lexeme (kinds.Sign signs.Star) 1 ∷
-      Lexeme (kinds.Sign signs.Slash) 1 ∷ Lexeme (kinds.Sign signs.Percent) 1 ∷ Lexeme (kinds.Sign signs.Ampersand) 1 ∷
-      Lexeme (kinds.Sign signs.Bar) 1 ∷ Lexeme (kinds.Sign signs.Caret) 1 ∷ Lexeme (kinds.Sign signs.Exclamation) 1 ∷
-      Lexeme (kinds.Sign signs.Equal) 2 ∷ Lexeme (kinds.Sign signs.NotEqual) 2 ∷ Lexeme (kinds.Sign signs.LessOrEqual) 2 ∷
-      Lexeme (kinds.Sign signs.GreaterOrEqual) 2 ∷ Lexeme (kinds.Sign signs.DoubleAmpersand) 2 ∷ Lexeme (kinds.Sign signs.DoubleBar) 2 ∷
-      Lexeme (kinds.Sign signs.PlusAssign) 2 ∷ Lexeme (kinds.Sign signs.MinusAssign) 2 ∷ Lexeme (kinds.Sign signs.StarAssign) 2 ∷
-      Lexeme (kinds.Sign signs.AmpersandAssign) 2 ∷ Lexeme (kinds.Sign signs.BarAssign) 2 ∷ Lexeme (kinds.Sign signs.CaretAssign) 2 ∷
-      Lexeme (kinds.Sign signs.Increment) 2 ∷ Lexeme (kinds.Sign signs.Decrement) 2 ∷ [])
+    Lexeme (kinds.Sign signs.RightBracket) 1 ∷ Lexeme (kinds.Sign signs.LeftBrace) 1 ∷ Lexeme (kinds.Sign signs.RightBrace) 1 ∷
+    Lexeme (kinds.Sign signs.Less) 1 ∷ Lexeme (kinds.Sign signs.Greater) 1 ∷ Lexeme (kinds.Sign signs.Comma) 1 ∷
+    Lexeme (kinds.Sign signs.Semicolon) 1 ∷ Lexeme (kinds.Sign signs.Colon) 1 ∷ Lexeme (kinds.Sign signs.Assign) 1 ∷
+    Lexeme (kinds.Sign signs.Plus) 1 ∷ Lexeme (kinds.Sign signs.Minus) 1 ∷ Lexeme (kinds.Sign signs.Star) 1 ∷
+    Lexeme (kinds.Sign signs.Slash) 1 ∷ Lexeme (kinds.Sign signs.Percent) 1 ∷ Lexeme (kinds.Sign signs.Ampersand) 1 ∷
+    Lexeme (kinds.Sign signs.Bar) 1 ∷ Lexeme (kinds.Sign signs.Caret) 1 ∷ Lexeme (kinds.Sign signs.Exclamation) 1 ∷
+    Lexeme (kinds.Sign signs.Equal) 2 ∷ Lexeme (kinds.Sign signs.NotEqual) 2 ∷ Lexeme (kinds.Sign signs.LessOrEqual) 2 ∷
+    Lexeme (kinds.Sign signs.GreaterOrEqual) 2 ∷ Lexeme (kinds.Sign signs.DoubleAmpersand) 2 ∷ Lexeme (kinds.Sign signs.DoubleBar) 2 ∷
+    Lexeme (kinds.Sign signs.PlusAssign) 2 ∷ Lexeme (kinds.Sign signs.MinusAssign) 2 ∷ Lexeme (kinds.Sign signs.StarAssign) 2 ∷
+    Lexeme (kinds.Sign signs.AmpersandAssign) 2 ∷ Lexeme (kinds.Sign signs.BarAssign) 2 ∷ Lexeme (kinds.Sign signs.CaretAssign) 2 ∷
+    Lexeme (kinds.Sign signs.Increment) 2 ∷ Lexeme (kinds.Sign signs.Decrement) 2 ∷ [])
 unfolding single_sign keyword is_name
 signs_spelled = refl
 
 -- every keyword, with a sign behind it
 keywords_spelled : map first
     (codes "import;" ∷ codes "kind;" ∷ codes "domain;" ∷ codes "template;" ∷ codes "public;" ∷ codes "void;" ∷ codes "uint64;" ∷ codes "uint;" ∷
-      codes "bool;" ∷ codes "if;" ∷ codes "else;" ∷ codes "while;" ∷ codes "do;" ∷ codes "for;" ∷ codes "break;" ∷ codes "continue;" ∷
-      codes "return;" ∷ codes "assert;" ∷ codes "true;" ∷ codes "false;" ∷ codes "argument;" ∷ codes "publish;" ∷ codes "declassify;" ∷ [])
+    codes "bool;" ∷ codes "if;" ∷ codes "else;" ∷ codes "while;" ∷ codes "do;" ∷ codes "for;" ∷ codes "break;" ∷ codes "continue;" ∷
+    codes "return;" ∷ codes "assert;" ∷ codes "true;" ∷ codes "false;" ∷ codes "argument;" ∷ codes "publish;" ∷ codes "declassify;" ∷ [])
     ≡ (Lexeme (kinds.Sign signs.Import) 6 ∷ Lexeme (kinds.Sign signs.Kind) 4 ∷ Lexeme (kinds.Sign signs.Domain) 6 ∷
-      Lexeme (kinds.Sign signs.Template) 8 ∷ Lexeme (kinds.Sign signs.Public) 6 ∷ Lexeme (kinds.Sign signs.Void) 4 ∷
-      Lexeme (kinds.Sign signs.Uint64) 6 ∷ Lexeme (kinds.Sign signs.Uint) 4 ∷ Lexeme (kinds.Sign signs.Bool) 4 ∷
-      Lexeme (kinds.Sign signs.If) 2 ∷ Lexeme (kinds.Sign signs.Else) 4 ∷ Lexeme (kinds.Sign signs.While) 5 ∷
-      Lexeme (kinds.Sign signs.Do) 2 ∷ Lexeme (kinds.Sign signs.For) 3 ∷ Lexeme (kinds.Sign signs.Break) 5 ∷
-      Lexeme (kinds.Sign signs.Continue) 8 ∷ Lexeme (kinds.Sign signs.Return) 6 ∷ Lexeme (kinds.Sign signs.Assert) 6 ∷
-      Lexeme (kinds.Sign signs.True) 4 ∷ Lexeme (kinds.Sign signs.False) 5 ∷ Lexeme (kinds.Sign signs.Argument) 8 ∷
-      Lexeme (kinds.Sign signs.Publish) 7 ∷ Lexeme (kinds.Sign signs.Declassify) 10 ∷ [])
+    Lexeme (kinds.Sign signs.Template) 8 ∷ Lexeme (kinds.Sign signs.Public) 6 ∷ Lexeme (kinds.Sign signs.Void) 4 ∷
+    Lexeme (kinds.Sign signs.Uint64) 6 ∷ Lexeme (kinds.Sign signs.Uint) 4 ∷ Lexeme (kinds.Sign signs.Bool) 4 ∷
+    Lexeme (kinds.Sign signs.If) 2 ∷ Lexeme (kinds.Sign signs.Else) 4 ∷ Lexeme (kinds.Sign signs.While) 5 ∷
+    Lexeme (kinds.Sign signs.Do) 2 ∷ Lexeme (kinds.Sign signs.For) 3 ∷ Lexeme (kinds.Sign signs.Break) 5 ∷
+    Lexeme (kinds.Sign signs.Continue) 8 ∷ Lexeme (kinds.Sign signs.Return) 6 ∷ Lexeme (kinds.Sign signs.Assert) 6 ∷
+    Lexeme (kinds.Sign signs.True) 4 ∷ Lexeme (kinds.Sign signs.False) 5 ∷ Lexeme (kinds.Sign signs.Argument) 8 ∷
+    Lexeme (kinds.Sign signs.Publish) 7 ∷ Lexeme (kinds.Sign signs.Declassify) 10 ∷ [])
 unfolding single_sign keyword is_name
 keywords_spelled = refl
 

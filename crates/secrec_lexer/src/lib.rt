@@ -4,9 +4,12 @@
 //! there. What can't be cut is refused at its first fault.
 #![tactic(auto)]
 
+mod bytes;
 mod lex_err;
+mod number;
 mod piece;
 mod sign;
+mod spelling;
 mod token;
 
 pub use lex_err::{LexErr, LexFault};
