@@ -4,8 +4,8 @@ use Rattle.sc_text.specs.declared.span.Span.{Span}
 use Rattle.secrec_lexer.specs.declared.token.Token.{Token}
 use Rattle.secrec_ast.specs.Programs.{ProgramTree}
 use Rattle.secrec_ast.specs.Heights.{program_height}
-use Rattle.secrec_parser.specs.declared.problem.Problem.{Problem}
-use Rattle.secrec_parser.specs.declared.problem.Problem.TheVariants.{Unexpected, TooHigh}
+use Rattle.expression_parser.specs.declared.problem.Problem.{Problem}
+use Rattle.expression_parser.specs.declared.problem.Problem.TheVariants.{Unexpected, TooHigh}
 use Rattle.secrec_parser.specs.Grammar.{IsProgram}
 
 abbrev pub height_limit : ℕ

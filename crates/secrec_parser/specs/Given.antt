@@ -9,7 +9,7 @@ use Rattle.secrec_parser.specs.declared.problem.Stopped.TheVariants.{Memory, At}
 use Rattle.secrec_parser.specs.declared.problem.Parsed.{Parsed}
 use Rattle.secrec_parser.specs.declared.assignment.Action.{Action}
 use Rattle.secrec_parser.specs.declared.assignment.Action.TheVariants as actions
-use Rattle.secrec_parser.specs.Outcome.{Outcome}
+use Rattle.expression_parser.specs.Steps.{Outcome}
 use Rattle.secrec_parser.specs.Steps.{ActionTree, assigns, evaluates}
 
 abbrev pub Gives : {X Y : Type 0} → (X → Y × List Token) → Result X Stopped → Outcome Y → Type 0

@@ -22,14 +22,8 @@ use Rattle.secrec_ast.specs.Tree.{Tree, number, variable, index, binary}
 use Rattle.secrec_ast.specs.Statements.{DeclarationTree, TargetTree, AssignmentTree, StartTree, starts_with_nothing, starts_with_declaration, starts_with_assignment, StepTree, steps_by_nothing, steps_by_assignment, steps_by_expression, StatementTree, StatementTrees, block, empty, branch, choice, while_loop, do_loop, for_loop, breaks, continues, returns, assertion, declaration, assignment, evaluation, none, also}
 use Rattle.secrec_ast.specs.Programs.{BlockTree, FunctionTree, ItemTree, imports, kind, domain, defines, ProgramTree}
 use Rattle.secrec_ast.specs.Heights.{program_height}
-use Rattle.secrec_parser.specs.Phrases.{Phrase, nothing, one_at, one, ◌then◌}
-use Rattle.secrec_parser.specs.Expressions.{IsExpression, loosest}
-
-abbrev pub sign : Sign → Phrase
-sign s ts = one (Sign' s) ts
-
-abbrev pub sign_at : Span → Sign → Phrase
-sign_at place s ts = one_at place (Sign' s) ts
+use Rattle.expression_parser.specs.Phrases.{Phrase, nothing, one_at, one, sign_at, sign, ◌then◌}
+use Rattle.expression_parser.specs.Grammar.{IsExpression, loosest}
 
 abbrev pub identifier : Identifier → Phrase
 identifier x ts = one_at x.place (Name x.text) ts

@@ -23,29 +23,17 @@ use Rattle.secrec_ast.specs.Tree.{Tree, number, truth, variable, call, index, pa
 use Rattle.secrec_ast.specs.Statements.{DeclarationTree, TargetTree, AssignmentTree, StartTree, starts_with_nothing, starts_with_declaration, starts_with_assignment, StepTree, steps_by_nothing, steps_by_assignment, steps_by_expression, StatementTree, StatementTrees, statements_of, block, empty, branch, choice, while_loop, do_loop, for_loop, breaks, continues, returns, assertion, declaration, assignment, evaluation}
 use Rattle.secrec_ast.specs.Programs.{BlockTree, FunctionTree, ItemTree, imports, kind, domain, defines, ProgramTree}
 use Rattle.secrec_ast.specs.Heights.{target_height}
-use Rattle.secrec_parser.specs.declared.problem.Problem.{Problem}
-use Rattle.secrec_parser.specs.declared.problem.Problem.TheVariants.{Unexpected, TooHigh}
+use Rattle.expression_parser.specs.declared.problem.Problem.{Problem}
+use Rattle.expression_parser.specs.declared.problem.Problem.TheVariants.{Unexpected, TooHigh}
 use Rattle.secrec_parser.specs.declared.leader.Leader.{Leader}
 use Rattle.secrec_parser.specs.declared.leader.Leader.TheVariants as leaders
 use Rattle.secrec_parser.specs.declared.assignment.Update.{Update}
 use Rattle.secrec_parser.specs.declared.assignment.Update.TheVariants as updates
-use Rattle.secrec_parser.specs.Outcome.{Outcome, ◌>>=◌}
-use Rattle.secrec_parser.specs.Expressions.{at_most, loosest}
+use Rattle.expression_parser.specs.Steps.{Outcome, ◌>>=◌, expect, identifier, data_type, data_type_of, at_most}
+use Rattle.expression_parser.specs.Grammar.{loosest}
 use Rattle.secrec_parser.specs.Grammar.{held, updated}
 
 -- Single tokens
-
-abbrev pub expect : Sign → List Token → Outcome Span
-expect s [] = Err (Unexpected, [])
-expect s (x ∷ m) = if is_sign s x then Ok (x.place, m) else Err (Unexpected, x ∷ m)
-
-abbrev pub name_of : Kind → Token → List Token → Outcome Identifier
-name_of (kinds.Name text) x m = Ok (record { place = x.place; text = text }, m)
-name_of other x m = Err (Unexpected, x ∷ m)
-
-abbrev pub take_name : List Token → Outcome Identifier
-take_name [] = Err (Unexpected, [])
-take_name (x ∷ m) = name_of x.kind x m
 
 -- whether the next token is this sign
 abbrev pub at_sign : Sign → List Token → Bool
@@ -53,20 +41,6 @@ at_sign s [] = false
 at_sign s (x ∷ m) = is_sign s x
 
 -- Types
-
-abbrev pub data_type : Token → Option DataType
-data_type x =
-    if is_sign signs.Uint64 x || is_sign signs.Uint x then Some types.Uint64
-    else if is_sign signs.Bool x then Some types.Bool
-    else None
-
-abbrev pub element_of : Option DataType → Token → List Token → Outcome DataType
-element_of None x m = Err (Unexpected, x ∷ m)
-element_of (Some t) x m = Ok (t, m)
-
-abbrev pub element : List Token → Outcome DataType
-element [] = Err (Unexpected, [])
-element (x ∷ m) = element_of (data_type x) x m
 
 abbrev pub domain_of : Kind → Token → List Token → Outcome Domain
 domain_of (kinds.Name text) x m = Ok (domains.Named (record { place = x.place; text = text }), m)
@@ -106,7 +80,7 @@ unfoldable pub declared_type : List Token → Outcome DeclaredType
 declared_type w = do
   p ← place_at w
   d ← optional_domain p.1
-  e ← element d.1
+  e ← data_type d.1
   n ← dimension e.1
   Ok (record { place = p.0; domain = d.0; element = e.0; array = n.0 }, n.1)
 
@@ -145,7 +119,7 @@ initialiser h w =
 unfoldable pub declaration_step : ℕ → List Token → Outcome DeclarationTree
 declaration_step h w = do
   t ← declared_type w
-  x ← take_name t.1
+  x ← identifier t.1
   s ← size h x.1
   v ← initialiser h s.1
   Ok (record { declared = t.0; variable = x.0; size = s.0; value = v.0 }, v.1)
@@ -203,7 +177,7 @@ target_index room w =
 
 unfoldable pub assignment_step : ℕ → List Token → Outcome AssignmentTree
 assignment_step room w = do
-  x ← take_name w
+  x ← identifier w
   i ← target_index room x.1
   assigned room (record { variable = x.0; index = i.0 }) i.1
 
@@ -251,7 +225,7 @@ has_some None = false
 has_some (Some t) = true
 
 abbrev pub is_type : Token → Bool
-is_type x = has_some (data_type x)
+is_type x = has_some (data_type_of x)
 
 -- what a statement that begins with a token is, as far as the token tells
 abbrev pub leader_of : Bool → Token → Leader
@@ -450,12 +424,12 @@ statement (suc h) inside w = statement_step (suc h) (statement h) inside w
 
 abbrev pub constraint : List Token → Outcome (Option Identifier)
 constraint w =
-    if at_sign signs.Colon w then (expect signs.Colon w >>= λ a. take_name a.1 >>= λ x. Ok (Some x.0, x.1)) else Ok (None, w)
+    if at_sign signs.Colon w then (expect signs.Colon w >>= λ a. identifier a.1 >>= λ x. Ok (Some x.0, x.1)) else Ok (None, w)
 
 unfoldable pub domain_variable : List Token → Outcome DomainVariable
 domain_variable w = do
   a ← expect signs.Domain w
-  x ← take_name a.1
+  x ← identifier a.1
   k ← constraint x.1
   Ok (record { variable = x.0; kind = k.0 }, k.1)
 
@@ -487,7 +461,7 @@ result_type w =
 unfoldable pub parameter : List Token → Outcome Parameter
 parameter w = do
   t ← declared_type w
-  x ← take_name t.1
+  x ← identifier t.1
   Ok (record { declared = t.0; variable = x.0 }, x.1)
 
 unfoldable pub parameters_from : ℕ → List Parameter → List Token → Outcome (List Parameter)
@@ -513,7 +487,7 @@ unfoldable pub function_step : ℕ → List Token → Outcome FunctionTree
 function_step room w = do
   vs ← template w
   t ← result_type vs.1
-  x ← take_name t.1
+  x ← identifier t.1
   a ← expect signs.LeftParenthesis x.1
   ps ← parameters a.1
   b ← expect signs.RightParenthesis ps.1
@@ -524,14 +498,14 @@ function_step room w = do
 
 abbrev pub named_item : (Identifier → ItemTree) → List Token → Outcome ItemTree
 named_item make w = do
-  x ← take_name w
+  x ← identifier w
   b ← expect signs.Semicolon x.1
   Ok (make x.0, b.1)
 
 unfoldable pub domain_item : List Token → Outcome ItemTree
 domain_item w = do
-  x ← take_name w
-  k ← take_name x.1
+  x ← identifier w
+  k ← identifier x.1
   b ← expect signs.Semicolon k.1
   Ok (domain x.0 k.0, b.1)
 

@@ -7,9 +7,10 @@ ghost use Rattle.secrec_parser.specs.Steps.{declaration_step, initialiser, opera
 ghost use Rattle.secrec_parser.specs.Given.{Gives};
 
 use crate::expression::expression;
-use crate::problem::{Problem, Read, Stopped};
+use crate::problem::{Read, Stopped};
 use crate::tokens::{at_sign, expect, take_name};
 use crate::types::declared_type;
+use expression_parser::Problem;
 use secrec_ast::{Declaration, Expression};
 use secrec_lexer::{Sign, Token};
 use std::alloc::Global;

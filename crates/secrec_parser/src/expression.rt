@@ -1,7 +1,8 @@
 ghost use Rattle.std.specs.Prelude.{◌≡◌, ◌<◌, ◌≤◌, length, IfOk};
 ghost use Rattle.secrec_ast.specs.Tree.{expression};
 ghost use Rattle.secrec_ast.specs.Heights.{height};
-ghost use Rattle.secrec_parser.specs.Expressions.{at_most, loosest};
+ghost use Rattle.expression_parser.specs.Steps.{at_most};
+ghost use Rattle.expression_parser.specs.Grammar.{loosest};
 ghost use Rattle.secrec_parser.specs.Given.{Gives};
 
 use crate::problem::{Parsed, Read, Stopped};

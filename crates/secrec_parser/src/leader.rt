@@ -1,7 +1,8 @@
 // What a statement is, as far as its first token tells.
 
 ghost use Rattle.std.specs.Prelude.{◌≡◌};
-ghost use Rattle.secrec_parser.specs.Steps.{leader_of, least, is_type, data_type};
+ghost use Rattle.secrec_parser.specs.Steps.{leader_of, least, is_type};
+ghost use Rattle.expression_parser.specs.Steps.{data_type_of};
 
 use secrec_ast::DataType;
 use secrec_lexer::{Kind, Sign, Token};
@@ -27,10 +28,12 @@ pub enum Leader {
 }
 
 /// The type of elements that a token names.
-pub fn data_type(token: &Token) -> Option<DataType>
-    ensures { result ≡ data_type token.now }
+pub fn data_type_of(token: &Token) -> Option<DataType>
+    ensures { result ≡ data_type_of token.now }
 {
-    if token.is(Sign::Uint64) || token.is(Sign::Uint) {
+    if token.is(Sign::Uint64) {
+        Some(DataType::Uint64)
+    } else if token.is(Sign::Uint) {
         Some(DataType::Uint64)
     } else if token.is(Sign::Bool) {
         Some(DataType::Bool)
@@ -42,7 +45,7 @@ pub fn data_type(token: &Token) -> Option<DataType>
 pub fn is_type(token: &Token) -> bool
     ensures { result ≡ is_type token.now }
 {
-    data_type(token).is_some()
+    data_type_of(token).is_some()
 }
 
 /// What a statement is that begins with a token, inside a loop or not.

@@ -1,13 +1,7 @@
+use expression_parser::Problem;
 use secrec_ast::Expression;
 use secrec_lexer::Token;
 use std::alloc::{AllocError, AllocFailed};
-
-/// Why tokens begin no program: none begins so, or none that is low enough.
-#[derive(Clone, Copy, Debug, PartialEq, Eq)]
-pub enum Problem {
-    Unexpected,
-    TooHigh,
-}
 
 /// Why nothing was read: memory ran out, or the tokens from here on.
 #[derive(Drop)]

@@ -1,10 +1,12 @@
 // Single tokens.
 
 ghost use Rattle.std.specs.Prelude.{◌≡◌, ◌<◌, length, IfOk};
-ghost use Rattle.secrec_parser.specs.Steps.{at_sign, at_end, expect, place_at, take_name};
+ghost use Rattle.secrec_parser.specs.Steps.{at_sign, at_end, place_at};
+ghost use Rattle.expression_parser.specs.Steps.{expect, identifier};
 ghost use Rattle.secrec_parser.specs.Given.{Gives};
 
-use crate::problem::{Problem, Read, Stopped};
+use crate::problem::{Read, Stopped};
+use expression_parser::Problem;
 use sc_text::Span;
 use secrec_ast::Identifier;
 use secrec_lexer::{Kind, Sign, Token};
@@ -60,7 +62,7 @@ pub fn expect<'a>(sign: Sign, tokens: &'a [Token]) -> Read<'a, Span>
 
 /// Takes a name.
 pub fn take_name<'a>(alloc: Global, tokens: &'a [Token]) -> Read<'a, Identifier>
-    ensures step { Gives (λ x. (x.0, x.1.now)) result (take_name tokens.now) }
+    ensures step { Gives (λ x. (x.0, x.1.now)) result (identifier tokens.now) }
     ensures shorter { IfOk result (λ x. length x.1.now < length tokens.now) }
 {
     let Some((token, rest)) = tokens.split_first() else {
