@@ -23,21 +23,18 @@ use Rattle.secrec_ast.specs.Statements.{DeclarationTree, TargetTree, AssignmentT
 use Rattle.secrec_ast.specs.Programs.{BlockTree, FunctionTree, ItemTree, imports, kind, domain, defines, ProgramTree}
 use Rattle.secrec_ast.specs.Heights.{program_height}
 use Rattle.expression_parser.specs.Phrases.{Phrase, nothing, one_at, one, sign_at, sign, ◌then◌}
-use Rattle.expression_parser.specs.Grammar.{IsExpression, loosest}
+use Rattle.expression_parser.specs.Grammar.{IsDataType, IsExpression, loosest}
 
 abbrev pub identifier : Identifier → Phrase
 identifier x ts = one_at x.place (Name x.text) ts
 
-abbrev pub IsIdentified : Option Identifier → Phrase
-IsIdentified None ts = nothing ts
-IsIdentified (Some x) ts = identifier x ts
-
 abbrev pub parenthesised : Tree → Phrase
 parenthesised e ts = (sign LeftParenthesis then IsExpression loosest e then sign RightParenthesis) ts
 
-abbrev pub IsOptional : Option Tree → Phrase
-IsOptional None ts = nothing ts
-IsOptional (Some e) ts = IsExpression loosest e ts
+-- a phrase that may be left out
+abbrev pub optional : {A : Type 0} → (A → Phrase) → Option A → Phrase
+optional P None ts = nothing ts
+optional P (Some a) ts = P a ts
 
 -- behind the first of a list, each with a comma in front
 abbrev pub AreMore : {A : Type 0} → (A → Phrase) → List A → Phrase
@@ -46,18 +43,14 @@ AreMore P (a ∷ more) ts = (sign Comma then P a then AreMore P more) ts
 
 -- Types
 
--- `uint` is `uint64`
-abbrev pub element_at : Span → DataType → Phrase
-element_at place types.Uint64 ts = sign_at place Uint64 ts ⊎ sign_at place Uint ts
-element_at place types.Bool ts = sign_at place BoolWord ts
-
-abbrev pub element : DataType → Phrase
-element e ts = (place : Span) × element_at place e ts
+abbrev pub BeginsAt : Span → Phrase
+BeginsAt place [] = ⊥
+BeginsAt place (x ∷ more) = x.place ≡ place
 
 -- `public` may be left out
-abbrev pub IsScalar : Span → Domain → DataType → Phrase
-IsScalar place domains.Public e ts = element_at place e ts ⊎ (sign_at place Public then element e) ts
-IsScalar place (domains.Named x) e ts = (place ≡ x.place) × (identifier x then element e) ts
+abbrev pub IsDomain : Domain → Phrase
+IsDomain domains.Public ts = nothing ts ⊎ sign Public ts
+IsDomain (domains.Named x) ts = identifier x ts
 
 abbrev pub dimension : ℕ → Phrase
 dimension n ts = (sign LeftBracket then sign LeftBracket then one (Number n) then sign RightBracket then sign RightBracket) ts
@@ -68,29 +61,24 @@ IsDimension false ts = nothing ts ⊎ dimension 0 ts
 IsDimension true ts = dimension 1 ts
 
 abbrev pub IsType : DeclaredType → Phrase
-IsType t ts = (IsScalar t.place t.domain t.element then IsDimension t.array) ts
+IsType t ts = BeginsAt t.place ts × (IsDomain t.domain then IsDataType t.element then IsDimension t.array) ts
 
 -- Declarations
 
-abbrev pub IsSize : Option Tree → Phrase
-IsSize None ts = nothing ts
-IsSize (Some e) ts = parenthesised e ts
-
-abbrev pub IsInitialiser : Option Tree → Phrase
-IsInitialiser None ts = nothing ts
-IsInitialiser (Some e) ts = (sign Assign then IsExpression loosest e) ts
+abbrev pub initialiser : Tree → Phrase
+initialiser e ts = (sign Assign then IsExpression loosest e) ts
 
 abbrev pub IsDeclaration : DeclarationTree → Phrase
-IsDeclaration d ts = (IsType d.declared then identifier d.variable then IsSize d.size then IsInitialiser d.value) ts
+IsDeclaration d ts =
+    (IsType d.declared then identifier d.variable then optional parenthesised d.size then optional initialiser d.value) ts
 
 -- Assignments
 
-abbrev pub IsIndex : Option Tree → Phrase
-IsIndex None ts = nothing ts
-IsIndex (Some e) ts = (sign LeftBracket then IsExpression loosest e then sign RightBracket) ts
+abbrev pub bracketed : Tree → Phrase
+bracketed e ts = (sign LeftBracket then IsExpression loosest e then sign RightBracket) ts
 
 abbrev pub IsTarget : TargetTree → Phrase
-IsTarget t ts = (identifier t.variable then IsIndex t.index) ts
+IsTarget t ts = (identifier t.variable then optional bracketed t.index) ts
 
 -- a target as an expression
 abbrev pub held_in : Identifier → Option Tree → Tree
@@ -163,10 +151,10 @@ abbrev mutual
   IsStatement inside (do_loop p s e) ts =
       (sign_at p Do then IsStatement true s then sign While then parenthesised e then sign Semicolon) ts
   IsStatement inside (for_loop p a e b s) ts =
-      (sign_at p For then sign LeftParenthesis then IsStart a then sign Semicolon then IsOptional e then sign Semicolon then IsStep b then sign RightParenthesis then IsStatement true s) ts
+      (sign_at p For then sign LeftParenthesis then IsStart a then sign Semicolon then optional (IsExpression loosest) e then sign Semicolon then IsStep b then sign RightParenthesis then IsStatement true s) ts
   IsStatement inside (breaks p) ts = (inside ≡ true) × (sign_at p Break then sign Semicolon) ts
   IsStatement inside (continues p) ts = (inside ≡ true) × (sign_at p Continue then sign Semicolon) ts
-  IsStatement inside (returns p e) ts = (sign_at p Return then IsOptional e then sign Semicolon) ts
+  IsStatement inside (returns p e) ts = (sign_at p Return then optional (IsExpression loosest) e then sign Semicolon) ts
   IsStatement inside (assertion p e) ts = (sign_at p Assert then parenthesised e then sign Semicolon) ts
   IsStatement inside (declaration d) ts = (IsDeclaration d then sign Semicolon) ts
   IsStatement inside (assignment a) ts = (IsAssignment a then sign Semicolon) ts
@@ -178,12 +166,11 @@ abbrev mutual
 
 -- Functions
 
-abbrev pub IsConstraint : Option Identifier → Phrase
-IsConstraint None ts = nothing ts
-IsConstraint (Some x) ts = (sign Colon then identifier x) ts
+abbrev pub constraint : Identifier → Phrase
+constraint x ts = (sign Colon then identifier x) ts
 
 abbrev pub IsDomainVariable : DomainVariable → Phrase
-IsDomainVariable v ts = (sign DomainWord then identifier v.variable then IsConstraint v.kind) ts
+IsDomainVariable v ts = (sign DomainWord then identifier v.variable then optional constraint v.kind) ts
 
 -- a template has one to four domain variables
 abbrev pub IsTemplate : List DomainVariable → Phrase

@@ -1,5 +1,5 @@
 -- The steps of the parser as functions on lists of tokens. Only contracts of private functions cite them.
-use Rattle.std.specs.Prelude.{◌≡◌, ℕ, zero, suc, ◌+◌, ◌-◌, nat_eq, nat_lt, Bool, true, false, ◌||◌, ◌&&◌, if◌then◌else◌, List, [], ◌∷◌, ◌++◌, length, Option, Some, None, Result, Ok, Err}
+use Rattle.std.specs.Prelude.{◌≡◌, ℕ, zero, suc, ◌+◌, ◌-◌, nat_eq, nat_lt, Bool, true, false, ◌||◌, ◌&&◌, not, if◌then◌else◌, List, [], ◌∷◌, ◌++◌, length, Option, Some, None, Result, Ok, Err}
 use Rattle.sc_text.specs.declared.span.Span.{Span}
 use Rattle.secrec_lexer.specs.declared.sign.Sign.{Sign}
 use Rattle.secrec_lexer.specs.declared.sign.Sign.TheVariants as signs
@@ -29,7 +29,7 @@ use Rattle.secrec_parser.specs.declared.leader.Leader.{Leader}
 use Rattle.secrec_parser.specs.declared.leader.Leader.TheVariants as leaders
 use Rattle.secrec_parser.specs.declared.assignment.Update.{Update}
 use Rattle.secrec_parser.specs.declared.assignment.Update.TheVariants as updates
-use Rattle.expression_parser.specs.Steps.{Outcome, ◌>>=◌, expect, identifier, data_type, data_type_of, at_most}
+use Rattle.expression_parser.specs.Steps.{Outcome, ◌>>=◌, expect, identifier, data_type, data_type_of, operator_at, at_most}
 use Rattle.expression_parser.specs.Grammar.{loosest}
 use Rattle.secrec_parser.specs.Grammar.{held, updated}
 
@@ -39,6 +39,17 @@ use Rattle.secrec_parser.specs.Grammar.{held, updated}
 abbrev pub at_sign : Sign → List Token → Bool
 at_sign s [] = false
 at_sign s (x ∷ m) = is_sign s x
+
+-- Lists
+
+-- Reads one after another until they stop: what was found so far, and at most n more.
+unfoldable pub list_from : {A : Type 0} → (List A → List Token → Bool) → (List Token → Outcome A) → ℕ → List A → List Token → Outcome (List A)
+list_from stop inner zero found w = Ok (found, w)
+list_from stop inner (suc n) found w =
+    if stop found w then Ok (found, w) else (inner w >>= λ a. list_from stop inner n (found ++ a.0 ∷ []) a.1)
+
+abbrev pub listed : {A : Type 0} → (List A → List Token → Bool) → (List Token → Outcome A) → List A → List Token → Outcome (List A)
+listed stop inner found w = list_from stop inner (suc (length w)) found w
 
 -- Types
 
@@ -96,10 +107,10 @@ parenthesised h w = do
   b ← expect signs.RightParenthesis e.1
   Ok (e.0, b.1)
 
--- an expression, or nothing before this sign
-abbrev pub optional_operand : Sign → ℕ → List Token → Outcome (Option Tree)
-optional_operand s h w =
-    if at_sign s w then Ok (None, w) else (operand h w >>= λ e. Ok (Some e.0, e.1))
+-- an expression, or nothing before a semicolon
+abbrev pub optional_operand : ℕ → List Token → Outcome (Option Tree)
+optional_operand h w =
+    if at_sign signs.Semicolon w then Ok (None, w) else (operand h w >>= λ e. Ok (Some e.0, e.1))
 
 -- Declarations
 
@@ -126,8 +137,8 @@ declaration_step h w = do
 
 -- Assignments
 
-abbrev pub update : Token → Option Update
-update x =
+abbrev pub update_of : Token → Option Update
+update_of x =
     if is_sign signs.Assign x then Some updates.Plain
     else if is_sign signs.PlusAssign x then Some (updates.Compound operators.Add)
     else if is_sign signs.MinusAssign x then Some (updates.Compound operators.Subtract)
@@ -159,7 +170,7 @@ assigned_by room t (Some u) x m =
 -- what a target gets, in an assignment of at most this height
 abbrev pub assigned : ℕ → TargetTree → List Token → Outcome AssignmentTree
 assigned room t [] = Err (Unexpected, [])
-assigned room t (x ∷ m) = assigned_by room t (update x) x m
+assigned room t (x ∷ m) = assigned_by room t (update_of x) x m
 
 abbrev pub bracketed : ℕ → List Token → Outcome Tree
 bracketed h w = do
@@ -200,13 +211,13 @@ abbrev pub assigns_to : ℕ → Option TargetTree → List Token → Outcome Act
 assigns_to room None w = Err (Unexpected, w)
 assigns_to room (Some t) w = assigned room t w >>= λ a. Ok (assigns a.0, a.1)
 
+abbrev pub updates_by : Option Update → Bool
+updates_by None = false
+updates_by (Some u) = true
+
 abbrev pub is_update : List Token → Bool
 is_update [] = false
-is_update (x ∷ m) = has_some (update x)
-  where
-    has_some : Option Update → Bool
-    has_some None = false
-    has_some (Some u) = true
+is_update (x ∷ m) = updates_by (update_of x)
 
 -- an expression of at most the first height, or an assignment of at most the second
 unfoldable pub action : ℕ → ℕ → List Token → Outcome ActionTree
@@ -216,9 +227,9 @@ action h room w =
 
 -- Statements
 
-abbrev pub named : Kind → Leader
-named (kinds.Name text) = leaders.Name
-named other = leaders.Expression
+abbrev pub name_leader : Kind → Leader
+name_leader (kinds.Name text) = leaders.Name
+name_leader other = leaders.Expression
 
 abbrev pub has_some : Option DataType → Bool
 has_some None = false
@@ -241,7 +252,7 @@ leader_of inside x =
     else if is_sign signs.Return x then leaders.Return
     else if is_sign signs.Assert x then leaders.Assert
     else if is_sign signs.Public x || is_type x then leaders.Declaration
-    else named x.kind
+    else name_leader x.kind
 
 -- how high such a statement is at least; an expression sees to that itself
 abbrev pub least : Leader → ℕ
@@ -262,16 +273,9 @@ least leaders.Expression = 0
 abbrev pub Inner : Type 0
 Inner = List Token → Outcome StatementTree
 
--- statements up to a closing brace
-unfoldable pub statements_from : Inner → ℕ → List StatementTree → List Token → Outcome (List StatementTree)
-statements_from inner zero found w = Ok (found, w)
-statements_from inner (suc n) found w =
-    if at_sign signs.RightBrace w then Ok (found, w)
-    else (inner w >>= λ s. statements_from inner n (found ++ s.0 ∷ []) s.1)
-
 abbrev pub braced : Inner → List Token → Outcome (List StatementTree)
 braced inner w = do
-  ss ← statements_from inner (suc (length w)) [] w
+  ss ← listed (λ found w. at_sign signs.RightBrace w) inner [] w
   b ← expect signs.RightBrace ss.1
   Ok (ss.0, b.1)
 
@@ -325,17 +329,32 @@ last_step h w =
     if at_sign signs.RightParenthesis w then Ok (steps_by_nothing, w)
     else (action h h w >>= λ a. Ok (step_of a.0, a.1))
 
--- the three parts of a `for`
-unfoldable pub heading : ℕ → List Token → Outcome (StartTree × Option Tree × StepTree)
-heading h w = do
+-- the three parts of a `for`, each with the signs around it
+unfoldable pub start_part : ℕ → List Token → Outcome StartTree
+start_part h w = do
   a ← expect signs.LeftParenthesis w
   s ← start_step h a.1
   b ← expect signs.Semicolon s.1
-  e ← optional_operand signs.Semicolon h b.1
-  c ← expect signs.Semicolon e.1
-  t ← last_step h c.1
-  d ← expect signs.RightParenthesis t.1
-  Ok ((s.0, e.0, t.0), d.1)
+  Ok (s.0, b.1)
+
+unfoldable pub test_part : ℕ → List Token → Outcome (Option Tree)
+test_part h w = do
+  e ← optional_operand h w
+  b ← expect signs.Semicolon e.1
+  Ok (e.0, b.1)
+
+unfoldable pub last_part : ℕ → List Token → Outcome StepTree
+last_part h w = do
+  t ← last_step h w
+  b ← expect signs.RightParenthesis t.1
+  Ok (t.0, b.1)
+
+unfoldable pub heading : ℕ → List Token → Outcome (StartTree × Option Tree × StepTree)
+heading h w = do
+  s ← start_part h w
+  e ← test_part h s.1
+  t ← last_part h e.1
+  Ok ((s.0, e.0, t.0), t.1)
 
 unfoldable pub for_step : ℕ → Inner → Span → List Token → Outcome StatementTree
 for_step h inner p w = do
@@ -344,10 +363,7 @@ for_step h inner p w = do
   Ok (for_loop p f.0.0 f.0.1 f.0.2 s.0, s.1)
 
 unfoldable pub return_step : ℕ → Span → List Token → Outcome StatementTree
-return_step h p w = do
-  e ← optional_operand signs.Semicolon h w
-  b ← expect signs.Semicolon e.1
-  Ok (returns p e.0, b.1)
+return_step h p w = test_part h w >>= λ e. Ok (returns p e.0, e.1)
 
 unfoldable pub assert_step : ℕ → Span → List Token → Outcome StatementTree
 assert_step h p w = do
@@ -372,13 +388,14 @@ action_statement room w = do
   Ok (statement_of a.0, b.1)
 
 -- what goes on with an assignment or an expression behind a name
+abbrev pub is_operator : Option Operator → Bool
+is_operator None = false
+is_operator (Some op) = true
+
 abbrev pub follows_name : Token → Bool
 follows_name x =
-    is_sign signs.LeftParenthesis x || is_sign signs.LeftBracket x || is_sign signs.Semicolon x || is_update (x ∷ [])
-    || is_sign signs.DoubleBar x || is_sign signs.DoubleAmpersand x || is_sign signs.Bar x || is_sign signs.Caret x
-    || is_sign signs.Ampersand x || is_sign signs.Equal x || is_sign signs.NotEqual x || is_sign signs.Less x
-    || is_sign signs.LessOrEqual x || is_sign signs.Greater x || is_sign signs.GreaterOrEqual x || is_sign signs.Plus x
-    || is_sign signs.Minus x || is_sign signs.Star x || is_sign signs.Slash x || is_sign signs.Percent x
+    is_sign signs.LeftParenthesis x || is_sign signs.LeftBracket x || is_sign signs.Semicolon x
+    || updates_by (update_of x) || is_operator (operator_at x.kind)
 
 -- behind a name where a declaration alone has room
 abbrev pub only_declares : List Token → Outcome StatementTree
@@ -392,21 +409,24 @@ name_statement room w m =
     else if nat_eq room 1 then only_declares m
     else action_statement room w
 
+-- what a keyword, a brace or a semicolon leads, which stands at this place before the tokens
+unfoldable pub led : Leader → ℕ → (Bool → Inner) → Bool → Span → List Token → Outcome StatementTree
+led leaders.Block room lower inside p m = braced (lower inside) m >>= λ ss. Ok (block p (statements_of ss.0), ss.1)
+led leaders.If room lower inside p m = if_step (room - 1) (lower inside) p m
+led leaders.While room lower inside p m = while_step (room - 1) (lower true) p m
+led leaders.DoWhile room lower inside p m = do_step (room - 1) (lower true) p m
+led leaders.For room lower inside p m = for_step (room - 1) (lower true) p m
+led leaders.Break room lower inside p m = expect signs.Semicolon m >>= λ b. Ok (breaks p, b.1)
+led leaders.Continue room lower inside p m = expect signs.Semicolon m >>= λ b. Ok (continues p, b.1)
+led leaders.Return room lower inside p m = return_step (room - 1) p m
+led leaders.Assert room lower inside p m = assert_step (room - 1) p m
+led other room lower inside p m = Ok (empty p, m)
+
 abbrev pub statement_by : Leader → ℕ → (Bool → Inner) → Bool → Token → List Token → Outcome StatementTree
-statement_by leaders.Block room lower inside x m =
-    braced (lower inside) m >>= λ ss. Ok (block x.place (statements_of ss.0), ss.1)
-statement_by leaders.Empty room lower inside x m = Ok (empty x.place, m)
-statement_by leaders.If room lower inside x m = if_step (room - 1) (lower inside) x.place m
-statement_by leaders.While room lower inside x m = while_step (room - 1) (lower true) x.place m
-statement_by leaders.DoWhile room lower inside x m = do_step (room - 1) (lower true) x.place m
-statement_by leaders.For room lower inside x m = for_step (room - 1) (lower true) x.place m
-statement_by leaders.Break room lower inside x m = expect signs.Semicolon m >>= λ b. Ok (breaks x.place, b.1)
-statement_by leaders.Continue room lower inside x m = expect signs.Semicolon m >>= λ b. Ok (continues x.place, b.1)
-statement_by leaders.Return room lower inside x m = return_step (room - 1) x.place m
-statement_by leaders.Assert room lower inside x m = assert_step (room - 1) x.place m
 statement_by leaders.Declaration room lower inside x m = declaration_statement (room - 1) (x ∷ m)
 statement_by leaders.Name room lower inside x m = name_statement room (x ∷ m) m
 statement_by leaders.Expression room lower inside x m = action_statement room (x ∷ m)
+statement_by other room lower inside x m = led other room lower inside x.place m
 
 -- one statement, where `lower` reads the statements in it
 unfoldable pub statement_step : ℕ → (Bool → Inner) → Bool → List Token → Outcome StatementTree
@@ -416,9 +436,9 @@ statement_step room lower inside (x ∷ m) =
     else statement_by (leader_of inside x) room lower inside x m
 
 -- a statement of at most this height
-unfoldable pub statement : ℕ → Bool → List Token → Outcome StatementTree
-statement zero inside w = statement_step zero (λ i m. Err (TooHigh, m)) inside w
-statement (suc h) inside w = statement_step (suc h) (statement h) inside w
+unfoldable pub statement_at_most : ℕ → Bool → List Token → Outcome StatementTree
+statement_at_most zero inside w = statement_step zero (λ i m. Err (TooHigh, m)) inside w
+statement_at_most (suc h) inside w = statement_step (suc h) (statement_at_most h) inside w
 
 -- Functions
 
@@ -433,13 +453,13 @@ domain_variable w = do
   k ← constraint x.1
   Ok (record { variable = x.0; kind = k.0 }, k.1)
 
--- the domain variables behind the first, up to four in all
-unfoldable pub variables_from : ℕ → List DomainVariable → List Token → Outcome (List DomainVariable)
-variables_from zero found w = Ok (found, w)
-variables_from (suc n) found w =
-    if at_sign signs.Comma w && nat_lt (length found) 4
-    then (expect signs.Comma w >>= λ a. domain_variable a.1 >>= λ v. variables_from n (found ++ v.0 ∷ []) v.1)
-    else Ok (found, w)
+-- behind a comma
+abbrev pub comma_then : {A : Type 0} → (List Token → Outcome A) → List Token → Outcome A
+comma_then inner w = expect signs.Comma w >>= λ a. inner a.1
+
+-- a template has up to four domain variables
+abbrev pub no_more_variables : List DomainVariable → List Token → Bool
+no_more_variables found w = not (at_sign signs.Comma w && nat_lt (length found) 4)
 
 unfoldable pub template : List Token → Outcome (List DomainVariable)
 template w =
@@ -448,7 +468,7 @@ template w =
       a ← expect signs.Template w
       b ← expect signs.Less a.1
       v ← domain_variable b.1
-      vs ← variables_from (suc (length v.1)) (v.0 ∷ []) v.1
+      vs ← listed no_more_variables (comma_then domain_variable) (v.0 ∷ []) v.1
       c ← expect signs.Greater vs.1
       Ok (vs.0, c.1))
     else Ok ([], w)
@@ -464,43 +484,45 @@ parameter w = do
   x ← identifier t.1
   Ok (record { declared = t.0; variable = x.0 }, x.1)
 
-unfoldable pub parameters_from : ℕ → List Parameter → List Token → Outcome (List Parameter)
-parameters_from zero found w = Ok (found, w)
-parameters_from (suc n) found w =
-    if at_sign signs.Comma w
-    then (expect signs.Comma w >>= λ a. parameter a.1 >>= λ p. parameters_from n (found ++ p.0 ∷ []) p.1)
-    else Ok (found, w)
+abbrev pub no_comma : List Parameter → List Token → Bool
+no_comma found w = not (at_sign signs.Comma w)
 
 unfoldable pub parameters : List Token → Outcome (List Parameter)
 parameters w =
     if at_sign signs.RightParenthesis w then Ok ([], w)
-    else (parameter w >>= λ p. parameters_from (suc (length p.1)) (p.0 ∷ []) p.1)
+    else (parameter w >>= λ p. listed no_comma (comma_then parameter) (p.0 ∷ []) p.1)
 
 -- a function's body; room is that for its statements
 unfoldable pub body : ℕ → List Token → Outcome BlockTree
 body room w = do
   a ← expect signs.LeftBrace w
-  ss ← braced (statement room false) a.1
+  ss ← braced (statement_at_most room false) a.1
   Ok (record { place = a.0; statements = statements_of ss.0 }, ss.1)
+
+unfoldable pub parameter_list : List Token → Outcome (List Parameter)
+parameter_list w = do
+  a ← expect signs.LeftParenthesis w
+  ps ← parameters a.1
+  b ← expect signs.RightParenthesis ps.1
+  Ok (ps.0, b.1)
 
 unfoldable pub function_step : ℕ → List Token → Outcome FunctionTree
 function_step room w = do
   vs ← template w
   t ← result_type vs.1
   x ← identifier t.1
-  a ← expect signs.LeftParenthesis x.1
-  ps ← parameters a.1
-  b ← expect signs.RightParenthesis ps.1
-  c ← body room b.1
+  ps ← parameter_list x.1
+  c ← body room ps.1
   Ok (record { variables = vs.0; returned = t.0; function = x.0; parameters = ps.0; body = c.0 }, c.1)
 
 -- Programs
 
-abbrev pub named_item : (Identifier → ItemTree) → List Token → Outcome ItemTree
-named_item make w = do
+-- a name and a semicolon
+abbrev pub named : List Token → Outcome Identifier
+named w = do
   x ← identifier w
   b ← expect signs.Semicolon x.1
-  Ok (make x.0, b.1)
+  Ok (x.0, b.1)
 
 unfoldable pub domain_item : List Token → Outcome ItemTree
 domain_item w = do
@@ -511,8 +533,8 @@ domain_item w = do
 
 abbrev pub item_step : ℕ → Token → List Token → Outcome ItemTree
 item_step room x m =
-    if is_sign signs.Import x then named_item imports m
-    else if is_sign signs.Kind x then named_item kind m
+    if is_sign signs.Import x then (named m >>= λ x. Ok (imports x.0, x.1))
+    else if is_sign signs.Kind x then (named m >>= λ x. Ok (kind x.0, x.1))
     else if is_sign signs.Domain x then domain_item m
     else (function_step room (x ∷ m) >>= λ f. Ok (defines f.0, f.1))
 
@@ -524,14 +546,9 @@ abbrev pub at_end : List Token → Bool
 at_end [] = false
 at_end (x ∷ m) = is_end x.kind
 
-unfoldable pub items_from : ℕ → ℕ → List ItemTree → List Token → Outcome (List ItemTree)
-items_from room zero found w = Ok (found, w)
-items_from room (suc n) found w =
-    if at_end w then Ok (found, w) else (item room w >>= λ i. items_from room n (found ++ i.0 ∷ []) i.1)
-
 -- a whole program, up to the end of the text
 unfoldable pub program : ℕ → List Token → Outcome ProgramTree
 program room w = do
-  is ← items_from room (suc (length w)) [] w
+  is ← listed (λ found w. at_end w) (item room) [] w
   p ← place_at is.1
   Ok (record { items = is.0; end = p.0 }, p.1)

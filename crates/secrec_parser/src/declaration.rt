@@ -35,17 +35,16 @@ pub fn parenthesised<'a>(alloc: Global, tokens: &'a [Token], room: u8) -> Read<'
     Ok((found, rest))
 }
 
-/// An expression, or nothing before this sign.
+/// An expression, or nothing before a semicolon.
 pub fn optional_operand<'a>(
     alloc: Global,
-    end: Sign,
     tokens: &'a [Token],
     room: u8,
 ) -> Read<'a, Option<Expression>>
-    ensures step { Gives (λ x. (optional x.0, x.1.now)) result (optional_operand end room tokens.now) }
+    ensures step { Gives (λ x. (optional x.0, x.1.now)) result (optional_operand room tokens.now) }
     ensures shorter { IfOk result (λ x. length x.1.now ≤ length tokens.now) }
 {
-    if at_sign(end, tokens) {
+    if at_sign(Sign::Semicolon, tokens) {
         return Ok((None, tokens));
     }
     let (found, rest) = operand(alloc, tokens, room)?;

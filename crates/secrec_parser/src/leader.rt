@@ -1,7 +1,7 @@
 // What a statement is, as far as its first token tells.
 
 ghost use Rattle.std.specs.Prelude.{◌≡◌};
-ghost use Rattle.secrec_parser.specs.Steps.{leader_of, least, is_type};
+ghost use Rattle.secrec_parser.specs.Steps.{leader_of, least, is_type, name_leader};
 ghost use Rattle.expression_parser.specs.Steps.{data_type_of};
 
 use secrec_ast::DataType;
@@ -75,7 +75,7 @@ pub fn leader_of(token: &Token, inside: bool) -> Leader
     } else if token.is(Sign::Public) || is_type(token) {
         Leader::Declaration
     } else {
-        named(token)
+        name_leader(token)
     }
 }
 
@@ -92,8 +92,8 @@ impl Leader {
     }
 }
 
-fn named(token: &Token) -> Leader
-    ensures { result ≡ Rattle.secrec_parser.specs.Steps.named token.now.kind }
+fn name_leader(token: &Token) -> Leader
+    ensures { result ≡ name_leader token.now.kind }
 {
     match token.kind {
         Kind::Name(_) => Leader::Name,

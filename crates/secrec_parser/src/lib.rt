@@ -4,7 +4,11 @@
 mod assignment;
 mod declaration;
 mod expression;
+mod function;
 mod leader;
 mod problem;
+mod program;
+mod simple;
+mod statement;
 mod tokens;
 mod types;

@@ -2,13 +2,13 @@
 
 ghost use Rattle.std.specs.Prelude.{◌≡◌, ◌<◌, length, IfOk};
 ghost use Rattle.secrec_parser.specs.Steps.{at_sign, at_end, place_at};
-ghost use Rattle.expression_parser.specs.Steps.{expect, identifier};
+ghost use Rattle.expression_parser.specs.Steps.{expect, identifier, operator_at};
 ghost use Rattle.secrec_parser.specs.Given.{Gives};
 
 use crate::problem::{Read, Stopped};
 use expression_parser::Problem;
 use sc_text::Span;
-use secrec_ast::Identifier;
+use secrec_ast::{Identifier, Operator};
 use secrec_lexer::{Kind, Sign, Token};
 use std::alloc::Global;
 
@@ -75,5 +75,33 @@ pub fn take_name<'a>(alloc: Global, tokens: &'a [Token]) -> Read<'a, Identifier>
             Ok((Identifier { place, text }, rest))
         }
         _ => Err(Stopped::At(Problem::Unexpected, tokens)),
+    }
+}
+
+/// The operator between two operands that a token is, if it is one.
+pub fn operator_of(token: &Token) -> Option<Operator>
+    ensures { result ≡ operator_at token.now.kind }
+{
+    let Kind::Sign(sign) = token.kind else {
+        return None;
+    };
+    match sign {
+        Sign::Plus => Some(Operator::Add),
+        Sign::Minus => Some(Operator::Subtract),
+        Sign::Star => Some(Operator::Multiply),
+        Sign::Slash => Some(Operator::Divide),
+        Sign::Percent => Some(Operator::Remainder),
+        Sign::Equal => Some(Operator::Equal),
+        Sign::NotEqual => Some(Operator::NotEqual),
+        Sign::Less => Some(Operator::Less),
+        Sign::LessOrEqual => Some(Operator::LessOrEqual),
+        Sign::Greater => Some(Operator::Greater),
+        Sign::GreaterOrEqual => Some(Operator::GreaterOrEqual),
+        Sign::Ampersand => Some(Operator::And),
+        Sign::Bar => Some(Operator::Or),
+        Sign::Caret => Some(Operator::Xor),
+        Sign::DoubleAmpersand => Some(Operator::AndAlso),
+        Sign::DoubleBar => Some(Operator::OrElse),
+        _ => None,
     }
 }
