@@ -1,5 +1,5 @@
 -- The grammar of expressions, by cases on the tree: which tokens spell it.
-use Rattle.std.specs.Prelude.{◌≡◌, ℕ, ◌-◌, ◌≤◌, Bool, true, false, List, ◌⊎◌}
+use Rattle.std.specs.Prelude.{◌≡◌, ℕ, ◌-◌, ◌≤◌, Bool, true, false, List, Option, Some, None, ◌⊎◌}
 use Rattle.secrec_lexer.specs.declared.sign.Sign.{Sign}
 use Rattle.secrec_lexer.specs.declared.sign.Sign.TheVariants as signs
 use Rattle.secrec_lexer.specs.declared.token.Kind.TheVariants as kinds
@@ -29,6 +29,26 @@ sign_of operators.Or = signs.Bar
 sign_of operators.Xor = signs.Caret
 sign_of operators.AndAlso = signs.DoubleAmpersand
 sign_of operators.OrElse = signs.DoubleBar
+
+-- the operator that a sign is
+abbrev pub operator_of : Sign → Option Operator
+operator_of signs.Plus = Some operators.Add
+operator_of signs.Minus = Some operators.Subtract
+operator_of signs.Star = Some operators.Multiply
+operator_of signs.Slash = Some operators.Divide
+operator_of signs.Percent = Some operators.Remainder
+operator_of signs.Equal = Some operators.Equal
+operator_of signs.NotEqual = Some operators.NotEqual
+operator_of signs.Less = Some operators.Less
+operator_of signs.LessOrEqual = Some operators.LessOrEqual
+operator_of signs.Greater = Some operators.Greater
+operator_of signs.GreaterOrEqual = Some operators.GreaterOrEqual
+operator_of signs.Ampersand = Some operators.And
+operator_of signs.Bar = Some operators.Or
+operator_of signs.Caret = Some operators.Xor
+operator_of signs.DoubleAmpersand = Some operators.AndAlso
+operator_of signs.DoubleBar = Some operators.OrElse
+operator_of other = None
 
 -- how loosely an operator binds: 1 is the tightest
 abbrev pub level : Operator → ℕ

@@ -1,3 +1,5 @@
 pub mod Phrases
 pub mod Grammar
+pub mod Follow
 pub mod Steps
+pub mod Given

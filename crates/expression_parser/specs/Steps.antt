@@ -10,13 +10,12 @@ use Rattle.secrec_lexer.specs.declared.token.Token.{Token}
 use Rattle.secrec_ast.specs.declared.expression.DataType.{DataType}
 use Rattle.secrec_ast.specs.declared.expression.DataType.TheVariants as types
 use Rattle.secrec_ast.specs.declared.expression.Operator.{Operator}
-use Rattle.secrec_ast.specs.declared.expression.Operator.TheVariants as operators
 use Rattle.secrec_ast.specs.declared.statement.Identifier.{Identifier}
 use Rattle.secrec_ast.specs.Tree.{Tree, Trees, number, truth, variable, call, index, parentheses, negation, cast, binary, declassify, argument, publish, none, also}
 use Rattle.secrec_ast.specs.Heights.{height, place_of}
 use Rattle.expression_parser.specs.declared.problem.Problem.{Problem}
 use Rattle.expression_parser.specs.declared.problem.Problem.TheVariants.{Unexpected, TooHigh}
-use Rattle.expression_parser.specs.Grammar.{level, loosest, unary}
+use Rattle.expression_parser.specs.Grammar.{operator_of, level, loosest, unary}
 
 -- what was read and the tokens behind it, or what is wrong and the tokens from there on
 abbrev pub Outcome : Type 0 → Type 0
@@ -198,26 +197,7 @@ unfoldable pub unary_of : ℕ → (inner operand : List Token → Outcome Tree) 
 unary_of room inner operand [] = Err (Unexpected, [])
 unary_of room inner operand (x ∷ m) = unless (why_not room (least x.kind)) (x ∷ m) (unary_at room inner operand x m)
 
--- the operator that a sign is
-abbrev pub operator_of : Sign → Option Operator
-operator_of signs.Plus = Some operators.Add
-operator_of signs.Minus = Some operators.Subtract
-operator_of signs.Star = Some operators.Multiply
-operator_of signs.Slash = Some operators.Divide
-operator_of signs.Percent = Some operators.Remainder
-operator_of signs.Equal = Some operators.Equal
-operator_of signs.NotEqual = Some operators.NotEqual
-operator_of signs.Less = Some operators.Less
-operator_of signs.LessOrEqual = Some operators.LessOrEqual
-operator_of signs.Greater = Some operators.Greater
-operator_of signs.GreaterOrEqual = Some operators.GreaterOrEqual
-operator_of signs.Ampersand = Some operators.And
-operator_of signs.Bar = Some operators.Or
-operator_of signs.Caret = Some operators.Xor
-operator_of signs.DoubleAmpersand = Some operators.AndAlso
-operator_of signs.DoubleBar = Some operators.OrElse
-operator_of other = None
-
+-- the operator that a token is
 abbrev pub operator_at : Kind → Option Operator
 operator_at (kinds.Sign s) = operator_of s
 operator_at (kinds.Name bytes) = None

@@ -4,5 +4,10 @@
 #![tactic(auto)]
 
 mod problem;
+mod sign;
+mod stopped;
+mod token;
 
 pub use problem::Problem;
+pub use stopped::{Read, Stopped};
+pub use token::{begins_data_type, data_type, expect, identifier, text};
