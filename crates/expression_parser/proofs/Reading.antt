@@ -134,7 +134,7 @@ module _ {A C : Type 0} (W1 : A → Phrase) (Fits1 : A → Type 0) (F1 : A → T
       begun = begun_two p g.s h.s h.x a g.here h.begun;
     }
 
-    bad_one : (w r : List Token) (p : Problem) → Bad W1 Fits1 F1 w p r → Bad (Then W1 W2) Fits2 F2 w p r
+    pub bad_one : (w r : List Token) (p : Problem) → Bad W1 Fits1 F1 w p r → Bad (Then W1 W2) Fits2 F2 w p r
     bad_one w r p h = record {
       s = h.s;
       x = h.x;

@@ -1,2 +1,11 @@
 pub mod Targets
 pub mod Turns
+pub mod Made
+pub mod Heads
+pub mod Types
+pub mod Declarations
+pub mod Assignments
+pub mod Lists
+pub mod Leaders
+pub mod Names
+pub mod Headings

@@ -22,6 +22,7 @@ use Rattle.secrec_ast.specs.Tree.{Tree, number, variable, index, binary}
 use Rattle.secrec_ast.specs.Statements.{DeclarationTree, TargetTree, AssignmentTree, StartTree, starts_with_nothing, starts_with_declaration, starts_with_assignment, StepTree, steps_by_nothing, steps_by_assignment, steps_by_expression, StatementTree, StatementTrees, block, empty, branch, choice, while_loop, do_loop, for_loop, breaks, continues, returns, assertion, declaration, assignment, evaluation, none, also}
 use Rattle.secrec_ast.specs.Programs.{BlockTree, FunctionTree, ItemTree, imports, kind, domain, defines, ProgramTree}
 use Rattle.secrec_ast.specs.Heights.{program_height}
+use Rattle.secrec_parser.specs.Sugar.{updated}
 use Rattle.expression_parser.specs.Phrases.{Phrase, nothing, one_at, one, sign_at, sign, ◌then◌}
 use Rattle.expression_parser.specs.Grammar.{IsDataType, IsExpression, loosest}
 
@@ -36,10 +37,14 @@ abbrev pub optional : {A : Type 0} → (A → Phrase) → Option A → Phrase
 optional P None ts = nothing ts
 optional P (Some a) ts = P a ts
 
--- behind the first of a list, each with a comma in front
-abbrev pub AreMore : {A : Type 0} → (A → Phrase) → List A → Phrase
-AreMore P [] ts = nothing ts
-AreMore P (a ∷ more) ts = (sign Comma then P a then AreMore P more) ts
+-- one after another
+abbrev pub AreAll : {A : Type 0} → (A → Phrase) → List A → Phrase
+AreAll P [] ts = nothing ts
+AreAll P (a ∷ more) ts = (P a then AreAll P more) ts
+
+-- with a comma in front
+abbrev pub comma_and : {A : Type 0} → (A → Phrase) → A → Phrase
+comma_and P a ts = (sign Comma then P a) ts
 
 -- Types
 
@@ -80,14 +85,6 @@ bracketed e ts = (sign LeftBracket then IsExpression loosest e then sign RightBr
 abbrev pub IsTarget : TargetTree → Phrase
 IsTarget t ts = (identifier t.variable then optional bracketed t.index) ts
 
--- a target as an expression
-abbrev pub held_in : Identifier → Option Tree → Tree
-held_in x None = variable x.place x.text
-held_in x (Some e) = index x.place (variable x.place x.text) e
-
-abbrev pub held : TargetTree → Tree
-held t = held_in t.variable t.index
-
 -- the signs that join an operator and an assignment
 abbrev pub compound : Operator → Phrase
 compound Add ts = sign PlusAssign ts
@@ -102,10 +99,6 @@ abbrev pub stepping : Operator → Phrase
 stepping Add ts = sign Increment ts
 stepping Subtract ts = sign Decrement ts
 stepping other ts = ⊥
-
--- the operator between what the target holds and this
-abbrev pub updated : TargetTree → Operator → Tree → Tree
-updated t op e = binary t.variable.place op (held t) e
 
 -- What a target gets. `x op= y` is the tree of `x = x op y`, y being the whole right operand; `x++` is that of
 -- `x = x + 1` and `x--` that of `x = x - 1`, the 1 at the place of the x.
@@ -130,6 +123,11 @@ IsStep steps_by_nothing ts = nothing ts
 IsStep (steps_by_assignment a) ts = IsAssignment a ts
 IsStep (steps_by_expression e) ts = IsExpression loosest e ts
 
+-- the parentheses of a `for`
+abbrev pub heading : StartTree → Option Tree → StepTree → Phrase
+heading a e b ts =
+    (sign LeftParenthesis then IsStart a then sign Semicolon then optional (IsExpression loosest) e then sign Semicolon then IsStep b then sign RightParenthesis) ts
+
 -- no `if` at its end waits for an `else`
 abbrev pub Closed : StatementTree → Type 0
 Closed (branch p e s) = ⊥
@@ -150,8 +148,7 @@ abbrev mutual
   IsStatement inside (while_loop p e s) ts = (sign_at p While then parenthesised e then IsStatement true s) ts
   IsStatement inside (do_loop p s e) ts =
       (sign_at p Do then IsStatement true s then sign While then parenthesised e then sign Semicolon) ts
-  IsStatement inside (for_loop p a e b s) ts =
-      (sign_at p For then sign LeftParenthesis then IsStart a then sign Semicolon then optional (IsExpression loosest) e then sign Semicolon then IsStep b then sign RightParenthesis then IsStatement true s) ts
+  IsStatement inside (for_loop p a e b s) ts = (sign_at p For then heading a e b then IsStatement true s) ts
   IsStatement inside (breaks p) ts = (inside ≡ true) × (sign_at p Break then sign Semicolon) ts
   IsStatement inside (continues p) ts = (inside ≡ true) × (sign_at p Continue then sign Semicolon) ts
   IsStatement inside (returns p e) ts = (sign_at p Return then optional (IsExpression loosest) e then sign Semicolon) ts
@@ -176,7 +173,7 @@ IsDomainVariable v ts = (sign DomainWord then identifier v.variable then optiona
 abbrev pub IsTemplate : List DomainVariable → Phrase
 IsTemplate [] ts = nothing ts
 IsTemplate (v ∷ more) ts =
-    (length more < 4) × (sign Template then sign Less then IsDomainVariable v then AreMore IsDomainVariable more then sign Greater) ts
+    (length more < 4) × (sign Template then sign Less then IsDomainVariable v then AreAll (comma_and IsDomainVariable) more then sign Greater) ts
 
 abbrev pub IsResult : ResultType → Phrase
 IsResult results.Void ts = sign Void ts
@@ -187,7 +184,7 @@ IsParameter p ts = (IsType p.declared then identifier p.variable) ts
 
 abbrev pub AreParameters : List Parameter → Phrase
 AreParameters [] ts = nothing ts
-AreParameters (p ∷ more) ts = (IsParameter p then AreMore IsParameter more) ts
+AreParameters (p ∷ more) ts = (IsParameter p then AreAll (comma_and IsParameter) more) ts
 
 abbrev pub IsBlock : BlockTree → Phrase
 IsBlock b ts = (sign_at b.place LeftBrace then AreStatements false b.statements then sign RightBrace) ts
@@ -204,10 +201,6 @@ IsItem (kind x) ts = (sign KindWord then identifier x then sign Semicolon) ts
 IsItem (domain x k) ts = (sign DomainWord then identifier x then identifier k then sign Semicolon) ts
 IsItem (defines f) ts = IsFunction f ts
 
-abbrev pub AreItems : List ItemTree → Phrase
-AreItems [] ts = nothing ts
-AreItems (i ∷ items) ts = (IsItem i then AreItems items) ts
-
 -- a program's end is the place of the end of its text, which is a token
 abbrev pub IsProgram : ProgramTree → Phrase
-IsProgram p ts = (AreItems p.items then one_at p.end End) ts
+IsProgram p ts = (AreAll IsItem p.items then one_at p.end End) ts

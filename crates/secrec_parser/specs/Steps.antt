@@ -31,7 +31,7 @@ use Rattle.secrec_parser.specs.declared.assignment.Update.{Update}
 use Rattle.secrec_parser.specs.declared.assignment.Update.TheVariants as updates
 use Rattle.expression_parser.specs.Steps.{Outcome, ◌>>=◌, expect, identifier, data_type, data_type_of, operator_at, at_most}
 use Rattle.expression_parser.specs.Grammar.{loosest}
-use Rattle.secrec_parser.specs.Grammar.{held, updated}
+use Rattle.secrec_parser.specs.Sugar.{updated}
 
 -- Single tokens
 
@@ -231,12 +231,9 @@ abbrev pub name_leader : Kind → Leader
 name_leader (kinds.Name text) = leaders.Name
 name_leader other = leaders.Expression
 
-abbrev pub has_some : Option DataType → Bool
-has_some None = false
-has_some (Some t) = true
-
+-- whether a token is the type of elements
 abbrev pub is_type : Token → Bool
-is_type x = has_some (data_type_of x)
+is_type x = is_sign signs.Uint64 x || is_sign signs.Uint x || is_sign signs.Bool x
 
 -- what a statement that begins with a token is, as far as the token tells
 abbrev pub leader_of : Bool → Token → Leader

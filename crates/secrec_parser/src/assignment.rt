@@ -4,15 +4,15 @@ ghost use Rattle.std.specs.Prelude.{◌≡◌, ◌<◌, ◌≤◌, length, IfOk,
 ghost use Rattle.secrec_ast.specs.Tree.{expression};
 ghost use Rattle.secrec_ast.specs.Statements.{assignment_tree, optional, target_tree};
 ghost use Rattle.secrec_ast.specs.Heights.{height, optional_height, target_height};
-ghost use Rattle.secrec_parser.specs.Grammar.{held, updated};
+ghost use Rattle.secrec_parser.specs.Sugar.{held, updated};
 ghost use Rattle.secrec_parser.specs.Steps.{action, assigned, assignment_step, element_target, is_update, least_height, target_index, target_of, update_of, value_by};
-ghost use Rattle.secrec_parser.specs.Given.{Gives, action_tree};
+ghost use Rattle.expression_parser.specs.Given.{Gives};
+ghost use Rattle.secrec_parser.specs.Given.{action_tree};
 
 use crate::declaration::operand;
 use crate::expression::expression;
-use crate::problem::{Read, Stopped};
-use crate::tokens::{at_sign, expect, take_name};
-use expression_parser::Problem;
+use crate::tokens::at_sign;
+use expression_parser::{Problem, Read, Stopped, expect, identifier};
 use secrec_ast::{Assignment, Expression, Identifier, Operator, Target};
 use secrec_lexer::{Sign, Token};
 use std::alloc::{AllocError, Global};
@@ -190,7 +190,7 @@ pub fn assignment<'a>(alloc: Global, tokens: &'a [Token], room: u8) -> Read<'a, 
     ensures step { Gives (λ x. (assignment_tree x.0, x.1.now)) result (assignment_step room tokens.now) }
     ensures shorter { IfOk result (λ x. length x.1.now < length tokens.now) }
 {
-    let (variable, rest) = take_name(alloc, tokens)?;
+    let (variable, rest) = identifier(alloc, tokens)?;
     let ((index, height), rest) = target_index(alloc, rest, room)?;
     assigned(alloc, Target { variable, index }, height + 1, rest, room)
 }

@@ -4,13 +4,12 @@ ghost use Rattle.std.specs.Prelude.{◌≡◌, ◌<◌, ◌≤◌, length, IfOk}
 ghost use Rattle.secrec_ast.specs.Tree.{expression};
 ghost use Rattle.secrec_ast.specs.Statements.{optional, declaration_tree};
 ghost use Rattle.secrec_parser.specs.Steps.{declaration_step, initialiser, operand, optional_operand, parenthesised, size};
-ghost use Rattle.secrec_parser.specs.Given.{Gives};
+ghost use Rattle.expression_parser.specs.Given.{Gives};
 
 use crate::expression::expression;
-use crate::problem::{Read, Stopped};
-use crate::tokens::{at_sign, expect, take_name};
+use crate::tokens::at_sign;
 use crate::types::declared_type;
-use expression_parser::Problem;
+use expression_parser::{Problem, Read, Stopped, expect, identifier};
 use secrec_ast::{Declaration, Expression};
 use secrec_lexer::{Sign, Token};
 use std::alloc::Global;
@@ -89,7 +88,7 @@ pub fn declaration<'a>(alloc: Global, tokens: &'a [Token], room: u8) -> Read<'a,
     ensures shorter { IfOk result (λ x. length x.1.now < length tokens.now) }
 {
     let (declared, rest) = declared_type(alloc, tokens)?;
-    let (variable, rest) = take_name(alloc, rest)?;
+    let (variable, rest) = identifier(alloc, rest)?;
     let (size, rest) = size(alloc, rest, room)?;
     let (value, rest) = initialiser(alloc, rest, room)?;
     let declaration = Declaration {

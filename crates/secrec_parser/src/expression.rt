@@ -3,11 +3,19 @@ ghost use Rattle.secrec_ast.specs.Tree.{expression};
 ghost use Rattle.secrec_ast.specs.Heights.{height};
 ghost use Rattle.expression_parser.specs.Steps.{at_most};
 ghost use Rattle.expression_parser.specs.Grammar.{loosest};
-ghost use Rattle.secrec_parser.specs.Given.{Gives};
+ghost use Rattle.expression_parser.specs.Given.{Gives};
 
-use crate::problem::{Parsed, Read, Stopped};
+use expression_parser::{Read, Stopped};
 use secrec_lexer::Token;
+use secrec_ast::Expression;
 use std::alloc::Global;
+
+/// Temporary.
+#[derive(Drop)]
+pub struct Parsed {
+    pub tree: Expression,
+    pub height: u8,
+}
 
 pub fn expression<'a>(_alloc: Global, _tokens: &'a [Token], _room: u8) -> Read<'a, Parsed>
     ensures step { Gives (λ x. (expression x.0.tree, x.1.now)) result (at_most _room loosest _tokens.now) }

@@ -3,12 +3,12 @@
 ghost use Rattle.std.specs.Prelude.{◌≡◌, ◌<◌, ◌≤◌, [], ◌∷◌, length, map, IfOk};
 ghost use Rattle.secrec_ast.specs.Programs.{block_tree, function_tree};
 ghost use Rattle.secrec_parser.specs.Steps.{body, comma_then, constraint, domain_variable, function_step, listed, no_comma, no_more_variables, parameter, parameter_list, parameters, result_type, template};
-ghost use Rattle.secrec_parser.specs.Given.{Gives};
+ghost use Rattle.expression_parser.specs.Given.{Gives};
 
-use crate::problem::Read;
 use crate::statement::braced;
-use crate::tokens::{at_sign, expect, take_name};
+use crate::tokens::at_sign;
 use crate::types::declared_type;
+use expression_parser::{Read, expect, identifier};
 use secrec_ast::{Block, DomainVariable, Function, Identifier, Parameter, ResultType};
 use secrec_lexer::{Sign, Token};
 use std::alloc::Global;
@@ -25,7 +25,7 @@ fn constraint<'a>(alloc: Global, tokens: &'a [Token]) -> Read<'a, Option<Identif
         return Ok((None, tokens));
     }
     let (_, rest) = expect(Sign::Colon, tokens)?;
-    let (kind, rest) = take_name(alloc, rest)?;
+    let (kind, rest) = identifier(alloc, rest)?;
     Ok((Some(kind), rest))
 }
 
@@ -35,7 +35,7 @@ fn domain_variable<'a>(alloc: Global, tokens: &'a [Token]) -> Read<'a, DomainVar
     ensures shorter { IfOk result (λ x. length x.1.now < length tokens.now) }
 {
     let (_, rest) = expect(Sign::Domain, tokens)?;
-    let (variable, rest) = take_name(alloc, rest)?;
+    let (variable, rest) = identifier(alloc, rest)?;
     let (kind, rest) = constraint(alloc, rest)?;
     Ok((DomainVariable { variable, kind }, rest))
 }
@@ -98,7 +98,7 @@ fn parameter<'a>(alloc: Global, tokens: &'a [Token]) -> Read<'a, Parameter>
     ensures shorter { IfOk result (λ x. length x.1.now < length tokens.now) }
 {
     let (declared, rest) = declared_type(alloc, tokens)?;
-    let (variable, rest) = take_name(alloc, rest)?;
+    let (variable, rest) = identifier(alloc, rest)?;
     Ok((Parameter { declared, variable }, rest))
 }
 
@@ -165,7 +165,7 @@ pub fn function<'a>(alloc: Global, tokens: &'a [Token], room: u8) -> Read<'a, Fu
 {
     let (variables, rest) = template(alloc, tokens)?;
     let (result, rest) = result_type(alloc, rest)?;
-    let (function, rest) = take_name(alloc, rest)?;
+    let (function, rest) = identifier(alloc, rest)?;
     let (parameters, rest) = parameter_list(alloc, rest)?;
     let (body, rest) = body(alloc, rest, room)?;
     let function = Function {

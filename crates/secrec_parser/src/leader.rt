@@ -2,9 +2,7 @@
 
 ghost use Rattle.std.specs.Prelude.{◌≡◌};
 ghost use Rattle.secrec_parser.specs.Steps.{leader_of, least, is_type, name_leader};
-ghost use Rattle.expression_parser.specs.Steps.{data_type_of};
 
-use secrec_ast::DataType;
 use secrec_lexer::{Kind, Sign, Token};
 
 /// What a statement is, as far as its first token tells.
@@ -27,25 +25,11 @@ pub enum Leader {
     Expression,
 }
 
-/// The type of elements that a token names.
-pub fn data_type_of(token: &Token) -> Option<DataType>
-    ensures { result ≡ data_type_of token.now }
-{
-    if token.is(Sign::Uint64) {
-        Some(DataType::Uint64)
-    } else if token.is(Sign::Uint) {
-        Some(DataType::Uint64)
-    } else if token.is(Sign::Bool) {
-        Some(DataType::Bool)
-    } else {
-        None
-    }
-}
-
+/// Whether a token is the type of elements.
 pub fn is_type(token: &Token) -> bool
     ensures { result ≡ is_type token.now }
 {
-    data_type_of(token).is_some()
+    token.is(Sign::Uint64) || token.is(Sign::Uint) || token.is(Sign::Bool)
 }
 
 /// What a statement is that begins with a token, inside a loop or not.

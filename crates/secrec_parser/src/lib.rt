@@ -6,7 +6,6 @@ mod declaration;
 mod expression;
 mod function;
 mod leader;
-mod problem;
 mod program;
 mod simple;
 mod statement;

@@ -3,12 +3,11 @@
 ghost use Rattle.std.specs.Prelude.{◌≡◌, ◌<◌, ◌≤◌, [], length, map, IfOk};
 ghost use Rattle.secrec_ast.specs.Programs.{item_tree, program_tree};
 ghost use Rattle.secrec_parser.specs.Steps.{at_end, domain_item, item, item_step, listed, named, program};
-ghost use Rattle.secrec_parser.specs.Given.{Gives};
+ghost use Rattle.expression_parser.specs.Given.{Gives};
 
 use crate::function::function;
-use crate::problem::{Read, Stopped};
-use crate::tokens::{at_end, expect, place_at, take_name};
-use expression_parser::Problem;
+use crate::tokens::{at_end, place_at};
+use expression_parser::{Problem, Read, Stopped, expect, identifier};
 use secrec_ast::{Identifier, Item, Program};
 use secrec_lexer::{Sign, Token};
 use std::alloc::Global;
@@ -18,7 +17,7 @@ fn named<'a>(alloc: Global, tokens: &'a [Token]) -> Read<'a, Identifier>
     ensures step { Gives (λ x. (x.0, x.1.now)) result (named tokens.now) }
     ensures shorter { IfOk result (λ x. length x.1.now < length tokens.now) }
 {
-    let (name, rest) = take_name(alloc, tokens)?;
+    let (name, rest) = identifier(alloc, tokens)?;
     let (_, rest) = expect(Sign::Semicolon, rest)?;
     Ok((name, rest))
 }
@@ -29,8 +28,8 @@ fn domain<'a>(alloc: Global, tokens: &'a [Token]) -> Read<'a, Item>
     ensures step { Gives (λ x. (item_tree x.0, x.1.now)) result (domain_item tokens.now) }
     ensures shorter { IfOk result (λ x. length x.1.now < length tokens.now) }
 {
-    let (domain, rest) = take_name(alloc, tokens)?;
-    let (kind, rest) = take_name(alloc, rest)?;
+    let (domain, rest) = identifier(alloc, tokens)?;
+    let (kind, rest) = identifier(alloc, rest)?;
     let (_, rest) = expect(Sign::Semicolon, rest)?;
     Ok((Item::Domain(domain, kind), rest))
 }

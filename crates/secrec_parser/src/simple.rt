@@ -3,14 +3,14 @@
 ghost use Rattle.std.specs.Prelude.{◌≡◌, ◌<◌, ◌≤◌, length, IfOk};
 ghost use Rattle.secrec_ast.specs.Statements.{optional, start_tree, statement, step_tree};
 ghost use Rattle.secrec_parser.specs.Steps.{action_statement, assert_step, declaration_statement, declares, follows_name, heading, last_part, last_step, name_statement, only_declares, return_step, start_part, start_step, test_part};
-ghost use Rattle.secrec_parser.specs.Given.{Gives, heading_parts};
+ghost use Rattle.expression_parser.specs.Given.{Gives};
+ghost use Rattle.secrec_parser.specs.Given.{heading_parts};
 
 use crate::assignment::{Action, assignment, assignment_or_expression, update_of};
 use crate::declaration::{declaration, optional_operand, parenthesised};
 use crate::leader::is_type;
-use crate::problem::{Read, Stopped};
-use crate::tokens::{at_sign, expect, operator_of};
-use expression_parser::Problem;
+use crate::tokens::{at_sign, operator_of};
+use expression_parser::{Problem, Read, Stopped, expect};
 use sc_text::Span;
 use secrec_ast::{Expression, ForStart, ForStep, Statement};
 use secrec_lexer::{Kind, Sign, Token};

@@ -4,17 +4,16 @@ ghost use Rattle.std.specs.Prelude.{◌≡◌, ◌-◌, ◌<◌, ◌≤◌, true
 ghost use Rattle.secrec_ast.specs.Tree.{expression};
 ghost use Rattle.secrec_ast.specs.Statements.{statement};
 ghost use Rattle.secrec_parser.specs.Steps.{braced, do_step, else_step, for_step, if_step, least, led, statement_at_most, while_step};
-ghost use Rattle.secrec_parser.specs.Given.{Gives};
+ghost use Rattle.expression_parser.specs.Given.{Gives};
 
 use crate::declaration::parenthesised;
 use crate::leader::{Leader, leader_of};
-use crate::problem::{Read, Stopped};
 use crate::simple::{
     action_statement, assert_statement, declaration_statement, for_heading, name_statement,
     return_statement,
 };
-use crate::tokens::{at_sign, expect};
-use expression_parser::Problem;
+use crate::tokens::at_sign;
+use expression_parser::{Problem, Read, Stopped, expect};
 use sc_text::Span;
 use secrec_ast::{Expression, Statement};
 use secrec_lexer::{Sign, Token};

@@ -1,16 +1,14 @@
 // Single tokens.
 
-ghost use Rattle.std.specs.Prelude.{◌≡◌, ◌<◌, length, IfOk};
+ghost use Rattle.std.specs.Prelude.{◌≡◌, IfOk};
 ghost use Rattle.secrec_parser.specs.Steps.{at_sign, at_end, place_at};
-ghost use Rattle.expression_parser.specs.Steps.{expect, identifier, operator_at};
-ghost use Rattle.secrec_parser.specs.Given.{Gives};
+ghost use Rattle.expression_parser.specs.Steps.{operator_at};
+ghost use Rattle.expression_parser.specs.Given.{Gives};
 
-use crate::problem::{Read, Stopped};
-use expression_parser::Problem;
+use expression_parser::{Problem, Read, Stopped};
 use sc_text::Span;
-use secrec_ast::{Identifier, Operator};
+use secrec_ast::Operator;
 use secrec_lexer::{Kind, Sign, Token};
-use std::alloc::Global;
 
 /// Whether the next token is this sign.
 pub fn at_sign(sign: Sign, tokens: &[Token]) -> bool
@@ -40,41 +38,6 @@ pub fn place_at<'a>(tokens: &'a [Token]) -> Read<'a, Span>
     match tokens.split_first() {
         Some((token, _)) => Ok((token.place, tokens)),
         None => Err(Stopped::At(Problem::Unexpected, tokens)),
-    }
-}
-
-/// Takes this sign, and gives its place.
-pub fn expect<'a>(sign: Sign, tokens: &'a [Token]) -> Read<'a, Span>
-    ensures step { Gives (λ x. (x.0, x.1.now)) result (expect sign tokens.now) }
-    ensures shorter { IfOk result (λ x. length x.1.now < length tokens.now) }
-{
-    match tokens.split_first() {
-        Some((token, rest)) => {
-            if token.is(sign) {
-                Ok((token.place, rest))
-            } else {
-                Err(Stopped::At(Problem::Unexpected, tokens))
-            }
-        }
-        None => Err(Stopped::At(Problem::Unexpected, tokens)),
-    }
-}
-
-/// Takes a name.
-pub fn take_name<'a>(alloc: Global, tokens: &'a [Token]) -> Read<'a, Identifier>
-    ensures step { Gives (λ x. (x.0, x.1.now)) result (identifier tokens.now) }
-    ensures shorter { IfOk result (λ x. length x.1.now < length tokens.now) }
-{
-    let Some((token, rest)) = tokens.split_first() else {
-        return Err(Stopped::At(Problem::Unexpected, tokens));
-    };
-    match &token.kind {
-        Kind::Name(text) => {
-            let text = text.copy(alloc)?;
-            let place = token.place;
-            Ok((Identifier { place, text }, rest))
-        }
-        _ => Err(Stopped::At(Problem::Unexpected, tokens)),
     }
 }
 

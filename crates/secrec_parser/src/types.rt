@@ -2,29 +2,13 @@
 
 ghost use Rattle.std.specs.Prelude.{◌≡◌, ◌<◌, ◌≤◌, length, IfOk};
 ghost use Rattle.secrec_parser.specs.Steps.{brackets, declared_type, dimension, optional_domain, zero_or_one};
-ghost use Rattle.expression_parser.specs.Steps.{data_type};
-ghost use Rattle.secrec_parser.specs.Given.{Gives};
+ghost use Rattle.expression_parser.specs.Given.{Gives};
 
-use crate::leader::data_type_of;
-use crate::problem::{Read, Stopped};
-use crate::tokens::{at_sign, expect, place_at};
-use expression_parser::Problem;
-use secrec_ast::{DataType, DeclaredType, Domain, Identifier};
+use crate::tokens::{at_sign, place_at};
+use expression_parser::{Problem, Read, Stopped, data_type, expect};
+use secrec_ast::{DeclaredType, Domain, Identifier};
 use secrec_lexer::{Kind, Sign, Token};
 use std::alloc::Global;
-
-fn element<'a>(tokens: &'a [Token]) -> Read<'a, DataType>
-    ensures step { Gives (λ x. (x.0, x.1.now)) result (data_type tokens.now) }
-    ensures shorter { IfOk result (λ x. length x.1.now < length tokens.now) }
-{
-    let Some((token, rest)) = tokens.split_first() else {
-        return Err(Stopped::At(Problem::Unexpected, tokens));
-    };
-    match data_type_of(token) {
-        Some(found) => Ok((found, rest)),
-        None => Err(Stopped::At(Problem::Unexpected, tokens)),
-    }
-}
 
 /// `public`, a name, or nothing.
 fn optional_domain<'a>(alloc: Global, tokens: &'a [Token]) -> Read<'a, Domain>
@@ -103,7 +87,7 @@ pub fn declared_type<'a>(alloc: Global, tokens: &'a [Token]) -> Read<'a, Declare
 {
     let (place, rest) = place_at(tokens)?;
     let (domain, rest) = optional_domain(alloc, rest)?;
-    let (element, rest) = element(rest)?;
+    let (element, rest) = data_type(rest)?;
     let (array, rest) = dimension(rest)?;
     let declared = DeclaredType {
         place,
