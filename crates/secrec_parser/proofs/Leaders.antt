@@ -117,7 +117,7 @@ expression_family inside k p n e = cc
 pub front : {P Q : Phrase} (s m m2 : List Token) (x : Token) (v : (P then Q) s) → s ++ m ≡ x ∷ m2 → v.0 ++ (v.1 ++ m) ≡ x ∷ m2
 front s m m2 x v eq = sym (append_assoc v.0 v.1 m) ∙ ap (λ l. l ++ m) (sym v.2) ∙ eq
 
-led_kind : (p : Span) (k : Sign) (Q : Phrase) (s m m2 : List Token) (x : Token) → (sign_at p k then Q) s → s ++ m ≡ x ∷ m2 → kinds.Sign k ≡ x.kind
+pub led_kind : (p : Span) (k : Sign) (Q : Phrase) (s m m2 : List Token) (x : Token) → (sign_at p k then Q) s → s ++ m ≡ x ∷ m2 → kinds.Sign k ≡ x.kind
 led_kind p k Q s m m2 x v eq = head_kind s v.1 m m2 p (kinds.Sign k) x (v.2 ∙ ap (λ l. l ++ v.1) v.3) eq
 
 pub family_is : (inside : Bool) (c : StatementTree) (s m m2 : List Token) (x : Token) → IsStatement inside c s → s ++ m ≡ x ∷ m2 → family (leader_of inside x) ≡ family_of c

@@ -1,0 +1,155 @@
+-- Readings of all statements of a height, from those of a smaller one.
+use Rattle.std.proofs.Common.{◌≡◌, ℕ, zero, suc, ◌+◌, ◌-◌, ◌<◌, ◌≤◌, List, [], ◌∷◌, ◌++◌, ◌⊎◌, inl, inr, refl, sym, ap, ◌∙◌, subst, Result, Ok, Err, Bool, true, false, cond, Option, Some, None, arith}
+use Rattle.std.specs.Prelude.{nat_lt}
+use Rattle.std.proofs.lemmas.Bool.{ltb-true, ltb-false}
+use Rattle.sc_text.specs.declared.span.Span.{Span}
+use Rattle.secrec_lexer.specs.declared.sign.Sign.TheVariants as signs
+use Rattle.secrec_lexer.specs.declared.token.Kind.TheVariants as kinds
+use Rattle.secrec_lexer.specs.declared.token.Token.{Token}
+use Rattle.secrec_lexer.specs.Tokens.{is_sign, IsEnded}
+use Rattle.secrec_ast.specs.Tree.{Tree}
+use Rattle.secrec_ast.specs.Statements.{StatementTree, block, empty, branch, choice, while_loop, do_loop, for_loop, breaks, continues, returns, assertion, declaration, assignment, evaluation}
+use Rattle.secrec_ast.specs.Heights.{statement_height}
+use Rattle.expression_parser.specs.declared.problem.Problem.TheVariants.{Unexpected, TooHigh}
+use Rattle.expression_parser.specs.Phrases.{Phrase}
+use Rattle.expression_parser.specs.Steps.{Outcome, ◌>>=◌, expect}
+use Rattle.expression_parser.proofs.Reading.{Good, Bad, Reads, Stops, cons_head}
+use Rattle.expression_parser.proofs.Tokens.{good_ended, after_kind, is_sign-true, is_sign-false}
+use Rattle.secrec_parser.specs.declared.leader.Leader.{Leader}
+use Rattle.secrec_parser.specs.declared.leader.Leader.TheVariants as leaders
+use Rattle.secrec_parser.specs.Grammar.{IsStatement, Closed}
+use Rattle.secrec_parser.specs.Steps.{Inner, leader_of, least, else_step, if_step, while_step, for_step, led, statement_by, statement_step, statement_at_most}
+use Rattle.secrec_parser.specs.Steps as steps
+use Rattle.secrec_parser.proofs.Heads.{too_high}
+use Rattle.secrec_parser.proofs.Leaders.{family, family_of, family_is, least_high, leads, leads_inside, leader_at}
+use Rattle.secrec_parser.proofs.Starts.{sample, name_kind}
+use Rattle.secrec_parser.proofs.Statements.{LowStatement, Follow, break_reads, continue_reads, empty_reads, return_reads, assert_reads, if_reads}
+use Rattle.secrec_parser.proofs.Bodies.{while_reads, do_reads, for_reads, block_reads}
+use Rattle.secrec_parser.proofs.Named.{typed_reads, expression_reads, named_reads}
+
+-- a statement is read to an `else` only where no `if` waits for it
+abbrev pub Greedy : Outcome StatementTree → Type 0
+Greedy o = (c : StatementTree) (r : List Token) → IsEnded r → o ≡ Ok (c, r) → Stops (Follow c) r
+
+value_of : Outcome StatementTree → Option StatementTree
+value_of (Ok o) = Some o.0
+value_of (Err e) = None
+
+same_value : (a b : StatementTree) (r s : List Token) → Ok {E = _} (a, r) ≡ Ok (b, s) → (a ≡ b) × (r ≡ s)
+same_value a b r s e = (cc, cc)
+
+greedy_bind : {A : Type 0} (o : Outcome A) (k : A × List Token → Outcome StatementTree) → ((a : A) (r : List Token) → o ≡ Ok (a, r) → Greedy (k (a, r))) → Greedy (o >>= k)
+greedy_bind (Ok o) k go = go o.0 o.1 refl
+greedy_bind (Err e) k go = λ c r en (f : Err e ≡ Ok (c, r)). cc
+
+greedy_made : (o : Outcome StatementTree) (f : StatementTree → StatementTree) → ((s : StatementTree) → Closed s → Closed (f s)) → Greedy o → Greedy (o >>= λ s. Ok (f s.0, s.1))
+greedy_made (Err e) f up g = λ c r en (q : Err e ≡ Ok (c, r)). cc
+greedy_made (Ok o) f up g = λ c r en q.
+    let e = same_value (f o.0) c o.1 r q in
+    subst (λ z. Stops (Follow z) r) e.0 (subst (Stops (Follow (f o.0))) e.1 (closed o.1 (g o.0 o.1 (subst IsEnded (sym e.1) en) refl)))
+  where
+    closed : (m : List Token) → Stops (Follow o.0) m → Stops (Follow (f o.0)) m
+    closed [] st = st
+    closed (y ∷ m) st = λ k. up o.0 (st k)
+
+-- statements that no `else` can follow wrongly
+trivial : (c : StatementTree) → (family_of c ≡ 2 → ⊥) → (family_of c ≡ 3 → ⊥) → (family_of c ≡ 5 → ⊥) → Closed c
+trivial (branch p e s) i w f = absurd (i refl)
+trivial (choice p e s t) i w f = absurd (i refl)
+trivial (while_loop p e s) i w f = absurd (w refl)
+trivial (for_loop p a e b s) i w f = absurd (f refl)
+trivial c i w f = tt
+
+all_closed : (c : StatementTree) (r : List Token) → IsEnded r → Closed c → Stops (Follow c) r
+all_closed c [] en k = cc
+all_closed c (y ∷ r) en k = λ e. k
+
+module _ (room : ℕ) (inside : Bool) (x : Token) (m : List Token) (en : IsEnded (x ∷ m)) (o : Outcome StatementTree) (reads : Reads (IsStatement inside) (LowStatement room) Follow (x ∷ m) o) where
+  -- the family of what was read
+  read_family : (c : StatementTree) (r : List Token) → o ≡ Ok (c, r) → family (leader_of inside x) ≡ family_of c
+  read_family c r e =
+      let g : Good (IsStatement inside) (LowStatement room) Follow (x ∷ m) c r = subst (Reads (IsStatement inside) (LowStatement room) Follow (x ∷ m)) e reads in
+      family_is inside c g.s r m x g.here (sym g.split)
+
+  pub trivial_greedy : (n : ℕ) → family (leader_of inside x) ≡ n → (n ≡ 2 → ⊥) → (n ≡ 3 → ⊥) → (n ≡ 5 → ⊥) → Greedy o
+  trivial_greedy n f i w t c r enr e =
+      let g = sym (read_family c r e) ∙ f in
+      all_closed c r enr (trivial c (λ k. i (sym g ∙ k)) (λ k. w (sym g ∙ k)) (λ k. t (sym g ∙ k)))
+
+else_greedy : (inner : Inner) (p : Span) (e : Tree) (s : StatementTree) (w : List Token) → ((w : List Token) → IsEnded w → Greedy (inner w)) → IsEnded w → Greedy (else_step inner p e s w)
+else_greedy inner p e s [] gi en = cc
+else_greedy inner p e s (x ∷ m) gi en = go (is_sign signs.Else x) refl
+  where
+    go : (b : Bool) → is_sign signs.Else x ≡ b → Greedy (cond b (expect signs.Else (x ∷ m) >>= λ a. inner a.1 >>= λ t. Ok (choice p e s t.0, t.1)) (Ok (branch p e s, x ∷ m)))
+    go true t =
+        greedy_bind (expect signs.Else (x ∷ m)) (λ a. inner a.1 >>= λ t. Ok (choice p e s t.0, t.1)) (λ a r f.
+        greedy_made (inner r) (λ t. choice p e s t) (λ t c. c) (gi r (behind a r f)))
+      where
+        behind : (a : Span) (r : List Token) → expect signs.Else (x ∷ m) ≡ Ok (a, r) → IsEnded r
+        behind a r f =
+            let g : Ok (x.place, m) ≡ Ok (a, r) = sym (ap (λ b. cond b (Ok (x.place, m)) (Err (Unexpected, x ∷ m))) t) ∙ f in
+            let h : m ≡ r = cc in
+            subst IsEnded h (after_kind x m (kinds.Sign signs.Else) en (is_sign-true signs.Else x t) refl)
+    go false t = λ c r enr f.
+        let e2 = same_value (branch p e s) c (x ∷ m) r f in
+        subst (λ z. Stops (Follow z) r) e2.0 (subst (Stops (Follow (branch p e s))) e2.1 (λ k. absurd (is_sign-false signs.Else x t k)))
+
+module _ (room : ℕ) (lower : Bool → Inner)
+    (reads_lower : 1 ≤ room → (inside : Bool) (w : List Token) → IsEnded w → Reads (IsStatement inside) (LowStatement (room - 1)) Follow w (lower inside w))
+    (greedy_lower : 1 ≤ room → (inside : Bool) (w : List Token) → IsEnded w → Greedy (lower inside w))
+    (inside : Bool) (x : Token) (m : List Token) (en : IsEnded (x ∷ m))
+  where
+    by_reads : (l : Leader) → leader_of inside x ≡ l → least l ≤ room → Reads (IsStatement inside) (LowStatement room) Follow (x ∷ m) (statement_by l room lower inside x m)
+    unfolding led
+    by_reads leaders.Block e low =
+        block_reads room low inside (lower inside) (reads_lower low inside) x m (leads inside x leaders.Block signs.LeftBrace e refl) (ap family e) en
+    by_reads leaders.Empty e low = empty_reads inside room low x m (leads inside x leaders.Empty signs.Semicolon e refl) (ap family e) en
+    by_reads leaders.If e low =
+        if_reads room low inside (lower inside) (reads_lower (omega (arith, low)) inside) (λ w r s enw enr f. greedy_lower (omega (arith, low)) inside w enw s r enr f) x m (leads inside x leaders.If signs.If e refl) (ap family e) en
+    by_reads leaders.While e low =
+        while_reads room low inside (lower true) (reads_lower (omega (arith, low)) true) x m (leads inside x leaders.While signs.While e refl) (ap family e) en
+    by_reads leaders.DoWhile e low =
+        do_reads room low inside (lower true) (reads_lower (omega (arith, low)) true) x m (leads inside x leaders.DoWhile signs.Do e refl) (ap family e) en
+    by_reads leaders.For e low =
+        for_reads room low inside (lower true) (reads_lower (omega (arith, low)) true) x m (leads inside x leaders.For signs.For e refl) (ap family e) en
+    by_reads leaders.Break e low =
+        let k = leads inside x leaders.Break signs.Break e refl in
+        break_reads inside room low x m k (leads_inside inside x signs.Break leaders.Break k e (λ (f : leaders.Expression ≡ leaders.Break). cc)) (ap family e) en
+    by_reads leaders.Continue e low =
+        let k = leads inside x leaders.Continue signs.Continue e refl in
+        continue_reads inside room low x m k (leads_inside inside x signs.Continue leaders.Continue k e (λ (f : leaders.Expression ≡ leaders.Continue). cc)) (ap family e) en
+    by_reads leaders.Return e low = return_reads inside room low x m (leads inside x leaders.Return signs.Return e refl) (ap family e) en
+    by_reads leaders.Assert e low = assert_reads inside room low x m (leads inside x leaders.Assert signs.Assert e refl) (ap family e) en
+    by_reads leaders.Declaration e low = typed_reads room low inside x m e en
+    by_reads leaders.Name e low = behind m en
+      where
+        behind : (m : List Token) → IsEnded (x ∷ m) → Reads (IsStatement inside) (LowStatement room) Follow (x ∷ m) (steps.name_statement room (x ∷ m) m)
+        behind [] en = let k = name_kind inside x.kind x.place e in let f = after_kind x [] (kinds.Name k.0) en k.1 refl in cc
+        behind (y ∷ n) en = let k = name_kind inside x.kind x.place e in named_reads inside x y n k.0 k.1 (ap family e) en room low
+    by_reads leaders.Expression e low = expression_reads room inside x m e en
+
+    high_reads : (l : Leader) → leader_of inside x ≡ l → room < least l → (l ≡ leaders.Expression → ⊥) → Bad (IsStatement inside) (LowStatement room) Follow (x ∷ m) TooHigh (x ∷ m)
+    high_reads l e high other =
+        too_high (IsStatement inside) (LowStatement room) Follow x m
+        (λ c s m' m2 v f st eq. let h = least_high inside c s m' m2 x v eq in let g = ap least e in omega (arith, f, h, g, high))
+        (sample inside x l e other)
+
+    no_expression : (l : Leader) → room < least l → l ≡ leaders.Expression → ⊥
+    no_expression l high e = let f = ap least e in omega (arith, f, high)
+
+    head_reads : Reads (IsStatement inside) (LowStatement room) Follow (x ∷ m) (cond (nat_lt room (least (leader_of inside x))) (Err (TooHigh, x ∷ m)) (statement_by (leader_of inside x) room lower inside x m))
+    head_reads = go (nat_lt room (least (leader_of inside x))) refl
+      where
+        go : (b : Bool) → nat_lt room (least (leader_of inside x)) ≡ b → Reads (IsStatement inside) (LowStatement room) Follow (x ∷ m) (cond b (Err (TooHigh, x ∷ m)) (statement_by (leader_of inside x) room lower inside x m))
+        go true t = let high = ltb-true room (least (leader_of inside x)) t in high_reads (leader_of inside x) refl high (no_expression (leader_of inside x) high)
+        go false t = by_reads (leader_of inside x) refl (ltb-false room (least (leader_of inside x)) t)
+
+    by_greedy : (l : Leader) → leader_of inside x ≡ l → least l ≤ room → Greedy (statement_by l room lower inside x m)
+    unfolding led if_step while_step for_step
+    by_greedy leaders.If e low =
+        greedy_bind (steps.parenthesised (room - 1) m) _ (λ a r f.
+        greedy_bind (lower inside r) _ (λ s r2 f2. λ c r3 en3 f3. else_case a r s r2 f f2 c r3 en3 f3))
+      where
+        else_case : (a : Tree) (r : List Token) (s : StatementTree) (r2 : List Token) → steps.parenthesised (room - 1) m ≡ Ok (a, r) → lower inside r ≡ Ok (s, r2) → Greedy (else_step (lower inside) x.place a s r2)
+        else_case a r s r2 f f2 = ?
+    by_greedy l e low = trivial_greedy room inside x m en (statement_by l room lower inside x m) (by_reads l e low) (family l) (ap family e) ? ? ?
