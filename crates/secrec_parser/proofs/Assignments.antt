@@ -33,7 +33,7 @@ use Rattle.secrec_parser.specs.Steps.{operand, update_of, updates_by, is_update,
 use Rattle.secrec_parser.specs.Steps as steps
 use Rattle.secrec_parser.proofs.Made.{Made, Both, reads_same, seq, made, known}
 use Rattle.secrec_parser.proofs.Heads.{nothing_reads, one_reads, unexpected, too_high, some_reads, none_reads, optional_high}
-use Rattle.secrec_parser.proofs.Types.{one_is, is_one, NoBracket, lone, identifier_reads}
+use Rattle.secrec_parser.proofs.TypeReadings.{one_is, is_one, NoBracket, lone, identifier_reads}
 use Rattle.secrec_parser.proofs.Declarations.{bind_bind, operand_reads, Before, sign_head, bracketed_reads, LowOption, clash, no_height}
 
 -- Which token does what to a target

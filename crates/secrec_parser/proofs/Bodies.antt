@@ -20,7 +20,7 @@ use Rattle.secrec_parser.specs.Grammar.{parenthesised, IsStatement, AreStatement
 use Rattle.secrec_parser.specs.Steps.{Inner, leader_of, listed, at_sign, braced, while_step, do_step, for_step}
 use Rattle.secrec_parser.specs.Steps as steps
 use Rattle.secrec_parser.proofs.Made.{Made, Both, Living, reads_same, seq, made, sign_seq, sign_end}
-use Rattle.secrec_parser.proofs.Types.{lone}
+use Rattle.secrec_parser.proofs.TypeReadings.{lone}
 use Rattle.secrec_parser.proofs.Declarations.{parenthesised_reads, last_sign_first, sign_first}
 use Rattle.secrec_parser.proofs.Lists.{listed_reads}
 use Rattle.secrec_parser.proofs.Leaders.{family, family_of}
@@ -141,11 +141,11 @@ all_down inside (s ∷ ss) ts v = (v.0, v.1, v.2, v.3, all_down inside ss v.1 v.
 pub LowStatements : ℕ → List StatementTree → Type 0
 LowStatements h ss = statement_heights (statements_of ss) ≤ h
 
-low_part : (h : ℕ) (found as : List StatementTree) (a : StatementTree) → LowStatements h (found ++ a ∷ as) → LowStatement h a
+low_part : (h : ℕ) (found zs : List StatementTree) (a : StatementTree) → LowStatements h (found ++ a ∷ zs) → LowStatement h a
 unfolding LowStatements
-low_part h [] as a f = omega (arith, f)
-low_part h (s ∷ found) as a f =
-    let g : LowStatements h (found ++ a ∷ as) = omega (arith, f) in low_part h found as a g
+low_part h [] zs a f = omega (arith, f)
+low_part h (s ∷ found) zs a f =
+    let g : LowStatements h (found ++ a ∷ zs) = omega (arith, f) in low_part h found zs a g
 
 low_more : (h : ℕ) (found : List StatementTree) (a : StatementTree) → LowStatements h found → LowStatement h a → LowStatements h (found ++ a ∷ [])
 unfolding LowStatements
@@ -174,14 +174,14 @@ module _ (h : ℕ) (inside : Bool) (inner : Inner)
   before_close a [] st = st
   before_close a (y ∷ m) st = λ k. let f : kinds.Sign signs.RightBrace ≡ kinds.Sign signs.Else = sym st ∙ k in cc
 
-  all_reads : (w : List Token) → IsEnded w → Reads (Made (λ as. [] ++ as) (AreAll (IsStatement inside))) (LowStatements h) (λ as x. Close x) w (listed (λ found w. at_sign signs.RightBrace w) inner [] w)
+  all_reads : (w : List Token) → IsEnded w → Reads (Made (λ zs. [] ++ zs) (λ zs ts. Unit {0} × AreAll (IsStatement inside) zs ts)) (LowStatements h) (λ zs x. Close x) w (listed (λ found w. at_sign signs.RightBrace w) inner [] w)
   unfolding Close LowStatements
   all_reads w en =
-      listed_reads (IsStatement inside) (LowStatement h) Follow (LowStatements h) Close (λ found w. at_sign signs.RightBrace w) inner reads_inner
+      listed_reads (IsStatement inside) (LowStatement h) Follow (LowStatements h) Close (λ ss. Unit {0}) (λ found w. at_sign signs.RightBrace w) inner reads_inner
       (low_part h) (low_more h) after_statement before_close (statement_some inside)
-      (λ found x m t a s m' m2 v eq. no_starter x signs.RightBrace (is_sign-true signs.RightBrace x t) refl (starts inside a s m' m2 x v eq))
-      (λ found x m t e. is_sign-false signs.RightBrace x t e)
-      [] w (omega arith) en
+      (λ found x m t a zs s m' m2 b v eq. no_starter x signs.RightBrace (is_sign-true signs.RightBrace x t) refl (starts inside a s m' m2 x v eq))
+      (λ found x m t e. is_sign-false signs.RightBrace x t e) (λ found x m a t b. tt)
+      [] w (omega arith) tt en
 
   abbrev pub Statements : List StatementTree → Phrase
   Statements ss ts = AreStatements inside (statements_of ss) ts
@@ -189,18 +189,18 @@ module _ (h : ℕ) (inside : Bool) (inner : Inner)
   abbrev pub Filled : List StatementTree × Unit {0} → Phrase
   Filled = Both Statements (λ ss (u : Unit {0}). sign signs.RightBrace)
 
-  statements_reads : (w : List Token) → IsEnded w → Reads Statements (LowStatements h) (λ as x. Close x) w (listed (λ found w. at_sign signs.RightBrace w) inner [] w)
+  statements_reads : (w : List Token) → IsEnded w → Reads Statements (LowStatements h) (λ zs x. Close x) w (listed (λ found w. at_sign signs.RightBrace w) inner [] w)
   statements_reads w en =
-      reads_same (Made (λ as. [] ++ as) (AreAll (IsStatement inside))) Statements (LowStatements h) (λ as x. Close x) (λ as x. Close x)
-      (λ c s v. subst (λ z. Statements z s) (sym v.1) (all_up inside v.0 s v.2))
-      (λ c s v. (c, refl, all_down inside c s v))
+      reads_same (Made (λ zs. [] ++ zs) (λ zs ts. Unit {0} × AreAll (IsStatement inside) zs ts)) Statements (LowStatements h) (λ zs x. Close x) (λ zs x. Close x)
+      (λ c s v. subst (λ z. Statements z s) (sym v.1) (all_up inside v.0 s v.2.1))
+      (λ c s v. (c, refl, (tt, all_down inside c s v)))
       (λ c m st. st) w _ (all_reads w en)
 
   -- statements and their closing brace
   pub braced_reads : (w : List Token) → IsEnded w → Reads (Made (λ (v : List StatementTree × Unit {0}). v.0) (Both (λ ss ts. AreStatements inside (statements_of ss) ts) (λ ss (u : Unit {0}). sign signs.RightBrace))) (LowStatements h) Any w (braced inner w)
   unfolding Close
   braced_reads w en =
-      seq Statements (LowStatements h) (λ as x. Close x) (λ ss (u : Unit {0}). sign signs.RightBrace) (λ ss u. ss) (LowStatements h) Any
+      seq Statements (LowStatements h) (λ zs x. Close x) (λ ss (u : Unit {0}). sign signs.RightBrace) (λ ss u. ss) (LowStatements h) Any
       (λ ss u t v f. f)
       (λ ss u t m v st. last_sign_first (λ y. y.kind ≡ kinds.Sign signs.RightBrace) signs.RightBrace t m (λ q. refl) v)
       (λ ss s v. (tt, lone signs.RightBrace, (origin, refl), λ f. f))

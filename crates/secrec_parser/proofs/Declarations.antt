@@ -30,7 +30,7 @@ use Rattle.secrec_parser.specs.Steps.{operand, at_sign, size, optional_operand, 
 use Rattle.secrec_parser.specs.Steps as steps
 use Rattle.secrec_parser.proofs.Made.{Made, Both, reads_same, seq, made, sign_seq, sign_end}
 use Rattle.secrec_parser.proofs.Heads.{nothing_reads, one_reads, unexpected, some_reads, none_reads, optional_high}
-use Rattle.secrec_parser.proofs.Types.{one_is, is_one, NoBracket, lone, type_reads, identifier_reads}
+use Rattle.secrec_parser.proofs.TypeReadings.{one_is, is_one, NoBracket, lone, type_reads, identifier_reads}
 
 pub bind_bind : {A B C : Type 0} (o : Outcome A) (f : A × List Token → Outcome B) (g : B × List Token → Outcome C) → ((o >>= f) >>= g) ≡ (o >>= λ a. f a >>= g)
 bind_bind (Ok o) f g = refl

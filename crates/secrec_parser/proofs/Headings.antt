@@ -34,7 +34,7 @@ use Rattle.secrec_parser.specs.Steps.{operand, optional_operand, is_type, is_nam
 use Rattle.secrec_parser.specs.Steps as steps
 use Rattle.secrec_parser.proofs.Made.{Made, Both, reads_same, seq, made, sign_seq, sign_end}
 use Rattle.secrec_parser.proofs.Heads.{nothing_reads, unexpected, some_reads, none_reads}
-use Rattle.secrec_parser.proofs.Types.{is_one, lone}
+use Rattle.secrec_parser.proofs.TypeReadings.{is_one, lone}
 use Rattle.secrec_parser.proofs.Declarations.{operand_reads, Before, last_sign_first, clash, LowOption, LowDeclaration, Semicolon, semicolon_free, parenthesis_free, declaration_reads, some_name, name_token}
 use Rattle.secrec_parser.proofs.Assignments.{alive_by, gets_leaf, equals_token, LowAssignment, assignment_reads, IsAction, LowAction, action_reads}
 use Rattle.secrec_parser.proofs.Leaders.{begins_type, declared_kind, front}
@@ -322,7 +322,6 @@ module _ (h : ℕ) (one : 1 ≤ h) where
               inner (Ok j) = refl
 
           joined : (assignment_step 1 (x ∷ y ∷ n) >>= λ a. Ok (starts_with_assignment a.0, a.1)) ≡ (expressions.identifier (x ∷ y ∷ n) >>= λ i. target_index 1 i.1 >>= λ j. assigned 1 (record { variable = i.0; index = j.0 }) j.1 >>= λ a. Ok (starts_with_assignment a.0, a.1))
-          unfolding assignment_step
           joined = bound (expressions.identifier (x ∷ y ∷ n))
 
       go : (b : Bool) → nat_lt h 2 ≡ b → Reads IsStart (LowStart h) Semicolon (x ∷ y ∷ n) (assignment_step h (x ∷ y ∷ n) >>= λ a. Ok (starts_with_assignment a.0, a.1))
@@ -353,12 +352,11 @@ module _ (h : ℕ) (one : 1 ≤ h) where
           (λ text (b : kinds.Sign s ≡ kinds.Name text). cc)
 
   pub start_reads : (w : List Token) → IsEnded w → Reads IsStart (LowStart h) Semicolon w (start_step h w)
-  unfolding start_step
+  unfolding start_step Choice
   start_reads [] en = cc
   start_reads (x ∷ m) en = go (is_sign signs.Semicolon x) refl
     where
       go : (b : Bool) → is_sign signs.Semicolon x ≡ b → Reads IsStart (LowStart h) Semicolon (x ∷ m) (cond b (Ok (starts_with_nothing, x ∷ m)) (Choice (declares (x ∷ m)) (x ∷ m)))
-      unfolding Choice
       go true t = nothing_reads IsStart (LowStart h) Semicolon x m starts_with_nothing refl (omega arith) only
         where
           only : (c : StartTree) (s m' m2 : List Token) → IsStart c s → Stops (Semicolon c) m' → s ++ m' ≡ x ∷ m2 → (c ≡ starts_with_nothing) × (s ≡ [])

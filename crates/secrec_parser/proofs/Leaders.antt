@@ -136,7 +136,6 @@ family_is inside (returns p e) s m m2 x v eq = family_at inside x (kinds.Sign si
 family_is inside (assertion p e) s m m2 x v eq = family_at inside x (kinds.Sign signs.Assert) 9 (led_kind p signs.Assert _ s m m2 x v eq) refl
 family_is inside (declaration d) s m m2 x v eq =
     let u = v.3 in
-    let eq2 = front u.0 (v.1 ++ m) m2 x in
     let eq1 : v.0 ++ (v.1 ++ m) ≡ x ∷ m2 = front s m m2 x v eq in
     type_family inside x.kind x.place (declared_kind d.declared u.0 (u.1 ++ (v.1 ++ m)) m2 x u.3 (sym (append_assoc u.0 u.1 (v.1 ++ m)) ∙ ap (λ l. l ++ (v.1 ++ m)) (sym u.2) ∙ eq1))
 family_is inside (assignment a) s m m2 x v eq =

@@ -2,10 +2,16 @@ pub mod Targets
 pub mod Turns
 pub mod Made
 pub mod Heads
-pub mod Types
+pub mod TypeReadings
 pub mod Declarations
 pub mod Assignments
 pub mod Lists
 pub mod Leaders
 pub mod Names
 pub mod Headings
+pub mod Starts
+pub mod Statements
+pub mod Bodies
+pub mod Named
+pub mod Rooms
+pub mod Functions

@@ -32,7 +32,7 @@ use Rattle.secrec_parser.specs.declared.leader.Leader.TheVariants as leaders
 use Rattle.secrec_parser.specs.declared.assignment.Update.{Update}
 use Rattle.secrec_parser.specs.Grammar.{IsDeclaration, IsStatement}
 use Rattle.secrec_parser.specs.Steps.{leader_of, is_type, declares, update_of, updates_by, is_operator, follows_name, only_declares, name_statement, declaration_statement, ActionTree, assigns, evaluates, action_statement}
-use Rattle.secrec_parser.proofs.Types.{is_one, lone}
+use Rattle.secrec_parser.proofs.TypeReadings.{is_one, lone}
 use Rattle.secrec_parser.proofs.Declarations.{clash, name_token}
 use Rattle.secrec_parser.proofs.Assignments.{alive_by, IsAction}
 use Rattle.secrec_parser.proofs.Leaders.{family, family_of, family_is, leader_at, front}

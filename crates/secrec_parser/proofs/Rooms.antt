@@ -3,6 +3,7 @@ use Rattle.std.proofs.Common.{◌≡◌, ℕ, zero, suc, ◌+◌, ◌-◌, ◌<�
 use Rattle.std.specs.Prelude.{nat_lt}
 use Rattle.std.proofs.lemmas.Bool.{ltb-true, ltb-false}
 use Rattle.sc_text.specs.declared.span.Span.{Span}
+use Rattle.secrec_lexer.specs.declared.sign.Sign.{Sign}
 use Rattle.secrec_lexer.specs.declared.sign.Sign.TheVariants as signs
 use Rattle.secrec_lexer.specs.declared.token.Kind.TheVariants as kinds
 use Rattle.secrec_lexer.specs.declared.token.Token.{Token}
@@ -14,14 +15,17 @@ use Rattle.expression_parser.specs.declared.problem.Problem.TheVariants.{Unexpec
 use Rattle.expression_parser.specs.Phrases.{Phrase}
 use Rattle.expression_parser.specs.Steps.{Outcome, ◌>>=◌, expect}
 use Rattle.expression_parser.proofs.Reading.{Good, Bad, Reads, Stops, cons_head}
-use Rattle.expression_parser.proofs.Tokens.{good_ended, after_kind, is_sign-true, is_sign-false}
+use Rattle.expression_parser.proofs.Tokens.{Any, good_ended, after_kind, is_sign-true, is_sign-false}
+use Rattle.expression_parser.proofs.Nodes.{Low}
 use Rattle.secrec_parser.specs.declared.leader.Leader.{Leader}
 use Rattle.secrec_parser.specs.declared.leader.Leader.TheVariants as leaders
-use Rattle.secrec_parser.specs.Grammar.{IsStatement, Closed}
+use Rattle.secrec_parser.specs.Grammar.{parenthesised, IsStatement, Closed}
 use Rattle.secrec_parser.specs.Steps.{Inner, leader_of, least, else_step, if_step, while_step, for_step, led, statement_by, statement_step, statement_at_most}
 use Rattle.secrec_parser.specs.Steps as steps
 use Rattle.secrec_parser.proofs.Heads.{too_high}
-use Rattle.secrec_parser.proofs.Leaders.{family, family_of, family_is, least_high, leads, leads_inside, leader_at}
+use Rattle.secrec_parser.proofs.Declarations.{parenthesised_reads}
+use Rattle.secrec_parser.proofs.Headings.{IsHeading, LowHeading, heading_reads}
+use Rattle.secrec_parser.proofs.Leaders.{family, family_of, family_is, least_high, keyword, leads, leads_inside}
 use Rattle.secrec_parser.proofs.Starts.{sample, name_kind}
 use Rattle.secrec_parser.proofs.Statements.{LowStatement, Follow, break_reads, continue_reads, empty_reads, return_reads, assert_reads, if_reads}
 use Rattle.secrec_parser.proofs.Bodies.{while_reads, do_reads, for_reads, block_reads}
@@ -31,12 +35,20 @@ use Rattle.secrec_parser.proofs.Named.{typed_reads, expression_reads, named_read
 abbrev pub Greedy : Outcome StatementTree → Type 0
 Greedy o = (c : StatementTree) (r : List Token) → IsEnded r → o ≡ Ok (c, r) → Stops (Follow c) r
 
-value_of : Outcome StatementTree → Option StatementTree
-value_of (Ok o) = Some o.0
-value_of (Err e) = None
+value_of : StatementTree → Outcome StatementTree → StatementTree
+value_of d (Ok o) = o.0
+value_of d (Err e) = d
 
-same_value : (a b : StatementTree) (r s : List Token) → Ok {E = _} (a, r) ≡ Ok (b, s) → (a ≡ b) × (r ≡ s)
-same_value a b r s e = (cc, cc)
+rest_of : Outcome StatementTree → List Token
+rest_of (Ok o) = o.1
+rest_of (Err e) = e.1
+
+read : StatementTree → List Token → Outcome StatementTree
+read c r = Ok (c, r)
+
+same_value : (a b : StatementTree) (r s : List Token) → read a r ≡ read b s → (a ≡ b) × (r ≡ s)
+unfolding value_of rest_of read
+same_value a b r s e = (ap (value_of a) e, ap rest_of e)
 
 greedy_bind : {A : Type 0} (o : Outcome A) (k : A × List Token → Outcome StatementTree) → ((a : A) (r : List Token) → o ≡ Ok (a, r) → Greedy (k (a, r))) → Greedy (o >>= k)
 greedy_bind (Ok o) k go = go o.0 o.1 refl
@@ -144,12 +156,78 @@ module _ (room : ℕ) (lower : Bool → Inner)
         go true t = let high = ltb-true room (least (leader_of inside x)) t in high_reads (leader_of inside x) refl high (no_expression (leader_of inside x) high)
         go false t = by_reads (leader_of inside x) refl (ltb-false room (least (leader_of inside x)) t)
 
+    keeps_end : {A : Type 0} (W : A → Phrase) (Fits : A → Type 0) (F : A → Token → Type 0) (w : List Token) (o : Outcome A) → Reads W Fits F w o → IsEnded w → (a : A) (r : List Token) → o ≡ Ok (a, r) → IsEnded r
+    keeps_end W Fits F w o reads enw a r e = good_ended {W = W} {Fits = Fits} {F = F} (subst (Reads W Fits F w) e reads) enw
+
+    behind_first : (l : Leader) (s : Sign) → leader_of inside x ≡ l → keyword l ≡ Some s → IsEnded m
+    behind_first l s e f = let k = leads inside x l s e f in after_kind x m (kinds.Sign s) en k refl
+
+    test_ended : 2 ≤ room → IsEnded m → (a : Tree) (r : List Token) → steps.parenthesised (room - 1) m ≡ Ok (a, r) → IsEnded r
+    test_ended two enm a r e = keeps_end parenthesised (Low (room - 1)) Any m (steps.parenthesised (room - 1) m) (parenthesised_reads (room - 1) (omega (arith, two)) m enm) enm a r e
+
+    if_greedy : 2 ≤ room → IsEnded m → Greedy (if_step (room - 1) (lower inside) x.place m)
+    unfolding if_step
+    if_greedy two enm =
+        greedy_bind (steps.parenthesised (room - 1) m) (λ e. lower inside e.1 >>= λ s. else_step (lower inside) x.place e.0 s.0 s.1) (λ a r f.
+        greedy_bind (lower inside r) (λ s. else_step (lower inside) x.place a s.0 s.1) (λ s r2 f2.
+        let enr = test_ended two enm a r f in
+        else_greedy (lower inside) x.place a s r2 (greedy_lower (omega (arith, two)) inside)
+        (keeps_end (IsStatement inside) (LowStatement (room - 1)) Follow r (lower inside r) (reads_lower (omega (arith, two)) inside r enr) enr s r2 f2)))
+
+    while_greedy : 2 ≤ room → IsEnded m → Greedy (while_step (room - 1) (lower true) x.place m)
+    unfolding while_step
+    while_greedy two enm =
+        greedy_bind (steps.parenthesised (room - 1) m) (λ e. lower true e.1 >>= λ s. Ok (while_loop x.place e.0 s.0, s.1)) (λ a r f.
+        greedy_made (lower true r) (λ s. while_loop x.place a s) (λ s c. c) (greedy_lower (omega (arith, two)) true r (test_ended two enm a r f)))
+
+    for_greedy : 2 ≤ room → IsEnded m → Greedy (for_step (room - 1) (lower true) x.place m)
+    unfolding for_step
+    for_greedy two enm =
+        greedy_bind (steps.heading (room - 1) m) (λ f. lower true f.1 >>= λ s. Ok (for_loop x.place f.0.0 f.0.1 f.0.2 s.0, s.1)) (λ a r f.
+        greedy_made (lower true r) (λ s. for_loop x.place a.0 a.1 a.2 s) (λ s c. c) (greedy_lower (omega (arith, two)) true r
+        (keeps_end IsHeading (LowHeading (room - 1)) Any m (steps.heading (room - 1) m) (heading_reads (room - 1) (omega (arith, two)) m enm) enm a r f)))
+
+    plain_greedy : (l : Leader) → leader_of inside x ≡ l → least l ≤ room → (family l ≡ 2 → ⊥) → (family l ≡ 3 → ⊥) → (family l ≡ 5 → ⊥) → Greedy (statement_by l room lower inside x m)
+    plain_greedy l e low i w f = trivial_greedy room inside x m en (statement_by l room lower inside x m) (by_reads l e low) (family l) (ap family e) i w f
+
     by_greedy : (l : Leader) → leader_of inside x ≡ l → least l ≤ room → Greedy (statement_by l room lower inside x m)
-    unfolding led if_step while_step for_step
-    by_greedy leaders.If e low =
-        greedy_bind (steps.parenthesised (room - 1) m) _ (λ a r f.
-        greedy_bind (lower inside r) _ (λ s r2 f2. λ c r3 en3 f3. else_case a r s r2 f f2 c r3 en3 f3))
+    unfolding led
+    by_greedy leaders.If e low = if_greedy low (behind_first leaders.If signs.If e refl)
+    by_greedy leaders.While e low = while_greedy low (behind_first leaders.While signs.While e refl)
+    by_greedy leaders.For e low = for_greedy low (behind_first leaders.For signs.For e refl)
+    by_greedy leaders.Block e low = plain_greedy leaders.Block e low (λ f. omega (arith, f)) (λ f. omega (arith, f)) (λ f. omega (arith, f))
+    by_greedy leaders.Empty e low = plain_greedy leaders.Empty e low (λ f. omega (arith, f)) (λ f. omega (arith, f)) (λ f. omega (arith, f))
+    by_greedy leaders.DoWhile e low = plain_greedy leaders.DoWhile e low (λ f. omega (arith, f)) (λ f. omega (arith, f)) (λ f. omega (arith, f))
+    by_greedy leaders.Break e low = plain_greedy leaders.Break e low (λ f. omega (arith, f)) (λ f. omega (arith, f)) (λ f. omega (arith, f))
+    by_greedy leaders.Continue e low = plain_greedy leaders.Continue e low (λ f. omega (arith, f)) (λ f. omega (arith, f)) (λ f. omega (arith, f))
+    by_greedy leaders.Return e low = plain_greedy leaders.Return e low (λ f. omega (arith, f)) (λ f. omega (arith, f)) (λ f. omega (arith, f))
+    by_greedy leaders.Assert e low = plain_greedy leaders.Assert e low (λ f. omega (arith, f)) (λ f. omega (arith, f)) (λ f. omega (arith, f))
+    by_greedy leaders.Declaration e low = plain_greedy leaders.Declaration e low (λ f. omega (arith, f)) (λ f. omega (arith, f)) (λ f. omega (arith, f))
+    by_greedy leaders.Name e low = plain_greedy leaders.Name e low (λ f. omega (arith, f)) (λ f. omega (arith, f)) (λ f. omega (arith, f))
+    by_greedy leaders.Expression e low = plain_greedy leaders.Expression e low (λ f. omega (arith, f)) (λ f. omega (arith, f)) (λ f. omega (arith, f))
+
+    head_greedy : Greedy (cond (nat_lt room (least (leader_of inside x))) (Err (TooHigh, x ∷ m)) (statement_by (leader_of inside x) room lower inside x m))
+    head_greedy = go (nat_lt room (least (leader_of inside x))) refl
       where
-        else_case : (a : Tree) (r : List Token) (s : StatementTree) (r2 : List Token) → steps.parenthesised (room - 1) m ≡ Ok (a, r) → lower inside r ≡ Ok (s, r2) → Greedy (else_step (lower inside) x.place a s r2)
-        else_case a r s r2 f f2 = ?
-    by_greedy l e low = trivial_greedy room inside x m en (statement_by l room lower inside x m) (by_reads l e low) (family l) (ap family e) ? ? ?
+        go : (b : Bool) → nat_lt room (least (leader_of inside x)) ≡ b → Greedy (cond b (Err (TooHigh, x ∷ m)) (statement_by (leader_of inside x) room lower inside x m))
+        go true t = λ c r enr (f : Err (TooHigh, x ∷ m) ≡ Ok (c, r)). cc
+        go false t = by_greedy (leader_of inside x) refl (ltb-false room (least (leader_of inside x)) t)
+
+    pub head_both : Reads (IsStatement inside) (LowStatement room) Follow (x ∷ m) (statement_step room lower inside (x ∷ m)) × Greedy (statement_step room lower inside (x ∷ m))
+    unfolding statement_step
+    head_both = (head_reads, head_greedy)
+
+statement_both : (room : ℕ) (inside : Bool) (w : List Token) → IsEnded w → Reads (IsStatement inside) (LowStatement room) Follow w (statement_at_most room inside w) × Greedy (statement_at_most room inside w)
+unfolding statement_at_most
+statement_both room inside [] en = cc
+statement_both zero inside (x ∷ m) en =
+    head_both zero (λ i m. Err (TooHigh, m)) (λ one. absurd (omega (arith, one))) (λ one. absurd (omega (arith, one))) inside x m en
+statement_both (suc h) inside (x ∷ m) en =
+    let d : h ≡ suc h - 1 = omega arith in
+    head_both (suc h) (statement_at_most h)
+    (λ one i w enw. subst (λ n. Reads (IsStatement i) (LowStatement n) Follow w (statement_at_most h i w)) d (statement_both h i w enw).0)
+    (λ one i w enw. (statement_both h i w enw).1) inside x m en
+
+-- a statement of at most this height is read as the grammar spells it
+pub statement_reads : (room : ℕ) (inside : Bool) (w : List Token) → IsEnded w → Reads (IsStatement inside) (LowStatement room) Follow w (statement_at_most room inside w)
+statement_reads room inside w en = (statement_both room inside w en).0

@@ -21,7 +21,7 @@ use Rattle.secrec_parser.specs.declared.leader.Leader.{Leader}
 use Rattle.secrec_parser.specs.declared.leader.Leader.TheVariants as leaders
 use Rattle.secrec_parser.specs.Grammar.{parenthesised, IsDeclaration, heading, IsStatement}
 use Rattle.secrec_parser.specs.Steps.{leader_of}
-use Rattle.secrec_parser.proofs.Types.{lone}
+use Rattle.secrec_parser.proofs.TypeReadings.{lone}
 use Rattle.secrec_parser.proofs.Declarations.{some_name, name_token}
 use Rattle.secrec_parser.proofs.Leaders.{begins_type, leads, leads_inside, front, led_kind}
 use Rattle.secrec_parser.proofs.Headings.{uint_token, no_declaration, assignment_head}

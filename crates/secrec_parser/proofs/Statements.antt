@@ -29,7 +29,7 @@ use Rattle.secrec_parser.specs.Steps.{Inner, leader_of, least, listed, at_sign, 
 use Rattle.secrec_parser.specs.Steps as steps
 use Rattle.secrec_parser.proofs.Made.{Made, Both, Living, reads_same, seq, made, known, sign_seq, sign_end}
 use Rattle.secrec_parser.proofs.Heads.{nothing_reads, one_reads}
-use Rattle.secrec_parser.proofs.Types.{lone}
+use Rattle.secrec_parser.proofs.TypeReadings.{lone}
 use Rattle.secrec_parser.proofs.Declarations.{Before, sign_head, last_sign_first, LowOption, LowDeclaration, Semicolon, semicolon_free, declaration_reads, parenthesised_reads}
 use Rattle.secrec_parser.proofs.Assignments.{IsAction, LowAction, action_reads}
 use Rattle.secrec_parser.proofs.Lists.{listed_reads}
@@ -280,10 +280,10 @@ module _ (room : ℕ) (two : 2 ≤ room) (inside : Bool) (inner : Inner)
     and_nothing s v = (s, [], sym (append-nil s), v, refl)
 
     if_up : (p : Span) (b : Tree × (StatementTree × Option StatementTree)) (s : List Token) → (sign_at p signs.If then Branches b) s → IsStatement inside (if_tree p b.0 b.1.0 b.1.1) s
+    unfolding ElseTail
     if_up p b s v = at b.1.1 v.4.4.4
       where
         at : (o : Option StatementTree) → ElseTail b.1.0 o v.4.4.1 → IsStatement inside (if_tree p b.0 b.1.0 o) s
-        unfolding ElseTail
         at None n = (v.0, v.1, v.2, v.3, (v.4.0, v.4.1, v.4.2, v.4.3, then_nothing v.4.1 (v.4.4.0, v.4.4.1, v.4.4.2, v.4.4.3, n)))
         at (Some t) u = (u.0, (v.0, v.1, v.2, v.3, (v.4.0, v.4.1, v.4.2, v.4.3, (v.4.4.0, v.4.4.1, v.4.4.2, v.4.4.3, u.1))))
 

@@ -204,14 +204,14 @@ brackets_reads w en =
 abbrev pub NoBracket : {C : Type 0} → C → Token → Type 0
 NoBracket c x = is_sign signs.LeftBracket x ≡ false
 
+abbrev Bracketed : Bool → Phrase
+Bracketed = Made (λ (v : Bool × Unit {0}). v.0) (λ v. sign signs.LeftBracket then (sign signs.LeftBracket then Ends v))
+
 dimension_reads : (w : List Token) → IsEnded w → Reads IsDimension All NoBracket w (dimension w)
 unfolding Bit
 dimension_reads [] en = cc
 dimension_reads (x ∷ m) en = go (is_sign signs.LeftBracket x) refl
   where
-    abbrev Bracketed : Bool → Phrase
-    Bracketed = Made (λ (v : Bool × Unit {0}). v.0) (λ v. sign signs.LeftBracket then (sign signs.LeftBracket then Ends v))
-
     up_of : (b : Bool) (s : List Token) → (sign signs.LeftBracket then (sign signs.LeftBracket then Ends (b, tt))) s → IsDimension b s
     up_of false s v = inr v
     up_of true s v = v
