@@ -94,7 +94,7 @@ update_at : (x : Token) (q : Span) (k : Kind) (u : Option Update) → token q k 
 update_at x q k u e f = ap update_of (sym e) ∙ f
 
 -- the next token says by which
-by_down : (t : TargetTree) (v : Tree) (s m m2 : List Token) (x : Token) → IsAssigned t v s → s ++ m ≡ x ∷ m2 → (u : Update) × (update_of x ≡ Some u) × By u t v s
+pub by_down : (t : TargetTree) (v : Tree) (s m m2 : List Token) (x : Token) → IsAssigned t v s → s ++ m ≡ x ∷ m2 → (u : Update) × (update_of x ≡ Some u) × By u t v s
 by_down t v s m m2 x (inl b) eq =
     let q = b.3 in
     let e : token q.0 (kinds.Sign signs.Assign) ≡ x = cons_head (sym (ap (λ l. l ++ m) (b.2 ∙ ap (λ l. l ++ b.1) q.1)) ∙ eq) in
@@ -320,11 +320,10 @@ target_index_reads room two (x ∷ m) en = go (is_sign signs.LeftBracket x) refl
 abbrev target_at : Identifier → Option Tree → TargetTree
 target_at x i = record { variable = x; index = i }
 
-pub equals_token : Token
+abbrev pub equals_token : Token
 equals_token = token origin (kinds.Sign signs.Assign)
 
 pub gets_leaf : (t : TargetTree) → AssignedTo t (record { target = t; value = leaf }) (equals_token ∷ leaf_token ∷ [])
-unfolding equals_token
 gets_leaf t = (refl, inl (equals_token ∷ [], leaf_token ∷ [], refl, (origin, refl), refl))
 
 abbrev Rest : Identifier → Option Tree × AssignmentTree → Phrase
@@ -357,7 +356,7 @@ module _ (end : Sign) (free : (e : Tree) (x : Token) → x.kind ≡ kinds.Sign e
       subst (Stops (NoBracket i)) (sym f.2) (update_goes_on f.0.kind f.0.place f.3 f.4).1
 
   pub assignment_reads : (room : ℕ) → 2 ≤ room → (w : List Token) → IsEnded w → Reads IsAssignment (LowAssignment room) (Before end) w (assignment_step room w)
-  unfolding assignment_step equals_token
+  unfolding assignment_step
   assignment_reads room two w en =
       reads_same Whole IsAssignment (LowAssignment room) (Before end) (Before end) whole_up whole_down (λ c m st. st) w _
       (seq identifier All Any Rest (λ x v. v.1) (LowAssignment room) (Before end)
@@ -381,8 +380,7 @@ expression_target (variable p x) t s f v =
     subst (λ z. IsTarget z s) (some_is (target_at (record { place = p; text = x }) None) t f) (s, [], sym (append-nil s), v, refl)
 expression_target (index p (variable q x) i) t s f v =
     let w = v.2 in
-    subst (λ z. IsTarget z s) (some_is (target_at (record { place = p; text = x }) (Some i)) t f)
-    (w.0, w.1, w.2, w.3 ∙ ap (λ z. token z (kinds.Name x) ∷ []) (sym v.1), w.4)
+    subst (λ z. IsTarget z s) (some_is (target_at (record { place = q; text = x }) (Some i)) t f) w
 expression_target e t s f v = cc
 
 pub target_expression : (t : TargetTree) (s : List Token) → IsTarget t s → IsExpression loosest (held t) s
@@ -403,7 +401,7 @@ pub target_of-height : (e : Tree) (t : TargetTree) → target_of e ≡ Some t �
 target_of-height (variable p x) t f = sym (ap target_height (some_is (target_at (record { place = p; text = x }) None) t f))
 target_of-height (index p (variable q x) i) t f =
     let h = tall i in
-    let e = ap target_height (some_is (target_at (record { place = p; text = x }) (Some i)) t f) in
+    let e = ap target_height (some_is (target_at (record { place = q; text = x }) (Some i)) t f) in
     omega (arith, h, e)
 target_of-height e t f = cc
 

@@ -138,17 +138,15 @@ pub all_down : (inside : Bool) (ss : List StatementTree) (ts : List Token) → A
 all_down inside [] ts v = v
 all_down inside (s ∷ ss) ts v = (v.0, v.1, v.2, v.3, all_down inside ss v.1 v.4)
 
-pub LowStatements : ℕ → List StatementTree → Type 0
+abbrev pub LowStatements : ℕ → List StatementTree → Type 0
 LowStatements h ss = statement_heights (statements_of ss) ≤ h
 
 low_part : (h : ℕ) (found zs : List StatementTree) (a : StatementTree) → LowStatements h (found ++ a ∷ zs) → LowStatement h a
-unfolding LowStatements
 low_part h [] zs a f = omega (arith, f)
 low_part h (s ∷ found) zs a f =
     let g : LowStatements h (found ++ a ∷ zs) = omega (arith, f) in low_part h found zs a g
 
 low_more : (h : ℕ) (found : List StatementTree) (a : StatementTree) → LowStatements h found → LowStatement h a → LowStatements h (found ++ a ∷ [])
-unfolding LowStatements
 low_more h [] a f g = omega (arith, f, g)
 low_more h (s ∷ found) a f g =
     let f2 : LowStatements h found = omega (arith, f) in
@@ -161,7 +159,7 @@ no_starter x k e f g = let h : starter (kinds.Sign k) ≡ true = ap starter (sym
 module _ (h : ℕ) (inside : Bool) (inner : Inner)
     (reads_inner : (w : List Token) → IsEnded w → Reads (IsStatement inside) (LowStatement h) Follow w (inner w))
   where
-  Close : Token → Type 0
+  abbrev pub Close : Token → Type 0
   Close x = x.kind ≡ kinds.Sign signs.RightBrace
 
   -- a statement does not begin with `else`
@@ -170,12 +168,10 @@ module _ (h : ℕ) (inside : Bool) (inner : Inner)
   after_statement a b (y ∷ s) m v = λ k. absurd (no_starter y signs.Else k refl (starts inside b (y ∷ s) m (s ++ m) y v refl))
 
   before_close : (a : StatementTree) (m : List Token) → Stops Close m → Stops (Follow a) m
-  unfolding Close
   before_close a [] st = st
   before_close a (y ∷ m) st = λ k. let f : kinds.Sign signs.RightBrace ≡ kinds.Sign signs.Else = sym st ∙ k in cc
 
   all_reads : (w : List Token) → IsEnded w → Reads (Made (λ zs. [] ++ zs) (λ zs ts. Unit {0} × AreAll (IsStatement inside) zs ts)) (LowStatements h) (λ zs x. Close x) w (listed (λ found w. at_sign signs.RightBrace w) inner [] w)
-  unfolding Close LowStatements
   all_reads w en =
       listed_reads (IsStatement inside) (LowStatement h) Follow (LowStatements h) Close (λ ss. Unit {0}) (λ found w. at_sign signs.RightBrace w) inner reads_inner
       (low_part h) (low_more h) after_statement before_close (statement_some inside)
@@ -198,7 +194,6 @@ module _ (h : ℕ) (inside : Bool) (inner : Inner)
 
   -- statements and their closing brace
   pub braced_reads : (w : List Token) → IsEnded w → Reads (Made (λ (v : List StatementTree × Unit {0}). v.0) (Both (λ ss ts. AreStatements inside (statements_of ss) ts) (λ ss (u : Unit {0}). sign signs.RightBrace))) (LowStatements h) Any w (braced inner w)
-  unfolding Close
   braced_reads w en =
       seq Statements (LowStatements h) (λ zs x. Close x) (λ ss (u : Unit {0}). sign signs.RightBrace) (λ ss u. ss) (LowStatements h) Any
       (λ ss u t v f. f)
@@ -220,7 +215,6 @@ module _ (room : ℕ) (one : 1 ≤ room) (inside : Bool) (inner : Inner)
   block_down c s f v = absurd (omega (arith, f))
 
   pub block_reads : (x : Token) (m : List Token) → x.kind ≡ kinds.Sign signs.LeftBrace → family (leader_of inside x) ≡ 0 → IsEnded (x ∷ m) → Reads (IsStatement inside) (LowStatement room) Follow (x ∷ m) (braced inner m >>= λ ss. Ok (block x.place (statements_of ss.0), ss.1))
-  unfolding LowStatements
   block_reads x m k fam en =
       keyword_reads inside room signs.LeftBrace 0 In (λ p b. block p (statements_of b.0)) Any refl (λ p b s v. v) block_down follow_any
       (λ p. (([], tt), lone signs.RightBrace, ([], lone signs.RightBrace, refl, refl, (origin, refl)), omega (arith, one)))

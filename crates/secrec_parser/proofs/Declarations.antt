@@ -208,10 +208,10 @@ Rest = Both identifier (λ x. Both (optional parenthesised) (λ s. optional init
 abbrev declared_as : DeclaredType × (Identifier × (Option Tree × Option Tree)) → DeclarationTree
 declared_as v = record { declared = v.0; variable = v.1.0; size = v.1.1.0; value = v.1.1.1 }
 
-pub some_name : Identifier
+abbrev pub some_name : Identifier
 some_name = record { place = origin; text = [] }
 
-pub name_token : Token
+abbrev pub name_token : Token
 name_token = token origin (kinds.Name [])
 
 size_first : (s v : Option Tree) (t m : List Token) → optional initialiser v t → Stops (λ x. x.kind ≡ kinds.Sign signs.Semicolon) m → Stops (NoParenthesis s) (t ++ m)
@@ -224,7 +224,7 @@ name_first : {C : Type 0} (c : C) (v : Identifier × (Option Tree × Option Tree
 name_first c v t m w = subst (λ l. Stops (NoBracket c) (l ++ m)) (sym (w.2 ∙ ap (λ l. l ++ w.1) w.3)) refl
 
 pub declaration_reads : (h : ℕ) (w : List Token) → IsEnded w → Reads IsDeclaration (LowDeclaration (suc h)) Semicolon w (declaration_step h w)
-unfolding declaration_step some_name name_token
+unfolding declaration_step
 declaration_reads h w en =
     reads_same (Made declared_as (Both IsType (λ t. Rest))) IsDeclaration (LowDeclaration (suc h)) Semicolon Semicolon
     (λ c s v. subst (λ z. IsDeclaration z s) (sym v.1) v.2)

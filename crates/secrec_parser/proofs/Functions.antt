@@ -62,7 +62,6 @@ abbrev pub NoColon : {C : Type 0} → C → Token → Type 0
 NoColon c x = is_sign signs.Colon x ≡ false
 
 constraint_reads : (w : List Token) → IsEnded w → Reads (optional grammar.constraint) All NoColon w (steps.constraint w)
-unfolding some_name name_token
 constraint_reads [] en = cc
 constraint_reads (x ∷ m) en = go (is_sign signs.Colon x) refl
   where
@@ -83,7 +82,7 @@ abbrev variable_of : Identifier × Option Identifier → DomainVariable
 variable_of v = record { variable = v.0; kind = v.1 }
 
 pub domain_variable_reads : (w : List Token) → IsEnded w → Reads IsDomainVariable All NoColon w (domain_variable w)
-unfolding domain_variable some_name name_token
+unfolding domain_variable
 domain_variable_reads w en =
     reads_same (Made variable_of (λ v. sign signs.Domain then Variable v)) IsDomainVariable All NoColon NoColon
     (λ c s v. subst (λ z. IsDomainVariable z s) (sym v.1) v.2)
@@ -103,17 +102,16 @@ domain_variable_reads w en =
     same k [] st = st
     same k (y ∷ m) st = st
 
-some_variable : DomainVariable
+abbrev pub some_variable : DomainVariable
 some_variable = record { variable = some_name; kind = None }
 
-variable_tokens : List Token
+abbrev pub variable_tokens : List Token
 variable_tokens = token origin (kinds.Sign signs.Domain) ∷ name_token ∷ []
 
 is_variable : IsDomainVariable some_variable variable_tokens
-unfolding some_variable variable_tokens some_name name_token
 is_variable = (token origin (kinds.Sign signs.Domain) ∷ [], name_token ∷ [], refl, (origin, refl), (name_token ∷ [], [], refl, refl, refl))
 
-Greater : Token → Type 0
+abbrev pub Greater : Token → Type 0
 Greater x = x.kind ≡ kinds.Sign signs.Greater
 
 comma_variables : (w : List Token) → IsEnded w → Reads (comma_and IsDomainVariable) All NoColon w (comma_then domain_variable w)
@@ -123,7 +121,6 @@ comma_head : {A : Type 0} (P : A → Phrase) (a : A) (s m m2 : List Token) (x : 
 comma_head P a s m m2 x v eq = sign_head signs.Comma (P a) s m m2 x v eq
 
 comma_some : {A : Type 0} (P : A → Phrase) (a : A) → comma_and P a [] → ⊥
-unfolding name_token
 comma_some P a v = let f = comma_head P a [] (name_token ∷ []) [] name_token v refl in cc
 
 other_kind : (s : Sign) (x : Token) (k : Kind) → x.kind ≡ k → is_sign s (token x.place k) ≡ false → is_sign s x ≡ false
@@ -133,7 +130,6 @@ abbrev Four : List DomainVariable → Type 0
 Four vs = length vs ≤ 4
 
 more_variables_reads : (v : DomainVariable) (w : List Token) → IsEnded w → Reads (Made (λ zs. (v ∷ []) ++ zs) (λ zs ts. Four ((v ∷ []) ++ zs) × AreAll (comma_and IsDomainVariable) zs ts)) All (λ zs x. Greater x) w (listed no_more_variables (comma_then domain_variable) (v ∷ []) w)
-unfolding Greater
 more_variables_reads v w en =
     listed_reads (comma_and IsDomainVariable) All NoColon All Greater Four no_more_variables (comma_then domain_variable) comma_variables
     (λ found zs a f. tt) (λ found a f g. tt) next last (comma_some IsDomainVariable) stops goes bound (v ∷ []) w tt (omega arith) en
@@ -185,14 +181,12 @@ abbrev all_of : DomainVariable × (List DomainVariable × Unit {0}) → List Dom
 all_of v = v.0 ∷ v.1.0
 
 angled : Angled (some_variable, ([], tt)) (variable_tokens ++ lone signs.Greater)
-unfolding some_variable variable_tokens some_name name_token
 angled = (variable_tokens, lone signs.Greater, refl, is_variable, ([], lone signs.Greater, refl, (omega arith, refl), (origin, refl)))
 
 abbrev TemplateParts : List DomainVariable → Phrase
 TemplateParts = Made all_of (λ v. sign signs.Template then (sign signs.Less then Angled v))
 
 template_parts_reads : (w : List Token) → IsEnded w → Reads TemplateParts All Any w (expect signs.Template w >>= λ a. expect signs.Less a.1 >>= λ b. domain_variable b.1 >>= λ v. listed no_more_variables (comma_then domain_variable) (v.0 ∷ []) v.1 >>= λ vs. expect signs.Greater vs.1 >>= λ c. Ok (vs.0, c.1))
-unfolding Greater
 template_parts_reads w en =
     sign_seq signs.Template (λ v. sign signs.Less then Angled v) all_of All Any
     ((some_variable, ([], tt)), lone signs.Less ++ variable_tokens ++ lone signs.Greater, (lone signs.Less, variable_tokens ++ lone signs.Greater, refl, (origin, refl), angled), tt)
@@ -239,7 +233,7 @@ template_up c s v = subst (λ z. IsTemplate z s) (sym v.1) (go v.0 v.2)
 
 template_down : (x : Token) → is_sign signs.Template x ≡ true → (c : List DomainVariable) (s m m2 : List Token) → IsTemplate c s → Stops (NoTemplate c) m → s ++ m ≡ x ∷ m2 → TemplateParts c s
 template_down x t [] s m m2 v st eq =
-    absurd (clash (is_sign signs.Template x) t (subst (Stops (NoTemplate [])) (ap (λ l. l ++ m) (sym v) ∙ eq) st))
+    absurd (clash (is_sign signs.Template x) t (subst (Stops (NoTemplate {C = List DomainVariable} [])) (ap (λ l. l ++ m) (sym v) ∙ eq) st))
 template_down x t (a ∷ more) s m m2 v st eq =
     let w = v.1 in
     let u = w.4 in
@@ -298,7 +292,7 @@ abbrev parameter_of : DeclaredType × Identifier → Parameter
 parameter_of v = record { declared = v.0; variable = v.1 }
 
 pub parameter_reads : (w : List Token) → IsEnded w → Reads IsParameter All Any w (parameter w)
-unfolding parameter some_name name_token
+unfolding parameter
 parameter_reads w en =
     reads_same (Made parameter_of (Both IsType (λ t. identifier))) IsParameter All Any Any
     (λ c s v. subst (λ z. IsParameter z s) (sym v.1) v.2)
@@ -311,14 +305,13 @@ parameter_reads w en =
     w (declared_type w) _ (type_reads w en) (λ t r is g.
     made identifier All Any (λ x. parameter_of (t, x)) All Any (λ x f. tt) (λ x f. tt) (λ x m st. any_stops (λ y. Unit {0}) [] m st) r (expressions.identifier r) (identifier_reads r (good_ended g en))))
 
-some_parameter : Parameter
+abbrev pub some_parameter : Parameter
 some_parameter = record { declared = record { place = origin; domain = domains.Public; element = types.Uint64; array = false }; variable = some_name }
 
-parameter_tokens : List Token
+abbrev pub parameter_tokens : List Token
 parameter_tokens = token origin (kinds.Sign signs.Uint64) ∷ name_token ∷ []
 
 is_parameter : IsParameter some_parameter parameter_tokens
-unfolding some_parameter parameter_tokens some_name name_token
 is_parameter =
     (token origin (kinds.Sign signs.Uint64) ∷ [], name_token ∷ [], refl,
     (refl, ([], token origin (kinds.Sign signs.Uint64) ∷ [], refl, inl refl, (token origin (kinds.Sign signs.Uint64) ∷ [], [], refl, inl (origin, refl), inl refl))), refl)
@@ -326,11 +319,10 @@ is_parameter =
 abbrev pub Closing : {C : Type 0} → C → Token → Type 0
 Closing c x = x.kind ≡ kinds.Sign signs.RightParenthesis
 
-Paren : Token → Type 0
+abbrev pub Paren : Token → Type 0
 Paren x = x.kind ≡ kinds.Sign signs.RightParenthesis
 
 more_parameters_reads : (p : Parameter) (w : List Token) → IsEnded w → Reads (Made (λ zs. (p ∷ []) ++ zs) (λ zs ts. Unit {0} × AreAll (comma_and IsParameter) zs ts)) All (λ zs x. Paren x) w (listed no_comma (comma_then parameter) (p ∷ []) w)
-unfolding Paren
 more_parameters_reads p w en =
     listed_reads (comma_and IsParameter) All Any All Paren (λ ps. Unit {0}) no_comma (comma_then parameter)
     (sign_and signs.Comma IsParameter All Any parameter (some_parameter, parameter_tokens, is_parameter, tt) parameter_reads)
@@ -359,7 +351,7 @@ abbrev Several : List Parameter → Phrase
 Several = Made (λ (v : Parameter × List Parameter). v.0 ∷ v.1) (Both IsParameter (λ p. AreAll (comma_and IsParameter)))
 
 pub parameters_reads : (w : List Token) → IsEnded w → Reads AreParameters All Closing w (parameters w)
-unfolding parameters Paren
+unfolding parameters
 parameters_reads [] en = cc
 parameters_reads (x ∷ m) en = go (is_sign signs.RightParenthesis x) refl
   where
@@ -369,7 +361,7 @@ parameters_reads (x ∷ m) en = go (is_sign signs.RightParenthesis x) refl
         let f : begins_type (kinds.Sign signs.RightParenthesis) ≡ true = ap begins_type (sym k) ∙ parameter_head p v.0 (v.1 ++ m') m2 x v.3 (front s m' m2 x v eq) in cc
 
     down : is_sign signs.RightParenthesis x ≡ false → (c : List Parameter) (s m' m2 : List Token) → AreParameters c s → Stops (Closing c) m' → s ++ m' ≡ x ∷ m2 → Several c s
-    down t [] s m' m2 v st eq = absurd (is_sign-false signs.RightParenthesis x t (subst (Stops (Closing [])) (ap (λ l. l ++ m') (sym v) ∙ eq) st))
+    down t [] s m' m2 v st eq = absurd (is_sign-false signs.RightParenthesis x t (subst (Stops (Closing {C = List Parameter} [])) (ap (λ l. l ++ m') (sym v) ∙ eq) st))
     down t (p ∷ more) s m' m2 v st eq = ((p, more), refl, v)
 
     go : (b : Bool) → is_sign signs.RightParenthesis x ≡ b → Reads AreParameters All Closing (x ∷ m) (cond b (Ok ([], x ∷ m)) (parameter (x ∷ m) >>= λ p. listed no_comma (comma_then parameter) (p.0 ∷ []) p.1))
@@ -419,7 +411,7 @@ abbrev block_at : Span → List StatementTree → BlockTree
 block_at p ss = record { place = p; statements = statements_of ss }
 
 pub body_reads : (room : ℕ) (w : List Token) → IsEnded w → Reads IsBlock (LowBlock room) Any w (body room w)
-unfolding body LowStatements
+unfolding body
 body_reads room w en =
     reads_same (Made (λ (v : Span × (List StatementTree × Unit {0})). block_at v.0 v.1.0) (Both (λ p. sign_at p signs.LeftBrace) (λ p. In))) IsBlock (LowBlock room) Any Any
     (λ c s v. subst (λ z. IsBlock z s) (sym v.1) v.2)
@@ -469,7 +461,6 @@ type_no_template (kinds.Sign signs.Bool) p e = refl
 type_no_template k p e = cc
 
 result_some : (t : ResultType) → IsResult t [] → ⊥
-unfolding name_token
 result_some t v = go (result_head t [] (lone signs.Comma) [] (token origin (kinds.Sign signs.Comma)) v refl)
   where
     go : (kinds.Sign signs.Comma ≡ kinds.Sign signs.Void) ⊎ (false ≡ true) → ⊥
@@ -487,24 +478,22 @@ template_first vs v t m u = subst (Stops (NoTemplate vs)) (ap (λ l. l ++ m) (sy
         at (inl k) = other_kind signs.Template x (kinds.Sign signs.Void) k refl
         at (inr k) = type_no_template x.kind x.place k
 
-braces : List Token
+abbrev pub braces : List Token
 braces = lone signs.LeftBrace ++ lone signs.RightBrace
 
-block_of : BlockTree
+abbrev pub block_of : BlockTree
 block_of = record { place = origin; statements = statements.none }
 
 is_block : IsBlock block_of braces
-unfolding block_of braces
 is_block = (lone signs.LeftBrace, lone signs.RightBrace, refl, refl, ([], lone signs.RightBrace, refl, refl, (origin, refl)))
 
 bodied : (Both Listed (λ ps. IsBlock)) ([], block_of) ((lone signs.LeftParenthesis ++ lone signs.RightParenthesis) ++ braces)
-unfolding block_of braces
 bodied =
     (lone signs.LeftParenthesis ++ lone signs.RightParenthesis, lone signs.LeftBrace ++ lone signs.RightBrace, refl,
     (lone signs.LeftParenthesis, lone signs.RightParenthesis, refl, (origin, refl), ([], lone signs.RightParenthesis, refl, refl, (origin, refl))), is_block)
 
 pub function_reads : (room : ℕ) (w : List Token) → IsEnded w → Reads IsFunction (LowFunction room) Any w (function_step room w)
-unfolding function_step some_name name_token block_of braces
+unfolding function_step
 function_reads room w en =
     reads_same (Made function_of (Both IsTemplate (λ vs. Behind))) IsFunction (LowFunction room) Any Any
     (λ c s v. subst (λ z. IsFunction z s) (sym v.1) (up v.0 s v.2))

@@ -82,13 +82,19 @@ test_reads h w en =
 
 -- The first part
 
+update_no_type : (k : Kind) (p : Span) (u : Update) → update_of (token p k) ≡ Some u → is_type (token p k) ≡ false
+update_no_type (kinds.Sign signs.Uint64) p u e = cc
+update_no_type (kinds.Sign signs.Uint) p u e = cc
+update_no_type (kinds.Sign signs.Bool) p u e = cc
+update_no_type k p u e = refl
+
 abbrev pub LowStart : ℕ → StartTree → Type 0
 LowStart h a = start_height a ≤ h
 
 no_start : (x : Token) (s : Sign) (text : List ℕ) → kinds.Name text ≡ x.kind → x.kind ≡ kinds.Sign s → ⊥
 no_start x s text e f = let g = e ∙ f in cc
 
-no_declaration : (d : DeclarationTree) (s m m2 : List Token) (x : Token) → IsDeclaration d s → s ++ m ≡ x ∷ m2 → begins_type x.kind ≡ true
+pub no_declaration : (d : DeclarationTree) (s m m2 : List Token) (x : Token) → IsDeclaration d s → s ++ m ≡ x ∷ m2 → begins_type x.kind ≡ true
 no_declaration d s m m2 x v eq = declared_kind d.declared v.0 (v.1 ++ m) m2 x v.3 (front s m m2 x v eq)
 
 pub assignment_head : (a : AssignmentTree) (s m m2 : List Token) (x : Token) → IsAssignment a s → s ++ m ≡ x ∷ m2 → kinds.Name a.target.variable.text ≡ x.kind
@@ -109,17 +115,16 @@ typed_by x text = record { place = x.place; domain = domains.Named (record { pla
 abbrev pub declared_by : Token → List ℕ → DeclarationTree
 declared_by x text = record { declared = typed_by x text; variable = some_name; size = None; value = None }
 
-pub uint_token : Token
+abbrev pub uint_token : Token
 uint_token = token origin (kinds.Sign signs.Uint64)
 
 pub is_declared_by : (x : Token) (text : List ℕ) → x.kind ≡ kinds.Name text → IsDeclaration (declared_by x text) (x ∷ uint_token ∷ name_token ∷ [])
-unfolding uint_token name_token some_name
 is_declared_by x text k =
     (x ∷ uint_token ∷ [], name_token ∷ [], refl,
     (refl, (x ∷ [], uint_token ∷ [], refl, ap (λ z. token x.place z ∷ []) k, (uint_token ∷ [], [], refl, inl (origin, refl), inl refl))),
     (name_token ∷ [], [], refl, refl, ([], [], refl, refl, refl)))
 
-semicolon_token : Token
+abbrev pub semicolon_token : Token
 semicolon_token = token origin (kinds.Sign signs.Semicolon)
 
 -- `x = 0`
@@ -182,7 +187,6 @@ module _ (h : ℕ) (one : 1 ≤ h) where
 
   -- a declaration that begins with a name
   named_declared : (x y : Token) (n : List Token) (text : List ℕ) → x.kind ≡ kinds.Name text → is_type y ≡ true → IsEnded (x ∷ y ∷ n) → Reads IsStart (LowStart h) Semicolon (x ∷ y ∷ n) (declaration_step (h - 1) (x ∷ y ∷ n) >>= λ d. Ok (starts_with_declaration d.0, d.1))
-  unfolding semicolon_token
   named_declared x y n text k t en =
       reads_peek (Made starts_with_declaration IsDeclaration) IsStart (LowStart h) Semicolon Semicolon x y declared_up down (λ c m' st. st)
       (starts_with_declaration (declared_by x text), uint_token ∷ name_token ∷ [], semicolon_token, (declared_by x text, refl, is_declared_by x text k), one, refl)
@@ -198,15 +202,8 @@ module _ (h : ℕ) (one : 1 ≤ h) where
           no_second (inl f) = let g : is_type y ≡ false = ap (λ z. is_type (token y.place z)) f in cc
           no_second (inr f) = let g = update_no_type y.kind y.place f.0 f.1 in cc
 
-      update_no_type : (k : Kind) (p : Span) (u : Update) → update_of (token p k) ≡ Some u → is_type (token p k) ≡ false
-      update_no_type (kinds.Sign signs.Uint64) p u e = cc
-      update_no_type (kinds.Sign signs.Uint) p u e = cc
-      update_no_type (kinds.Sign signs.Bool) p u e = cc
-      update_no_type k p u e = refl
-
   -- an assignment
   named_set : 2 ≤ h → (x y : Token) (n : List Token) (text : List ℕ) → x.kind ≡ kinds.Name text → is_type y ≡ false → IsEnded (x ∷ y ∷ n) → Reads IsStart (LowStart h) Semicolon (x ∷ y ∷ n) (assignment_step h (x ∷ y ∷ n) >>= λ a. Ok (starts_with_assignment a.0, a.1))
-  unfolding semicolon_token
   named_set two x y n text k t en =
       reads_peek (Made starts_with_assignment IsAssignment) IsStart (LowStart h) Semicolon Semicolon x y set_up down (λ c m' st. st)
       (starts_with_assignment (set_by x text), equals_token ∷ leaf_token ∷ [], semicolon_token, (set_by x text, refl, is_set_by x text k), two, refl)
@@ -255,7 +252,7 @@ module _ (x y : Token) (n : List Token) (text : List ℕ) (k : x.kind ≡ kinds.
   indexed = record { target = record { variable = record { place = x.place; text = text }; index = Some leaf }; value = leaf }
 
   index_begun : y.kind ≡ kinds.Sign signs.LeftBracket → (b : StartTree) × (s : List Token) × IsStart b (x ∷ y ∷ s)
-  unfolding indexed equals_token
+  unfolding indexed
   index_begun f =
       (starts_with_assignment indexed, leaf_token ∷ lone signs.RightBracket ++ (equals_token ∷ leaf_token ∷ []),
       (x ∷ y ∷ leaf_token ∷ lone signs.RightBracket, equals_token ∷ leaf_token ∷ [], refl,

@@ -15,3 +15,4 @@ pub mod Bodies
 pub mod Named
 pub mod Rooms
 pub mod Functions
+pub mod Programs

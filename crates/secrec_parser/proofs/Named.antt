@@ -51,7 +51,6 @@ declared_some c v =
     cc
 
 acted_some : (c : StatementTree) → Acted c [] → ⊥
-unfolding else_token
 acted_some c v = go v.0.0 w.3
   where
     w : (IsAction v.0.0 then sign signs.Semicolon) []

@@ -24,7 +24,7 @@ use Rattle.expression_parser.specs.Steps.{Outcome}
 use Rattle.expression_parser.proofs.Reading.{Bad, Stops, Allowed, Begun, cons_head, cons_tail}
 use Rattle.expression_parser.proofs.Tokens.{head_kind}
 use Rattle.secrec_parser.specs.declared.assignment.Update.{Update}
-use Rattle.secrec_parser.specs.Grammar.{identifier, bracketed, optional, IsDomain, IsType, IsDeclaration, IsAssignment}
+use Rattle.secrec_parser.specs.Grammar.{identifier, bracketed, optional, IsDomain, IsDimension, IsType, IsDeclaration, IsAssignment}
 use Rattle.secrec_parser.specs.Steps.{is_type, update_of, follows_name, ActionTree, assigns, evaluates}
 use Rattle.secrec_parser.proofs.Declarations.{clash, sign_head}
 use Rattle.secrec_parser.proofs.Assignments.{by_down, IsAction}
@@ -105,7 +105,7 @@ data_type_head types.Bool s m m2 x v eq = is_type_at x (kinds.Sign signs.Bool) (
 pub type_second : (t : DeclaredType) (s m m2 : List Token) (x y : Token) (text : List ℕ) → IsType t s → s ++ m ≡ x ∷ y ∷ m2 → x.kind ≡ kinds.Name text → is_type y ≡ true
 type_second t s m m2 x y text v eq is = go t.domain v.1.3
   where
-    w : (IsDomain t.domain then (IsDataType t.element then _)) s
+    w : (IsDomain t.domain then (IsDataType t.element then IsDimension t.array)) s
     w = v.1
 
     eq2 : w.0 ++ (w.1 ++ m) ≡ x ∷ y ∷ m2

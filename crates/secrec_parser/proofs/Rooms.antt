@@ -43,11 +43,11 @@ rest_of : Outcome StatementTree → List Token
 rest_of (Ok o) = o.1
 rest_of (Err e) = e.1
 
-read : StatementTree → List Token → Outcome StatementTree
+abbrev pub read : StatementTree → List Token → Outcome StatementTree
 read c r = Ok (c, r)
 
 same_value : (a b : StatementTree) (r s : List Token) → read a r ≡ read b s → (a ≡ b) × (r ≡ s)
-unfolding value_of rest_of read
+unfolding value_of rest_of
 same_value a b r s e = (ap (value_of a) e, ap rest_of e)
 
 greedy_bind : {A : Type 0} (o : Outcome A) (k : A × List Token → Outcome StatementTree) → ((a : A) (r : List Token) → o ≡ Ok (a, r) → Greedy (k (a, r))) → Greedy (o >>= k)
@@ -88,7 +88,12 @@ module _ (room : ℕ) (inside : Bool) (x : Token) (m : List Token) (en : IsEnded
       let g = sym (read_family c r e) ∙ f in
       all_closed c r enr (trivial c (λ k. i (sym g ∙ k)) (λ k. w (sym g ∙ k)) (λ k. t (sym g ∙ k)))
 
+span_rest : Outcome Span → List Token
+span_rest (Ok o) = o.1
+span_rest (Err e) = e.1
+
 else_greedy : (inner : Inner) (p : Span) (e : Tree) (s : StatementTree) (w : List Token) → ((w : List Token) → IsEnded w → Greedy (inner w)) → IsEnded w → Greedy (else_step inner p e s w)
+unfolding span_rest
 else_greedy inner p e s [] gi en = cc
 else_greedy inner p e s (x ∷ m) gi en = go (is_sign signs.Else x) refl
   where
@@ -100,7 +105,7 @@ else_greedy inner p e s (x ∷ m) gi en = go (is_sign signs.Else x) refl
         behind : (a : Span) (r : List Token) → expect signs.Else (x ∷ m) ≡ Ok (a, r) → IsEnded r
         behind a r f =
             let g : Ok (x.place, m) ≡ Ok (a, r) = sym (ap (λ b. cond b (Ok (x.place, m)) (Err (Unexpected, x ∷ m))) t) ∙ f in
-            let h : m ≡ r = cc in
+            let h : m ≡ r = ap (λ o. span_rest o) g in
             subst IsEnded h (after_kind x m (kinds.Sign signs.Else) en (is_sign-true signs.Else x t) refl)
     go false t = λ c r enr f.
         let e2 = same_value (branch p e s) c (x ∷ m) r f in

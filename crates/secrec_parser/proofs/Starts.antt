@@ -91,11 +91,10 @@ starts inside (assignment a) s m m2 x v eq = ap starter (sym (assignment_head a 
 starts inside (evaluation e) s m m2 x v eq =
     let f = first_token loosest e v.0 (v.1 ++ m) m2 x v.3 (front s m m2 x v eq) in expression_starter x.kind f.0 f.1
 
-pub else_token : Token
+abbrev pub else_token : Token
 else_token = token origin (kinds.Sign signs.Else)
 
 pub statement_some : (inside : Bool) (c : StatementTree) → IsStatement inside c [] → ⊥
-unfolding else_token
 statement_some inside c v = let f : false ≡ true = starts inside c [] (else_token ∷ []) [] else_token v refl in cc
 
 -- Leaders of declarations, names and expressions
@@ -120,11 +119,19 @@ expression_leader inside (kinds.Sign signs.Declassify) p n e f = cc
 expression_leader inside (kinds.Sign signs.Publish) p n e f = cc
 expression_leader inside k p n e f = cc
 
+is_name : Leader → Bool
+is_name leaders.Name = true
+is_name other = false
+
+no_truth : false ≡ true → ⊥
+no_truth e = cc
+
 pub name_kind : (inside : Bool) (k : Kind) (p : Span) → leader_of inside (token p k) ≡ leaders.Name → (text : List ℕ) × (k ≡ kinds.Name text)
+unfolding is_name
 name_kind inside (kinds.Name text) p e = (text, refl)
-name_kind true (kinds.Sign signs.Break) p e = cc
-name_kind true (kinds.Sign signs.Continue) p e = cc
-name_kind inside k p e = cc
+name_kind true (kinds.Sign signs.Break) p e = absurd (no_truth (ap is_name e))
+name_kind true (kinds.Sign signs.Continue) p e = absurd (no_truth (ap is_name e))
+name_kind inside k p e = absurd (no_truth (ap is_name e))
 
 -- what a declaration begins with that begins with no name
 pub data Typed (x : Token) : Type 0 where
@@ -133,7 +140,12 @@ pub data Typed (x : Token) : Type 0 where
   uint_type : x.kind ≡ kinds.Sign signs.Uint → Typed x
   bool_type : x.kind ≡ kinds.Sign signs.Bool → Typed x
 
+is_declaration : Leader → Bool
+is_declaration leaders.Declaration = true
+is_declaration other = false
+
 pub typed : (inside : Bool) (x : Token) → leader_of inside x ≡ leaders.Declaration → Typed x
+unfolding is_declaration
 typed inside x e = go inside x.kind refl e
   where
     go : (inside : Bool) (k : Kind) → x.kind ≡ k → leader_of inside (token x.place k) ≡ leaders.Declaration → Typed x
@@ -141,24 +153,22 @@ typed inside x e = go inside x.kind refl e
     go inside (kinds.Sign signs.Uint64) k e = uint64_type k
     go inside (kinds.Sign signs.Uint) k e = uint_type k
     go inside (kinds.Sign signs.Bool) k e = bool_type k
-    go true (kinds.Sign signs.Break) k e = cc
-    go true (kinds.Sign signs.Continue) k e = cc
-    go inside kind k e = cc
+    go true (kinds.Sign signs.Break) k e = absurd (no_truth (ap is_declaration e))
+    go true (kinds.Sign signs.Continue) k e = absurd (no_truth (ap is_declaration e))
+    go inside kind k e = absurd (no_truth (ap is_declaration e))
 
 -- Samples
 
-pub parens : List Token
+abbrev pub parens : List Token
 parens = token origin (kinds.Sign signs.LeftParenthesis) ∷ leaf_token ∷ lone signs.RightParenthesis
 
 pub are_parens : parenthesised leaf parens
-unfolding parens
 are_parens = (token origin (kinds.Sign signs.LeftParenthesis) ∷ [], leaf_token ∷ lone signs.RightParenthesis, refl, (origin, refl), (leaf_token ∷ [], lone signs.RightParenthesis, refl, refl, (origin, refl)))
 
-pub heads : List Token
+abbrev pub heads : List Token
 heads = token origin (kinds.Sign signs.LeftParenthesis) ∷ lone signs.Semicolon ++ lone signs.Semicolon ++ lone signs.RightParenthesis
 
 pub are_heads : heading starts_with_nothing None steps_by_nothing heads
-unfolding heads
 are_heads =
     (token origin (kinds.Sign signs.LeftParenthesis) ∷ [], lone signs.Semicolon ++ lone signs.Semicolon ++ lone signs.RightParenthesis, refl, (origin, refl),
     ([], lone signs.Semicolon ++ lone signs.Semicolon ++ lone signs.RightParenthesis, refl, refl,
@@ -178,7 +188,7 @@ module _ (inside : Bool) (x : Token) where
   declared_as t = record { declared = t; variable = some_name; size = None; value = None }
 
   typed_sample : Typed x → Sample
-  unfolding declared_as some_name name_token uint_token
+  unfolding declared_as
   typed_sample (open_type k) =
       (declaration (declared_as (record { place = x.place; domain = domains.Public; element = types.Uint64; array = false })), uint_token ∷ name_token ∷ lone signs.Semicolon,
       (x ∷ uint_token ∷ name_token ∷ [], lone signs.Semicolon, refl,
@@ -202,7 +212,6 @@ module _ (inside : Bool) (x : Token) where
 
   -- a statement of each leader but an expression
   pub sample : (l : Leader) → leader_of inside x ≡ l → (l ≡ leaders.Expression → ⊥) → Sample
-  unfolding parens heads
   sample leaders.Block e other =
       (block x.place statements.none, lone signs.RightBrace, (x ∷ [], lone signs.RightBrace, refl, here signs.LeftBrace (leads inside x leaders.Block signs.LeftBrace e refl), ([], lone signs.RightBrace, refl, refl, (origin, refl))))
   sample leaders.Empty e other = (empty x.place, [], here signs.Semicolon (leads inside x leaders.Empty signs.Semicolon e refl))

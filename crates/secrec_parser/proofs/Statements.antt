@@ -69,10 +69,10 @@ module _ (inside : Bool) (room : ℕ) {B : Type 0} (k : Sign) (n : ℕ) (W : B �
         stop (x ∷ m) m o refl
         (known (kinds.Sign k) (λ p. W) f (LowStatement room) G goes_on alive x m o is en r)
 
-follow_any : (c : StatementTree) (m : List Token) → Stops (Follow c) m → Stops (Any c) m
+pub follow_any : (c : StatementTree) (m : List Token) → Stops (Follow c) m → Stops (Any c) m
 follow_any c m st = any_stops (Follow c) [] m st
 
-follow_same : (c : StatementTree) (m : List Token) → Stops (Follow c) m → Stops (Follow c) m
+pub follow_same : (c : StatementTree) (m : List Token) → Stops (Follow c) m → Stops (Follow c) m
 follow_same c m st = st
 
 -- a statement whose end decides what may follow it
@@ -279,17 +279,22 @@ module _ (room : ℕ) (two : 2 ≤ room) (inside : Bool) (inner : Inner)
     and_nothing : {P : Phrase} (s : List Token) → P s → (P then nothing) s
     and_nothing s v = (s, [], sym (append-nil s), v, refl)
 
-    if_up : (p : Span) (b : Tree × (StatementTree × Option StatementTree)) (s : List Token) → (sign_at p signs.If then Branches b) s → IsStatement inside (if_tree p b.0 b.1.0 b.1.1) s
+    if_case : (p : Span) (e : Tree) (b : StatementTree) (o : Option StatementTree) (s : List Token) → (sign_at p signs.If then (parenthesised e then (IsStatement inside b then ElseTail b o))) s → IsStatement inside (if_tree p e b o) s
     unfolding ElseTail
-    if_up p b s v = at b.1.1 v.4.4.4
-      where
-        at : (o : Option StatementTree) → ElseTail b.1.0 o v.4.4.1 → IsStatement inside (if_tree p b.0 b.1.0 o) s
-        at None n = (v.0, v.1, v.2, v.3, (v.4.0, v.4.1, v.4.2, v.4.3, then_nothing v.4.1 (v.4.4.0, v.4.4.1, v.4.4.2, v.4.4.3, n)))
-        at (Some t) u = (u.0, (v.0, v.1, v.2, v.3, (v.4.0, v.4.1, v.4.2, v.4.3, (v.4.4.0, v.4.4.1, v.4.4.2, v.4.4.3, u.1))))
+    if_case p e b None s v =
+        let u = v.4 in
+        (v.0, v.1, v.2, v.3, (u.0, u.1, u.2, u.3, then_nothing {P = IsStatement inside b} u.1 u.4))
+    if_case p e b (Some t) s v =
+        let u = v.4 in
+        let w = u.4 in
+        (w.4.0, (v.0, v.1, v.2, v.3, (u.0, u.1, u.2, u.3, (w.0, w.1, w.2, w.3, w.4.1))))
+
+    if_up : (p : Span) (b : Tree × (StatementTree × Option StatementTree)) (s : List Token) → (sign_at p signs.If then Branches b) s → IsStatement inside (if_tree p b.0 b.1.0 b.1.1) s
+    if_up p b s v = if_case p b.0 b.1.0 b.1.1 s v
 
     if_down : (c : StatementTree) (s : List Token) → family_of c ≡ 2 → IsStatement inside c s → (p : Span) × (b : Tree × (StatementTree × Option StatementTree)) × (c ≡ if_tree p b.0 b.1.0 b.1.1) × (sign_at p signs.If then Branches b) s
     unfolding ElseTail
-    if_down (branch p e b) s f v = (p, (e, (b, None)), refl, (v.0, v.1, v.2, v.3, (v.4.0, v.4.1, v.4.2, v.4.3, and_nothing v.4.1 v.4.4)))
+    if_down (branch p e b) s f v = (p, (e, (b, None)), refl, (v.0, v.1, v.2, v.3, (v.4.0, v.4.1, v.4.2, v.4.3, and_nothing {P = IsStatement inside b} v.4.1 v.4.4)))
     if_down (choice p e b t) s f v =
         let w = v.1 in
         let u = w.4 in

@@ -1,11 +1,12 @@
 -- The steps, as the code comes to them.
-use Rattle.std.proofs.Common.{◌≡◌, ℕ, zero, suc, ◌+◌, ◌-◌, ◌<◌, ◌≤◌, Bool, true, false, cond, List, [], ◌∷◌, ◌++◌, refl, sym, ap, ◌∙◌, Result, Ok, Err, length, arith}
-use Rattle.std.specs.Prelude.{◌&&◌, not, nat_lt}
+use Rattle.std.proofs.Common.{Bor, ◌≡◌, ℕ, zero, suc, ◌+◌, ◌-◌, ◌<◌, ◌≤◌, Bool, true, false, cond, List, [], ◌∷◌, ◌++◌, refl, sym, ap, ◌∙◌, Result, Ok, Err, length, arith}
+use Rattle.std.specs.Prelude.{◌&&◌, not, nat_lt, IfOk}
 use Rattle.std.proofs.lemmas.Bool.{ltb-false, lt-ltb, le-ltb}
 use Rattle.secrec_lexer.specs.declared.token.Token.{Token}
 use Rattle.sc_text.specs.declared.span.Span.{Span}
 use Rattle.secrec_lexer.specs.declared.sign.Sign.TheVariants as signs
 use Rattle.secrec_ast.specs.declared.function.DomainVariable.{DomainVariable}
+use Rattle.secrec_ast.specs.declared.statement.Statement.{Statement}
 use Rattle.secrec_ast.specs.Tree.{Tree}
 use Rattle.secrec_ast.specs.Statements.{StatementTree, branch, choice}
 use Rattle.expression_parser.specs.declared.stopped.Stopped.{Stopped}
@@ -69,11 +70,11 @@ statement_here (suc h) inside x m =
     let d : h ≡ suc h - 1 = omega arith in
     ap (λ n. cond (nat_lt (suc h) (least (leader_of inside x))) (Err (TooHigh, x ∷ m)) (statement_by (leader_of inside x) (suc h) (statement_at_most n) inside x m)) d
 
-pub statement_none : (room : ℕ) (inside : Bool) (w : List Token) → w ≡ [] → statement_at_most room inside w ≡ Err (Unexpected, w)
+pub statement_none : (room : ℕ) (inside : Bool) (w : List Token) → length w ≡ 0 → statement_at_most room inside w ≡ Err (Unexpected, w)
 unfolding statement_at_most statement_step
 statement_none zero inside [] e = refl
 statement_none (suc h) inside [] e = refl
-statement_none room inside (x ∷ m) e = cc
+statement_none room inside (x ∷ m) e = absurd (omega (arith, e))
 
 -- where l is what leads the tokens, and n its least height
 module _ (room : ℕ) (inside : Bool) (w : List Token) (x : Token) (m : List Token) (l : Leader) (n : ℕ) (front : w ≡ x ∷ m) (led_by : l ≡ leader_of inside x) (least_is : n ≡ least l) where
@@ -142,3 +143,8 @@ comma_fails inner w r r2 q p e f = ap (λ o. o >>= λ a. inner a.1) e ∙ f
 
 pub comma_reads : {A : Type 0} (inner : List Token → Outcome A) (w r r2 : List Token) (q : Span) (a : A) → expect signs.Comma w ≡ Ok (q, r) → inner r ≡ Ok (a, r2) → comma_then inner w ≡ Ok (a, r2)
 comma_reads inner w r r2 q a e f = ap (λ o. o >>= λ a. inner a.1) e ∙ f
+
+-- what reads past a token reads past the tokens that it began
+pub read_shorter : (o : Result (Statement × Bor (List Token)) Stopped) (w v : List Token) → length v < length w → IfOk o (λ x. length x.1.now ≤ length v) → IfOk o (λ x. length x.1.now < length w)
+read_shorter (Ok x) w v l h = omega (arith, l, h)
+read_shorter (Err e) w v l h = tt

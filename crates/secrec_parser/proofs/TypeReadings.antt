@@ -53,7 +53,7 @@ same_name y x text k p e =
 
 -- Domains
 
-sign_begins_domain : Sign → Bool
+abbrev pub sign_begins_domain : Sign → Bool
 sign_begins_domain signs.Public = true
 sign_begins_domain other = false
 
@@ -84,7 +84,6 @@ named_reads x m text en e =
         (ap domains.Named (same_name y x text f.0 f.1 e), f.2)
 
 unnamed_reads : (x : Token) (m : List Token) → IsEnded (x ∷ m) → ((text : List ℕ) → x.kind ≡ kinds.Name text → ⊥) → Reads IsDomain All NoDomain (x ∷ m) (cond (is_sign signs.Public x) (Ok (domains.Public, m)) (Ok (domains.Public, x ∷ m)))
-unfolding sign_begins_domain
 unnamed_reads x m en other = go (is_sign signs.Public x) refl
   where
     go : (b : Bool) → is_sign signs.Public x ≡ b → Reads IsDomain All NoDomain (x ∷ m) (cond b (Ok (domains.Public, m)) (Ok (domains.Public, x ∷ m)))
@@ -121,18 +120,16 @@ abbrev bit : Bool → ℕ
 bit false = 0
 bit true = 1
 
-Bit : Bool → Phrase
+abbrev pub Bit : Bool → Phrase
 Bit b = one (kinds.Number (bit b))
 
 bit_is : (n : ℕ) (b : Bool) (s m m2 : List Token) (x : Token) → x.kind ≡ kinds.Number n → Bit b s → s ++ m ≡ x ∷ m2 → (bit b ≡ n) × (s ≡ x ∷ [])
-unfolding Bit
 bit_is n b s m m2 x e v eq =
     let f = one_is (kinds.Number (bit b)) s m m2 x v eq in
     let g : kinds.Number (bit b) ≡ kinds.Number n = sym f.0 ∙ e in
     (cc, f.1)
 
 bit_reads : (w : List Token) → IsEnded w → Reads Bit All Any w (zero_or_one w)
-unfolding Bit
 bit_reads [] en = cc
 bit_reads (x ∷ m) en = go x.kind refl
   where
@@ -171,17 +168,16 @@ bit_reads (x ∷ m) en = go x.kind refl
 abbrev Ends : Bool × Unit {0} → Phrase
 Ends = Both Bit (λ b (u : Unit {0}). sign signs.RightBracket then sign signs.RightBracket)
 
-abbrev lone : Sign → List Token
+abbrev pub lone : Sign → List Token
 lone s = token origin (kinds.Sign s) ∷ []
 
 ends : (u : Unit {0}) → (sign signs.RightBracket then sign signs.RightBracket) (lone signs.RightBracket ++ lone signs.RightBracket)
 ends u = (lone signs.RightBracket, lone signs.RightBracket, refl, (origin, refl), (origin, refl))
 
-zero_token : Token
+abbrev pub zero_token : Token
 zero_token = token origin (kinds.Number 0)
 
 some_ends : Ends (false, tt) (zero_token ∷ lone signs.RightBracket ++ lone signs.RightBracket)
-unfolding Bit zero_token
 some_ends = (zero_token ∷ [], lone signs.RightBracket ++ lone signs.RightBracket, refl, (origin, refl), ends tt)
 
 brackets_reads : (w : List Token) → IsEnded w → Reads (Made (λ (v : Bool × Unit {0}). v.0) (λ v. sign signs.LeftBracket then (sign signs.LeftBracket then Ends v))) All Any w (brackets w)
@@ -208,7 +204,6 @@ abbrev Bracketed : Bool → Phrase
 Bracketed = Made (λ (v : Bool × Unit {0}). v.0) (λ v. sign signs.LeftBracket then (sign signs.LeftBracket then Ends v))
 
 dimension_reads : (w : List Token) → IsEnded w → Reads IsDimension All NoBracket w (dimension w)
-unfolding Bit
 dimension_reads [] en = cc
 dimension_reads (x ∷ m) en = go (is_sign signs.LeftBracket x) refl
   where
@@ -241,7 +236,6 @@ dimension_reads (x ∷ m) en = go (is_sign signs.LeftBracket x) refl
 -- Types
 
 type_starts : (e : DataType) (s : List Token) → IsDataType e s → (q : Span) × (k : Sign) × (s ≡ token q (kinds.Sign k) ∷ []) × (begins_domain (kinds.Sign k) ≡ false)
-unfolding sign_begins_domain
 type_starts types.Uint64 s (inl v) = (v.0, signs.Uint64, v.1, refl)
 type_starts types.Uint64 s (inr v) = (v.0, signs.Uint, v.1, refl)
 type_starts types.Bool s v = (v.0, signs.Bool, v.1, refl)
@@ -257,11 +251,10 @@ type_first d v t m w =
     let u = type_starts v.0 w.0 w.3 in
     subst (λ l. Stops (NoDomain d) (l ++ m)) (sym (w.2 ∙ ap (λ l. l ++ w.1) u.2)) u.3
 
-uint_token : Token
+abbrev pub uint_token : Token
 uint_token = token origin (kinds.Sign signs.Uint64)
 
 parts_reads : (x : Token) (m : List Token) → IsEnded (x ∷ m) → Reads (Made (type_at x.place) Parts) All NoBracket (x ∷ m) (domain_of x.kind x m >>= λ d. data_type d.1 >>= λ e. dimension e.1 >>= λ n. Ok (type_at x.place (d.0, (e.0, n.0)), n.1))
-unfolding uint_token
 parts_reads x m en =
     seq IsDomain All NoDomain (λ d. Both IsDataType (λ e. IsDimension)) (λ d v. type_at x.place (d, v)) All NoBracket
     (λ d v t w f. tt)
