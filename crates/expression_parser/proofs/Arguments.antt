@@ -1,19 +1,18 @@
 -- The readings of arguments and of what stands behind a name.
-use Rattle.std.proofs.Common.{◌≡◌, ℕ, zero, suc, ◌+◌, ◌<◌, ◌≤◌, List, [], ◌∷◌, ◌++◌, ◌⊎◌, inl, inr, refl, sym, ap, ◌∙◌, subst, append_assoc, append-nil, Result, Ok, Err, Option, Some, None, length, arith, Bool, true, false, cond}
-use Rattle.std.specs.Prelude.{max}
+use Rattle.std.proofs.Common.{◌≡◌, ℕ, zero, suc, ◌<◌, ◌≤◌, List, [], ◌∷◌, ◌++◌, ◌⊎◌, inl, inr, refl, sym, ap, ◌∙◌, subst, append_assoc, append-nil, Ok, Some, None, length, arith, Bool, true, false, cond}
 use Rattle.sc_text.specs.declared.span.Span.{Span}
 use Rattle.secrec_lexer.specs.Tokens.{is_sign, IsEnded}
 use Rattle.secrec_lexer.specs.declared.sign.Sign.TheVariants as signs
 use Rattle.secrec_lexer.specs.declared.token.Kind.TheVariants as kinds
 use Rattle.secrec_lexer.specs.declared.token.Token.{Token}
 use Rattle.secrec_ast.specs.Tree.{Tree, Trees, variable, call, none, also}
-use Rattle.secrec_ast.specs.Heights.{height, heights}
-use Rattle.expression_parser.specs.Phrases.{Phrase, token, nothing, one_at, one, sign_at, sign, ◌then◌}
+use Rattle.secrec_ast.specs.Heights.{height}
+use Rattle.expression_parser.specs.Phrases.{Phrase, token, one_at, sign_at, sign, ◌then◌}
 use Rattle.expression_parser.specs.Grammar.{IsExpression, AreArguments, AreMore, loosest}
 use Rattle.expression_parser.specs.Follow.{goes_on, Free}
 use Rattle.expression_parser.specs.Steps.{Outcome, ◌>>=◌, expect, least, more, more_at, some_arguments, arguments, call_behind, after_name}
-use Rattle.expression_parser.proofs.Reading.{Good, Bad, Reads, Then, Only, Stops, cons_head, second, bind_reads, pure_reads, reads_as}
-use Rattle.expression_parser.proofs.Tokens.{Any, All, Alive, origin, any_stops, ended_cons, good_ended, good_shorter, after_kind, head_kind, is_sign-true, is_sign-false, token_good, token_then, Closing, closing, closes, sign_stops, closing_is, is_closing}
+use Rattle.expression_parser.proofs.Reading.{Good, Reads, Then, Only, Stops, cons_head, bind_reads, pure_reads, reads_as}
+use Rattle.expression_parser.proofs.Tokens.{Any, origin, any_stops, good_ended, good_shorter, head_kind, is_sign-true, is_sign-false, token_then, Closing, closing, closes, sign_stops, closing_is, is_closing}
 use Rattle.expression_parser.proofs.Nodes.{Low, Lows, tall, leaf, leaf_token, first_token}
 
 -- a closing parenthesis stands behind

@@ -1,23 +1,24 @@
 -- Operators of one level behind a left operand, and the levels one over another.
-use Rattle.std.proofs.Common.{◌≡◌, ℕ, zero, suc, ◌+◌, ◌-◌, ◌<◌, ◌≤◌, List, [], ◌∷◌, ◌++◌, ◌⊎◌, inl, inr, refl, sym, ap, ◌∙◌, subst, append_assoc, append-nil, Result, Ok, Err, Option, Some, None, length, arith, Bool, true, false, cond}
-use Rattle.std.specs.Prelude.{max, nat_le}
+use Rattle.std.proofs.Common.{◌≡◌, ℕ, zero, suc, ◌-◌, ◌<◌, ◌≤◌, List, [], ◌∷◌, ◌++◌, ◌⊎◌, inl, inr, refl, sym, ap, ◌∙◌, subst, append_assoc, append-nil, Ok, Err, Option, Some, None, length, arith, true, false, cond}
+use Rattle.std.specs.Prelude.{nat_le}
 use Rattle.std.proofs.lemmas.Bool.{leb-true, leb-false, lt-ltb, cases_lt}
 use Rattle.sc_text.specs.declared.span.Span.{Span}
 use Rattle.secrec_lexer.specs.Tokens.{IsEnded}
+use Rattle.secrec_lexer.specs.declared.token.Kind.{Kind}
 use Rattle.secrec_lexer.specs.declared.token.Kind.TheVariants as kinds
 use Rattle.secrec_lexer.specs.declared.token.Token.{Token}
 use Rattle.secrec_ast.specs.declared.expression.Operator.{Operator}
-use Rattle.secrec_ast.specs.Tree.{Tree, Trees, number, truth, variable, call, index, parentheses, negation, cast, binary, declassify, argument, publish, none, also}
-use Rattle.secrec_ast.specs.Heights.{height, heights, place_of}
+use Rattle.secrec_ast.specs.Tree.{Tree, number, truth, variable, call, index, parentheses, negation, cast, binary, declassify, argument, publish}
+use Rattle.secrec_ast.specs.Heights.{height, place_of}
 use Rattle.expression_parser.specs.declared.problem.Problem.{Problem}
 use Rattle.expression_parser.specs.declared.problem.Problem.TheVariants.{Unexpected, TooHigh}
-use Rattle.expression_parser.specs.Phrases.{Phrase, token, one_at, one, sign_at, sign, ◌then◌}
+use Rattle.expression_parser.specs.Phrases.{Phrase, token, sign_at}
 use Rattle.expression_parser.specs.Grammar.{IsExpression, sign_of, level, loosest, unary}
 use Rattle.expression_parser.specs.Follow.{goes_on, Free}
 use Rattle.expression_parser.specs.Steps.{Outcome, ◌>>=◌, least, why_not, unless, unary_at, unary_of, operator_at, at_level, grow, grow_at, climb, at_most}
-use Rattle.expression_parser.proofs.Reading.{Good, Bad, Reads, Then, Only, Stops, cons_head, second, bind_reads, pure_reads, reads_as}
-use Rattle.expression_parser.proofs.Tokens.{Any, All, origin, choose, any_stops, good_ended, good_shorter, after_kind, head_kind, token_then}
-use Rattle.expression_parser.proofs.Operators.{level_positive, at_level-own, same_sign, operator_is, not_free, free_below, tighter}
+use Rattle.expression_parser.proofs.Reading.{Good, Bad, Reads, Then, Only, Stops, cons_head, bind_reads, pure_reads, reads_as}
+use Rattle.expression_parser.proofs.Tokens.{Any, choose, any_stops, good_ended, good_shorter, head_kind, token_then}
+use Rattle.expression_parser.proofs.Operators.{at_level-own, same_sign, operator_is, not_free, free_below, tighter}
 use Rattle.expression_parser.proofs.Nodes.{Low, tall, leaf, leaf_token, start_bad, least_positive}
 use Rattle.expression_parser.proofs.Unaries.{unary_reads}
 
@@ -217,10 +218,14 @@ some_problem None positive = (Unexpected, refl)
 some_problem (Some zero) positive = let f = positive 0 refl in absurd (omega arith)
 some_problem (Some (suc n)) positive = (TooHigh, ap (λ b. cond b (Some TooHigh) None) (lt-ltb 0 (suc n) (omega arith)))
 
+-- where no node has room, each token is refused
+pub nowhere : (kind : Kind) → (p : Problem) × (why_not 0 (least kind) ≡ Some p)
+nowhere kind = some_problem (least kind) (least_positive kind)
+
 pub at_most_reads : (h k : ℕ) (w : List Token) → IsEnded w → Reads (IsExpression k) (Low h) (Free k) w (at_most h k w)
 unfolding at_most
 at_most_reads h k [] en = cc
 at_most_reads zero k (x ∷ m) en =
-    let p = some_problem (least x.kind) (least_positive x.kind) in
+    let p = nowhere x.kind in
     subst (Reads (IsExpression k) (Low 0) (Free k) (x ∷ m)) (sym (no_room k (λ j v. Err (TooHigh, v)) x m p.0 p.1)) (start_bad k 0 x m p.0 p.1)
 at_most_reads (suc h) k (x ∷ m) en = climb_reads h (at_most h) (at_most_reads h) k (x ∷ m) en

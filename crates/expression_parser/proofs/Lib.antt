@@ -7,3 +7,5 @@ pub mod Arguments
 pub mod Primaries
 pub mod Unaries
 pub mod Levels
+pub mod Turns
+pub mod Told

@@ -1,25 +1,24 @@
 -- What every expression begins with, and the readings of what stands in brackets.
-use Rattle.std.proofs.Common.{◌≡◌, ℕ, zero, suc, ◌+◌, ◌-◌, ◌<◌, ◌≤◌, List, [], ◌∷◌, ◌++◌, ◌⊎◌, inl, inr, refl, sym, ap, ◌∙◌, subst, append_assoc, append-nil, Result, Ok, Err, Option, Some, None, length, arith, Bool, true, false, cond}
-use Rattle.std.specs.Prelude.{max, nat_lt}
+use Rattle.std.proofs.Common.{◌≡◌, ℕ, suc, ◌<◌, ◌≤◌, List, [], ◌∷◌, ◌++◌, inl, refl, sym, ap, ◌∙◌, subst, append-nil, Ok, Option, Some, None, arith, Bool, true, false, cond}
+use Rattle.std.specs.Prelude.{nat_lt}
 use Rattle.std.proofs.lemmas.Bool.{ltb-true, ltb-false}
 use Rattle.sc_text.specs.declared.span.Span.{Span}
-use Rattle.secrec_lexer.specs.Tokens.{is_sign, IsEnded}
+use Rattle.secrec_lexer.specs.Tokens.{IsEnded}
 use Rattle.secrec_lexer.specs.declared.sign.Sign.{Sign}
 use Rattle.secrec_lexer.specs.declared.sign.Sign.TheVariants as signs
 use Rattle.secrec_lexer.specs.declared.token.Kind.{Kind}
 use Rattle.secrec_lexer.specs.declared.token.Kind.TheVariants as kinds
 use Rattle.secrec_lexer.specs.declared.token.Token.{Token}
-use Rattle.secrec_ast.specs.declared.expression.Operator.{Operator}
-use Rattle.secrec_ast.specs.Tree.{Tree, Trees, number, truth, variable, call, index, parentheses, negation, cast, binary, declassify, argument, publish, none, also}
-use Rattle.secrec_ast.specs.Heights.{height, heights, place_of}
+use Rattle.secrec_ast.specs.Tree.{Tree, Trees, number, truth, variable, call, index, parentheses, negation, cast, binary, declassify, argument, publish}
+use Rattle.secrec_ast.specs.Heights.{height, heights}
 use Rattle.expression_parser.specs.declared.problem.Problem.{Problem}
 use Rattle.expression_parser.specs.declared.problem.Problem.TheVariants.{Unexpected, TooHigh}
-use Rattle.expression_parser.specs.Phrases.{Phrase, token, nothing, one_at, one, sign_at, sign, ◌then◌}
-use Rattle.expression_parser.specs.Grammar.{IsPrimary, IsExpression, AreArguments, AreMore, level, loosest, unary, sign_of}
+use Rattle.expression_parser.specs.Phrases.{Phrase, token, sign, ◌then◌}
+use Rattle.expression_parser.specs.Grammar.{IsExpression, level, loosest, unary}
 use Rattle.expression_parser.specs.Follow.{goes_on, Free}
-use Rattle.expression_parser.specs.Steps.{Outcome, ◌>>=◌, expect, least, least_of_sign, why_not, unless}
-use Rattle.expression_parser.proofs.Reading.{Good, Bad, Reads, Then, Only, Stops, cons_head, second, bind_reads, pure_reads, reads_as}
-use Rattle.expression_parser.proofs.Tokens.{Any, All, Alive, origin, any_stops, ended_cons, good_ended, head_kind, Closing, closing, closes, sign_stops, closing_is, is_closing}
+use Rattle.expression_parser.specs.Steps.{Outcome, ◌>>=◌, expect, least, least_of_sign, why_not}
+use Rattle.expression_parser.proofs.Reading.{Bad, Reads, Then, Only, Stops, bind_reads, pure_reads}
+use Rattle.expression_parser.proofs.Tokens.{Any, Alive, origin, good_ended, head_kind, Closing, closing, closes, sign_stops, closing_is, is_closing}
 
 abbrev pub Low : ℕ → Tree → Type 0
 Low n c = height c ≤ n

@@ -1,11 +1,11 @@
 -- The same reading under another name, where the next two tokens are known.
-use Rattle.std.proofs.Common.{◌≡◌, ℕ, List, [], ◌∷◌, ◌++◌, ◌⊎◌, inl, inr, refl, sym, ap, ◌∙◌, subst, append_assoc, append-nil, Result, Ok, Err}
+use Rattle.std.proofs.Common.{◌≡◌, List, [], ◌∷◌, ◌++◌, ◌⊎◌, inl, inr, refl, sym, ap, ◌∙◌, subst, Ok, Err}
 use Rattle.expression_parser.specs.declared.problem.Problem.{Problem}
 use Rattle.expression_parser.specs.declared.problem.Problem.TheVariants.{Unexpected, TooHigh}
 use Rattle.secrec_lexer.specs.declared.token.Token.{Token}
 use Rattle.expression_parser.specs.Phrases.{Phrase}
 use Rattle.expression_parser.specs.Steps.{Outcome}
-use Rattle.expression_parser.proofs.Reading.{Good, Bad, Reads, Allowed, Begun, Stops, cons_head, cons_tail}
+use Rattle.expression_parser.proofs.Reading.{Bad, Reads, Allowed, Begun, Stops, cons_head, cons_tail}
 
 -- a text that begins with x and y still does when what follows its next token changes, unless that token is x
 two_heads : (s : List Token) (z x y : Token) (m n k : List Token) → s ++ z ∷ m ≡ x ∷ y ∷ n → ((s ≡ []) ⊎ ((k2 : List Token) × (s ++ z ∷ k ≡ x ∷ y ∷ k2)))

@@ -1,6 +1,5 @@
 -- The readings of primaries: what no operator, cast or index stands in outside brackets.
-use Rattle.std.proofs.Common.{◌≡◌, ℕ, zero, suc, ◌+◌, ◌<◌, ◌≤◌, List, [], ◌∷◌, ◌++◌, ◌⊎◌, inl, inr, refl, sym, ap, ◌∙◌, subst, append_assoc, append-nil, Result, Ok, Err, Option, Some, None, length, arith, Bool, true, false, cond}
-use Rattle.std.specs.Prelude.{max}
+use Rattle.std.proofs.Common.{◌≡◌, ℕ, suc, ◌≤◌, List, [], ◌∷◌, ◌++◌, ◌⊎◌, inl, inr, refl, sym, ap, ◌∙◌, subst, append-nil, Ok, Some, None, arith, Bool, true, false}
 use Rattle.sc_text.specs.declared.span.Span.{Span}
 use Rattle.secrec_lexer.specs.Tokens.{is_sign, is_end, IsEnded}
 use Rattle.secrec_lexer.specs.declared.sign.Sign.{Sign}
@@ -8,16 +7,16 @@ use Rattle.secrec_lexer.specs.declared.sign.Sign.TheVariants as signs
 use Rattle.secrec_lexer.specs.declared.token.Kind.{Kind}
 use Rattle.secrec_lexer.specs.declared.token.Kind.TheVariants as kinds
 use Rattle.secrec_lexer.specs.declared.token.Token.{Token}
-use Rattle.secrec_ast.specs.Tree.{Tree, Trees, number, truth, variable, call, index, parentheses, negation, cast, binary, declassify, argument, publish, none, also}
-use Rattle.secrec_ast.specs.Heights.{height, heights}
-use Rattle.expression_parser.specs.declared.problem.Problem.TheVariants.{Unexpected, TooHigh}
+use Rattle.secrec_ast.specs.Tree.{Tree, Trees, number, truth, variable, call, index, parentheses, negation, cast, binary, declassify, argument, publish}
+use Rattle.secrec_ast.specs.Heights.{height}
+use Rattle.expression_parser.specs.declared.problem.Problem.TheVariants.{Unexpected}
 use Rattle.expression_parser.specs.Phrases.{Phrase, token, one_at, one, sign_at, sign, ◌then◌}
 use Rattle.expression_parser.specs.Grammar.{IsPrimary, IsExpression, AreArguments, loosest, unary}
-use Rattle.expression_parser.specs.Follow.{goes_on, Free}
+use Rattle.expression_parser.specs.Follow.{Free}
 use Rattle.expression_parser.specs.Steps.{Outcome, ◌>>=◌, expect, text, least, why_not, after_name, parentheses_behind, declassify_behind, argument_behind, publish_behind, signed, primary, primary_at}
-use Rattle.expression_parser.proofs.Reading.{Good, Bad, Reads, Then, Only, Stops, cons_head, second, bind_reads, pure_reads, reads_as}
-use Rattle.expression_parser.proofs.Tokens.{Any, All, Alive, origin, choose, any_stops, ended_cons, head_kind, is_sign-true, is_sign-false, token_then, sign_then, text_then, Closing, closing, closes, closing_is, is_closing}
-use Rattle.expression_parser.proofs.Nodes.{Low, leaf, leaf_token, start_fits, Enclosed, enclosed_is, is_enclosed, enclosed_reads, enclosed_alive}
+use Rattle.expression_parser.proofs.Reading.{Bad, Reads, Then, Only, Stops, pure_reads, reads_as}
+use Rattle.expression_parser.proofs.Tokens.{Any, Alive, origin, choose, any_stops, ended_cons, head_kind, is_sign-true, is_sign-false, token_then, sign_then, text_then, Closing, closing, closes, closing_is, is_closing}
+use Rattle.expression_parser.proofs.Nodes.{Low, start_fits, Enclosed, enclosed_is, is_enclosed, enclosed_reads, enclosed_alive}
 use Rattle.expression_parser.proofs.Arguments.{FreeName, NamePhrase, name_cases, variable_named, call_named, name_reads}
 
 abbrev pub Primary : Tree → Phrase

@@ -1,5 +1,5 @@
 -- What it means that a step of a parser reads a phrase, and how steps compose.
-use Rattle.std.proofs.Common.{◌≡◌, ℕ, ◌+◌, ◌≤◌, List, [], ◌∷◌, ◌++◌, ◌⊎◌, inl, inr, refl, sym, ap, ◌∙◌, subst, append_assoc, Result, Ok, Err}
+use Rattle.std.proofs.Common.{◌≡◌, List, [], ◌∷◌, ◌++◌, ◌⊎◌, inl, inr, refl, sym, ap, ◌∙◌, subst, append_assoc, Ok, Err}
 use Rattle.secrec_lexer.specs.declared.token.Token.{Token}
 use Rattle.expression_parser.specs.declared.problem.Problem.{Problem}
 use Rattle.expression_parser.specs.declared.problem.Problem.TheVariants.{Unexpected, TooHigh}

@@ -1,18 +1,17 @@
 -- Readings of single tokens, and of what stands behind them.
-use Rattle.std.proofs.Common.{◌≡◌, ℕ, zero, suc, ◌+◌, ◌<◌, ◌≤◌, List, [], ◌∷◌, ◌++◌, ◌⊎◌, inl, inr, refl, sym, ap, ◌∙◌, subst, append_assoc, append-nil, Result, Ok, Err, length, arith, Bool, true, false, cond, length-append}
+use Rattle.std.proofs.Common.{◌≡◌, ℕ, ◌≤◌, List, [], ◌∷◌, ◌++◌, inl, refl, sym, ap, ◌∙◌, subst, Ok, Err, length, arith, Bool, true, false, cond, length-append}
 use Rattle.std.specs.Prelude.{not, ◌&&◌}
 use Rattle.sc_text.specs.declared.span.Span.{Span}
-use Rattle.secrec_lexer.specs.Tokens.{is_sign, kind_is, is_end, is_ended, IsEnded}
+use Rattle.secrec_lexer.specs.Tokens.{is_sign, is_end, is_ended, IsEnded}
 use Rattle.secrec_lexer.specs.declared.sign.Sign.{Sign}
 use Rattle.secrec_lexer.specs.declared.token.Kind.{Kind}
 use Rattle.secrec_lexer.specs.declared.token.Kind.TheVariants as kinds
 use Rattle.secrec_lexer.specs.declared.token.Token.{Token}
-use Rattle.secrec_lexer.proofs.Signs.{kind_is-itself, kind_is-true, kind_is-false}
-use Rattle.expression_parser.specs.declared.problem.Problem.{Problem}
-use Rattle.expression_parser.specs.declared.problem.Problem.TheVariants.{Unexpected, TooHigh}
-use Rattle.expression_parser.specs.Phrases.{Phrase, token, nothing, one_at, one, sign_at, sign}
+use Rattle.secrec_lexer.proofs.Signs.{kind_is-true, kind_is-false}
+use Rattle.expression_parser.specs.declared.problem.Problem.TheVariants.{Unexpected}
+use Rattle.expression_parser.specs.Phrases.{Phrase, token, one_at, one, sign_at, sign}
 use Rattle.expression_parser.specs.Steps.{Outcome, ◌>>=◌, expect, text, text_of}
-use Rattle.expression_parser.proofs.Reading.{Good, Bad, Reads, Then, Only, Stops, cons_head, second, bind_reads, pure_reads, reads_as}
+use Rattle.expression_parser.proofs.Reading.{Good, Bad, Reads, Then, Only, Stops, cons_head, second, bind_reads, pure_reads}
 
 -- anything may follow, and everything is low enough
 abbrev pub Any : {C : Type 0} → C → Token → Type 0

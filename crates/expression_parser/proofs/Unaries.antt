@@ -1,29 +1,27 @@
 -- The readings of indexes, casts and negations.
-use Rattle.std.proofs.Common.{◌≡◌, ℕ, zero, suc, ◌+◌, ◌<◌, ◌≤◌, List, [], ◌∷◌, ◌++◌, ◌⊎◌, inl, inr, refl, sym, ap, ◌∙◌, subst, append_assoc, append-nil, Result, Ok, Err, Option, Some, None, length, arith, Bool, true, false, cond}
+use Rattle.std.proofs.Common.{◌≡◌, ℕ, suc, ◌+◌, ◌≤◌, List, [], ◌∷◌, ◌++◌, ◌⊎◌, inl, inr, refl, sym, ap, ◌∙◌, subst, append_assoc, append-nil, Ok, Option, Some, None, arith, Bool, true, false, cond}
 use Rattle.std.specs.Prelude.{max, nat_le, ◌&&◌, ◌||◌}
 use Rattle.std.proofs.lemmas.Bool.{leb-true, leb-false}
 use Rattle.sc_text.specs.declared.span.Span.{Span}
-use Rattle.secrec_lexer.specs.Tokens.{is_sign, is_end, IsEnded}
+use Rattle.secrec_lexer.specs.Tokens.{is_sign, IsEnded}
 use Rattle.secrec_lexer.specs.declared.sign.Sign.{Sign}
 use Rattle.secrec_lexer.specs.declared.sign.Sign.TheVariants as signs
-use Rattle.secrec_lexer.specs.declared.token.Kind.{Kind}
 use Rattle.secrec_lexer.specs.declared.token.Kind.TheVariants as kinds
 use Rattle.secrec_lexer.specs.declared.token.Token.{Token}
-use Rattle.secrec_lexer.proofs.Signs.{kind_is-itself}
 use Rattle.secrec_ast.specs.declared.expression.DataType.{DataType}
 use Rattle.secrec_ast.specs.declared.expression.DataType.TheVariants as types
 use Rattle.secrec_ast.specs.declared.expression.Operator.{Operator}
-use Rattle.secrec_ast.specs.Tree.{Tree, Trees, number, truth, variable, call, index, parentheses, negation, cast, binary, declassify, argument, publish, none, also}
-use Rattle.secrec_ast.specs.Heights.{height, heights, place_of}
+use Rattle.secrec_ast.specs.Tree.{Tree, number, truth, variable, call, index, parentheses, negation, cast, binary, declassify, argument, publish}
+use Rattle.secrec_ast.specs.Heights.{height, place_of}
 use Rattle.expression_parser.specs.declared.problem.Problem.{Problem}
-use Rattle.expression_parser.specs.declared.problem.Problem.TheVariants.{Unexpected, TooHigh}
-use Rattle.expression_parser.specs.Phrases.{Phrase, token, one_at, one, sign_at, sign, ◌then◌}
-use Rattle.expression_parser.specs.Grammar.{IsDataType, IsPrimary, IsExpression, AreArguments, level, loosest, unary}
+use Rattle.expression_parser.specs.declared.problem.Problem.TheVariants.{TooHigh}
+use Rattle.expression_parser.specs.Phrases.{Phrase, token, sign_at, sign}
+use Rattle.expression_parser.specs.Grammar.{IsDataType, IsPrimary, IsExpression, level, loosest, unary}
 use Rattle.expression_parser.specs.Follow.{goes_on, Free}
-use Rattle.expression_parser.specs.Steps.{Outcome, ◌>>=◌, expect, least, why_not, unless, data_type, data_type_at, data_type_of, begins_data_type, primary, indexed, index_behind, postfix, negation_behind, cast_behind, unary_at, unary_of}
-use Rattle.expression_parser.proofs.Reading.{Good, Bad, Reads, Then, Only, Stops, cons_head, cons_tail, second, bind_reads, pure_reads, reads_as}
+use Rattle.expression_parser.specs.Steps.{Outcome, ◌>>=◌, expect, least, why_not, unless, data_type, data_type_at, begins_data_type, primary, indexed, index_behind, postfix, negation_behind, cast_behind, unary_at, unary_of}
+use Rattle.expression_parser.proofs.Reading.{Good, Bad, Reads, Then, Only, Stops, cons_head, cons_tail, bind_reads, pure_reads, reads_as}
 use Rattle.expression_parser.proofs.Peek.{reads_peek}
-use Rattle.expression_parser.proofs.Tokens.{Any, All, Alive, origin, choose, any_stops, ended_cons, good_ended, after_kind, head_kind, is_sign-true, is_sign-false, token_then, sign_then, closing_is, is_closing}
+use Rattle.expression_parser.proofs.Tokens.{Any, All, Alive, origin, choose, any_stops, ended_cons, good_ended, after_kind, head_kind, is_sign-true, is_sign-false, token_then, sign_then}
 use Rattle.expression_parser.proofs.Operators.{level_positive}
 use Rattle.expression_parser.proofs.Nodes.{Low, tall, leaf, leaf_token, begins, first_token, start_bad, start_fits, Enclosed, enclosed_is, is_enclosed, enclosed_reads, enclosed_alive, Made, made_is, is_made, made_reads, made_alive}
 use Rattle.expression_parser.proofs.Arguments.{FreeName}

@@ -3,3 +3,4 @@ pub mod Grammar
 pub mod Follow
 pub mod Steps
 pub mod Given
+pub mod Answer

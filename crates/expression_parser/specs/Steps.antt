@@ -1,5 +1,5 @@
 -- The steps of the parser as functions on lists of tokens.
-use Rattle.std.specs.Prelude.{◌≡◌, ℕ, zero, suc, Bool, true, false, ◌||◌, ◌&&◌, List, [], ◌∷◌, length, Result, Ok, Err, Option, Some, None, nat_eq, nat_le, nat_lt, if◌then◌else◌}
+use Rattle.std.specs.Prelude.{ℕ, zero, suc, Bool, true, false, ◌||◌, ◌&&◌, List, [], ◌∷◌, length, Result, Ok, Err, Option, Some, None, nat_eq, nat_le, nat_lt, if◌then◌else◌}
 use Rattle.sc_text.specs.declared.span.Span.{Span}
 use Rattle.secrec_lexer.specs.Tokens.{is_sign}
 use Rattle.secrec_lexer.specs.declared.sign.Sign.{Sign}

@@ -81,16 +81,17 @@ impl Expression {
     }
 
     /// An equal tree in memory of its own.
+    #[cycle(copies)]
     pub fn copy(&self, alloc: Global) -> Result<Expression, AllocError>
         ensures { IfOk result (λ e. expression e ≡ expression self.now) }
     {
         match self {
             Expression::Number(place, word) => Ok(Expression::Number(*place, *word)),
             Expression::Truth(place, truth) => Ok(Expression::Truth(*place, *truth)),
-            Expression::Variable(place, name) => Ok(Expression::Variable(
-                *place,
-                name.copy(alloc)?,
-            )),
+            Expression::Variable(place, name) => {
+                let name = name.copy(alloc)?;
+                Ok(Expression::Variable(*place, name))
+            }
             Expression::Call(place, name, arguments) => {
                 let mut copies = Vec::new(alloc);
                 for argument in arguments {
@@ -99,44 +100,43 @@ impl Expression {
                 Ok(Expression::Call(*place, name.copy(alloc)?, copies))
             }
             Expression::Index(place, array, position) => {
-                let array = array.copy(alloc)?;
-                let position = position.copy(alloc)?;
-                Ok(Expression::Index(*place, Box::new(alloc, array)?, Box::new(alloc, position)?))
+                let array = array.copy_boxed(alloc)?;
+                Ok(Expression::Index(*place, array, position.copy_boxed(alloc)?))
             }
-            Expression::Parentheses(place, e) => {
-                let inner = e.copy(alloc)?;
-                Ok(Expression::Parentheses(*place, Box::new(alloc, inner)?))
-            }
-            Expression::Not(place, e) => {
-                let operand = e.copy(alloc)?;
-                Ok(Expression::Not(*place, Box::new(alloc, operand)?))
-            }
-            Expression::Cast(place, data_type, e) => {
-                let operand = e.copy(alloc)?;
-                Ok(Expression::Cast(*place, *data_type, Box::new(alloc, operand)?))
-            }
-            Expression::Binary(place, operator, a, b) => {
-                let left = a.copy(alloc)?;
-                let right = b.copy(alloc)?;
-                Ok(Expression::Binary(
-                    *place,
-                    *operator,
-                    Box::new(alloc, left)?,
-                    Box::new(alloc, right)?,
-                ))
-            }
-            Expression::Declassify(place, e) => {
-                let operand = e.copy(alloc)?;
-                Ok(Expression::Declassify(*place, Box::new(alloc, operand)?))
-            }
-            Expression::Argument(place, name) => Ok(Expression::Argument(
+            Expression::Parentheses(place, e) => Ok(Expression::Parentheses(
                 *place,
-                name.copy(alloc)?,
+                e.copy_boxed(alloc)?,
             )),
+            Expression::Not(place, e) => Ok(Expression::Not(*place, e.copy_boxed(alloc)?)),
+            Expression::Cast(place, kind, e) => Ok(Expression::Cast(
+                *place,
+                *kind,
+                e.copy_boxed(alloc)?,
+            )),
+            Expression::Binary(place, operator, a, b) => {
+                let left = a.copy_boxed(alloc)?;
+                Ok(Expression::Binary(*place, *operator, left, b.copy_boxed(alloc)?))
+            }
+            Expression::Declassify(place, e) => Ok(Expression::Declassify(
+                *place,
+                e.copy_boxed(alloc)?,
+            )),
+            Expression::Argument(place, name) => {
+                let name = name.copy(alloc)?;
+                Ok(Expression::Argument(*place, name))
+            }
             Expression::Publish(place, name, e) => {
-                let value = e.copy(alloc)?;
-                Ok(Expression::Publish(*place, name.copy(alloc)?, Box::new(alloc, value)?))
+                let value = e.copy_boxed(alloc)?;
+                Ok(Expression::Publish(*place, name.copy(alloc)?, value))
             }
         }
+    }
+
+    #[cycle(copies)]
+    fn copy_boxed(&self, alloc: Global) -> Result<Box<Expression>, AllocError>
+        ensures { IfOk result (λ b. expression b.value ≡ expression self.now) }
+    {
+        let copy = self.copy(alloc)?;
+        Ok(Box::new(alloc, copy)?)
     }
 }

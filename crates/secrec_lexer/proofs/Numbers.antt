@@ -1,6 +1,6 @@
 -- What `from_str_radix` reads is what the definition spells.
-use Rattle.std.proofs.Common.{◌≡◌, ℕ, zero, suc, ◌+◌, ◌<◌, ◌≤◌, ◌^◌, List, [], ◌∷◌, refl, sym, ap, ◌∙◌, subst, length, drop, arith, Bool, true, false, Option, Some, None, cond, Result, Ok, Err}
-use Rattle.std.specs.Prelude.{◌&&◌, ◌==◌, nat_lt, slice_index, IsTrue}
+use Rattle.std.proofs.Common.{◌≡◌, ℕ, ◌<◌, ◌^◌, List, [], ◌∷◌, refl, sym, subst, length, arith, Bool, true, false, Some, None, cond, Result, Ok, Err}
+use Rattle.std.specs.Prelude.{◌&&◌, ◌==◌, nat_lt, IsTrue}
 use Rattle.std.specs.List.{list_all}
 use Rattle.std.specs.Char.{is_digit, digit_value}
 use Rattle.std.specs.Result.{OkIff, result_ok}
@@ -8,17 +8,7 @@ use Rattle.std.specs.Str.Parse.{IsNumeral, AllDigits, digits_value, ParsesUnsign
 use Rattle.std.proofs.lemmas.Bool.Decides.{nat_tests, Decides-ltb}
 use Rattle.sc_text.specs.Name.{is_name_byte}
 use Rattle.secrec_lexer.specs.Pieces.{number_spelled}
-
-and_left : (a b : Bool) → (a && b) ≡ true → a ≡ true
-and_left true b h = refl
-and_left false b h = h
-
-and_right : (a b : Bool) → (a && b) ≡ true → b ≡ true
-and_right true b h = h
-and_right false b h = cc
-
-and_both : (a b : Bool) → a ≡ true → b ≡ true → (a && b) ≡ true
-and_both a b g h = rw (g, h)
+use Rattle.secrec_lexer.proofs.Choices.{and_left, and_right, and_both, not_true}
 
 no_plus : (byte : ℕ) → is_name_byte byte ≡ true → byte == 43 ≡ false
 no_plus byte h = grind (arith, nat_tests)
@@ -65,10 +55,6 @@ spelled_told radix digits h =
 
 choose : (test : Bool) (value : ℕ) → test ≡ false → cond test (Some value) None ≡ None
 choose test value e = rw e
-
-not_true : (test : Bool) → (test ≡ true → ⊥) → test ≡ false
-not_true true h = absurd (h refl)
-not_true false h = refl
 
 as_read : {E : Type 0} (radix : ℕ) (digits : List ℕ) (found : Result ℕ E) → OkIff found (IsNumeral radix digits × (digits_value radix digits < 2 ^ 64)) (digits_value radix digits) → result_ok found ≡ number_spelled radix digits
 as_read radix digits (Ok value) h = rw (spelled_told radix digits h.0, h.1)

@@ -1,6 +1,6 @@
 -- Runs of letters, digits and `_`, and the end of a comment.
-use Rattle.std.proofs.Common.{◌≡◌, ℕ, zero, suc, ◌+◌, ◌<◌, ◌≤◌, List, [], ◌∷◌, refl, sym, ap, ◌∙◌, length, take, drop, arith, Bool, true, false, Option, Some, None, cond, Result, Ok, Err, get_or, add-one, ◌-◌, length-drop}
-use Rattle.std.specs.Prelude.{◌&&◌, codes, option_map, IsTrue, MatchResult, IsOk}
+use Rattle.std.proofs.Common.{◌≡◌, ℕ, zero, suc, ◌+◌, ◌<◌, List, [], ◌∷◌, refl, sym, ap, ◌∙◌, length, take, drop, arith, Bool, true, false, Option, Some, None, cond, Result, Ok, Err, get_or, add-one, ◌-◌, length-drop}
+use Rattle.std.specs.Prelude.{codes, option_map, IsTrue, MatchResult, IsOk}
 use Rattle.std.specs.List.{list_all, prefix_len}
 use Rattle.std.specs.Str.{IsAscii, IsUtf8}
 use Rattle.std.proofs.lemmas.Bool.Decides.{nat_tests}
@@ -10,6 +10,7 @@ use Rattle.std.proofs.lemmas.Str.{IsUtf8-from_ascii}
 use Rattle.std.proofs.Math.Seq.{drop-cons}
 use Rattle.sc_text.specs.Name.{is_name_byte}
 use Rattle.secrec_lexer.specs.Bytes.{name_run, begins, size_to_close}
+use Rattle.secrec_lexer.proofs.Choices.{and_left, and_right}
 
 -- so many bytes from the front are the run
 pub take-length-name_run : (bytes : List ℕ) → take (length (name_run bytes)) bytes ≡ name_run bytes
@@ -17,14 +18,6 @@ take-length-name_run bytes = ap (λ n. take n bytes) (length-prefix_len is_name_
 
 is_name_byte-small : (byte : ℕ) → is_name_byte byte ≡ true → byte < 128
 is_name_byte-small byte h = grind (arith, nat_tests)
-
-and_left : (a b : Bool) → (a && b) ≡ true → a ≡ true
-and_left true b h = refl
-and_left false b h = h
-
-and_right : (a b : Bool) → (a && b) ≡ true → b ≡ true
-and_right true b h = h
-and_right false b h = cc
 
 names_are_ascii : (bytes : List ℕ) → list_all is_name_byte bytes ≡ true → IsAscii bytes
 names_are_ascii [] h i = omega arith

@@ -1,8 +1,7 @@
 -- Signs are told apart by their numbers.
-use Rattle.std.proofs.Common.{◌≡◌, ℕ, refl, sym, ap, ◌∙◌, Bool, true, false}
-use Rattle.std.specs.Prelude.{nat_eq}
+use Rattle.std.proofs.Common.{◌≡◌, refl, sym, ap, ◌∙◌, true, false}
 use Rattle.std.proofs.lemmas.Bool.{eqb-true}
-use denote.Enum.Bare.{tag_one, true_same}
+use denote.Enum.Bare.{tag_one}
 use denote.Enum.Declared.{tag_of}
 use Rattle.secrec_lexer.specs.contracts.sign.Sign.{the_type}
 use Rattle.secrec_lexer.specs.declared.sign.Sign.{Sign}

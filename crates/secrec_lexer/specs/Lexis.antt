@@ -1,5 +1,5 @@
 -- The tokens of a text, and its first fault: piece after piece.
-use Rattle.std.specs.Prelude.{◌≡◌, ℕ, ◌+◌, ◌<◌, ◌≤◌, List, [], ◌∷◌, length, drop, Result, Ok, Err}
+use Rattle.std.specs.Prelude.{◌≡◌, ◌⊎◌, ℕ, ◌+◌, ◌<◌, ◌≤◌, List, [], ◌∷◌, length, drop, Result, Ok, Err}
 use Rattle.sc_text.specs.declared.span.Span.{Span}
 use Rattle.secrec_lexer.specs.declared.token.Kind.{Kind}
 use Rattle.secrec_lexer.specs.declared.token.Kind.TheVariants as kinds
@@ -36,20 +36,26 @@ pub data IsRefused (text : List ℕ) : LexFault → Span → Type 0 where
   too_long : 1048576 < length text → IsRefused text faults.TooLong (place_at text 1048576)
   within : {fault : LexFault} {place : Span} → length text ≤ 1048576 → Refuses text 0 fault place → IsRefused text fault place
 
--- what was answered: these tokens, if memory was found
+-- the text has tokens or is refused
+abbrev pub IsDecided : List ℕ → Type 0
+IsDecided text =
+    ((tokens : List Token) × HasTokens text tokens)
+    ⊎ ((fault : LexFault) × (place : Span) × IsRefused text fault place)
+
+-- what is answered to a text: its tokens, its refusal, or that memory ran short
+abbrev pub IsAnswer : List ℕ → Result (List Token) LexErr → Type 0
+IsAnswer text (Ok tokens) = HasTokens text tokens
+IsAnswer text (Err Memory) = Unit {0}
+IsAnswer text (Err (Refused fault place)) = IsRefused text fault place
+
+-- these tokens are answered, or that memory ran short
 abbrev pub IsTokens : Result (List Token) LexErr → List Token → Type 0
 IsTokens (Ok found) tokens = found ≡ tokens
 IsTokens (Err Memory) tokens = Unit {0}
 IsTokens (Err (Refused fault place)) tokens = ⊥
 
--- what was answered: this refusal, if memory was found
+-- this refusal is answered, or that memory ran short
 abbrev pub IsRefusal : Result (List Token) LexErr → LexFault → Span → Type 0
 IsRefusal (Ok found) fault place = ⊥
 IsRefusal (Err Memory) fault place = Unit {0}
 IsRefusal (Err (Refused other spot)) fault place = (other ≡ fault) × (spot ≡ place)
-
--- a refusal that was answered is that of the text
-abbrev pub RefusesRightly : List ℕ → Result (List Token) LexErr → Type 0
-RefusesRightly text (Ok found) = Unit {0}
-RefusesRightly text (Err Memory) = Unit {0}
-RefusesRightly text (Err (Refused fault place)) = IsRefused text fault place

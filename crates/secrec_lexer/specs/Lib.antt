@@ -1,4 +1,5 @@
 pub mod Bytes
+pub mod Faults
 pub mod Lexis
 pub mod Pieces
 pub mod Places

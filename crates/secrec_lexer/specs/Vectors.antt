@@ -1,5 +1,5 @@
 -- Texts by hand.
-use Rattle.std.specs.Prelude.{◌≡◌, ◌^◌, ◌-◌, List, [], ◌∷◌, ◌++◌, codes, map, drop, replicate}
+use Rattle.std.specs.Prelude.{◌≡◌, ◌^◌, ◌-◌, [], ◌∷◌, ◌++◌, codes, map, replicate}
 use Rattle.std.proofs.Common.{refl}
 use Rattle.secrec_lexer.specs.declared.sign.Sign.TheVariants as signs
 use Rattle.secrec_lexer.specs.declared.token.Kind.TheVariants as kinds
@@ -173,10 +173,13 @@ unfolding single_sign keyword is_name
 ended = refl
 
 place_at_start : place_at (codes "ab") 0 ≡ record { line = 1; column = 1 }
+unfolding place_at
 place_at_start = refl
 
 place_behind_newlines : place_at (codes "ab\n\r\nc\td") 7 ≡ record { line = 3; column = 3 }
+unfolding place_at
 place_behind_newlines = refl
 
 place_behind_the_text : place_at (codes "a\n") 2 ≡ record { line = 2; column = 1 }
+unfolding place_at
 place_behind_the_text = refl

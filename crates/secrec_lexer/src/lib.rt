@@ -6,12 +6,17 @@
 
 mod bytes;
 mod lex_err;
+mod lexing;
 mod number;
 mod piece;
+mod place;
 mod sign;
 mod spelling;
+#[cfg(test)]
+mod tests;
 mod token;
 
 pub use lex_err::{LexErr, LexFault};
+pub use lexing::lex;
 pub use sign::Sign;
 pub use token::{Kind, Token, Tokens};

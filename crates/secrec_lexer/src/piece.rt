@@ -3,7 +3,7 @@ ghost use Rattle.std.specs.List.{list_all};
 ghost use Rattle.sc_text.specs.Name.{is_name_byte};
 ghost use Rattle.secrec_lexer.specs.Bytes.{begins, size_to_close, name_run};
 ghost use Rattle.secrec_lexer.specs.Signs.{single_sign, keyword};
-ghost use Rattle.secrec_lexer.specs.Pieces.{comment, number, word_value, word, text, sign, first};
+ghost use Rattle.secrec_lexer.specs.Pieces.{comment, number, word_value, word, text, sign, first, IsWithin};
 
 use crate::bytes::{as_text, is_blank, is_name_byte, line_size, name_run, size_to_close};
 use crate::number::word_value;
@@ -90,7 +90,8 @@ fn sign(byte: u8, more: &[u8]) -> Piece
 
 /// What stands at the front of a text.
 pub fn first(alloc: Global, bytes: &[u8]) -> Result<Piece, AllocError>
-    ensures { IfOk result (λ piece. piece ≡ first bytes.now) }
+    ensures piece { IfOk result (λ piece. piece ≡ first bytes.now) }
+    ensures within { IfOk result (λ piece. IsWithin piece (length bytes.now)) }
 {
     let Some((byte, more)) = bytes.split_first() else {
         return Ok(Piece::End);

@@ -1,4 +1,3 @@
-use Rattle.std.proofs.Common.{subst}
 use Rattle.secrec_lexer.proofs.Runs.{take-length-name_run, list_all-name_run}
 use Rattle.secrec_lexer.proofs.bytes.name_run.Goals as goal
 
