@@ -21,7 +21,9 @@ use Rattle.expression_parser.proofs.Reading.{Good, Bad, Reads, Allowed, Stops, c
 use Rattle.expression_parser.proofs.Tokens.{Any, All, origin, any_stops, good_ended, after_kind, head_kind, is_sign-true, is_sign-false}
 use Rattle.secrec_parser.specs.Grammar.{identifier, AreAll, IsTemplate, IsResult, IsFunction, IsItem, IsProgram}
 use Rattle.secrec_parser.specs.Steps.{at_end, list_from, listed, place_at, named, domain_item, function_step, item_step, item, program}
+use Rattle.secrec_parser.specs.declared.parse_err.ParseErr.{ParseErr}
 use Rattle.secrec_parser.specs.FirstFault.{Begins, BeginsAny, IsCause, IsFirstFault}
+use Rattle.secrec_parser.specs.Answer.{RefusesAtFault, refusal_at}
 use Rattle.secrec_parser.proofs.Made.{Made, Both, reads_same, seq, made, known, sign_seq, sign_end}
 use Rattle.secrec_parser.proofs.TypeReadings.{is_one, lone, identifier_reads}
 use Rattle.secrec_parser.proofs.Declarations.{clash, sign_head, some_name, name_token}
@@ -364,7 +366,7 @@ module _ (room limit : ℕ) (enough : limit ≡ 3 + room) (w : List Token) (en :
   stopped p r e = go (items_of room w) refl e
     where
       go : (o : Outcome (List ItemTree)) → items_of room w ≡ o → bound o ≡ Err (p, r) → o ≡ Err (p, r)
-      go (Err o) f e = e
+      go (Err o) f e = ap (λ z. Err z) (ap error_of e)
       go (Ok o) f e =
           let v = whole o.0 o.1 f in
           let k : bound (Ok (o.0, v.0 ∷ [])) ≡ Err (p, r) = ap (λ l. bound (Ok (o.0, l))) (sym v.1) ∙ e in
@@ -421,3 +423,8 @@ module _ (room limit : ℕ) (enough : limit ≡ 3 + room) (w : List Token) (en :
       let b = bad_items p r (stopped p r e) in
       let l = ap length b.rest in
       omega (arith, l)
+
+  -- the refusal that the code makes of it stands at the first fault
+  pub refuses : (p : Problem) (r : List Token) (answer : ParseErr) → program room w ≡ Err (p, r) → refusal_at p r answer → RefusesAtFault limit w (Err answer)
+  refuses p [] answer e h = absurd h
+  refuses p (x ∷ m) answer e h = subst (λ z. RefusesAtFault limit w (Err z)) (sym h) (fault p (x ∷ m) x m e refl)

@@ -129,6 +129,7 @@ no_truth e = cc
 pub name_kind : (inside : Bool) (k : Kind) (p : Span) → leader_of inside (token p k) ≡ leaders.Name → (text : List ℕ) × (k ≡ kinds.Name text)
 unfolding is_name
 name_kind inside (kinds.Name text) p e = (text, refl)
+name_kind inside (kinds.Sign signs.LeftBrace) p e = absurd (no_truth (ap is_name e))
 name_kind true (kinds.Sign signs.Break) p e = absurd (no_truth (ap is_name e))
 name_kind true (kinds.Sign signs.Continue) p e = absurd (no_truth (ap is_name e))
 name_kind inside k p e = absurd (no_truth (ap is_name e))

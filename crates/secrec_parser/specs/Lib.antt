@@ -3,3 +3,4 @@ pub mod Grammar
 pub mod FirstFault
 pub mod Steps
 pub mod Given
+pub mod Answer

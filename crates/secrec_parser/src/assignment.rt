@@ -10,9 +10,8 @@ ghost use Rattle.expression_parser.specs.Given.{Gives};
 ghost use Rattle.secrec_parser.specs.Given.{action_tree};
 
 use crate::declaration::operand;
-use crate::expression::expression;
 use crate::tokens::at_sign;
-use expression_parser::{Problem, Read, Stopped, expect, identifier};
+use expression_parser::{Problem, Read, Stopped, expect, expression, identifier};
 use secrec_ast::{Assignment, Expression, Identifier, Operator, Target};
 use secrec_lexer::{Sign, Token};
 use std::alloc::{AllocError, Global};

@@ -6,10 +6,9 @@ ghost use Rattle.secrec_ast.specs.Statements.{optional, declaration_tree};
 ghost use Rattle.secrec_parser.specs.Steps.{declaration_step, initialiser, operand, optional_operand, parenthesised, size};
 ghost use Rattle.expression_parser.specs.Given.{Gives};
 
-use crate::expression::expression;
 use crate::tokens::at_sign;
 use crate::types::declared_type;
-use expression_parser::{Problem, Read, Stopped, expect, identifier};
+use expression_parser::{Problem, Read, Stopped, expect, expression, identifier};
 use secrec_ast::{Declaration, Expression};
 use secrec_lexer::{Sign, Token};
 use std::alloc::Global;
