@@ -239,10 +239,10 @@ module _ (end : Sign) (free : (e : Tree) (x : Token) → x.kind ≡ kinds.Sign e
     updated_reads u e true lt =
         too_high (AssignedTo t) (LowAssignment room) (Before end) x m
         (λ c s m' m2 v fits st eq.
-            let b = by_height u t c.value s (by_this u t c.value s m' m2 x e v.1 eq) in
-            let l = ltb-true room (least_height (target_height t) u) lt in
-            let f = ap target_height v.0 in
-            omega (arith, b, l, f, fits))
+        let b = by_height u t c.value s (by_this u t c.value s m' m2 x e v.1 eq) in
+        let l = ltb-true room (least_height (target_height t) u) lt in
+        let f = ap target_height v.0 in
+        omega (arith, b, l, f, fits))
         (let a = by_alive t x u e in (assigning t a.0, a.1, (refl, by_up u t a.0 (x ∷ a.1) a.2)))
     updated_reads u e false lt =
         reads_as (To u) (AssignedTo t) (LowAssignment room) (Before end) (Before end) x

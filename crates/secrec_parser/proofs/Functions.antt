@@ -312,9 +312,13 @@ abbrev pub parameter_tokens : List Token
 parameter_tokens = token origin (kinds.Sign signs.Uint64) ∷ name_token ∷ []
 
 is_parameter : IsParameter some_parameter parameter_tokens
-is_parameter =
-    (token origin (kinds.Sign signs.Uint64) ∷ [], name_token ∷ [], refl,
-    (refl, ([], token origin (kinds.Sign signs.Uint64) ∷ [], refl, inl refl, (token origin (kinds.Sign signs.Uint64) ∷ [], [], refl, inl (origin, refl), inl refl))), refl)
+is_parameter = (
+  token origin (kinds.Sign signs.Uint64) ∷ [],
+  name_token ∷ [],
+  refl,
+  (refl, ([], token origin (kinds.Sign signs.Uint64) ∷ [], refl, inl refl, (token origin (kinds.Sign signs.Uint64) ∷ [], [], refl, inl (origin, refl), inl refl))),
+  refl,
+)
 
 abbrev pub Closing : {C : Type 0} → C → Token → Type 0
 Closing c x = x.kind ≡ kinds.Sign signs.RightParenthesis
@@ -430,9 +434,11 @@ body_reads room w en =
     r (braced (statement_at_most room false) r) (braced_reads room false (statement_at_most room false) (statement_reads room false) r (good_ended g en)))))
   where
     down : (c : BlockTree) (s : List Token) → IsBlock c s → Made (λ (v : Span × (List StatementTree × Unit {0})). block_at v.0 v.1.0) (Both (λ p. sign_at p signs.LeftBrace) (λ p. In)) c s
-    down c s v =
-        ((c.place, (listed_of c.statements, tt)), ap (λ z. record { place = c.place; statements = z }) (sym (of_list c.statements)),
-        (v.0, v.1, v.2, v.3, (v.4.0, v.4.1, v.4.2, subst (λ z. AreStatements false z v.4.0) (sym (of_list c.statements)) v.4.3, v.4.4)))
+    down c s v = (
+      (c.place, (listed_of c.statements, tt)),
+      ap (λ z. record { place = c.place; statements = z }) (sym (of_list c.statements)),
+      (v.0, v.1, v.2, v.3, (v.4.0, v.4.1, v.4.2, subst (λ z. AreStatements false z v.4.0) (sym (of_list c.statements)) v.4.3, v.4.4)),
+    )
 
 -- Functions
 
@@ -488,9 +494,13 @@ is_block : IsBlock block_of braces
 is_block = (lone signs.LeftBrace, lone signs.RightBrace, refl, refl, ([], lone signs.RightBrace, refl, refl, (origin, refl)))
 
 bodied : (Both Listed (λ ps. IsBlock)) ([], block_of) ((lone signs.LeftParenthesis ++ lone signs.RightParenthesis) ++ braces)
-bodied =
-    (lone signs.LeftParenthesis ++ lone signs.RightParenthesis, lone signs.LeftBrace ++ lone signs.RightBrace, refl,
-    (lone signs.LeftParenthesis, lone signs.RightParenthesis, refl, (origin, refl), ([], lone signs.RightParenthesis, refl, refl, (origin, refl))), is_block)
+bodied = (
+  lone signs.LeftParenthesis ++ lone signs.RightParenthesis,
+  lone signs.LeftBrace ++ lone signs.RightBrace,
+  refl,
+  (lone signs.LeftParenthesis, lone signs.RightParenthesis, refl, (origin, refl), ([], lone signs.RightParenthesis, refl, refl, (origin, refl))),
+  is_block,
+)
 
 pub function_reads : (room : ℕ) (w : List Token) → IsEnded w → Reads IsFunction (LowFunction room) Any w (function_step room w)
 unfolding function_step

@@ -54,9 +54,9 @@ optional_reads h (x ∷ m) en = go (is_sign signs.Semicolon x) refl
     go true t =
         none_reads (IsExpression loosest) (LowOption h) Semicolon x m (omega arith)
         (λ e s m' m2 v eq.
-            let f = first_token loosest e s m' m2 x v eq in
-            let g : expressions.least (kinds.Sign signs.Semicolon) ≡ Some f.0 = ap expressions.least (sym (is_sign-true signs.Semicolon x t)) ∙ f.1 in
-            cc)
+        let f = first_token loosest e s m' m2 x v eq in
+        let g : expressions.least (kinds.Sign signs.Semicolon) ≡ Some f.0 = ap expressions.least (sym (is_sign-true signs.Semicolon x t)) ∙ f.1 in
+        cc)
     go false t =
         some_reads (IsExpression loosest) (Low h) (Free loosest) (LowOption h) Semicolon (λ e l. l) (λ e l. l) stop x m (operand h (x ∷ m))
         (is_sign-false signs.Semicolon x t) (operand_reads h (x ∷ m) en)
@@ -119,10 +119,13 @@ abbrev pub uint_token : Token
 uint_token = token origin (kinds.Sign signs.Uint64)
 
 pub is_declared_by : (x : Token) (text : List ℕ) → x.kind ≡ kinds.Name text → IsDeclaration (declared_by x text) (x ∷ uint_token ∷ name_token ∷ [])
-is_declared_by x text k =
-    (x ∷ uint_token ∷ [], name_token ∷ [], refl,
-    (refl, (x ∷ [], uint_token ∷ [], refl, ap (λ z. token x.place z ∷ []) k, (uint_token ∷ [], [], refl, inl (origin, refl), inl refl))),
-    (name_token ∷ [], [], refl, refl, ([], [], refl, refl, refl)))
+is_declared_by x text k = (
+  x ∷ uint_token ∷ [],
+  name_token ∷ [],
+  refl,
+  (refl, (x ∷ [], uint_token ∷ [], refl, ap (λ z. token x.place z ∷ []) k, (uint_token ∷ [], [], refl, inl (origin, refl), inl refl))),
+  (name_token ∷ [], [], refl, refl, ([], [], refl, refl, refl)),
+)
 
 abbrev pub semicolon_token : Token
 semicolon_token = token origin (kinds.Sign signs.Semicolon)
@@ -253,11 +256,17 @@ module _ (x y : Token) (n : List Token) (text : List ℕ) (k : x.kind ≡ kinds.
 
   index_begun : y.kind ≡ kinds.Sign signs.LeftBracket → (b : StartTree) × (s : List Token) × IsStart b (x ∷ y ∷ s)
   unfolding indexed
-  index_begun f =
-      (starts_with_assignment indexed, leaf_token ∷ lone signs.RightBracket ++ (equals_token ∷ leaf_token ∷ []),
-      (x ∷ y ∷ leaf_token ∷ lone signs.RightBracket, equals_token ∷ leaf_token ∷ [], refl,
+  index_begun f = (
+    starts_with_assignment indexed,
+    leaf_token ∷ lone signs.RightBracket ++ (equals_token ∷ leaf_token ∷ []),
+    (
+      x ∷ y ∷ leaf_token ∷ lone signs.RightBracket,
+      equals_token ∷ leaf_token ∷ [],
+      refl,
       (x ∷ [], y ∷ leaf_token ∷ lone signs.RightBracket, refl, name_here, (y ∷ [], leaf_token ∷ lone signs.RightBracket, refl, is_one (kinds.Sign signs.LeftBracket) y f, (leaf_token ∷ [], lone signs.RightBracket, refl, refl, (origin, refl)))),
-      inl (equals_token ∷ [], leaf_token ∷ [], refl, (origin, refl), refl)))
+      inl (equals_token ∷ [], leaf_token ∷ [], refl, (origin, refl), refl),
+    ),
+  )
 
   update_begun : (u : Update) → update_of y ≡ Some u → (b : StartTree) × (s : List Token) × IsStart b (x ∷ y ∷ s)
   update_begun u f =

@@ -188,18 +188,30 @@ module _ (inside : Bool) (x y : Token) (n : List Token) (text : List ℕ) (k : x
   Begun = (b : StatementTree) × (s : List Token) × IsStatement inside b (x ∷ y ∷ s)
 
   call_begun : y.kind ≡ kinds.Sign signs.LeftParenthesis → Begun
-  call_begun f =
-      (evaluation (call x.place text trees.none), lone signs.RightParenthesis ++ lone signs.Semicolon,
-      (x ∷ y ∷ lone signs.RightParenthesis, lone signs.Semicolon, refl,
+  call_begun f = (
+    evaluation (call x.place text trees.none),
+    lone signs.RightParenthesis ++ lone signs.Semicolon,
+    (
+      x ∷ y ∷ lone signs.RightParenthesis,
+      lone signs.Semicolon,
+      refl,
       (x ∷ [], y ∷ lone signs.RightParenthesis, refl, is_self loosest, (y ∷ [], lone signs.RightParenthesis, refl, is_one (kinds.Sign signs.LeftParenthesis) y f, ([], lone signs.RightParenthesis, refl, refl, (origin, refl)))),
-      (origin, refl)))
+      (origin, refl),
+    ),
+  )
 
   index_begun : y.kind ≡ kinds.Sign signs.LeftBracket → Begun
-  index_begun f =
-      (evaluation (index x.place self leaf), leaf_token ∷ lone signs.RightBracket ++ lone signs.Semicolon,
-      (x ∷ y ∷ leaf_token ∷ lone signs.RightBracket, lone signs.Semicolon, refl,
+  index_begun f = (
+    evaluation (index x.place self leaf),
+    leaf_token ∷ lone signs.RightBracket ++ lone signs.Semicolon,
+    (
+      x ∷ y ∷ leaf_token ∷ lone signs.RightBracket,
+      lone signs.Semicolon,
+      refl,
       (tt, refl, (x ∷ [], y ∷ leaf_token ∷ lone signs.RightBracket, refl, is_self 0, (y ∷ [], leaf_token ∷ lone signs.RightBracket, refl, is_one (kinds.Sign signs.LeftBracket) y f, (leaf_token ∷ [], lone signs.RightBracket, refl, refl, (origin, refl))))),
-      (origin, refl)))
+      (origin, refl),
+    ),
+  )
 
   end_begun : y.kind ≡ kinds.Sign signs.Semicolon → Begun
   end_begun f = (evaluation self, [], (x ∷ [], y ∷ [], refl, is_self loosest, is_one (kinds.Sign signs.Semicolon) y f))
@@ -209,16 +221,24 @@ module _ (inside : Bool) (x y : Token) (n : List Token) (text : List ℕ) (k : x
 
   update_begun : (u : Update) → update_of y ≡ Some u → Begun
   update_begun u f =
-      let a = alive_by plain y u f in
-      (assignment (record { target = plain; value = a.0 }), a.1 ++ lone signs.Semicolon,
-      (x ∷ y ∷ a.1, lone signs.Semicolon, refl, (x ∷ [], y ∷ a.1, refl, (x ∷ [], [], refl, is_self loosest, refl), a.2), (origin, refl)))
+      let a = alive_by plain y u f in (
+        assignment (record { target = plain; value = a.0 }),
+        a.1 ++ lone signs.Semicolon,
+        (x ∷ y ∷ a.1, lone signs.Semicolon, refl, (x ∷ [], y ∷ a.1, refl, (x ∷ [], [], refl, is_self loosest, refl), a.2), (origin, refl)),
+      )
 
   operator_begun : (op : Operator) → operator_at y.kind ≡ Some op → Begun
-  operator_begun op f =
-      (evaluation (binary x.place op self leaf), leaf_token ∷ lone signs.Semicolon,
-      (x ∷ y ∷ leaf_token ∷ [], lone signs.Semicolon, refl,
+  operator_begun op f = (
+    evaluation (binary x.place op self leaf),
+    leaf_token ∷ lone signs.Semicolon,
+    (
+      x ∷ y ∷ leaf_token ∷ [],
+      lone signs.Semicolon,
+      refl,
       (low_level op, refl, (x ∷ [], y ∷ leaf_token ∷ [], refl, is_self (level op), (y ∷ [], leaf_token ∷ [], refl, is_one (kinds.Sign (sign_of op)) y (operator_kind y.kind op f), refl))),
-      (origin, refl)))
+      (origin, refl),
+    ),
+  )
 
   follows_begun : follows_name y ≡ true → Begun
   follows_begun f = go (is_sign signs.LeftParenthesis y) (is_sign signs.LeftBracket y) (is_sign signs.Semicolon y) (update_of y) (operator_at y.kind) refl refl refl refl refl f

@@ -389,9 +389,11 @@ module _ (room limit : ℕ) (enough : limit ≡ 3 + room) (w : List Token) (en :
   unfolding with_end
   cause_of Unexpected r b = λ z. beyond Unexpected r b z.0 z.1 z.2 tt
   cause_of TooHigh r b =
-      let v = b.begun in
-      (with_end v.0, v.1 ++ end_token ∷ [],
-      (b.s ++ b.x ∷ v.1, end_token ∷ [], append_assoc b.s (b.x ∷ []) (v.1 ++ end_token ∷ []) ∙ sym (append_assoc b.s (b.x ∷ v.1) (end_token ∷ [])), v.2, refl))
+      let v = b.begun in (
+        with_end v.0,
+        v.1 ++ end_token ∷ [],
+        (b.s ++ b.x ∷ v.1, end_token ∷ [], append_assoc b.s (b.x ∷ []) (v.1 ++ end_token ∷ []) ∙ sym (append_assoc b.s (b.x ∷ v.1) (end_token ∷ [])), v.2, refl),
+      )
 
   begins_of : (p : Problem) (r : List Token) (b : Bad Items (LowItems room) (λ is x. AtEnd x) w p r) → Begins limit b.s
   unfolding with_end

@@ -170,13 +170,37 @@ abbrev pub heads : List Token
 heads = token origin (kinds.Sign signs.LeftParenthesis) ∷ lone signs.Semicolon ++ lone signs.Semicolon ++ lone signs.RightParenthesis
 
 pub are_heads : heading starts_with_nothing None steps_by_nothing heads
-are_heads =
-    (token origin (kinds.Sign signs.LeftParenthesis) ∷ [], lone signs.Semicolon ++ lone signs.Semicolon ++ lone signs.RightParenthesis, refl, (origin, refl),
-    ([], lone signs.Semicolon ++ lone signs.Semicolon ++ lone signs.RightParenthesis, refl, refl,
-    (lone signs.Semicolon, lone signs.Semicolon ++ lone signs.RightParenthesis, refl, (origin, refl),
-    ([], lone signs.Semicolon ++ lone signs.RightParenthesis, refl, refl,
-    (lone signs.Semicolon, lone signs.RightParenthesis, refl, (origin, refl),
-    ([], lone signs.RightParenthesis, refl, refl, (origin, refl)))))))
+are_heads = (
+  token origin (kinds.Sign signs.LeftParenthesis) ∷ [],
+  lone signs.Semicolon ++ lone signs.Semicolon ++ lone signs.RightParenthesis,
+  refl,
+  (origin, refl),
+  (
+    [],
+    lone signs.Semicolon ++ lone signs.Semicolon ++ lone signs.RightParenthesis,
+    refl,
+    refl,
+    (
+      lone signs.Semicolon,
+      lone signs.Semicolon ++ lone signs.RightParenthesis,
+      refl,
+      (origin, refl),
+      (
+        [],
+        lone signs.Semicolon ++ lone signs.RightParenthesis,
+        refl,
+        refl,
+        (
+          lone signs.Semicolon,
+          lone signs.RightParenthesis,
+          refl,
+          (origin, refl),
+          ([], lone signs.RightParenthesis, refl, refl, (origin, refl)),
+        ),
+      ),
+    ),
+  ),
+)
 
 module _ (inside : Bool) (x : Token) where
   here : (s : Sign) → x.kind ≡ kinds.Sign s → sign_at x.place s (x ∷ [])
@@ -190,26 +214,50 @@ module _ (inside : Bool) (x : Token) where
 
   typed_sample : Typed x → Sample
   unfolding declared_as
-  typed_sample (open_type k) =
-      (declaration (declared_as (record { place = x.place; domain = domains.Public; element = types.Uint64; array = false })), uint_token ∷ name_token ∷ lone signs.Semicolon,
-      (x ∷ uint_token ∷ name_token ∷ [], lone signs.Semicolon, refl,
+  typed_sample (open_type k) = (
+    declaration (declared_as (record { place = x.place; domain = domains.Public; element = types.Uint64; array = false })),
+    uint_token ∷ name_token ∷ lone signs.Semicolon,
+    (
+      x ∷ uint_token ∷ name_token ∷ [],
+      lone signs.Semicolon,
+      refl,
       (x ∷ uint_token ∷ [], name_token ∷ [], refl, (refl, (x ∷ [], uint_token ∷ [], refl, inr (x.place, here signs.Public k), (uint_token ∷ [], [], refl, inl (origin, refl), inl refl))), (name_token ∷ [], [], refl, refl, ([], [], refl, refl, refl))),
-      (origin, refl)))
-  typed_sample (uint64_type k) =
-      (declaration (declared_as (record { place = x.place; domain = domains.Public; element = types.Uint64; array = false })), name_token ∷ lone signs.Semicolon,
-      (x ∷ name_token ∷ [], lone signs.Semicolon, refl,
+      (origin, refl),
+    ),
+  )
+  typed_sample (uint64_type k) = (
+    declaration (declared_as (record { place = x.place; domain = domains.Public; element = types.Uint64; array = false })),
+    name_token ∷ lone signs.Semicolon,
+    (
+      x ∷ name_token ∷ [],
+      lone signs.Semicolon,
+      refl,
       (x ∷ [], name_token ∷ [], refl, (refl, ([], x ∷ [], refl, inl refl, (x ∷ [], [], refl, inl (x.place, here signs.Uint64 k), inl refl))), (name_token ∷ [], [], refl, refl, ([], [], refl, refl, refl))),
-      (origin, refl)))
-  typed_sample (uint_type k) =
-      (declaration (declared_as (record { place = x.place; domain = domains.Public; element = types.Uint64; array = false })), name_token ∷ lone signs.Semicolon,
-      (x ∷ name_token ∷ [], lone signs.Semicolon, refl,
+      (origin, refl),
+    ),
+  )
+  typed_sample (uint_type k) = (
+    declaration (declared_as (record { place = x.place; domain = domains.Public; element = types.Uint64; array = false })),
+    name_token ∷ lone signs.Semicolon,
+    (
+      x ∷ name_token ∷ [],
+      lone signs.Semicolon,
+      refl,
       (x ∷ [], name_token ∷ [], refl, (refl, ([], x ∷ [], refl, inl refl, (x ∷ [], [], refl, inr (x.place, here signs.Uint k), inl refl))), (name_token ∷ [], [], refl, refl, ([], [], refl, refl, refl))),
-      (origin, refl)))
-  typed_sample (bool_type k) =
-      (declaration (declared_as (record { place = x.place; domain = domains.Public; element = types.Bool; array = false })), name_token ∷ lone signs.Semicolon,
-      (x ∷ name_token ∷ [], lone signs.Semicolon, refl,
+      (origin, refl),
+    ),
+  )
+  typed_sample (bool_type k) = (
+    declaration (declared_as (record { place = x.place; domain = domains.Public; element = types.Bool; array = false })),
+    name_token ∷ lone signs.Semicolon,
+    (
+      x ∷ name_token ∷ [],
+      lone signs.Semicolon,
+      refl,
       (x ∷ [], name_token ∷ [], refl, (refl, ([], x ∷ [], refl, inl refl, (x ∷ [], [], refl, (x.place, here signs.Bool k), inl refl))), (name_token ∷ [], [], refl, refl, ([], [], refl, refl, refl))),
-      (origin, refl)))
+      (origin, refl),
+    ),
+  )
 
   -- a statement of each leader but an expression
   pub sample : (l : Leader) → leader_of inside x ≡ l → (l ≡ leaders.Expression → ⊥) → Sample
@@ -220,13 +268,22 @@ module _ (inside : Bool) (x : Token) where
       (branch x.place leaf (empty origin), parens ++ lone signs.Semicolon, (x ∷ [], parens ++ lone signs.Semicolon, refl, here signs.If (leads inside x leaders.If signs.If e refl), (parens, lone signs.Semicolon, refl, are_parens, refl)))
   sample leaders.While e other =
       (while_loop x.place leaf (empty origin), parens ++ lone signs.Semicolon, (x ∷ [], parens ++ lone signs.Semicolon, refl, here signs.While (leads inside x leaders.While signs.While e refl), (parens, lone signs.Semicolon, refl, are_parens, refl)))
-  sample leaders.DoWhile e other =
-      (do_loop x.place (empty origin) leaf, lone signs.Semicolon ++ lone signs.While ++ parens ++ lone signs.Semicolon,
-      (x ∷ [], lone signs.Semicolon ++ lone signs.While ++ parens ++ lone signs.Semicolon, refl, here signs.Do (leads inside x leaders.DoWhile signs.Do e refl),
-      (lone signs.Semicolon, lone signs.While ++ parens ++ lone signs.Semicolon, refl, refl, (lone signs.While, parens ++ lone signs.Semicolon, refl, (origin, refl), (parens, lone signs.Semicolon, refl, are_parens, (origin, refl))))))
-  sample leaders.For e other =
-      (for_loop x.place starts_with_nothing None steps_by_nothing (empty origin), heads ++ lone signs.Semicolon,
-      (x ∷ [], heads ++ lone signs.Semicolon, refl, here signs.For (leads inside x leaders.For signs.For e refl), (heads, lone signs.Semicolon, refl, are_heads, refl)))
+  sample leaders.DoWhile e other = (
+    do_loop x.place (empty origin) leaf,
+    lone signs.Semicolon ++ lone signs.While ++ parens ++ lone signs.Semicolon,
+    (
+      x ∷ [],
+      lone signs.Semicolon ++ lone signs.While ++ parens ++ lone signs.Semicolon,
+      refl,
+      here signs.Do (leads inside x leaders.DoWhile signs.Do e refl),
+      (lone signs.Semicolon, lone signs.While ++ parens ++ lone signs.Semicolon, refl, refl, (lone signs.While, parens ++ lone signs.Semicolon, refl, (origin, refl), (parens, lone signs.Semicolon, refl, are_parens, (origin, refl)))),
+    ),
+  )
+  sample leaders.For e other = (
+    for_loop x.place starts_with_nothing None steps_by_nothing (empty origin),
+    heads ++ lone signs.Semicolon,
+    (x ∷ [], heads ++ lone signs.Semicolon, refl, here signs.For (leads inside x leaders.For signs.For e refl), (heads, lone signs.Semicolon, refl, are_heads, refl)),
+  )
   sample leaders.Break e other =
       let k = leads inside x leaders.Break signs.Break e refl in
       (breaks x.place, lone signs.Semicolon, (leads_inside inside x signs.Break leaders.Break k e (λ (f : leaders.Expression ≡ leaders.Break). cc), (x ∷ [], lone signs.Semicolon, refl, here signs.Break k, (origin, refl))))

@@ -109,7 +109,12 @@ fn updated(
 {
     let left = held(alloc, target)?;
     let place = target.variable.place;
-    Ok(Expression::Binary(place, operator, Box::new(alloc, left)?, Box::new(alloc, right)?))
+    Ok(Expression::Binary(
+        place,
+        operator,
+        Box::new(alloc, left)?,
+        Box::new(alloc, right)?,
+    ))
 }
 
 fn value_by<'a>(

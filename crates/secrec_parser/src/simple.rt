@@ -117,11 +117,7 @@ pub fn name_statement<'a>(
 
 /// An expression if there is one, and its semicolon.
 #[tactic(auto, unfolding(crate::specs::Steps::test_part))]
-fn optional_part<'a>(
-    alloc: Global,
-    tokens: &'a [Token],
-    room: u8,
-) -> Read<'a, Option<Expression>>
+fn optional_part<'a>(alloc: Global, tokens: &'a [Token], room: u8) -> Read<'a, Option<Expression>>
     ensures step { Gives (λ x. (optional x.0, x.1.now)) result (test_part room tokens.now) }
     ensures shorter { IfOk result (λ x. length x.1.now < length tokens.now) }
 {

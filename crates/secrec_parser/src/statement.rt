@@ -21,12 +21,7 @@ use std::alloc::Global;
 
 /// A statement of at most this height, inside a loop or not.
 #[cycle(statements)]
-fn statement<'a>(
-    alloc: Global,
-    tokens: &'a [Token],
-    room: u8,
-    inside: bool,
-) -> Read<'a, Statement>
+fn statement<'a>(alloc: Global, tokens: &'a [Token], room: u8, inside: bool) -> Read<'a, Statement>
     ensures step { Gives (λ x. (statement x.0, x.1.now)) result (statement_at_most room inside tokens.now) }
     ensures shorter { IfOk result (λ x. length x.1.now < length tokens.now) }
 {
@@ -178,7 +173,10 @@ fn do_statement<'a>(
     let (_, rest) = expect(Sign::While, rest)?;
     let (test, rest) = parenthesised(alloc, rest, room)?;
     let (_, rest) = expect(Sign::Semicolon, rest)?;
-    Ok((Statement::DoWhile(place, Box::new(alloc, body)?, test), rest))
+    Ok((
+        Statement::DoWhile(place, Box::new(alloc, body)?, test),
+        rest,
+    ))
 }
 
 #[cycle(statements)]
@@ -196,5 +194,8 @@ fn for_statement<'a>(
     let (heading, rest) = for_heading(alloc, tokens, room)?;
     let (body, rest) = statement(alloc, rest, room, true)?;
     let body = Box::new(alloc, body)?;
-    Ok((Statement::For(place, heading.start, heading.test, heading.step, body), rest))
+    Ok((
+        Statement::For(place, heading.start, heading.test, heading.step, body),
+        rest,
+    ))
 }

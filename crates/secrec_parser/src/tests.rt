@@ -47,8 +47,14 @@ const PROGRAMS: [(&str, &str); 25] = [
     ("uint64[1] f() { }", "unexpected 1 8"),
     ("uint64[[2]] f() { }", "unexpected 1 9"),
     ("void f() ;", "unexpected 1 10"),
-    ("template <domain A, domain B : k, domain C, domain D> A bool f() { }", "ok"),
-    ("template <domain A, domain B, domain C, domain D, domain E> void f() { }", "unexpected 1 49"),
+    (
+        "template <domain A, domain B : k, domain C, domain D> A bool f() { }",
+        "ok",
+    ),
+    (
+        "template <domain A, domain B, domain C, domain D, domain E> void f() { }",
+        "unexpected 1 49",
+    ),
     ("template <> void f() { }", "unexpected 1 11"),
     ("template <domain A,> void f() { }", "unexpected 1 20"),
     ("template <domain A : > void f() { }", "unexpected 1 22"),
@@ -59,9 +65,18 @@ const PROGRAMS: [(&str, &str); 25] = [
 const STATEMENTS: [(&str, &str); 62] = [
     (";", "ok"),
     ("{ { } ; }", "ok"),
-    ("uint64 x; uint y = 1; bool[[0]] b = true; p uint64[[1]] a (3) = 4; public bool[[1]] c (f(1));", "ok"),
-    ("x = 1; a[i] += 2; x -= a + b; x *= 3; x &= y; x |= y; x ^= y; x++; a[i + 1]--;", "ok"),
-    ("f(); x; 1 + 2; (a); !a; publish(\"x\", declassify(a));", "ok"),
+    (
+        "uint64 x; uint y = 1; bool[[0]] b = true; p uint64[[1]] a (3) = 4; public bool[[1]] c (f(1));",
+        "ok",
+    ),
+    (
+        "x = 1; a[i] += 2; x -= a + b; x *= 3; x &= y; x |= y; x ^= y; x++; a[i + 1]--;",
+        "ok",
+    ),
+    (
+        "f(); x; 1 + 2; (a); !a; publish(\"x\", declassify(a));",
+        "ok",
+    ),
     ("if (a) if (b) ; else ; else x = 1;", "ok"),
     ("while (a) { break; if (b) continue; }", "ok"),
     ("do x++; while (x < 3);", "ok"),
@@ -242,7 +257,10 @@ fn an_else_belongs_to_the_nearest_if(rt: HostRuntime) -> Result<(), Fail> {
     let alloc = rt.alloc();
     let found = statements(alloc, "void main() { if (a) if (b) ; else ; }")?;
     let nearest = match found.first() {
-        Some(Statement::If(_, _, inner, None)) => matches!(&**inner, Statement::If(_, _, _, Some(_))),
+        Some(Statement::If(_, _, inner, None)) => matches!(
+            &**inner,
+            Statement::If(_, _, _, Some(_))
+        ),
         _ => false,
     };
     assert!(rt; nearest);

@@ -15,7 +15,7 @@ returns-in_err-next-clause-step c =
     let go = ap not (sym c.at_sign.ensures ∙ c.loop-alloc-test.true) in
     rw (p.1, p.2) (passes c.in_err-next.field-0.0 (parameter c.in_ok-behind.behind.now) (listed no_comma (comma_then parameter) (c.args.first ∷ []) c.args.tokens.now)
     (λ q r e.
-        i.2 ∙ list_fails no_comma (comma_then parameter) i.0 found w r q (omega (arith, i.1)) go (comma_fails parameter w c.in_ok-behind.behind.now r _ q c.in_ok-behind.ensures.step e))
+    i.2 ∙ list_fails no_comma (comma_then parameter) i.0 found w r q (omega (arith, i.1)) go (comma_fails parameter w c.in_ok-behind.behind.now r _ q c.in_ok-behind.ensures.step e))
     c.in_err-next.ensures.step)
 
 pub loop-alloc-preserved : goal.loop-alloc-preserved

@@ -15,7 +15,7 @@ returns-in_err-next-clause-step c =
     let go = variables_go found w (sym c.at_sign.ensures ∙ c.loop-found-test.true) (omega (arith, c.if-len-lt-MOST_VARIABLES.true, c.len.ensures)) in
     rw (p.1, p.2) (passes c.in_err-next.field-0.0 (domain_variable c.in_ok-behind.behind.now) (listed no_more_variables (comma_then domain_variable) (c.args.first ∷ []) c.args.tokens.now)
     (λ q r e.
-        i.2 ∙ list_fails no_more_variables (comma_then domain_variable) i.0 found w r q (omega (arith, i.1)) go (comma_fails domain_variable w c.in_ok-behind.behind.now r _ q c.in_ok-behind.ensures.step e))
+    i.2 ∙ list_fails no_more_variables (comma_then domain_variable) i.0 found w r q (omega (arith, i.1)) go (comma_fails domain_variable w c.in_ok-behind.behind.now r _ q c.in_ok-behind.ensures.step e))
     c.in_err-next.ensures.step)
 
 pub loop-found-preserved : goal.loop-found-preserved

@@ -19,8 +19,8 @@ braced-returns-in_err-next-clause-step t c =
     let p = err_from_is_err_and c.from_residual.result c.from_residual.ensures.1 in
     rw (p.1, p.2) (passes c.in_err-next.field-0.0 (inner c.loop-alloc.rest.now) (braced inner c.args.tokens.now)
     (λ q r e.
-        ap (λ o. o >>= λ ss. expect signs.RightBrace ss.1 >>= λ b. Ok (ss.0, b.1))
-        (i.2 ∙ list_fails (λ found w. at_sign signs.RightBrace w) inner i.0 found c.loop-alloc.rest.now r q (omega (arith, i.1)) (sym c.at_sign.ensures ∙ c.loop-alloc-test.true) e))
+    ap (λ o. o >>= λ ss. expect signs.RightBrace ss.1 >>= λ b. Ok (ss.0, b.1))
+    (i.2 ∙ list_fails (λ found w. at_sign signs.RightBrace w) inner i.0 found c.loop-alloc.rest.now r q (omega (arith, i.1)) (sym c.at_sign.ensures ∙ c.loop-alloc-test.true) e))
     c.in_err-next.ensures.step)
 
 pub braced-loop-alloc-preserved : goal.braced-loop-alloc-preserved
