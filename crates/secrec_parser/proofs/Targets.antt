@@ -1,0 +1,37 @@
+-- An expression as a target is as high as it was.
+use Rattle.std.proofs.Common.{◌≡◌, ℕ, ◌+◌, ◌≤◌, Option, Some, None, refl, sym, ap, ◌∙◌, arith}
+use Rattle.std.specs.Prelude.{max, option_map}
+use Rattle.secrec_ast.specs.Tree.{Tree, number, truth, variable, call, index, parentheses, negation, cast, binary, declassify, argument, publish}
+use Rattle.secrec_ast.specs.Statements.{TargetTree, target_tree}
+use Rattle.secrec_ast.specs.Heights.{height, heights, optional_height, target_height}
+use Rattle.secrec_parser.specs.Steps.{target_of, element_target}
+
+pub tall : (e : Tree) → 1 ≤ height e
+tall (number p n) = omega arith
+tall (truth p b) = omega arith
+tall (variable p x) = omega arith
+tall (call p x es) = omega arith
+tall (index p a i) = omega arith
+tall (parentheses p e) = omega arith
+tall (negation p e) = omega arith
+tall (cast p t e) = omega arith
+tall (binary p op a b) = omega arith
+tall (declassify p e) = omega arith
+tall (argument p x) = omega arith
+tall (publish p x e) = omega arith
+
+abbrev optional_target_height : ℕ → Option TargetTree → ℕ
+optional_target_height n None = n
+optional_target_height n (Some t) = target_height t
+
+element_height : (a i : Tree) → optional_target_height (1 + max (height a) (height i)) (element_target a i) ≡ 1 + max (height a) (height i)
+element_height (variable p x) i = let h = tall i in omega arith
+element_height a i = refl
+
+as_target : (e : Tree) → optional_target_height (height e) (target_of e) ≡ height e
+as_target (variable p x) = refl
+as_target (index p a i) = element_height a i
+as_target e = refl
+
+pub target_of_height : (e : Tree) (t : TargetTree) → target_of e ≡ Some t → target_height t ≡ height e
+target_of_height e t f = sym (ap (optional_target_height (height e)) f) ∙ as_target e

@@ -1,0 +1,150 @@
+-- The steps, as the code comes to them.
+use Rattle.std.proofs.Common.{Bor, ◌≡◌, ℕ, zero, suc, ◌+◌, ◌-◌, ◌<◌, ◌≤◌, Bool, true, false, cond, List, [], ◌∷◌, ◌++◌, refl, sym, ap, ◌∙◌, Result, Ok, Err, length, arith}
+use Rattle.std.specs.Prelude.{◌&&◌, not, nat_lt, IfOk}
+use Rattle.std.proofs.lemmas.Bool.{ltb-false, lt-ltb, le-ltb}
+use Rattle.secrec_lexer.specs.declared.token.Token.{Token}
+use Rattle.sc_text.specs.declared.span.Span.{Span}
+use Rattle.secrec_lexer.specs.declared.sign.Sign.TheVariants as signs
+use Rattle.secrec_ast.specs.declared.function.DomainVariable.{DomainVariable}
+use Rattle.secrec_ast.specs.declared.statement.Statement.{Statement}
+use Rattle.secrec_ast.specs.Tree.{Tree}
+use Rattle.secrec_ast.specs.Statements.{StatementTree, branch, choice}
+use Rattle.expression_parser.specs.declared.stopped.Stopped.{Stopped}
+use Rattle.expression_parser.specs.declared.stopped.Stopped.TheVariants.{Memory, At}
+use Rattle.expression_parser.specs.Given.{Gives}
+use Rattle.expression_parser.specs.declared.problem.Problem.{Problem}
+use Rattle.expression_parser.specs.declared.problem.Problem.TheVariants.{Unexpected, TooHigh}
+use Rattle.secrec_parser.specs.declared.leader.Leader.{Leader}
+use Rattle.secrec_parser.specs.declared.leader.Leader.TheVariants as leaders
+use Rattle.expression_parser.specs.Steps.{Outcome, ◌>>=◌, expect}
+use Rattle.secrec_parser.specs.Steps.{list_from, at_sign, comma_then, no_more_variables, leader_of, least, Inner, led, declaration_statement, name_statement, action_statement, else_step, statement_by, statement_step, statement_at_most}
+
+module _ {A : Type 0} (stop : List A → List Token → Bool) (inner : List Token → Outcome A) where
+  pub list_stops : (n : ℕ) (found : List A) (w : List Token) → stop found w ≡ true → list_from stop inner n found w ≡ Ok (found, w)
+  unfolding list_from
+  list_stops zero found w e = refl
+  list_stops (suc n) found w e =
+      ap (λ b. cond b (Ok (found, w)) (inner w >>= λ a. list_from stop inner n (found ++ a.0 ∷ []) a.1)) e
+
+  pub list_goes_on : (n : ℕ) (found : List A) (w r : List Token) (a : A) → 0 < n → stop found w ≡ false → inner w ≡ Ok (a, r) → list_from stop inner n found w ≡ list_from stop inner (n - 1) (found ++ a ∷ []) r
+  unfolding list_from
+  list_goes_on zero found w r a h e f = absurd (omega arith)
+  list_goes_on (suc n) found w r a h e f =
+      let d : n ≡ suc n - 1 = omega arith in
+      ap (λ b. cond b (Ok (found, w)) (inner w >>= λ a. list_from stop inner n (found ++ a.0 ∷ []) a.1)) e
+      ∙ ap (λ o. o >>= λ a. list_from stop inner n (found ++ a.0 ∷ []) a.1) f
+      ∙ ap (λ m. list_from stop inner m (found ++ a ∷ []) r) d
+
+  pub list_fails : (n : ℕ) (found : List A) (w r : List Token) (p : Problem) → 0 < n → stop found w ≡ false → inner w ≡ Err (p, r) → list_from stop inner n found w ≡ Err (p, r)
+  unfolding list_from
+  list_fails zero found w r p h e f = absurd (omega arith)
+  list_fails (suc n) found w r p h e f =
+      ap (λ b. cond b (Ok (found, w)) (inner w >>= λ a. list_from stop inner n (found ++ a.0 ∷ []) a.1)) e
+      ∙ ap (λ o. o >>= λ a. list_from stop inner n (found ++ a.0 ∷ []) a.1) f
+
+-- a statement that holds none is read without what reads the statements in it
+lower_unused : (l : Leader) (room : ℕ) (f g : Bool → Inner) (inside : Bool) (x : Token) (m : List Token) → least l ≤ 0 → statement_by l room f inside x m ≡ statement_by l room g inside x m
+lower_unused leaders.Expression room f g inside x m h = refl
+lower_unused leaders.Block room f g inside x m h = absurd (omega arith)
+lower_unused leaders.Empty room f g inside x m h = absurd (omega arith)
+lower_unused leaders.If room f g inside x m h = absurd (omega arith)
+lower_unused leaders.While room f g inside x m h = absurd (omega arith)
+lower_unused leaders.DoWhile room f g inside x m h = absurd (omega arith)
+lower_unused leaders.For room f g inside x m h = absurd (omega arith)
+lower_unused leaders.Break room f g inside x m h = absurd (omega arith)
+lower_unused leaders.Continue room f g inside x m h = absurd (omega arith)
+lower_unused leaders.Return room f g inside x m h = absurd (omega arith)
+lower_unused leaders.Assert room f g inside x m h = absurd (omega arith)
+lower_unused leaders.Declaration room f g inside x m h = absurd (omega arith)
+lower_unused leaders.Name room f g inside x m h = absurd (omega arith)
+
+-- a statement that holds none of its height
+statement_here : (room : ℕ) (inside : Bool) (x : Token) (m : List Token) → statement_at_most room inside (x ∷ m) ≡ cond (nat_lt room (least (leader_of inside x))) (Err (TooHigh, x ∷ m)) (statement_by (leader_of inside x) room (statement_at_most (room - 1)) inside x m)
+unfolding statement_at_most statement_step
+statement_here zero inside x m = go (nat_lt zero (least (leader_of inside x))) refl
+  where
+    go : (b : Bool) → nat_lt zero (least (leader_of inside x)) ≡ b → cond b (Err (TooHigh, x ∷ m)) (statement_by (leader_of inside x) zero (λ i m. Err (TooHigh, m)) inside x m) ≡ cond b (Err (TooHigh, x ∷ m)) (statement_by (leader_of inside x) zero (statement_at_most (zero - 1)) inside x m)
+    go true e = refl
+    go false e = lower_unused (leader_of inside x) zero (λ i m. Err (TooHigh, m)) (statement_at_most (zero - 1)) inside x m (ltb-false zero (least (leader_of inside x)) e)
+statement_here (suc h) inside x m =
+    let d : h ≡ suc h - 1 = omega arith in
+    ap (λ n. cond (nat_lt (suc h) (least (leader_of inside x))) (Err (TooHigh, x ∷ m)) (statement_by (leader_of inside x) (suc h) (statement_at_most n) inside x m)) d
+
+pub statement_none : (room : ℕ) (inside : Bool) (w : List Token) → length w ≡ 0 → statement_at_most room inside w ≡ Err (Unexpected, w)
+unfolding statement_at_most statement_step
+statement_none zero inside [] e = refl
+statement_none (suc h) inside [] e = refl
+statement_none room inside (x ∷ m) e = absurd (omega (arith, e))
+
+-- where l is what leads the tokens, and n its least height
+module _ (room : ℕ) (inside : Bool) (w : List Token) (x : Token) (m : List Token) (l : Leader) (n : ℕ) (front : w ≡ x ∷ m) (led_by : l ≡ leader_of inside x) (least_is : n ≡ least l) where
+  pub statement_high : room < n → statement_at_most room inside w ≡ Err (TooHigh, w)
+  statement_high lt =
+      let f = ap least led_by in
+      ap (statement_at_most room inside) front ∙ statement_here room inside x m
+      ∙ ap (λ b. cond b (Err (TooHigh, x ∷ m)) (statement_by (leader_of inside x) room (statement_at_most (room - 1)) inside x m)) (lt-ltb room (least (leader_of inside x)) (omega (arith, f, least_is, lt)))
+      ∙ ap (λ v. Err (TooHigh, v)) (sym front)
+
+  pub statement_leads : n ≤ room → statement_at_most room inside w ≡ statement_by l room (statement_at_most (room - 1)) inside x m
+  statement_leads le =
+      let f = ap least led_by in
+      ap (statement_at_most room inside) front ∙ statement_here room inside x m
+      ∙ ap (λ b. cond b (Err (TooHigh, x ∷ m)) (statement_by (leader_of inside x) room (statement_at_most (room - 1)) inside x m)) (le-ltb room (least (leader_of inside x)) (omega (arith, f, least_is, le)))
+      ∙ ap (λ l. statement_by l room (statement_at_most (room - 1)) inside x m) (sym led_by)
+
+  pub statement_declares : n ≤ room → l ≡ leaders.Declaration → statement_at_most room inside w ≡ declaration_statement (room - 1) w
+  statement_declares le is = statement_leads le ∙ ap (λ l. statement_by l room (statement_at_most (room - 1)) inside x m) is ∙ ap (declaration_statement (room - 1)) (sym front)
+
+  pub statement_names : n ≤ room → l ≡ leaders.Name → statement_at_most room inside w ≡ name_statement room w m
+  statement_names le is = statement_leads le ∙ ap (λ l. statement_by l room (statement_at_most (room - 1)) inside x m) is ∙ ap (λ v. name_statement room v m) (sym front)
+
+  pub statement_evaluates : n ≤ room → l ≡ leaders.Expression → statement_at_most room inside w ≡ action_statement room w
+  statement_evaluates le is = statement_leads le ∙ ap (λ l. statement_by l room (statement_at_most (room - 1)) inside x m) is ∙ ap (action_statement room) (sym front)
+
+  pub statement_led : n ≤ room → (l ≡ leaders.Declaration → ⊥) → (l ≡ leaders.Name → ⊥) → (l ≡ leaders.Expression → ⊥) → statement_at_most room inside w ≡ led l room (statement_at_most (room - 1)) inside x.place m
+  statement_led le d k e = statement_leads le ∙ other l d k e
+    where
+      other : (l : Leader) → (l ≡ leaders.Declaration → ⊥) → (l ≡ leaders.Name → ⊥) → (l ≡ leaders.Expression → ⊥) → statement_by l room (statement_at_most (room - 1)) inside x m ≡ led l room (statement_at_most (room - 1)) inside x.place m
+      other leaders.Declaration d k e = absurd (d refl)
+      other leaders.Name d k e = absurd (k refl)
+      other leaders.Expression d k e = absurd (e refl)
+      other l d k e = refl
+
+pub else_none : (inner : Inner) (p : Span) (e : Tree) (s : StatementTree) (w : List Token) → at_sign signs.Else w ≡ false → else_step inner p e s w ≡ Ok (branch p e s, w)
+else_none inner p e s w f = ap (λ b. cond b (expect signs.Else w >>= λ a. inner a.1 >>= λ t. Ok (choice p e s t.0, t.1)) (Ok (branch p e s, w))) f
+
+pub else_some : (inner : Inner) (p : Span) (e : Tree) (s t : StatementTree) (w r r2 : List Token) (q : Span) → at_sign signs.Else w ≡ true → expect signs.Else w ≡ Ok (q, r) → inner r ≡ Ok (t, r2) → else_step inner p e s w ≡ Ok (choice p e s t, r2)
+else_some inner p e s t w r r2 q f g h =
+    ap (λ b. cond b (expect signs.Else w >>= λ a. inner a.1 >>= λ t. Ok (choice p e s t.0, t.1)) (Ok (branch p e s, w))) f
+    ∙ ap (λ o. o >>= λ a. inner a.1 >>= λ t. Ok (choice p e s t.0, t.1)) g
+    ∙ ap (λ o. o >>= λ t. Ok (choice p e s t.0, t.1)) h
+
+-- what stopped one step stops another that begins with it
+pub passes : {Y Z : Type 0} (s : Stopped) (o : Outcome Y) (u : Outcome Z) → ((p : Problem) (r : List Token) → o ≡ Err (p, r) → u ≡ Err (p, r)) → Gives {X = Y × List Token} (λ v. v) (Err s) o → Gives {X = Z × List Token} (λ v. v) (Err s) u
+passes Memory o u k g = tt
+passes (At p r) o u k g = k p r.now g
+
+pub variables_go : (found : List DomainVariable) (w : List Token) → at_sign signs.Comma w ≡ true → length found < 4 → no_more_variables found w ≡ false
+variables_go found w e l = ap (λ b. not (b && nat_lt (length found) 4)) e ∙ ap not (lt-ltb (length found) 4 l)
+
+pub variables_alone : (found : List DomainVariable) (w : List Token) → at_sign signs.Comma w ≡ false → no_more_variables found w ≡ true
+variables_alone found w e = ap (λ b. not (b && nat_lt (length found) 4)) e
+
+pub variables_full : (found : List DomainVariable) (w : List Token) → 4 ≤ length found → no_more_variables found w ≡ true
+variables_full found w l = ap (λ b. not (at_sign signs.Comma w && b)) (le-ltb (length found) 4 l) ∙ go (at_sign signs.Comma w)
+  where
+    go : (b : Bool) → not (b && false) ≡ true
+    go true = refl
+    go false = refl
+
+-- what stops behind a comma
+pub comma_fails : {A : Type 0} (inner : List Token → Outcome A) (w r r2 : List Token) (q : Span) (p : Problem) → expect signs.Comma w ≡ Ok (q, r) → inner r ≡ Err (p, r2) → comma_then inner w ≡ Err (p, r2)
+comma_fails inner w r r2 q p e f = ap (λ o. o >>= λ a. inner a.1) e ∙ f
+
+pub comma_reads : {A : Type 0} (inner : List Token → Outcome A) (w r r2 : List Token) (q : Span) (a : A) → expect signs.Comma w ≡ Ok (q, r) → inner r ≡ Ok (a, r2) → comma_then inner w ≡ Ok (a, r2)
+comma_reads inner w r r2 q a e f = ap (λ o. o >>= λ a. inner a.1) e ∙ f
+
+-- what reads past a token reads past the tokens that it began
+pub read_shorter : (o : Result (Statement × Bor (List Token)) Stopped) (w v : List Token) → length v < length w → IfOk o (λ x. length x.1.now ≤ length v) → IfOk o (λ x. length x.1.now < length w)
+read_shorter (Ok x) w v l h = omega (arith, l, h)
+read_shorter (Err e) w v l h = tt

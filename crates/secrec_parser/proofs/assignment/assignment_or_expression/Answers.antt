@@ -1,0 +1,11 @@
+-- A target is as high as the expression that it was read as.
+use Rattle.std.proofs.Common.{sym, ◌∙◌}
+use Rattle.secrec_ast.specs.Tree.{expression}
+use Rattle.secrec_ast.specs.Statements.{target_tree}
+use Rattle.secrec_parser.proofs.Targets.{target_of_height}
+use Rattle.secrec_parser.proofs.assignment.assignment_or_expression.Goals as goal
+
+pub assigned-requires : goal.assigned-requires
+assigned-requires c =
+    c.in_ok-parsed.ensures.height.0
+    ∙ sym (target_of_height (expression c.in_ok-parsed.parsed.tree) (target_tree c.in-Some.target) (sym c.in-Some.ensures))

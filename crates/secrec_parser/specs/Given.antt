@@ -1,0 +1,16 @@
+-- What the parser's own values in memory are as values.
+use Rattle.std.specs.Prelude.{◌≡◌, ℕ, List, Result, Ok, Err, Option, Some, None}
+use Rattle.secrec_lexer.specs.declared.token.Token.{Token}
+use Rattle.secrec_ast.specs.Statements.{StartTree, StepTree, assignment_tree, optional, start_tree, step_tree}
+use Rattle.secrec_ast.specs.Tree.{Tree, expression}
+use Rattle.secrec_parser.specs.declared.simple.Heading.{Heading}
+use Rattle.secrec_parser.specs.declared.assignment.Action.{Action}
+use Rattle.secrec_parser.specs.declared.assignment.Action.TheVariants as actions
+use Rattle.secrec_parser.specs.Steps.{ActionTree, assigns, evaluates}
+
+abbrev pub action_tree : Action → ActionTree
+action_tree (actions.Assignment a) = assigns (assignment_tree a)
+action_tree (actions.Expression e) = evaluates (expression e)
+
+abbrev pub heading_parts : Heading → StartTree × Option Tree × StepTree
+heading_parts f = (start_tree f.start, optional f.test, step_tree f.step)

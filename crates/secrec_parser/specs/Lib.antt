@@ -1,0 +1,6 @@
+pub mod Sugar
+pub mod Grammar
+pub mod FirstFault
+pub mod Steps
+pub mod Given
+pub mod Answer

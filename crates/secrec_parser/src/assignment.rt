@@ -1,0 +1,252 @@
+// Assignments, and what may be one or an expression.
+
+ghost use Rattle.std.specs.Prelude.{◌≡◌, ◌<◌, ◌≤◌, length, IfOk, option_map};
+ghost use Rattle.secrec_ast.specs.Tree.{expression};
+ghost use Rattle.secrec_ast.specs.Statements.{assignment_tree, optional, target_tree};
+ghost use Rattle.secrec_ast.specs.Heights.{height, optional_height, target_height};
+ghost use Rattle.secrec_parser.specs.Sugar.{held, updated};
+ghost use Rattle.secrec_parser.specs.Steps.{action, assigned, assignment_step, element_target, is_update, least_height, target_index, target_of, update_of, value_by};
+ghost use Rattle.expression_parser.specs.Given.{Gives};
+ghost use Rattle.secrec_parser.specs.Given.{action_tree};
+
+use crate::declaration::operand;
+use crate::tokens::at_sign;
+use expression_parser::{Problem, Read, Stopped, expect, expression, identifier};
+use secrec_ast::{Assignment, Expression, Identifier, Operator, Target};
+use secrec_lexer::{Sign, Token};
+use std::alloc::{AllocError, Global};
+
+/// What an assignment does to its target.
+#[derive(Clone, Copy, Debug, PartialEq, Eq)]
+pub enum Update {
+    /// `=`
+    Plain,
+    /// An operator and `=`.
+    Compound(Operator),
+    /// `++` or `--`.
+    Step(Operator),
+}
+
+/// An assignment or an expression.
+#[derive(Drop)]
+pub enum Action {
+    Assignment(Assignment),
+    Expression(Expression),
+}
+
+/// What a token does to a target, if it assigns.
+pub fn update_of(token: &Token) -> Option<Update>
+    ensures { result ≡ update_of token.now }
+{
+    if token.is(Sign::Assign) {
+        Some(Update::Plain)
+    } else if token.is(Sign::PlusAssign) {
+        Some(Update::Compound(Operator::Add))
+    } else if token.is(Sign::MinusAssign) {
+        Some(Update::Compound(Operator::Subtract))
+    } else if token.is(Sign::StarAssign) {
+        Some(Update::Compound(Operator::Multiply))
+    } else if token.is(Sign::AmpersandAssign) {
+        Some(Update::Compound(Operator::And))
+    } else if token.is(Sign::BarAssign) {
+        Some(Update::Compound(Operator::Or))
+    } else if token.is(Sign::CaretAssign) {
+        Some(Update::Compound(Operator::Xor))
+    } else if token.is(Sign::Increment) {
+        Some(Update::Step(Operator::Add))
+    } else if token.is(Sign::Decrement) {
+        Some(Update::Step(Operator::Subtract))
+    } else {
+        None
+    }
+}
+
+/// Whether the next token assigns.
+pub fn is_update(tokens: &[Token]) -> bool
+    ensures { result ≡ is_update tokens.now }
+{
+    match tokens.split_first() {
+        Some((token, _)) => update_of(token).is_some(),
+        None => false,
+    }
+}
+
+impl Update {
+    /// How high the tree of such an assignment is at least, to a target of this height.
+    fn least_height(self, target: u8) -> u16
+        ensures { result ≡ least_height target self }
+    {
+        match self {
+            Update::Plain => u16::from(target) + 1,
+            Update::Compound(_) | Update::Step(_) => u16::from(target) + 2,
+        }
+    }
+}
+
+/// A target as an expression.
+fn held(alloc: Global, target: &Target) -> Result<Expression, AllocError>
+    ensures { IfOk result (λ e. expression e ≡ held (target_tree target.now)) }
+{
+    let place = target.variable.place;
+    let variable = Expression::Variable(place, target.variable.text.copy(alloc)?);
+    match &target.index {
+        None => Ok(variable),
+        Some(index) => {
+            let index = index.copy(alloc)?;
+            Ok(Expression::Index(place, Box::new(alloc, variable)?, Box::new(alloc, index)?))
+        }
+    }
+}
+
+/// The operator between what a target holds and this operand.
+fn updated(
+    alloc: Global,
+    target: &Target,
+    operator: Operator,
+    right: Expression,
+) -> Result<Expression, AllocError>
+    ensures { IfOk result (λ e. expression e ≡ updated (target_tree target.now) operator (expression right)) }
+{
+    let left = held(alloc, target)?;
+    let place = target.variable.place;
+    Ok(Expression::Binary(
+        place,
+        operator,
+        Box::new(alloc, left)?,
+        Box::new(alloc, right)?,
+    ))
+}
+
+fn value_by<'a>(
+    alloc: Global,
+    target: &Target,
+    update: Update,
+    tokens: &'a [Token],
+    room: u8,
+) -> Read<'a, Expression>
+    requires { 2 ≤ room }
+    ensures step { Gives (λ x. (expression x.0, x.1.now)) result (value_by room (target_tree target.now) update tokens.now) }
+    ensures shorter { IfOk result (λ x. length x.1.now ≤ length tokens.now) }
+{
+    match update {
+        Update::Plain => operand(alloc, tokens, room - 1),
+        Update::Compound(operator) => {
+            let (right, rest) = operand(alloc, tokens, room - 2)?;
+            Ok((updated(alloc, target, operator, right)?, rest))
+        }
+        Update::Step(operator) => {
+            let one = Expression::Number(target.variable.place, 1);
+            Ok((updated(alloc, target, operator, one)?, tokens))
+        }
+    }
+}
+
+/// What a target of this height gets, in an assignment of at most this room's height.
+fn assigned<'a>(
+    alloc: Global,
+    target: Target,
+    height: u8,
+    tokens: &'a [Token],
+    room: u8,
+) -> Read<'a, Assignment>
+    requires { height ≡ target_height (target_tree target) }
+    ensures step { Gives (λ x. (assignment_tree x.0, x.1.now)) result (assigned room (target_tree target) tokens.now) }
+    ensures shorter { IfOk result (λ x. length x.1.now < length tokens.now) }
+{
+    let Some((token, rest)) = tokens.split_first() else {
+        return Err(Stopped::At(Problem::Unexpected, tokens));
+    };
+    let Some(update) = update_of(token) else {
+        return Err(Stopped::At(Problem::Unexpected, tokens));
+    };
+    if u16::from(room) < update.least_height(height) {
+        return Err(Stopped::At(Problem::TooHigh, tokens));
+    }
+    let (value, rest) = value_by(alloc, &target, update, rest, room)?;
+    Ok((Assignment { target, value }, rest))
+}
+
+/// The index of a target if there is one, and its height, in an assignment of at most this room's height.
+fn target_index<'a>(
+    alloc: Global,
+    tokens: &'a [Token],
+    room: u8,
+) -> Read<'a, (Option<Expression>, u8)>
+    ensures step { Gives (λ x. (optional x.0.0, x.1.now)) result (target_index room tokens.now) }
+    ensures height { IfOk result (λ x. (x.0.1 ≡ optional_height (optional x.0.0)) × (x.0.1 < 255)) }
+    ensures shorter { IfOk result (λ x. length x.1.now ≤ length tokens.now) }
+{
+    if !at_sign(Sign::LeftBracket, tokens) {
+        return Ok(((None, 0), tokens));
+    }
+    if room < 3 {
+        return Err(Stopped::At(Problem::TooHigh, tokens));
+    }
+    let (_, rest) = expect(Sign::LeftBracket, tokens)?;
+    let (parsed, rest) = expression(alloc, rest, room - 2)?;
+    let (_, rest) = expect(Sign::RightBracket, rest)?;
+    Ok(((Some(parsed.tree), parsed.height), rest))
+}
+
+/// An assignment of at most this height.
+#[tactic(auto, unfolding(crate::specs::Steps::assignment_step))]
+pub fn assignment<'a>(alloc: Global, tokens: &'a [Token], room: u8) -> Read<'a, Assignment>
+    ensures step { Gives (λ x. (assignment_tree x.0, x.1.now)) result (assignment_step room tokens.now) }
+    ensures shorter { IfOk result (λ x. length x.1.now < length tokens.now) }
+{
+    let (variable, rest) = identifier(alloc, tokens)?;
+    let ((index, height), rest) = target_index(alloc, rest, room)?;
+    assigned(alloc, Target { variable, index }, height + 1, rest, room)
+}
+
+fn element_target(array: Expression, index: Expression) -> Option<Target>
+    ensures { option_map target_tree result ≡ element_target (expression array) (expression index) }
+{
+    match array {
+        Expression::Variable(place, text) => Some(Target {
+            variable: Identifier { place, text },
+            index: Some(index),
+        }),
+        _ => None,
+    }
+}
+
+/// An expression as a target, if it may be one.
+fn target_of(found: Expression) -> Option<Target>
+    ensures { option_map target_tree result ≡ target_of (expression found) }
+{
+    match found {
+        Expression::Variable(place, text) => Some(Target {
+            variable: Identifier { place, text },
+            index: None,
+        }),
+        Expression::Index(_, array, index) => element_target(
+            Box::into_inner(array),
+            Box::into_inner(index),
+        ),
+        _ => None,
+    }
+}
+
+/// An expression of at most the first height, or an assignment of at most the second.
+#[tactic(auto, unfolding(crate::specs::Steps::action))]
+pub fn assignment_or_expression<'a>(
+    alloc: Global,
+    tokens: &'a [Token],
+    expression_room: u8,
+    room: u8,
+) -> Read<'a, Action>
+    ensures step { Gives (λ x. (action_tree x.0, x.1.now)) result (action expression_room room tokens.now) }
+    ensures shorter { IfOk result (λ x. length x.1.now < length tokens.now) }
+{
+    let (parsed, rest) = expression(alloc, tokens, expression_room)?;
+    if !is_update(rest) {
+        return Ok((Action::Expression(parsed.tree), rest));
+    }
+    let height = parsed.height;
+    let Some(target) = target_of(parsed.tree) else {
+        return Err(Stopped::At(Problem::Unexpected, rest));
+    };
+    let (assignment, rest) = assigned(alloc, target, height, rest, room)?;
+    Ok((Action::Assignment(assignment), rest))
+}

@@ -1,0 +1,179 @@
+// Functions.
+
+ghost use Rattle.std.specs.Prelude.{◌≡◌, ◌<◌, ◌≤◌, [], ◌∷◌, length, map, IfOk};
+ghost use Rattle.secrec_ast.specs.Programs.{block_tree, function_tree};
+ghost use Rattle.secrec_parser.specs.Steps.{body, comma_then, constraint, domain_variable, function_step, listed, no_comma, no_more_variables, parameter, parameter_list, parameters, result_type, template};
+ghost use Rattle.expression_parser.specs.Given.{Gives};
+
+use crate::statement::braced;
+use crate::tokens::at_sign;
+use crate::types::declared_type;
+use expression_parser::{Read, expect, identifier};
+use secrec_ast::{Block, DomainVariable, Function, Identifier, Parameter, ResultType};
+use secrec_lexer::{Sign, Token};
+use std::alloc::Global;
+
+/// How many domain variables a template has at most.
+const MOST_VARIABLES: usize = 4;
+
+/// The kind that a domain variable is bound to a domain of, if there is one.
+fn constraint<'a>(alloc: Global, tokens: &'a [Token]) -> Read<'a, Option<Identifier>>
+    ensures step { Gives (λ x. (x.0, x.1.now)) result (constraint tokens.now) }
+    ensures shorter { IfOk result (λ x. length x.1.now ≤ length tokens.now) }
+{
+    if !at_sign(Sign::Colon, tokens) {
+        return Ok((None, tokens));
+    }
+    let (_, rest) = expect(Sign::Colon, tokens)?;
+    let (kind, rest) = identifier(alloc, rest)?;
+    Ok((Some(kind), rest))
+}
+
+#[tactic(auto, unfolding(crate::specs::Steps::domain_variable))]
+fn domain_variable<'a>(alloc: Global, tokens: &'a [Token]) -> Read<'a, DomainVariable>
+    ensures step { Gives (λ x. (x.0, x.1.now)) result (domain_variable tokens.now) }
+    ensures shorter { IfOk result (λ x. length x.1.now < length tokens.now) }
+{
+    let (_, rest) = expect(Sign::Domain, tokens)?;
+    let (variable, rest) = identifier(alloc, rest)?;
+    let (kind, rest) = constraint(alloc, rest)?;
+    Ok((DomainVariable { variable, kind }, rest))
+}
+
+/// The domain variables of a template behind the first, which is given.
+fn more_variables<'a>(
+    alloc: Global,
+    first: DomainVariable,
+    tokens: &'a [Token],
+) -> Read<'a, Vec<DomainVariable>>
+    ensures step { Gives (λ x. (x.0.items, x.1.now)) result (listed no_more_variables (comma_then domain_variable) (first ∷ []) tokens.now) }
+    ensures shorter { IfOk result (λ x. length x.1.now ≤ length tokens.now) }
+{
+    let mut found = Vec::new(alloc);
+    found.push(first)?;
+    let mut rest = tokens;
+    while at_sign(Sign::Comma, rest) && found.len() < MOST_VARIABLES {
+        let (_, behind) = expect(Sign::Comma, rest)?;
+        let (next, behind) = domain_variable(alloc, behind)?;
+        found.push(next)?;
+        rest = behind;
+    }
+    Ok((found, rest))
+}
+
+/// The domain variables of a function; none where it is no template.
+#[tactic(auto, unfolding(crate::specs::Steps::template))]
+fn template<'a>(alloc: Global, tokens: &'a [Token]) -> Read<'a, Vec<DomainVariable>>
+    ensures step { Gives (λ x. (x.0.items, x.1.now)) result (template tokens.now) }
+    ensures shorter { IfOk result (λ x. length x.1.now ≤ length tokens.now) }
+{
+    if !at_sign(Sign::Template, tokens) {
+        return Ok((Vec::new(alloc), tokens));
+    }
+    let (_, rest) = expect(Sign::Template, tokens)?;
+    let (_, rest) = expect(Sign::Less, rest)?;
+    let (first, rest) = domain_variable(alloc, rest)?;
+    let (variables, rest) = more_variables(alloc, first, rest)?;
+    let (_, rest) = expect(Sign::Greater, rest)?;
+    Ok((variables, rest))
+}
+
+#[tactic(auto, unfolding(crate::specs::Steps::result_type))]
+fn result_type<'a>(alloc: Global, tokens: &'a [Token]) -> Read<'a, ResultType>
+    ensures step { Gives (λ x. (x.0, x.1.now)) result (result_type tokens.now) }
+    ensures shorter { IfOk result (λ x. length x.1.now < length tokens.now) }
+{
+    if at_sign(Sign::Void, tokens) {
+        let (_, rest) = expect(Sign::Void, tokens)?;
+        Ok((ResultType::Void, rest))
+    } else {
+        let (declared, rest) = declared_type(alloc, tokens)?;
+        Ok((ResultType::Value(declared), rest))
+    }
+}
+
+#[tactic(auto, unfolding(crate::specs::Steps::parameter))]
+fn parameter<'a>(alloc: Global, tokens: &'a [Token]) -> Read<'a, Parameter>
+    ensures step { Gives (λ x. (x.0, x.1.now)) result (parameter tokens.now) }
+    ensures shorter { IfOk result (λ x. length x.1.now < length tokens.now) }
+{
+    let (declared, rest) = declared_type(alloc, tokens)?;
+    let (variable, rest) = identifier(alloc, rest)?;
+    Ok((Parameter { declared, variable }, rest))
+}
+
+/// The parameters of a function behind the first, which is given.
+fn more_parameters<'a>(
+    alloc: Global,
+    first: Parameter,
+    tokens: &'a [Token],
+) -> Read<'a, Vec<Parameter>>
+    ensures step { Gives (λ x. (x.0.items, x.1.now)) result (listed no_comma (comma_then parameter) (first ∷ []) tokens.now) }
+    ensures shorter { IfOk result (λ x. length x.1.now ≤ length tokens.now) }
+{
+    let mut found = Vec::new(alloc);
+    found.push(first)?;
+    let mut rest = tokens;
+    while at_sign(Sign::Comma, rest) {
+        let (_, behind) = expect(Sign::Comma, rest)?;
+        let (next, behind) = parameter(alloc, behind)?;
+        found.push(next)?;
+        rest = behind;
+    }
+    Ok((found, rest))
+}
+
+#[tactic(auto, unfolding(crate::specs::Steps::parameters))]
+fn parameters<'a>(alloc: Global, tokens: &'a [Token]) -> Read<'a, Vec<Parameter>>
+    ensures step { Gives (λ x. (x.0.items, x.1.now)) result (parameters tokens.now) }
+    ensures shorter { IfOk result (λ x. length x.1.now ≤ length tokens.now) }
+{
+    if at_sign(Sign::RightParenthesis, tokens) {
+        return Ok((Vec::new(alloc), tokens));
+    }
+    let (first, rest) = parameter(alloc, tokens)?;
+    more_parameters(alloc, first, rest)
+}
+
+/// The parameters of a function, in their parentheses.
+#[tactic(auto, unfolding(crate::specs::Steps::parameter_list))]
+fn parameter_list<'a>(alloc: Global, tokens: &'a [Token]) -> Read<'a, Vec<Parameter>>
+    ensures step { Gives (λ x. (x.0.items, x.1.now)) result (parameter_list tokens.now) }
+    ensures shorter { IfOk result (λ x. length x.1.now < length tokens.now) }
+{
+    let (_, rest) = expect(Sign::LeftParenthesis, tokens)?;
+    let (found, rest) = parameters(alloc, rest)?;
+    let (_, rest) = expect(Sign::RightParenthesis, rest)?;
+    Ok((found, rest))
+}
+
+/// A function's body; room is the greatest height of its statements.
+#[tactic(auto, unfolding(crate::specs::Steps::body))]
+fn body<'a>(alloc: Global, tokens: &'a [Token], room: u8) -> Read<'a, Block>
+    ensures step { Gives (λ x. (block_tree x.0, x.1.now)) result (body room tokens.now) }
+    ensures shorter { IfOk result (λ x. length x.1.now < length tokens.now) }
+{
+    let (place, rest) = expect(Sign::LeftBrace, tokens)?;
+    let (statements, rest) = braced(alloc, rest, room, false)?;
+    Ok((Block { place, statements }, rest))
+}
+
+#[tactic(auto, unfolding(crate::specs::Steps::function_step))]
+pub fn function<'a>(alloc: Global, tokens: &'a [Token], room: u8) -> Read<'a, Function>
+    ensures step { Gives (λ x. (function_tree x.0, x.1.now)) result (function_step room tokens.now) }
+    ensures shorter { IfOk result (λ x. length x.1.now < length tokens.now) }
+{
+    let (variables, rest) = template(alloc, tokens)?;
+    let (result, rest) = result_type(alloc, rest)?;
+    let (function, rest) = identifier(alloc, rest)?;
+    let (parameters, rest) = parameter_list(alloc, rest)?;
+    let (body, rest) = body(alloc, rest, room)?;
+    let function = Function {
+        variables,
+        result,
+        function,
+        parameters,
+        body,
+    };
+    Ok((function, rest))
+}

@@ -1,0 +1,11 @@
+use expression_parser::Problem;
+use sc_text::Span;
+
+/// Why there is no program.
+#[derive(Clone, Copy, Debug, PartialEq, Eq)]
+pub enum ParseErr {
+    /// Memory ran short.
+    Memory,
+    /// The tokens are refused for their first fault, which is the token at this place.
+    Refused { problem: Problem, place: Span },
+}

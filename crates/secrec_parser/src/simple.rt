@@ -1,0 +1,235 @@
+// Statements that hold no statement, and the heading of a `for`.
+
+ghost use Rattle.std.specs.Prelude.{◌≡◌, ◌<◌, ◌≤◌, length, IfOk};
+ghost use Rattle.secrec_ast.specs.Statements.{optional, start_tree, statement, step_tree};
+ghost use Rattle.secrec_parser.specs.Steps.{action_statement, assert_step, declaration_statement, declares, follows_name, heading, last_part, last_step, name_statement, only_declares, return_step, start_part, start_step, test_part};
+ghost use Rattle.expression_parser.specs.Given.{Gives};
+ghost use Rattle.secrec_parser.specs.Given.{heading_parts};
+
+use crate::assignment::{Action, assignment, assignment_or_expression, update_of};
+use crate::declaration::{declaration, optional_operand, parenthesised};
+use crate::leader::is_type;
+use crate::tokens::{at_sign, operator_of};
+use expression_parser::{Problem, Read, Stopped, expect};
+use sc_text::Span;
+use secrec_ast::{Expression, ForStart, ForStep, Statement};
+use secrec_lexer::{Kind, Sign, Token};
+use std::alloc::Global;
+
+/// Whether a declaration begins here: with a type, or with a name and the type of elements.
+pub fn declares(tokens: &[Token]) -> bool
+    ensures { result ≡ declares tokens.now }
+{
+    let Some((token, rest)) = tokens.split_first() else {
+        return false;
+    };
+    token.is(Sign::Public) || is_type(token) || is_named_type(token, rest)
+}
+
+fn is_named_type(token: &Token, rest: &[Token]) -> bool
+    ensures { result ≡ Rattle.secrec_parser.specs.Steps.is_named_type token.now.kind rest.now }
+{
+    match token.kind {
+        Kind::Name(_) => match rest.split_first() {
+            Some((next, _)) => is_type(next),
+            None => false,
+        },
+        _ => false,
+    }
+}
+
+/// A declaration whose size and value are of at most this height, and its semicolon.
+#[tactic(auto, unfolding(crate::specs::Steps::declaration_statement))]
+pub fn declaration_statement<'a>(
+    alloc: Global,
+    tokens: &'a [Token],
+    room: u8,
+) -> Read<'a, Statement>
+    ensures step { Gives (λ x. (statement x.0, x.1.now)) result (declaration_statement room tokens.now) }
+    ensures shorter { IfOk result (λ x. length x.1.now < length tokens.now) }
+{
+    let (found, rest) = declaration(alloc, tokens, room)?;
+    let (_, rest) = expect(Sign::Semicolon, rest)?;
+    Ok((Statement::Declaration(found), rest))
+}
+
+/// An assignment or an expression, and its semicolon.
+#[tactic(auto, unfolding(crate::specs::Steps::action_statement))]
+pub fn action_statement<'a>(alloc: Global, tokens: &'a [Token], room: u8) -> Read<'a, Statement>
+    ensures step { Gives (λ x. (statement x.0, x.1.now)) result (action_statement room tokens.now) }
+    ensures shorter { IfOk result (λ x. length x.1.now < length tokens.now) }
+{
+    let (action, rest) = assignment_or_expression(alloc, tokens, room.saturating_sub(1), room)?;
+    let (_, rest) = expect(Sign::Semicolon, rest)?;
+    match action {
+        Action::Assignment(found) => Ok((Statement::Assignment(found), rest)),
+        Action::Expression(found) => Ok((Statement::Expression(found), rest)),
+    }
+}
+
+/// Whether a token goes on with an assignment or an expression behind a name.
+fn follows_name(token: &Token) -> bool
+    ensures { result ≡ follows_name token.now }
+{
+    token.is(Sign::LeftParenthesis)
+        || token.is(Sign::LeftBracket)
+        || token.is(Sign::Semicolon)
+        || update_of(token).is_some()
+        || operator_of(token).is_some()
+}
+
+/// Behind a name where a declaration alone has room, and none stands.
+fn only_declares<'a>(tokens: &'a [Token]) -> Read<'a, Statement>
+    ensures step { Gives (λ x. (statement x.0, x.1.now)) result (only_declares tokens.now) }
+    ensures shorter { IfOk result (λ x. length x.1.now < length tokens.now) }
+{
+    let Some((token, _)) = tokens.split_first() else {
+        return Err(Stopped::At(Problem::Unexpected, tokens));
+    };
+    if follows_name(token) {
+        Err(Stopped::At(Problem::TooHigh, tokens))
+    } else {
+        Err(Stopped::At(Problem::Unexpected, tokens))
+    }
+}
+
+/// A statement that begins with a name, behind which the rest stands.
+#[tactic(auto, unfolding(crate::specs::Steps::name_statement))]
+pub fn name_statement<'a>(
+    alloc: Global,
+    tokens: &'a [Token],
+    rest: &'a [Token],
+    room: u8,
+) -> Read<'a, Statement>
+    requires room { 1 ≤ room }
+    requires rest { length rest.now < length tokens.now }
+    ensures step { Gives (λ x. (statement x.0, x.1.now)) result (name_statement room tokens.now rest.now) }
+    ensures shorter { IfOk result (λ x. length x.1.now < length tokens.now) }
+{
+    if declares(tokens) {
+        declaration_statement(alloc, tokens, room - 1)
+    } else if room == 1 {
+        only_declares(rest)
+    } else {
+        action_statement(alloc, tokens, room)
+    }
+}
+
+/// An expression if there is one, and its semicolon.
+#[tactic(auto, unfolding(crate::specs::Steps::test_part))]
+fn optional_part<'a>(alloc: Global, tokens: &'a [Token], room: u8) -> Read<'a, Option<Expression>>
+    ensures step { Gives (λ x. (optional x.0, x.1.now)) result (test_part room tokens.now) }
+    ensures shorter { IfOk result (λ x. length x.1.now < length tokens.now) }
+{
+    let (found, rest) = optional_operand(alloc, tokens, room)?;
+    let (_, rest) = expect(Sign::Semicolon, rest)?;
+    Ok((found, rest))
+}
+
+#[tactic(auto, unfolding(crate::specs::Steps::return_step))]
+pub fn return_statement<'a>(
+    alloc: Global,
+    place: Span,
+    tokens: &'a [Token],
+    room: u8,
+) -> Read<'a, Statement>
+    ensures step { Gives (λ x. (statement x.0, x.1.now)) result (return_step room place tokens.now) }
+    ensures shorter { IfOk result (λ x. length x.1.now < length tokens.now) }
+{
+    let (value, rest) = optional_part(alloc, tokens, room)?;
+    Ok((Statement::Return(place, value), rest))
+}
+
+#[tactic(auto, unfolding(crate::specs::Steps::assert_step))]
+pub fn assert_statement<'a>(
+    alloc: Global,
+    place: Span,
+    tokens: &'a [Token],
+    room: u8,
+) -> Read<'a, Statement>
+    ensures step { Gives (λ x. (statement x.0, x.1.now)) result (assert_step room place tokens.now) }
+    ensures shorter { IfOk result (λ x. length x.1.now < length tokens.now) }
+{
+    let (test, rest) = parenthesised(alloc, tokens, room)?;
+    let (_, rest) = expect(Sign::Semicolon, rest)?;
+    Ok((Statement::Assert(place, test), rest))
+}
+
+/// The first part of a `for`, up to its semicolon.
+#[tactic(auto, unfolding(crate::specs::Steps::start_step))]
+fn start<'a>(alloc: Global, tokens: &'a [Token], room: u8) -> Read<'a, ForStart>
+    requires { 1 ≤ room }
+    ensures step { Gives (λ x. (start_tree x.0, x.1.now)) result (start_step room tokens.now) }
+    ensures shorter { IfOk result (λ x. length x.1.now ≤ length tokens.now) }
+{
+    if at_sign(Sign::Semicolon, tokens) {
+        Ok((ForStart::Nothing, tokens))
+    } else if declares(tokens) {
+        let (found, rest) = declaration(alloc, tokens, room - 1)?;
+        Ok((ForStart::Declaration(found), rest))
+    } else {
+        let (found, rest) = assignment(alloc, tokens, room)?;
+        Ok((ForStart::Assignment(found), rest))
+    }
+}
+
+/// The third part of a `for`, up to its parenthesis.
+#[tactic(auto, unfolding(crate::specs::Steps::last_step))]
+fn last<'a>(alloc: Global, tokens: &'a [Token], room: u8) -> Read<'a, ForStep>
+    ensures step { Gives (λ x. (step_tree x.0, x.1.now)) result (last_step room tokens.now) }
+    ensures shorter { IfOk result (λ x. length x.1.now ≤ length tokens.now) }
+{
+    if at_sign(Sign::RightParenthesis, tokens) {
+        return Ok((ForStep::Nothing, tokens));
+    }
+    let (action, rest) = assignment_or_expression(alloc, tokens, room, room)?;
+    match action {
+        Action::Assignment(found) => Ok((ForStep::Assignment(found), rest)),
+        Action::Expression(found) => Ok((ForStep::Expression(found), rest)),
+    }
+}
+
+/// The first part of a `for`, with the parenthesis before it and the semicolon behind it.
+#[tactic(auto, unfolding(crate::specs::Steps::start_part))]
+fn start_part<'a>(alloc: Global, tokens: &'a [Token], room: u8) -> Read<'a, ForStart>
+    requires { 1 ≤ room }
+    ensures step { Gives (λ x. (start_tree x.0, x.1.now)) result (start_part room tokens.now) }
+    ensures shorter { IfOk result (λ x. length x.1.now < length tokens.now) }
+{
+    let (_, rest) = expect(Sign::LeftParenthesis, tokens)?;
+    let (found, rest) = start(alloc, rest, room)?;
+    let (_, rest) = expect(Sign::Semicolon, rest)?;
+    Ok((found, rest))
+}
+
+/// The third part of a `for`, with the parenthesis behind it.
+#[tactic(auto, unfolding(crate::specs::Steps::last_part))]
+fn last_part<'a>(alloc: Global, tokens: &'a [Token], room: u8) -> Read<'a, ForStep>
+    ensures step { Gives (λ x. (step_tree x.0, x.1.now)) result (last_part room tokens.now) }
+    ensures shorter { IfOk result (λ x. length x.1.now < length tokens.now) }
+{
+    let (found, rest) = last(alloc, tokens, room)?;
+    let (_, rest) = expect(Sign::RightParenthesis, rest)?;
+    Ok((found, rest))
+}
+
+/// What stands in the parentheses of a `for`.
+#[derive(Drop)]
+pub struct Heading {
+    pub start: ForStart,
+    pub test: Option<Expression>,
+    pub step: ForStep,
+}
+
+/// The parentheses of a `for` and what stands in them.
+#[tactic(auto, unfolding(crate::specs::Steps::heading))]
+pub fn for_heading<'a>(alloc: Global, tokens: &'a [Token], room: u8) -> Read<'a, Heading>
+    requires { 1 ≤ room }
+    ensures step { Gives (λ x. (heading_parts x.0, x.1.now)) result (heading room tokens.now) }
+    ensures shorter { IfOk result (λ x. length x.1.now < length tokens.now) }
+{
+    let (start, rest) = start_part(alloc, tokens, room)?;
+    let (test, rest) = optional_part(alloc, rest, room)?;
+    let (step, rest) = last_part(alloc, rest, room)?;
+    Ok((Heading { start, test, step }, rest))
+}
