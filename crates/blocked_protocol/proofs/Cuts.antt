@@ -1,0 +1,71 @@
+-- Operations element by element, on words in front and words behind them.
+use Rattle.std.proofs.Common.{◌≡◌, ℕ, zero, suc, ◌+◌, ◌<◌, bit_xor, List, [], ◌∷◌, ◌++◌, length, take, drop, refl, sym, ◌∙◌, ap, arith, append_assoc}
+use Rattle.std.proofs.lemmas.List.{get_or-take, get_or-drop}
+use Rattle.share_ring.specs.Ring.{Ring}
+use Rattle.proto_core.specs.Lists.{at, each}
+use Rattle.proto_core.specs.Elementwise.{plus, minus}
+use Rattle.proto_core.specs.Resharing.{sum_of_three}
+use Rattle.proto_core.proofs.Each.{each_none, each_more, each-ext}
+use Rattle.proto_core.proofs.Beginnings.{append-none}
+use Rattle.multiply.specs.Products.{times}
+use Rattle.share_convert.specs.Bits.{bit, xor_bits_of_three}
+
+pub each-cut : (m n : ℕ) (f : ℕ → ℕ) → each (m + n) f ≡ each m f ++ each n (λ k. f (m + k))
+each-cut m zero f =
+    ap (λ k. each k f) (omega arith)
+    ∙ sym (append-none (each m f))
+    ∙ ap (λ l. each m f ++ l) (sym (each_none (λ k. f (m + k))))
+each-cut m (suc n) f =
+    ap (λ k. each k f) (omega arith)
+    ∙ each_more (m + n) f
+    ∙ ap (λ l. l ++ f (m + n) ∷ []) (each-cut m n f)
+    ∙ append_assoc (each m f) (each n (λ k. f (m + k))) (f (m + n) ∷ [])
+    ∙ ap (λ l. each m f ++ l) (sym (each_more n (λ k. f (m + k))))
+    ∙ ap (λ k. each m f ++ each k (λ i. f (m + i))) (omega arith)
+
+-- of three lists, element by element
+pub three-cut :
+    (F : ℕ → ℕ → ℕ → ℕ) (m n : ℕ) (x y z : List ℕ) →
+    each (m + n) (λ k. F (at x k) (at y k) (at z k))
+    ≡ each m (λ k. F (at (take m x) k) (at (take m y) k) (at (take m z) k))
+    ++ each n (λ k. F (at (drop m x) k) (at (drop m y) k) (at (drop m z) k))
+three-cut F m n x y z =
+    each-cut m n (λ k. F (at x k) (at y k) (at z k))
+    ∙ ap (λ l. l ++ each n (λ k. F (at x (m + k)) (at y (m + k)) (at z (m + k))))
+    (each-ext m _ _
+    (λ k h.
+    ap (λ a. F a (at y k) (at z k)) (sym (get_or-take m x k 0 h))
+    ∙ ap (λ a. F (at (take m x) k) a (at z k)) (sym (get_or-take m y k 0 h))
+    ∙ ap (λ a. F (at (take m x) k) (at (take m y) k) a) (sym (get_or-take m z k 0 h))))
+    ∙ ap (λ l. each m (λ k. F (at (take m x) k) (at (take m y) k) (at (take m z) k)) ++ l)
+    (each-ext n _ _
+    (λ k h.
+    ap (λ a. F a (at y (m + k)) (at z (m + k))) (sym (get_or-drop m x k 0))
+    ∙ ap (λ a. F (at (drop m x) k) a (at z (m + k))) (sym (get_or-drop m y k 0))
+    ∙ ap (λ a. F (at (drop m x) k) (at (drop m y) k) a) (sym (get_or-drop m z k 0))))
+
+module _ (r : Ring) (m n : ℕ) where
+  pub sum-cut :
+      (x y z : List ℕ) →
+      sum_of_three r (m + n) x y z ≡ sum_of_three r m (take m x) (take m y) (take m z) ++ sum_of_three r n (drop m x) (drop m y) (drop m z)
+  unfolding sum_of_three
+  sum-cut x y z = three-cut (λ a b c. r.add (r.add a b) c) m n x y z
+
+  pub times-cut : (x y : List ℕ) → times r (m + n) x y ≡ times r m (take m x) (take m y) ++ times r n (drop m x) (drop m y)
+  unfolding times
+  times-cut x y = three-cut (λ a b c. r.mul a b) m n x y y
+
+  pub plus-cut : (x y : List ℕ) → plus r (m + n) x y ≡ plus r m (take m x) (take m y) ++ plus r n (drop m x) (drop m y)
+  unfolding plus
+  plus-cut x y = three-cut (λ a b c. r.add a b) m n x y y
+
+  pub minus-cut : (x y : List ℕ) → minus r (m + n) x y ≡ minus r m (take m x) (take m y) ++ minus r n (drop m x) (drop m y)
+  unfolding minus
+  minus-cut x y = three-cut (λ a b c. r.sub a b) m n x y y
+
+pub xor_bits-cut :
+    (m n : ℕ) (x y z : List ℕ) →
+    xor_bits_of_three (m + n) x y z
+    ≡ xor_bits_of_three m (take m x) (take m y) (take m z) ++ xor_bits_of_three n (drop m x) (drop m y) (drop m z)
+unfolding xor_bits_of_three
+xor_bits-cut m n x y z = three-cut (λ a b c. bit (bit_xor (bit_xor a b) c)) m n x y z

@@ -1,0 +1,5 @@
+pub mod Sizes
+pub mod Fitting
+pub mod BlockRuns
+pub mod BlockViews
+pub mod Cuts
