@@ -12,7 +12,7 @@ use Rattle.blocked_protocol.specs.Blocked.{total, front, behind, blocks_messages
 use Rattle.blocked_protocol.proofs.Fitting.{fits-front, fits-behind, fits-whole, whole-fits, none-drawn}
 use Rattle.blocked_protocol.proofs.BlockRuns.{blocks-opens}
 
-same_words : (t s : Number → List ℕ) → ((k : Number) → t k ≡ s k) → t ≡ s
+pub same_words : (t s : Number → List ℕ) → ((k : Number) → t k ≡ s k) → t ≡ s
 same_words t s h = λ d. λ k. h k d
 
 -- a map of a block's words: of the miner whose view it is for, by all shares and words

@@ -7,6 +7,7 @@ use Rattle.proto_core.specs.Elementwise.{plus, minus}
 use Rattle.proto_core.specs.Resharing.{sum_of_three}
 use Rattle.proto_core.proofs.Each.{each_none, each_more, each-ext}
 use Rattle.proto_core.proofs.Beginnings.{append-none}
+use Rattle.proto_core.proofs.MessageFields.{take-front, drop-front}
 use Rattle.multiply.specs.Products.{times}
 use Rattle.share_convert.specs.Bits.{bit, xor_bits_of_three}
 
@@ -69,3 +70,42 @@ pub xor_bits-cut :
     ≡ xor_bits_of_three m (take m x) (take m y) (take m z) ++ xor_bits_of_three n (drop m x) (drop m y) (drop m z)
 unfolding xor_bits_of_three
 xor_bits-cut m n x y z = three-cut (λ a b c. bit (bit_xor (bit_xor a b) c)) m n x y z
+
+-- ---- no words
+
+pub sum-none : (r : Ring) (x y z : List ℕ) → sum_of_three r 0 x y z ≡ []
+unfolding sum_of_three
+sum-none r x y z = each_none _
+
+pub times-none : (r : Ring) (x y : List ℕ) → times r 0 x y ≡ []
+unfolding times
+times-none r x y = each_none _
+
+pub plus-none : (r : Ring) (x y : List ℕ) → plus r 0 x y ≡ []
+unfolding plus
+plus-none r x y = each_none _
+
+pub minus-none : (r : Ring) (x y : List ℕ) → minus r 0 x y ≡ []
+unfolding minus
+minus-none r x y = each_none _
+
+pub xor_bits-none : (x y z : List ℕ) → xor_bits_of_three 0 x y z ≡ []
+unfolding xor_bits_of_three
+xor_bits-none x y z = each_none _
+
+-- ---- lists end to end
+
+-- an operation of two lists that goes by elements
+pub two-ends :
+    (op : ℕ → List ℕ → List ℕ → List ℕ) (m n : ℕ) →
+    ((x y : List ℕ) → op (m + n) x y ≡ op m (take m x) (take m y) ++ op n (drop m x) (drop m y)) →
+    (x1 x2 y1 y2 : List ℕ) → length x1 ≡ m → length y1 ≡ m →
+    op (m + n) (x1 ++ x2) (y1 ++ y2) ≡ op m x1 y1 ++ op n x2 y2
+two-ends op m n cut x1 x2 y1 y2 hx hy =
+    let x : List ℕ = x1 ++ x2 in
+    let y : List ℕ = y1 ++ y2 in
+    cut x y
+    ∙ ap (λ w. op m w (take m y) ++ op n (drop m x) (drop m y)) (take-front m x1 x2 hx)
+    ∙ ap (λ w. op m x1 w ++ op n (drop m x) (drop m y)) (take-front m y1 y2 hy)
+    ∙ ap (λ w. op m x1 y1 ++ op n w (drop m y)) (drop-front m x1 x2 hx)
+    ∙ ap (λ w. op m x1 y1 ++ op n x2 w) (drop-front m y1 y2 hy)

@@ -3,3 +3,5 @@ pub mod Fitting
 pub mod BlockRuns
 pub mod BlockViews
 pub mod Cuts
+pub mod Blockables
+pub mod WholeGates

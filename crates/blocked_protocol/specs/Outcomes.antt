@@ -1,10 +1,10 @@
 -- What the blocks that three miners have at the end, and the words that they open, have to do with the operands.
-use Rattle.std.specs.Prelude.{◌≡◌, ℕ, ◌+◌, Bool, List, [], ◌++◌, length}
+use Rattle.std.specs.Prelude.{◌≡◌, ℕ, ◌+◌, Bool, List, [], ◌++◌}
 use Rattle.share_ring.specs.Ring.{Ring}
 use Rattle.share_ring.specs.Rings.{add_ring, xor_ring}
 use Rattle.proto_core.specs.declared.party.Number.{Number}
 use Rattle.proto_core.specs.declared.party.Number.TheVariants.{One, Two, Three}
-use Rattle.proto_core.specs.Protocol.{Joint, Protocol, AreBlocks, Fits}
+use Rattle.proto_core.specs.Protocol.{Joint, Protocol, AreBlocks}
 use Rattle.proto_core.specs.Resharing.{sum_of_three}
 use Rattle.protocol_model.specs.Gates.{value_at}
 use Rattle.multiply.specs.Products.{times}
