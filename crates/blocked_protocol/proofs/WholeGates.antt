@@ -133,11 +133,10 @@ opened-elementwise : (r : Ring) → Elementwise (open_protocol r) (IsOpened r)
 opened-elementwise r =
     record {
       none = λ j. (sym (sum-none r _ _ _), λ i. sym (sum-none r _ _ _));
-      more = λ m n j x y a b hx hy e f.
-          (
-            both _ _ _ _ e.0 f.0 ∙ sym (value-cut r m n j.u),
-            λ i. first-joined m n [] [] (x i) (y i) (hx i) (hy i) ∙ both _ _ _ _ (e.1 i) (f.1 i) ∙ sym (value-cut r m n j.u),
-          );
+      more = λ m n j x y a b hx hy e f. (
+        both _ _ _ _ e.0 f.0 ∙ sym (value-cut r m n j.u),
+        λ i. first-joined m n [] [] (x i) (y i) (hx i) (hy i) ∙ both _ _ _ _ (e.1 i) (f.1 i) ∙ sym (value-cut r m n j.u),
+      );
     }
 
 reshared-elementwise : (r : Ring) → Elementwise (reshare_protocol r) (IsReshared r)

@@ -1,2 +1,3 @@
 pub mod Blocked
 pub mod Outcomes
+pub mod Vectors

@@ -6,7 +6,7 @@
 mod laws;
 mod whole_gates;
 
-pub use laws::{blocks_keep_privacy, blocks_keep_soundness};
+pub use laws::{blocks_are_cut_off_the_front, blocks_keep_privacy, blocks_keep_soundness};
 pub use whole_gates::{
     whole_conversion_is_lawful, whole_opening_is_lawful, whole_product_is_lawful,
     whole_result_is_lawful, whole_splitting_is_lawful,
