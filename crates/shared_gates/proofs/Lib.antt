@@ -1,0 +1,4 @@
+pub mod RingSums
+pub mod XorSums
+pub mod Sharing
+pub mod LocalGates

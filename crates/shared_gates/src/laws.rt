@@ -1,0 +1,16 @@
+ghost use Rattle.std.specs.Prelude.{List, length};
+ghost use Rattle.proto_core.specs.declared.party.Number.{Number};
+ghost use Rattle.gates.specs.declared.gate.Gate.{Gate as GateValue};
+ghost use Rattle.gates.specs.Clear.{Values, clear_value, Suits};
+ghost use Rattle.shared_gates.specs.Shares.{Kind, Holds, AllHeld, kind_at};
+ghost use Rattle.shared_gates.specs.LocalGates.{local_share, IsLocal};
+ghost use Rattle.shared_gates.specs.Kinds.{Kinded};
+
+/// Law: where three miners hold the values before a gate that sends nothing, what each makes of its own shares and its
+/// own number are shares of the value that the gate makes.
+pub fn local_gates_keep_values()
+    ensures { (dealt_kinds kinds : List Kind) (inputs values : Values) (dealt shares : Number → Values) (gate : GateValue) →
+        AllHeld dealt_kinds inputs dealt → AllHeld kinds values shares → IsLocal gate →
+        Kinded dealt_kinds kinds (length values) gate → Suits inputs values (length values) gate →
+        Holds (kind_at kinds (length values)) (clear_value inputs values gate) (λ i. local_share i (dealt i) (shares i) gate) }
+{}

@@ -1,0 +1,8 @@
+//! What three miners do with the gates of `gates`, and that they hold the values which the gates make.
+//!
+//! There is nothing to run here: definitions in `specs/`, and the laws that follow from them.
+#![tactic(auto)]
+
+mod laws;
+
+pub use laws::local_gates_keep_values;
