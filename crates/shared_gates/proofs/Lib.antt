@@ -2,3 +2,4 @@ pub mod RingSums
 pub mod XorSums
 pub mod Sharing
 pub mod LocalGates
+pub mod Models

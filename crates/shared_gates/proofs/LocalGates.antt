@@ -85,7 +85,7 @@ shares-not xs s h =
 
 -- ---- all bits of words
 
-bits-column : (x : ℕ) → Column 64 (bit_at x) (bits_of x)
+pub bits-column : (x : ℕ) → Column 64 (bit_at x) (bits_of x)
 unfolding bits_of
 bits-column x =
     record {

@@ -1,10 +1,12 @@
-ghost use Rattle.std.specs.Prelude.{List, length};
+ghost use Rattle.std.specs.Prelude.{◌≡◌, ℕ, List, length};
 ghost use Rattle.proto_core.specs.declared.party.Number.{Number};
 ghost use Rattle.gates.specs.declared.gate.Gate.{Gate as GateValue};
 ghost use Rattle.gates.specs.Clear.{Values, clear_value, Suits};
 ghost use Rattle.shared_gates.specs.Shares.{Kind, Holds, AllHeld, kind_at};
 ghost use Rattle.shared_gates.specs.LocalGates.{local_share, IsLocal};
 ghost use Rattle.shared_gates.specs.Kinds.{Kinded};
+ghost use Rattle.shared_gates.specs.Model.{AllSizesSuit, run_gates};
+ghost use Rattle.protocol_model.specs.Gates.{AreSound, ArePrivate, Sized, sizes_of};
 
 /// Law: where three miners hold the values before a gate that sends nothing, what each makes of its own shares and its
 /// own number are shares of the value that the gate makes.
@@ -13,4 +15,19 @@ pub fn local_gates_keep_values()
         AllHeld dealt_kinds inputs dealt → AllHeld kinds values shares → IsLocal gate →
         Kinded dealt_kinds kinds (length values) gate → Suits inputs values (length values) gate →
         Holds (kind_at kinds (length values)) (clear_value inputs values gate) (λ i. local_share i (dealt i) (shares i) gate) }
+{}
+
+/// Law: the gates of a run are of sound and private protocols, whatever the miners were dealt.
+pub fn run_gates_are_sound_and_private()
+    ensures sound { (dealt : Number → Values) (dealt_sizes sizes : List ℕ) (gates : List GateValue) →
+        AreSound (run_gates dealt dealt_sizes sizes gates) }
+    ensures private { (dealt : Number → Values) (dealt_sizes sizes : List ℕ) (gates : List GateValue) →
+        ArePrivate (run_gates dealt dealt_sizes sizes gates) }
+{}
+
+/// Law: where each gate suits the sizes of the values before it, a run of them has operands of the sizes that it wants.
+pub fn run_gates_are_sized()
+    ensures { (dealt : Number → Values) (dealt_sizes sizes : List ℕ) (gates : List GateValue) →
+        ((i : Number) → sizes_of (dealt i) ≡ dealt_sizes) → AllSizesSuit dealt_sizes sizes gates →
+        Sized (run_gates dealt dealt_sizes sizes gates) sizes }
 {}

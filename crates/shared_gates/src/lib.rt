@@ -5,4 +5,4 @@
 
 mod laws;
 
-pub use laws::local_gates_keep_values;
+pub use laws::{local_gates_keep_values, run_gates_are_sized, run_gates_are_sound_and_private};
