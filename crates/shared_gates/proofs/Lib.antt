@@ -3,3 +3,5 @@ pub mod XorSums
 pub mod Sharing
 pub mod LocalGates
 pub mod Models
+pub mod Gained
+pub mod Computing

@@ -198,7 +198,7 @@ module _ (dealt_kinds kinds : List Kind) (inputs values : Values) (dealt shares 
   next = length values
 
   -- the shares of an operand
-  of_ring : (ring : RingKind) (u : ℕ) → u < next → kind_at kinds u ≡ Shared ring → AreShares (ring_of ring) (value values u) (share_at shares u)
+  pub of_ring : (ring : RingKind) (u : ℕ) → u < next → kind_at kinds u ≡ Shared ring → AreShares (ring_of ring) (value values u) (share_at shares u)
   of_ring ring u lt e = subst (λ kind. Holds kind (value values u) (share_at shares u)) e (held u lt)
 
   makes : (ring : RingKind) (xs : List ℕ) (s : Number → List ℕ) → kind_at kinds next ≡ Shared ring → AreShares (ring_of ring) xs s → Holds (kind_at kinds next) xs s

@@ -119,7 +119,7 @@ module _ (ds sizes : List ℕ) (dealt own : Values) (dealt_sizes : sizes_of deal
   two_here f u v pair =
       length-each_two f (value own u) (value own v) (size_here u ∙ pair.same_size ∙ sym (size_here v)) ∙ size_here u
 
-  local-size : (i : Number) (gate : Gate) → IsLocal gate → SizesSuit ds sizes gate → length (local_share i dealt own gate) ≡ size_made ds sizes gate
+  pub local-size : (i : Number) (gate : Gate) → IsLocal gate → SizesSuit ds sizes gate → length (local_share i dealt own gate) ≡ size_made ds sizes gate
   local-size i (Input k) local suit = size-value dealt k ∙ ap (λ s. size_of s k) dealt_sizes
   local-size i (Const list) local suit = length-const i list
   local-size i (Add u v) local suit = two_here _ u v suit

@@ -9,7 +9,7 @@ use Rattle.share_ring.specs.Rings.{xor_ring}
 use Rattle.share_convert.specs.BitLaws.{bit-xor}
 use Rattle.shared_gates.specs.Shares.{sum_of}
 
-xor-word : (x y : ℕ) → x < 2 ^ 64 → y < 2 ^ 64 → xor_ring.add x y ≡ bit_xor x y
+pub xor-word : (x y : ℕ) → x < 2 ^ 64 → y < 2 ^ 64 → xor_ring.add x y ≡ bit_xor x y
 xor-word x y hx hy = mod-eq_of_lt (xor_lt 64 x y hx hy)
 
 -- what goes through xor goes through sums of three

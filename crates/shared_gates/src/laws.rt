@@ -1,10 +1,12 @@
-ghost use Rattle.std.specs.Prelude.{◌≡◌, ℕ, List, length};
+ghost use Rattle.std.specs.Prelude.{◌≡◌, ℕ, List, [], length};
 ghost use Rattle.proto_core.specs.declared.party.Number.{Number};
 ghost use Rattle.gates.specs.declared.gate.Gate.{Gate as GateValue};
 ghost use Rattle.gates.specs.Clear.{Values, clear_value, Suits};
 ghost use Rattle.shared_gates.specs.Shares.{Kind, Holds, AllHeld, kind_at};
 ghost use Rattle.shared_gates.specs.LocalGates.{local_share, IsLocal};
-ghost use Rattle.shared_gates.specs.Kinds.{Kinded};
+ghost use Rattle.shared_gates.specs.Kinds.{Kinded, AllKinded};
+ghost use Rattle.shared_gates.specs.Computed.{Computed};
+ghost use Rattle.protocol_model.specs.Runs.{Tapes, Ready, run_values, run_opened};
 ghost use Rattle.shared_gates.specs.Model.{AllSizesSuit, run_gates};
 ghost use Rattle.protocol_model.specs.Gates.{AreSound, ArePrivate, Sized, sizes_of};
 
@@ -30,4 +32,15 @@ pub fn run_gates_are_sized()
     ensures { (dealt : Number → Values) (dealt_sizes sizes : List ℕ) (gates : List GateValue) →
         ((i : Number) → sizes_of (dealt i) ≡ dealt_sizes) → AllSizesSuit dealt_sizes sizes gates →
         Sized (run_gates dealt dealt_sizes sizes gates) sizes }
+{}
+
+/// Law: behind a run of gates, from values that the miners were dealt, they hold values that fit the gates, whatever
+/// words they draw, and the opened words are those of the values that are opened.
+pub fn runs_compute_values()
+    ensures { (dealt_kinds kinds : List Kind) (inputs : Values) (dealt : Number → Values) (dealt_sizes : List ℕ) (gates : List GateValue) (tapes : Tapes) →
+        AllHeld dealt_kinds inputs dealt → sizes_of inputs ≡ dealt_sizes → ((i : Number) → sizes_of (dealt i) ≡ dealt_sizes) →
+        AllKinded dealt_kinds kinds 0 gates → AllSizesSuit dealt_sizes [] gates →
+        Ready (run_gates dealt dealt_sizes [] gates) (λ i. []) tapes →
+        Computed kinds inputs [] gates (run_values (run_gates dealt dealt_sizes [] gates) (λ i. []) tapes)
+        (run_opened (run_gates dealt dealt_sizes [] gates) (λ i. []) tapes) }
 {}
