@@ -5,3 +5,4 @@ pub mod LocalGates
 pub mod Models
 pub mod Gained
 pub mod Computing
+pub mod Drawn

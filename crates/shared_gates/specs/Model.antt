@@ -2,6 +2,7 @@
 use Rattle.std.specs.Prelude.{◌≡◌, ℕ, ◌+◌, ◌*◌, ◌<◌, ◌≤◌, List, [], ◌∷◌, ◌++◌, Some, None, length}
 use Rattle.share_ring.specs.Rings.{add_ring, xor_ring}
 use Rattle.proto_core.specs.declared.party.Number.{Number}
+use Rattle.proto_core.specs.declared.party.Number.TheVariants.{One, Two, Three}
 use Rattle.proto_core.specs.Protocol.{Protocol}
 use Rattle.protocol_model.specs.Gates.{Joined, Local}
 use Rattle.protocol_model.specs.Gates as model
@@ -14,7 +15,7 @@ use Rattle.blocked_protocol.specs.Blocked.{blocked}
 use Rattle.gates.specs.declared.gate.Gate.{Gate}
 use Rattle.gates.specs.declared.gate.Gate.TheVariants.{Input, Const, Add, Sub, MulPub, Mul, Xor, And, Not, Shl, Shr, Low, Cat, Part, Put, Rep, Spread, Sum, Split, Conv, Open, Result}
 use Rattle.gates.specs.Clear.{Values, ring_of}
-use Rattle.gates.specs.Counts.{size_of}
+use Rattle.gates.specs.Counts.{size_of, Miner, Miner1, Miner2, Miner3}
 use Rattle.shared_gates.specs.LocalGates.{local_share}
 
 -- ---- sizes, by those of what is dealt and of the values before
@@ -105,3 +106,14 @@ run_gate dealt ds sizes gate = Local (size_made ds sizes gate) (λ i own. local_
 abbrev pub run_gates : (dealt : Number → Values) → (dealt_sizes sizes : List ℕ) → List Gate → List model.Gate
 run_gates dealt ds sizes [] = []
 run_gates dealt ds sizes (gate ∷ gates) = run_gate dealt ds sizes gate ∷ run_gates dealt ds (sizes ++ sizes_made ds sizes gate) gates
+
+-- the sizes of all values behind the gates
+abbrev pub sizes_after : (dealt_sizes sizes : List ℕ) → List Gate → List ℕ
+sizes_after ds sizes [] = sizes
+sizes_after ds sizes (gate ∷ gates) = sizes_after ds (sizes ++ sizes_made ds sizes gate) gates
+
+-- the miner whose words are counted
+abbrev pub miner_of : Number → Miner
+miner_of One = Miner1
+miner_of Two = Miner2
+miner_of Three = Miner3
