@@ -16,7 +16,7 @@ use Rattle.protocol_model.specs.Runs.{Shares, Tapes, drawn, left, joint_of, afte
 use Rattle.protocol_model.proofs.Counting.{moves-then}
 use Rattle.protocol_model.proofs.Sizes.{value_at-sized, operand-sized, sizes-append, block-fits, ready-next, ready-local}
 
-into-nothing : (i : Number) → into i nothing ≡ nothing
+pub into-nothing : (i : Number) → into i nothing ≡ nothing
 into-nothing i = λ d. λ l. at_link l d
   where
     at_link : (l : Link) → into i nothing l ≡ nothing l
@@ -83,7 +83,7 @@ gates-move i (Joined p n u v ∷ gates) sizes values tape sound sized same reach
     (sizes-append values made ∙ ap (λ s. s ++ sizes_of made) same ∙ ap (λ s. sizes ++ s) e)
     (let l = length-drop (p.draws n i) tape in omega arith))
 
-sends_on-append : (l : Link) (xs ys : List Move) → sends_on l (xs ++ ys) ≡ sends_on l xs ++ sends_on l ys
+pub sends_on-append : (l : Link) (xs ys : List Move) → sends_on l (xs ++ ys) ≡ sends_on l xs ++ sends_on l ys
 sends_on-append l [] ys = refl
 sends_on-append l (Sends k shape ∷ xs) ys =
     elim (same_link l k) as (λ b. (if b then shape ∷ sends_on l (xs ++ ys) else sends_on l (xs ++ ys)) ≡ (if b then shape ∷ sends_on l xs else sends_on l xs) ++ sends_on l ys)

@@ -10,7 +10,7 @@ use Rattle.protocol_model.specs.Runs.{Shares, Tapes, drawn, left, joint_of, afte
 
 -- ---- words
 
-past_end : (k : ℕ) → at [] k < 2 ^ 64
+pub past_end : (k : ℕ) → at [] k < 2 ^ 64
 past_end zero = omega arith
 past_end (suc k) = omega arith
 

@@ -1,0 +1,5 @@
+pub mod Shares
+pub mod LocalGates
+pub mod Kinds
+pub mod Model
+pub mod Computed
