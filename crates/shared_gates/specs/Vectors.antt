@@ -1,10 +1,9 @@
 -- A worked run: 6 times 7, less 1, is opened; with masks that are not 0.
-use Rattle.std.specs.Prelude.{◌≡◌, ℕ, ◌<◌, ◌^◌, zero, suc, List, [], ◌∷◌, refl}
+use Rattle.std.specs.Prelude.{◌≡◌, ℕ, zero, suc, List, [], ◌∷◌, refl}
 use Rattle.std.proofs.Common.{arith}
-use Rattle.share_ring.specs.Rings.{add_ring}
 use Rattle.proto_core.specs.declared.party.Number.{Number}
 use Rattle.proto_core.specs.declared.party.Number.TheVariants.{One, Two, Three}
-use Rattle.proto_core.specs.Lists.{at, each, part, AreWords}
+use Rattle.proto_core.specs.Lists.{each, part, AreWords}
 use Rattle.proto_core.specs.Resharing.{reshared, sum_of_three}
 use Rattle.protocol_model.specs.Runs.{run_opened}
 use Rattle.multiply.specs.Products.{cross}
@@ -13,7 +12,7 @@ use Rattle.gates.specs.declared.gate.Gate.{Gate}
 use Rattle.gates.specs.declared.gate.Gate.TheVariants.{Input, Const, Sub, Mul, Open}
 use Rattle.gates.specs.Clear.{Values}
 use Rattle.gates.specs.Counts.{words_of_all, Miner1}
-use Rattle.shared_gates.specs.Shares.{Kind, Shared, Known}
+use Rattle.shared_gates.specs.Shares.{Shared, Known}
 use Rattle.shared_gates.specs.Kinds.{AllKinded}
 use Rattle.shared_gates.specs.Model.{AllSizesSuit, run_gates, sizes_after}
 
