@@ -10,7 +10,6 @@ use Rattle.proto_core.proofs.Parts.{AreWords-append}
 use Rattle.protocol_model.proofs.Sizes.{past_end}
 use Rattle.blocked_protocol.specs.Blocked.{total, front, behind, blocks_messages, blocks_opened, by_block, blocks_received, in_blocks, IsCut, Blockable}
 use Rattle.blocked_protocol.proofs.Fitting.{fits-front, fits-behind, fits-whole, whole-fits, none-drawn}
-use Rattle.blocked_protocol.proofs.BlockRuns.{blocks-opens}
 
 pub same_words : (t s : Number → List ℕ) → ((k : Number) → t k ≡ s k) → t ≡ s
 same_words t s h = λ d. λ k. h k d

@@ -1,5 +1,5 @@
 -- The protocols of the gates can be run block after block.
-use Rattle.std.proofs.Common.{◌≡◌, ℕ, ◌+◌, ◌*◌, Bool, refl, arith}
+use Rattle.std.proofs.Common.{◌*◌, Bool, refl, arith}
 use Rattle.share_ring.specs.Ring.{Ring}
 use Rattle.proto_core.specs.declared.party.Number.{Number}
 use Rattle.proto_core.specs.declared.party.Number.TheVariants.{One, Two, Three}

@@ -1,8 +1,8 @@
 -- What fits a whole gate fits its first block, and the blocks behind it.
-use Rattle.std.proofs.Common.{◌≡◌, ℕ, suc, ◌+◌, ◌≤◌, List, [], ◌∷◌, ◌++◌, length, take, drop, map, refl, sym, ◌∙◌, ap, subst, arith, length-append, length-drop}
+use Rattle.std.proofs.Common.{◌≡◌, ℕ, suc, ◌+◌, List, [], ◌∷◌, length, take, drop, map, refl, sym, ◌∙◌, ap, subst, arith, length-append, length-drop}
 use Rattle.std.proofs.lemmas.List.{length-take-le}
 use Rattle.proto_core.specs.declared.party.Number.{Number}
-use Rattle.proto_core.specs.Protocol.{Joint, Protocol, Fits, IsBlock, AreBlocks}
+use Rattle.proto_core.specs.Protocol.{Joint, Protocol, Fits, AreBlocks}
 use Rattle.proto_core.proofs.Parts.{AreWords-append}
 use Rattle.protocol_model.proofs.Sizes.{AreWords-take, AreWords-drop, past_end}
 use Rattle.blocked_protocol.specs.Blocked.{total, joined, emptied, no_elements, front, behind, in_blocks, IsCut, Additive, sums, Blockable}

@@ -6,7 +6,6 @@ use Rattle.proto_core.specs.declared.party.Number.{Number}
 use Rattle.proto_core.specs.declared.party.Number.TheVariants.{One, Two, Three}
 use Rattle.proto_core.specs.Elementwise.{plus, minus}
 use Rattle.proto_core.specs.Protocol.{Joint, Protocol, Fits, Lawful, AreBlocks}
-use Rattle.proto_core.specs.Resharing.{sum_of_three}
 use Rattle.proto_core.proofs.MessageFields.{take-front, drop-front}
 use Rattle.proto_core.proofs.ResharingLaws.{length-sum_of_three}
 use Rattle.protocol_model.specs.Gates.{value_at}
@@ -17,7 +16,6 @@ use Rattle.open_result.specs.Opening.{open_protocol}
 use Rattle.open_result.specs.OpeningLaws.{open-lawful}
 use Rattle.reshare.specs.Resharing.{reshare_protocol}
 use Rattle.reshare.specs.ResharingLaws.{reshare-lawful}
-use Rattle.share_convert.specs.Bits.{xor_bits_of_three}
 use Rattle.share_convert.specs.Converting.{conv_protocol}
 use Rattle.share_convert.specs.ConvertingLaws.{conv_lawful}
 use Rattle.split_share.specs.Splitting as splitting

@@ -1,13 +1,12 @@
 -- Behind a list of gates the miners hold values that fit it.
-use Rattle.std.proofs.Common.{◌≡◌, ℕ, zero, suc, ◌+◌, ◌-◌, ◌%◌, ◌<◌, ◌≤◌, Bool, List, [], ◌∷◌, ◌++◌, length, map, take, get_or, refl, sym, ◌∙◌, ap, subst, arith, inl, inr, length-append, append_assoc}
+use Rattle.std.proofs.Common.{◌≡◌, ℕ, ◌+◌, ◌%◌, ◌<◌, ◌≤◌, Bool, List, [], ◌∷◌, ◌++◌, length, refl, sym, ◌∙◌, ap, subst, arith, inl, inr, length-append, append_assoc}
 use Rattle.std.specs.Prelude.{Option, Some, None, slice_get}
 use Rattle.std.proofs.lemmas.Bool.{cases_lt}
-use Rattle.std.proofs.lemmas.List.{length-map, get_or_append_left, get_or-append_right}
-use Rattle.share_ring.specs.Ring.{Ring}
+use Rattle.std.proofs.lemmas.List.{length-map, get_or_append_left}
 use Rattle.share_ring.specs.Rings.{add_ring, xor_ring}
 use Rattle.share_ring.specs.RingsKeepLaws.{add_ring_laws, xor_ring_laws}
 use Rattle.proto_core.specs.declared.party.Number.{Number}
-use Rattle.proto_core.specs.declared.party.Number.TheVariants.{One, Two, Three}
+use Rattle.proto_core.specs.declared.party.Number.TheVariants.{One}
 use Rattle.proto_core.specs.Protocol.{Joint, Protocol, Fits, Sound, AreBlocks}
 use Rattle.proto_core.proofs.Beginnings.{append-none}
 use Rattle.protocol_model.specs.Gates.{Joined, value_at, sizes_of}
@@ -23,24 +22,24 @@ use Rattle.gates.specs.Blocks.{block_sizes}
 use Rattle.gates.specs.declared.ring_kind.RingKind.{RingKind}
 use Rattle.gates.specs.declared.ring_kind.RingKind.TheVariants.{Arithmetic, Boolean}
 use Rattle.gates.specs.declared.gate.Gate.{Gate}
-use Rattle.gates.specs.declared.gate.Gate.TheVariants.{Input, Const, Add, Sub, MulPub, Mul, Xor, And, Not, Shl, Shr, Low, Cat, Part, Put, Rep, Spread, Sum, Split, Conv, Open, Result}
-use Rattle.gates.specs.Clear.{Values, value, ring_of, each_two, clear_value, Suits, Makes, FitFrom}
+use Rattle.gates.specs.declared.gate.Gate.TheVariants.{Mul, And, Low, Split, Conv, Open, Result}
+use Rattle.gates.specs.Clear.{Values, value, ring_of, clear_value, Suits, Makes, FitFrom}
 use Rattle.gates.specs.Clear as clear
-use Rattle.gates.specs.Counts.{size_of, made_by, made_by_all}
+use Rattle.gates.specs.Counts.{size_of, made_by}
 use Rattle.gates.proofs.Growing.{Suits-grown, Makes-grown, clear_value-grown}
 use Rattle.blocked_protocol.specs.Blocked.{blocked}
-use Rattle.blocked_protocol.specs.Outcomes.{value_of, nth}
+use Rattle.blocked_protocol.specs.Outcomes.{nth}
 use Rattle.blocked_protocol.proofs.Sizes.{block_sizes-cut}
 use Rattle.blocked_protocol.proofs.Fitting.{no_words}
 use Rattle.blocked_protocol.proofs.BlockViews.{same_words}
 use Rattle.blocked_protocol.proofs.WholeGates.{mul_whole, open_whole, reshare_whole, conv_whole, split_whole}
 use Rattle.shared_gates.specs.Shares.{AreShares, Kind, Shared, Known, Holds, kind_at, share_at, AllHeld}
-use Rattle.shared_gates.specs.LocalGates.{local_share, IsLocal}
+use Rattle.shared_gates.specs.LocalGates.{local_share}
 use Rattle.shared_gates.specs.Kinds.{AllKinded}
-use Rattle.shared_gates.specs.Model.{size_made, sizes_made, AllSizesSuit, SizesSuit, run_gate, run_gates}
+use Rattle.shared_gates.specs.Model.{size_made, AllSizesSuit, run_gates}
 use Rattle.shared_gates.specs.Computed.{opened_by_gate, opened_values, Computed}
 use Rattle.shared_gates.proofs.LocalGates.{laws_of, of_ring, local-held}
-use Rattle.shared_gates.proofs.Models.{value_at-value, size-value, local-size, suits-sizes, gates-sound}
+use Rattle.shared_gates.proofs.Models.{value_at-value, size-value, local-size, suits-sizes}
 use Rattle.shared_gates.proofs.Gained.{one-block, two-blocks, first-block-size, second-block-size, length-two, word_of, length-word, gained-product, gained-opened, gained-reshared, gained-converted, gained-split, first-word-shares, second-word-shares}
 
 -- ---- one more value

@@ -9,7 +9,7 @@ use Rattle.protocol_model.specs.Runs.{Tapes, Ready}
 use Rattle.share_convert.specs.Converting.{conv_draws}
 use Rattle.split_share.specs.Splitting.{split_draws}
 use Rattle.gates.specs.declared.gate.Gate.{Gate}
-use Rattle.gates.specs.declared.gate.Gate.TheVariants.{Input, Const, Add, Sub, MulPub, Mul, Xor, And, Not, Shl, Shr, Low, Cat, Part, Put, Rep, Spread, Sum, Split, Conv, Open, Result}
+use Rattle.gates.specs.declared.gate.Gate.TheVariants.{Mul, And, Split, Conv, Open, Result}
 use Rattle.gates.specs.Clear.{Values}
 use Rattle.gates.specs.Counts.{size_of, words_of_split, words_of_conversion, words_of_all}
 use Rattle.shared_gates.specs.Model.{sizes_made, AllSizesSuit, run_gates, sizes_after, miner_of}

@@ -1,5 +1,5 @@
 -- What the outputs of a whole gate are shares of.
-use Rattle.std.proofs.Common.{◌≡◌, ℕ, ◌+◌, ◌%◌, ◌<◌, ◌^◌, Bool, true, false, List, [], ◌∷◌, ◌++◌, length, map, bit_xor, refl, sym, ◌∙◌, ap, subst, arith}
+use Rattle.std.proofs.Common.{◌≡◌, ℕ, ◌%◌, ◌<◌, ◌^◌, Bool, true, false, List, [], ◌∷◌, length, map, bit_xor, refl, sym, ◌∙◌, ap, subst}
 use Rattle.std.proofs.lemmas.Nat.{xor_lt}
 use Rattle.std.proofs.lemmas.List.Elements.{All-from_get_or}
 use Rattle.share_ring.specs.Ring.{Ring, RingLaws}
@@ -18,7 +18,7 @@ use Rattle.share_convert.specs.Bits.{bit, xor_bits_of_three}
 use Rattle.split_share.specs.Splitting as splitting
 use Rattle.gates.specs.Clear.{each_two, joined}
 use Rattle.gates.specs.Clear as clear
-use Rattle.gates.proofs.Columns.{Column, Column-of, Column-map, Column-each_two}
+use Rattle.gates.proofs.Columns.{Column-of, Column-map, Column-each_two}
 use Rattle.blocked_protocol.specs.Outcomes.{value_of, nth, IsProduct, IsOpened, IsReshared, IsConverted, IsSplit}
 use Rattle.shared_gates.specs.Shares.{sum_of, AreShares}
 use Rattle.shared_gates.proofs.XorSums.{xor-word}

@@ -1,9 +1,8 @@
 -- A gate that sends nothing makes shares of what it makes of clear values.
-use Rattle.std.proofs.Common.{◌≡◌, ℕ, zero, suc, ◌+◌, ◌*◌, ◌/◌, ◌%◌, ◌<◌, ◌≤◌, ◌^◌, List, [], ◌∷◌, ◌++◌, length, drop, map, sum, refl, sym, ◌∙◌, ap, subst, arith}
+use Rattle.std.proofs.Common.{◌≡◌, ℕ, zero, suc, ◌+◌, ◌*◌, ◌/◌, ◌%◌, ◌<◌, ◌^◌, List, [], ◌∷◌, ◌++◌, length, drop, map, sum, refl, sym, ◌∙◌, ap, subst, arith}
 use Rattle.std.specs.List.{flat_map}
 use Rattle.std.specs.Int.{w64, bit_at, bit_not}
 use Rattle.std.proofs.lemmas.Nat.{mod_below, pow_pos}
-use Rattle.std.proofs.lemmas.List.{get_or-map, length-map}
 use Rattle.std.proofs.lemmas.List.FromFn.{length-map-range_with_len, get_or-map-range_with_len}
 use Rattle.std.proofs.lemmas.List.Concat.{flat_map-cons}
 use Rattle.std.proofs.lemmas.List.Sums.{sum_by-cons}
@@ -22,10 +21,10 @@ use Rattle.gates.proofs.Columns.{Column, Column-of, Column-map}
 use Rattle.protocol_model.proofs.Sizes.{past_end}
 use Rattle.blocked_protocol.proofs.Fitting.{no_words}
 use Rattle.blocked_protocol.proofs.BlockViews.{same_words}
-use Rattle.shared_gates.specs.Shares.{sum_of, AreShares, Kind, Shared, Known, Holds, kind_at, share_at, AllHeld}
+use Rattle.shared_gates.specs.Shares.{sum_of, AreShares, Kind, Shared, Holds, kind_at, share_at, AllHeld}
 use Rattle.shared_gates.specs.LocalGates.{const_share, not_share, local_share, IsLocal}
 use Rattle.shared_gates.specs.Kinds.{Kinded}
-use Rattle.shared_gates.proofs.RingSums.{sum-same, sum-sums, sum-differences, sum-products}
+use Rattle.shared_gates.proofs.RingSums.{sum-sums, sum-differences, sum-products}
 use Rattle.shared_gates.proofs.XorSums.{sum-xors, sum-turned, shifted_up-word, shifted_up-xor, shifted_down-word, shifted_down-xor, low-word, low-xor, bit-word, bit-through, turned-word}
 use Rattle.shared_gates.proofs.Sharing.{shares-by, shares-map, shares-two, shares-fixed, shares-append, shares-part, shares-set, shares-replicate}
 

@@ -1,26 +1,24 @@
 -- The gates of a run are sound and private, and their sizes are as they want them.
-use Rattle.std.proofs.Common.{◌≡◌, ℕ, zero, suc, ◌+◌, ◌*◌, ◌<◌, ◌≤◌, List, [], ◌∷◌, ◌++◌, length, map, get_or, sum, refl, sym, ◌∙◌, ap, subst, arith, length-append, length-drop}
-use Rattle.std.specs.Prelude.{Some, None}
+use Rattle.std.proofs.Common.{◌≡◌, ℕ, zero, suc, ◌+◌, ◌*◌, ◌<◌, ◌≤◌, List, [], ◌∷◌, ◌++◌, length, refl, sym, ◌∙◌, ap, subst, arith, length-append, length-drop}
+use Rattle.std.specs.Prelude.{Some}
 use Rattle.std.specs.List.{flat_map}
 use Rattle.std.specs.Int.{w64, bit_not}
 use Rattle.std.proofs.lemmas.List.{length-map, length-take-le, length-set, length-replicate}
 use Rattle.std.proofs.lemmas.List.Concat.{flat_map-cons}
-use Rattle.share_ring.specs.Rings.{add_ring, xor_ring}
 use Rattle.share_ring.specs.RingsKeepLaws.{add_ring_laws, xor_ring_laws}
 use Rattle.proto_core.specs.declared.party.Number.{Number}
 use Rattle.proto_core.specs.declared.party.Number.TheVariants.{One, Two, Three}
-use Rattle.proto_core.specs.Protocol.{Sound, Private}
-use Rattle.protocol_model.specs.Gates.{value_at, size_at, sizes_of, Sized, AreSound, ArePrivate, IsSized}
+use Rattle.protocol_model.specs.Gates.{value_at, size_at, sizes_of, Sized, AreSound, ArePrivate}
 use Rattle.gates.specs.Blocks.{block_sizes}
 use Rattle.gates.specs.declared.gate.Gate.{Gate}
 use Rattle.gates.specs.declared.gate.Gate.TheVariants.{Input, Const, Add, Sub, MulPub, Mul, Xor, And, Not, Shl, Shr, Low, Cat, Part, Put, Rep, Spread, Sum, Split, Conv, Open, Result}
-use Rattle.gates.specs.Clear.{Values, value, ring_of, each_two, bits_of, Suits}
+use Rattle.gates.specs.Clear.{Values, value, each_two, bits_of, Suits}
 use Rattle.gates.specs.Counts.{size_of}
 use Rattle.gates.proofs.Columns.{Column-of, Column-each_two}
 use Rattle.blocked_protocol.proofs.Sizes.{block_sizes-cut}
 use Rattle.blocked_protocol.proofs.WholeGates.{mul_whole, open_whole, reshare_whole, conv_whole, split_whole}
 use Rattle.shared_gates.specs.LocalGates.{local_share, const_share, not_share, IsLocal}
-use Rattle.shared_gates.specs.Model.{size_made, sizes_made, PairOf, SizesSuit, AllSizesSuit, run_gate, run_gates}
+use Rattle.shared_gates.specs.Model.{size_made, sizes_made, PairOf, SizesSuit, AllSizesSuit, run_gates}
 use Rattle.shared_gates.proofs.LocalGates.{laws_of, bits-column}
 
 -- ---- sizes of values

@@ -3,3 +3,4 @@ pub mod LocalGates
 pub mod Kinds
 pub mod Model
 pub mod Computed
+pub mod Vectors
