@@ -1,0 +1,4 @@
+pub mod Types
+pub mod Declarations
+pub mod Scopes
+pub mod ExpressionTypes

@@ -1,0 +1,8 @@
+//! The types of a program: whether a program keeps the type rules of the language, and the first of its faults.
+#![tactic(auto)]
+
+mod fault;
+mod value_type;
+
+pub use fault::{Fault, Problem};
+pub use value_type::{BuiltIn, ExpressionType, Protection, ValueType};
