@@ -2,3 +2,9 @@ pub mod Types
 pub mod Declarations
 pub mod Scopes
 pub mod ExpressionTypes
+pub mod StatementTypes
+pub mod FunctionTypes
+pub mod Least
+pub mod Reached
+pub mod ProgramTypes
+pub mod Vectors
