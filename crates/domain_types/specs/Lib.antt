@@ -7,4 +7,5 @@ pub mod FunctionTypes
 pub mod Least
 pub mod Reached
 pub mod ProgramTypes
+pub mod Typing
 pub mod Vectors
