@@ -21,6 +21,10 @@ abbrev pub fault_if : Bool → Span → Problem → List Fault
 fault_if true p problem = fault_at p problem
 fault_if false p problem = []
 
+abbrev pub is_faultless : List Fault → Bool
+is_faultless [] = true
+is_faultless (f ∷ fs) = false
+
 -- what a node says of a part: nothing where the part has no type
 abbrev pub of_typed : {A : Type 0} → Option A → (A → List Fault) → List Fault
 of_typed None say = []
@@ -28,8 +32,7 @@ of_typed (Some t) say = say t
 
 -- a node that is refused has no type
 abbrev pub unless_refused : {A : Type 0} → List Fault → Option A → Option A
-unless_refused [] t = t
-unless_refused (f ∷ fs) t = None
+unless_refused fs t = if is_faultless fs then t else None
 
 -- the value that an expression gives: a void call gives none
 abbrev pub value_of : Option ExpressionType → Option ValueType

@@ -2,7 +2,9 @@
 #![tactic(auto)]
 
 mod fault;
+mod rules;
 mod value_type;
+mod worst;
 
 pub use fault::{Fault, Problem};
 pub use value_type::{BuiltIn, ExpressionType, Protection, ValueType};
