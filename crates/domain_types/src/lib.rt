@@ -2,6 +2,7 @@
 #![tactic(auto)]
 
 mod fault;
+mod operations;
 mod rules;
 mod value_type;
 mod worst;
