@@ -21,6 +21,7 @@ use Rattle.domain_types.specs.declared.value_type.Protection.{Protection}
 use Rattle.domain_types.specs.declared.value_type.Protection.TheVariants.{Public, Private}
 use Rattle.domain_types.specs.declared.value_type.ValueType.{ValueType}
 use Rattle.domain_types.specs.declared.value_type.ExpressionType.{ExpressionType}
+use Rattle.domain_types.specs.declared.value_type.Argument.{Argument}
 use Rattle.domain_types.specs.declared.value_type.ExpressionType.TheVariants.{Void, Value}
 use Rattle.domain_types.specs.declared.value_type.BuiltIn.{BuiltIn}
 use Rattle.domain_types.specs.declared.value_type.BuiltIn.TheVariants.{Size, Cat, Sum, BitExtract}
@@ -135,11 +136,6 @@ unfoldable pub index_type : Span → Span → ValueType → ValueType → Option
 index_type p q array position = unless_refused (index_faults p q array position) (Some (scalar_of array))
 
 -- CALLS
-
--- an argument of a call: where it begins, and its type
-pub record Argument : Type 0 where
-  pub place : Span
-  pub given : ValueType
 
 -- the arguments, where each has a type
 abbrev pub with_argument : Span → Option ValueType → Option (List Argument) → Option (List Argument)

@@ -18,6 +18,7 @@ use Rattle.secrec_ast.specs.Statements.{DeclarationTree, TargetTree, AssignmentT
 use Rattle.secrec_ast.specs.Statements as Statements'
 use Rattle.secrec_ast.specs.Heights.{place_of}
 use Rattle.secrec_ast.specs.Programs.{FunctionTree, ItemTree, imports, kind, domain, defines, ProgramTree}
+use Rattle.domain_types.specs.declared.value_type.Argument.{Argument}
 use Rattle.domain_types.specs.declared.value_type.Protection.{Protection}
 use Rattle.domain_types.specs.declared.value_type.Protection.TheVariants.{Public, Private}
 use Rattle.domain_types.specs.declared.value_type.ValueType.{ValueType}
@@ -28,7 +29,7 @@ use Rattle.domain_types.specs.declared.value_type.BuiltIn.TheVariants.{Size, Cat
 use Rattle.domain_types.specs.Types.{scalar_of, public_scalar}
 use Rattle.domain_types.specs.Declarations.{Declared, declared_by, functions_of, is_known_kind, built_in_named, Setting, type_written, Callee, built_in, defined, callee}
 use Rattle.domain_types.specs.Scopes.{Variable, Scope, nothing_known, inner, with_variable, variable_named, is_among}
-use Rattle.domain_types.specs.ExpressionTypes.{Argument, cast_type, declassified, array_of, bound_by, within, variable_type, result_type}
+use Rattle.domain_types.specs.ExpressionTypes.{cast_type, declassified, array_of, bound_by, within, variable_type, result_type}
 use Rattle.domain_types.specs.StatementTypes.{is_argument, variable_declared, after, after_start, one_returns}
 use Rattle.domain_types.specs.FunctionTypes.{with_parameter, with_parameters, protections_of, is_variable, is_in_parameter}
 use Rattle.domain_types.specs.Reached.{Call, Instance, Calls, IsChecked}

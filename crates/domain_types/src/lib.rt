@@ -1,6 +1,7 @@
 //! The types of a program: whether a program keeps the type rules of the language, and the first of its faults.
 #![tactic(auto)]
 
+mod built_ins;
 mod fault;
 mod operations;
 mod rules;

@@ -1,3 +1,4 @@
+use sc_text::Span;
 use secrec_ast::DataType;
 
 /// Who may see a value: everybody, or only what a private domain protects. Private domains are numbered from 0 in the order
@@ -30,4 +31,11 @@ pub enum BuiltIn {
     Cat,
     Sum,
     BitExtract,
+}
+
+/// An argument of a call: where it begins, and its type.
+#[derive(Clone, Copy, Debug)]
+pub struct Argument {
+    pub place: Span,
+    pub given: ValueType,
 }
