@@ -1,5 +1,6 @@
 pub mod Types
 pub mod Declarations
+pub mod Index
 pub mod Scopes
 pub mod ExpressionTypes
 pub mod StatementTypes

@@ -3,6 +3,7 @@
 
 mod built_ins;
 mod fault;
+mod name_index;
 mod operations;
 mod rules;
 mod value_type;
