@@ -1,6 +1,8 @@
 pub mod Types
 pub mod Declarations
 pub mod Index
+pub mod Named
+pub mod Views
 pub mod Scopes
 pub mod ExpressionTypes
 pub mod StatementTypes

@@ -2,10 +2,12 @@
 #![tactic(auto)]
 
 mod built_ins;
+mod declarations;
 mod fault;
 mod name_index;
 mod operations;
 mod rules;
+mod setting;
 mod value_type;
 mod worst;
 
