@@ -186,17 +186,17 @@ abbrev pub is_named : List ℕ → Domain → Bool
 is_named x domain.Public = false
 is_named x (domain.Named y) = bytes_eq x y.text
 
-abbrev pub meet_all : Protection → Option Protection → Option Protection
-meet_all d None = None
-meet_all d (Some e) = meet d e
-
 -- what a call binds a domain variable to: the one private domain among the arguments at its parameters, or public where all
--- are public; nothing where two private domains stand there
+-- are public; nothing where two private domains stand there. d is what the arguments so far have made
+abbrev pub bound_from : Protection → List ℕ → List Parameter → List Argument → Option Protection
+bound_from d x [] gs = Some d
+bound_from d x (p ∷ ps) [] = Some d
+bound_from d x (p ∷ ps) (g ∷ gs) =
+    if is_named x p.declared.domain then option_and_then (λ e. bound_from e x ps gs) (meet d g.given.domain)
+    else bound_from d x ps gs
+
 abbrev pub bound_by : List ℕ → List Parameter → List Argument → Option Protection
-bound_by x [] gs = Some Public
-bound_by x (p ∷ ps) [] = Some Public
-bound_by x (p ∷ ps) (g ∷ gs) =
-    if is_named x p.declared.domain then meet_all g.given.domain (bound_by x ps gs) else bound_by x ps gs
+bound_by x ps gs = bound_from Public x ps gs
 
 -- the domains of all domain variables, where each is bound
 abbrev pub with_domain : Option Protection → Option (List Protection) → Option (List Protection)

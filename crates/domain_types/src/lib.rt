@@ -3,6 +3,7 @@
 
 mod built_ins;
 mod declarations;
+mod defined_calls;
 mod fault;
 mod name_index;
 mod operations;

@@ -30,16 +30,16 @@ fn bound(name: &str, variables: &[DomainVariable], binding: &[Protection]) -> Op
 }
 
 /// The domain that is written, if its name is known.
-pub fn domain<'a>(place: &Setting<'a>, domain: &'a Domain) -> Option<Protection>
-    ensures { result ≡ domain_of (setting place.now) domain.now }
+pub fn domain<'a>(here: &Setting<'a>, domain: &'a Domain) -> Option<Protection>
+    ensures { result ≡ domain_of (setting here.now) domain.now }
 {
     match domain {
         Domain::Public => Some(Protection::Public),
         Domain::Named(name) => {
             let name = name.text.as_str();
-            match bound(name, place.variables, place.binding) {
+            match bound(name, here.variables, here.binding) {
                 Some(domain) => Some(domain),
-                None => match place.declarations.domains.number(name) {
+                None => match here.declarations.domains.number(name) {
                     Some(number) => Some(Protection::Private(number)),
                     None => None,
                 },
@@ -49,10 +49,10 @@ pub fn domain<'a>(place: &Setting<'a>, domain: &'a Domain) -> Option<Protection>
 }
 
 /// The type that is written, if its domain is known.
-pub fn written<'a>(place: &Setting<'a>, declared: &'a DeclaredType) -> Option<ValueType>
-    ensures { result ≡ type_written (setting place.now) declared.now }
+pub fn written<'a>(here: &Setting<'a>, declared: &'a DeclaredType) -> Option<ValueType>
+    ensures { result ≡ type_written (setting here.now) declared.now }
 {
-    match domain(place, &declared.domain) {
+    match domain(here, &declared.domain) {
         Some(domain) => Some(ValueType {
             domain,
             element: declared.element,
