@@ -120,10 +120,10 @@ fn binding(
 
 // Each argument goes to its parameter.
 #[tactic(auto, using(crate::proofs::Faults::appends))]
-fn arguments_fit<'a>(
+fn arguments_fit<'p>(
     worst: &mut Option<Fault>,
-    callee: &Setting<'a>,
-    parameters: &'a [Parameter],
+    callee: &Setting<'_, 'p>,
+    parameters: &'p [Parameter],
     arguments: &[Argument],
 ) -> bool
     ensures fits { result ≡ is_faultless (argument_faults (setting callee.now) parameters.now arguments.now) }
@@ -144,4 +144,61 @@ fn arguments_fit<'a>(
         arguments = others;
     }
     fits
+}
+
+/// The rule of a call of a function of the program: the domains of its domain variables, where the call is not refused.
+#[tactic(auto, using(crate::proofs::Faults::appends), unfolding(crate::specs::ExpressionTypes::defined_faults))]
+pub fn defined_call<'p>(
+    alloc: Global,
+    worst: &mut Option<Fault>,
+    declarations: &Declarations<'p>,
+    place: Span,
+    function: &'p Function,
+    arguments: &[Argument],
+) -> Result<Option<Vec<Protection>>, AllocError>
+    ensures binding { IfOk result (λ ds. option_map vec_items ds ≡
+        unless_refused (defined_faults (declared declarations.now) place (function_tree function.now) arguments.now)
+        (binding_by function.now.variables.items function.now.parameters.items arguments.now)) }
+    ensures worst { IfOk result (λ _. worst.new ≡
+        least worst.old (defined_faults (declared declarations.now) place (function_tree function.now) arguments.now)) }
+{
+    if function.parameters.len() != arguments.len() {
+        note(worst, place, Problem::BadArity);
+        return Ok(None);
+    }
+    let bound = may_all_be_bound(
+        worst,
+        place,
+        &function.variables,
+        &function.parameters,
+        arguments,
+    );
+    let domains = binding(alloc, &function.variables, &function.parameters, arguments)?;
+    let Some(domains) = domains else {
+        return Ok(None);
+    };
+    let callee = Setting {
+        declarations,
+        variables: &function.variables,
+        binding: &domains,
+    };
+    let fits = arguments_fit(worst, &callee, &function.parameters, arguments);
+    if bound && fits {
+        Ok(Some(domains))
+    } else {
+        Ok(None)
+    }
+}
+
+/// What a function gives back, if its domain is known.
+pub fn result_type<'p>(here: &Setting<'_, 'p>, returned: &'p ResultType) -> Option<ExpressionType>
+    ensures { result ≡ result_type (setting here.now) returned.now }
+{
+    match returned {
+        ResultType::Void => Some(ExpressionType::Void),
+        ResultType::Value(declared) => match written(here, declared) {
+            Some(given) => Some(ExpressionType::Value(given)),
+            None => None,
+        },
+    }
 }

@@ -8,9 +8,9 @@ use secrec_ast::{DeclaredType, Domain, DomainVariable};
 
 /// Where a piece of a program stands: in a function whose domain variables are bound.
 #[derive(Clone, Copy)]
-pub struct Setting<'a> {
-    pub declarations: &'a Declarations<'a>,
-    pub variables: &'a [DomainVariable],
+pub struct Setting<'a, 'p> {
+    pub declarations: &'a Declarations<'p>,
+    pub variables: &'p [DomainVariable],
     /// The domain of each of these variables.
     pub binding: &'a [Protection],
 }
@@ -30,7 +30,7 @@ fn bound(name: &str, variables: &[DomainVariable], binding: &[Protection]) -> Op
 }
 
 /// The domain that is written, if its name is known.
-pub fn domain<'a>(here: &Setting<'a>, domain: &'a Domain) -> Option<Protection>
+pub fn domain<'p>(here: &Setting<'_, 'p>, domain: &'p Domain) -> Option<Protection>
     ensures { result ≡ domain_of (setting here.now) domain.now }
 {
     match domain {
@@ -49,7 +49,7 @@ pub fn domain<'a>(here: &Setting<'a>, domain: &'a Domain) -> Option<Protection>
 }
 
 /// The type that is written, if its domain is known.
-pub fn written<'a>(here: &Setting<'a>, declared: &'a DeclaredType) -> Option<ValueType>
+pub fn written<'p>(here: &Setting<'_, 'p>, declared: &'p DeclaredType) -> Option<ValueType>
     ensures { result ≡ type_written (setting here.now) declared.now }
 {
     match domain(here, &declared.domain) {
