@@ -2,3 +2,4 @@ pub mod Faults
 pub mod Names
 pub mod Functions
 pub mod Bindings
+pub mod Calling

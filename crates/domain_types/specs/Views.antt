@@ -9,6 +9,8 @@ use Rattle.domain_types.specs.declared.declarations.Called.TheVariants.{BuiltIn,
 use Rattle.domain_types.specs.declared.setting.Setting.{Setting}
 use Rattle.domain_types.specs.Declarations.{Declared, bind, Callee, built_in, defined}
 use Rattle.domain_types.specs.Declarations as names
+use Rattle.domain_types.specs.declared.calls.Call.{Call}
+use Rattle.domain_types.specs.Reached as reached
 
 abbrev pub tree_at : Bor Function → FunctionTree
 tree_at f = function_tree f.now
@@ -29,3 +31,9 @@ callee_of (Defined k f) = defined k (tree_at f)
 
 abbrev pub setting : Setting → names.Setting
 setting w = record { declared = declared w.declarations.now; bound = bind w.variables.now w.binding.now }
+
+abbrev pub call_seen : Call → reached.Call
+call_seen c = record { function = c.function; binding = option_map vec_items c.binding }
+
+abbrev pub calls_seen : List Call → List reached.Call
+calls_seen cs = map call_seen cs

@@ -2,6 +2,8 @@
 #![tactic(auto)]
 
 mod built_ins;
+mod call_rule;
+mod calls;
 mod declarations;
 mod defined_calls;
 mod fault;

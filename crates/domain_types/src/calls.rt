@@ -1,0 +1,8 @@
+use crate::value_type::Protection;
+
+/// A call of a function of the program: its number, and the domains of its domain variables where the call is not refused.
+#[derive(Drop)]
+pub struct Call {
+    pub function: usize,
+    pub binding: Option<Vec<Protection>>,
+}
