@@ -3,3 +3,4 @@ pub mod Names
 pub mod Functions
 pub mod Bindings
 pub mod Calling
+pub mod Tables

@@ -4,6 +4,7 @@ pub mod Index
 pub mod Named
 pub mod Views
 pub mod Scopes
+pub mod Table
 pub mod ExpressionTypes
 pub mod StatementTypes
 pub mod FunctionTypes

@@ -1,5 +1,5 @@
 -- The variables that are known at a place.
-use Rattle.std.specs.Prelude.{ℕ, Bool, true, false, ◌||◌, if◌then◌else◌, List, [], ◌∷◌, ◌++◌, Option, Some, None, bytes_eq}
+use Rattle.std.specs.Prelude.{ℕ, Bool, true, false, ◌||◌, if◌then◌else◌, List, [], ◌∷◌, ◌++◌, ◌-◌, length, take, drop, Option, Some, None, bytes_eq}
 use Rattle.secrec_ast.specs.declared.statement.Identifier.{Identifier}
 use Rattle.domain_types.specs.declared.value_type.ValueType.{ValueType}
 use Rattle.domain_types.specs.declared.fault.Problem.TheVariants.{Twice}
@@ -10,6 +10,9 @@ use Rattle.domain_types.specs.Types.{fault_if}
 pub record Variable : Type 0 where
   pub name : List ℕ
   pub held : Option ValueType
+
+abbrev pub held_by : Variable → Option ValueType
+held_by v = v.held
 
 -- the variables of the innermost block so far, and those of the blocks around it; the latest come first
 pub record Scope : Type 0 where
@@ -22,6 +25,10 @@ nothing_known = record { block = []; outer = [] }
 -- inside a block that begins here
 abbrev pub inner : Scope → Scope
 inner s = record { block = []; outer = s.block ++ s.outer }
+
+-- behind that block, where n variables were outside of the block around it
+abbrev pub leaving : ℕ → Scope → Scope
+leaving n s = record { block = take (length s.outer - n) s.outer; outer = drop (length s.outer - n) s.outer }
 
 -- behind a declaration
 abbrev pub with_variable : Variable → Scope → Scope

@@ -12,6 +12,7 @@ mod operations;
 mod rules;
 mod setting;
 mod value_type;
+mod variables;
 mod worst;
 
 pub use fault::{Fault, Problem};
