@@ -1,5 +1,6 @@
 ghost use Rattle.std.specs.Prelude.{◌≡◌, IfOk};
 ghost use Rattle.secrec_ast.specs.Tree.{expression};
+ghost use Rattle.secrec_ast.specs.Heights.{place_of};
 
 use sc_text::{Name, Span};
 use std::alloc::{AllocError, Global};
@@ -59,6 +60,26 @@ pub enum Expression {
 }
 
 impl Expression {
+    /// The place where it begins.
+    pub fn place(&self) -> Span
+        ensures { result ≡ place_of (expression self.now) }
+    {
+        match self {
+            Expression::Number(place, _)
+            | Expression::Truth(place, _)
+            | Expression::Variable(place, _)
+            | Expression::Call(place, _, _)
+            | Expression::Index(place, _, _)
+            | Expression::Parentheses(place, _)
+            | Expression::Not(place, _)
+            | Expression::Cast(place, _, _)
+            | Expression::Binary(place, _, _, _)
+            | Expression::Declassify(place, _)
+            | Expression::Argument(place, _)
+            | Expression::Publish(place, _, _) => *place,
+        }
+    }
+
     /// An equal tree in memory of its own.
     pub fn copy(&self, alloc: Global) -> Result<Expression, AllocError>
         ensures { IfOk result (λ e. expression e ≡ expression self.now) }

@@ -1,0 +1,9 @@
+pub mod Ended
+pub mod Laws
+pub mod Numbers
+pub mod Places
+pub mod Runs
+pub mod Signs
+pub mod Choices
+pub mod Turns
+pub mod Within

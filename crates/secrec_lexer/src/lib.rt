@@ -4,8 +4,19 @@
 //! there. What can't be cut is refused at its first fault.
 #![tactic(auto)]
 
+mod bytes;
+mod lex_err;
+mod lexing;
+mod number;
+mod piece;
+mod place;
 mod sign;
+mod spelling;
+#[cfg(test)]
+mod tests;
 mod token;
 
+pub use lex_err::{LexErr, LexFault};
+pub use lexing::lex;
 pub use sign::Sign;
 pub use token::{Kind, Token, Tokens};

@@ -55,6 +55,14 @@ impl Model for Tokens {
 }
 
 impl Tokens {
+    /// These tokens.
+    pub(crate) fn new(tokens: Vec<Token>) -> Tokens
+        requires { IsEnded tokens.items }
+        ensures { result ≡ tokens.items }
+    {
+        Tokens { tokens }
+    }
+
     /// The tokens as a slice.
     pub fn as_slice(&self) -> &[Token]
         ensures value { result.now ≡ self.now }

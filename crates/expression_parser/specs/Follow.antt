@@ -1,0 +1,31 @@
+-- Which tokens an expression goes on with: no other phrase of the language lets them stand behind an expression.
+use Rattle.std.specs.Prelude.{◌≡◌, ℕ, Bool, true, false, Option, Some, None, nat_le}
+use Rattle.secrec_lexer.specs.declared.sign.Sign.{Sign}
+use Rattle.secrec_lexer.specs.declared.sign.Sign.TheVariants as signs
+use Rattle.secrec_lexer.specs.declared.token.Kind.{Kind}
+use Rattle.secrec_lexer.specs.declared.token.Kind.TheVariants as kinds
+use Rattle.secrec_lexer.specs.declared.token.Token.{Token}
+use Rattle.secrec_ast.specs.declared.expression.Operator.{Operator}
+use Rattle.secrec_ast.specs.Tree.{Tree}
+use Rattle.expression_parser.specs.Grammar.{level, operator_of}
+
+abbrev pub operator_goes_on : ℕ → Option Operator → Bool
+operator_goes_on k None = false
+operator_goes_on k (Some op) = nat_le (level op) k
+
+abbrev pub sign_goes_on : ℕ → Sign → Bool
+sign_goes_on k signs.LeftParenthesis = true
+sign_goes_on k signs.LeftBracket = true
+sign_goes_on k s = operator_goes_on k (operator_of s)
+
+-- an opening parenthesis or bracket, or an operator of this level or a tighter one
+abbrev pub goes_on : ℕ → Kind → Bool
+goes_on k (kinds.Sign s) = sign_goes_on k s
+goes_on k (kinds.Name bytes) = false
+goes_on k (kinds.Number n) = false
+goes_on k (kinds.Text bytes) = false
+goes_on k kinds.End = false
+
+-- such a token may stand behind an expression of this level
+abbrev pub Free : ℕ → Tree → Token → Type 0
+Free k e x = goes_on k x.kind ≡ false

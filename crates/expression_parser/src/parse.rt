@@ -1,0 +1,362 @@
+// Recursive descent: each function reads one phrase, where `room` is the height that the whole may have.
+
+ghost use Rattle.std.specs.Prelude.{◌≡◌, ◌-◌, ◌<◌, ◌≤◌, ◌∷◌, length, IfOk};
+ghost use Rattle.expression_parser.specs.Steps.{at_most, unary_of, negation_behind, cast_behind, postfix, indexed, primary, signed, parentheses_behind, declassify_behind, argument_behind, publish_behind, after_name, arguments, more, front, grow};
+ghost use Rattle.secrec_lexer.specs.Tokens.{IsEnded};
+ghost use Rattle.expression_parser.specs.Answer.{Answers};
+ghost use Rattle.expression_parser.specs.Given.{Gives, tree_of, tree_height, list_of, trees_height, trees_in};
+
+use crate::parsed::{Parsed, ParsedTrees, added, binary, leaf};
+use crate::sign::{operator_at, why_not};
+use crate::token::{begins_data_type, data_type, expect, text};
+use crate::{Problem, Read, Stopped};
+use sc_text::{Name, Span};
+use secrec_ast::Expression;
+use secrec_lexer::{Kind, Sign, Token};
+use std::alloc::Global;
+
+// The levels of operators: 0 for what has none between two operands outside brackets.
+const UNARY: u8 = 0;
+
+const LOOSEST: u8 = 9;
+
+/// An expression of at most this height, and the tokens behind it.
+///
+/// It stops at the first token such that no expression of at most this height begins with the tokens up to it: as unexpected
+/// where no expression of any height does. Each token is read once, but for one token of look ahead, and the recursion is no
+/// deeper than a fixed number of calls for each node of the height.
+pub fn expression<'a>(alloc: Global, tokens: &'a [Token], room: u8) -> Read<'a, Parsed>
+    // What the grammar says of the tokens.
+    ensures answer { IsEnded tokens.now → Answers (λ x. (tree_of x.0, x.1.now)) room tokens.now result }
+    ensures height { IfOk result (λ x. (x.0.height ≡ tree_height x.0) × (x.0.height ≤ room)) }
+    ensures shorter { IfOk result (λ x. length x.1.now < length tokens.now) }
+    // The same as a function of the tokens, for the parsers of what expressions stand in.
+    ensures step { Gives (λ x. (tree_of x.0, x.1.now)) result (at_most room 9 tokens.now) }
+{
+    operators(alloc, tokens, room, LOOSEST)
+}
+
+#[cycle(expressions)]
+#[tactic(auto, using(crate::proofs::Turns::at_most_unary, crate::proofs::Turns::at_most_grow))]
+fn operators<'a>(alloc: Global, tokens: &'a [Token], room: u8, level: u8) -> Read<'a, Parsed>
+    requires { level ≤ 9 }
+    ensures step { Gives (λ x. (tree_of x.0, x.1.now)) result (at_most room level tokens.now) }
+    ensures height { IfOk result (λ x. (x.0.height ≡ tree_height x.0) × (x.0.height ≤ room)) }
+    ensures shorter { IfOk result (λ x. length x.1.now < length tokens.now) }
+{
+    if level == UNARY {
+        unary(alloc, tokens, room)
+    } else {
+        let (left, rest) = operators(alloc, tokens, room, level - 1)?;
+        grow(alloc, left, rest, room, level)
+    }
+}
+
+// A left operand, and the operators of this level behind it.
+#[cycle(expressions)]
+#[tactic(auto, unfolding(crate::specs::Steps::grow))]
+fn grow<'a>(
+    alloc: Global,
+    left: Parsed,
+    tokens: &'a [Token],
+    room: u8,
+    level: u8,
+) -> Read<'a, Parsed>
+    requires level { (0 < level) × (level ≤ 9) }
+    requires height { (left.height ≡ tree_height left) × (left.height ≤ room) }
+    ensures step { Gives (λ x. (tree_of x.0, x.1.now)) result (grow level room (at_most (room - 1) (level - 1)) (length tokens.now) (tree_of left) tokens.now) }
+    ensures height { IfOk result (λ x. (x.0.height ≡ tree_height x.0) × (x.0.height ≤ room)) }
+    ensures shorter { IfOk result (λ x. length x.1.now ≤ length tokens.now) }
+{
+    let mut left = left;
+    let mut rest = tokens;
+    loop {
+        let Some((token, behind)) = rest.split_first() else {
+            return Ok((left, rest));
+        };
+        let Some(operator) = operator_at(level, &token.kind) else {
+            return Ok((left, rest));
+        };
+        if room <= left.height {
+            return Err(Stopped::At(Problem::TooHigh, rest));
+        }
+        let (right, behind) = operators(alloc, behind, room - 1, level - 1)?;
+        left = binary(alloc, operator, left, right)?;
+        rest = behind;
+    }
+}
+
+#[cycle(expressions)]
+#[tactic(auto, unfolding(crate::specs::Steps::unary_of))]
+fn unary<'a>(alloc: Global, tokens: &'a [Token], room: u8) -> Read<'a, Parsed>
+    ensures step { Gives (λ x. (tree_of x.0, x.1.now)) result (unary_of room (at_most (room - 1) 9) (at_most (room - 1) 0) tokens.now) }
+    ensures height { IfOk result (λ x. (x.0.height ≡ tree_height x.0) × (x.0.height ≤ room)) }
+    ensures shorter { IfOk result (λ x. length x.1.now < length tokens.now) }
+{
+    let Some((token, rest)) = tokens.split_first() else {
+        return Err(Stopped::At(Problem::Unexpected, tokens));
+    };
+    if let Some(problem) = why_not(room, &token.kind) {
+        return Err(Stopped::At(problem, tokens));
+    }
+    if token.is(Sign::Exclamation) {
+        negation(alloc, token.place, rest, room)
+    } else if token.is(Sign::LeftParenthesis) && begins_data_type(rest) {
+        cast(alloc, token.place, rest, room)
+    } else {
+        postfix(alloc, tokens, room)
+    }
+}
+
+// What stands behind `!`.
+#[cycle(expressions)]
+fn negation<'a>(alloc: Global, place: Span, tokens: &'a [Token], room: u8) -> Read<'a, Parsed>
+    requires { 0 < room }
+    ensures step { Gives (λ x. (tree_of x.0, x.1.now)) result (negation_behind (at_most (room - 1) 0) place tokens.now) }
+    ensures height { IfOk result (λ x. (x.0.height ≡ tree_height x.0) × (x.0.height ≤ room)) }
+    ensures shorter { IfOk result (λ x. length x.1.now < length tokens.now) }
+{
+    let (operand, rest) = operators(alloc, tokens, room - 1, UNARY)?;
+    let height = operand.height + 1;
+    let tree = Expression::Not(place, Box::new(alloc, operand.tree)?);
+    Ok((Parsed { tree, height }, rest))
+}
+
+// What stands behind the parenthesis of a cast.
+#[cycle(expressions)]
+fn cast<'a>(alloc: Global, place: Span, tokens: &'a [Token], room: u8) -> Read<'a, Parsed>
+    requires { 0 < room }
+    ensures step { Gives (λ x. (tree_of x.0, x.1.now)) result (cast_behind (at_most (room - 1) 0) place tokens.now) }
+    ensures height { IfOk result (λ x. (x.0.height ≡ tree_height x.0) × (x.0.height ≤ room)) }
+    ensures shorter { IfOk result (λ x. length x.1.now < length tokens.now) }
+{
+    let (data_type, rest) = data_type(tokens)?;
+    let (_, rest) = expect(Sign::RightParenthesis, rest)?;
+    let (operand, rest) = operators(alloc, rest, room - 1, UNARY)?;
+    let height = operand.height + 1;
+    let tree = Expression::Cast(place, data_type, Box::new(alloc, operand.tree)?);
+    Ok((Parsed { tree, height }, rest))
+}
+
+// A primary, and an index behind it if there is one.
+#[cycle(expressions)]
+#[tactic(auto, unfolding(crate::specs::Steps::indexed))]
+fn postfix<'a>(alloc: Global, tokens: &'a [Token], room: u8) -> Read<'a, Parsed>
+    requires { 0 < room }
+    ensures step { Gives (λ x. (tree_of x.0, x.1.now)) result (postfix room (at_most (room - 1) 9) tokens.now) }
+    ensures height { IfOk result (λ x. (x.0.height ≡ tree_height x.0) × (x.0.height ≤ room)) }
+    ensures shorter { IfOk result (λ x. length x.1.now < length tokens.now) }
+{
+    let (array, rest) = primary(alloc, tokens, room)?;
+    let Some((token, behind)) = rest.split_first() else {
+        return Ok((array, rest));
+    };
+    if !token.is(Sign::LeftBracket) {
+        return Ok((array, rest));
+    }
+    if room <= array.height {
+        return Err(Stopped::At(Problem::TooHigh, rest));
+    }
+    let (position, behind) = operators(alloc, behind, room - 1, LOOSEST)?;
+    let (_, behind) = expect(Sign::RightBracket, behind)?;
+    let height = array.height.max(position.height) + 1;
+    let place = array.tree.place();
+    let array = Box::new(alloc, array.tree)?;
+    let tree = Expression::Index(place, array, Box::new(alloc, position.tree)?);
+    Ok((Parsed { tree, height }, behind))
+}
+
+#[cycle(expressions)]
+#[tactic(auto, unfolding(crate::specs::Steps::primary))]
+fn primary<'a>(alloc: Global, tokens: &'a [Token], room: u8) -> Read<'a, Parsed>
+    requires { 0 < room }
+    ensures step { Gives (λ x. (tree_of x.0, x.1.now)) result (primary (at_most (room - 1) 9) tokens.now) }
+    ensures height { IfOk result (λ x. (x.0.height ≡ tree_height x.0) × (x.0.height ≤ room)) }
+    ensures shorter { IfOk result (λ x. length x.1.now < length tokens.now) }
+{
+    let Some((token, rest)) = tokens.split_first() else {
+        return Err(Stopped::At(Problem::Unexpected, tokens));
+    };
+    match &token.kind {
+        Kind::Number(word) => Ok((leaf(Expression::Number(token.place, *word)), rest)),
+        Kind::Name(name) => after_name(alloc, token.place, name, rest, room),
+        Kind::Sign(_) => signed(alloc, token, tokens, rest, room),
+        Kind::Text(_) | Kind::End => Err(Stopped::At(Problem::Unexpected, tokens)),
+    }
+}
+
+// A primary that begins with this sign or keyword.
+#[cycle(expressions)]
+#[tactic(auto, unfolding(crate::specs::Steps::signed))]
+fn signed<'a>(
+    alloc: Global,
+    token: &'a Token,
+    tokens: &'a [Token],
+    rest: &'a [Token],
+    room: u8,
+) -> Read<'a, Parsed>
+    requires room { 0 < room }
+    requires front { tokens.now ≡ token.now ∷ rest.now }
+    ensures step { Gives (λ x. (tree_of x.0, x.1.now)) result (signed (at_most (room - 1) 9) token.now rest.now) }
+    ensures height { IfOk result (λ x. (x.0.height ≡ tree_height x.0) × (x.0.height ≤ room)) }
+    ensures shorter { IfOk result (λ x. length x.1.now < length tokens.now) }
+{
+    let place = token.place;
+    if token.is(Sign::True) {
+        Ok((leaf(Expression::Truth(place, true)), rest))
+    } else if token.is(Sign::False) {
+        Ok((leaf(Expression::Truth(place, false)), rest))
+    } else if token.is(Sign::LeftParenthesis) {
+        parentheses(alloc, place, rest, room)
+    } else if token.is(Sign::Declassify) {
+        declassify(alloc, place, rest, room)
+    } else if token.is(Sign::Argument) {
+        argument(alloc, place, rest)
+    } else if token.is(Sign::Publish) {
+        publish(alloc, place, rest, room)
+    } else {
+        Err(Stopped::At(Problem::Unexpected, tokens))
+    }
+}
+
+// What stands behind an opening parenthesis.
+#[cycle(expressions)]
+fn parentheses<'a>(alloc: Global, place: Span, tokens: &'a [Token], room: u8) -> Read<'a, Parsed>
+    requires { 0 < room }
+    ensures step { Gives (λ x. (tree_of x.0, x.1.now)) result (parentheses_behind (at_most (room - 1) 9) place tokens.now) }
+    ensures height { IfOk result (λ x. (x.0.height ≡ tree_height x.0) × (x.0.height ≤ room)) }
+    ensures shorter { IfOk result (λ x. length x.1.now < length tokens.now) }
+{
+    let (inner, rest) = operators(alloc, tokens, room - 1, LOOSEST)?;
+    let (_, rest) = expect(Sign::RightParenthesis, rest)?;
+    let height = inner.height + 1;
+    let tree = Expression::Parentheses(place, Box::new(alloc, inner.tree)?);
+    Ok((Parsed { tree, height }, rest))
+}
+
+// What stands behind `declassify`.
+#[cycle(expressions)]
+fn declassify<'a>(alloc: Global, place: Span, tokens: &'a [Token], room: u8) -> Read<'a, Parsed>
+    requires { 0 < room }
+    ensures step { Gives (λ x. (tree_of x.0, x.1.now)) result (declassify_behind (at_most (room - 1) 9) place tokens.now) }
+    ensures height { IfOk result (λ x. (x.0.height ≡ tree_height x.0) × (x.0.height ≤ room)) }
+    ensures shorter { IfOk result (λ x. length x.1.now < length tokens.now) }
+{
+    let (_, rest) = expect(Sign::LeftParenthesis, tokens)?;
+    let (inner, rest) = operators(alloc, rest, room - 1, LOOSEST)?;
+    let (_, rest) = expect(Sign::RightParenthesis, rest)?;
+    let height = inner.height + 1;
+    let tree = Expression::Declassify(place, Box::new(alloc, inner.tree)?);
+    Ok((Parsed { tree, height }, rest))
+}
+
+// What stands behind `argument`.
+fn argument<'a>(alloc: Global, place: Span, tokens: &'a [Token]) -> Read<'a, Parsed>
+    ensures step { Gives (λ x. (tree_of x.0, x.1.now)) result (argument_behind place tokens.now) }
+    ensures height { IfOk result (λ x. (x.0.height ≡ tree_height x.0) × (x.0.height ≡ 1)) }
+    ensures shorter { IfOk result (λ x. length x.1.now < length tokens.now) }
+{
+    let (_, rest) = expect(Sign::LeftParenthesis, tokens)?;
+    let (name, rest) = text(alloc, rest)?;
+    let (_, rest) = expect(Sign::RightParenthesis, rest)?;
+    Ok((leaf(Expression::Argument(place, name)), rest))
+}
+
+// What stands behind `publish`.
+#[cycle(expressions)]
+fn publish<'a>(alloc: Global, place: Span, tokens: &'a [Token], room: u8) -> Read<'a, Parsed>
+    requires { 0 < room }
+    ensures step { Gives (λ x. (tree_of x.0, x.1.now)) result (publish_behind (at_most (room - 1) 9) place tokens.now) }
+    ensures height { IfOk result (λ x. (x.0.height ≡ tree_height x.0) × (x.0.height ≤ room)) }
+    ensures shorter { IfOk result (λ x. length x.1.now < length tokens.now) }
+{
+    let (_, rest) = expect(Sign::LeftParenthesis, tokens)?;
+    let (name, rest) = text(alloc, rest)?;
+    let (_, rest) = expect(Sign::Comma, rest)?;
+    let (inner, rest) = operators(alloc, rest, room - 1, LOOSEST)?;
+    let (_, rest) = expect(Sign::RightParenthesis, rest)?;
+    let height = inner.height + 1;
+    let tree = Expression::Publish(place, name, Box::new(alloc, inner.tree)?);
+    Ok((Parsed { tree, height }, rest))
+}
+
+// What stands behind a name: a call's arguments, or nothing of the primary.
+#[cycle(expressions)]
+#[tactic(auto, unfolding(crate::specs::Steps::after_name))]
+fn after_name<'a>(
+    alloc: Global,
+    place: Span,
+    name: &Name,
+    tokens: &'a [Token],
+    room: u8,
+) -> Read<'a, Parsed>
+    requires { 0 < room }
+    ensures step { Gives (λ x. (tree_of x.0, x.1.now)) result (after_name (at_most (room - 1) 9) place name.now tokens.now) }
+    ensures height { IfOk result (λ x. (x.0.height ≡ tree_height x.0) × (x.0.height ≤ room)) }
+    ensures shorter { IfOk result (λ x. length x.1.now ≤ length tokens.now) }
+{
+    let Some((token, rest)) = tokens.split_first() else {
+        return Err(Stopped::At(Problem::Unexpected, tokens));
+    };
+    if !token.is(Sign::LeftParenthesis) {
+        return Ok((leaf(Expression::Variable(place, name.copy(alloc)?)), tokens));
+    }
+    let (found, rest) = arguments(alloc, rest, room)?;
+    let (_, rest) = expect(Sign::RightParenthesis, rest)?;
+    let height = found.height + 1;
+    let tree = Expression::Call(place, name.copy(alloc)?, found.trees);
+    Ok((Parsed { tree, height }, rest))
+}
+
+#[cycle(expressions)]
+#[tactic(auto, unfolding(crate::specs::Steps::arguments))]
+fn arguments<'a>(alloc: Global, tokens: &'a [Token], room: u8) -> Read<'a, ParsedTrees>
+    requires { 0 < room }
+    ensures step { Gives (λ x. (trees_in x.0, x.1.now)) result (arguments (at_most (room - 1) 9) tokens.now) }
+    ensures height { IfOk result (λ x. (x.0.height ≡ trees_height x.0) × (x.0.height < room)) }
+    ensures shorter { IfOk result (λ x. length x.1.now ≤ length tokens.now) }
+{
+    let Some((token, _)) = tokens.split_first() else {
+        return Err(Stopped::At(Problem::Unexpected, tokens));
+    };
+    let none = ParsedTrees {
+        trees: Vec::new(alloc),
+        height: 0,
+    };
+    if token.is(Sign::RightParenthesis) {
+        return Ok((none, tokens));
+    }
+    let (first, rest) = operators(alloc, tokens, room - 1, LOOSEST)?;
+    let found = added(none, first)?;
+    more(alloc, found, rest, room)
+}
+
+// The arguments behind those that were found.
+#[cycle(expressions)]
+#[tactic(auto, using(crate::proofs::Turns::more_turns), unfolding(crate::specs::Steps::more))]
+fn more<'a>(
+    alloc: Global,
+    found: ParsedTrees,
+    tokens: &'a [Token],
+    room: u8,
+) -> Read<'a, ParsedTrees>
+    requires room { 0 < room }
+    requires height { (found.height ≡ trees_height found) × (found.height < room) }
+    ensures step { Gives (λ x. (trees_in x.0, x.1.now)) result (front (list_of found) (more (at_most (room - 1) 9) (length tokens.now) tokens.now)) }
+    ensures height { IfOk result (λ x. (x.0.height ≡ trees_height x.0) × (x.0.height < room)) }
+    ensures shorter { IfOk result (λ x. length x.1.now ≤ length tokens.now) }
+{
+    let mut found = found;
+    let mut rest = tokens;
+    loop {
+        let Some((token, behind)) = rest.split_first() else {
+            return Ok((found, rest));
+        };
+        if !token.is(Sign::Comma) {
+            return Ok((found, rest));
+        }
+        let (next, behind) = operators(alloc, behind, room - 1, LOOSEST)?;
+        found = added(found, next)?;
+        rest = behind;
+    }
+}

@@ -1,0 +1,8 @@
+/// Why no tree begins with the tokens up to one.
+#[derive(Clone, Copy, PartialEq, Eq, Debug)]
+pub enum Problem {
+    /// No tree of any height begins so.
+    Unexpected,
+    /// Only trees that are too high begin so.
+    TooHigh,
+}
