@@ -143,6 +143,12 @@ with_argument p None gs = None
 with_argument p (Some t) None = None
 with_argument p (Some t) (Some gs) = Some (record { place = p; given = t } ∷ gs)
 
+-- some arguments and one behind them, where each has a type
+abbrev pub and_argument : Option (List Argument) → Span → Option ValueType → Option (List Argument)
+and_argument None p t = None
+and_argument (Some gs) p None = None
+and_argument (Some gs) p (Some t) = Some (gs ++ record { place = p; given = t } ∷ [])
+
 -- the rules of the built-in functions; p is the call
 unfoldable pub size_faults : Span → List Argument → List Fault
 size_faults p (a ∷ []) = fault_if (not a.given.array) p TypeMismatch

@@ -6,6 +6,7 @@ mod call_rule;
 mod calls;
 mod declarations;
 mod defined_calls;
+mod expressions;
 mod fault;
 mod name_index;
 mod operations;
