@@ -4,3 +4,5 @@ pub mod Functions
 pub mod Bindings
 pub mod Calling
 pub mod Tables
+pub mod Arguments
+pub mod Visits
