@@ -5,6 +5,7 @@ mod built_ins;
 mod call_rule;
 mod calls;
 mod declarations;
+mod declaring;
 mod defined_calls;
 mod expressions;
 mod fault;
@@ -13,6 +14,7 @@ mod operations;
 mod rules;
 mod setting;
 mod value_type;
+mod values;
 mod variables;
 mod worst;
 
