@@ -6,3 +6,7 @@ pub mod Calling
 pub mod Tables
 pub mod Arguments
 pub mod Visits
+pub mod TypingSteps
+pub mod TypingRules
+pub mod TypingCalls
+pub mod TypingExpressions
