@@ -10,3 +10,4 @@ pub mod TypingSteps
 pub mod TypingRules
 pub mod TypingCalls
 pub mod TypingExpressions
+pub mod TypingStatements

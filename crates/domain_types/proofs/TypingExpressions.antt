@@ -168,7 +168,7 @@ both_say w s a b say x y ha hb n =
     says_nothing (value_type w s a) (λ t. of_typed (value_type w s b) (say t)) x (value_typed w s a x ha)
     (says_nothing (value_type w s b) (say x) y (value_typed w s b y hb) n)
 
-variable_there : (p : Span) (o : Option Variable) (v : ValueType) → variable_type o ≡ Some v → variable_faults p o ≡ []
+pub variable_there : (p : Span) (o : Option Variable) (v : ValueType) → variable_type o ≡ Some v → variable_faults p o ≡ []
 variable_there p None v h = absurd (none-some v h)
 variable_there p (Some x) v h = refl
 
