@@ -11,3 +11,6 @@ pub mod TypingRules
 pub mod TypingCalls
 pub mod TypingExpressions
 pub mod TypingStatements
+pub mod TypingFunctions
+pub mod TypingPrograms
+pub mod LeastFault

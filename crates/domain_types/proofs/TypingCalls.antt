@@ -5,7 +5,6 @@ use Rattle.std.specs.List.{slice_get}
 use Rattle.std.proofs.lemmas.Bool.{eqb-true, eq-eqb, and_parts, not-false}
 use Rattle.std.proofs.lemmas.Option.{none-some, same_Some}
 use Rattle.sc_text.specs.declared.span.Span.{Span}
-use Rattle.secrec_ast.specs.declared.expression.DataType.{DataType}
 use Rattle.secrec_ast.specs.declared.expression.DataType.TheVariants as datatype
 use Rattle.secrec_ast.specs.declared.statement.Identifier.{Identifier}
 use Rattle.secrec_ast.specs.declared.function.DomainVariable.{DomainVariable}
@@ -18,14 +17,14 @@ use Rattle.domain_types.specs.declared.value_type.Protection.{Protection}
 use Rattle.domain_types.specs.declared.value_type.Protection.TheVariants.{Public, Private}
 use Rattle.domain_types.specs.declared.value_type.ValueType.{ValueType}
 use Rattle.domain_types.specs.declared.value_type.ExpressionType.{ExpressionType}
-use Rattle.domain_types.specs.declared.value_type.ExpressionType.TheVariants.{Void, Value}
+use Rattle.domain_types.specs.declared.value_type.ExpressionType.TheVariants.{Value}
 use Rattle.domain_types.specs.declared.value_type.BuiltIn.{BuiltIn}
 use Rattle.domain_types.specs.declared.value_type.BuiltIn.TheVariants.{Size, Cat, Sum, BitExtract}
 use Rattle.domain_types.specs.Types.{fault_at, fault_if, of_typed, meet, mix_faults, is_uint64, same_element, store_faults, scalar_of, public_scalar}
 use Rattle.domain_types.specs.Declarations.{Declared, Setting, type_written, Callee, built_in, defined, built_in_named, function_named, callee_or_function, callee}
-use Rattle.domain_types.specs.ExpressionTypes.{array_of, size_faults, cat_faults, sum_faults, bit_extract_faults, built_in_faults, built_in_result, bound_by, with_domain, binding_by, bound_faults, binding_faults, argument_faults, within, defined_faults, result_type, callee_faults, callee_result, callee_type, call_faults, call_type}
-use Rattle.domain_types.specs.Typing.{Meets, FitsInto, IsBuiltInCall, IsOfKind, AreBound, ParameterTakes, ParametersTake, IsDefinedCall, IsCall}
-use Rattle.domain_types.proofs.TypingSteps.{mapped, followed, not_refused, passes, some_fault, parts, joined, not_so, nothing_if, said, says_nothing}
+use Rattle.domain_types.specs.ExpressionTypes.{array_of, size_faults, cat_faults, sum_faults, bit_extract_faults, built_in_faults, built_in_result, bound_by, with_domain, binding_by, bound_faults, binding_faults, argument_faults, within, defined_faults, result_type, callee_faults, callee_type, call_faults, call_type}
+use Rattle.domain_types.specs.Typing.{Meets, IsBuiltInCall, IsOfKind, AreBound, ParameterTakes, ParametersTake, IsDefinedCall, IsCall}
+use Rattle.domain_types.proofs.TypingSteps.{mapped, followed, not_refused, passes, some_fault, parts, joined, not_so, said, says_nothing}
 use Rattle.domain_types.proofs.TypingRules.{meets, meet_from, no_mix, meeting, same_type, element_same, same_elements, no_store_fault, fits_into, word}
 
 -- BUILT-IN FUNCTIONS
@@ -278,13 +277,18 @@ unfolding call_type
 known_call d p None gs t h = absurd (none-some t h)
 known_call d p (Some c) gs t h = let f = followed (callee_type d p c) gs t h in (c, f.0, refl, f.1, f.2)
 
-pub call_typed : (d : Declared) (p : Span) (c : Callee) (gs : List Argument) → call_type d p (Some c) (Some gs) ≡ callee_type d p c gs
+-- where the callee and the arguments are known
+pub call_typed : (d : Declared) (p : Span) (o : Option Callee) (a : Option (List Argument)) (c : Callee) (gs : List Argument) (t : ExpressionType) → o ≡ Some c → a ≡ Some gs → callee_type d p c gs ≡ Some t → call_type d p o a ≡ Some t
 unfolding call_type
-call_typed d p c gs = refl
+call_typed d p o a c gs t e h n = ap₂ (call_type d p) e h ∙ n
 
-pub call_said : (d : Declared) (p : Span) (c : Callee) (gs : List Argument) → call_faults d p (Some c) (Some gs) ≡ callee_faults d p c gs
+pub call_said : (d : Declared) (p : Span) (o : Option Callee) (a : Option (List Argument)) (c : Callee) (gs : List Argument) → o ≡ Some c → a ≡ Some gs → call_faults d p o a ≡ [] → callee_faults d p c gs ≡ []
 unfolding call_faults
-call_said d p c gs = refl
+call_said d p o a c gs e h n = sym (ap₂ (call_faults d p) e h) ∙ n
+
+pub call_says_nothing : (d : Declared) (p : Span) (o : Option Callee) (a : Option (List Argument)) (c : Callee) (gs : List Argument) → o ≡ Some c → a ≡ Some gs → callee_faults d p c gs ≡ [] → call_faults d p o a ≡ []
+unfolding call_faults
+call_says_nothing d p o a c gs e h n = ap₂ (call_faults d p) e h ∙ n
 
 pub callee_known : (d : Declared) (p : Span) (o : Option Callee) (gs : Option (List Argument)) → call_faults d p o gs ≡ [] → (c : Callee) × (o ≡ Some c)
 unfolding call_faults

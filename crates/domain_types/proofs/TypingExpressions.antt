@@ -1,6 +1,6 @@
 -- An expression has a type by the relation where it has that type by computation; then it has no fault. And where it has no
 -- fault it has a type, if the variables and the functions that it names have theirs.
-use Rattle.std.proofs.Common.{◌≡◌, ℕ, List, [], ◌∷◌, ◌++◌, inl, inr, refl, sym, ap, ap₂, subst, subst₂, ◌∙◌, Option, Some, None, Bool, true, false, is_some, IsTrue}
+use Rattle.std.proofs.Common.{◌≡◌, ℕ, List, [], ◌∷◌, ◌++◌, inl, refl, sym, ap, ap₂, subst, subst₂, ◌∙◌, Option, Some, None, is_some, IsTrue, ◌↔◌}
 use Rattle.std.specs.Prelude.{option_map, option_and_then}
 use Rattle.std.specs.List.{slice_get}
 use Rattle.std.proofs.lemmas.Option.{none-some, same_Some}
@@ -18,14 +18,14 @@ use Rattle.domain_types.specs.declared.value_type.ExpressionType.{ExpressionType
 use Rattle.domain_types.specs.declared.value_type.ExpressionType.TheVariants.{Void, Value}
 use Rattle.domain_types.specs.Types.{of_typed, value_of, void_faults, scalar_of, public_scalar}
 use Rattle.domain_types.specs.Declarations.{Declared, Setting, Callee, built_in, defined, callee}
-use Rattle.domain_types.specs.Scopes.{Variable, Scope, variable_named, held_by}
-use Rattle.domain_types.specs.ExpressionTypes.{variable_type, variable_faults, operator_faults, operator_type, negation_faults, negation_type, cast_type, declassified, index_faults, index_type, with_argument, built_in_faults, built_in_result, binding_by, within, defined_faults, result_type, callee_faults, callee_type, call_faults, call_type, of_two, given_value, nothing_given, type_of, arguments_of, value_type, faults, argument_list_faults, value_faults}
+use Rattle.domain_types.specs.Scopes.{Variable, Scope, variable_named}
+use Rattle.domain_types.specs.ExpressionTypes.{variable_type, variable_faults, operator_faults, operator_type, negation_faults, negation_type, cast_type, declassified, index_faults, index_type, with_argument, built_in_faults, built_in_result, binding_by, within, defined_faults, result_type, callee_faults, callee_type, call_faults, of_two, given_value, nothing_given, type_of, arguments_of, value_type, faults, argument_list_faults, value_faults}
 use Rattle.domain_types.specs.Reached.{Call, binding_of, call_of, calls_of, calls_of_all}
 use Rattle.domain_types.specs.Least.{Among}
-use Rattle.domain_types.specs.Typing.{HasType, HaveTypes, IsCall}
+use Rattle.domain_types.specs.Typing.{HasType, HaveTypes}
 use Rattle.domain_types.proofs.TypingSteps.{there, mapped, followed, paired, valued, passes, some_fault, parts, joined, says_nothing, said, among_left, among_right}
 use Rattle.domain_types.proofs.TypingRules.{operation, operator_from, no_operator_faults, operator_typed, negated, no_negation_fault, negation_typed, indexable, no_index_fault, indexed_faultless, index_typed}
-use Rattle.domain_types.proofs.TypingCalls.{built_in_typed, defined_bound, is_call, called, known_call, call_typed, call_said, callee_known, function_at}
+use Rattle.domain_types.proofs.TypingCalls.{built_in_typed, defined_bound, is_call, called, known_call, call_typed, call_said, call_says_nothing, callee_known, function_at}
 
 -- THE PREMISES
 
@@ -118,18 +118,20 @@ mutual
 
 -- AND BACK
 
+-- the type of a node of two parts
+of_both : (rule : ValueType → ValueType → Option ValueType) (a b : Option ExpressionType) (x y z : ValueType) → a ≡ Some (Value x) → b ≡ Some (Value y) → rule x y ≡ Some z → given_value (of_two rule (value_of a) (value_of b)) ≡ Some (Value z)
+of_both rule a b x y z e h n = ap₂ (λ m k. given_value (of_two rule (value_of m) (value_of k))) e h ∙ ap given_value n
+
 mutual
   pub type_from : (w : Setting) (s : Scope) (e : Tree) (t : ExpressionType) → HasType w s e t → type_of w s e ≡ Some t
   type_from w s (number p n) t h = ap Some (sym h)
   type_from w s (truth p b) t h = ap Some (sym h)
   type_from w s (variable p x) t h = ap (option_map Value) h.1 ∙ ap Some (sym h.2)
   type_from w s (call p x es) t h =
-      ap₂ (call_type w.declared p) h.2 (types_from w s es h.1 h.3)
-      ∙ call_typed w.declared p h.0 h.1
-      ∙ (called w.declared p h.0 h.1 t h.4).gives
+      call_typed w.declared p (callee w.declared x) (arguments_of w s es) h.0 h.1 t h.2 (types_from w s es h.1 h.3) (called w.declared p h.0 h.1 t h.4).gives
   type_from w s (index p a i) t h =
-      ap₂ (λ x y. given_value (of_two (index_type p (place_of i)) (value_of x) (value_of y))) (type_from w s a (Value h.0) h.2) (type_from w s i (Value h.1) h.3)
-      ∙ ap given_value (index_typed p (place_of i) h.0 h.1 (no_index_fault p (place_of i) h.0 h.1 h.4 h.5))
+      of_both (index_type p (place_of i)) (type_of w s a) (type_of w s i) h.0 h.1 (scalar_of h.0) (type_from w s a (Value h.0) h.2) (type_from w s i (Value h.1) h.3)
+      (index_typed p (place_of i) h.0 h.1 (no_index_fault p (place_of i) h.0 h.1 h.4 h.5))
       ∙ ap Some (sym h.6)
   type_from w s (parentheses p e) t h = ap (λ x. given_value (value_of x)) (type_from w s e (Value h.0) h.1) ∙ ap Some (sym h.2)
   type_from w s (negation p e) t h =
@@ -139,8 +141,8 @@ mutual
   type_from w s (cast p element e) t h =
       ap (λ x. given_value (option_map (cast_type element) (value_of x))) (type_from w s e (Value h.0) h.1) ∙ ap Some (sym h.2)
   type_from w s (binary p op a b) t h =
-      ap₂ (λ x y. given_value (of_two (operator_type p op) (value_of x) (value_of y))) (type_from w s a (Value h.0) h.3) (type_from w s b (Value h.1) h.4)
-      ∙ ap given_value (operator_from p op h.0 h.1 h.2 h.5)
+      of_both (operator_type p op) (type_of w s a) (type_of w s b) h.0 h.1 h.2 (type_from w s a (Value h.0) h.3) (type_from w s b (Value h.1) h.4)
+      (operator_from p op h.0 h.1 h.2 h.5)
       ∙ ap Some (sym h.6)
   type_from w s (declassify p e) t h =
       ap (λ x. given_value (option_map declassified (value_of x))) (type_from w s e (Value h.0) h.1) ∙ ap Some (sym h.2)
@@ -180,9 +182,7 @@ mutual
   no_faults w s (call p x es) t h =
       joined (argument_list_faults w s es) (call_faults w.declared p (callee w.declared x) (arguments_of w s es))
       (no_argument_faults w s es h.1 h.3)
-      (ap₂ (call_faults w.declared p) h.2 (types_from w s es h.1 h.3)
-      ∙ call_said w.declared p h.0 h.1
-      ∙ (called w.declared p h.0 h.1 t h.4).faultless)
+      (call_says_nothing w.declared p (callee w.declared x) (arguments_of w s es) h.0 h.1 h.2 (types_from w s es h.1 h.3) (called w.declared p h.0 h.1 t h.4).faultless)
   no_faults w s (index p a i) t h =
       joined (value_faults w s a ++ value_faults w s i) (of_typed (value_type w s a) (λ x. of_typed (value_type w s i) (index_faults p (place_of i) x)))
       (joined (value_faults w s a) (value_faults w s i)
@@ -215,6 +215,17 @@ mutual
 
 pub no_value_faults : (w : Setting) (s : Scope) (e : Tree) (x : ValueType) → HasType w s e (Value x) → value_faults w s e ≡ []
 no_value_faults w s e x h = as_value_faultless w s e x h (no_faults w s e (Value x) h)
+
+-- the relation holds exactly where the type is computed and there is no fault
+pub has_type_exactly : (w : Setting) (s : Scope) (e : Tree) (t : ExpressionType) → HasType w s e t ↔ (type_of w s e ≡ Some t) × (faults w s e ≡ [])
+has_type_exactly w s e t = (λ h. (type_from w s e t h, no_faults w s e t h), λ h. has_type w s e t h.0)
+
+pub has_value_exactly : (w : Setting) (s : Scope) (e : Tree) (x : ValueType) → HasType w s e (Value x) ↔ (value_type w s e ≡ Some x) × (value_faults w s e ≡ [])
+has_value_exactly w s e x =
+    (λ h. (value_typed w s e x h, no_value_faults w s e x h), λ h. has_type w s e (Value x) (valued (type_of w s e) x h.0))
+
+pub one_type : (w : Setting) (s : Scope) (e : Tree) (t u : ExpressionType) → HasType w s e t → HasType w s e u → t ≡ u
+one_type w s e t u h k = same_Some t u (sym (type_from w s e t h) ∙ type_from w s e u k)
 
 -- WHAT HAS NO FAULT HAS A TYPE
 
@@ -267,9 +278,9 @@ mutual
       let hs = parts (argument_list_faults w s es) (call_faults w.declared p (callee w.declared x) (arguments_of w s es)) h in
       let gs = typed_arguments w s es k (earlier_calls w.declared (calls_of_all w s es) (call_of w.declared p (callee w.declared x) (arguments_of w s es)) g) hs.0 in
       let c = callee_known w.declared p (callee w.declared x) (arguments_of w s es) hs.1 in
-      let own = sym (call_said w.declared p c.0 gs.0) ∙ sym (ap₂ (call_faults w.declared p) c.1 gs.1) ∙ hs.1 in
+      let own = call_said w.declared p (callee w.declared x) (arguments_of w s es) c.0 gs.0 c.1 gs.1 hs.1 in
       let t = call_gives w.declared p x (arguments_of w s es) c.0 gs.0 c.1 gs.1 (later_calls w.declared (calls_of_all w s es) (call_of w.declared p (callee w.declared x) (arguments_of w s es)) g) own in
-      (t.0, ap₂ (call_type w.declared p) c.1 gs.1 ∙ call_typed w.declared p c.0 gs.0 ∙ t.1)
+      (t.0, call_typed w.declared p (callee w.declared x) (arguments_of w s es) c.0 gs.0 t.0 c.1 gs.1 t.1)
   typed w s (index p a i) k g h =
       let hs = parts (value_faults w s a ++ value_faults w s i) (of_typed (value_type w s a) (λ x. of_typed (value_type w s i) (index_faults p (place_of i) x))) h in
       let vs = parts (value_faults w s a) (value_faults w s i) hs.0 in
@@ -277,8 +288,7 @@ mutual
       let y = part_value w s i (typed w s i k (later_calls w.declared (calls_of w s a) (calls_of w s i) g)) vs.1 in
       let own = both_said w s a i (index_faults p (place_of i)) x.0 y.0 x.1 y.1 hs.1 in (
         Value (scalar_of x.0),
-        ap₂ (λ m n. given_value (of_two (index_type p (place_of i)) (value_of m) (value_of n))) x.1 y.1
-            ∙ ap given_value (index_typed p (place_of i) x.0 y.0 own),
+        of_both (index_type p (place_of i)) (type_of w s a) (type_of w s i) x.0 y.0 (scalar_of x.0) x.1 y.1 (index_typed p (place_of i) x.0 y.0 own),
       )
   typed w s (parentheses p e) k g h = let x = part_value w s e (typed w s e k g) h in (Value x.0, ap (λ o. given_value (value_of o)) x.1)
   typed w s (negation p e) k g h =
@@ -296,10 +306,7 @@ mutual
       let x = part_value w s a (typed w s a k (earlier_calls w.declared (calls_of w s a) (calls_of w s b) g)) vs.0 in
       let y = part_value w s b (typed w s b k (later_calls w.declared (calls_of w s a) (calls_of w s b) g)) vs.1 in
       let own = both_said w s a b (operator_faults p op) x.0 y.0 x.1 y.1 hs.1 in
-      let z = operator_typed p op x.0 y.0 own in (
-        Value z.0,
-        ap₂ (λ m n. given_value (of_two (operator_type p op) (value_of m) (value_of n))) x.1 y.1 ∙ ap given_value z.1,
-      )
+      let z = operator_typed p op x.0 y.0 own in (Value z.0, of_both (operator_type p op) (type_of w s a) (type_of w s b) x.0 y.0 z.0 x.1 y.1 z.1)
   typed w s (declassify p e) k g h =
       let x = part_value w s e (typed w s e k g) h in (Value (declassified x.0), ap (λ o. given_value (option_map declassified (value_of o))) x.1)
   typed w s (argument p x) k g h = absurd (some_fault (record { place = p; problem = ArgumentPlace }) [] h)
@@ -315,3 +322,7 @@ mutual
 
 pub typed_value : (w : Setting) (s : Scope) (e : Tree) → Known s → GiveTypes w.declared (calls_of w s e) → value_faults w s e ≡ [] → (x : ValueType) × HasType w s e (Value x)
 typed_value w s e k g h = let x = part_value w s e (typed w s e k g) h in (x.0, has_type w s e (Value x.0) x.1)
+
+-- where the premises hold, what has no fault is just what has a type
+pub typed_exactly : (w : Setting) (s : Scope) (e : Tree) → Known s → GiveTypes w.declared (calls_of w s e) → ((t : ExpressionType) × HasType w s e t) ↔ (faults w s e ≡ [])
+typed_exactly w s e k g = (λ h. no_faults w s e h.0 h.1, λ h. let t = typed w s e k g h in (t.0, has_type w s e t.0 t.1))

@@ -1,6 +1,6 @@
 -- A statement is typed by the relation where it has no fault, if the variables, the result and the functions that it names
 -- have their types.
-use Rattle.std.proofs.Common.{◌≡◌, List, [], ◌∷◌, ◌++◌, inl, inr, refl, sym, ap, ap₂, subst, ◌∙◌, Option, Some, None, Bool, true, false, is_some, IsTrue}
+use Rattle.std.proofs.Common.{◌≡◌, List, [], ◌++◌, inl, inr, refl, sym, ap, ap₂, subst, ◌∙◌, Option, Some, None, Bool, true, false, is_some, IsTrue, ◌↔◌}
 use Rattle.std.specs.Prelude.{not, bytes_eq, is_none, if◌then◌else◌, option_map}
 use Rattle.std.proofs.lemmas.Bool.{not-false}
 use Rattle.std.proofs.lemmas.Option.{same_Some}
@@ -21,15 +21,14 @@ use Rattle.domain_types.specs.declared.fault.Fault.{Fault}
 use Rattle.domain_types.specs.declared.value_type.Protection.{Protection}
 use Rattle.domain_types.specs.declared.value_type.Protection.TheVariants.{Public}
 use Rattle.domain_types.specs.declared.value_type.ValueType.{ValueType}
-use Rattle.domain_types.specs.declared.value_type.ExpressionType.{ExpressionType}
 use Rattle.domain_types.specs.declared.value_type.ExpressionType.TheVariants.{Value}
 use Rattle.domain_types.specs.Types.{fault_at, fault_if, of_typed, scalar_faults, store_faults, scalar_of, public_scalar}
 use Rattle.domain_types.specs.Declarations.{Setting, domain_of, in_domain, type_written}
 use Rattle.domain_types.specs.Scopes.{Variable, Scope, inner, with_variable, variable_in, variable_named, is_among, twice_faults}
-use Rattle.domain_types.specs.ExpressionTypes.{variable_type, variable_faults, index_faults, index_type, of_two, result_type, type_of, value_type, faults, value_faults}
+use Rattle.domain_types.specs.ExpressionTypes.{variable_type, variable_faults, index_faults, index_type, of_two, result_type, type_of, value_type, value_faults}
 use Rattle.domain_types.specs.StatementTypes.{test_own, test_faults, domain_faults, is_argument, sized_faults, filled_faults, initial_faults, declared_faults, declaration_faults, variable_declared, target_type, target_faults, assignment_faults, start_faults, after_start, step_faults, is_step_typed, optional_faults, for_own, return_own, after, statement_faults, block_faults}
 use Rattle.domain_types.specs.Reached.{calls_of, optional_calls, declaration_calls, assignment_calls, start_calls, step_calls, statement_calls, block_calls}
-use Rattle.domain_types.specs.Typing.{FitsInto, HasType, HasFitting, HasPublicScalar, IsInitial, IsDeclaration, IsElement, IsAssignment, IsStart, IsStep, IsOptionalCondition, IsReturn, IsTyped, AreTyped}
+use Rattle.domain_types.specs.Typing.{HasType, HasFitting, HasPublicScalar, IsInitial, IsDeclaration, IsElement, IsAssignment, IsStart, IsStep, IsOptionalCondition, IsReturn, IsTyped, AreTyped}
 use Rattle.domain_types.proofs.TypingSteps.{there, mapped, some_fault, parts, joined, not_so, nothing_if, said, says_nothing}
 use Rattle.domain_types.proofs.TypingRules.{no_store_fault, fits_into, no_scalar_fault, public_scalar_from, indexable, no_index_fault, index_typed}
 use Rattle.domain_types.proofs.TypingExpressions.{Known, GiveTypes, earlier_calls, later_calls, has_type, value_typed, type_from, variable_there, no_faults, no_value_faults, variable_held, typed, typed_value}
@@ -518,3 +517,10 @@ mutual
   no_block_faults w r s (also t ts) h =
       joined (statement_faults w r s t) (block_faults w r (after w s t) ts)
       (no_statement_faults w r s t h.0) (no_block_faults w r (after w s t) ts h.1)
+
+-- where the variables, the result and the called functions have types, a statement is typed exactly where it has no fault
+pub typed_statement_exactly : (w : Setting) (r : ResultType) (s : Scope) (t : StatementTree) → Known s → KnownResult w r → GiveTypes w.declared (statement_calls w s t) → IsTyped w r s t ↔ (statement_faults w r s t ≡ [])
+typed_statement_exactly w r s t k known g = (no_statement_faults w r s t, is_typed w r s t k known g)
+
+pub typed_block_exactly : (w : Setting) (r : ResultType) (s : Scope) (ts : StatementTrees) → Known s → KnownResult w r → GiveTypes w.declared (block_calls w s ts) → AreTyped w r s ts ↔ (block_faults w r s ts ≡ [])
+typed_block_exactly w r s ts k known g = (no_block_faults w r s ts, are_typed w r s ts k known g)
