@@ -14,6 +14,7 @@ mod operations;
 mod rules;
 mod setting;
 mod value_type;
+mod simple_statements;
 mod values;
 mod variables;
 mod worst;
