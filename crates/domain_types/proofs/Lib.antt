@@ -6,3 +6,4 @@ pub mod Calling
 pub mod Tables
 pub mod Arguments
 pub mod Visits
+pub mod Blocks

@@ -171,6 +171,10 @@ after w s (assertion p e) = s
 after w s (assignment a) = s
 after w s (evaluation e) = s
 
+abbrev pub after_all : Setting → Scope → StatementTrees → Scope
+after_all w s none = s
+after_all w s (also t ts) = after_all w (after w s t) ts
+
 -- the faults of a statement in a function with this result; a `for` and each branch or body is a block
 abbrev mutual
   pub statement_faults : Setting → ResultType → Scope → StatementTree → List Fault

@@ -15,6 +15,7 @@ mod rules;
 mod setting;
 mod value_type;
 mod simple_statements;
+mod statements;
 mod values;
 mod variables;
 mod worst;
