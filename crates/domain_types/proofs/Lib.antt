@@ -1,6 +1,6 @@
 pub mod Faults
 pub mod Names
-pub mod Functions
+pub mod Naming
 pub mod Bindings
 pub mod Calling
 pub mod Tables

@@ -9,6 +9,7 @@ mod declaring;
 mod defined_calls;
 mod expressions;
 mod fault;
+mod functions;
 mod name_index;
 mod operations;
 mod rules;
