@@ -1,11 +1,3 @@
-pub mod Faults
-pub mod Names
-pub mod Functions
-pub mod Bindings
-pub mod Calling
-pub mod Tables
-pub mod Arguments
-pub mod Visits
 pub mod TypingSteps
 pub mod TypingRules
 pub mod TypingCalls
@@ -14,3 +6,12 @@ pub mod TypingStatements
 pub mod TypingFunctions
 pub mod TypingPrograms
 pub mod LeastFault
+pub mod Faults
+pub mod Names
+pub mod Naming
+pub mod Bindings
+pub mod Calling
+pub mod Tables
+pub mod Arguments
+pub mod Visits
+pub mod Blocks

@@ -125,20 +125,32 @@ abbrev pub optional_faults : Setting → Scope → Option Tree → List Fault
 optional_faults w s None = []
 optional_faults w s (Some e) = value_faults w s e
 
+-- the type of an expression that may be left out
+abbrev pub optional_type : Setting → Scope → Option Tree → Option ValueType
+optional_type w s None = None
+optional_type w s (Some e) = value_type w s e
+
+-- the condition of a `for`, which has the given type
+abbrev pub for_rule : Option Tree → Option ValueType → (step_typed : Bool) → List Fault
+for_rule None t b = []
+for_rule (Some e) t false = []
+for_rule (Some e) t true = of_typed t (scalar_faults datatype.Bool PrivateCondition (place_of e))
+
 abbrev pub for_own : Setting → Scope → Option Tree → (step_typed : Bool) → List Fault
-for_own w s None b = []
-for_own w s (Some e) false = []
-for_own w s (Some e) true = test_own w s PrivateCondition e
+for_own w s e b = for_rule e (optional_type w s e) b
 
 -- RETURNS
 
--- p is the statement's place
+-- a `return` at p of a value of the given type
+abbrev pub return_rule : Setting → Span → ResultType → Option Tree → Option ValueType → List Fault
+return_rule w p returned.Void None given = []
+return_rule w p returned.Void (Some e) given = of_typed given (λ t. fault_at p TypeMismatch)
+return_rule w p (returned.Value t) None given = fault_at p TypeMismatch
+return_rule w p (returned.Value t) (Some e) given =
+    of_typed (type_written w t) (λ wanted. of_typed given (store_faults (place_of e) wanted))
+
 abbrev pub return_own : Setting → Scope → Span → ResultType → Option Tree → List Fault
-return_own w s p returned.Void None = []
-return_own w s p returned.Void (Some e) = of_typed (value_type w s e) (λ t. fault_at p TypeMismatch)
-return_own w s p (returned.Value t) None = fault_at p TypeMismatch
-return_own w s p (returned.Value t) (Some e) =
-    of_typed (type_written w t) (λ wanted. of_typed (value_type w s e) (store_faults (place_of e) wanted))
+return_own w s p r e = return_rule w p r e (optional_type w s e)
 
 -- STATEMENTS
 
@@ -158,6 +170,10 @@ after w s (returns p e) = s
 after w s (assertion p e) = s
 after w s (assignment a) = s
 after w s (evaluation e) = s
+
+abbrev pub after_all : Setting → Scope → StatementTrees → Scope
+after_all w s none = s
+after_all w s (also t ts) = after_all w (after w s t) ts
 
 -- the faults of a statement in a function with this result; a `for` and each branch or body is a block
 abbrev mutual

@@ -63,7 +63,7 @@ impl<'p> Declarations<'p> {
     }
 
     // The first function of this name.
-    #[tactic(auto, using(crate::proofs::Functions::naming))]
+    #[tactic(auto, using(crate::proofs::Naming::naming))]
     fn function(&self, name: &'p str) -> Option<Called<'p>>
         ensures { option_map callee_of result ≡ function_named name.now 0 (declared self.now).functions }
     {

@@ -5,7 +5,7 @@ use Rattle.std.proofs.lemmas.Option.{slice_get_past}
 use Rattle.domain_types.specs.Declarations.{number_in, defined}
 use Rattle.domain_types.specs.Views.{tree_at}
 use Rattle.domain_types.specs.Named.{name_of}
-use Rattle.domain_types.proofs.Functions.{named_at, nowhere, there_at}
+use Rattle.domain_types.proofs.Naming.{named_at, nowhere, there_at}
 use Rattle.domain_types.proofs.declarations.Declarations.function.Goals as goal
 
 pub returns-in-None-get : goal.returns-in-None-get
