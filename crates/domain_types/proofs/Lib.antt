@@ -1,3 +1,4 @@
+pub mod TypingRows
 pub mod TypingSteps
 pub mod TypingRules
 pub mod TypingCalls

@@ -42,6 +42,10 @@ GivesType d c =
 abbrev pub GiveTypes : Declared → List Call → Type 0
 GiveTypes d cs = (c : Call) → Among c cs → GivesType d c
 
+-- without the first a variable of an unknown domain has no type, and no fault where it's used
+unknown_is_silent : (w : Setting) (s : Scope) (p : Span) (x : List ℕ) (v : Variable) → variable_named s x ≡ Some v → v.held ≡ None → (type_of w s (variable p x) ≡ None) × (faults w s (variable p x) ≡ [])
+unknown_is_silent w s p x v e h = (ap (λ o. given_value (variable_type o)) e ∙ ap given_value h, ap (variable_faults p) e)
+
 pub earlier_calls : (d : Declared) (bs cs : List Call) → GiveTypes d (bs ++ cs) → GiveTypes d bs
 earlier_calls d bs cs g = λ c m. g c (among_left c bs cs m)
 

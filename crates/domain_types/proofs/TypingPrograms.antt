@@ -12,10 +12,11 @@ use Rattle.domain_types.specs.Types.{fault_if}
 use Rattle.domain_types.specs.Declarations.{Declared, declared_by, functions_of, is_known_kind, built_in_named}
 use Rattle.domain_types.specs.ExpressionTypes.{within}
 use Rattle.domain_types.specs.FunctionTypes.{function_faults, head_faults, protections_of}
-use Rattle.domain_types.specs.Least.{Among}
+use Rattle.domain_types.specs.Least.{Among, least}
 use Rattle.domain_types.specs.Reached.{function_calls, Instance, Calls, IsChecked, reached}
-use Rattle.domain_types.specs.ProgramTypes.{is_module, is_one_of, is_function, space_faults, item_faults, items_faults, has_main, declaring_faults, IsFault, declaring, inside, of_head, IsAccepted}
+use Rattle.domain_types.specs.ProgramTypes.{is_module, is_one_of, is_function, space_faults, item_faults, items_faults, has_main, declaring_faults, IsFault, declaring, inside, of_head, IsAccepted, IsRefused}
 use Rattle.domain_types.specs.Typing.{IsNew, IsItem, AreItems, IsTypedProgram}
+use Rattle.domain_types.proofs.LeastFault.{is_least, none_least}
 use Rattle.domain_types.proofs.TypingSteps.{parts, joined, not_so}
 use Rattle.domain_types.proofs.TypingExpressions.{GiveTypes}
 use Rattle.domain_types.proofs.TypingFunctions.{result_is_known, is_typed_function, no_function_faults, are_domain_variables, no_domain_variables_faults}
@@ -135,3 +136,16 @@ typed_is_accepted p t = record { faultless = no_fault p t }
 
 pub accepted_exactly : (p : ProgramTree) → IsAccepted p ↔ IsTypedProgram p
 accepted_exactly p = (accepted_is_typed p, typed_is_accepted p)
+
+-- WHAT IS TOLD
+
+-- a list of just the faults of a program: where it has a least one, that is told, and where it has none the program is accepted
+abbrev pub HasJustTheFaults : ProgramTree → List Fault → Type 0
+HasJustTheFaults p fs = (g : Fault) → IsFault p g ↔ Among g fs
+
+pub least_is_told : (p : ProgramTree) (fs : List Fault) (f : Fault) → HasJustTheFaults p fs → least None fs ≡ Some f → IsRefused p f
+least_is_told p fs f just e =
+    let l = is_least f fs e in record { is = (just f).1 l.among; first = λ g h. l.before g ((just g).0 h) }
+
+pub none_is_accepted : (p : ProgramTree) (fs : List Fault) → HasJustTheFaults p fs → least None fs ≡ None → IsAccepted p
+none_is_accepted p fs just e = record { faultless = λ g h. none_in_empty g fs (none_least fs e) ((just g).0 h) }
