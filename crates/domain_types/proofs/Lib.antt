@@ -7,3 +7,4 @@ pub mod Tables
 pub mod Arguments
 pub mod Visits
 pub mod Blocks
+pub mod Returning
