@@ -8,3 +8,4 @@ pub mod Arguments
 pub mod Visits
 pub mod Blocks
 pub mod Returning
+pub mod Growing

@@ -4,6 +4,7 @@
 mod built_ins;
 mod call_rule;
 mod calls;
+mod collecting;
 mod declarations;
 mod declaring;
 mod defined_calls;
