@@ -11,6 +11,7 @@ mod defined_calls;
 mod expressions;
 mod fault;
 mod functions;
+mod items;
 mod name_index;
 mod operations;
 mod rules;
