@@ -16,3 +16,5 @@ pub mod Tables
 pub mod Arguments
 pub mod Visits
 pub mod Blocks
+pub mod Returning
+pub mod Growing

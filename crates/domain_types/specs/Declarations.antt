@@ -24,7 +24,7 @@ pub record Declared : Type 0 where
 -- whether a module of this name is imported
 abbrev pub is_imported : List ℕ → List ItemTree → Bool
 is_imported x [] = false
-is_imported x (imports y ∷ items) = bytes_eq x y.text || is_imported x items
+is_imported x (imports y ∷ items) = bytes_eq y.text x || is_imported x items
 is_imported x (kind y ∷ items) = is_imported x items
 is_imported x (domains_item y k ∷ items) = is_imported x items
 is_imported x (defines f ∷ items) = is_imported x items
@@ -33,7 +33,7 @@ is_imported x (defines f ∷ items) = is_imported x items
 abbrev pub is_kind : List ℕ → List ItemTree → Bool
 is_kind x [] = false
 is_kind x (imports y ∷ items) = is_kind x items
-is_kind x (kind y ∷ items) = bytes_eq x y.text || is_kind x items
+is_kind x (kind y ∷ items) = bytes_eq y.text x || is_kind x items
 is_kind x (domains_item y k ∷ items) = is_kind x items
 is_kind x (defines f ∷ items) = is_kind x items
 
@@ -51,15 +51,18 @@ functions_of (kind y ∷ items) = functions_of items
 functions_of (domains_item y k ∷ items) = functions_of items
 functions_of (defines f ∷ items) = f ∷ functions_of items
 
-abbrev pub declared_by : ProgramTree → Declared
-declared_by p =
+abbrev pub declared_in : List ItemTree → Declared
+declared_in items =
     record {
-      stdlib = is_imported (codes "stdlib") p.items;
-      shared3p = is_imported (codes "shared3p") p.items;
-      kind_declared = is_kind (codes "shared3p") p.items;
-      domains = domains_of p.items;
-      functions = functions_of p.items;
+      stdlib = is_imported (codes "stdlib") items;
+      shared3p = is_imported (codes "shared3p") items;
+      kind_declared = is_kind (codes "shared3p") items;
+      domains = domains_of items;
+      functions = functions_of items;
     }
+
+abbrev pub declared_by : ProgramTree → Declared
+declared_by p = declared_in p.items
 
 -- the one kind that there is, where it is imported or declared
 abbrev pub is_known_kind : Declared → List ℕ → Bool

@@ -11,10 +11,10 @@ use Rattle.domain_types.specs.declared.fault.Problem.TheVariants.{UnknownName, T
 use Rattle.domain_types.specs.declared.fault.Fault.{Fault}
 use Rattle.domain_types.specs.declared.value_type.Protection.{Protection}
 use Rattle.domain_types.specs.Types.{fault_at, fault_if}
-use Rattle.domain_types.specs.Declarations.{Declared, declared_by, functions_of, is_known_kind, built_in_named}
+use Rattle.domain_types.specs.Declarations.{Declared, declared_by, functions_of, number_in, is_known_kind, built_in_named}
 use Rattle.domain_types.specs.ExpressionTypes.{within}
-use Rattle.domain_types.specs.FunctionTypes.{function_faults, head_faults, protections_of}
-use Rattle.domain_types.specs.Reached.{Call, Instance, Calls, IsChecked}
+use Rattle.domain_types.specs.FunctionTypes.{function_faults, head_faults}
+use Rattle.domain_types.specs.Reached.{Call, function_calls, Instance, Calls, IsChecked}
 use Rattle.domain_types.specs.Least.{Among, NotAfter}
 
 -- DECLARATIONS
@@ -22,48 +22,52 @@ use Rattle.domain_types.specs.Least.{Among, NotAfter}
 abbrev pub is_module : List ℕ → Bool
 is_module x = bytes_eq x (codes "stdlib") || bytes_eq x (codes "shared3p")
 
-abbrev pub is_one_of : List ℕ → List Identifier → Bool
-is_one_of x [] = false
-is_one_of x (y ∷ ys) = bytes_eq x y.text || is_one_of x ys
+abbrev pub is_one_of : List ℕ → List (List ℕ) → Bool
+is_one_of x names = is_some (number_in x names)
 
-abbrev pub is_function : List ℕ → List FunctionTree → Bool
-is_function x [] = false
-is_function x (f ∷ fs) = bytes_eq x f.function.text || is_function x fs
+-- the names of kinds and domains, and those of functions, behind one more declaration
+abbrev pub more_kinds : List (List ℕ) → ItemTree → List (List ℕ)
+more_kinds ks (imports x) = ks
+more_kinds ks (kind x) = ks ++ x.text ∷ []
+more_kinds ks (domain x k) = ks ++ x.text ∷ []
+more_kinds ks (defines f) = ks
+
+abbrev pub more_functions : List (List ℕ) → ItemTree → List (List ℕ)
+more_functions fs (imports x) = fs
+more_functions fs (kind x) = fs
+more_functions fs (domain x k) = fs
+more_functions fs (defines f) = fs ++ f.function.text ∷ []
 
 -- a kind or a domain called as one before it, or as the kind of the import, which stands before all
-abbrev pub space_faults : Declared → List ItemTree → Identifier → List Fault
-space_faults d before x =
-    fault_if (is_one_of x.text (protections_of before) || (d.shared3p && bytes_eq x.text (codes "shared3p"))) x.place Twice
+abbrev pub space_faults : Declared → (kinds : List (List ℕ)) → Identifier → List Fault
+space_faults d ks x = fault_if (is_one_of x.text ks || (d.shared3p && bytes_eq x.text (codes "shared3p"))) x.place Twice
 
--- a declaration behind those before it; the names that a function declares inside are not among these
-abbrev pub item_faults : Declared → List ItemTree → ItemTree → List Fault
-item_faults d before (imports x) = fault_if (not (is_module x.text)) x.place BadImport
-item_faults d before (kind x) =
-    fault_if (not (bytes_eq x.text (codes "shared3p"))) x.place UnknownName ++ space_faults d before x
-item_faults d before (domain x k) =
-    space_faults d before x ++ fault_if (not (is_known_kind d k.text)) k.place UnknownName
-item_faults d before (defines f) =
-    fault_if (is_some (built_in_named d f.function.text) || is_function f.function.text (functions_of before)) f.function.place Twice
+-- a declaration behind these kinds and domains, and behind these functions; what a function declares inside is not among these
+abbrev pub item_faults : Declared → (kinds functions : List (List ℕ)) → ItemTree → List Fault
+item_faults d ks fs (imports x) = fault_if (not (is_module x.text)) x.place BadImport
+item_faults d ks fs (kind x) =
+    fault_if (not (bytes_eq x.text (codes "shared3p"))) x.place UnknownName ++ space_faults d ks x
+item_faults d ks fs (domain x k) =
+    space_faults d ks x ++ fault_if (not (is_known_kind d k.text)) k.place UnknownName
+item_faults d ks fs (defines f) =
+    fault_if (is_some (built_in_named d f.function.text) || is_one_of f.function.text fs) f.function.place Twice
 
-abbrev pub items_faults : Declared → List ItemTree → List ItemTree → List Fault
-items_faults d before [] = []
-items_faults d before (i ∷ is) = item_faults d before i ++ items_faults d (i ∷ before) is
+abbrev pub items_faults : Declared → (kinds functions : List (List ℕ)) → List ItemTree → List Fault
+items_faults d ks fs [] = []
+items_faults d ks fs (i ∷ is) = item_faults d ks fs i ++ items_faults d (more_kinds ks i) (more_functions fs i) is
 
 -- `void main()`, no template and without parameters
+abbrev pub is_without : {A : Type 0} → List A → Bool
+is_without [] = true
+is_without (x ∷ xs) = false
+
+abbrev pub is_void : ResultType → Bool
+is_void returned.Void = true
+is_void (returned.Value t) = false
+
 abbrev pub is_main : FunctionTree → Bool
-is_main f = bytes_eq f.function.text (codes "main") && is_plain f.variables && is_void f.returned && is_without f.parameters
-  where
-    is_plain : List DomainVariable → Bool
-    is_plain [] = true
-    is_plain (v ∷ vs) = false
-
-    is_void : ResultType → Bool
-    is_void returned.Void = true
-    is_void (returned.Value t) = false
-
-    is_without : List Parameter → Bool
-    is_without [] = true
-    is_without (p ∷ ps) = false
+is_main f =
+    bytes_eq f.function.text (codes "main") && is_without f.variables && is_void f.returned && is_without f.parameters
 
 abbrev pub has_main : List FunctionTree → Bool
 has_main [] = false
@@ -72,9 +76,19 @@ has_main (f ∷ fs) = is_main f || has_main fs
 -- the faults of the declarations themselves, and of a program without `main` at the end of its text
 abbrev pub declaring_faults : ProgramTree → List Fault
 declaring_faults p =
-    items_faults (declared_by p) [] p.items ++ fault_if (not (has_main (functions_of p.items))) p.end NoMain
+    items_faults (declared_by p) [] [] p.items ++ fault_if (not (has_main (functions_of p.items))) p.end NoMain
 
 -- THE FAULTS OF A PROGRAM
+
+-- the faults of the plain functions, which have no domain variables
+abbrev pub plain_faults : Declared → List FunctionTree → List Fault
+plain_faults d [] = []
+plain_faults d (f ∷ fs) = (if is_without f.variables then function_faults (within d f []) f else []) ++ plain_faults d fs
+
+-- and their calls
+abbrev pub plain_calls : Declared → List FunctionTree → List Call
+plain_calls d [] = []
+plain_calls d (f ∷ fs) = (if is_without f.variables then function_calls (within d f []) f else []) ++ plain_calls d fs
 
 -- those of its declarations; those of each function that is checked, with its domains; and those of the head of each
 -- function that is called there, whether or not that call is refused

@@ -1,5 +1,5 @@
 -- The typing relation by cases: which type an expression has, and which statements, functions and programs are typed.
-use Rattle.std.specs.Prelude.{ℕ, ◌≡◌, ◌≢◌, ◌⊎◌, Bool, true, false, not, ◌&&◌, ◌||◌, List, [], ◌∷◌, Option, Some, None, codes, bytes_eq, IsTrue, is_some}
+use Rattle.std.specs.Prelude.{ℕ, ◌≡◌, ◌≢◌, ◌⊎◌, Bool, true, false, not, ◌&&◌, ◌||◌, List, [], ◌∷◌, map, Option, Some, None, codes, bytes_eq, IsTrue, is_some}
 use Rattle.std.specs.List.{slice_get}
 use Rattle.sc_text.specs.declared.span.Span.{Span}
 use Rattle.secrec_ast.specs.declared.expression.DataType.{DataType}
@@ -33,7 +33,7 @@ use Rattle.domain_types.specs.ExpressionTypes.{cast_type, declassified, array_of
 use Rattle.domain_types.specs.StatementTypes.{is_argument, variable_declared, after, after_start, one_returns}
 use Rattle.domain_types.specs.FunctionTypes.{with_parameter, with_parameters, protections_of, is_variable, is_in_parameter}
 use Rattle.domain_types.specs.Reached.{Call, Instance, Calls, IsChecked}
-use Rattle.domain_types.specs.ProgramTypes.{is_module, is_one_of, is_function, has_main}
+use Rattle.domain_types.specs.ProgramTypes.{is_module, is_one_of, more_kinds, more_functions, has_main}
 
 -- DOMAINS
 
@@ -262,10 +262,13 @@ abbrev pub IsKnownKind : Declared → Option Identifier → Type 0
 IsKnownKind d None = Unit {0}
 IsKnownKind d (Some k) = IsTrue (is_known_kind d k.text)
 
+abbrev pub text_in : Identifier → List ℕ
+text_in x = x.text
+
 pub record IsDomainVariable (d : Declared) (items : List ItemTree) (ps : List Parameter) (before : List DomainVariable) (v : DomainVariable) : Type 0 where
   pub kind : IsKnownKind d v.kind
   pub new : is_variable v.variable.text before ≡ false
-  pub no_domain : is_one_of v.variable.text (protections_of items) ≡ false
+  pub no_domain : is_one_of v.variable.text (map text_in (protections_of items)) ≡ false
   pub not_imported : d.shared3p && bytes_eq v.variable.text (codes "shared3p") ≡ false
   pub used : is_in_parameter v.variable.text ps ≡ true
 
@@ -277,25 +280,24 @@ AreDomainVariables d items ps before (v ∷ vs) =
 -- PROGRAMS
 
 -- the name of a kind or a domain is new
-abbrev pub IsNew : Declared → List ItemTree → Identifier → Type 0
-IsNew d before x =
-    (is_one_of x.text (protections_of before) ≡ false) × (d.shared3p && bytes_eq x.text (codes "shared3p") ≡ false)
+abbrev pub IsNew : Declared → (kinds : List (List ℕ)) → Identifier → Type 0
+IsNew d ks x =
+    (is_one_of x.text ks ≡ false) × (d.shared3p && bytes_eq x.text (codes "shared3p") ≡ false)
 
-abbrev pub IsItem : Declared → List ItemTree → ItemTree → Type 0
-IsItem d before (imports x) = IsTrue (is_module x.text)
-IsItem d before (kind x) = IsTrue (bytes_eq x.text (codes "shared3p")) × IsNew d before x
-IsItem d before (domain x k) = IsNew d before x × IsTrue (is_known_kind d k.text)
-IsItem d before (defines f) =
-    (built_in_named d f.function.text ≡ None) × (is_function f.function.text (functions_of before) ≡ false)
+abbrev pub IsItem : Declared → (kinds functions : List (List ℕ)) → ItemTree → Type 0
+IsItem d ks fs (imports x) = IsTrue (is_module x.text)
+IsItem d ks fs (kind x) = IsTrue (bytes_eq x.text (codes "shared3p")) × IsNew d ks x
+IsItem d ks fs (domain x k) = IsNew d ks x × IsTrue (is_known_kind d k.text)
+IsItem d ks fs (defines f) = (built_in_named d f.function.text ≡ None) × (is_one_of f.function.text fs ≡ false)
 
-abbrev pub AreItems : Declared → List ItemTree → List ItemTree → Type 0
-AreItems d before [] = Unit {0}
-AreItems d before (i ∷ is) = IsItem d before i × AreItems d (i ∷ before) is
+abbrev pub AreItems : Declared → (kinds functions : List (List ℕ)) → List ItemTree → Type 0
+AreItems d ks fs [] = Unit {0}
+AreItems d ks fs (i ∷ is) = IsItem d ks fs i × AreItems d (more_kinds ks i) (more_functions fs i) is
 
 -- the declarations are good, there is a `main`, each checked function is typed with its domains, and so is the head of each
 -- function that is called there
 pub record IsTypedProgram (p : ProgramTree) : Type 0 where
-  pub items : AreItems (declared_by p) [] p.items
+  pub items : AreItems (declared_by p) [] [] p.items
   pub main : IsTrue (has_main (functions_of p.items))
   pub functions :
       (i : Instance) (f : FunctionTree) → IsChecked p i → slice_get (functions_of p.items) i.function ≡ Some f →

@@ -35,8 +35,8 @@ impl<'p> Declarations<'p> {
     ghost use Rattle.domain_types.specs.Views.{declared, callee_of};
     ghost use Rattle.domain_types.specs.Declarations.{built_in_named, function_named, callee};
 
-    // The built-in function of a name, if it is there.
-    fn built_in(&self, name: &str) -> Option<BuiltInFunction>
+    /// The built-in function of a name, if it is there.
+    pub fn built_in(&self, name: &str) -> Option<BuiltInFunction>
         ensures { result ≡ built_in_named (declared self.now) name.now }
     {
         if name == "size" {

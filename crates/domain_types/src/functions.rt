@@ -39,12 +39,12 @@ fn always_returns(s: &Statement) -> bool
 fn one_returns(list: &Vec<Statement>) -> bool
     ensures { result ≡ one_returns (statements_of (map statement list.now.items)) }
 {
+    let mut returns = false;
     for each in list {
-        if always_returns(each) {
-            return true;
-        }
+        let this = always_returns(each);
+        returns = returns || this;
     }
-    false
+    returns
 }
 
 // Declares the parameters, which belong to the body's block.

@@ -4,12 +4,14 @@
 mod built_ins;
 mod call_rule;
 mod calls;
+mod collecting;
 mod declarations;
 mod declaring;
 mod defined_calls;
 mod expressions;
 mod fault;
 mod functions;
+mod items;
 mod name_index;
 mod operations;
 mod rules;
