@@ -2,7 +2,7 @@
 ghost use Rattle.std.specs.Prelude.{◌≡◌, ◌++◌, [], IfOk, map, not};
 ghost use Rattle.secrec_ast.specs.Programs.{function_tree, item_tree};
 ghost use Rattle.domain_types.specs.Declarations.{is_known_kind};
-ghost use Rattle.domain_types.specs.ProgramTypes.{is_module, space_faults, items_faults, is_main, has_main, plain_faults, plain_calls};
+ghost use Rattle.domain_types.specs.ProgramTypes.{is_module, space_faults, items_faults, is_main, has_main, faults_if_plain, plain_faults, calls_if_plain, plain_calls};
 ghost use Rattle.domain_types.specs.Views.{declared, tree_at, calls_seen};
 ghost use Rattle.domain_types.specs.Least.{least};
 
@@ -103,14 +103,35 @@ fn is_main(function: &Function) -> bool
 pub fn has_main(functions: &[&Function]) -> bool
     ensures { result ≡ has_main (map tree_at functions.now) }
 {
-    let mut rest = functions;
-    while let Some((function, more)) = rest.split_first() {
-        if is_main(function) {
-            return true;
-        }
-        rest = more;
+    let mut found = false;
+    for function in functions {
+        let this = is_main(function);
+        found = found || this;
     }
-    false
+    found
+}
+
+// Checks a function if it is plain.
+#[tactic(auto, using(crate::proofs::Faults::appends))]
+fn plain<'p>(
+    alloc: Global,
+    found: &mut Found,
+    declarations: &Declarations<'p>,
+    each: &'p Function,
+) -> Result<(), AllocError>
+    ensures worst { IfOk result (λ _. found.new.worst ≡ least found.old.worst (faults_if_plain (declared declarations.now) (function_tree each.now))) }
+    ensures calls { IfOk result (λ _. calls_seen found.new.calls.items ≡
+        calls_seen found.old.calls.items ++ calls_if_plain (declared declarations.now) (function_tree each.now)) }
+{
+    if !each.variables.is_empty() {
+        return Ok(());
+    }
+    let here = Setting {
+        declarations,
+        variables: &each.variables,
+        binding: &[],
+    };
+    function(alloc, found, &here, each)
 }
 
 /// Checks the plain functions, which have no domain variables.
@@ -124,17 +145,8 @@ pub fn plain_functions<'p>(
     ensures calls { IfOk result (λ _. calls_seen found.new.calls.items ≡
         calls_seen found.old.calls.items ++ plain_calls (declared declarations.now) (declared declarations.now).functions) }
 {
-    let mut rest = declarations.functions.as_slice();
-    while let Some((each, more)) = rest.split_first() {
-        if each.variables.is_empty() {
-            let here = Setting {
-                declarations,
-                variables: &each.variables,
-                binding: &[],
-            };
-            function(alloc, found, &here, each)?;
-        }
-        rest = more;
+    for each in declarations.functions.iter() {
+        plain(alloc, found, declarations, each)?;
     }
     Ok(())
 }
