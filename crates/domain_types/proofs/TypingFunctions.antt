@@ -1,6 +1,6 @@
 -- A function, and the head of a template, are typed by the relation where they have no fault.
-use Rattle.std.proofs.Common.{◌≡◌, List, [], ◌∷◌, ◌++◌, refl, ap, ap₂, Option, Some, None, false, ◌↔◌}
-use Rattle.std.specs.Prelude.{not, ◌&&◌, ◌||◌, bytes_eq, codes, option_map}
+use Rattle.std.proofs.Common.{◌∙◌, ◌≡◌, List, [], ◌∷◌, ◌++◌, refl, ap, ap₂, Option, Some, None, false, ◌↔◌, Bool, true, map, ℕ, sym, is_some, ◌+◌}
+use Rattle.std.specs.Prelude.{not, ◌&&◌, ◌||◌, bytes_eq, codes, option_map, if◌then◌else◌}
 use Rattle.std.proofs.lemmas.Bool.{not-false, or_parts}
 use Rattle.std.proofs.lemmas.Option.{none-some}
 use Rattle.secrec_ast.specs.declared.statement.Identifier.{Identifier}
@@ -12,14 +12,14 @@ use Rattle.secrec_ast.specs.Programs.{FunctionTree, ItemTree}
 use Rattle.domain_types.specs.declared.fault.Problem.TheVariants.{UnknownName, Twice, TypeMismatch, MissingReturn}
 use Rattle.domain_types.specs.declared.value_type.ExpressionType.TheVariants.{Value}
 use Rattle.domain_types.specs.Types.{fault_if}
-use Rattle.domain_types.specs.Declarations.{Declared, Setting, type_written, is_known_kind}
+use Rattle.domain_types.specs.Declarations.{Declared, Setting, type_written, is_known_kind, number_in}
 use Rattle.domain_types.specs.Scopes.{Scope, nothing_known, is_among, twice_faults}
 use Rattle.domain_types.specs.ExpressionTypes.{result_type}
 use Rattle.domain_types.specs.StatementTypes.{domain_faults, one_returns}
 use Rattle.domain_types.specs.FunctionTypes.{with_parameter, with_parameters, parameter_faults, result_faults, way_faults, body_faults, function_faults, protections_of, later_of, hiding_faults, imported_faults, is_variable, kind_faults, is_in_parameter, domain_variable_faults, domain_variables_faults}
 use Rattle.domain_types.specs.ProgramTypes.{is_one_of}
 use Rattle.domain_types.specs.Reached.{function_calls}
-use Rattle.domain_types.specs.Typing.{AreParameters, GivesResult, IsTypedFunction, IsKnownKind, IsDomainVariable, AreDomainVariables}
+use Rattle.domain_types.specs.Typing.{AreParameters, GivesResult, IsTypedFunction, IsKnownKind, IsDomainVariable, AreDomainVariables, text_in}
 use Rattle.domain_types.proofs.TypingSteps.{there, parts, joined, not_so, nothing_if}
 use Rattle.domain_types.proofs.TypingExpressions.{Known, GiveTypes}
 use Rattle.domain_types.proofs.TypingStatements.{KnownResult, type_known, no_type_fault, known_with, some_known, are_typed, no_block_faults}
@@ -133,16 +133,24 @@ no_kind_fault : (d : Declared) (k : Option Identifier) → IsKnownKind d k → k
 no_kind_fault d None h = refl
 no_kind_fault d (Some k) h = ap (λ b. fault_if (not b) k.place UnknownName) h
 
-hides_none : (x : Identifier) (ys : List Identifier) → hiding_faults x ys ≡ [] → is_one_of x.text ys ≡ false
+-- whether a name is the first of these or another of them
+one_of : (b : Bool) (o : Option ℕ) → is_some (if b then Some 0 else option_map (λ k. k + 1) o) ≡ b || is_some o
+one_of true o = refl
+one_of false None = refl
+one_of false (Some k) = refl
+
+hides_none : (x : Identifier) (ys : List Identifier) → hiding_faults x ys ≡ [] → is_one_of x.text (map text_in ys) ≡ false
 hides_none x [] h = refl
 hides_none x (y ∷ ys) h =
     let hs = parts (fault_if (bytes_eq x.text y.text) (later_of x.place y.place) Twice) (hiding_faults x ys) h in
-    ap₂ (λ a b. a || b) (not_so (bytes_eq x.text y.text) (later_of x.place y.place) Twice hs.0) (hides_none x ys hs.1)
+    one_of (bytes_eq x.text y.text) (number_in x.text (map text_in ys))
+    ∙ ap₂ (λ a b. a || b) (not_so (bytes_eq x.text y.text) (later_of x.place y.place) Twice hs.0) (hides_none x ys hs.1)
 
-no_hiding_faults : (x : Identifier) (ys : List Identifier) → is_one_of x.text ys ≡ false → hiding_faults x ys ≡ []
+no_hiding_faults : (x : Identifier) (ys : List Identifier) → is_one_of x.text (map text_in ys) ≡ false → hiding_faults x ys ≡ []
 no_hiding_faults x [] h = refl
 no_hiding_faults x (y ∷ ys) h =
-    let hs = or_parts (bytes_eq x.text y.text) (is_one_of x.text ys) h in
+    let named = number_in x.text (map text_in ys) in
+    let hs = or_parts (bytes_eq x.text y.text) (is_some named) (sym (one_of (bytes_eq x.text y.text) named) ∙ h) in
     joined (fault_if (bytes_eq x.text y.text) (later_of x.place y.place) Twice) (hiding_faults x ys)
     (nothing_if (bytes_eq x.text y.text) (later_of x.place y.place) Twice hs.0)
     (no_hiding_faults x ys hs.1)

@@ -1,5 +1,5 @@
 -- A program is typed by the relation exactly where it is accepted.
-use Rattle.std.proofs.Common.{◌≡◌, List, [], ◌∷◌, inl, refl, ap, ap₂, subst, Option, Some, None, false, is_some, ◌↔◌}
+use Rattle.std.proofs.Common.{ℕ, ◌≡◌, List, [], ◌∷◌, inl, refl, ap, ap₂, subst, Option, Some, None, false, is_some, ◌↔◌}
 use Rattle.std.specs.Prelude.{not, ◌&&◌, ◌||◌, bytes_eq, codes}
 use Rattle.std.specs.List.{slice_get}
 use Rattle.std.proofs.lemmas.Bool.{not-false, or_parts}
@@ -11,10 +11,10 @@ use Rattle.domain_types.specs.declared.value_type.BuiltIn.{BuiltIn}
 use Rattle.domain_types.specs.Types.{fault_if}
 use Rattle.domain_types.specs.Declarations.{Declared, declared_by, functions_of, is_known_kind, built_in_named}
 use Rattle.domain_types.specs.ExpressionTypes.{within}
-use Rattle.domain_types.specs.FunctionTypes.{function_faults, head_faults, protections_of}
+use Rattle.domain_types.specs.FunctionTypes.{function_faults, head_faults}
 use Rattle.domain_types.specs.Least.{Among, least}
 use Rattle.domain_types.specs.Reached.{function_calls, Instance, Calls, IsChecked, reached}
-use Rattle.domain_types.specs.ProgramTypes.{is_module, is_one_of, is_function, space_faults, item_faults, items_faults, has_main, declaring_faults, IsFault, declaring, inside, of_head, IsAccepted, IsRefused}
+use Rattle.domain_types.specs.ProgramTypes.{is_module, is_one_of, more_kinds, more_functions, space_faults, item_faults, items_faults, has_main, declaring_faults, IsFault, declaring, inside, of_head, IsAccepted, IsRefused}
 use Rattle.domain_types.specs.Typing.{IsNew, IsItem, AreItems, IsTypedProgram}
 use Rattle.domain_types.proofs.LeastFault.{is_least, none_least}
 use Rattle.domain_types.proofs.TypingSteps.{parts, joined, not_so}
@@ -23,60 +23,62 @@ use Rattle.domain_types.proofs.TypingFunctions.{result_is_known, is_typed_functi
 
 -- DECLARATIONS
 
-is_new : (d : Declared) (before : List ItemTree) (x : Identifier) → space_faults d before x ≡ [] → IsNew d before x
-is_new d before x h =
+is_new : (d : Declared) (ks : List (List ℕ)) (x : Identifier) → space_faults d ks x ≡ [] → IsNew d ks x
+is_new d ks x h =
     let shared = d.shared3p && bytes_eq x.text (codes "shared3p") in
-    or_parts (is_one_of x.text (protections_of before)) shared (not_so (is_one_of x.text (protections_of before) || shared) x.place Twice h)
+    or_parts (is_one_of x.text ks) shared (not_so (is_one_of x.text ks || shared) x.place Twice h)
 
-no_space_fault : (d : Declared) (before : List ItemTree) (x : Identifier) → IsNew d before x → space_faults d before x ≡ []
-no_space_fault d before x h = ap₂ (λ a b. fault_if (a || b) x.place Twice) h.0 h.1
+no_space_fault : (d : Declared) (ks : List (List ℕ)) (x : Identifier) → IsNew d ks x → space_faults d ks x ≡ []
+no_space_fault d ks x h = ap₂ (λ a b. fault_if (a || b) x.place Twice) h.0 h.1
 
 not_there : (o : Option BuiltIn) → is_some o ≡ false → o ≡ None
 not_there None h = refl
 not_there (Some b) h = cc
 
-is_item : (d : Declared) (before : List ItemTree) (i : ItemTree) → item_faults d before i ≡ [] → IsItem d before i
-is_item d before (imports x) h = not-false (is_module x.text) (not_so (not (is_module x.text)) x.place BadImport h)
-is_item d before (kind x) h =
+is_item : (d : Declared) (ks fs : List (List ℕ)) (i : ItemTree) → item_faults d ks fs i ≡ [] → IsItem d ks fs i
+is_item d ks fs (imports x) h = not-false (is_module x.text) (not_so (not (is_module x.text)) x.place BadImport h)
+is_item d ks fs (kind x) h =
     let named = bytes_eq x.text (codes "shared3p") in
-    let hs = parts (fault_if (not named) x.place UnknownName) (space_faults d before x) h in
-    (not-false named (not_so (not named) x.place UnknownName hs.0), is_new d before x hs.1)
-is_item d before (domain x k) h =
-    let hs = parts (space_faults d before x) (fault_if (not (is_known_kind d k.text)) k.place UnknownName) h in
-    (is_new d before x hs.0, not-false (is_known_kind d k.text) (not_so (not (is_known_kind d k.text)) k.place UnknownName hs.1))
-is_item d before (defines f) h =
+    let hs = parts (fault_if (not named) x.place UnknownName) (space_faults d ks x) h in
+    (not-false named (not_so (not named) x.place UnknownName hs.0), is_new d ks x hs.1)
+is_item d ks fs (domain x k) h =
+    let hs = parts (space_faults d ks x) (fault_if (not (is_known_kind d k.text)) k.place UnknownName) h in
+    (is_new d ks x hs.0, not-false (is_known_kind d k.text) (not_so (not (is_known_kind d k.text)) k.place UnknownName hs.1))
+is_item d ks fs (defines f) h =
     let builtin = is_some (built_in_named d f.function.text) in
-    let earlier = is_function f.function.text (functions_of before) in
+    let earlier = is_one_of f.function.text fs in
     let both = or_parts builtin earlier (not_so (builtin || earlier) f.function.place Twice h) in
     (not_there (built_in_named d f.function.text) both.0, both.1)
 
-no_item_faults : (d : Declared) (before : List ItemTree) (i : ItemTree) → IsItem d before i → item_faults d before i ≡ []
-no_item_faults d before (imports x) h = ap (λ b. fault_if (not b) x.place BadImport) h
-no_item_faults d before (kind x) h =
-    joined (fault_if (not (bytes_eq x.text (codes "shared3p"))) x.place UnknownName) (space_faults d before x)
+no_item_faults : (d : Declared) (ks fs : List (List ℕ)) (i : ItemTree) → IsItem d ks fs i → item_faults d ks fs i ≡ []
+no_item_faults d ks fs (imports x) h = ap (λ b. fault_if (not b) x.place BadImport) h
+no_item_faults d ks fs (kind x) h =
+    joined (fault_if (not (bytes_eq x.text (codes "shared3p"))) x.place UnknownName) (space_faults d ks x)
     (ap (λ b. fault_if (not b) x.place UnknownName) h.0)
-    (no_space_fault d before x h.1)
-no_item_faults d before (domain x k) h =
-    joined (space_faults d before x) (fault_if (not (is_known_kind d k.text)) k.place UnknownName)
-    (no_space_fault d before x h.0)
+    (no_space_fault d ks x h.1)
+no_item_faults d ks fs (domain x k) h =
+    joined (space_faults d ks x) (fault_if (not (is_known_kind d k.text)) k.place UnknownName)
+    (no_space_fault d ks x h.0)
     (ap (λ b. fault_if (not b) k.place UnknownName) h.1)
-no_item_faults d before (defines f) h = ap₂ (λ o b. fault_if (is_some o || b) f.function.place Twice) h.0 h.1
+no_item_faults d ks fs (defines f) h = ap₂ (λ o b. fault_if (is_some o || b) f.function.place Twice) h.0 h.1
 
-are_items : (d : Declared) (before is : List ItemTree) → items_faults d before is ≡ [] → AreItems d before is
-are_items d before [] h = tt
-are_items d before (i ∷ is) h =
-    let hs = parts (item_faults d before i) (items_faults d (i ∷ before) is) h in
-    (is_item d before i hs.0, are_items d (i ∷ before) is hs.1)
+are_items : (d : Declared) (ks fs : List (List ℕ)) (is : List ItemTree) → items_faults d ks fs is ≡ [] → AreItems d ks fs is
+are_items d ks fs [] h = tt
+are_items d ks fs (i ∷ is) h =
+    let hs = parts (item_faults d ks fs i) (items_faults d (more_kinds ks i) (more_functions fs i) is) h in
+    (is_item d ks fs i hs.0, are_items d (more_kinds ks i) (more_functions fs i) is hs.1)
 
-no_items_faults : (d : Declared) (before is : List ItemTree) → AreItems d before is → items_faults d before is ≡ []
-no_items_faults d before [] h = refl
-no_items_faults d before (i ∷ is) h =
-    joined (item_faults d before i) (items_faults d (i ∷ before) is) (no_item_faults d before i h.0) (no_items_faults d (i ∷ before) is h.1)
+no_items_faults : (d : Declared) (ks fs : List (List ℕ)) (is : List ItemTree) → AreItems d ks fs is → items_faults d ks fs is ≡ []
+no_items_faults d ks fs [] h = refl
+no_items_faults d ks fs (i ∷ is) h =
+    joined (item_faults d ks fs i) (items_faults d (more_kinds ks i) (more_functions fs i) is)
+    (no_item_faults d ks fs i h.0)
+    (no_items_faults d (more_kinds ks i) (more_functions fs i) is h.1)
 
 no_declaring_faults : (p : ProgramTree) → IsTypedProgram p → declaring_faults p ≡ []
 no_declaring_faults p h =
-    joined (items_faults (declared_by p) [] p.items) (fault_if (not (has_main (functions_of p.items))) p.end NoMain)
-    (no_items_faults (declared_by p) [] p.items h.items)
+    joined (items_faults (declared_by p) [] [] p.items) (fault_if (not (has_main (functions_of p.items))) p.end NoMain)
+    (no_items_faults (declared_by p) [] [] p.items h.items)
     (ap (λ b. fault_if (not b) p.end NoMain) h.main)
 
 -- NO FAULT AT ALL
@@ -112,9 +114,9 @@ pub accepted_is_typed : (p : ProgramTree) → IsAccepted p → IsTypedProgram p
 accepted_is_typed p a =
     let none_declaring = empty_where_none (declaring_faults p) (λ g m. a.faultless g (declaring g m)) in
     let main_found = has_main (functions_of p.items) in
-    let hs = parts (items_faults (declared_by p) [] p.items) (fault_if (not main_found) p.end NoMain) none_declaring in
+    let hs = parts (items_faults (declared_by p) [] [] p.items) (fault_if (not main_found) p.end NoMain) none_declaring in
     record {
-      items = are_items (declared_by p) [] p.items hs.0;
+      items = are_items (declared_by p) [] [] p.items hs.0;
       main = not-false main_found (not_so (not main_found) p.end NoMain hs.1);
       functions = λ i f c at. is_typed_function (within (declared_by p) f i.binding) f (calls_give_types p a i f c at) (function_faultless p a i f c at);
       heads =
