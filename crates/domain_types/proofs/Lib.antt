@@ -9,3 +9,4 @@ pub mod Visits
 pub mod Blocks
 pub mod Returning
 pub mod Growing
+pub mod Laws
