@@ -18,3 +18,4 @@ pub mod Visits
 pub mod Blocks
 pub mod Returning
 pub mod Growing
+pub mod Laws

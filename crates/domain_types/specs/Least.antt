@@ -22,12 +22,11 @@ number_of BadArity = 13
 number_of MissingReturn = 14
 number_of ArgumentPlace = 15
 
--- an earlier line; or the same line and an earlier column; or the same place and no greater number
-abbrev pub NotAfter : Fault → Fault → Type 0
-NotAfter f g =
-    (f.place.line < g.place.line)
-    ⊎ ((f.place.line ≡ g.place.line) × (f.place.column < g.place.column))
-    ⊎ ((f.place.line ≡ g.place.line) × (f.place.column ≡ g.place.column) × (number_of f.problem ≤ number_of g.problem))
+-- no later line; on the same line no later column; at the same place no greater number
+pub record NotAfter (f g : Fault) : Type 0 where
+  pub lines : f.place.line ≤ g.place.line
+  pub columns : f.place.line ≡ g.place.line → f.place.column ≤ g.place.column
+  pub numbers : f.place.line ≡ g.place.line → f.place.column ≡ g.place.column → number_of f.problem ≤ number_of g.problem
 
 abbrev pub Among : {A : Type 0} → A → List A → Type 0
 Among a [] = ⊥

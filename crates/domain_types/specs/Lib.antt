@@ -11,5 +11,6 @@ pub mod FunctionTypes
 pub mod Least
 pub mod Reached
 pub mod ProgramTypes
+pub mod Answer
 pub mod Typing
 pub mod Vectors

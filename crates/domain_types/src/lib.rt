@@ -4,6 +4,7 @@
 mod built_ins;
 mod call_rule;
 mod calls;
+mod check;
 mod collecting;
 mod declarations;
 mod declaring;
@@ -16,6 +17,7 @@ mod name_index;
 mod operations;
 mod rules;
 mod setting;
+mod type_error;
 mod value_type;
 mod simple_statements;
 mod statements;
@@ -23,5 +25,7 @@ mod values;
 mod variables;
 mod worst;
 
+pub use check::check_plain;
 pub use fault::{Fault, Problem};
+pub use type_error::TypeError;
 pub use value_type::{BuiltIn, ExpressionType, Protection, ValueType};
