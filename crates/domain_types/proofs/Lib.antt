@@ -1,3 +1,4 @@
+pub mod TypingPlain
 pub mod TypingRows
 pub mod TypingSteps
 pub mod TypingRules
@@ -6,7 +7,6 @@ pub mod TypingExpressions
 pub mod TypingStatements
 pub mod TypingFunctions
 pub mod TypingPrograms
-pub mod LeastFault
 pub mod Faults
 pub mod Names
 pub mod Naming

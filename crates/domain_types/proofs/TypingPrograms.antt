@@ -16,7 +16,7 @@ use Rattle.domain_types.specs.Least.{Among, least}
 use Rattle.domain_types.specs.Reached.{function_calls, Instance, Calls, IsChecked, reached}
 use Rattle.domain_types.specs.ProgramTypes.{is_module, is_one_of, more_kinds, more_functions, space_faults, item_faults, items_faults, has_main, declaring_faults, IsFault, declaring, inside, of_head, IsAccepted, IsRefused}
 use Rattle.domain_types.specs.Typing.{IsNew, IsItem, AreItems, IsTypedProgram}
-use Rattle.domain_types.proofs.LeastFault.{is_least, none_least}
+use Rattle.domain_types.proofs.Laws.{is_least, none_from_least}
 use Rattle.domain_types.proofs.TypingSteps.{parts, joined, not_so}
 use Rattle.domain_types.proofs.TypingExpressions.{GiveTypes}
 use Rattle.domain_types.proofs.TypingFunctions.{result_is_known, is_typed_function, no_function_faults, are_domain_variables, no_domain_variables_faults}
@@ -147,7 +147,7 @@ HasJustTheFaults p fs = (g : Fault) → IsFault p g ↔ Among g fs
 
 pub least_is_told : (p : ProgramTree) (fs : List Fault) (f : Fault) → HasJustTheFaults p fs → least None fs ≡ Some f → IsRefused p f
 least_is_told p fs f just e =
-    let l = is_least f fs e in record { is = (just f).1 l.among; first = λ g h. l.before g ((just g).0 h) }
+    let l = is_least fs f e in record { is = (just f).1 l.among; first = λ g h. l.before g ((just g).0 h) }
 
 pub none_is_accepted : (p : ProgramTree) (fs : List Fault) → HasJustTheFaults p fs → least None fs ≡ None → IsAccepted p
-none_is_accepted p fs just e = record { faultless = λ g h. none_in_empty g fs (none_least fs e) ((just g).0 h) }
+none_is_accepted p fs just e = record { faultless = λ g h. none_in_empty g fs (none_from_least fs e) ((just g).0 h) }
