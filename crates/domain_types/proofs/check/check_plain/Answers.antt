@@ -23,9 +23,9 @@ returns c =
     let main : c.has_main-missing.result ≡ has_main e.functions = c.has_main-missing.ensures ∙ ap (λ l. has_main (map tree_at l)) c.deref-3.ensures.value in
     let missing : c.note_if.new.worst ≡ least c.items.new.worst (fault_if (not (has_main e.functions)) end NoMain) = c.note_if.ensures ∙ ap (λ b. least c.items.new.worst (fault_if (not b) end NoMain)) main in
     let all : c.plain_functions.new.found.worst ≡ least None (items_faults e [] [] its ++ fault_if (not (has_main e.functions)) end NoMain ++ plain_faults e e.functions) =
-        then_least None c.note_if.new.worst c.plain_functions.new.found.worst (items_faults e [] [] its ++ fault_if (not (has_main e.functions)) end NoMain) (plain_faults e e.functions)
-        (then_least None c.items.new.worst c.note_if.new.worst (items_faults e [] [] its) (fault_if (not (has_main e.functions)) end NoMain) named missing)
-        c.in_ok-plain_functions.ensures.worst in
+    then_least None c.note_if.new.worst c.plain_functions.new.found.worst (items_faults e [] [] its ++ fault_if (not (has_main e.functions)) end NoMain) (plain_faults e e.functions)
+    (then_least None c.items.new.worst c.note_if.new.worst (items_faults e [] [] its) (fault_if (not (has_main e.functions)) end NoMain) named missing)
+    c.in_ok-plain_functions.ensures.worst in
     is_least (faults_outside_templates (program_tree c.args.program.now)) c.in-Some.fault
     (sym (ap (λ (d : Declared). least None (items_faults d [] [] its ++ fault_if (not (has_main d.functions)) end NoMain ++ plain_faults d d.functions)) same)
     ∙ sym all
