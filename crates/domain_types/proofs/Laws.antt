@@ -43,7 +43,7 @@ follows f g h a b =
     record {
       lines = let x = a.lines in let y = b.lines in omega arith;
       columns = λ s. let x = a.lines in let y = b.lines in let p : f.place.line ≡ g.place.line = omega arith in let q : g.place.line ≡ h.place.line = omega arith in let u = a.columns p in let v = b.columns q in omega arith;
-      numbers = λ s t. let x = a.lines in let y = b.lines in let p : f.place.line ≡ g.place.line = omega arith in let q : g.place.line ≡ h.place.line = omega arith in let u = a.columns p in let v = b.columns q in let m : f.place.column ≡ g.place.column = omega arith in let n : g.place.column ≡ h.place.column = omega arith in let i = a.numbers p m in let j = b.numbers q n in omega arith
+      numbers = λ s t. let x = a.lines in let y = b.lines in let p : f.place.line ≡ g.place.line = omega arith in let q : g.place.line ≡ h.place.line = omega arith in let u = a.columns p in let v = b.columns q in let m : f.place.column ≡ g.place.column = omega arith in let n : g.place.column ≡ h.place.column = omega arith in let i = a.numbers p m in let j = b.numbers q n in omega arith;
     }
 
 itself : (f : Fault) → NotAfter f f

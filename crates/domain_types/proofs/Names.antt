@@ -29,7 +29,6 @@ number_in-append x (z ∷ zs) y = go (bytes_eq x z) (number_in x zs) (bytes_eq x
     go false None true e = ap (option_map (λ k. k + 1)) e ∙ ap Some (omega arith)
     go false None false e = ap (option_map (λ k. k + 1)) e
 
-
 -- two lists of bytes are tested alike from both sides
 pub bytes_eq-swap : (x y : List ℕ) → bytes_eq x y ≡ bytes_eq y x
 bytes_eq-swap x y = one_answer (bytes_eq x y) (bytes_eq y x) (bytes_eq-Decides x y) ((λ t. sym ((bytes_eq-Decides y x).0 t)), (λ e. (bytes_eq-Decides y x).1 (sym e)))

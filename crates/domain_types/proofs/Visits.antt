@@ -36,9 +36,9 @@ visited w s e x y o o1 o2 t p v lent again kind first place used last =
     let faults_are : o1 ≡ least o (faults w s (expression e)) = first ∙ ap (λ z. least o (faults w s (expression z))) lent in
     record {
       worst =
-        then_least o o1 o2 (faults w s (expression e)) (void_faults (place_of (expression e)) (type_of w s (expression e))) faults_are
-        (last ∙ ap (λ q. least o1 (void_faults q t)) place_is ∙ ap (λ z. least o1 (void_faults (place_of (expression e)) z)) type_is);
-      kind = used ∙ ap value_of type_is
+          then_least o o1 o2 (faults w s (expression e)) (void_faults (place_of (expression e)) (type_of w s (expression e))) faults_are
+          (last ∙ ap (λ q. least o1 (void_faults q t)) place_is ∙ ap (λ z. least o1 (void_faults (place_of (expression e)) z)) type_is);
+      kind = used ∙ ap value_of type_is;
     }
 
 -- a node with one part, and one with two: the parts' faults, then its own

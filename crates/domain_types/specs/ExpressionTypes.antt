@@ -240,8 +240,8 @@ within d f ds = record { declared = d; bound = bind f.variables ds }
 unfoldable pub defined_faults : Declared → Span → FunctionTree → List Argument → List Fault
 defined_faults d p f gs =
     if nat_eq (length f.parameters) (length gs) then
-      binding_faults p f.variables f.parameters gs
-      ++ of_typed (binding_by f.variables f.parameters gs) (λ ds. argument_faults (within d f ds) f.parameters gs)
+    binding_faults p f.variables f.parameters gs
+    ++ of_typed (binding_by f.variables f.parameters gs) (λ ds. argument_faults (within d f ds) f.parameters gs)
     else fault_at p BadArity
 
 -- what a function gives back; none where its domain is unknown

@@ -78,11 +78,7 @@ fn sum(worst: &mut Option<Fault>, place: Span, arguments: &[Argument]) -> Option
 }
 
 #[tactic(auto, using(crate::proofs::Faults::appends), unfolding(crate::specs::ExpressionTypes::bit_extract_faults, crate::specs::ExpressionTypes::built_in_result))]
-fn bit_extract(
-    worst: &mut Option<Fault>,
-    place: Span,
-    arguments: &[Argument],
-) -> Option<ValueType>
+fn bit_extract(worst: &mut Option<Fault>, place: Span, arguments: &[Argument]) -> Option<ValueType>
     ensures kind { result ≡ unless_refused (bit_extract_faults place arguments.now) (built_in_result BitExtract arguments.now) }
     ensures worst { worst.new ≡ least worst.old (bit_extract_faults place arguments.now) }
 {

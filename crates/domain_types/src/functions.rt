@@ -72,11 +72,7 @@ fn parameters<'p>(
 }
 
 // The domain of a result is known.
-fn known_result<'p>(
-    worst: &mut Option<Fault>,
-    here: &Setting<'_, 'p>,
-    returned: &'p ResultType,
-)
+fn known_result<'p>(worst: &mut Option<Fault>, here: &Setting<'_, 'p>, returned: &'p ResultType)
     ensures { worst.new ≡ least worst.old (result_faults (setting here.now) returned.now) }
 {
     match returned {

@@ -17,10 +17,12 @@ mod name_index;
 mod operations;
 mod rules;
 mod setting;
-mod type_error;
-mod value_type;
 mod simple_statements;
 mod statements;
+#[cfg(test)]
+mod tests;
+mod type_error;
+mod value_type;
 mod values;
 mod variables;
 mod worst;

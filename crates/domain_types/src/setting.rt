@@ -20,7 +20,9 @@ fn bound(name: &str, variables: &[DomainVariable], binding: &[Protection]) -> Op
     ensures { result ≡ bound_to name.now (bind variables.now binding.now) }
 {
     match (variables.split_first(), binding.split_first()) {
-        (Some((variable, variables)), Some((domain, binding))) => if name == variable.variable.text.as_str() {
+        (Some((variable, variables)), Some((domain, binding))) => if name
+            == variable.variable.text.as_str()
+        {
             Some(*domain)
         } else {
             bound(name, variables, binding)

@@ -132,11 +132,7 @@ impl<'p> Variables<'p> {
 }
 
 // The name means again what it meant before its latest variable.
-fn put_back<'p>(
-    latest: &mut BTreeMap<&'p str, Latest>,
-    name: &'p str,
-    hidden: Option<Latest>,
-)
+fn put_back<'p>(latest: &mut BTreeMap<&'p str, Latest>, name: &'p str, hidden: Option<Latest>)
     requires { found latest.old name.now ≢ None }
     ensures { (x : List ℕ) → found latest.new x ≡ (if bytes_eq name.now x then hidden else found latest.old x) }
 {

@@ -13,7 +13,7 @@ invariant-loop-item l = record {
   kind : is_kind (codes "shared3p") (map item_tree l.fn.items) ≡ l.kind_declared || is_kind (codes "shared3p") (map item_tree l.rest);
   domains : domains_of (map item_tree l.fn.items) ≡ l.domains ++ domains_of (map item_tree l.rest);
   functions : functions_of (map item_tree l.fn.items) ≡ map tree_at l.functions.items ++ functions_of (map item_tree l.rest);
-  names : l.names ≡ map name_of l.functions.items
+  names : l.names ≡ map name_of l.functions.items;
 }
 
 abbrev pub decreases-loop-item : goal.decreases-loop-item

@@ -117,7 +117,7 @@ loop-argument-preserved t c =
     record {
       types = c.in_ok-types-in-Call.ensures ∙ ap (λ p. and_argument (option_map vec_items c.loop-argument.types) p c.used-value.result) c.place_of-in-loop-argument.ensures ∙ ap (and_argument (option_map vec_items c.loop-argument.types) (place_of (expression x))) part.kind ∙ ap (λ g. and_argument g (place_of (expression x)) (value_type w s (expression x))) c.loop-argument.invariant.types ∙ sym (arguments_of-more w s ts (expression x)) ∙ ap (λ l. arguments_of w s (trees_of l)) (sym more);
       worst = then_least o c.loop-argument.found.worst c.used-value.new.worst (argument_list_faults w s (trees_of ts)) (value_faults w s (expression x)) c.loop-argument.invariant.worst part.worst ∙ ap (least o) (sym (argument_list_faults-more w s ts (expression x)) ∙ ap (λ l. argument_list_faults w s (trees_of l)) (sym more));
-      calls = then_calls (calls_seen c.args.found.now.calls.items) (calls_seen c.loop-argument.found.calls.items) (calls_seen c.expression.new.found.calls.items) (calls_of_all w s (trees_of ts)) (calls_of w s (expression x)) c.loop-argument.invariant.calls c.in_ok-t-in-Call.ensures.calls ∙ ap (λ l. calls_seen c.args.found.now.calls.items ++ l) (sym (calls_of_all-more w s ts (expression x)) ∙ ap (λ l. calls_of_all w s (trees_of l)) (sym more))
+      calls = then_calls (calls_seen c.args.found.now.calls.items) (calls_seen c.loop-argument.found.calls.items) (calls_seen c.expression.new.found.calls.items) (calls_of_all w s (trees_of ts)) (calls_of w s (expression x)) c.loop-argument.invariant.calls c.in_ok-t-in-Call.ensures.calls ∙ ap (λ l. calls_seen c.args.found.now.calls.items ++ l) (sym (calls_of_all-more w s ts (expression x)) ∙ ap (λ l. calls_of_all w s (trees_of l)) (sym more));
     }
 
 pub returns-after-loop-argument-clause-kind : goal.returns-after-loop-argument-clause-kind
@@ -141,11 +141,11 @@ returns-after-loop-argument-clause-worst t c =
     let types : option_map vec_items c.loop-argument.types ≡ arguments_of w s (trees_of es) = c.loop-argument.invariant.types ∙ ap (λ l. arguments_of w s (trees_of (map expression l))) all in
     let before : l ≡ least o (argument_list_faults w s (trees_of es)) = c.loop-argument.invariant.worst ∙ ap (λ l. least o (argument_list_faults w s (trees_of (map expression l)))) all in
     let same =
-        ap (λ x. least l (call_faults w.declared p (callee w.declared x) (option_map vec_items c.loop-argument.types))) c.as_str-in-Call.ensures.value
-        ∙ ap (λ g. least l (call_faults w.declared p (callee w.declared c.in-Call.name) g)) types
-        ∙ ap (λ z. least z (call_faults w.declared p (callee w.declared c.in-Call.name) (arguments_of w s (trees_of es)))) before
-        ∙ sym (least-append o (argument_list_faults w s (trees_of es)) (call_faults w.declared p (callee w.declared c.in-Call.name) (arguments_of w s (trees_of es))))
-        ∙ sym (ap (λ e. least o (faults w s (expression e))) c.in-Call.is ∙ ap (λ t. least o (faults w s t)) (call_is _ _ _)) in
+    ap (λ x. least l (call_faults w.declared p (callee w.declared x) (option_map vec_items c.loop-argument.types))) c.as_str-in-Call.ensures.value
+    ∙ ap (λ g. least l (call_faults w.declared p (callee w.declared c.in-Call.name) g)) types
+    ∙ ap (λ z. least z (call_faults w.declared p (callee w.declared c.in-Call.name) (arguments_of w s (trees_of es)))) before
+    ∙ sym (least-append o (argument_list_faults w s (trees_of es)) (call_faults w.declared p (callee w.declared c.in-Call.name) (arguments_of w s (trees_of es))))
+    ∙ sym (ap (λ e. least o (faults w s (expression e))) c.in-Call.is ∙ ap (λ t. least o (faults w s t)) (call_is _ _ _)) in
     subst (λ z. IfOk c.call.result (λ t. c.call.new.worst ≡ z)) same c.call.ensures.worst
 
 pub returns-after-loop-argument-clause-calls : goal.returns-after-loop-argument-clause-calls
@@ -160,9 +160,9 @@ returns-after-loop-argument-clause-calls t c =
     let types : option_map vec_items c.loop-argument.types ≡ arguments_of w s (trees_of es) = c.loop-argument.invariant.types ∙ ap (λ l. arguments_of w s (trees_of (map expression l))) all in
     let before : l ≡ o ++ calls_of_all w s (trees_of es) = c.loop-argument.invariant.calls ∙ ap (λ l. o ++ calls_of_all w s (trees_of (map expression l))) all in
     let same =
-        ap (λ x. l ++ call_of w.declared p (callee w.declared x) (option_map vec_items c.loop-argument.types)) c.as_str-in-Call.ensures.value
-        ∙ ap (λ g. l ++ call_of w.declared p (callee w.declared c.in-Call.name) g) types
-        ∙ ap (λ z. z ++ call_of w.declared p (callee w.declared c.in-Call.name) (arguments_of w s (trees_of es))) before
-        ∙ append_assoc o (calls_of_all w s (trees_of es)) (call_of w.declared p (callee w.declared c.in-Call.name) (arguments_of w s (trees_of es)))
-        ∙ sym (ap (λ e. o ++ calls_of w s (expression e)) c.in-Call.is ∙ ap (λ t. o ++ calls_of w s t) (call_is _ _ _)) in
+    ap (λ x. l ++ call_of w.declared p (callee w.declared x) (option_map vec_items c.loop-argument.types)) c.as_str-in-Call.ensures.value
+    ∙ ap (λ g. l ++ call_of w.declared p (callee w.declared c.in-Call.name) g) types
+    ∙ ap (λ z. z ++ call_of w.declared p (callee w.declared c.in-Call.name) (arguments_of w s (trees_of es))) before
+    ∙ append_assoc o (calls_of_all w s (trees_of es)) (call_of w.declared p (callee w.declared c.in-Call.name) (arguments_of w s (trees_of es)))
+    ∙ sym (ap (λ e. o ++ calls_of w s (expression e)) c.in-Call.is ∙ ap (λ t. o ++ calls_of w s t) (call_is _ _ _)) in
     subst (λ z. IfOk c.call.result (λ t. calls_seen c.call.new.calls.items ≡ z)) same c.call.ensures.calls

@@ -11,5 +11,5 @@ abbrev pub invariant-loop-argument : goal.invariant-loop-argument
 invariant-loop-argument l = record {
   types : option_map vec_items l.types ≡ arguments_of (setting l.here) l.variables (trees_of (map expression (take l.argument-index l.argument-items)));
   worst : l.found.worst ≡ least l.initial.found.worst (argument_list_faults (setting l.here) l.variables (trees_of (map expression (take l.argument-index l.argument-items))));
-  calls : calls_seen l.found.calls.items ≡ calls_seen l.initial.found.calls.items ++ calls_of_all (setting l.here) l.variables (trees_of (map expression (take l.argument-index l.argument-items)))
+  calls : calls_seen l.found.calls.items ≡ calls_seen l.initial.found.calls.items ++ calls_of_all (setting l.here) l.variables (trees_of (map expression (take l.argument-index l.argument-items)));
 }

@@ -20,13 +20,13 @@ loop-each-preserved c =
     let rest = map tree_at (drop (i + 1) xs) in
     record {
       worst =
-        c.loop-each.invariant.worst
-        ∙ ap (λ l. least w (plain_faults d (map tree_at l))) next
-        ∙ least-append w (faults_if_plain d (tree_at x)) (plain_faults d rest)
-        ∙ ap (λ z. least z (plain_faults d rest)) (sym c.in_ok-plain.ensures.worst);
+          c.loop-each.invariant.worst
+          ∙ ap (λ l. least w (plain_faults d (map tree_at l))) next
+          ∙ least-append w (faults_if_plain d (tree_at x)) (plain_faults d rest)
+          ∙ ap (λ z. least z (plain_faults d rest)) (sym c.in_ok-plain.ensures.worst);
       calls =
-        c.loop-each.invariant.calls
-        ∙ ap (λ l. k ++ plain_calls d (map tree_at l)) next
-        ∙ sym (append_assoc k (calls_if_plain d (tree_at x)) (plain_calls d rest))
-        ∙ ap (λ z. z ++ plain_calls d rest) (sym c.in_ok-plain.ensures.calls)
+          c.loop-each.invariant.calls
+          ∙ ap (λ l. k ++ plain_calls d (map tree_at l)) next
+          ∙ sym (append_assoc k (calls_if_plain d (tree_at x)) (plain_calls d rest))
+          ∙ ap (λ z. z ++ plain_calls d rest) (sym c.in_ok-plain.ensures.calls);
     }

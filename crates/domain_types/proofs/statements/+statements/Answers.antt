@@ -69,10 +69,10 @@ statement-returns-in-Some-clause-worst t c =
     let tree = ap statement c.in-If.is ∙ ap (λ x. statement (If c.in-If.field-0 c.in-If.e c.in-If.body x)) c.in-Some.is ∙ choice_statement_is _ _ _ _ in
     let before : o2 ≡ least o (test ++ first) = then_least o c.test.new.found.worst o2 test first c.in_ok-test-in-If.ensures.worst (c.in_ok-inside-in-If.ensures.worst ∙ ap (λ z. least c.test.new.found.worst (statement_faults w r (inner s) (statement z))) d) in
     let same =
-        ap (λ z. least o2 (statement_faults w r (inner s) (statement z))) e
-        ∙ ap (λ z. least z second) before
-        ∙ sym (least-append o (test ++ first) second)
-        ∙ sym (ap (λ t. least o (statement_faults w r s t)) tree) in
+    ap (λ z. least o2 (statement_faults w r (inner s) (statement z))) e
+    ∙ ap (λ z. least z second) before
+    ∙ sym (least-append o (test ++ first) second)
+    ∙ sym (ap (λ t. least o (statement_faults w r s t)) tree) in
     subst (λ z. IfOk c.inside-in-Some.result (λ x. c.inside-in-Some.new.found.worst ≡ z)) same
     (subst (λ v. IfOk c.inside-in-Some.result (λ x. c.inside-in-Some.new.found.worst ≡ least o2 (statement_faults w r (inner v) (statement c.deref-in-Some.result.now)))) c.in_ok-inside-in-If.ensures.variables c.inside-in-Some.ensures.worst)
 
@@ -90,10 +90,10 @@ statement-returns-in-Some-clause-calls t c =
     let tree = ap statement c.in-If.is ∙ ap (λ x. statement (If c.in-If.field-0 c.in-If.e c.in-If.body x)) c.in-Some.is ∙ choice_statement_is _ _ _ _ in
     let before : o2 ≡ o ++ (test ++ first) = then_calls o (calls_seen c.test.new.found.calls.items) o2 test first c.in_ok-test-in-If.ensures.calls (c.in_ok-inside-in-If.ensures.calls ∙ ap (λ z. calls_seen c.test.new.found.calls.items ++ statement_calls w (inner s) (statement z)) d) in
     let same =
-        ap (λ z. o2 ++ statement_calls w (inner s) (statement z)) e
-        ∙ ap (λ z. z ++ second) before
-        ∙ append_assoc o (test ++ first) second
-        ∙ sym (ap (λ t. o ++ statement_calls w s t) tree) in
+    ap (λ z. o2 ++ statement_calls w (inner s) (statement z)) e
+    ∙ ap (λ z. z ++ second) before
+    ∙ append_assoc o (test ++ first) second
+    ∙ sym (ap (λ t. o ++ statement_calls w s t) tree) in
     subst (λ z. IfOk c.inside-in-Some.result (λ x. calls_seen c.inside-in-Some.new.found.calls.items ≡ z)) same
     (subst (λ v. IfOk c.inside-in-Some.result (λ x. calls_seen c.inside-in-Some.new.found.calls.items ≡ o2 ++ statement_calls w (inner v) (statement c.deref-in-Some.result.now))) c.in_ok-inside-in-If.ensures.variables c.inside-in-Some.ensures.calls)
 
@@ -108,10 +108,10 @@ statement-returns-in_ok-test-in-While-clause-worst t c =
     let body = statement_faults w r (inner s) (statement c.in-While.body.value) in
     let test = test_faults w s PrivateCondition (expression c.in-While.e) in
     let same =
-        ap (λ z. least o1 (statement_faults w r (inner s) (statement z))) d
-        ∙ ap (λ z. least z body) c.in_ok-test-in-While.ensures.worst
-        ∙ sym (least-append o test body)
-        ∙ sym (ap (λ t. least o (statement_faults w r s t)) (ap statement c.in-While.is ∙ while_statement_is _ _ _)) in
+    ap (λ z. least o1 (statement_faults w r (inner s) (statement z))) d
+    ∙ ap (λ z. least z body) c.in_ok-test-in-While.ensures.worst
+    ∙ sym (least-append o test body)
+    ∙ sym (ap (λ t. least o (statement_faults w r s t)) (ap statement c.in-While.is ∙ while_statement_is _ _ _)) in
     subst (λ z. IfOk c.inside-in-While.result (λ x. c.inside-in-While.new.found.worst ≡ z)) same c.inside-in-While.ensures.worst
 
 pub statement-returns-in_ok-test-in-While-clause-calls : goal.statement-returns-in_ok-test-in-While-clause-calls
@@ -124,10 +124,10 @@ statement-returns-in_ok-test-in-While-clause-calls t c =
     let body = statement_calls w (inner s) (statement c.in-While.body.value) in
     let test = calls_of w s (expression c.in-While.e) in
     let same =
-        ap (λ z. o1 ++ statement_calls w (inner s) (statement z)) d
-        ∙ ap (λ z. z ++ body) c.in_ok-test-in-While.ensures.calls
-        ∙ append_assoc o test body
-        ∙ sym (ap (λ t. o ++ statement_calls w s t) (ap statement c.in-While.is ∙ while_statement_is _ _ _)) in
+    ap (λ z. o1 ++ statement_calls w (inner s) (statement z)) d
+    ∙ ap (λ z. z ++ body) c.in_ok-test-in-While.ensures.calls
+    ∙ append_assoc o test body
+    ∙ sym (ap (λ t. o ++ statement_calls w s t) (ap statement c.in-While.is ∙ while_statement_is _ _ _)) in
     subst (λ z. IfOk c.inside-in-While.result (λ x. calls_seen c.inside-in-While.new.found.calls.items ≡ z)) same c.inside-in-While.ensures.calls
 
 pub statement-returns-in_ok-inside-in-DoWhile-clause-worst : goal.statement-returns-in_ok-inside-in-DoWhile-clause-worst
@@ -142,10 +142,10 @@ statement-returns-in_ok-inside-in-DoWhile-clause-worst t c =
     let test = test_faults w s PrivateCondition (expression c.in-DoWhile.e) in
     let before : o1 ≡ least o body = c.in_ok-inside-in-DoWhile.ensures.worst ∙ ap (λ z. least o (statement_faults w r (inner s) (statement z))) d in
     let same =
-        ap (λ v. least o1 (test_faults w v PrivateCondition (expression c.in-DoWhile.e))) c.in_ok-inside-in-DoWhile.ensures.variables
-        ∙ ap (λ z. least z test) before
-        ∙ sym (least-append o body test)
-        ∙ sym (ap (λ t. least o (statement_faults w r s t)) (ap statement c.in-DoWhile.is ∙ do_statement_is _ _ _)) in
+    ap (λ v. least o1 (test_faults w v PrivateCondition (expression c.in-DoWhile.e))) c.in_ok-inside-in-DoWhile.ensures.variables
+    ∙ ap (λ z. least z test) before
+    ∙ sym (least-append o body test)
+    ∙ sym (ap (λ t. least o (statement_faults w r s t)) (ap statement c.in-DoWhile.is ∙ do_statement_is _ _ _)) in
     subst (λ z. IfOk c.test-in-DoWhile.result (λ x. c.test-in-DoWhile.new.found.worst ≡ z)) same c.test-in-DoWhile.ensures.worst
 
 pub statement-returns-in_ok-inside-in-DoWhile-clause-calls : goal.statement-returns-in_ok-inside-in-DoWhile-clause-calls
@@ -159,10 +159,10 @@ statement-returns-in_ok-inside-in-DoWhile-clause-calls t c =
     let test = calls_of w s (expression c.in-DoWhile.e) in
     let before : o1 ≡ o ++ body = c.in_ok-inside-in-DoWhile.ensures.calls ∙ ap (λ z. o ++ statement_calls w (inner s) (statement z)) d in
     let same =
-        ap (λ v. o1 ++ calls_of w v (expression c.in-DoWhile.e)) c.in_ok-inside-in-DoWhile.ensures.variables
-        ∙ ap (λ z. z ++ test) before
-        ∙ append_assoc o body test
-        ∙ sym (ap (λ t. o ++ statement_calls w s t) (ap statement c.in-DoWhile.is ∙ do_statement_is _ _ _)) in
+    ap (λ v. o1 ++ calls_of w v (expression c.in-DoWhile.e)) c.in_ok-inside-in-DoWhile.ensures.variables
+    ∙ ap (λ z. z ++ test) before
+    ∙ append_assoc o body test
+    ∙ sym (ap (λ t. o ++ statement_calls w s t) (ap statement c.in-DoWhile.is ∙ do_statement_is _ _ _)) in
     subst (λ z. IfOk c.test-in-DoWhile.result (λ x. calls_seen c.test-in-DoWhile.new.found.calls.items ≡ z)) same c.test-in-DoWhile.ensures.calls
 
 pub statement-returns-in_ok-inside-in-For-clause-worst : goal.statement-returns-in_ok-inside-in-For-clause-worst
@@ -221,18 +221,18 @@ statements-loop-each-preserved t c =
     let more : map statement (take (i + 1) xs) ≡ ts ++ statement x ∷ [] = ap (map statement) (take_more xs i x c.loop-each-test.true) ∙ map-append statement (take i xs) (get_or xs i x ∷ []) ∙ ap (λ z. ts ++ statement z ∷ []) (sym c.each-item.is) in
     record {
       worst =
-        then_least c.args.found.now.worst c.loop-each.found.worst c.statement.new.found.worst (block_faults w r s (statements_of ts)) (statement_faults w r (after_all w s (statements_of ts)) (statement x)) so_far.worst
-        (c.in_ok-statement.ensures.worst ∙ ap (λ z. least c.loop-each.found.worst (statement_faults w r z (statement x))) so_far.variables)
-        ∙ ap (least c.args.found.now.worst) (sym (block_faults-more w r s ts (statement x)) ∙ ap (λ l. block_faults w r s (statements_of l)) (sym more));
+          then_least c.args.found.now.worst c.loop-each.found.worst c.statement.new.found.worst (block_faults w r s (statements_of ts)) (statement_faults w r (after_all w s (statements_of ts)) (statement x)) so_far.worst
+          (c.in_ok-statement.ensures.worst ∙ ap (λ z. least c.loop-each.found.worst (statement_faults w r z (statement x))) so_far.variables)
+          ∙ ap (least c.args.found.now.worst) (sym (block_faults-more w r s ts (statement x)) ∙ ap (λ l. block_faults w r s (statements_of l)) (sym more));
       calls =
-        then_calls (calls_seen c.args.found.now.calls.items) (calls_seen c.loop-each.found.calls.items) (calls_seen c.statement.new.found.calls.items) (block_calls w s (statements_of ts)) (statement_calls w (after_all w s (statements_of ts)) (statement x)) so_far.calls
-        (c.in_ok-statement.ensures.calls ∙ ap (λ z. calls_seen c.loop-each.found.calls.items ++ statement_calls w z (statement x)) so_far.variables)
-        ∙ ap (λ z. calls_seen c.args.found.now.calls.items ++ z) (sym (block_calls-more w s ts (statement x)) ∙ ap (λ l. block_calls w s (statements_of l)) (sym more));
+          then_calls (calls_seen c.args.found.now.calls.items) (calls_seen c.loop-each.found.calls.items) (calls_seen c.statement.new.found.calls.items) (block_calls w s (statements_of ts)) (statement_calls w (after_all w s (statements_of ts)) (statement x)) so_far.calls
+          (c.in_ok-statement.ensures.calls ∙ ap (λ z. calls_seen c.loop-each.found.calls.items ++ statement_calls w z (statement x)) so_far.variables)
+          ∙ ap (λ z. calls_seen c.args.found.now.calls.items ++ z) (sym (block_calls-more w s ts (statement x)) ∙ ap (λ l. block_calls w s (statements_of l)) (sym more));
       variables =
-        c.in_ok-statement.ensures.variables
-        ∙ ap (λ z. after w z (statement x)) so_far.variables
-        ∙ sym (after_all-more w s ts (statement x))
-        ∙ ap (λ l. after_all w s (statements_of l)) (sym more)
+          c.in_ok-statement.ensures.variables
+          ∙ ap (λ z. after w z (statement x)) so_far.variables
+          ∙ sym (after_all-more w s ts (statement x))
+          ∙ ap (λ l. after_all w s (statements_of l)) (sym more);
     }
 
 pub statements-returns-clause-worst : goal.statements-returns-clause-worst

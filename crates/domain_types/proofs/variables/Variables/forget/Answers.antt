@@ -24,7 +24,7 @@ invariant_of-self c =
     record {
       latest = one_less c.self.inside.latest c.put_back.new.latest e es hides.0 (λ q. c.self.invariant.latest q ∙ ap (latest_in q) items) c.put_back.ensures;
       hidden = hides.1;
-      within = omega (arith, longer, some)
+      within = omega (arith, longer, some);
     }
 
 pub returns-in-Some-clause-outer : goal.returns-in-Some-clause-outer
