@@ -1,0 +1,33 @@
+//! The types of a program: whether a program keeps the type rules of the language, and the first of its faults.
+#![tactic(auto)]
+
+mod built_ins;
+mod call_rule;
+mod calls;
+mod check;
+mod collecting;
+mod declarations;
+mod declaring;
+mod defined_calls;
+mod expressions;
+mod fault;
+mod functions;
+mod items;
+mod name_index;
+mod operations;
+mod rules;
+mod setting;
+mod simple_statements;
+mod statements;
+#[cfg(test)]
+mod tests;
+mod type_error;
+mod value_type;
+mod values;
+mod variables;
+mod worst;
+
+pub use check::check_plain;
+pub use fault::{Fault, Problem};
+pub use type_error::TypeError;
+pub use value_type::{BuiltIn, ExpressionType, Protection, ValueType};
