@@ -1,4 +1,5 @@
-//! The types of a program: whether a program keeps the type rules of the language, and the first of its faults.
+//! The types of a program: whether its declarations and plain functions keep the type rules of the language, and the least of
+//! their faults. Templates are not gone through yet; `specs/` defines what their instances owe, and the checker keeps the calls.
 #![tactic(auto)]
 
 mod built_ins;

@@ -1,7 +1,7 @@
 // Programs of one function, with the answers that the rules give.
 use crate::{Fault, Problem, TypeError, check_plain};
 use sc_text::{Name, Span};
-use secrec_ast::{Block, Expression, Function, Identifier, Item, Program, ResultType, Statement};
+use secrec_ast::{Block, Function, Identifier, Item, Program, ResultType, Statement};
 use std::alloc::{AllocError, Global};
 use std::test::Fail;
 
@@ -53,27 +53,6 @@ fn other_name_is_no_main(rt: HostRuntime) -> Result<(), Fail> {
     let fault = Fault {
         place: at(2, 1),
         problem: Problem::NoMain,
-    };
-    assert!(rt; check_plain(alloc, &program) == Err(TypeError::Refused(fault)));
-    Ok(())
-}
-
-// `void main() { g(y); }`: both names are unknown, and the first is told
-#[test]
-fn unknown_names(rt: HostRuntime) -> Result<(), Fail> {
-    let alloc = rt.alloc();
-    let mut arguments = Vec::new(alloc);
-    arguments.push(Expression::Variable(at(1, 17), name(alloc, "y")?))?;
-    let mut statements = Vec::new(alloc);
-    statements.push(Statement::Expression(Expression::Call(
-        at(1, 15),
-        name(alloc, "g")?,
-        arguments,
-    )))?;
-    let program = main_with(alloc, name(alloc, "main")?, statements)?;
-    let fault = Fault {
-        place: at(1, 15),
-        problem: Problem::UnknownName,
     };
     assert!(rt; check_plain(alloc, &program) == Err(TypeError::Refused(fault)));
     Ok(())
