@@ -242,6 +242,22 @@ fn parentheses_as_deep_as_the_height_allows(rt: HostRuntime) -> Result<(), Fail>
     Ok(())
 }
 
+// Each `else if` is one level deeper.
+#[test]
+fn chains_as_long_as_the_height_allows(rt: HostRuntime) -> Result<(), Fail> {
+    let alloc = rt.alloc();
+    for (count, wanted) in [(124, "ok"), (125, "too high 1 1751")] {
+        let mut text = String::from_str(alloc, "void main() { ")?;
+        for _ in 0..count {
+            text.push_str("if (a) ; else ")?;
+        }
+        text.push_str("; }")?;
+        let found = outcome(alloc, text.as_str())?;
+        assert_eq!(rt; found.as_str(), wanted, "at {count}");
+    }
+    Ok(())
+}
+
 // The statements of the only function.
 fn statements(alloc: Global, text: &str) -> Result<Vec<Statement>, Fail> {
     let Ok(mut program) = parsed(alloc, text)? else {

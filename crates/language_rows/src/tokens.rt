@@ -157,6 +157,18 @@ fn refusals(rt: HostRuntime) -> Result<(), Fail> {
         (b"0x10000000000000000", LexFault::BadNumber, 1, 1),
         (b"a \"ab", LexFault::OpenText, 1, 3),
         (b"a \"ab\n$", LexFault::OpenText, 1, 3),
+        (
+            b"\"0123456789012345678901234567890123456789012345678901234567890123456789$\n",
+            LexFault::BadByte,
+            1,
+            72,
+        ),
+        (
+            b"\"0123456789012345678901234567890123456789012345678901234567890123456789\n$",
+            LexFault::OpenText,
+            1,
+            1,
+        ),
         (b"\n/* /* */ /*/", LexFault::OpenComment, 2, 10),
         (b"/*/", LexFault::OpenComment, 1, 1),
         (b"(\"\")", LexFault::BadName, 1, 2),
