@@ -1,0 +1,16 @@
+pub mod Types
+pub mod Declarations
+pub mod Index
+pub mod Named
+pub mod Views
+pub mod Scopes
+pub mod Table
+pub mod ExpressionTypes
+pub mod StatementTypes
+pub mod FunctionTypes
+pub mod Least
+pub mod Reached
+pub mod ProgramTypes
+pub mod Answer
+pub mod Typing
+pub mod Vectors
