@@ -10,6 +10,7 @@ pub mod TypingPrograms
 pub mod Faults
 pub mod Names
 pub mod Naming
+pub mod HeadNames
 pub mod Bindings
 pub mod Calling
 pub mod Tables

@@ -9,7 +9,7 @@ use Rattle.domain_types.specs.declared.fault.Fault.{Fault}
 use Rattle.domain_types.specs.declared.value_type.Protection.{Protection}
 use Rattle.domain_types.specs.Declarations.{Declared, declared_by, functions_of, bind}
 use Rattle.domain_types.specs.ExpressionTypes.{within}
-use Rattle.domain_types.specs.FunctionTypes.{function_faults, domain_variables_faults}
+use Rattle.domain_types.specs.FunctionTypes.{function_faults, protections_of, domain_variables_faults}
 use Rattle.domain_types.specs.Least.{Among, IsLeast}
 use Rattle.domain_types.specs.Reached.{plain}
 use Rattle.domain_types.specs.ProgramTypes.{is_without, declaring_faults, faults_if_plain, plain_faults, IsFault, declaring, inside, of_head, IsRefused}
@@ -65,7 +65,7 @@ outside_templates p n g (inside i f h c at m) =
     among_right h (declaring_faults p) (plain_faults (declared_by p) (functions_of p.items))
     (plain_there (declared_by p) (functions_of p.items) i.function f h at v (bound_to_nothing (declared_by p) f i.binding h v m))
 outside_templates p n g (of_head i call f h c made at m) =
-    absurd (subst (λ vs. Among h (domain_variables_faults (declared_by p) p.items f.parameters [] vs)) (n call.function f at) m)
+    absurd (subst (λ vs. Among h (domain_variables_faults (declared_by p) (protections_of p.items) f.parameters [] vs)) (n call.function f at) m)
 
 pub just_the_faults : (p : ProgramTree) → HasNoTemplate p → HasJustTheFaults p (faults_outside_templates p)
 just_the_faults p n g = (outside_templates p n g, λ m. go (among_parts g (declaring_faults p) (plain_faults (declared_by p) (functions_of p.items)) m))

@@ -2,6 +2,7 @@ pub mod Types
 pub mod Declarations
 pub mod Index
 pub mod Named
+pub mod Lent
 pub mod Views
 pub mod Scopes
 pub mod Table

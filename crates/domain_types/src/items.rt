@@ -22,7 +22,8 @@ fn is_module(name: &str) -> bool
     name == "stdlib" || name == "shared3p"
 }
 
-fn is_known_kind(declarations: &Declarations<'_>, name: &str) -> bool
+/// Whether a kind of this name is imported or declared.
+pub fn is_known_kind(declarations: &Declarations<'_>, name: &str) -> bool
     ensures { result ≡ is_known_kind (declared declarations.now) name.now }
 {
     name == "shared3p" && (declarations.shared3p || declarations.kind_declared)
