@@ -20,3 +20,4 @@ pub mod Blocks
 pub mod Returning
 pub mod Growing
 pub mod Laws
+pub mod Listing

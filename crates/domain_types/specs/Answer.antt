@@ -11,6 +11,7 @@ use Rattle.domain_types.specs.Least.{Among, IsLeast}
 use Rattle.domain_types.specs.declared.instance.Instance.{Instance}
 use Rattle.domain_types.specs.Reached as reached
 use Rattle.domain_types.specs.Reached.{IsChecked}
+use Rattle.domain_types.specs.Instances.{instance_seen}
 use Rattle.domain_types.specs.ProgramTypes.{IsRefused}
 use Rattle.domain_types.specs.Typing.{IsTypedProgram}
 
@@ -25,9 +26,6 @@ IsAnswer (Err (Refused f)) p = IsLeast f (faults_outside_templates p)
 IsAnswer (Err Memory) p = Unit {0}
 
 -- THE WHOLE PROGRAM
-
-abbrev pub instance_seen : Instance → reached.Instance
-instance_seen i = record { function = i.function; binding = vec_items i.binding }
 
 -- the instances that are checked, and no others
 abbrev pub AreTheChecked : ProgramTree → List reached.Instance → Type 0

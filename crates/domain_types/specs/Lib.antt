@@ -11,7 +11,9 @@ pub mod StatementTypes
 pub mod FunctionTypes
 pub mod Least
 pub mod Reached
+pub mod Instances
 pub mod ProgramTypes
+pub mod WorkList
 pub mod Answer
 pub mod Typing
 pub mod Vectors

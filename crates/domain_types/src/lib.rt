@@ -29,6 +29,8 @@ mod type_error;
 mod value_type;
 mod values;
 mod variables;
+mod visiting;
+mod work_list;
 mod worst;
 
 pub use checking::{check, check_plain};
