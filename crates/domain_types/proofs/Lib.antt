@@ -21,3 +21,5 @@ pub mod Returning
 pub mod Growing
 pub mod Laws
 pub mod Listing
+pub mod WorkList
+pub mod Verdicts

@@ -33,7 +33,7 @@ mod visiting;
 mod work_list;
 mod worst;
 
-pub use checking::{check, check_plain};
+pub use checking::check;
 pub use fault::{Fault, Problem};
 pub use instance::Instance;
 pub use type_error::TypeError;

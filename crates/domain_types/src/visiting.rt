@@ -1,7 +1,10 @@
 // The visit of each instance that is checked.
-ghost use Rattle.std.specs.Prelude.{◌≡◌, ◌||◌, ℕ, [], IfOk, map};
+ghost use Rattle.std.specs.Prelude.{◌≡◌, ◌||◌, ℕ, [], IfOk, map, if◌then◌else◌};
 ghost use Rattle.std.specs.BTreeSet.{contains};
 ghost use Rattle.std.specs.Ordering.{nat_cmp};
+ghost use Rattle.secrec_ast.specs.Programs.{function_tree};
+ghost use Rattle.domain_types.specs.FunctionTypes.{domain_variables_faults};
+ghost use Rattle.domain_types.specs.ProgramTypes.{is_without};
 ghost use Rattle.domain_types.specs.Views.{declared, tree_at, call_seen, calls_seen};
 ghost use Rattle.domain_types.specs.Instances.{instance_seen};
 ghost use Rattle.domain_types.specs.WorkList.{with_binding, with_calls, with_plain, plain_instances, instance_faults, instance_calls, gathered, is_called, heads_faults, AreVisited};
@@ -29,13 +32,20 @@ pub struct Visits {
     pub called: BTreeSet<usize>,
 }
 
+// Whether a function has no domain variables.
+fn is_plain(function: &Function) -> bool
+    ensures { result ≡ is_without (function_tree function.now).variables }
+{
+    function.variables.is_empty()
+}
+
 // The instances of the plain functions.
 fn plain(alloc: Global, functions: &[&Function]) -> Result<WorkList, AllocError>
     ensures { IfOk result (λ list. list ≡ with_plain [] 0 (map tree_at functions.now)) }
 {
     let mut list = WorkList::new(alloc);
     for number in 0..functions.len() {
-        if functions[number].variables.is_empty() {
+        if is_plain(functions[number]) {
             list = list.with(alloc, number, &[])?;
         }
     }
@@ -121,6 +131,22 @@ pub fn visit_all<'p>(
     Ok(Visits { list, called })
 }
 
+// Checks the head of a function where it is wanted.
+fn head_if<'p>(
+    worst: &mut Option<Fault>,
+    declarations: &Declarations<'p>,
+    protections: &Protections<'p>,
+    wanted: bool,
+    function: &'p Function,
+)
+    ensures { worst.new ≡ least worst.old
+        (if wanted then domain_variables_faults (declared declarations.now) protections.now (function_tree function.now).parameters [] (function_tree function.now).variables else []) }
+{
+    if wanted {
+        head(worst, declarations, protections, function);
+    }
+}
+
 /// Checks the head of each function that is called.
 #[tactic(auto, using(crate::proofs::Faults::appends))]
 pub fn called_heads<'p>(
@@ -132,9 +158,9 @@ pub fn called_heads<'p>(
     ensures { worst.new ≡ least worst.old
         (heads_faults (declared declarations.now) protections.now (contains nat_cmp called.now) 0 (declared declarations.now).functions) }
 {
-    for number in 0..declarations.functions.len() {
-        if called.contains(&number) {
-            head(worst, declarations, protections, declarations.functions[number]);
-        }
+    let functions = declarations.functions.as_slice();
+    for number in 0..functions.len() {
+        let wanted = called.contains(&number);
+        head_if(worst, declarations, protections, wanted, functions[number]);
     }
 }
