@@ -1,4 +1,3 @@
-pub mod TypingPlain
 pub mod TypingRows
 pub mod TypingSteps
 pub mod TypingRules

@@ -15,9 +15,8 @@ use Rattle.domain_types.specs.ExpressionTypes.{within}
 use Rattle.domain_types.specs.FunctionTypes.{function_faults, protections_of, domain_variables_faults, head_faults}
 use Rattle.domain_types.specs.Least.{Among, least}
 use Rattle.domain_types.specs.Reached.{Call, function_calls, Instance, Calls, IsChecked, plain, reached}
-use Rattle.domain_types.specs.ProgramTypes.{is_without, items_faults, has_main, declaring_faults, IsFault, declaring, inside, of_head, IsRefused}
-use Rattle.domain_types.specs.Typing.{IsTypedProgram}
-use Rattle.domain_types.specs.Answer.{AreTheChecked}
+use Rattle.domain_types.specs.ProgramTypes.{is_without, items_faults, has_main, declaring_faults, IsFault, declaring, inside, of_head}
+use Rattle.domain_types.specs.Answer.{AreTheChecked, IsTold}
 use Rattle.domain_types.specs.WorkList.{added, with_plain, plain_instances, of_function, instance_faults, instance_calls, gathered, is_called, heads_faults, IsReached, begins, follows, AreVisited}
 use Rattle.domain_types.proofs.TypingSteps.{among_left, among_right, among_parts}
 use Rattle.domain_types.proofs.TypingPrograms.{HasJustTheFaults, least_is_told, none_is_accepted, accepted_is_typed}
@@ -268,12 +267,12 @@ just_noted p is test w g = (all_noted p is test w g, noted_is_fault p is test w 
 
 -- WHAT IS TOLD
 
-pub refused : (p : ProgramTree) (is : List Instance) (test : ℕ → Bool) (f : Fault) → IsWorked (declared_by p) is test → least None (noted p (declared_by p) (protections_of p.items) is test) ≡ Some f → IsRefused p f
-refused p is test f w e = least_is_told p (noted p (declared_by p) (protections_of p.items) is test) f (just_noted p is test w) e
-
-pub accepted : (p : ProgramTree) (is : List Instance) (test : ℕ → Bool) → IsWorked (declared_by p) is test → least None (noted p (declared_by p) (protections_of p.items) is test) ≡ None → IsTypedProgram p
-accepted p is test w e =
-    accepted_is_typed p (none_is_accepted p (noted p (declared_by p) (protections_of p.items) is test) (just_noted p is test w) e)
+pub told : (p : ProgramTree) (is : List Instance) (test : ℕ → Bool) → IsWorked (declared_by p) is test → IsTold (least None (noted p (declared_by p) (protections_of p.items) is test)) p
+told p is test w = go (least None (noted p (declared_by p) (protections_of p.items) is test)) refl
+  where
+    go : (o : Option Fault) → least None (noted p (declared_by p) (protections_of p.items) is test) ≡ o → IsTold o p
+    go None e = accepted_is_typed p (none_is_accepted p (noted p (declared_by p) (protections_of p.items) is test) (just_noted p is test w) e)
+    go (Some f) e = least_is_told p (noted p (declared_by p) (protections_of p.items) is test) f (just_noted p is test w) e
 
 -- the fault that is kept behind all: d and ps are what the program declares
 pub last_kept : (p : ProgramTree) (d : Declared) (ps : List Identifier) (is : List Instance) (test : ℕ → Bool) (missing : Bool) (w1 w2 w3 w4 : Option Fault) → d ≡ declared_by p → ps ≡ protections_of p.items → missing ≡ not (has_main d.functions) → w1 ≡ least None (items_faults d [] [] p.items) → w2 ≡ least w1 (fault_if missing p.end NoMain) → w3 ≡ least w2 (gathered (instance_faults d) is) → w4 ≡ least w3 (heads_faults d ps test 0 d.functions) → w4 ≡ least None (noted p (declared_by p) (protections_of p.items) is test)
