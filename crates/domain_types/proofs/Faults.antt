@@ -1,0 +1,22 @@
+-- The least fault of several lists, and lists without a fault.
+use Rattle.std.proofs.Common.{◌≡◌, ℕ, List, [], ◌∷◌, ◌++◌, refl, sym, ap, ◌∙◌, Option, Some, None, Bool, true, false, cond}
+use Rattle.std.specs.Prelude.{not, ◌&&◌}
+use Rattle.sc_text.specs.declared.span.Span.{Span}
+use Rattle.domain_types.specs.declared.fault.Problem.{Problem}
+use Rattle.domain_types.specs.declared.fault.Fault.{Fault}
+use Rattle.domain_types.specs.Types.{fault_at, fault_if, is_faultless}
+use Rattle.domain_types.specs.Least.{is_before, lesser, least}
+
+pub least-append : (o : Option Fault) (fs gs : List Fault) → least o (fs ++ gs) ≡ least (least o fs) gs
+least-append o [] gs = refl
+least-append o (f ∷ fs) gs = least-append (lesser o f) fs gs
+
+pub faultless-append : (fs gs : List Fault) → is_faultless (fs ++ gs) ≡ is_faultless fs && is_faultless gs
+faultless-append [] gs = refl
+faultless-append (f ∷ fs) gs = refl
+
+pub faultless-if : (b : Bool) (p : Span) (problem : Problem) → is_faultless (fault_if b p problem) ≡ not b
+faultless-if true p problem = refl
+faultless-if false p problem = refl
+
+pub ruleset appends = (least-append, faultless-append, faultless-if)

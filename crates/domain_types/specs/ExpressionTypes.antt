@@ -1,0 +1,342 @@
+-- The type of an expression, and all its faults. Each node's rule is a small definition of its own.
+use Rattle.std.specs.Prelude.{ℕ, Bool, true, false, not, ◌&&◌, ◌||◌, nat_eq, if◌then◌else◌, List, [], ◌∷◌, ◌++◌, length, Option, Some, None, bytes_eq, is_some, option_map, option_and_then}
+use Rattle.sc_text.specs.declared.span.Span.{Span}
+use Rattle.secrec_ast.specs.declared.expression.DataType.{DataType}
+use Rattle.secrec_ast.specs.declared.expression.DataType.TheVariants as datatype
+use Rattle.secrec_ast.specs.declared.expression.Operator.{Operator}
+use Rattle.secrec_ast.specs.declared.expression.Operator.TheVariants.{Add, Subtract, Multiply, Divide, Remainder, Equal, NotEqual, Less, LessOrEqual, Greater, GreaterOrEqual, And, Or, Xor, AndAlso, OrElse}
+use Rattle.secrec_ast.specs.declared.statement.Domain.{Domain}
+use Rattle.secrec_ast.specs.declared.statement.Domain.TheVariants as domain
+use Rattle.secrec_ast.specs.declared.statement.Identifier.{Identifier}
+use Rattle.secrec_ast.specs.declared.function.DomainVariable.{DomainVariable}
+use Rattle.secrec_ast.specs.declared.function.Parameter.{Parameter}
+use Rattle.secrec_ast.specs.declared.function.ResultType.{ResultType}
+use Rattle.secrec_ast.specs.declared.function.ResultType.TheVariants as returned
+use Rattle.secrec_ast.specs.Tree.{Tree, Trees, number, truth, variable, call, index, parentheses, negation, cast, binary, declassify, argument, publish, none, also}
+use Rattle.secrec_ast.specs.Heights.{place_of}
+use Rattle.secrec_ast.specs.Programs.{FunctionTree}
+use Rattle.domain_types.specs.declared.fault.Problem.TheVariants.{UnknownName, TypeMismatch, PrivateIndex, PrivateDivision, DomainMix, BadArity, ArgumentPlace}
+use Rattle.domain_types.specs.declared.fault.Fault.{Fault}
+use Rattle.domain_types.specs.declared.value_type.Protection.{Protection}
+use Rattle.domain_types.specs.declared.value_type.Protection.TheVariants.{Public, Private}
+use Rattle.domain_types.specs.declared.value_type.ValueType.{ValueType}
+use Rattle.domain_types.specs.declared.value_type.ExpressionType.{ExpressionType}
+use Rattle.domain_types.specs.declared.value_type.Argument.{Argument}
+use Rattle.domain_types.specs.declared.value_type.ExpressionType.TheVariants.{Void, Value}
+use Rattle.domain_types.specs.declared.value_type.BuiltIn.{BuiltIn}
+use Rattle.domain_types.specs.declared.value_type.BuiltIn.TheVariants.{Size, Cat, Sum, BitExtract}
+use Rattle.domain_types.specs.Types.{fault_at, fault_if, of_typed, unless_refused, value_of, void_faults, is_private, meet, mix_faults, is_uint64, same_element, store_faults, scalar_faults, scalar_of, public_scalar}
+use Rattle.domain_types.specs.Declarations.{Declared, Bound, bind, Setting, type_written, Callee, built_in, defined, callee}
+use Rattle.domain_types.specs.Scopes.{Variable, Scope, variable_named}
+
+-- VARIABLES
+
+abbrev pub variable_type : Option Variable → Option ValueType
+variable_type None = None
+variable_type (Some v) = v.held
+
+abbrev pub variable_faults : Span → Option Variable → List Fault
+variable_faults p None = fault_at p UnknownName
+variable_faults p (Some v) = []
+
+-- OPERATORS
+
+-- what an operator makes of uint64 operands, of which one is private or none: division too has a type here, and its own fault
+abbrev pub uint64_result : Operator → (private_one : Bool) → Option DataType
+uint64_result Add s = Some datatype.Uint64
+uint64_result Subtract s = Some datatype.Uint64
+uint64_result Multiply s = Some datatype.Uint64
+uint64_result Divide s = Some datatype.Uint64
+uint64_result Remainder s = Some datatype.Uint64
+uint64_result Equal s = Some datatype.Bool
+uint64_result NotEqual s = Some datatype.Bool
+uint64_result Less s = Some datatype.Bool
+uint64_result LessOrEqual s = Some datatype.Bool
+uint64_result Greater s = Some datatype.Bool
+uint64_result GreaterOrEqual s = Some datatype.Bool
+uint64_result And s = if s then None else Some datatype.Uint64
+uint64_result Or s = if s then None else Some datatype.Uint64
+uint64_result Xor s = if s then None else Some datatype.Uint64
+uint64_result AndAlso s = None
+uint64_result OrElse s = None
+
+-- and of bool operands
+abbrev pub bool_result : Operator → Option DataType
+bool_result Add = None
+bool_result Subtract = None
+bool_result Multiply = None
+bool_result Divide = None
+bool_result Remainder = None
+bool_result Equal = Some datatype.Bool
+bool_result NotEqual = Some datatype.Bool
+bool_result Less = None
+bool_result LessOrEqual = None
+bool_result Greater = None
+bool_result GreaterOrEqual = None
+bool_result And = Some datatype.Bool
+bool_result Or = Some datatype.Bool
+bool_result Xor = Some datatype.Bool
+bool_result AndAlso = Some datatype.Bool
+bool_result OrElse = Some datatype.Bool
+
+-- both operands are of one data type
+abbrev pub element_result : Operator → (private_one : Bool) → DataType → DataType → Option DataType
+element_result op s datatype.Uint64 datatype.Uint64 = uint64_result op s
+element_result op s datatype.Uint64 datatype.Bool = None
+element_result op s datatype.Bool datatype.Uint64 = None
+element_result op s datatype.Bool datatype.Bool = bool_result op
+
+abbrev pub is_division : Operator → Bool
+is_division Divide = true
+is_division Remainder = true
+is_division _ = false
+
+abbrev pub one_private : ValueType → ValueType → Bool
+one_private a b = is_private a.domain || is_private b.domain
+
+abbrev pub element_of : Operator → ValueType → ValueType → Option DataType
+element_of op a b = element_result op (one_private a b) a.element b.element
+
+-- the operator's own faults
+unfoldable pub operator_faults : Span → Operator → ValueType → ValueType → List Fault
+operator_faults p op a b =
+    fault_if (not (is_some (element_of op a b))) p TypeMismatch
+    ++ fault_if (is_division op && one_private a b) p PrivateDivision
+    ++ mix_faults p a.domain b.domain
+
+-- a private operand makes the result private, an array makes it an array
+abbrev pub result_of : ValueType → ValueType → DataType → Protection → ValueType
+result_of a b element domain = record { domain = domain; element = element; array = a.array || b.array }
+
+unfoldable pub operator_type : Span → Operator → ValueType → ValueType → Option ValueType
+operator_type p op a b =
+    unless_refused (operator_faults p op a b)
+    (option_and_then (λ element. option_map (result_of a b element) (meet a.domain b.domain)) (element_of op a b))
+
+-- NOT, CASTS, DECLASSIFY, INDICES
+
+unfoldable pub negation_faults : Span → ValueType → List Fault
+negation_faults p t = fault_if (is_uint64 t.element) p TypeMismatch
+
+unfoldable pub negation_type : Span → ValueType → Option ValueType
+negation_type p t = unless_refused (negation_faults p t) (Some t)
+
+abbrev pub cast_type : DataType → ValueType → ValueType
+cast_type element t = record { domain = t.domain; element = element; array = t.array }
+
+abbrev pub declassified : ValueType → ValueType
+declassified t = record { domain = Public; element = t.element; array = t.array }
+
+-- an array's element; the index begins at q
+unfoldable pub index_faults : Span → Span → ValueType → ValueType → List Fault
+index_faults p q array position =
+    fault_if (not array.array) p TypeMismatch ++ scalar_faults datatype.Uint64 PrivateIndex q position
+
+unfoldable pub index_type : Span → Span → ValueType → ValueType → Option ValueType
+index_type p q array position = unless_refused (index_faults p q array position) (Some (scalar_of array))
+
+-- CALLS
+
+-- the arguments, where each has a type
+abbrev pub with_argument : Span → Option ValueType → Option (List Argument) → Option (List Argument)
+with_argument p None gs = None
+with_argument p (Some t) None = None
+with_argument p (Some t) (Some gs) = Some (record { place = p; given = t } ∷ gs)
+
+-- some arguments and one behind them, where each has a type
+abbrev pub and_argument : Option (List Argument) → Span → Option ValueType → Option (List Argument)
+and_argument None p t = None
+and_argument (Some gs) p None = None
+and_argument (Some gs) p (Some t) = Some (gs ++ record { place = p; given = t } ∷ [])
+
+-- the rules of the built-in functions; p is the call
+unfoldable pub size_faults : Span → List Argument → List Fault
+size_faults p (a ∷ []) = fault_if (not a.given.array) p TypeMismatch
+size_faults p _ = fault_at p BadArity
+
+unfoldable pub cat_faults : Span → List Argument → List Fault
+cat_faults p (a ∷ b ∷ []) =
+    fault_if (not (a.given.array && b.given.array && same_element a.given.element b.given.element)) p TypeMismatch
+    ++ mix_faults p a.given.domain b.given.domain
+cat_faults p _ = fault_at p BadArity
+
+unfoldable pub sum_faults : Span → List Argument → List Fault
+sum_faults p (a ∷ []) = fault_if (not (a.given.array && is_uint64 a.given.element)) p TypeMismatch
+sum_faults p _ = fault_at p BadArity
+
+unfoldable pub bit_extract_faults : Span → List Argument → List Fault
+bit_extract_faults p (a ∷ []) = fault_if (not (is_uint64 a.given.element)) p TypeMismatch
+bit_extract_faults p _ = fault_at p BadArity
+
+abbrev pub built_in_faults : Span → BuiltIn → List Argument → List Fault
+built_in_faults p Size gs = size_faults p gs
+built_in_faults p Cat gs = cat_faults p gs
+built_in_faults p Sum gs = sum_faults p gs
+built_in_faults p BitExtract gs = bit_extract_faults p gs
+
+abbrev pub array_of : DataType → Protection → ValueType
+array_of element domain = record { domain = domain; element = element; array = true }
+
+-- what they give for arguments that they take
+unfoldable pub built_in_result : BuiltIn → List Argument → Option ValueType
+built_in_result Size gs = Some (public_scalar datatype.Uint64)
+built_in_result Cat (a ∷ b ∷ []) = option_map (array_of a.given.element) (meet a.given.domain b.given.domain)
+built_in_result Cat _ = None
+built_in_result Sum (a ∷ []) = Some (scalar_of a.given)
+built_in_result Sum _ = None
+built_in_result BitExtract (a ∷ []) = Some (array_of datatype.Bool a.given.domain)
+built_in_result BitExtract _ = None
+
+-- whether a parameter's domain is written with this name
+abbrev pub is_named : List ℕ → Domain → Bool
+is_named x domain.Public = false
+is_named x (domain.Named y) = bytes_eq x y.text
+
+-- what a call binds a domain variable to: the one private domain among the arguments at its parameters, or public where all
+-- are public; nothing where two private domains stand there. d is what the arguments so far have made
+abbrev pub bound_from : Protection → List ℕ → List Parameter → List Argument → Option Protection
+bound_from d x [] gs = Some d
+bound_from d x (p ∷ ps) [] = Some d
+bound_from d x (p ∷ ps) (g ∷ gs) =
+    if is_named x p.declared.domain then option_and_then (λ e. bound_from e x ps gs) (meet d g.given.domain)
+    else bound_from d x ps gs
+
+abbrev pub bound_by : List ℕ → List Parameter → List Argument → Option Protection
+bound_by x ps gs = bound_from Public x ps gs
+
+-- the domains of all domain variables, where each is bound
+abbrev pub with_domain : Option Protection → Option (List Protection) → Option (List Protection)
+with_domain None ds = None
+with_domain (Some d) None = None
+with_domain (Some d) (Some ds) = Some (d ∷ ds)
+
+abbrev pub binding_by : List DomainVariable → List Parameter → List Argument → Option (List Protection)
+binding_by [] ps gs = Some []
+binding_by (v ∷ vs) ps gs = with_domain (bound_by v.variable.text ps gs) (binding_by vs ps gs)
+
+-- a domain variable with a kind may not be bound to public
+abbrev pub bound_faults : Span → Option Identifier → Option Protection → List Fault
+bound_faults p kind None = fault_at p DomainMix
+bound_faults p (Some k) (Some Public) = fault_at p TypeMismatch
+bound_faults p None (Some Public) = []
+bound_faults p kind (Some (Private m)) = []
+
+abbrev pub binding_faults : Span → List DomainVariable → List Parameter → List Argument → List Fault
+binding_faults p [] ps gs = []
+binding_faults p (v ∷ vs) ps gs = bound_faults p v.kind (bound_by v.variable.text ps gs) ++ binding_faults p vs ps gs
+
+-- each argument goes to its parameter; a parameter of an unknown domain takes any
+abbrev pub argument_faults : Setting → List Parameter → List Argument → List Fault
+argument_faults w [] gs = []
+argument_faults w (p ∷ ps) [] = []
+argument_faults w (p ∷ ps) (g ∷ gs) =
+    of_typed (type_written w p.declared) (λ wanted. store_faults g.place wanted g.given) ++ argument_faults w ps gs
+
+-- inside a function whose domain variables are bound to these domains
+abbrev pub within : Declared → FunctionTree → List Protection → Setting
+within d f ds = record { declared = d; bound = bind f.variables ds }
+
+-- a call of a function of the program; where the number of arguments is wrong nothing else is said
+unfoldable pub defined_faults : Declared → Span → FunctionTree → List Argument → List Fault
+defined_faults d p f gs =
+    if nat_eq (length f.parameters) (length gs) then
+    binding_faults p f.variables f.parameters gs
+    ++ of_typed (binding_by f.variables f.parameters gs) (λ ds. argument_faults (within d f ds) f.parameters gs)
+    else fault_at p BadArity
+
+-- what a function gives back; none where its domain is unknown
+abbrev pub result_type : Setting → ResultType → Option ExpressionType
+result_type w returned.Void = Some Void
+result_type w (returned.Value t) = option_map Value (type_written w t)
+
+abbrev pub callee_faults : Declared → Span → Callee → List Argument → List Fault
+callee_faults d p (built_in b) gs = built_in_faults p b gs
+callee_faults d p (defined k f) gs = defined_faults d p f gs
+
+abbrev pub callee_result : Declared → Callee → List Argument → Option ExpressionType
+callee_result d (built_in b) gs = option_map Value (built_in_result b gs)
+callee_result d (defined k f) gs =
+    option_and_then (λ ds. result_type (within d f ds) f.returned) (binding_by f.variables f.parameters gs)
+
+abbrev pub callee_type : Declared → Span → Callee → List Argument → Option ExpressionType
+callee_type d p c gs = unless_refused (callee_faults d p c gs) (callee_result d c gs)
+
+-- an unknown name is said whatever the arguments are
+unfoldable pub call_faults : Declared → Span → Option Callee → Option (List Argument) → List Fault
+call_faults d p None gs = fault_at p UnknownName
+call_faults d p (Some c) gs = of_typed gs (callee_faults d p c)
+
+unfoldable pub call_type : Declared → Span → Option Callee → Option (List Argument) → Option ExpressionType
+call_type d p None gs = None
+call_type d p (Some c) gs = option_and_then (callee_type d p c) gs
+
+-- THE TYPE OF AN EXPRESSION
+
+-- of two parts and of one, where they have types
+abbrev pub of_two : {A : Type 0} → (ValueType → ValueType → Option A) → Option ValueType → Option ValueType → Option A
+of_two rule None b = None
+of_two rule (Some a) None = None
+of_two rule (Some a) (Some b) = rule a b
+
+abbrev pub given_value : Option ValueType → Option ExpressionType
+given_value t = option_map Value t
+
+abbrev pub nothing_given : ValueType → ExpressionType
+nothing_given t = Void
+
+abbrev mutual
+  pub type_of : Setting → Scope → Tree → Option ExpressionType
+  type_of w s (number p n) = Some (Value (public_scalar datatype.Uint64))
+  type_of w s (truth p b) = Some (Value (public_scalar datatype.Bool))
+  type_of w s (variable p x) = given_value (variable_type (variable_named s x))
+  type_of w s (call p x es) = call_type w.declared p (callee w.declared x) (arguments_of w s es)
+  type_of w s (index p a i) = given_value (of_two (index_type p (place_of i)) (value_of (type_of w s a)) (value_of (type_of w s i)))
+  type_of w s (parentheses p e) = given_value (value_of (type_of w s e))
+  type_of w s (negation p e) = given_value (option_and_then (negation_type p) (value_of (type_of w s e)))
+  type_of w s (cast p t e) = given_value (option_map (cast_type t) (value_of (type_of w s e)))
+  type_of w s (binary p op a b) = given_value (of_two (operator_type p op) (value_of (type_of w s a)) (value_of (type_of w s b)))
+  type_of w s (declassify p e) = given_value (option_map declassified (value_of (type_of w s e)))
+  type_of w s (argument p x) = None
+  type_of w s (publish p x e) = option_map nothing_given (value_of (type_of w s e))
+
+  -- the arguments of a call, where each has a type
+  pub arguments_of : Setting → Scope → Trees → Option (List Argument)
+  arguments_of w s none = Some []
+  arguments_of w s (also e es) = with_argument (place_of e) (value_of (type_of w s e)) (arguments_of w s es)
+
+abbrev pub value_type : Setting → Scope → Tree → Option ValueType
+value_type w s e = value_of (type_of w s e)
+
+-- THE FAULTS OF AN EXPRESSION: those of its parts, then its own
+
+-- the faults of a part that is used as a value, where these are its own
+abbrev pub as_value : Setting → Scope → Tree → List Fault → List Fault
+as_value w s e own = own ++ void_faults (place_of e) (type_of w s e)
+
+abbrev mutual
+  pub faults : Setting → Scope → Tree → List Fault
+  faults w s (number p n) = []
+  faults w s (truth p b) = []
+  faults w s (variable p x) = variable_faults p (variable_named s x)
+  faults w s (call p x es) =
+      argument_list_faults w s es ++ call_faults w.declared p (callee w.declared x) (arguments_of w s es)
+  faults w s (index p a i) =
+      (as_value w s a (faults w s a) ++ as_value w s i (faults w s i))
+      ++ of_typed (value_type w s a) (λ t. of_typed (value_type w s i) (index_faults p (place_of i) t))
+  faults w s (parentheses p e) = as_value w s e (faults w s e)
+  faults w s (negation p e) = as_value w s e (faults w s e) ++ of_typed (value_type w s e) (negation_faults p)
+  faults w s (cast p t e) = as_value w s e (faults w s e)
+  faults w s (binary p op a b) =
+      (as_value w s a (faults w s a) ++ as_value w s b (faults w s b))
+      ++ of_typed (value_type w s a) (λ t. of_typed (value_type w s b) (operator_faults p op t))
+  faults w s (declassify p e) = as_value w s e (faults w s e)
+  faults w s (argument p x) = fault_at p ArgumentPlace
+  faults w s (publish p x e) = as_value w s e (faults w s e)
+
+  pub argument_list_faults : Setting → Scope → Trees → List Fault
+  argument_list_faults w s none = []
+  argument_list_faults w s (also e es) = as_value w s e (faults w s e) ++ argument_list_faults w s es
+
+-- an expression that is used as a value
+abbrev pub value_faults : Setting → Scope → Tree → List Fault
+value_faults w s e = as_value w s e (faults w s e)

@@ -1,0 +1,240 @@
+// The rules of declarations and assignments.
+ghost use Rattle.std.specs.Prelude.{◌≡◌, ◌++◌, IfOk, Some, None};
+ghost use Rattle.secrec_ast.specs.Tree.{expression};
+ghost use Rattle.secrec_ast.specs.Statements.{optional, declaration_tree, target_tree, assignment_tree};
+ghost use Rattle.domain_types.specs.Types.{of_typed};
+ghost use Rattle.domain_types.specs.Scopes.{twice_faults, with_variable};
+ghost use Rattle.domain_types.specs.StatementTypes.{domain_faults, is_argument, sized_faults, filled_faults, initial_faults, declared_faults, declaration_faults, variable_declared, target_type, target_faults, assignment_faults};
+ghost use Rattle.domain_types.specs.Reached.{calls_of, optional_calls, declaration_calls, assignment_calls};
+ghost use Rattle.domain_types.specs.Views.{setting, calls_seen};
+ghost use Rattle.domain_types.specs.Least.{least};
+
+use crate::calls::Found;
+use crate::expressions::{place_of, variable};
+use crate::fault::{Fault, Problem};
+use crate::operations::indexing;
+use crate::rules::{scalar, store};
+use crate::setting::{Setting, domain, written};
+use crate::value_type::ValueType;
+use crate::values::value;
+use crate::variables::Variables;
+use crate::worst::note_if;
+use sc_text::Span;
+use secrec_ast::{
+    Assignment, DataType, Declaration, DeclaredType, Domain, Expression, Identifier, Target,
+};
+use std::alloc::{AllocError, Global};
+
+/// The name of a domain is known.
+pub fn known<'p>(worst: &mut Option<Fault>, here: &Setting<'_, 'p>, written: &'p Domain)
+    ensures { worst.new ≡ least worst.old (domain_faults (setting here.now) written.now) }
+{
+    match written {
+        Domain::Public => {}
+        Domain::Named(name) => {
+            note_if(
+                worst,
+                domain(here, written).is_none(),
+                name.place,
+                Problem::UnknownName,
+            );
+        }
+    }
+}
+
+/// The name of a variable is new in the innermost block.
+pub fn is_new<'p>(worst: &mut Option<Fault>, variables: &Variables<'p>, name: &'p Identifier)
+    ensures { worst.new ≡ least worst.old (twice_faults variables.now name.now) }
+{
+    note_if(
+        worst,
+        variables.declares(name.text.as_str()),
+        name.place,
+        Problem::Twice,
+    );
+}
+
+fn is_argument(e: &Expression) -> bool
+    ensures { result ≡ is_argument (expression e.now) }
+{
+    match e {
+        Expression::Argument(_, _) => true,
+        _ => false,
+    }
+}
+
+// The size of an array of this type.
+#[tactic(auto, using(crate::proofs::Faults::appends), unfolding(crate::specs::StatementTypes::sized_faults))]
+fn sized(worst: &mut Option<Fault>, place: Span, declared: ValueType, size: ValueType)
+    ensures { worst.new ≡ least worst.old (sized_faults place declared size) }
+{
+    note_if(worst, !declared.array, place, Problem::TypeMismatch);
+    let _ = scalar(worst, DataType::Uint64, Problem::PrivateSize, place, size);
+}
+
+// The size of an array of this type, and the scalar that fills it.
+#[tactic(auto, using(crate::proofs::Faults::appends), unfolding(crate::specs::StatementTypes::filled_faults))]
+fn filled(
+    worst: &mut Option<Fault>,
+    size_place: Span,
+    place: Span,
+    declared: ValueType,
+    size: ValueType,
+    value: ValueType,
+)
+    ensures { worst.new ≡ least worst.old (filled_faults size_place place declared size value) }
+{
+    sized(worst, size_place, declared, size);
+    let wanted = ValueType {
+        domain: declared.domain,
+        element: declared.element,
+        array: false,
+    };
+    let _ = store(worst, place, wanted, value);
+}
+
+// The initialiser of a variable of the declared type, without a size: it may be an argument, which has that type.
+#[tactic(auto, using(crate::proofs::Faults::appends))]
+fn first_value<'p>(
+    alloc: Global,
+    found: &mut Found,
+    here: &Setting<'_, 'p>,
+    variables: &Variables<'p>,
+    declared: Option<ValueType>,
+    e: &'p Expression,
+) -> Result<(), AllocError>
+    ensures worst { IfOk result (λ _. found.new.worst ≡ least found.old.worst
+        (initial_faults (setting here.now) variables.now None (Some (expression e.now))
+        ++ of_typed declared (λ t. declared_faults (setting here.now) variables.now t None (Some (expression e.now))))) }
+    ensures calls { IfOk result (λ _. calls_seen found.new.calls.items ≡
+        calls_seen found.old.calls.items ++ calls_of (setting here.now) variables.now (expression e.now)) }
+{
+    if is_argument(e) {
+        return Ok(());
+    }
+    let given = value(alloc, found, here, variables, e)?;
+    if let (Some(declared), Some(given)) = (declared, given) {
+        let _ = store(&mut found.worst, place_of(e), declared, given);
+    }
+    Ok(())
+}
+
+// The size and the initialiser of a variable of the declared type.
+#[tactic(auto, using(crate::proofs::Faults::appends))]
+fn initial<'p>(
+    alloc: Global,
+    found: &mut Found,
+    here: &Setting<'_, 'p>,
+    variables: &Variables<'p>,
+    declared: Option<ValueType>,
+    declaration: &'p Declaration,
+) -> Result<(), AllocError>
+    ensures worst { IfOk result (λ _. found.new.worst ≡ least found.old.worst
+        (initial_faults (setting here.now) variables.now (declaration_tree declaration.now).size (declaration_tree declaration.now).value
+        ++ of_typed declared (λ t. declared_faults (setting here.now) variables.now t (declaration_tree declaration.now).size (declaration_tree declaration.now).value))) }
+    ensures calls { IfOk result (λ _. calls_seen found.new.calls.items ≡
+        calls_seen found.old.calls.items ++ declaration_calls (setting here.now) variables.now (declaration_tree declaration.now)) }
+{
+    match (&declaration.size, &declaration.value) {
+        (None, None) => Ok(()),
+        (None, Some(e)) => first_value(alloc, found, here, variables, declared, e),
+        (Some(size), None) => {
+            let counted = value(alloc, found, here, variables, size)?;
+            if let (Some(declared), Some(counted)) = (declared, counted) {
+                sized(&mut found.worst, place_of(size), declared, counted);
+            }
+            Ok(())
+        }
+        (Some(size), Some(e)) => {
+            let counted = value(alloc, found, here, variables, size)?;
+            let given = value(alloc, found, here, variables, e)?;
+            if let (Some(declared), Some(counted), Some(given)) = (declared, counted, given) {
+                filled(
+                    &mut found.worst,
+                    place_of(size),
+                    place_of(e),
+                    declared,
+                    counted,
+                    given,
+                );
+            }
+            Ok(())
+        }
+    }
+}
+
+/// Declares a variable, and checks its declaration.
+#[tactic(auto, using(crate::proofs::Faults::appends))]
+pub fn declaration<'p>(
+    alloc: Global,
+    found: &mut Found,
+    here: &Setting<'_, 'p>,
+    variables: &mut Variables<'p>,
+    declaration: &'p Declaration,
+) -> Result<(), AllocError>
+    ensures worst { IfOk result (λ _. found.new.worst ≡ least found.old.worst
+        (declaration_faults (setting here.now) variables.old (declaration_tree declaration.now))) }
+    ensures calls { IfOk result (λ _. calls_seen found.new.calls.items ≡
+        calls_seen found.old.calls.items ++ declaration_calls (setting here.now) variables.old (declaration_tree declaration.now)) }
+    ensures variables { IfOk result (λ _. variables.new ≡
+        with_variable (variable_declared (setting here.now) (declaration_tree declaration.now)) variables.old) }
+{
+    known(&mut found.worst, here, &declaration.declared.domain);
+    is_new(&mut found.worst, variables, &declaration.variable);
+    let declared = written(here, &declaration.declared);
+    initial(alloc, found, here, variables, declared, declaration)?;
+    variables.declare(declaration.variable.text.as_str(), declared)
+}
+
+// What is assigned to.
+#[tactic(auto, using(crate::proofs::Faults::appends))]
+fn target<'p>(
+    alloc: Global,
+    found: &mut Found,
+    here: &Setting<'_, 'p>,
+    variables: &Variables<'p>,
+    target: &'p Target,
+) -> Result<Option<ValueType>, AllocError>
+    ensures kind { IfOk result (λ t. t ≡ target_type (setting here.now) variables.now (target_tree target.now)) }
+    ensures worst { IfOk result (λ _. found.new.worst ≡ least found.old.worst
+        (target_faults (setting here.now) variables.now (target_tree target.now))) }
+    ensures calls { IfOk result (λ _. calls_seen found.new.calls.items ≡
+        calls_seen found.old.calls.items ++ optional_calls (setting here.now) variables.now (optional target.now.index)) }
+{
+    let place = target.variable.place;
+    let held = variable(
+        &mut found.worst,
+        variables,
+        place,
+        target.variable.text.as_str(),
+    );
+    match &target.index {
+        None => Ok(held),
+        Some(position) => {
+            let counted = value(alloc, found, here, variables, position)?;
+            Ok(indexing(&mut found.worst, place, place_of(position), held, counted))
+        }
+    }
+}
+
+/// Checks an assignment.
+#[tactic(auto, using(crate::proofs::Faults::appends))]
+pub fn assignment<'p>(
+    alloc: Global,
+    found: &mut Found,
+    here: &Setting<'_, 'p>,
+    variables: &Variables<'p>,
+    assignment: &'p Assignment,
+) -> Result<(), AllocError>
+    ensures worst { IfOk result (λ _. found.new.worst ≡ least found.old.worst
+        (assignment_faults (setting here.now) variables.now (assignment_tree assignment.now))) }
+    ensures calls { IfOk result (λ _. calls_seen found.new.calls.items ≡
+        calls_seen found.old.calls.items ++ assignment_calls (setting here.now) variables.now (assignment_tree assignment.now)) }
+{
+    let wanted = target(alloc, found, here, variables, &assignment.target)?;
+    let given = value(alloc, found, here, variables, &assignment.value)?;
+    if let (Some(wanted), Some(given)) = (wanted, given) {
+        let _ = store(&mut found.worst, place_of(&assignment.value), wanted, given);
+    }
+    Ok(())
+}

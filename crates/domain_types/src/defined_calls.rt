@@ -1,0 +1,204 @@
+// The rule of a call of a function of the program, on the types of its arguments.
+ghost use Rattle.std.specs.Prelude.{◌≡◌, IfOk, option_map, vec_items};
+ghost use Rattle.secrec_ast.specs.Programs.{function_tree};
+ghost use Rattle.domain_types.specs.Types.{is_faultless, of_typed, unless_refused};
+ghost use Rattle.domain_types.specs.Declarations.{type_written};
+ghost use Rattle.domain_types.specs.Views.{declared, setting};
+ghost use Rattle.domain_types.specs.ExpressionTypes.{is_named, bound_from, bound_by, bound_faults, binding_faults, binding_by, argument_faults, defined_faults, within, result_type};
+ghost use Rattle.domain_types.specs.Least.{least};
+
+use crate::declarations::Declarations;
+use crate::fault::{Fault, Problem};
+use crate::rules::{meet, store};
+use crate::setting::{Setting, written};
+use crate::value_type::{Argument, ExpressionType, Protection};
+use crate::worst::note;
+use sc_text::Span;
+use secrec_ast::{Domain, DomainVariable, Function, Identifier, Parameter, ResultType};
+use std::alloc::{AllocError, Global};
+
+// Whether a domain is written with this name.
+pub fn is_named(name: &str, domain: &Domain) -> bool
+    ensures { result ≡ is_named name.now domain.now }
+{
+    match domain {
+        Domain::Public => false,
+        Domain::Named(written) => name == written.text.as_str(),
+    }
+}
+
+// What a call binds a domain variable to.
+fn bound_by(name: &str, parameters: &[Parameter], arguments: &[Argument]) -> Option<Protection>
+    ensures { result ≡ bound_by name.now parameters.now arguments.now }
+{
+    let mut domain = Protection::Public;
+    let mut parameters = parameters;
+    let mut arguments = arguments;
+    while let (Some((parameter, more)), Some((argument, others))) = (
+        parameters.split_first(),
+        arguments.split_first(),
+    ) {
+        if is_named(name, &parameter.declared.domain) {
+            match meet(domain, argument.given.domain) {
+                Some(both) => domain = both,
+                None => return None,
+            }
+        }
+        parameters = more;
+        arguments = others;
+    }
+    Some(domain)
+}
+
+// A domain variable may be bound so.
+fn may_be_bound(
+    worst: &mut Option<Fault>,
+    place: Span,
+    kind: &Option<Identifier>,
+    domain: Option<Protection>,
+) -> bool
+    ensures fits { result ≡ is_faultless (bound_faults place kind.now domain) }
+    ensures worst { worst.new ≡ least worst.old (bound_faults place kind.now domain) }
+{
+    match (kind, domain) {
+        (_, None) => {
+            note(worst, place, Problem::DomainMix);
+            false
+        }
+        (Some(_), Some(Protection::Public)) => {
+            note(worst, place, Problem::TypeMismatch);
+            false
+        }
+        _ => true,
+    }
+}
+
+// The domain variables may be bound as the arguments bind them.
+#[tactic(auto, using(crate::proofs::Faults::appends))]
+fn may_all_be_bound(
+    worst: &mut Option<Fault>,
+    place: Span,
+    variables: &[DomainVariable],
+    parameters: &[Parameter],
+    arguments: &[Argument],
+) -> bool
+    ensures fits { result ≡ is_faultless (binding_faults place variables.now parameters.now arguments.now) }
+    ensures worst { worst.new ≡ least worst.old (binding_faults place variables.now parameters.now arguments.now) }
+{
+    let mut fits = true;
+    let mut variables = variables;
+    while let Some((variable, more)) = variables.split_first() {
+        let domain = bound_by(variable.variable.text.as_str(), parameters, arguments);
+        let good = may_be_bound(worst, place, &variable.kind, domain);
+        fits = fits && good;
+        variables = more;
+    }
+    fits
+}
+
+// The domains that the arguments bind the domain variables to.
+#[tactic(auto, using(crate::proofs::Bindings::bindings))]
+fn binding(
+    alloc: Global,
+    variables: &[DomainVariable],
+    parameters: &[Parameter],
+    arguments: &[Argument],
+) -> Result<Option<Vec<Protection>>, AllocError>
+    ensures { IfOk result (λ ds. option_map vec_items ds ≡ binding_by variables.now parameters.now arguments.now) }
+{
+    let mut domains = Vec::new(alloc);
+    let mut variables = variables;
+    while let Some((variable, more)) = variables.split_first() {
+        match bound_by(variable.variable.text.as_str(), parameters, arguments) {
+            Some(domain) => domains.push(domain)?,
+            None => return Ok(None),
+        }
+        variables = more;
+    }
+    Ok(Some(domains))
+}
+
+// Each argument goes to its parameter.
+#[tactic(auto, using(crate::proofs::Faults::appends))]
+fn arguments_fit<'p>(
+    worst: &mut Option<Fault>,
+    callee: &Setting<'_, 'p>,
+    parameters: &'p [Parameter],
+    arguments: &[Argument],
+) -> bool
+    ensures fits { result ≡ is_faultless (argument_faults (setting callee.now) parameters.now arguments.now) }
+    ensures worst { worst.new ≡ least worst.old (argument_faults (setting callee.now) parameters.now arguments.now) }
+{
+    let mut fits = true;
+    let mut parameters = parameters;
+    let mut arguments = arguments;
+    while let (Some((parameter, more)), Some((argument, others))) = (
+        parameters.split_first(),
+        arguments.split_first(),
+    ) {
+        if let Some(wanted) = written(callee, &parameter.declared) {
+            let good = store(worst, argument.place, wanted, argument.given);
+            fits = fits && good;
+        }
+        parameters = more;
+        arguments = others;
+    }
+    fits
+}
+
+/// The rule of a call of a function of the program: the domains of its domain variables, where the call is not refused.
+#[tactic(auto, using(crate::proofs::Faults::appends), unfolding(crate::specs::ExpressionTypes::defined_faults))]
+pub fn defined_call<'p>(
+    alloc: Global,
+    worst: &mut Option<Fault>,
+    declarations: &Declarations<'p>,
+    place: Span,
+    function: &'p Function,
+    arguments: &[Argument],
+) -> Result<Option<Vec<Protection>>, AllocError>
+    ensures binding { IfOk result (λ ds. option_map vec_items ds ≡
+        unless_refused (defined_faults (declared declarations.now) place (function_tree function.now) arguments.now)
+        (binding_by function.now.variables.items function.now.parameters.items arguments.now)) }
+    ensures worst { IfOk result (λ _. worst.new ≡
+        least worst.old (defined_faults (declared declarations.now) place (function_tree function.now) arguments.now)) }
+{
+    if function.parameters.len() != arguments.len() {
+        note(worst, place, Problem::BadArity);
+        return Ok(None);
+    }
+    let bound = may_all_be_bound(
+        worst,
+        place,
+        &function.variables,
+        &function.parameters,
+        arguments,
+    );
+    let domains = binding(alloc, &function.variables, &function.parameters, arguments)?;
+    let Some(domains) = domains else {
+        return Ok(None);
+    };
+    let callee = Setting {
+        declarations,
+        variables: &function.variables,
+        binding: &domains,
+    };
+    let fits = arguments_fit(worst, &callee, &function.parameters, arguments);
+    if bound && fits {
+        Ok(Some(domains))
+    } else {
+        Ok(None)
+    }
+}
+
+/// What a function gives back, if its domain is known.
+pub fn result_type<'p>(here: &Setting<'_, 'p>, returned: &'p ResultType) -> Option<ExpressionType>
+    ensures { result ≡ result_type (setting here.now) returned.now }
+{
+    match returned {
+        ResultType::Void => Some(ExpressionType::Void),
+        ResultType::Value(declared) => match written(here, declared) {
+            Some(given) => Some(ExpressionType::Value(given)),
+            None => None,
+        },
+    }
+}

@@ -1,0 +1,124 @@
+// The faults of a function whose domain variables are bound.
+ghost use Rattle.std.specs.Prelude.{◌≡◌, ◌++◌, IfOk, map};
+ghost use Rattle.secrec_ast.specs.Statements.{statement, statements_of};
+ghost use Rattle.secrec_ast.specs.Programs.{function_tree};
+ghost use Rattle.domain_types.specs.Scopes.{nothing_known};
+ghost use Rattle.domain_types.specs.StatementTypes.{always_returns, one_returns};
+ghost use Rattle.domain_types.specs.FunctionTypes.{with_parameters, parameter_faults, result_faults, way_faults, function_faults};
+ghost use Rattle.domain_types.specs.Reached.{function_calls};
+ghost use Rattle.domain_types.specs.Views.{setting, calls_seen};
+ghost use Rattle.domain_types.specs.Least.{least};
+
+use crate::calls::Found;
+use crate::declaring::{is_new, known};
+use crate::fault::{Fault, Problem};
+use crate::setting::{Setting, written};
+use crate::statements::statements;
+use crate::variables::Variables;
+use crate::worst::note_if;
+use secrec_ast::{Function, Parameter, ResultType, Statement};
+use std::alloc::{AllocError, Global};
+
+// Whether a statement always returns.
+#[cycle(returns)]
+fn always_returns(s: &Statement) -> bool
+    ensures { result ≡ always_returns (statement s.now) }
+{
+    match s {
+        Statement::Block(_, list) => one_returns(list),
+        Statement::If(_, _, body, Some(otherwise)) => {
+            always_returns(body) && always_returns(otherwise)
+        }
+        Statement::Return(_, _) => true,
+        _ => false,
+    }
+}
+
+// Whether one of the statements always returns.
+#[cycle(returns)]
+fn one_returns(list: &Vec<Statement>) -> bool
+    ensures { result ≡ one_returns (statements_of (map statement list.now.items)) }
+{
+    let mut returns = false;
+    for each in list {
+        let this = always_returns(each);
+        returns = returns || this;
+    }
+    returns
+}
+
+// Declares the parameters, which belong to the body's block.
+#[tactic(auto, using(crate::proofs::Faults::appends))]
+fn parameters<'p>(
+    worst: &mut Option<Fault>,
+    here: &Setting<'_, 'p>,
+    variables: &mut Variables<'p>,
+    list: &'p [Parameter],
+) -> Result<(), AllocError>
+    ensures worst { IfOk result (λ _. worst.new ≡ least worst.old (parameter_faults (setting here.now) variables.old list.now)) }
+    ensures variables { IfOk result (λ _. variables.new ≡ with_parameters (setting here.now) list.now variables.old) }
+{
+    let mut list = list;
+    while let Some((parameter, more)) = list.split_first() {
+        known(worst, here, &parameter.declared.domain);
+        is_new(worst, variables, &parameter.variable);
+        variables.declare(
+            parameter.variable.text.as_str(),
+            written(here, &parameter.declared),
+        )?;
+        list = more;
+    }
+    Ok(())
+}
+
+// The domain of a result is known.
+fn known_result<'p>(worst: &mut Option<Fault>, here: &Setting<'_, 'p>, returned: &'p ResultType)
+    ensures { worst.new ≡ least worst.old (result_faults (setting here.now) returned.now) }
+{
+    match returned {
+        ResultType::Void => {}
+        ResultType::Value(declared) => known(worst, here, &declared.domain),
+    }
+}
+
+// A function with a result returns on every way.
+fn returns_on_every_way(worst: &mut Option<Fault>, function: &Function)
+    ensures { worst.new ≡ least worst.old (way_faults (function_tree function.now) function.now.result) }
+{
+    match &function.result {
+        ResultType::Void => {}
+        ResultType::Value(_) => note_if(
+            worst,
+            !one_returns(&function.body.statements),
+            function.function.place,
+            Problem::MissingReturn,
+        ),
+    }
+}
+
+/// Checks a function whose domain variables are bound as `here` says.
+#[tactic(auto, using(crate::proofs::Faults::appends))]
+pub fn function<'p>(
+    alloc: Global,
+    found: &mut Found,
+    here: &Setting<'_, 'p>,
+    function: &'p Function,
+) -> Result<(), AllocError>
+    ensures worst { IfOk result (λ _. found.new.worst ≡ least found.old.worst (function_faults (setting here.now) (function_tree function.now))) }
+    ensures calls { IfOk result (λ _. calls_seen found.new.calls.items ≡
+        calls_seen found.old.calls.items ++ function_calls (setting here.now) (function_tree function.now)) }
+{
+    known_result(&mut found.worst, here, &function.result);
+    let mut variables = Variables::new(alloc);
+    parameters(&mut found.worst, here, &mut variables, &function.parameters)?;
+    statements(
+        alloc,
+        found,
+        here,
+        &function.result,
+        &mut variables,
+        &function.body.statements,
+    )?;
+    returns_on_every_way(&mut found.worst, function);
+    Ok(())
+}

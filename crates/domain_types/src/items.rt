@@ -1,0 +1,110 @@
+// The faults of declarations.
+ghost use Rattle.std.specs.Prelude.{◌≡◌, [], IfOk, map};
+ghost use Rattle.secrec_ast.specs.Programs.{function_tree, item_tree};
+ghost use Rattle.domain_types.specs.Declarations.{is_known_kind};
+ghost use Rattle.domain_types.specs.ProgramTypes.{is_module, space_faults, items_faults, is_main, has_main};
+ghost use Rattle.domain_types.specs.Views.{declared, tree_at};
+ghost use Rattle.domain_types.specs.Least.{least};
+
+use crate::declarations::Declarations;
+use crate::fault::{Fault, Problem};
+use crate::name_index::NameIndex;
+use crate::worst::note_if;
+use secrec_ast::{Function, Identifier, Item, ResultType};
+use std::alloc::{AllocError, Global};
+
+fn is_module(name: &str) -> bool
+    ensures { result ≡ is_module name.now }
+{
+    name == "stdlib" || name == "shared3p"
+}
+
+/// Whether a kind of this name is imported or declared.
+pub fn is_known_kind(declarations: &Declarations<'_>, name: &str) -> bool
+    ensures { result ≡ is_known_kind (declared declarations.now) name.now }
+{
+    name == "shared3p" && (declarations.shared3p || declarations.kind_declared)
+}
+
+// The name of a kind or domain behind others is new.
+fn is_new<'p>(
+    worst: &mut Option<Fault>,
+    declarations: &Declarations<'p>,
+    kinds: &NameIndex<'p>,
+    name: &'p Identifier,
+)
+    ensures { worst.new ≡ least worst.old (space_faults (declared declarations.now) kinds.now name.now) }
+{
+    let text = name.text.as_str();
+    let twice = kinds.number(text).is_some() || (declarations.shared3p && text == "shared3p");
+    note_if(worst, twice, name.place, Problem::Twice);
+}
+
+/// Checks the names of the declarations.
+#[tactic(auto, using(crate::proofs::Faults::appends))]
+pub fn items<'p>(
+    alloc: Global,
+    worst: &mut Option<Fault>,
+    declarations: &Declarations<'p>,
+    list: &'p [Item],
+) -> Result<(), AllocError>
+    ensures { IfOk result (λ _. worst.new ≡ least worst.old (items_faults (declared declarations.now) [] [] (map item_tree list.now))) }
+{
+    let mut kinds = NameIndex::new(alloc);
+    let mut functions = NameIndex::new(alloc);
+    let mut rest = list;
+    while let Some((item, more)) = rest.split_first() {
+        match item {
+            Item::Import(name) => {
+                let known = is_module(name.text.as_str());
+                note_if(worst, !known, name.place, Problem::BadImport);
+            }
+            Item::Kind(name) => {
+                let known = name.text.as_str() == "shared3p";
+                note_if(worst, !known, name.place, Problem::UnknownName);
+                is_new(worst, declarations, &kinds, name);
+                kinds = kinds.with(name.text.as_str())?;
+            }
+            Item::Domain(name, kind) => {
+                is_new(worst, declarations, &kinds, name);
+                let known = is_known_kind(declarations, kind.text.as_str());
+                note_if(worst, !known, kind.place, Problem::UnknownName);
+                kinds = kinds.with(name.text.as_str())?;
+            }
+            Item::Function(function) => {
+                let name = function.function.text.as_str();
+                let twice = declarations.built_in(name).is_some()
+                    || functions.number(name).is_some();
+                note_if(worst, twice, function.function.place, Problem::Twice);
+                functions = functions.with(name)?;
+            }
+        }
+        rest = more;
+    }
+    Ok(())
+}
+
+fn is_main(function: &Function) -> bool
+    ensures { result ≡ is_main (function_tree function.now) }
+{
+    let void = match &function.result {
+        ResultType::Void => true,
+        ResultType::Value(_) => false,
+    };
+    function.function.text.as_str() == "main"
+        && function.variables.is_empty()
+        && void
+        && function.parameters.is_empty()
+}
+
+/// Whether there is a plain `void main()`.
+pub fn has_main(functions: &[&Function]) -> bool
+    ensures { result ≡ has_main (map tree_at functions.now) }
+{
+    let mut found = false;
+    for function in functions {
+        let this = is_main(function);
+        found = found || this;
+    }
+    found
+}

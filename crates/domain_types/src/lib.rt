@@ -1,0 +1,40 @@
+//! The types of a program: whether it keeps the type rules of the language, the least of its faults where it does not, and
+//! else which of its functions are used with which domains.
+#![tactic(auto)]
+
+mod built_ins;
+mod call_rule;
+mod calls;
+mod checking;
+mod collecting;
+mod declarations;
+mod declaring;
+mod defined_calls;
+mod expressions;
+mod fault;
+mod functions;
+mod heads;
+mod instance;
+mod items;
+mod name_index;
+mod operations;
+mod protections;
+mod rules;
+mod setting;
+mod simple_statements;
+mod statements;
+#[cfg(test)]
+mod tests;
+mod type_error;
+mod value_type;
+mod values;
+mod variables;
+mod visiting;
+mod work_list;
+mod worst;
+
+pub use checking::{check, one_verdict};
+pub use fault::{Fault, Problem};
+pub use instance::Instance;
+pub use type_error::TypeError;
+pub use value_type::{BuiltIn, ExpressionType, Protection, ValueType};

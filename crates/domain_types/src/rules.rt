@@ -1,0 +1,118 @@
+// Where a value may go. Each rule notes its faults and says whether there is none.
+ghost use Rattle.std.specs.Prelude.{◌≡◌};
+ghost use Rattle.domain_types.specs.Types.{is_faultless, is_private, is_uint64, same_element, same_dimension, meet, mix_faults, flow_faults, store_faults, scalar_faults};
+ghost use Rattle.domain_types.specs.Least.{least};
+
+use crate::fault::{Fault, Problem};
+use crate::value_type::{Protection, ValueType};
+use crate::worst::{note, note_if};
+use sc_text::Span;
+use secrec_ast::DataType;
+
+pub fn is_private(domain: Protection) -> bool
+    ensures { result ≡ is_private domain }
+{
+    match domain {
+        Protection::Public => false,
+        Protection::Private(_) => true,
+    }
+}
+
+pub fn is_uint64(element: DataType) -> bool
+    ensures { result ≡ is_uint64 element }
+{
+    match element {
+        DataType::Uint64 => true,
+        DataType::Bool => false,
+    }
+}
+
+pub fn same_element(a: DataType, b: DataType) -> bool
+    ensures { result ≡ same_element a b }
+{
+    match a {
+        DataType::Uint64 => is_uint64(b),
+        DataType::Bool => !is_uint64(b),
+    }
+}
+
+pub fn same_dimension(a: bool, b: bool) -> bool
+    ensures { result ≡ same_dimension a b }
+{
+    if a { b } else { !b }
+}
+
+/// The domain of what operands of these domains make together.
+pub fn meet(a: Protection, b: Protection) -> Option<Protection>
+    ensures { result ≡ meet a b }
+{
+    match (a, b) {
+        (Protection::Public, b) => Some(b),
+        (a, Protection::Public) => Some(a),
+        (Protection::Private(k), Protection::Private(m)) => if k == m { Some(a) } else { None },
+    }
+}
+
+/// Operands of these domains meet.
+pub fn mix(worst: &mut Option<Fault>, place: Span, a: Protection, b: Protection) -> bool
+    ensures fits { result ≡ is_faultless (mix_faults place a b) }
+    ensures worst { worst.new ≡ least worst.old (mix_faults place a b) }
+{
+    match (a, b) {
+        (Protection::Private(k), Protection::Private(m)) => {
+            note_if(worst, k != m, place, Problem::DomainMix);
+            k == m
+        }
+        _ => true,
+    }
+}
+
+// A value of the domain `given` goes where `wanted` is.
+fn flow(worst: &mut Option<Fault>, place: Span, wanted: Protection, given: Protection) -> bool
+    ensures fits { result ≡ is_faultless (flow_faults place wanted given) }
+    ensures worst { worst.new ≡ least worst.old (flow_faults place wanted given) }
+{
+    match (wanted, given) {
+        (_, Protection::Public) => true,
+        (Protection::Public, Protection::Private(_)) => {
+            note(worst, place, Problem::PrivateToPublic);
+            false
+        }
+        (Protection::Private(k), Protection::Private(m)) => {
+            note_if(worst, k != m, place, Problem::DomainMix);
+            k == m
+        }
+    }
+}
+
+/// A value goes to a variable, a parameter or a result.
+#[tactic(auto, using(crate::proofs::Faults::appends))]
+pub fn store(worst: &mut Option<Fault>, place: Span, wanted: ValueType, given: ValueType) -> bool
+    ensures fits { result ≡ is_faultless (store_faults place wanted given) }
+    ensures worst { worst.new ≡ least worst.old (store_faults place wanted given) }
+{
+    let same = same_element(wanted.element, given.element)
+        && same_dimension(wanted.array, given.array);
+    note_if(worst, !same, place, Problem::TypeMismatch);
+    let flows = flow(worst, place, wanted.domain, given.domain);
+    same && flows
+}
+
+/// A public scalar is wanted; a private one is this problem.
+#[tactic(auto, using(crate::proofs::Faults::appends))]
+pub fn scalar(
+    worst: &mut Option<Fault>,
+    element: DataType,
+    private_one: Problem,
+    place: Span,
+    given: ValueType,
+) -> bool
+    ensures fits { result ≡ is_faultless (scalar_faults element private_one place given) }
+    ensures worst { worst.new ≡ least worst.old (scalar_faults element private_one place given) }
+{
+    let same = same_element(element, given.element) && !given.array;
+    note_if(worst, !same, place, Problem::TypeMismatch);
+    let hidden = is_private(given.domain);
+    note_if(worst, hidden, place, private_one);
+    same && !hidden
+}

@@ -1,0 +1,132 @@
+// The parts of a `for`, and returns.
+ghost use Rattle.std.specs.Prelude.{◌≡◌, ◌++◌, IfOk};
+ghost use Rattle.secrec_ast.specs.Tree.{expression};
+ghost use Rattle.secrec_ast.specs.Statements.{optional, start_tree, step_tree};
+ghost use Rattle.domain_types.specs.StatementTypes.{start_faults, after_start, step_faults, is_step_typed, optional_type, optional_faults, for_rule, return_rule};
+ghost use Rattle.domain_types.specs.Reached.{optional_calls, start_calls, step_calls};
+ghost use Rattle.domain_types.specs.Views.{setting, calls_seen};
+ghost use Rattle.domain_types.specs.Least.{least};
+
+use crate::calls::Found;
+use crate::declaring::{assignment, declaration};
+use crate::expressions::{expression, place_of};
+use crate::fault::{Fault, Problem};
+use crate::rules::{scalar, store};
+use crate::setting::{Setting, written};
+use crate::value_type::ValueType;
+use crate::values::value;
+use crate::variables::Variables;
+use crate::worst::note;
+use sc_text::Span;
+use secrec_ast::{DataType, Expression, ForStart, ForStep, ResultType};
+use std::alloc::{AllocError, Global};
+
+/// Checks the first part of a `for`.
+pub fn start<'p>(
+    alloc: Global,
+    found: &mut Found,
+    here: &Setting<'_, 'p>,
+    variables: &mut Variables<'p>,
+    start: &'p ForStart,
+) -> Result<(), AllocError>
+    ensures worst { IfOk result (λ _. found.new.worst ≡ least found.old.worst (start_faults (setting here.now) variables.old (start_tree start.now))) }
+    ensures calls { IfOk result (λ _. calls_seen found.new.calls.items ≡
+        calls_seen found.old.calls.items ++ start_calls (setting here.now) variables.old (start_tree start.now)) }
+    ensures variables { IfOk result (λ _. variables.new ≡ after_start (setting here.now) variables.old (start_tree start.now)) }
+{
+    match start {
+        ForStart::Nothing => Ok(()),
+        ForStart::Declaration(d) => declaration(alloc, found, here, variables, d),
+        ForStart::Assignment(a) => assignment(alloc, found, here, variables, a),
+    }
+}
+
+/// Checks the third part of a `for`; whether it has a type, if it is an expression.
+pub fn step<'p>(
+    alloc: Global,
+    found: &mut Found,
+    here: &Setting<'_, 'p>,
+    variables: &Variables<'p>,
+    step: &'p ForStep,
+) -> Result<bool, AllocError>
+    ensures typed { IfOk result (λ b. b ≡ is_step_typed (setting here.now) variables.now (step_tree step.now)) }
+    ensures worst { IfOk result (λ _. found.new.worst ≡ least found.old.worst (step_faults (setting here.now) variables.now (step_tree step.now))) }
+    ensures calls { IfOk result (λ _. calls_seen found.new.calls.items ≡
+        calls_seen found.old.calls.items ++ step_calls (setting here.now) variables.now (step_tree step.now)) }
+{
+    match step {
+        ForStep::Nothing => Ok(true),
+        ForStep::Assignment(a) => {
+            assignment(alloc, found, here, variables, a)?;
+            Ok(true)
+        }
+        ForStep::Expression(e) => {
+            let t = expression(alloc, found, here, variables, e)?;
+            Ok(t.is_some())
+        }
+    }
+}
+
+/// The value of an expression that may be left out: nothing where it is.
+pub fn optional_value<'p>(
+    alloc: Global,
+    found: &mut Found,
+    here: &Setting<'_, 'p>,
+    variables: &Variables<'p>,
+    e: &'p Option<Expression>,
+) -> Result<Option<ValueType>, AllocError>
+    ensures kind { IfOk result (λ t. t ≡ optional_type (setting here.now) variables.now (optional e.now)) }
+    ensures worst { IfOk result (λ _. found.new.worst ≡ least found.old.worst (optional_faults (setting here.now) variables.now (optional e.now))) }
+    ensures calls { IfOk result (λ _. calls_seen found.new.calls.items ≡
+        calls_seen found.old.calls.items ++ optional_calls (setting here.now) variables.now (optional e.now)) }
+{
+    match e {
+        None => Ok(None),
+        Some(e) => value(alloc, found, here, variables, e),
+    }
+}
+
+/// The rule of the condition of a `for`, whose type is given: nothing is said where the third part has no type.
+pub fn for_condition(
+    worst: &mut Option<Fault>,
+    condition: &Option<Expression>,
+    given: Option<ValueType>,
+    step_typed: bool,
+)
+    ensures { worst.new ≡ least worst.old (for_rule (optional condition.now) given step_typed) }
+{
+    if let (Some(e), Some(given), true) = (condition, given, step_typed) {
+        let _ = scalar(
+            worst,
+            DataType::Bool,
+            Problem::PrivateCondition,
+            place_of(e),
+            given,
+        );
+    }
+}
+
+/// The rule of a `return`, whose value has the given type.
+pub fn returning<'p>(
+    worst: &mut Option<Fault>,
+    here: &Setting<'_, 'p>,
+    place: Span,
+    returned: &'p ResultType,
+    value: &Option<Expression>,
+    given: Option<ValueType>,
+)
+    ensures { worst.new ≡ least worst.old (return_rule (setting here.now) place returned.now (optional value.now) given) }
+{
+    match (returned, value) {
+        (ResultType::Void, None) => {}
+        (ResultType::Void, Some(_)) => if given.is_some() {
+            note(worst, place, Problem::TypeMismatch);
+        },
+        (ResultType::Value(_), None) => note(worst, place, Problem::TypeMismatch),
+        (ResultType::Value(declared), Some(e)) => {
+            if let (Some(wanted), Some(given)) = (written(here, declared), given) {
+                let _ = store(worst, place_of(e), wanted, given);
+            }
+        }
+    }
+}
