@@ -1,5 +1,6 @@
 -- At each way out of the front end: what is answered is the judgement of the text, and it has no other.
 use Rattle.std.proofs.Common.{◌≡◌, ℕ, ◌≤◌, List, refl, sym, ap, ap₂, subst, Result, Ok, Err}
+use Rattle.std.specs.Result.{IsErrAnd}
 use Rattle.sc_text.specs.declared.span.Span.{Span}
 use Rattle.secrec_lexer.specs.declared.token.Token.{Token}
 use Rattle.secrec_lexer.specs.declared.lex_err.LexFault.{LexFault}
@@ -16,7 +17,7 @@ use Rattle.secrec_parser.specs.declared.parse_err.ParseErr.{ParseErr}
 use Rattle.secrec_parser.specs.declared.parse_err.ParseErr.TheVariants as parsing
 use Rattle.secrec_parser.specs.Grammar.{IsProgram}
 use Rattle.secrec_parser.specs.FirstFault.{height_limit, IsFirstFault}
-use Rattle.secrec_parser.specs.Answer.{RefusesAtFault}
+use Rattle.secrec_parser.specs.Answer.{IsTree, RefusesAtFault}
 use Rattle.domain_types.specs.declared.fault.Fault.{Fault}
 use Rattle.domain_types.specs.declared.type_error.TypeError.{TypeError}
 use Rattle.domain_types.specs.declared.type_error.TypeError.TheVariants as typing
@@ -24,11 +25,17 @@ use Rattle.domain_types.specs.ProgramTypes.{IsRefused}
 use Rattle.domain_types.specs.Typing.{IsTypedProgram}
 use Rattle.domain_types.specs.Answer.{IsVerdict}
 use Rattle.front_end.specs.declared.program_fault.ProgramFault.{ProgramFault}
+use Rattle.front_end.specs.declared.program_err.ProgramErr.{ProgramErr}
 use Rattle.front_end.specs.Judgement.{syntax_fault, Spells, IsProgramText, IsRefusedText, of_tokens, of_grammar, of_types, Judged, IsJudged}
 use Rattle.front_end.specs.Answer.{IsAnswer, IsJust}
 use Rattle.front_end.specs.Refusals.{lexer_error, parser_error, type_fault, type_error}
 use Rattle.front_end.proofs.FirstFaults.{one_first_fault, faultless_where_spelled}
 use Rattle.front_end.proofs.TypeFaults.{one_type_fault, faultless_where_typed}
+
+-- an error that is handed on
+pub handed_on : (r : Result Program ProgramErr) (e : ProgramErr) → IsErrAnd r (λ given. given ≡ e) → Err e ≡ r
+handed_on (Ok program) e h = absurd h
+handed_on (Err given) e h = ap Err (sym h)
 
 -- REFUSED BY THE LEXER
 
@@ -58,6 +65,14 @@ pub record HasJust (bytes : List ℕ) (tokens : List Token) : Type 0 where
   pub has : HasTokens bytes tokens
   pub just : (ts : List Token) → HasTokens bytes ts → tokens ≡ ts
   pub accepted : (fault : LexFault) (place : Span) → lexis.IsRefused bytes fault place → ⊥
+
+-- what the lexer's clauses say where there are tokens
+pub has_just :
+    (bytes : List ℕ) (tokens : List Token) → HasTokens bytes tokens →
+    ((ts : List Token) → HasTokens bytes ts → IsTokens (Ok tokens) ts) →
+    ((fault : LexFault) (place : Span) → lexis.IsRefused bytes fault place → IsRefusal (Ok tokens) fault place) →
+    HasJust bytes tokens
+has_just bytes tokens has just accepted = record { has = has; just = just; accepted = accepted }
 
 pub unparsed : (bytes : List ℕ) (tokens : List Token) (e : ParseErr) → HasTokens bytes tokens → RefusesAtFault height_limit tokens (Err e) → IsAnswer bytes (Err (parser_error e))
 unparsed bytes tokens parsing.Memory has r = tt
@@ -93,6 +108,14 @@ pub record SpellsJust (bytes : List ℕ) (tree : ProgramTree) : Type 0 where
   pub low : program_height tree ≤ height_limit
   pub just : (other : ProgramTree) → IsProgram other tokens → program_height other ≤ height_limit → tree ≡ other
 
+-- what the parser's clauses say where there is a tree
+pub spells_just :
+    (bytes : List ℕ) (tokens : List Token) (program : Program) → HasJust bytes tokens →
+    IsProgram (program_tree program) tokens × (program_height (program_tree program) ≤ height_limit) →
+    ((other : ProgramTree) → IsProgram other tokens → program_height other ≤ height_limit → IsTree (Ok program) other) →
+    SpellsJust bytes (program_tree program)
+spells_just bytes tokens program h found just = record { tokens = tokens; lexed = h; spelled = found.0; low = found.1; just = just }
+
 spells : (bytes : List ℕ) (tree : ProgramTree) → SpellsJust bytes tree → Spells bytes tree
 spells bytes tree h = record { tokens = h.tokens; lexed = h.lexed.has; spelled = h.spelled; low = h.low }
 
@@ -120,9 +143,6 @@ untyped_only bytes tree (typing.Refused fault) h r (Ok other) j =
 untyped_only bytes tree (typing.Refused fault) h r (Err told) j =
     let o = refused_by_rules bytes tree h told j in
     rw o.1 (ap (λ (g : Fault). Err (type_fault g)) (one_type_fault tree o.0 fault o.2 r))
-
-pub typed : (bytes : List ℕ) (program : Program) → SpellsJust bytes (program_tree program) → IsTypedProgram (program_tree program) → IsAnswer bytes (Ok program)
-typed bytes program h t = record { spells = spells bytes (program_tree program) h; typed = t }
 
 pub typed_only :
     (bytes : List ℕ) (program : Program) → SpellsJust bytes (program_tree program) → IsTypedProgram (program_tree program) →

@@ -63,7 +63,10 @@ impl From<ProgramErr> for Fault {
     fn from(error: ProgramErr) -> Self {
         match error {
             ProgramErr::Memory => Fault::Memory,
-            ProgramErr::Refused(ProgramFault { fault, place }) => Fault::Placed { fault, span: place },
+            ProgramErr::Refused(ProgramFault { fault, place }) => Fault::Placed {
+                fault,
+                span: place,
+            },
         }
     }
 }
