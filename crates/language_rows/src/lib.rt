@@ -9,3 +9,5 @@ mod expressions;
 mod statements;
 #[cfg(test)]
 mod tokens;
+#[cfg(test)]
+mod type_rules;
