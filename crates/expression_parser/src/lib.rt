@@ -10,8 +10,6 @@ mod parsed;
 mod problem;
 mod sign;
 mod stopped;
-#[cfg(test)]
-mod tests;
 mod token;
 
 pub use parse::expression;

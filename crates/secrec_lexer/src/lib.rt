@@ -15,8 +15,6 @@ mod piece;
 mod place;
 mod sign;
 mod spelling;
-#[cfg(test)]
-mod tests;
 mod token;
 
 pub use lex_err::{LexErr, LexFault};

@@ -13,8 +13,6 @@ mod parsing;
 mod program;
 mod simple;
 mod statement;
-#[cfg(test)]
-mod tests;
 mod tokens;
 mod types;
 

@@ -1,7 +1,8 @@
-use crate::{ParseErr, parse};
+// Programs and statements, and what the parser says of them.
 use expression_parser::Problem;
 use secrec_ast::{Expression, Item, Operator, Program, Statement};
 use secrec_lexer::lex;
+use secrec_parser::{ParseErr, parse};
 use std::alloc::Global;
 use std::test::Fail;
 

@@ -1,5 +1,6 @@
-use crate::{Kind, LexErr, LexFault, Sign, Token, lex};
+// Texts, and their tokens or first faults.
 use sc_text::{Fault, Span};
+use secrec_lexer::{Kind, LexErr, LexFault, Sign, Token, lex};
 use std::alloc::{AllocError, Global};
 use std::test::Fail;
 

@@ -1,4 +1,5 @@
-use crate::{Parsed, Problem, Read, Stopped, expect, expression, identifier};
+// Expressions, and the trees that they are read as.
+use expression_parser::{Parsed, Problem, Read, Stopped, expect, expression, identifier};
 use secrec_ast::{DataType, Expression, Operator, Target};
 use secrec_lexer::{Sign, lex};
 use std::alloc::{AllocError, Global};
