@@ -123,7 +123,12 @@ fn faults_as_printed(rt: HostRuntime) -> Result<(), Fail> {
             },
             "error: X1 1025\n",
         ),
-        (Fault::NotYet, "error: X0\n"),
+        (
+            Fault::NotYet {
+                place: Span { line: 1, column: 1 },
+            },
+            "error: X4 line 1 column 1\n",
+        ),
         (
             Fault::Input(InputFault::BadField {
                 entry: 0,
