@@ -1,2 +1,3 @@
 pub mod Judgement
 pub mod Answer
+pub mod Refusals

@@ -1,4 +1,11 @@
-use crate::program_fault::ProgramFault;
+ghost use Rattle.std.specs.Prelude.{◌≡◌};
+ghost use Rattle.front_end.specs.Refusals.{refused, lexer_error, parser_error, type_error, fault_said};
+
+use crate::program_fault::{ProgramFault, of_grammar};
+use domain_types::TypeError;
+use sc_text::{Fault, PlacedFault, Span};
+use secrec_lexer::LexErr;
+use secrec_parser::ParseErr;
 
 /// Why there is no program.
 #[derive(Clone, Copy, Debug, PartialEq, Eq)]
@@ -7,4 +14,59 @@ pub enum ProgramErr {
     Refused(ProgramFault),
     /// Memory ran short.
     Memory,
+}
+
+// A refusal for this fault at this place.
+fn refusal(fault: PlacedFault, place: Span) -> ProgramErr
+    ensures { result ≡ refused fault place }
+{
+    ProgramErr::Refused(ProgramFault { fault, place })
+}
+
+impl From<LexErr> for ProgramErr {
+    ghost from_gives = { λ error given. given ≡ lexer_error error };
+
+    fn from(error: LexErr) -> Self {
+        match error {
+            LexErr::Memory => ProgramErr::Memory,
+            LexErr::Refused { fault, place } => refusal(fault.into(), place),
+        }
+    }
+}
+
+impl From<ParseErr> for ProgramErr {
+    ghost from_gives = { λ error given. given ≡ parser_error error };
+
+    fn from(error: ParseErr) -> Self {
+        match error {
+            ParseErr::Memory => ProgramErr::Memory,
+            ParseErr::Refused { problem, place } => refusal(of_grammar(problem), place),
+        }
+    }
+}
+
+impl From<TypeError> for ProgramErr {
+    ghost from_gives = { λ error given. given ≡ type_error error };
+
+    fn from(error: TypeError) -> Self {
+        match error {
+            TypeError::Memory => ProgramErr::Memory,
+            TypeError::Refused(fault) => ProgramErr::Refused(fault.into()),
+        }
+    }
+}
+
+/// The fault whose line a command says.
+impl From<ProgramErr> for Fault {
+    ghost from_gives = { λ error fault. fault ≡ fault_said error };
+
+    fn from(error: ProgramErr) -> Self {
+        match error {
+            ProgramErr::Memory => Fault::Memory,
+            ProgramErr::Refused(ProgramFault { fault, place }) => Fault::Placed {
+                fault,
+                span: place,
+            },
+        }
+    }
 }

@@ -3,7 +3,10 @@ ghost use Rattle.front_end.specs.Judgement.{Judged, IsJudged};
 ghost use Rattle.front_end.specs.Answer.{IsAnswer, IsJust};
 
 use crate::program_err::ProgramErr;
+use domain_types::check;
 use secrec_ast::Program;
+use secrec_lexer::lex;
+use secrec_parser::parse;
 use std::alloc::Global;
 
 /// The program that a text is.
@@ -15,5 +18,8 @@ pub fn read_program(alloc: Global, text: &[u8]) -> Result<Program, ProgramErr>
     // A text has no other, unless memory ran out.
     ensures only { (judged : Judged) → IsJudged text.now judged → IsJust result judged }
 {
-    Err(ProgramErr::Memory)
+    let tokens = lex(alloc, text)?;
+    let program = parse(alloc, &tokens)?;
+    check(alloc, &program)?;
+    Ok(program)
 }
