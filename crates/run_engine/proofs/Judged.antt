@@ -4,11 +4,14 @@ use Rattle.std.specs.Option.{ok_or}
 use Rattle.std.specs.Result.{IsErrAnd}
 use Rattle.outside.specs.Files.{Contents, FilesState, file_at}
 use Rattle.sc_text.specs.declared.code.PlacedFault.TheVariants.{BadByte}
-use Rattle.secrec_ast.specs.Programs.{ProgramTree}
+use Rattle.front_end.specs.declared.program_fault.ProgramFault.{ProgramFault}
+use Rattle.front_end.specs.declared.program_err.ProgramErr.{ProgramErr}
+use Rattle.front_end.specs.declared.program_err.ProgramErr.TheVariants.{Refused}
+use Rattle.front_end.specs.Answer.{IsAnswer, IsJust}
 use Rattle.front_end.specs.Judgement.{Judged, IsJudged}
 use Rattle.command_frame.specs.declared.stop.Stop.{Stop}
 use Rattle.command_frame.specs.declared.stop.Stop.TheVariants as stops
-use Rattle.command_frame.specs.Answer.{Cause, bytes_at, missing, ◌>>=◌}
+use Rattle.command_frame.specs.Answer.{Cause, bytes_at, missing}
 use Rattle.command_frame.specs.Reads.{Stops}
 use Rattle.command_frame.specs.Stops.{IsRefusalFor}
 use Rattle.run_engine.specs.Judging.{JudgedAt, HasJudgement, StopTells, Tells}
@@ -75,6 +78,18 @@ refused_so old new stops.Usage decided for is = absurd for
 refused_so old new (stops.Refused r) decided for is = λ t. is t ∙ ap (λ (c : Cause). Err c) (sym for)
 refused_so old new (stops.File line) decided for is = absurd for
 refused_so old new stops.Out decided for is = absurd for
+
+-- the bytes as they are lent
+pub as_lent : (files : Contents) (path bytes lent : List ℕ) → bytes_at files path ≡ Ok bytes → lent ≡ bytes → bytes_at files path ≡ Ok lent
+as_lent files path bytes lent is same = rw same is
+
+-- what the front end says of a text that it refuses
+pub refusal_known : (bytes : List ℕ) (e : ProgramErr) (fault : ProgramFault) → e ≡ Refused fault → IsAnswer bytes (Err e) → IsJudged bytes (Err fault)
+refusal_known bytes e fault is a = subst (λ (x : ProgramErr). IsAnswer bytes (Err x)) is a
+
+pub refusal_only : (bytes : List ℕ) (e : ProgramErr) (fault : ProgramFault) → e ≡ Refused fault → ((j : Judged) → IsJudged bytes j → IsJust (Err e) j)
+    → (j : Judged) → IsJudged bytes j → j ≡ Err fault
+refusal_only bytes e fault is only j judged = subst (λ (x : ProgramErr). IsJust (Err x) j) is (only j judged)
 
 pub judgement_of_nothing : (files : Contents) → HasJudgement None files
 judgement_of_nothing files = (some, tt)

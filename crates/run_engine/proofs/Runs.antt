@@ -1,33 +1,28 @@
 -- What the answers of the commands are, for files that are as they must be, and for files that are refused.
-use Rattle.std.proofs.Common.{◌≡◌, ◌≤◌, ◌⊎◌, ℕ, List, length, true, false, Option, Some, None, Ok, Err, Result, refl, ap, subst, sym, ◌∙◌, inl, inr, arith}
+use Rattle.std.proofs.Common.{◌≡◌, ◌≤◌, ◌⊎◌, ℕ, List, length, true, false, Option, Some, None, Ok, Err, refl, ap, subst, sym, ◌∙◌, inl, inr, arith}
 use Rattle.std.specs.Prelude.{nat_lt}
-use Rattle.std.specs.Option.{ok_or}
 use Rattle.std.proofs.lemmas.Bool.Decides.{nat_tests}
 use Rattle.outside.specs.Files.{Contents, FilesState, file_at}
 use Rattle.outside.specs.Sink.{SinkState, Appends}
 use Rattle.command_frame.specs.declared.status.Status.{Status}
 use Rattle.command_frame.specs.declared.status.Status.TheVariants as statuses
-use Rattle.command_frame.specs.Answer.{Answer, Cause, after_writes, bytes_at, missing, usage, ◌>>=◌}
+use Rattle.command_frame.specs.Answer.{Answer, after_writes, bytes_at, usage}
 use Rattle.command_frame.specs.Status.{is_end, is_fault, is_refusal}
 use Rattle.command_frame.specs.Whole.{CarriedOut, IsAnswered}
-use Rattle.command_words.specs.Ask.{Ask, CheckAsk, RunAsk, DealAsk, Source, file, seeded, check, run, deal, words_of}
+use Rattle.command_words.specs.Ask.{Ask, CheckAsk, RunAsk, DealAsk, check, run, deal, words_of}
 use Rattle.secrec_ast.specs.Programs.{ProgramTree}
 use Rattle.front_end.specs.Judgement.{Judged, IsJudged}
 use Rattle.input_share.specs.Dealing.{need_of}
 use Rattle.sc_text.specs.declared.end.Ending.{Ending}
 use Rattle.sc_text.specs.declared.end.Ending.TheVariants as endings
-use Rattle.tape_file.specs.Format.{read_of as tapes_read_of}
-use Rattle.tape_file.specs.Seeds.{seed_tapes}
 use Rattle.tape_file.specs.Tapes.{FourTapes}
 use Rattle.value_file.specs.declared.inputs.Entry.{Entry}
-use Rattle.value_file.specs.declared.read_err.ReadErr.{ReadErr}
-use Rattle.value_file.specs.Input.{read_of as inputs_read_of}
-use Rattle.run_engine.specs.Deal.{deal_of, dealing, deal_effect, deal_writes}
+use Rattle.run_engine.specs.Deal.{deal_of, deal_effect, deal_writes}
 use Rattle.run_engine.specs.Outcome.{Outcome, outcome_of, status_of}
 use Rattle.run_engine.specs.Check.{check_of, check_effect, check_text}
 use Rattle.run_engine.specs.Judging.{JudgedAt, HasJudgement}
 use Rattle.run_engine.specs.Programs.{bad_program, not_yet, sum_at, tree_at}
-use Rattle.run_engine.specs.Run.{bad_input, bad_tape, inputs_at, outcome_text, read_or, run_effect, run_of, tape_file_at, tapes_at}
+use Rattle.run_engine.specs.Run.{bad_input, bad_tape, inputs_at, outcome_text, run_effect, run_of, tape_file_at, tapes_at}
 use Rattle.run_engine.specs.Runs.{HoldsProgram, HoldsBadProgram, HoldsSum, HoldsRun, HoldsDeal, CheckRefused, RunRefused, cannot_run_yet, bad_program as program_refused, bad_input as input_refused, bad_tape as tape_refused}
 use Rattle.run_engine.specs.SumProgram.{SumProgram, IsSumProgram}
 use Rattle.run_engine.specs.SumReading.{sum_program_of}
@@ -73,11 +68,14 @@ pub has_answer : (words : List (List ℕ)) (ask : Ask) (files : Contents) → wo
 has_answer words ask files e (judged, h) = (answer_to judged ask files, is_answer words ask files judged e h)
 
 pub answer_of_usage : (words : List (List ℕ)) (files : Contents) → words_of words ≡ None → HasJudgement None files → HasAnswer words files
-answer_of_usage words files e (judged, h) = (answer_of judged words files, record {
-  judged = judged;
-  of_text = subst (λ (p : Option (List ℕ)). JudgedAt p files judged) (sym (no_program words e)) h;
-  is = refl;
-})
+answer_of_usage words files e (judged, h) = (
+  answer_of judged words files,
+  record {
+    judged = judged;
+    of_text = subst (λ (p : Option (List ℕ)). JudgedAt p files judged) (sym (no_program words e)) h;
+    is = refl;
+  },
+)
 
 pub program_of_command : (words : List (List ℕ)) (ask : Ask) (path : List ℕ) → words_of words ≡ Some ask → program_named words ≡ Some path → program_in ask ≡ Some path
 program_of_command words ask path e named = sym (program_by words ask e) ∙ named

@@ -1,6 +1,5 @@
 -- The reading of a tree finds exactly the programs that open one sum.
-use Rattle.std.proofs.Common.{◌≡◌, ◌≢◌, ◌↔◌, ℕ, List, [], ◌∷◌, length, Bool, true, false, not, ◌&&◌, ◌==◌, if◌then◌else◌, cond, Option, Some, None, option_map, refl, ap, ◌∙◌, sym, subst, rules, codes, is_none}
-use Rattle.std.specs.Option.{option_and_then}
+use Rattle.std.proofs.Common.{◌≡◌, ◌≢◌, ℕ, List, [], ◌∷◌, length, Bool, true, false, not, ◌&&◌, ◌==◌, if◌then◌else◌, Option, Some, None, refl, ap, ◌∙◌, sym, subst, rules, codes, is_none}
 use Rattle.std.specs.Str.{bytes_eq}
 use Rattle.std.proofs.lemmas.Slice.Eq.{bytes_eq-Decides}
 use Rattle.sc_text.specs.declared.span.Span.{Span}
@@ -18,7 +17,7 @@ use Rattle.secrec_ast.specs.declared.function.ResultType.TheVariants as results
 use Rattle.secrec_ast.specs.Tree.{Tree, variable, binary, declassify, argument, publish}
 use Rattle.secrec_ast.specs.Statements.{DeclarationTree, StatementTree, StatementTrees, declaration, evaluation, none, also}
 use Rattle.secrec_ast.specs.Programs.{BlockTree, FunctionTree, ItemTree, imports, domain, defines, ProgramTree}
-use Rattle.run_engine.specs.SumProgram.{Asked, SumProgram, AskPlaces, PublishPlaces, SumPlaces, IsSumProgram, named, asks, adds, publishes, main_of, sum_statements, sum_items, sum_tree, is_plain_name}
+use Rattle.run_engine.specs.SumProgram.{Asked, SumProgram, AskPlaces, PublishPlaces, SumPlaces, IsSumProgram, named, asks, publishes, sum_statements, sum_items, is_plain_name}
 use Rattle.run_engine.specs.SumReading.{◌>>=◌, asked_in, asked_value, is_domain_p, is_number, is_private_number, asked_as, asked_for, asked_by, is_variable, is_plus, is_sum, is_opened_sum, published_in, published_by, sum_of_three, sum_in, is_import, is_domain, is_void, is_main, sum_of_main, sum_of_four, sum_of_items, are_good_names, if_good, sum_program_of, ReadingIsTree}
 
 -- ---- a step and then another, a test and then a value
@@ -114,10 +113,12 @@ asked_for_is d a is =
     let element : d.declared.element ≡ types.Uint64 = number_is d.declared.element word in
     let array : d.declared.array ≡ false = no_array d.declared.array single in
     let whole : declared d.declared.place d.variable.place d.declared.domain d.declared.element d.declared.array d.variable.text d.size d.value
-        ≡ declared d.declared.place d.variable.place (domains.Named (named (codes "p") domain_place)) types.Uint64 false a.name None (Some (argument place a.name))
-        = declared_so d.declared.place d.variable.place is_domain element array text size value in
-    (record { type_at = d.declared.place; domain_at = domain_place; variable_at = d.variable.place; argument_at = place },
-     whole, ap (λ (a : Asked). a.line) (sym is_a) ∙ line)
+    ≡ declared d.declared.place d.variable.place (domains.Named (named (codes "p") domain_place)) types.Uint64 false a.name None (Some (argument place a.name))
+    = declared_so d.declared.place d.variable.place is_domain element array text size value in (
+      record { type_at = d.declared.place; domain_at = domain_place; variable_at = d.variable.place; argument_at = place },
+      whole,
+      ap (λ (a : Asked). a.line) (sym is_a) ∙ line,
+    )
 
 asked_by_is : (s : StatementTree) (a : Asked) → asked_by s ≡ Some a → IsAskedAt s a
 asked_by_is (declaration d) a is = asked_for_is d a is
@@ -230,10 +231,10 @@ main_is f is =
     let (first, main) = both_are (length f.variables == 0 && is_void f.returned) (bytes_eq f.function.text (codes "main")) front in
     let (plain, void) = both_are (length f.variables == 0) (is_void f.returned) first in
     let whole : function f.variables f.returned f.function f.parameters f.body ≡ main_with f.function.place f.body =
-        ap (λ (v : List DomainVariable). function v f.returned f.function f.parameters f.body) (no_length f.variables plain)
-        ∙ ap (λ (r : ResultType). function [] r f.function f.parameters f.body) (void_is f.returned void)
-        ∙ ap (λ (x : Identifier). function [] results.Void x f.parameters f.body) (named_is f.function (codes "main") main)
-        ∙ ap (λ (ps : List Parameter). function [] results.Void (named (codes "main") f.function.place) ps f.body) (no_length f.parameters alone) in
+    ap (λ (v : List DomainVariable). function v f.returned f.function f.parameters f.body) (no_length f.variables plain)
+    ∙ ap (λ (r : ResultType). function [] r f.function f.parameters f.body) (void_is f.returned void)
+    ∙ ap (λ (x : Identifier). function [] results.Void x f.parameters f.body) (named_is f.function (codes "main") main)
+    ∙ ap (λ (ps : List Parameter). function [] results.Void (named (codes "main") f.function.place) ps f.body) (no_length f.parameters alone) in
     whole
 
 abbrev IsMainItem : ItemTree → SumProgram → Type 0
@@ -272,8 +273,16 @@ four_are a b c d p is =
     let (right_at, is_t, right_line) = right in
     let (publish_at, is_u) = last in
     let at : SumPlaces = record {
-      stdlib_at = stdlib_at; shared3p_at = shared3p_at; domain_at = domain_at; kind_at = kind_at; main_at = main_at; body_at = body_at;
-      left_at = left_at; right_at = right_at; publish_at = publish_at; end_at = body_at;
+      stdlib_at = stdlib_at;
+      shared3p_at = shared3p_at;
+      domain_at = domain_at;
+      kind_at = kind_at;
+      main_at = main_at;
+      body_at = body_at;
+      left_at = left_at;
+      right_at = right_at;
+      publish_at = publish_at;
+      end_at = body_at;
     } in
     let whole : ss ≡ sum_statements p at = is_ss ∙ statements_so is_s is_t is_u in
     (at, items_so is_a is_b is_c (is_d ∙ ap (λ (ss : StatementTrees). defines (main_with main_at (record { place = body_at; statements = ss }))) whole), left_line, right_line)

@@ -1,10 +1,13 @@
 -- What a whole command leaves, for the answer that the words have.
-use Rattle.std.proofs.Common.{◌≡◌, ◌≢◌, ◌⊎◌, inl, inr, ℕ, List, [], true, false, Option, Some, None, Ok, Err, Result, refl, subst}
+use Rattle.std.proofs.Common.{◌≡◌, ◌≢◌, ◌⊎◌, inl, inr, ℕ, List, [], true, false, Some, None, Ok, Err, Result, refl, subst}
 use Rattle.std.specs.Prelude.{IsSome}
 use Rattle.outside.specs.Files.{Contents, FilesState}
 use Rattle.outside.specs.Sink.{SinkState, SameSink}
 use Rattle.front_end.specs.Judgement.{Judged}
+use Rattle.command_words.specs.declared.command.WordsErr.{WordsErr}
+use Rattle.command_words.specs.declared.command.WordsErr.TheVariants.{Usage}
 use Rattle.command_words.specs.Ask.{Ask, words_of}
+use Rattle.command_words.specs.Views.{Reads, ask_of}
 use Rattle.command_frame.specs.declared.plan.Plan.{Plan}
 use Rattle.command_frame.specs.declared.status.Status.{Status}
 use Rattle.command_frame.specs.declared.status.Status.TheVariants as statuses
@@ -47,9 +50,12 @@ for_answer words ask files P e all answer a =
     subst P is (all judged at)
 
 pub is_named : (words : List (List ℕ)) (ask : Ask) → words_of words ≡ Some ask → IsSome (words_of words)
-is_named words ask e = rw e tt
+is_named words ask e = rw e refl
 
 pub printed_so : (words : List (List ℕ)) (ask : Ask) (files : FilesState) (o o' : SinkState) → words_of words ≡ Some ask
     → SameSink o o' ⊎ (files.told ≡ true → HasJudgement (program_in ask) files.contents) → SameSink o o' ⊎ (files.told ≡ true → HasAnswer words files.contents)
 printed_so words ask files o o' e (inl same) = inl same
 printed_so words ask files o o' e (inr known) = inr (λ t. has_answer words ask files.contents e (known t))
+
+pub no_words : (words : List (List ℕ)) (e : WordsErr) → e ≡ Usage → Reads ask_of (words_of words) (Err e) → words_of words ≡ None
+no_words words e is reads = subst (λ (x : WordsErr). Reads ask_of (words_of words) (Err x)) is reads

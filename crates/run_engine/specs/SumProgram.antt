@@ -2,7 +2,7 @@
 --
 --     import stdlib; import shared3p; domain p shared3p;
 --     void main() { p uint64 V = argument("V"); p uint64 W = argument("W"); publish("R", declassify(V + W)); }
-use Rattle.std.specs.Prelude.{◌≡◌, ◌≢◌, ℕ, Bool, true, false, List, [], ◌∷◌, length, nat_le, ◌&&◌, Option, Some, None, codes}
+use Rattle.std.specs.Prelude.{◌≡◌, ◌≢◌, ℕ, Bool, true, false, List, [], ◌∷◌, length, nat_le, ◌&&◌, Some, None, codes}
 use Rattle.std.specs.List.{list_all}
 use Rattle.sc_text.specs.declared.span.Span.{Span}
 use Rattle.secrec_ast.specs.declared.expression.DataType.TheVariants as types
@@ -12,7 +12,7 @@ use Rattle.secrec_ast.specs.declared.statement.Domain.TheVariants as domains
 use Rattle.secrec_ast.specs.declared.function.ResultType.TheVariants as results
 use Rattle.secrec_ast.specs.Tree.{Tree, variable, binary, declassify, argument, publish}
 use Rattle.secrec_ast.specs.Statements.{StatementTree, StatementTrees, declaration, evaluation, none, also}
-use Rattle.secrec_ast.specs.Programs.{BlockTree, FunctionTree, ItemTree, imports, domain, defines, ProgramTree}
+use Rattle.secrec_ast.specs.Programs.{FunctionTree, ItemTree, imports, domain, defines, ProgramTree}
 
 -- an argument that the program asks for: its name, and the line where it is asked for
 pub record Asked : Type 0 where

@@ -148,12 +148,7 @@ fn ask(
 /// Runs this program on these inputs and tapes: the dealer splits the inputs, and where both arguments are
 /// there three miners add and open them, as far as the budget goes.
 #[tactic(auto, unfolding(crate::specs::Outcome::outcome_of))]
-pub fn run_sum(
-    program: SumProgram<'_>,
-    entries: &[Entry],
-    tapes: &Tapes,
-    budget: u64,
-) -> Outcome
+pub fn run_sum(program: SumProgram<'_>, entries: &[Entry], tapes: &Tapes, budget: u64) -> Outcome
     ensures { outcome_view (seen program.entry).published result ≡ outcome_of (seen program.entry) entries.now tapes.now budget }
 {
     let need = need(entries);

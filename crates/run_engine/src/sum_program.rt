@@ -80,7 +80,11 @@ fn is_private_number(declared: &DeclaredType) -> bool
 fn asked_as<'a>(name: &[u8], asked: Asked<'a>) -> Option<Asked<'a>>
     ensures { option_map seen_asked result ≡ asked_as name.now (seen_asked asked.entry) }
 {
-    if asked.name == name { Some(asked) } else { None }
+    if asked.name == name {
+        Some(asked)
+    } else {
+        None
+    }
 }
 
 // The argument of the variable's own name.

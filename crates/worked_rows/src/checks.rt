@@ -153,10 +153,7 @@ const SPACED: &str =
 // Inputs, and what is printed of that sum.
 const SPACED_RUNS: [(&str, &str); 3] = [
     (INPUT, "open 13\npublish s 13\nend done cost 7\n"),
-    (
-        "{\"inputs\":[]}",
-        "end trap Argument line 5 cost 1\n",
-    ),
+    ("{\"inputs\":[]}", "end trap Argument line 5 cost 1\n"),
     (
         "{\"inputs\":[{\"name\":\"a\",\"domain\":\"private\",\"type\":\"uint64\",\"value\":6}]}",
         "end trap Argument line 7 cost 3\n",
