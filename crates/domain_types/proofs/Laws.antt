@@ -1,7 +1,10 @@
 -- The fault that the checker keeps is the least of all.
-use Rattle.std.proofs.Common.{◌≡◌, ℕ, ◌<◌, ◌≤◌, List, [], ◌∷◌, ◌++◌, ◌⊎◌, inl, inr, refl, sym, ap, ◌∙◌, subst, Option, Some, None, Bool, true, false, cond, arith, ⊎_elim}
-use Rattle.std.specs.Prelude.{nat_eq, nat_lt, nat_le, ◌&&◌, ◌||◌}
+use Rattle.std.proofs.Common.{◌≡◌, ℕ, ◌<◌, ◌≤◌, List, [], ◌∷◌, ◌++◌, ◌⊎◌, inl, inr, refl, sym, ap, ap₂, ◌∙◌, subst, Option, Some, None, Bool, true, false, cond, arith, ⊎_elim}
+use Rattle.std.specs.Prelude.{nat_eq, nat_lt, nat_le, ◌&&◌, ◌||◌, if◌then◌else◌}
 use Rattle.std.proofs.lemmas.Bool.{eqb-true, eqb-false, ltb-true, ltb-false, leb-true, leb-false}
+use Rattle.sc_text.specs.declared.span.Span.{Span}
+use Rattle.domain_types.specs.declared.fault.Problem.{Problem}
+use Rattle.domain_types.specs.declared.fault.Problem.TheVariants.{UnknownName, Twice, TypeMismatch, PrivateCondition, PrivateIndex, PrivateSize, PrivateToPublic, PrivateDivision, PrivateAssert, DomainMix, NoMain, BadImport, BadArity, MissingReturn, ArgumentPlace}
 use Rattle.domain_types.specs.declared.fault.Fault.{Fault}
 use Rattle.domain_types.specs.Least.{number_of, Among, NotAfter, IsLeast, is_before, lesser, least}
 
@@ -93,5 +96,59 @@ kept o (g ∷ fs) e = go (is_before o g) e (kept o fs) (kept g fs)
 pub none_from_least : (fs : List Fault) → least None fs ≡ None → fs ≡ []
 none_from_least [] e = refl
 none_from_least (f ∷ fs) e = absurd (kept f fs e)
+
+-- ONE LEAST FAULT
+
+-- the problem of a number
+abbrev problem_of : ℕ → Problem
+problem_of n =
+    if nat_eq n 1 then UnknownName
+    else if nat_eq n 2 then Twice
+    else if nat_eq n 3 then TypeMismatch
+    else if nat_eq n 4 then PrivateCondition
+    else if nat_eq n 5 then PrivateIndex
+    else if nat_eq n 6 then PrivateSize
+    else if nat_eq n 7 then PrivateToPublic
+    else if nat_eq n 8 then PrivateDivision
+    else if nat_eq n 9 then PrivateAssert
+    else if nat_eq n 10 then DomainMix
+    else if nat_eq n 11 then NoMain
+    else if nat_eq n 12 then BadImport
+    else if nat_eq n 13 then BadArity
+    else if nat_eq n 14 then MissingReturn
+    else ArgumentPlace
+
+numbered : (x : Problem) → problem_of (number_of x) ≡ x
+numbered UnknownName = refl
+numbered Twice = refl
+numbered TypeMismatch = refl
+numbered PrivateCondition = refl
+numbered PrivateIndex = refl
+numbered PrivateSize = refl
+numbered PrivateToPublic = refl
+numbered PrivateDivision = refl
+numbered PrivateAssert = refl
+numbered DomainMix = refl
+numbered NoMain = refl
+numbered BadImport = refl
+numbered BadArity = refl
+numbered MissingReturn = refl
+numbered ArgumentPlace = refl
+
+-- two faults of which neither stands after the other
+pub same_fault : (f g : Fault) → NotAfter f g → NotAfter g f → f ≡ g
+same_fault f g a b =
+    let x = a.lines in
+    let y = b.lines in
+    let line : f.place.line ≡ g.place.line = omega arith in
+    let u = a.columns line in
+    let v = b.columns (sym line) in
+    let column : f.place.column ≡ g.place.column = omega arith in
+    let i = a.numbers line column in
+    let j = b.numbers (sym line) (sym column) in
+    let number : number_of f.problem ≡ number_of g.problem = omega arith in
+    let problem : f.problem ≡ g.problem = sym (numbered f.problem) ∙ ap problem_of number ∙ numbered g.problem in
+    let place : f.place ≡ g.place = ap₂ (λ (l k : ℕ). record { line = l; column = k }) line column in
+    ap₂ (λ (p : Span) (q : Problem). record { place = p; problem = q }) place problem
 
 pub ruleset laws = (is_least, none_from_least)

@@ -1,4 +1,3 @@
-pub mod TypingPlain
 pub mod TypingRows
 pub mod TypingSteps
 pub mod TypingRules
@@ -10,6 +9,7 @@ pub mod TypingPrograms
 pub mod Faults
 pub mod Names
 pub mod Naming
+pub mod HeadNames
 pub mod Bindings
 pub mod Calling
 pub mod Tables
@@ -19,3 +19,6 @@ pub mod Blocks
 pub mod Returning
 pub mod Growing
 pub mod Laws
+pub mod Listing
+pub mod WorkList
+pub mod Verdicts

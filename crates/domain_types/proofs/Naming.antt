@@ -51,7 +51,7 @@ nowhere x (f ∷ fs) k e i = go (bytes_eq x (name_of f)) (number_in x (map name_
         let step : m + 1 ≡ suc m = omega arith in
         rest m refl (sym (ap (slice_get (f ∷ fs)) step) ∙ here)
 
-pub there_at : (fs : List (Bor Function)) (k : ℕ) (g : Bor Function) → k < length fs → g ≡ get_or fs k g → slice_get fs k ≡ Some g
+pub there_at : {A : Type 0} (fs : List A) (k : ℕ) (g : A) → k < length fs → g ≡ get_or fs k g → slice_get fs k ≡ Some g
 there_at [] k g within e = absurd (omega arith)
 there_at (f ∷ fs) zero g within e = ap Some (sym e)
 there_at (f ∷ fs) (suc k) g within e = there_at fs k g (omega arith) e

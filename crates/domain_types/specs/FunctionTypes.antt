@@ -68,10 +68,19 @@ is_earlier p q = nat_lt p.line q.line || (nat_eq p.line q.line && nat_lt p.colum
 abbrev pub later_of : Span → Span → Span
 later_of p q = if is_earlier p q then q else p
 
--- a variable that is called as a kind or a domain: at the later of the two
+-- the first of these with this name
+abbrev pub first_named : List ℕ → List Identifier → Option Identifier
+first_named x [] = None
+first_named x (y ∷ ys) = if bytes_eq x y.text then Some y else first_named x ys
+
+-- a variable that is called as a kind or a domain: at the later of it and the first of that name. A further one of that name
+-- stands behind the first, so the fault there would be no earlier
+abbrev pub hidden_faults : Identifier → Option Identifier → List Fault
+hidden_faults x None = []
+hidden_faults x (Some y) = fault_at (later_of x.place y.place) Twice
+
 abbrev pub hiding_faults : Identifier → List Identifier → List Fault
-hiding_faults x [] = []
-hiding_faults x (y ∷ ys) = fault_if (bytes_eq x.text y.text) (later_of x.place y.place) Twice ++ hiding_faults x ys
+hiding_faults x ys = hidden_faults x (first_named x.text ys)
 
 -- the kind `shared3p` of an import stands before all else
 abbrev pub imported_faults : Declared → Identifier → List Fault
@@ -90,19 +99,19 @@ abbrev pub is_in_parameter : List ℕ → List Parameter → Bool
 is_in_parameter x [] = false
 is_in_parameter x (p ∷ ps) = is_named x p.declared.domain || is_in_parameter x ps
 
--- a domain variable behind those before it
-abbrev pub domain_variable_faults : Declared → List ItemTree → List Parameter → List DomainVariable → DomainVariable → List Fault
-domain_variable_faults d items ps before v =
+-- a domain variable behind those before it, in a program with these kinds and domains
+abbrev pub domain_variable_faults : Declared → (protections : List Identifier) → List Parameter → List DomainVariable → DomainVariable → List Fault
+domain_variable_faults d protections ps before v =
     kind_faults d v.kind
     ++ fault_if (is_variable v.variable.text before) v.variable.place Twice
     ++ imported_faults d v.variable
-    ++ hiding_faults v.variable (protections_of items)
+    ++ hiding_faults v.variable protections
     ++ fault_if (not (is_in_parameter v.variable.text ps)) v.variable.place TypeMismatch
 
-abbrev pub domain_variables_faults : Declared → List ItemTree → List Parameter → List DomainVariable → List DomainVariable → List Fault
-domain_variables_faults d items ps before [] = []
-domain_variables_faults d items ps before (v ∷ vs) =
-    domain_variable_faults d items ps before v ++ domain_variables_faults d items ps (v ∷ before) vs
+abbrev pub domain_variables_faults : Declared → (protections : List Identifier) → List Parameter → List DomainVariable → List DomainVariable → List Fault
+domain_variables_faults d protections ps before [] = []
+domain_variables_faults d protections ps before (v ∷ vs) =
+    domain_variable_faults d protections ps before v ++ domain_variables_faults d protections ps (v ∷ before) vs
 
 abbrev pub head_faults : Declared → List ItemTree → FunctionTree → List Fault
-head_faults d items f = domain_variables_faults d items f.parameters [] f.variables
+head_faults d items f = domain_variables_faults d (protections_of items) f.parameters [] f.variables

@@ -2,6 +2,7 @@ pub mod Types
 pub mod Declarations
 pub mod Index
 pub mod Named
+pub mod Lent
 pub mod Views
 pub mod Scopes
 pub mod Table
@@ -10,7 +11,9 @@ pub mod StatementTypes
 pub mod FunctionTypes
 pub mod Least
 pub mod Reached
+pub mod Instances
 pub mod ProgramTypes
+pub mod WorkList
 pub mod Answer
 pub mod Typing
 pub mod Vectors

@@ -80,22 +80,6 @@ declaring_faults p =
 
 -- THE FAULTS OF A PROGRAM
 
--- the faults of the plain functions, which have no domain variables
-abbrev pub faults_if_plain : Declared → FunctionTree → List Fault
-faults_if_plain d f = if is_without f.variables then function_faults (within d f []) f else []
-
-abbrev pub plain_faults : Declared → List FunctionTree → List Fault
-plain_faults d [] = []
-plain_faults d (f ∷ fs) = faults_if_plain d f ++ plain_faults d fs
-
--- and their calls
-abbrev pub calls_if_plain : Declared → FunctionTree → List Call
-calls_if_plain d f = if is_without f.variables then function_calls (within d f []) f else []
-
-abbrev pub plain_calls : Declared → List FunctionTree → List Call
-plain_calls d [] = []
-plain_calls d (f ∷ fs) = calls_if_plain d f ++ plain_calls d fs
-
 -- those of its declarations; those of each function that is checked, with its domains; and those of the head of each
 -- function that is called there, whether or not that call is refused
 pub data IsFault (p : ProgramTree) : Fault → Type 0 where

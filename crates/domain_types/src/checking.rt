@@ -1,36 +1,40 @@
 // The checker over a whole program.
-ghost use Rattle.secrec_ast.specs.Programs.{program_tree};
-ghost use Rattle.domain_types.specs.Answer.{IsAnswer, IsVerdict};
+ghost use Rattle.std.specs.Prelude.{◌≡◌, ◌↔◌, IfOk, map, vec_items};
+ghost use Rattle.secrec_ast.specs.Programs.{ProgramTree, program_tree};
+ghost use Rattle.domain_types.specs.declared.fault.Fault.{Fault};
+ghost use Rattle.domain_types.specs.Instances.{instance_seen};
+ghost use Rattle.domain_types.specs.ProgramTypes.{IsAccepted, IsRefused};
+ghost use Rattle.domain_types.specs.Typing.{IsTypedProgram};
+ghost use Rattle.domain_types.specs.Answer.{AreTheChecked, IsTold, IsVerdict};
 
-use crate::calls::Found;
 use crate::collecting::collect;
-use crate::fault::Problem;
+use crate::fault::{Fault, Problem};
 use crate::instance::Instance;
-use crate::items::{has_main, items, plain_functions};
+use crate::items::{has_main, items};
+use crate::protections::Protections;
 use crate::type_error::TypeError;
+use crate::visiting::{called_heads, visit_all};
 use crate::worst::note_if;
 use secrec_ast::Program;
-use std::alloc::Global;
+use std::alloc::{AllocError, Global};
 
-/// Checks the declarations and the plain functions of a program, and the calls in them: the least of their faults is told. The
-/// bodies and heads of templates are not looked at.
-#[tactic(auto, using(crate::proofs::Faults::appends, crate::proofs::Laws::laws))]
-pub fn check_plain(alloc: Global, program: &Program) -> Result<(), TypeError>
-    ensures { IsAnswer result (program_tree program.now) }
+// The instances that are checked, and the fault that is told, if there is one.
+fn survey(
+    alloc: Global,
+    program: &Program,
+) -> Result<(Vec<Instance>, Option<Fault>), AllocError>
+    ensures checked { IfOk result (λ found. AreTheChecked (program_tree program.now) (map instance_seen (vec_items found.0))) }
+    ensures told { IfOk result (λ found. IsTold found.1 (program_tree program.now)) }
 {
     let declarations = collect(alloc, &program.items)?;
-    let mut found = Found {
-        worst: None,
-        calls: Vec::new(alloc),
-    };
-    items(alloc, &mut found.worst, &declarations, &program.items)?;
+    let protections = Protections::collect(alloc, &program.items)?;
+    let mut worst = None;
+    items(alloc, &mut worst, &declarations, &program.items)?;
     let missing = !has_main(&declarations.functions);
-    note_if(&mut found.worst, missing, program.end, Problem::NoMain);
-    plain_functions(alloc, &mut found, &declarations)?;
-    match found.worst {
-        None => Ok(()),
-        Some(fault) => Err(TypeError::Refused(fault)),
-    }
+    note_if(&mut worst, missing, program.end, Problem::NoMain);
+    let visits = visit_all(alloc, &mut worst, &declarations)?;
+    called_heads(&mut worst, &declarations, &protections, &visits.called);
+    Ok((visits.list.into_instances(), worst))
 }
 
 /// Checks a program against the type rules: the instances of its functions that are checked, or the fault at the least place,
@@ -38,5 +42,17 @@ pub fn check_plain(alloc: Global, program: &Program) -> Result<(), TypeError>
 pub fn check(alloc: Global, program: &Program) -> Result<Vec<Instance>, TypeError>
     ensures { IsVerdict result (program_tree program.now) }
 {
-    Err(TypeError::Memory)
+    let (instances, worst) = survey(alloc, program)?;
+    match worst {
+        None => Ok(instances),
+        Some(fault) => Err(TypeError::Refused(fault)),
+    }
+}
+
+/// What `check` answers is determined: no program has two faults that are told, and none is typed that has one.
+pub fn one_verdict()
+    ensures fault { (p : ProgramTree) (f g : Fault) → IsRefused p f → IsRefused p g → f ≡ g }
+    ensures either { (p : ProgramTree) (f : Fault) → IsRefused p f → IsTypedProgram p → ⊥ }
+    ensures faultless { (p : ProgramTree) → IsAccepted p ↔ IsTypedProgram p }
+{
 }

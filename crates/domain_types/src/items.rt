@@ -1,17 +1,14 @@
-// The faults of declarations, and of plain functions.
-ghost use Rattle.std.specs.Prelude.{◌≡◌, ◌++◌, [], IfOk, map, not};
+// The faults of declarations.
+ghost use Rattle.std.specs.Prelude.{◌≡◌, [], IfOk, map};
 ghost use Rattle.secrec_ast.specs.Programs.{function_tree, item_tree};
 ghost use Rattle.domain_types.specs.Declarations.{is_known_kind};
-ghost use Rattle.domain_types.specs.ProgramTypes.{is_module, space_faults, items_faults, is_main, has_main, faults_if_plain, plain_faults, calls_if_plain, plain_calls};
-ghost use Rattle.domain_types.specs.Views.{declared, tree_at, calls_seen};
+ghost use Rattle.domain_types.specs.ProgramTypes.{is_module, space_faults, items_faults, is_main, has_main};
+ghost use Rattle.domain_types.specs.Views.{declared, tree_at};
 ghost use Rattle.domain_types.specs.Least.{least};
 
-use crate::calls::Found;
 use crate::declarations::Declarations;
 use crate::fault::{Fault, Problem};
-use crate::functions::function;
 use crate::name_index::NameIndex;
-use crate::setting::Setting;
 use crate::worst::note_if;
 use secrec_ast::{Function, Identifier, Item, ResultType};
 use std::alloc::{AllocError, Global};
@@ -22,7 +19,8 @@ fn is_module(name: &str) -> bool
     name == "stdlib" || name == "shared3p"
 }
 
-fn is_known_kind(declarations: &Declarations<'_>, name: &str) -> bool
+/// Whether a kind of this name is imported or declared.
+pub fn is_known_kind(declarations: &Declarations<'_>, name: &str) -> bool
     ensures { result ≡ is_known_kind (declared declarations.now) name.now }
 {
     name == "shared3p" && (declarations.shared3p || declarations.kind_declared)
@@ -109,44 +107,4 @@ pub fn has_main(functions: &[&Function]) -> bool
         found = found || this;
     }
     found
-}
-
-// Checks a function if it is plain.
-#[tactic(auto, using(crate::proofs::Faults::appends))]
-fn plain<'p>(
-    alloc: Global,
-    found: &mut Found,
-    declarations: &Declarations<'p>,
-    each: &'p Function,
-) -> Result<(), AllocError>
-    ensures worst { IfOk result (λ _. found.new.worst ≡ least found.old.worst (faults_if_plain (declared declarations.now) (function_tree each.now))) }
-    ensures calls { IfOk result (λ _. calls_seen found.new.calls.items ≡
-        calls_seen found.old.calls.items ++ calls_if_plain (declared declarations.now) (function_tree each.now)) }
-{
-    if !each.variables.is_empty() {
-        return Ok(());
-    }
-    let here = Setting {
-        declarations,
-        variables: &each.variables,
-        binding: &[],
-    };
-    function(alloc, found, &here, each)
-}
-
-/// Checks the plain functions, which have no domain variables.
-#[tactic(auto, using(crate::proofs::Faults::appends))]
-pub fn plain_functions<'p>(
-    alloc: Global,
-    found: &mut Found,
-    declarations: &Declarations<'p>,
-) -> Result<(), AllocError>
-    ensures worst { IfOk result (λ _. found.new.worst ≡ least found.old.worst (plain_faults (declared declarations.now) (declared declarations.now).functions)) }
-    ensures calls { IfOk result (λ _. calls_seen found.new.calls.items ≡
-        calls_seen found.old.calls.items ++ plain_calls (declared declarations.now) (declared declarations.now).functions) }
-{
-    for each in declarations.functions.iter() {
-        plain(alloc, found, declarations, each)?;
-    }
-    Ok(())
 }

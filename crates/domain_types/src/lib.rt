@@ -1,5 +1,5 @@
-//! The types of a program: whether its declarations and plain functions keep the type rules of the language, and the least of
-//! their faults. Templates are not gone through yet; `specs/` defines what their instances owe, and the checker keeps the calls.
+//! The types of a program: whether it keeps the type rules of the language, the least of its faults where it does not, and
+//! else which of its functions are used with which domains.
 #![tactic(auto)]
 
 mod built_ins;
@@ -13,10 +13,12 @@ mod defined_calls;
 mod expressions;
 mod fault;
 mod functions;
+mod heads;
 mod instance;
 mod items;
 mod name_index;
 mod operations;
+mod protections;
 mod rules;
 mod setting;
 mod simple_statements;
@@ -27,9 +29,11 @@ mod type_error;
 mod value_type;
 mod values;
 mod variables;
+mod visiting;
+mod work_list;
 mod worst;
 
-pub use checking::{check, check_plain};
+pub use checking::{check, one_verdict};
 pub use fault::{Fault, Problem};
 pub use instance::Instance;
 pub use type_error::TypeError;

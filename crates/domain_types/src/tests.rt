@@ -1,5 +1,5 @@
 // Programs of one function, with the answers that the rules give.
-use crate::{Fault, Problem, TypeError, check_plain};
+use crate::{Fault, Problem, TypeError, check};
 use sc_text::{Name, Span};
 use secrec_ast::{Block, Function, Identifier, Item, Program, ResultType, Statement};
 use std::alloc::{AllocError, Global};
@@ -41,7 +41,7 @@ fn name(alloc: Global, text: &str) -> Result<Name, Fail> {
 fn empty_main_is_accepted(rt: HostRuntime) -> Result<(), Fail> {
     let alloc = rt.alloc();
     let program = main_with(alloc, name(alloc, "main")?, Vec::new(alloc))?;
-    assert!(rt; check_plain(alloc, &program) == Ok(()));
+    assert!(rt; check(alloc, &program) == Ok(()));
     Ok(())
 }
 
@@ -54,6 +54,6 @@ fn other_name_is_no_main(rt: HostRuntime) -> Result<(), Fail> {
         place: at(2, 1),
         problem: Problem::NoMain,
     };
-    assert!(rt; check_plain(alloc, &program) == Err(TypeError::Refused(fault)));
+    assert!(rt; check(alloc, &program) == Err(TypeError::Refused(fault)));
     Ok(())
 }

@@ -26,7 +26,7 @@ use Rattle.domain_types.specs.Typing.{IsTypedProgram}
 use Rattle.domain_types.specs.Answer.{IsVerdict}
 use Rattle.front_end.specs.declared.program_fault.ProgramFault.{ProgramFault}
 use Rattle.front_end.specs.declared.program_err.ProgramErr.{ProgramErr}
-use Rattle.front_end.specs.Judgement.{syntax_fault, Spells, IsProgramText, IsRefusedText, of_tokens, of_grammar, of_types, Judged, IsJudged}
+use Rattle.front_end.specs.Judgement.{syntax_fault, Spells, IsRefusedText, of_tokens, of_grammar, of_types, Judged, IsJudged}
 use Rattle.front_end.specs.Answer.{IsAnswer, IsJust}
 use Rattle.front_end.specs.Refusals.{lexer_error, parser_error, type_fault, type_error}
 use Rattle.front_end.proofs.FirstFaults.{one_first_fault, faultless_where_spelled}

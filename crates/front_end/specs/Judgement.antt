@@ -1,5 +1,5 @@
 -- What a text is as a program: the tree of an accepted one, or its first fault.
-use Rattle.std.specs.Prelude.{◌≡◌, ℕ, ◌≤◌, List, Result, Ok, Err}
+use Rattle.std.specs.Prelude.{ℕ, ◌≤◌, List, Result, Ok, Err}
 use Rattle.sc_text.specs.declared.code.PlacedFault.{PlacedFault}
 use Rattle.sc_text.specs.declared.code.PlacedFault.TheVariants as placed
 use Rattle.sc_text.specs.declared.span.Span.{Span}

@@ -1,4 +1,7 @@
 //! The front end: from the bytes of a text to the tree of an accepted program, or the first fault of the text.
+//!
+//! `specs/Judgement.antt` says which text is which program and what a text is refused for, from the definitions of the tokens,
+//! of the grammar and of the type rules. `specs/Refusals.antt` says what each layer's error becomes.
 #![tactic(auto)]
 
 mod program_err;

@@ -1,5 +1,4 @@
 use Rattle.std.proofs.Common.{subst}
-use Rattle.front_end.specs.Judgement.{Judged, IsJudged}
 use Rattle.front_end.specs.Answer.{IsAnswer, IsJust}
 use Rattle.front_end.specs.Refusals.{lexer_error, parser_error, type_error}
 use Rattle.front_end.proofs.Judgements.{handed_on, unlexed, unlexed_only, has_just, unparsed, unparsed_only, spells_just, untyped, untyped_only, typed_only}
