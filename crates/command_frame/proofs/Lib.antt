@@ -1,3 +1,4 @@
 pub mod Naming
+pub mod ReadStops
 pub mod Wholes
 pub mod Writes

@@ -1,6 +1,6 @@
 -- What a whole command does, told of its status alone.
-use Rattle.std.proofs.Common.{◌≡◌, ◌⊎◌, ℕ, List, true, false, Option, None, Ok, Err, Result, refl, ap, subst, sym, ◌∙◌, inl, inr, arith, Contains, string_bytes}
-use Rattle.std.specs.Prelude.{IsOkAnd, IfOk, IfErr}
+use Rattle.std.proofs.Common.{◌≡◌, ◌⊎◌, ℕ, List, [], true, false, Option, None, Ok, Err, Result, refl, ap, subst, sym, ◌∙◌, inl, inr, arith, Contains, string_bytes}
+use Rattle.std.specs.Prelude.{IsOkAnd, IsSome, IfOk, IfErr}
 use Rattle.outside.specs.Files.{Contents, FilesState, SameFiles, file_at}
 use Rattle.outside.specs.Sink.{SinkState, SameSink, Appends}
 use Rattle.command_frame.specs.declared.plan.Plan.{Plan}
@@ -12,7 +12,7 @@ use Rattle.command_frame.specs.Answer.{Answer, Cause, Effect, after_writes, caus
 use Rattle.command_frame.specs.Finish.{Begun, Finishes, OnlyAmong, PutPrefix, WriteFaulted, WroteAll}
 use Rattle.command_frame.specs.Reads.{Faulted, OnlyRead, PlanNames, StopNames, IsLineOf}
 use Rattle.command_frame.specs.Status.{is_end, is_fault, is_refusal}
-use Rattle.command_frame.specs.Whole.{Acts, CarriedOut, EndsAs, IsAnswered, IsCut, IsDone, IsMissed, NamesOne, OnlyWritten, Says, SomeWritten, status_in}
+use Rattle.command_frame.specs.Whole.{Acts, ActsAnyhow, CarriedOut, EndsAnyhow, EndsAs, IsAnswered, IsCut, IsDone, IsMissed, NamesOne, OnlyWritten, Says, SomeWritten, status_in}
 
 -- ---- a plan, and then its effect
 
@@ -26,12 +26,20 @@ only_written answer e a b c read is among = record {
 }
 
 -- nothing was written before, so what was written since then is all
-among_since : (paths : List (List ℕ)) (a b c : FilesState) → OnlyRead a b → OnlyAmong paths b c → OnlyAmong paths a c
+pub among_since : (paths : List (List ℕ)) (a b c : FilesState) → OnlyRead a b → OnlyAmong paths b c → OnlyAmong paths a c
 among_since paths a b c read among = record {
   told = among.told ∙ read.same.told;
   others = λ t q no. among.others (read.same.told ∙ t) q no ∙ ap (λ (m : Contents). file_at m q) read.same.contents;
   later = omega (arith, read.later, among.later);
   still = λ s. among.still (read.still s);
+}
+
+pub nothing_written : (a b : FilesState) → OnlyRead a b → OnlyAmong [] a b
+nothing_written a b read = record {
+  told = read.same.told;
+  others = λ t q no. ap (λ (m : Contents). file_at m q) read.same.contents;
+  later = read.later;
+  still = read.still;
 }
 
 pub begun_since : (answer : Answer) (e : Effect) (a b c : FilesState) → OnlyRead a b → (a.told ≡ true → answer ≡ Ok e) → Begun (paths_in e.writes) b c → SomeWritten answer a c
@@ -79,6 +87,23 @@ ends_as answer e a b c o o' (Err (stops.File line)) read is end (fault, same) =
     (faulted_since answer e a b c (string_bytes line) read fault, same, begun_since answer e a b c read is fault.begun)
 ends_as answer e a b c o o' (Err stops.Out) read is end (wrote, fault) =
     (record { rose = fault.rose; unsteady = fault.unsteady }, cut_since answer e a b c o o' read is wrote fault.put)
+
+pub ends_anyhow : (e : Effect) (a b c : FilesState) (o o' : SinkState) (r : Result Status Stop) → OnlyRead a b → is_end e.status ≡ true
+    → Finishes e b c o o' r → EndsAnyhow a c o o' r
+ends_anyhow e a b c o o' (Ok s) read end (status, wrote, text) = ap is_end status ∙ end
+ends_anyhow e a b c o o' (Err stops.Memory) read end part = tt
+ends_anyhow e a b c o o' (Err stops.Usage) read end part = absurd part
+ends_anyhow e a b c o o' (Err (stops.Refused r)) read end part = absurd part
+ends_anyhow e a b c o o' (Err (stops.File line)) read end (fault, same) = (omega (arith, read.later, fault.rose), same)
+ends_anyhow e a b c o o' (Err stops.Out) read end (wrote, fault) = record { rose = fault.rose; unsteady = fault.unsteady }
+
+pub acts_as : {A : Type 0} (ask : Option A) (answer : Answer) (f f' : FilesState) (o o' : SinkState) (r : Result Status Stop) → IsSome ask → EndsAs answer f f' o o' r → Acts ask answer f f' o o' r
+acts_as ask answer f f' o o' (Ok s) named ends = (named, ends)
+acts_as ask answer f f' o o' (Err stops.Memory) named ends = ends
+acts_as ask answer f f' o o' (Err stops.Usage) named ends = absurd ends
+acts_as ask answer f f' o o' (Err (stops.Refused r)) named ends = (named, ends)
+acts_as ask answer f f' o o' (Err (stops.File line)) named ends = (named, ends)
+acts_as ask answer f f' o o' (Err stops.Out) named ends = (named, ends)
 
 -- ---- over steady objects nothing but want of memory keeps a command from its answer
 
@@ -136,14 +161,14 @@ no_end s is file = let wrong : is_end statuses.File ≡ true = subst (λ (x : St
 no_refusal : (s : Status) → is_refusal s ≡ true → s ≡ statuses.File → ⊥
 no_refusal s is file = let wrong : is_refusal statuses.File ≡ true = subst (λ (x : Status). is_refusal x ≡ true) file is in cc
 
-pub file_named : {A : Type 0} (ask : Option A) (answer : Answer) (paths : List (List ℕ)) (f f' : FilesState) (o o' e e' : SinkState) (r : Result Status Stop) → Acts ask answer f f' o o' r → Says r e e' → IfErr r (StopNames paths)
+pub file_named : {A : Type 0} (ask : Option A) (paths : List (List ℕ)) (f f' : FilesState) (o o' e e' : SinkState) (r : Result Status Stop) → ActsAnyhow ask f f' o o' r → Says r e e' → IfErr r (StopNames paths)
     → status_in r ≡ statuses.File → NamesOne paths e e'
-file_named ask answer paths f f' o o' e e' (Ok s) a says names is = absurd (no_end s a.1.0 is)
-file_named ask answer paths f f' o o' e e' (Err stops.Memory) a says names is = absurd cc
-file_named ask answer paths f f' o o' e e' (Err stops.Usage) a says names is = absurd cc
-file_named ask answer paths f f' o o' e e' (Err (stops.Refused r)) a says names is = absurd (no_refusal r.status r.refuses is)
-file_named ask answer paths f f' o o' e e' (Err (stops.File line)) a says names is = names_line paths (string_bytes line) e e' (names.named line refl) says
-file_named ask answer paths f f' o o' e e' (Err stops.Out) a says names is = absurd cc
+file_named ask paths f f' o o' e e' (Ok s) a says names is = absurd (no_end s a.1 is)
+file_named ask paths f f' o o' e e' (Err stops.Memory) a says names is = absurd cc
+file_named ask paths f f' o o' e e' (Err stops.Usage) a says names is = absurd cc
+file_named ask paths f f' o o' e e' (Err (stops.Refused r)) a says names is = absurd (no_refusal r.status r.refuses is)
+file_named ask paths f f' o o' e e' (Err (stops.File line)) a says names is = names_line paths (string_bytes line) e e' (names.named line refl) says
+file_named ask paths f f' o o' e e' (Err stops.Out) a says names is = absurd cc
 
 pub file_missed : {A : Type 0} (ask : Option A) (answer : Answer) (paths : List (List ℕ)) (f f' : FilesState) (o o' e e' : SinkState) (r : Result Status Stop) → Acts ask answer f f' o o' r → Says r e e' → IfErr r (StopNames paths)
     → status_in r ≡ statuses.File → f.steady ≡ true → f.told ≡ true → IsMissed answer e e'
@@ -153,6 +178,44 @@ file_missed ask answer paths f f' o o' e e' (Err stops.Usage) a says names is fs
 file_missed ask answer paths f f' o o' e e' (Err (stops.Refused r)) a says names is fs t = absurd (no_refusal r.status r.refuses is)
 file_missed ask answer paths f f' o o' e e' (Err (stops.File line)) a says names is fs t = misses_line answer paths (string_bytes line) e e' (a.1.0.missing fs t) (names.named line refl) says
 file_missed ask answer paths f f' o o' e e' (Err stops.Out) a says names is fs t = absurd cc
+
+-- ---- what a fault leaves of the answer
+
+-- a status that neither ends nor refuses is none of an end or a refusal
+abbrev IsFault : Status → Type 0
+IsFault w = (is_end w ≡ false) × (is_refusal w ≡ false)
+
+fault_no_end : (s w : Status) → is_end s ≡ true → IsFault w → s ≡ w → ⊥
+fault_no_end s w ends fault is = let wrong : is_end w ≡ true = subst (λ (x : Status). is_end x ≡ true) is ends in let right : is_end w ≡ false = fault.0 in cc
+
+fault_no_refusal : (s w : Status) → is_refusal s ≡ true → IsFault w → s ≡ w → ⊥
+fault_no_refusal s w refuses fault is = let wrong : is_refusal w ≡ true = subst (λ (x : Status). is_refusal x ≡ true) is refuses in let right : is_refusal w ≡ false = fault.1 in cc
+
+pub file_in_order : {A : Type 0} (ask : Option A) (answer : Answer) (f f' : FilesState) (o o' : SinkState) (r : Result Status Stop) → Acts ask answer f f' o o' r → status_in r ≡ statuses.File → SomeWritten answer f f'
+file_in_order ask answer f f' o o' (Ok s) a is = absurd (fault_no_end s statuses.File a.1.0 (refl, refl) is)
+file_in_order ask answer f f' o o' (Err stops.Memory) a is = absurd cc
+file_in_order ask answer f f' o o' (Err stops.Usage) a is = absurd cc
+file_in_order ask answer f f' o o' (Err (stops.Refused r)) a is = absurd (fault_no_refusal r.status statuses.File r.refuses (refl, refl) is)
+file_in_order ask answer f f' o o' (Err (stops.File line)) a is = a.1.2
+file_in_order ask answer f f' o o' (Err stops.Out) a is = absurd cc
+
+pub write_cuts : {A : Type 0} (ask : Option A) (answer : Answer) (f f' : FilesState) (o o' : SinkState) (r : Result Status Stop) → Acts ask answer f f' o o' r → status_in r ≡ statuses.Write
+    → f.told ≡ true → IsOkAnd answer (λ e. IsCut e f f' o o')
+write_cuts ask answer f f' o o' (Ok s) a is t = absurd (fault_no_end s statuses.Write a.1.0 (refl, refl) is)
+write_cuts ask answer f f' o o' (Err stops.Memory) a is t = absurd cc
+write_cuts ask answer f f' o o' (Err stops.Usage) a is t = absurd cc
+write_cuts ask answer f f' o o' (Err (stops.Refused r)) a is t = absurd (fault_no_refusal r.status statuses.Write r.refuses (refl, refl) is)
+write_cuts ask answer f f' o o' (Err (stops.File line)) a is t = absurd cc
+write_cuts ask answer f f' o o' (Err stops.Out) a is t = a.1.1 t
+
+pub memory_cuts : {A : Type 0} (ask : Option A) (answer : Answer) (f f' : FilesState) (o o' : SinkState) (r : Result Status Stop) → Acts ask answer f f' o o' r → status_in r ≡ statuses.Memory
+    → SameSink o o' ⊎ (f.told ≡ true → IsOkAnd answer (λ e. PutPrefix e.text o o'))
+memory_cuts ask answer f f' o o' (Ok s) a is = absurd (fault_no_end s statuses.Memory a.1.0 (refl, refl) is)
+memory_cuts ask answer f f' o o' (Err stops.Memory) a is = a
+memory_cuts ask answer f f' o o' (Err stops.Usage) a is = absurd cc
+memory_cuts ask answer f f' o o' (Err (stops.Refused r)) a is = absurd (fault_no_refusal r.status statuses.Memory r.refuses (refl, refl) is)
+memory_cuts ask answer f f' o o' (Err (stops.File line)) a is = absurd cc
+memory_cuts ask answer f f' o o' (Err stops.Out) a is = absurd cc
 
 -- ---- a command that comes to its end says nothing
 

@@ -27,6 +27,14 @@ Stops old new stops.Usage decided = ⊥
 Stops old new (stops.File line) decided = Faulted old new (string_bytes line) decided
 Stops old new stops.Out decided = ⊥
 
+-- the same whatever is decided
+abbrev pub StopsReading : FilesState → FilesState → Stop → Type 0
+StopsReading old new stops.Memory = Unit {0}
+StopsReading old new (stops.Refused r) = Unit {0}
+StopsReading old new stops.Usage = ⊥
+StopsReading old new (stops.File line) = Rose old.faults new.faults
+StopsReading old new stops.Out = ⊥
+
 -- what the function returned, seen by `view`, is what is decided of the files' contents, where they are told
 abbrev pub Gives : {X Y : Type 0} → (X → Y) → FilesState → FilesState → Result X Stop → Result Y Cause → Type 0
 Gives view old new (Ok x) decided = old.told ≡ true → decided ≡ Ok (view x)

@@ -62,7 +62,29 @@ Acts ask answer f f' o o' (Err (stops.Refused r)) = IsSome ask × StopsAt answer
 Acts ask answer f f' o o' (Err (stops.File line)) = IsSome ask × StopsAt answer f f' o o' (stops.File line)
 Acts ask answer f f' o o' (Err stops.Out) = IsSome ask × StopsAt answer f f' o o' stops.Out
 
--- what is said on the error stream
+-- ---- the same whatever the answer is
+
+abbrev pub StopsAnyhow : FilesState → FilesState → SinkState → SinkState → Stop → Type 0
+StopsAnyhow f f' o o' stops.Memory = Unit {0}
+StopsAnyhow f f' o o' stops.Usage = ⊥
+StopsAnyhow f f' o o' (stops.Refused r) = SameSink o o' × SameFiles f f'
+StopsAnyhow f f' o o' (stops.File line) = Rose f.faults f'.faults × SameSink o o'
+StopsAnyhow f f' o o' stops.Out = OutFaulted o o'
+
+abbrev pub EndsAnyhow : FilesState → FilesState → SinkState → SinkState → Result Status Stop → Type 0
+EndsAnyhow f f' o o' (Ok status) = is_end status ≡ true
+EndsAnyhow f f' o o' (Err stop) = StopsAnyhow f f' o o' stop
+
+abbrev pub ActsAnyhow : {A : Type 0} → Option A → FilesState → FilesState → SinkState → SinkState → Result Status Stop → Type 0
+ActsAnyhow ask f f' o o' (Ok status) = IsSome ask × (is_end status ≡ true)
+ActsAnyhow ask f f' o o' (Err stops.Memory) = Unit {0}
+ActsAnyhow ask f f' o o' (Err stops.Usage) = (ask ≡ None) × SameSink o o' × SameFiles f f'
+ActsAnyhow ask f f' o o' (Err (stops.Refused r)) = IsSome ask × StopsAnyhow f f' o o' (stops.Refused r)
+ActsAnyhow ask f f' o o' (Err (stops.File line)) = IsSome ask × StopsAnyhow f f' o o' (stops.File line)
+ActsAnyhow ask f f' o o' (Err stops.Out) = IsSome ask × StopsAnyhow f f' o o' stops.Out
+
+-- ---- what is said on the error stream
+
 abbrev pub Says : Result Status Stop → SinkState → SinkState → Type 0
 Says (Ok status) e e' = SameSink e e'
 Says (Err stop) e e' = PutPrefix (line_of stop) e e'

@@ -21,10 +21,14 @@ pub record DealAsk : Type 0 where
   pub tape : Text
   pub to : Text
 
+pub record CheckAsk : Type 0 where
+  pub program : Text
+
 -- a command, without where its words lie in memory
 pub data Ask : Type 0 where
   run : RunAsk → Ask
   deal : DealAsk → Ask
+  check : CheckAsk → Ask
 
 infixl 10 ◌>>=◌
 abbrev pub ◌>>=◌ : {A B : Type 0} → Option A → (A → Option B) → Option B
@@ -79,11 +83,15 @@ deal_of rows = Some (record {
   to = required_of (codes "to") rows;
 })
 
+unfoldable pub check_of : List Row → Option CheckAsk
+check_of rows = Some (record { program = required_of (codes "program") rows })
+
 -- the command of this name, with what `clap` matched behind its name
 unfoldable pub named : Text → List Row → Option Ask
 named name rows =
     if bytes_eq name (codes "run") then option_map run (run_of rows)
     else if bytes_eq name (codes "deal") then option_map deal (deal_of rows)
+    else if bytes_eq name (codes "check") then option_map check (check_of rows)
     else None
 
 -- this, where nothing refuses the words

@@ -33,10 +33,18 @@ run_app = command_app (codes "run") (codes "program" ∷ []) (codes "input" ∷ 
 unfoldable pub deal_app : App
 deal_app = command_app (codes "deal") [] (codes "input" ∷ codes "tape" ∷ codes "to" ∷ []) []
 
+-- check PROGRAM
+unfoldable pub check_app : App
+check_app = command_app (codes "check") (codes "program" ∷ []) [] []
+
 -- no command yet: the words begin after the program's name, and `help` is no command
 unfoldable pub bare_app : App
 bare_app = record (new_app (codes "secrec")) { top = record (new_app (codes "secrec")).top { no_binary_name = true; disable_help_subcommand = true } }
 
+-- the commands that take inputs
+unfoldable pub input_app : App
+input_app = with_subcommand (with_subcommand bare_app run_app.top) deal_app.top
+
 -- all commands
 unfoldable pub secrec_app : App
-secrec_app = with_subcommand (with_subcommand bare_app run_app.top) deal_app.top
+secrec_app = with_subcommand input_app check_app.top

@@ -4,13 +4,13 @@ use Rattle.std.specs.Bool.{⊤}
 use Rattle.clap.specs.Words.{Text}
 use Rattle.clap.proofs.OnLiterals.{clap_on_literals}
 use Rattle.hex.proofs.OnLiterals.{hex_on_literals}
-use Rattle.command_words.specs.Ask.{Ask, run, deal, file, seeded, words_of, named_in, named, matched, run_of, deal_of, source_of, seeded_source, number_or, required_of}
+use Rattle.command_words.specs.Ask.{Ask, run, deal, check, file, seeded, words_of, named_in, named, matched, run_of, deal_of, check_of, source_of, seeded_source, number_or, required_of}
 use Rattle.command_words.specs.Numbers.{number_of, seed_of}
-use Rattle.command_words.specs.Shapes.{secrec_app, run_app, deal_app, command_app, bare_app, run_options, with_options, word_rule, option_rule}
+use Rattle.command_words.specs.Shapes.{secrec_app, input_app, run_app, deal_app, check_app, command_app, bare_app, run_options, with_options, word_rule, option_rule}
 
 -- opens the definitions, so that they compute at words that are written out
 unfoldable pub words_on_literals : ⊤
-unfolding clap_on_literals hex_on_literals secrec_app run_app deal_app command_app bare_app run_options with_options word_rule option_rule words_of named_in named matched run_of deal_of source_of seeded_source number_or required_of number_of seed_of
+unfolding clap_on_literals hex_on_literals secrec_app input_app run_app deal_app check_app command_app bare_app run_options with_options word_rule option_rule words_of named_in named matched run_of deal_of check_of source_of seeded_source number_or required_of number_of seed_of
 words_on_literals = tt
 
 -- run p.sc --input i, and then these words
@@ -111,6 +111,18 @@ after_dashes : words_of (codes "run" ∷ codes "--input=i" ∷ codes "--tape=t" 
     ≡ Some (run (record { program = codes "--p"; input = codes "i"; source = file (codes "t"); budget = 1000000 }))
 unfolding words_on_literals
 after_dashes = refl
+
+check_words : words_of (codes "check" ∷ codes "p.sc" ∷ []) ≡ Some (check (record { program = codes "p.sc" }))
+unfolding words_on_literals
+check_words = refl
+
+check_without_program : words_of (codes "check" ∷ []) ≡ None
+unfolding words_on_literals
+check_without_program = refl
+
+check_with_option : words_of (codes "check" ∷ codes "p.sc" ∷ codes "--input" ∷ codes "i" ∷ []) ≡ None
+unfolding words_on_literals
+check_with_option = refl
 
 no_words : words_of [] ≡ None
 unfolding words_on_literals

@@ -1,6 +1,6 @@
 //! The `clap` command that reads the words.
 ghost use Rattle.std.specs.Prelude.{◌≡◌, IfOk, map};
-ghost use Rattle.command_words.specs.Shapes.{word_rule, option_rule, run_options, run_app, deal_app, secrec_app};
+ghost use Rattle.command_words.specs.Shapes.{word_rule, option_rule, run_options, run_app, deal_app, check_app, input_app, secrec_app};
 ghost use Rattle.command_words.specs.Builds.{Builds, GetsOptions, IsLocal};
 
 use clap::{Arg, Command};
@@ -74,14 +74,29 @@ fn deal_command<'a>(alloc: Global) -> Result<Command<'a>, AllocError>
     )
 }
 
-/// The whole command. The words begin after the program's name, and `help` names no command.
-#[tactic(auto, unfolding(crate::specs::Shapes::secrec_app, crate::specs::Shapes::bare_app))]
-pub(crate) fn secrec_command<'a>(alloc: Global) -> Result<Command<'a>, AllocError>
-    ensures { IfOk result (λ c. Builds secrec_app c) }
+#[tactic(auto, unfolding(crate::specs::Shapes::check_app, crate::specs::Shapes::command_app, crate::specs::Shapes::with_options))]
+fn check_command<'a>(alloc: Global) -> Result<Command<'a>, AllocError>
+    ensures { IfOk result (λ c. Builds check_app c) }
+{
+    Command::new(alloc, "check").arg(word(alloc, "program"))
+}
+
+// The commands that take inputs. The words begin after the program's name, and `help` names no command.
+#[tactic(auto, unfolding(crate::specs::Shapes::input_app, crate::specs::Shapes::bare_app))]
+fn input_commands<'a>(alloc: Global) -> Result<Command<'a>, AllocError>
+    ensures { IfOk result (λ c. Builds input_app c) }
 {
     Command::new(alloc, "secrec")
         .no_binary_name(true)
         .disable_help_subcommand(true)
         .subcommand(run_command(alloc)?)?
         .subcommand(deal_command(alloc)?)
+}
+
+/// The whole command.
+#[tactic(auto, unfolding(crate::specs::Shapes::secrec_app))]
+pub(crate) fn secrec_command<'a>(alloc: Global) -> Result<Command<'a>, AllocError>
+    ensures { IfOk result (λ c. Builds secrec_app c) }
+{
+    input_commands(alloc)?.subcommand(check_command(alloc)?)
 }

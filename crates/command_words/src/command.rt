@@ -31,9 +31,16 @@ pub struct DealWords {
     pub to: String,
 }
 
+/// The words of `check`: the path of the program.
+#[derive(Debug, Drop)]
+pub struct CheckWords {
+    pub program: String,
+}
+
 /// A command, with its words.
 #[derive(Drop)]
 pub enum Command {
+    Check(CheckWords),
     Run(RunWords),
     Deal(DealWords),
 }

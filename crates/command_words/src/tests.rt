@@ -35,6 +35,7 @@ fn shown(alloc: Global, line: &str) -> Result<String, AllocError> {
         Ok(Command::Deal(deal)) => {
             format!(in alloc; "deal {} {} {}", deal.input, deal.tape, deal.to)
         }
+        Ok(Command::Check(check)) => format!(in alloc; "check {}", check.program),
         Err(WordsErr::Usage) => String::from_str(alloc, "usage"),
         Err(WordsErr::Memory) => String::from_str(alloc, "memory"),
     }
@@ -63,6 +64,9 @@ fn words_that_are_read(rt: HostRuntime) -> Result<(), Fail> {
         ("deal --to o --tape t --input i", "deal i t o"),
         ("deal --to= --tape=-t --input -", "deal - -t "),
         ("deal --input  --tape t --to o", "deal  t o"),
+        ("check p", "check p"),
+        ("check -- --p", "check --p"),
+        ("check ", "check "),
     ];
     for (line, wanted) in rows {
         let text = shown(alloc, line)?;
@@ -105,6 +109,12 @@ fn words_that_are_refused(rt: HostRuntime) -> Result<(), Fail> {
         "deal --input i --tape t",
         "deal p --input i --tape t --to o",
         "deal --input i --tape t --to o --budget 7",
+        "check",
+        "check p q",
+        "check --p",
+        "check p --input i",
+        "check p --help",
+        "Check p",
     ];
     for line in lines {
         let text = shown(alloc, line)?;

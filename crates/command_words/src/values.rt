@@ -1,10 +1,10 @@
 //! What a command's words give, once `clap` has matched them.
 ghost use Rattle.std.specs.Prelude.{◌≡◌, option_map, IfOk, string_bytes};
 ghost use Rattle.clap.specs.Words.{found_of, first_of, rows_of};
-ghost use Rattle.command_words.specs.Ask.{required_of, number_or, seeded_source, source_of, run_of, deal_of, named};
-ghost use Rattle.command_words.specs.Views.{Reads, text_in, source_ask, run_ask, deal_ask, ask_of};
+ghost use Rattle.command_words.specs.Ask.{required_of, number_or, seeded_source, source_of, run_of, deal_of, check_of, named};
+ghost use Rattle.command_words.specs.Views.{Reads, text_in, source_ask, run_ask, deal_ask, check_ask, ask_of};
 
-use crate::command::{Command, DealWords, RunWords, TapeSource, WordsErr};
+use crate::command::{CheckWords, Command, DealWords, RunWords, TapeSource, WordsErr};
 use crate::numbers::{number, seed};
 use crate::tape_seed::TapeSeed;
 use clap::ArgMatches;
@@ -107,6 +107,16 @@ fn deal_words(alloc: Global, matches: &ArgMatches) -> Result<DealWords, WordsErr
     })
 }
 
+// The words of `check`.
+#[tactic(auto, unfolding(crate::specs::Ask::check_of))]
+fn check_words(alloc: Global, matches: &ArgMatches) -> Result<CheckWords, WordsErr>
+    ensures { Reads check_ask (check_of (rows_of (found_of matches.now))) result }
+{
+    Ok(CheckWords {
+        program: required(alloc, matches, "program")?,
+    })
+}
+
 /// The command of this name, with what `clap` matched behind its name.
 #[tactic(auto, unfolding(crate::specs::Ask::named))]
 pub(crate) fn named(alloc: Global, name: &str, matches: &ArgMatches) -> Result<Command, WordsErr>
@@ -117,6 +127,9 @@ pub(crate) fn named(alloc: Global, name: &str, matches: &ArgMatches) -> Result<C
     }
     if name == "deal" {
         return Ok(Command::Deal(deal_words(alloc, matches)?));
+    }
+    if name == "check" {
+        return Ok(Command::Check(check_words(alloc, matches)?));
     }
     Err(WordsErr::Usage)
 }

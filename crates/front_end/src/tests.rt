@@ -86,3 +86,121 @@ fn a_command_says_the_code_and_the_place(rt: HostRuntime) -> Result<(), Fail> {
     assert_eq!(rt; line.as_str(), "error: L1 line 2 column 3\n");
     Ok(())
 }
+
+// Each row: what stands behind an input of a private number in `main`, from column 29 on, and what becomes of the program.
+const STATEMENTS: [(&str, &str); 26] = [
+    (
+        "p uint64 b = argument(\"b\"); publish(\"sum\", declassify(a + b));",
+        "ok",
+    ),
+    ("uint64 n = 2; publish(\"x\", n * 3 / 2 % 5);", "ok"),
+    (
+        "uint64[[1]] xs (3) = 4; xs[1]++; publish(\"x\", sum(xs)); publish(\"y\", size(cat(xs, xs)));",
+        "ok",
+    ),
+    (
+        "publish(\"x\", bitExtract(a)); bool b = declassify(a == 3); if (b) { assert(!b); }",
+        "ok",
+    ),
+    (
+        "for (uint64 i = 0; i < 3; i++) { uint64 a = i; a = a + 1; }",
+        "ok",
+    ),
+    ("x = 1;", "D1 2 29"),
+    ("q uint64 x;", "D1 2 29"),
+    ("publish(\"x\", f(a));", "D1 2 42"),
+    ("uint64 x; bool x;", "D2 2 44"),
+    ("if (5) { }", "D3 2 33"),
+    ("uint64 x (3);", "D3 2 39"),
+    ("return 1;", "D3 2 29"),
+    ("publish(\"x\", publish(\"y\", a));", "D3 2 42"),
+    ("publish(\"x\", a & 1);", "D3 2 42"),
+    ("uint64 x = true; y = 1;", "D3 2 40"),
+    ("if (a == 1) { }", "D4 2 33"),
+    ("uint64[[1]] xs (3); publish(\"x\", xs[a]);", "D5 2 65"),
+    ("uint64[[1]] xs (a);", "D6 2 45"),
+    ("uint64 x = a;", "D7 2 40"),
+    ("publish(\"x\", a / 2);", "D8 2 42"),
+    ("assert(a == 1);", "D9 2 36"),
+    ("publish(\"x\", size(a, a));", "D13 2 42"),
+    ("uint64 y; y = argument(\"b\");", "D15 2 43"),
+    ("publish(\"x\", argument(\"b\"));", "D15 2 42"),
+    ("uint64[[1]] xs (3) = argument(\"b\");", "D15 2 50"),
+    ("x = 1; $", "L1 2 36"),
+];
+
+// Each row: a program, and what becomes of it.
+const PROGRAMS: [(&str, &str); 19] = [
+    ("", "D11 1 1"),
+    ("import shared3p;\nvoid f() { }\n", "D11 3 1"),
+    ("uint64 main() { return 1; }", "D11 1 28"),
+    ("import other;\nvoid main() { }", "D12 1 8"),
+    ("void main() { x = 1; }\nimport other;", "D1 1 15"),
+    ("kind other;\nvoid main() { }", "D1 1 6"),
+    ("kind shared3p;\ndomain p shared3p;\nvoid main() { }", "ok"),
+    (
+        "import shared3p;\nkind shared3p;\nvoid main() { }",
+        "D2 2 6",
+    ),
+    (
+        "import shared3p;\ndomain x shared3p; kind x;\nvoid main() { }",
+        "D1 2 25",
+    ),
+    ("void size() { }\nvoid main() { }", "D2 1 6"),
+    ("void main() { }\nvoid main() { }", "D2 2 6"),
+    (
+        "import shared3p; domain p shared3p; domain q shared3p; void main() {\np uint64 a = argument(\"a\"); q uint64 b = argument(\"b\"); publish(\"x\", a + b);\n}",
+        "D10 2 70",
+    ),
+    (
+        "uint64 twice(uint64 x) { return x + x; }\nvoid main() { publish(\"x\", twice(1, 2)); }",
+        "D13 2 28",
+    ),
+    (
+        "uint64 f() { if (true) { return 1; } }\nvoid main() { }",
+        "D14 1 8",
+    ),
+    (
+        "template <domain D> D uint64 half(D uint64 x) { return x / 2; }\nvoid main() { publish(\"x\", half(4)); }",
+        "ok",
+    ),
+    (
+        "import shared3p; domain p shared3p;\ntemplate <domain D> D uint64 half(D uint64 x) { return x / 2; }\nvoid main() { p uint64 a = argument(\"a\"); publish(\"x\", half(a)); }",
+        "D8 2 56",
+    ),
+    (
+        "template <domain D> D uint64 f(D uint64 x) { return y; }\nvoid main() { }",
+        "ok",
+    ),
+    (
+        "import shared3p;\ntemplate <domain D : shared3p> D uint64 f(D uint64 x) { return x; }\nvoid main() { publish(\"x\", f(1)); }",
+        "D3 3 28",
+    ),
+    (
+        "template <domain D, domain E> D uint64 f(D uint64 x) { return x; }\nvoid main() { publish(\"x\", f(1)); }",
+        "D3 1 28",
+    ),
+];
+
+#[test]
+fn statements_as_the_type_rules_have_them(rt: HostRuntime) -> Result<(), Fail> {
+    let alloc = rt.alloc();
+    for (text, wanted) in STATEMENTS {
+        let program = format!(in alloc;
+            "import stdlib; import shared3p; domain p shared3p; void main() {{\np uint64 a = argument(\"a\"); {text}\n}}"
+        )?;
+        let found = outcome(alloc, program.as_str().as_bytes())?;
+        assert_eq!(rt; found.as_str(), wanted, "at {text}");
+    }
+    Ok(())
+}
+
+#[test]
+fn programs_as_the_type_rules_have_them(rt: HostRuntime) -> Result<(), Fail> {
+    let alloc = rt.alloc();
+    for (text, wanted) in PROGRAMS {
+        let found = outcome(alloc, text.as_bytes())?;
+        assert_eq!(rt; found.as_str(), wanted, "at {text}");
+    }
+    Ok(())
+}

@@ -1,5 +1,7 @@
+pub mod Judged
 pub mod Planned
 pub mod Refusals
 pub mod Runs
-pub mod Spelling
+pub mod SumTrees
 pub mod Sums
+pub mod Tops

@@ -1,5 +1,5 @@
 -- The paths that a dealing writes are among those that it names.
-use Rattle.std.proofs.Common.{◌≡◌, ℕ, suc, List, [], ◌∷◌, subst, arith, Contains}
+use Rattle.std.proofs.Common.{◌≡◌, ℕ, suc, List, ◌∷◌, subst, arith, Contains}
 use Rattle.run_engine.specs.Deal.{written_paths}
 
 later : (p q : List ℕ) (ps : List (List ℕ)) → Contains ps q → Contains (p ∷ ps) q

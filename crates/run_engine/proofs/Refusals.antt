@@ -1,4 +1,4 @@
--- `run` is refused only for a file that is there and not as it must be.
+-- `check` and `run` are refused only for a file that is there and not as it must be.
 use Rattle.std.proofs.Common.{◌≡◌, ◌⊎◌, ℕ, List, true, false, Option, Some, None, Ok, Err, Result, refl, ap, subst, sym, ◌∙◌, inl, inr}
 use Rattle.std.specs.Option.{ok_or}
 use Rattle.outside.specs.Files.{Contents, file_at}
@@ -6,7 +6,10 @@ use Rattle.command_frame.specs.declared.status.Status.{Status}
 use Rattle.command_frame.specs.declared.status.Status.TheVariants as statuses
 use Rattle.command_frame.specs.Answer.{Answer, Cause, bytes_at, missing, ◌>>=◌}
 use Rattle.command_frame.specs.Status.{is_end, is_refusal}
-use Rattle.command_words.specs.Ask.{RunAsk, Source, file, seeded}
+use Rattle.command_words.specs.Ask.{CheckAsk, RunAsk, Source, file, seeded}
+use Rattle.secrec_ast.specs.Programs.{ProgramTree}
+use Rattle.front_end.specs.declared.program_fault.ProgramFault.{ProgramFault}
+use Rattle.front_end.specs.Judgement.{Judged, IsJudged}
 use Rattle.sc_text.specs.declared.end.Ending.{Ending}
 use Rattle.sc_text.specs.declared.end.Ending.TheVariants as endings
 use Rattle.tape_file.specs.Format.{read_of as tapes_read_of}
@@ -15,9 +18,14 @@ use Rattle.value_file.specs.declared.inputs.Entry.{Entry}
 use Rattle.value_file.specs.declared.read_err.ReadErr.{ReadErr}
 use Rattle.value_file.specs.Input.{read_of as inputs_read_of}
 use Rattle.run_engine.specs.Outcome.{outcome_of, status_of}
-use Rattle.run_engine.specs.Program.{SumNames, program_of}
-use Rattle.run_engine.specs.Run.{bad_input, bad_tape, inputs_at, names_at, not_yet, read_or, run_effect, run_of, tape_file_at, tapes_at}
-use Rattle.run_engine.specs.Runs.{HoldsProgram, RunRefused, bad_program, bad_input as input_refused, bad_tape as tape_refused}
+use Rattle.run_engine.specs.Check.{check_of, check_effect}
+use Rattle.run_engine.specs.Judging.{JudgedAt}
+use Rattle.run_engine.specs.Programs.{accepted, bad_program, not_yet, sum_at, tree_at}
+use Rattle.run_engine.specs.Run.{bad_input, bad_tape, inputs_at, read_or, run_effect, run_of, tape_file_at, tapes_at}
+use Rattle.run_engine.specs.Runs.{HoldsProgram, HoldsBadProgram, HoldsSum, CheckRefused, RunRefused, cannot_run_yet, bad_program as program_refused, bad_input as input_refused, bad_tape as tape_refused}
+use Rattle.run_engine.specs.SumProgram.{SumProgram, IsSumProgram}
+use Rattle.run_engine.specs.SumReading.{sum_program_of}
+use Rattle.run_engine.proofs.SumTrees.{reading_is_tree}
 
 -- of two steps the first is refused, or both are done
 abbrev Steps : {A B : Type 0} → Result A Cause → (A → Result B Cause) → Result B Cause → Type 0
@@ -115,29 +123,76 @@ no_ending s how why is =
     let no : is_end s ≡ false = why.no_end in
     absurd cc
 
-names_read : (o : Option SumNames) (r : Result SumNames Cause) → ok_or o not_yet ≡ r → ((v : SumNames) × (o ≡ Some v) × (r ≡ Ok v)) ⊎ ((o ≡ None) × (r ≡ Err not_yet))
-names_read None r is = inr (refl, sym is)
-names_read (Some v) r is = inl (v, refl, sym is)
+-- ---- the program
 
 -- a program that was read, or why it wasn't
-abbrev NamesRead : Contents → List ℕ → Result SumNames Cause → Type 0
-NamesRead files path (Ok names) = HoldsProgram path files names
-NamesRead files path (Err c) = (c ≡ missing path) ⊎ ((bytes : List ℕ) × (file_at files path ≡ Some bytes) × (program_of bytes ≡ None) × (c ≡ not_yet))
+abbrev TreeRead : Contents → List ℕ → Result ProgramTree Cause → Type 0
+TreeRead files path (Ok tree) = HoldsProgram path files tree
+TreeRead files path (Err c) = (c ≡ missing path) ⊎ ((status_of_cause c ≡ statuses.Program) × HoldsBadProgram path files)
 
-names_cases : (files : Contents) (path : List ℕ) (r : Result SumNames Cause) → names_at files path ≡ r → NamesRead files path r
-unfolding names_at bytes_at
-names_cases files path r is = at (file_at files path) refl r is
+bad_status : (fault : ProgramFault) → status_of_cause (bad_program fault) ≡ statuses.Program
+unfolding bad_program
+bad_status fault = refl
+
+not_yet_status : status_of_cause not_yet ≡ statuses.Program
+unfolding not_yet
+not_yet_status = refl
+
+abbrev tree_refused : Cause → Result ProgramTree Cause
+tree_refused c = Err c
+
+tree_read : (files : Contents) (path bytes : List ℕ) → file_at files path ≡ Some bytes → (judged : Judged) → IsJudged bytes judged → (r : Result ProgramTree Cause) → accepted judged ≡ r → TreeRead files path r
+tree_read files path bytes there (Ok tree) h r is = subst (TreeRead files path) is (record { bytes = bytes; there = there; accepted = h })
+tree_read files path bytes there (Err fault) h r is =
+    subst (TreeRead files path) is (inr (bad_status fault, record { bytes = bytes; there = there; fault = fault; refused = h }))
+
+tree_cases : (judged : Judged) (files : Contents) (path : List ℕ) → JudgedAt (Some path) files judged → (r : Result ProgramTree Cause) → tree_at judged files path ≡ r → TreeRead files path r
+unfolding tree_at
+tree_cases judged files path h r is =
+    elim (steps (bytes_at files path) (λ bytes. accepted judged) r is) [
+      | inl (c, e, is_r) ↦ at_missing c (there_or_missing files path (failed c) e) is_r
+      | inr (bytes, e, rest) ↦ at_bytes bytes (there_or_missing files path (had bytes) e) rest
+    ]
   where
-    formed : (bytes : List ℕ) → file_at files path ≡ Some bytes → (o : Option SumNames) → program_of bytes ≡ o → (r : Result SumNames Cause) → ok_or o not_yet ≡ r → NamesRead files path r
-    formed bytes there (Some names) good (Ok v) is = record { bytes = bytes; there = there; is = good ∙ cc }
-    formed bytes there (Some names) good (Err c) is = absurd cc
-    formed bytes there None bad (Ok v) is = absurd cc
-    formed bytes there None bad (Err c) is = inr (bytes, there, bad, cc)
+    at_missing : (c : Cause) → ((bytes : List ℕ) × (file_at files path ≡ Some bytes) × (failed c ≡ Ok bytes)) ⊎ (failed c ≡ Err (missing path)) → r ≡ Err c → TreeRead files path r
+    at_missing c (inl (bytes, there, wrong)) is_r = absurd cc
+    at_missing c (inr missed) is_r = let why : c ≡ missing path = cc in subst (TreeRead files path) (sym is_r) (inl why)
 
-    at : (t : Option (List ℕ)) → file_at files path ≡ t → (r : Result SumNames Cause) → (ok_or t (missing path) >>= λ bytes. ok_or (program_of bytes) not_yet) ≡ r → NamesRead files path r
-    at None there (Ok v) is = absurd cc
-    at None there (Err c) is = inl cc
-    at (Some bytes) there r is = formed bytes there (program_of bytes) refl r is
+    at_bytes : (bytes : List ℕ) → ((b : List ℕ) × (file_at files path ≡ Some b) × (had bytes ≡ Ok b)) ⊎ (had bytes ≡ Err (missing path)) → accepted judged ≡ r → TreeRead files path r
+    at_bytes bytes (inl (b, there, same)) rest = tree_read files path b there judged (h b there) r rest
+    at_bytes bytes (inr wrong) rest = absurd cc
+
+-- an accepted program is there that can't be run yet
+abbrev HoldsOther : List ℕ → Contents → Type 0
+HoldsOther path files = (tree : ProgramTree) × HoldsProgram path files tree × ((sum : SumProgram) → IsSumProgram tree sum → ⊥)
+
+-- a program that can be run was read, or why it wasn't
+abbrev SumRead : Contents → List ℕ → Result SumProgram Cause → Type 0
+SumRead files path (Ok sum) = HoldsSum path files sum
+SumRead files path (Err c) = (c ≡ missing path) ⊎ ((status_of_cause c ≡ statuses.Program) × (HoldsBadProgram path files ⊎ HoldsOther path files))
+
+no_sum : (tree : ProgramTree) → sum_program_of tree ≡ None → (sum : SumProgram) → IsSumProgram tree sum → ⊥
+no_sum tree none sum is = let both : None ≡ Some sum = sym none ∙ (reading_is_tree tree sum).1 is in absurd cc
+
+sum_read : (files : Contents) (path : List ℕ) (tree : ProgramTree) → HoldsProgram path files tree → (o : Option SumProgram) → sum_program_of tree ≡ o → (r : Result SumProgram Cause) → ok_or o not_yet ≡ r → SumRead files path r
+sum_read files path tree held (Some sum) opens r is =
+    subst (SumRead files path) is (record { tree = tree; held = held; is = (reading_is_tree tree sum).0 opens })
+sum_read files path tree held None none r is =
+    subst (SumRead files path) is (inr (not_yet_status, inr (tree, held, no_sum tree none)))
+
+sum_cases : (judged : Judged) (files : Contents) (path : List ℕ) → JudgedAt (Some path) files judged → (r : Result SumProgram Cause) → sum_at judged files path ≡ r → SumRead files path r
+unfolding sum_at
+sum_cases judged files path h r is =
+    elim (steps (tree_at judged files path) (λ tree. ok_or (sum_program_of tree) not_yet) r is) [
+      | inl (c, e, is_r) ↦ subst (SumRead files path) (sym is_r) (unread c (tree_cases judged files path h (Err c) e))
+      | inr (tree, e, rest) ↦ sum_read files path tree (tree_cases judged files path h (Ok tree) e) (sum_program_of tree) refl r rest
+    ]
+  where
+    unread : (c : Cause) → TreeRead files path (Err c) → SumRead files path (Err c)
+    unread c (inl missed) = inl missed
+    unread c (inr (status, bad)) = inr (status, inl bad)
+
+-- ---- the other files
 
 inputs_refused : (files : Contents) (path : List ℕ) (c : Cause) → inputs_at files path ≡ Err c → ReadRefused files path bad_input inputs_read_of c
 unfolding inputs_at
@@ -156,53 +211,67 @@ tape_status : (place : ℕ) → status_of_cause (bad_tape place) ≡ statuses.Ta
 unfolding bad_tape
 tape_status place = refl
 
-program_status : status_of_cause not_yet ≡ statuses.Program
-unfolding not_yet
-program_status = refl
+-- ---- `check`
 
-module _ (ask : RunAsk) (files : Contents) (r : Answer) (why : Refuses (status_in_answer r)) where
-  abbrev ran : SumNames → List Entry → FourTapes → Answer
-  ran names entries tapes = Ok (run_effect (outcome_of names entries tapes ask.budget))
+pub check_refused_only : (judged : Judged) (ask : CheckAsk) (files : Contents) (r : Answer) → JudgedAt (Some ask.program) files judged → Refuses (status_in_answer r)
+    → check_of judged ask files ≡ r → CheckRefused ask files (status_in_answer r)
+unfolding check_of
+check_refused_only judged ask files r h why is =
+    elim (steps (tree_at judged files ask.program) (λ tree. Ok check_effect) r is) [
+      | inl (c, e, is_r) ↦ at_refusal c is_r (tree_cases judged files ask.program h (Err c) e)
+      | inr (tree, e, done) ↦ no_ending (status_in_answer r) endings.Done why (ap status_in_answer (sym done))
+    ]
+  where
+    at_refusal : (c : Cause) → r ≡ Err c → TreeRead files ask.program (Err c) → CheckRefused ask files (status_in_answer r)
+    at_refusal c is_r (inl missed) = not_missing r c ask.program why is_r missed
+    at_refusal c is_r (inr (status, bad)) = record { status = refusing r c is_r ∙ status; program = bad }
 
-  by_program : (c : Cause) → r ≡ Err c → NamesRead files ask.program (Err c) → RunRefused ask files (status_in_answer r)
+-- ---- `run`
+
+module _ (judged : Judged) (ask : RunAsk) (files : Contents) (h : JudgedAt (Some ask.program) files judged) (r : Answer) (why : Refuses (status_in_answer r)) where
+  abbrev ran : SumProgram → List Entry → FourTapes → Answer
+  ran sum entries tapes = Ok (run_effect (outcome_of sum entries tapes ask.budget))
+
+  by_program : (c : Cause) → r ≡ Err c → SumRead files ask.program (Err c) → RunRefused ask files (status_in_answer r)
   by_program c is (inl missed) = not_missing r c ask.program why is missed
-  by_program c is (inr (bytes, there, bad, e)) = bad_program (refusing r c is ∙ ap status_of_cause e ∙ program_status) bytes there bad
+  by_program c is (inr (status, inl bad)) = program_refused (refusing r c is ∙ status) bad
+  by_program c is (inr (status, inr (tree, held, other))) = cannot_run_yet (refusing r c is ∙ status) tree held other
 
-  by_input : (names : SumNames) → HoldsProgram ask.program files names → (c : Cause) → r ≡ Err c → ReadRefused files ask.input bad_input inputs_read_of c → RunRefused ask files (status_in_answer r)
-  by_input names p c is (inl missed) = not_missing r c ask.input why is missed
-  by_input names p c is (inr (bytes, err, there, bad, e)) = input_refused (refusing r c is ∙ ap status_of_cause e ∙ input_status err) names p bytes err there bad
+  by_input : (sum : SumProgram) → HoldsSum ask.program files sum → (c : Cause) → r ≡ Err c → ReadRefused files ask.input bad_input inputs_read_of c → RunRefused ask files (status_in_answer r)
+  by_input sum p c is (inl missed) = not_missing r c ask.input why is missed
+  by_input sum p c is (inr (bytes, err, there, bad, e)) = input_refused (refusing r c is ∙ ap status_of_cause e ∙ input_status err) sum p bytes err there bad
 
-  by_tape : (names : SumNames) → HoldsProgram ask.program files names → (entries : List Entry) → inputs_at files ask.input ≡ Ok entries → (c : Cause) → r ≡ Err c
+  by_tape : (sum : SumProgram) → HoldsSum ask.program files sum → (entries : List Entry) → inputs_at files ask.input ≡ Ok entries → (c : Cause) → r ≡ Err c
       → (path : List ℕ) → ask.source ≡ file path → ReadRefused files path bad_tape tapes_read_of c → RunRefused ask files (status_in_answer r)
-  by_tape names p entries inputs c is path source (inl missed) = not_missing r c path why is missed
-  by_tape names p entries inputs c is path source (inr (bytes, place, there, bad, e)) =
-      tape_refused (refusing r c is ∙ ap status_of_cause e ∙ tape_status place) names p entries inputs path bytes place source there bad
+  by_tape sum p entries inputs c is path source (inl missed) = not_missing r c path why is missed
+  by_tape sum p entries inputs c is path source (inr (bytes, place, there, bad, e)) =
+      tape_refused (refusing r c is ∙ ap status_of_cause e ∙ tape_status place) sum p entries inputs path bytes place source there bad
 
-  at_tapes : (names : SumNames) → HoldsProgram ask.program files names → (entries : List Entry) → inputs_at files ask.input ≡ Ok entries
-      → (tapes_at files ask.source >>= ran names entries) ≡ r → RunRefused ask files (status_in_answer r)
-  at_tapes names p entries inputs is =
-      elim (steps (tapes_at files ask.source) (ran names entries) r is) [
-        | inl (c, e, is_r) ↦ let (path, source, refused) = tapes_refused files ask.source c e in by_tape names p entries inputs c is_r path source refused
+  at_tapes : (sum : SumProgram) → HoldsSum ask.program files sum → (entries : List Entry) → inputs_at files ask.input ≡ Ok entries
+      → (tapes_at files ask.source >>= ran sum entries) ≡ r → RunRefused ask files (status_in_answer r)
+  at_tapes sum p entries inputs is =
+      elim (steps (tapes_at files ask.source) (ran sum entries) r is) [
+        | inl (c, e, is_r) ↦ let (path, source, refused) = tapes_refused files ask.source c e in by_tape sum p entries inputs c is_r path source refused
         | inr (tapes, e, done) ↦ no_ending (status_in_answer r) _ why (ap status_in_answer (sym done))
       ]
 
-  abbrev after_inputs : SumNames → List Entry → Answer
-  after_inputs names entries = tapes_at files ask.source >>= ran names entries
+  abbrev after_inputs : SumProgram → List Entry → Answer
+  after_inputs sum entries = tapes_at files ask.source >>= ran sum entries
 
-  at_inputs : (names : SumNames) → HoldsProgram ask.program files names → (inputs_at files ask.input >>= after_inputs names) ≡ r → RunRefused ask files (status_in_answer r)
-  at_inputs names p is =
-      elim (steps (inputs_at files ask.input) (after_inputs names) r is) [
-        | inl (c, e, is_r) ↦ by_input names p c is_r (inputs_refused files ask.input c e)
-        | inr (entries, e, rest) ↦ at_tapes names p entries e rest
+  at_inputs : (sum : SumProgram) → HoldsSum ask.program files sum → (inputs_at files ask.input >>= after_inputs sum) ≡ r → RunRefused ask files (status_in_answer r)
+  at_inputs sum p is =
+      elim (steps (inputs_at files ask.input) (after_inputs sum) r is) [
+        | inl (c, e, is_r) ↦ by_input sum p c is_r (inputs_refused files ask.input c e)
+        | inr (entries, e, rest) ↦ at_tapes sum p entries e rest
       ]
 
-  abbrev after_names : SumNames → Answer
-  after_names names = inputs_at files ask.input >>= after_inputs names
+  abbrev after_program : SumProgram → Answer
+  after_program sum = inputs_at files ask.input >>= after_inputs sum
 
-  pub refused_only : run_of ask files ≡ r → RunRefused ask files (status_in_answer r)
+  pub refused_only : run_of judged ask files ≡ r → RunRefused ask files (status_in_answer r)
   unfolding run_of
   refused_only is =
-      elim (steps (names_at files ask.program) after_names r is) [
-        | inl (c, e, is_r) ↦ by_program c is_r (names_cases files ask.program (Err c) e)
-        | inr (names, e, rest) ↦ at_inputs names (names_cases files ask.program (Ok names) e) rest
+      elim (steps (sum_at judged files ask.program) after_program r is) [
+        | inl (c, e, is_r) ↦ by_program c is_r (sum_cases judged files ask.program h (Err c) e)
+        | inr (sum, e, rest) ↦ at_inputs sum (sum_cases judged files ask.program h (Ok sum) e) rest
       ]

@@ -1,75 +1,151 @@
--- What the answers of `run` and `deal` are, for files that are as they must be, and for files that are refused.
-use Rattle.std.proofs.Common.{◌≡◌, ◌≤◌, ◌⊎◌, ℕ, List, length, true, false, Option, Some, None, Ok, Err, Result, refl, ap, subst, sym, ◌∙◌, inl, inr, arith}
+-- What the answers of the commands are, for files that are as they must be, and for files that are refused.
+use Rattle.std.proofs.Common.{◌≡◌, ◌≤◌, ◌⊎◌, ℕ, List, length, true, false, Option, Some, None, Ok, Err, refl, ap, subst, sym, ◌∙◌, inl, inr, arith}
 use Rattle.std.specs.Prelude.{nat_lt}
-use Rattle.std.specs.Option.{ok_or}
 use Rattle.std.proofs.lemmas.Bool.Decides.{nat_tests}
 use Rattle.outside.specs.Files.{Contents, FilesState, file_at}
 use Rattle.outside.specs.Sink.{SinkState, Appends}
 use Rattle.command_frame.specs.declared.status.Status.{Status}
 use Rattle.command_frame.specs.declared.status.Status.TheVariants as statuses
-use Rattle.command_frame.specs.Answer.{Answer, Cause, after_writes, bytes_at, missing, usage, ◌>>=◌}
+use Rattle.command_frame.specs.Answer.{Answer, after_writes, bytes_at, usage}
 use Rattle.command_frame.specs.Status.{is_end, is_fault, is_refusal}
 use Rattle.command_frame.specs.Whole.{CarriedOut, IsAnswered}
-use Rattle.command_words.specs.Ask.{RunAsk, DealAsk, Source, file, seeded, run, deal, words_of}
+use Rattle.command_words.specs.Ask.{Ask, CheckAsk, RunAsk, DealAsk, check, run, deal, words_of}
+use Rattle.secrec_ast.specs.Programs.{ProgramTree}
+use Rattle.front_end.specs.Judgement.{Judged, IsJudged}
 use Rattle.input_share.specs.Dealing.{need_of}
 use Rattle.sc_text.specs.declared.end.Ending.{Ending}
 use Rattle.sc_text.specs.declared.end.Ending.TheVariants as endings
-use Rattle.tape_file.specs.Format.{read_of as tapes_read_of}
-use Rattle.tape_file.specs.Seeds.{seed_tapes}
 use Rattle.tape_file.specs.Tapes.{FourTapes}
 use Rattle.value_file.specs.declared.inputs.Entry.{Entry}
-use Rattle.value_file.specs.declared.read_err.ReadErr.{ReadErr}
-use Rattle.value_file.specs.Input.{read_of as inputs_read_of}
-use Rattle.run_engine.specs.Deal.{deal_of, dealing, deal_effect, deal_writes}
+use Rattle.run_engine.specs.Deal.{deal_of, deal_effect, deal_writes}
 use Rattle.run_engine.specs.Outcome.{Outcome, outcome_of, status_of}
-use Rattle.run_engine.specs.Program.{SumNames, program_of}
-use Rattle.run_engine.specs.Run.{bad_input, bad_tape, inputs_at, names_at, not_yet, outcome_text, read_or, run_effect, run_of, tape_file_at, tapes_at}
-use Rattle.run_engine.specs.Runs.{HoldsProgram, HoldsRun, HoldsDeal, RunRefused, bad_program, bad_input as input_refused, bad_tape as tape_refused}
-use Rattle.run_engine.specs.Words.{answer_to, answer_of}
-use Rattle.run_engine.proofs.Refusals.{Refuses, refused_only, status_in_answer}
+use Rattle.run_engine.specs.Check.{check_of, check_effect, check_text}
+use Rattle.run_engine.specs.Judging.{JudgedAt, HasJudgement}
+use Rattle.run_engine.specs.Programs.{bad_program, not_yet, sum_at, tree_at}
+use Rattle.run_engine.specs.Run.{bad_input, bad_tape, inputs_at, outcome_text, run_effect, run_of, tape_file_at, tapes_at}
+use Rattle.run_engine.specs.Runs.{HoldsProgram, HoldsBadProgram, HoldsSum, HoldsRun, HoldsDeal, CheckRefused, RunRefused, cannot_run_yet, bad_program as program_refused, bad_input as input_refused, bad_tape as tape_refused}
+use Rattle.run_engine.specs.SumProgram.{SumProgram, IsSumProgram}
+use Rattle.run_engine.specs.SumReading.{sum_program_of}
+use Rattle.run_engine.specs.Words.{answer_to, answer_of, program_in, program_named, IsAnswer, HasAnswer}
+use Rattle.run_engine.proofs.Refusals.{Refuses, check_refused_only, refused_only, status_in_answer}
+use Rattle.run_engine.proofs.SumTrees.{reading_is_tree}
 
-pub no_command : (words : List (List ℕ)) (files : Contents) → words_of words ≡ None → answer_of words files ≡ Err usage
+-- ---- words and answers
+
+pub no_command : (words : List (List ℕ)) (files : Contents) (answer : Answer) → IsAnswer words files answer → words_of words ≡ None → answer ≡ Err usage
 unfolding answer_of
-no_command words files e = rw e refl
+no_command words files answer a none = a.is ∙ rw none refl
 
-answered_run : (words : List (List ℕ)) (ask : RunAsk) (files : Contents) → words_of words ≡ Some (run ask) → answer_of words files ≡ run_of ask files
-unfolding answer_of answer_to
-answered_run words ask files e = rw e refl
+answered_by : (words : List (List ℕ)) (ask : Ask) (judged : Judged) (files : Contents) → words_of words ≡ Some ask → answer_of judged words files ≡ answer_to judged ask files
+unfolding answer_of
+answered_by words ask judged files e = rw e refl
 
-answered_deal : (words : List (List ℕ)) (ask : DealAsk) (files : Contents) → words_of words ≡ Some (deal ask) → answer_of words files ≡ deal_of ask files
-unfolding answer_of answer_to
-answered_deal words ask files e = rw e refl
+program_by : (words : List (List ℕ)) (ask : Ask) → words_of words ≡ Some ask → program_named words ≡ program_in ask
+unfolding program_named
+program_by words ask e = rw e refl
+
+no_program : (words : List (List ℕ)) → words_of words ≡ None → program_named words ≡ None
+unfolding program_named
+no_program words e = rw e refl
+
+-- an answer to the words is the command's, of a judgement of its program
+abbrev CommandAnswers : Ask → Contents → Answer → Type 0
+CommandAnswers ask files answer = (judged : Judged) × JudgedAt (program_in ask) files judged × (answer_to judged ask files ≡ answer)
+
+pub command_answers : (words : List (List ℕ)) (ask : Ask) (files : Contents) (answer : Answer) → words_of words ≡ Some ask → IsAnswer words files answer → CommandAnswers ask files answer
+command_answers words ask files answer e a =
+    (a.judged, subst (λ (p : Option (List ℕ)). JudgedAt p files a.judged) (program_by words ask e) a.of_text, sym (a.is ∙ answered_by words ask a.judged files e))
+
+-- and the other way round
+pub is_answer : (words : List (List ℕ)) (ask : Ask) (files : Contents) (judged : Judged) → words_of words ≡ Some ask → JudgedAt (program_in ask) files judged → IsAnswer words files (answer_to judged ask files)
+is_answer words ask files judged e h = record {
+  judged = judged;
+  of_text = subst (λ (p : Option (List ℕ)). JudgedAt p files judged) (sym (program_by words ask e)) h;
+  is = sym (answered_by words ask judged files e);
+}
+
+pub has_answer : (words : List (List ℕ)) (ask : Ask) (files : Contents) → words_of words ≡ Some ask → HasJudgement (program_in ask) files → HasAnswer words files
+has_answer words ask files e (judged, h) = (answer_to judged ask files, is_answer words ask files judged e h)
+
+pub answer_of_usage : (words : List (List ℕ)) (files : Contents) → words_of words ≡ None → HasJudgement None files → HasAnswer words files
+answer_of_usage words files e (judged, h) = (
+  answer_of judged words files,
+  record {
+    judged = judged;
+    of_text = subst (λ (p : Option (List ℕ)). JudgedAt p files judged) (sym (no_program words e)) h;
+    is = refl;
+  },
+)
+
+pub program_of_command : (words : List (List ℕ)) (ask : Ask) (path : List ℕ) → words_of words ≡ Some ask → program_named words ≡ Some path → program_in ask ≡ Some path
+program_of_command words ask path e named = sym (program_by words ask e) ∙ named
+
+-- ---- the file of the program
 
 found : (files : Contents) (path bytes : List ℕ) → file_at files path ≡ Some bytes → bytes_at files path ≡ Ok bytes
 unfolding bytes_at
 found files path bytes e = rw e refl
 
-named : (files : Contents) (path : List ℕ) (names : SumNames) → HoldsProgram path files names → names_at files path ≡ Ok names
-unfolding names_at
-named files path names p = rw (found files path p.bytes p.there, p.is) refl
+-- what the text of a file is judged to be
+judged_there : (files : Contents) (path bytes : List ℕ) (judged : Judged) → file_at files path ≡ Some bytes → IsJudged bytes judged → JudgedAt (Some path) files judged
+judged_there files path bytes judged there is = λ other at. subst (λ (b : List ℕ). IsJudged b judged) (same other at) is
+  where
+    same : (other : List ℕ) → file_at files path ≡ Some other → bytes ≡ other
+    same other at = let both : Some bytes ≡ Some other = sym there ∙ at in cc
 
-unnamed : (files : Contents) (path bytes : List ℕ) → file_at files path ≡ Some bytes → program_of bytes ≡ None → names_at files path ≡ Err not_yet
-unfolding names_at
-unnamed files path bytes there bad = rw (found files path bytes there, bad) refl
+held_judged : (path : List ℕ) (files : Contents) (tree : ProgramTree) → HoldsProgram path files tree → JudgedAt (Some path) files (Ok tree)
+held_judged path files tree h = judged_there files path h.bytes (Ok tree) h.there h.accepted
+
+bad_judged : (path : List ℕ) (files : Contents) (h : HoldsBadProgram path files) → JudgedAt (Some path) files (Err h.fault)
+bad_judged path files h = judged_there files path h.bytes (Err h.fault) h.there h.refused
+
+held_tree : (path : List ℕ) (files : Contents) (tree : ProgramTree) → HoldsProgram path files tree → tree_at (Ok tree) files path ≡ Ok tree
+unfolding tree_at
+held_tree path files tree h = rw (found files path h.bytes h.there) refl
+
+bad_tree : (path : List ℕ) (files : Contents) (h : HoldsBadProgram path files) → tree_at (Err h.fault) files path ≡ Err (bad_program h.fault)
+unfolding tree_at
+bad_tree path files h = rw (found files path h.bytes h.there) refl
+
+held_sum : (path : List ℕ) (files : Contents) (sum : SumProgram) (h : HoldsSum path files sum) → sum_at (Ok h.tree) files path ≡ Ok sum
+unfolding sum_at
+held_sum path files sum h = rw (held_tree path files h.tree h.held, (reading_is_tree h.tree sum).1 h.is) refl
+
+other_program : (tree : ProgramTree) → ((sum : SumProgram) → IsSumProgram tree sum → ⊥) → sum_program_of tree ≡ None
+other_program tree other = go (sum_program_of tree) refl
+  where
+    go : (o : Option SumProgram) → sum_program_of tree ≡ o → o ≡ None
+    go (Some sum) is = absurd (other sum ((reading_is_tree tree sum).0 is))
+    go None is = refl
+
+other_sum : (path : List ℕ) (files : Contents) (tree : ProgramTree) → HoldsProgram path files tree → ((sum : SumProgram) → IsSumProgram tree sum → ⊥) → sum_at (Ok tree) files path ≡ Err not_yet
+unfolding sum_at
+other_sum path files tree h other = rw (held_tree path files tree h, other_program tree other) refl
 
 -- ---- files that are as they must be
 
-run_answer : (ask : RunAsk) (files : Contents) (names : SumNames) (entries : List Entry) (tapes : FourTapes) → HoldsRun ask files names entries tapes
-    → run_of ask files ≡ Ok (run_effect (outcome_of names entries tapes ask.budget))
+run_answer : (ask : RunAsk) (files : Contents) (sum : SumProgram) (entries : List Entry) (tapes : FourTapes) (h : HoldsRun ask files sum entries tapes)
+    → run_of (Ok h.program.tree) ask files ≡ Ok (run_effect (outcome_of sum entries tapes ask.budget))
 unfolding run_of
-run_answer ask files names entries tapes h = rw (named files ask.program names h.program, h.inputs, h.tapes) refl
+run_answer ask files sum entries tapes h = rw (held_sum ask.program files sum h.program, h.inputs, h.tapes) refl
 
-pub run_printed : (words : List (List ℕ)) (ask : RunAsk) (names : SumNames) (entries : List Entry) (tapes : FourTapes) (f f' : FilesState) (o o' e e' : SinkState) (s : Status)
-    → words_of words ≡ Some (run ask) → HoldsRun ask f.contents names entries tapes
-    → (is_fault s ≡ false → CarriedOut (answer_of words f.contents) f f' o o' e e' s)
-    → IsAnswered (answer_of words f.contents) s ⊎ (s ≡ statuses.Memory)
-    → ((s ≡ status_of (outcome_of names entries tapes ask.budget).end.how) × Appends o o' (outcome_text (outcome_of names entries tapes ask.budget))) ⊎ (s ≡ statuses.Memory)
-run_printed words ask names entries tapes f f' o o' e e' s asks h carried (inr m) = inr m
-run_printed words ask names entries tapes f f' o o' e e' s asks h carried (inl a) =
-    let outcome : Outcome = outcome_of names entries tapes ask.budget in
-    let is : answer_of words f.contents ≡ Ok (run_effect outcome) = answered_run words ask f.contents asks ∙ run_answer ask f.contents names entries tapes h in
-    let ends : s ≡ status_of outcome.end.how = subst (λ (x : Answer). IsAnswered x s) is a in
-    let whole : CarriedOut (Ok (run_effect outcome)) f f' o o' e e' s = subst (λ (x : Answer). CarriedOut x f f' o o' e e' s) is (carried (ap is_fault ends ∙ no_fault outcome.end.how)) in
+abbrev effect : Outcome → Answer
+effect outcome = Ok (run_effect outcome)
+
+pub run_answered : (words : List (List ℕ)) (ask : RunAsk) (files : Contents) (sum : SumProgram) (entries : List Entry) (tapes : FourTapes)
+    → words_of words ≡ Some (run ask) → HoldsRun ask files sum entries tapes → IsAnswer words files (effect (outcome_of sum entries tapes ask.budget))
+unfolding answer_to program_in
+run_answered words ask files sum entries tapes asks h =
+    let judged : Judged = Ok h.program.tree in
+    subst (IsAnswer words files) (run_answer ask files sum entries tapes h) (is_answer words (run ask) files judged asks (held_judged ask.program files h.program.tree h.program.held))
+
+pub run_printed : (outcome : Outcome) (f f' : FilesState) (o o' e e' : SinkState) (s : Status)
+    → (is_fault s ≡ false → CarriedOut (effect outcome) f f' o o' e e' s)
+    → IsAnswered (effect outcome) s ⊎ (s ≡ statuses.Memory)
+    → ((s ≡ status_of outcome.end.how) × Appends o o' (outcome_text outcome)) ⊎ (s ≡ statuses.Memory)
+run_printed outcome f f' o o' e e' s carried (inr m) = inr m
+run_printed outcome f f' o o' e e' s carried (inl ends) =
+    let whole : CarriedOut (effect outcome) f f' o o' e e' s = carried (ap is_fault ends ∙ no_fault outcome.end.how) in
     inl (ends, whole.0.text)
   where
     no_fault : (how : Ending) → is_fault (status_of how) ≡ false
@@ -77,6 +153,28 @@ run_printed words ask names entries tapes f f' o o' e e' s asks h carried (inl a
     no_fault (endings.Trap kind line) = refl
     no_fault endings.Budget = refl
     no_fault (endings.Tape owner need have) = refl
+
+abbrev checked : Answer
+checked = Ok check_effect
+
+check_answer : (ask : CheckAsk) (files : Contents) (tree : ProgramTree) → HoldsProgram ask.program files tree → check_of (Ok tree) ask files ≡ checked
+unfolding check_of
+check_answer ask files tree h = rw (held_tree ask.program files tree h) refl
+
+pub check_answered : (words : List (List ℕ)) (ask : CheckAsk) (files : Contents) (tree : ProgramTree) → words_of words ≡ Some (check ask) → HoldsProgram ask.program files tree
+    → IsAnswer words files checked
+unfolding answer_to program_in
+check_answered words ask files tree asks h =
+    let judged : Judged = Ok tree in
+    subst (IsAnswer words files) (check_answer ask files tree h) (is_answer words (check ask) files judged asks (held_judged ask.program files tree h))
+
+pub check_printed : (f f' : FilesState) (o o' e e' : SinkState) (s : Status)
+    → (is_fault s ≡ false → CarriedOut checked f f' o o' e e' s) → IsAnswered checked s ⊎ (s ≡ statuses.Memory)
+    → ((s ≡ statuses.Done) × Appends o o' check_text) ⊎ (s ≡ statuses.Memory)
+check_printed f f' o o' e e' s carried (inr m) = inr m
+check_printed f f' o o' e e' s carried (inl done) =
+    let whole : CarriedOut checked f f' o o' e e' s = carried (ap is_fault done) in
+    inl (done, whole.0.text)
 
 enough : (have need : ℕ) → need ≤ have → nat_lt have need ≡ false
 enough have need h = grind (arith, nat_tests)
@@ -86,16 +184,23 @@ deal_answer : (ask : DealAsk) (files : Contents) (entries : List Entry) (tapes :
 unfolding deal_of
 deal_answer ask files entries tapes h most = rw (h.inputs, h.tapes, enough (length tapes.dealer) (need_of entries) most) refl
 
-pub deal_written : (words : List (List ℕ)) (ask : DealAsk) (entries : List Entry) (tapes : FourTapes) (f f' : FilesState) (o o' e e' : SinkState) (s : Status)
-    → words_of words ≡ Some (deal ask) → HoldsDeal ask f.contents entries tapes → need_of entries ≤ length tapes.dealer
-    → (is_fault s ≡ false → CarriedOut (answer_of words f.contents) f f' o o' e e' s)
-    → IsAnswered (answer_of words f.contents) s ⊎ (s ≡ statuses.Memory)
-    → ((s ≡ statuses.Done) × (f'.contents ≡ after_writes (deal_writes ask.to entries tapes) f.contents)) ⊎ (s ≡ statuses.Memory)
-deal_written words ask entries tapes f f' o o' e e' s asks h most carried (inr m) = inr m
-deal_written words ask entries tapes f f' o o' e e' s asks h most carried (inl a) =
-    let is : answer_of words f.contents ≡ Ok (deal_effect ask.to entries tapes) = answered_deal words ask f.contents asks ∙ deal_answer ask f.contents entries tapes h most in
-    let done : s ≡ statuses.Done = subst (λ (x : Answer). IsAnswered x s) is a in
-    let whole : CarriedOut (Ok (deal_effect ask.to entries tapes)) f f' o o' e e' s = subst (λ (x : Answer). CarriedOut x f f' o o' e e' s) is (carried (ap is_fault done)) in
+abbrev dealt : List ℕ → List Entry → FourTapes → Answer
+dealt to entries tapes = Ok (deal_effect to entries tapes)
+
+pub deal_answered : (words : List (List ℕ)) (ask : DealAsk) (entries : List Entry) (tapes : FourTapes) (files : Contents)
+    → words_of words ≡ Some (deal ask) → HoldsDeal ask files entries tapes → need_of entries ≤ length tapes.dealer → HasJudgement None files
+    → IsAnswer words files (dealt ask.to entries tapes)
+unfolding answer_to program_in
+deal_answered words ask entries tapes files asks h most (judged, any) =
+    subst (IsAnswer words files) (deal_answer ask files entries tapes h most) (is_answer words (deal ask) files judged asks any)
+
+pub deal_written : (to : List ℕ) (entries : List Entry) (tapes : FourTapes) (f f' : FilesState) (o o' e e' : SinkState) (s : Status)
+    → (is_fault s ≡ false → CarriedOut (dealt to entries tapes) f f' o o' e e' s)
+    → IsAnswered (dealt to entries tapes) s ⊎ (s ≡ statuses.Memory)
+    → ((s ≡ statuses.Done) × (f'.contents ≡ after_writes (deal_writes to entries tapes) f.contents)) ⊎ (s ≡ statuses.Memory)
+deal_written to entries tapes f f' o o' e e' s carried (inr m) = inr m
+deal_written to entries tapes f f' o o' e e' s carried (inl done) =
+    let whole : CarriedOut (dealt to entries tapes) f f' o o' e e' s = carried (ap is_fault done) in
     inl (done, whole.0.files)
 
 -- ---- files that are refused
@@ -104,36 +209,66 @@ carried_status : (answer : Answer) (f f' : FilesState) (o o' e e' : SinkState) (
 carried_status (Ok x) f f' o o' e e' s c = sym c.0.status
 carried_status (Err x) f f' o o' e e' s c = sym c.0
 
-refused : (ask : RunAsk) (files : Contents) (s : Status) → RunRefused ask files s → status_in_answer (run_of ask files) ≡ s
-unfolding run_of inputs_at tapes_at tape_file_at not_yet bad_input bad_tape
-refused ask files s (bad_program is bytes there bad) = rw (unnamed files ask.program bytes there bad) (sym is)
-refused ask files s (input_refused is names p bytes err there bad) =
-    rw (named files ask.program names p, found files ask.input bytes there, bad) (sym is)
-refused ask files s (tape_refused is names p entries inputs path bytes place source there bad) =
-    rw (named files ask.program names p, inputs, source, found files path bytes there, bad) (sym is)
-
 fault_or_not : (s : Status) → (is_fault s ≡ true) ⊎ (is_fault s ≡ false)
 fault_or_not s = elim (is_fault s) as (λ b. (b ≡ true) ⊎ (b ≡ false)) [ true ↦ inl refl | false ↦ inr refl ]
 
-pub refused_if : (words : List (List ℕ)) (ask : RunAsk) (why : Status) (f f' : FilesState) (o o' e e' : SinkState) (s : Status) → words_of words ≡ Some (run ask) → RunRefused ask f.contents why
-    → (is_fault s ≡ false → CarriedOut (answer_of words f.contents) f f' o o' e e' s) → (s ≡ why) ⊎ (is_fault s ≡ true)
-refused_if words ask why f f' o o' e e' s asks out carried =
-    let is : status_in_answer (answer_of words f.contents) ≡ why = ap status_in_answer (answered_run words ask f.contents asks) ∙ refused ask f.contents why out in
+-- an answer of this status
+abbrev pub HasAnswerOf : List (List ℕ) → Contents → Status → Type 0
+HasAnswerOf words files s = (answer : Answer) × IsAnswer words files answer × (status_in_answer answer ≡ s)
+
+run_refused : (ask : RunAsk) (files : Contents) (s : Status) → RunRefused ask files s → (judged : Judged) × JudgedAt (Some ask.program) files judged × (status_in_answer (run_of judged ask files) ≡ s)
+unfolding run_of inputs_at tapes_at tape_file_at not_yet bad_program bad_input bad_tape sum_at
+run_refused ask files s (program_refused is bad) =
+    (Err bad.fault, bad_judged ask.program files bad, rw (bad_tree ask.program files bad) (sym is))
+run_refused ask files s (cannot_run_yet is tree held other) =
+    (Ok tree, held_judged ask.program files tree held, rw (held_tree ask.program files tree held, other_program tree other) (sym is))
+run_refused ask files s (input_refused is sum p bytes err there bad) =
+    (Ok p.tree, held_judged ask.program files p.tree p.held, rw (held_tree ask.program files p.tree p.held, (reading_is_tree p.tree sum).1 p.is, found files ask.input bytes there, bad) (sym is))
+run_refused ask files s (tape_refused is sum p entries inputs path bytes place source there bad) =
+    (Ok p.tree, held_judged ask.program files p.tree p.held, rw (held_tree ask.program files p.tree p.held, (reading_is_tree p.tree sum).1 p.is, inputs, source, found files path bytes there, bad) (sym is))
+
+pub run_answered_so : (words : List (List ℕ)) (ask : RunAsk) (files : Contents) (s : Status) → words_of words ≡ Some (run ask) → RunRefused ask files s → HasAnswerOf words files s
+unfolding answer_to program_in
+run_answered_so words ask files s asks out =
+    let (judged, at, status) = run_refused ask files s out in
+    (run_of judged ask files, is_answer words (run ask) files judged asks at, status)
+
+pub check_answered_so : (words : List (List ℕ)) (ask : CheckAsk) (files : Contents) (s : Status) → words_of words ≡ Some (check ask) → CheckRefused ask files s → HasAnswerOf words files s
+unfolding answer_to program_in check_of bad_program
+check_answered_so words ask files s asks out =
+    let judged : Judged = Err out.program.fault in
+    (check_of judged ask files, is_answer words (check ask) files judged asks (bad_judged ask.program files out.program), rw (bad_tree ask.program files out.program) (sym out.status))
+
+pub refused_if : (answer : Answer) (why : Status) (f f' : FilesState) (o o' e e' : SinkState) (s : Status) → status_in_answer answer ≡ why
+    → (is_fault s ≡ false → CarriedOut answer f f' o o' e e' s) → (s ≡ why) ⊎ (is_fault s ≡ true)
+refused_if answer why f f' o o' e e' s is carried =
     elim (fault_or_not s) [
       | inl fault ↦ inr fault
-      | inr sound ↦ inl (sym (carried_status (answer_of words f.contents) f f' o o' e e' s (carried sound)) ∙ is)
+      | inr sound ↦ inl (sym (carried_status answer f f' o o' e e' s (carried sound)) ∙ is)
     ]
 
-pub refused_only_so : (words : List (List ℕ)) (ask : RunAsk) (f f' : FilesState) (o o' e e' : SinkState) (s : Status) → words_of words ≡ Some (run ask)
-    → is_refusal s ≡ true → is_end s ≡ false → is_fault s ≡ false
-    → (is_fault s ≡ false → CarriedOut (answer_of words f.contents) f f' o o' e e' s) → RunRefused ask f.contents s
-refused_only_so words ask f f' o o' e e' s asks refusal unended sound carried =
-    let same : status_in_answer (answer_of words f.contents) ≡ s = carried_status (answer_of words f.contents) f f' o o' e e' s (carried sound) in
-    let why : Refuses (status_in_answer (answer_of words f.contents)) = record {
-      refusal = ap is_refusal same ∙ refusal;
-      no_end = ap is_end same ∙ unended;
-    } in
-    subst (RunRefused ask f.contents) same (refused_only ask f.contents (answer_of words f.contents) why (sym (answered_run words ask f.contents asks)))
+-- why the status of an answer that is carried out is that of a refusal
+refusing : (answer : Answer) (s : Status) → status_in_answer answer ≡ s → is_refusal s ≡ true → is_end s ≡ false → Refuses (status_in_answer answer)
+refusing answer s same refusal unended = record {
+  refusal = ap is_refusal same ∙ refusal;
+  no_end = ap is_end same ∙ unended;
+}
+
+pub run_refused_only : (words : List (List ℕ)) (ask : RunAsk) (answer : Answer) (f f' : FilesState) (o o' e e' : SinkState) (s : Status) → words_of words ≡ Some (run ask)
+    → IsAnswer words f.contents answer → is_refusal s ≡ true → is_end s ≡ false → CarriedOut answer f f' o o' e e' s → RunRefused ask f.contents s
+unfolding answer_to program_in
+run_refused_only words ask answer f f' o o' e e' s asks a refusal unended carried =
+    let same : status_in_answer answer ≡ s = carried_status answer f f' o o' e e' s carried in
+    let (judged, at, is) = command_answers words (run ask) f.contents answer asks a in
+    subst (RunRefused ask f.contents) same (refused_only judged ask f.contents at answer (refusing answer s same refusal unended) is)
+
+pub check_refused_so : (words : List (List ℕ)) (ask : CheckAsk) (answer : Answer) (f f' : FilesState) (o o' e e' : SinkState) (s : Status) → words_of words ≡ Some (check ask)
+    → IsAnswer words f.contents answer → is_refusal s ≡ true → is_end s ≡ false → CarriedOut answer f f' o o' e e' s → CheckRefused ask f.contents s
+unfolding answer_to program_in
+check_refused_so words ask answer f f' o o' e e' s asks a refusal unended carried =
+    let same : status_in_answer answer ≡ s = carried_status answer f f' o o' e e' s carried in
+    let (judged, at, is) = command_answers words (check ask) f.contents answer asks a in
+    subst (CheckRefused ask f.contents) same (check_refused_only judged ask f.contents answer at (refusing answer s same refusal unended) is)
 
 pub no_fault_refusal : (s : Status) → is_refusal s ≡ true → is_fault s ≡ false
 no_fault_refusal statuses.Done r = refl

@@ -1,7 +1,8 @@
--- How a program of the first form ends in the clear, and what it opens and publishes until then.
+-- How a program that opens one sum ends in the clear, and what it opens and publishes until then.
 --
 -- It asks for two arguments, stores each, adds them, opens the sum and publishes it. Each of these costs 1: the first
--- argument is tested at cost 1, the second at cost 3, the sum is opened at cost 6 and published at cost 7.
+-- argument is tested at cost 1, the second at cost 3, the sum is opened at cost 6 and published at cost 7. Where an
+-- argument is missing it traps in the line where it asks for it.
 use Rattle.std.specs.Prelude.{ℕ, List, [], ◌∷◌, length, nat_lt, Option, Some, None, if◌then◌else◌}
 use Rattle.command_frame.specs.declared.status.Status.{Status}
 use Rattle.command_frame.specs.declared.status.Status.TheVariants as statuses
@@ -18,7 +19,7 @@ use Rattle.tape_file.specs.Tapes.{FourTapes}
 use Rattle.value_file.specs.declared.inputs.Entry.{Entry}
 use Rattle.input_share.specs.Dealing.{need_of}
 use Rattle.run_engine.specs.Arguments.{Argument, argument_of}
-use Rattle.run_engine.specs.Program.{SumNames}
+use Rattle.run_engine.specs.SumProgram.{SumProgram}
 use Rattle.run_engine.specs.Sum.{sum_of}
 
 -- the first miner whose tape has no word left for its mask, if there is one
@@ -57,17 +58,17 @@ opening name total None budget = record {
 }
 
 -- the inputs are dealt: an argument may be missing
-abbrev pub asking : List ℕ → Option Argument → Option Argument → Option TapeOwner → ℕ → Outcome
-asking name None right short budget = ended budget (endings.Trap ArgumentTrap 2) 1
-asking name (Some left) None short budget = ended budget (endings.Trap ArgumentTrap 2) 3
-asking name (Some left) (Some right) short budget = opening name (sum_of left right) short budget
+abbrev pub asking : SumProgram → Option Argument → Option Argument → Option TapeOwner → ℕ → Outcome
+asking p None right short budget = ended budget (endings.Trap ArgumentTrap p.left.line) 1
+asking p (Some left) None short budget = ended budget (endings.Trap ArgumentTrap p.right.line) 3
+asking p (Some left) (Some right) short budget = opening p.published (sum_of left right) short budget
 
 -- what the run opens and publishes, and how it ends; a dealer's tape that is too short ends it before anything else
-unfoldable pub outcome_of : SumNames → List Entry → FourTapes → ℕ → Outcome
-outcome_of names entries tapes budget =
+unfoldable pub outcome_of : SumProgram → List Entry → FourTapes → ℕ → Outcome
+outcome_of p entries tapes budget =
     if nat_lt (length tapes.dealer) (need_of entries)
     then ended budget (endings.Tape owners.Dealer (need_of entries) (length tapes.dealer)) 0
-    else asking names.published (argument_of names.left entries) (argument_of names.right entries) (short_miner tapes) budget
+    else asking p (argument_of p.left.name entries) (argument_of p.right.name entries) (short_miner tapes) budget
 
 -- the exit status of a run's end
 abbrev pub status_of : Ending → Status

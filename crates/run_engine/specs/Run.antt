@@ -1,10 +1,10 @@
 -- The command `run`, for programs that open one sum.
 use Rattle.std.specs.Prelude.{ℕ, List, [], ◌∷◌, Option, Some, None, Result, Ok, Err}
-use Rattle.std.specs.Option.{ok_or}
 use Rattle.outside.specs.Files.{Contents}
-use Rattle.command_frame.specs.declared.status.Status.TheVariants.{Input, Program, TapeFile}
+use Rattle.command_frame.specs.declared.status.Status.TheVariants.{Input, TapeFile}
 use Rattle.command_frame.specs.Answer.{Answer, Cause, Effect, ◌>>=◌, bytes_at}
 use Rattle.command_words.specs.Ask.{RunAsk, Source, file, seeded}
+use Rattle.front_end.specs.Judgement.{Judged}
 use Rattle.sc_text.specs.declared.fault.Fault.{Fault}
 use Rattle.sc_text.specs.declared.fault.Fault.TheVariants as faults
 use Rattle.sc_text.specs.declared.input_fault.EntryField.{EntryField}
@@ -23,15 +23,7 @@ use Rattle.value_file.specs.declared.read_err.ReadErr.{ReadErr}
 use Rattle.value_file.specs.declared.read_err.ReadErr.TheVariants as read_errs
 use Rattle.value_file.specs.Input.{read_of as inputs_read_of}
 use Rattle.run_engine.specs.Outcome.{Outcome, outcome_of, status_of}
-use Rattle.run_engine.specs.Program.{SumNames, program_of}
-
--- the refusal of a program that isn't of the form that can be run today
-unfoldable pub not_yet : Cause
-not_yet = record { status = Program; line = fault_line faults.NotYet }
-
--- the names of the program at a path
-unfoldable pub names_at : Contents → List ℕ → Result SumNames Cause
-names_at files path = bytes_at files path >>= λ bytes. ok_or (program_of bytes) not_yet
+use Rattle.run_engine.specs.Programs.{sum_at}
 
 -- the refusal of a tape file, by the place of its first fault
 unfoldable pub bad_tape : ℕ → Cause
@@ -97,13 +89,14 @@ outcome_text outcome = run_text outcome.events outcome.end
 abbrev pub run_effect : Outcome → Effect
 run_effect outcome = record { writes = []; text = outcome_text outcome; status = status_of outcome.end.how }
 
--- each file is read and then checked: the program, the input, the tapes; then the program is run
-unfoldable pub run_of : RunAsk → Contents → Answer
-run_of ask files = do
-  names ← names_at files ask.program
+-- Each file is read and then checked: the program, the input, the tapes; then the program is run. `judged` is the
+-- judgement of the program's text.
+unfoldable pub run_of : Judged → RunAsk → Contents → Answer
+run_of judged ask files = do
+  program ← sum_at judged files ask.program
   entries ← inputs_at files ask.input
   tapes ← tapes_at files ask.source
-  Ok (run_effect (outcome_of names entries tapes ask.budget))
+  Ok (run_effect (outcome_of program entries tapes ask.budget))
 
 abbrev pub source_paths : Source → List (List ℕ)
 source_paths (file path) = path ∷ []

@@ -1,26 +1,35 @@
--- Files that can be run, and files that are refused.
-use Rattle.std.specs.Prelude.{◌≡◌, ℕ, List, Some, None, Ok, Err}
+-- Files that can be checked, run and dealt, and files that are refused.
+use Rattle.std.specs.Prelude.{◌≡◌, ℕ, List, Some, Ok, Err}
 use Rattle.outside.specs.Files.{Contents, file_at}
+use Rattle.secrec_ast.specs.Programs.{ProgramTree}
+use Rattle.front_end.specs.declared.program_fault.ProgramFault.{ProgramFault}
+use Rattle.front_end.specs.Judgement.{IsProgramText, IsRefusedText}
 use Rattle.command_frame.specs.declared.status.Status.{Status}
 use Rattle.command_frame.specs.declared.status.Status.TheVariants.{Input, Program, TapeFile}
-use Rattle.command_words.specs.Ask.{RunAsk, DealAsk, file}
+use Rattle.command_words.specs.Ask.{CheckAsk, RunAsk, DealAsk, file}
 use Rattle.tape_file.specs.Format.{read_of as tapes_read_of}
 use Rattle.tape_file.specs.Tapes.{FourTapes}
 use Rattle.value_file.specs.declared.inputs.Entry.{Entry}
 use Rattle.value_file.specs.declared.read_err.ReadErr.{ReadErr}
 use Rattle.value_file.specs.Input.{read_of as inputs_read_of}
-use Rattle.run_engine.specs.Program.{SumNames, program_of}
 use Rattle.run_engine.specs.Run.{inputs_at, tapes_at, tape_file_at}
+use Rattle.run_engine.specs.SumProgram.{SumProgram, IsSumProgram}
 
--- a program of the form is there, of these names
-pub record HoldsProgram (path : List ℕ) (files : Contents) (names : SumNames) : Type 0 where
+-- an accepted program of this tree is there
+pub record HoldsProgram (path : List ℕ) (files : Contents) (tree : ProgramTree) : Type 0 where
   pub bytes : List ℕ
   pub there : file_at files path ≡ Some bytes
-  pub is : program_of bytes ≡ Some names
+  pub accepted : IsProgramText bytes tree
 
--- the files that `run` reads are there: a program of these names, these inputs and these tapes
-pub record HoldsRun (ask : RunAsk) (files : Contents) (names : SumNames) (entries : List Entry) (given : FourTapes) : Type 0 where
-  pub program : HoldsProgram ask.program files names
+-- and it opens this sum
+pub record HoldsSum (path : List ℕ) (files : Contents) (sum : SumProgram) : Type 0 where
+  pub tree : ProgramTree
+  pub held : HoldsProgram path files tree
+  pub is : IsSumProgram tree sum
+
+-- the files that `run` reads are there: a program that opens this sum, these inputs and these tapes
+pub record HoldsRun (ask : RunAsk) (files : Contents) (sum : SumProgram) (entries : List Entry) (given : FourTapes) : Type 0 where
+  pub program : HoldsSum ask.program files sum
   pub inputs : inputs_at files ask.input ≡ Ok entries
   pub tapes : tapes_at files ask.source ≡ Ok given
 
@@ -29,10 +38,24 @@ pub record HoldsDeal (ask : DealAsk) (files : Contents) (entries : List Entry) (
   pub inputs : inputs_at files ask.input ≡ Ok entries
   pub tapes : tape_file_at files ask.tape ≡ Ok given
 
+-- a text is there that is refused
+pub record HoldsBadProgram (path : List ℕ) (files : Contents) : Type 0 where
+  pub bytes : List ℕ
+  pub there : file_at files path ≡ Some bytes
+  pub fault : ProgramFault
+  pub refused : IsRefusedText bytes fault
+
+-- why `check` is refused with this status
+pub record CheckRefused (ask : CheckAsk) (files : Contents) (given : Status) : Type 0 where
+  pub status : given ≡ Program
+  pub program : HoldsBadProgram ask.program files
+
 -- why `run` is refused with this status: the first file that is there and not as it must be
 pub data RunRefused (ask : RunAsk) (files : Contents) (status : Status) : Type 0 where
-  bad_program : status ≡ Program → (bytes : List ℕ) → file_at files ask.program ≡ Some bytes → program_of bytes ≡ None → RunRefused ask files status
-  bad_input : status ≡ Input → (names : SumNames) → HoldsProgram ask.program files names
+  bad_program : status ≡ Program → HoldsBadProgram ask.program files → RunRefused ask files status
+  cannot_run_yet : status ≡ Program → (tree : ProgramTree) → HoldsProgram ask.program files tree
+      → ((sum : SumProgram) → IsSumProgram tree sum → ⊥) → RunRefused ask files status
+  bad_input : status ≡ Input → (sum : SumProgram) → HoldsSum ask.program files sum
       → (bytes : List ℕ) (err : ReadErr) → file_at files ask.input ≡ Some bytes → inputs_read_of bytes ≡ Err err → RunRefused ask files status
-  bad_tape : status ≡ TapeFile → (names : SumNames) → HoldsProgram ask.program files names → (entries : List Entry) → inputs_at files ask.input ≡ Ok entries
+  bad_tape : status ≡ TapeFile → (sum : SumProgram) → HoldsSum ask.program files sum → (entries : List Entry) → inputs_at files ask.input ≡ Ok entries
       → (path bytes : List ℕ) (place : ℕ) → ask.source ≡ file path → file_at files path ≡ Some bytes → tapes_read_of bytes ≡ Err place → RunRefused ask files status

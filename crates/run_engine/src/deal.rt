@@ -1,7 +1,7 @@
 // The command `deal`.
 ghost use Rattle.std.specs.Prelude.{◌≡◌, ◌∷◌, [], IfOk, IfErr, string_bytes, codes};
 ghost use Rattle.command_frame.specs.Answer.{effect_of, writes_of};
-ghost use Rattle.command_frame.specs.Reads.{OnlyRead, Gives, KeepsTo};
+ghost use Rattle.command_frame.specs.Reads.{OnlyRead, Gives, KeepsTo, StopsReading};
 ghost use Rattle.command_frame.specs.Stops.{IsRefusalFor};
 ghost use Rattle.command_words.specs.Views.{deal_ask};
 ghost use Rattle.input_share.specs.Written.{file_bytes};
@@ -107,6 +107,7 @@ pub fn plan_deal<F: Files>(alloc: Global, files: &mut F, words: &DealWords) -> R
     ensures files { OnlyRead (F.state files.old) (F.state files.new) }
     ensures answer { Gives effect_of (F.state files.old) (F.state files.new) result
         (deal_of (deal_ask words.now) (F.state files.old).contents) }
+    ensures anyhow { IfErr result (StopsReading (F.state files.old) (F.state files.new)) }
     ensures names { KeepsTo (deal_paths (deal_ask words.now)) result }
 {
     let inputs = read_inputs(alloc, files, &words.input)?;

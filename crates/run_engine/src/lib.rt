@@ -2,15 +2,17 @@
 #![tactic(auto)]
 
 mod arguments;
+mod check;
 mod deal;
 mod dealing;
 mod outcome;
-mod program;
+mod programs;
 mod readers;
 mod run;
 mod sum;
+mod sum_program;
 mod text;
 mod top;
 
-pub use program::sum_program_is_spelled;
+pub use sum_program::sum_program_is_its_tree;
 pub use top::secrec;

@@ -1,15 +1,17 @@
 // The run of a program that opens one sum.
 ghost use Rattle.std.specs.Prelude.{◌≡◌, ◌+◌, ◌≤◌, ℕ, List, None, length, option_map, IfSome, IfNone};
+ghost use Rattle.sc_text.specs.declared.end.Ending.TheVariants.{Trap};
+ghost use Rattle.sc_text.specs.declared.end.TrapKind.TheVariants.{Argument as ArgumentTrap};
 ghost use Rattle.run_engine.specs.Arguments.{argument_of};
-ghost use Rattle.run_engine.specs.Names.{seen};
+ghost use Rattle.run_engine.specs.SumNames.{seen};
 ghost use Rattle.run_engine.specs.Outcome.{short_miner, within_budget, ended, opening, asking, outcome_of};
 ghost use Rattle.run_engine.specs.Outcomes.{outcome_view};
 ghost use Rattle.run_engine.specs.Sum.{sum_of};
 ghost use Rattle.run_engine.specs.Views.{argument_view};
 
 use crate::arguments::{Argument, find_argument};
-use crate::program::SumNames;
 use crate::sum::open_sum;
+use crate::sum_program::{Asked, SumProgram};
 use input_share::need;
 use sc_text::{End, Ending, TapeOwner, TrapKind};
 use tape_file::Tapes;
@@ -113,29 +115,41 @@ fn open(tapes: &Tapes, left: Argument, right: Argument, budget: u64) -> Outcome
     }
 }
 
-// The run after the inputs are dealt.
-fn ask(tapes: &Tapes, left: Option<Argument>, right: Option<Argument>, budget: u64) -> Outcome
-    requires left { IfSome left (λ a. a.place + 2 ≤ length tapes.now.dealer) }
-    requires right { IfSome right (λ a. a.place + 2 ≤ length tapes.now.dealer) }
-    ensures { (name : List ℕ) → outcome_view name result
-        ≡ asking name (option_map argument_view left) (option_map argument_view right) (short_miner tapes.now) budget }
+// The trap of an argument that is missing.
+fn missing(asked: Asked<'_>) -> Ending
+    ensures { result ≡ Trap ArgumentTrap asked.entry.line }
 {
-    let missing = Ending::Trap {
+    Ending::Trap {
         kind: TrapKind::Argument,
-        line: 2,
-    };
-    match (left, right) {
-        (Some(left), Some(right)) => open(tapes, left, right, budget),
-        (Some(_), None) => untold(budget, missing, 3),
-        (None, _) => untold(budget, missing, 1),
+        line: asked.line,
     }
 }
 
-/// Runs the program of these names on these inputs and tapes: the dealer splits the inputs, and where both arguments are
+// The run after the inputs are dealt.
+fn ask(
+    program: SumProgram<'_>,
+    tapes: &Tapes,
+    left: Option<Argument>,
+    right: Option<Argument>,
+    budget: u64,
+) -> Outcome
+    requires left { IfSome left (λ a. a.place + 2 ≤ length tapes.now.dealer) }
+    requires right { IfSome right (λ a. a.place + 2 ≤ length tapes.now.dealer) }
+    ensures { outcome_view (seen program.entry).published result
+        ≡ asking (seen program.entry) (option_map argument_view left) (option_map argument_view right) (short_miner tapes.now) budget }
+{
+    match (left, right) {
+        (Some(left), Some(right)) => open(tapes, left, right, budget),
+        (Some(_), None) => untold(budget, missing(program.right), 3),
+        (None, _) => untold(budget, missing(program.left), 1),
+    }
+}
+
+/// Runs this program on these inputs and tapes: the dealer splits the inputs, and where both arguments are
 /// there three miners add and open them, as far as the budget goes.
 #[tactic(auto, unfolding(crate::specs::Outcome::outcome_of))]
-pub fn run_sum(names: SumNames<'_>, entries: &[Entry], tapes: &Tapes, budget: u64) -> Outcome
-    ensures { outcome_view (seen names.entry).published result ≡ outcome_of (seen names.entry) entries.now tapes.now budget }
+pub fn run_sum(program: SumProgram<'_>, entries: &[Entry], tapes: &Tapes, budget: u64) -> Outcome
+    ensures { outcome_view (seen program.entry).published result ≡ outcome_of (seen program.entry) entries.now tapes.now budget }
 {
     let need = need(entries);
     let have = tapes.dealer().len() as u64;
@@ -150,7 +164,7 @@ pub fn run_sum(names: SumNames<'_>, entries: &[Entry], tapes: &Tapes, budget: u6
             0,
         );
     }
-    let left = find_argument(names.left, entries);
-    let right = find_argument(names.right, entries);
-    ask(tapes, left, right, budget)
+    let left = find_argument(program.left.name, entries);
+    let right = find_argument(program.right.name, entries);
+    ask(program, tapes, left, right, budget)
 }

@@ -1,30 +1,24 @@
 // The command `run`.
-ghost use Rattle.std.specs.Prelude.{◌≡◌, IfErr};
+ghost use Rattle.std.specs.Prelude.{◌≡◌, [], true, Some, IfOk, IfErr};
+ghost use Rattle.front_end.specs.Judgement.{Judged};
 ghost use Rattle.command_frame.specs.Answer.{effect_of};
-ghost use Rattle.command_frame.specs.Reads.{OnlyRead, Gives, KeepsTo, StopNames};
-ghost use Rattle.command_frame.specs.Stops.{IsRefusalFor};
+ghost use Rattle.command_frame.specs.Reads.{OnlyRead, Gives, KeepsTo, StopNames, StopsReading};
 ghost use Rattle.command_words.specs.Views.{run_ask, source_ask};
 ghost use Rattle.run_engine.specs.Outcome.{status_of};
-ghost use Rattle.run_engine.specs.Run.{not_yet, tapes_at, run_of, run_paths, source_paths};
+ghost use Rattle.run_engine.specs.Judging.{JudgedAt, HasJudgement, Tells};
+ghost use Rattle.run_engine.specs.Run.{tapes_at, run_of, run_paths, source_paths};
 
 use crate::outcome::run_sum;
-use crate::program::read_program;
-use crate::readers::{read_inputs, read_tape_file, refusal_of};
+use crate::programs::{not_yet, read_tree};
+use crate::readers::{read_inputs, read_tape_file};
+use crate::sum_program::read_sum;
 use crate::text::text_of;
-use command_frame::{Plan, Status, Stop, read_file};
+use command_frame::{Plan, Status, Stop};
 use command_words::{RunWords, TapeSource};
 use outside::Files;
-use sc_text::{Ending, Fault};
+use sc_text::Ending;
 use std::alloc::Global;
 use tape_file::{Tapes, from_seed};
-
-// That the program isn't of the form that can be run today.
-#[tactic(auto, unfolding(crate::specs::Run::not_yet))]
-fn not_yet(alloc: Global) -> Stop
-    ensures { IsRefusalFor not_yet result }
-{
-    refusal_of(alloc, Status::Program, &Fault::NotYet)
-}
 
 // The exit status of a run's end.
 fn status(how: Ending) -> Status
@@ -53,23 +47,28 @@ fn read_tapes<F: Files>(alloc: Global, files: &mut F, source: &TapeSource) -> Re
 }
 
 /// Reads and checks the files, runs the three miners, and says what is to be printed.
-#[tactic(auto, unfolding(crate::specs::Run::run_of, crate::specs::Run::names_at, crate::specs::Run::run_paths), using(command_frame::proofs::Naming::names_first, command_frame::proofs::Naming::names_later))]
+#[tactic(auto, unfolding(crate::specs::Run::run_of, crate::specs::Programs::sum_at, crate::specs::Run::run_paths), using(command_frame::proofs::Naming::names_first, command_frame::proofs::Naming::names_later))]
 pub fn plan_run<F: Files>(alloc: Global, files: &mut F, words: &RunWords) -> Result<Plan, Stop>
     ensures files { OnlyRead (F.state files.old) (F.state files.new) }
-    ensures answer { Gives effect_of (F.state files.old) (F.state files.new) result
-        (run_of (run_ask words.now) (F.state files.old).contents) }
+    ensures anyhow { IfErr result (StopsReading (F.state files.old) (F.state files.new)) }
+    ensures answer { (judged : Judged) → JudgedAt (Some (run_ask words.now).program) (F.state files.old).contents judged →
+        Gives effect_of (F.state files.old) (F.state files.new) result
+        (run_of judged (run_ask words.now) (F.state files.old).contents) }
+    ensures judged { (F.state files.old).told ≡ true → Tells (F.state files.old) result →
+        HasJudgement (Some (run_ask words.now).program) (F.state files.old).contents }
+    ensures writes { IfOk result (λ plan. plan.writes.items ≡ []) }
     ensures names { KeepsTo (run_paths (run_ask words.now)) result }
 {
-    let program = read_file(alloc, files, &words.program)?;
-    let Some(names) = read_program(alloc, &program)? else {
+    let program = read_tree(alloc, files, &words.program)?;
+    let Some(sum) = read_sum(&program) else {
         return Err(not_yet(alloc));
     };
     let inputs = read_inputs(alloc, files, &words.input)?;
     let tapes = read_tapes(alloc, files, &words.source)?;
-    let outcome = run_sum(names, inputs.entries(), &tapes, words.budget);
+    let outcome = run_sum(sum, inputs.entries(), &tapes, words.budget);
     Ok(Plan {
         writes: Vec::new(alloc),
-        text: text_of(alloc, names.published, outcome.told, outcome.end)?,
+        text: text_of(alloc, sum.published, outcome.told, outcome.end)?,
         status: status(outcome.end.how),
     })
 }

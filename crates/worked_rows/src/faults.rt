@@ -4,7 +4,7 @@ use command_frame::Status;
 use std::test::Fail;
 
 // The words, the status, and the line on the error stream.
-const CALLS: [(&[&str], Status, &str); 14] = [
+const CALLS: [(&[&str], Status, &str); 18] = [
     (&[], Status::Usage, "error: usage\n"),
     (&["run"], Status::Usage, "error: usage\n"),
     (
@@ -72,6 +72,18 @@ const CALLS: [(&[&str], Status, &str); 14] = [
         &["run", "sum.sc", "--input", "sum.sc", "--tape", "no.tape"],
         Status::Input,
         "error: I1\n",
+    ),
+    (&["check"], Status::Usage, "error: usage\n"),
+    (
+        &["check", "sum.sc", "sum.sc"],
+        Status::Usage,
+        "error: usage\n",
+    ),
+    (&["check", "no.sc"], Status::File, "error: file no.sc\n"),
+    (
+        &["check", "sum.json"],
+        Status::Program,
+        "error: Y1 line 1 column 1\n",
     ),
     (
         &[

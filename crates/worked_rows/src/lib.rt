@@ -7,6 +7,8 @@
 #[cfg(test)]
 mod call;
 #[cfg(test)]
+mod checks;
+#[cfg(test)]
 mod deals;
 #[cfg(test)]
 mod ends;

@@ -4,21 +4,14 @@ use command_frame::Status;
 use std::test::Fail;
 
 // A program and an input file, the status and what is said.
-const ROWS: [(&str, &str, Status, &str); 20] = [
-    ("void main() { }", INPUT, Status::Program, "error: X0\n"),
-    ("", INPUT, Status::Program, "error: X0\n"),
+const ROWS: [(&str, &str, Status, &str); 18] = [
     (
-        "import stdlib; import shared3p; domain p shared3p; void main() {\np uint64 a = argument(\"c\"); p uint64 b = argument(\"b\"); publish(\"s\", declassify(a + b));\n}\n",
-        INPUT,
+        "void main() { }",
+        "",
         Status::Program,
-        "error: X0\n",
+        "error: X4 line 1 column 1\n",
     ),
-    (
-        "import stdlib; import shared3p; domain p shared3p; void main() {\np uint64 a = argument(\"a\"); p uint64 b = argument(\"b\"); publish(\"s\", declassify(a + b));\n}\n\n",
-        INPUT,
-        Status::Program,
-        "error: X0\n",
-    ),
+    ("", "", Status::Program, "error: D11 line 1 column 1\n"),
     (SUM, "", Status::Input, "error: I1\n"),
     (SUM, "{\"inputs\":[]}x", Status::Input, "error: I1\n"),
     (

@@ -1,6 +1,6 @@
-use Rattle.std.proofs.Common.{◌≡◌, ℕ, ◌<◌, List, [], ◌∷◌, length, ap, subst, sym, ◌∙◌, arith}
+use Rattle.std.proofs.Common.{ℕ, List, length, ap, subst, sym, ◌∙◌, arith}
 use Rattle.std.specs.Prelude.{slice_index}
-use Rattle.run_engine.specs.Sum.{MinersOpen, sum_of}
+use Rattle.run_engine.specs.Sum.{MinersOpen}
 use Rattle.run_engine.specs.Views.{argument_view}
 use Rattle.run_engine.proofs.Sums.{shares_of_sum, miners_open}
 use Rattle.run_engine.proofs.sum.open_sum.Goals as goal

@@ -1,0 +1,95 @@
+-- What was read of a program's text is its judgement.
+use Rattle.std.proofs.Common.{◌≡◌, ℕ, List, true, Option, Some, None, Ok, Err, Result, refl, ap, subst, sym, ◌∙◌}
+use Rattle.std.specs.Option.{ok_or}
+use Rattle.std.specs.Result.{IsErrAnd}
+use Rattle.outside.specs.Files.{Contents, FilesState, file_at}
+use Rattle.sc_text.specs.declared.code.PlacedFault.TheVariants.{BadByte}
+use Rattle.front_end.specs.declared.program_fault.ProgramFault.{ProgramFault}
+use Rattle.front_end.specs.declared.program_err.ProgramErr.{ProgramErr}
+use Rattle.front_end.specs.declared.program_err.ProgramErr.TheVariants.{Refused}
+use Rattle.front_end.specs.Answer.{IsAnswer, IsJust}
+use Rattle.front_end.specs.Judgement.{Judged, IsJudged}
+use Rattle.command_frame.specs.declared.stop.Stop.{Stop}
+use Rattle.command_frame.specs.declared.stop.Stop.TheVariants as stops
+use Rattle.command_frame.specs.Answer.{Cause, bytes_at, missing}
+use Rattle.command_frame.specs.Reads.{Stops}
+use Rattle.command_frame.specs.Stops.{IsRefusalFor}
+use Rattle.run_engine.specs.Judging.{JudgedAt, HasJudgement, StopTells, Tells}
+use Rattle.run_engine.specs.Programs.{accepted, start, tree_at}
+
+-- the bytes that were read are those of the file
+found_there : (files : Contents) (path bytes : List ℕ) → bytes_at files path ≡ Ok bytes → file_at files path ≡ Some bytes
+unfolding bytes_at
+found_there files path bytes is = go (file_at files path) is
+  where
+    go : (t : Option (List ℕ)) → ok_or t (missing path) ≡ Ok bytes → t ≡ Some bytes
+    go (Some b) is = cc
+    go None is = absurd cc
+
+not_there : (files : Contents) (path : List ℕ) (c : Cause) → bytes_at files path ≡ Err c → file_at files path ≡ None
+unfolding bytes_at
+not_there files path c is = go (file_at files path) is
+  where
+    go : (t : Option (List ℕ)) → ok_or t (missing path) ≡ Err c → t ≡ None
+    go (Some b) is = absurd cc
+    go None is = refl
+
+-- where the text has one judgement and no other, the tree is what this judgement says
+pub tree_known : (files : Contents) (path bytes : List ℕ) (known judged : Judged) → bytes_at files path ≡ Ok bytes → ((j : Judged) → IsJudged bytes j → j ≡ known)
+    → JudgedAt (Some path) files judged → tree_at judged files path ≡ accepted known
+unfolding tree_at
+tree_known files path bytes known judged is only h = rw (is, only judged (h bytes (found_there files path bytes is))) refl
+
+pub judgement_known : (files : Contents) (path bytes : List ℕ) (known : Judged) → bytes_at files path ≡ Ok bytes → IsJudged bytes known → HasJudgement (Some path) files
+judgement_known files path bytes known is judged =
+    (known, λ b there. subst (λ (x : List ℕ). IsJudged x known) (same b there) judged)
+  where
+    same : (b : List ℕ) → file_at files path ≡ Some b → bytes ≡ b
+    same b there = let both : Some bytes ≡ Some b = sym (found_there files path bytes is) ∙ there in cc
+
+-- any judgement, of no text
+abbrev some : Judged
+some = Err (record { fault = BadByte; place = start })
+
+pub judgement_of_none : (files : Contents) (path : List ℕ) (c : Cause) → bytes_at files path ≡ Err c → HasJudgement (Some path) files
+judgement_of_none files path c is = (some, λ b there. absurd (wrong b there))
+  where
+    wrong : (b : List ℕ) → file_at files path ≡ Some b → ⊥
+    wrong b there = let both : None ≡ Some b = sym (not_there files path c is) ∙ there in cc
+
+-- a file that could not be read, of a store that tells
+pub unread : (files : FilesState) (new : FilesState) (path : List ℕ) (stop : Stop) → Stops files new stop (bytes_at files.contents path)
+    → files.told ≡ true → StopTells files stop → HasJudgement (Some path) files.contents
+unread files new path stops.Memory s t tells = absurd tells
+unread files new path stops.Usage s t tells = absurd s
+unread files new path (stops.Refused r) s t tells = judgement_of_none files.contents path _ (s t)
+unread files new path (stops.File line) s t tells = judgement_of_none files.contents path _ (s.missing tells t)
+unread files new path stops.Out s t tells = absurd s
+
+pub unread_on : {X : Type 0} (files new : FilesState) (path : List ℕ) (stop : Stop) (r : Result X Stop) → IsErrAnd r (λ given. given ≡ stop) → Stops files new stop (bytes_at files.contents path)
+    → files.told ≡ true → Tells files r → HasJudgement (Some path) files.contents
+unread_on files new path stop (Ok x) is s t tells = absurd is
+unread_on files new path stop (Err given) is s t tells = unread files new path stop s t (subst (StopTells files) is tells)
+
+-- a refusal that is decided
+pub refused_so : {Y : Type 0} (old new : FilesState) (stop : Stop) (decided : Result Y Cause) {cause : Cause} → IsRefusalFor cause stop → (old.told ≡ true → decided ≡ Err cause) → Stops old new stop decided
+refused_so old new stops.Memory decided for is = tt
+refused_so old new stops.Usage decided for is = absurd for
+refused_so old new (stops.Refused r) decided for is = λ t. is t ∙ ap (λ (c : Cause). Err c) (sym for)
+refused_so old new (stops.File line) decided for is = absurd for
+refused_so old new stops.Out decided for is = absurd for
+
+-- the bytes as they are lent
+pub as_lent : (files : Contents) (path bytes lent : List ℕ) → bytes_at files path ≡ Ok bytes → lent ≡ bytes → bytes_at files path ≡ Ok lent
+as_lent files path bytes lent is same = rw same is
+
+-- what the front end says of a text that it refuses
+pub refusal_known : (bytes : List ℕ) (e : ProgramErr) (fault : ProgramFault) → e ≡ Refused fault → IsAnswer bytes (Err e) → IsJudged bytes (Err fault)
+refusal_known bytes e fault is a = subst (λ (x : ProgramErr). IsAnswer bytes (Err x)) is a
+
+pub refusal_only : (bytes : List ℕ) (e : ProgramErr) (fault : ProgramFault) → e ≡ Refused fault → ((j : Judged) → IsJudged bytes j → IsJust (Err e) j)
+    → (j : Judged) → IsJudged bytes j → j ≡ Err fault
+refusal_only bytes e fault is only j judged = subst (λ (x : ProgramErr). IsJust (Err x) j) is (only j judged)
+
+pub judgement_of_nothing : (files : Contents) → HasJudgement None files
+judgement_of_nothing files = (some, tt)

@@ -1,0 +1,24 @@
+-- The command `check`.
+use Rattle.std.specs.Prelude.{ℕ, List, [], ◌∷◌, Ok, codes}
+use Rattle.outside.specs.Files.{Contents}
+use Rattle.command_frame.specs.declared.status.Status.TheVariants.{Done}
+use Rattle.command_frame.specs.Answer.{Answer, Effect, ◌>>=◌}
+use Rattle.command_words.specs.Ask.{CheckAsk}
+use Rattle.front_end.specs.Judgement.{Judged}
+use Rattle.run_engine.specs.Programs.{tree_at}
+
+unfoldable pub check_text : List ℕ
+check_text = codes "ok\n"
+
+abbrev pub check_effect : Effect
+check_effect = record { writes = []; text = check_text; status = Done }
+
+-- the program is read and judged, and no more
+unfoldable pub check_of : Judged → CheckAsk → Contents → Answer
+check_of judged ask files = do
+  tree ← tree_at judged files ask.program
+  Ok check_effect
+
+-- the path that `check` reads
+unfoldable pub check_paths : CheckAsk → List (List ℕ)
+check_paths ask = ask.program ∷ []

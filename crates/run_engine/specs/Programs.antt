@@ -1,0 +1,38 @@
+-- The program at a path, as a command reads it. `judged` is the judgement of its text.
+use Rattle.std.specs.Prelude.{ℕ, List, Result, Ok, Err}
+use Rattle.std.specs.Option.{ok_or}
+use Rattle.outside.specs.Files.{Contents}
+use Rattle.sc_text.specs.declared.span.Span.{Span}
+use Rattle.sc_text.specs.declared.fault.Fault.TheVariants as faults
+use Rattle.sc_text.specs.Fault.{fault_line}
+use Rattle.secrec_ast.specs.Programs.{ProgramTree}
+use Rattle.front_end.specs.declared.program_fault.ProgramFault.{ProgramFault}
+use Rattle.front_end.specs.Judgement.{Judged}
+use Rattle.command_frame.specs.declared.status.Status.TheVariants.{Program}
+use Rattle.command_frame.specs.Answer.{Cause, ◌>>=◌, bytes_at}
+use Rattle.run_engine.specs.SumProgram.{SumProgram}
+use Rattle.run_engine.specs.SumReading.{sum_program_of}
+
+-- the refusal of a text for its first fault
+unfoldable pub bad_program : ProgramFault → Cause
+bad_program f = record { status = Program; line = fault_line (faults.Placed f.fault f.place) }
+
+abbrev pub accepted : Judged → Result ProgramTree Cause
+accepted (Ok tree) = Ok tree
+accepted (Err fault) = Err (bad_program fault)
+
+-- the tree of the accepted program
+unfoldable pub tree_at : Judged → Contents → List ℕ → Result ProgramTree Cause
+tree_at judged files path = bytes_at files path >>= λ bytes. accepted judged
+
+-- where every program begins
+abbrev pub start : Span
+start = record { line = 1; column = 1 }
+
+-- the refusal of an accepted program that can't be run yet
+unfoldable pub not_yet : Cause
+not_yet = record { status = Program; line = fault_line (faults.NotYet start) }
+
+-- the accepted program, if it can be run
+unfoldable pub sum_at : Judged → Contents → List ℕ → Result SumProgram Cause
+sum_at judged files path = tree_at judged files path >>= λ tree. ok_or (sum_program_of tree) not_yet

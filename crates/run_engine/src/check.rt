@@ -1,0 +1,45 @@
+// The command `check`.
+ghost use Rattle.std.specs.Prelude.{◌≡◌, [], true, Some, IfOk, IfErr};
+ghost use Rattle.front_end.specs.Judgement.{Judged};
+ghost use Rattle.command_frame.specs.Answer.{effect_of};
+ghost use Rattle.command_frame.specs.Reads.{OnlyRead, Gives, KeepsTo, StopsReading};
+ghost use Rattle.command_words.specs.Views.{check_ask};
+ghost use Rattle.run_engine.specs.Check.{check_of, check_paths, check_text};
+ghost use Rattle.run_engine.specs.Judging.{JudgedAt, HasJudgement, Tells};
+
+use crate::programs::read_tree;
+use command_frame::{Plan, Status, Stop};
+use command_words::CheckWords;
+use outside::Files;
+use std::alloc::{AllocError, Global};
+
+// What is printed of an accepted program.
+#[tactic(auto, unfolding(crate::specs::Check::check_text))]
+fn text(alloc: Global) -> Result<Vec<u8>, AllocError>
+    ensures { IfOk result (λ text. text.items ≡ check_text) }
+{
+    let mut text = Vec::new(alloc);
+    text.extend_from_slice(b"ok\n")?;
+    Ok(text)
+}
+
+/// Reads and judges the program, and says what is to be printed.
+#[tactic(auto, unfolding(crate::specs::Check::check_of, crate::specs::Check::check_paths))]
+pub fn plan_check<F: Files>(alloc: Global, files: &mut F, words: &CheckWords) -> Result<Plan, Stop>
+    ensures files { OnlyRead (F.state files.old) (F.state files.new) }
+    ensures anyhow { IfErr result (StopsReading (F.state files.old) (F.state files.new)) }
+    ensures answer { (judged : Judged) → JudgedAt (Some (check_ask words.now).program) (F.state files.old).contents judged →
+        Gives effect_of (F.state files.old) (F.state files.new) result
+        (check_of judged (check_ask words.now) (F.state files.old).contents) }
+    ensures judged { (F.state files.old).told ≡ true → Tells (F.state files.old) result →
+        HasJudgement (Some (check_ask words.now).program) (F.state files.old).contents }
+    ensures writes { IfOk result (λ plan. plan.writes.items ≡ []) }
+    ensures names { KeepsTo (check_paths (check_ask words.now)) result }
+{
+    let _program = read_tree(alloc, files, &words.program)?;
+    Ok(Plan {
+        writes: Vec::new(alloc),
+        text: text(alloc)?,
+        status: Status::Done,
+    })
+}

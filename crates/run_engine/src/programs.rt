@@ -1,0 +1,57 @@
+// The program at a path.
+ghost use Rattle.std.specs.Prelude.{◌≡◌, ◌∷◌, [], true, Some, IfErr};
+ghost use Rattle.secrec_ast.specs.Programs.{program_tree};
+ghost use Rattle.front_end.specs.Judgement.{Judged};
+ghost use Rattle.command_frame.specs.Reads.{OnlyRead, Gives, StopNames, StopsReading};
+ghost use Rattle.command_frame.specs.Stops.{IsRefusalFor};
+ghost use Rattle.run_engine.specs.Judging.{JudgedAt, HasJudgement, Tells};
+ghost use Rattle.run_engine.specs.Programs.{bad_program, not_yet, tree_at};
+
+use crate::readers::refusal_of;
+use command_frame::{Status, Stop, read_file};
+use front_end::{ProgramErr, ProgramFault, read_program};
+use outside::Files;
+use sc_text::{Fault, Span};
+use secrec_ast::Program;
+use std::alloc::Global;
+
+// Why a program is refused.
+#[tactic(auto, unfolding(crate::specs::Programs::bad_program))]
+fn program_stop(alloc: Global, fault: ProgramFault) -> Stop
+    ensures { IsRefusalFor (bad_program fault) result }
+{
+    let fault = Fault::Placed {
+        fault: fault.fault,
+        span: fault.place,
+    };
+    refusal_of(alloc, Status::Program, &fault)
+}
+
+/// That an accepted program can't be run yet.
+#[tactic(auto, unfolding(crate::specs::Programs::not_yet))]
+pub fn not_yet(alloc: Global) -> Stop
+    ensures { IsRefusalFor not_yet result }
+{
+    let place = Span { line: 1, column: 1 };
+    refusal_of(alloc, Status::Program, &Fault::NotYet { place })
+}
+
+/// The program at this path, if it is accepted.
+#[tactic(auto, unfolding(crate::specs::Programs::tree_at))]
+pub fn read_tree<F: Files>(alloc: Global, files: &mut F, path: &str) -> Result<Program, Stop>
+    ensures files { OnlyRead (F.state files.old) (F.state files.new) }
+    ensures anyhow { IfErr result (StopsReading (F.state files.old) (F.state files.new)) }
+    ensures answer { (judged : Judged) → JudgedAt (Some path.now) (F.state files.old).contents judged →
+        Gives program_tree (F.state files.old) (F.state files.new) result
+        (tree_at judged (F.state files.old).contents path.now) }
+    ensures judged { (F.state files.old).told ≡ true → Tells (F.state files.old) result →
+        HasJudgement (Some path.now) (F.state files.old).contents }
+    ensures names { IfErr result (StopNames (path.now ∷ [])) }
+{
+    let bytes = read_file(alloc, files, path)?;
+    match read_program(alloc, &bytes) {
+        Ok(program) => Ok(program),
+        Err(ProgramErr::Refused(fault)) => Err(program_stop(alloc, fault)),
+        Err(ProgramErr::Memory) => Err(Stop::Memory),
+    }
+}
