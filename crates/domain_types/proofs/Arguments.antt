@@ -1,16 +1,13 @@
 -- The arguments of a call, one after another.
 use Rattle.std.proofs.Common.{◌≡◌, List, [], ◌∷◌, ◌++◌, refl, sym, ap, ◌∙◌, Option, Some, None, append_assoc, append-nil}
-use Rattle.std.specs.Prelude.{map}
-use Rattle.sc_text.specs.declared.span.Span.{Span}
-use Rattle.secrec_ast.specs.Tree.{Tree, Trees, none, also, trees_of}
+use Rattle.secrec_ast.specs.Tree.{Tree, trees_of}
 use Rattle.secrec_ast.specs.Heights.{place_of}
-use Rattle.domain_types.specs.declared.fault.Fault.{Fault}
 use Rattle.domain_types.specs.declared.value_type.Argument.{Argument}
 use Rattle.domain_types.specs.declared.value_type.ValueType.{ValueType}
 use Rattle.domain_types.specs.Declarations.{Setting}
 use Rattle.domain_types.specs.Scopes.{Scope}
 use Rattle.domain_types.specs.ExpressionTypes.{with_argument, and_argument, arguments_of, value_type, value_faults, argument_list_faults}
-use Rattle.domain_types.specs.Reached.{Call, calls_of, calls_of_all}
+use Rattle.domain_types.specs.Reached.{calls_of, calls_of_all}
 
 pub arguments_of-more : (w : Setting) (s : Scope) (ts : List Tree) (t : Tree) → arguments_of w s (trees_of (ts ++ t ∷ [])) ≡ and_argument (arguments_of w s (trees_of ts)) (place_of t) (value_type w s t)
 arguments_of-more w s [] t = go (value_type w s t)

@@ -1,11 +1,11 @@
 -- The least fault of several lists, and lists without a fault.
-use Rattle.std.proofs.Common.{◌≡◌, ℕ, List, [], ◌∷◌, ◌++◌, refl, sym, ap, ◌∙◌, Option, Some, None, Bool, true, false, cond}
+use Rattle.std.proofs.Common.{◌≡◌, List, [], ◌∷◌, ◌++◌, refl, Option, Bool, true, false}
 use Rattle.std.specs.Prelude.{not, ◌&&◌}
 use Rattle.sc_text.specs.declared.span.Span.{Span}
 use Rattle.domain_types.specs.declared.fault.Problem.{Problem}
 use Rattle.domain_types.specs.declared.fault.Fault.{Fault}
-use Rattle.domain_types.specs.Types.{fault_at, fault_if, is_faultless}
-use Rattle.domain_types.specs.Least.{is_before, lesser, least}
+use Rattle.domain_types.specs.Types.{fault_if, is_faultless}
+use Rattle.domain_types.specs.Least.{lesser, least}
 
 pub least-append : (o : Option Fault) (fs gs : List Fault) → least o (fs ++ gs) ≡ least (least o fs) gs
 least-append o [] gs = refl

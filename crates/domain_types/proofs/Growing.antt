@@ -1,5 +1,5 @@
 -- Lists and truth values that grow by one.
-use Rattle.std.proofs.Common.{◌≡◌, List, [], ◌∷◌, ◌++◌, refl, sym, ap, ◌∙◌, Bool, true, false, append_assoc, append-nil}
+use Rattle.std.proofs.Common.{◌≡◌, List, [], ◌∷◌, ◌++◌, refl, Bool, true, false, append_assoc}
 use Rattle.std.specs.Prelude.{map, ◌||◌}
 use Rattle.std.proofs.lemmas.List.{map-append}
 

@@ -4,7 +4,7 @@ use Rattle.std.specs.Prelude.{map, bytes_eq, option_map}
 use Rattle.std.specs.List.{slice_get}
 use denote.Ref.{Bor}
 use Rattle.secrec_ast.specs.declared.function.Function.{Function}
-use Rattle.domain_types.specs.Declarations.{number_in, function_named, defined, Callee}
+use Rattle.domain_types.specs.Declarations.{number_in, function_named, defined}
 use Rattle.domain_types.specs.Named.{name_of}
 use Rattle.domain_types.specs.Views.{tree_at}
 

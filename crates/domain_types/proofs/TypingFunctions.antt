@@ -1,5 +1,5 @@
 -- A function, and the head of a template, are typed by the relation where they have no fault.
-use Rattle.std.proofs.Common.{◌∙◌, ◌≡◌, List, [], ◌∷◌, ◌++◌, refl, ap, ap₂, Option, Some, None, false, ◌↔◌, Bool, true, map, ℕ, sym, is_some, ◌+◌}
+use Rattle.std.proofs.Common.{◌∙◌, ◌≡◌, List, [], ◌∷◌, ◌++◌, refl, ap, Option, Some, None, false, ◌↔◌, Bool, true, map, ℕ, sym, is_some, ◌+◌}
 use Rattle.std.specs.Prelude.{not, ◌&&◌, ◌||◌, bytes_eq, codes, option_map, if◌then◌else◌}
 use Rattle.std.proofs.lemmas.Bool.{not-false, or_parts}
 use Rattle.std.proofs.lemmas.Option.{none-some}

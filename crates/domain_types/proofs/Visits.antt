@@ -1,8 +1,8 @@
 -- What the checker has found behind a part of an expression.
-use Rattle.std.proofs.Common.{◌≡◌, List, [], ◌∷◌, ◌++◌, refl, sym, ap, ◌∙◌, Option, append_assoc}
+use Rattle.std.proofs.Common.{◌≡◌, List, ◌++◌, sym, ap, ◌∙◌, Option, append_assoc}
 use Rattle.sc_text.specs.declared.span.Span.{Span}
 use Rattle.secrec_ast.specs.declared.expression.Expression.{Expression}
-use Rattle.secrec_ast.specs.Tree.{Tree, expression}
+use Rattle.secrec_ast.specs.Tree.{expression}
 use Rattle.secrec_ast.specs.Heights.{place_of}
 use Rattle.domain_types.specs.declared.fault.Fault.{Fault}
 use Rattle.domain_types.specs.declared.value_type.ValueType.{ValueType}

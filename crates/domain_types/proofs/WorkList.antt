@@ -1,25 +1,17 @@
 -- The work list as it grows: what is listed, and what is visited.
-use Rattle.std.proofs.Common.{◌≡◌, ℕ, zero, suc, ◌+◌, List, [], ◌∷◌, ◌++◌, take, ◌⊎◌, inl, inr, refl, sym, ap, ◌∙◌, subst, subst₂, Option, Some, None, Bool, true, false, cond, arith, append_assoc, append-nil, eq-eqb}
+use Rattle.std.proofs.Common.{◌≡◌, ℕ, zero, suc, ◌+◌, List, [], ◌∷◌, ◌++◌, take, ◌⊎◌, inl, inr, refl, sym, ap, ◌∙◌, subst, subst₂, Option, Some, None, Bool, true, false, arith, append_assoc, append-nil}
 use Rattle.std.specs.Prelude.{nat_eq, ◌||◌, if◌then◌else◌}
-use Rattle.std.specs.List.{list_any, slice_get}
-use Rattle.std.proofs.lemmas.Bool.{eqb-true}
+use Rattle.std.specs.List.{slice_get}
 use Rattle.std.proofs.lemmas.List.Folds.{list_any-append}
-use Rattle.std.proofs.lemmas.Option.{none-some, same_Some}
-use Rattle.secrec_ast.specs.declared.statement.Identifier.{Identifier}
-use Rattle.secrec_ast.specs.declared.function.DomainVariable.{DomainVariable}
-use Rattle.secrec_ast.specs.Programs.{FunctionTree, ProgramTree}
+use Rattle.std.proofs.lemmas.Option.{same_Some}
 use Rattle.domain_types.specs.declared.fault.Fault.{Fault}
 use Rattle.domain_types.specs.declared.value_type.Protection.{Protection}
-use Rattle.domain_types.specs.Declarations.{Declared, declared_by, functions_of}
-use Rattle.domain_types.specs.ExpressionTypes.{within}
-use Rattle.domain_types.specs.FunctionTypes.{function_faults, protections_of, domain_variables_faults, head_faults}
+use Rattle.domain_types.specs.Declarations.{Declared}
 use Rattle.domain_types.specs.Least.{Among, least}
-use Rattle.domain_types.specs.Reached.{Call, function_calls, Instance, Calls, IsChecked, plain, reached}
-use Rattle.domain_types.specs.ProgramTypes.{is_without, declaring_faults, IsFault, declaring, inside, of_head}
+use Rattle.domain_types.specs.Reached.{Call, Instance}
 use Rattle.domain_types.specs.Instances.{same_instance, is_listed}
-use Rattle.domain_types.specs.WorkList.{added, with_binding, with_calls, with_plain, plain_instances, of_function, instance_faults, instance_calls, gathered, is_called, heads_faults, IsReached, begins, follows, AreVisited}
+use Rattle.domain_types.specs.WorkList.{added, with_binding, with_calls, instance_faults, instance_calls, gathered, is_called, IsReached, begins, follows, AreVisited}
 use Rattle.domain_types.proofs.TypingSteps.{among_left, among_right, among_parts}
-use Rattle.domain_types.proofs.TypingPrograms.{HasJustTheFaults}
 use Rattle.domain_types.proofs.Visits.{then_least}
 use Rattle.domain_types.proofs.Listing.{same_instance-Decides}
 

@@ -1,8 +1,7 @@
 -- What a program declares, and what a name of it means.
-use Rattle.std.specs.Prelude.{ℕ, ◌+◌, Bool, true, false, ◌&&◌, ◌||◌, if◌then◌else◌, List, [], ◌∷◌, Option, Some, None, codes, bytes_eq, option_map}
+use Rattle.std.specs.Prelude.{ℕ, ◌+◌, Bool, false, ◌&&◌, ◌||◌, if◌then◌else◌, List, [], ◌∷◌, Option, Some, None, codes, bytes_eq, option_map}
 use Rattle.secrec_ast.specs.declared.statement.Domain.{Domain}
 use Rattle.secrec_ast.specs.declared.statement.Domain.TheVariants as domain
-use Rattle.secrec_ast.specs.declared.statement.Identifier.{Identifier}
 use Rattle.secrec_ast.specs.declared.statement.DeclaredType.{DeclaredType}
 use Rattle.secrec_ast.specs.declared.function.DomainVariable.{DomainVariable}
 use Rattle.secrec_ast.specs.Programs.{FunctionTree, ItemTree, imports, kind, domain as domains_item, defines, ProgramTree}

@@ -26,7 +26,7 @@ use Rattle.domain_types.specs.declared.value_type.ExpressionType.TheVariants.{Vo
 use Rattle.domain_types.specs.declared.value_type.BuiltIn.{BuiltIn}
 use Rattle.domain_types.specs.declared.value_type.BuiltIn.TheVariants.{Size, Cat, Sum, BitExtract}
 use Rattle.domain_types.specs.Types.{fault_at, fault_if, of_typed, unless_refused, value_of, void_faults, is_private, meet, mix_faults, is_uint64, same_element, store_faults, scalar_faults, scalar_of, public_scalar}
-use Rattle.domain_types.specs.Declarations.{Declared, Bound, bind, Setting, type_written, Callee, built_in, defined, callee}
+use Rattle.domain_types.specs.Declarations.{Declared, bind, Setting, type_written, Callee, built_in, defined, callee}
 use Rattle.domain_types.specs.Scopes.{Variable, Scope, variable_named}
 
 -- VARIABLES

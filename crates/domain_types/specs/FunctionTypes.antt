@@ -1,6 +1,5 @@
 -- The faults of a function whose domain variables are bound, and those of a template's head, which need no binding.
-use Rattle.std.specs.Prelude.{ℕ, Bool, true, false, not, ◌&&◌, ◌||◌, nat_eq, nat_lt, if◌then◌else◌, List, [], ◌∷◌, ◌++◌, Option, Some, None, codes, bytes_eq}
-use Rattle.std.specs.List.{list_any}
+use Rattle.std.specs.Prelude.{ℕ, Bool, false, not, ◌&&◌, ◌||◌, nat_eq, nat_lt, if◌then◌else◌, List, [], ◌∷◌, ◌++◌, Option, Some, None, codes, bytes_eq}
 use Rattle.sc_text.specs.declared.span.Span.{Span}
 use Rattle.secrec_ast.specs.declared.statement.Identifier.{Identifier}
 use Rattle.secrec_ast.specs.declared.function.DomainVariable.{DomainVariable}
@@ -10,11 +9,10 @@ use Rattle.secrec_ast.specs.declared.function.ResultType.TheVariants as returned
 use Rattle.secrec_ast.specs.Programs.{FunctionTree, ItemTree, imports, kind, domain, defines}
 use Rattle.domain_types.specs.declared.fault.Problem.TheVariants.{UnknownName, Twice, TypeMismatch, MissingReturn}
 use Rattle.domain_types.specs.declared.fault.Fault.{Fault}
-use Rattle.domain_types.specs.declared.value_type.Protection.{Protection}
 use Rattle.domain_types.specs.Types.{fault_at, fault_if}
 use Rattle.domain_types.specs.Declarations.{Declared, Setting, type_written, is_known_kind}
-use Rattle.domain_types.specs.Scopes.{Variable, Scope, nothing_known, with_variable, twice_faults}
-use Rattle.domain_types.specs.ExpressionTypes.{is_named, within}
+use Rattle.domain_types.specs.Scopes.{Scope, nothing_known, with_variable, twice_faults}
+use Rattle.domain_types.specs.ExpressionTypes.{is_named}
 use Rattle.domain_types.specs.StatementTypes.{domain_faults, block_faults, one_returns}
 
 -- PARAMETERS: they belong to the body's block

@@ -1,20 +1,17 @@
 -- The faults of a program, when it is accepted, and which fault is told.
-use Rattle.std.specs.Prelude.{ℕ, ◌≡◌, Bool, true, false, not, ◌&&◌, ◌||◌, if◌then◌else◌, List, [], ◌∷◌, ◌++◌, Option, Some, None, codes, bytes_eq, is_some}
+use Rattle.std.specs.Prelude.{ℕ, ◌≡◌, Bool, true, false, not, ◌&&◌, ◌||◌, List, [], ◌∷◌, ◌++◌, Some, codes, bytes_eq, is_some}
 use Rattle.std.specs.List.{slice_get}
 use Rattle.secrec_ast.specs.declared.statement.Identifier.{Identifier}
-use Rattle.secrec_ast.specs.declared.function.DomainVariable.{DomainVariable}
-use Rattle.secrec_ast.specs.declared.function.Parameter.{Parameter}
 use Rattle.secrec_ast.specs.declared.function.ResultType.{ResultType}
 use Rattle.secrec_ast.specs.declared.function.ResultType.TheVariants as returned
 use Rattle.secrec_ast.specs.Programs.{FunctionTree, ItemTree, imports, kind, domain, defines, ProgramTree}
 use Rattle.domain_types.specs.declared.fault.Problem.TheVariants.{UnknownName, Twice, NoMain, BadImport}
 use Rattle.domain_types.specs.declared.fault.Fault.{Fault}
-use Rattle.domain_types.specs.declared.value_type.Protection.{Protection}
-use Rattle.domain_types.specs.Types.{fault_at, fault_if}
+use Rattle.domain_types.specs.Types.{fault_if}
 use Rattle.domain_types.specs.Declarations.{Declared, declared_by, functions_of, number_in, is_known_kind, built_in_named}
 use Rattle.domain_types.specs.ExpressionTypes.{within}
 use Rattle.domain_types.specs.FunctionTypes.{function_faults, head_faults}
-use Rattle.domain_types.specs.Reached.{Call, function_calls, Instance, Calls, IsChecked}
+use Rattle.domain_types.specs.Reached.{Call, Instance, Calls, IsChecked}
 use Rattle.domain_types.specs.Least.{Among, NotAfter}
 
 -- DECLARATIONS

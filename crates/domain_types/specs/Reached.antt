@@ -1,6 +1,6 @@
 -- Which functions are checked, and with which domains: each plain function, and each template with each binding that a call in a
 -- checked function gives it.
-use Rattle.std.specs.Prelude.{ℕ, ◌≡◌, Bool, true, false, List, [], ◌∷◌, ◌++◌, Option, Some, None}
+use Rattle.std.specs.Prelude.{ℕ, ◌≡◌, List, [], ◌∷◌, ◌++◌, Option, Some, None}
 use Rattle.std.specs.List.{slice_get}
 use Rattle.secrec_ast.specs.Tree.{Tree, Trees, number, truth, variable, call, index, parentheses, negation, cast, binary, declassify, argument, publish}
 use Rattle.secrec_ast.specs.Tree as Tree'
@@ -8,7 +8,6 @@ use Rattle.secrec_ast.specs.Statements.{DeclarationTree, TargetTree, AssignmentT
 use Rattle.secrec_ast.specs.Statements as Statements'
 use Rattle.secrec_ast.specs.Programs.{FunctionTree, ProgramTree}
 use Rattle.sc_text.specs.declared.span.Span.{Span}
-use Rattle.domain_types.specs.declared.fault.Fault.{Fault}
 use Rattle.domain_types.specs.declared.value_type.Argument.{Argument}
 use Rattle.domain_types.specs.declared.value_type.Protection.{Protection}
 use Rattle.domain_types.specs.Types.{unless_refused}
@@ -16,7 +15,7 @@ use Rattle.domain_types.specs.Declarations.{Declared, declared_by, functions_of,
 use Rattle.domain_types.specs.Scopes.{Scope, inner, nothing_known}
 use Rattle.domain_types.specs.ExpressionTypes.{arguments_of, binding_by, defined_faults, within}
 use Rattle.domain_types.specs.StatementTypes.{after, after_start}
-use Rattle.domain_types.specs.FunctionTypes.{with_parameters, function_faults}
+use Rattle.domain_types.specs.FunctionTypes.{with_parameters}
 use Rattle.domain_types.specs.Least.{Among}
 
 -- a call of a function of the program: its number, and what its domain variables are bound to, where the call is not refused

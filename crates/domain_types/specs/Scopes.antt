@@ -1,5 +1,5 @@
 -- The variables that are known at a place.
-use Rattle.std.specs.Prelude.{ℕ, Bool, true, false, ◌||◌, if◌then◌else◌, List, [], ◌∷◌, ◌++◌, ◌-◌, length, take, drop, Option, Some, None, bytes_eq}
+use Rattle.std.specs.Prelude.{ℕ, Bool, false, ◌||◌, if◌then◌else◌, List, [], ◌∷◌, ◌++◌, ◌-◌, length, take, drop, Option, Some, None, bytes_eq}
 use Rattle.secrec_ast.specs.declared.statement.Identifier.{Identifier}
 use Rattle.domain_types.specs.declared.value_type.ValueType.{ValueType}
 use Rattle.domain_types.specs.declared.fault.Problem.TheVariants.{Twice}

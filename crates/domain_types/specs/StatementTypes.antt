@@ -1,19 +1,18 @@
 -- The faults of a statement, and what is known behind it.
-use Rattle.std.specs.Prelude.{Bool, true, false, not, ◌&&◌, ◌||◌, if◌then◌else◌, is_some, is_none, List, [], ◌∷◌, ◌++◌, Option, Some, None}
+use Rattle.std.specs.Prelude.{Bool, true, false, not, ◌&&◌, ◌||◌, if◌then◌else◌, is_some, is_none, List, [], ◌++◌, Option, Some, None}
 use Rattle.sc_text.specs.declared.span.Span.{Span}
 use Rattle.secrec_ast.specs.declared.expression.DataType.TheVariants as datatype
 use Rattle.secrec_ast.specs.declared.statement.Domain.{Domain}
 use Rattle.secrec_ast.specs.declared.statement.Domain.TheVariants as domain
 use Rattle.secrec_ast.specs.declared.function.ResultType.{ResultType}
 use Rattle.secrec_ast.specs.declared.function.ResultType.TheVariants as returned
-use Rattle.secrec_ast.specs.Tree.{Tree, number, truth, variable, call, index, parentheses, negation, cast, binary, declassify, argument, publish}
+use Rattle.secrec_ast.specs.Tree.{Tree, argument}
 use Rattle.secrec_ast.specs.Statements.{DeclarationTree, TargetTree, AssignmentTree, StartTree, starts_with_nothing, starts_with_declaration, starts_with_assignment, StepTree, steps_by_nothing, steps_by_assignment, steps_by_expression, StatementTree, block, empty, branch, choice, while_loop, do_loop, for_loop, breaks, continues, returns, assertion, declaration, assignment, evaluation, StatementTrees, none, also}
 use Rattle.secrec_ast.specs.Heights.{place_of}
 use Rattle.domain_types.specs.declared.fault.Problem.{Problem}
-use Rattle.domain_types.specs.declared.fault.Problem.TheVariants.{UnknownName, TypeMismatch, PrivateCondition, PrivateIndex, PrivateSize, PrivateAssert}
+use Rattle.domain_types.specs.declared.fault.Problem.TheVariants.{UnknownName, TypeMismatch, PrivateCondition, PrivateSize, PrivateAssert}
 use Rattle.domain_types.specs.declared.fault.Fault.{Fault}
 use Rattle.domain_types.specs.declared.value_type.ValueType.{ValueType}
-use Rattle.domain_types.specs.declared.value_type.ExpressionType.{ExpressionType}
 use Rattle.domain_types.specs.Types.{fault_at, fault_if, of_typed, scalar_faults, store_faults, scalar_of}
 use Rattle.domain_types.specs.Declarations.{Setting, domain_of, type_written}
 use Rattle.domain_types.specs.Scopes.{Variable, Scope, inner, with_variable, variable_named, twice_faults}

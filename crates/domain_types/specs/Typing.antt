@@ -1,7 +1,6 @@
 -- The typing relation by cases: which type an expression has, and which statements, functions and programs are typed.
-use Rattle.std.specs.Prelude.{ℕ, ◌≡◌, ◌≢◌, ◌⊎◌, Bool, true, false, not, ◌&&◌, ◌||◌, List, [], ◌∷◌, map, Option, Some, None, codes, bytes_eq, IsTrue, is_some}
+use Rattle.std.specs.Prelude.{ℕ, ◌≡◌, ◌≢◌, ◌⊎◌, true, false, ◌&&◌, ◌||◌, List, [], ◌∷◌, map, Option, Some, None, codes, bytes_eq, IsTrue, is_some}
 use Rattle.std.specs.List.{slice_get}
-use Rattle.sc_text.specs.declared.span.Span.{Span}
 use Rattle.secrec_ast.specs.declared.expression.DataType.{DataType}
 use Rattle.secrec_ast.specs.declared.expression.DataType.TheVariants.{Uint64}
 use Rattle.secrec_ast.specs.declared.expression.DataType.TheVariants as datatype
@@ -28,9 +27,9 @@ use Rattle.domain_types.specs.declared.value_type.BuiltIn.{BuiltIn}
 use Rattle.domain_types.specs.declared.value_type.BuiltIn.TheVariants.{Size, Cat, Sum, BitExtract}
 use Rattle.domain_types.specs.Types.{scalar_of, public_scalar}
 use Rattle.domain_types.specs.Declarations.{Declared, declared_by, functions_of, is_known_kind, built_in_named, Setting, type_written, Callee, built_in, defined, callee}
-use Rattle.domain_types.specs.Scopes.{Variable, Scope, nothing_known, inner, with_variable, variable_named, is_among}
+use Rattle.domain_types.specs.Scopes.{Scope, nothing_known, inner, variable_named, is_among}
 use Rattle.domain_types.specs.ExpressionTypes.{cast_type, declassified, array_of, bound_by, within, variable_type, result_type}
-use Rattle.domain_types.specs.StatementTypes.{is_argument, variable_declared, after, after_start, one_returns}
+use Rattle.domain_types.specs.StatementTypes.{is_argument, after, after_start, one_returns}
 use Rattle.domain_types.specs.FunctionTypes.{with_parameter, with_parameters, protections_of, is_variable, is_in_parameter}
 use Rattle.domain_types.specs.Reached.{Call, Instance, Calls, IsChecked}
 use Rattle.domain_types.specs.ProgramTypes.{is_module, is_one_of, more_kinds, more_functions, has_main}

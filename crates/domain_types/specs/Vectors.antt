@@ -4,27 +4,23 @@ use Rattle.sc_text.specs.declared.span.Span.{Span}
 use Rattle.secrec_ast.specs.declared.expression.DataType.{DataType}
 use Rattle.secrec_ast.specs.declared.expression.DataType.TheVariants as datatype
 use Rattle.secrec_ast.specs.declared.expression.Operator.TheVariants.{Add, Multiply, Divide, Equal, Less}
-use Rattle.secrec_ast.specs.declared.statement.Domain.{Domain}
 use Rattle.secrec_ast.specs.declared.statement.Domain.TheVariants as domain
 use Rattle.secrec_ast.specs.declared.statement.Identifier.{Identifier}
 use Rattle.secrec_ast.specs.declared.statement.DeclaredType.{DeclaredType}
-use Rattle.secrec_ast.specs.declared.function.DomainVariable.{DomainVariable}
-use Rattle.secrec_ast.specs.declared.function.Parameter.{Parameter}
-use Rattle.secrec_ast.specs.declared.function.ResultType.{ResultType}
 use Rattle.secrec_ast.specs.declared.function.ResultType.TheVariants as returned
 use Rattle.secrec_ast.specs.Tree.{Tree, Trees, number, truth, variable, call, index, binary, declassify, argument, publish}
 use Rattle.secrec_ast.specs.Tree as Tree'
-use Rattle.secrec_ast.specs.Statements.{DeclarationTree, StatementTree, StatementTrees, block, branch, choice, while_loop, returns, assertion, declaration, evaluation, statements_of}
-use Rattle.secrec_ast.specs.Programs.{FunctionTree, BlockTree, ItemTree, imports, kind, domain as domains_item, defines, ProgramTree}
+use Rattle.secrec_ast.specs.Statements.{StatementTree, block, branch, returns, assertion, declaration, evaluation, statements_of}
+use Rattle.secrec_ast.specs.Programs.{FunctionTree, ItemTree, imports, domain as domains_item, defines, ProgramTree}
 use Rattle.domain_types.specs.declared.fault.Problem.{Problem}
-use Rattle.domain_types.specs.declared.fault.Problem.TheVariants.{UnknownName, Twice, TypeMismatch, PrivateCondition, PrivateIndex, PrivateSize, PrivateToPublic, PrivateDivision, PrivateAssert, DomainMix, NoMain, BadImport, BadArity, MissingReturn, ArgumentPlace}
+use Rattle.domain_types.specs.declared.fault.Problem.TheVariants.{UnknownName, Twice, TypeMismatch, PrivateCondition, PrivateIndex, PrivateSize, PrivateToPublic, PrivateDivision, PrivateAssert, MissingReturn}
 use Rattle.domain_types.specs.declared.fault.Fault.{Fault}
 use Rattle.domain_types.specs.declared.value_type.Protection.TheVariants.{Public, Private}
-use Rattle.domain_types.specs.Declarations.{Declared, declared_by, functions_of}
-use Rattle.domain_types.specs.ExpressionTypes.{within, operator_faults, operator_type, negation_faults, negation_type, index_faults, index_type, size_faults, cat_faults, sum_faults, bit_extract_faults, built_in_result, defined_faults, call_faults, call_type}
-use Rattle.domain_types.specs.StatementTypes.{sized_faults, filled_faults}
-use Rattle.domain_types.specs.FunctionTypes.{function_faults, head_faults}
-use Rattle.domain_types.specs.Reached.{Call, function_calls}
+use Rattle.domain_types.specs.Declarations.{declared_by}
+use Rattle.domain_types.specs.ExpressionTypes.{within, operator_faults, operator_type, index_faults, index_type, defined_faults, call_faults, call_type}
+use Rattle.domain_types.specs.StatementTypes.{sized_faults}
+use Rattle.domain_types.specs.FunctionTypes.{function_faults}
+use Rattle.domain_types.specs.Reached.{function_calls}
 use Rattle.domain_types.specs.ProgramTypes.{declaring_faults}
 use Rattle.domain_types.specs.Least.{least}
 

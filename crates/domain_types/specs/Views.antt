@@ -1,5 +1,5 @@
 -- What the checker's own structs stand for.
-use Rattle.std.specs.Prelude.{ℕ, List, map, Option, option_map, vec_items}
+use Rattle.std.specs.Prelude.{List, map, option_map, vec_items}
 use denote.Ref.{Bor}
 use Rattle.secrec_ast.specs.declared.function.Function.{Function}
 use Rattle.secrec_ast.specs.Programs.{FunctionTree, function_tree}

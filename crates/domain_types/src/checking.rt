@@ -19,10 +19,7 @@ use secrec_ast::Program;
 use std::alloc::{AllocError, Global};
 
 // The instances that are checked, and the fault that is told, if there is one.
-fn survey(
-    alloc: Global,
-    program: &Program,
-) -> Result<(Vec<Instance>, Option<Fault>), AllocError>
+fn survey(alloc: Global, program: &Program) -> Result<(Vec<Instance>, Option<Fault>), AllocError>
     ensures checked { IfOk result (λ found. AreTheChecked (program_tree program.now) (map instance_seen (vec_items found.0))) }
     ensures told { IfOk result (λ found. IsTold found.1 (program_tree program.now)) }
 {
@@ -54,5 +51,4 @@ pub fn one_verdict()
     ensures fault { (p : ProgramTree) (f g : Fault) → IsRefused p f → IsRefused p g → f ≡ g }
     ensures either { (p : ProgramTree) (f : Fault) → IsRefused p f → IsTypedProgram p → ⊥ }
     ensures faultless { (p : ProgramTree) → IsAccepted p ↔ IsTypedProgram p }
-{
-}
+{}

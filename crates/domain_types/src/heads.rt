@@ -31,11 +31,7 @@ fn later_of(first: Span, second: Span) -> Span
 }
 
 // A domain variable is called as no kind or domain.
-fn hides_none<'p>(
-    worst: &mut Option<Fault>,
-    protections: &Protections<'p>,
-    name: &'p Identifier,
-)
+fn hides_none<'p>(worst: &mut Option<Fault>, protections: &Protections<'p>, name: &'p Identifier)
     ensures { worst.new ≡ least worst.old (hiding_faults name.now protections.now) }
 {
     if let Some(first) = protections.first(name.text.as_str()) {

@@ -74,10 +74,7 @@ fn visit<'p>(
         };
         function(alloc, &mut found, &here, each)?;
     }
-    let Found {
-        worst: now,
-        calls,
-    } = found;
+    let Found { worst: now, calls } = found;
     *worst = now;
     Ok(calls)
 }

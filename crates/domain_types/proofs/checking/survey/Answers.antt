@@ -1,12 +1,11 @@
-use Rattle.std.proofs.Common.{◌≡◌, List, [], ◌++◌, Option, Some, None, sym, ap, ◌∙◌, subst}
+use Rattle.std.proofs.Common.{◌≡◌, [], None, sym, ap, ◌∙◌, subst}
 use Rattle.std.specs.Prelude.{map, not}
 use Rattle.std.specs.BTreeSet.{contains}
 use Rattle.std.specs.Ordering.{nat_cmp}
 use Rattle.secrec_ast.specs.Programs.{item_tree, program_tree}
 use Rattle.domain_types.specs.FunctionTypes.{protections_of}
-use Rattle.domain_types.specs.Declarations.{Declared, declared_in, declared_by}
+use Rattle.domain_types.specs.Declarations.{declared_in, declared_by}
 use Rattle.domain_types.specs.ProgramTypes.{items_faults, has_main}
-use Rattle.domain_types.specs.Reached.{Instance}
 use Rattle.domain_types.specs.Answer.{AreTheChecked, IsTold}
 use Rattle.domain_types.specs.Views.{declared, tree_at}
 use Rattle.domain_types.specs.Least.{least}

@@ -1,7 +1,6 @@
-use Rattle.std.proofs.Common.{refl, ◌+◌, [], ◌∷◌, ◌≡◌, ◌++◌, ap, ◌∙◌, sym, subst, take, get_or, append_assoc, List}
+use Rattle.std.proofs.Common.{refl, ◌+◌, [], ◌∷◌, ◌≡◌, ◌++◌, ap, ◌∙◌, sym, subst, take, get_or, append_assoc}
 use Rattle.std.specs.Prelude.{IfOk, map, option_map, vec_items}
 use Rattle.std.proofs.lemmas.List.{take_all, take_more, map-append}
-use Rattle.secrec_ast.specs.declared.expression.Expression.{Expression}
 use Rattle.secrec_ast.specs.Tree.{expression, trees_of}
 use Rattle.secrec_ast.specs.Heights.{place_of}
 use Rattle.secrec_ast.specs.Equations.{call_is, index_is, parentheses_is, negation_is, cast_is, binary_is, declassify_is, publish_is}
@@ -9,7 +8,7 @@ use Rattle.domain_types.specs.Types.{of_typed}
 use Rattle.domain_types.specs.Declarations.{callee}
 use Rattle.domain_types.specs.ExpressionTypes.{and_argument, type_of, value_type, faults, value_faults, negation_faults, operator_faults, index_faults, call_type, call_faults, arguments_of, argument_list_faults}
 use Rattle.domain_types.specs.Reached.{calls_of, calls_of_all, call_of}
-use Rattle.domain_types.specs.Views.{declared, setting, calls_seen}
+use Rattle.domain_types.specs.Views.{setting, calls_seen}
 use Rattle.domain_types.specs.Least.{least}
 use Rattle.domain_types.proofs.Faults.{least-append}
 use Rattle.domain_types.proofs.Visits.{then_least, then_calls, Visited, visited, one_part, two_parts}

@@ -1,19 +1,19 @@
-use Rattle.std.proofs.Common.{◌≡◌, ◌+◌, ◌≤◌, ◌++◌, [], ◌∷◌, refl, sym, ap, ◌∙◌, subst, length, take, get_or, append_assoc}
+use Rattle.std.proofs.Common.{◌≡◌, ◌+◌, ◌≤◌, ◌++◌, [], ◌∷◌, sym, ap, ◌∙◌, subst, length, take, get_or, append_assoc}
 use Rattle.std.specs.Prelude.{IfOk, map}
 use Rattle.std.proofs.lemmas.List.{take_all, take_more, map-append}
 use Rattle.secrec_ast.specs.declared.statement.Statement.TheVariants.{If}
 use Rattle.secrec_ast.specs.Tree.{expression}
-use Rattle.secrec_ast.specs.Statements.{StatementTree, branch, choice, while_loop, do_loop, for_loop, block, returns, optional, start_tree, step_tree, statement, statements_of}
+use Rattle.secrec_ast.specs.Statements.{optional, start_tree, step_tree, statement, statements_of}
 use Rattle.secrec_ast.specs.Equations.{block_statement_is, branch_statement_is, choice_statement_is, while_statement_is, do_statement_is, for_statement_is, return_statement_is}
 use Rattle.domain_types.specs.declared.fault.Problem.TheVariants.{PrivateCondition}
-use Rattle.domain_types.specs.Scopes.{Scope, inner, leaving}
+use Rattle.domain_types.specs.Scopes.{inner, leaving}
 use Rattle.domain_types.specs.StatementTypes.{after, after_all, test_faults, statement_faults, block_faults, optional_faults, return_rule, optional_type}
 use Rattle.domain_types.specs.Reached.{calls_of, statement_calls, block_calls}
 use Rattle.domain_types.specs.Views.{setting, calls_seen}
 use Rattle.domain_types.specs.Least.{least}
 use Rattle.domain_types.proofs.Faults.{least-append}
 use Rattle.domain_types.proofs.Visits.{then_least, then_calls}
-use Rattle.domain_types.proofs.Blocks.{after_all-more, block_faults-more, block_calls-more, after_outer, after_all_outer, after_start_outer, leaving_inner, leave_fits, for_worst, for_calls}
+use Rattle.domain_types.proofs.Blocks.{after_all-more, block_faults-more, block_calls-more, after_all_outer, after_start_outer, leaving_inner, leave_fits, for_worst, for_calls}
 use Rattle.domain_types.proofs.statements.+statements.Goals as goal
 
 pub statement-leave-requires : goal.statement-leave-requires

@@ -1,13 +1,11 @@
-use Rattle.std.proofs.Common.{◌≡◌, ℕ, ◌+◌, ◌<◌, [], ◌∷◌, ◌++◌, take, length, arith, refl, sym, ap, ◌∙◌, subst, Some, ap₂}
+use Rattle.std.proofs.Common.{◌≡◌, [], arith, refl, sym, ap, ◌∙◌, subst, Some}
 use Rattle.std.specs.Prelude.{map, ◌||◌}
 use Rattle.std.specs.List.{slice_get}
 use Rattle.std.specs.BTreeSet.{contains}
 use Rattle.std.specs.Ordering.{nat_cmp}
 use Rattle.domain_types.specs.Views.{declared, tree_at, calls_seen}
 use Rattle.domain_types.specs.Instances.{instance_seen}
-use Rattle.domain_types.specs.Least.{least}
-use Rattle.domain_types.specs.Reached.{Instance}
-use Rattle.domain_types.specs.WorkList.{with_calls, with_plain, plain_instances, instance_faults, instance_calls, gathered, is_called, AreVisited}
+use Rattle.domain_types.specs.WorkList.{with_calls, with_plain, plain_instances, instance_calls, is_called, AreVisited}
 use Rattle.domain_types.proofs.WorkList.{begun, next_visited, next_least, next_called}
 use Rattle.domain_types.proofs.visiting.visit_all.Goals as goal
 

@@ -1,5 +1,5 @@
-use Rattle.std.proofs.Common.{◌≡◌, ℕ, List, Some, None, length, arith, ap, ◌∙◌, sym}
-use Rattle.std.specs.Prelude.{bytes_eq, is_none}
+use Rattle.std.proofs.Common.{◌≡◌, ℕ, List, Some, None, length, arith, ap, ◌∙◌}
+use Rattle.std.specs.Prelude.{bytes_eq}
 use Rattle.std.specs.Map.{update}
 use Rattle.std.proofs.lemmas.Grind.{common_steps}
 use Rattle.std.proofs.lemmas.Map.Text.{btree_map_updates_str}

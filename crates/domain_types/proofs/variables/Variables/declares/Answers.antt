@@ -1,4 +1,4 @@
-use Rattle.std.proofs.Common.{◌≡◌, Option, Some, None, ap, ◌∙◌, sym}
+use Rattle.std.proofs.Common.{◌≡◌, Some, None, ap, ◌∙◌, sym}
 use Rattle.domain_types.specs.Scopes.{is_among}
 use Rattle.domain_types.specs.Table.{latest_in, latest_first, block_count}
 use Rattle.domain_types.proofs.Tables.{is_in_block, none_is_absent}

@@ -1,4 +1,4 @@
-use Rattle.std.proofs.Common.{◌≡◌, Option, Some, None, ap, ◌∙◌, sym}
+use Rattle.std.proofs.Common.{◌≡◌, Some, None, ap, ◌∙◌, sym}
 use Rattle.std.specs.Prelude.{option_map}
 use Rattle.domain_types.specs.Scopes.{held_by, variable_in, variable_named}
 use Rattle.domain_types.specs.Table.{latest_in, latest_first, block_count}

@@ -1,7 +1,6 @@
-use Rattle.std.proofs.Common.{◌≡◌, ℕ, List, sym, ap, ◌∙◌}
+use Rattle.std.proofs.Common.{◌≡◌, List, sym, ap, ◌∙◌}
 use Rattle.domain_types.specs.declared.value_type.Protection.{Protection}
 use Rattle.domain_types.specs.declared.instance.Instance as kept
-use Rattle.domain_types.specs.Reached.{Instance}
 use Rattle.domain_types.specs.Instances.{instance_seen}
 use Rattle.domain_types.proofs.Listing.{one_more_seen}
 use Rattle.domain_types.proofs.work_list.WorkList.with.Goals as goal
