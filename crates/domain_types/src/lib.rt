@@ -23,8 +23,6 @@ mod rules;
 mod setting;
 mod simple_statements;
 mod statements;
-#[cfg(test)]
-mod tests;
 mod type_error;
 mod value_type;
 mod values;

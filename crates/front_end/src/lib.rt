@@ -7,8 +7,6 @@
 mod program_err;
 mod program_fault;
 mod reading;
-#[cfg(test)]
-mod tests;
 
 pub use program_err::ProgramErr;
 pub use program_fault::ProgramFault;

@@ -1,10 +1,13 @@
-//! Rows of the language: texts, with the tokens, trees and refusals that the rules give, worked out by hand.
+//! Rows of the language: texts, with the tokens, trees, types and refusals that the rules give, worked out by hand.
 //!
-//! They stand in a crate of their own, since they cross the lexer and the parsers, whose functions needn't be proved again for them.
+//! They stand in a crate of their own, since they cross the lexer, the parsers and the checker, whose functions needn't be proved
+//! again for them.
 #![tactic(auto)]
 
 #[cfg(test)]
 mod expressions;
+#[cfg(test)]
+mod instances;
 #[cfg(test)]
 mod statements;
 #[cfg(test)]
