@@ -1,0 +1,71 @@
+#!/usr/bin/env bash
+# Times `secrec check` over made programs of 64 KiB, 256 KiB and 1 MiB, and prints processor time and peak memory with their
+# ratios: plain statements, statements with deep expressions, nested blocks, many names, many functions, many templates. It
+# measures; it tests nothing. It wants bash and python3.
+set -eu
+top=$(cd "$(dirname "$0")/.." && pwd)
+work=$(mktemp -d)
+trap 'rm -rf "$work"' EXIT
+"$top/secrec" check "$top/examples/sum/sum.sc" >"$work/out"
+
+python3 - "$top/.build/secrec" "$work" <<'PY'
+import os, sys, time
+
+program, work = sys.argv[1:]
+
+def filled(size, head, piece, tail):
+    """A text of nearly this size: pieces by their number between a head and a tail."""
+    parts, left, number = [head], size - len(head) - len(tail), 0
+    while True:
+        text = piece(number)
+        if len(text) > left:
+            return "".join(parts) + tail
+        parts.append(text)
+        left -= len(text)
+        number += 1
+
+MAIN = "import shared3p; domain p shared3p;\nvoid main() { uint64 x; p uint64 a; uint64[[1]] xs (3);\n"
+
+def functions(size, each):
+    """Functions, and a main that calls each of them."""
+    text, calls, number = ["import shared3p; domain p shared3p;\n"], [], 0
+    while size > 400:
+        define, call = each(number)
+        size -= len(define) + len(call)
+        text.append(define)
+        calls.append(call)
+        number += 1
+    return "".join(text) + "void main() { uint64 x; p uint64 a;\n" + "".join(calls) + "}\n"
+
+shapes = {
+    "statements": lambda size: filled(size, MAIN, lambda k: f"x = x * 3 + {k};\n", "}\n"),
+    "expressions": lambda size: filled(size, MAIN, lambda k: "a = " + "(" * 50 + "a + x" + ") + 1" * 50 + ";\n", "}\n"),
+    "blocks": lambda size: filled(size, MAIN, lambda k: "if (x == 1) {" * 50 + f" x = {k}; " + "}" * 50 + "\n", "}\n"),
+    "names": lambda size: filled(size, MAIN, lambda k: f"uint64 v{k} = x; xs[v{k}] = v{k};\n", "}\n"),
+    "functions": lambda size: functions(size, lambda k: (f"uint64 f{k}(uint64 y) {{ return y + {k}; }}\n", f"x = f{k}(x);\n")),
+    "templates": lambda size: functions(size, lambda k: (f"template <domain D> D uint64 t{k}(D uint64 y) {{ return y; }}\n", f"x = t{k}(x); a = t{k}(a);\n")),
+}
+
+def run(path):
+    out, into = os.pipe()
+    child = os.posix_spawn(program, [program, "check", path], {}, file_actions=[(os.POSIX_SPAWN_DUP2, into, 1), (os.POSIX_SPAWN_CLOSE, out)])
+    os.close(into)
+    text = os.read(out, 4096)
+    _, status, used = os.wait4(child, 0)
+    os.close(out)
+    assert status == 0 and text == b"ok\n", (path, status, text)
+    return used.ru_utime + used.ru_stime, used.ru_maxrss
+
+print(f"{'program':12} {'KiB':>6} {'seconds':>9} {'peak kB':>9}   over the size before: time, memory")
+for name, made in shapes.items():
+    before = None
+    for size in (65536, 262144, 1048576):
+        path = f"{work}/{name}.sc"
+        with open(path, "w") as file:
+            file.write(made(size))
+        assert os.stat(path).st_size <= 1048576, path
+        seconds, peak = min(run(path) for _ in range(5))
+        ratios = f"{seconds / before[0]:9.1f} {peak / before[1]:6.1f}" if before else ""
+        print(f"{name:12} {os.stat(path).st_size // 1024:6} {seconds:9.3f} {peak:9}   {ratios}")
+        before = seconds, peak
+PY
