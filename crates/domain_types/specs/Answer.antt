@@ -1,5 +1,6 @@
 -- What the checker answers.
 use Rattle.std.specs.Prelude.{◌≡◌, ◌↔◌, ℕ, List, [], ◌++◌, map, Vec, vec_items, Option, Some, None, Result, Ok, Err}
+use Rattle.std.proofs.Common.{Global}
 use Rattle.secrec_ast.specs.Programs.{ProgramTree}
 use Rattle.domain_types.specs.declared.fault.Fault.{Fault}
 use Rattle.domain_types.specs.declared.type_error.TypeError.{TypeError}
@@ -33,7 +34,7 @@ abbrev pub AreTheChecked : ProgramTree → List reached.Instance → Type 0
 AreTheChecked p is = (i : reached.Instance) → IsChecked p i ↔ Among i is
 
 -- Ok with the checked instances where the program is typed, else the first fault
-abbrev pub IsVerdict : Result (Vec Instance) TypeError → ProgramTree → Type 0
+abbrev pub IsVerdict : Result (Vec Instance Global) TypeError → ProgramTree → Type 0
 IsVerdict (Ok is) p = IsTypedProgram p × AreTheChecked p (map instance_seen (vec_items is))
 IsVerdict (Err (Refused f)) p = IsRefused p f
 IsVerdict (Err Memory) p = Unit {0}

@@ -11,7 +11,7 @@ use Rattle.domain_types.specs.Views.{declared, tree_at}
 use Rattle.domain_types.specs.Least.{least}
 use Rattle.domain_types.proofs.Laws.{is_least}
 use Rattle.domain_types.proofs.Visits.{then_least}
-use Rattle.domain_types.proofs.check.check_plain.Goals as goal
+use Rattle.domain_types.proofs.checking.check_plain.Goals as goal
 
 pub returns : goal.returns
 returns c =
