@@ -1,0 +1,11 @@
+pub mod Tree
+pub mod Commands
+pub mod Programs
+pub mod Scopes
+pub mod Operators
+pub mod Values
+pub mod Resolving
+pub mod Bodies
+pub mod Order
+pub mod Sizes
+pub mod Functions

@@ -1,0 +1,16 @@
+//! What later stages read of a program that the checker has accepted: its functions in the order in which they are first called,
+//! with names resolved to numbers, the data type and the dimension settled in each operator, and nothing left to look up.
+#![tactic(auto)]
+
+mod expression;
+mod function;
+mod kinds;
+mod operators;
+mod statement;
+mod variables;
+
+pub use expression::TypedExpression;
+pub use function::{Given, TypedFunction, TypedProgram};
+pub use kinds::{Shape, Slot, SlotDomain};
+pub use operators::{BinaryOperator, BoolOperator, Cast, Connective, Operands, WordOperator};
+pub use statement::TypedStatement;
