@@ -9,3 +9,4 @@ pub mod Bodies
 pub mod Order
 pub mod Sizes
 pub mod Functions
+pub mod Vectors
