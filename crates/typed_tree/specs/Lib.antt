@@ -1,7 +1,9 @@
 pub mod Tree
 pub mod Commands
 pub mod Programs
+pub mod Equations
 pub mod Scopes
+pub mod Table
 pub mod Operators
 pub mod Values
 pub mod Resolving
@@ -10,3 +12,4 @@ pub mod Order
 pub mod Sizes
 pub mod Functions
 pub mod Vectors
+pub mod Views

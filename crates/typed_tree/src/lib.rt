@@ -2,11 +2,14 @@
 //! with names resolved to numbers, the data type and the dimension settled in each operator, and nothing left to look up.
 #![tactic(auto)]
 
+mod choosing;
 mod expression;
 mod function;
 mod kinds;
 mod operators;
 mod statement;
+mod stopped;
+mod values;
 mod variables;
 
 pub use expression::TypedExpression;

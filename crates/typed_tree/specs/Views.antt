@@ -1,0 +1,14 @@
+-- What the structs of the resolution stand for.
+use Rattle.std.specs.Prelude.{List, map}
+use denote.Ref.{Bor}
+use Rattle.secrec_ast.specs.declared.statement.DeclaredType.{DeclaredType}
+use Rattle.typed_tree.specs.declared.values.Valued.{Valued}
+use Rattle.typed_tree.specs.declared.values.CallMade.{CallMade}
+use Rattle.typed_tree.specs.Tree.{typed_tree}
+use Rattle.typed_tree.specs.Values.{TypedValue, TypedCall}
+
+abbrev pub valued : Valued → TypedValue
+valued v = record { tree = typed_tree v.tree; shape = v.shape }
+
+abbrev pub call_seen : CallMade → TypedCall
+call_seen c = record { tree = typed_tree c.tree; gives = c.gives }
