@@ -1,2 +1,4 @@
 pub mod Tables
 pub mod Growing
+pub mod Blocks
+pub mod Sequences

@@ -40,13 +40,17 @@ abbrev pub default_of : DataType → TypedTree
 default_of Uint64 = word_node 0
 default_of datatype.Bool = truth_node false
 
--- the slot is the next one, behind the size and the value; an input has the declared type
-abbrev pub initial : Declared → ℕ → ℕ → DataType → (size value : Option Tree) → Resolving Command
-initial d line k element None None = done (default_command k)
-initial d line k element None (Some (argument p x)) = done (input_command p.line k x)
-initial d line k element None (Some e) = do
+-- an input has the declared type
+abbrev pub from_value : Declared → ℕ → Tree → Resolving Command
+from_value d k (argument p x) = done (input_command p.line k x)
+from_value d k e = do
   v ← expression d e
   done (store_command k v)
+
+-- the slot is the next one, behind the size and the value
+abbrev pub initial : Declared → ℕ → ℕ → DataType → (size value : Option Tree) → Resolving Command
+initial d line k element None None = done (default_command k)
+initial d line k element None (Some e) = from_value d k e
 initial d line k element (Some n) None = do
   m ← expression d n
   done (fill_command line k m (default_of element))
@@ -101,6 +105,15 @@ returned d (Some e) = do
   v ← expression d e
   done (return_command (Some v))
 
+-- the parts of a `for`, whose body is a block
+abbrev pub looped : Declared → StartTree → Option Tree → StepTree → Resolving Command → Resolving Command
+looped d start e step body = do
+  a ← started d start
+  v ← condition_of d e
+  c ← stepped d step
+  b ← in_block body
+  done (block_command (also a (also (loop_command v c b) none)))
+
 -- STATEMENTS: a `for`, and each branch or body, is a block
 
 abbrev mutual
@@ -126,12 +139,7 @@ abbrev mutual
     b ← in_block (resolved d body)
     v ← expression d e
     done (do_command b v)
-  resolved d (for_loop p start e step body) = in_block do
-    a ← started d start
-    v ← condition_of d e
-    c ← stepped d step
-    b ← in_block (resolved d body)
-    done (block_command (also a (also (loop_command v c b) none)))
+  resolved d (for_loop p start e step body) = in_block (looped d start e step (resolved d body))
   resolved d (breaks p) = done break_command
   resolved d (continues p) = done continue_command
   resolved d (returns p e) = returned d e

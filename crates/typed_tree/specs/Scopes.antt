@@ -65,3 +65,7 @@ entering s = record { scope = inner s.scope; slots = s.slots }
 
 abbrev pub behind_block : Place → Place → Place
 behind_block before inside = record { scope = before.scope; slots = inside.slots }
+
+-- the same as a computation: n variables were outside of the block around this one
+abbrev pub left : ℕ → Place → Place
+left n s = record { scope = leaving n s.scope; slots = s.slots }
