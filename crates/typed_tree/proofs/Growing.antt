@@ -10,6 +10,12 @@ use Rattle.typed_tree.specs.Tree.{typed_tree}
 use Rattle.typed_tree.specs.Scopes.{Scope}
 use Rattle.typed_tree.specs.Values.{TypedValue, tree_of_value, of_both, and_values, value, values}
 use Rattle.typed_tree.specs.Views.{valued}
+use Rattle.secrec_ast.specs.declared.statement.DeclaredType.{DeclaredType}
+use Rattle.secrec_ast.specs.declared.function.DomainVariable.{DomainVariable}
+use Rattle.secrec_ast.specs.Programs.{FunctionTree}
+use Rattle.typed_tree.specs.declared.kinds.Slot.{Slot}
+use Rattle.typed_tree.specs.Programs.{TypedFunctionTree}
+use Rattle.typed_tree.specs.Functions.{slot_written, slots_written, and_slots, typed_function, typed_functions, and_functions}
 
 pub map_one : {A B : Type 0} (f : A → B) (xs : List A) (x : A) → map f (xs ++ x ∷ []) ≡ map f xs ++ f x ∷ []
 map_one f xs x = map-append f xs (x ∷ [])
@@ -36,3 +42,9 @@ all-more {A} {B} one all also puts empty more (x ∷ xs) a bs b e f = more x (xs
 
 pub values-more : (d : Declared) (s : Scope) (ts : List Tree) (t : Tree) (vs : List TypedValue) (v : TypedValue) → values d s (trees_of ts) ≡ Some vs → value d s t ≡ Some v → values d s (trees_of (ts ++ t ∷ [])) ≡ Some (vs ++ v ∷ [])
 values-more d s = all-more (value d s) (λ ts. values d s (trees_of ts)) and_values (λ v vs. refl) refl (λ t ts. refl)
+
+pub slots_written_more : (d : Declared) (vs : List DomainVariable) (ts : List DeclaredType) (t : DeclaredType) (ss : List Slot) (s : Slot) → slots_written d vs ts ≡ Some ss → slot_written d vs t ≡ Some s → slots_written d vs (ts ++ t ∷ []) ≡ Some (ss ++ s ∷ [])
+slots_written_more d vs = all-more (slot_written d vs) (slots_written d vs) and_slots (λ s ss. refl) refl (λ t ts. refl)
+
+pub typed_functions_more : (d : Declared) (fs : List FunctionTree) (f : FunctionTree) (ts : List TypedFunctionTree) (t : TypedFunctionTree) → typed_functions d fs ≡ Some ts → typed_function d f ≡ Some t → typed_functions d (fs ++ f ∷ []) ≡ Some (ts ++ t ∷ [])
+typed_functions_more d = all-more (typed_function d) (typed_functions d) and_functions (λ f fs. refl) refl (λ f fs. refl)

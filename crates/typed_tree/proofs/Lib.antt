@@ -1,4 +1,5 @@
 pub mod Tables
 pub mod Growing
-pub mod Blocks
 pub mod Sequences
+pub mod Calls
+pub mod Counts

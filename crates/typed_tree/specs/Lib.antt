@@ -13,3 +13,4 @@ pub mod Sizes
 pub mod Functions
 pub mod Vectors
 pub mod Views
+pub mod Answer

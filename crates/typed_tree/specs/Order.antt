@@ -8,68 +8,6 @@ use Rattle.secrec_ast.specs.Statements as Statements'
 use Rattle.secrec_ast.specs.Programs.{FunctionTree}
 use Rattle.domain_types.specs.Declarations.{Declared, Callee, built_in, defined, callee, number_in}
 
--- the names that an expression calls, arguments before the call
-abbrev mutual
-  pub names_called : Tree → List (List ℕ)
-  names_called (number p n) = []
-  names_called (truth p b) = []
-  names_called (variable p x) = []
-  names_called (call p x es) = names_called_all es ++ x ∷ []
-  names_called (index p a i) = names_called a ++ names_called i
-  names_called (parentheses p e) = names_called e
-  names_called (negation p e) = names_called e
-  names_called (cast p t e) = names_called e
-  names_called (binary p op a b) = names_called a ++ names_called b
-  names_called (declassify p e) = names_called e
-  names_called (argument p x) = []
-  names_called (publish p x e) = names_called e
-
-  pub names_called_all : Trees → List (List ℕ)
-  names_called_all Tree'.none = []
-  names_called_all (Tree'.also e es) = names_called e ++ names_called_all es
-
-abbrev pub optional_names : Option Tree → List (List ℕ)
-optional_names None = []
-optional_names (Some e) = names_called e
-
-abbrev pub declaration_names : DeclarationTree → List (List ℕ)
-declaration_names d = optional_names d.size ++ optional_names d.value
-
-abbrev pub assignment_names : AssignmentTree → List (List ℕ)
-assignment_names a = optional_names a.target.index ++ names_called a.value
-
-abbrev pub start_names : StartTree → List (List ℕ)
-start_names starts_with_nothing = []
-start_names (starts_with_declaration d) = declaration_names d
-start_names (starts_with_assignment a) = assignment_names a
-
-abbrev pub step_names : StepTree → List (List ℕ)
-step_names steps_by_nothing = []
-step_names (steps_by_assignment a) = assignment_names a
-step_names (steps_by_expression e) = names_called e
-
--- and those that a statement calls, in the order of the text
-abbrev mutual
-  pub statement_names : StatementTree → List (List ℕ)
-  statement_names (block p ss) = statements_names ss
-  statement_names (empty p) = []
-  statement_names (branch p e body) = names_called e ++ statement_names body
-  statement_names (choice p e body otherwise) = names_called e ++ statement_names body ++ statement_names otherwise
-  statement_names (while_loop p e body) = names_called e ++ statement_names body
-  statement_names (do_loop p body e) = statement_names body ++ names_called e
-  statement_names (for_loop p start e step body) = start_names start ++ optional_names e ++ step_names step ++ statement_names body
-  statement_names (breaks p) = []
-  statement_names (continues p) = []
-  statement_names (returns p e) = optional_names e
-  statement_names (assertion p e) = names_called e
-  statement_names (declaration d) = declaration_names d
-  statement_names (assignment a) = assignment_names a
-  statement_names (evaluation e) = names_called e
-
-  pub statements_names : StatementTrees → List (List ℕ)
-  statements_names Statements'.none = []
-  statements_names (Statements'.also t ts) = statement_names t ++ statements_names ts
-
 abbrev pub function_name : FunctionTree → List ℕ
 function_name f = f.function.text
 
@@ -83,14 +21,73 @@ with_callee fs x (Some (defined k f)) = if is_found x fs then fs else fs ++ f �
 with_callee fs x (Some (built_in b)) = fs
 with_callee fs x None = fs
 
-abbrev pub with_callees : Declared → List FunctionTree → List (List ℕ) → List FunctionTree
-with_callees d fs [] = fs
-with_callees d fs (x ∷ xs) = with_callees d (with_callee fs x (callee d x)) xs
+-- the functions known behind an expression, where these are known before it: arguments are read before the call
+abbrev mutual
+  pub called_in : Declared → List FunctionTree → Tree → List FunctionTree
+  called_in d fs (number p n) = fs
+  called_in d fs (truth p b) = fs
+  called_in d fs (variable p x) = fs
+  called_in d fs (call p x es) = with_callee (called_in_all d fs es) x (callee d x)
+  called_in d fs (index p a i) = called_in d (called_in d fs a) i
+  called_in d fs (parentheses p e) = called_in d fs e
+  called_in d fs (negation p e) = called_in d fs e
+  called_in d fs (cast p t e) = called_in d fs e
+  called_in d fs (binary p op a b) = called_in d (called_in d fs a) b
+  called_in d fs (declassify p e) = called_in d fs e
+  called_in d fs (argument p x) = fs
+  called_in d fs (publish p x e) = called_in d fs e
+
+  pub called_in_all : Declared → List FunctionTree → Trees → List FunctionTree
+  called_in_all d fs Tree'.none = fs
+  called_in_all d fs (Tree'.also e es) = called_in_all d (called_in d fs e) es
+
+abbrev pub called_in_optional : Declared → List FunctionTree → Option Tree → List FunctionTree
+called_in_optional d fs None = fs
+called_in_optional d fs (Some e) = called_in d fs e
+
+abbrev pub called_in_declaration : Declared → List FunctionTree → DeclarationTree → List FunctionTree
+called_in_declaration d fs t = called_in_optional d (called_in_optional d fs t.size) t.value
+
+abbrev pub called_in_assignment : Declared → List FunctionTree → AssignmentTree → List FunctionTree
+called_in_assignment d fs a = called_in d (called_in_optional d fs a.target.index) a.value
+
+abbrev pub called_in_start : Declared → List FunctionTree → StartTree → List FunctionTree
+called_in_start d fs starts_with_nothing = fs
+called_in_start d fs (starts_with_declaration t) = called_in_declaration d fs t
+called_in_start d fs (starts_with_assignment a) = called_in_assignment d fs a
+
+abbrev pub called_in_step : Declared → List FunctionTree → StepTree → List FunctionTree
+called_in_step d fs steps_by_nothing = fs
+called_in_step d fs (steps_by_assignment a) = called_in_assignment d fs a
+called_in_step d fs (steps_by_expression e) = called_in d fs e
+
+-- and those behind a statement, read in the order of the text
+abbrev mutual
+  pub called_by : Declared → List FunctionTree → StatementTree → List FunctionTree
+  called_by d fs (block p ss) = called_by_all d fs ss
+  called_by d fs (empty p) = fs
+  called_by d fs (branch p e body) = called_by d (called_in d fs e) body
+  called_by d fs (choice p e body otherwise) = called_by d (called_by d (called_in d fs e) body) otherwise
+  called_by d fs (while_loop p e body) = called_by d (called_in d fs e) body
+  called_by d fs (do_loop p body e) = called_in d (called_by d fs body) e
+  called_by d fs (for_loop p start e step body) =
+      called_by d (called_in_step d (called_in_optional d (called_in_start d fs start) e) step) body
+  called_by d fs (breaks p) = fs
+  called_by d fs (continues p) = fs
+  called_by d fs (returns p e) = called_in_optional d fs e
+  called_by d fs (assertion p e) = called_in d fs e
+  called_by d fs (declaration t) = called_in_declaration d fs t
+  called_by d fs (assignment a) = called_in_assignment d fs a
+  called_by d fs (evaluation e) = called_in d fs e
+
+  pub called_by_all : Declared → List FunctionTree → StatementTrees → List FunctionTree
+  called_by_all d fs Statements'.none = fs
+  called_by_all d fs (Statements'.also t ts) = called_by_all d (called_by d fs t) ts
 
 -- the functions that are known once n of them have been read; where there is no further one all have been read
 abbrev pub read_one : Declared → List FunctionTree → Option FunctionTree → List FunctionTree
 read_one d fs None = fs
-read_one d fs (Some f) = with_callees d fs (statements_names f.body.statements)
+read_one d fs (Some f) = called_by_all d fs f.body.statements
 
 abbrev pub known_after : Declared → ℕ → List FunctionTree
 known_after d zero = with_callee [] (codes "main") (callee d (codes "main"))

@@ -72,5 +72,8 @@ abbrev pub function_nodes : FunctionTree → ℕ
 function_nodes f = 2 + (statements_nodes f.body.statements + length f.parameters)
 
 -- counted up to the largest number of 32 bits
+abbrev pub counted : ℕ → ℕ
+counted n = min n 4294967295
+
 abbrev pub size_of : FunctionTree → ℕ
-size_of f = min (function_nodes f) 4294967295
+size_of f = counted (function_nodes f)

@@ -5,6 +5,9 @@ use Rattle.secrec_ast.specs.declared.statement.DeclaredType.{DeclaredType}
 use Rattle.typed_tree.specs.declared.values.Valued.{Valued}
 use Rattle.typed_tree.specs.declared.values.CallMade.{CallMade}
 use Rattle.typed_tree.specs.Tree.{typed_tree}
+use Rattle.secrec_ast.specs.Programs.{FunctionTree}
+use Rattle.domain_types.specs.Views.{tree_at}
+use Rattle.typed_tree.specs.declared.found.Found.{Found}
 use Rattle.typed_tree.specs.declared.place.Place.{Place}
 use Rattle.typed_tree.specs.Scopes as scopes
 use Rattle.typed_tree.specs.Values.{TypedValue, TypedCall}
@@ -20,3 +23,6 @@ type_at t = t.now
 
 abbrev pub place_seen : Place → scopes.Place
 place_seen s = record { scope = s.variables; slots = map type_at s.slots.items }
+
+abbrev pub found_seen : Found → List FunctionTree
+found_seen f = map tree_at f.functions.items

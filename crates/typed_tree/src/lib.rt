@@ -4,11 +4,16 @@
 
 mod choosing;
 mod expression;
+mod found;
 mod function;
+mod functions;
 mod kinds;
 mod operators;
+mod order;
 mod place;
+mod program;
 mod simple_statements;
+mod sizes;
 mod statement;
 mod statements;
 mod stopped;
@@ -19,4 +24,5 @@ pub use expression::TypedExpression;
 pub use function::{Given, TypedFunction, TypedProgram};
 pub use kinds::{Shape, Slot, SlotDomain};
 pub use operators::{BinaryOperator, BoolOperator, Cast, Connective, Operands, WordOperator};
+pub use program::type_program;
 pub use statement::TypedStatement;
