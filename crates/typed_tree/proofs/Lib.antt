@@ -3,3 +3,4 @@ pub mod Growing
 pub mod Sequences
 pub mod Calls
 pub mod Counts
+pub mod Reading
