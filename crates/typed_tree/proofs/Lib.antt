@@ -4,3 +4,6 @@ pub mod Sequences
 pub mod Calls
 pub mod Counts
 pub mod Reading
+pub mod SoundValues
+pub mod SoundBodies
+pub mod SoundPrograms

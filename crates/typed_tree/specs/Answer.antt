@@ -8,9 +8,10 @@ use Rattle.domain_types.specs.Typing.{IsTypedProgram}
 use Rattle.typed_tree.specs.declared.function.TypedProgram.{TypedProgram}
 use Rattle.typed_tree.specs.Programs.{typed_program_tree}
 use Rattle.typed_tree.specs.Functions.{typed_of}
+use Rattle.typed_tree.specs.Sound.{IsSound}
 
--- the typed tree of a program that is typed, else the first fault
+-- the typed tree of a program that is typed, which names only what is there; else the first fault
 abbrev pub IsTypedAnswer : Result TypedProgram TypeError → ProgramTree → Type 0
-IsTypedAnswer (Ok t) p = IsTypedProgram p × (typed_of p ≡ Some (typed_program_tree t))
+IsTypedAnswer (Ok t) p = IsTypedProgram p × (typed_of p ≡ Some (typed_program_tree t)) × IsSound (typed_program_tree t)
 IsTypedAnswer (Err (Refused f)) p = IsRefused p f
 IsTypedAnswer (Err Memory) p = Unit {0}

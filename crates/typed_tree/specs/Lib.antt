@@ -13,4 +13,5 @@ pub mod Sizes
 pub mod Functions
 pub mod Vectors
 pub mod Views
+pub mod Sound
 pub mod Answer

@@ -24,13 +24,7 @@ pub enum TypedExpression {
     Element(u32, Box<TypedExpression>, Box<TypedExpression>),
     Not(Box<TypedExpression>),
     Cast(Cast, Box<TypedExpression>),
-    Binary(
-        u32,
-        BinaryOperator,
-        Operands,
-        Box<TypedExpression>,
-        Box<TypedExpression>,
-    ),
+    Binary(u32, BinaryOperator, Operands, Box<TypedExpression>, Box<TypedExpression>),
     /// `&&` or `||` that may cut short.
     CutShort(Connective, Box<TypedExpression>, Box<TypedExpression>),
     Declassify(Box<TypedExpression>),

@@ -17,6 +17,8 @@ mod sizes;
 mod statement;
 mod statements;
 mod stopped;
+#[cfg(test)]
+mod tests;
 mod values;
 mod variables;
 

@@ -230,10 +230,7 @@ fn read_one<'p>(
 }
 
 /// The functions that are reached from `main`.
-pub fn reached<'p>(
-    alloc: Global,
-    declarations: &Declarations<'p>,
-) -> Result<Found<'p>, AllocError>
+pub fn reached<'p>(alloc: Global, declarations: &Declarations<'p>) -> Result<Found<'p>, AllocError>
     ensures { IfOk result (λ f. found_seen f ≡ reached (declared declarations.now)) }
 {
     let mut found = Found::new(alloc).with_callee(declarations, "main")?;

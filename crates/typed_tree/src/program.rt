@@ -15,7 +15,7 @@ use secrec_ast::Program;
 use std::alloc::Global;
 
 // The typed tree of a program, whether or not the checker accepts it.
-fn resolve(alloc: Global, program: &Program) -> Result<TypedProgram, Stopped>
+pub fn resolve(alloc: Global, program: &Program) -> Result<TypedProgram, Stopped>
     ensures { IfOk result (λ t. typed_of (program_tree program.now) ≡ Some (typed_program_tree t)) }
 {
     let declarations = collect(alloc, &program.items)?;

@@ -122,12 +122,7 @@ fn initial<'p>(
         (None, Some(e)) => from_value(alloc, declarations, place, slot, e),
         (Some(size), None) => {
             let size = expression(alloc, declarations, place, size)?;
-            Ok(TypedStatement::Fill(
-                line,
-                slot,
-                size,
-                default_of(d.declared.element),
-            ))
+            Ok(TypedStatement::Fill(line, slot, size, default_of(d.declared.element)))
         }
         (Some(size), Some(e)) => {
             let size = expression(alloc, declarations, place, size)?;

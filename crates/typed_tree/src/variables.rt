@@ -88,7 +88,11 @@ impl<'p> Variables<'p> {
     {
         let number = self.entries.len();
         let hidden = self.latest.get(&name).copied();
-        self.entries.push(Entry { name, known, hidden })?;
+        self.entries.push(Entry {
+            name,
+            known,
+            hidden,
+        })?;
         match self.latest.insert(name, Latest { number, known }) {
             Ok(_) => Ok(()),
             Err(_) => {
