@@ -32,7 +32,10 @@ mod work_list;
 mod worst;
 
 pub use checking::{check, one_verdict};
+pub use collecting::collect;
+pub use declarations::{Called, Declarations};
 pub use fault::{Fault, Problem};
 pub use instance::Instance;
+pub use name_index::NameIndex;
 pub use type_error::TypeError;
 pub use value_type::{BuiltIn, ExpressionType, Protection, ValueType};

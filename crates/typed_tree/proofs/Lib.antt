@@ -1,0 +1,9 @@
+pub mod Tables
+pub mod Growing
+pub mod Sequences
+pub mod Calls
+pub mod Counts
+pub mod Reading
+pub mod SoundValues
+pub mod SoundBodies
+pub mod SoundPrograms

@@ -1,0 +1,34 @@
+-- Typed functions and programs as values: the same trees without pointers.
+use Rattle.std.specs.Prelude.{ℕ, List, map}
+use Rattle.typed_tree.specs.declared.kinds.Slot.{Slot}
+use Rattle.typed_tree.specs.declared.function.Given.{Given}
+use Rattle.typed_tree.specs.declared.function.TypedFunction.{TypedFunction}
+use Rattle.typed_tree.specs.declared.function.TypedProgram.{TypedProgram}
+use Rattle.typed_tree.specs.Commands.{Command, Commands, command, commands_of}
+
+pub record TypedFunctionTree : Type 0 where
+  pub name : List ℕ
+  pub variables : ℕ
+  pub parameters : ℕ
+  pub slots : List Slot
+  pub given : Given
+  pub body : Commands
+  pub size : ℕ
+
+pub record TypedProgramTree : Type 0 where
+  pub functions : List TypedFunctionTree
+
+abbrev pub typed_function_tree : TypedFunction → TypedFunctionTree
+typed_function_tree f =
+    record {
+      name = f.name;
+      variables = f.variables;
+      parameters = f.parameters;
+      slots = f.slots.items;
+      given = f.given;
+      body = commands_of (map command f.body.items);
+      size = f.size;
+    }
+
+abbrev pub typed_program_tree : TypedProgram → TypedProgramTree
+typed_program_tree p = record { functions = map typed_function_tree p.functions.items }

@@ -1,0 +1,31 @@
+use crate::operators::{BinaryOperator, Cast, Connective, Operands};
+
+/// An expression without names. A `u32` is the line where the construct begins; it stands where a trap can come.
+#[cycle(expressions)]
+#[derive(Drop)]
+pub enum TypedExpression {
+    /// A uint64 literal.
+    Word(u64),
+    /// A bool literal.
+    Truth(bool),
+    /// What stands in the slot of this number.
+    Variable(usize),
+    /// A call of the function of this number, with its arguments.
+    Call(u32, usize, Vec<TypedExpression>),
+    /// How many elements an array has.
+    Size(Box<TypedExpression>),
+    /// An array and the elements of another behind it.
+    Cat(u32, Box<TypedExpression>, Box<TypedExpression>),
+    /// The sum of an array of words.
+    Sum(Box<TypedExpression>),
+    /// The bits of words, 64 for each, the lowest first.
+    BitExtract(u32, Box<TypedExpression>),
+    /// An element of an array, by its index.
+    Element(u32, Box<TypedExpression>, Box<TypedExpression>),
+    Not(Box<TypedExpression>),
+    Cast(Cast, Box<TypedExpression>),
+    Binary(u32, BinaryOperator, Operands, Box<TypedExpression>, Box<TypedExpression>),
+    /// `&&` or `||` that may cut short.
+    CutShort(Connective, Box<TypedExpression>, Box<TypedExpression>),
+    Declassify(Box<TypedExpression>),
+}

@@ -1,0 +1,26 @@
+use secrec_ast::DataType;
+
+/// What a value is made of, whoever may see it: the type of its elements, and whether it is an array.
+#[derive(Clone, Copy, Debug, PartialEq, Eq)]
+pub struct Shape {
+    pub element: DataType,
+    pub array: bool,
+}
+
+/// Who may see what stands in a slot.
+#[derive(Clone, Copy, Debug, PartialEq, Eq)]
+pub enum SlotDomain {
+    /// Everybody.
+    Public,
+    /// The private domain of this number, counted from 0 in the order in which the program declares them.
+    Private(usize),
+    /// What a call binds the function's domain variable of this number to, counted from 0.
+    Variable(usize),
+}
+
+/// A variable or a parameter of a function, or what it gives back.
+#[derive(Clone, Copy, Debug, PartialEq, Eq)]
+pub struct Slot {
+    pub domain: SlotDomain,
+    pub shape: Shape,
+}
