@@ -14,3 +14,5 @@ mod statements;
 mod tokens;
 #[cfg(test)]
 mod type_rules;
+#[cfg(test)]
+mod typed_trees;

@@ -17,8 +17,6 @@ mod sizes;
 mod statement;
 mod statements;
 mod stopped;
-#[cfg(test)]
-mod tests;
 mod values;
 mod variables;
 
