@@ -1,0 +1,2 @@
+pub mod InSteps
+pub mod Blockwise

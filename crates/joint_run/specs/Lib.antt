@@ -1,0 +1,5 @@
+pub mod Parts
+pub mod Three
+pub mod Exchanges
+pub mod Adding
+pub mod RunState
