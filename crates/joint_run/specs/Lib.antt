@@ -3,3 +3,4 @@ pub mod Three
 pub mod Exchanges
 pub mod Adding
 pub mod RunState
+pub mod Steps

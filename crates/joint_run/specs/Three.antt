@@ -7,6 +7,7 @@ use Rattle.proto_core.specs.declared.link.Link.TheVariants.{Link12, Link13, Link
 use Rattle.proto_core.specs.Protocol.{Joint}
 use Rattle.joint_run.specs.declared.traffic.Traffic.{Traffic}
 use Rattle.joint_run.specs.declared.outputs.Shared.{Shared}
+use Rattle.joint_run.specs.declared.shares.SharedValues.{SharedValues}
 use Rattle.joint_run.specs.Parts.{ThreeLists, Parts}
 
 abbrev pub of_three : {A : Type 0} → A → A → A → Number → A
@@ -34,3 +35,6 @@ carried t = on_links t.on12 t.on13 t.on21 t.on23 t.on31 t.on32
 
 abbrev pub share_of : Shared → Number → List ℕ
 share_of s = of_three s.first.items s.second.items s.third.items
+
+abbrev pub values_of : SharedValues → Number → List (List ℕ)
+values_of s = of_three s.first s.second s.third

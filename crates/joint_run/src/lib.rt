@@ -7,16 +7,26 @@
 
 mod blocks;
 mod exchange;
+mod exchanged;
+mod joint_err;
+mod local;
 mod operands;
 mod outputs;
+mod shares;
+mod tapes;
 mod traffic;
 mod transcript;
 mod whole;
 
 pub use blocks::add_block;
 pub use exchange::Exchange;
+pub use exchanged::{Exchanged, as_exchanged};
+pub use joint_err::JointErr;
+pub use local::local_share;
 pub use operands::{Operands, Own};
 pub use outputs::{Outputs, Shared};
+pub use shares::SharedValues;
+pub use tapes::Tapes;
 pub use traffic::Traffic;
 pub use transcript::Transcript;
 pub use whole::add_gate;

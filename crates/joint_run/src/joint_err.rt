@@ -1,0 +1,29 @@
+use proto_core::Number;
+use std::alloc::AllocError;
+
+/// Why a list of gates can't be run.
+#[derive(Debug)]
+pub enum JointErr {
+    /// There is no memory left.
+    Memory,
+    /// The three miners were dealt different numbers of values, or shares of different sizes.
+    Dealt,
+    /// The gate of this place in the list, from 0, names a value that isn't there, or of a size that it does not take.
+    Unsuited {
+        place: usize,
+    },
+    /// Within the gate of this place a miner's tape ends: the gate needs so many words, and the tape has only so many. Of several
+    /// miners the first is told.
+    TapeEnds {
+        place: usize,
+        miner: Number,
+        need: u128,
+        have: usize,
+    },
+}
+
+impl From<AllocError> for JointErr {
+    fn from(_refused: AllocError) -> Self {
+        JointErr::Memory
+    }
+}
