@@ -1,2 +1,4 @@
 pub mod InSteps
 pub mod Blockwise
+pub mod Sizes
+pub mod GateSteps

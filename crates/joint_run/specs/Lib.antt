@@ -4,3 +4,5 @@ pub mod Exchanges
 pub mod Adding
 pub mod RunState
 pub mod Steps
+pub mod States
+pub mod JointRuns

@@ -1,7 +1,7 @@
 -- What one gate adds to a joint run.
-use Rattle.std.specs.Prelude.{◌≡◌, ℕ, List, [], ◌∷◌, ◌++◌, Option, Some, None, length, drop}
+use Rattle.std.specs.Prelude.{◌≡◌, ℕ, ◌≤◌, List, [], ◌∷◌, ◌++◌, Option, Some, None, length, drop}
 use Rattle.proto_core.specs.declared.party.Number.{Number}
-use Rattle.proto_core.specs.declared.party.Number.TheVariants.{One}
+use Rattle.proto_core.specs.declared.party.Number.TheVariants.{One, Two, Three}
 use Rattle.proto_core.specs.declared.link.Link.{Link}
 use Rattle.proto_core.specs.Protocol.{Joint, Protocol}
 use Rattle.protocol_model.specs.Runs.{drawn}
@@ -43,6 +43,17 @@ size_in x s = length (value (s.shares One) x.u)
 
 abbrev pub joint_in : Exchanged → RunState → Joint
 joint_in x s = operands_of x s.shares (drawn (protocol_in x) (size_in x s) s.tapes)
+
+-- a miner's operands have as many words as the gate takes, and its tape as many as it draws
+pub record CanExchangeAt (x : Exchanged) (s : RunState) (i : Number) : Type 0 where
+  pub u : length (value (s.shares i) x.u) ≡ size_in x s
+  pub v : length (second_value (s.shares i) x.v) ≡ (protocol_of x.exchange).second (size_in x s)
+  pub words : (protocol_of x.exchange).draws (size_in x s) i ≤ length (s.tapes i)
+
+pub record CanExchange (x : Exchanged) (s : RunState) : Type 0 where
+  pub first : CanExchangeAt x s One
+  pub second : CanExchangeAt x s Two
+  pub third : CanExchangeAt x s Three
 
 -- a gate that sends nothing
 pub record AddsLocal (dealt : Number → Values) (gate : Gate) (before after : RunState) : Type 0 where

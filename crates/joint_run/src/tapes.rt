@@ -37,28 +37,24 @@ impl<'a> Tapes<'a> {
         }
     }
 
-    /// The words that each miner draws for n elements, and what is left behind them.
-    pub(crate) fn draw(self, exchange: Exchange, n: usize) -> (Tapes<'a>, Tapes<'a>)
-        requires first { (protocol_of exchange).draws n One ≤ length self.first }
-        requires second { (protocol_of exchange).draws n Two ≤ length self.second }
-        requires third { (protocol_of exchange).draws n Three ≤ length self.third }
-        ensures drawn { (i : NumberValue) → each_of result.0 i ≡ take ((protocol_of exchange).draws n i) (each_of self.entry i) }
-        ensures left { (i : NumberValue) → each_of result.1 i ≡ drop ((protocol_of exchange).draws n i) (each_of self.entry i) }
+    /// Takes the words that each miner draws for n elements off its tape.
+    pub(crate) fn draw(&mut self, exchange: Exchange, n: usize) -> Tapes<'a>
+        requires first { (protocol_of exchange).draws n One ≤ length self.old.first }
+        requires second { (protocol_of exchange).draws n Two ≤ length self.old.second }
+        requires third { (protocol_of exchange).draws n Three ≤ length self.old.third }
+        ensures drawn { (i : NumberValue) → each_of result i ≡ take ((protocol_of exchange).draws n i) (each_of self.old i) }
+        ensures left { (i : NumberValue) → each_of self.new i ≡ drop ((protocol_of exchange).draws n i) (each_of self.old i) }
     {
         let (first, first_left) = self.first.split_at(exchange.draws(n, Number::One) as usize);
         let (second, second_left) = self.second.split_at(exchange.draws(n, Number::Two) as usize);
         let (third, third_left) = self.third.split_at(exchange.draws(n, Number::Three) as usize);
-        (
-            Tapes {
-                first,
-                second,
-                third,
-            },
-            Tapes {
-                first: first_left,
-                second: second_left,
-                third: third_left,
-            },
-        )
+        self.first = first_left;
+        self.second = second_left;
+        self.third = third_left;
+        Tapes {
+            first,
+            second,
+            third,
+        }
     }
 }
