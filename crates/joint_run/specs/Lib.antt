@@ -6,3 +6,4 @@ pub mod RunState
 pub mod Steps
 pub mod States
 pub mod JointRuns
+pub mod GateByGate

@@ -1,3 +1,7 @@
+// Why there is no joint run.
+ghost use Rattle.std.specs.Prelude.{◌≡◌};
+ghost use Rattle.joint_run.specs.declared.joint_err.JointErr.TheVariants.{Memory};
+
 use proto_core::Number;
 use std::alloc::AllocError;
 
@@ -23,6 +27,8 @@ pub enum JointErr {
 }
 
 impl From<AllocError> for JointErr {
+    ghost from_gives = { λ _ e. e ≡ Memory };
+
     fn from(_refused: AllocError) -> Self {
         JointErr::Memory
     }
