@@ -1,7 +1,6 @@
 -- A whole gate, block by block: what was done and what is left of it are always the whole.
-use Rattle.std.proofs.Common.{◌≡◌, ℕ, ◌+◌, ◌-◌, ◌<◌, ◌≤◌, min, Bool, true, false, List, [], ◌∷◌, ◌++◌, length, take, drop, refl, sym, ◌∙◌, ap, subst, arith, inl, inr, append_assoc}
+use Rattle.std.proofs.Common.{◌≡◌, ℕ, ◌+◌, ◌-◌, ◌<◌, min, Bool, true, false, List, [], ◌∷◌, ◌++◌, refl, sym, ◌∙◌, ap, subst, arith, inl, inr, append_assoc}
 use Rattle.std.proofs.lemmas.Bool.{cases_lt}
-use Rattle.std.proofs.lemmas.List.{length-take-le}
 use Rattle.proto_core.specs.declared.party.Number.{Number}
 use Rattle.proto_core.specs.declared.party.Number.TheVariants.{One, Two, Three}
 use Rattle.proto_core.specs.declared.link.Link.{Link}
@@ -10,7 +9,7 @@ use Rattle.proto_core.specs.Protocol.{Joint, Protocol}
 use Rattle.proto_core.proofs.Beginnings.{append-none}
 use Rattle.gates.specs.Blocks.{block_sizes}
 use Rattle.gates.specs.Clear.{ring_of}
-use Rattle.blocked_protocol.specs.Blocked.{joined, no_elements, front, behind, blocks_messages, blocks_output, blocks_opened, blocked, Blockable}
+use Rattle.blocked_protocol.specs.Blocked.{joined, no_elements, front, behind, blocks_messages, blocks_output, blocks_opened, Blockable}
 use Rattle.blocked_protocol.proofs.Blockables.{mul-blockable, open-blockable, reshare-blockable, conv-blockable, split-blockable}
 use Rattle.blocked_protocol.proofs.Fitting.{front-length, behind-length, itself}
 use Rattle.blocked_protocol.proofs.Sizes.{block_sizes-full, block_sizes-last}
@@ -20,7 +19,7 @@ use Rattle.joint_run.specs.declared.transcript.Transcript.{Transcript}
 use Rattle.joint_run.specs.declared.outputs.Outputs.{Outputs}
 use Rattle.joint_run.specs.Three.{carried, share_of}
 use Rattle.joint_run.specs.Exchanges.{protocol_of, makes_two, IsSizedAt, IsSized, HasEnoughAt, HasEnough, IsFront, IsBehind}
-use Rattle.joint_run.specs.Adding.{words_of, Tells, AddsBlock, AddsGate}
+use Rattle.joint_run.specs.Adding.{words_of, AddsBlock, AddsGate}
 
 pub same_joint : (j k : Joint) → ((i : Number) → j.u i ≡ k.u i) → ((i : Number) → j.v i ≡ k.v i) → ((i : Number) → j.words i ≡ k.words i) → j ≡ k
 same_joint j k u v words = λ d. record { u = λ i. u i d; v = λ i. v i d; words = λ i. words i d }

@@ -1,17 +1,16 @@
 -- A list of gates is run gate by gate.
-use Rattle.std.proofs.Common.{◌≡◌, ℕ, ◌+◌, ◌-◌, ◌<◌, ◌≤◌, List, [], ◌∷◌, ◌++◌, length, drop, refl, sym, ◌∙◌, ap, subst, inl, inr, arith, length-drop, zero-add, add-zero}
+use Rattle.std.proofs.Common.{◌≡◌, ℕ, ◌+◌, ◌-◌, ◌≤◌, List, [], ◌∷◌, ◌++◌, length, refl, sym, ◌∙◌, ap, subst, inl, inr, arith, length-drop}
 use Rattle.proto_core.specs.declared.party.Number.{Number}
 use Rattle.proto_core.specs.declared.party.Number.TheVariants.{One, Two, Three}
 use Rattle.protocol_model.specs.Gates.{needed, sizes_of}
 use Rattle.protocol_model.specs.Runs.{Tapes}
 use Rattle.gates.specs.declared.gate.Gate.{Gate}
 use Rattle.gates.specs.Clear.{Values}
-use Rattle.shared_gates.specs.Model.{SizesSuit, sizes_made, run_gate, run_gates, sizes_after}
+use Rattle.shared_gates.specs.Model.{SizesSuit, sizes_made, run_gate, run_gates}
 use Rattle.joint_run.specs.declared.joint_err.JointErr.{JointErr}
-use Rattle.joint_run.specs.declared.joint_err.JointErr.TheVariants.{Memory, Unsuited, TapeEnds}
 use Rattle.joint_run.specs.RunState.{RunState, begun, behind}
-use Rattle.joint_run.specs.JointRuns.{dealt_sizes, IsEven, words_for, sizes_behind, words_for_next, CanRun, IsRun, IsAt, EarlierReach, IsUnsuited, EndsTape, Refuses}
-use Rattle.joint_run.specs.GateByGate.{HaveSizes, own_sizes, draws_for, left_of, RunsGate, Lacks, DoesNotSuit, Ends, RefusesGate}
+use Rattle.joint_run.specs.JointRuns.{dealt_sizes, IsEven, words_for, sizes_behind, words_for_next, IsRun, IsAt, EarlierReach, IsUnsuited, EndsTape, Refuses}
+use Rattle.joint_run.specs.GateByGate.{HaveSizes, own_sizes, draws_for, left_of, RunsGate, DoesNotSuit, Ends, RefusesGate}
 use Rattle.joint_run.proofs.InSteps.{same_state, both-behind, both-needed, both-gates, both-sizes, both-suit}
 
 -- the gates so far are run, and all miners have shares of the sizes that they make

@@ -147,15 +147,20 @@ module _ (dealt : Number → Values) (ds sizes : List ℕ) where
     where
       p : Protocol
       p = protocol_in x
+
       n : ℕ
       n = size_in x s
+
       j : Joint
       j = joint_of x.u x.v s.shares (drawn p n s.tapes)
+
       size : n ≡ size_of sizes x.u
       size = size-value (s.shares One) x.u ∙ ap (λ k. size_of k x.u) (sym here)
+
       second-is : (v : Option ℕ) (i : Number) → second_value (s.shares i) v ≡ operand (s.shares i) v
       second-is None i = refl
       second-is (Some v) i = sym (value_at-value (s.shares i) v)
+
       same : joint_in x s ≡ j
       same = same_joint (joint_in x s) j (λ i. sym (value_at-value (s.shares i) x.u)) (λ i. second-is x.v i) (λ i. refl)
 

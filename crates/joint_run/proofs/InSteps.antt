@@ -1,5 +1,5 @@
 -- The joint run of some gates and then of others is the joint run of all of them.
-use Rattle.std.proofs.Common.{◌≡◌, ℕ, zero, suc, ◌+◌, List, [], ◌∷◌, ◌++◌, drop, refl, sym, ◌∙◌, ap, append_assoc, add_assoc, add-zero, zero-add, arith}
+use Rattle.std.proofs.Common.{◌≡◌, ℕ, ◌+◌, List, [], ◌∷◌, ◌++◌, drop, refl, sym, ◌∙◌, ap, append_assoc, add_assoc, add-zero, zero-add}
 use Rattle.std.proofs.lemmas.List.{drop-drop}
 use Rattle.proto_core.specs.declared.party.Number.{Number}
 use Rattle.proto_core.specs.declared.link.Link.{Link}
@@ -8,7 +8,7 @@ use Rattle.protocol_model.specs.Gates.{Gate, Joined, Local, needed}
 use Rattle.protocol_model.specs.Runs.{Tapes, drawn, left, joint_of, after, after_local, run_messages, run_values, run_opened}
 use Rattle.gates.specs.Clear.{Values}
 use Rattle.gates.specs.declared.gate.Gate as clear
-use Rattle.shared_gates.specs.Model.{sizes_made, SizesSuit, AllSizesSuit, run_gate, run_gates, sizes_after}
+use Rattle.shared_gates.specs.Model.{sizes_made, AllSizesSuit, run_gate, run_gates, sizes_after}
 use Rattle.joint_run.specs.RunState.{RunState, behind}
 
 pub same_state :

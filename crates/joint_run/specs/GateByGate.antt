@@ -7,7 +7,7 @@ use Rattle.gates.specs.declared.gate.Gate.{Gate}
 use Rattle.gates.specs.Clear.{Values}
 use Rattle.shared_gates.specs.Model.{SizesSuit, sizes_made, run_gate}
 use Rattle.joint_run.specs.declared.joint_err.JointErr.{JointErr}
-use Rattle.joint_run.specs.declared.joint_err.JointErr.TheVariants.{Memory, Dealt, Unsuited, TapeEnds}
+use Rattle.joint_run.specs.declared.joint_err.JointErr.TheVariants.{Memory, Unsuited, TapeEnds}
 use Rattle.joint_run.specs.RunState.{RunState, behind}
 use Rattle.joint_run.specs.JointRuns.{dealt_sizes, EarlierReach}
 

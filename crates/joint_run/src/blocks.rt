@@ -41,15 +41,31 @@ fn add_product<R: ShareRing>(
     let u3 = Block::from_words(operands.third.u);
     let v3 = Block::from_words(operands.third.v);
     let (part1, part2, part3) = multiply_together::<R>(
-        Factors { u: &u1, v: &v1, words: operands.first.words },
-        Factors { u: &u2, v: &v2, words: operands.second.words },
-        Factors { u: &u3, v: &v3, words: operands.third.words },
+        Factors {
+            u: &u1,
+            v: &v1,
+            words: operands.first.words,
+        },
+        Factors {
+            u: &u2,
+            v: &v2,
+            words: operands.second.words,
+        },
+        Factors {
+            u: &u3,
+            v: &v3,
+            words: operands.third.words,
+        },
     );
     let traffic = &mut transcript.traffic;
     traffic.push_two(Link::Link12, &part1.masks, &part1.factors)?;
     traffic.push_two(Link::Link23, &part2.masks, &part2.factors)?;
     traffic.push_two(Link::Link31, &part3.masks, &part3.factors)?;
-    outputs.first.extend(part1.share.words(), part2.share.words(), part3.share.words())?;
+    outputs.first.extend(
+        part1.share.words(),
+        part2.share.words(),
+        part3.share.words(),
+    )?;
     Ok(())
 }
 
@@ -80,7 +96,11 @@ fn add_opening<R: ShareRing>(
     traffic.push(Link::Link21, &part2.to_previous)?;
     traffic.push(Link::Link32, &part3.to_previous)?;
     transcript.opened.extend_from_slice(part1.opened.words())?;
-    outputs.first.extend(part1.opened.words(), part2.opened.words(), part3.opened.words())?;
+    outputs.first.extend(
+        part1.opened.words(),
+        part2.opened.words(),
+        part3.opened.words(),
+    )?;
     Ok(())
 }
 
@@ -107,7 +127,11 @@ fn add_resharing<R: ShareRing>(
     traffic.push(Link::Link12, &part1.mask)?;
     traffic.push(Link::Link23, &part2.mask)?;
     traffic.push(Link::Link31, &part3.mask)?;
-    outputs.first.extend(part1.share.words(), part2.share.words(), part3.share.words())?;
+    outputs.first.extend(
+        part1.share.words(),
+        part2.share.words(),
+        part3.share.words(),
+    )?;
     Ok(())
 }
 
@@ -126,9 +150,18 @@ fn add_conversion(
     let u2 = Block::from_words(operands.second.u);
     let u3 = Block::from_words(operands.third.u);
     let made = convert_together(
-        Operand { u: &u1, words: operands.first.words },
-        Operand { u: &u2, words: operands.second.words },
-        Operand { u: &u3, words: operands.third.words },
+        Operand {
+            u: &u1,
+            words: operands.first.words,
+        },
+        Operand {
+            u: &u2,
+            words: operands.second.words,
+        },
+        Operand {
+            u: &u3,
+            words: operands.third.words,
+        },
     );
     let traffic = &mut transcript.traffic;
     traffic.push(Link::Link12, &made.sent12)?;
@@ -136,7 +169,11 @@ fn add_conversion(
     traffic.push(Link::Link23, &made.sent23)?;
     traffic.push(Link::Link31, &made.sent31)?;
     traffic.push(Link::Link32, &made.sent32)?;
-    outputs.first.extend(made.share1.words(), made.share2.words(), made.share3.words())?;
+    outputs.first.extend(
+        made.share1.words(),
+        made.share2.words(),
+        made.share3.words(),
+    )?;
     Ok(())
 }
 
@@ -162,8 +199,16 @@ fn add_splitting(
     let traffic = &mut transcript.traffic;
     traffic.push(Link::Link12, &made.sent12)?;
     traffic.push(Link::Link13, &made.sent13)?;
-    outputs.first.extend(made.shares1.0.words(), made.shares2.0.words(), made.shares3.0.words())?;
-    outputs.second.extend(made.shares1.1.words(), made.shares2.1.words(), made.shares3.1.words())?;
+    outputs.first.extend(
+        made.shares1.0.words(),
+        made.shares2.0.words(),
+        made.shares3.0.words(),
+    )?;
+    outputs.second.extend(
+        made.shares1.1.words(),
+        made.shares2.1.words(),
+        made.shares3.1.words(),
+    )?;
     Ok(())
 }
 
@@ -181,13 +226,25 @@ pub fn add_block(
         transcript.old transcript.new outputs.old outputs.new) }
 {
     match exchange {
-        Exchange::Product(RingKind::Arithmetic) => add_product::<AddRing>(operands, transcript, outputs),
-        Exchange::Product(RingKind::Boolean) => add_product::<XorRing>(operands, transcript, outputs),
+        Exchange::Product(RingKind::Arithmetic) => add_product::<AddRing>(
+            operands, transcript, outputs,
+        ),
+        Exchange::Product(RingKind::Boolean) => add_product::<XorRing>(
+            operands, transcript, outputs,
+        ),
         Exchange::Splitting(negated) => add_splitting(negated, operands, transcript, outputs),
         Exchange::Conversion => add_conversion(operands, transcript, outputs),
-        Exchange::Opening(RingKind::Arithmetic) => add_opening::<AddRing>(operands, transcript, outputs),
-        Exchange::Opening(RingKind::Boolean) => add_opening::<XorRing>(operands, transcript, outputs),
-        Exchange::Resharing(RingKind::Arithmetic) => add_resharing::<AddRing>(operands, transcript, outputs),
-        Exchange::Resharing(RingKind::Boolean) => add_resharing::<XorRing>(operands, transcript, outputs),
+        Exchange::Opening(RingKind::Arithmetic) => add_opening::<AddRing>(
+            operands, transcript, outputs,
+        ),
+        Exchange::Opening(RingKind::Boolean) => add_opening::<XorRing>(
+            operands, transcript, outputs,
+        ),
+        Exchange::Resharing(RingKind::Arithmetic) => add_resharing::<AddRing>(
+            operands, transcript, outputs,
+        ),
+        Exchange::Resharing(RingKind::Boolean) => add_resharing::<XorRing>(
+            operands, transcript, outputs,
+        ),
     }
 }

@@ -6,7 +6,7 @@ use proto_core::Number;
 use std::alloc::AllocError;
 
 /// Why a list of gates can't be run.
-#[derive(Debug)]
+#[derive(Debug, Drop)]
 pub enum JointErr {
     /// There is no memory left.
     Memory,

@@ -57,9 +57,9 @@ impl<'a> Model for Operands<'a> {
     ghost Value = { Parts };
 
     ghost view = { λ o. record {
-        u = record { first = o.first.u.now; second = o.second.u.now; third = o.third.u.now };
-        v = record { first = o.first.v.now; second = o.second.v.now; third = o.third.v.now };
-        words = record { first = o.first.words.now; second = o.second.words.now; third = o.third.words.now };
+      u = record { first = o.first.u.now; second = o.second.u.now; third = o.third.u.now };
+      v = record { first = o.first.v.now; second = o.second.v.now; third = o.third.v.now };
+      words = record { first = o.first.words.now; second = o.second.words.now; third = o.third.words.now };
     } };
 }
 
@@ -79,9 +79,15 @@ impl<'a> Operands<'a> {
         ensures len { length result.0.u.first ≡ m }
     {
         let v = exchange.second(m);
-        let (first, first_behind) = self.first.split(m, v, exchange.draws(m, Number::One) as usize);
-        let (second, second_behind) = self.second.split(m, v, exchange.draws(m, Number::Two) as usize);
-        let (third, third_behind) = self.third.split(m, v, exchange.draws(m, Number::Three) as usize);
+        let (first, first_behind) = self
+            .first
+            .split(m, v, exchange.draws(m, Number::One) as usize);
+        let (second, second_behind) = self
+            .second
+            .split(m, v, exchange.draws(m, Number::Two) as usize);
+        let (third, third_behind) = self
+            .third
+            .split(m, v, exchange.draws(m, Number::Three) as usize);
         (
             Operands {
                 first,

@@ -46,8 +46,12 @@ impl<'a> Tapes<'a> {
         ensures left { (i : NumberValue) → each_of self.new i ≡ drop ((protocol_of exchange).draws n i) (each_of self.old i) }
     {
         let (first, first_left) = self.first.split_at(exchange.draws(n, Number::One) as usize);
-        let (second, second_left) = self.second.split_at(exchange.draws(n, Number::Two) as usize);
-        let (third, third_left) = self.third.split_at(exchange.draws(n, Number::Three) as usize);
+        let (second, second_left) = self
+            .second
+            .split_at(exchange.draws(n, Number::Two) as usize);
+        let (third, third_left) = self
+            .third
+            .split_at(exchange.draws(n, Number::Three) as usize);
         self.first = first_left;
         self.second = second_left;
         self.third = third_left;

@@ -1,4 +1,4 @@
-use Rattle.std.proofs.Common.{◌≡◌, ℕ, ◌+◌, ◌-◌, ◌<◌, min, length, sym, subst, arith, length-drop}
+use Rattle.std.proofs.Common.{◌≡◌, ◌+◌, ◌-◌, ◌<◌, min, length, sym, subst, arith, length-drop}
 use Rattle.proto_core.specs.declared.party.Number.TheVariants.{One}
 use Rattle.joint_run.specs.Three.{joint}
 use Rattle.joint_run.specs.Exchanges.{protocol_of, makes_two, IsSized, IsFront, IsBehind}
