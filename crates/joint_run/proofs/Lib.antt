@@ -1,0 +1,6 @@
+pub mod InSteps
+pub mod Blockwise
+pub mod Sizes
+pub mod GateSteps
+pub mod OutputSizes
+pub mod GateLists

@@ -1,0 +1,41 @@
+//! The joint run of a list of gates, computed: three miners in one place, gate by gate and block by block.
+//!
+//! It is plain and slow, and is there so that other runs can be compared with it. What a joint run is stands in
+//! `protocol_model` and `shared_gates`; the contract of `joint_run` is that it computes this run where there is one, and
+//! else says why there is none.
+#![tactic(auto)]
+
+mod blocks;
+mod exchange;
+mod exchanged;
+mod joint;
+mod joint_err;
+mod local;
+mod operands;
+mod outputs;
+mod run;
+mod shares;
+mod step;
+mod suiting;
+mod tapes;
+#[cfg(test)]
+mod tests;
+mod traffic;
+mod transcript;
+mod whole;
+
+pub use blocks::add_block;
+pub use exchange::Exchange;
+pub use exchanged::{Exchanged, as_exchanged};
+pub use joint::joint_run;
+pub use joint_err::JointErr;
+pub use local::local_share;
+pub use operands::{Operands, Own};
+pub use outputs::{Outputs, Shared};
+pub use run::JointRun;
+pub use shares::SharedValues;
+pub use suiting::suits;
+pub use tapes::Tapes;
+pub use traffic::Traffic;
+pub use transcript::Transcript;
+pub use whole::add_gate;

@@ -1,0 +1,50 @@
+// Shares of numbered values, at each of the three miners.
+ghost use Rattle.std.specs.Prelude.{◌≡◌, [], ◌∷◌, ◌++◌, OnOk};
+ghost use Rattle.proto_core.specs.declared.party.Number.{Number as NumberValue};
+ghost use Rattle.joint_run.specs.Three.{of_three, values_of};
+
+use gates::{Values, Words};
+use proto_core::Number;
+use std::alloc::{AllocError, Global};
+
+/// The three miners' shares of values, each at its number from 0 on.
+#[derive(Drop)]
+pub struct SharedValues {
+    pub first: Values,
+    pub second: Values,
+    pub third: Values,
+}
+
+impl SharedValues {
+    /// No value.
+    pub fn new(alloc: Global) -> Self
+        ensures { (i : NumberValue) → values_of result i ≡ [] }
+    {
+        SharedValues {
+            first: Values::new(alloc),
+            second: Values::new(alloc),
+            third: Values::new(alloc),
+        }
+    }
+
+    /// A miner's shares.
+    pub fn of(&self, miner: Number) -> &Values
+        ensures { result.now ≡ values_of self.now miner }
+    {
+        match miner {
+            Number::One => &self.first,
+            Number::Two => &self.second,
+            Number::Three => &self.third,
+        }
+    }
+
+    /// One value more, by each miner's share of it.
+    pub fn push(&mut self, first: Words, second: Words, third: Words) -> Result<(), AllocError>
+        ensures { OnOk result ((i : NumberValue) → values_of self.new i ≡ values_of self.old i ++ of_three first second third i ∷ []) }
+    {
+        self.first.push(first)?;
+        self.second.push(second)?;
+        self.third.push(third)?;
+        Ok(())
+    }
+}
