@@ -18,8 +18,6 @@ mod shares;
 mod step;
 mod suiting;
 mod tapes;
-#[cfg(test)]
-mod tests;
 mod traffic;
 mod transcript;
 mod whole;

@@ -1,5 +1,5 @@
-use crate::{JointErr, JointRun, SharedValues, Tapes, joint_run};
 use gates::{Gate, RingKind, Words};
+use joint_run::{JointErr, JointRun, SharedValues, Tapes, joint_run};
 use proto_core::{Link, Number};
 use std::alloc::{AllocError, Global};
 use std::test::Fail;
