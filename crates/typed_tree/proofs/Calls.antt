@@ -1,5 +1,5 @@
 -- The functions that lists of expressions and statements call.
-use Rattle.std.proofs.Common.{◌≡◌, ℕ, List, [], ◌∷◌, ◌++◌, refl, ap}
+use Rattle.std.proofs.Common.{◌≡◌, List, [], ◌∷◌, ◌++◌, refl, ap}
 use Rattle.std.specs.Prelude.{map}
 use denote.Ref.{Bor}
 use Rattle.secrec_ast.specs.declared.function.Function.{Function}

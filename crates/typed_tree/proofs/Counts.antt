@@ -1,5 +1,5 @@
 -- Counts of lists of nodes.
-use Rattle.std.proofs.Common.{◌≡◌, ℕ, ◌+◌, List, [], ◌∷◌, ◌++◌, ap, ◌∙◌, arith}
+use Rattle.std.proofs.Common.{◌≡◌, ◌+◌, List, [], ◌∷◌, ◌++◌, arith}
 use Rattle.secrec_ast.specs.Tree.{Tree, trees_of}
 use Rattle.secrec_ast.specs.Statements.{StatementTree, statements_of}
 use Rattle.typed_tree.specs.Sizes.{nodes, nodes_all, statement_nodes, statements_nodes}

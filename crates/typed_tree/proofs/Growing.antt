@@ -1,15 +1,11 @@
 -- What is made of a list, with one element more.
-use Rattle.std.proofs.Common.{◌≡◌, ℕ, List, [], ◌∷◌, ◌++◌, refl, sym, ap, ◌∙◌, Option, Some, None}
+use Rattle.std.proofs.Common.{◌≡◌, List, [], ◌∷◌, ◌++◌, refl, sym, ap, ◌∙◌, Option, Some, None}
 use Rattle.std.specs.Prelude.{map}
 use Rattle.std.proofs.lemmas.List.{map-append}
 use Rattle.secrec_ast.specs.Tree.{Tree, trees_of}
 use Rattle.domain_types.specs.Declarations.{Declared}
-use Rattle.typed_tree.specs.declared.expression.TypedExpression.{TypedExpression}
-use Rattle.typed_tree.specs.declared.values.Valued.{Valued}
-use Rattle.typed_tree.specs.Tree.{typed_tree}
 use Rattle.typed_tree.specs.Scopes.{Scope}
-use Rattle.typed_tree.specs.Values.{TypedValue, tree_of_value, of_both, and_values, value, values}
-use Rattle.typed_tree.specs.Views.{valued}
+use Rattle.typed_tree.specs.Values.{TypedValue, of_both, and_values, value, values}
 use Rattle.secrec_ast.specs.declared.statement.DeclaredType.{DeclaredType}
 use Rattle.secrec_ast.specs.declared.function.DomainVariable.{DomainVariable}
 use Rattle.secrec_ast.specs.Programs.{FunctionTree}

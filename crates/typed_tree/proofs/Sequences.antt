@@ -1,10 +1,10 @@
 -- Statements one after another.
-use Rattle.std.proofs.Common.{◌≡◌, List, [], ◌∷◌, ◌++◌, refl, sym, ap, ◌∙◌, Option, Some, None}
+use Rattle.std.proofs.Common.{◌≡◌, List, [], ◌∷◌, ◌++◌, refl, ap, ◌∙◌, Option, Some, None}
 use Rattle.secrec_ast.specs.Statements.{StatementTree, statements_of}
 use Rattle.domain_types.specs.Declarations.{Declared}
 use Rattle.typed_tree.specs.Commands.{Command, Commands, none, also, commands_of}
 use Rattle.typed_tree.specs.Scopes.{Place}
-use Rattle.typed_tree.specs.Resolving.{Resolving, ◌>>=◌, carry, done}
+use Rattle.typed_tree.specs.Resolving.{carry, done}
 use Rattle.typed_tree.specs.Bodies.{resolved, resolved_all}
 
 abbrev pub place_made : {A : Type 0} → A → Place → A × Place

@@ -1,5 +1,5 @@
 -- Typed statements name only slots that are there: a step with a property that holds of the slots so far, and of more.
-use Rattle.std.proofs.Common.{◌≡◌, ℕ, zero, suc, ◌+◌, ◌<◌, ◌≤◌, List, [], ◌∷◌, ◌++◌, length, refl, sym, ap, ◌∙◌, subst, Option, Some, None, true, arith}
+use Rattle.std.proofs.Common.{◌≡◌, ℕ, ◌<◌, ◌≤◌, List, [], ◌∷◌, ◌++◌, length, refl, ap, subst, Option, Some, None, true, arith}
 use Rattle.std.specs.Prelude.{option_map}
 use Rattle.std.proofs.lemmas.List.{length-append}
 use Rattle.secrec_ast.specs.declared.expression.DataType.{DataType}
@@ -14,12 +14,12 @@ use Rattle.domain_types.specs.Declarations.{Declared, callee}
 use Rattle.typed_tree.specs.declared.variables.Known.{Known}
 use Rattle.typed_tree.specs.Tree.{TypedTree, truth_node}
 use Rattle.typed_tree.specs.Commands.{Command, Commands, none, also, empty_command, block_command, if_command, loop_command, do_command, break_command, continue_command, return_command, assert_command, store_command, default_command, fill_command, input_command, element_command, publish_command, evaluate_command}
-use Rattle.typed_tree.specs.Scopes.{Variable, Scope, Place, known_of, variable_named, declaring, entering, behind_block}
-use Rattle.typed_tree.specs.Values.{TypedValue, value, values, called, call_made}
-use Rattle.typed_tree.specs.Resolving.{Resolving, ◌>>=◌, carry, done, reading, closed, in_block, tree_in, value_at, expression, known_at, named, declare}
+use Rattle.typed_tree.specs.Scopes.{Place, known_of, variable_named, declaring, entering, behind_block}
+use Rattle.typed_tree.specs.Values.{value, values, called, call_made}
+use Rattle.typed_tree.specs.Resolving.{Resolving, ◌>>=◌, carry, done, reading, closed, in_block, tree_in, value_at, expression, known_at, named}
 use Rattle.typed_tree.specs.Bodies.{tree_in_call, calling, evaluated, default_of, from_value, initial, declared, assigned_to, assigned, started, stepped, condition_of, returned, looped, resolved, resolved_all}
-use Rattle.typed_tree.specs.Sound.{IsSoundTree, IsSoundOption, IsSoundCommand, AreSoundCommands}
-use Rattle.typed_tree.proofs.SoundValues.{mapped, both_there, some_is, arities, AreBelow, below_more, below_append, below_named, sound_value, sound_values, sound_called}
+use Rattle.typed_tree.specs.Sound.{IsSoundTree, IsSoundCommand, AreSoundCommands}
+use Rattle.typed_tree.proofs.SoundValues.{mapped, both_there, arities, AreBelow, below_more, below_append, below_named, sound_value, sound_values, sound_called}
 
 -- each variable that is known has a slot
 pub record IsPlace (s : Place) : Type 0 where

@@ -1,6 +1,6 @@
 -- The typed tree of a program names only what is there.
-use Rattle.std.proofs.Common.{◌≡◌, ℕ, ◌+◌, ◌≤◌, List, [], ◌∷◌, ◌++◌, length, refl, sym, ap, ◌∙◌, subst, Option, Some, None, arith}
-use Rattle.std.specs.Prelude.{map, option_and_then}
+use Rattle.std.proofs.Common.{◌≡◌, ◌+◌, ◌≤◌, List, [], ◌∷◌, length, refl, sym, ap, ◌∙◌, subst, Some, arith}
+use Rattle.std.specs.Prelude.{map}
 use Rattle.std.proofs.lemmas.List.{length-append}
 use Rattle.secrec_ast.specs.declared.statement.DeclaredType.{DeclaredType}
 use Rattle.secrec_ast.specs.declared.function.DomainVariable.{DomainVariable}
@@ -13,7 +13,7 @@ use Rattle.typed_tree.specs.Bodies.{resolved_all}
 use Rattle.typed_tree.specs.Programs.{TypedFunctionTree, TypedProgramTree}
 use Rattle.typed_tree.specs.Order.{reached}
 use Rattle.typed_tree.specs.Functions.{slot_written, slots_written, and_slots, given_back, with_parameters, function_from, function_made, function_behind, typed_function, and_functions, typed_functions, with_functions, program_of, typed_of}
-use Rattle.typed_tree.specs.Sound.{parameters_of, IsSoundFunction, AreSoundCommands, AreSoundFunctions, IsSound}
+use Rattle.typed_tree.specs.Sound.{parameters_of, IsSoundFunction, AreSoundFunctions, IsSound}
 use Rattle.typed_tree.proofs.SoundValues.{mapped, both_there, then_there, some_is, arity, arities}
 use Rattle.typed_tree.proofs.SoundBodies.{IsPlace, declaring_place, resolved_all_yields}
 

@@ -1,21 +1,20 @@
 -- Typed expressions name only slots that are known and functions that are there.
-use Rattle.std.proofs.Common.{◌≡◌, ℕ, zero, suc, ◌+◌, ◌<◌, ◌≤◌, List, [], ◌∷◌, ◌++◌, length, refl, sym, ap, ◌∙◌, subst, Option, Some, None, Bool, true, false, cond, arith}
+use Rattle.std.proofs.Common.{◌≡◌, ℕ, suc, ◌+◌, ◌<◌, ◌≤◌, List, [], ◌∷◌, ◌++◌, length, refl, sym, ap, ◌∙◌, subst, Option, Some, None, Bool, true, false, cond, arith}
 use Rattle.std.specs.Prelude.{map, bytes_eq, nat_eq, option_map, option_and_then}
 use Rattle.std.specs.List.{slice_get}
 use Rattle.std.proofs.lemmas.Option.{slice_get-map}
 use Rattle.secrec_ast.specs.Tree.{Tree, Trees, number, truth, variable, call, index, parentheses, negation, cast, binary, declassify, argument, publish}
 use Rattle.secrec_ast.specs.Tree as Tree'
-use Rattle.secrec_ast.specs.declared.expression.Operator.{Operator}
 use Rattle.secrec_ast.specs.Programs.{FunctionTree}
 use Rattle.domain_types.specs.declared.value_type.BuiltIn.{BuiltIn}
 use Rattle.domain_types.specs.declared.value_type.BuiltIn.TheVariants.{Size, Cat, Sum, BitExtract}
 use Rattle.domain_types.specs.Declarations.{Declared, Callee, built_in, defined, built_in_named, function_named, callee_or_function, callee}
 use Rattle.typed_tree.specs.declared.operators.BinaryOperator.{BinaryOperator}
 use Rattle.typed_tree.specs.declared.operators.Connective.{Connective}
-use Rattle.typed_tree.specs.Tree.{TypedTree, TypedTrees, word_node, truth_node, slot_node, call_node, typed_trees_of}
+use Rattle.typed_tree.specs.Tree.{call_node, typed_trees_of}
 use Rattle.typed_tree.specs.Operators.{operator_on, operands_of, may_cut_short}
 use Rattle.typed_tree.specs.Scopes.{Variable, Scope, variable_in, variable_named}
-use Rattle.typed_tree.specs.Values.{TypedValue, TypedCall, of_both, variable_value, element_value, negated, cast_value, declassified_value, operation_node, operation_made, operation, gives_value, with_shape, value_given, shape_returned, tree_of_value, built_in_value, called, and_values, value, values, call_made}
+use Rattle.typed_tree.specs.Values.{TypedValue, TypedCall, of_both, variable_value, element_value, negated, cast_value, declassified_value, operation_node, operation_made, operation, gives_value, with_shape, value_given, shape_returned, tree_of_value, built_in_value, called, and_values, value, values}
 use Rattle.typed_tree.specs.Sound.{count_of, IsSoundTree, AreSoundTrees}
 
 -- WHAT IS THERE

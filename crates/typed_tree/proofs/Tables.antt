@@ -1,9 +1,8 @@
 -- The table of variables shows the scope.
-use Rattle.std.proofs.Common.{◌≡◌, ℕ, zero, suc, ◌+◌, ◌-◌, ◌<◌, ◌≤◌, List, [], ◌∷◌, ◌++◌, refl, sym, ap, ◌∙◌, Option, Some, None, Bool, true, false, cond, length, take, drop, arith, leb}
-use Rattle.std.specs.Prelude.{map, reverse, bytes_eq, option_map, ◌||◌}
+use Rattle.std.proofs.Common.{◌≡◌, ℕ, zero, suc, ◌-◌, ◌<◌, ◌≤◌, List, [], ◌∷◌, ◌++◌, refl, sym, ap, ◌∙◌, Option, Some, None, Bool, true, false, cond, length, take, drop, arith}
+use Rattle.std.specs.Prelude.{map, bytes_eq, option_map}
 use Rattle.std.specs.List.{take-map}
-use Rattle.std.proofs.lemmas.List.{map-append, drop-map, length-map, take-append-drop, reverse-append}
-use Rattle.std.proofs.lemmas.Bool.{leb-true, leb-false}
+use Rattle.std.proofs.lemmas.List.{map-append, drop-map, length-map, take-append-drop}
 use Rattle.typed_tree.specs.declared.variables.Known.{Known}
 use Rattle.typed_tree.specs.declared.variables.Latest.{Latest}
 use Rattle.typed_tree.specs.declared.variables.Entry.{Entry}

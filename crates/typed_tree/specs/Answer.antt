@@ -1,5 +1,5 @@
 -- What `type_program` answers.
-use Rattle.std.specs.Prelude.{◌≡◌, Option, Some, Result, Ok, Err}
+use Rattle.std.specs.Prelude.{◌≡◌, Some, Result, Ok, Err}
 use Rattle.secrec_ast.specs.Programs.{ProgramTree}
 use Rattle.domain_types.specs.declared.type_error.TypeError.{TypeError}
 use Rattle.domain_types.specs.declared.type_error.TypeError.TheVariants.{Refused, Memory}

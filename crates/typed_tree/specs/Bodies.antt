@@ -3,7 +3,7 @@ use Rattle.std.specs.Prelude.{ℕ, true, false, List, Option, Some, None, option
 use Rattle.secrec_ast.specs.declared.expression.DataType.{DataType}
 use Rattle.secrec_ast.specs.declared.expression.DataType.TheVariants.{Uint64}
 use Rattle.secrec_ast.specs.declared.expression.DataType.TheVariants as datatype
-use Rattle.secrec_ast.specs.Tree.{Tree, Trees, number, truth, variable, call, index, parentheses, negation, cast, binary, declassify, argument, publish}
+use Rattle.secrec_ast.specs.Tree.{Tree, Trees, call, argument, publish}
 use Rattle.secrec_ast.specs.Statements.{DeclarationTree, TargetTree, AssignmentTree, StartTree, starts_with_nothing, starts_with_declaration, starts_with_assignment, StepTree, steps_by_nothing, steps_by_assignment, steps_by_expression, StatementTree, block, empty, branch, choice, while_loop, do_loop, for_loop, breaks, continues, returns, assertion, declaration, assignment, evaluation, StatementTrees}
 use Rattle.secrec_ast.specs.Statements as Statements'
 use Rattle.domain_types.specs.Declarations.{Declared}
@@ -11,7 +11,7 @@ use Rattle.typed_tree.specs.Tree.{TypedTree, word_node, truth_node}
 use Rattle.typed_tree.specs.Commands.{Command, Commands, none, also, empty_command, block_command, if_command, loop_command, do_command, break_command, continue_command, return_command, assert_command, store_command, default_command, fill_command, input_command, element_command, publish_command, evaluate_command}
 use Rattle.typed_tree.specs.Scopes.{Place}
 use Rattle.typed_tree.specs.Values.{TypedCall, call_made}
-use Rattle.typed_tree.specs.Resolving.{Resolving, ◌>>=◌, carry, done, reading, next_slot, declare, in_block, expression, named}
+use Rattle.typed_tree.specs.Resolving.{Resolving, ◌>>=◌, done, reading, next_slot, declare, in_block, expression, named}
 
 -- EXPRESSIONS FOR WHAT THEY DO
 

@@ -4,7 +4,7 @@ use Rattle.typed_tree.specs.declared.kinds.Slot.{Slot}
 use Rattle.typed_tree.specs.declared.function.Given.{Given}
 use Rattle.typed_tree.specs.declared.function.TypedFunction.{TypedFunction}
 use Rattle.typed_tree.specs.declared.function.TypedProgram.{TypedProgram}
-use Rattle.typed_tree.specs.Commands.{Command, Commands, command, commands_of}
+use Rattle.typed_tree.specs.Commands.{Commands, command, commands_of}
 
 pub record TypedFunctionTree : Type 0 where
   pub name : List ℕ

@@ -6,7 +6,7 @@ use Rattle.secrec_ast.specs.Tree.{Tree}
 use Rattle.domain_types.specs.Declarations.{Declared}
 use Rattle.typed_tree.specs.declared.variables.Known.{Known}
 use Rattle.typed_tree.specs.Tree.{TypedTree}
-use Rattle.typed_tree.specs.Scopes.{Variable, Place, known_of, variable_named, declaring, entering, behind_block}
+use Rattle.typed_tree.specs.Scopes.{Place, known_of, variable_named, declaring, entering, behind_block}
 use Rattle.typed_tree.specs.Values.{TypedValue, value}
 
 abbrev pub Resolving : Type 0 → Type 0

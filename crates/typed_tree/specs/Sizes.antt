@@ -1,5 +1,5 @@
 -- How many nodes a function's tree has, as the height of a program counts them, and its parameters.
-use Rattle.std.specs.Prelude.{ℕ, ◌+◌, List, length, min, Option, Some, None}
+use Rattle.std.specs.Prelude.{ℕ, ◌+◌, length, min, Option, Some, None}
 use Rattle.secrec_ast.specs.Tree.{Tree, Trees, number, truth, variable, call, index, parentheses, negation, cast, binary, declassify, argument, publish}
 use Rattle.secrec_ast.specs.Tree as Tree'
 use Rattle.secrec_ast.specs.Statements.{DeclarationTree, TargetTree, AssignmentTree, StartTree, starts_with_nothing, starts_with_declaration, starts_with_assignment, StepTree, steps_by_nothing, steps_by_assignment, steps_by_expression, StatementTree, block, empty, branch, choice, while_loop, do_loop, for_loop, breaks, continues, returns, assertion, declaration, assignment, evaluation, StatementTrees}

@@ -1,5 +1,5 @@
 -- The table of variables of a place: the latest variable of each name, and which one it hides.
-use Rattle.std.specs.Prelude.{ℕ, ◌≡◌, ◌≤◌, ◌-◌, Bool, if◌then◌else◌, List, [], ◌∷◌, length, reverse, map, take, drop, Option, Some, None, bytes_eq, vec_items}
+use Rattle.std.specs.Prelude.{ℕ, ◌≡◌, ◌≤◌, ◌-◌, if◌then◌else◌, List, [], ◌∷◌, length, reverse, map, take, drop, Option, Some, None, bytes_eq}
 use Rattle.typed_tree.specs.Scopes.{Variable, Scope}
 use Rattle.domain_types.specs.Index.{found}
 use Rattle.typed_tree.specs.declared.variables.Latest.{Latest}

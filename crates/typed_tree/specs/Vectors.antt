@@ -1,5 +1,5 @@
 -- Programs of the language and their typed trees, worked out by hand from the rules.
-use Rattle.std.specs.Prelude.{ℕ, ◌≡◌, Bool, true, false, List, [], ◌∷◌, Option, Some, None, codes, map, option_map, refl}
+use Rattle.std.specs.Prelude.{ℕ, ◌≡◌, Bool, true, false, List, [], ◌∷◌, Option, Some, None, codes, map, refl}
 use Rattle.sc_text.specs.declared.span.Span.{Span}
 use Rattle.secrec_ast.specs.declared.expression.DataType.{DataType}
 use Rattle.secrec_ast.specs.declared.expression.DataType.TheVariants as datatype
@@ -8,13 +8,10 @@ use Rattle.secrec_ast.specs.declared.statement.Domain.{Domain}
 use Rattle.secrec_ast.specs.declared.statement.Domain.TheVariants as domain
 use Rattle.secrec_ast.specs.declared.statement.Identifier.{Identifier}
 use Rattle.secrec_ast.specs.declared.statement.DeclaredType.{DeclaredType}
-use Rattle.secrec_ast.specs.declared.function.ResultType.{ResultType}
 use Rattle.secrec_ast.specs.declared.function.ResultType.TheVariants as result
-use Rattle.secrec_ast.specs.declared.function.Parameter.{Parameter}
-use Rattle.secrec_ast.specs.declared.function.DomainVariable.{DomainVariable}
 use Rattle.secrec_ast.specs.Tree.{Tree, number, truth, variable, call, binary, declassify, argument, publish, trees_of}
 use Rattle.secrec_ast.specs.Statements.{StatementTree, block, returns, declaration, assignment, evaluation, statements_of}
-use Rattle.secrec_ast.specs.Programs.{FunctionTree, ItemTree, imports, domain as domains_item, defines, ProgramTree}
+use Rattle.secrec_ast.specs.Programs.{FunctionTree, imports, domain as domains_item, defines, ProgramTree}
 use Rattle.typed_tree.specs.declared.kinds.SlotDomain.TheVariants.{Public, Private, Variable}
 use Rattle.typed_tree.specs.declared.kinds.SlotDomain.{SlotDomain}
 use Rattle.typed_tree.specs.declared.kinds.Slot.{Slot}

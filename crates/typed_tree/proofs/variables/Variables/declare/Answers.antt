@@ -1,10 +1,10 @@
-use Rattle.std.proofs.Common.{◌≡◌, ℕ, suc, ◌+◌, ◌-◌, ◌≤◌, List, [], ◌∷◌, ◌++◌, length, arith, ap, ◌∙◌, sym, refl, subst}
+use Rattle.std.proofs.Common.{◌≡◌, suc, ◌-◌, [], ◌∷◌, length, arith, ap, ◌∙◌, sym, refl, subst}
 use Rattle.std.specs.Prelude.{reverse}
 use Rattle.std.proofs.lemmas.List.{length-reverse, reverse-append}
 use Rattle.std.proofs.lemmas.Map.Text.{btree_map_updates_str}
 use Rattle.typed_tree.specs.declared.variables.Entry.{Entry}
 use Rattle.typed_tree.specs.Scopes.{with_variable}
-use Rattle.typed_tree.specs.Table.{latest_in, HideEachOther, latest_first, block_count, scope_at}
+use Rattle.typed_tree.specs.Table.{latest_in, HideEachOther, latest_first, scope_at}
 use Rattle.typed_tree.proofs.Tables.{one_more}
 use Rattle.typed_tree.proofs.variables.Variables.declare.Goals as goal
 

@@ -1,4 +1,4 @@
-use Rattle.std.proofs.Common.{◌≡◌, Option, Some, None, ap, ◌∙◌, sym}
+use Rattle.std.proofs.Common.{◌≡◌, Some, None, ap, ◌∙◌, sym}
 use Rattle.std.specs.Prelude.{option_map}
 use Rattle.typed_tree.specs.Scopes.{known_of, variable_in, variable_named}
 use Rattle.typed_tree.specs.Table.{latest_in, latest_first, block_count}

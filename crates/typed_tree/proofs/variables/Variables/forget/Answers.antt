@@ -1,7 +1,6 @@
-use Rattle.std.proofs.Common.{◌≡◌, ℕ, suc, ◌+◌, ◌-◌, ◌<◌, ◌≤◌, List, [], ◌∷◌, ◌++◌, length, arith, ap, ◌∙◌, sym, refl, subst}
+use Rattle.std.proofs.Common.{◌≡◌, suc, ◌-◌, ◌<◌, [], ◌∷◌, length, arith, ap, ◌∙◌, sym, subst}
 use Rattle.std.specs.Prelude.{reverse}
-use Rattle.std.proofs.lemmas.List.{length-reverse, reverse-append}
-use Rattle.domain_types.specs.Index.{found}
+use Rattle.std.proofs.lemmas.List.{reverse-append}
 use Rattle.typed_tree.specs.Table.{latest_first, latest_in, HideEachOther, block_count, scope_at}
 use Rattle.typed_tree.proofs.Tables.{one_less, is_there, block_there}
 use Rattle.typed_tree.proofs.variables.Variables.forget.Goals as goal
