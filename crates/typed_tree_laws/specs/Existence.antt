@@ -1,0 +1,9 @@
+-- Which programs have a typed tree.
+use Rattle.std.specs.Prelude.{◌≡◌, Some}
+use Rattle.secrec_ast.specs.Programs.{ProgramTree}
+use Rattle.typed_tree.specs.Programs.{TypedProgramTree}
+use Rattle.typed_tree.specs.Functions.{typed_of}
+
+-- each name in it means something, and each operator is one for its operands
+abbrev pub HasTree : ProgramTree → Type 0
+HasTree p = (t : TypedProgramTree) × (typed_of p ≡ Some t)
