@@ -1,5 +1,5 @@
 -- A value has as many elements as it counts.
-use Rattle.std.proofs.Common.{◌≡◌, List, Bool, length, map, refl}
+use Rattle.std.proofs.Common.{◌≡◌, length, refl}
 use Rattle.std.proofs.lemmas.List.{length-map}
 use Rattle.value_file.specs.declared.value.Value.{Value}
 use Rattle.value_file.specs.declared.value.Value.TheVariants.{Number, Truth, Numbers, Truths}

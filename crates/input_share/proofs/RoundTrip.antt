@@ -1,5 +1,5 @@
 -- What is written of a share file is read as that file.
-use Rattle.std.proofs.Common.{◌≡◌, ℕ, suc, ◌<◌, ◌≤◌, All, arith, List, [], ◌∷◌, ◌++◌, map, length, Some, Ok, refl, ap, sym, ◌∙◌, eq-eqb, le-ltb}
+use Rattle.std.proofs.Common.{◌≡◌, ℕ, suc, ◌≤◌, All, arith, List, [], ◌∷◌, ◌++◌, map, length, Some, Ok, refl, ap, sym, ◌∙◌, eq-eqb, le-ltb}
 use Rattle.std.proofs.lemmas.List.{append_assoc, append-nil}
 use Rattle.std.proofs.lemmas.Str.{utf8_valid_len-IsUtf8}
 use Rattle.std.specs.Str.{IsUtf8}

@@ -1,5 +1,5 @@
 -- What a loop over elements or inputs adds at each place.
-use Rattle.std.proofs.Common.{◌≡◌, ℕ, ◌+◌, ◌-◌, ◌<◌, ◌≤◌, List, [], ◌∷◌, ◌++◌, length, get_or, take, drop, sum_by, add-one, ap, sym, ◌∙◌, append_assoc, arith}
+use Rattle.std.proofs.Common.{◌≡◌, ℕ, ◌+◌, ◌-◌, ◌<◌, ◌≤◌, List, [], ◌∷◌, ◌++◌, length, get_or, take, drop, add-one, ap, sym, ◌∙◌, append_assoc, arith}
 use Rattle.std.proofs.lemmas.Grind.{common_steps}
 use Rattle.std.proofs.Math.Seq.{drop-cons}
 use Rattle.std.proofs.Math.ListN.{drop_of_length-le}
@@ -8,7 +8,6 @@ use Rattle.std.proofs.lemmas.List.Sums.{sum_by-drop_more, sum_by_more}
 use Rattle.share_ring.specs.Ring.{Ring}
 use Rattle.proto_core.specs.declared.party.Number.{Number}
 use Rattle.value_file.specs.declared.inputs.Entry.{Entry}
-use Rattle.input_share.specs.declared.entry.ShareEntry.{ShareEntry}
 use Rattle.input_share.specs.Dealing.{left_of, draws_of, need_of, dealt_entry, dealt_entries}
 
 pub left_of-drop :
