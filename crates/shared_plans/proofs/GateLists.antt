@@ -1,0 +1,103 @@
+-- Gates behind other gates: sizes, kinds and words.
+use Rattle.std.proofs.Common.{◌≡◌, ℕ, zero, suc, ◌+◌, ◌<◌, ◌≤◌, List, [], ◌∷◌, ◌++◌, length, refl, ◌∙◌, ap, arith, length-append}
+use Rattle.std.proofs.lemmas.List.{get_or_append_left}
+use Rattle.proto_core.specs.declared.party.Number.{Number}
+use Rattle.gates.specs.declared.ring_kind.RingKind.{RingKind}
+use Rattle.gates.specs.declared.gate.Gate.{Gate}
+use Rattle.gates.specs.declared.gate.Gate.TheVariants.{Input, Const, Add, Sub, MulPub, Mul, Xor, And, Not, Shl, Shr, Low, Cat, Part, Put, Rep, Spread, Sum, Split, Conv, Open, Result}
+use Rattle.gates.specs.Clear.{Values}
+use Rattle.gates.specs.Counts.{size_of, made_by, made_by_all}
+use Rattle.shared_gates.specs.Shares.{Kind, kind_at}
+use Rattle.shared_gates.specs.Kinds.{AllShared, Kinded, AllKinded}
+use Rattle.shared_gates.specs.Model.{sizes_made, AllSizesSuit, run_gate, run_gates, sizes_after}
+use Rattle.shared_plans.proofs.KindedPlans.{shared-grown}
+
+-- ---- sizes
+
+pub sizes-then : (ds sizes : List ℕ) (xs ys : List Gate) → sizes_after ds sizes (xs ++ ys) ≡ sizes_after ds (sizes_after ds sizes xs) ys
+sizes-then ds sizes [] ys = refl
+sizes-then ds sizes (gate ∷ xs) ys = sizes-then ds (sizes ++ sizes_made ds sizes gate) xs ys
+
+pub suits-then :
+    (ds sizes : List ℕ) (xs ys : List Gate) → AllSizesSuit ds sizes xs → AllSizesSuit ds (sizes_after ds sizes xs) ys →
+    AllSizesSuit ds sizes (xs ++ ys)
+suits-then ds sizes [] ys suit later = later
+suits-then ds sizes (gate ∷ xs) ys suit later = (suit.0, suits-then ds (sizes ++ sizes_made ds sizes gate) xs ys suit.1 later)
+
+pub gates-then :
+    (dealt : Number → Values) (ds sizes : List ℕ) (xs ys : List Gate) →
+    run_gates dealt ds sizes (xs ++ ys) ≡ run_gates dealt ds sizes xs ++ run_gates dealt ds (sizes_after ds sizes xs) ys
+gates-then dealt ds sizes [] ys = refl
+gates-then dealt ds sizes (gate ∷ xs) ys =
+    ap (λ gates. run_gate dealt ds sizes gate ∷ gates) (gates-then dealt ds (sizes ++ sizes_made ds sizes gate) xs ys)
+
+length-made : (ds sizes : List ℕ) (gate : Gate) → length (sizes_made ds sizes gate) ≡ made_by gate
+length-made ds sizes (Split u negated) = refl
+length-made ds sizes gate = refl
+
+pub length-sizes : (ds sizes : List ℕ) (gates : List Gate) → length (sizes_after ds sizes gates) ≡ length sizes + made_by_all gates
+length-sizes ds sizes [] = omega arith
+length-sizes ds sizes (gate ∷ gates) =
+    let new = sizes_made ds sizes gate in
+    omega (arith, length-sizes ds (sizes ++ new) gates, length-append sizes new, length-made ds sizes gate)
+
+-- the sizes of the values that stand stay
+pub size-stays : (ds sizes : List ℕ) (gates : List Gate) (u : ℕ) → u < length sizes → size_of (sizes_after ds sizes gates) u ≡ size_of sizes u
+size-stays ds sizes [] u lt = refl
+size-stays ds sizes (gate ∷ gates) u lt =
+    let new = sizes_made ds sizes gate in
+    let longer = length-append sizes new in
+    size-stays ds (sizes ++ new) gates u (omega arith) ∙ get_or_append_left sizes new 0 u lt
+
+-- ---- kinds
+
+kind-grown : (kinds more : List Kind) (k : ℕ) → k < length kinds → kind_at (kinds ++ more) k ≡ kind_at kinds k
+kind-grown [] more k lt = absurd (none k lt)
+  where
+    none : (k : ℕ) → k < 0 → ⊥
+    none k lt = omega arith
+kind-grown (kind ∷ kinds) more zero lt = refl
+kind-grown (kind ∷ kinds) more (suc k) lt = kind-grown kinds more k (omega arith)
+
+shared-still : (ring : RingKind) (kinds more : List Kind) (ks : List ℕ) → AllShared ring kinds ks → AllShared ring (kinds ++ more) ks
+shared-still ring kinds more [] h = tt
+shared-still ring kinds more (k ∷ ks) h = (shared-grown kinds more k ring h.0, shared-still ring kinds more ks h.1)
+
+module _ (dealt kinds more : List Kind) where
+  kinded-still : (next : ℕ) (gate : Gate) → next < length kinds → Kinded dealt kinds next gate → Kinded dealt (kinds ++ more) next gate
+  kinded-still next (Input k) lt h = kind-grown kinds more next lt ∙ h
+  kinded-still next (Const list) lt h = (h.0, (h.1.0, shared-still h.1.0 kinds more (next ∷ []) h.1.1))
+  kinded-still next (Add u v) lt h = shared-still _ kinds more (u ∷ v ∷ next ∷ []) h
+  kinded-still next (Sub u v) lt h = shared-still _ kinds more (u ∷ v ∷ next ∷ []) h
+  kinded-still next (MulPub ring u list) lt h = shared-still ring kinds more (u ∷ next ∷ []) h
+  kinded-still next (Mul u v) lt h = shared-still _ kinds more (u ∷ v ∷ next ∷ []) h
+  kinded-still next (Xor u v) lt h = shared-still _ kinds more (u ∷ v ∷ next ∷ []) h
+  kinded-still next (And u v) lt h = shared-still _ kinds more (u ∷ v ∷ next ∷ []) h
+  kinded-still next (Not u) lt h = shared-still _ kinds more (u ∷ next ∷ []) h
+  kinded-still next (Shl u count) lt h = shared-still _ kinds more (u ∷ next ∷ []) h
+  kinded-still next (Shr u count) lt h = shared-still _ kinds more (u ∷ next ∷ []) h
+  kinded-still next (Low u) lt h = shared-still _ kinds more (u ∷ next ∷ []) h
+  kinded-still next (Cat u v) lt h = (h.0, shared-still h.0 kinds more (u ∷ v ∷ next ∷ []) h.1)
+  kinded-still next (Part u from count) lt h = (h.0, shared-still h.0 kinds more (u ∷ next ∷ []) h.1)
+  kinded-still next (Put u index v) lt h = (h.0, shared-still h.0 kinds more (u ∷ v ∷ next ∷ []) h.1)
+  kinded-still next (Rep u count) lt h = (h.0, shared-still h.0 kinds more (u ∷ next ∷ []) h.1)
+  kinded-still next (Spread u) lt h = shared-still _ kinds more (u ∷ next ∷ []) h
+  kinded-still next (Sum u) lt h = shared-still _ kinds more (u ∷ next ∷ []) h
+  kinded-still next (Split u negated) lt h = (shared-still _ kinds more (u ∷ []) h.0, shared-still _ kinds more (next ∷ (next + 1) ∷ []) h.1)
+  kinded-still next (Conv u) lt h = (shared-still _ kinds more (u ∷ []) h.0, shared-still _ kinds more (next ∷ []) h.1)
+  kinded-still next (Open ring u) lt h = (shared-still ring kinds more (u ∷ []) h.0, kind-grown kinds more next lt ∙ h.1)
+  kinded-still next (Result ring u) lt h = shared-still ring kinds more (u ∷ next ∷ []) h
+
+  pub all-kinded-still :
+      (next : ℕ) (gates : List Gate) → next + made_by_all gates ≤ length kinds → AllKinded dealt kinds next gates →
+      AllKinded dealt (kinds ++ more) next gates
+  all-kinded-still next [] le h = tt
+  all-kinded-still next (gate ∷ gates) le h =
+      let some = makes-some gate in (
+        kinded-still next gate (omega arith) h.0,
+        all-kinded-still (next + made_by gate) gates (omega arith) h.1,
+      )
+    where
+      makes-some : (gate : Gate) → 1 ≤ made_by gate
+      makes-some (Split u negated) = omega arith
+      makes-some gate = omega arith

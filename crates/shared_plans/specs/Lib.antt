@@ -1,0 +1,4 @@
+pub mod GateRuns
+pub mod Outcomes
+pub mod Plans
+pub mod Vectors

@@ -1,0 +1,11 @@
+//! What three miners come to with the plans of `equality`, `bit_extract` and `compare` behind any gates.
+//!
+//! There is nothing to run here: definitions in `specs/`, and the laws that follow from them.
+#![tactic(auto)]
+
+mod laws;
+
+pub use laws::{
+    bits_on_shares, bits_suit, comparison_on_shares, comparison_suits, equality_on_shares,
+    gates_behind_runs, zero_test_on_shares, zero_test_suits,
+};
