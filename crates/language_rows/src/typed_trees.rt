@@ -1,10 +1,12 @@
-// The typed tree of a program with a template.
+// The typed tree of a program with a template, and a program that has none.
+use program_typing::type_program;
 use secrec_ast::DataType;
 use secrec_lexer::lex;
 use secrec_parser::parse;
 use std::test::Fail;
 use typed_tree::{
-    Given, Shape, Slot, SlotDomain, TypedExpression, TypedFunction, TypedStatement, type_program,
+    Given, ResolveError, Shape, Slot, SlotDomain, TypedExpression, TypedFunction, TypedStatement,
+    resolve,
 };
 
 // Line 2 fills an array whose size is asked for in line 3.
@@ -59,5 +61,14 @@ fn functions_stand_in_the_order_of_their_calls(rt: HostRuntime) -> Result<(), Fa
     assert_eq!(rt; typed.functions.len(), 2);
     assert!(rt; is_main(&typed.functions[0]));
     assert!(rt; is_template(&typed.functions[1]));
+    Ok(())
+}
+
+#[test]
+fn a_name_that_means_nothing_stays_unresolved(rt: HostRuntime) -> Result<(), Fail> {
+    let alloc = rt.alloc();
+    let tokens = lex(alloc, b"void main() { x; }").map_err(|_| Fail::from("no tokens"))?;
+    let program = parse(alloc, &tokens).map_err(|_| Fail::from("no tree"))?;
+    assert!(rt; matches!(resolve(alloc, &program), Err(ResolveError::Unresolved)));
     Ok(())
 }

@@ -1,5 +1,6 @@
 pub mod Tables
 pub mod Growing
+pub mod Missing
 pub mod Sequences
 pub mod Calls
 pub mod Counts

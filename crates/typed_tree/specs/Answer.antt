@@ -1,17 +1,10 @@
--- What `type_program` answers.
-use Rattle.std.specs.Prelude.{◌≡◌, Some, Result, Ok, Err}
-use Rattle.secrec_ast.specs.Programs.{ProgramTree}
-use Rattle.domain_types.specs.declared.type_error.TypeError.{TypeError}
-use Rattle.domain_types.specs.declared.type_error.TypeError.TheVariants.{Refused, Memory}
-use Rattle.domain_types.specs.ProgramTypes.{IsRefused}
-use Rattle.domain_types.specs.Typing.{IsTypedProgram}
-use Rattle.typed_tree.specs.declared.function.TypedProgram.{TypedProgram}
-use Rattle.typed_tree.specs.Programs.{typed_program_tree}
-use Rattle.typed_tree.specs.Functions.{typed_of}
-use Rattle.typed_tree.specs.Sound.{IsSound}
+-- What a resolving call answers.
+use Rattle.std.specs.Prelude.{◌≡◌, Option, Some, None, Result, Ok, Err}
+use Rattle.typed_tree.specs.declared.resolve_error.ResolveError.{ResolveError}
+use Rattle.typed_tree.specs.declared.resolve_error.ResolveError.TheVariants.{Unresolved, Memory}
 
--- the typed tree of a program that is typed, which names only what is there; else the first fault
-abbrev pub IsTypedAnswer : Result TypedProgram TypeError → ProgramTree → Type 0
-IsTypedAnswer (Ok t) p = IsTypedProgram p × (typed_of p ≡ Some (typed_program_tree t)) × IsSound (typed_program_tree t)
-IsTypedAnswer (Err (Refused f)) p = IsRefused p f
-IsTypedAnswer (Err Memory) p = Unit {0}
+-- exactly what there is, and that it's unresolved only where there is nothing; that memory ran short tells nothing of it
+abbrev pub Answers : {A B : Type 0} → (view : A → B) → Result A ResolveError → (there : Option B) → Type 0
+Answers view (Ok a) there = there ≡ Some (view a)
+Answers view (Err Unresolved) there = there ≡ None
+Answers view (Err Memory) there = Unit {0}

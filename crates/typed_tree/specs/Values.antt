@@ -36,6 +36,18 @@ of_both rule None b = None
 of_both rule (Some a) None = None
 of_both rule (Some a) (Some b) = rule a b
 
+-- the one value of a list, and the two
+abbrev pub only : {A : Type 0} → List A → Option A
+only [] = None
+only (a ∷ []) = Some a
+only (a ∷ b ∷ cs) = None
+
+abbrev pub pair : {A : Type 0} → List A → Option (A × A)
+pair [] = None
+pair (a ∷ []) = None
+pair (a ∷ b ∷ []) = Some (a, b)
+pair (a ∷ b ∷ c ∷ ds) = None
+
 abbrev pub variable_value : Variable → TypedValue
 variable_value v = record { tree = slot_node v.known.slot; shape = v.known.shape }
 

@@ -1,17 +1,18 @@
 // Functions as typed ones.
-ghost use Rattle.std.specs.Prelude.{◌≡◌, ◌<◌, length, IfOk, MatchOption, Some, map};
+ghost use Rattle.std.specs.Prelude.{◌≡◌, ◌<◌, length, IfOk, MatchOption, map};
 ghost use Rattle.secrec_ast.specs.Programs.{function_tree};
 ghost use Rattle.domain_types.specs.Views.{declared, tree_at};
 ghost use Rattle.typed_tree.specs.Functions.{variable_number, slot_domain, slot_written, slots_written, given_back, with_parameters, typed_function, typed_functions};
 ghost use Rattle.typed_tree.specs.Programs.{typed_function_tree};
-ghost use Rattle.typed_tree.specs.Views.{place_seen, type_at};
+ghost use Rattle.typed_tree.specs.Answer.{Answers};
+ghost use Rattle.typed_tree.specs.Views.{place_seen, type_at, slots_seen, functions_seen};
 
 use crate::function::{Given, TypedFunction};
 use crate::kinds::{Slot, SlotDomain};
 use crate::place::Place;
+use crate::resolve_error::ResolveError;
 use crate::sizes::size_of;
 use crate::statements::statements;
-use crate::stopped::Stopped;
 use crate::values::shape_written;
 use domain_types::Declarations;
 use secrec_ast::{DeclaredType, Domain, DomainVariable, Function, Parameter, ResultType};
@@ -78,14 +79,14 @@ fn slots_written<'p>(
     declarations: &Declarations<'p>,
     variables: &'p [DomainVariable],
     types: &Vec<&'p DeclaredType>,
-) -> Result<Vec<Slot>, Stopped>
-    ensures { IfOk result (λ ss. slots_written (declared declarations.now) variables.now (map type_at types.now.items) ≡ Some ss.items) }
+) -> Result<Vec<Slot>, ResolveError>
+    ensures { Answers slots_seen result (slots_written (declared declarations.now) variables.now (map type_at types.now.items)) }
 {
     let mut slots = Vec::new(alloc);
     for each in types {
         match slot_written(declarations, variables, *each) {
             Some(slot) => slots.push(slot)?,
-            None => return Err(Stopped::Unresolved),
+            None => return Err(ResolveError::Unresolved),
         }
     }
     Ok(slots)
@@ -95,14 +96,14 @@ fn given_back<'p>(
     declarations: &Declarations<'p>,
     variables: &'p [DomainVariable],
     returned: &'p ResultType,
-) -> Result<Given, Stopped>
-    ensures { IfOk result (λ g. given_back (declared declarations.now) variables.now returned.now ≡ Some g) }
+) -> Result<Given, ResolveError>
+    ensures { Answers (λ g. g) result (given_back (declared declarations.now) variables.now returned.now) }
 {
     match returned {
         ResultType::Void => Ok(Given::Nothing),
         ResultType::Value(written) => match slot_written(declarations, variables, written) {
             Some(slot) => Ok(Given::Value(slot)),
-            None => Err(Stopped::Unresolved),
+            None => Err(ResolveError::Unresolved),
         },
     }
 }
@@ -124,8 +125,8 @@ pub fn typed_function<'p>(
     alloc: Global,
     declarations: &Declarations<'p>,
     function: &'p Function,
-) -> Result<TypedFunction, Stopped>
-    ensures { IfOk result (λ t. typed_function (declared declarations.now) (function_tree function.now) ≡ Some (typed_function_tree t)) }
+) -> Result<TypedFunction, ResolveError>
+    ensures { Answers typed_function_tree result (typed_function (declared declarations.now) (function_tree function.now)) }
 {
     let mut place = Place::new(alloc);
     parameters(&mut place, &function.parameters)?;
@@ -147,8 +148,8 @@ pub fn typed_function<'p>(
 pub fn typed_functions<'p>(
     alloc: Global,
     declarations: &Declarations<'p>,
-) -> Result<Vec<TypedFunction>, Stopped>
-    ensures { IfOk result (λ ts. typed_functions (declared declarations.now) (map tree_at declarations.now.functions.items) ≡ Some (map typed_function_tree ts.items)) }
+) -> Result<Vec<TypedFunction>, ResolveError>
+    ensures { Answers functions_seen result (typed_functions (declared declarations.now) (map tree_at declarations.now.functions.items)) }
 {
     let mut made = Vec::new(alloc);
     for each in declarations.functions.iter() {

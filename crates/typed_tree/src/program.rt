@@ -1,22 +1,29 @@
 // Whole programs.
-ghost use Rattle.std.specs.Prelude.{◌≡◌, IfOk, Some};
+ghost use Rattle.std.specs.Prelude.{IfOk};
 ghost use Rattle.secrec_ast.specs.Programs.{program_tree};
+ghost use Rattle.typed_tree.specs.Answer.{Answers};
 ghost use Rattle.typed_tree.specs.Functions.{typed_of};
 ghost use Rattle.typed_tree.specs.Programs.{typed_program_tree};
-ghost use Rattle.typed_tree.specs.Answer.{IsTypedAnswer};
+ghost use Rattle.typed_tree.specs.Sound.{IsSound};
 
 use crate::found::Found;
 use crate::function::TypedProgram;
 use crate::functions::typed_functions;
 use crate::order::reached;
-use crate::stopped::Stopped;
-use domain_types::{Declarations, TypeError, check, collect};
+use crate::resolve_error::ResolveError;
+use domain_types::{Declarations, collect};
 use secrec_ast::Program;
 use std::alloc::Global;
 
-// The typed tree of a program, whether or not the checker accepts it.
-pub fn resolve(alloc: Global, program: &Program) -> Result<TypedProgram, Stopped>
-    ensures { IfOk result (λ t. typed_of (program_tree program.now) ≡ Some (typed_program_tree t)) }
+/// The typed tree of a program, whether or not the checker accepts it: the functions that `main` reaches, in the order in which
+/// they are first called. Each slot that the tree names is one of its function, and each call is one of a function of the tree
+/// with as many arguments as that has parameters.
+///
+/// `Unresolved` comes only where the program has no typed tree, and `Memory` where memory runs short. `type_program` of the crate
+/// `program_typing` asks the checker first, and then never finds a program unresolved.
+pub fn resolve(alloc: Global, program: &Program) -> Result<TypedProgram, ResolveError>
+    ensures exact { Answers typed_program_tree result (typed_of (program_tree program.now)) }
+    ensures sound { IfOk result (λ t. IsSound (typed_program_tree t)) }
 {
     let declarations = collect(alloc, &program.items)?;
     let Found { names, functions } = reached(alloc, &declarations)?;
@@ -30,17 +37,4 @@ pub fn resolve(alloc: Global, program: &Program) -> Result<TypedProgram, Stopped
     };
     let functions = typed_functions(alloc, &known)?;
     Ok(TypedProgram { functions })
-}
-
-/// The typed tree of a program that the checker accepts.
-///
-/// `Refused` comes with the program's first fault exactly where `check` refuses it, and `Memory` where memory runs short.
-pub fn type_program(alloc: Global, program: &Program) -> Result<TypedProgram, TypeError>
-    ensures { IsTypedAnswer result (program_tree program.now) }
-{
-    let _ = check(alloc, program)?;
-    match resolve(alloc, program) {
-        Ok(typed) => Ok(typed),
-        Err(_) => Err(TypeError::Memory),
-    }
 }

@@ -1,5 +1,5 @@
 // Statements that hold no other statement, and the parts of a `for`.
-ghost use Rattle.std.specs.Prelude.{◌≡◌, IfOk, Some};
+ghost use Rattle.std.specs.Prelude.{◌≡◌, IfOk};
 ghost use Rattle.secrec_ast.specs.Tree.{expression};
 ghost use Rattle.secrec_ast.specs.Statements.{optional, declaration_tree, assignment_tree, start_tree, step_tree};
 ghost use Rattle.domain_types.specs.Views.{declared};
@@ -7,12 +7,13 @@ ghost use Rattle.typed_tree.specs.Tree.{typed_tree};
 ghost use Rattle.typed_tree.specs.Commands.{command};
 ghost use Rattle.typed_tree.specs.Resolving.{value_at, known_at};
 ghost use Rattle.typed_tree.specs.Bodies.{evaluated, default_of, from_value, initial, declared as declared_at, assigned_to, assigned, started, stepped, condition_of, returned};
-ghost use Rattle.typed_tree.specs.Views.{place_seen};
+ghost use Rattle.typed_tree.specs.Answer.{Answers};
+ghost use Rattle.typed_tree.specs.Views.{place_seen, with_place};
 
 use crate::expression::TypedExpression;
 use crate::place::Place;
+use crate::resolve_error::ResolveError;
 use crate::statement::TypedStatement;
-use crate::stopped::Stopped;
 use crate::values::{call, value};
 use crate::variables::Known;
 use domain_types::Declarations;
@@ -25,20 +26,20 @@ pub fn expression<'p>(
     declarations: &Declarations<'p>,
     place: &Place<'p>,
     e: &'p Expression,
-) -> Result<TypedExpression, Stopped>
-    ensures { IfOk result (λ t. value_at (declared declarations.now) (expression e.now) (place_seen place.now) ≡ Some (typed_tree t)) }
+) -> Result<TypedExpression, ResolveError>
+    ensures { Answers typed_tree result (value_at (declared declarations.now) (expression e.now) (place_seen place.now)) }
 {
     let value = value(alloc, declarations, &place.variables, e)?;
     Ok(value.tree)
 }
 
 // The variable of a name.
-fn named<'p>(place: &Place<'p>, name: &'p str) -> Result<Known, Stopped>
-    ensures { IfOk result (λ k. known_at name.now (place_seen place.now) ≡ Some k) }
+fn named<'p>(place: &Place<'p>, name: &'p str) -> Result<Known, ResolveError>
+    ensures { Answers (λ k. k) result (known_at name.now (place_seen place.now)) }
 {
     match place.variables.find(name) {
         Some(known) => Ok(known),
-        None => Err(Stopped::Unresolved),
+        None => Err(ResolveError::Unresolved),
     }
 }
 
@@ -48,8 +49,8 @@ pub fn evaluated<'p>(
     declarations: &Declarations<'p>,
     place: &Place<'p>,
     e: &'p Expression,
-) -> Result<TypedStatement, Stopped>
-    ensures { IfOk result (λ c. evaluated (declared declarations.now) (expression e.now) (place_seen place.now) ≡ Some (command c, place_seen place.now)) }
+) -> Result<TypedStatement, ResolveError>
+    ensures { Answers (with_place command (place_seen place.now)) result (evaluated (declared declarations.now) (expression e.now) (place_seen place.now)) }
 {
     match e {
         Expression::Publish(_, name, operand) => {
@@ -91,8 +92,8 @@ fn from_value<'p>(
     place: &Place<'p>,
     slot: usize,
     e: &'p Expression,
-) -> Result<TypedStatement, Stopped>
-    ensures { IfOk result (λ c. from_value (declared declarations.now) slot (expression e.now) (place_seen place.now) ≡ Some (command c, place_seen place.now)) }
+) -> Result<TypedStatement, ResolveError>
+    ensures { Answers (with_place command (place_seen place.now)) result (from_value (declared declarations.now) slot (expression e.now) (place_seen place.now)) }
 {
     match e {
         Expression::Argument(at, name) => {
@@ -112,9 +113,8 @@ fn initial<'p>(
     place: &Place<'p>,
     slot: usize,
     d: &'p Declaration,
-) -> Result<TypedStatement, Stopped>
-    ensures { IfOk result (λ c. initial (declared declarations.now) d.now.declared.place.line slot d.now.declared.element (optional d.now.size) (optional d.now.value) (place_seen place.now)
-        ≡ Some (command c, place_seen place.now)) }
+) -> Result<TypedStatement, ResolveError>
+    ensures { Answers (with_place command (place_seen place.now)) result (initial (declared declarations.now) d.now.declared.place.line slot d.now.declared.element (optional d.now.size) (optional d.now.value) (place_seen place.now)) }
 {
     let line = d.declared.place.line;
     match (&d.size, &d.value) {
@@ -138,8 +138,8 @@ pub fn declared<'p>(
     declarations: &Declarations<'p>,
     place: &mut Place<'p>,
     d: &'p Declaration,
-) -> Result<TypedStatement, Stopped>
-    ensures made { IfOk result (λ c. declared_at (declared declarations.now) (declaration_tree d.now) (place_seen place.old) ≡ Some (command c, place_seen place.new)) }
+) -> Result<TypedStatement, ResolveError>
+    ensures made { Answers (with_place command (place_seen place.new)) result (declared_at (declared declarations.now) (declaration_tree d.now) (place_seen place.old)) }
     ensures outer { IfOk result (λ _. (place_seen place.new).scope.outer ≡ (place_seen place.old).scope.outer) }
 {
     let slot = place.slots.len();
@@ -155,9 +155,8 @@ fn assigned_to<'p>(
     place: &Place<'p>,
     slot: usize,
     a: &'p Assignment,
-) -> Result<TypedStatement, Stopped>
-    ensures { IfOk result (λ c. assigned_to (declared declarations.now) a.now.target.variable.place.line slot (optional a.now.target.index) (expression a.now.value) (place_seen place.now)
-        ≡ Some (command c, place_seen place.now)) }
+) -> Result<TypedStatement, ResolveError>
+    ensures { Answers (with_place command (place_seen place.now)) result (assigned_to (declared declarations.now) a.now.target.variable.place.line slot (optional a.now.target.index) (expression a.now.value) (place_seen place.now)) }
 {
     match &a.target.index {
         None => {
@@ -179,8 +178,8 @@ pub fn assigned<'p>(
     declarations: &Declarations<'p>,
     place: &Place<'p>,
     a: &'p Assignment,
-) -> Result<TypedStatement, Stopped>
-    ensures { IfOk result (λ c. assigned (declared declarations.now) (assignment_tree a.now) (place_seen place.now) ≡ Some (command c, place_seen place.now)) }
+) -> Result<TypedStatement, ResolveError>
+    ensures { Answers (with_place command (place_seen place.now)) result (assigned (declared declarations.now) (assignment_tree a.now) (place_seen place.now)) }
 {
     let known = named(place, a.target.variable.text.as_str())?;
     assigned_to(alloc, declarations, place, known.slot, a)
@@ -192,8 +191,8 @@ pub fn started<'p>(
     declarations: &Declarations<'p>,
     place: &mut Place<'p>,
     start: &'p ForStart,
-) -> Result<TypedStatement, Stopped>
-    ensures made { IfOk result (λ c. started (declared declarations.now) (start_tree start.now) (place_seen place.old) ≡ Some (command c, place_seen place.new)) }
+) -> Result<TypedStatement, ResolveError>
+    ensures made { Answers (with_place command (place_seen place.new)) result (started (declared declarations.now) (start_tree start.now) (place_seen place.old)) }
     ensures outer { IfOk result (λ _. (place_seen place.new).scope.outer ≡ (place_seen place.old).scope.outer) }
 {
     match start {
@@ -209,8 +208,8 @@ pub fn stepped<'p>(
     declarations: &Declarations<'p>,
     place: &Place<'p>,
     step: &'p ForStep,
-) -> Result<TypedStatement, Stopped>
-    ensures { IfOk result (λ c. stepped (declared declarations.now) (step_tree step.now) (place_seen place.now) ≡ Some (command c, place_seen place.now)) }
+) -> Result<TypedStatement, ResolveError>
+    ensures { Answers (with_place command (place_seen place.now)) result (stepped (declared declarations.now) (step_tree step.now) (place_seen place.now)) }
 {
     match step {
         ForStep::Nothing => Ok(TypedStatement::Empty),
@@ -225,8 +224,8 @@ pub fn condition_of<'p>(
     declarations: &Declarations<'p>,
     place: &Place<'p>,
     e: &'p Option<Expression>,
-) -> Result<TypedExpression, Stopped>
-    ensures { IfOk result (λ t. condition_of (declared declarations.now) (optional e.now) (place_seen place.now) ≡ Some (typed_tree t, place_seen place.now)) }
+) -> Result<TypedExpression, ResolveError>
+    ensures { Answers (with_place typed_tree (place_seen place.now)) result (condition_of (declared declarations.now) (optional e.now) (place_seen place.now)) }
 {
     match e {
         None => Ok(TypedExpression::Truth(true)),
@@ -240,8 +239,8 @@ pub fn returned<'p>(
     declarations: &Declarations<'p>,
     place: &Place<'p>,
     e: &'p Option<Expression>,
-) -> Result<TypedStatement, Stopped>
-    ensures { IfOk result (λ c. returned (declared declarations.now) (optional e.now) (place_seen place.now) ≡ Some (command c, place_seen place.now)) }
+) -> Result<TypedStatement, ResolveError>
+    ensures { Answers (with_place command (place_seen place.now)) result (returned (declared declarations.now) (optional e.now) (place_seen place.now)) }
 {
     match e {
         None => Ok(TypedStatement::Return(None)),

@@ -1,18 +1,19 @@
 // Statements: a `for`, and each branch or body, is a block.
-ghost use Rattle.std.specs.Prelude.{◌≡◌, IfOk, Some, map};
+ghost use Rattle.std.specs.Prelude.{◌≡◌, IfOk, map};
 ghost use Rattle.secrec_ast.specs.Statements.{statement, statements_of, start_tree, step_tree, optional};
 ghost use Rattle.domain_types.specs.Views.{declared};
-ghost use Rattle.typed_tree.specs.Commands.{command, commands_of};
+ghost use Rattle.typed_tree.specs.Commands.{command};
 ghost use Rattle.typed_tree.specs.Resolving.{in_block};
 ghost use Rattle.typed_tree.specs.Bodies.{looped, resolved, resolved_all};
-ghost use Rattle.typed_tree.specs.Views.{place_seen};
+ghost use Rattle.typed_tree.specs.Answer.{Answers};
+ghost use Rattle.typed_tree.specs.Views.{place_seen, with_place, command_in, commands_seen};
 
 use crate::place::Place;
+use crate::resolve_error::ResolveError;
 use crate::simple_statements::{
     assigned, condition_of, declared, evaluated, expression, returned, started, stepped,
 };
 use crate::statement::TypedStatement;
-use crate::stopped::Stopped;
 use domain_types::Declarations;
 use secrec_ast::{Expression, ForStart, ForStep, Statement};
 use std::alloc::Global;
@@ -24,9 +25,8 @@ pub fn statements<'p>(
     declarations: &Declarations<'p>,
     place: &mut Place<'p>,
     list: &'p Vec<Statement>,
-) -> Result<Vec<TypedStatement>, Stopped>
-    ensures made { IfOk result (λ cs. resolved_all (declared declarations.now) (statements_of (map statement list.now.items)) (place_seen place.old)
-        ≡ Some (commands_of (map command cs.items), place_seen place.new)) }
+) -> Result<Vec<TypedStatement>, ResolveError>
+    ensures made { Answers (with_place commands_seen (place_seen place.new)) result (resolved_all (declared declarations.now) (statements_of (map statement list.now.items)) (place_seen place.old)) }
     ensures outer { IfOk result (λ _. (place_seen place.new).scope.outer ≡ (place_seen place.old).scope.outer) }
 {
     let mut made = Vec::new(alloc);
@@ -44,8 +44,8 @@ pub fn statement<'p>(
     declarations: &Declarations<'p>,
     place: &mut Place<'p>,
     s: &'p Statement,
-) -> Result<TypedStatement, Stopped>
-    ensures made { IfOk result (λ c. resolved (declared declarations.now) (statement s.now) (place_seen place.old) ≡ Some (command c, place_seen place.new)) }
+) -> Result<TypedStatement, ResolveError>
+    ensures made { Answers (with_place command (place_seen place.new)) result (resolved (declared declarations.now) (statement s.now) (place_seen place.old)) }
     ensures outer { IfOk result (λ _. (place_seen place.new).scope.outer ≡ (place_seen place.old).scope.outer) }
 {
     match s {
@@ -105,8 +105,8 @@ fn inside<'p>(
     declarations: &Declarations<'p>,
     place: &mut Place<'p>,
     s: &'p Statement,
-) -> Result<Box<TypedStatement>, Stopped>
-    ensures made { IfOk result (λ c. in_block (resolved (declared declarations.now) (statement s.now)) (place_seen place.old) ≡ Some (command c.value, place_seen place.new)) }
+) -> Result<Box<TypedStatement>, ResolveError>
+    ensures made { Answers (with_place command_in (place_seen place.new)) result (in_block (resolved (declared declarations.now) (statement s.now)) (place_seen place.old)) }
     ensures outer { IfOk result (λ _. (place_seen place.new).scope.outer ≡ (place_seen place.old).scope.outer) }
 {
     let outer = place.enter();
@@ -125,9 +125,8 @@ fn looped<'p>(
     e: &'p Option<Expression>,
     step: &'p ForStep,
     body: &'p Statement,
-) -> Result<TypedStatement, Stopped>
-    ensures made { IfOk result (λ c. looped (declared declarations.now) (start_tree start.now) (optional e.now) (step_tree step.now) (resolved (declared declarations.now) (statement body.now)) (place_seen place.old)
-        ≡ Some (command c, place_seen place.new)) }
+) -> Result<TypedStatement, ResolveError>
+    ensures made { Answers (with_place command (place_seen place.new)) result (looped (declared declarations.now) (start_tree start.now) (optional e.now) (step_tree step.now) (resolved (declared declarations.now) (statement body.now)) (place_seen place.old)) }
     ensures outer { IfOk result (λ _. (place_seen place.new).scope.outer ≡ (place_seen place.old).scope.outer) }
 {
     let start = started(alloc, declarations, place, start)?;

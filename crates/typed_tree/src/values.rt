@@ -1,5 +1,5 @@
 // Expressions that give values, and calls.
-ghost use Rattle.std.specs.Prelude.{◌≡◌, ◌∷◌, [], true, false, IfOk, Some, map, option_map};
+ghost use Rattle.std.specs.Prelude.{◌≡◌, true, false, IfOk, Some, map, option_map};
 ghost use Rattle.secrec_ast.specs.Tree.{expression, trees_of};
 ghost use Rattle.secrec_ast.specs.Programs.{function_tree};
 ghost use Rattle.domain_types.specs.Declarations.{defined, callee};
@@ -7,14 +7,15 @@ ghost use Rattle.domain_types.specs.Views.{declared};
 ghost use Rattle.typed_tree.specs.Tree.{typed_tree};
 ghost use Rattle.typed_tree.specs.Scopes.{variable_named, shape_written};
 ghost use Rattle.typed_tree.specs.Operators.{operands_of, may_cut_short};
-ghost use Rattle.typed_tree.specs.Values.{made, of_both, variable_value, element_value, negated, cast_value, declassified_value, operation_node, operation, shape_returned, tree_of_value, built_in_value, called, value, values, call_made};
-ghost use Rattle.typed_tree.specs.Views.{valued, call_seen};
+ghost use Rattle.typed_tree.specs.Values.{made, of_both, only, pair, variable_value, element_value, negated, cast_value, declassified_value, operation_node, operation, shape_returned, tree_of_value, built_in_value, called, value, values, call_made};
+ghost use Rattle.typed_tree.specs.Answer.{Answers};
+ghost use Rattle.typed_tree.specs.Views.{valued, values_seen, pair_seen, call_seen};
 
 use crate::choosing::{cast_between, may_cut_short, operands_of, operator_on};
 use crate::expression::TypedExpression;
 use crate::kinds::Shape;
 use crate::operators::BinaryOperator;
-use crate::stopped::Stopped;
+use crate::resolve_error::ResolveError;
 use crate::variables::Variables;
 use domain_types::{BuiltIn, Called, Declarations};
 use secrec_ast::{DataType, DeclaredType, Expression, Function, Operator, ResultType};
@@ -46,20 +47,25 @@ fn scalar(tree: TypedExpression, element: DataType) -> Valued
     }
 }
 
-fn variable<'p>(variables: &Variables<'p>, name: &'p str) -> Result<Valued, Stopped>
-    ensures { IfOk result (λ v. option_map variable_value (variable_named variables.now name.now) ≡ Some (valued v)) }
+fn variable<'p>(variables: &Variables<'p>, name: &'p str) -> Result<Valued, ResolveError>
+    ensures { Answers valued result (option_map variable_value (variable_named variables.now name.now)) }
 {
     match variables.find(name) {
         Some(known) => Ok(Valued {
             tree: TypedExpression::Variable(known.slot),
             shape: known.shape,
         }),
-        None => Err(Stopped::Unresolved),
+        None => Err(ResolveError::Unresolved),
     }
 }
 
-fn element(alloc: Global, line: u32, array: Valued, position: Valued) -> Result<Valued, Stopped>
-    ensures { IfOk result (λ v. element_value line (valued array) (valued position) ≡ Some (valued v)) }
+fn element(
+    alloc: Global,
+    line: u32,
+    array: Valued,
+    position: Valued,
+) -> Result<Valued, ResolveError>
+    ensures { Answers valued result (element_value line (valued array) (valued position)) }
 {
     let position = Box::new(alloc, position.tree)?;
     let element = array.shape.element;
@@ -67,16 +73,16 @@ fn element(alloc: Global, line: u32, array: Valued, position: Valued) -> Result<
     Ok(scalar(TypedExpression::Element(line, array, position), element))
 }
 
-fn negated(alloc: Global, operand: Valued) -> Result<Valued, Stopped>
-    ensures { IfOk result (λ v. valued v ≡ negated (valued operand)) }
+fn negated(alloc: Global, operand: Valued) -> Result<Valued, ResolveError>
+    ensures { Answers valued result (Some (negated (valued operand))) }
 {
     let shape = operand.shape;
     let tree = TypedExpression::Not(Box::new(alloc, operand.tree)?);
     Ok(Valued { tree, shape })
 }
 
-fn cast(alloc: Global, element: DataType, operand: Valued) -> Result<Valued, Stopped>
-    ensures { IfOk result (λ v. valued v ≡ cast_value element (valued operand)) }
+fn cast(alloc: Global, element: DataType, operand: Valued) -> Result<Valued, ResolveError>
+    ensures { Answers valued result (Some (cast_value element (valued operand))) }
 {
     let shape = operand.shape;
     let cast = cast_between(shape.element, element);
@@ -90,8 +96,8 @@ fn cast(alloc: Global, element: DataType, operand: Valued) -> Result<Valued, Sto
     })
 }
 
-fn declassified(alloc: Global, operand: Valued) -> Result<Valued, Stopped>
-    ensures { IfOk result (λ v. valued v ≡ declassified_value (valued operand)) }
+fn declassified(alloc: Global, operand: Valued) -> Result<Valued, ResolveError>
+    ensures { Answers valued result (Some (declassified_value (valued operand))) }
 {
     let shape = operand.shape;
     let tree = TypedExpression::Declassify(Box::new(alloc, operand.tree)?);
@@ -125,11 +131,11 @@ fn operation(
     sign: Operator,
     left: Valued,
     right: Valued,
-) -> Result<Valued, Stopped>
-    ensures { IfOk result (λ v. operation line sign (valued left) (valued right) ≡ Some (valued v)) }
+) -> Result<Valued, ResolveError>
+    ensures { Answers valued result (operation line sign (valued left) (valued right)) }
 {
     match operator_on(sign, left.shape.element, right.shape.element) {
-        None => Err(Stopped::Unresolved),
+        None => Err(ResolveError::Unresolved),
         Some(operator) => {
             let shape = Shape {
                 element: operator.result(),
@@ -161,23 +167,23 @@ fn shape_returned(returned: &ResultType) -> Option<Shape>
 }
 
 // The one value.
-fn only(values: Vec<Valued>) -> Result<Valued, Stopped>
-    ensures { IfOk result (λ v. values.items ≡ v ∷ []) }
+fn only(values: Vec<Valued>) -> Result<Valued, ResolveError>
+    ensures { Answers valued result (only (map valued values.items)) }
 {
     let mut values = values;
     match values.pop() {
         Some(value) => if values.is_empty() {
             Ok(value)
         } else {
-            Err(Stopped::Unresolved)
+            Err(ResolveError::Unresolved)
         },
-        None => Err(Stopped::Unresolved),
+        None => Err(ResolveError::Unresolved),
     }
 }
 
 // The two values.
-fn pair(values: Vec<Valued>) -> Result<(Valued, Valued), Stopped>
-    ensures { IfOk result (λ p. values.items ≡ p.0 ∷ p.1 ∷ []) }
+fn pair(values: Vec<Valued>) -> Result<(Valued, Valued), ResolveError>
+    ensures { Answers pair_seen result (pair (map valued values.items)) }
 {
     let mut values = values;
     match values.pop() {
@@ -185,7 +191,7 @@ fn pair(values: Vec<Valued>) -> Result<(Valued, Valued), Stopped>
             let first = only(values)?;
             Ok((first, second))
         }
-        None => Err(Stopped::Unresolved),
+        None => Err(ResolveError::Unresolved),
     }
 }
 
@@ -194,8 +200,8 @@ fn built_in(
     line: u32,
     function: BuiltIn,
     arguments: Vec<Valued>,
-) -> Result<Valued, Stopped>
-    ensures { IfOk result (λ v. built_in_value line function (map valued arguments.items) ≡ Some (valued v)) }
+) -> Result<Valued, ResolveError>
+    ensures { Answers valued result (built_in_value line function (map valued arguments.items)) }
 {
     match function {
         BuiltIn::Size => {
@@ -250,11 +256,11 @@ fn defined_call(
     number: usize,
     function: &Function,
     arguments: Vec<Valued>,
-) -> Result<CallMade, Stopped>
-    ensures { IfOk result (λ c. called line (defined number (function_tree function.now)) (map valued arguments.items) ≡ Some (call_seen c)) }
+) -> Result<CallMade, ResolveError>
+    ensures { Answers call_seen result (called line (defined number (function_tree function.now)) (map valued arguments.items)) }
 {
     if function.parameters.len() != arguments.len() {
-        return Err(Stopped::Unresolved);
+        return Err(ResolveError::Unresolved);
     }
     let trees = trees(alloc, arguments)?;
     Ok(CallMade {
@@ -269,11 +275,11 @@ fn called<'p>(
     line: u32,
     name: &'p str,
     arguments: Vec<Valued>,
-) -> Result<CallMade, Stopped>
-    ensures { IfOk result (λ c. of_both (called line) (callee (declared declarations.now) name.now) (Some (map valued arguments.items)) ≡ Some (call_seen c)) }
+) -> Result<CallMade, ResolveError>
+    ensures { Answers call_seen result (of_both (called line) (callee (declared declarations.now) name.now) (Some (map valued arguments.items))) }
 {
     match declarations.callee(name) {
-        None => Err(Stopped::Unresolved),
+        None => Err(ResolveError::Unresolved),
         Some(Called::BuiltIn(function)) => {
             let value = built_in(alloc, line, function, arguments)?;
             Ok(CallMade {
@@ -294,8 +300,8 @@ pub fn value<'p>(
     declarations: &Declarations<'p>,
     variables: &Variables<'p>,
     e: &'p Expression,
-) -> Result<Valued, Stopped>
-    ensures { IfOk result (λ v. value (declared declarations.now) variables.now (expression e.now) ≡ Some (valued v)) }
+) -> Result<Valued, ResolveError>
+    ensures { Answers valued result (value (declared declarations.now) variables.now (expression e.now)) }
 {
     match e {
         Expression::Number(_, word) => {
@@ -317,7 +323,7 @@ pub fn value<'p>(
                     tree: made.tree,
                     shape,
                 }),
-                None => Err(Stopped::Unresolved),
+                None => Err(ResolveError::Unresolved),
             }
         }
         Expression::Index(place, array, position) => {
@@ -343,7 +349,7 @@ pub fn value<'p>(
             let operand = value(alloc, declarations, variables, operand)?;
             declassified(alloc, operand)
         }
-        Expression::Argument(_, _) | Expression::Publish(_, _, _) => Err(Stopped::Unresolved),
+        Expression::Argument(_, _) | Expression::Publish(_, _, _) => Err(ResolveError::Unresolved),
     }
 }
 
@@ -354,8 +360,8 @@ fn values<'p>(
     declarations: &Declarations<'p>,
     variables: &Variables<'p>,
     list: &'p Vec<Expression>,
-) -> Result<Vec<Valued>, Stopped>
-    ensures { IfOk result (λ vs. values (declared declarations.now) variables.now (trees_of (map expression list.now.items)) ≡ Some (map valued vs.items)) }
+) -> Result<Vec<Valued>, ResolveError>
+    ensures { Answers values_seen result (values (declared declarations.now) variables.now (trees_of (map expression list.now.items))) }
 {
     let mut found = Vec::new(alloc);
     for each in list {
@@ -374,8 +380,8 @@ pub fn call<'p>(
     line: u32,
     name: &'p str,
     arguments: &'p Vec<Expression>,
-) -> Result<CallMade, Stopped>
-    ensures { IfOk result (λ c. call_made (declared declarations.now) variables.now line name.now (trees_of (map expression arguments.now.items)) ≡ Some (call_seen c)) }
+) -> Result<CallMade, ResolveError>
+    ensures { Answers call_seen result (call_made (declared declarations.now) variables.now line name.now (trees_of (map expression arguments.now.items))) }
 {
     let values = values(alloc, declarations, variables, arguments)?;
     called(alloc, declarations, line, name, values)

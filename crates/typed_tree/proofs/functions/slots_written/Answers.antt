@@ -5,6 +5,7 @@ use Rattle.domain_types.specs.Views.{declared}
 use Rattle.typed_tree.specs.Functions.{slots_written}
 use Rattle.typed_tree.specs.Views.{type_at}
 use Rattle.typed_tree.proofs.Growing.{slots_written_more}
+use Rattle.typed_tree.proofs.Missing.{slots_none}
 use Rattle.typed_tree.proofs.functions.slots_written.Goals as goal
 
 pub loop-each-preserved : goal.loop-each-preserved
@@ -19,3 +20,10 @@ loop-each-preserved c =
     ap (slots_written d vs) more
     ∙ slots_written_more d vs ts (type_at x) c.loop-each.slots.items c.in-Some.slot c.loop-each.invariant (sym c.slot_written.ensures ∙ c.in-Some.is)
     ∙ ap Some (sym c.in_ok-push-in-Some.ensures.items)
+
+pub returns-in-None : goal.returns-in-None
+returns-in-None c =
+    let d = declared c.args.declarations.now in
+    let vs = c.args.variables.now in
+    ap (λ l. slots_written d vs (map type_at l)) (sym c.deref-each-items.ensures.value)
+    ∙ slots_none d vs c.deref-each-items.result.now c.loop-each.each-index c.each-item.result c.loop-each-test.true c.each-item.is (sym c.slot_written.ensures ∙ c.in-None.is)

@@ -1,12 +1,13 @@
-use Rattle.std.proofs.Common.{◌+◌, [], ◌∷◌, ◌≡◌, ◌++◌, ap, ◌∙◌, sym, take, get_or, Some}
+use Rattle.std.proofs.Common.{◌+◌, [], ◌∷◌, ◌≡◌, ◌++◌, ap, ◌∙◌, sym, take, get_or, Some, None}
 use Rattle.std.specs.Prelude.{map}
 use Rattle.std.proofs.lemmas.List.{take_all, take_more, map-append}
 use Rattle.secrec_ast.specs.Statements.{statement, statements_of}
 use Rattle.domain_types.specs.Views.{declared}
 use Rattle.typed_tree.specs.Commands.{command, commands_of}
-use Rattle.typed_tree.specs.Bodies.{resolved_all}
-use Rattle.typed_tree.specs.Views.{place_seen}
+use Rattle.typed_tree.specs.Bodies.{resolved, resolved_all}
+use Rattle.typed_tree.specs.Views.{place_seen, with_place, commands_seen}
 use Rattle.typed_tree.proofs.Growing.{map_one}
+use Rattle.typed_tree.proofs.Missing.{passed_on, statements_none}
 use Rattle.typed_tree.proofs.Sequences.{resolved_all_more, place_made}
 use Rattle.typed_tree.proofs.statements.+statements.Goals as goal
 
@@ -25,6 +26,16 @@ statements-loop-each-preserved t c =
           ∙ ap (λ l. Some (place_made (commands_of l) (place_seen c.statement.new.place))) (sym (ap (map command) c.in_ok-push.ensures.items ∙ map_one command c.loop-each.made.items c.in_ok-next.next));
       outer = c.in_ok-next.ensures.outer ∙ c.loop-each.invariant.outer;
     }
+
+pub statements-returns-in_err-next-clause-made : goal.statements-returns-in_err-next-clause-made
+statements-returns-in_err-next-clause-made t c =
+    let xs = c.deref-each-items.result.now in
+    let x = c.each-item.result in
+    let d = declared c.args.declarations.now in
+    let s = place_seen c.args.place.now in
+    let r = place_seen c.loop-each.place in
+    let none : resolved d (statement x) r ≡ None → resolved_all d (statements_of (map statement c.args.list.now.items)) s ≡ None = λ e. ap (λ l. resolved_all d (statements_of (map statement l)) s) (sym c.deref-each-items.ensures.value) ∙ statements_none d xs c.loop-each.each-index x s r (commands_of (map command c.loop-each.made.items)) c.loop-each-test.true c.each-item.is c.loop-each.invariant.made e in
+    passed_on (with_place command (place_seen c.statement.new.place)) (with_place commands_seen (place_seen c.statement.new.place)) c.in_err-next.field-0.0 (resolved d (statement x) r) _ c.from_residual.result c.from_residual.ensures.1 none c.in_err-next.ensures.made
 
 pub statements-returns-clause-made : goal.statements-returns-clause-made
 statements-returns-clause-made t c =

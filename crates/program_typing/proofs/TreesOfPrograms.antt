@@ -20,12 +20,12 @@ use Rattle.typed_tree.specs.Programs.{TypedFunctionTree}
 use Rattle.typed_tree.specs.Order.{reached}
 use Rattle.typed_tree.specs.Values.{of_both}
 use Rattle.typed_tree.specs.Functions.{typed_function, and_functions, typed_functions, with_functions, program_of}
-use Rattle.typed_tree_laws.specs.Existence.{HasTree}
+use Rattle.program_typing.specs.Existence.{HasTree}
 use Rattle.typed_tree.proofs.SoundValues.{callee_there}
-use Rattle.typed_tree_laws.proofs.TreesOfStatements.{names_by_all}
-use Rattle.typed_tree_laws.proofs.TreesOfFunctions.{function_there}
-use Rattle.typed_tree_laws.proofs.CallsOfTyped.{block_called}
-use Rattle.typed_tree_laws.proofs.ReachedFunctions.{Each, each_at, each_known, text_is, text_same, no_built_in, reached_agree}
+use Rattle.program_typing.proofs.TreesOfStatements.{names_by_all}
+use Rattle.program_typing.proofs.TreesOfFunctions.{function_there}
+use Rattle.program_typing.proofs.CallsOfTyped.{block_called}
+use Rattle.program_typing.proofs.ReachedFunctions.{Each, each_at, each_known, text_is, text_same, no_built_in, reached_agree}
 
 -- THERE IS ONE `main`, AND IT'S NO TEMPLATE
 

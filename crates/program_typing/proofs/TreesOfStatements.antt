@@ -29,7 +29,7 @@ use Rattle.typed_tree.specs.Functions.{slot_written}
 use Rattle.typed_tree.specs.Resolving.{Resolving, carry, ◌>>=◌, done, reading, next_slot, declare, closed, in_block, tree_in, value_at, expression, known_at, named}
 use Rattle.typed_tree.specs.Bodies.{tree_in_call, calling, evaluated, default_of, from_value, initial, declared, assigned_to, assigned, started, stepped, condition_of, returned, looped, resolved, resolved_all}
 use Rattle.typed_tree.proofs.SoundValues.{mapped}
-use Rattle.typed_tree_laws.proofs.TreesOfValues.{SameVariable, Same, same_append, names_same, Agree, agree_left, agree_right, names_in, value_makes, call_makes}
+use Rattle.program_typing.proofs.TreesOfValues.{SameVariable, Same, same_append, names_same, Agree, agree_left, agree_right, names_in, value_makes, call_makes}
 
 -- THE NAMES THAT ARE CALLED, IN THE ORDER OF THE TEXT
 

@@ -28,8 +28,8 @@ use Rattle.domain_types.specs.Typing.{IsCall, HasType, HaveTypes, HasFitting, Is
 use Rattle.domain_types.proofs.TypingSteps.{followed, passes, among_left, among_right, among_parts}
 use Rattle.domain_types.proofs.TypingCalls.{defined_from}
 use Rattle.domain_types.proofs.TypingExpressions.{types_from}
-use Rattle.typed_tree_laws.proofs.TreesOfValues.{names_in, names_in_all}
-use Rattle.typed_tree_laws.proofs.TreesOfStatements.{names_in_optional, names_in_assignment, names_in_start, names_in_step, names_by, names_by_all}
+use Rattle.program_typing.proofs.TreesOfValues.{names_in, names_in_all}
+use Rattle.program_typing.proofs.TreesOfStatements.{names_in_optional, names_in_assignment, names_in_start, names_in_step, names_by, names_by_all}
 
 abbrev pub bound_call : ℕ → List Protection → Call
 bound_call n ds = record { function = n; binding = Some ds }

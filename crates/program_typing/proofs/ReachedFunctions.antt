@@ -21,8 +21,8 @@ use Rattle.domain_types.proofs.Names.{bytes_eq-swap}
 use Rattle.typed_tree.specs.Order.{function_name, is_found, with_callee, called_in, called_in_all, called_in_optional, called_in_declaration, called_in_assignment, called_in_start, called_in_step, called_by, called_by_all, read_one, known_after, reached}
 use Rattle.typed_tree.specs.Functions.{with_functions}
 use Rattle.typed_tree.proofs.SoundValues.{some_is, callee_there}
-use Rattle.typed_tree_laws.proofs.TreesOfValues.{Agrees, Agree, names_in, names_in_all}
-use Rattle.typed_tree_laws.proofs.TreesOfStatements.{names_in_optional, names_in_declaration, names_in_assignment, names_in_start, names_in_step, names_by, names_by_all}
+use Rattle.program_typing.proofs.TreesOfValues.{Agrees, Agree, names_in, names_in_all}
+use Rattle.program_typing.proofs.TreesOfStatements.{names_in_optional, names_in_declaration, names_in_assignment, names_in_start, names_in_step, names_by, names_by_all}
 
 -- CALLEES BY THEIR NAMES, ONE AFTER ANOTHER
 

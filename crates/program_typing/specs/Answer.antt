@@ -1,0 +1,17 @@
+-- What `type_program` answers.
+use Rattle.std.specs.Prelude.{◌≡◌, Some, Result, Ok, Err}
+use Rattle.secrec_ast.specs.Programs.{ProgramTree}
+use Rattle.domain_types.specs.declared.type_error.TypeError.{TypeError}
+use Rattle.domain_types.specs.declared.type_error.TypeError.TheVariants.{Refused, Memory}
+use Rattle.domain_types.specs.ProgramTypes.{IsRefused}
+use Rattle.domain_types.specs.Typing.{IsTypedProgram}
+use Rattle.typed_tree.specs.declared.function.TypedProgram.{TypedProgram}
+use Rattle.typed_tree.specs.Programs.{typed_program_tree}
+use Rattle.typed_tree.specs.Functions.{typed_of}
+use Rattle.typed_tree.specs.Sound.{IsSound}
+
+-- the typed tree of a program that is typed, which names only what is there; else the first fault
+abbrev pub IsTypedAnswer : Result TypedProgram TypeError → ProgramTree → Type 0
+IsTypedAnswer (Ok t) p = IsTypedProgram p × (typed_of p ≡ Some (typed_program_tree t)) × IsSound (typed_program_tree t)
+IsTypedAnswer (Err (Refused f)) p = IsRefused p f
+IsTypedAnswer (Err Memory) p = Unit {0}
