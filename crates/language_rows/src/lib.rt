@@ -1,4 +1,4 @@
-//! Rows of the language: texts, with the tokens, trees, types and refusals that the rules give, worked out by hand.
+//! Rows of the language: texts, with the tokens, trees, types, instances and refusals that the rules give, worked out by hand.
 //!
 //! They stand in a crate of their own, since they cross the lexer, the parsers and the checker, whose functions needn't be proved
 //! again for them.
@@ -8,6 +8,8 @@
 mod expressions;
 #[cfg(test)]
 mod instances;
+#[cfg(test)]
+mod reached;
 #[cfg(test)]
 mod statements;
 #[cfg(test)]

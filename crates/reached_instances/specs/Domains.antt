@@ -1,0 +1,88 @@
+-- Who may see what an expression gives, where the domain variables of its function are bound.
+use Rattle.std.specs.Prelude.{ℕ, zero, suc, Bool, false, nat_eq, if◌then◌else◌, List, [], ◌∷◌, ◌++◌, Option, Some, None, unwrap_or}
+use Rattle.std.specs.List.{slice_get}
+use Rattle.typed_tree.specs.declared.kinds.SlotDomain.{SlotDomain}
+use Rattle.typed_tree.specs.declared.kinds.SlotDomain.TheVariants as slot
+use Rattle.typed_tree.specs.declared.kinds.Slot.{Slot}
+use Rattle.typed_tree.specs.declared.function.Given.{Given}
+use Rattle.typed_tree.specs.declared.function.Given.TheVariants.{Nothing, Value}
+use Rattle.typed_tree.specs.Tree.{TypedTree, TypedTrees, word_node, truth_node, slot_node, call_node, size_node, cat_node, sum_node, bits_node, element_node, not_node, cast_node, binary_node, cut_node, declassify_node}
+use Rattle.typed_tree.specs.Tree as Tree'
+use Rattle.typed_tree.specs.Programs.{TypedFunctionTree}
+use Rattle.reached_instances.specs.declared.instance.BoundDomain.{BoundDomain}
+use Rattle.reached_instances.specs.declared.instance.BoundDomain.TheVariants.{Public, Private}
+
+-- the domain that is written at a slot or a result, under a binding
+abbrev pub domain_under : List BoundDomain → SlotDomain → BoundDomain
+domain_under b slot.Public = Public
+domain_under b (slot.Private k) = Private k
+domain_under b (slot.Variable v) = unwrap_or (slice_get b v) Public
+
+-- of two together: private where one of them is. Where the checker accepts, two private ones are the same
+abbrev pub joined : BoundDomain → BoundDomain → BoundDomain
+joined Public d = d
+joined (Private k) d = Private k
+
+-- WHAT A CALL BINDS
+
+abbrev pub is_variable : ℕ → SlotDomain → Bool
+is_variable v slot.Public = false
+is_variable v (slot.Private k) = false
+is_variable v (slot.Variable u) = nat_eq u v
+
+-- to what a domain variable is bound: the arguments at the parameters that name it, together. The parameters are the first slots
+abbrev pub bound_to : ℕ → List Slot → List BoundDomain → BoundDomain
+bound_to v [] ds = Public
+bound_to v (s ∷ ss) [] = Public
+bound_to v (s ∷ ss) (d ∷ ds) = if is_variable v s.domain then joined d (bound_to v ss ds) else bound_to v ss ds
+
+-- the domain variables below n
+abbrev pub bound_below : ℕ → List Slot → List BoundDomain → List BoundDomain
+bound_below zero ss ds = []
+bound_below (suc n) ss ds = bound_below n ss ds ++ bound_to n ss ds ∷ []
+
+-- where a function is called with arguments of these domains
+abbrev pub binding_of : TypedFunctionTree → List BoundDomain → List BoundDomain
+binding_of f ds = bound_below f.variables f.slots ds
+
+-- EXPRESSIONS
+
+-- where an expression stands: in a function of these that has these slots, whose domain variables are so bound
+pub record Setting : Type 0 where
+  pub functions : List TypedFunctionTree
+  pub slots : List Slot
+  pub binding : List BoundDomain
+
+abbrev pub slot_domain : List BoundDomain → Option Slot → BoundDomain
+slot_domain b None = Public
+slot_domain b (Some s) = domain_under b s.domain
+
+abbrev pub given_domain : List BoundDomain → Given → BoundDomain
+given_domain b Nothing = Public
+given_domain b (Value s) = domain_under b s.domain
+
+-- what a called function gives back
+abbrev pub call_domain : Option TypedFunctionTree → List BoundDomain → BoundDomain
+call_domain None ds = Public
+call_domain (Some f) ds = given_domain (binding_of f ds) f.given
+
+abbrev mutual
+  pub domain : Setting → TypedTree → BoundDomain
+  domain w (word_node n) = Public
+  domain w (truth_node b) = Public
+  domain w (slot_node k) = slot_domain w.binding (slice_get w.slots k)
+  domain w (call_node line k es) = call_domain (slice_get w.functions k) (domains w es)
+  domain w (size_node e) = Public
+  domain w (cat_node line a b) = joined (domain w a) (domain w b)
+  domain w (sum_node e) = domain w e
+  domain w (bits_node line e) = domain w e
+  domain w (element_node line a i) = domain w a
+  domain w (not_node e) = domain w e
+  domain w (cast_node c e) = domain w e
+  domain w (binary_node line op ds a b) = joined (domain w a) (domain w b)
+  domain w (cut_node c a b) = joined (domain w a) (domain w b)
+  domain w (declassify_node e) = Public
+
+  pub domains : Setting → TypedTrees → List BoundDomain
+  domains w Tree'.none = []
+  domains w (Tree'.also e es) = domain w e ∷ domains w es

@@ -1,0 +1,15 @@
+/// Who may see a value, once the domain variables of its function are bound.
+#[derive(Clone, Copy, Debug, PartialEq, Eq, Hash)]
+pub enum BoundDomain {
+    /// Everybody.
+    Public,
+    /// Only what the private domain of this number protects, counted from 0 in the order in which the program declares them.
+    Private(usize),
+}
+
+/// A function of a typed program, by its number, with what each of its domain variables is bound to; a plain function has none.
+#[derive(Debug, PartialEq, Eq, Hash, Drop)]
+pub struct Instance {
+    pub function: usize,
+    pub binding: Vec<BoundDomain>,
+}
