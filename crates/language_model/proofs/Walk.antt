@@ -1,0 +1,375 @@
+-- A relation between two runs that each step of a run keeps, and that passes on from step to step, holds of whole programs.
+use Rattle.std.proofs.Common.{◌≡◌, ℕ, zero, suc, ◌+◌, ◌-◌, List, [], ◌∷◌, Option, Some, None, Bool, true, false, subst}
+use Rattle.std.specs.Prelude.{length, map, sum}
+use Rattle.std.specs.List.{slice_get, flat_map}
+use Rattle.sc_text.specs.declared.end.Ending.{Ending}
+use Rattle.sc_text.specs.declared.end.TrapKind.{TrapKind}
+use Rattle.sc_text.specs.declared.end.TrapKind.TheVariants as trap
+use Rattle.sc_text.specs.declared.event.Event.{Event}
+use Rattle.sc_text.specs.declared.event.Event.TheVariants as event
+use Rattle.gates.specs.declared.gate.Gate.{Gate}
+use Rattle.gates.specs.declared.gate.Gate.TheVariants.{Const, Sub, And, Xor, Spread}
+use Rattle.gates.specs.Clear.{bits_of}
+use Rattle.equality.specs.Plan.{eq_plan}
+use Rattle.bit_extract.specs.Plan.{bits_plan}
+use Rattle.compare.specs.Plan.{less_plan}
+use Rattle.secrec_ast.specs.declared.expression.DataType.TheVariants as datatype
+use Rattle.typed_tree.specs.declared.kinds.Shape.{Shape}
+use Rattle.typed_tree.specs.declared.kinds.Slot.{Slot}
+use Rattle.typed_tree.specs.declared.operators.WordOperator.{WordOperator}
+use Rattle.typed_tree.specs.declared.operators.WordOperator.TheVariants as word
+use Rattle.typed_tree.specs.declared.operators.BoolOperator.{BoolOperator}
+use Rattle.typed_tree.specs.declared.operators.BoolOperator.TheVariants as truth
+use Rattle.typed_tree.specs.declared.operators.BinaryOperator.{BinaryOperator}
+use Rattle.typed_tree.specs.declared.operators.BinaryOperator.TheVariants as binary
+use Rattle.typed_tree.specs.declared.operators.Operands.{Operands}
+use Rattle.typed_tree.specs.declared.operators.Operands.TheVariants.{Scalars}
+use Rattle.typed_tree.specs.declared.operators.Cast.{Cast}
+use Rattle.typed_tree.specs.declared.operators.Cast.TheVariants.{WordToWord, WordToBool, BoolToWord, BoolToBool}
+use Rattle.typed_tree.specs.declared.operators.Connective.{Connective}
+use Rattle.typed_tree.specs.Tree.{TypedTree, TypedTrees, word_node, truth_node, slot_node, call_node, size_node, cat_node, sum_node, bits_node, element_node, not_node, cast_node, binary_node, cut_node, declassify_node}
+use Rattle.typed_tree.specs.Tree as Tree'
+use Rattle.typed_tree.specs.Commands.{Command, Commands, empty_command, block_command, if_command, loop_command, do_command, break_command, continue_command, return_command, assert_command, store_command, default_command, fill_command, input_command, element_command, publish_command, evaluate_command}
+use Rattle.typed_tree.specs.Commands as Commands'
+use Rattle.typed_tree.specs.Programs.{TypedFunctionTree, TypedProgramTree}
+use Rattle.reached_instances.specs.declared.instance.BoundDomain.{BoundDomain}
+use Rattle.reached_instances.specs.Domains.{Setting, domains}
+use Rattle.language_model.specs.Effects.{Words, World, Given, Source, Clear, Answers, Effect, ◌>>=◌, done, end, charge, test, draw, gate, next_number, put_gates, planned, emit, next_answers, answer, show}
+use Rattle.language_model.specs.Values.{Secrecy, Plain, Private, Value, shape_of, plain, hidden, size, seen, default_words, elements_of}
+use Rattle.language_model.specs.Words.{flipped, result_size, result_words, are_alike, may_divide}
+use Rattle.language_model.specs.Operations.{charged, is_classified, words_of_operator, is_scalar_left, is_scalar_right, result_shape, made_private, read_answer, words_for_bits, number_from, number_of, classified_from, wanted, revealed, opened_from, declassified, stretched, flip, equal_gates, less_gates, word_gates, bool_gates, operator_gates, private_result, product_with, combined_from, operator_traps, operated, operation, negated_from, negated, cast_gates, changed, cast_from, cast_to, size_told, summed_from, summed, bits_from, bits_extracted, joined_from, joined, element_from, element_of_array, with_element_from, with_element, filled_from, filled, handed_over, published, tested, asserted}
+use Rattle.language_model.specs.Evaluation.{Frame, put, Calls, gives_private, slot_is_private, slots_of, bound_at, next_is_private, behind_next, connective, decides, truth_value, slot_shape, entered, result_of, place_in, array_elements, given_value, asked_for, input_from, input_named, either, cut_short, not_cut_short, value, arguments, Flow, goes, returns, stops, skips, then_do, turns, repeats, Place, stored, execute, execute_all, body_of, call_at, deepest}
+
+-- the steps, under two worlds with the same inputs and answers
+pub record IsLaw (w w' : World) (P : (A : Type 0) → Effect A → Effect A → Type 0) : Type 1 where
+  pub source : w.source ≡ w'.source
+  pub inputs : w.inputs ≡ w'.inputs
+  pub bind : {A B : Type 0} {m m' : Effect A} {f f' : A → Effect B} → P _ m m' → ((a : A) → P _ (f a) (f' a)) → P _ (m >>= f) (m' >>= f')
+  pub on_done : {A : Type 0} (a : A) → P _ (done a) (done a)
+  pub on_end : {A : Type 0} (e : Ending) → P _ (end {A = A} e) (end {A = A} e)
+  pub on_charge : (n : ℕ) → P _ (charge n) (charge n)
+  pub on_test : (b : Bool) (kind : TrapKind) (line : ℕ) → P _ (test b kind line) (test b kind line)
+  pub on_draw : (n : Words) → P _ (draw w n) (draw w' n)
+  pub on_gate : (g : Gate) → P _ (gate g) (gate g)
+  pub on_number : P _ next_number next_number
+  pub on_gates : (gs : List Gate) → P _ (put_gates gs) (put_gates gs)
+  pub on_emit : (e : Event) → P _ (emit e) (emit e)
+  pub on_answers : (n : ℕ) → P _ (next_answers n) (next_answers n)
+  pub on_show : (words : List ℕ) → P _ (show words) (show words)
+  pub on_turns : {condition condition' : Frame → Effect Value} {step step' body body' : Frame → Effect Flow} → ((fr : Frame) → P _ (condition fr) (condition' fr)) → ((fr : Frame) → P _ (step fr) (step' fr)) → ((fr : Frame) → P _ (body fr) (body' fr)) → (fr : Frame) → P _ (λ s. turns (s.left + 1) condition step body fr s) (λ s. turns (s.left + 1) condition' step' body' fr s)
+  pub on_repeats : {condition condition' : Frame → Effect Value} {body body' : Frame → Effect Flow} → ((fr : Frame) → P _ (condition fr) (condition' fr)) → ((fr : Frame) → P _ (body fr) (body' fr)) → (fr : Frame) → P _ (λ s. repeats (s.left + 1) condition body fr s) (λ s. repeats (s.left + 1) condition' body' fr s)
+
+-- a program's run
+abbrev pub main_of : World → TypedProgramTree → Effect Value
+main_of w p = body_of w (call_at w p.functions (deepest - 1)) p.functions (slice_get p.functions 0) [] []
+
+module _ (w w' : World) (P : (A : Type 0) → Effect A → Effect A → Type 0) (law : IsLaw w w' P) where
+  -- ---- OPERATIONS
+
+  charged_holds : (t : Effect (Unit {0})) (n : ℕ) → P _ t t → P _ (charged t n) (charged t n)
+  charged_holds t n h = law.bind (law.on_charge 1) (λ _. law.bind h (λ _. law.on_charge (n - 1)))
+
+  untrapped_holds : (n : ℕ) → P _ (charged (done tt) n) (charged (done tt) n)
+  untrapped_holds n = charged_holds (done tt) n (law.on_done tt)
+
+  number_from_holds : (x : Secrecy) (words : List ℕ) → P _ (number_from x words) (number_from x words)
+  number_from_holds (Private (Some k)) words = law.on_done k
+  number_from_holds (Private None) words = law.on_gate (Const words)
+  number_from_holds Plain words = law.on_gate (Const words)
+
+  number_holds : (v : Value) → P _ (number_of v) (number_of v)
+  number_holds v = number_from_holds v.secrecy v.words
+
+  made_holds : (shape : Shape) (words : List ℕ) (k : ℕ) → P _ (made_private shape words k) (made_private shape words k)
+  made_holds shape words k = law.on_done (hidden shape k words)
+
+  classified_holds : (x : Secrecy) (v : Value) → P _ (classified_from x v) (classified_from x v)
+  classified_holds (Private k) v = law.on_done v
+  classified_holds Plain v = law.bind (untrapped_holds (size v)) (λ _. law.bind (law.on_gate (Const v.words)) (λ k. law.on_done _))
+
+  wanted_holds : (secret : Bool) (v : Value) → P _ (wanted secret v) (wanted secret v)
+  wanted_holds true v = classified_holds v.secrecy v
+  wanted_holds false v = law.on_done v
+
+  answer_holds : (o : Source) (words : List ℕ) → P _ (answer o words) (answer o words)
+  answer_holds Clear words = law.on_done words
+  answer_holds Answers words = law.on_answers (length words)
+
+  revealed_holds : (v : Value) → P _ (revealed w v) (revealed w' v)
+  revealed_holds v =
+      law.bind (subst (λ o. P _ (answer w.source v.words) (answer o v.words)) law.source (answer_holds w.source v.words)) (λ words.
+      law.bind (law.on_show (read_answer v.shape.element words)) (λ _. law.bind (law.on_emit (event.Open (elements_of (plain v.shape (read_answer v.shape.element words))))) (λ _. law.on_done (plain v.shape (read_answer v.shape.element words)))))
+
+  opened_holds : (x : Secrecy) (v : Value) → P _ (opened_from w x v) (opened_from w' x v)
+  opened_holds Plain v = law.on_done v
+  opened_holds (Private k) v = law.bind (law.on_draw _) (λ _. law.bind (number_holds v) (λ u. law.bind (law.on_gate _) (λ _. revealed_holds v)))
+
+  declassified_holds : (v : Value) → P _ (declassified w v) (declassified w' v)
+  declassified_holds v = law.bind (untrapped_holds (size v)) (λ _. opened_holds v.secrecy v)
+
+  stretched_holds : (scalar : Bool) (n u : ℕ) → P _ (stretched scalar n u) (stretched scalar n u)
+  stretched_holds true n u = law.on_gate _
+  stretched_holds false n u = law.on_done u
+
+  flip_holds : (n u : ℕ) → P _ (flip n u) (flip n u)
+  flip_holds n u = law.bind (law.on_gate _) (λ ones. law.on_gate _)
+
+  planned_holds : (plan : ℕ → List Gate) → P _ (planned plan) (planned plan)
+  planned_holds plan = law.bind law.on_number (λ first. law.on_gates (plan first))
+
+  equal_holds : (u v : ℕ) → P _ (equal_gates u v) (equal_gates u v)
+  equal_holds u v = law.bind (law.on_gate (Sub u v)) (λ d. planned_holds (λ first. eq_plan first d))
+
+  less_holds : (n u v : ℕ) → P _ (less_gates n u v) (less_gates n u v)
+  less_holds n u v = planned_holds (λ first. less_plan first u v n)
+
+  word_gates_hold : (op : WordOperator) (n u v : ℕ) → P _ (word_gates op n u v) (word_gates op n u v)
+  word_gates_hold word.Add n u v = law.on_gate _
+  word_gates_hold word.Subtract n u v = law.on_gate _
+  word_gates_hold word.Multiply n u v = law.on_gate _
+  word_gates_hold word.Equal n u v = equal_holds u v
+  word_gates_hold word.NotEqual n u v = law.bind (equal_holds u v) (flip_holds n)
+  word_gates_hold word.Less n u v = less_holds n u v
+  word_gates_hold word.Greater n u v = less_holds n v u
+  word_gates_hold word.GreaterOrEqual n u v = law.bind (less_holds n u v) (flip_holds n)
+  word_gates_hold word.LessOrEqual n u v = law.bind (less_holds n v u) (flip_holds n)
+  word_gates_hold op n u v = law.on_number
+
+  bool_gates_hold : (op : BoolOperator) (n u v : ℕ) → P _ (bool_gates op n u v) (bool_gates op n u v)
+  bool_gates_hold truth.Xor n u v = law.on_gate _
+  bool_gates_hold truth.And n u v = law.on_gate _
+  bool_gates_hold truth.Or n u v = law.bind (law.on_gate (And u v)) (λ both. law.bind (law.on_gate (Xor u v)) (λ one. law.on_gate (Xor one both)))
+  bool_gates_hold truth.NotEqual n u v = law.on_gate _
+  bool_gates_hold truth.Equal n u v = law.bind (law.on_gate _) (flip_holds n)
+
+  operator_gates_hold : (op : BinaryOperator) (n u v : ℕ) → P _ (operator_gates op n u v) (operator_gates op n u v)
+  operator_gates_hold (binary.Words op) n u v = word_gates_hold op n u v
+  operator_gates_hold (binary.Bools op) n u v = bool_gates_hold op n u v
+
+  private_result_holds : (op : BinaryOperator) (ds : Operands) (x y : Value) → P _ (private_result w op ds x y) (private_result w' op ds x y)
+  private_result_holds op ds x y =
+      let n = result_size ds x y in
+      law.bind (law.on_draw (words_of_operator op n)) (λ _. law.bind (number_holds x) (λ j. law.bind (number_holds y) (λ k.
+      law.bind (stretched_holds (is_scalar_left ds) n j) (λ u. law.bind (stretched_holds (is_scalar_right ds) n k) (λ v.
+      law.bind (operator_gates_hold op n u v) (λ r. made_holds (result_shape op ds) (result_words op ds x y) r))))))
+
+  product_holds : (op : BinaryOperator) (ds : Operands) (scalar : Bool) (x : Value) (known words : List ℕ) → P _ (product_with op ds scalar x known words) (product_with op ds scalar x known words)
+  product_holds op ds scalar x known words = law.bind (number_holds x) (λ j. law.bind (stretched_holds scalar _ j) (λ u. law.bind (law.on_gate _) (λ r. law.on_done _)))
+
+  combined_holds : (a b : Secrecy) (op : BinaryOperator) (ds : Operands) (x y : Value) → P _ (combined_from a b w op ds x y) (combined_from a b w' op ds x y)
+  combined_holds Plain Plain op ds x y = law.on_done _
+  combined_holds (Private j) (Private k) op ds x y = private_result_holds op ds x y
+  combined_holds (Private j) Plain op ds x y = product_holds op ds _ x _ _
+  combined_holds Plain (Private k) op ds x y = product_holds op ds _ y _ _
+
+  operated_holds : (line : ℕ) (op : BinaryOperator) (ds : Operands) (x y : Value) → P _ (operated w line op ds x y) (operated w' line op ds x y)
+  operated_holds line op ds x y =
+      law.bind (charged_holds (operator_traps line op ds x y) (result_size ds x y) (law.bind (law.on_test (are_alike ds x y) trap.Length line) (λ _. law.on_test (may_divide op (seen y)) trap.Div line))) (λ _. combined_holds x.secrecy y.secrecy op ds x y)
+
+  operation_holds : (line : ℕ) (op : BinaryOperator) (ds : Operands) (x y : Value) → P _ (operation w line op ds x y) (operation w' line op ds x y)
+  operation_holds line op ds x y = law.bind (wanted_holds (is_classified op x y) x) (λ a. law.bind (wanted_holds (is_classified op y x) y) (λ b. operated_holds line op ds a b))
+
+  negated_from_holds : (x : Secrecy) (v : Value) → P _ (negated_from x v) (negated_from x v)
+  negated_from_holds Plain v = law.on_done _
+  negated_from_holds (Private k) v = law.bind (number_holds v) (λ u. law.bind (flip_holds (size v) u) (λ r. made_holds v.shape (map flipped v.words) r))
+
+  negated_holds : (v : Value) → P _ (negated v) (negated v)
+  negated_holds v = law.bind (untrapped_holds (size v)) (λ _. negated_from_holds v.secrecy v)
+
+  cast_gates_hold : (c : Cast) (n u : ℕ) → P _ (cast_gates c n u) (cast_gates c n u)
+  cast_gates_hold WordToBool n u = law.bind (planned_holds (λ first. eq_plan first u)) (flip_holds n)
+  cast_gates_hold BoolToWord n u = law.on_gate _
+  cast_gates_hold WordToWord n u = law.on_done u
+  cast_gates_hold BoolToBool n u = law.on_done u
+
+  changed_holds : (c : Cast) (v : Value) → P _ (changed w c v) (changed w' c v)
+  changed_holds c v = law.bind (law.on_draw _) (λ _. law.bind (number_holds v) (λ u. law.bind (cast_gates_hold c _ u) (λ r. law.on_done _)))
+
+  cast_from_holds : (x : Secrecy) (c : Cast) (v : Value) → P _ (cast_from w x c v) (cast_from w' x c v)
+  cast_from_holds x WordToWord v = law.on_done v
+  cast_from_holds x BoolToBool v = law.on_done v
+  cast_from_holds Plain WordToBool v = law.on_done _
+  cast_from_holds Plain BoolToWord v = law.on_done _
+  cast_from_holds (Private k) WordToBool v = changed_holds WordToBool v
+  cast_from_holds (Private k) BoolToWord v = changed_holds BoolToWord v
+
+  cast_holds : (c : Cast) (v : Value) → P _ (cast_to w c v) (cast_to w' c v)
+  cast_holds c v = law.bind (untrapped_holds (size v)) (λ _. cast_from_holds v.secrecy c v)
+
+  size_holds : (v : Value) → P _ (size_told v) (size_told v)
+  size_holds v = law.bind (law.on_charge 1) (λ _. law.on_done _)
+
+  summed_from_holds : (x : Secrecy) (v : Value) → P _ (summed_from x v) (summed_from x v)
+  summed_from_holds Plain v = law.on_done _
+  summed_from_holds (Private k) v = law.bind (number_holds v) (λ u. law.bind (law.on_gate _) (λ r. law.on_done _))
+
+  summed_holds : (v : Value) → P _ (summed v) (summed v)
+  summed_holds v = law.bind (law.on_charge 1) (λ _. summed_from_holds v.secrecy v)
+
+  bits_from_holds : (x : Secrecy) (v : Value) → P _ (bits_from w x v) (bits_from w' x v)
+  bits_from_holds Plain v = law.on_done _
+  bits_from_holds (Private k) v =
+      law.bind (law.on_draw (words_for_bits (size v))) (λ _. law.bind (number_holds v) (λ u. law.bind (planned_holds (λ first. bits_plan first u (size v))) (λ b. law.bind (law.on_gate (Spread b)) (λ r. made_holds (shape_of datatype.Bool true) (flat_map bits_of v.words) r))))
+
+  bits_holds : (line : ℕ) (v : Value) → P _ (bits_extracted w line v) (bits_extracted w' line v)
+  bits_holds line v = law.bind (charged_holds _ _ (law.on_test _ _ _)) (λ _. bits_from_holds v.secrecy v)
+
+  catenated_holds : (x y : Value) → P _ (joined_from (Private None) Plain x y) (joined_from (Private None) Plain x y)
+  catenated_holds x y = law.bind (number_holds x) (λ u. law.bind (number_holds y) (λ v. law.bind (law.on_gate _) (λ r. law.on_done _)))
+
+  joined_from_holds : (a b : Secrecy) (x y : Value) → P _ (joined_from a b x y) (joined_from a b x y)
+  joined_from_holds Plain Plain x y = law.on_done _
+  joined_from_holds Plain (Private k) x y = catenated_holds x y
+  joined_from_holds (Private j) Plain x y = catenated_holds x y
+  joined_from_holds (Private j) (Private k) x y = catenated_holds x y
+
+  joined_holds : (line : ℕ) (x y : Value) → P _ (joined line x y) (joined line x y)
+  joined_holds line x y = law.bind (charged_holds _ _ (law.on_test _ _ _)) (λ _. joined_from_holds x.secrecy y.secrecy x y)
+
+  element_from_holds : (x : Secrecy) (v : Value) (i : ℕ) → P _ (element_from x v i) (element_from x v i)
+  element_from_holds Plain v i = law.on_done _
+  element_from_holds (Private k) v i = law.bind (number_holds v) (λ u. law.bind (law.on_gate _) (λ r. law.on_done _))
+
+  element_holds : (line : ℕ) (v i : Value) → P _ (element_of_array line v i) (element_of_array line v i)
+  element_holds line v i = law.bind (law.on_charge 1) (λ _. law.bind (law.on_test _ _ _) (λ _. element_from_holds v.secrecy v _))
+
+  with_element_from_holds : (a : Secrecy) (v : Value) (i : ℕ) (x : Value) → P _ (with_element_from a v i x) (with_element_from a v i x)
+  with_element_from_holds Plain v i x = law.on_done _
+  with_element_from_holds (Private k) v i x = law.bind (number_holds v) (λ u. law.bind (number_holds x) (λ e. law.bind (law.on_gate _) (λ r. law.on_done _)))
+
+  with_element_holds : (line : ℕ) (v i x : Value) → P _ (with_element line v i x) (with_element line v i x)
+  with_element_holds line v i x = law.bind (law.on_charge 1) (λ _. law.bind (law.on_test _ _ _) (λ _. with_element_from_holds v.secrecy v _ x))
+
+  filled_from_holds : (a : Secrecy) (n : ℕ) (x : Value) → P _ (filled_from a n x) (filled_from a n x)
+  filled_from_holds Plain n x = law.on_done _
+  filled_from_holds (Private k) n x = law.bind (number_holds x) (λ u. law.bind (law.on_gate _) (λ r. law.on_done _))
+
+  filled_holds : (line : ℕ) (n x : Value) → P _ (filled line n x) (filled line n x)
+  filled_holds line n x = law.bind (charged_holds _ _ (law.on_test _ _ _)) (λ _. filled_from_holds x.secrecy _ x)
+
+  handed_holds : (x : Secrecy) (v : Value) → P _ (handed_over w x v) (handed_over w' x v)
+  handed_holds Plain v = law.on_done tt
+  handed_holds (Private k) v = law.bind (law.on_draw _) (λ _. law.bind (number_holds v) (λ u. law.bind (law.on_gate _) (λ _. law.on_done tt)))
+
+  published_holds : (text : List ℕ) (v : Value) → P _ (published w text v) (published w' text v)
+  published_holds text v = law.bind (untrapped_holds (size v)) (λ _. law.bind (handed_holds v.secrecy v) (λ _. law.on_emit _))
+
+  tested_holds : (v : Value) → P _ (tested v) (tested v)
+  tested_holds v = law.bind (law.on_charge 1) (λ _. law.on_done _)
+
+  asserted_holds : (line : ℕ) (v : Value) → P _ (asserted line v) (asserted line v)
+  asserted_holds line v = law.bind (law.on_charge 1) (λ _. law.on_test _ _ _)
+
+  -- ---- INPUTS
+
+  given_holds : (secret : Bool) (x : Given) (k : ℕ) → P _ (given_value secret x k) (given_value secret x k)
+  given_holds false x k = law.on_done _
+  given_holds true x k = law.bind (law.on_gate _) (λ r. law.on_done _)
+
+  asked_holds : (secret : Bool) (shape : Shape) (line : ℕ) (o : Option (Given × ℕ)) → P _ (asked_for secret shape line o) (asked_for secret shape line o)
+  asked_holds secret shape line None = law.bind (law.on_charge 1) (λ _. law.on_end _)
+  asked_holds secret shape line (Some x) = law.bind (charged_holds _ _ (law.on_test _ _ _)) (λ _. given_holds secret x.0 x.1)
+
+  input_holds : (secret : Bool) (shape : Shape) (line : ℕ) (text : List ℕ) → P _ (asked_for secret shape line (input_named w text)) (asked_for secret shape line (input_named w' text))
+  input_holds secret shape line text =
+      subst (λ xs. P _ (asked_for secret shape line (input_named w text)) (asked_for secret shape line (input_from 0 text xs))) law.inputs (asked_holds secret shape line (input_named w text))
+
+  -- ---- EXPRESSIONS
+
+  either_holds : {A : Type 0} (b : Bool) {m m' n n' : Effect A} → P _ m m' → P _ n n' → P _ (either b m n) (either b m' n')
+  either_holds true h k = h
+  either_holds false h k = k
+
+  cut_short_holds : (c : Connective) (secret : Bool) (x : Value) (m m' : Effect Value) → P _ m m' → P _ (cut_short c secret x m) (cut_short c secret x m')
+  cut_short_holds c secret x m m' h = law.bind (tested_holds x) (λ t. either_holds (decides c t) (wanted_holds secret (truth_value t)) h)
+
+  not_cut_short_holds : (c : Connective) (x : Value) (m m' : Effect Value) → P _ m m' → P _ (not_cut_short w c x m) (not_cut_short w' c x m')
+  not_cut_short_holds c x m m' h = law.bind h (λ y. operation_holds 0 (binary.Bools (connective c)) Scalars x y)
+
+  abbrev CallsHold : Calls → Calls → Type 0
+  CallsHold calls calls' = (line k : ℕ) (bs : List BoundDomain) (xs : List Value) → P _ (calls line k bs xs) (calls' line k bs xs)
+
+  module _ (calls calls' : Calls) (called : CallsHold calls calls') where
+    mutual
+      unfolding value arguments
+
+      value_holds : (here : Setting) (e : TypedTree) (fr : Frame) → P _ (value w calls here e fr) (value w' calls' here e fr)
+      value_holds here (word_node n) fr = law.on_done _
+      value_holds here (truth_node b) fr = law.on_done _
+      value_holds here (slot_node k) fr = law.on_done _
+      value_holds here (call_node line k es) fr =
+          let bs = bound_at (slice_get here.functions k) (domains here es) in
+          law.bind (arguments_hold here bs (slots_of (slice_get here.functions k)) es fr) (λ xs. called line k bs xs)
+      value_holds here (size_node e) fr = law.bind (value_holds here e fr) size_holds
+      value_holds here (cat_node line a b) fr =
+          let secret = gives_private here (cat_node line a b) in
+          law.bind (value_holds here a fr) (λ x. law.bind (wanted_holds secret x) (λ u. law.bind (value_holds here b fr) (λ y. law.bind (wanted_holds secret y) (λ v. joined_holds line u v))))
+      value_holds here (sum_node e) fr = law.bind (value_holds here e fr) summed_holds
+      value_holds here (bits_node line e) fr = law.bind (value_holds here e fr) (bits_holds line)
+      value_holds here (element_node line a i) fr = law.bind (value_holds here a fr) (λ x. law.bind (value_holds here i fr) (λ j. element_holds line x j))
+      value_holds here (not_node e) fr = law.bind (value_holds here e fr) negated_holds
+      value_holds here (cast_node c e) fr = law.bind (value_holds here e fr) (cast_holds c)
+      value_holds here (binary_node line op ds a b) fr = law.bind (value_holds here a fr) (λ x. law.bind (value_holds here b fr) (λ y. operation_holds line op ds x y))
+      value_holds here (cut_node c a b) fr =
+          law.bind (value_holds here a fr) (λ x. either_holds (gives_private here a) (not_cut_short_holds c x _ _ (value_holds here b fr)) (cut_short_holds c (gives_private here b) x _ _ (value_holds here b fr)))
+      value_holds here (declassify_node e) fr = law.bind (value_holds here e fr) declassified_holds
+
+      arguments_hold : (here : Setting) (bs : List BoundDomain) (ss : List Slot) (es : TypedTrees) (fr : Frame) → P _ (arguments w calls here bs ss es fr) (arguments w' calls' here bs ss es fr)
+      arguments_hold here bs ss Tree'.none fr = law.on_done _
+      arguments_hold here bs ss (Tree'.also e es) fr =
+          law.bind (value_holds here e fr) (λ x. law.bind (wanted_holds (next_is_private bs ss) x) (λ a. law.bind (arguments_hold here bs (behind_next ss) es fr) (λ xs. law.on_done (a ∷ xs))))
+
+    -- ---- STATEMENTS
+
+    then_holds : (g : Flow) (f f' : Frame → Effect Flow) → ((fr : Frame) → P _ (f fr) (f' fr)) → P _ (then_do g f) (then_do g f')
+    then_holds (goes fr) f f' h = h fr
+    then_holds (returns v) f f' h = law.on_done _
+    then_holds (stops fr) f f' h = law.on_done _
+    then_holds (skips fr) f f' h = law.on_done _
+
+    stored_holds : (here : Setting) (k : ℕ) (x : Value) (fr : Frame) → P _ (stored here k x fr) (stored here k x fr)
+    stored_holds here k x fr = law.bind (wanted_holds (slot_is_private here k) x) (λ v. law.bind (untrapped_holds (size v)) (λ _. law.on_done (goes (put k v fr))))
+
+    mutual
+      unfolding execute execute_all
+
+      execute_holds : (at : Place) (c : Command) (fr : Frame) → P _ (execute w calls at c fr) (execute w' calls' at c fr)
+      execute_holds at empty_command fr = law.on_done _
+      execute_holds at (block_command cs) fr = execute_all_holds at cs fr
+      execute_holds at (if_command e a b) fr =
+          law.bind (value_holds at.here e fr) (λ v. law.bind (tested_holds v) (λ t. either_holds t (execute_holds at a fr) (execute_holds at b fr)))
+      execute_holds at (loop_command e step body) fr = law.on_turns (value_holds at.here e) (execute_holds at step) (execute_holds at body) fr
+      execute_holds at (do_command body e) fr = law.on_repeats (value_holds at.here e) (execute_holds at body) fr
+      execute_holds at break_command fr = law.on_done _
+      execute_holds at continue_command fr = law.on_done _
+      execute_holds at (return_command None) fr = law.on_done _
+      execute_holds at (return_command (Some e)) fr = law.bind (value_holds at.here e fr) (λ x. law.bind (wanted_holds at.secret_result x) (λ v. law.on_done (returns v)))
+      execute_holds at (assert_command line e) fr = law.bind (value_holds at.here e fr) (λ v. law.bind (asserted_holds line v) (λ _. law.on_done (goes fr)))
+      execute_holds at (store_command k e) fr = law.bind (value_holds at.here e fr) (λ x. stored_holds at.here k x fr)
+      execute_holds at (default_command k) fr = stored_holds at.here k (plain (slot_shape at.here k) (default_words (slot_shape at.here k).array)) fr
+      execute_holds at (fill_command line k n e) fr =
+          law.bind (value_holds at.here n fr) (λ m. law.bind (value_holds at.here e fr) (λ x. law.bind (wanted_holds (slot_is_private at.here k) x) (λ a. law.bind (filled_holds line m a) (λ v. law.on_done (goes (put k v fr))))))
+      execute_holds at (input_command line k text) fr = law.bind (input_holds (slot_is_private at.here k) (slot_shape at.here k) line text) (λ x. stored_holds at.here k x fr)
+      execute_holds at (element_command line k i e) fr =
+          law.bind (value_holds at.here i fr) (λ j. law.bind (value_holds at.here e fr) (λ x. law.bind (wanted_holds (slot_is_private at.here k) x) (λ a. law.bind (with_element_holds line (fr k) j a) (λ v. law.on_done (goes (put k v fr))))))
+      execute_holds at (publish_command text e) fr = law.bind (value_holds at.here e fr) (λ v. law.bind (published_holds text v) (λ _. law.on_done (goes fr)))
+      execute_holds at (evaluate_command e) fr = law.bind (value_holds at.here e fr) (λ _. law.on_done (goes fr))
+
+      execute_all_holds : (at : Place) (cs : Commands) (fr : Frame) → P _ (execute_all w calls at cs fr) (execute_all w' calls' at cs fr)
+      execute_all_holds at Commands'.none fr = law.on_done _
+      execute_all_holds at (Commands'.also c cs) fr = law.bind (execute_holds at c fr) (λ g. then_holds g _ _ (execute_all_holds at cs))
+
+    body_holds : (fs : List TypedFunctionTree) (f : Option TypedFunctionTree) (bs : List BoundDomain) (xs : List Value) → P _ (body_of w calls fs f bs xs) (body_of w' calls' fs f bs xs)
+    body_holds fs None bs xs = law.on_done _
+    body_holds fs (Some f) bs xs = law.bind (execute_all_holds (place_in fs f bs) f.body (entered bs f.slots xs)) (λ g. law.on_done (result_of g))
+
+  -- ---- FUNCTIONS
+
+  calls_hold : (fs : List TypedFunctionTree) (d : ℕ) → CallsHold (call_at w fs d) (call_at w' fs d)
+  unfolding call_at
+  calls_hold fs zero line k bs xs = law.bind (law.on_charge 1) (λ _. law.on_end _)
+  calls_hold fs (suc d) line k bs xs =
+      law.bind (law.on_charge 1) (λ _. law.bind (law.on_charge (sum (map array_elements xs))) (λ _. body_holds (call_at w fs d) (call_at w' fs d) (calls_hold fs d) fs (slice_get fs k) bs xs))
+
+  pub program_holds : (p : TypedProgramTree) → P _ (main_of w p) (main_of w' p)
+  program_holds p = body_holds _ _ (calls_hold p.functions (deepest - 1)) p.functions (slice_get p.functions 0) [] []

@@ -1,0 +1,364 @@
+-- Evaluation: what a typed program does, expression by expression and statement by statement.
+use Rattle.std.specs.Prelude.{ℕ, zero, suc, ◌+◌, Bool, true, false, not, ◌&&◌, nat_eq, if◌then◌else◌, List, [], ◌∷◌, length, map, sum, Option, Some, None, bytes_eq}
+use Rattle.std.specs.List.{slice_get}
+use Rattle.sc_text.specs.declared.end.Ending.TheVariants as ending
+use Rattle.sc_text.specs.declared.end.TrapKind.TheVariants as trap
+use Rattle.secrec_ast.specs.declared.expression.DataType.{DataType}
+use Rattle.secrec_ast.specs.declared.expression.DataType.TheVariants.{Uint64}
+use Rattle.secrec_ast.specs.declared.expression.DataType.TheVariants as datatype
+use Rattle.typed_tree.specs.declared.kinds.Shape.{Shape}
+use Rattle.typed_tree.specs.declared.kinds.Slot.{Slot}
+use Rattle.typed_tree.specs.declared.operators.BoolOperator.{BoolOperator}
+use Rattle.typed_tree.specs.declared.operators.BoolOperator.TheVariants as truth
+use Rattle.typed_tree.specs.declared.operators.BinaryOperator.TheVariants as binary
+use Rattle.typed_tree.specs.declared.operators.Operands.TheVariants.{Scalars}
+use Rattle.typed_tree.specs.declared.operators.Connective.{Connective}
+use Rattle.typed_tree.specs.declared.operators.Connective.TheVariants.{AndAlso, OrElse}
+use Rattle.typed_tree.specs.Tree.{TypedTree, TypedTrees, word_node, truth_node, slot_node, call_node, size_node, cat_node, sum_node, bits_node, element_node, not_node, cast_node, binary_node, cut_node, declassify_node}
+use Rattle.typed_tree.specs.Tree as Tree'
+use Rattle.typed_tree.specs.Commands.{Command, Commands, empty_command, block_command, if_command, loop_command, do_command, break_command, continue_command, return_command, assert_command, store_command, default_command, fill_command, input_command, element_command, publish_command, evaluate_command}
+use Rattle.typed_tree.specs.Commands as Commands'
+use Rattle.typed_tree.specs.Programs.{TypedFunctionTree}
+use Rattle.reached_instances.specs.declared.instance.BoundDomain.{BoundDomain}
+use Rattle.reached_instances.specs.declared.instance.BoundDomain.TheVariants as bound
+use Rattle.reached_instances.specs.Domains.{Setting, domain, domains, domain_under, slot_domain, given_domain, binding_of}
+use Rattle.gates.specs.declared.gate.Gate.TheVariants.{Input}
+use Rattle.language_model.specs.Effects.{World, Given, Effect, ◌>>=◌, done, end, charge, test, gate}
+use Rattle.language_model.specs.Values.{Value, shape_of, plain, never_stored, size, default_words}
+use Rattle.language_model.specs.Words.{truth_word}
+use Rattle.language_model.specs.Operations.{charged, no_traps, made_private, wanted, declassified, operation, negated, cast_to, size_told, summed, bits_extracted, joined, element_of_array, with_element, filled, published, tested, asserted}
+
+-- the values in a function's slots
+abbrev pub Frame : Type 0
+Frame = ℕ → Value
+
+abbrev pub put : ℕ → Value → Frame → Frame
+put k v fr i = if nat_eq i k then v else fr i
+
+-- a call, by its line, the number of the function, what its domain variables are bound to, and the arguments; a function that gives
+-- nothing back gives a value that nobody reads
+abbrev pub Calls : Type 0
+Calls = (line function : ℕ) → List BoundDomain → List Value → Effect Value
+
+abbrev pub nothing : Value
+nothing = plain (shape_of Uint64 false) (0 ∷ [])
+
+-- ---- WHO MAY SEE WHAT
+
+abbrev pub is_private : BoundDomain → Bool
+is_private bound.Public = false
+is_private (bound.Private k) = true
+
+-- whether an expression gives a private value
+abbrev pub gives_private : Setting → TypedTree → Bool
+gives_private here e = is_private (domain here e)
+
+abbrev pub slot_is_private : Setting → ℕ → Bool
+slot_is_private here k = is_private (slot_domain here.binding (slice_get here.slots k))
+
+-- ---- INPUTS
+
+abbrev pub same_type : DataType → DataType → Bool
+same_type Uint64 Uint64 = true
+same_type Uint64 datatype.Bool = false
+same_type datatype.Bool Uint64 = false
+same_type datatype.Bool datatype.Bool = true
+
+abbrev pub same_truth : Bool → Bool → Bool
+same_truth true b = b
+same_truth false b = not b
+
+abbrev pub same_shape : Shape → Shape → Bool
+same_shape s t = same_type s.element t.element && same_truth s.array t.array
+
+-- whether an input is as it is declared
+abbrev pub is_as_declared : (secret : Bool) → Shape → Given → Bool
+is_as_declared secret shape x = same_truth x.secret secret && same_shape x.shape shape
+
+-- the input of a name, and how many private ones stand before it
+abbrev pub behind : Given → ℕ → ℕ
+behind x k = if x.secret then k + 1 else k
+
+abbrev pub input_from : ℕ → List ℕ → List Given → Option (Given × ℕ)
+input_from k text [] = None
+input_from k text (x ∷ xs) = if bytes_eq text x.text then Some (x, k) else input_from (behind x k) text xs
+
+abbrev pub input_named : World → List ℕ → Option (Given × ℕ)
+input_named w text = input_from 0 text w.inputs
+
+abbrev pub given_value : (secret : Bool) → Given → ℕ → Effect Value
+given_value false x k = done (plain x.shape x.words)
+given_value true x k = gate (Input k) >>= made_private x.shape x.words
+
+-- an input where one is wanted that is private or not, and has this shape
+abbrev pub asked_for : (secret : Bool) → Shape → ℕ → Option (Given × ℕ) → Effect Value
+asked_for secret shape line None = do
+  _ ← charge 1
+  end (ending.Trap trap.Argument line)
+asked_for secret shape line (Some x) = do
+  _ ← charged (test (is_as_declared secret shape x.0) trap.Argument line) (length x.0.words)
+  given_value secret x.0 x.1
+
+-- ---- CALLS
+
+abbrev pub slots_of : Option TypedFunctionTree → List Slot
+slots_of None = []
+slots_of (Some f) = f.slots
+
+-- what the domain variables of a called function are bound to
+abbrev pub bound_at : Option TypedFunctionTree → List BoundDomain → List BoundDomain
+bound_at None ds = []
+bound_at (Some f) ds = binding_of f ds
+
+-- whether the next parameter is private
+abbrev pub next_is_private : List BoundDomain → List Slot → Bool
+next_is_private b [] = false
+next_is_private b (s ∷ ss) = is_private (domain_under b s.domain)
+
+abbrev pub behind_next : List Slot → List Slot
+behind_next [] = []
+behind_next (s ∷ ss) = ss
+
+-- ---- EXPRESSIONS
+
+abbrev pub either : {A : Type 0} → Bool → A → A → A
+either true a b = a
+either false a b = b
+
+abbrev pub connective : Connective → BoolOperator
+connective AndAlso = truth.And
+connective OrElse = truth.Or
+
+-- whether a left operand decides alone
+abbrev pub decides : Connective → Bool → Bool
+decides AndAlso t = not t
+decides OrElse t = t
+
+abbrev pub truth_value : Bool → Value
+truth_value t = plain (shape_of datatype.Bool false) (truth_word t ∷ [])
+
+-- the left operand is public: it is tested, and the right one evaluated only where it doesn't decide
+abbrev pub cut_short : Connective → (secret : Bool) → Value → Effect Value → Effect Value
+cut_short c secret x right = do
+  t ← tested x
+  either (decides c t) (wanted secret (truth_value t)) right
+
+-- the left operand is private, and both are evaluated
+abbrev pub not_cut_short : World → Connective → Value → Effect Value → Effect Value
+not_cut_short w c x right = do
+  y ← right
+  operation w 0 (binary.Bools (connective c)) Scalars x y
+
+unfoldable mutual
+  pub value : World → Calls → Setting → TypedTree → Frame → Effect Value
+  value w calls here (word_node n) fr = done (plain (shape_of Uint64 false) (n ∷ []))
+  value w calls here (truth_node b) fr = done (truth_value b)
+  value w calls here (slot_node k) fr = done (fr k)
+  value w calls here (call_node line k es) fr = do
+    xs ← arguments w calls here (bound_at (slice_get here.functions k) (domains here es)) (slots_of (slice_get here.functions k)) es fr
+    calls line k (bound_at (slice_get here.functions k) (domains here es)) xs
+  value w calls here (size_node e) fr = do
+    x ← value w calls here e fr
+    size_told x
+  value w calls here (cat_node line a b) fr = do
+    x ← value w calls here a fr
+    u ← wanted (gives_private here (cat_node line a b)) x
+    y ← value w calls here b fr
+    v ← wanted (gives_private here (cat_node line a b)) y
+    joined line u v
+  value w calls here (sum_node e) fr = do
+    x ← value w calls here e fr
+    summed x
+  value w calls here (bits_node line e) fr = do
+    x ← value w calls here e fr
+    bits_extracted w line x
+  value w calls here (element_node line a i) fr = do
+    x ← value w calls here a fr
+    j ← value w calls here i fr
+    element_of_array line x j
+  value w calls here (not_node e) fr = do
+    x ← value w calls here e fr
+    negated x
+  value w calls here (cast_node c e) fr = do
+    x ← value w calls here e fr
+    cast_to w c x
+  value w calls here (binary_node line op ds a b) fr = do
+    x ← value w calls here a fr
+    y ← value w calls here b fr
+    operation w line op ds x y
+  value w calls here (cut_node c a b) fr = do
+    x ← value w calls here a fr
+    either (gives_private here a) (not_cut_short w c x (value w calls here b fr)) (cut_short c (gives_private here b) x (value w calls here b fr))
+  value w calls here (declassify_node e) fr = do
+    x ← value w calls here e fr
+    declassified w x
+
+  -- arguments, each classified right behind its evaluation where its parameter is private
+  pub arguments : World → Calls → Setting → List BoundDomain → List Slot → TypedTrees → Frame → Effect (List Value)
+  arguments w calls here b ss Tree'.none fr = done []
+  arguments w calls here b ss (Tree'.also e es) fr = do
+    x ← value w calls here e fr
+    a ← wanted (next_is_private b ss) x
+    xs ← arguments w calls here b (behind_next ss) es fr
+    done (a ∷ xs)
+
+-- ---- STATEMENTS
+
+-- where a function goes on: behind the statement, back to its caller, behind the loop, or with the loop's next turn
+pub data Flow : Type 0 where
+  goes : Frame → Flow
+  returns : Value → Flow
+  stops : Frame → Flow
+  skips : Frame → Flow
+
+abbrev pub then_do : Flow → (Frame → Effect Flow) → Effect Flow
+then_do (goes fr) next = next fr
+then_do (returns v) next = done (returns v)
+then_do (stops fr) next = done (stops fr)
+then_do (skips fr) next = done (skips fr)
+
+-- behind the body of a loop
+abbrev pub turned : Flow → (Frame → Effect Flow) → Effect Flow
+turned (goes fr) next = next fr
+turned (skips fr) next = next fr
+turned (stops fr) next = done (goes fr)
+turned (returns v) next = done (returns v)
+
+-- n bounds the turns: each one is charged, so that a run has fewer turns than budget
+unfoldable pub turns : ℕ → (Frame → Effect Value) → (step body : Frame → Effect Flow) → Frame → Effect Flow
+turns zero condition step body fr = end ending.Budget
+turns (suc n) condition step body fr = do
+  v ← condition fr
+  t ← tested v
+  either t (body fr >>= λ g. turned g (λ f. step f >>= λ h. turned h (turns n condition step body))) (done (goes fr))
+
+-- the body comes before the condition
+unfoldable pub repeats : ℕ → (Frame → Effect Value) → (body : Frame → Effect Flow) → Frame → Effect Flow
+repeats zero condition body fr = end ending.Budget
+repeats (suc n) condition body fr = do
+  g ← body fr
+  turned g (λ f. condition f >>= λ v. tested v >>= λ t. either t (repeats n condition body f) (done (goes f)))
+
+-- where a statement stands: in a body of a function whose result is private or not
+pub record Place : Type 0 where
+  pub here : Setting
+  pub secret_result : Bool
+
+abbrev pub shape_at : Option Slot → Shape
+shape_at None = shape_of Uint64 false
+shape_at (Some s) = s.shape
+
+abbrev pub slot_shape : Setting → ℕ → Shape
+slot_shape here k = shape_at (slice_get here.slots k)
+
+-- a value is stored in a whole variable, classified before where this is private
+abbrev pub stored : Setting → ℕ → Value → Frame → Effect Flow
+stored here k x fr = do
+  v ← wanted (slot_is_private here k) x
+  _ ← charged no_traps (size v)
+  done (goes (put k v fr))
+
+unfoldable mutual
+  pub execute : World → Calls → Place → Command → Frame → Effect Flow
+  execute w calls at empty_command fr = done (goes fr)
+  execute w calls at (block_command cs) fr = execute_all w calls at cs fr
+  execute w calls at (if_command e a b) fr = do
+    v ← value w calls at.here e fr
+    t ← tested v
+    either t (execute w calls at a fr) (execute w calls at b fr)
+  execute w calls at (loop_command e step body) fr =
+      λ s. turns (s.left + 1) (value w calls at.here e) (execute w calls at step) (execute w calls at body) fr s
+  execute w calls at (do_command body e) fr =
+      λ s. repeats (s.left + 1) (value w calls at.here e) (execute w calls at body) fr s
+  execute w calls at break_command fr = done (stops fr)
+  execute w calls at continue_command fr = done (skips fr)
+  execute w calls at (return_command None) fr = done (returns nothing)
+  execute w calls at (return_command (Some e)) fr = do
+    x ← value w calls at.here e fr
+    v ← wanted at.secret_result x
+    done (returns v)
+  execute w calls at (assert_command line e) fr = do
+    v ← value w calls at.here e fr
+    _ ← asserted line v
+    done (goes fr)
+  execute w calls at (store_command k e) fr = do
+    x ← value w calls at.here e fr
+    stored at.here k x fr
+  execute w calls at (default_command k) fr = stored at.here k (plain (slot_shape at.here k) (default_words (slot_shape at.here k).array)) fr
+  execute w calls at (fill_command line k n e) fr = do
+    m ← value w calls at.here n fr
+    x ← value w calls at.here e fr
+    a ← wanted (slot_is_private at.here k) x
+    v ← filled line m a
+    done (goes (put k v fr))
+  execute w calls at (input_command line k text) fr = do
+    x ← asked_for (slot_is_private at.here k) (slot_shape at.here k) line (input_named w text)
+    stored at.here k x fr
+  execute w calls at (element_command line k i e) fr = do
+    j ← value w calls at.here i fr
+    x ← value w calls at.here e fr
+    a ← wanted (slot_is_private at.here k) x
+    v ← with_element line (fr k) j a
+    done (goes (put k v fr))
+  execute w calls at (publish_command text e) fr = do
+    v ← value w calls at.here e fr
+    _ ← published w text v
+    done (goes fr)
+  execute w calls at (evaluate_command e) fr = do
+    _ ← value w calls at.here e fr
+    done (goes fr)
+
+  pub execute_all : World → Calls → Place → Commands → Frame → Effect Flow
+  execute_all w calls at Commands'.none fr = done (goes fr)
+  execute_all w calls at (Commands'.also c cs) fr = do
+    g ← execute w calls at c fr
+    then_do g (execute_all w calls at cs)
+
+-- ---- FUNCTIONS
+
+-- a slot where a function begins: a parameter has its argument
+abbrev pub begins : List BoundDomain → Option Slot → Value
+begins b None = nothing
+begins b (Some s) = never_stored (is_private (domain_under b s.domain)) s.shape
+
+abbrev pub entered : List BoundDomain → List Slot → List Value → Frame
+entered b ss [] k = begins b (slice_get ss k)
+entered b ss (x ∷ xs) zero = x
+entered b ss (x ∷ xs) (suc k) = entered b (behind_next ss) xs k
+
+abbrev pub result_of : Flow → Value
+result_of (goes fr) = nothing
+result_of (returns v) = v
+result_of (stops fr) = nothing
+result_of (skips fr) = nothing
+
+abbrev pub place_in : List TypedFunctionTree → TypedFunctionTree → List BoundDomain → Place
+place_in fs f b =
+    record {
+      here = record { functions = fs; slots = f.slots; binding = b };
+      secret_result = is_private (given_domain b f.given);
+    }
+
+abbrev pub body_of : World → Calls → List TypedFunctionTree → Option TypedFunctionTree → List BoundDomain → List Value → Effect Value
+body_of w calls fs None b xs = done nothing
+body_of w calls fs (Some f) b xs = do
+  g ← execute_all w calls (place_in fs f b) f.body (entered b f.slots xs)
+  done (result_of g)
+
+-- how many elements an array has, and none of a scalar
+abbrev pub array_elements : Value → ℕ
+array_elements v = either v.shape.array (size v) 0
+
+-- calls may stand in one another this deep, `main` counted
+abbrev pub deepest : ℕ
+deepest = 64
+
+-- a call with room for d more inside one another
+unfoldable pub call_at : World → List TypedFunctionTree → ℕ → Calls
+call_at w fs zero line k b xs = do
+  _ ← charge 1
+  end (ending.Trap trap.Depth line)
+call_at w fs (suc d) line k b xs = do
+  _ ← charge 1
+  _ ← charge (sum (map array_elements xs))
+  body_of w (call_at w fs d) fs (slice_get fs k) b xs

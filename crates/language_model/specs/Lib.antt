@@ -1,0 +1,9 @@
+pub mod Effects
+pub mod Values
+pub mod Words
+pub mod Operations
+pub mod Evaluation
+pub mod Reports
+pub mod Vectors
+pub mod Beginnings
+pub mod Tapes

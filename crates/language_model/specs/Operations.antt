@@ -1,0 +1,431 @@
+-- What each operation does to a run: its charge, its traps, its random words, its gates, and the value that it gives.
+--
+-- A charged operation charges 1, tests for its traps, charges what its result has of elements beyond the first, has its random words
+-- compared with the tapes, and then makes its gates.
+use Rattle.std.specs.Prelude.{ℕ, ◌+◌, ◌*◌, ◌-◌, Bool, true, false, not, ◌&&◌, nat_le, nat_lt, List, [], ◌∷◌, ◌++◌, Some, None, length, map, replicate, set, sum, ◌%◌, ◌^◌, get_or}
+use Rattle.std.specs.List.{flat_map}
+use Rattle.sc_text.specs.declared.end.TrapKind.TheVariants as trap
+use Rattle.sc_text.specs.declared.event.Event.TheVariants as event
+use Rattle.secrec_ast.specs.declared.expression.DataType.{DataType}
+use Rattle.secrec_ast.specs.declared.expression.DataType.TheVariants.{Uint64}
+use Rattle.secrec_ast.specs.declared.expression.DataType.TheVariants as datatype
+use Rattle.gates.specs.declared.gate.Gate.TheVariants.{Const, Add, Sub, MulPub, Mul, Xor, And, Cat, Part, Put, Rep, Spread, Sum, Conv, Open, Result}
+use Rattle.gates.specs.Clear.{bits_of}
+use Rattle.equality.specs.Plan.{eq_plan}
+use Rattle.bit_extract.specs.Plan.{bits_plan}
+use Rattle.compare.specs.Plan.{less_plan}
+use Rattle.typed_tree.specs.declared.kinds.Shape.{Shape}
+use Rattle.typed_tree.specs.declared.operators.WordOperator.{WordOperator}
+use Rattle.typed_tree.specs.declared.operators.WordOperator.TheVariants as word
+use Rattle.typed_tree.specs.declared.operators.BoolOperator.{BoolOperator}
+use Rattle.typed_tree.specs.declared.operators.BoolOperator.TheVariants as truth
+use Rattle.typed_tree.specs.declared.operators.BinaryOperator.{BinaryOperator}
+use Rattle.typed_tree.specs.declared.operators.BinaryOperator.TheVariants as binary
+use Rattle.typed_tree.specs.declared.operators.Operands.{Operands}
+use Rattle.typed_tree.specs.declared.operators.Operands.TheVariants.{Scalars, ArrayAndScalar, ScalarAndArray}
+use Rattle.typed_tree.specs.declared.operators.Cast.{Cast}
+use Rattle.typed_tree.specs.declared.operators.Cast.TheVariants.{WordToWord, WordToBool, BoolToWord, BoolToBool}
+use Rattle.typed_tree.specs.Operators.{element_made}
+use Rattle.language_model.specs.Effects.{Words, World, Effect, ◌>>=◌, done, charge, test, words_each, draw, gate, planned, next_number, emit, answer, show}
+use Rattle.language_model.specs.Values.{Secrecy, Plain, Private, Value, shape_of, plain, hidden, is_secret, size, first_word, seen, is_true, ring_for, elements_of}
+use Rattle.language_model.specs.Words as W
+
+-- ---- THE PARTS OF AN OPERATION
+
+-- the charge of an operation with a result of n elements, and its traps
+abbrev pub charged : Effect (Unit {0}) → ℕ → Effect (Unit {0})
+charged traps n = do
+  _ ← charge 1
+  _ ← traps
+  charge (n - 1)
+
+abbrev pub no_traps : Effect (Unit {0})
+no_traps = done tt
+
+-- no array has more elements
+abbrev pub largest : ℕ
+largest = 1048576
+
+abbrev pub not_too_large : ℕ → ℕ → Effect (Unit {0})
+not_too_large line n = test (nat_le n largest) trap.Large line
+
+-- the number of a private value; one that was never stored is first made a constant
+abbrev pub number_from : Secrecy → List ℕ → Effect ℕ
+number_from (Private (Some k)) words = done k
+number_from (Private None) words = gate (Const words)
+number_from Plain words = gate (Const words)
+
+abbrev pub number_of : Value → Effect ℕ
+number_of v = number_from v.secrecy v.words
+
+abbrev pub made_private : Shape → List ℕ → ℕ → Effect Value
+made_private shape words k = done (hidden shape k words)
+
+-- ---- CLASSIFICATION AND OPENING
+
+abbrev pub classified_from : Secrecy → Value → Effect Value
+classified_from (Private k) v = done v
+classified_from Plain v = do
+  _ ← charged no_traps (size v)
+  k ← gate (Const v.words)
+  made_private v.shape v.words k
+
+-- a public value becomes a private one
+abbrev pub classified : Value → Effect Value
+classified v = classified_from v.secrecy v
+
+-- a value that is wanted as a private one, or as it is
+abbrev pub wanted : (secret : Bool) → Value → Effect Value
+wanted true v = classified v
+wanted false v = done v
+
+-- an answer of a truth value is read from bit 0
+abbrev pub read_answer : DataType → List ℕ → List ℕ
+read_answer Uint64 words = words
+read_answer datatype.Bool words = map (λ x. x % 2) words
+
+-- an opened value is known to all from then on
+abbrev pub revealed : World → Value → Effect Value
+revealed w v = do
+  words ← answer w.source v.words
+  _ ← show (read_answer v.shape.element words)
+  _ ← emit (event.Open (elements_of (plain v.shape (read_answer v.shape.element words))))
+  done (plain v.shape (read_answer v.shape.element words))
+
+abbrev pub opened_from : World → Secrecy → Value → Effect Value
+opened_from w Plain v = done v
+opened_from w (Private k) v = do
+  _ ← draw w (words_each (size v))
+  u ← number_of v
+  _ ← gate (Open (ring_for v.shape.element) u)
+  revealed w v
+
+abbrev pub declassified : World → Value → Effect Value
+declassified w v = do
+  _ ← charged no_traps (size v)
+  opened_from w v.secrecy v
+
+-- ---- OPERATORS
+
+-- a private scalar beside an array of n elements is first made one of as many
+abbrev pub stretched : (scalar : Bool) → ℕ → ℕ → Effect ℕ
+stretched true n u = gate (Rep u n)
+stretched false n u = done u
+
+abbrev pub is_scalar_left : Operands → Bool
+is_scalar_left ScalarAndArray = true
+is_scalar_left ds = false
+
+abbrev pub is_scalar_right : Operands → Bool
+is_scalar_right ArrayAndScalar = true
+is_scalar_right ds = false
+
+-- true for false, and false for true
+abbrev pub flip : ℕ → ℕ → Effect ℕ
+flip n u = do
+  ones ← gate (Const (replicate n 1))
+  gate (Xor u ones)
+
+abbrev pub words_for_equality : ℕ → Words
+words_for_equality n = record { first = 19 * n; second = 18 * n; third = 18 * n }
+
+abbrev pub words_for_bits : ℕ → Words
+words_for_bits n = record { first = 40 * n; second = 39 * n; third = 39 * n }
+
+abbrev pub words_for_order : ℕ → Words
+words_for_order n = record { first = 119 * n; second = 117 * n; third = 117 * n }
+
+abbrev pub words_for_conversion : ℕ → Words
+words_for_conversion n = record { first = 4 * n; second = n; third = n }
+
+-- the random words of an operator on private words; the operators that are left out have no private operands
+abbrev pub words_of_word_operator : WordOperator → ℕ → Words
+words_of_word_operator word.Multiply n = words_each (3 * n)
+words_of_word_operator word.Equal n = words_for_equality n
+words_of_word_operator word.NotEqual n = words_for_equality n
+words_of_word_operator word.Less n = words_for_order n
+words_of_word_operator word.LessOrEqual n = words_for_order n
+words_of_word_operator word.Greater n = words_for_order n
+words_of_word_operator word.GreaterOrEqual n = words_for_order n
+words_of_word_operator op n = words_each 0
+
+abbrev pub words_of_bool_operator : BoolOperator → ℕ → Words
+words_of_bool_operator truth.And n = words_each (3 * n)
+words_of_bool_operator truth.Or n = words_each (3 * n)
+words_of_bool_operator op n = words_each 0
+
+abbrev pub words_of_operator : BinaryOperator → ℕ → Words
+words_of_operator (binary.Words op) n = words_of_word_operator op n
+words_of_operator (binary.Bools op) n = words_of_bool_operator op n
+
+-- whether two numbers of n elements are equal
+abbrev pub equal_gates : ℕ → ℕ → Effect ℕ
+equal_gates u v = do
+  d ← gate (Sub u v)
+  planned (λ first. eq_plan first d)
+
+abbrev pub less_gates : ℕ → ℕ → ℕ → Effect ℕ
+less_gates n u v = planned (λ first. less_plan first u v n)
+
+abbrev pub word_gates : WordOperator → ℕ → (u v : ℕ) → Effect ℕ
+word_gates word.Add n u v = gate (Add u v)
+word_gates word.Subtract n u v = gate (Sub u v)
+word_gates word.Multiply n u v = gate (Mul u v)
+word_gates word.Equal n u v = equal_gates u v
+word_gates word.NotEqual n u v = equal_gates u v >>= flip n
+word_gates word.Less n u v = less_gates n u v
+word_gates word.Greater n u v = less_gates n v u
+word_gates word.GreaterOrEqual n u v = less_gates n u v >>= flip n
+word_gates word.LessOrEqual n u v = less_gates n v u >>= flip n
+word_gates op n u v = next_number
+
+-- either is true: one of them is, or both are
+abbrev pub or_gates : (u v : ℕ) → Effect ℕ
+or_gates u v = do
+  both ← gate (And u v)
+  one ← gate (Xor u v)
+  gate (Xor one both)
+
+abbrev pub bool_gates : BoolOperator → ℕ → (u v : ℕ) → Effect ℕ
+bool_gates truth.Xor n u v = gate (Xor u v)
+bool_gates truth.And n u v = gate (And u v)
+bool_gates truth.Or n u v = or_gates u v
+bool_gates truth.NotEqual n u v = gate (Xor u v)
+bool_gates truth.Equal n u v = gate (Xor u v) >>= flip n
+
+abbrev pub operator_gates : BinaryOperator → ℕ → (u v : ℕ) → Effect ℕ
+operator_gates (binary.Words op) = word_gates op
+operator_gates (binary.Bools op) = bool_gates op
+
+-- a product with a public operand classifies nothing
+abbrev pub is_product : BinaryOperator → Bool
+is_product (binary.Words word.Multiply) = true
+is_product (binary.Bools truth.And) = true
+is_product op = false
+
+abbrev pub result_shape : BinaryOperator → Operands → Shape
+result_shape op Scalars = shape_of (element_made op) false
+result_shape op ds = shape_of (element_made op) true
+
+-- between two private operands
+abbrev pub private_result : World → BinaryOperator → Operands → Value → Value → Effect Value
+private_result w op ds x y = do
+  _ ← draw w (words_of_operator op (W.result_size ds x y))
+  j ← number_of x
+  k ← number_of y
+  u ← stretched (is_scalar_left ds) (W.result_size ds x y) j
+  v ← stretched (is_scalar_right ds) (W.result_size ds x y) k
+  r ← operator_gates op (W.result_size ds x y) u v
+  made_private (result_shape op ds) (W.result_words op ds x y) r
+
+-- a private operand and public words, in a product
+abbrev pub product_with : BinaryOperator → Operands → (scalar : Bool) → Value → List ℕ → List ℕ → Effect Value
+product_with op ds scalar x known words = do
+  j ← number_of x
+  u ← stretched scalar (length known) j
+  r ← gate (MulPub (ring_for x.shape.element) u known)
+  made_private (result_shape op ds) words r
+
+abbrev pub combined_from : Secrecy → Secrecy → World → BinaryOperator → Operands → Value → Value → Effect Value
+combined_from Plain Plain w op ds x y = done (plain (result_shape op ds) (W.result_words op ds x y))
+combined_from (Private j) (Private k) w op ds x y = private_result w op ds x y
+combined_from (Private j) Plain w op ds x y = product_with op ds (is_scalar_left ds) x (W.right_words ds x y) (W.result_words op ds x y)
+combined_from Plain (Private k) w op ds x y = product_with op ds (is_scalar_right ds) y (W.left_words ds x y) (W.result_words op ds x y)
+
+abbrev pub operator_traps : ℕ → BinaryOperator → Operands → Value → Value → Effect (Unit {0})
+operator_traps line op ds x y = do
+  _ ← test (W.are_alike ds x y) trap.Length line
+  test (W.may_divide op (seen y)) trap.Div line
+
+-- both operands are classified as they are wanted
+abbrev pub operated : World → ℕ → BinaryOperator → Operands → Value → Value → Effect Value
+operated w line op ds x y = do
+  _ ← charged (operator_traps line op ds x y) (W.result_size ds x y)
+  combined_from x.secrecy y.secrecy w op ds x y
+
+-- one operand is private and the other is not, and this one is classified, but in a product
+abbrev pub is_classified : BinaryOperator → (this other : Value) → Bool
+is_classified op this other = not (is_product op) && (is_secret other.secrecy && not (is_secret this.secrecy))
+
+abbrev pub operation : World → ℕ → BinaryOperator → Operands → Value → Value → Effect Value
+operation w line op ds x y = do
+  a ← wanted (is_classified op x y) x
+  b ← wanted (is_classified op y x) y
+  operated w line op ds a b
+
+-- ---- OPERATIONS OF ONE OPERAND
+
+abbrev pub negated_from : Secrecy → Value → Effect Value
+negated_from Plain v = done (plain v.shape (map W.flipped v.words))
+negated_from (Private k) v = do
+  u ← number_of v
+  r ← flip (size v) u
+  made_private v.shape (map W.flipped v.words) r
+
+abbrev pub negated : Value → Effect Value
+negated v = do
+  _ ← charged no_traps (size v)
+  negated_from v.secrecy v
+
+abbrev pub words_of_cast : Cast → ℕ → Words
+words_of_cast WordToBool n = words_for_equality n
+words_of_cast BoolToWord n = words_for_conversion n
+words_of_cast c n = words_each 0
+
+abbrev pub cast_shape : Cast → (array : Bool) → Shape
+cast_shape WordToWord array = shape_of Uint64 array
+cast_shape WordToBool array = shape_of datatype.Bool array
+cast_shape BoolToWord array = shape_of Uint64 array
+cast_shape BoolToBool array = shape_of datatype.Bool array
+
+-- a number is true where it isn't 0
+abbrev pub cast_gates : Cast → ℕ → ℕ → Effect ℕ
+cast_gates WordToBool n u = planned (λ first. eq_plan first u) >>= flip n
+cast_gates BoolToWord n u = gate (Conv u)
+cast_gates c n u = done u
+
+abbrev pub changed : World → Cast → Value → Effect Value
+changed w c v = do
+  _ ← draw w (words_of_cast c (size v))
+  u ← number_of v
+  r ← cast_gates c (size v) u
+  made_private (cast_shape c v.shape.array) (map (W.cast_word c) v.words) r
+
+-- a cast to the same type gives the value as it is
+abbrev pub cast_from : World → Secrecy → Cast → Value → Effect Value
+cast_from w secrecy WordToWord v = done v
+cast_from w secrecy BoolToBool v = done v
+cast_from w Plain c v = done (plain (cast_shape c v.shape.array) (map (W.cast_word c) v.words))
+cast_from w (Private k) c v = changed w c v
+
+abbrev pub cast_to : World → Cast → Value → Effect Value
+cast_to w c v = do
+  _ ← charged no_traps (size v)
+  cast_from w v.secrecy c v
+
+abbrev pub scalar_word : ℕ → Value
+scalar_word n = plain (shape_of Uint64 false) (n ∷ [])
+
+abbrev pub size_told : Value → Effect Value
+size_told v = do
+  _ ← charge 1
+  done (scalar_word (size v))
+
+abbrev pub summed_from : Secrecy → Value → Effect Value
+summed_from Plain v = done (scalar_word (sum v.words % 2 ^ 64))
+summed_from (Private k) v = do
+  u ← number_of v
+  r ← gate (Sum u)
+  made_private (shape_of Uint64 false) (sum v.words % 2 ^ 64 ∷ []) r
+
+abbrev pub summed : Value → Effect Value
+summed v = do
+  _ ← charge 1
+  summed_from v.secrecy v
+
+abbrev pub bits_from : World → Secrecy → Value → Effect Value
+bits_from w Plain v = done (plain (shape_of datatype.Bool true) (flat_map bits_of v.words))
+bits_from w (Private k) v = do
+  _ ← draw w (words_for_bits (size v))
+  u ← number_of v
+  b ← planned (λ first. bits_plan first u (size v))
+  r ← gate (Spread b)
+  made_private (shape_of datatype.Bool true) (flat_map bits_of v.words) r
+
+abbrev pub bits_extracted : World → ℕ → Value → Effect Value
+bits_extracted w line v = do
+  _ ← charged (not_too_large line (64 * size v)) (64 * size v)
+  bits_from w v.secrecy v
+
+-- ---- ARRAYS
+
+abbrev pub joined_from : Secrecy → Secrecy → Value → Value → Effect Value
+joined_from Plain Plain x y = done (plain x.shape (x.words ++ y.words))
+joined_from a b x y = do
+  u ← number_of x
+  v ← number_of y
+  r ← gate (Cat u v)
+  made_private x.shape (x.words ++ y.words) r
+
+-- of two arrays, both private or both public
+abbrev pub joined : ℕ → Value → Value → Effect Value
+joined line x y = do
+  _ ← charged (not_too_large line (size x + size y)) (size x + size y)
+  joined_from x.secrecy y.secrecy x y
+
+abbrev pub position : Value → ℕ
+position i = first_word (seen i)
+
+abbrev pub element_at : List ℕ → ℕ → ℕ
+element_at words i = get_or words i 0
+
+abbrev pub element_from : Secrecy → Value → ℕ → Effect Value
+element_from Plain v i = done (plain (shape_of v.shape.element false) (element_at v.words i ∷ []))
+element_from (Private k) v i = do
+  u ← number_of v
+  r ← gate (Part u i 1)
+  made_private (shape_of v.shape.element false) (element_at v.words i ∷ []) r
+
+abbrev pub element_of_array : ℕ → Value → Value → Effect Value
+element_of_array line v i = do
+  _ ← charge 1
+  _ ← test (nat_lt (position i) (size v)) trap.Index line
+  element_from v.secrecy v (position i)
+
+abbrev pub with_element_from : Secrecy → Value → ℕ → Value → Effect Value
+with_element_from Plain v i x = done (plain v.shape (set v.words i (first_word x.words)))
+with_element_from (Private k) v i x = do
+  u ← number_of v
+  e ← number_of x
+  r ← gate (Put u i e)
+  made_private v.shape (set v.words i (first_word x.words)) r
+
+-- an array with one element changed, which is as private as the array
+abbrev pub with_element : ℕ → Value → Value → Value → Effect Value
+with_element line v i x = do
+  _ ← charge 1
+  _ ← test (nat_lt (position i) (size v)) trap.Index line
+  with_element_from v.secrecy v (position i) x
+
+abbrev pub filled_from : Secrecy → ℕ → Value → Effect Value
+filled_from Plain n x = done (plain (shape_of x.shape.element true) (replicate n (first_word x.words)))
+filled_from (Private k) n x = do
+  u ← number_of x
+  r ← gate (Rep u n)
+  made_private (shape_of x.shape.element true) (replicate n (first_word x.words)) r
+
+-- an array of equal elements
+abbrev pub filled : ℕ → Value → Value → Effect Value
+filled line n x = do
+  _ ← charged (not_too_large line (position n)) (position n)
+  filled_from x.secrecy (position n) x
+
+-- ---- WHAT GOES TO THE CLIENT
+
+-- nobody learns a private value that is published: each miner's share of it is made anew for the client
+abbrev pub handed_over : World → Secrecy → Value → Effect (Unit {0})
+handed_over w Plain v = done tt
+handed_over w (Private k) v = do
+  _ ← draw w (words_each (size v))
+  u ← number_of v
+  _ ← gate (Result (ring_for v.shape.element) u)
+  done tt
+
+abbrev pub published : World → List ℕ → Value → Effect (Unit {0})
+published w text v = do
+  _ ← charged no_traps (size v)
+  _ ← handed_over w v.secrecy v
+  emit (event.Publish text (elements_of v))
+
+-- ---- CONTROL
+
+-- a condition is tested
+abbrev pub tested : Value → Effect Bool
+tested v = do
+  _ ← charge 1
+  done (is_true v)
+
+abbrev pub asserted : ℕ → Value → Effect (Unit {0})
+asserted line v = do
+  _ ← charge 1
+  test (is_true v) trap.Assert line

@@ -1,0 +1,75 @@
+-- What a run computes with.
+use Rattle.std.specs.Prelude.{ℕ, Bool, true, false, not, ◌==◌, List, [], ◌∷◌, Option, Some, None, length, map, get_or}
+use Rattle.sc_text.specs.declared.elements.Element.{Element}
+use Rattle.sc_text.specs.declared.elements.Element.TheVariants.{Word, Truth}
+use Rattle.secrec_ast.specs.declared.expression.DataType.{DataType}
+use Rattle.secrec_ast.specs.declared.expression.DataType.TheVariants.{Uint64}
+use Rattle.secrec_ast.specs.declared.expression.DataType.TheVariants as datatype
+use Rattle.typed_tree.specs.declared.kinds.Shape.{Shape}
+use Rattle.gates.specs.declared.ring_kind.RingKind.{RingKind}
+use Rattle.gates.specs.declared.ring_kind.RingKind.TheVariants.{Arithmetic, Boolean}
+
+-- everybody may see a value, or it is private: then it has the number of a gate's value, unless it was never stored
+pub data Secrecy : Type 0 where
+  Plain : Secrecy
+  Private : Option ℕ → Secrecy
+
+-- the elements are words, a truth value 1 or 0; a scalar has one
+pub record Value : Type 0 where
+  pub secrecy : Secrecy
+  pub shape : Shape
+  pub words : List ℕ
+
+abbrev pub shape_of : DataType → (array : Bool) → Shape
+shape_of element array = record { element = element; array = array }
+
+abbrev pub plain : Shape → List ℕ → Value
+plain shape words = record { secrecy = Plain; shape = shape; words = words }
+
+-- the value of a gate
+abbrev pub hidden : Shape → ℕ → List ℕ → Value
+hidden shape number words = record { secrecy = Private (Some number); shape = shape; words = words }
+
+abbrev pub is_secret : Secrecy → Bool
+is_secret Plain = false
+is_secret (Private k) = true
+
+abbrev pub size : Value → ℕ
+size v = length v.words
+
+abbrev pub first_word : List ℕ → ℕ
+first_word words = get_or words 0 0
+
+-- what control may look at: nothing of a private value
+abbrev pub seen_of : Secrecy → List ℕ → List ℕ
+seen_of Plain words = words
+seen_of (Private k) words = []
+
+abbrev pub seen : Value → List ℕ
+seen v = seen_of v.secrecy v.words
+
+abbrev pub is_true : Value → Bool
+is_true v = not (first_word (seen v) == 0)
+
+-- 0, false or the empty array
+abbrev pub default_words : (array : Bool) → List ℕ
+default_words false = 0 ∷ []
+default_words true = []
+
+-- what a slot begins as
+abbrev pub never_stored : (secret : Bool) → Shape → Value
+never_stored false shape = plain shape (default_words shape.array)
+never_stored true shape = record { secrecy = Private None; shape = shape; words = default_words shape.array }
+
+-- the ring in which values of a data type are shared
+abbrev pub ring_for : DataType → RingKind
+ring_for Uint64 = Arithmetic
+ring_for datatype.Bool = Boolean
+
+-- as it is printed
+abbrev pub element_of : DataType → ℕ → Element
+element_of Uint64 x = Word x
+element_of datatype.Bool x = Truth (not (x == 0))
+
+abbrev pub elements_of : Value → List Element
+elements_of v = map (element_of v.shape.element) v.words

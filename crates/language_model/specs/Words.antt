@@ -1,0 +1,86 @@
+-- What operators mean on words. A truth value is 1 or 0.
+use Rattle.std.specs.Prelude.{ℕ, ◌/◌, ◌%◌, Bool, true, false, not, ◌==◌, nat_lt, nat_le, nat_eq, List, replicate, bit_and, bit_or, bit_xor}
+use Rattle.std.specs.List.{list_any}
+use Rattle.share_ring.specs.Rings.{add_ring}
+use Rattle.gates.specs.Clear.{each_two}
+use Rattle.typed_tree.specs.declared.operators.WordOperator.{WordOperator}
+use Rattle.typed_tree.specs.declared.operators.WordOperator.TheVariants as word
+use Rattle.typed_tree.specs.declared.operators.BoolOperator.{BoolOperator}
+use Rattle.typed_tree.specs.declared.operators.BoolOperator.TheVariants as truth
+use Rattle.typed_tree.specs.declared.operators.BinaryOperator.{BinaryOperator}
+use Rattle.typed_tree.specs.declared.operators.BinaryOperator.TheVariants.{Words, Bools}
+use Rattle.typed_tree.specs.declared.operators.Operands.{Operands}
+use Rattle.typed_tree.specs.declared.operators.Operands.TheVariants.{Scalars, ArrayAndScalar, ScalarAndArray, Arrays}
+use Rattle.typed_tree.specs.declared.operators.Cast.{Cast}
+use Rattle.typed_tree.specs.declared.operators.Cast.TheVariants.{WordToWord, WordToBool, BoolToWord, BoolToBool}
+use Rattle.language_model.specs.Values.{Value, size, first_word}
+
+abbrev pub truth_word : Bool → ℕ
+truth_word true = 1
+truth_word false = 0
+
+abbrev pub word_meaning : WordOperator → ℕ → ℕ → ℕ
+word_meaning word.Add x y = add_ring.add x y
+word_meaning word.Subtract x y = add_ring.sub x y
+word_meaning word.Multiply x y = add_ring.mul x y
+word_meaning word.Divide x y = x / y
+word_meaning word.Remainder x y = x % y
+word_meaning word.Equal x y = truth_word (nat_eq x y)
+word_meaning word.NotEqual x y = truth_word (not (nat_eq x y))
+word_meaning word.Less x y = truth_word (nat_lt x y)
+word_meaning word.LessOrEqual x y = truth_word (nat_le x y)
+word_meaning word.Greater x y = truth_word (nat_lt y x)
+word_meaning word.GreaterOrEqual x y = truth_word (nat_le y x)
+word_meaning word.And x y = bit_and x y
+word_meaning word.Or x y = bit_or x y
+word_meaning word.Xor x y = bit_xor x y
+
+abbrev pub truth_meaning : BoolOperator → ℕ → ℕ → ℕ
+truth_meaning truth.Equal x y = truth_word (nat_eq x y)
+truth_meaning truth.NotEqual x y = truth_word (not (nat_eq x y))
+truth_meaning truth.And x y = bit_and x y
+truth_meaning truth.Or x y = bit_or x y
+truth_meaning truth.Xor x y = bit_xor x y
+
+abbrev pub meaning : BinaryOperator → ℕ → ℕ → ℕ
+meaning (Words op) = word_meaning op
+meaning (Bools op) = truth_meaning op
+
+-- a flip: true for false
+abbrev pub flipped : ℕ → ℕ
+flipped x = truth_word (x == 0)
+
+abbrev pub cast_word : Cast → ℕ → ℕ
+cast_word WordToWord x = x
+cast_word WordToBool x = truth_word (not (x == 0))
+cast_word BoolToWord x = x
+cast_word BoolToBool x = x
+
+-- ---- operands side by side: a scalar meets every element of an array
+
+abbrev pub result_size : Operands → Value → Value → ℕ
+result_size Scalars x y = 1
+result_size ArrayAndScalar x y = size x
+result_size ScalarAndArray x y = size y
+result_size Arrays x y = size x
+
+abbrev pub are_alike : Operands → Value → Value → Bool
+are_alike Arrays x y = nat_eq (size x) (size y)
+are_alike ds x y = true
+
+abbrev pub left_words : Operands → Value → Value → List ℕ
+left_words ScalarAndArray x y = replicate (size y) (first_word x.words)
+left_words ds x y = x.words
+
+abbrev pub right_words : Operands → Value → Value → List ℕ
+right_words ArrayAndScalar x y = replicate (size x) (first_word y.words)
+right_words ds x y = y.words
+
+abbrev pub result_words : BinaryOperator → Operands → Value → Value → List ℕ
+result_words op ds x y = each_two (meaning op) (left_words ds x y) (right_words ds x y)
+
+-- a divisor of 0 is none
+abbrev pub may_divide : BinaryOperator → List ℕ → Bool
+may_divide (Words word.Divide) divisors = not (list_any (λ x. x == 0) divisors)
+may_divide (Words word.Remainder) divisors = not (list_any (λ x. x == 0) divisors)
+may_divide op divisors = true
