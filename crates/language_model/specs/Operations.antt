@@ -373,7 +373,7 @@ element_of_array line v i = do
   element_from v.secrecy v (position i)
 
 abbrev pub with_element_from : Secrecy → Value → ℕ → Value → Effect Value
-with_element_from Plain v i x = done (plain v.shape (set v.words i (first_word x.words)))
+with_element_from Plain v i x = done (plain v.shape (set v.words i (first_word (seen x))))
 with_element_from (Private k) v i x = do
   u ← number_of v
   e ← number_of x

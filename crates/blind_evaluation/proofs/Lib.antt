@@ -1,0 +1,9 @@
+pub mod Alike
+pub mod AlikeValues
+pub mod Lengths
+pub mod Gates
+pub mod Rows
+pub mod Inputs
+pub mod Expressions
+pub mod Statements
+pub mod Course
