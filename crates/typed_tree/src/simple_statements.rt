@@ -114,7 +114,8 @@ fn initial<'p>(
     slot: usize,
     d: &'p Declaration,
 ) -> Result<TypedStatement, ResolveError>
-    ensures { Answers (with_place command (place_seen place.now)) result (initial (declared declarations.now) d.now.declared.place.line slot d.now.declared.element (optional d.now.size) (optional d.now.value) (place_seen place.now)) }
+    ensures { Answers (with_place command (place_seen place.now)) result
+        (initial (declared declarations.now) d.now.declared.place.line slot d.now.declared.element (optional d.now.size) (optional d.now.value) (place_seen place.now)) }
 {
     let line = d.declared.place.line;
     match (&d.size, &d.value) {
@@ -156,7 +157,8 @@ fn assigned_to<'p>(
     slot: usize,
     a: &'p Assignment,
 ) -> Result<TypedStatement, ResolveError>
-    ensures { Answers (with_place command (place_seen place.now)) result (assigned_to (declared declarations.now) a.now.target.variable.place.line slot (optional a.now.target.index) (expression a.now.value) (place_seen place.now)) }
+    ensures { Answers (with_place command (place_seen place.now)) result
+        (assigned_to (declared declarations.now) a.now.target.variable.place.line slot (optional a.now.target.index) (expression a.now.value) (place_seen place.now)) }
 {
     match &a.target.index {
         None => {

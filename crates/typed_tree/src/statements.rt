@@ -26,7 +26,8 @@ pub fn statements<'p>(
     place: &mut Place<'p>,
     list: &'p Vec<Statement>,
 ) -> Result<Vec<TypedStatement>, ResolveError>
-    ensures made { Answers (with_place commands_seen (place_seen place.new)) result (resolved_all (declared declarations.now) (statements_of (map statement list.now.items)) (place_seen place.old)) }
+    ensures made { Answers (with_place commands_seen (place_seen place.new)) result
+        (resolved_all (declared declarations.now) (statements_of (map statement list.now.items)) (place_seen place.old)) }
     ensures outer { IfOk result (λ _. (place_seen place.new).scope.outer ≡ (place_seen place.old).scope.outer) }
 {
     let mut made = Vec::new(alloc);
@@ -106,7 +107,8 @@ fn inside<'p>(
     place: &mut Place<'p>,
     s: &'p Statement,
 ) -> Result<Box<TypedStatement>, ResolveError>
-    ensures made { Answers (with_place command_in (place_seen place.new)) result (in_block (resolved (declared declarations.now) (statement s.now)) (place_seen place.old)) }
+    ensures made { Answers (with_place command_in (place_seen place.new)) result
+        (in_block (resolved (declared declarations.now) (statement s.now)) (place_seen place.old)) }
     ensures outer { IfOk result (λ _. (place_seen place.new).scope.outer ≡ (place_seen place.old).scope.outer) }
 {
     let outer = place.enter();
@@ -126,7 +128,8 @@ fn looped<'p>(
     step: &'p ForStep,
     body: &'p Statement,
 ) -> Result<TypedStatement, ResolveError>
-    ensures made { Answers (with_place command (place_seen place.new)) result (looped (declared declarations.now) (start_tree start.now) (optional e.now) (step_tree step.now) (resolved (declared declarations.now) (statement body.now)) (place_seen place.old)) }
+    ensures made { Answers (with_place command (place_seen place.new)) result
+        (looped (declared declarations.now) (start_tree start.now) (optional e.now) (step_tree step.now) (resolved (declared declarations.now) (statement body.now)) (place_seen place.old)) }
     ensures outer { IfOk result (λ _. (place_seen place.new).scope.outer ≡ (place_seen place.old).scope.outer) }
 {
     let start = started(alloc, declarations, place, start)?;
