@@ -11,8 +11,9 @@ use Rattle.typed_tree.specs.Tree.{TypedTree, TypedTrees, word_node, truth_node, 
 use Rattle.typed_tree.specs.Tree as Tree'
 use Rattle.reached_instances.specs.declared.instance.BoundDomain.{BoundDomain}
 use Rattle.reached_instances.specs.Domains.{Setting, domains}
+use Rattle.typed_tree.specs.Values.{shape_of}
 use Rattle.language_model.specs.Effects.{Effect}
-use Rattle.language_model.specs.Values.{Value, shape_of}
+use Rattle.language_model.specs.Values.{Value}
 use Rattle.language_model.specs.Words.{truth_word}
 use Rattle.language_model.specs.Evaluation.{Frame, Calls, gives_private, slots_of, bound_at, next_is_private, behind_next, either, connective, decides, cut_short, not_cut_short, value, arguments}
 use Rattle.language_model.specs.Reports.{Offered}

@@ -12,15 +12,16 @@ use Rattle.secrec_ast.specs.declared.expression.DataType.TheVariants.{Uint64}
 use Rattle.secrec_ast.specs.declared.expression.DataType.TheVariants as datatype
 use Rattle.gates.specs.declared.gate.Gate.TheVariants.{Const, MulPub, Cat, Part, Put, Rep, Spread, Sum, Open}
 use Rattle.gates.specs.declared.gate.Gate.TheVariants as gates
-use Rattle.gates.specs.Clear.{bits_of}
+use Rattle.gates.specs.Clear.{bits_of, first_word}
 use Rattle.bit_extract.specs.Plan.{bits_plan}
 use Rattle.typed_tree.specs.declared.kinds.Shape.{Shape}
 use Rattle.typed_tree.specs.declared.operators.BinaryOperator.{BinaryOperator}
 use Rattle.typed_tree.specs.declared.operators.Operands.{Operands}
 use Rattle.typed_tree.specs.declared.operators.Cast.{Cast}
 use Rattle.typed_tree.specs.declared.operators.Cast.TheVariants.{WordToWord, WordToBool, BoolToWord, BoolToBool}
+use Rattle.typed_tree.specs.Values.{shape_of}
 use Rattle.language_model.specs.Effects.{Words, words_each, Clear, Answers, World, Stage, Short, Effect, ◌>>=◌, carry, done, test, gate, draw, planned, emit, next_answers, show}
-use Rattle.language_model.specs.Values.{Secrecy, Private, Value, shape_of, plain, is_secret, size, first_word, seen, is_true, ring_for, element_of, elements_of}
+use Rattle.language_model.specs.Values.{Secrecy, Private, Value, plain, is_secret, size, seen, is_true, ring_for, element_of, elements_of}
 use Rattle.language_model.specs.Words as W
 use Rattle.language_model.specs.Operations.{charged, no_traps, largest, not_too_large, number_of, made_private, classified, wanted, read_answer, revealed, opened_from, declassified, stretched, is_scalar_left, is_scalar_right, flip, words_of_operator, operator_gates, is_product, result_shape, private_result, product_with, combined_from, operator_traps, operated, is_classified, operation, negated_from, negated, words_of_cast, cast_shape, cast_gates, changed, cast_from, cast_to, scalar_word, size_told, summed_from, summed, words_for_bits, bits_from, bits_extracted, joined_from, joined, position, element_at, element_from, element_of_array, with_element_from, with_element, filled_from, filled, handed_over, published, tested, asserted}
 use Rattle.language_model.specs.Reports.{Offered, world_of, public_part}

@@ -34,8 +34,9 @@ use Rattle.typed_tree.specs.Commands as Commands'
 use Rattle.typed_tree.specs.Programs.{TypedFunctionTree, TypedProgramTree}
 use Rattle.reached_instances.specs.declared.instance.BoundDomain.{BoundDomain}
 use Rattle.reached_instances.specs.Domains.{Setting, domains}
+use Rattle.typed_tree.specs.Values.{shape_of}
 use Rattle.language_model.specs.Effects.{Words, World, Given, Source, Clear, Answers, Effect, ◌>>=◌, done, end, charge, test, draw, gate, next_number, put_gates, planned, emit, next_answers, answer, show}
-use Rattle.language_model.specs.Values.{Secrecy, Plain, Private, Value, shape_of, plain, hidden, size, seen, default_words, elements_of}
+use Rattle.language_model.specs.Values.{Secrecy, Plain, Private, Value, plain, hidden, size, seen, default_words, elements_of}
 use Rattle.language_model.specs.Words.{flipped, result_size, result_words, are_alike, may_divide}
 use Rattle.language_model.specs.Operations.{charged, is_classified, words_of_operator, is_scalar_left, is_scalar_right, result_shape, made_private, read_answer, words_for_bits, number_from, number_of, classified_from, wanted, revealed, opened_from, declassified, stretched, flip, equal_gates, less_gates, word_gates, bool_gates, operator_gates, private_result, product_with, combined_from, operator_traps, operated, operation, negated_from, negated, cast_gates, changed, cast_from, cast_to, size_told, summed_from, summed, bits_from, bits_extracted, joined_from, joined, element_from, element_of_array, with_element_from, with_element, filled_from, filled, handed_over, published, tested, asserted}
 use Rattle.language_model.specs.Evaluation.{Frame, put, Calls, gives_private, slot_is_private, slots_of, bound_at, next_is_private, behind_next, connective, decides, truth_value, slot_shape, entered, result_of, place_in, array_elements, given_value, asked_for, input_from, input_named, either, cut_short, not_cut_short, value, arguments, Flow, goes, returns, stops, skips, then_do, turns, repeats, Place, stored, execute, execute_all, body_of, call_at, deepest}

@@ -10,7 +10,7 @@ use Rattle.secrec_ast.specs.declared.expression.DataType.{DataType}
 use Rattle.secrec_ast.specs.declared.expression.DataType.TheVariants.{Uint64}
 use Rattle.secrec_ast.specs.declared.expression.DataType.TheVariants as datatype
 use Rattle.gates.specs.declared.gate.Gate.TheVariants.{Const, Add, Sub, MulPub, Mul, Xor, And, Cat, Part, Put, Rep, Spread, Sum, Conv, Open, Result}
-use Rattle.gates.specs.Clear.{bits_of}
+use Rattle.gates.specs.Clear.{bits_of, first_word}
 use Rattle.equality.specs.Plan.{eq_plan}
 use Rattle.bit_extract.specs.Plan.{bits_plan}
 use Rattle.compare.specs.Plan.{less_plan}
@@ -26,8 +26,9 @@ use Rattle.typed_tree.specs.declared.operators.Operands.TheVariants.{Scalars, Ar
 use Rattle.typed_tree.specs.declared.operators.Cast.{Cast}
 use Rattle.typed_tree.specs.declared.operators.Cast.TheVariants.{WordToWord, WordToBool, BoolToWord, BoolToBool}
 use Rattle.typed_tree.specs.Operators.{element_made}
+use Rattle.typed_tree.specs.Values.{shape_of}
 use Rattle.language_model.specs.Effects.{Words, World, Effect, ◌>>=◌, done, charge, test, words_each, draw, gate, planned, next_number, emit, answer, show}
-use Rattle.language_model.specs.Values.{Secrecy, Plain, Private, Value, shape_of, plain, hidden, is_secret, size, first_word, seen, is_true, ring_for, elements_of}
+use Rattle.language_model.specs.Values.{Secrecy, Plain, Private, Value, plain, hidden, is_secret, size, seen, is_true, ring_for, elements_of}
 use Rattle.language_model.specs.Words as W
 
 -- ---- THE PARTS OF AN OPERATION

@@ -1,5 +1,5 @@
 -- What a run computes with.
-use Rattle.std.specs.Prelude.{ℕ, Bool, true, false, not, ◌==◌, List, [], ◌∷◌, Option, Some, None, length, map, get_or}
+use Rattle.std.specs.Prelude.{ℕ, Bool, true, false, not, ◌==◌, List, [], ◌∷◌, Option, Some, None, length, map}
 use Rattle.sc_text.specs.declared.elements.Element.{Element}
 use Rattle.sc_text.specs.declared.elements.Element.TheVariants.{Word, Truth}
 use Rattle.secrec_ast.specs.declared.expression.DataType.{DataType}
@@ -8,6 +8,7 @@ use Rattle.secrec_ast.specs.declared.expression.DataType.TheVariants as datatype
 use Rattle.typed_tree.specs.declared.kinds.Shape.{Shape}
 use Rattle.gates.specs.declared.ring_kind.RingKind.{RingKind}
 use Rattle.gates.specs.declared.ring_kind.RingKind.TheVariants.{Arithmetic, Boolean}
+use Rattle.gates.specs.Clear.{first_word}
 
 -- everybody may see a value, or it is private: then it has the number of a gate's value, unless it was never stored
 pub data Secrecy : Type 0 where
@@ -19,9 +20,6 @@ pub record Value : Type 0 where
   pub secrecy : Secrecy
   pub shape : Shape
   pub words : List ℕ
-
-abbrev pub shape_of : DataType → (array : Bool) → Shape
-shape_of element array = record { element = element; array = array }
 
 abbrev pub plain : Shape → List ℕ → Value
 plain shape words = record { secrecy = Plain; shape = shape; words = words }
@@ -36,9 +34,6 @@ is_secret (Private k) = true
 
 abbrev pub size : Value → ℕ
 size v = length v.words
-
-abbrev pub first_word : List ℕ → ℕ
-first_word words = get_or words 0 0
 
 -- what control may look at: nothing of a private value
 abbrev pub seen_of : Secrecy → List ℕ → List ℕ

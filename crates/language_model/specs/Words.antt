@@ -2,7 +2,7 @@
 use Rattle.std.specs.Prelude.{ℕ, ◌/◌, ◌%◌, Bool, true, false, not, ◌==◌, nat_lt, nat_le, nat_eq, List, replicate, bit_and, bit_or, bit_xor}
 use Rattle.std.specs.List.{list_any}
 use Rattle.share_ring.specs.Rings.{add_ring}
-use Rattle.gates.specs.Clear.{each_two}
+use Rattle.gates.specs.Clear.{each_two, first_word}
 use Rattle.typed_tree.specs.declared.operators.WordOperator.{WordOperator}
 use Rattle.typed_tree.specs.declared.operators.WordOperator.TheVariants as word
 use Rattle.typed_tree.specs.declared.operators.BoolOperator.{BoolOperator}
@@ -13,7 +13,7 @@ use Rattle.typed_tree.specs.declared.operators.Operands.{Operands}
 use Rattle.typed_tree.specs.declared.operators.Operands.TheVariants.{Scalars, ArrayAndScalar, ScalarAndArray, Arrays}
 use Rattle.typed_tree.specs.declared.operators.Cast.{Cast}
 use Rattle.typed_tree.specs.declared.operators.Cast.TheVariants.{WordToWord, WordToBool, BoolToWord, BoolToBool}
-use Rattle.language_model.specs.Values.{Value, size, first_word}
+use Rattle.language_model.specs.Values.{Value, size}
 
 abbrev pub truth_word : Bool → ℕ
 truth_word true = 1
