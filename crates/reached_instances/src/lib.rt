@@ -8,10 +8,14 @@ mod expressions;
 mod instance;
 mod laws;
 mod reaching;
+mod seeing;
 mod setting;
 mod templates;
 
+pub use binding::binding_of;
 pub use instance::{BoundDomain, Instance};
 pub use laws::one_list;
 pub use reaching::reached_instances;
+pub use seeing::{domain, domains};
+pub use setting::{Setting, domain_under, given_domain, slot_domain};
 pub use templates::template_count;

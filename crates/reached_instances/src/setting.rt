@@ -14,8 +14,8 @@ pub struct Setting<'a> {
     pub binding: &'a [BoundDomain],
 }
 
-// The domain that is written at a slot or a result, under a binding.
-fn domain_under(binding: &[BoundDomain], domain: SlotDomain) -> BoundDomain
+/// The domain that is written at a slot or a result, under a binding.
+pub fn domain_under(binding: &[BoundDomain], domain: SlotDomain) -> BoundDomain
     ensures { result ≡ domain_under binding.now domain }
 {
     match domain {
