@@ -24,11 +24,19 @@ pub record DealAsk : Type 0 where
 pub record CheckAsk : Type 0 where
   pub program : Text
 
+-- of `eval` and of `need`
+pub record EvalAsk : Type 0 where
+  pub program : Text
+  pub input : Text
+  pub budget : ℕ
+
 -- a command, without where its words lie in memory
 pub data Ask : Type 0 where
   run : RunAsk → Ask
   deal : DealAsk → Ask
   check : CheckAsk → Ask
+  eval : EvalAsk → Ask
+  need : EvalAsk → Ask
 
 infixl 10 ◌>>=◌
 abbrev pub ◌>>=◌ : {A B : Type 0} → Option A → (A → Option B) → Option B
@@ -86,12 +94,23 @@ deal_of rows = Some (record {
 unfoldable pub check_of : List Row → Option CheckAsk
 check_of rows = Some (record { program = required_of (codes "program") rows })
 
+unfoldable pub eval_of : List Row → Option EvalAsk
+eval_of rows = do
+  budget ← number_or default_budget (first_of (codes "budget") rows)
+  Some (record {
+    program = required_of (codes "program") rows;
+    input = required_of (codes "input") rows;
+    budget = budget;
+  })
+
 -- the command of this name, with what `clap` matched behind its name
 unfoldable pub named : Text → List Row → Option Ask
 named name rows =
     if bytes_eq name (codes "run") then option_map run (run_of rows)
     else if bytes_eq name (codes "deal") then option_map deal (deal_of rows)
     else if bytes_eq name (codes "check") then option_map check (check_of rows)
+    else if bytes_eq name (codes "eval") then option_map eval (eval_of rows)
+    else if bytes_eq name (codes "need") then option_map need (eval_of rows)
     else None
 
 -- this, where nothing refuses the words

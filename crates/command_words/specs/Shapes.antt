@@ -37,6 +37,13 @@ deal_app = command_app (codes "deal") [] (codes "input" ∷ codes "tape" ∷ cod
 unfoldable pub check_app : App
 check_app = command_app (codes "check") (codes "program" ∷ []) [] []
 
+unfoldable pub eval_options : List Text
+eval_options = codes "budget" ∷ []
+
+-- `eval` or `need` PROGRAM --input F, and the budget
+unfoldable pub evaluation_app : Text → App
+evaluation_app name = command_app name (codes "program" ∷ []) (codes "input" ∷ []) eval_options
+
 -- no command yet: the words begin after the program's name, and `help` is no command
 unfoldable pub bare_app : App
 bare_app = record (new_app (codes "secrec")) { top = record (new_app (codes "secrec")).top { no_binary_name = true; disable_help_subcommand = true } }
@@ -45,6 +52,10 @@ bare_app = record (new_app (codes "secrec")) { top = record (new_app (codes "sec
 unfoldable pub input_app : App
 input_app = with_subcommand (with_subcommand bare_app run_app.top) deal_app.top
 
+-- and those that evaluate in the clear
+unfoldable pub clear_app : App
+clear_app = with_subcommand (with_subcommand input_app (evaluation_app (codes "eval")).top) (evaluation_app (codes "need")).top
+
 -- all commands
 unfoldable pub secrec_app : App
-secrec_app = with_subcommand input_app check_app.top
+secrec_app = with_subcommand clear_app check_app.top

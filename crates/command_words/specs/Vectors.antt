@@ -4,13 +4,13 @@ use Rattle.std.specs.Bool.{⊤}
 use Rattle.clap.specs.Words.{Text}
 use Rattle.clap.proofs.OnLiterals.{clap_on_literals}
 use Rattle.hex.proofs.OnLiterals.{hex_on_literals}
-use Rattle.command_words.specs.Ask.{Ask, run, deal, check, file, seeded, words_of, named_in, named, matched, run_of, deal_of, check_of, source_of, seeded_source, number_or, required_of}
+use Rattle.command_words.specs.Ask.{Ask, run, deal, check, eval, need, file, seeded, words_of, named_in, named, matched, run_of, deal_of, check_of, eval_of, source_of, seeded_source, number_or, required_of}
 use Rattle.command_words.specs.Numbers.{number_of, seed_of}
-use Rattle.command_words.specs.Shapes.{secrec_app, input_app, run_app, deal_app, check_app, command_app, bare_app, run_options, with_options, word_rule, option_rule}
+use Rattle.command_words.specs.Shapes.{secrec_app, clear_app, input_app, run_app, deal_app, check_app, evaluation_app, command_app, bare_app, run_options, eval_options, with_options, word_rule, option_rule}
 
 -- opens the definitions, so that they compute at words that are written out
 unfoldable pub words_on_literals : ⊤
-unfolding clap_on_literals hex_on_literals secrec_app input_app run_app deal_app check_app command_app bare_app run_options with_options word_rule option_rule words_of named_in named matched run_of deal_of check_of source_of seeded_source number_or required_of number_of seed_of
+unfolding clap_on_literals hex_on_literals secrec_app clear_app input_app run_app deal_app check_app evaluation_app command_app bare_app run_options eval_options with_options word_rule option_rule words_of named_in named matched run_of deal_of check_of eval_of source_of seeded_source number_or required_of number_of seed_of
 words_on_literals = tt
 
 -- run p.sc --input i, and then these words
@@ -123,6 +123,25 @@ check_without_program = refl
 check_with_option : words_of (codes "check" ∷ codes "p.sc" ∷ codes "--input" ∷ codes "i" ∷ []) ≡ None
 unfolding words_on_literals
 check_with_option = refl
+
+eval_words : words_of (codes "eval" ∷ codes "p.sc" ∷ codes "--input" ∷ codes "i" ∷ [])
+    ≡ Some (eval (record { program = codes "p.sc"; input = codes "i"; budget = 1000000 }))
+unfolding words_on_literals
+eval_words = refl
+
+need_words : words_of (codes "need" ∷ codes "--budget=006" ∷ codes "--input=i" ∷ codes "p.sc" ∷ [])
+    ≡ Some (need (record { program = codes "p.sc"; input = codes "i"; budget = 6 }))
+unfolding words_on_literals
+need_words = refl
+
+eval_without_input : words_of (codes "eval" ∷ codes "p.sc" ∷ []) ≡ None
+unfolding words_on_literals
+eval_without_input = refl
+
+-- no tape is read where nothing but clear values are evaluated
+need_with_tape : words_of (codes "need" ∷ codes "p.sc" ∷ codes "--input=i" ∷ codes "--tape=t" ∷ []) ≡ None
+unfolding words_on_literals
+need_with_tape = refl
 
 no_words : words_of [] ≡ None
 unfolding words_on_literals

@@ -10,11 +10,12 @@ use Rattle.command_words.specs.declared.command.TapeSource.TheVariants as source
 use Rattle.command_words.specs.declared.command.RunWords.{RunWords}
 use Rattle.command_words.specs.declared.command.DealWords.{DealWords}
 use Rattle.command_words.specs.declared.command.CheckWords.{CheckWords}
+use Rattle.command_words.specs.declared.command.EvalWords.{EvalWords}
 use Rattle.command_words.specs.declared.command.Command.{Command}
 use Rattle.command_words.specs.declared.command.Command.TheVariants as commands
 use Rattle.command_words.specs.declared.command.WordsErr.{WordsErr}
 use Rattle.command_words.specs.declared.command.WordsErr.TheVariants.{Usage, Memory}
-use Rattle.command_words.specs.Ask.{Ask, CheckAsk, DealAsk, RunAsk, Source, check, deal, file, run, seeded}
+use Rattle.command_words.specs.Ask.{Ask, CheckAsk, DealAsk, EvalAsk, RunAsk, Source, check, deal, eval, file, need, run, seeded}
 
 abbrev pub source_ask : TapeSource → Source
 source_ask (sources.File path) = file (string_bytes path)
@@ -34,10 +35,15 @@ deal_ask w = record { input = string_bytes w.input; tape = string_bytes w.tape; 
 abbrev pub check_ask : CheckWords → CheckAsk
 check_ask w = record { program = string_bytes w.program }
 
+abbrev pub eval_ask : EvalWords → EvalAsk
+eval_ask w = record { program = string_bytes w.program; input = string_bytes w.input; budget = w.budget }
+
 abbrev pub ask_of : Command → Ask
 ask_of (commands.Run w) = run (run_ask w)
 ask_of (commands.Deal w) = deal (deal_ask w)
 ask_of (commands.Check w) = check (check_ask w)
+ask_of (commands.Eval w) = eval (eval_ask w)
+ask_of (commands.Need w) = need (eval_ask w)
 
 -- the answer, seen by `view`, is the value that is wanted; Usage says that there is none, and Memory says nothing
 abbrev pub Reads : {X Y : Type 0} → (X → Y) → Option Y → Result X WordsErr → Type 0

@@ -1,6 +1,6 @@
 //! The `clap` command that reads the words.
 ghost use Rattle.std.specs.Prelude.{◌≡◌, IfOk, map};
-ghost use Rattle.command_words.specs.Shapes.{word_rule, option_rule, run_options, run_app, deal_app, check_app, input_app, secrec_app};
+ghost use Rattle.command_words.specs.Shapes.{word_rule, option_rule, run_options, run_app, deal_app, check_app, eval_options, evaluation_app, input_app, clear_app, secrec_app};
 ghost use Rattle.command_words.specs.Builds.{Builds, GetsOptions, IsLocal};
 
 use clap::{Arg, Command};
@@ -45,6 +45,10 @@ static RUN_OPTIONS: [&str; 4] = ["tape", "seed", "words", "budget"];
 
 static DEAL_REQUIRED: [&str; 3] = ["input", "tape", "to"];
 
+static EVAL_REQUIRED: [&str; 1] = ["input"];
+
+static EVAL_OPTIONS: [&str; 1] = ["budget"];
+
 // The options of `run` that may be left out.
 #[tactic(auto, unfolding(crate::specs::Shapes::run_options))]
 fn run_options() -> &'static [&'static str]
@@ -81,6 +85,24 @@ fn check_command<'a>(alloc: Global) -> Result<Command<'a>, AllocError>
     Command::new(alloc, "check").arg(word(alloc, "program"))
 }
 
+// The options of `eval` and of `need` that may be left out.
+#[tactic(auto, unfolding(crate::specs::Shapes::eval_options))]
+fn eval_options() -> &'static [&'static str]
+    ensures { map (λ s. s.now) result.now ≡ eval_options }
+{
+    EVAL_OPTIONS.as_slice()
+}
+
+// The command of this name that evaluates a program.
+#[tactic(auto, unfolding(crate::specs::Shapes::evaluation_app, crate::specs::Shapes::command_app))]
+fn evaluation_command<'a>(alloc: Global, name: &'a str) -> Result<Command<'a>, AllocError>
+    ensures { IfOk result (λ c. Builds (evaluation_app name.entry.now) c) }
+{
+    let command = Command::new(alloc, name).arg(word(alloc, "program"))?;
+    let command = with_options(alloc, command, true, EVAL_REQUIRED.as_slice())?;
+    with_options(alloc, command, false, eval_options())
+}
+
 // The commands that take inputs. The words begin after the program's name, and `help` names no command.
 #[tactic(auto, unfolding(crate::specs::Shapes::input_app, crate::specs::Shapes::bare_app))]
 fn input_commands<'a>(alloc: Global) -> Result<Command<'a>, AllocError>
@@ -93,10 +115,20 @@ fn input_commands<'a>(alloc: Global) -> Result<Command<'a>, AllocError>
         .subcommand(deal_command(alloc)?)
 }
 
+// Those, and the commands that evaluate in the clear.
+#[tactic(auto, unfolding(crate::specs::Shapes::clear_app))]
+fn clear_commands<'a>(alloc: Global) -> Result<Command<'a>, AllocError>
+    ensures { IfOk result (λ c. Builds clear_app c) }
+{
+    input_commands(alloc)?
+        .subcommand(evaluation_command(alloc, "eval")?)?
+        .subcommand(evaluation_command(alloc, "need")?)
+}
+
 /// The whole command.
 #[tactic(auto, unfolding(crate::specs::Shapes::secrec_app))]
 pub(crate) fn secrec_command<'a>(alloc: Global) -> Result<Command<'a>, AllocError>
     ensures { IfOk result (λ c. Builds secrec_app c) }
 {
-    input_commands(alloc)?.subcommand(check_command(alloc)?)
+    clear_commands(alloc)?.subcommand(check_command(alloc)?)
 }

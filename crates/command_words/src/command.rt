@@ -37,10 +37,20 @@ pub struct CheckWords {
     pub program: String,
 }
 
+/// The words of `eval` and of `need`: the paths of the program and the input file, and the most that the evaluation may cost.
+#[derive(Debug, Drop)]
+pub struct EvalWords {
+    pub program: String,
+    pub input: String,
+    pub budget: u64,
+}
+
 /// A command, with its words.
 #[derive(Drop)]
 pub enum Command {
     Check(CheckWords),
+    Eval(EvalWords),
+    Need(EvalWords),
     Run(RunWords),
     Deal(DealWords),
 }

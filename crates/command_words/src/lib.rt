@@ -13,6 +13,6 @@ mod tape_seed;
 mod tests;
 mod values;
 
-pub use command::{CheckWords, Command, DealWords, RunWords, TapeSource, WordsErr};
+pub use command::{CheckWords, Command, DealWords, EvalWords, RunWords, TapeSource, WordsErr};
 pub use reading::read;
 pub use tape_seed::TapeSeed;

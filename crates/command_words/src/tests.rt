@@ -36,6 +36,12 @@ fn shown(alloc: Global, line: &str) -> Result<String, AllocError> {
             format!(in alloc; "deal {} {} {}", deal.input, deal.tape, deal.to)
         }
         Ok(Command::Check(check)) => format!(in alloc; "check {}", check.program),
+        Ok(Command::Eval(words)) => {
+            format!(in alloc; "eval {} {} {}", words.program, words.input, words.budget)
+        }
+        Ok(Command::Need(words)) => {
+            format!(in alloc; "need {} {} {}", words.program, words.input, words.budget)
+        }
         Err(WordsErr::Usage) => String::from_str(alloc, "usage"),
         Err(WordsErr::Memory) => String::from_str(alloc, "memory"),
     }
@@ -67,6 +73,13 @@ fn words_that_are_read(rt: HostRuntime) -> Result<(), Fail> {
         ("check p", "check p"),
         ("check -- --p", "check --p"),
         ("check ", "check "),
+        ("eval p --input i", "eval p i 1000000"),
+        ("eval --budget 007 --input=-i p", "eval p -i 7"),
+        (
+            "need --input i --budget=18446744073709551615 -- --p",
+            "need --p i 18446744073709551615",
+        ),
+        ("need p --input i", "need p i 1000000"),
     ];
     for (line, wanted) in rows {
         let text = shown(alloc, line)?;
@@ -115,6 +128,17 @@ fn words_that_are_refused(rt: HostRuntime) -> Result<(), Fail> {
         "check p --input i",
         "check p --help",
         "Check p",
+        "eval",
+        "eval p",
+        "eval --input i",
+        "eval p q --input i",
+        "eval p --input i --tape t",
+        "eval p --input i --budget 18446744073709551616",
+        "eval p --input i --budget -1",
+        "need p --input i --budget=x",
+        "need p --input i --seed 00",
+        "need p --input i --input i",
+        "need p",
     ];
     for line in lines {
         let text = shown(alloc, line)?;

@@ -1,10 +1,10 @@
 //! What a command's words give, once `clap` has matched them.
-ghost use Rattle.std.specs.Prelude.{◌≡◌, option_map, IfOk, string_bytes};
+ghost use Rattle.std.specs.Prelude.{◌≡◌, option_map, IfOk, string_bytes, codes};
 ghost use Rattle.clap.specs.Words.{found_of, first_of, rows_of};
-ghost use Rattle.command_words.specs.Ask.{required_of, number_or, seeded_source, source_of, run_of, deal_of, check_of, named};
-ghost use Rattle.command_words.specs.Views.{Reads, text_in, source_ask, run_ask, deal_ask, check_ask, ask_of};
+ghost use Rattle.command_words.specs.Ask.{required_of, default_budget, number_or, seeded_source, source_of, run_of, deal_of, check_of, eval_of, named};
+ghost use Rattle.command_words.specs.Views.{Reads, text_in, source_ask, run_ask, deal_ask, check_ask, eval_ask, ask_of};
 
-use crate::command::{CheckWords, Command, DealWords, RunWords, TapeSource, WordsErr};
+use crate::command::{CheckWords, Command, DealWords, EvalWords, RunWords, TapeSource, WordsErr};
 use crate::numbers::{number, seed};
 use crate::tape_seed::TapeSeed;
 use clap::ArgMatches;
@@ -73,6 +73,13 @@ fn source(
     }
 }
 
+// The most that a run may cost.
+fn budget_in(matches: &ArgMatches) -> Option<u64>
+    ensures { result ≡ number_or default_budget (first_of (codes "budget") (rows_of (found_of matches.now))) }
+{
+    number_or(DEFAULT_BUDGET, value(matches, "budget"))
+}
+
 // The words of `run`.
 #[tactic(auto, unfolding(crate::specs::Ask::run_of))]
 fn run_words(alloc: Global, matches: &ArgMatches) -> Result<RunWords, WordsErr>
@@ -84,7 +91,7 @@ fn run_words(alloc: Global, matches: &ArgMatches) -> Result<RunWords, WordsErr>
         value(matches, "seed"),
         value(matches, "words"),
     )?;
-    let Some(budget) = number_or(DEFAULT_BUDGET, value(matches, "budget")) else {
+    let Some(budget) = budget_in(matches) else {
         return Err(WordsErr::Usage);
     };
     Ok(RunWords {
@@ -117,6 +124,21 @@ fn check_words(alloc: Global, matches: &ArgMatches) -> Result<CheckWords, WordsE
     })
 }
 
+// The words of `eval` and of `need`.
+#[tactic(auto, unfolding(crate::specs::Ask::eval_of))]
+fn eval_words(alloc: Global, matches: &ArgMatches) -> Result<EvalWords, WordsErr>
+    ensures { Reads eval_ask (eval_of (rows_of (found_of matches.now))) result }
+{
+    let Some(budget) = budget_in(matches) else {
+        return Err(WordsErr::Usage);
+    };
+    Ok(EvalWords {
+        program: required(alloc, matches, "program")?,
+        input: required(alloc, matches, "input")?,
+        budget,
+    })
+}
+
 /// The command of this name, with what `clap` matched behind its name.
 #[tactic(auto, unfolding(crate::specs::Ask::named))]
 pub(crate) fn named(alloc: Global, name: &str, matches: &ArgMatches) -> Result<Command, WordsErr>
@@ -130,6 +152,12 @@ pub(crate) fn named(alloc: Global, name: &str, matches: &ArgMatches) -> Result<C
     }
     if name == "check" {
         return Ok(Command::Check(check_words(alloc, matches)?));
+    }
+    if name == "eval" {
+        return Ok(Command::Eval(eval_words(alloc, matches)?));
+    }
+    if name == "need" {
+        return Ok(Command::Need(eval_words(alloc, matches)?));
     }
     Err(WordsErr::Usage)
 }

@@ -14,7 +14,8 @@ use Rattle.command_frame.specs.declared.stop.Stop.TheVariants as stops
 use Rattle.command_frame.specs.Answer.{Cause, bytes_at, missing}
 use Rattle.command_frame.specs.Reads.{Stops}
 use Rattle.command_frame.specs.Stops.{IsRefusalFor}
-use Rattle.run_engine.specs.Judging.{JudgedAt, HasJudgement, StopTells, Tells}
+use Rattle.program_limits.specs.declared.limit_error.LimitError.TheVariants.{Memory}
+use Rattle.run_engine.specs.Judging.{JudgedAt, HasJudgement, Sized, Finding, HasFinding, nothing, its_text, StopTells, Tells}
 use Rattle.run_engine.specs.Programs.{accepted, start, tree_at}
 
 -- the bytes that were read are those of the file
@@ -48,14 +49,17 @@ judgement_known files path bytes known is judged =
     same b there = let both : Some bytes ≡ Some b = sym (found_there files path bytes is) ∙ there in cc
 
 -- any judgement, of no text
-abbrev some : Judged
+abbrev pub some : Judged
 some = Err (record { fault = BadByte; place = start })
 
-pub judgement_of_none : (files : Contents) (path : List ℕ) (c : Cause) → bytes_at files path ≡ Err c → HasJudgement (Some path) files
-judgement_of_none files path c is = (some, λ b there. absurd (wrong b there))
+pub no_text : (files : Contents) (path : List ℕ) (c : Cause) → bytes_at files path ≡ Err c → JudgedAt (Some path) files some
+no_text files path c is = λ b there. absurd (wrong b there)
   where
     wrong : (b : List ℕ) → file_at files path ≡ Some b → ⊥
     wrong b there = let both : None ≡ Some b = sym (not_there files path c is) ∙ there in cc
+
+pub judgement_of_none : (files : Contents) (path : List ℕ) (c : Cause) → bytes_at files path ≡ Err c → HasJudgement (Some path) files
+judgement_of_none files path c is = (some, no_text files path c is)
 
 -- a file that could not be read, of a store that tells
 pub unread : (files : FilesState) (new : FilesState) (path : List ℕ) (stop : Stop) → Stops files new stop (bytes_at files.contents path)
@@ -91,5 +95,16 @@ pub refusal_only : (bytes : List ℕ) (e : ProgramErr) (fault : ProgramFault) �
     → (j : Judged) → IsJudged bytes j → j ≡ Err fault
 refusal_only bytes e fault is only j judged = subst (λ (x : ProgramErr). IsJust (Err x) j) is (only j judged)
 
-pub judgement_of_nothing : (files : Contents) → HasJudgement None files
-judgement_of_nothing files = (some, tt)
+-- any size, of no program
+abbrev pub any_size : Sized
+any_size = Err Memory
+
+-- of the text alone
+abbrev pub text_alone : Judged → Finding
+text_alone judged = record { judged = judged; sized = any_size }
+
+pub found_text : (files : Contents) (path : List ℕ) → HasJudgement (Some path) files → HasFinding (its_text path) files
+found_text files path (judged, at) = (text_alone judged, at)
+
+pub found_nothing : (files : Contents) → HasFinding nothing files
+found_nothing files = (text_alone some, tt)

@@ -1,7 +1,10 @@
+pub mod EvalRefusals
+pub mod Evals
 pub mod Judged
 pub mod Planned
 pub mod Refusals
 pub mod Runs
+pub mod Sizes
 pub mod SumTrees
 pub mod Sums
 pub mod Tops

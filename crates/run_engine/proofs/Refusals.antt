@@ -28,15 +28,15 @@ use Rattle.run_engine.specs.SumReading.{sum_program_of}
 use Rattle.run_engine.proofs.SumTrees.{reading_is_tree}
 
 -- of two steps the first is refused, or both are done
-abbrev Steps : {A B : Type 0} → Result A Cause → (A → Result B Cause) → Result B Cause → Type 0
+abbrev pub Steps : {A B : Type 0} → Result A Cause → (A → Result B Cause) → Result B Cause → Type 0
 Steps {A} x f r = ((c : Cause) × (x ≡ Err c) × (r ≡ Err c)) ⊎ ((v : A) × (x ≡ Ok v) × (f v ≡ r))
 
-steps : {A B : Type 0} (x : Result A Cause) (f : A → Result B Cause) (r : Result B Cause) → x >>= f ≡ r → Steps x f r
+pub steps : {A B : Type 0} (x : Result A Cause) (f : A → Result B Cause) (r : Result B Cause) → x >>= f ≡ r → Steps x f r
 steps (Ok v) f r is = inr (v, refl, is)
 steps (Err c) f r is = inl (c, refl, sym is)
 
 -- a file is there, or the refusal says that it is missing
-there_or_missing : (files : Contents) (path : List ℕ) (r : Result (List ℕ) Cause) → bytes_at files path ≡ r
+pub there_or_missing : (files : Contents) (path : List ℕ) (r : Result (List ℕ) Cause) → bytes_at files path ≡ r
     → ((bytes : List ℕ) × (file_at files path ≡ Some bytes) × (r ≡ Ok bytes)) ⊎ (r ≡ Err (missing path))
 unfolding bytes_at
 there_or_missing files path r is = at (file_at files path) is
@@ -52,7 +52,7 @@ read_cases cause (Ok v) r is = inr (v, sym is)
 read_cases cause (Err e) r is = inl (e, refl, sym is)
 
 -- a refusal of a reader of a file: the file is missing, or it is there and refused
-abbrev ReadRefused : {A E : Type 0} → Contents → List ℕ → (E → Cause) → (List ℕ → Result A E) → Cause → Type 0
+abbrev pub ReadRefused : {A E : Type 0} → Contents → List ℕ → (E → Cause) → (List ℕ → Result A E) → Cause → Type 0
 ReadRefused {A} {E} files path cause read c = (c ≡ missing path) ⊎ ((bytes : List ℕ) × (e : E) × (file_at files path ≡ Some bytes) × (read bytes ≡ Err e) × (c ≡ cause e))
 
 abbrev Bytes : Type 0
@@ -99,13 +99,13 @@ pub record Refuses (s : Status) : Type 0 where
   pub refusal : is_refusal s ≡ true
   pub no_end : is_end s ≡ false
 
-abbrev status_of_cause : Cause → Status
+abbrev pub status_of_cause : Cause → Status
 status_of_cause c = c.status
 
-refusing : (r : Answer) (c : Cause) → r ≡ Err c → status_in_answer r ≡ c.status
+pub refusing : (r : Answer) (c : Cause) → r ≡ Err c → status_in_answer r ≡ c.status
 refusing r c is = ap status_in_answer is
 
-not_missing : {X : Type 0} (r : Answer) (c : Cause) (path : List ℕ) → Refuses (status_in_answer r) → r ≡ Err c → c ≡ missing path → X
+pub not_missing : {X : Type 0} (r : Answer) (c : Cause) (path : List ℕ) → Refuses (status_in_answer r) → r ≡ Err c → c ≡ missing path → X
 not_missing r c path why is missed =
     let file : status_in_answer r ≡ statuses.File = refusing r c is ∙ ap status_of_cause missed in
     let wrong : is_refusal statuses.File ≡ true = subst (λ (x : Status). is_refusal x ≡ true) file why.refusal in
@@ -117,7 +117,7 @@ end_is (endings.Trap kind line) = refl
 end_is endings.Budget = refl
 end_is (endings.Tape owner need have) = refl
 
-no_ending : {X : Type 0} (s : Status) (how : Ending) → Refuses s → s ≡ status_of how → X
+pub no_ending : {X : Type 0} (s : Status) (how : Ending) → Refuses s → s ≡ status_of how → X
 no_ending s how why is =
     let ends : is_end s ≡ true = ap is_end is ∙ end_is how in
     let no : is_end s ≡ false = why.no_end in
@@ -126,11 +126,11 @@ no_ending s how why is =
 -- ---- the program
 
 -- a program that was read, or why it wasn't
-abbrev TreeRead : Contents → List ℕ → Result ProgramTree Cause → Type 0
+abbrev pub TreeRead : Contents → List ℕ → Result ProgramTree Cause → Type 0
 TreeRead files path (Ok tree) = HoldsProgram path files tree
 TreeRead files path (Err c) = (c ≡ missing path) ⊎ ((status_of_cause c ≡ statuses.Program) × HoldsBadProgram path files)
 
-bad_status : (fault : ProgramFault) → status_of_cause (bad_program fault) ≡ statuses.Program
+pub bad_status : (fault : ProgramFault) → status_of_cause (bad_program fault) ≡ statuses.Program
 unfolding bad_program
 bad_status fault = refl
 
@@ -146,7 +146,7 @@ tree_read files path bytes there (Ok tree) h r is = subst (TreeRead files path) 
 tree_read files path bytes there (Err fault) h r is =
     subst (TreeRead files path) is (inr (bad_status fault, record { bytes = bytes; there = there; fault = fault; refused = h }))
 
-tree_cases : (judged : Judged) (files : Contents) (path : List ℕ) → JudgedAt (Some path) files judged → (r : Result ProgramTree Cause) → tree_at judged files path ≡ r → TreeRead files path r
+pub tree_cases : (judged : Judged) (files : Contents) (path : List ℕ) → JudgedAt (Some path) files judged → (r : Result ProgramTree Cause) → tree_at judged files path ≡ r → TreeRead files path r
 unfolding tree_at
 tree_cases judged files path h r is =
     elim (steps (bytes_at files path) (λ bytes. accepted judged) r is) [
@@ -194,7 +194,7 @@ sum_cases judged files path h r is =
 
 -- ---- the other files
 
-inputs_refused : (files : Contents) (path : List ℕ) (c : Cause) → inputs_at files path ≡ Err c → ReadRefused files path bad_input inputs_read_of c
+pub inputs_refused : (files : Contents) (path : List ℕ) (c : Cause) → inputs_at files path ≡ Err c → ReadRefused files path bad_input inputs_read_of c
 unfolding inputs_at
 inputs_refused files path c is = read_refused files path bad_input inputs_read_of c is
 
@@ -203,7 +203,7 @@ unfolding tapes_at tape_file_at
 tapes_refused files (file path) c is = (path, refl, read_refused files path bad_tape tapes_read_of c is)
 tapes_refused files (seeded seed words) c is = absurd cc
 
-input_status : (err : ReadErr) → status_of_cause (bad_input err) ≡ statuses.Input
+pub input_status : (err : ReadErr) → status_of_cause (bad_input err) ≡ statuses.Input
 unfolding bad_input
 input_status err = refl
 

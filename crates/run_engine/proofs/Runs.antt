@@ -1,4 +1,5 @@
--- What the answers of the commands are, for files that are as they must be, and for files that are refused.
+-- What the answers of the commands are, for files that are as they must be, and for files that are refused. `eval` and `need` have
+-- a file of their own.
 use Rattle.std.proofs.Common.{◌≡◌, ◌≤◌, ◌⊎◌, ℕ, List, length, true, false, Option, Some, None, Ok, Err, refl, ap, subst, sym, ◌∙◌, inl, inr, arith}
 use Rattle.std.specs.Prelude.{nat_lt}
 use Rattle.std.proofs.lemmas.Bool.Decides.{nat_tests}
@@ -20,13 +21,14 @@ use Rattle.value_file.specs.declared.inputs.Entry.{Entry}
 use Rattle.run_engine.specs.Deal.{deal_of, deal_effect, deal_writes}
 use Rattle.run_engine.specs.Outcome.{Outcome, outcome_of, status_of}
 use Rattle.run_engine.specs.Check.{check_of, check_effect, check_text}
-use Rattle.run_engine.specs.Judging.{JudgedAt, HasJudgement}
+use Rattle.run_engine.specs.Judging.{JudgedAt, Finding, FoundAt, HasFinding, Question, nothing}
 use Rattle.run_engine.specs.Programs.{bad_program, not_yet, sum_at, tree_at}
 use Rattle.run_engine.specs.Run.{bad_input, bad_tape, inputs_at, outcome_text, run_effect, run_of, tape_file_at, tapes_at}
 use Rattle.run_engine.specs.Runs.{HoldsProgram, HoldsBadProgram, HoldsSum, HoldsRun, HoldsDeal, CheckRefused, RunRefused, cannot_run_yet, bad_program as program_refused, bad_input as input_refused, bad_tape as tape_refused}
 use Rattle.run_engine.specs.SumProgram.{SumProgram, IsSumProgram}
 use Rattle.run_engine.specs.SumReading.{sum_program_of}
-use Rattle.run_engine.specs.Words.{answer_to, answer_of, program_in, program_named, IsAnswer, HasAnswer}
+use Rattle.run_engine.specs.Words.{answer_to, answer_of, program_in, program_named, question_of, question_in, IsAnswer, HasAnswer}
+use Rattle.run_engine.proofs.Judged.{text_alone}
 use Rattle.run_engine.proofs.Refusals.{Refuses, check_refused_only, refused_only, status_in_answer}
 use Rattle.run_engine.proofs.SumTrees.{reading_is_tree}
 
@@ -36,43 +38,47 @@ pub no_command : (words : List (List ℕ)) (files : Contents) (answer : Answer) 
 unfolding answer_of
 no_command words files answer a none = a.is ∙ rw none refl
 
-answered_by : (words : List (List ℕ)) (ask : Ask) (judged : Judged) (files : Contents) → words_of words ≡ Some ask → answer_of judged words files ≡ answer_to judged ask files
+answered_by : (words : List (List ℕ)) (ask : Ask) (found : Finding) (files : Contents) → words_of words ≡ Some ask → answer_of found words files ≡ answer_to found ask files
 unfolding answer_of
-answered_by words ask judged files e = rw e refl
+answered_by words ask found files e = rw e refl
 
 program_by : (words : List (List ℕ)) (ask : Ask) → words_of words ≡ Some ask → program_named words ≡ program_in ask
 unfolding program_named
 program_by words ask e = rw e refl
 
-no_program : (words : List (List ℕ)) → words_of words ≡ None → program_named words ≡ None
-unfolding program_named
-no_program words e = rw e refl
+question_by : (words : List (List ℕ)) (ask : Ask) → words_of words ≡ Some ask → question_in words ≡ question_of ask
+unfolding question_in
+question_by words ask e = rw e refl
 
--- an answer to the words is the command's, of a judgement of its program
-abbrev CommandAnswers : Ask → Contents → Answer → Type 0
-CommandAnswers ask files answer = (judged : Judged) × JudgedAt (program_in ask) files judged × (answer_to judged ask files ≡ answer)
+no_question : (words : List (List ℕ)) → words_of words ≡ None → question_in words ≡ nothing
+unfolding question_in
+no_question words e = rw e refl
+
+-- an answer to the words is the command's, of what is found of its program
+abbrev pub CommandAnswers : Ask → Contents → Answer → Type 0
+CommandAnswers ask files answer = (found : Finding) × FoundAt (question_of ask) files found × (answer_to found ask files ≡ answer)
 
 pub command_answers : (words : List (List ℕ)) (ask : Ask) (files : Contents) (answer : Answer) → words_of words ≡ Some ask → IsAnswer words files answer → CommandAnswers ask files answer
 command_answers words ask files answer e a =
-    (a.judged, subst (λ (p : Option (List ℕ)). JudgedAt p files a.judged) (program_by words ask e) a.of_text, sym (a.is ∙ answered_by words ask a.judged files e))
+    (a.found, subst (λ (q : Question). FoundAt q files a.found) (question_by words ask e) a.of_program, sym (a.is ∙ answered_by words ask a.found files e))
 
 -- and the other way round
-pub is_answer : (words : List (List ℕ)) (ask : Ask) (files : Contents) (judged : Judged) → words_of words ≡ Some ask → JudgedAt (program_in ask) files judged → IsAnswer words files (answer_to judged ask files)
-is_answer words ask files judged e h = record {
-  judged = judged;
-  of_text = subst (λ (p : Option (List ℕ)). JudgedAt p files judged) (sym (program_by words ask e)) h;
-  is = sym (answered_by words ask judged files e);
+pub is_answer : (words : List (List ℕ)) (ask : Ask) (files : Contents) (found : Finding) → words_of words ≡ Some ask → FoundAt (question_of ask) files found → IsAnswer words files (answer_to found ask files)
+is_answer words ask files found e h = record {
+  found = found;
+  of_program = subst (λ (q : Question). FoundAt q files found) (sym (question_by words ask e)) h;
+  is = sym (answered_by words ask found files e);
 }
 
-pub has_answer : (words : List (List ℕ)) (ask : Ask) (files : Contents) → words_of words ≡ Some ask → HasJudgement (program_in ask) files → HasAnswer words files
-has_answer words ask files e (judged, h) = (answer_to judged ask files, is_answer words ask files judged e h)
+pub has_answer : (words : List (List ℕ)) (ask : Ask) (files : Contents) → words_of words ≡ Some ask → HasFinding (question_of ask) files → HasAnswer words files
+has_answer words ask files e (found, h) = (answer_to found ask files, is_answer words ask files found e h)
 
-pub answer_of_usage : (words : List (List ℕ)) (files : Contents) → words_of words ≡ None → HasJudgement None files → HasAnswer words files
-answer_of_usage words files e (judged, h) = (
-  answer_of judged words files,
+pub answer_of_usage : (words : List (List ℕ)) (files : Contents) → words_of words ≡ None → HasFinding nothing files → HasAnswer words files
+answer_of_usage words files e (found, h) = (
+  answer_of found words files,
   record {
-    judged = judged;
-    of_text = subst (λ (p : Option (List ℕ)). JudgedAt p files judged) (sym (no_program words e)) h;
+    found = found;
+    of_program = subst (λ (q : Question). FoundAt q files found) (sym (no_question words e)) h;
     is = refl;
   },
 )
@@ -82,9 +88,9 @@ program_of_command words ask path e named = sym (program_by words ask e) ∙ nam
 
 -- ---- the file of the program
 
-found : (files : Contents) (path bytes : List ℕ) → file_at files path ≡ Some bytes → bytes_at files path ≡ Ok bytes
+pub read_there : (files : Contents) (path bytes : List ℕ) → file_at files path ≡ Some bytes → bytes_at files path ≡ Ok bytes
 unfolding bytes_at
-found files path bytes e = rw e refl
+read_there files path bytes e = rw e refl
 
 -- what the text of a file is judged to be
 judged_there : (files : Contents) (path bytes : List ℕ) (judged : Judged) → file_at files path ≡ Some bytes → IsJudged bytes judged → JudgedAt (Some path) files judged
@@ -93,19 +99,19 @@ judged_there files path bytes judged there is = λ other at. subst (λ (b : List
     same : (other : List ℕ) → file_at files path ≡ Some other → bytes ≡ other
     same other at = let both : Some bytes ≡ Some other = sym there ∙ at in cc
 
-held_judged : (path : List ℕ) (files : Contents) (tree : ProgramTree) → HoldsProgram path files tree → JudgedAt (Some path) files (Ok tree)
+pub held_judged : (path : List ℕ) (files : Contents) (tree : ProgramTree) → HoldsProgram path files tree → JudgedAt (Some path) files (Ok tree)
 held_judged path files tree h = judged_there files path h.bytes (Ok tree) h.there h.accepted
 
-bad_judged : (path : List ℕ) (files : Contents) (h : HoldsBadProgram path files) → JudgedAt (Some path) files (Err h.fault)
+pub bad_judged : (path : List ℕ) (files : Contents) (h : HoldsBadProgram path files) → JudgedAt (Some path) files (Err h.fault)
 bad_judged path files h = judged_there files path h.bytes (Err h.fault) h.there h.refused
 
-held_tree : (path : List ℕ) (files : Contents) (tree : ProgramTree) → HoldsProgram path files tree → tree_at (Ok tree) files path ≡ Ok tree
+pub held_tree : (path : List ℕ) (files : Contents) (tree : ProgramTree) → HoldsProgram path files tree → tree_at (Ok tree) files path ≡ Ok tree
 unfolding tree_at
-held_tree path files tree h = rw (found files path h.bytes h.there) refl
+held_tree path files tree h = rw (read_there files path h.bytes h.there) refl
 
-bad_tree : (path : List ℕ) (files : Contents) (h : HoldsBadProgram path files) → tree_at (Err h.fault) files path ≡ Err (bad_program h.fault)
+pub bad_tree : (path : List ℕ) (files : Contents) (h : HoldsBadProgram path files) → tree_at (Err h.fault) files path ≡ Err (bad_program h.fault)
 unfolding tree_at
-bad_tree path files h = rw (found files path h.bytes h.there) refl
+bad_tree path files h = rw (read_there files path h.bytes h.there) refl
 
 held_sum : (path : List ℕ) (files : Contents) (sum : SumProgram) (h : HoldsSum path files sum) → sum_at (Ok h.tree) files path ≡ Ok sum
 unfolding sum_at
@@ -134,10 +140,16 @@ effect outcome = Ok (run_effect outcome)
 
 pub run_answered : (words : List (List ℕ)) (ask : RunAsk) (files : Contents) (sum : SumProgram) (entries : List Entry) (tapes : FourTapes)
     → words_of words ≡ Some (run ask) → HoldsRun ask files sum entries tapes → IsAnswer words files (effect (outcome_of sum entries tapes ask.budget))
-unfolding answer_to program_in
+unfolding answer_to question_of
 run_answered words ask files sum entries tapes asks h =
-    let judged : Judged = Ok h.program.tree in
-    subst (IsAnswer words files) (run_answer ask files sum entries tapes h) (is_answer words (run ask) files judged asks (held_judged ask.program files h.program.tree h.program.held))
+    let found : Finding = text_alone (Ok h.program.tree) in
+    subst (IsAnswer words files) (run_answer ask files sum entries tapes h) (is_answer words (run ask) files found asks (held_judged ask.program files h.program.tree h.program.held))
+
+pub no_fault : (how : Ending) → is_fault (status_of how) ≡ false
+no_fault endings.Done = refl
+no_fault (endings.Trap kind line) = refl
+no_fault endings.Budget = refl
+no_fault (endings.Tape owner need have) = refl
 
 pub run_printed : (outcome : Outcome) (f f' : FilesState) (o o' e e' : SinkState) (s : Status)
     → (is_fault s ≡ false → CarriedOut (effect outcome) f f' o o' e e' s)
@@ -147,12 +159,6 @@ run_printed outcome f f' o o' e e' s carried (inr m) = inr m
 run_printed outcome f f' o o' e e' s carried (inl ends) =
     let whole : CarriedOut (effect outcome) f f' o o' e e' s = carried (ap is_fault ends ∙ no_fault outcome.end.how) in
     inl (ends, whole.0.text)
-  where
-    no_fault : (how : Ending) → is_fault (status_of how) ≡ false
-    no_fault endings.Done = refl
-    no_fault (endings.Trap kind line) = refl
-    no_fault endings.Budget = refl
-    no_fault (endings.Tape owner need have) = refl
 
 abbrev checked : Answer
 checked = Ok check_effect
@@ -163,10 +169,10 @@ check_answer ask files tree h = rw (held_tree ask.program files tree h) refl
 
 pub check_answered : (words : List (List ℕ)) (ask : CheckAsk) (files : Contents) (tree : ProgramTree) → words_of words ≡ Some (check ask) → HoldsProgram ask.program files tree
     → IsAnswer words files checked
-unfolding answer_to program_in
+unfolding answer_to question_of
 check_answered words ask files tree asks h =
-    let judged : Judged = Ok tree in
-    subst (IsAnswer words files) (check_answer ask files tree h) (is_answer words (check ask) files judged asks (held_judged ask.program files tree h))
+    let found : Finding = text_alone (Ok tree) in
+    subst (IsAnswer words files) (check_answer ask files tree h) (is_answer words (check ask) files found asks (held_judged ask.program files tree h))
 
 pub check_printed : (f f' : FilesState) (o o' e e' : SinkState) (s : Status)
     → (is_fault s ≡ false → CarriedOut checked f f' o o' e e' s) → IsAnswered checked s ⊎ (s ≡ statuses.Memory)
@@ -188,11 +194,11 @@ abbrev dealt : List ℕ → List Entry → FourTapes → Answer
 dealt to entries tapes = Ok (deal_effect to entries tapes)
 
 pub deal_answered : (words : List (List ℕ)) (ask : DealAsk) (entries : List Entry) (tapes : FourTapes) (files : Contents)
-    → words_of words ≡ Some (deal ask) → HoldsDeal ask files entries tapes → need_of entries ≤ length tapes.dealer → HasJudgement None files
+    → words_of words ≡ Some (deal ask) → HoldsDeal ask files entries tapes → need_of entries ≤ length tapes.dealer → HasFinding nothing files
     → IsAnswer words files (dealt ask.to entries tapes)
-unfolding answer_to program_in
-deal_answered words ask entries tapes files asks h most (judged, any) =
-    subst (IsAnswer words files) (deal_answer ask files entries tapes h most) (is_answer words (deal ask) files judged asks any)
+unfolding answer_to question_of
+deal_answered words ask entries tapes files asks h most (found, any) =
+    subst (IsAnswer words files) (deal_answer ask files entries tapes h most) (is_answer words (deal ask) files found asks any)
 
 pub deal_written : (to : List ℕ) (entries : List Entry) (tapes : FourTapes) (f f' : FilesState) (o o' e e' : SinkState) (s : Status)
     → (is_fault s ≡ false → CarriedOut (dealt to entries tapes) f f' o o' e e' s)
@@ -205,7 +211,7 @@ deal_written to entries tapes f f' o o' e e' s carried (inl done) =
 
 -- ---- files that are refused
 
-carried_status : (answer : Answer) (f f' : FilesState) (o o' e e' : SinkState) (s : Status) → CarriedOut answer f f' o o' e e' s → status_in_answer answer ≡ s
+pub carried_status : (answer : Answer) (f f' : FilesState) (o o' e e' : SinkState) (s : Status) → CarriedOut answer f f' o o' e e' s → status_in_answer answer ≡ s
 carried_status (Ok x) f f' o o' e e' s c = sym c.0.status
 carried_status (Err x) f f' o o' e e' s c = sym c.0
 
@@ -223,21 +229,21 @@ run_refused ask files s (program_refused is bad) =
 run_refused ask files s (cannot_run_yet is tree held other) =
     (Ok tree, held_judged ask.program files tree held, rw (held_tree ask.program files tree held, other_program tree other) (sym is))
 run_refused ask files s (input_refused is sum p bytes err there bad) =
-    (Ok p.tree, held_judged ask.program files p.tree p.held, rw (held_tree ask.program files p.tree p.held, (reading_is_tree p.tree sum).1 p.is, found files ask.input bytes there, bad) (sym is))
+    (Ok p.tree, held_judged ask.program files p.tree p.held, rw (held_tree ask.program files p.tree p.held, (reading_is_tree p.tree sum).1 p.is, read_there files ask.input bytes there, bad) (sym is))
 run_refused ask files s (tape_refused is sum p entries inputs path bytes place source there bad) =
-    (Ok p.tree, held_judged ask.program files p.tree p.held, rw (held_tree ask.program files p.tree p.held, (reading_is_tree p.tree sum).1 p.is, inputs, source, found files path bytes there, bad) (sym is))
+    (Ok p.tree, held_judged ask.program files p.tree p.held, rw (held_tree ask.program files p.tree p.held, (reading_is_tree p.tree sum).1 p.is, inputs, source, read_there files path bytes there, bad) (sym is))
 
 pub run_answered_so : (words : List (List ℕ)) (ask : RunAsk) (files : Contents) (s : Status) → words_of words ≡ Some (run ask) → RunRefused ask files s → HasAnswerOf words files s
-unfolding answer_to program_in
+unfolding answer_to question_of
 run_answered_so words ask files s asks out =
     let (judged, at, status) = run_refused ask files s out in
-    (run_of judged ask files, is_answer words (run ask) files judged asks at, status)
+    (run_of judged ask files, is_answer words (run ask) files (text_alone judged) asks at, status)
 
 pub check_answered_so : (words : List (List ℕ)) (ask : CheckAsk) (files : Contents) (s : Status) → words_of words ≡ Some (check ask) → CheckRefused ask files s → HasAnswerOf words files s
-unfolding answer_to program_in check_of bad_program
+unfolding answer_to question_of check_of bad_program
 check_answered_so words ask files s asks out =
     let judged : Judged = Err out.program.fault in
-    (check_of judged ask files, is_answer words (check ask) files judged asks (bad_judged ask.program files out.program), rw (bad_tree ask.program files out.program) (sym out.status))
+    (check_of judged ask files, is_answer words (check ask) files (text_alone judged) asks (bad_judged ask.program files out.program), rw (bad_tree ask.program files out.program) (sym out.status))
 
 pub refused_if : (answer : Answer) (why : Status) (f f' : FilesState) (o o' e e' : SinkState) (s : Status) → status_in_answer answer ≡ why
     → (is_fault s ≡ false → CarriedOut answer f f' o o' e e' s) → (s ≡ why) ⊎ (is_fault s ≡ true)
@@ -248,7 +254,7 @@ refused_if answer why f f' o o' e e' s is carried =
     ]
 
 -- why the status of an answer that is carried out is that of a refusal
-refusing : (answer : Answer) (s : Status) → status_in_answer answer ≡ s → is_refusal s ≡ true → is_end s ≡ false → Refuses (status_in_answer answer)
+pub refusing : (answer : Answer) (s : Status) → status_in_answer answer ≡ s → is_refusal s ≡ true → is_end s ≡ false → Refuses (status_in_answer answer)
 refusing answer s same refusal unended = record {
   refusal = ap is_refusal same ∙ refusal;
   no_end = ap is_end same ∙ unended;
@@ -256,19 +262,19 @@ refusing answer s same refusal unended = record {
 
 pub run_refused_only : (words : List (List ℕ)) (ask : RunAsk) (answer : Answer) (f f' : FilesState) (o o' e e' : SinkState) (s : Status) → words_of words ≡ Some (run ask)
     → IsAnswer words f.contents answer → is_refusal s ≡ true → is_end s ≡ false → CarriedOut answer f f' o o' e e' s → RunRefused ask f.contents s
-unfolding answer_to program_in
+unfolding answer_to question_of
 run_refused_only words ask answer f f' o o' e e' s asks a refusal unended carried =
     let same : status_in_answer answer ≡ s = carried_status answer f f' o o' e e' s carried in
-    let (judged, at, is) = command_answers words (run ask) f.contents answer asks a in
-    subst (RunRefused ask f.contents) same (refused_only judged ask f.contents at answer (refusing answer s same refusal unended) is)
+    let (found, at, is) = command_answers words (run ask) f.contents answer asks a in
+    subst (RunRefused ask f.contents) same (refused_only found.judged ask f.contents at answer (refusing answer s same refusal unended) is)
 
 pub check_refused_so : (words : List (List ℕ)) (ask : CheckAsk) (answer : Answer) (f f' : FilesState) (o o' e e' : SinkState) (s : Status) → words_of words ≡ Some (check ask)
     → IsAnswer words f.contents answer → is_refusal s ≡ true → is_end s ≡ false → CarriedOut answer f f' o o' e e' s → CheckRefused ask f.contents s
-unfolding answer_to program_in
+unfolding answer_to question_of
 check_refused_so words ask answer f f' o o' e e' s asks a refusal unended carried =
     let same : status_in_answer answer ≡ s = carried_status answer f f' o o' e e' s carried in
-    let (judged, at, is) = command_answers words (check ask) f.contents answer asks a in
-    subst (CheckRefused ask f.contents) same (check_refused_only judged ask f.contents answer at (refusing answer s same refusal unended) is)
+    let (found, at, is) = command_answers words (check ask) f.contents answer asks a in
+    subst (CheckRefused ask f.contents) same (check_refused_only found.judged ask f.contents answer at (refusing answer s same refusal unended) is)
 
 pub no_fault_refusal : (s : Status) → is_refusal s ≡ true → is_fault s ≡ false
 no_fault_refusal statuses.Done r = refl

@@ -3,7 +3,6 @@ use Rattle.std.proofs.Common.{◌≡◌, ◌≢◌, ◌⊎◌, inl, inr, ℕ, Li
 use Rattle.std.specs.Prelude.{IsSome}
 use Rattle.outside.specs.Files.{Contents, FilesState}
 use Rattle.outside.specs.Sink.{SinkState, SameSink}
-use Rattle.front_end.specs.Judgement.{Judged}
 use Rattle.command_words.specs.declared.command.WordsErr.{WordsErr}
 use Rattle.command_words.specs.declared.command.WordsErr.TheVariants.{Usage}
 use Rattle.command_words.specs.Ask.{Ask, words_of}
@@ -19,8 +18,8 @@ use Rattle.command_frame.specs.Reads.{OnlyRead}
 use Rattle.command_frame.specs.Status.{is_fault}
 use Rattle.command_frame.specs.Whole.{status_in}
 use Rattle.command_frame.proofs.Wholes.{among_since}
-use Rattle.run_engine.specs.Judging.{JudgedAt, HasJudgement, Tells}
-use Rattle.run_engine.specs.Words.{answer_to, program_in, IsAnswer, HasAnswer}
+use Rattle.run_engine.specs.Judging.{Finding, FoundAt, HasFinding, Tells}
+use Rattle.run_engine.specs.Words.{answer_to, question_of, IsAnswer, HasAnswer}
 use Rattle.run_engine.proofs.Runs.{command_answers, has_answer}
 
 -- a plan without files leaves all files as they were
@@ -44,16 +43,16 @@ no_file s sound is = let wrong : is_fault statuses.File ≡ false = subst (λ (x
 
 -- what holds of what the command decides holds of every answer of the words
 pub for_answer : (words : List (List ℕ)) (ask : Ask) (files : Contents) (P : Answer → Type 0) → words_of words ≡ Some ask
-    → ((judged : Judged) → JudgedAt (program_in ask) files judged → P (answer_to judged ask files)) → (answer : Answer) → IsAnswer words files answer → P answer
+    → ((found : Finding) → FoundAt (question_of ask) files found → P (answer_to found ask files)) → (answer : Answer) → IsAnswer words files answer → P answer
 for_answer words ask files P e all answer a =
-    let (judged, at, is) = command_answers words ask files answer e a in
-    subst P is (all judged at)
+    let (found, at, is) = command_answers words ask files answer e a in
+    subst P is (all found at)
 
 pub is_named : (words : List (List ℕ)) (ask : Ask) → words_of words ≡ Some ask → IsSome (words_of words)
 is_named words ask e = rw e refl
 
 pub printed_so : (words : List (List ℕ)) (ask : Ask) (files : FilesState) (o o' : SinkState) → words_of words ≡ Some ask
-    → SameSink o o' ⊎ (files.told ≡ true → HasJudgement (program_in ask) files.contents) → SameSink o o' ⊎ (files.told ≡ true → HasAnswer words files.contents)
+    → SameSink o o' ⊎ (files.told ≡ true → HasFinding (question_of ask) files.contents) → SameSink o o' ⊎ (files.told ≡ true → HasAnswer words files.contents)
 printed_so words ask files o o' e (inl same) = inl same
 printed_so words ask files o o' e (inr known) = inr (λ t. has_answer words ask files.contents e (known t))
 

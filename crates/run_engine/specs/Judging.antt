@@ -1,5 +1,10 @@
 -- What the program that a command reads is: its judgement, and when there is one.
 use Rattle.std.specs.Prelude.{◌≡◌, ℕ, List, true, Option, Some, None, Result, Ok, Err}
+use Rattle.secrec_ast.specs.Programs.{ProgramTree}
+use Rattle.typed_tree.specs.Programs.{TypedProgramTree}
+use Rattle.typed_tree.specs.Functions.{typed_of}
+use Rattle.program_limits.specs.declared.limit_error.LimitError.{LimitError}
+use Rattle.program_limits.specs.Limits.{IsVerdict, IsWithinLimits}
 use Rattle.outside.specs.Files.{Contents, FilesState, file_at}
 use Rattle.command_frame.specs.declared.stop.Stop.{Stop}
 use Rattle.command_frame.specs.declared.stop.Stop.TheVariants as stops
@@ -12,6 +17,38 @@ JudgedAt (Some path) files judged = (bytes : List ℕ) → file_at files path �
 
 abbrev pub HasJudgement : Option (List ℕ) → Contents → Type 0
 HasJudgement path files = (judged : Judged) × JudgedAt path files judged
+
+-- an accepted program as it is run: its typed tree, or what there is too much of in it
+abbrev pub Sized : Type 0
+Sized = Result TypedProgramTree LimitError
+
+abbrev pub IsSized : ProgramTree → Sized → Type 0
+IsSized tree (Ok program) = (typed_of tree ≡ Some program) × IsWithinLimits program
+IsSized tree (Err error) = (program : TypedProgramTree) × (typed_of tree ≡ Some program) × IsVerdict program (Some error)
+
+-- of a refused text nothing is asked
+abbrev pub IsSizedAs : Judged → Sized → Type 0
+IsSizedAs (Ok tree) sized = IsSized tree sized
+IsSizedAs (Err fault) sized = Unit {0}
+
+-- what a command asks of a program: nothing; whether the text at a path is accepted; or also whether it is small enough to be run
+pub data Question : Type 0 where
+  nothing : Question
+  its_text : (path : List ℕ) → Question
+  its_size : (path : List ℕ) → Question
+
+pub record Finding : Type 0 where
+  pub judged : Judged
+  pub sized : Sized
+
+-- the answer to the question
+abbrev pub FoundAt : Question → Contents → Finding → Type 0
+FoundAt nothing files found = Unit {0}
+FoundAt (its_text path) files found = JudgedAt (Some path) files found.judged
+FoundAt (its_size path) files found = JudgedAt (Some path) files found.judged × IsSizedAs found.judged found.sized
+
+abbrev pub HasFinding : Question → Contents → Type 0
+HasFinding question files = (found : Finding) × FoundAt question files found
 
 -- neither want of memory stopped it nor a file, but one that a steady store hasn't
 abbrev pub StopTells : FilesState → Stop → Type 0

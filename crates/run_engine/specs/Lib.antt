@@ -2,6 +2,7 @@ pub mod Arguments
 pub mod Check
 pub mod Deal
 pub mod Dealing
+pub mod Eval
 pub mod Judging
 pub mod Outcome
 pub mod Outcomes

@@ -1,12 +1,16 @@
--- Files that can be checked, run and dealt, and files that are refused.
-use Rattle.std.specs.Prelude.{◌≡◌, ℕ, List, Some, Ok, Err}
+-- Files that can be checked, evaluated, run and dealt, and files that are refused.
+use Rattle.std.specs.Prelude.{◌≡◌, ◌⊎◌, ℕ, List, Option, Some, Ok, Err}
 use Rattle.outside.specs.Files.{Contents, file_at}
 use Rattle.secrec_ast.specs.Programs.{ProgramTree}
 use Rattle.front_end.specs.declared.program_fault.ProgramFault.{ProgramFault}
 use Rattle.front_end.specs.Judgement.{IsProgramText, IsRefusedText}
 use Rattle.command_frame.specs.declared.status.Status.{Status}
 use Rattle.command_frame.specs.declared.status.Status.TheVariants.{Input, Program, TapeFile}
-use Rattle.command_words.specs.Ask.{CheckAsk, RunAsk, DealAsk, file}
+use Rattle.command_words.specs.Ask.{Ask, CheckAsk, EvalAsk, RunAsk, DealAsk, eval, need, file}
+use Rattle.typed_tree.specs.Programs.{TypedProgramTree}
+use Rattle.typed_tree.specs.Functions.{typed_of}
+use Rattle.program_limits.specs.declared.limit_error.LimitError.{LimitError}
+use Rattle.program_limits.specs.Limits.{IsVerdict, IsWithinLimits}
 use Rattle.tape_file.specs.Format.{read_of as tapes_read_of}
 use Rattle.tape_file.specs.Tapes.{FourTapes}
 use Rattle.value_file.specs.declared.inputs.Entry.{Entry}
@@ -21,6 +25,13 @@ pub record HoldsProgram (path : List ℕ) (files : Contents) (tree : ProgramTree
   pub there : file_at files path ≡ Some bytes
   pub accepted : IsProgramText bytes tree
 
+-- it is small enough, and has this typed tree
+pub record HoldsTyped (path : List ℕ) (files : Contents) (program : TypedProgramTree) : Type 0 where
+  pub tree : ProgramTree
+  pub held : HoldsProgram path files tree
+  pub typed : typed_of tree ≡ Some program
+  pub within : IsWithinLimits program
+
 -- and it opens this sum
 pub record HoldsSum (path : List ℕ) (files : Contents) (sum : SumProgram) : Type 0 where
   pub tree : ProgramTree
@@ -33,6 +44,11 @@ pub record HoldsRun (ask : RunAsk) (files : Contents) (sum : SumProgram) (entrie
   pub inputs : inputs_at files ask.input ≡ Ok entries
   pub tapes : tapes_at files ask.source ≡ Ok given
 
+-- the files that `eval` and `need` read are there: a program of this typed tree, and these inputs
+pub record HoldsEvaluation (ask : EvalAsk) (files : Contents) (typed : TypedProgramTree) (entries : List Entry) : Type 0 where
+  pub program : HoldsTyped ask.program files typed
+  pub inputs : inputs_at files ask.input ≡ Ok entries
+
 -- the files that `deal` reads are there: these inputs and these tapes
 pub record HoldsDeal (ask : DealAsk) (files : Contents) (entries : List Entry) (given : FourTapes) : Type 0 where
   pub inputs : inputs_at files ask.input ≡ Ok entries
@@ -44,6 +60,25 @@ pub record HoldsBadProgram (path : List ℕ) (files : Contents) : Type 0 where
   pub there : file_at files path ≡ Some bytes
   pub fault : ProgramFault
   pub refused : IsRefusedText bytes fault
+
+-- an accepted program is there that has too much of something
+pub record HoldsLarge (path : List ℕ) (files : Contents) (error : LimitError) : Type 0 where
+  pub tree : ProgramTree
+  pub held : HoldsProgram path files tree
+  pub program : TypedProgramTree
+  pub typed : typed_of tree ≡ Some program
+  pub verdict : IsVerdict program (Some error)
+
+-- the words are those of `eval` or of `need`
+abbrev pub Evaluates : Option Ask → EvalAsk → Type 0
+Evaluates asked ask = (asked ≡ Some (eval ask)) ⊎ (asked ≡ Some (need ask))
+
+-- why `eval` or `need` is refused with this status: the first file that is there and not as it must be
+pub data EvalRefused (ask : EvalAsk) (files : Contents) (status : Status) : Type 0 where
+  bad_text : status ≡ Program → HoldsBadProgram ask.program files → EvalRefused ask files status
+  too_large : status ≡ Program → (error : LimitError) → HoldsLarge ask.program files error → EvalRefused ask files status
+  bad_entries : status ≡ Input → (program : TypedProgramTree) → HoldsTyped ask.program files program
+      → (bytes : List ℕ) (err : ReadErr) → file_at files ask.input ≡ Some bytes → inputs_read_of bytes ≡ Err err → EvalRefused ask files status
 
 -- why `check` is refused with this status
 pub record CheckRefused (ask : CheckAsk) (files : Contents) (given : Status) : Type 0 where

@@ -5,6 +5,7 @@ mod arguments;
 mod check;
 mod deal;
 mod dealing;
+mod eval;
 mod outcome;
 mod programs;
 mod readers;

@@ -1,19 +1,25 @@
 // The program at a path.
-ghost use Rattle.std.specs.Prelude.{◌≡◌, ◌∷◌, [], true, Some, IfErr};
+ghost use Rattle.std.specs.Prelude.{◌≡◌, ◌∷◌, [], true, Some, IfOk, IfErr};
 ghost use Rattle.secrec_ast.specs.Programs.{program_tree};
+ghost use Rattle.domain_types.specs.Typing.{IsTypedProgram};
+ghost use Rattle.typed_tree.specs.Functions.{typed_of};
+ghost use Rattle.typed_tree.specs.Programs.{typed_program_tree};
+ghost use Rattle.typed_tree.specs.Sound.{IsSound};
 ghost use Rattle.front_end.specs.Judgement.{Judged};
 ghost use Rattle.command_frame.specs.Reads.{OnlyRead, Gives, StopNames, StopsReading};
 ghost use Rattle.command_frame.specs.Stops.{IsRefusalFor};
-ghost use Rattle.run_engine.specs.Judging.{JudgedAt, HasJudgement, Tells};
-ghost use Rattle.run_engine.specs.Programs.{bad_program, not_yet, tree_at};
+ghost use Rattle.run_engine.specs.Judging.{JudgedAt, HasJudgement, Finding, FoundAt, HasFinding, its_size, Tells};
+ghost use Rattle.run_engine.specs.Programs.{bad_program, not_yet, program_at, too_large, tree_at};
 
 use crate::readers::refusal_of;
 use command_frame::{Status, Stop, read_file};
 use front_end::{ProgramErr, ProgramFault, read_program};
 use outside::Files;
+use program_limits::{LimitError, check_limits};
 use sc_text::{Fault, Span};
 use secrec_ast::Program;
-use std::alloc::Global;
+use std::alloc::{AllocError, Global};
+use typed_tree::{ResolveError, TypedProgram, resolve};
 
 // Why a program is refused.
 #[tactic(auto, unfolding(crate::specs::Programs::bad_program))]
@@ -25,6 +31,18 @@ fn program_stop(alloc: Global, fault: ProgramFault) -> Stop
         span: fault.place,
     };
     refusal_of(alloc, Status::Program, &fault)
+}
+
+// Why an accepted program is too large.
+#[tactic(auto, unfolding(crate::specs::Programs::too_large))]
+fn size_stop(alloc: Global, error: LimitError) -> Stop
+    ensures refusal { IsRefusalFor (too_large error) result }
+    ensures memory { error ≡ LimitError.Memory → result ≡ Stop.Memory }
+{
+    match error {
+        LimitError::Memory => Stop::Memory,
+        _ => refusal_of(alloc, Status::Program, &error.into()),
+    }
 }
 
 /// That an accepted program can't be run yet.
@@ -46,6 +64,7 @@ pub fn read_tree<F: Files>(alloc: Global, files: &mut F, path: &str) -> Result<P
         (tree_at judged (F.state files.old).contents path.now) }
     ensures judged { (F.state files.old).told ≡ true → Tells (F.state files.old) result →
         HasJudgement (Some path.now) (F.state files.old).contents }
+    ensures typed { IfOk result (λ program. IsTypedProgram (program_tree program)) }
     ensures names { IfErr result (StopNames (path.now ∷ [])) }
 {
     let bytes = read_file(alloc, files, path)?;
@@ -53,5 +72,39 @@ pub fn read_tree<F: Files>(alloc: Global, files: &mut F, path: &str) -> Result<P
         Ok(program) => Ok(program),
         Err(ProgramErr::Refused(fault)) => Err(program_stop(alloc, fault)),
         Err(ProgramErr::Memory) => Err(Stop::Memory),
+    }
+}
+
+// The typed tree of an accepted program: there always is one.
+fn typed(alloc: Global, program: &Program) -> Result<TypedProgram, AllocError>
+    requires { IsTypedProgram (program_tree program.now) }
+    ensures tree { IfOk result (λ t. typed_of (program_tree program.now) ≡ Some (typed_program_tree t)) }
+    ensures sound { IfOk result (λ t. IsSound (typed_program_tree t)) }
+{
+    match resolve(alloc, program) {
+        Ok(typed) => Ok(typed),
+        Err(ResolveError::Memory) => Err(AllocError),
+        Err(ResolveError::Unresolved) => unreachable!(),
+    }
+}
+
+/// The typed tree of the program at this path, if it is accepted and small enough.
+#[tactic(auto, unfolding(crate::specs::Programs::program_at))]
+pub fn read_typed<F: Files>(alloc: Global, files: &mut F, path: &str) -> Result<TypedProgram, Stop>
+    ensures files { OnlyRead (F.state files.old) (F.state files.new) }
+    ensures anyhow { IfErr result (StopsReading (F.state files.old) (F.state files.new)) }
+    ensures answer { (found : Finding) → FoundAt (its_size path.now) (F.state files.old).contents found →
+        Gives typed_program_tree (F.state files.old) (F.state files.new) result
+        (program_at found (F.state files.old).contents path.now) }
+    ensures found { (F.state files.old).told ≡ true → Tells (F.state files.old) result →
+        HasFinding (its_size path.now) (F.state files.old).contents }
+    ensures sound { IfOk result (λ t. IsSound (typed_program_tree t)) }
+    ensures names { IfErr result (StopNames (path.now ∷ [])) }
+{
+    let program = read_tree(alloc, files, path)?;
+    let typed = typed(alloc, &program)?;
+    match check_limits(alloc, &typed) {
+        Ok(()) => Ok(typed),
+        Err(error) => Err(size_stop(alloc, error)),
     }
 }

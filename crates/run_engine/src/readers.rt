@@ -6,6 +6,7 @@ ghost use Rattle.command_frame.specs.Stops.{IsRefusalFor};
 ghost use Rattle.sc_text.specs.Fault.{fault_line};
 ghost use Rattle.command_frame.specs.declared.status.Status.TheVariants.{Input};
 ghost use Rattle.sc_text.specs.declared.fault.Fault.TheVariants.{Input as InputFile};
+ghost use Rattle.value_file.specs.Input.{AreInputs};
 ghost use Rattle.run_engine.specs.Run.{bad_tape, field_fault, top_fault, entry_field, inputs_at, tape_file_at};
 
 use command_frame::{Refusal, Status, Stop, read_file};
@@ -74,6 +75,7 @@ pub fn read_inputs<F: Files>(alloc: Global, files: &mut F, path: &str) -> Result
     ensures files { OnlyRead (F.state files.old) (F.state files.new) }
     ensures answer { Gives (λ inputs. inputs) (F.state files.old) (F.state files.new) result
         (inputs_at (F.state files.old).contents path.now) }
+    ensures form { IfOk result AreInputs }
     ensures names { IfErr result (StopNames (path.now ∷ [])) }
 {
     let bytes = read_file(alloc, files, path)?;

@@ -20,8 +20,8 @@ use sc_text::Ending;
 use std::alloc::Global;
 use tape_file::{Tapes, from_seed};
 
-// The exit status of a run's end.
-fn status(how: Ending) -> Status
+/// The exit status of a run's end.
+pub fn status(how: Ending) -> Status
     ensures { result ≡ status_of how }
 {
     match how {

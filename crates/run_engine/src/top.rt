@@ -3,7 +3,7 @@ ghost use Rattle.std.specs.Prelude.{◌≡◌, ◌≢◌, ◌≤◌, ◌⊎◌, 
 ghost use Rattle.outside.specs.Causes.{Rose};
 ghost use Rattle.outside.specs.Sink.{SameSink, Appends};
 ghost use Rattle.secrec_ast.specs.Programs.{ProgramTree};
-ghost use Rattle.front_end.specs.Judgement.{Judged};
+ghost use Rattle.typed_tree.specs.Programs.{TypedProgramTree};
 ghost use Rattle.command_frame.specs.Answer.{Answer, after_writes, effect_of, usage};
 ghost use Rattle.command_frame.specs.Finish.{OnlyAmong, PutPrefix};
 ghost use Rattle.command_frame.specs.Reads.{OnlyRead, Gives, KeepsTo, StopNames, StopsReading};
@@ -12,7 +12,7 @@ ghost use Rattle.command_frame.specs.Stops.{write_line, memory_line};
 ghost use Rattle.command_frame.specs.Whole.{OnlyWritten, SomeWritten, EndsAs, EndsAnyhow, Acts, ActsAnyhow, IsCut};
 ghost use Rattle.command_frame.specs.Whole.{OutFaulted, CarriedOut, NamesOne, IsMissed, IsAnswered};
 ghost use Rattle.command_frame.specs.declared.status.Status.{Status};
-ghost use Rattle.command_words.specs.Ask.{CheckAsk, RunAsk, DealAsk, check, run, deal, words_of};
+ghost use Rattle.command_words.specs.Ask.{CheckAsk, EvalAsk, RunAsk, DealAsk, check, eval, need, run, deal, words_of};
 ghost use Rattle.command_words.specs.Views.{ask_of, texts};
 ghost use Rattle.input_share.specs.Dealing.{need_of};
 ghost use Rattle.tape_file.specs.Tapes.{FourTapes};
@@ -20,16 +20,18 @@ ghost use Rattle.value_file.specs.declared.inputs.Entry.{Entry};
 ghost use Rattle.run_engine.specs.Arguments.{Argument};
 ghost use Rattle.run_engine.specs.Check.{check_text};
 ghost use Rattle.run_engine.specs.Deal.{deal_writes};
-ghost use Rattle.run_engine.specs.Judging.{JudgedAt, HasJudgement, Tells};
+ghost use Rattle.run_engine.specs.Eval.{end_status, eval_text, need_text, report_for};
+ghost use Rattle.run_engine.specs.Judging.{Finding, FoundAt, HasFinding, Tells};
 ghost use Rattle.run_engine.specs.Outcome.{outcome_of, status_of};
 ghost use Rattle.run_engine.specs.Run.{outcome_text};
-ghost use Rattle.run_engine.specs.Runs.{HoldsProgram, HoldsRun, HoldsDeal, RunRefused, CheckRefused};
+ghost use Rattle.run_engine.specs.Runs.{HoldsProgram, HoldsEvaluation, HoldsRun, HoldsDeal, Evaluates, EvalRefused, RunRefused, CheckRefused};
 ghost use Rattle.run_engine.specs.Sum.{sum_of, MinersOpen};
 ghost use Rattle.run_engine.specs.SumProgram.{SumProgram as Sum};
-ghost use Rattle.run_engine.specs.Words.{answer_to, program_in, program_named, paths_to, paths_named, IsAnswer, HasAnswer};
+ghost use Rattle.run_engine.specs.Words.{answer_to, program_in, program_named, question_of, paths_to, paths_named, IsAnswer, HasAnswer};
 
 use crate::check::plan_check;
 use crate::deal::plan_deal;
+use crate::eval::{plan_eval, plan_need};
 use crate::run::plan_run;
 use command_frame::{Plan, Status, Stop, ended_status, finish_plan, say};
 use command_words::{Command, WordsErr, read};
@@ -37,15 +39,15 @@ use outside::{Files, Links, Sink, Spawner};
 use std::alloc::Global;
 
 // Reads the files of a command and says what is to be done.
-#[tactic(auto, unfolding(crate::specs::Words::answer_to, crate::specs::Words::program_in, crate::specs::Words::paths_to), using(crate::proofs::Judged::judgement_of_nothing))]
+#[tactic(auto, unfolding(crate::specs::Words::answer_to, crate::specs::Words::program_in, crate::specs::Words::question_of, crate::specs::Words::paths_to), using(crate::proofs::Judged::found_nothing, crate::proofs::Judged::found_text))]
 fn plan<F: Files>(alloc: Global, files: &mut F, command: &Command) -> Result<Plan, Stop>
     ensures files { OnlyRead (F.state files.old) (F.state files.new) }
     ensures anyhow { IfErr result (StopsReading (F.state files.old) (F.state files.new)) }
-    ensures answer { (judged : Judged) → JudgedAt (program_in (ask_of command.now)) (F.state files.old).contents judged →
+    ensures answer { (found : Finding) → FoundAt (question_of (ask_of command.now)) (F.state files.old).contents found →
         Gives effect_of (F.state files.old) (F.state files.new) result
-        (answer_to judged (ask_of command.now) (F.state files.old).contents) }
-    ensures judged { (F.state files.old).told ≡ true → Tells (F.state files.old) result →
-        HasJudgement (program_in (ask_of command.now)) (F.state files.old).contents }
+        (answer_to found (ask_of command.now) (F.state files.old).contents) }
+    ensures found { (F.state files.old).told ≡ true → Tells (F.state files.old) result →
+        HasFinding (question_of (ask_of command.now)) (F.state files.old).contents }
     ensures writes { (path : List ℕ) → program_in (ask_of command.now) ≡ Some path →
         IfOk result (λ plan. plan.writes.items ≡ []) }
     ensures names { KeepsTo (paths_to (ask_of command.now)) result }
@@ -54,6 +56,8 @@ fn plan<F: Files>(alloc: Global, files: &mut F, command: &Command) -> Result<Pla
         Command::Run(words) => plan_run(alloc, files, words),
         Command::Deal(words) => plan_deal(alloc, files, words),
         Command::Check(words) => plan_check(alloc, files, words),
+        Command::Eval(words) => plan_eval(alloc, files, words),
+        Command::Need(words) => plan_need(alloc, files, words),
     }
 }
 
@@ -64,17 +68,17 @@ fn obey<F: Files, O: Sink>(
     out: &mut O,
     command: &Command,
 ) -> Result<Status, Stop>
-    ensures files { (judged : Judged) → JudgedAt (program_in (ask_of command.now)) (F.state files.old).contents judged →
-        OnlyWritten (answer_to judged (ask_of command.now) (F.state files.old).contents)
+    ensures files { (found : Finding) → FoundAt (question_of (ask_of command.now)) (F.state files.old).contents found →
+        OnlyWritten (answer_to found (ask_of command.now) (F.state files.old).contents)
         (F.state files.old) (F.state files.new) }
     ensures anyhow { EndsAnyhow (F.state files.old) (F.state files.new) (O.state out.old) (O.state out.new) result }
-    ensures ends { (judged : Judged) → JudgedAt (program_in (ask_of command.now)) (F.state files.old).contents judged →
-        EndsAs (answer_to judged (ask_of command.now) (F.state files.old).contents)
+    ensures ends { (found : Finding) → FoundAt (question_of (ask_of command.now)) (F.state files.old).contents found →
+        EndsAs (answer_to found (ask_of command.now) (F.state files.old).contents)
         (F.state files.old) (F.state files.new) (O.state out.old) (O.state out.new) result }
-    ensures judged { (F.state files.old).told ≡ true → Tells (F.state files.old) result →
-        HasJudgement (program_in (ask_of command.now)) (F.state files.old).contents }
+    ensures found { (F.state files.old).told ≡ true → Tells (F.state files.old) result →
+        HasFinding (question_of (ask_of command.now)) (F.state files.old).contents }
     ensures out { SameSink (O.state out.old) (O.state out.new)
-        ⊎ ((F.state files.old).told ≡ true → HasJudgement (program_in (ask_of command.now)) (F.state files.old).contents) }
+        ⊎ ((F.state files.old).told ≡ true → HasFinding (question_of (ask_of command.now)) (F.state files.old).contents) }
     ensures reads { (path : List ℕ) → program_in (ask_of command.now) ≡ Some path →
         OnlyAmong [] (F.state files.old) (F.state files.new) }
     ensures names { IfErr result (StopNames (paths_to (ask_of command.now))) }
@@ -202,6 +206,27 @@ pub fn secrec<F: Files, O: Sink, E: Sink, L: Links, C: Spawner>(
         CheckRefused ask (F.state files.old).contents result }
     ensures check_refused_if { (ask : CheckAsk) (status : Status) → words_of (texts words.now) ≡ Some (check ask) →
         CheckRefused ask (F.state files.old).contents status → (F.state files.old).told ≡ true →
+        (result ≡ status) ⊎ (is_fault result ≡ true) }
+
+    // `eval` over an accepted program within the limits and a good input, all steady: the text of the evaluation in the clear, or
+    // memory ran out; `need` over the same: the words that this evaluation used. Both end as it does.
+    ensures eval_printed { (ask : EvalAsk) (program : TypedProgramTree) (entries : List Entry) →
+        words_of (texts words.now) ≡ Some (eval ask) → HoldsEvaluation ask (F.state files.old).contents program entries →
+        (F.state files.old).steady ≡ true → (O.state out.old).steady ≡ true → (F.state files.old).told ≡ true →
+        ((result ≡ end_status (report_for program entries ask.budget))
+        × Appends (O.state out.old) (O.state out.new) (eval_text (report_for program entries ask.budget))) ⊎ (result ≡ Status.Memory) }
+    ensures need_printed { (ask : EvalAsk) (program : TypedProgramTree) (entries : List Entry) →
+        words_of (texts words.now) ≡ Some (need ask) → HoldsEvaluation ask (F.state files.old).contents program entries →
+        (F.state files.old).steady ≡ true → (O.state out.old).steady ≡ true → (F.state files.old).told ≡ true →
+        ((result ≡ end_status (report_for program entries ask.budget))
+        × Appends (O.state out.old) (O.state out.new) (need_text (report_for program entries ask.budget))) ⊎ (result ≡ Status.Memory) }
+
+    // Both are refused exactly for the first file that is there and not as it must be.
+    ensures eval_refused_only { (ask : EvalAsk) → Evaluates (words_of (texts words.now)) ask →
+        is_refusal result ≡ true → is_end result ≡ false → (F.state files.old).told ≡ true →
+        EvalRefused ask (F.state files.old).contents result }
+    ensures eval_refused_if { (ask : EvalAsk) (status : Status) → Evaluates (words_of (texts words.now)) ask →
+        EvalRefused ask (F.state files.old).contents status → (F.state files.old).told ≡ true →
         (result ≡ status) ⊎ (is_fault result ≡ true) }
 
     // `run` over files that are all as they must be, all steady: the text of the run's end, or memory ran out.

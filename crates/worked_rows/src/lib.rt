@@ -9,9 +9,15 @@ mod call;
 #[cfg(test)]
 mod checks;
 #[cfg(test)]
+mod constructs;
+#[cfg(test)]
 mod deals;
 #[cfg(test)]
 mod ends;
+#[cfg(test)]
+mod evaluation_refusals;
+#[cfg(test)]
+mod evaluations;
 #[cfg(test)]
 mod faults;
 #[cfg(test)]

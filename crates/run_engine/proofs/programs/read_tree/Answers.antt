@@ -11,6 +11,9 @@ pub returns-in-Ok-clause-answer : goal.returns-in-Ok-clause-answer
 returns-in-Ok-clause-answer g c = λ judged h t.
     tree_known _ _ c.deref.result.now (Ok (program_tree c.in-Ok.program)) judged (as_lent _ _ _ _ (c.in_ok-bytes.ensures.answer t) c.deref.ensures.value) c.in-Ok.ensures.only h
 
+pub returns-in-Ok-clause-typed : goal.returns-in-Ok-clause-typed
+returns-in-Ok-clause-typed g c = c.in-Ok.ensures.answer.typed
+
 pub returns-in-Ok-clause-judged : goal.returns-in-Ok-clause-judged
 returns-in-Ok-clause-judged g c = λ t tells.
     judgement_known _ _ c.deref.result.now (Ok (program_tree c.in-Ok.program)) (as_lent _ _ _ _ (c.in_ok-bytes.ensures.answer t) c.deref.ensures.value) c.in-Ok.ensures.answer

@@ -1,0 +1,26 @@
+-- A call, in its parts.
+use Rattle.std.proofs.Common.{◌≡◌, ℕ, zero, suc, ◌-◌, List, sym, ap, ◌∙◌, arith}
+use Rattle.std.specs.List.{slice_get}
+use Rattle.std.specs.Prelude.{map, sum}
+use Rattle.sc_text.specs.declared.end.Ending.TheVariants as ending
+use Rattle.sc_text.specs.declared.end.TrapKind.TheVariants as trap
+use Rattle.typed_tree.specs.Programs.{TypedFunctionTree}
+use Rattle.reached_instances.specs.declared.instance.BoundDomain.{BoundDomain}
+use Rattle.language_model.specs.Effects.{World, Stage, Effect, carry, end, charge}
+use Rattle.language_model.specs.Values.{Value}
+use Rattle.language_model.specs.Evaluation.{call_at, body_of, array_elements}
+use Rattle.clear_eval.specs.Calling.{call_charged}
+use Rattle.clear_eval.proofs.Runs.{carry-carry}
+
+abbrev pub body_behind : World → List TypedFunctionTree → (room k : ℕ) → List BoundDomain → List Value → Unit {0} → Effect Value
+body_behind w fs room k b xs u = body_of w (call_at w fs (room - 1)) fs (slice_get fs k) b xs
+
+-- what a call is charged comes first, and then the body
+pub call_run : (w : World) (fs : List TypedFunctionTree) (room line k : ℕ) (b : List BoundDomain) (xs : List Value) (s : Stage)
+    → call_at w fs room line k b xs s ≡ carry (call_charged room line xs s) (body_behind w fs room k b xs)
+unfolding call_at
+call_run w fs zero line k b xs s = sym (carry-carry (charge 1 s) (λ u. end {A = Unit {0}} (ending.Trap trap.Depth line)) (body_behind w fs zero k b xs))
+call_run w fs (suc d) line k b xs s =
+    let less : d ≡ suc d - 1 = omega arith in
+    ap (λ n. carry (charge 1 s) (λ u t. carry (charge (sum (map array_elements xs)) t) (λ v. body_of w (call_at w fs n) fs (slice_get fs k) b xs))) less
+    ∙ sym (carry-carry (charge 1 s) (λ u. charge (sum (map array_elements xs))) (body_behind w fs (suc d) k b xs))

@@ -1,0 +1,11 @@
+pub mod Frames
+pub mod Entries
+pub mod Inputs
+pub mod Arguments
+pub mod Lists
+pub mod Loops
+pub mod Calls
+pub mod Runs
+pub mod Sound
+pub mod Work
+pub mod PublicParts

@@ -1,0 +1,55 @@
+-- The expressions and statements of a list, one after another.
+use Rattle.std.proofs.Common.{◌≡◌, ℕ, zero, suc, ◌+◌, ◌<◌, ◌≤◌, List, [], ◌∷◌, length, get_or, drop, refl, sym, ap, ◌∙◌, add-one, arith}
+use Rattle.std.specs.Prelude.{map}
+use Rattle.std.proofs.Math.Seq.{drop-cons, drop-nil}
+use Rattle.typed_tree.specs.declared.kinds.Slot.{Slot}
+use Rattle.typed_tree.specs.declared.expression.TypedExpression.{TypedExpression}
+use Rattle.typed_tree.specs.declared.statement.TypedStatement.{TypedStatement}
+use Rattle.typed_tree.specs.Tree.{TypedTrees, also, typed_tree, typed_trees_of}
+use Rattle.typed_tree.specs.Commands.{Commands, command, commands_of}
+use Rattle.typed_tree.specs.Sound.{IsSoundTree, AreSoundTrees, IsSoundCommand, AreSoundCommands, count_of}
+use Rattle.language_model.specs.Evaluation.{behind_next}
+use Rattle.clear_eval.specs.Measures.{weight, weight_of_all, command_weight, commands_weight}
+
+abbrev pub trees : List TypedExpression → TypedTrees
+trees es = typed_trees_of (map typed_tree es)
+
+abbrev pub commands : List TypedStatement → Commands
+commands ss = commands_of (map command ss)
+
+pub some_weight : (es : List TypedExpression) → 2 ≤ weight_of_all (trees es)
+some_weight [] = omega arith
+some_weight (e ∷ es) = let more = some_weight es in omega arith
+
+pub lighter_tree : (es : List TypedExpression) (i : ℕ) (d : TypedExpression) → i < length es → weight (typed_tree (get_or es i d)) < weight_of_all (trees es)
+lighter_tree [] i d h = absurd (omega arith)
+lighter_tree (e ∷ es) zero d h = omega arith
+lighter_tree (e ∷ es) (suc i) d h = let more = lighter_tree es i d (omega arith) in omega arith
+
+pub sound_tree : (n : ℕ) (ps : List ℕ) (es : List TypedExpression) (i : ℕ) (d : TypedExpression) → AreSoundTrees n ps (trees es) → i < length es → IsSoundTree n ps (typed_tree (get_or es i d))
+sound_tree n ps [] i d a h = absurd (omega arith)
+sound_tree n ps (e ∷ es) zero d a h = a.0
+sound_tree n ps (e ∷ es) (suc i) d a h = sound_tree n ps es i d a.1 (omega arith)
+
+pub lighter_command : (ss : List TypedStatement) (i : ℕ) (d : TypedStatement) → i < length ss → command_weight (command (get_or ss i d)) < commands_weight (commands ss)
+lighter_command [] i d h = absurd (omega arith)
+lighter_command (c ∷ ss) zero d h = omega arith
+lighter_command (c ∷ ss) (suc i) d h = let more = lighter_command ss i d (omega arith) in omega arith
+
+pub sound_command : (n : ℕ) (ps : List ℕ) (ss : List TypedStatement) (i : ℕ) (d : TypedStatement) → AreSoundCommands n ps (commands ss) → i < length ss → IsSoundCommand n ps (command (get_or ss i d))
+sound_command n ps [] i d a h = absurd (omega arith)
+sound_command n ps (c ∷ ss) zero d a h = a.0
+sound_command n ps (c ∷ ss) (suc i) d a h = sound_command n ps ss i d a.1 (omega arith)
+
+-- the list from a place on begins with what stands there
+pub trees-drop : (es : List TypedExpression) (i : ℕ) (d : TypedExpression) → i < length es → trees (drop i es) ≡ also (typed_tree (get_or es i d)) (trees (drop (i + 1) es))
+trees-drop es i d h = ap trees (drop-cons es i d h) ∙ ap (λ n. also (typed_tree (get_or es i d)) (trees (drop n es))) (sym (add-one i))
+
+pub behind-drop : (ss : List Slot) (i : ℕ) → behind_next (drop i ss) ≡ drop (i + 1) ss
+behind-drop [] i = ap behind_next (drop-nil i) ∙ sym (drop-nil (i + 1))
+behind-drop (s ∷ ss) zero = refl
+behind-drop (s ∷ ss) (suc i) = let next : suc (i + 1) ≡ suc i + 1 = omega arith in behind-drop ss i ∙ ap (λ n. drop n (s ∷ ss)) next
+
+pub counted : (es : List TypedExpression) → count_of (trees es) ≡ length es
+counted [] = refl
+counted (e ∷ es) = let more = counted es in omega arith

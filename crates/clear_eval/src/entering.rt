@@ -1,0 +1,77 @@
+// How a function is entered and left.
+ghost use Rattle.std.specs.Prelude.{◌≡◌, ◌≤◌, IfOk, List, length, map};
+ghost use Rattle.std.specs.List.{slice_get};
+ghost use Rattle.language_model.specs.Values.{never_stored};
+ghost use Rattle.language_model.specs.Evaluation.{begins, entered, result_of};
+ghost use Rattle.value_steps.specs.declared.value.Value.{Value as Kept};
+ghost use Rattle.value_steps.specs.Views.{value_seen};
+ghost use Rattle.clear_eval.specs.Views.{frame_seen, flow_seen};
+
+use crate::flow::Flow;
+use crate::slots::default_words;
+use crate::words::{is_private, nothing};
+use reached_instances::{BoundDomain, domain_under};
+use std::alloc::{AllocError, Global};
+use typed_tree::{Shape, Slot};
+use value_steps::{Secrecy, Value};
+
+/// What a slot begins as into which nothing was stored.
+fn never_stored(alloc: Global, private: bool, shape: Shape) -> Result<Value, AllocError>
+    ensures { IfOk result (λ v. value_seen v ≡ never_stored private shape) }
+{
+    Ok(Value {
+        secrecy: if private {
+            Secrecy::Private(None)
+        } else {
+            Secrecy::Plain
+        },
+        shape,
+        words: default_words(alloc, shape.array)?,
+    })
+}
+
+/// What the slot of this number begins as where a function is called under this binding.
+fn beginning(
+    alloc: Global,
+    binding: &[BoundDomain],
+    slots: &[Slot],
+    number: usize,
+) -> Result<Value, AllocError>
+    ensures { IfOk result (λ v. value_seen v ≡ begins binding.now (slice_get slots.now number)) }
+{
+    match slots.get(number) {
+        None => nothing(alloc),
+        Some(slot) => {
+            let private = is_private(domain_under(binding, slot.domain));
+            never_stored(alloc, private, slot.shape)
+        }
+    }
+}
+
+/// The slots of a function that is called under this binding: the arguments stand in the first ones.
+pub fn enter(
+    alloc: Global,
+    binding: &[BoundDomain],
+    slots: &[Slot],
+    arguments: Vec<Value>,
+) -> Result<Vec<Value>, AllocError>
+    requires { length arguments.items ≤ length slots.now }
+    ensures frame { IfOk result (λ frame. frame_seen frame.items ≡ entered binding.now slots.now (map value_seen arguments.items)) }
+    ensures slots { IfOk result (λ frame. length frame.items ≡ length slots.now) }
+{
+    let mut frame = arguments;
+    for number in frame.len()..slots.len() {
+        frame.push(beginning(alloc, binding, slots, number)?)?;
+    }
+    Ok(frame)
+}
+
+/// What a function gives whose body was left so.
+pub fn result_of(alloc: Global, flow: Flow) -> Result<Value, AllocError>
+    ensures { IfOk result (λ v. (frame : List Kept) → value_seen v ≡ result_of (flow_seen frame flow)) }
+{
+    match flow {
+        Flow::Returns(value) => Ok(value),
+        Flow::Goes | Flow::Stops | Flow::Skips => nothing(alloc),
+    }
+}

@@ -1,0 +1,148 @@
+// The slots of a function that is running.
+ghost use Rattle.std.specs.Prelude.{◌≡◌, ◌≤◌, ◌<◌, IfOk, length, drop};
+ghost use Rattle.reached_instances.specs.Views.{setting};
+ghost use Rattle.language_model.specs.Values.{Value as Meant, plain, default_words};
+ghost use Rattle.language_model.specs.Evaluation.{put, next_is_private, slot_is_private, slot_shape, stored};
+ghost use Rattle.value_steps.specs.Steps.{Does};
+ghost use Rattle.value_steps.specs.Views.{value_seen, stage_seen};
+ghost use Rattle.clear_eval.specs.Views.{frame_seen, goes_on};
+ghost use Rattle.clear_eval.specs.Elements.{with_element_in};
+
+use crate::place::Place;
+use crate::words::is_private;
+use reached_instances::{BoundDomain, domain_under, slot_domain};
+use secrec_ast::DataType;
+use std::alloc::{AllocError, Global};
+use std::mem;
+use typed_tree::{Shape, Slot};
+use value_steps::{Halt, Secrecy, Stage, Value, charge, wanted, with_element};
+
+/// Whether a slot's values are private.
+pub fn is_private_slot(at: &Place<'_>, slot: usize) -> bool
+    ensures { result ≡ slot_is_private (setting at.now.here) slot }
+{
+    is_private(slot_domain(&at.here, slot))
+}
+
+/// Whether the parameter of this number is private, where a function with these slots is called under this binding.
+pub fn next_is_private(binding: &[BoundDomain], slots: &[Slot], number: usize) -> bool
+    ensures { result ≡ next_is_private binding.now (drop number slots.now) }
+{
+    match slots.get(number) {
+        None => false,
+        Some(slot) => is_private(domain_under(binding, slot.domain)),
+    }
+}
+
+/// The shape of a slot's values.
+pub fn slot_shape(at: &Place<'_>, slot: usize) -> Shape
+    ensures { result ≡ slot_shape (setting at.now.here) slot }
+{
+    match at.here.slots.get(slot) {
+        None => Shape {
+            element: DataType::Uint64,
+            array: false,
+        },
+        Some(slot) => slot.shape,
+    }
+}
+
+/// The words of 0, of false, or of the empty array.
+pub fn default_words(alloc: Global, array: bool) -> Result<Vec<u64>, AllocError>
+    ensures { IfOk result (λ words. words.items ≡ default_words array) }
+{
+    if array {
+        Ok(Vec::new(alloc))
+    } else {
+        Ok(vec![in alloc; 0]?)
+    }
+}
+
+/// What a declaration stores that names no value: 0, false or the empty array, which everybody may see.
+pub fn default_value(alloc: Global, at: &Place<'_>, slot: usize) -> Result<Value, AllocError>
+    ensures { IfOk result (λ v. value_seen v ≡
+        plain (slot_shape (setting at.now.here) slot) (default_words (slot_shape (setting at.now.here) slot).array)) }
+{
+    let shape = slot_shape(at, slot);
+    Ok(Value {
+        secrecy: Secrecy::Plain,
+        shape,
+        words: default_words(alloc, shape.array)?,
+    })
+}
+
+/// The value in a slot.
+pub fn slot_value(frame: &[Value], slot: usize) -> &Value
+    requires { slot < length frame.now }
+    ensures { value_seen result.now ≡ frame_seen frame.now slot }
+{
+    &frame[slot]
+}
+
+/// Puts a value into a slot.
+pub fn put(frame: &mut Vec<Value>, slot: usize, value: Value)
+    requires { slot < length frame.old.items }
+    ensures put { frame_seen frame.new.items ≡ put slot (value_seen value) (frame_seen frame.old.items) }
+    ensures slots { length frame.new.items ≡ length frame.old.items }
+{
+    frame[slot] = value;
+}
+
+// Takes the value out of a slot, into which another is put next.
+fn taken(alloc: Global, frame: &mut Vec<Value>, slot: usize) -> Value
+    requires { slot < length frame.old.items }
+    ensures value { value_seen result ≡ frame_seen frame.old.items slot }
+    ensures others { (v : Meant) → put slot v (frame_seen frame.new.items) ≡ put slot v (frame_seen frame.old.items) }
+    ensures slots { length frame.new.items ≡ length frame.old.items }
+{
+    let empty = Value {
+        secrecy: Secrecy::Plain,
+        shape: frame[slot].shape,
+        words: Vec::new(alloc),
+    };
+    mem::replace(&mut frame[slot], empty)
+}
+
+/// Changes an element of the array in a slot. The array is written in place.
+pub fn set_element(
+    alloc: Global,
+    stage: &mut Stage<'_>,
+    frame: &mut Vec<Value>,
+    line: u32,
+    slot: usize,
+    index: &Value,
+    element: &Value,
+) -> Result<(), Halt>
+    requires { slot < length frame.old.items }
+    ensures step { Does (goes_on frame.new.items) (with_element_in line slot (value_seen index.now) (value_seen element.now) (frame_seen frame.old.items))
+        (stage_seen stage.old) result (stage_seen stage.new) }
+    ensures slots { length frame.new.items ≡ length frame.old.items }
+    ensures spends { stage.new.left ≤ stage.old.left }
+{
+    let array = taken(alloc, frame, slot);
+    let array = with_element(stage, line, array, index, element)?;
+    put(frame, slot, array);
+    Ok(())
+}
+
+/// Stores a value in a whole variable, classified before where this is private.
+pub fn store(
+    alloc: Global,
+    at: &Place<'_>,
+    stage: &mut Stage<'_>,
+    frame: &mut Vec<Value>,
+    slot: usize,
+    value: Value,
+) -> Result<(), Halt>
+    requires { slot < length frame.old.items }
+    ensures step { Does (goes_on frame.new.items) (stored (setting at.now.here) slot (value_seen value) (frame_seen frame.old.items))
+        (stage_seen stage.old) result (stage_seen stage.new) }
+    ensures slots { length frame.new.items ≡ length frame.old.items }
+    ensures spends { stage.new.left ≤ stage.old.left }
+{
+    let value = wanted(alloc, stage, is_private_slot(at, slot), value)?;
+    charge(stage, 1)?;
+    charge(stage, (value.words.len() as u64).saturating_sub(1))?;
+    put(frame, slot, value);
+    Ok(())
+}

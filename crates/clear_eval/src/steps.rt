@@ -1,0 +1,201 @@
+// The steps of expressions and statements, once their parts are evaluated.
+ghost use Rattle.std.specs.Prelude.{◌≡◌, ◌≤◌, true, length, map};
+ghost use Rattle.typed_tree.specs.Tree.{typed_tree};
+ghost use Rattle.typed_tree.specs.Commands.{command};
+ghost use Rattle.typed_tree.specs.Sound.{IsSoundTree, IsSoundCommand};
+ghost use Rattle.value_steps.specs.Steps.{Does};
+ghost use Rattle.value_steps.specs.Views.{value_seen, stage_seen, world_seen};
+ghost use Rattle.clear_eval.specs.Views.{frame_seen, flow_seen, held_seen, place_seen};
+ghost use Rattle.clear_eval.specs.Parts.{is_leaf, step_on_one, step_on_two, is_plain, after_one, after_two};
+ghost use Rattle.clear_eval.specs.Standing.{value_at, flow_at, IsSoundIn, IsSoundStatement};
+
+use crate::flow::Flow;
+use crate::held::Held;
+use crate::place::Place;
+use crate::slots::{
+    default_value, is_private_slot, put, set_element, slot_shape, slot_value, store,
+};
+use crate::words::{nothing, truth_value, word_value};
+use std::alloc::Global;
+use typed_tree::{TypedExpression, TypedStatement};
+use value_steps::{
+    Halt, Stage, Value, World, asked_for, asserted, bits_extracted, cast_to, declassified,
+    element_of_array, filled, negated, operation, published, size_told, summed, wanted,
+};
+
+/// The value of a literal or a variable.
+#[tactic(auto, unfolding(language_model::specs::Evaluation::value))]
+pub fn leaf(
+    alloc: Global,
+    world: &World<'_>,
+    at: &Place<'_>,
+    stage: &mut Stage<'_>,
+    frame: &[Value],
+    e: &TypedExpression,
+) -> Result<Value, Halt>
+    requires here { IsSoundIn at.now frame.now e.now }
+    requires leaf { is_leaf (typed_tree e.now) ≡ true }
+    ensures step { Does value_seen (value_at world.now at.now frame.now e.now) (stage_seen stage.old) result (stage_seen stage.new) }
+    ensures spends { stage.new.left ≤ stage.old.left }
+{
+    match e {
+        TypedExpression::Word(word) => Ok(word_value(alloc, *word)?),
+        TypedExpression::Truth(truth) => Ok(truth_value(alloc, *truth)?),
+        TypedExpression::Variable(slot) => Ok(slot_value(frame, *slot).copy(alloc)?),
+        _ => unreachable!(),
+    }
+}
+
+/// The step of an expression with one operand, on its value.
+pub fn on_one(
+    alloc: Global,
+    world: &World<'_>,
+    stage: &mut Stage<'_>,
+    e: &TypedExpression,
+    x: Held<'_>,
+) -> Result<Value, Halt>
+    ensures step { Does value_seen (step_on_one (world_seen world.now) (typed_tree e.now) (held_seen x.entry)) (stage_seen stage.old) result (stage_seen stage.new) }
+    ensures spends { stage.new.left ≤ stage.old.left }
+{
+    match e {
+        TypedExpression::Size(_) => size_told(alloc, stage, x.get()),
+        TypedExpression::Sum(_) => summed(alloc, stage, x.get()),
+        TypedExpression::BitExtract(line, _) => bits_extracted(alloc, world, stage, *line, x.get()),
+        TypedExpression::Not(_) => negated(alloc, stage, x.into_value(alloc)?),
+        TypedExpression::Cast(cast, _) => cast_to(alloc, world, stage, *cast, x.into_value(alloc)?),
+        TypedExpression::Declassify(_) => declassified(alloc, world, stage, x.into_value(alloc)?),
+        _ => Ok(x.into_value(alloc)?),
+    }
+}
+
+/// The step of an expression with two operands, on their values.
+pub fn on_two(
+    alloc: Global,
+    world: &World<'_>,
+    stage: &mut Stage<'_>,
+    e: &TypedExpression,
+    x: Held<'_>,
+    y: Held<'_>,
+) -> Result<Value, Halt>
+    ensures step { Does value_seen (step_on_two (world_seen world.now) (typed_tree e.now) (held_seen x.entry) (held_seen y.entry)) (stage_seen stage.old) result (stage_seen stage.new) }
+    ensures spends { stage.new.left ≤ stage.old.left }
+{
+    match e {
+        TypedExpression::Element(line, _, _) => {
+            element_of_array(alloc, stage, *line, x.get(), y.get())
+        }
+        TypedExpression::Binary(line, operator, operands, _, _) => {
+            let x = x.into_value(alloc)?;
+            let y = y.into_value(alloc)?;
+            operation(alloc, world, stage, *line, *operator, *operands, x, y)
+        }
+        _ => Ok(x.into_value(alloc)?),
+    }
+}
+
+/// A statement without expressions and other statements in it.
+#[tactic(auto, unfolding(language_model::specs::Evaluation::execute))]
+pub fn plain(
+    alloc: Global,
+    world: &World<'_>,
+    at: &Place<'_>,
+    stage: &mut Stage<'_>,
+    frame: &mut Vec<Value>,
+    s: &TypedStatement,
+) -> Result<Flow, Halt>
+    requires here { IsSoundStatement at.now frame.old.items s.now }
+    requires plain { is_plain (command s.now) ≡ true }
+    ensures step { Does (flow_seen frame.new.items) (flow_at world.now at.now frame.old.items s.now) (stage_seen stage.old) result (stage_seen stage.new) }
+    ensures slots { length frame.new.items ≡ length frame.old.items }
+    ensures spends { stage.new.left ≤ stage.old.left }
+{
+    match s {
+        TypedStatement::Empty => Ok(Flow::Goes),
+        TypedStatement::Break => Ok(Flow::Stops),
+        TypedStatement::Continue => Ok(Flow::Skips),
+        TypedStatement::Return(None) => Ok(Flow::Returns(nothing(alloc)?)),
+        TypedStatement::StoreDefault(slot) => {
+            let value = default_value(alloc, at, *slot)?;
+            store(alloc, at, stage, frame, *slot, value)?;
+            Ok(Flow::Goes)
+        }
+        TypedStatement::Input(line, slot, name) => {
+            let shape = slot_shape(at, *slot);
+            let private = is_private_slot(at, *slot);
+            let value = asked_for(alloc, world, stage, private, shape, *line, name)?;
+            store(alloc, at, stage, frame, *slot, value)?;
+            Ok(Flow::Goes)
+        }
+        _ => unreachable!(),
+    }
+}
+
+/// The step of a statement with one expression, on its value.
+pub fn with_one(
+    alloc: Global,
+    world: &World<'_>,
+    at: &Place<'_>,
+    stage: &mut Stage<'_>,
+    frame: &mut Vec<Value>,
+    s: &TypedStatement,
+    x: Value,
+) -> Result<Flow, Halt>
+    requires { IsSoundStatement at.now frame.old.items s.now }
+    ensures step { Does (flow_seen frame.new.items) (after_one (world_seen world.now) (place_seen at.now) (command s.now) (value_seen x) (frame_seen frame.old.items))
+        (stage_seen stage.old) result (stage_seen stage.new) }
+    ensures slots { length frame.new.items ≡ length frame.old.items }
+    ensures spends { stage.new.left ≤ stage.old.left }
+{
+    match s {
+        TypedStatement::Return(Some(_)) => {
+            let value = wanted(alloc, stage, at.private_result, x)?;
+            Ok(Flow::Returns(value))
+        }
+        TypedStatement::Assert(line, _) => {
+            asserted(stage, *line, &x)?;
+            Ok(Flow::Goes)
+        }
+        TypedStatement::Store(slot, _) => {
+            store(alloc, at, stage, frame, *slot, x)?;
+            Ok(Flow::Goes)
+        }
+        TypedStatement::Publish(name, _) => {
+            published(alloc, world, stage, name, &x)?;
+            Ok(Flow::Goes)
+        }
+        _ => Ok(Flow::Goes),
+    }
+}
+
+/// The step of a statement with two expressions, on their values.
+pub fn with_two(
+    alloc: Global,
+    world: &World<'_>,
+    at: &Place<'_>,
+    stage: &mut Stage<'_>,
+    frame: &mut Vec<Value>,
+    s: &TypedStatement,
+    x: Value,
+    y: Value,
+) -> Result<Flow, Halt>
+    requires { IsSoundStatement at.now frame.old.items s.now }
+    ensures step { Does (flow_seen frame.new.items) (after_two (world_seen world.now) (place_seen at.now) (command s.now) (value_seen x) (value_seen y) (frame_seen frame.old.items))
+        (stage_seen stage.old) result (stage_seen stage.new) }
+    ensures slots { length frame.new.items ≡ length frame.old.items }
+    ensures spends { stage.new.left ≤ stage.old.left }
+{
+    match s {
+        TypedStatement::Fill(line, slot, _, _) => {
+            let element = wanted(alloc, stage, is_private_slot(at, *slot), y)?;
+            let array = filled(alloc, stage, *line, &x, &element)?;
+            put(frame, *slot, array);
+            Ok(Flow::Goes)
+        }
+        TypedStatement::StoreElement(line, slot, _, _) => {
+            let element = wanted(alloc, stage, is_private_slot(at, *slot), y)?;
+            set_element(alloc, stage, frame, *line, *slot, &x, &element)?;
+            Ok(Flow::Goes)
+        }
+        _ => Ok(Flow::Goes),
+    }
+}

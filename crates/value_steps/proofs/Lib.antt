@@ -1,0 +1,4 @@
+pub mod Counts
+pub mod Plans
+pub mod ResultSizes
+pub mod Sought

@@ -1,0 +1,181 @@
+// The random words of the miners' tapes.
+ghost use Rattle.std.specs.Prelude.{◌≡◌, ◌+◌, ◌≤◌, IfOk};
+ghost use Rattle.language_model.specs.Effects.{fits, draw, words_each};
+ghost use Rattle.language_model.specs.Operations.{words_for_equality, words_for_bits, words_for_order, words_for_conversion, words_of_word_operator, words_of_bool_operator, words_of_operator, words_of_cast};
+ghost use Rattle.value_steps.specs.Steps.{Does, itself, nothing};
+ghost use Rattle.value_steps.specs.Views.{stage_seen, world_seen, drawn_seen};
+
+use crate::halt::Halt;
+use crate::stage::{Drawn, Stage};
+use crate::world::World;
+use sc_text::{Ending, TapeOwner};
+use typed_tree::{BinaryOperator, BoolOperator, Cast, WordOperator};
+
+/// How many words of a tape are drawn after `more`. A tape that has fewer ends the run.
+fn drawn_after(
+    stage: &Stage<'_>,
+    owner: TapeOwner,
+    drawn: u64,
+    more: u64,
+    have: u64,
+) -> Result<u64, Halt>
+    ensures step { Does nothing (fits owner (drawn + more) have) (stage_seen stage.now) result (stage_seen stage.now) }
+    ensures sum { IfOk result (λ n. n ≡ drawn + more) }
+{
+    let need = u128::from(drawn) + u128::from(more);
+    if need <= u128::from(have) {
+        Ok(need as u64)
+    } else {
+        Err(Halt::Ended(Ending::Tape { owner, need, have }))
+    }
+}
+
+/// Draws so many words more, where each miner's tape has them: the miners are asked one after another.
+pub(crate) fn draw(world: &World<'_>, stage: &mut Stage<'_>, words: Drawn) -> Result<(), Halt>
+    ensures step { Does itself (draw (world_seen world.now) (drawn_seen words)) (stage_seen stage.old) result (stage_seen stage.new) }
+    ensures spends { stage.new.left ≤ stage.old.left }
+{
+    let (drawn, have) = (stage.drawn, world.lengths);
+    let first = drawn_after(
+        stage,
+        TapeOwner::Miner1,
+        drawn.first,
+        words.first,
+        have.first,
+    )?;
+    let second = drawn_after(
+        stage,
+        TapeOwner::Miner2,
+        drawn.second,
+        words.second,
+        have.second,
+    )?;
+    let third = drawn_after(
+        stage,
+        TapeOwner::Miner3,
+        drawn.third,
+        words.third,
+        have.third,
+    )?;
+    stage.drawn = Drawn {
+        first,
+        second,
+        third,
+    };
+    Ok(())
+}
+
+/// As many words of each tape.
+pub(crate) fn words_each(n: u64) -> Drawn
+    ensures { drawn_seen result ≡ words_each n }
+{
+    Drawn {
+        first: n,
+        second: n,
+        third: n,
+    }
+}
+
+/// The words to compare `n` numbers with 0.
+fn words_for_equality(n: u64) -> Drawn
+    requires { n ≤ 1048576 }
+    ensures { drawn_seen result ≡ words_for_equality n }
+{
+    Drawn {
+        first: 19 * n,
+        second: 18 * n,
+        third: 18 * n,
+    }
+}
+
+/// The words to extract the bits of `n` numbers.
+pub(crate) fn words_for_bits(n: u64) -> Drawn
+    requires { n ≤ 1048576 }
+    ensures { drawn_seen result ≡ words_for_bits n }
+{
+    Drawn {
+        first: 40 * n,
+        second: 39 * n,
+        third: 39 * n,
+    }
+}
+
+/// The words to tell which of two numbers is less, `n` times.
+fn words_for_order(n: u64) -> Drawn
+    requires { n ≤ 1048576 }
+    ensures { drawn_seen result ≡ words_for_order n }
+{
+    Drawn {
+        first: 119 * n,
+        second: 117 * n,
+        third: 117 * n,
+    }
+}
+
+/// The words to turn `n` truth values into numbers.
+fn words_for_conversion(n: u64) -> Drawn
+    requires { n ≤ 1048576 }
+    ensures { drawn_seen result ≡ words_for_conversion n }
+{
+    Drawn {
+        first: 4 * n,
+        second: n,
+        third: n,
+    }
+}
+
+/// The words of an operator on `n` private numbers; operators that have no private operands draw none.
+fn words_of_word_operator(op: WordOperator, n: u64) -> Drawn
+    requires { n ≤ 1048576 }
+    ensures { drawn_seen result ≡ words_of_word_operator op n }
+{
+    match op {
+        WordOperator::Multiply => words_each(3 * n),
+        WordOperator::Equal | WordOperator::NotEqual => words_for_equality(n),
+        WordOperator::Less
+        | WordOperator::LessOrEqual
+        | WordOperator::Greater
+        | WordOperator::GreaterOrEqual => words_for_order(n),
+        WordOperator::Add
+        | WordOperator::Subtract
+        | WordOperator::Divide
+        | WordOperator::Remainder
+        | WordOperator::And
+        | WordOperator::Or
+        | WordOperator::Xor => words_each(0),
+    }
+}
+
+/// The words of an operator on `n` private truth values.
+fn words_of_bool_operator(op: BoolOperator, n: u64) -> Drawn
+    requires { n ≤ 1048576 }
+    ensures { drawn_seen result ≡ words_of_bool_operator op n }
+{
+    match op {
+        BoolOperator::And | BoolOperator::Or => words_each(3 * n),
+        BoolOperator::Equal | BoolOperator::NotEqual | BoolOperator::Xor => words_each(0),
+    }
+}
+
+/// The words of an operator on `n` private elements.
+pub(crate) fn words_of_operator(op: BinaryOperator, n: u64) -> Drawn
+    requires { n ≤ 1048576 }
+    ensures { drawn_seen result ≡ words_of_operator op n }
+{
+    match op {
+        BinaryOperator::Words(op) => words_of_word_operator(op, n),
+        BinaryOperator::Bools(op) => words_of_bool_operator(op, n),
+    }
+}
+
+/// The words of a cast of `n` private elements.
+pub(crate) fn words_of_cast(cast: Cast, n: u64) -> Drawn
+    requires { n ≤ 1048576 }
+    ensures { drawn_seen result ≡ words_of_cast cast n }
+{
+    match cast {
+        Cast::WordToBool => words_for_equality(n),
+        Cast::BoolToWord => words_for_conversion(n),
+        Cast::WordToWord | Cast::BoolToBool => words_each(0),
+    }
+}

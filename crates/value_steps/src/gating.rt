@@ -1,0 +1,143 @@
+// The gates that a run makes.
+ghost use Rattle.std.specs.Prelude.{◌≡◌, ◌≤◌, ◌+◌, ◌^◌, IfSome, IfOk};
+ghost use Rattle.gates.specs.Counts.{made_by_all};
+ghost use Rattle.equality.specs.Plan.{eq_plan};
+ghost use Rattle.bit_extract.specs.Plan.{bits_plan};
+ghost use Rattle.compare.specs.Plan.{less_plan};
+ghost use Rattle.language_model.specs.Effects.{gate, next_number, put_gates, planned};
+ghost use Rattle.language_model.specs.Operations.{number_of, less_gates};
+ghost use Rattle.language_model.specs.Values.{ring_for};
+ghost use Rattle.value_steps.specs.Steps.{Does, itself};
+ghost use Rattle.value_steps.specs.Views.{stage_seen, value_seen};
+
+use crate::halt::Halt;
+use crate::stage::Stage;
+use crate::value::{Secrecy, Value};
+use gates::{Gate, RingKind, Words};
+use secrec_ast::DataType;
+use std::alloc::Global;
+
+/// The most values that a plan makes.
+const LONGEST_PLAN: u64 = 130;
+
+/// Makes a gate of one value, and tells the number of this value.
+pub(crate) fn gate(stage: &mut Stage<'_>, made: Gate) -> Result<u64, Halt>
+    ensures step { Does itself (gate made) (stage_seen stage.old) result (stage_seen stage.new) }
+    ensures spends { stage.new.left ≤ stage.old.left }
+{
+    let number = stage.made;
+    let next = number.checked_add(1).ok_or(Halt::Memory)?;
+    stage.gates.push(made)?;
+    stage.made = next;
+    Ok(number)
+}
+
+/// The number of the next value. There is room for a plan from there on: no memory holds so many gates that there isn't.
+pub(crate) fn next_number(stage: &Stage<'_>) -> Result<u64, Halt>
+    ensures step { Does itself next_number (stage_seen stage.now) result (stage_seen stage.now) }
+    ensures room { IfOk result (λ first. first + 130 ≤ 2 ^ 64) }
+{
+    let first = stage.made;
+    if first <= u64::MAX - LONGEST_PLAN {
+        Ok(first)
+    } else {
+        Err(Halt::Memory)
+    }
+}
+
+/// How many values gates make, where a `u64` holds the number.
+#[tactic(auto, using(crate::proofs::Counts::made_more))]
+fn values_made(gates: &[Gate]) -> Option<u64>
+    ensures { IfSome result (λ made. made ≡ made_by_all gates.now) }
+{
+    let mut made: u64 = 0;
+    for gate in gates {
+        made = made.checked_add(gate.made_by())?;
+    }
+    Some(made)
+}
+
+/// Makes these gates, and tells the number of the last value that they make.
+pub(crate) fn put_gates(stage: &mut Stage<'_>, mut gates: Vec<Gate>) -> Result<u64, Halt>
+    ensures step { Does itself (put_gates gates.items) (stage_seen stage.old) result (stage_seen stage.new) }
+    ensures spends { stage.new.left ≤ stage.old.left }
+{
+    let made = values_made(&gates).ok_or(Halt::Memory)?;
+    let next = stage.made.checked_add(made).ok_or(Halt::Memory)?;
+    stage.gates.append(&mut gates)?;
+    stage.made = next;
+    Ok(next.saturating_sub(1))
+}
+
+/// The gates that test each of `n` words for zero.
+pub(crate) fn zero_test(
+    alloc: Global,
+    stage: &mut Stage<'_>,
+    n: u64,
+    operand: u64,
+) -> Result<u64, Halt>
+    requires { n ≤ 1048576 }
+    ensures step { Does itself (planned (λ first. eq_plan first operand)) (stage_seen stage.old) result (stage_seen stage.new) }
+    ensures spends { stage.new.left ≤ stage.old.left }
+{
+    let first = next_number(stage)?;
+    let gates = equality::plan(alloc, first, operand, n)?;
+    put_gates(stage, gates)
+}
+
+/// The gates that turn `n` numbers into their bits.
+pub(crate) fn bits_gates(
+    alloc: Global,
+    stage: &mut Stage<'_>,
+    n: u64,
+    operand: u64,
+) -> Result<u64, Halt>
+    requires { n ≤ 1048576 }
+    ensures step { Does itself (planned (λ first. bits_plan first operand n)) (stage_seen stage.old) result (stage_seen stage.new) }
+    ensures spends { stage.new.left ≤ stage.old.left }
+{
+    let first = next_number(stage)?;
+    let gates = bit_extract::plan(alloc, first, operand, n)?;
+    put_gates(stage, gates)
+}
+
+/// The gates that tell of each two of `n` numbers whether the first is less.
+pub(crate) fn less_gates(
+    alloc: Global,
+    stage: &mut Stage<'_>,
+    n: u64,
+    left: u64,
+    right: u64,
+) -> Result<u64, Halt>
+    requires { n ≤ 1048576 }
+    ensures step { Does itself (less_gates n left right) (stage_seen stage.old) result (stage_seen stage.new) }
+    ensures spends { stage.new.left ≤ stage.old.left }
+{
+    let first = next_number(stage)?;
+    let gates = compare::plan(alloc, first, left, right, n)?;
+    put_gates(stage, gates)
+}
+
+/// The number of a private value. One that was never stored, and a public one, is first made a constant.
+pub(crate) fn number_of(alloc: Global, stage: &mut Stage<'_>, value: &Value) -> Result<u64, Halt>
+    ensures step { Does itself (number_of (value_seen value.now)) (stage_seen stage.old) result (stage_seen stage.new) }
+    ensures spends { stage.new.left ≤ stage.old.left }
+{
+    match value.secrecy {
+        Secrecy::Private(Some(number)) => Ok(number),
+        Secrecy::Private(None) | Secrecy::Plain => {
+            let list = Words::new(Vec::from_slice(alloc, &value.words)?);
+            gate(stage, Gate::Const { list })
+        }
+    }
+}
+
+/// The ring in which values of a data type are shared.
+pub(crate) fn ring_for(element: DataType) -> RingKind
+    ensures { result ≡ ring_for element }
+{
+    match element {
+        DataType::Uint64 => RingKind::Arithmetic,
+        DataType::Bool => RingKind::Boolean,
+    }
+}

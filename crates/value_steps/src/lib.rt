@@ -1,0 +1,39 @@
+//! What each operation on values does to a run: it is charged, may trap, has its random words compared with the tapes, makes its gates
+//! and gives a value.
+//!
+//! Each call does exactly what the effect of the same name in `language_model` does (`Does`), unless memory ran out. A run stops with
+//! the first stop of an operation; what it had done by then stands in its stage.
+#![tactic(auto)]
+
+mod applied;
+mod arrays;
+mod classification;
+mod conditions;
+mod drawing;
+mod gating;
+mod halt;
+mod inputs;
+mod one_operand;
+mod opening;
+mod operator_gates;
+mod operators;
+mod publishing;
+mod stage;
+mod steps;
+mod telling;
+mod value;
+mod world;
+
+pub use arrays::{element_of_array, filled, joined, with_element};
+pub use classification::wanted;
+pub use conditions::{asserted, tested};
+pub use halt::Halt;
+pub use inputs::asked_for;
+pub use one_operand::{bits_extracted, cast_to, negated, size_told, summed};
+pub use opening::declassified;
+pub use operators::operation;
+pub use publishing::published;
+pub use stage::{Drawn, Stage};
+pub use steps::{charge, test, test_at};
+pub use value::{Secrecy, Value};
+pub use world::{Given, Lengths, Source, World};

@@ -1,0 +1,181 @@
+// The gates of operators on private values.
+ghost use Rattle.std.specs.Prelude.{◌≤◌};
+ghost use Rattle.language_model.specs.Operations.{stretched, flip, equal_gates, word_gates, or_gates, bool_gates, operator_gates, cast_gates};
+ghost use Rattle.value_steps.specs.Steps.{Does, itself};
+ghost use Rattle.value_steps.specs.Views.{stage_seen};
+
+use crate::gating::{gate, less_gates, next_number, zero_test};
+use crate::halt::Halt;
+use crate::stage::Stage;
+use gates::{Gate, Words};
+use std::alloc::Global;
+use typed_tree::{BinaryOperator, BoolOperator, Cast, WordOperator};
+
+/// A private scalar beside an array of `n` elements as one of as many; any other operand stays as it is.
+pub(crate) fn stretched(
+    stage: &mut Stage<'_>,
+    scalar: bool,
+    n: u64,
+    operand: u64,
+) -> Result<u64, Halt>
+    ensures step { Does itself (stretched scalar n operand) (stage_seen stage.old) result (stage_seen stage.new) }
+    ensures spends { stage.new.left ≤ stage.old.left }
+{
+    if scalar {
+        gate(stage, Gate::Rep { operand, count: n })
+    } else {
+        Ok(operand)
+    }
+}
+
+/// True for false, and false for true, `n` times.
+pub(crate) fn flip(alloc: Global, stage: &mut Stage<'_>, n: u64, operand: u64) -> Result<u64, Halt>
+    ensures step { Does itself (flip n operand) (stage_seen stage.old) result (stage_seen stage.new) }
+    ensures spends { stage.new.left ≤ stage.old.left }
+{
+    let list = Words::new(vector_ops::repeated(alloc, n as usize, 1)?);
+    let ones = gate(stage, Gate::Const { list })?;
+    gate(
+        stage,
+        Gate::Xor {
+            left: operand,
+            right: ones,
+        },
+    )
+}
+
+/// Whether each two of `n` numbers are equal.
+fn equal_gates(
+    alloc: Global,
+    stage: &mut Stage<'_>,
+    n: u64,
+    left: u64,
+    right: u64,
+) -> Result<u64, Halt>
+    requires { n ≤ 1048576 }
+    ensures step { Does itself (equal_gates left right) (stage_seen stage.old) result (stage_seen stage.new) }
+    ensures spends { stage.new.left ≤ stage.old.left }
+{
+    let difference = gate(stage, Gate::Sub { left, right })?;
+    zero_test(alloc, stage, n, difference)
+}
+
+/// An operator on `n` numbers. The operators that are left out have no private operands.
+fn word_gates(
+    alloc: Global,
+    stage: &mut Stage<'_>,
+    op: WordOperator,
+    n: u64,
+    left: u64,
+    right: u64,
+) -> Result<u64, Halt>
+    requires { n ≤ 1048576 }
+    ensures step { Does itself (word_gates op n left right) (stage_seen stage.old) result (stage_seen stage.new) }
+    ensures spends { stage.new.left ≤ stage.old.left }
+{
+    match op {
+        WordOperator::Add => gate(stage, Gate::Add { left, right }),
+        WordOperator::Subtract => gate(stage, Gate::Sub { left, right }),
+        WordOperator::Multiply => gate(stage, Gate::Mul { left, right }),
+        WordOperator::Equal => equal_gates(alloc, stage, n, left, right),
+        WordOperator::NotEqual => {
+            let equal = equal_gates(alloc, stage, n, left, right)?;
+            flip(alloc, stage, n, equal)
+        }
+        WordOperator::Less => less_gates(alloc, stage, n, left, right),
+        WordOperator::Greater => less_gates(alloc, stage, n, right, left),
+        WordOperator::GreaterOrEqual => {
+            let less = less_gates(alloc, stage, n, left, right)?;
+            flip(alloc, stage, n, less)
+        }
+        WordOperator::LessOrEqual => {
+            let greater = less_gates(alloc, stage, n, right, left)?;
+            flip(alloc, stage, n, greater)
+        }
+        WordOperator::Divide
+        | WordOperator::Remainder
+        | WordOperator::And
+        | WordOperator::Or
+        | WordOperator::Xor => next_number(stage),
+    }
+}
+
+/// Either is true: one of them is, or both are.
+fn or_gates(stage: &mut Stage<'_>, left: u64, right: u64) -> Result<u64, Halt>
+    ensures step { Does itself (or_gates left right) (stage_seen stage.old) result (stage_seen stage.new) }
+    ensures spends { stage.new.left ≤ stage.old.left }
+{
+    let both = gate(stage, Gate::And { left, right })?;
+    let one = gate(stage, Gate::Xor { left, right })?;
+    gate(
+        stage,
+        Gate::Xor {
+            left: one,
+            right: both,
+        },
+    )
+}
+
+/// An operator on `n` truth values.
+fn bool_gates(
+    alloc: Global,
+    stage: &mut Stage<'_>,
+    op: BoolOperator,
+    n: u64,
+    left: u64,
+    right: u64,
+) -> Result<u64, Halt>
+    ensures step { Does itself (bool_gates op n left right) (stage_seen stage.old) result (stage_seen stage.new) }
+    ensures spends { stage.new.left ≤ stage.old.left }
+{
+    match op {
+        BoolOperator::Xor | BoolOperator::NotEqual => gate(stage, Gate::Xor { left, right }),
+        BoolOperator::And => gate(stage, Gate::And { left, right }),
+        BoolOperator::Or => or_gates(stage, left, right),
+        BoolOperator::Equal => {
+            let differ = gate(stage, Gate::Xor { left, right })?;
+            flip(alloc, stage, n, differ)
+        }
+    }
+}
+
+/// An operator on `n` elements.
+pub(crate) fn operator_gates(
+    alloc: Global,
+    stage: &mut Stage<'_>,
+    op: BinaryOperator,
+    n: u64,
+    left: u64,
+    right: u64,
+) -> Result<u64, Halt>
+    requires { n ≤ 1048576 }
+    ensures step { Does itself (operator_gates op n left right) (stage_seen stage.old) result (stage_seen stage.new) }
+    ensures spends { stage.new.left ≤ stage.old.left }
+{
+    match op {
+        BinaryOperator::Words(op) => word_gates(alloc, stage, op, n, left, right),
+        BinaryOperator::Bools(op) => bool_gates(alloc, stage, op, n, left, right),
+    }
+}
+
+/// A cast of `n` elements: a number is true where it isn't 0.
+pub(crate) fn cast_gates(
+    alloc: Global,
+    stage: &mut Stage<'_>,
+    cast: Cast,
+    n: u64,
+    operand: u64,
+) -> Result<u64, Halt>
+    requires { n ≤ 1048576 }
+    ensures step { Does itself (cast_gates cast n operand) (stage_seen stage.old) result (stage_seen stage.new) }
+    ensures spends { stage.new.left ≤ stage.old.left }
+{
+    match cast {
+        Cast::WordToBool => {
+            let zero = zero_test(alloc, stage, n, operand)?;
+            flip(alloc, stage, n, zero)
+        }
+        Cast::BoolToWord => gate(stage, Gate::Conv { operand }),
+        Cast::WordToWord | Cast::BoolToBool => Ok(operand),
+    }
+}

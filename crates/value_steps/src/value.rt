@@ -1,0 +1,101 @@
+// What a run computes with.
+ghost use Rattle.std.specs.Prelude.{◌≤◌, length};
+
+use std::alloc::{AllocError, Global};
+use typed_tree::Shape;
+
+/// Who may see a value.
+#[derive(Clone, Copy, Debug, PartialEq, Eq)]
+pub enum Secrecy {
+    /// Everybody.
+    Plain,
+    /// Nobody alone: it is shared, and has the number of a gate's value; none where nothing was stored yet.
+    Private(Option<u64>),
+}
+
+/// A value: who may see it, its shape, and its elements as words, a truth value as 1 or 0. A scalar has one element; no array has more
+/// than 1,048,576.
+#[derive(Drop)]
+pub struct Value {
+    pub secrecy: Secrecy,
+    pub shape: Shape,
+    pub words: Vec<u64>,
+    ghost bounded: { length words.items ≤ 1048576 },
+}
+
+impl Value {
+    ghost use Rattle.std.specs.Prelude.{◌≡◌, ◌≤◌, length, IfOk};
+    ghost use Rattle.language_model.specs.Values.{plain, hidden, size, seen, is_secret};
+    ghost use Rattle.gates.specs.Clear.{first_word};
+    ghost use Rattle.value_steps.specs.Views.{value_seen};
+
+    /// A value that everybody may see.
+    pub fn plain(shape: Shape, words: Vec<u64>) -> Value
+        requires { length words.items ≤ 1048576 }
+        ensures { value_seen result ≡ plain shape words.items }
+    {
+        Value {
+            secrecy: Secrecy::Plain,
+            shape,
+            words,
+        }
+    }
+
+    /// The private value of a gate.
+    pub fn hidden(shape: Shape, number: u64, words: Vec<u64>) -> Value
+        requires { length words.items ≤ 1048576 }
+        ensures { value_seen result ≡ hidden shape number words.items }
+    {
+        Value {
+            secrecy: Secrecy::Private(Some(number)),
+            shape,
+            words,
+        }
+    }
+
+    /// How many elements the value has.
+    pub fn size(&self) -> u64
+        ensures size { result ≡ size (value_seen self.now) }
+        ensures bounded { result ≤ 1048576 }
+    {
+        self.words.len() as u64
+    }
+
+    /// Whether not everybody may see the value.
+    pub(crate) fn is_private(&self) -> bool
+        ensures { result ≡ is_secret (value_seen self.now).secrecy }
+    {
+        match self.secrecy {
+            Secrecy::Plain => false,
+            Secrecy::Private(_) => true,
+        }
+    }
+
+    /// The first word, and 0 where there is none.
+    pub(crate) fn word(&self) -> u64
+        ensures { result ≡ first_word self.now.words.items }
+    {
+        vector_ops::first_word(&self.words)
+    }
+
+    /// The first word of a public value. A private one isn't looked at: it gives 0.
+    pub(crate) fn seen_word(&self) -> u64
+        ensures { result ≡ first_word (seen (value_seen self.now)) }
+    {
+        match self.secrecy {
+            Secrecy::Plain => self.word(),
+            Secrecy::Private(_) => 0,
+        }
+    }
+
+    /// The same value in memory of its own.
+    pub fn copy(&self, alloc: Global) -> Result<Value, AllocError>
+        ensures { IfOk result (λ v. value_seen v ≡ value_seen self.now) }
+    {
+        Ok(Value {
+            secrecy: self.secrecy,
+            shape: self.shape,
+            words: Vec::from_slice(alloc, &self.words)?,
+        })
+    }
+}

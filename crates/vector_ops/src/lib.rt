@@ -1,0 +1,16 @@
+//! Operators on lists of words, as evaluation in the clear computes them.
+//!
+//! What each operator means stands in `specs/` of `language_model`. A word is any `u64`; a truth value is the word 1 or 0. Every
+//! call has a result for all words; what makes a list answers `AllocError` where memory runs out. Each takes time linear in its
+//! lists and its result.
+#![tactic(auto)]
+
+mod operators;
+mod pairs;
+mod printing;
+mod words;
+
+pub use operators::{operation, truth_operation, word_operation};
+pub use pairs::{each, each_and_scalar, may_divide, scalar_and_each};
+pub use printing::elements;
+pub use words::{bits, cast_words, first_word, flipped, joined, low_bits, repeated, wrapping_sum};

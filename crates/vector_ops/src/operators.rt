@@ -1,0 +1,72 @@
+// Operators between two words.
+ghost use Rattle.std.specs.Prelude.{◌≡◌, ◌/◌, ◌%◌};
+ghost use Rattle.language_model.specs.Words.{truth_word, word_meaning, truth_meaning, meaning};
+
+use typed_tree::{BinaryOperator, BoolOperator, WordOperator};
+
+/// The quotient, and 0 for a divisor of 0.
+fn quotient(x: u64, divisor: u64) -> u64
+    ensures { result ≡ x / divisor }
+{
+    if divisor == 0 { 0 } else { x / divisor }
+}
+
+/// What is left of a division, and `x` itself for a divisor of 0.
+fn remainder(x: u64, divisor: u64) -> u64
+    ensures { result ≡ x % divisor }
+{
+    if divisor == 0 { x } else { x % divisor }
+}
+
+/// 1 for true and 0 for false.
+pub(crate) fn truth(holds: bool) -> u64
+    ensures { result ≡ truth_word holds }
+{
+    if holds { 1 } else { 0 }
+}
+
+/// The result of an operator on words. Sums, differences and products wrap at 2^64, and a comparison gives 1 or 0. A divisor of 0
+/// gives the quotient 0 and leaves the dividend as the remainder: `may_divide` tells whether there is one.
+pub fn word_operation(op: WordOperator, x: u64, y: u64) -> u64
+    ensures { result ≡ word_meaning op x y }
+{
+    match op {
+        WordOperator::Add => x.wrapping_add(y),
+        WordOperator::Subtract => x.wrapping_sub(y),
+        WordOperator::Multiply => x.wrapping_mul(y),
+        WordOperator::Divide => quotient(x, y),
+        WordOperator::Remainder => remainder(x, y),
+        WordOperator::Equal => truth(x == y),
+        WordOperator::NotEqual => truth(x != y),
+        WordOperator::Less => truth(x < y),
+        WordOperator::LessOrEqual => truth(x <= y),
+        WordOperator::Greater => truth(x > y),
+        WordOperator::GreaterOrEqual => truth(x >= y),
+        WordOperator::And => x & y,
+        WordOperator::Or => x | y,
+        WordOperator::Xor => x ^ y,
+    }
+}
+
+/// The result of an operator on truth values. Other words count by their bits.
+pub fn truth_operation(op: BoolOperator, x: u64, y: u64) -> u64
+    ensures { result ≡ truth_meaning op x y }
+{
+    match op {
+        BoolOperator::Equal => truth(x == y),
+        BoolOperator::NotEqual => truth(x != y),
+        BoolOperator::And => x & y,
+        BoolOperator::Or => x | y,
+        BoolOperator::Xor => x ^ y,
+    }
+}
+
+/// The result of an operator.
+pub fn operation(op: BinaryOperator, x: u64, y: u64) -> u64
+    ensures { result ≡ meaning op x y }
+{
+    match op {
+        BinaryOperator::Words(op) => word_operation(op, x, y),
+        BinaryOperator::Bools(op) => truth_operation(op, x, y),
+    }
+}

@@ -1,0 +1,28 @@
+// Words as they are printed.
+ghost use Rattle.std.specs.Prelude.{◌≡◌, map, IfOk};
+ghost use Rattle.language_model.specs.Values.{element_of};
+
+use sc_text::{Element, Elements};
+use secrec_ast::DataType;
+use std::alloc::{AllocError, Global};
+
+/// A word as an element of a data type: a truth value is true where the word isn't 0.
+fn printed(element: DataType, x: u64) -> Element
+    ensures { result ≡ element_of element x }
+{
+    match element {
+        DataType::Uint64 => Element::Word(x),
+        DataType::Bool => Element::Truth(x != 0),
+    }
+}
+
+/// The words as elements of a data type.
+pub fn elements(alloc: Global, element: DataType, xs: &[u64]) -> Result<Elements, AllocError>
+    ensures { IfOk result (λ e. e ≡ map (element_of element) xs.now) }
+{
+    let mut elements = Elements::new(alloc);
+    for x in xs {
+        elements.push(printed(element, *x))?;
+    }
+    Ok(elements)
+}
