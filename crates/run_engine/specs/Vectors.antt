@@ -2,7 +2,11 @@
 use Rattle.std.specs.Prelude.{◌≡◌, ℕ, List, [], ◌∷◌, replicate, true, false, Some, None, codes, refl}
 use Rattle.std.specs.Fmt.{digits}
 use Rattle.sc_text.specs.declared.span.Span.{Span}
-use Rattle.sc_text.specs.Fault.{fault_line, fault_text, span_text}
+use Rattle.sc_text.specs.Elements.{elements_text, element_text}
+use Rattle.sc_text.specs.Fault.{fault_line, fault_text, span_text, counted_code}
+use Rattle.program_limits.specs.declared.limit_error.LimitError.TheVariants.{FunctionTooLarge}
+use Rattle.language_model.specs.Effects.{Ended}
+use Rattle.language_model.specs.Reports.{Report}
 use Rattle.secrec_ast.specs.Tree.{declassify, parentheses}
 use Rattle.secrec_ast.specs.Programs.{imports}
 use Rattle.sc_text.specs.declared.elements.Element.TheVariants.{Word}
@@ -16,7 +20,8 @@ use Rattle.value_file.specs.declared.value.Domain.TheVariants.{Private}
 use Rattle.value_file.specs.declared.value.Value.TheVariants.{Number, Truth}
 use Rattle.run_engine.specs.Arguments.{argument_of}
 use Rattle.run_engine.specs.Outcome.{outcome_of}
-use Rattle.run_engine.specs.Programs.{not_yet}
+use Rattle.run_engine.specs.Eval.{need_text}
+use Rattle.run_engine.specs.Programs.{not_yet, too_large}
 use Rattle.run_engine.specs.SumProgram.{SumProgram, AskPlaces, PublishPlaces, SumPlaces, named, adds, sum_items, sum_tree, is_plain_name}
 use Rattle.run_engine.specs.SumReading.{asked_for, is_opened_sum, sum_in, sum_of_items, are_good_names, sum_program_of}
 
@@ -73,6 +78,18 @@ in_parentheses = refl
 pub cannot_run_yet : not_yet.line ≡ codes "error: X4 line 1 column 1\n"
 unfolding not_yet fault_line fault_text span_text digits
 cannot_run_yet = refl
+
+pub function_too_large : (too_large (FunctionTooLarge 4097)).line ≡ codes "error: X3 4097\n"
+unfolding too_large fault_line fault_text counted_code digits
+function_too_large = refl
+
+-- an equality that is opened
+abbrev equality_told : Report
+equality_told = record { stop = Ended Done; cost = 8; dealt = 4; drawn = record { first = 20; second = 19; third = 19 }; events = []; opened = []; gates = [] }
+
+pub words_for_equality : need_text equality_told ≡ codes "need 4 20 19 19\n"
+unfolding need_text elements_text element_text digits
+words_for_equality = refl
 
 -- 6 and 7, by the names `a` and `b`, behind a truth value that nobody asks for
 abbrev entries : List Entry

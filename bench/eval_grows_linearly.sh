@@ -1,0 +1,54 @@
+#!/usr/bin/env bash
+# Times `secrec eval` over arrays of 4,096, 16,384 and 65,536 elements, and prints processor time and peak memory with their ratios:
+# a loop that reads and writes each element, private operators on whole arrays, and calls that pass them on. Then it finds how much stack
+# calls in deep trees need. It measures; it tests nothing. It wants bash and python3.
+set -eu
+top=$(cd "$(dirname "$0")/.." && pwd)
+work=$(mktemp -d)
+trap 'rm -rf "$work"' EXIT
+"$top/secrec" check "$top/examples/sum/sum.sc" >"$work/out"
+
+python3 - "$top/.build/secrec" "$work" <<'PY'
+import os, resource, subprocess, sys
+
+program, work = sys.argv[1:]
+
+HEAD = "import stdlib; import shared3p; domain p shared3p;\n"
+shapes = {
+    "loop": ("public", HEAD + "void main() { uint64[[1]] a = argument(\"a\"); uint64 s = 0; uint64 i = 0; for (i = 0; i < size(a); i++) { s = s + a[i]; a[i] = s; } publish(\"s\", s); }\n"),
+    "operators": ("private", HEAD + "void main() { p uint64[[1]] a = argument(\"a\"); publish(\"s\", declassify(sum(a * a + a))); publish(\"l\", declassify(sum((uint64)(a < a)))); }\n"),
+    "calls": ("private", HEAD + "p uint64[[1]] f(p uint64[[1]] a, uint64 n) { if (n == 0) return a; return f(a + 1, n - 1); }\nvoid main() { p uint64[[1]] a = argument(\"a\"); publish(\"s\", declassify(sum(f(a, 20)))); }\n"),
+}
+
+def written(name, text):
+    path = f"{work}/{name}"
+    with open(path, "w") as file:
+        file.write(text)
+    return path
+
+def run(source, given):
+    before = resource.getrusage(resource.RUSAGE_CHILDREN).ru_utime
+    child = subprocess.Popen([program, "eval", source, "--input", given, "--budget", "1000000000"], stdout=subprocess.DEVNULL)
+    _, status, used = os.wait4(child.pid, 0)
+    assert status == 0, (source, status)
+    return used.ru_utime + used.ru_stime, used.ru_maxrss
+
+print(f"{'program':12} {'elements':>9} {'seconds':>9} {'peak kB':>9}   over the size before: time, memory")
+for name, (domain, text) in shapes.items():
+    source, last = written(name + ".sc", text), None
+    for size in (4096, 16384, 65536):
+        given = written("a.json", '{"inputs":[{"name":"a","domain":"%s","type":"uint64","value":[%s]}]}' % (domain, ",".join(["1"] * size)))
+        used = min(run(source, given) for _ in range(3))
+        over = "" if last is None else f"   {used[0] / last[0]:.1f} {used[1] / last[1]:.1f}"
+        print(f"{name:12} {size:9} {used[0]:9.3f} {used[1]:9}{over}")
+        last = used
+
+source = written("deep.sc", "bool f(bool n) { return " + "!" * 118 + "f(n); }\nvoid main() { publish(\"x\", f(true)); }\n")
+given = written("none.json", '{"inputs":[]}')
+for kilobytes in (512, 1024, 2048, 4096, 8192, 16384, 32768):
+    words = f"ulimit -s {kilobytes}; exec '{program}' eval '{source}' --input '{given}'"
+    ended = subprocess.run(["bash", "-c", words], capture_output=True)
+    if ended.returncode == 1:
+        print(f"64 calls in trees of the greatest height end within a stack of {kilobytes} kB: {ended.stdout.decode().strip()}")
+        break
+PY
