@@ -9,6 +9,8 @@ mod call;
 #[cfg(test)]
 mod checks;
 #[cfg(test)]
+mod constructs;
+#[cfg(test)]
 mod deals;
 #[cfg(test)]
 mod ends;
