@@ -9,7 +9,7 @@ trap 'rm -rf "$work"' EXIT
 "$top/secrec" check "$top/examples/sum/sum.sc" >"$work/out"
 
 python3 - "$top/.build/secrec" "$work" <<'PY'
-import os, resource, subprocess, sys
+import os, subprocess, sys
 
 program, work = sys.argv[1:]
 
@@ -27,7 +27,6 @@ def written(name, text):
     return path
 
 def run(source, given):
-    before = resource.getrusage(resource.RUSAGE_CHILDREN).ru_utime
     child = subprocess.Popen([program, "eval", source, "--input", given, "--budget", "1000000000"], stdout=subprocess.DEVNULL)
     _, status, used = os.wait4(child.pid, 0)
     assert status == 0, (source, status)
