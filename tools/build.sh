@@ -1,0 +1,129 @@
+# Sourced by ./secrec and ./install: proves and builds the program `secrec` where no build of these sources is at hand.
+#
+# A build stands in .build/SUM, SUM being a checksum of all that the program is made of. It is made under another name and
+# renamed when it is whole, so nobody ever meets half of one; a lock lets one build at a time work in a checkout.
+
+# What a build from nothing takes: processor minutes in all, and minutes of its longest chain of crates (docs/performance.md).
+build_work=65
+build_chain=20
+
+# Ends the script with a status that no run of the program has.
+give_up() {
+  printf 'secrec: %s\n' "$@" >&2
+  exit 125
+}
+
+# The crates of the repository that the program is made of, one a line.
+crates_of_program() {
+  awk '{ sub(/#.*/, "") } /:/ { name = $1; sub(/:.*/, "", name); sub(/^[^:]*:/, ""); below[name] = $0 }
+    function visit(crate, deps, n, i) {
+      if (crate in seen || !(crate in below)) return
+      seen[crate]; print crate
+      n = split(below[crate], deps, " ")
+      for (i = 1; i <= n; i++) visit(deps[i])
+    }
+    END { visit("secrec_cli") }' "$top/crates.txt" | LC_ALL=C sort
+}
+
+# Their lines of crates.txt.
+lines_of_program() {
+  local crate
+  for crate in $crates; do
+    grep -E "^$crate( .*)?:" crates.txt
+  done
+}
+
+# The files that the proofs, the build and its first run read, each ended by a zero byte.
+files_of_program() {
+  local crate
+  for crate in $crates; do
+    find "crates/$crate" \( -name out -o -name must-fail \) -prune -o -type f -print0
+  done | LC_ALL=C sort -z
+}
+
+# One checksum of all that the program is made of.
+sum_of_program() {
+  (cd "$top" || exit 1
+    { cat HANDLES
+      lines_of_program
+      files_of_program | xargs -0 sha256sum
+    } | sha256sum | cut -d' ' -f1)
+}
+
+# Says every minute, until it is ended, how much of the program is proved: crates weigh what their files do.
+tell_progress() {
+  local log=$1 started=$SECONDS all=0 done_ crate
+  local -A size
+  for crate in $crates; do
+    size[$crate]=$(cd "$top/crates/$crate" && cat src/*.rt specs/*.antt $(find proofs -name '*.antt' 2>/dev/null) 2>/dev/null | wc -c)
+    all=$((all + size[$crate]))
+  done
+  while sleep 60; do
+    done_=0
+    while read -r crate; do
+      done_=$((done_ + ${size[$crate]:-0}))
+    done < <(sed -nE 's/^rt: ([a-z0-9_]+) (proved$|is kept: .*)/\1/p' "$log")
+    echo "secrec: $((100 * done_ / all)) % proved, $(((SECONDS - started) / 60)) min so far" >&2
+  done
+}
+
+# Proves and builds in a copy that has the program's crates alone, and moves what came out to .build/SUM.
+make_build() {
+  local sum=$1 minutes status
+  minutes=$((build_work / $(nproc)))
+  [ "$minutes" -ge "$build_chain" ] || minutes=$build_chain
+  echo "secrec: proving and building the program (its first use here, or a source has changed); about $minutes minutes on $(nproc) processors" >&2
+  work=$(mktemp -d 2>/dev/null) || give_up "no folder for temporary files can be made in ${TMPDIR:-/tmp}"
+  teller=
+  trap '[ -z "$teller" ] || kill "$teller" 2>/dev/null; rm -rf "$work" "$build/new.$$"' EXIT
+  trap 'exit 130' INT TERM HUP
+  # (so rt takes it for the top of a repository of its own)
+  mkdir "$work/.git"
+  (cd "$top" && files_of_program | xargs -0 cp --parents -t "$work" && cp HANDLES "$work" &&
+    lines_of_program >"$work/crates.txt") || give_up "the sources could not be copied to $work"
+  # (neither holds the lock, should it outlive this script)
+  tell_progress "$build/log" 9>&- &
+  teller=$!
+  (cd "$work" && rt ci) >"$build/log" 2>&1 </dev/null 9>&-
+  status=$?
+  kill "$teller" 2>/dev/null
+  wait "$teller" 2>/dev/null
+  teller=
+  if [ "$status" -ne 0 ] || [ ! -x "$work/crates/secrec_cli/out/secrec_cli" ]; then
+    tail -n 20 "$build/log" >&2
+    give_up "the program could not be proved and built; these are the last lines of $build/log"
+  fi
+  mkdir "$build/new.$$" && cp "$work/crates/secrec_cli/out/secrec_cli" "$build/new.$$/secrec" && rt version >"$build/new.$$/kit" &&
+    { [ ! -d "$build/$sum" ] || mv "$build/$sum" "$work/old"; } && mv "$build/new.$$" "$build/$sum" || give_up "the program could not be written to $build"
+  # (builds of other sources are let go)
+  find "$build" -mindepth 1 -maxdepth 1 -type d ! -name "$sum" -exec rm -rf {} +
+  rm -rf "$work"
+  trap - EXIT INT TERM HUP
+  echo "secrec: proved and built" >&2
+}
+
+# Whether the program of these sources is there, built by the kit that is on the path where one is.
+is_built() {
+  [ -x "$build/$1/secrec" ] || return 1
+  ! command -v rt >/dev/null 2>&1 || [ "$(rt version 2>/dev/null)" = "$(cat "$build/$1/kit" 2>/dev/null)" ]
+}
+
+# Sets `program` to the path of the program, built where it has to be.
+find_program() {
+  local sum
+  build=$top/.build
+  crates=$(crates_of_program)
+  sum=$(sum_of_program) && [ -n "$sum" ] || give_up "the sources in $top could not be read"
+  if ! is_built "$sum"; then
+    command -v rt >/dev/null 2>&1 || give_up "not built yet, and the command rt of the Rattle kit, which proves and builds it, is not on the path"
+    { mkdir -p "$build" && : >>"$build/lock"; } 2>/dev/null || give_up "not built yet, and $build cannot be written"
+    exec 9>>"$build/lock"
+    if ! flock -n 9; then
+      echo "secrec: another command is building it here; waiting for that" >&2
+      flock 9
+    fi
+    is_built "$sum" || make_build "$sum"
+    exec 9>&-
+  fi
+  program=$build/$sum/secrec
+}
