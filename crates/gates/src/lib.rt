@@ -20,6 +20,3 @@ pub use laws::{evaluated_runs_fit, evaluated_values_fit, later_values_change_not
 pub use ring_kind::RingKind;
 pub use values::Values;
 pub use words::Words;
-
-#[cfg(test)]
-mod tests;

@@ -4,8 +4,6 @@
 mod arithmetic;
 mod gate;
 mod multiply;
-#[cfg(test)]
-mod tests;
 mod together;
 
 pub use gate::{MulGate, mul_is_lawful};

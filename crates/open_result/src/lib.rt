@@ -5,8 +5,6 @@
 mod gates;
 mod open;
 mod result;
-#[cfg(test)]
-mod tests;
 mod together;
 
 pub use gates::{OpenGate, ResultGate, open_is_lawful, result_is_lawful};

@@ -12,8 +12,6 @@ mod refused;
 mod resharing;
 mod schedule;
 mod share;
-#[cfg(test)]
-mod tests;
 
 pub use block::{Block, Full};
 pub use elementwise::{add_blocks, subtract_blocks, zero_block};

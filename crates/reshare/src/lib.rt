@@ -6,8 +6,6 @@
 
 mod gate;
 mod resharing;
-#[cfg(test)]
-mod tests;
 mod together;
 
 pub use gate::{ReshareGate, reshare_is_lawful};

@@ -4,8 +4,6 @@
 mod bits;
 mod conv;
 mod gate;
-#[cfg(test)]
-mod tests;
 mod together;
 
 pub use conv::{Conv, First, Second, Sent, Stage};

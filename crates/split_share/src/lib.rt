@@ -3,8 +3,6 @@
 
 mod gate;
 mod split;
-#[cfg(test)]
-mod tests;
 mod together;
 
 pub use gate::{NegatedSplitGate, SplitGate, split_is_lawful};

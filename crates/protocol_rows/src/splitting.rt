@@ -1,6 +1,6 @@
-use crate::{Split, Splitting, Waiting, split_together};
 use proto_core::{BadMessage, Block, Msg, P2, P3};
 use share_ring::AddRing;
+use split_share::{Split, Splitting, Waiting, split_together};
 
 const TOP: u64 = 18_446_744_073_709_551_615;
 

@@ -1,4 +1,4 @@
-use crate::{
+use proto_core::{
     BadMessage, Block, Link, Messages, Msg, Number, P1, P2, P3, Party, Schedule, Share, add_blocks,
     check_bits, reshare, subtract_blocks, sum_of_shares, zero_block,
 };

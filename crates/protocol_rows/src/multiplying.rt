@@ -1,4 +1,4 @@
-use crate::{Mul, Operands, multiply_together};
+use multiply::{Mul, Operands, multiply_together};
 use proto_core::{BadMessage, Block, Msg, P1, P2};
 use share_ring::{AddRing, ShareRing, XorRing};
 

@@ -1,5 +1,5 @@
-use crate::{Part, Reshare, reshare_together};
 use proto_core::{BadMessage, Block, Msg, P1};
+use reshare::{Part, Reshare, reshare_together};
 use share_ring::{AddRing, ShareRing, XorRing};
 
 const TOP: u64 = 18_446_744_073_709_551_615;

@@ -1,4 +1,4 @@
-use crate::{Gate, RingKind, Values, Words, blocks, evaluated};
+use gates::{Gate, RingKind, Values, Words, blocks, evaluated};
 use std::test::Fail;
 
 #[test]

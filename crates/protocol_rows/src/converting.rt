@@ -1,5 +1,5 @@
-use crate::{Conv, Conversion, First, Operand, convert_together};
 use proto_core::{BadMessage, Block, Msg, P2};
+use share_convert::{Conv, Conversion, First, Operand, convert_together};
 use share_ring::XorRing;
 
 // one element by three miners, the first with the words b, e, m, a

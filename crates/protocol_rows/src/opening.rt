@@ -1,4 +1,4 @@
-use crate::{Open, Part, Result3, open_together};
+use open_result::{Open, Part, Result3, open_together};
 use proto_core::{BadMessage, Block, Msg, P1, P3};
 use share_ring::{AddRing, ShareRing, XorRing};
 
