@@ -10,7 +10,7 @@ use Rattle.proto_core.specs.Protocol.{Joint, Protocol, Fits, Sound, strands_of, 
 use Rattle.proto_core.proofs.Beginnings.{append-none}
 use Rattle.proto_core.proofs.Strands.{opened-append}
 use Rattle.proto_core.proofs.Nets.{finishes-both, run-both}
-use Rattle.protocol_model.proofs.Counting.{moves-then}
+use Rattle.protocol_model.proofs.Scripts.{moves-then}
 use Rattle.protocol_model.proofs.GateRuns.{into-nothing, sends_on-append}
 use Rattle.blocked_protocol.specs.Blocked.{total, joined, no_elements, front, behind, blocks_strand, blocks_script, blocks_messages, blocks_output, blocks_opened, in_blocks, IsCut, sums, Blockable}
 use Rattle.blocked_protocol.proofs.Fitting.{itself, front-length, behind-length, fits-front, fits-behind, fits-whole, sizes-joined, sizes-none, blocks-joined, blocks-none}

@@ -13,7 +13,7 @@ use Rattle.proto_core.proofs.Strands.{opened-append}
 use Rattle.proto_core.proofs.Nets.{finishes-both, run-both}
 use Rattle.protocol_model.specs.Gates.{Gate, Joined, Local, value_at, operand, size_at, HasSize, sizes_of, Sized, AreSound, needed, gates_strand, gates_script}
 use Rattle.protocol_model.specs.Runs.{Shares, Tapes, drawn, left, joint_of, after, after_local, run_messages, run_values, run_opened, nodes_of, Ready}
-use Rattle.protocol_model.proofs.Counting.{moves-then}
+use Rattle.protocol_model.proofs.Scripts.{moves-then}
 use Rattle.protocol_model.proofs.Sizes.{value_at-sized, operand-sized, sizes-append, block-fits, ready-next, ready-local}
 
 pub into-nothing : (i : Number) → into i nothing ≡ nothing

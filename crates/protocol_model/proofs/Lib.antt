@@ -1,7 +1,10 @@
 pub mod Sizes
+pub mod Scripts
 pub mod GateRuns
 pub mod GateViews
 pub mod Counting
 pub mod NetCounts
 pub mod MadeOrders
+pub mod Coming
+pub mod Completing
 pub mod GateSchedules

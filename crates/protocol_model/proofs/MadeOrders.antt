@@ -5,12 +5,13 @@ use Rattle.proto_core.specs.declared.party.Number.{Number}
 use Rattle.proto_core.specs.declared.link.Link.{Link}
 use Rattle.proto_core.specs.declared.link.Link.TheVariants.{Link12, Link13, Link21, Link23, Link31, Link32}
 use Rattle.proto_core.specs.Strand.{Mail, Strand, Begins}
-use Rattle.proto_core.specs.Script.{Move, Moves}
-use Rattle.proto_core.specs.Net.{run_of, posted, delivered, MailBegins, Finishes}
+use Rattle.proto_core.specs.Script.{Move}
+use Rattle.protocol_model.specs.Along.{MovesAlong}
+use Rattle.proto_core.specs.Net.{into, run_of, posted, delivered, MailBegins, Finishes}
 use Rattle.proto_core.proofs.Beginnings.{begins-both}
 use Rattle.proto_core.proofs.Nets.{nothing-under_way, delivered-begins}
 use Rattle.protocol_model.specs.Network.{Accepted, EmptyLink, waits_for, at_the_end, Counts, one_more, into_counts, stands_at, posted_count, counted, all_links, those, is_full, link_at, chosen, entry_then, made_order, total}
-use Rattle.protocol_model.proofs.Counting.{counts}
+use Rattle.protocol_model.specs.Network.{counts}
 use Rattle.protocol_model.proofs.NetCounts.{posted-counted, stood-counted, counts-delivered, posted-begins, lt_from}
 
 -- ---- choosing
@@ -106,7 +107,7 @@ not_lt a b h = grind arith
 
 -- ---- acceptance
 
-module _ {A : Type 0} (nodes : Number → Strand A) (scripts : Number → List Move) (full : Mail) (outputs : Number → A) (f : Finishes nodes full outputs) (moves : (i : Number) → Moves (nodes i) (scripts i)) where
+module _ {A : Type 0} (nodes : Number → Strand A) (scripts : Number → List Move) (full : Mail) (outputs : Number → A) (f : Finishes nodes full outputs) (moves : (i : Number) → MovesAlong (nodes i) (scripts i) (into i full)) where
   -- where all has come, none waits
   all-ended : (mail : Mail) → MailBegins mail full → ((l : Link) → mail l ≡ full l) → at_the_end (λ i. stands_at (scripts i) (into_counts i (counts mail))) ≡ Accepted
   all-ended mail h same =

@@ -1,13 +1,15 @@
--- Which entries of a schedule are refused depends on counts alone.
+-- Which entries of a schedule are refused depends on counts alone, by the moves along the run.
 use Rattle.std.proofs.Common.{◌≡◌, ℕ, suc, ◌+◌, ◌<◌, ◌++◌, arith, Bool, true, false, if◌then◌else◌, List, [], ◌∷◌, length, refl, sym, ◌∙◌, ap, subst}
 use Rattle.proto_core.specs.declared.party.Number.{Number}
 use Rattle.proto_core.specs.declared.link.Link.{Link}
 use Rattle.proto_core.specs.Parties.{sender_of, receiver_of, is_same}
-use Rattle.proto_core.specs.Strand.{same_link, Mail, Strand, IsEnded, next_after}
+use Rattle.proto_core.specs.Strand.{same_link, Mail, Strand, next_after}
 use Rattle.proto_core.specs.Net.{into, run_of, posted, under_way, delivered, MailBegins, Finishes}
-use Rattle.proto_core.specs.Script.{Move, Moves}
+use Rattle.proto_core.specs.Script.{Move}
+use Rattle.protocol_model.specs.Along.{MovesAlong}
+use Rattle.protocol_model.proofs.Counting.{along-counted}
 use Rattle.protocol_model.specs.Network.{sent_by, stands_at, waits_for, into_counts, posted_count, one_more, walked, counted, at_the_end, EmptyLink}
-use Rattle.protocol_model.proofs.Counting.{counts, sent-counted, stand-counted}
+use Rattle.protocol_model.specs.Network.{counts}
 use Rattle.proto_core.proofs.Nets.{into-more, posted-more, covers, delivered-begins}
 use Rattle.proto_core.proofs.Beginnings.{begins-trans}
 use Rattle.proto_core.proofs.Strands.{same-link_is}
@@ -25,18 +27,18 @@ lt_from a b h = grind arith
 -- how many messages are sent on a link, after any schedule, is said by the scripts and by how many came on each
 pub posted-counted :
     {A : Type 0} (nodes : Number → Strand A) (scripts : Number → List Move) (full mail : Mail) (outputs : Number → A) → Finishes nodes full outputs →
-    ((i : Number) → Moves (nodes i) (scripts i)) → MailBegins mail full → (l : Link) → length (posted nodes mail l) ≡ posted_count scripts (counts mail) l
+    ((i : Number) → MovesAlong (nodes i) (scripts i) (into i full)) → MailBegins mail full → (l : Link) → length (posted nodes mail l) ≡ posted_count scripts (counts mail) l
 posted-counted nodes scripts full mail outputs f moves h l =
     let i = sender_of l in
-    sent-counted (nodes i) (scripts i) (into i mail) (into i full) (moves i) (into-more nodes i mail full h) (subst (λ s. IsEnded s) (sym (f.ended i)) tt) l
+    (along-counted (nodes i) (scripts i) (into i mail) (into i full) (moves i) (into-more nodes i mail full h)).sent l
     ∙ ap (λ c. sent_by (scripts i) c l) (counts-into i mail)
 
 pub stood-counted :
     {A : Type 0} (nodes : Number → Strand A) (scripts : Number → List Move) (full mail : Mail) (outputs : Number → A) → Finishes nodes full outputs →
-    ((i : Number) → Moves (nodes i) (scripts i)) → MailBegins mail full → (i : Number) →
+    ((i : Number) → MovesAlong (nodes i) (scripts i) (into i full)) → MailBegins mail full → (i : Number) →
     waits_for (run_of nodes mail i).left ≡ stands_at (scripts i) (into_counts i (counts mail))
 stood-counted nodes scripts full mail outputs f moves h i =
-    stand-counted (nodes i) (scripts i) (into i mail) (into i full) (moves i) (into-more nodes i mail full h) (subst (λ s. IsEnded s) (sym (f.ended i)) tt)
+    (along-counted (nodes i) (scripts i) (into i mail) (into i full) (moves i) (into-more nodes i mail full h)).waits
     ∙ ap (stands_at (scripts i)) (counts-into i mail)
 
 -- ---- one entry
@@ -67,7 +69,7 @@ counts-delivered nodes mail l h = λ d. λ k. at_link k (same_link l k) refl d
         ∙ sym (ap (λ b. if b then length (mail k) + 1 else length (mail k)) e)
 
 -- what three miners that finish do with a schedule is what the counts say
-module _ {A : Type 0} (nodes : Number → Strand A) (scripts : Number → List Move) (full : Mail) (outputs : Number → A) (f : Finishes nodes full outputs) (moves : (i : Number) → Moves (nodes i) (scripts i)) where
+module _ {A : Type 0} (nodes : Number → Strand A) (scripts : Number → List Move) (full : Mail) (outputs : Number → A) (f : Finishes nodes full outputs) (moves : (i : Number) → MovesAlong (nodes i) (scripts i) (into i full)) where
   pub posted-begins : (mail : Mail) → MailBegins mail full → MailBegins (posted nodes mail) full
   posted-begins mail h l = begins-trans _ _ _ (posted-more nodes mail full h l) (covers nodes full outputs f l)
 

@@ -3,3 +3,7 @@ pub mod Runs
 pub mod Views
 pub mod Schedules
 pub mod Network
+pub mod Along
+pub mod Arrivals
+pub mod Complete
+pub mod Vectors

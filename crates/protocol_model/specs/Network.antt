@@ -44,6 +44,9 @@ walked nodes entry mail (l ∷ ls) =
 abbrev pub Counts : Type 0
 Counts = Link → ℕ
 
+abbrev pub counts : Mail → Counts
+counts mail l = length (mail l)
+
 abbrev pub one_less : Link → Counts → Counts
 one_less l got k = if same_link l k then pred (got k) else got k
 

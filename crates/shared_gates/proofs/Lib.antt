@@ -6,3 +6,4 @@ pub mod Models
 pub mod Gained
 pub mod Computing
 pub mod Drawn
+pub mod OwnShares

@@ -4,3 +4,4 @@ pub mod Kinds
 pub mod Model
 pub mod Computed
 pub mod Vectors
+pub mod OwnShares

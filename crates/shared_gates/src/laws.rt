@@ -6,6 +6,7 @@ ghost use Rattle.shared_gates.specs.Shares.{Kind, Holds, AllHeld, kind_at};
 ghost use Rattle.shared_gates.specs.LocalGates.{local_share, IsLocal};
 ghost use Rattle.shared_gates.specs.Kinds.{Kinded, AllKinded};
 ghost use Rattle.shared_gates.specs.Computed.{Computed};
+ghost use Rattle.shared_gates.specs.OwnShares.{SameFor};
 ghost use Rattle.protocol_model.specs.Runs.{Tapes, Ready, run_values, run_opened};
 ghost use Rattle.gates.specs.Counts.{words_of_all};
 ghost use Rattle.proto_core.specs.Lists.{AreWords};
@@ -61,4 +62,11 @@ pub fn runs_compute_values()
         Ready (run_gates dealt dealt_sizes [] gates) (λ i. []) tapes →
         Computed kinds inputs [] gates (run_values (run_gates dealt dealt_sizes [] gates) (λ i. []) tapes)
         (run_opened (run_gates dealt dealt_sizes [] gates) (λ i. []) tapes) }
+{}
+
+/// Law: what the simulator makes for a miner of its own shares, how many words each miner draws and all scripts are the same
+/// whatever the other two were dealt: no local gate of a miner reads another one's shares.
+pub fn simulators_read_own_shares_alone()
+    ensures { (i : Number) (dealt others : Number → Values) (dealt_sizes sizes : List ℕ) (gates : List GateValue) →
+        dealt i ≡ others i → SameFor i (run_gates dealt dealt_sizes sizes gates) (run_gates others dealt_sizes sizes gates) }
 {}
