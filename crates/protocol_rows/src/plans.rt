@@ -16,6 +16,7 @@ fn operands(alloc: Global, operands: &[[u64; 3]]) -> Result<Values, AllocError> 
 }
 
 // what a plan behind these operands makes: how many values in all, and which words the last has, whatever the dealer drew
+#[derive(Clone, Copy)]
 struct Made {
     count: usize,
     last: u64,
@@ -38,54 +39,42 @@ fn gives(
     Ok(true)
 }
 
+const ZERO_TEST: Made = Made {
+    count: 18,
+    last: 17,
+    words: [1, 0, 0],
+};
+
+const BITS: Made = Made {
+    count: 55,
+    last: 54,
+    words: [0, TOP, 5],
+};
+
+const LESS: Made = Made {
+    count: 112,
+    last: 111,
+    words: [0, 1, 0],
+};
+
 #[test]
 fn plans_give_what_they_promise(rt: HostRuntime) -> Result<(), Fail> {
     let alloc = rt.alloc();
     let words = [[0, TOP, 5]];
     let gates = equality::plan(alloc, 1, 0, 3)?;
     assert!(rt;
-        gates.len() == 16
-            && gives(
-                alloc,
-                &gates,
-                &words,
-                &Made {
-                    count: 18,
-                    last: 17,
-                    words: [1, 0, 0]
-                }
-            )?,
+        gates.len() == 16 && gives(alloc, &gates, &words, &ZERO_TEST)?,
         "equality"
     );
     let gates = bit_extract::plan(alloc, 1, 0, 3)?;
     assert!(rt;
-        gates.len() == 53
-            && gives(
-                alloc,
-                &gates,
-                &words,
-                &Made {
-                    count: 55,
-                    last: 54,
-                    words: words[0]
-                }
-            )?,
+        gates.len() == 53 && gives(alloc, &gates, &words, &BITS)?,
         "bits"
     );
     let numbers = [[TOP, 1, 5], [1, TOP, 5]];
     let gates = compare::plan(alloc, 2, 0, 1, 3)?;
     assert!(rt;
-        gates.len() == 109
-            && gives(
-                alloc,
-                &gates,
-                &numbers,
-                &Made {
-                    count: 112,
-                    last: 111,
-                    words: [0, 1, 0]
-                }
-            )?,
+        gates.len() == 109 && gives(alloc, &gates, &numbers, &LESS)?,
         "less"
     );
     Ok(())
