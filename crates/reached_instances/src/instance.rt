@@ -8,7 +8,7 @@ pub enum BoundDomain {
 }
 
 /// A function of a typed program, by its number, with what each of its domain variables is bound to; a plain function has none.
-#[derive(Debug, PartialEq, Eq, Hash, Drop)]
+#[derive(PartialEq, Eq, Hash, Drop)]
 pub struct Instance {
     pub function: usize,
     pub binding: Vec<BoundDomain>,

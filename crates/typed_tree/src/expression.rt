@@ -2,7 +2,6 @@ use crate::operators::{BinaryOperator, Cast, Connective, Operands};
 
 /// An expression without names. A `u32` is the line where the construct begins; it stands where a trap can come.
 #[cycle(expressions)]
-#[derive(Drop)]
 pub enum TypedExpression {
     /// A uint64 literal.
     Word(u64),
@@ -28,4 +27,26 @@ pub enum TypedExpression {
     /// `&&` or `||` that may cut short.
     CutShort(Connective, Box<TypedExpression>, Box<TypedExpression>),
     Declassify(Box<TypedExpression>),
+}
+
+// Written out, so that an early exit calls this once for a tree that it gives up, and doesn't take the tree apart in its place.
+impl Drop for TypedExpression {
+    fn drop(self) {
+        match self {
+            TypedExpression::Word(_)
+            | TypedExpression::Truth(_)
+            | TypedExpression::Variable(_)
+            | TypedExpression::Call(_, _, _)
+            | TypedExpression::Size(_)
+            | TypedExpression::Cat(_, _, _)
+            | TypedExpression::Sum(_)
+            | TypedExpression::BitExtract(_, _)
+            | TypedExpression::Element(_, _, _)
+            | TypedExpression::Not(_)
+            | TypedExpression::Cast(_, _)
+            | TypedExpression::Binary(_, _, _, _, _)
+            | TypedExpression::CutShort(_, _, _)
+            | TypedExpression::Declassify(_) => {}
+        }
+    }
 }

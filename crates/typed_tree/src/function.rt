@@ -3,7 +3,7 @@ use crate::statement::TypedStatement;
 use sc_text::Name;
 
 /// What a function gives back.
-#[derive(Clone, Copy, Debug, PartialEq, Eq)]
+#[derive(Clone, Copy, PartialEq, Eq)]
 pub enum Given {
     Nothing,
     Value(Slot),

@@ -8,7 +8,7 @@ pub struct Shape {
 }
 
 /// Who may see what stands in a slot.
-#[derive(Clone, Copy, Debug, PartialEq, Eq)]
+#[derive(Clone, Copy, PartialEq, Eq)]
 pub enum SlotDomain {
     /// Everybody.
     Public,
@@ -19,7 +19,7 @@ pub enum SlotDomain {
 }
 
 /// A variable or a parameter of a function, or what it gives back.
-#[derive(Clone, Copy, Debug, PartialEq, Eq)]
+#[derive(Clone, Copy, PartialEq, Eq)]
 pub struct Slot {
     pub domain: SlotDomain,
     pub shape: Shape,

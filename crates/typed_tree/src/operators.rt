@@ -28,21 +28,21 @@ pub enum BoolOperator {
 }
 
 /// An operator between two operands of one data type.
-#[derive(Clone, Copy, Debug, PartialEq, Eq)]
+#[derive(Clone, Copy)]
 pub enum BinaryOperator {
     Words(WordOperator),
     Bools(BoolOperator),
 }
 
 /// `&&` or `||` between two scalars: where the left one is public it may decide alone.
-#[derive(Clone, Copy, Debug, PartialEq, Eq)]
+#[derive(Clone, Copy)]
 pub enum Connective {
     AndAlso,
     OrElse,
 }
 
 /// Which of two operands are arrays.
-#[derive(Clone, Copy, Debug, PartialEq, Eq)]
+#[derive(Clone, Copy)]
 pub enum Operands {
     Scalars,
     ArrayAndScalar,
@@ -51,7 +51,7 @@ pub enum Operands {
 }
 
 /// A cast, by what it casts and to what.
-#[derive(Clone, Copy, Debug, PartialEq, Eq)]
+#[derive(Clone, Copy)]
 pub enum Cast {
     WordToWord,
     WordToBool,

@@ -4,7 +4,6 @@ use sc_text::Name;
 /// A statement without names but those of inputs and outputs. A `u32` is the line where the construct begins; it stands where a
 /// trap can come.
 #[cycle(statements)]
-#[derive(Drop)]
 pub enum TypedStatement {
     /// Nothing.
     Empty,
@@ -34,4 +33,28 @@ pub enum TypedStatement {
     Publish(Name, TypedExpression),
     /// Evaluates an expression for what it does.
     Evaluate(TypedExpression),
+}
+
+// Written out, as that of `TypedExpression`.
+impl Drop for TypedStatement {
+    fn drop(self) {
+        match self {
+            TypedStatement::Empty
+            | TypedStatement::Block(_)
+            | TypedStatement::If(_, _, _)
+            | TypedStatement::Loop(_, _, _)
+            | TypedStatement::DoWhile(_, _)
+            | TypedStatement::Break
+            | TypedStatement::Continue
+            | TypedStatement::Return(_)
+            | TypedStatement::Assert(_, _)
+            | TypedStatement::Store(_, _)
+            | TypedStatement::StoreDefault(_)
+            | TypedStatement::Fill(_, _, _, _)
+            | TypedStatement::Input(_, _, _)
+            | TypedStatement::StoreElement(_, _, _, _)
+            | TypedStatement::Publish(_, _)
+            | TypedStatement::Evaluate(_) => {}
+        }
+    }
 }
