@@ -1,7 +1,7 @@
 #!/usr/bin/env bash
 # Times `secrec eval` over arrays of 4,096, 16,384 and 65,536 elements, and prints processor time and peak memory with their ratios:
-# a loop that reads and writes each element, private operators on whole arrays, and calls that pass them on. Then it finds how much stack
-# calls in deep trees need. It measures; it tests nothing. It wants bash and python3.
+# a loop that reads and writes each element, private operators on whole arrays, and calls that pass them on. It measures; it tests
+# nothing. It wants bash and python3.
 set -eu
 top=$(cd "$(dirname "$0")/.." && pwd)
 work=$(mktemp -d)
@@ -41,13 +41,4 @@ for name, (domain, text) in shapes.items():
         over = "" if last is None else f"   {used[0] / last[0]:.1f} {used[1] / last[1]:.1f}"
         print(f"{name:12} {size:9} {used[0]:9.3f} {used[1]:9}{over}")
         last = used
-
-source = written("deep.sc", "bool f(bool n) { return " + "!" * 118 + "f(n); }\nvoid main() { publish(\"x\", f(true)); }\n")
-given = written("none.json", '{"inputs":[]}')
-for kilobytes in (512, 1024, 2048, 4096, 8192, 16384, 32768):
-    words = f"ulimit -s {kilobytes}; exec '{program}' eval '{source}' --input '{given}'"
-    ended = subprocess.run(["bash", "-c", words], capture_output=True)
-    if ended.returncode == 1:
-        print(f"64 calls in trees of the greatest height end within a stack of {kilobytes} kB: {ended.stdout.decode().strip()}")
-        break
 PY

@@ -1,5 +1,5 @@
 -- The expressions and statements of a list, one after another.
-use Rattle.std.proofs.Common.{◌≡◌, ℕ, zero, suc, ◌+◌, ◌<◌, ◌≤◌, List, [], ◌∷◌, length, get_or, drop, refl, sym, ap, ◌∙◌, add-one, arith}
+use Rattle.std.proofs.Common.{◌≡◌, ℕ, zero, suc, ◌+◌, ◌<◌, List, [], ◌∷◌, length, get_or, drop, refl, sym, ap, ◌∙◌, add-one, arith}
 use Rattle.std.specs.Prelude.{map}
 use Rattle.std.proofs.Math.Seq.{drop-cons, drop-nil}
 use Rattle.typed_tree.specs.declared.kinds.Slot.{Slot}
@@ -16,10 +16,6 @@ trees es = typed_trees_of (map typed_tree es)
 
 abbrev pub commands : List TypedStatement → Commands
 commands ss = commands_of (map command ss)
-
-pub some_weight : (es : List TypedExpression) → 2 ≤ weight_of_all (trees es)
-some_weight [] = omega arith
-some_weight (e ∷ es) = let more = some_weight es in omega arith
 
 pub lighter_tree : (es : List TypedExpression) (i : ℕ) (d : TypedExpression) → i < length es → weight (typed_tree (get_or es i d)) < weight_of_all (trees es)
 lighter_tree [] i d h = absurd (omega arith)

@@ -1,9 +1,10 @@
 -- The turns of loops, one after another.
-use Rattle.std.proofs.Common.{◌≡◌, ℕ, zero, suc, ◌+◌, ◌<◌, ◌≤◌, Bool, true, false, Ok, ap, ◌∙◌, add-one, arith}
+use Rattle.std.proofs.Common.{◌≡◌, ℕ, zero, suc, ◌+◌, ◌<◌, ◌≤◌, Bool, true, false, Ok, sym, ap, ◌∙◌, add-one, arith}
 use Rattle.language_model.specs.Effects.{Stage, Effect, carry, done}
 use Rattle.language_model.specs.Values.{Value}
 use Rattle.language_model.specs.Operations.{tested}
 use Rattle.language_model.specs.Evaluation.{Frame, Flow, goes, turned, turns, repeats, either}
+use Rattle.clear_eval.proofs.Runs.{carry-carry}
 
 -- what is left of a loop behind some of its turns: it has turns left for each charge that can still be made
 pub record Turns (condition : Frame → Effect Value) (step body : Frame → Effect Flow) (fr0 : Frame) (s0 : Stage) (fr : Frame) (s : Stage) : Type 0 where
@@ -38,21 +39,16 @@ module _ (condition : Frame → Effect Value) (step body : Frame → Effect Flow
   abbrev pub behind_test : Bool → Effect Flow
   behind_test b = either b (λ u. carry (body fr u) behind_body) (done (goes fr))
 
-  abbrev pub behind_condition : Value → Effect Flow
-  behind_condition v = λ u. carry (tested v u) behind_test
-
-  pub at_condition : whole_turns condition step body fr0 s0 ≡ carry (condition fr s) behind_condition
+  -- the condition comes first, and its test
+  pub at_test : whole_turns condition step body fr0 s0 ≡ carry (carry (condition fr s) tested) behind_test
   unfolding turns
-  at_condition = t.same
+  at_test = t.same ∙ sym (carry-carry (condition fr s) tested behind_test)
 
-  pub at_test : (v : Value) (s1 : Stage) → condition fr s ≡ Ok (v, s1) → whole_turns condition step body fr0 s0 ≡ carry (tested v s1) behind_test
-  at_test v s1 h = at_condition ∙ ap (λ r. carry r behind_condition) h
+  pub at_end : (s2 : Stage) → carry (condition fr s) tested ≡ Ok (false, s2) → whole_turns condition step body fr0 s0 ≡ Ok (goes fr, s2)
+  at_end s2 h = at_test ∙ ap (λ r. carry r behind_test) h
 
-  pub at_end : (v : Value) (s1 s2 : Stage) → condition fr s ≡ Ok (v, s1) → tested v s1 ≡ Ok (false, s2) → whole_turns condition step body fr0 s0 ≡ Ok (goes fr, s2)
-  at_end v s1 s2 h h' = at_test v s1 h ∙ ap (λ r. carry r behind_test) h'
-
-  pub at_body : (v : Value) (s1 s2 : Stage) → condition fr s ≡ Ok (v, s1) → tested v s1 ≡ Ok (true, s2) → whole_turns condition step body fr0 s0 ≡ carry (body fr s2) behind_body
-  at_body v s1 s2 h h' = at_test v s1 h ∙ ap (λ r. carry r behind_test) h'
+  pub at_body : (s2 : Stage) → carry (condition fr s) tested ≡ Ok (true, s2) → whole_turns condition step body fr0 s0 ≡ carry (body fr s2) behind_body
+  at_body s2 h = at_test ∙ ap (λ r. carry r behind_test) h
 
   pub behind_the_body : (s2 s3 : Stage) (g : Flow) → whole_turns condition step body fr0 s0 ≡ carry (body fr s2) behind_body → body fr s2 ≡ Ok (g, s3)
       → whole_turns condition step body fr0 s0 ≡ turned g (λ f u. carry (step f u) behind_step) s3
@@ -82,34 +78,29 @@ module _ (condition : Frame → Effect Value) (body : Frame → Effect Flow) (fr
   abbrev pub again_on : Frame → Bool → Effect Flow
   again_on f b = either b (repeats t.rest condition body f) (done (goes f))
 
-  abbrev pub again_behind_condition : Frame → Value → Effect Flow
-  again_behind_condition f v = λ u. carry (tested v u) (again_on f)
-
   abbrev pub again_behind_body : Flow → Effect Flow
-  again_behind_body g = turned g (λ f u. carry (condition f u) (again_behind_condition f))
+  again_behind_body g = turned g (λ f u. carry (condition f u) (λ v w. carry (tested v w) (again_on f)))
 
   pub again_at_body : whole_repeats condition body fr0 s0 ≡ carry (body fr s) again_behind_body
   unfolding repeats
   again_at_body = t.same
 
-  pub again_at_condition : (s1 : Stage) (g : Flow) (f : Frame) → body fr s ≡ Ok (g, s1) → ((next : Frame → Effect Flow) → turned g next ≡ next f)
-      → whole_repeats condition body fr0 s0 ≡ carry (condition f s1) (again_behind_condition f)
-  again_at_condition s1 g f h on = again_at_body ∙ ap (λ r. carry r again_behind_body) h ∙ ap (λ (e : Effect Flow). e s1) (on (λ f u. carry (condition f u) (again_behind_condition f)))
+  pub again_at_test : (s1 : Stage) (g : Flow) (f : Frame) → body fr s ≡ Ok (g, s1) → ((next : Frame → Effect Flow) → turned g next ≡ next f)
+      → whole_repeats condition body fr0 s0 ≡ carry (carry (condition f s1) tested) (again_on f)
+  again_at_test s1 g f h on = again_at_body ∙ ap (λ r. carry r again_behind_body) h
+      ∙ ap (λ (e : Effect Flow). e s1) (on (λ f u. carry (condition f u) (λ v w. carry (tested v w) (again_on f))))
+      ∙ sym (carry-carry (condition f s1) tested (again_on f))
 
   pub again_left : (s1 : Stage) (g out : Flow) → body fr s ≡ Ok (g, s1) → ((next : Frame → Effect Flow) → turned g next ≡ done out) → whole_repeats condition body fr0 s0 ≡ Ok (out, s1)
-  again_left s1 g out h on = again_at_body ∙ ap (λ r. carry r again_behind_body) h ∙ ap (λ (e : Effect Flow). e s1) (on (λ f u. carry (condition f u) (again_behind_condition f)))
+  again_left s1 g out h on = again_at_body ∙ ap (λ r. carry r again_behind_body) h ∙ ap (λ (e : Effect Flow). e s1) (on (λ f u. carry (condition f u) (λ v w. carry (tested v w) (again_on f))))
 
-  pub again_at_test : (s1 s2 : Stage) (f : Frame) (v : Value) → whole_repeats condition body fr0 s0 ≡ carry (condition f s1) (again_behind_condition f) → condition f s1 ≡ Ok (v, s2)
-      → whole_repeats condition body fr0 s0 ≡ carry (tested v s2) (again_on f)
-  again_at_test s1 s2 f v h h' = h ∙ ap (λ r. carry r (again_behind_condition f)) h'
-
-  pub again_ended : (s2 s3 : Stage) (f : Frame) (v : Value) → whole_repeats condition body fr0 s0 ≡ carry (tested v s2) (again_on f) → tested v s2 ≡ Ok (false, s3)
+  pub again_ended : (s1 s3 : Stage) (f : Frame) → whole_repeats condition body fr0 s0 ≡ carry (carry (condition f s1) tested) (again_on f) → carry (condition f s1) tested ≡ Ok (false, s3)
       → whole_repeats condition body fr0 s0 ≡ Ok (goes f, s3)
-  again_ended s2 s3 f v h h' = h ∙ ap (λ r. carry r (again_on f)) h'
+  again_ended s1 s3 f h h' = h ∙ ap (λ r. carry r (again_on f)) h'
 
-  pub next_repeat : (s2 s3 : Stage) (f : Frame) (v : Value) → whole_repeats condition body fr0 s0 ≡ carry (tested v s2) (again_on f) → tested v s2 ≡ Ok (true, s3)
+  pub next_repeat : (s1 s3 : Stage) (f : Frame) → whole_repeats condition body fr0 s0 ≡ carry (carry (condition f s1) tested) (again_on f) → carry (condition f s1) tested ≡ Ok (true, s3)
       → s3.left < s.left → Repeats condition body fr0 s0 f s3
-  next_repeat s2 s3 f v h h' less = go t.rest t.enough (h ∙ ap (λ r. carry r (again_on f)) h')
+  next_repeat s1 s3 f h h' less = go t.rest t.enough (h ∙ ap (λ r. carry r (again_on f)) h')
     where
       go : (n : ℕ) → s.left ≤ n → whole_repeats condition body fr0 s0 ≡ repeats n condition body f s3 → Repeats condition body fr0 s0 f s3
       go zero enough same = absurd (omega arith)

@@ -1,4 +1,4 @@
--- How much of a tree is left to evaluate: two for each node, and two more where a connective or a loop is evaluated in parts.
+-- How much of a tree is left to evaluate: four for each node with others in it, and fewer where no function stands between it and its parts.
 use Rattle.std.specs.Prelude.{ℕ, ◌+◌, ◌*◌, List, map, sum, Option, Some, None}
 use Rattle.typed_tree.specs.Tree.{TypedTree, TypedTrees, word_node, truth_node, slot_node, call_node, size_node, cat_node, sum_node, bits_node, element_node, not_node, cast_node, binary_node, cut_node, declassify_node}
 use Rattle.typed_tree.specs.Tree as Tree'
@@ -11,17 +11,17 @@ abbrev mutual
   weight (word_node n) = 2
   weight (truth_node b) = 2
   weight (slot_node k) = 2
-  weight (call_node line k es) = weight_of_all es + 2
-  weight (size_node e) = weight e + 2
-  weight (cat_node line a b) = weight a + weight b + 2
-  weight (sum_node e) = weight e + 2
-  weight (bits_node line e) = weight e + 2
-  weight (element_node line a i) = weight a + weight i + 2
-  weight (not_node e) = weight e + 2
-  weight (cast_node c e) = weight e + 2
-  weight (binary_node line op ds a b) = weight a + weight b + 2
+  weight (call_node line k es) = weight_of_all es + 4
+  weight (size_node e) = weight e + 4
+  weight (cat_node line a b) = weight a + weight b + 4
+  weight (sum_node e) = weight e + 4
+  weight (bits_node line e) = weight e + 4
+  weight (element_node line a i) = weight a + weight i + 4
+  weight (not_node e) = weight e + 4
+  weight (cast_node c e) = weight e + 4
+  weight (binary_node line op ds a b) = weight a + weight b + 4
   weight (cut_node c a b) = weight a + weight b + 4
-  weight (declassify_node e) = weight e + 2
+  weight (declassify_node e) = weight e + 4
 
   pub weight_of_all : TypedTrees → ℕ
   weight_of_all Tree'.none = 2

@@ -42,13 +42,13 @@ step_on_two w e x y = done x
 
 pub record HasOne (e x : TypedTree) : Type 0 where
   pub evaluates : (w : World) (calls : Calls) (here : Setting) (fr : Frame) (s : Stage) → value w calls here e fr s ≡ carry (value w calls here x fr s) (step_on_one w e)
-  pub lighter : weight x + 2 ≤ weight e
+  pub lighter : weight x + 4 ≤ weight e
   pub sound : (n : ℕ) (ps : List ℕ) → IsSoundTree n ps e → IsSoundTree n ps x
 
 pub record HasTwo (e x y : TypedTree) : Type 0 where
   pub evaluates : (w : World) (calls : Calls) (here : Setting) (fr : Frame) (s : Stage) →
       value w calls here e fr s ≡ carry (value w calls here x fr s) (λ a t. carry (value w calls here y fr t) (step_on_two w e a))
-  pub lighter : weight x + weight y + 2 ≤ weight e
+  pub lighter : weight x + weight y + 4 ≤ weight e
   pub sound : (n : ℕ) (ps : List ℕ) → IsSoundTree n ps e → IsSoundTree n ps x × IsSoundTree n ps y
 
 abbrev pub HasParts : TypedTree → Parts → Type 0
@@ -98,13 +98,13 @@ after_two w at c x y fr = done (goes fr)
 
 pub record HasOneWithin (c : Command) (x : TypedTree) : Type 0 where
   pub executes : (w : World) (calls : Calls) (at : Place) (fr : Frame) (s : Stage) → execute w calls at c fr s ≡ carry (value w calls at.here x fr s) (λ a. after_one w at c a fr)
-  pub lighter : weight x + 2 ≤ command_weight c
+  pub lighter : weight x + 4 ≤ command_weight c
   pub sound : (n : ℕ) (ps : List ℕ) → IsSoundCommand n ps c → IsSoundTree n ps x
 
 pub record HasTwoWithin (c : Command) (x y : TypedTree) : Type 0 where
   pub executes : (w : World) (calls : Calls) (at : Place) (fr : Frame) (s : Stage) →
       execute w calls at c fr s ≡ carry (value w calls at.here x fr s) (λ a t. carry (value w calls at.here y fr t) (λ b. after_two w at c a b fr))
-  pub lighter : weight x + weight y + 2 ≤ command_weight c
+  pub lighter : weight x + weight y + 4 ≤ command_weight c
   pub sound : (n : ℕ) (ps : List ℕ) → IsSoundCommand n ps c → IsSoundTree n ps x × IsSoundTree n ps y
 
 abbrev pub HasStatementParts : Command → StatementParts → Type 0

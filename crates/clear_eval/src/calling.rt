@@ -1,5 +1,5 @@
 // How a function is called.
-ghost use Rattle.std.specs.Prelude.{◌≡◌, ◌≤◌, ◌<◌, IfOk, length, map, sum};
+ghost use Rattle.std.specs.Prelude.{◌≡◌, ◌≤◌, ◌<◌, [], ◌∷◌, ◌++◌, IfOk, length, map, sum};
 ghost use Rattle.std.specs.List.{slice_get};
 ghost use Rattle.typed_tree.specs.Tree.{typed_tree, typed_trees_of};
 ghost use Rattle.reached_instances.specs.Domains.{domains};
@@ -40,6 +40,15 @@ pub fn slots_of<'a>(at: &Place<'a>, number: usize) -> &'a [Slot]
 {
     let functions = at.here.functions;
     &functions[number].slots
+}
+
+/// Puts an argument behind those before it.
+#[inline(never)]
+pub fn add_argument(arguments: &mut Vec<Value>, argument: Value) -> Result<(), AllocError>
+    ensures { IfOk result (λ _. arguments.new.items ≡ arguments.old.items ++ argument ∷ []) }
+{
+    arguments.push(argument)?;
+    Ok(())
 }
 
 // How many elements the arrays among the arguments of a call have together.

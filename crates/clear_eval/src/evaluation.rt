@@ -1,25 +1,28 @@
-#![tactic(auto, unfolding(language_model::specs::Evaluation::value, language_model::specs::Evaluation::execute, language_model::specs::Evaluation::execute_all), using(crate::proofs::Work::work_less))]
-// The evaluation of expressions, statements and calls. They call one another, so they stand together.
-ghost use Rattle.std.specs.Prelude.{◌≡◌, ◌≤◌, IfOk, map, length};
-ghost use Rattle.typed_tree.specs.Tree.{typed_tree, typed_trees_of};
+// The evaluation of expressions, statements and calls. They call one another, so they stand together. Each kind of expression and of
+// statement is a function of its own, kept out of its caller by hand, so that a deep tree takes little stack.
+ghost use Rattle.std.specs.Prelude.{◌≡◌, ◌≤◌, ◌<◌, IfOk, map, length};
+ghost use Rattle.typed_tree.specs.Tree.{cat_node, call_node, cut_node, typed_tree, typed_trees_of};
+ghost use Rattle.typed_tree.specs.Commands.{command};
 ghost use Rattle.typed_tree.specs.Programs.{typed_function_tree};
 ghost use Rattle.reached_instances.specs.Views.{setting};
-ghost use Rattle.language_model.specs.Evaluation.{arguments, call_at, either, not_cut_short, cut_short, gives_private};
-ghost use Rattle.value_steps.specs.Steps.{Does};
+ghost use Rattle.language_model.specs.Evaluation.{arguments, not_cut_short, cut_short, gives_private};
+ghost use Rattle.value_steps.specs.Steps.{Does, itself};
 ghost use Rattle.value_steps.specs.Views.{value_seen, stage_seen, world_seen};
+ghost use Rattle.clear_eval.specs.Parts.{HasOne, HasTwo, HasOneWithin, HasTwoWithin};
+ghost use Rattle.clear_eval.specs.Standing.{node_at, value_at, wanted_at, test_at, flow_at, flow_of_all, branch_at, turns_at, repeats_at, body_at};
+ghost use Rattle.clear_eval.specs.Standing.{HasRoomFor, AreSoundAmong, IsSoundAround, IsSoundNode, IsSoundIn, AreSoundIn, IsSoundStatement, AreSoundStatements};
 ghost use Rattle.clear_eval.specs.Views.{frame_seen, flow_seen, held_seen, values_seen, calls_from};
-ghost use Rattle.clear_eval.specs.Standing.{value_at, flow_at, flow_of_all, turns_at, repeats_at, body_at, HasRoomFor, AreSoundAmong, IsSoundAround, IsSoundIn, AreSoundIn, IsSoundStatement, AreSoundStatements};
 
 use crate::beginning::{Begun, begin};
-use crate::calling::{bound_by, charge_call, slots_of};
+use crate::calling::{add_argument, bound_by, charge_call, slots_of};
 use crate::entering::result_of;
 use crate::flow::Flow;
 use crate::held::Held;
 use crate::parts::{Parts, StatementParts, parts_of, statement_parts_of};
 use crate::place::Place;
 use crate::slots::{next_is_private, slot_value};
-use crate::steps::{leaf, on_one, on_two, plain, with_one, with_two};
-use crate::words::{bool_operator, decides, is_private, truth_value};
+use crate::steps::{decided, leaf, on_one, on_two, plain, with_one, with_two};
+use crate::words::{bool_operator, decides, is_private};
 use reached_instances::{BoundDomain, domain};
 use std::alloc::Global;
 use typed_tree::{
@@ -28,76 +31,50 @@ use typed_tree::{
 use value_steps::{Halt, Stage, Value, World, joined, operation, tested, wanted};
 
 /// Evaluates an expression.
+#[inline(never)]
 #[cycle(evaluation)]
 fn value(
     alloc: Global,
     world: &World<'_>,
     at: &Place<'_>,
     stage: &mut Stage<'_>,
-    frame: &[Value],
+    frame: &Vec<Value>,
     e: &TypedExpression,
 ) -> Result<Value, Halt>
     requires program { IsSoundAround at.now }
-    requires here { IsSoundIn at.now frame.now e.now }
-    ensures step { Does value_seen (value_at world.now at.now frame.now e.now) (stage_seen stage.old) result (stage_seen stage.new) }
+    requires here { IsSoundIn at.now frame.now.items e.now }
+    ensures step { Does value_seen (value_at world.now at.now frame.now.items e.now) (stage_seen stage.old) result (stage_seen stage.new) }
     ensures spends { stage.new.left ≤ stage.old.left }
 {
     match parts_of(e) {
         Parts::Leaf => leaf(alloc, world, at, stage, frame, e),
-        Parts::One(x) => {
-            let x = operand(alloc, world, at, stage, frame, x)?;
-            on_one(alloc, world, stage, e, x)
-        }
-        Parts::Two(x, y) => {
-            let x = operand(alloc, world, at, stage, frame, x)?;
-            let y = operand(alloc, world, at, stage, frame, y)?;
-            on_two(alloc, world, stage, e, x, y)
-        }
-        Parts::Joined(line, x, y) => {
-            let private = is_private(domain(alloc, &at.here, e)?);
-            let x = value(alloc, world, at, stage, frame, x)?;
-            let x = wanted(alloc, stage, private, x)?;
-            let y = value(alloc, world, at, stage, frame, y)?;
-            let y = wanted(alloc, stage, private, y)?;
-            joined(alloc, stage, line, x, &y)
-        }
+        Parts::One(x) => on_value(alloc, world, at, stage, frame, e, x),
+        Parts::Two(x, y) => on_values(alloc, world, at, stage, frame, e, x, y),
+        Parts::Joined(line, x, y) => on_arrays(alloc, world, at, stage, frame, e, line, x, y),
         Parts::Call(line, number, list) => {
-            let binding = bound_by(alloc, at, number, list)?;
-            let slots = slots_of(at, number);
-            let arguments = arguments(alloc, world, at, stage, frame, &binding, slots, list)?;
-            call(
-                alloc,
-                world,
-                at.here.functions,
-                at.room,
-                stage,
-                line,
-                number,
-                &binding,
-                arguments,
-            )
+            call(alloc, world, at, stage, frame, line, number, list)
         }
         Parts::Connected(connective, x, y) => {
-            let private = is_private(domain(alloc, &at.here, x)?);
-            let x = value(alloc, world, at, stage, frame, x)?;
-            connected(alloc, world, at, stage, frame, connective, private, x, y)
+            connected(alloc, world, at, stage, frame, connective, x, y)
         }
     }
 }
 
 /// Evaluates an operand that is only read: a variable is lent.
+#[tactic(auto, unfolding(language_model::specs::Evaluation::value))]
+#[inline(never)]
 #[cycle(evaluation)]
 fn operand<'f>(
     alloc: Global,
     world: &World<'_>,
     at: &Place<'_>,
     stage: &mut Stage<'_>,
-    frame: &'f [Value],
+    frame: &'f Vec<Value>,
     e: &TypedExpression,
 ) -> Result<Held<'f>, Halt>
     requires program { IsSoundAround at.now }
-    requires here { IsSoundIn at.now frame.now e.now }
-    ensures step { Does held_seen (value_at world.now at.now frame.now e.now) (stage_seen stage.old) result (stage_seen stage.new) }
+    requires here { IsSoundIn at.now frame.now.items e.now }
+    ensures step { Does held_seen (value_at world.now at.now frame.now.items e.now) (stage_seen stage.old) result (stage_seen stage.new) }
     ensures spends { stage.new.left ≤ stage.old.left }
 {
     if let TypedExpression::Variable(slot) = e {
@@ -107,66 +84,203 @@ fn operand<'f>(
     Ok(Held::Own(value))
 }
 
-/// Goes on behind the left operand of a connective, which is private or not.
+/// Evaluates an expression with one operand.
+#[inline(never)]
+#[cycle(evaluation)]
+fn on_value(
+    alloc: Global,
+    world: &World<'_>,
+    at: &Place<'_>,
+    stage: &mut Stage<'_>,
+    frame: &Vec<Value>,
+    e: &TypedExpression,
+    x: &TypedExpression,
+) -> Result<Value, Halt>
+    requires program { IsSoundAround at.now }
+    requires parts { HasOne (typed_tree e.now) (typed_tree x.now) }
+    requires here { IsSoundIn at.now frame.now.items x.now }
+    ensures step { Does value_seen (value_at world.now at.now frame.now.items e.now) (stage_seen stage.old) result (stage_seen stage.new) }
+    ensures spends { stage.new.left ≤ stage.old.left }
+{
+    let x = operand(alloc, world, at, stage, frame, x)?;
+    on_one(alloc, world, stage, e, x)
+}
+
+/// Evaluates an expression with two operands, the left one first.
+#[inline(never)]
+#[cycle(evaluation)]
+fn on_values(
+    alloc: Global,
+    world: &World<'_>,
+    at: &Place<'_>,
+    stage: &mut Stage<'_>,
+    frame: &Vec<Value>,
+    e: &TypedExpression,
+    x: &TypedExpression,
+    y: &TypedExpression,
+) -> Result<Value, Halt>
+    requires program { IsSoundAround at.now }
+    requires parts { HasTwo (typed_tree e.now) (typed_tree x.now) (typed_tree y.now) }
+    requires left { IsSoundIn at.now frame.now.items x.now }
+    requires right { IsSoundIn at.now frame.now.items y.now }
+    ensures step { Does value_seen (value_at world.now at.now frame.now.items e.now) (stage_seen stage.old) result (stage_seen stage.new) }
+    ensures spends { stage.new.left ≤ stage.old.left }
+{
+    let x = operand(alloc, world, at, stage, frame, x)?;
+    let y = operand(alloc, world, at, stage, frame, y)?;
+    on_two(alloc, world, stage, e, x, y)
+}
+
+/// Evaluates an expression whose value is wanted as a private one, or as it is.
+#[inline(never)]
+#[cycle(evaluation)]
+fn value_wanted(
+    alloc: Global,
+    world: &World<'_>,
+    at: &Place<'_>,
+    stage: &mut Stage<'_>,
+    frame: &Vec<Value>,
+    private: bool,
+    e: &TypedExpression,
+) -> Result<Value, Halt>
+    requires program { IsSoundAround at.now }
+    requires here { IsSoundIn at.now frame.now.items e.now }
+    ensures step { Does value_seen (wanted_at world.now at.now frame.now.items private e.now) (stage_seen stage.old) result (stage_seen stage.new) }
+    ensures spends { stage.new.left ≤ stage.old.left }
+{
+    let value = value(alloc, world, at, stage, frame, e)?;
+    wanted(alloc, stage, private, value)
+}
+
+/// Evaluates an expression that joins two arrays, each classified right behind its evaluation.
+#[tactic(auto, unfolding(language_model::specs::Evaluation::value))]
+#[inline(never)]
+#[cycle(evaluation)]
+fn on_arrays(
+    alloc: Global,
+    world: &World<'_>,
+    at: &Place<'_>,
+    stage: &mut Stage<'_>,
+    frame: &Vec<Value>,
+    e: &TypedExpression,
+    line: u32,
+    x: &TypedExpression,
+    y: &TypedExpression,
+) -> Result<Value, Halt>
+    requires program { IsSoundAround at.now }
+    requires parts { typed_tree e.now ≡ cat_node line (typed_tree x.now) (typed_tree y.now) }
+    requires left { IsSoundIn at.now frame.now.items x.now }
+    requires right { IsSoundIn at.now frame.now.items y.now }
+    ensures step { Does value_seen (value_at world.now at.now frame.now.items e.now) (stage_seen stage.old) result (stage_seen stage.new) }
+    ensures spends { stage.new.left ≤ stage.old.left }
+{
+    let private = is_private(domain(alloc, &at.here, e)?);
+    let x = value_wanted(alloc, world, at, stage, frame, private, x)?;
+    let y = value_wanted(alloc, world, at, stage, frame, private, y)?;
+    joined(alloc, stage, line, x, &y)
+}
+
+/// Evaluates operands of a connective, the right one only where the left one doesn't decide, or is private.
+#[tactic(auto, unfolding(language_model::specs::Evaluation::value))]
+#[inline(never)]
 #[cycle(evaluation)]
 fn connected(
     alloc: Global,
     world: &World<'_>,
     at: &Place<'_>,
     stage: &mut Stage<'_>,
-    frame: &[Value],
+    frame: &Vec<Value>,
     connective: Connective,
-    private: bool,
+    x: &TypedExpression,
+    y: &TypedExpression,
+) -> Result<Value, Halt>
+    requires program { IsSoundAround at.now }
+    requires left { IsSoundIn at.now frame.now.items x.now }
+    requires right { IsSoundIn at.now frame.now.items y.now }
+    ensures step { Does value_seen (node_at world.now at.now frame.now.items (cut_node connective (typed_tree x.now) (typed_tree y.now)))
+        (stage_seen stage.old) result (stage_seen stage.new) }
+    ensures spends { stage.new.left ≤ stage.old.left }
+{
+    let private = is_private(domain(alloc, &at.here, x)?);
+    let x = value(alloc, world, at, stage, frame, x)?;
+    if private {
+        not_cut_short(alloc, world, at, stage, frame, connective, x, y)
+    } else {
+        cut_short(alloc, world, at, stage, frame, connective, x, y)
+    }
+}
+
+/// Goes on behind a private left operand of a connective.
+#[inline(never)]
+#[cycle(evaluation)]
+fn not_cut_short(
+    alloc: Global,
+    world: &World<'_>,
+    at: &Place<'_>,
+    stage: &mut Stage<'_>,
+    frame: &Vec<Value>,
+    connective: Connective,
     left: Value,
     right: &TypedExpression,
 ) -> Result<Value, Halt>
     requires program { IsSoundAround at.now }
-    requires here { IsSoundIn at.now frame.now right.now }
-    ensures step { Does value_seen (either private
-        (not_cut_short (world_seen world.now) connective (value_seen left) (value_at world.now at.now frame.now right.now))
-        (cut_short connective (gives_private (setting at.now.here) (typed_tree right.now)) (value_seen left) (value_at world.now at.now frame.now right.now)))
+    requires here { IsSoundIn at.now frame.now.items right.now }
+    ensures step { Does value_seen (not_cut_short (world_seen world.now) connective (value_seen left) (value_at world.now at.now frame.now.items right.now))
         (stage_seen stage.old) result (stage_seen stage.new) }
     ensures spends { stage.new.left ≤ stage.old.left }
 {
-    if private {
-        let right = value(alloc, world, at, stage, frame, right)?;
-        let operator = BinaryOperator::Bools(bool_operator(connective));
-        return operation(
-            alloc,
-            world,
-            stage,
-            0,
-            operator,
-            Operands::Scalars,
-            left,
-            right,
-        );
-    }
+    let right = value(alloc, world, at, stage, frame, right)?;
+    let operator = BinaryOperator::Bools(bool_operator(connective));
+    let operands = Operands::Scalars;
+    operation(alloc, world, stage, 0, operator, operands, left, right)
+}
+
+/// Goes on behind a public left operand of a connective.
+#[inline(never)]
+#[cycle(evaluation)]
+fn cut_short(
+    alloc: Global,
+    world: &World<'_>,
+    at: &Place<'_>,
+    stage: &mut Stage<'_>,
+    frame: &Vec<Value>,
+    connective: Connective,
+    left: Value,
+    right: &TypedExpression,
+) -> Result<Value, Halt>
+    requires program { IsSoundAround at.now }
+    requires here { IsSoundIn at.now frame.now.items right.now }
+    ensures step { Does value_seen (cut_short connective (gives_private (setting at.now.here) (typed_tree right.now)) (value_seen left)
+        (value_at world.now at.now frame.now.items right.now))
+        (stage_seen stage.old) result (stage_seen stage.new) }
+    ensures spends { stage.new.left ≤ stage.old.left }
+{
     let truth = tested(stage, &left)?;
     if decides(connective, truth) {
-        let private = is_private(domain(alloc, &at.here, right)?);
-        let decided = truth_value(alloc, truth)?;
-        return wanted(alloc, stage, private, decided);
+        decided(alloc, at, stage, truth, right)
+    } else {
+        value(alloc, world, at, stage, frame, right)
     }
-    value(alloc, world, at, stage, frame, right)
 }
 
 /// Evaluates the arguments of a call, from the left, each classified where the parameter is private.
+#[tactic(auto, unfolding(language_model::specs::Evaluation::value))]
+#[inline(never)]
 #[cycle(evaluation)]
 fn arguments(
     alloc: Global,
     world: &World<'_>,
     at: &Place<'_>,
     stage: &mut Stage<'_>,
-    frame: &[Value],
+    frame: &Vec<Value>,
     binding: &[BoundDomain],
     slots: &[Slot],
     list: &Vec<TypedExpression>,
 ) -> Result<Vec<Value>, Halt>
     requires program { IsSoundAround at.now }
-    requires here { AreSoundIn at.now frame.now list.now.items }
+    requires here { AreSoundIn at.now frame.now.items list.now.items }
     ensures step { Does values_seen (arguments (world_seen world.now) (calls_from world.now at.now) (setting at.now.here)
-        binding.now slots.now (typed_trees_of (map typed_tree list.now.items)) (frame_seen frame.now))
+        binding.now slots.now (typed_trees_of (map typed_tree list.now.items)) (frame_seen frame.now.items))
         (stage_seen stage.old) result (stage_seen stage.new) }
     ensures each { IfOk result (λ values. length values.items ≡ length list.now.items) }
     ensures spends { stage.new.left ≤ stage.old.left }
@@ -176,44 +290,65 @@ fn arguments(
         let value = value(alloc, world, at, stage, frame, e)?;
         let private = next_is_private(binding, slots, values.len());
         let argument = wanted(alloc, stage, private, value)?;
-        values.push(argument)?;
+        add_argument(&mut values, argument)?;
     }
     Ok(values)
 }
 
-/// Calls a function, where there is room for so many calls inside one another.
+/// Evaluates a call: its arguments first.
+#[tactic(auto, unfolding(language_model::specs::Evaluation::value))]
+#[inline(never)]
 #[cycle(evaluation)]
 fn call(
     alloc: Global,
     world: &World<'_>,
-    functions: &[TypedFunction],
-    room: usize,
+    at: &Place<'_>,
+    stage: &mut Stage<'_>,
+    frame: &Vec<Value>,
+    line: u32,
+    number: usize,
+    list: &Vec<TypedExpression>,
+) -> Result<Value, Halt>
+    requires program { IsSoundAround at.now }
+    requires here { IsSoundNode at.now frame.now.items (call_node line number (typed_trees_of (map typed_tree list.now.items))) }
+    ensures step { Does value_seen (node_at world.now at.now frame.now.items (call_node line number (typed_trees_of (map typed_tree list.now.items))))
+        (stage_seen stage.old) result (stage_seen stage.new) }
+    ensures spends { stage.new.left ≤ stage.old.left }
+{
+    let binding = bound_by(alloc, at, number, list)?;
+    let slots = slots_of(at, number);
+    let arguments = arguments(alloc, world, at, stage, frame, &binding, slots, list)?;
+    called(alloc, world, at, stage, line, number, &binding, arguments)
+}
+
+/// Calls a function, where there is room for so many calls inside one another.
+#[inline(never)]
+#[cycle(evaluation)]
+fn called(
+    alloc: Global,
+    world: &World<'_>,
+    at: &Place<'_>,
     stage: &mut Stage<'_>,
     line: u32,
     number: usize,
     binding: &[BoundDomain],
     arguments: Vec<Value>,
 ) -> Result<Value, Halt>
-    requires program { AreSoundAmong (map typed_function_tree functions.now) }
-    requires fitting { HasRoomFor functions.now number (length arguments.items) }
-    ensures step { Does value_seen (call_at (world_seen world.now) (map typed_function_tree functions.now) room line number
-        binding.now (map value_seen arguments.items)) (stage_seen stage.old) result (stage_seen stage.new) }
+    requires program { IsSoundAround at.now }
+    requires fitting { HasRoomFor at.now.here.functions.now number (length arguments.items) }
+    ensures step { Does value_seen (calls_from world.now at.now line number binding.now (map value_seen arguments.items))
+        (stage_seen stage.old) result (stage_seen stage.new) }
     ensures spends { stage.new.left ≤ stage.old.left }
 {
-    charge_call(stage, room, line, &arguments)?;
+    charge_call(stage, at.room, line, &arguments)?;
+    let (functions, room) = (at.here.functions, at.room - 1);
     body(
-        alloc,
-        world,
-        functions,
-        room - 1,
-        stage,
-        number,
-        binding,
-        arguments,
+        alloc, world, functions, room, stage, number, binding, arguments,
     )
 }
 
 /// Runs the body of a function, with its arguments in its first slots.
+#[inline(never)]
 #[cycle(evaluation)]
 pub fn body(
     alloc: Global,
@@ -241,6 +376,8 @@ pub fn body(
 }
 
 /// Executes a statement.
+#[tactic(auto, unfolding(language_model::specs::Evaluation::execute))]
+#[inline(never)]
 #[cycle(evaluation)]
 fn statement(
     alloc: Global,
@@ -258,23 +395,11 @@ fn statement(
 {
     match statement_parts_of(s) {
         StatementParts::Plain => plain(alloc, world, at, stage, frame, s),
-        StatementParts::One(x) => {
-            let x = value(alloc, world, at, stage, frame, x)?;
-            with_one(alloc, world, at, stage, frame, s, x)
-        }
-        StatementParts::Two(x, y) => {
-            let x = value(alloc, world, at, stage, frame, x)?;
-            let y = value(alloc, world, at, stage, frame, y)?;
-            with_two(alloc, world, at, stage, frame, s, x, y)
-        }
+        StatementParts::One(x) => one_within(alloc, world, at, stage, frame, s, x),
+        StatementParts::Two(x, y) => two_within(alloc, world, at, stage, frame, s, x, y),
         StatementParts::Block(list) => statements(alloc, world, at, stage, frame, list),
         StatementParts::If(condition, first, second) => {
-            let condition = value(alloc, world, at, stage, frame, condition)?;
-            if tested(stage, &condition)? {
-                statement(alloc, world, at, stage, frame, first)
-            } else {
-                statement(alloc, world, at, stage, frame, second)
-            }
+            branch(alloc, world, at, stage, frame, condition, first, second)
         }
         StatementParts::Loop(condition, step, body) => {
             turns(alloc, world, at, stage, frame, condition, step, body)
@@ -285,7 +410,107 @@ fn statement(
     }
 }
 
+/// Executes a statement with one expression.
+#[inline(never)]
+#[cycle(evaluation)]
+fn one_within(
+    alloc: Global,
+    world: &World<'_>,
+    at: &Place<'_>,
+    stage: &mut Stage<'_>,
+    frame: &mut Vec<Value>,
+    s: &TypedStatement,
+    x: &TypedExpression,
+) -> Result<Flow, Halt>
+    requires program { IsSoundAround at.now }
+    requires parts { HasOneWithin (command s.now) (typed_tree x.now) }
+    requires here { IsSoundStatement at.now frame.old.items s.now }
+    ensures step { Does (flow_seen frame.new.items) (flow_at world.now at.now frame.old.items s.now) (stage_seen stage.old) result (stage_seen stage.new) }
+    ensures slots { length frame.new.items ≡ length frame.old.items }
+    ensures spends { stage.new.left ≤ stage.old.left }
+{
+    let x = value(alloc, world, at, stage, frame, x)?;
+    with_one(alloc, world, at, stage, frame, s, x)
+}
+
+/// Executes a statement with two expressions, which are evaluated in this order.
+#[inline(never)]
+#[cycle(evaluation)]
+fn two_within(
+    alloc: Global,
+    world: &World<'_>,
+    at: &Place<'_>,
+    stage: &mut Stage<'_>,
+    frame: &mut Vec<Value>,
+    s: &TypedStatement,
+    x: &TypedExpression,
+    y: &TypedExpression,
+) -> Result<Flow, Halt>
+    requires program { IsSoundAround at.now }
+    requires parts { HasTwoWithin (command s.now) (typed_tree x.now) (typed_tree y.now) }
+    requires here { IsSoundStatement at.now frame.old.items s.now }
+    ensures step { Does (flow_seen frame.new.items) (flow_at world.now at.now frame.old.items s.now) (stage_seen stage.old) result (stage_seen stage.new) }
+    ensures slots { length frame.new.items ≡ length frame.old.items }
+    ensures spends { stage.new.left ≤ stage.old.left }
+{
+    let x = value(alloc, world, at, stage, frame, x)?;
+    let y = value(alloc, world, at, stage, frame, y)?;
+    with_two(alloc, world, at, stage, frame, s, x, y)
+}
+
+/// Evaluates a condition, and tells whether it is true.
+#[inline(never)]
+#[cycle(evaluation)]
+fn holds(
+    alloc: Global,
+    world: &World<'_>,
+    at: &Place<'_>,
+    stage: &mut Stage<'_>,
+    frame: &Vec<Value>,
+    condition: &TypedExpression,
+) -> Result<bool, Halt>
+    requires program { IsSoundAround at.now }
+    requires here { IsSoundIn at.now frame.now.items condition.now }
+    ensures step { Does itself (test_at world.now at.now frame.now.items condition.now) (stage_seen stage.old) result (stage_seen stage.new) }
+    ensures spends { IfOk result (λ _. stage.new.left < stage.old.left) }
+    ensures keeps { stage.new.left ≤ stage.old.left }
+{
+    let value = value(alloc, world, at, stage, frame, condition)?;
+    tested(stage, &value)
+}
+
+/// Executes the first statement where the condition is true, else the second.
+#[inline(never)]
+#[cycle(evaluation)]
+fn branch(
+    alloc: Global,
+    world: &World<'_>,
+    at: &Place<'_>,
+    stage: &mut Stage<'_>,
+    frame: &mut Vec<Value>,
+    condition: &TypedExpression,
+    first: &TypedStatement,
+    second: &TypedStatement,
+) -> Result<Flow, Halt>
+    requires program { IsSoundAround at.now }
+    requires condition { IsSoundIn at.now frame.old.items condition.now }
+    requires first { IsSoundStatement at.now frame.old.items first.now }
+    requires second { IsSoundStatement at.now frame.old.items second.now }
+    ensures step { Does (flow_seen frame.new.items) (branch_at world.now at.now frame.old.items condition.now first.now second.now)
+        (stage_seen stage.old) result (stage_seen stage.new) }
+    ensures slots { length frame.new.items ≡ length frame.old.items }
+    ensures spends { stage.new.left ≤ stage.old.left }
+{
+    if holds(alloc, world, at, stage, frame, condition)? {
+        statement(alloc, world, at, stage, frame, first)
+    } else {
+        statement(alloc, world, at, stage, frame, second)
+    }
+}
+
 /// Executes statements one after another.
+#[tactic(auto, unfolding(language_model::specs::Evaluation::execute_all))]
+#[inline(never)]
 #[cycle(evaluation)]
 fn statements(
     alloc: Global,
@@ -297,7 +522,8 @@ fn statements(
 ) -> Result<Flow, Halt>
     requires program { IsSoundAround at.now }
     requires here { AreSoundStatements at.now frame.old.items list.now.items }
-    ensures step { Does (flow_seen frame.new.items) (flow_of_all world.now at.now frame.old.items list.now.items) (stage_seen stage.old) result (stage_seen stage.new) }
+    ensures step { Does (flow_seen frame.new.items) (flow_of_all world.now at.now frame.old.items list.now.items)
+        (stage_seen stage.old) result (stage_seen stage.new) }
     ensures slots { length frame.new.items ≡ length frame.old.items }
     ensures spends { stage.new.left ≤ stage.old.left }
 {
@@ -311,6 +537,7 @@ fn statements(
 }
 
 /// While the condition is true: the body, and then the step.
+#[inline(never)]
 #[cycle(evaluation)]
 fn turns(
     alloc: Global,
@@ -326,13 +553,14 @@ fn turns(
     requires condition { IsSoundIn at.now frame.old.items condition.now }
     requires step { IsSoundStatement at.now frame.old.items step.now }
     requires body { IsSoundStatement at.now frame.old.items body.now }
-    ensures step { Does (flow_seen frame.new.items) (turns_at world.now at.now frame.old.items condition.now step.now body.now) (stage_seen stage.old) result (stage_seen stage.new) }
+    ensures step { Does (flow_seen frame.new.items) (turns_at world.now at.now frame.old.items condition.now step.now body.now)
+        (stage_seen stage.old) result (stage_seen stage.new) }
     ensures slots { length frame.new.items ≡ length frame.old.items }
     ensures spends { stage.new.left ≤ stage.old.left }
 {
     loop {
-        let value = value(alloc, world, at, stage, frame, condition)?;
-        if !tested(stage, &value)? {
+        let again = holds(alloc, world, at, stage, frame, condition)?;
+        if !again {
             return Ok(Flow::Goes);
         }
         let flow = statement(alloc, world, at, stage, frame, body)?;
@@ -347,6 +575,7 @@ fn turns(
 }
 
 /// The body, again while the condition behind it is true.
+#[inline(never)]
 #[cycle(evaluation)]
 fn repeats(
     alloc: Global,
@@ -360,7 +589,8 @@ fn repeats(
     requires program { IsSoundAround at.now }
     requires condition { IsSoundIn at.now frame.old.items condition.now }
     requires body { IsSoundStatement at.now frame.old.items body.now }
-    ensures step { Does (flow_seen frame.new.items) (repeats_at world.now at.now frame.old.items condition.now body.now) (stage_seen stage.old) result (stage_seen stage.new) }
+    ensures step { Does (flow_seen frame.new.items) (repeats_at world.now at.now frame.old.items condition.now body.now)
+        (stage_seen stage.old) result (stage_seen stage.new) }
     ensures slots { length frame.new.items ≡ length frame.old.items }
     ensures spends { stage.new.left ≤ stage.old.left }
 {
@@ -369,8 +599,8 @@ fn repeats(
         if let Some(flow) = flow.behind_loop() {
             return Ok(flow);
         }
-        let value = value(alloc, world, at, stage, frame, condition)?;
-        if !tested(stage, &value)? {
+        let again = holds(alloc, world, at, stage, frame, condition)?;
+        if !again {
             return Ok(Flow::Goes);
         }
     }

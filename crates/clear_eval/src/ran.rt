@@ -22,7 +22,7 @@ use value_steps::{Drawn, Given, Halt, Lengths, Source, Stage, World};
 const DEEPEST_BELOW_MAIN: usize = 63;
 
 /// Why a run stopped.
-#[derive(Clone, Copy, Debug, PartialEq, Eq)]
+#[derive(Clone, Copy)]
 pub enum Stop {
     Ended(Ending),
     /// An opened value wanted more answers than were left.

@@ -72,9 +72,9 @@ pub fn default_value(alloc: Global, at: &Place<'_>, slot: usize) -> Result<Value
 }
 
 /// The value in a slot.
-pub fn slot_value(frame: &[Value], slot: usize) -> &Value
-    requires { slot < length frame.now }
-    ensures { value_seen result.now ≡ frame_seen frame.now slot }
+pub fn slot_value(frame: &Vec<Value>, slot: usize) -> &Value
+    requires { slot < length frame.now.items }
+    ensures { value_seen result.now ≡ frame_seen frame.now.items slot }
 {
     &frame[slot]
 }

@@ -3,6 +3,9 @@ ghost use Rattle.std.specs.Prelude.{◌≡◌, ◌≤◌, true, length, map};
 ghost use Rattle.typed_tree.specs.Tree.{typed_tree};
 ghost use Rattle.typed_tree.specs.Commands.{command};
 ghost use Rattle.typed_tree.specs.Sound.{IsSoundTree, IsSoundCommand};
+ghost use Rattle.reached_instances.specs.Views.{setting};
+ghost use Rattle.language_model.specs.Operations.{wanted};
+ghost use Rattle.language_model.specs.Evaluation.{gives_private, truth_value};
 ghost use Rattle.value_steps.specs.Steps.{Does};
 ghost use Rattle.value_steps.specs.Views.{value_seen, stage_seen, world_seen};
 ghost use Rattle.clear_eval.specs.Views.{frame_seen, flow_seen, held_seen, place_seen};
@@ -15,7 +18,8 @@ use crate::place::Place;
 use crate::slots::{
     default_value, is_private_slot, put, set_element, slot_shape, slot_value, store,
 };
-use crate::words::{nothing, truth_value, word_value};
+use crate::words::{is_private, nothing, truth_value, word_value};
+use reached_instances::domain;
 use std::alloc::Global;
 use typed_tree::{TypedExpression, TypedStatement};
 use value_steps::{
@@ -25,17 +29,18 @@ use value_steps::{
 
 /// The value of a literal or a variable.
 #[tactic(auto, unfolding(language_model::specs::Evaluation::value))]
+#[inline(never)]
 pub fn leaf(
     alloc: Global,
     world: &World<'_>,
     at: &Place<'_>,
     stage: &mut Stage<'_>,
-    frame: &[Value],
+    frame: &Vec<Value>,
     e: &TypedExpression,
 ) -> Result<Value, Halt>
-    requires here { IsSoundIn at.now frame.now e.now }
+    requires here { IsSoundIn at.now frame.now.items e.now }
     requires leaf { is_leaf (typed_tree e.now) ≡ true }
-    ensures step { Does value_seen (value_at world.now at.now frame.now e.now) (stage_seen stage.old) result (stage_seen stage.new) }
+    ensures step { Does value_seen (value_at world.now at.now frame.now.items e.now) (stage_seen stage.old) result (stage_seen stage.new) }
     ensures spends { stage.new.left ≤ stage.old.left }
 {
     match e {
@@ -47,6 +52,7 @@ pub fn leaf(
 }
 
 /// The step of an expression with one operand, on its value.
+#[inline(never)]
 pub fn on_one(
     alloc: Global,
     world: &World<'_>,
@@ -69,6 +75,7 @@ pub fn on_one(
 }
 
 /// The step of an expression with two operands, on their values.
+#[inline(never)]
 pub fn on_two(
     alloc: Global,
     world: &World<'_>,
@@ -93,8 +100,27 @@ pub fn on_two(
     }
 }
 
+/// The value of a connective whose left operand decides alone, as it is wanted where the right operand is private or not.
+#[inline(never)]
+pub fn decided(
+    alloc: Global,
+    at: &Place<'_>,
+    stage: &mut Stage<'_>,
+    truth: bool,
+    right: &TypedExpression,
+) -> Result<Value, Halt>
+    ensures step { Does value_seen (wanted (gives_private (setting at.now.here) (typed_tree right.now)) (truth_value truth))
+        (stage_seen stage.old) result (stage_seen stage.new) }
+    ensures spends { stage.new.left ≤ stage.old.left }
+{
+    let private = is_private(domain(alloc, &at.here, right)?);
+    let value = truth_value(alloc, truth)?;
+    wanted(alloc, stage, private, value)
+}
+
 /// A statement without expressions and other statements in it.
 #[tactic(auto, unfolding(language_model::specs::Evaluation::execute))]
+#[inline(never)]
 pub fn plain(
     alloc: Global,
     world: &World<'_>,
@@ -131,6 +157,7 @@ pub fn plain(
 }
 
 /// The step of a statement with one expression, on its value.
+#[inline(never)]
 pub fn with_one(
     alloc: Global,
     world: &World<'_>,
@@ -168,6 +195,7 @@ pub fn with_one(
 }
 
 /// The step of a statement with two expressions, on their values.
+#[inline(never)]
 pub fn with_two(
     alloc: Global,
     world: &World<'_>,

@@ -26,9 +26,8 @@ pub(crate) fn gate(stage: &mut Stage<'_>, made: Gate) -> Result<u64, Halt>
     ensures spends { stage.new.left ≤ stage.old.left }
 {
     let number = stage.made;
-    let next = number.checked_add(1).ok_or(Halt::Memory)?;
     stage.gates.push(made)?;
-    stage.made = next;
+    stage.made = number.checked_add(1).ok_or(Halt::Memory)?;
     Ok(number)
 }
 

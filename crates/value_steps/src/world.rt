@@ -5,7 +5,7 @@ use sc_text::Name;
 use typed_tree::Shape;
 
 /// The lengths of the miners' tapes, in words.
-#[derive(Clone, Copy, Debug, PartialEq, Eq)]
+#[derive(Clone, Copy)]
 pub struct Lengths {
     pub first: u64,
     pub second: u64,
@@ -13,7 +13,7 @@ pub struct Lengths {
 }
 
 /// What an opened value is: the value itself, or the next of a list of answers.
-#[derive(Clone, Copy, Debug, PartialEq, Eq)]
+#[derive(Clone, Copy)]
 pub enum Source {
     Clear,
     Answers,

@@ -18,20 +18,53 @@ decreases-value l = work (functions_around l.at.now) l.at.now.room (weight (type
 abbrev pub decreases-operand : goal.decreases-operand
 decreases-operand l = work (functions_around l.at.now) l.at.now.room (weight (typed_tree l.e.now) + 1)
 
+abbrev pub decreases-on_value : goal.decreases-on_value
+decreases-on_value l = work (functions_around l.at.now) l.at.now.room (weight (typed_tree l.x.now) + 3)
+
+abbrev pub decreases-on_values : goal.decreases-on_values
+decreases-on_values l = work (functions_around l.at.now) l.at.now.room (weight (typed_tree l.x.now) + weight (typed_tree l.y.now) + 3)
+
+abbrev pub decreases-value_wanted : goal.decreases-value_wanted
+decreases-value_wanted l = work (functions_around l.at.now) l.at.now.room (weight (typed_tree l.e.now) + 1)
+
+abbrev pub decreases-on_arrays : goal.decreases-on_arrays
+decreases-on_arrays l = work (functions_around l.at.now) l.at.now.room (weight (typed_tree l.x.now) + weight (typed_tree l.y.now) + 3)
+
 abbrev pub decreases-connected : goal.decreases-connected
-decreases-connected l = work (functions_around l.at.now) l.at.now.room (weight (typed_tree l.right.now) + 1)
+decreases-connected l = work (functions_around l.at.now) l.at.now.room (weight (typed_tree l.x.now) + weight (typed_tree l.y.now) + 3)
+
+abbrev pub decreases-not_cut_short : goal.decreases-not_cut_short
+decreases-not_cut_short l = work (functions_around l.at.now) l.at.now.room (weight (typed_tree l.right.now) + 1)
+
+abbrev pub decreases-cut_short : goal.decreases-cut_short
+decreases-cut_short l = work (functions_around l.at.now) l.at.now.room (weight (typed_tree l.right.now) + 1)
 
 abbrev pub decreases-arguments : goal.decreases-arguments
-decreases-arguments l = work (functions_around l.at.now) l.at.now.room (weight_of_all (typed_trees_of (map typed_tree l.list.now.items)))
+decreases-arguments l = work (functions_around l.at.now) l.at.now.room (weight_of_all (typed_trees_of (map typed_tree l.list.now.items)) + 1)
 
 abbrev pub decreases-call : goal.decreases-call
-decreases-call l = work (map typed_function_tree l.functions.now) l.room 1
+decreases-call l = work (functions_around l.at.now) l.at.now.room (weight_of_all (typed_trees_of (map typed_tree l.list.now.items)) + 3)
+
+abbrev pub decreases-called : goal.decreases-called
+decreases-called l = work (functions_around l.at.now) l.at.now.room 1
 
 abbrev pub decreases-body : goal.decreases-body
 decreases-body l = work (map typed_function_tree l.functions.now) (l.room + 1) 0
 
 abbrev pub decreases-statement : goal.decreases-statement
 decreases-statement l = work (functions_around l.at.now) l.at.now.room (command_weight (command l.s.now))
+
+abbrev pub decreases-one_within : goal.decreases-one_within
+decreases-one_within l = work (functions_around l.at.now) l.at.now.room (weight (typed_tree l.x.now) + 3)
+
+abbrev pub decreases-two_within : goal.decreases-two_within
+decreases-two_within l = work (functions_around l.at.now) l.at.now.room (weight (typed_tree l.x.now) + weight (typed_tree l.y.now) + 3)
+
+abbrev pub decreases-holds : goal.decreases-holds
+decreases-holds l = work (functions_around l.at.now) l.at.now.room (weight (typed_tree l.condition.now) + 1)
+
+abbrev pub decreases-branch : goal.decreases-branch
+decreases-branch l = work (functions_around l.at.now) l.at.now.room (weight (typed_tree l.condition.now) + command_weight (command l.first.now) + command_weight (command l.second.now) + 3)
 
 abbrev pub decreases-statements : goal.decreases-statements
 decreases-statements l = work (functions_around l.at.now) l.at.now.room (commands_weight (commands_of (map command l.list.now.items)))
@@ -46,8 +79,8 @@ abbrev pub invariant-arguments-loop-e : goal.invariant-arguments-loop-e
 invariant-arguments-loop-e l = record {
   each : length l.values.items ≡ l.e-index;
   spends : l.stage.left ≤ l.initial.stage.left;
-  step : arguments (world_seen l.world) (calls_from l.world l.at) (setting l.at.here) l.binding l.slots (typed_trees_of (map typed_tree l.e-items)) (frame_seen l.frame) (stage_seen l.initial.stage)
-      ≡ carry (arguments (world_seen l.world) (calls_from l.world l.at) (setting l.at.here) l.binding (drop l.e-index l.slots) (typed_trees_of (map typed_tree (drop l.e-index l.e-items))) (frame_seen l.frame) (stage_seen l.stage)) (λ xs. done (map value_seen l.values.items ++ xs));
+  step : arguments (world_seen l.world) (calls_from l.world l.at) (setting l.at.here) l.binding l.slots (typed_trees_of (map typed_tree l.e-items)) (frame_seen l.frame.items) (stage_seen l.initial.stage)
+      ≡ carry (arguments (world_seen l.world) (calls_from l.world l.at) (setting l.at.here) l.binding (drop l.e-index l.slots) (typed_trees_of (map typed_tree (drop l.e-index l.e-items))) (frame_seen l.frame.items) (stage_seen l.stage)) (λ xs. done (map value_seen l.values.items ++ xs));
 }
 
 abbrev pub invariant-statements-loop-s : goal.invariant-statements-loop-s
@@ -58,8 +91,8 @@ invariant-statements-loop-s l = record {
       ≡ execute_all (world_seen l.world) (calls_from l.world l.at) (place_seen l.at) (commands_of (map command (drop l.s-index l.s-items))) (frame_seen l.frame.items) (stage_seen l.stage);
 }
 
-abbrev pub invariant-turns-loop-value : goal.invariant-turns-loop-value
-invariant-turns-loop-value l = record {
+abbrev pub invariant-turns-loop-again : goal.invariant-turns-loop-again
+invariant-turns-loop-again l = record {
   slots : length l.frame.items ≡ length l.initial.frame.items;
   spends : l.stage.left ≤ l.initial.stage.left;
   turns : Turns (value (world_seen l.world) (calls_from l.world l.at) (setting l.at.here) (typed_tree l.condition))
@@ -68,8 +101,8 @@ invariant-turns-loop-value l = record {
       (frame_seen l.initial.frame.items) (stage_seen l.initial.stage) (frame_seen l.frame.items) (stage_seen l.stage);
 }
 
-abbrev pub decreases-turns-loop-value : goal.decreases-turns-loop-value
-decreases-turns-loop-value l = l.stage.left
+abbrev pub decreases-turns-loop-again : goal.decreases-turns-loop-again
+decreases-turns-loop-again l = l.stage.left
 
 abbrev pub invariant-repeats-loop-flow : goal.invariant-repeats-loop-flow
 invariant-repeats-loop-flow l = record {

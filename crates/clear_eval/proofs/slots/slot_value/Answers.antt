@@ -4,4 +4,4 @@ use Rattle.clear_eval.proofs.Frames.{frame-at}
 use Rattle.clear_eval.proofs.slots.slot_value.Goals as goal
 
 pub returns : goal.returns
-returns c = ap value_seen c.index-frame-slot.is ∙ sym (frame-at c.args.frame.now c.args.slot c.index-frame-slot.result c.requires)
+returns c = ap value_seen c.index.ensures ∙ sym (frame-at c.args.frame.now.items c.args.slot c.index.result.now c.requires)
