@@ -56,8 +56,9 @@ const NUMBER: &str = "{\"name\":\"a\",\"domain\":\"private\",\"type\":\"uint64\"
 const NUMBERS: &str =
     "{\"name\":\"a\",\"domain\":\"private\",\"type\":\"uint64\",\"value\":[7,8,9]}";
 
-const TRUTHS: &str =
-    "{\"name\":\"a\",\"domain\":\"private\",\"type\":\"bool\",\"value\":true},{\"name\":\"b\",\"domain\":\"public\",\"type\":\"bool\",\"value\":[true,false]},{\"name\":\"c\",\"domain\":\"private\",\"type\":\"bool\",\"value\":false}";
+const TRUTHS: &str = "{\"name\":\"a\",\"domain\":\"private\",\"type\":\"bool\",\"value\":true},\
+    {\"name\":\"b\",\"domain\":\"public\",\"type\":\"bool\",\"value\":[true,false]},\
+    {\"name\":\"c\",\"domain\":\"private\",\"type\":\"bool\",\"value\":false}";
 
 const OPENED: &str = "p uint64 a = argument(\"a\"); publish(\"x\", declassify(a));";
 
@@ -69,49 +70,59 @@ const ROWS: [(&str, &str, [u64; 4], &str); 14] = [
         "p uint64[[1]] a = argument(\"a\"); publish(\"x\", cat(a, a));",
         NUMBERS,
         TAPES,
-        "Input { number: 0 }; Cat { left: 0, right: 0 }; Result { ring: Arithmetic, operand: 1 }; need 6 6 6 6\npublish x 7 8 9 7 8 9\nend done cost 18\n",
+        "Input { number: 0 }; Cat { left: 0, right: 0 }; Result { ring: Arithmetic, operand: 1 }; need 6 6 6 6\npublish x 7 8 9 7 8 9\n\
+        end done cost 18\n",
     ),
     (
         "p uint64[[1]] a = argument(\"a\"); a[2] = 3; publish(\"x\", a);",
         NUMBERS,
         TAPES,
-        "Input { number: 0 }; Const { list: Words { words: [3] } }; Put { operand: 0, index: 2, element: 1 }; Result { ring: Arithmetic, operand: 2 }; need 6 3 3 3\npublish x 7 8 3\nend done cost 11\n",
+        "Input { number: 0 }; Const { list: Words { words: [3] } }; Put { operand: 0, index: 2, element: 1 }; \
+        Result { ring: Arithmetic, operand: 2 }; need 6 3 3 3\npublish x 7 8 3\nend done cost 11\n",
     ),
     (
         "p uint64[[1]] a = argument(\"a\"); publish(\"x\", a[1]); publish(\"y\", sum(a));",
         NUMBERS,
         TAPES,
-        "Input { number: 0 }; Part { operand: 0, from: 1, count: 1 }; Result { ring: Arithmetic, operand: 1 }; Sum { operand: 0 }; Result { ring: Arithmetic, operand: 3 }; need 6 2 2 2\npublish x 8\npublish y 24\nend done cost 10\n",
+        "Input { number: 0 }; Part { operand: 0, from: 1, count: 1 }; Result { ring: Arithmetic, operand: 1 }; Sum { operand: 0 }; \
+        Result { ring: Arithmetic, operand: 3 }; need 6 2 2 2\npublish x 8\npublish y 24\nend done cost 10\n",
     ),
     (
         "p uint64[[1]] a = argument(\"a\"); publish(\"x\", a * 2); publish(\"y\", declassify(a - 1));",
         NUMBERS,
         TAPES,
-        "Input { number: 0 }; MulPub { ring: Arithmetic, operand: 0, list: Words { words: [2, 2, 2] } }; Result { ring: Arithmetic, operand: 1 }; Const { list: Words { words: [1] } }; Rep { operand: 3, count: 3 }; Sub { left: 0, right: 4 }; Open { ring: Arithmetic, operand: 5 }; need 6 6 6 6\npublish x 14 16 18\nopen 6 7 8\npublish y 6 7 8\nend done cost 22\n",
+        "Input { number: 0 }; MulPub { ring: Arithmetic, operand: 0, list: Words { words: [2, 2, 2] } }; \
+        Result { ring: Arithmetic, operand: 1 }; Const { list: Words { words: [1] } }; Rep { operand: 3, count: 3 }; \
+        Sub { left: 0, right: 4 }; Open { ring: Arithmetic, operand: 5 }; need 6 6 6 6\npublish x 14 16 18\nopen 6 7 8\npublish y 6 7 8\n\
+        end done cost 22\n",
     ),
     (
         "p bool[[1]] t (3) = true; publish(\"x\", t);",
         "",
         TAPES,
-        "Const { list: Words { words: [1] } }; Rep { operand: 0, count: 3 }; Result { ring: Boolean, operand: 1 }; need 0 3 3 3\npublish x true true true\nend done cost 7\n",
+        "Const { list: Words { words: [1] } }; Rep { operand: 0, count: 3 }; Result { ring: Boolean, operand: 1 }; need 0 3 3 3\n\
+        publish x true true true\nend done cost 7\n",
     ),
     (
         "bool[[1]] b = argument(\"b\"); p bool a = argument(\"a\"); publish(\"x\", b & a);",
         TRUTHS,
         TAPES,
-        "Input { number: 0 }; Rep { operand: 0, count: 2 }; MulPub { ring: Boolean, operand: 1, list: Words { words: [1, 0] } }; Result { ring: Boolean, operand: 2 }; need 4 2 2 2\npublish x true false\nend done cost 10\n",
+        "Input { number: 0 }; Rep { operand: 0, count: 2 }; MulPub { ring: Boolean, operand: 1, list: Words { words: [1, 0] } }; \
+        Result { ring: Boolean, operand: 2 }; need 4 2 2 2\npublish x true false\nend done cost 10\n",
     ),
     (
         "p bool c = argument(\"c\"); p bool a = argument(\"a\"); publish(\"x\", declassify(a | c));",
         TRUTHS,
         TAPES,
-        "Input { number: 1 }; Input { number: 0 }; And { left: 1, right: 0 }; Xor { left: 1, right: 0 }; Xor { left: 3, right: 2 }; Open { ring: Boolean, operand: 4 }; need 4 4 4 4\nopen true\npublish x true\nend done cost 7\n",
+        "Input { number: 1 }; Input { number: 0 }; And { left: 1, right: 0 }; Xor { left: 1, right: 0 }; Xor { left: 3, right: 2 }; \
+        Open { ring: Boolean, operand: 4 }; need 4 4 4 4\nopen true\npublish x true\nend done cost 7\n",
     ),
     (
         "p bool c = argument(\"c\"); publish(\"x\", (uint64) !c);",
         TRUTHS,
         TAPES,
-        "Input { number: 1 }; Const { list: Words { words: [1] } }; Xor { left: 0, right: 1 }; Conv { operand: 2 }; Result { ring: Arithmetic, operand: 3 }; need 4 5 2 2\npublish x 1\nend done cost 5\n",
+        "Input { number: 1 }; Const { list: Words { words: [1] } }; Xor { left: 0, right: 1 }; Conv { operand: 2 }; \
+        Result { ring: Arithmetic, operand: 3 }; need 4 5 2 2\npublish x 1\nend done cost 5\n",
     ),
     (
         OPENED,

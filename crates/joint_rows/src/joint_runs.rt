@@ -299,7 +299,8 @@ fn runs_give_what_their_gates_say(rt: HostRuntime) -> Result<(), Fail> {
     same(
         &rt,
         &split(alloc, false)?,
-        "opened; messages 2 1 0 1 1 0; left 0 0 0; value 1: 0; 8; 0; value 2: 0; 0; 18446744073709551613; value 3: 3; 5; 18446744073709551611; value 4: 18446744073709551615; 8; 0;",
+        "opened; messages 2 1 0 1 1 0; left 0 0 0; value 1: 0; 8; 0; value 2: 0; 0; 18446744073709551613; value 3: 3; 5; \
+        18446744073709551611; value 4: 18446744073709551615; 8; 0;",
     );
     same(
         &rt,

@@ -72,14 +72,29 @@ fn same(
     Ok(false)
 }
 
+// Whether a text speaks of this file.
+fn is_of(text: &Text, path: &str) -> bool {
+    matches!(text.kind, Kind::Held | Kind::Written | Kind::Absent) && text.name.as_str() == path
+}
+
 // What a file must be afterwards: the last text that says so of this path, or else what it was.
 fn wanted_file<'a>(row: &'a Row, path: &str) -> Option<&'a Text> {
     for text in row.texts.iter().rev() {
-        if matches!(text.kind, Kind::Written | Kind::Absent) && text.name.as_str() == path {
+        if is_of(text, path) && !matches!(text.kind, Kind::Held) {
             return Some(text);
         }
     }
     row.find(Kind::Held, path)
+}
+
+// Whether one of so many texts speaks of this file.
+fn is_told(row: &Row, count: usize, path: &str) -> bool {
+    for text in row.texts.iter().take(count) {
+        if is_of(text, path) {
+            return true;
+        }
+    }
+    false
 }
 
 fn same_file(report: &mut String, wanted: &Text, outcome: &Outcome) -> Result<bool, AllocError> {
@@ -98,11 +113,13 @@ fn same_file(report: &mut String, wanted: &Text, outcome: &Outcome) -> Result<bo
     }
 }
 
+// Each file that the row names, once.
 fn same_files(report: &mut String, row: &Row, outcome: &Outcome) -> Result<bool, AllocError> {
     let mut all = true;
-    for text in row.texts.iter() {
-        if matches!(text.kind, Kind::Held | Kind::Written | Kind::Absent) {
-            let wanted = wanted_file(row, text.name.as_str()).unwrap_or(text);
+    for (index, text) in row.texts.iter().enumerate() {
+        let path = text.name.as_str();
+        if is_of(text, path) && !is_told(row, index, path) {
+            let wanted = wanted_file(row, path).unwrap_or(text);
             let agrees = same_file(report, wanted, outcome)?;
             all = all && agrees;
         }
