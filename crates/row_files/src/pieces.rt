@@ -177,26 +177,38 @@ pub fn add_inputs(bytes: &mut Vec<u8>, entries: &str) -> Result<(), Wrong> {
     Ok(())
 }
 
+fn add_line(bytes: &mut Vec<u8>, text: &str) -> Result<(), Wrong> {
+    bytes.extend_from_slice(text.as_bytes())?;
+    bytes.push(b'\n')?;
+    Ok(())
+}
+
+fn add_bare(bytes: &mut Vec<u8>, text: &str) -> Result<(), Wrong> {
+    Ok(bytes.extend_from_slice(text.as_bytes())?)
+}
+
 /// Adds the bytes that a line gives, and says whether it gives any.
 pub fn add_piece(alloc: Global, bytes: &mut Vec<u8>, line: &str) -> Result<bool, Wrong> {
-    let (word, rest) = line.split_once(' ').unwrap_or((line, ""));
     if let Some(text) = line.strip_prefix('|') {
-        bytes.extend_from_slice(text.as_bytes())?;
-        bytes.push(b'\n')?;
-    } else if let Some(text) = line.strip_prefix('>') {
-        bytes.extend_from_slice(text.as_bytes())?;
-    } else {
-        match word {
-            "hex" => add_hex(bytes, rest)?,
-            "u64" => add_numbers(bytes, rest)?,
-            "tape" => add_tapes(bytes, rest)?,
-            "zeros" => add_zeros(bytes, rest)?,
-            "repeat" => add_repeated(alloc, bytes, rest)?,
-            "lines" => add_repeated_lines(alloc, bytes, rest)?,
-            "copies" => copy_all(alloc, bytes, rest)?,
-            "inputs" => add_inputs(bytes, rest)?,
-            _ => return Ok(false),
-        }
+        add_line(bytes, text)?;
+        return Ok(true);
     }
+    if let Some(text) = line.strip_prefix('>') {
+        add_bare(bytes, text)?;
+        return Ok(true);
+    }
+    let (word, rest) = line.split_once(' ').unwrap_or((line, ""));
+    let added = match word {
+        "hex" => add_hex(bytes, rest),
+        "u64" => add_numbers(bytes, rest),
+        "tape" => add_tapes(bytes, rest),
+        "zeros" => add_zeros(bytes, rest),
+        "repeat" => add_repeated(alloc, bytes, rest),
+        "lines" => add_repeated_lines(alloc, bytes, rest),
+        "copies" => copy_all(alloc, bytes, rest),
+        "inputs" => add_inputs(bytes, rest),
+        _ => return Ok(false),
+    };
+    added?;
     Ok(true)
 }

@@ -103,28 +103,52 @@ fn add_text(alloc: Global, row: &mut Row, kind: Kind, text: &str) -> Result<(), 
     Ok(())
 }
 
+fn set_call(alloc: Global, row: &mut Row, words: &str) -> Result<(), Wrong> {
+    Ok(row.call(alloc, words)?)
+}
+
+fn add_word(alloc: Global, row: &mut Row, word: &str) -> Result<(), Wrong> {
+    let word = String::from_str(alloc, word)?;
+    row.words.push(word)?;
+    Ok(())
+}
+
+fn set_slow(row: &mut Row) -> Result<(), Wrong> {
+    row.slow = true;
+    Ok(())
+}
+
+fn add_absent(alloc: Global, row: &mut Row, path: &str) -> Result<(), Wrong> {
+    Ok(row.add(alloc, Kind::Absent, path)?)
+}
+
+// The input file of the programs below.
+fn set_given(alloc: Global, row: &mut Row, entries: &str) -> Result<(), Wrong> {
+    row.add(alloc, Kind::Held, "p.json")?;
+    match row.texts.last_mut() {
+        Some(text) => add_inputs(&mut text.bytes, entries),
+        None => Ok(()),
+    }
+}
+
 // A line of a row or a group; the answer says whether the next lines give bytes.
 fn set_field(alloc: Global, row: &mut Row, word: &str, rest: &str) -> Result<bool, Wrong> {
     if let Some(kind) = kind_of(word) {
         add_text(alloc, row, kind, rest)?;
         return Ok(true);
     }
-    match word {
-        "call" => row.call(alloc, rest)?,
-        "word" => row.words.push(String::from_str(alloc, rest)?)?,
-        "fail" => set_fails(row, rest)?,
-        "slow" => row.slow = true,
-        "status" => set_status(row, rest)?,
-        "children" => set_children(row, rest)?,
-        "absent" => row.add(alloc, Kind::Absent, rest)?,
-        "given" => {
-            row.add(alloc, Kind::Held, "p.json")?;
-            if let Some(text) = row.texts.last_mut() {
-                add_inputs(&mut text.bytes, rest)?;
-            }
-        }
-        _ => return Err(Wrong::Said("no line begins with this word")),
-    }
+    let set = match word {
+        "call" => set_call(alloc, row, rest),
+        "word" => add_word(alloc, row, rest),
+        "fail" => set_fails(row, rest),
+        "slow" => set_slow(row),
+        "status" => set_status(row, rest),
+        "children" => set_children(row, rest),
+        "absent" => add_absent(alloc, row, rest),
+        "given" => set_given(alloc, row, rest),
+        _ => Err(Wrong::Said("no line begins with this word")),
+    };
+    set?;
     Ok(false)
 }
 
@@ -190,35 +214,57 @@ impl Reader {
         Ok(())
     }
 
+    fn begin_group(&mut self, alloc: Global, line: usize) -> Result<(), Wrong> {
+        self.group = Row::new(alloc, line);
+        self.place = Place::Group;
+        Ok(())
+    }
+
+    fn begin_row(&mut self, alloc: Global, line: usize, title: &str) -> Result<(), Wrong> {
+        self.place = Place::Row;
+        let row = begin_row(alloc, &mut self.rows, line, title)?;
+        Ok(row.join(alloc, &self.group)?)
+    }
+
+    // The row of a program that is evaluated.
+    fn eval(&mut self, alloc: Global, line: usize, text: &str) -> Result<(), Wrong> {
+        self.place = Place::Group;
+        let row = begin_row(alloc, &mut self.rows, line, text)?;
+        set_eval(alloc, row, &self.group, text)
+    }
+
+    // The row of a program that is checked.
+    fn check(&mut self, alloc: Global, line: usize, text: &str) -> Result<(), Wrong> {
+        self.place = Place::Group;
+        let (word, rest) = text.split_once(' ').unwrap_or((text, ""));
+        let row = begin_row(alloc, &mut self.rows, line, text)?;
+        set_check(alloc, row, &self.group, word, rest)
+    }
+
+    fn field(&mut self, alloc: Global, word: &str, rest: &str) -> Result<(), Wrong> {
+        match self.current() {
+            Some(row) => {
+                let takes = set_field(alloc, row, word, rest)?;
+                self.takes = takes;
+                Ok(())
+            }
+            None => Err(Wrong::Said("a file begins with `group` or `row`")),
+        }
+    }
+
     // A line that begins a row or a group, or is a row of its own; or else a field.
     fn word_line(&mut self, alloc: Global, line: usize, text: &str) -> Result<(), Wrong> {
         let (word, rest) = text.split_once(' ').unwrap_or((text, ""));
-        match word {
-            "group" => {
-                self.group = Row::new(alloc, line);
-                self.place = Place::Group;
-            }
-            "row" => {
-                begin_row(alloc, &mut self.rows, line, rest)?.join(alloc, &self.group)?;
-                self.place = Place::Row;
-            }
-            "do" => {
-                let row = begin_row(alloc, &mut self.rows, line, rest)?;
-                set_eval(alloc, row, &self.group, rest)?;
-                self.place = Place::Group;
-            }
-            "=" => self.printed(alloc, line, rest)?,
-            _ if word == "ok" || is_fault(word) => {
-                let row = begin_row(alloc, &mut self.rows, line, text)?;
-                set_check(alloc, row, &self.group, word, rest)?;
-                self.place = Place::Group;
-            }
-            _ => match self.current() {
-                Some(row) => self.takes = set_field(alloc, row, word, rest)?,
-                None => return Err(Wrong::Said("a file begins with `group` or `row`")),
-            },
+        if word == "ok" || is_fault(word) {
+            return self.check(alloc, line, text);
         }
-        Ok(())
+        match word {
+            "group" => self.begin_group(alloc, line),
+            "row" => self.begin_row(alloc, line, rest),
+            "do" => self.eval(alloc, line, rest),
+            "=" => self.printed(alloc, line, rest),
+            _ => self.field(alloc, word, rest),
+        }
     }
 
     // Any line.
