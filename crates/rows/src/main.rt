@@ -1,0 +1,69 @@
+//! Rows of the program: reads row files, calls the program as each row says over files, streams, links and children in memory, and
+//! prints how what comes out differs from what the row says. `rows.md` says what a row file is.
+#![tactic(auto)]
+
+mod calling;
+
+use crate::calling::call;
+use anyhow::{Result, bail};
+use row_files::{Refused, Row, Tally, Wrong, judge, read_rows};
+use std::process::ExitCode;
+use std::rt::Files;
+use std::{env, fs};
+
+// Calls the program as a row says. Whether what comes out is what the row says; where it is not, it is printed how it differs.
+fn try_row(rt: &(impl Print + AllocGlobal), path: &str, row: &Row) -> Result<bool> {
+    let outcome = call(rt.alloc(), row)?;
+    let mut report = String::new(rt.alloc());
+    let agrees = judge(rt.alloc(), &mut report, row, &outcome)?;
+    if !agrees {
+        println!(rt; "{path}:{}: {}", row.line, row.title.as_str())?;
+        print!(rt; "{}", report.as_str())?;
+    }
+    Ok(agrees)
+}
+
+fn try_rows(rt: &(impl Print + AllocGlobal), path: &str, rows: &[Row]) -> Result<Tally> {
+    let mut tally = Tally {
+        rows: 0,
+        differing: 0,
+    };
+    for row in rows {
+        tally.count(try_row(rt, path, row)?);
+    }
+    println!(rt; "{path}: {} rows, {} differ", tally.rows, tally.differing)?;
+    Ok(tally)
+}
+
+// Says in which line a file cannot be read, and why.
+fn refuse(rt: &impl Print, path: &str, refused: Refused) -> Result<bool> {
+    match refused.wrong {
+        Wrong::Memory => bail!("no memory for {path}"),
+        Wrong::Said(why) => println!(rt; "{path}:{}: {why}", refused.line)?,
+    }
+    Ok(false)
+}
+
+// Whether a file has rows, and none of them differs.
+fn try_file(rt: &(impl Print + Files + AllocGlobal), path: &str) -> Result<bool> {
+    let bytes = fs::read(rt, path)?;
+    match read_rows(rt.alloc(), &bytes) {
+        Ok(rows) => Ok(try_rows(rt, path, &rows)?.is_good()),
+        Err(refused) => refuse(rt, path, refused),
+    }
+}
+
+fn main(rt: HostRuntime) -> Result<ExitCode> {
+    let mut files = 0u64;
+    let mut good = true;
+    for path in env::args(&rt)?.skip(1) {
+        files = files.saturating_add(1);
+        let is_good = try_file(&rt, path.as_str())?;
+        good = good && is_good;
+    }
+    if good && files != 0 {
+        Ok(ExitCode::SUCCESS)
+    } else {
+        Ok(ExitCode::from(1))
+    }
+}
