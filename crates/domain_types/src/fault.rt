@@ -1,7 +1,7 @@
 use sc_text::Span;
 
 /// What a program does against the rules of the language.
-#[derive(Clone, Copy, Debug, PartialEq, Eq)]
+#[derive(Clone, Copy)]
 pub enum Problem {
     /// D1: a variable, function, domain or kind that is not declared.
     UnknownName,
@@ -36,7 +36,7 @@ pub enum Problem {
 }
 
 /// A fault of a program: what is wrong, and where.
-#[derive(Clone, Copy, Debug, PartialEq, Eq)]
+#[derive(Clone, Copy)]
 pub struct Fault {
     pub place: Span,
     pub problem: Problem,

@@ -6,7 +6,7 @@ use crate::fault::Fault;
 use std::alloc::AllocError;
 
 /// Why a program is refused.
-#[derive(Clone, Copy, PartialEq, Eq, Debug)]
+#[derive(Clone, Copy)]
 pub enum TypeError {
     /// The least of the program's faults.
     Refused(Fault),

@@ -10,7 +10,7 @@ pub enum Protection {
 }
 
 /// The type of a value: its domain, the type of its elements, and whether it is an array.
-#[derive(Clone, Copy, Debug, PartialEq, Eq)]
+#[derive(Clone, Copy)]
 pub struct ValueType {
     pub domain: Protection,
     pub element: DataType,
@@ -18,14 +18,14 @@ pub struct ValueType {
 }
 
 /// What an expression gives: nothing, as a call of a void function, or a value.
-#[derive(Clone, Copy, Debug, PartialEq, Eq)]
+#[derive(Clone, Copy)]
 pub enum ExpressionType {
     Void,
     Value(ValueType),
 }
 
 /// A function that is there without a declaration.
-#[derive(Clone, Copy, Debug, PartialEq, Eq)]
+#[derive(Clone, Copy)]
 pub enum BuiltIn {
     Size,
     Cat,
@@ -34,7 +34,7 @@ pub enum BuiltIn {
 }
 
 /// An argument of a call: where it begins, and its type.
-#[derive(Clone, Copy, Debug)]
+#[derive(Clone, Copy)]
 pub struct Argument {
     pub place: Span,
     pub given: ValueType,
