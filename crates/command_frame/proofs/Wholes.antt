@@ -104,7 +104,7 @@ file_breaks reads written Answers plan a b c line read names is breaks =
     inr (
       (path, names.written path among, named),
       λ answer h t. subst (λ (r : Answer). IsOkAnd r (λ e. BreaksOff e.writes line a c)) (sym (is answer h t))
-      (breaks_since (effect_of plan) a b c line read breaks),
+          (breaks_since (effect_of plan) a b c line read breaks),
     )
 
 pub writing_stops : (reads written : List (List ℕ)) (Answers : Answer → Type 0) (plan : Plan) (a b c : FilesState) (o o' : SinkState) (stop : Stop)

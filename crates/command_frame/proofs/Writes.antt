@@ -36,11 +36,13 @@ cut ws i e lt is =
 
 path_among : (ws : List PlannedWrite) (i : ℕ) (e : PlannedWrite) (q : List ℕ) → i < length ws → e ≡ get_or ws i e → q ≡ string_bytes e.path
     → Contains (paths ws) q
-path_among ws i e q lt is same =
-    (i, omega (arith, length-map ws seen, length-map (map seen ws) (λ (w : Written). w.path)),
-    get_or-map (λ (w : Written). w.path) (map seen ws) i (seen e) q (omega (arith, length-map ws seen))
-    ∙ ap (λ (w : Written). w.path) (get_or-map seen ws i e (seen e) lt)
-    ∙ ap (λ (w : PlannedWrite). string_bytes w.path) (sym is) ∙ sym same)
+path_among ws i e q lt is same = (
+  i,
+  omega (arith, length-map ws seen, length-map (map seen ws) (λ (w : Written). w.path)),
+  get_or-map (λ (w : Written). w.path) (map seen ws) i (seen e) q (omega (arith, length-map ws seen))
+      ∙ ap (λ (w : Written). w.path) (get_or-map seen ws i e (seen e) lt)
+      ∙ ap (λ (w : PlannedWrite). string_bytes w.path) (sym is) ∙ sym same,
+)
 
 -- ---- one write more
 
