@@ -1,5 +1,5 @@
 -- What a whole command does, told of its status alone.
-use Rattle.std.proofs.Common.{◌≡◌, ◌≢◌, ◌⊎◌, ℕ, Bool, nat_eq, List, [], true, false, Option, None, Ok, Err, Result, refl, ap, subst, sym, ◌∙◌, inl, inr, arith, Contains, string_bytes, ◌++◌, ◌∷◌, zero}
+use Rattle.std.proofs.Common.{◌≡◌, ◌≢◌, ◌⊎◌, ℕ, Bool, nat_eq, List, true, false, Option, None, Ok, Err, Result, refl, ap, subst, sym, ◌∙◌, inl, inr, arith, Contains, string_bytes, ◌++◌, ◌∷◌, zero}
 use Rattle.std.proofs.lemmas.List.{map-append}
 use Rattle.std.proofs.lemmas.List.Elements.{Contains-append_right}
 use Rattle.std.proofs.lemmas.Bool.{true≢false, false≢true}

@@ -1,6 +1,6 @@
 -- What a command did, from what its steps did.
-use Rattle.std.proofs.Common.{◌≡◌, ◌⊎◌, ℕ, List, [], true, Some, None, Ok, Err, Result, refl, ap, subst, sym, ◌∙◌, inl, inr}
-use Rattle.std.specs.Prelude.{IfErr, IsSome}
+use Rattle.std.proofs.Common.{◌≡◌, ℕ, List, [], true, Some, None, Ok, Err, Result, subst, sym, ◌∙◌, inl, inr}
+use Rattle.std.specs.Prelude.{IfErr}
 use Rattle.std.specs.Result.{IsErrAnd}
 use Rattle.outside.specs.Files.{FilesState}
 use Rattle.outside.specs.Sink.{SinkState}
@@ -13,7 +13,6 @@ use Rattle.command_frame.specs.declared.stop.Stop.TheVariants as stops
 use Rattle.command_frame.specs.Answer.{Answer, effect_of, paths_in}
 use Rattle.command_frame.specs.Finish.{Finishes, OnlyAmong}
 use Rattle.command_frame.specs.Reads.{Gives, KeepsTo, OnlyRead, StopsReading}
-use Rattle.command_frame.specs.Status.{is_end}
 use Rattle.command_frame.specs.Whole.{EndsAs, StopsAtFile}
 use Rattle.command_frame.proofs.Wholes.{acts_anyhow, acts_as, among_written, ends_anyhow, ends_as, nothing_written, only_written, read_only, reading_stops, same_sink, stops_anyhow, stops_as, stops_so, unchanged, writing_stops}
 use Rattle.run_engine.specs.Check.{check_of, check_paths}

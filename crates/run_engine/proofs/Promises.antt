@@ -5,10 +5,9 @@ use Rattle.outside.specs.Sink.{SinkState}
 use Rattle.command_frame.specs.declared.status.Status.{Status}
 use Rattle.command_frame.specs.declared.status.Status.TheVariants as statuses
 use Rattle.command_frame.specs.Answer.{Answer, Effect}
-use Rattle.command_frame.specs.Status.{is_end, is_fault, is_refusal}
-use Rattle.command_frame.specs.Whole.{CarriedOut, IsAnswered, IsDone}
+use Rattle.command_frame.specs.Status.{is_end, is_fault}
+use Rattle.command_frame.specs.Whole.{CarriedOut, IsAnswered}
 use Rattle.command_words.specs.Ask.{CheckAsk, DealAsk, EvalAsk, RunAsk, check, deal, eval, need, run, words_of}
-use Rattle.language_model.specs.Reports.{Report}
 use Rattle.run_engine.specs.Eval.{end_of, eval_text, need_text, report_for}
 use Rattle.run_engine.specs.Outcome.{outcome_of}
 use Rattle.run_engine.specs.Promises.{AllSteady, CheckEffect, DealEffect, EvalEffect, RunEffect, Gives, Keeps}

@@ -5,26 +5,24 @@ use Rattle.std.specs.Prelude.{nat_lt}
 use Rattle.std.proofs.lemmas.Bool.{false≢true}
 use Rattle.std.proofs.lemmas.Bool.Decides.{nat_tests}
 use Rattle.outside.specs.Files.{Contents, FilesState, file_at}
-use Rattle.outside.specs.Sink.{SinkState, Appends}
+use Rattle.outside.specs.Sink.{SinkState}
 use Rattle.command_frame.specs.declared.status.Status.{Status}
 use Rattle.command_frame.specs.declared.status.Status.TheVariants as statuses
-use Rattle.command_frame.specs.Answer.{Answer, after_writes, bytes_at, usage}
+use Rattle.command_frame.specs.Answer.{Answer, bytes_at, usage}
 use Rattle.command_frame.specs.Status.{is_end, is_fault, is_refusal}
-use Rattle.command_frame.specs.Whole.{CarriedOut, IsAnswered}
+use Rattle.command_frame.specs.Whole.{CarriedOut}
 use Rattle.command_words.specs.Ask.{Ask, CheckAsk, RunAsk, DealAsk, check, run, deal, words_of}
 use Rattle.secrec_ast.specs.Programs.{ProgramTree}
 use Rattle.front_end.specs.Judgement.{Judged, IsJudged}
 use Rattle.input_share.specs.Dealing.{need_of}
-use Rattle.sc_text.specs.declared.end.Ending.{Ending}
-use Rattle.sc_text.specs.declared.end.Ending.TheVariants as endings
 use Rattle.tape_file.specs.Tapes.{FourTapes}
 use Rattle.value_file.specs.declared.inputs.Entry.{Entry}
-use Rattle.run_engine.specs.Deal.{deal_of, deal_effect, deal_writes}
-use Rattle.run_engine.specs.Outcome.{Outcome, outcome_of, status_of}
-use Rattle.run_engine.specs.Check.{check_of, check_effect, check_text}
+use Rattle.run_engine.specs.Deal.{deal_of, deal_effect}
+use Rattle.run_engine.specs.Outcome.{Outcome, outcome_of}
+use Rattle.run_engine.specs.Check.{check_of, check_effect}
 use Rattle.run_engine.specs.Judging.{JudgedAt, Finding, FoundAt, HasFinding, Question, nothing}
 use Rattle.run_engine.specs.Programs.{bad_program, not_yet, sum_at, tree_at}
-use Rattle.run_engine.specs.Run.{bad_input, bad_tape, inputs_at, outcome_text, run_effect, run_of, tape_file_at, tapes_at}
+use Rattle.run_engine.specs.Run.{bad_input, bad_tape, inputs_at, run_effect, run_of, tape_file_at, tapes_at}
 use Rattle.run_engine.specs.Runs.{HoldsProgram, HoldsBadProgram, HoldsSum, HoldsRun, HoldsDeal, CheckRefused, RunRefused, cannot_run_yet, bad_program as program_refused, bad_input as input_refused, bad_tape as tape_refused}
 use Rattle.run_engine.specs.SumProgram.{SumProgram, IsSumProgram}
 use Rattle.run_engine.specs.SumReading.{sum_program_of}
