@@ -1,12 +1,13 @@
 -- What a plan's writing and printing leaves.
-use Rattle.std.specs.Prelude.{ℕ, ◌≡◌, ◌≤◌, ◌<◌, ◌+◌, ◌⊎◌, List, length, true, take, Contains, Result, Ok, Err}
+use Rattle.std.specs.Prelude.{ℕ, ◌≡◌, ◌≢◌, ◌≤◌, ◌⊎◌, List, ◌∷◌, ◌++◌, true, take, Contains, Result, Ok, Err, string_bytes}
 use Rattle.outside.specs.Causes.{Rose}
 use Rattle.outside.specs.Files.{FilesState, file_at}
 use Rattle.outside.specs.Sink.{SinkState, SameSink, Appends}
+use Rattle.sc_text.specs.Fault.{file_line}
 use Rattle.command_frame.specs.declared.status.Status.{Status}
 use Rattle.command_frame.specs.declared.stop.Stop.{Stop}
 use Rattle.command_frame.specs.declared.stop.Stop.TheVariants as stops
-use Rattle.command_frame.specs.Answer.{Effect, Written, after_writes, paths_in}
+use Rattle.command_frame.specs.Answer.{Effect, Written, after_writes}
 
 -- all files but these are as they were
 pub record OnlyAmong (paths : List (List ℕ)) (old new : FilesState) : Type 0 where
@@ -23,29 +24,43 @@ WroteAll writes old new = old.told ≡ true → new.contents ≡ after_writes wr
 abbrev pub PutPrefix : List ℕ → SinkState → SinkState → Type 0
 PutPrefix text old new = (n : ℕ) × Appends old new (take n text)
 
--- one of these files could not be written, and none behind it was begun
-abbrev pub Begun : List (List ℕ) → FilesState → FilesState → Type 0
-Begun paths old new = (k : ℕ) × (k < length paths) × OnlyAmong (take (k + 1) paths) old new
+-- the sink failed, or had no memory
+abbrev pub GaveUp : SinkState → SinkState → Type 0
+GaveUp old new = Rose old.faults new.faults ⊎ Rose old.shortages new.shortages
+
+-- the whole line was put, or a prefix of it where the sink failed or had no memory
+abbrev pub PutLine : List ℕ → SinkState → SinkState → Type 0
+PutLine line old new = Appends old new line ⊎ (GaveUp old new × PutPrefix line old new)
+
+-- the files before one of them are written, that one, which the line names, holds any bytes, and all else is as it was
+pub record BreaksOff (writes : List Written) (line : List ℕ) (old new : FilesState) : Type 0 where
+  pub before : List Written
+  pub broken : Written
+  pub behind : List Written
+  pub order : writes ≡ before ++ broken ∷ behind
+  pub named : line ≡ file_line broken.path
+  pub told : new.told ≡ old.told
+  pub others : old.told ≡ true → (q : List ℕ) → q ≢ broken.path → file_at new.contents q ≡ file_at (after_writes before old.contents) q
 
 -- a file could not be written: the count rose, which a steady store's doesn't
-pub record WriteFaulted (paths : List (List ℕ)) (old new : FilesState) : Type 0 where
+pub record WriteFaulted (writes : List Written) (line : List ℕ) (old new : FilesState) : Type 0 where
   pub rose : Rose old.faults new.faults
   pub unsteady : old.steady ≡ true → ⊥
-  pub begun : Begun paths old new
+  pub breaks : BreaksOff writes line old new
 
-abbrev pub StopsWriting : List (List ℕ) → FilesState → FilesState → Stop → Type 0
-StopsWriting paths old new stops.Memory = Unit {0}
-StopsWriting paths old new stops.Usage = ⊥
-StopsWriting paths old new (stops.Refused r) = ⊥
-StopsWriting paths old new (stops.File line) = WriteFaulted paths old new
-StopsWriting paths old new stops.Out = ⊥
+abbrev pub StopsWriting : List Written → FilesState → FilesState → Stop → Type 0
+StopsWriting writes old new stops.Memory = Unit {0}
+StopsWriting writes old new stops.Usage = ⊥
+StopsWriting writes old new (stops.Refused r) = ⊥
+StopsWriting writes old new (stops.File line) = WriteFaulted writes (string_bytes line) old new
+StopsWriting writes old new stops.Out = ⊥
 
-abbrev pub StopsWritingOne : FilesState → FilesState → Stop → Type 0
-StopsWritingOne old new stops.Memory = Unit {0}
-StopsWritingOne old new stops.Usage = ⊥
-StopsWritingOne old new (stops.Refused r) = ⊥
-StopsWritingOne old new (stops.File line) = Rose old.faults new.faults × (old.steady ≡ true → ⊥)
-StopsWritingOne old new stops.Out = ⊥
+abbrev pub StopsWritingOne : List ℕ → FilesState → FilesState → Stop → Type 0
+StopsWritingOne path old new stops.Memory = Unit {0}
+StopsWritingOne path old new stops.Usage = ⊥
+StopsWritingOne path old new (stops.Refused r) = ⊥
+StopsWritingOne path old new (stops.File line) = Rose old.faults new.faults × (old.steady ≡ true → ⊥) × (string_bytes line ≡ file_line path)
+StopsWritingOne path old new stops.Out = ⊥
 
 -- the output failed: its count rose, which a steady one's doesn't
 pub record PutFaulted (text : List ℕ) (old new : SinkState) : Type 0 where
@@ -57,7 +72,7 @@ abbrev pub StopsFinishing : Effect → FilesState → FilesState → SinkState �
 StopsFinishing effect f f' o o' stops.Memory = SameSink o o' ⊎ PutPrefix effect.text o o'
 StopsFinishing effect f f' o o' stops.Usage = ⊥
 StopsFinishing effect f f' o o' (stops.Refused r) = ⊥
-StopsFinishing effect f f' o o' (stops.File line) = WriteFaulted (paths_in effect.writes) f f' × SameSink o o'
+StopsFinishing effect f f' o o' (stops.File line) = WriteFaulted effect.writes (string_bytes line) f f' × SameSink o o'
 StopsFinishing effect f f' o o' stops.Out = WroteAll effect.writes f f' × PutFaulted effect.text o o'
 
 -- the whole effect, or a part of it and why

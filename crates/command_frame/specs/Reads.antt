@@ -48,10 +48,10 @@ IsLineOf paths line = (path : List ℕ) × Contains paths path × (line ≡ file
 pub record StopNames (paths : List (List ℕ)) (stop : Stop) : Type 0 where
   pub named : (line : _) → stop ≡ stops.File line → IsLineOf paths (string_bytes line)
 
--- all files that the plan writes are among these paths
+-- the plan writes no other path than these
 pub record PlanNames (paths : List (List ℕ)) (plan : Plan) : Type 0 where
   pub written : (path : List ℕ) → Contains (paths_in (writes_of plan.writes.items)) path → Contains paths path
 
--- a command reads and writes these paths and no others
-abbrev pub KeepsTo : List (List ℕ) → Result Plan Stop → Type 0
-KeepsTo paths result = MatchResult result (PlanNames paths) (StopNames paths)
+-- a command reads the first of these paths and writes the second, and no others
+abbrev pub KeepsTo : List (List ℕ) → List (List ℕ) → Result Plan Stop → Type 0
+KeepsTo reads written result = MatchResult result (PlanNames written) (StopNames reads)

@@ -11,8 +11,8 @@ use Rattle.command_frame.specs.declared.status.Status.{Status}
 use Rattle.command_frame.specs.declared.stop.Stop.{Stop}
 use Rattle.command_frame.specs.declared.stop.Stop.TheVariants as stops
 use Rattle.command_frame.specs.Answer.{Answer, Effect, after_writes, cause_of, missing, paths_in}
-use Rattle.command_frame.specs.Finish.{Begun, PutPrefix}
-use Rattle.command_frame.specs.Reads.{Faulted}
+use Rattle.command_frame.specs.Finish.{BreaksOff, PutLine, PutPrefix}
+use Rattle.command_frame.specs.Reads.{Faulted, IsLineOf}
 use Rattle.command_frame.specs.Status.{is_end}
 use Rattle.command_frame.specs.Stops.{status_of, line_of}
 
@@ -38,15 +38,11 @@ pub record OutFaulted (old new : SinkState) : Type 0 where
   pub rose : Rose old.faults new.faults
   pub unsteady : old.steady ≡ true → ⊥
 
--- no file changed, or some of the command's files were written in order
-abbrev pub SomeWritten : Answer → FilesState → FilesState → Type 0
-SomeWritten answer f f' = SameFiles f f' ⊎ (f.told ≡ true → IsOkAnd answer (λ e. Begun (paths_in e.writes) f f'))
-
 abbrev pub StopsAt : Answer → FilesState → FilesState → SinkState → SinkState → Stop → Type 0
 StopsAt answer f f' o o' stops.Memory = SameSink o o' ⊎ (f.told ≡ true → IsOkAnd answer (λ e. PutPrefix e.text o o'))
 StopsAt answer f f' o o' stops.Usage = ⊥
 StopsAt answer f f' o o' (stops.Refused r) = (f.told ≡ true → answer ≡ Err (cause_of r)) × SameSink o o' × SameFiles f f'
-StopsAt answer f f' o o' (stops.File line) = Faulted f f' (string_bytes line) answer × SameSink o o' × SomeWritten answer f f'
+StopsAt answer f f' o o' (stops.File line) = Faulted f f' (string_bytes line) answer × SameSink o o'
 StopsAt answer f f' o o' stops.Out = OutFaulted o o' × (f.told ≡ true → IsOkAnd answer (λ e. IsCut e f f' o o'))
 
 abbrev pub EndsAs : Answer → FilesState → FilesState → SinkState → SinkState → Result Status Stop → Type 0
@@ -83,11 +79,28 @@ ActsAnyhow ask f f' o o' (Err (stops.Refused r)) = IsSome ask × StopsAnyhow f f
 ActsAnyhow ask f f' o o' (Err (stops.File line)) = IsSome ask × StopsAnyhow f f' o o' (stops.File line)
 ActsAnyhow ask f f' o o' (Err stops.Out) = IsSome ask × StopsAnyhow f f' o o' stops.Out
 
+-- ---- the file that failed
+
+-- the line names a file that is read, and no file changed; or one that is written, and in each answer it is the first that is not written whole
+abbrev pub FileFaulted : (reads written : List (List ℕ)) → (Answer → Type 0) → FilesState → FilesState → List ℕ → Type 0
+FileFaulted reads written Answers f f' line =
+    (IsLineOf reads line × SameFiles f f')
+    ⊎ (IsLineOf written line × ((answer : Answer) → Answers answer → f.told ≡ true → IsOkAnd answer (λ e. BreaksOff e.writes line f f')))
+
+-- where a command stops at a file
+pub record StopsAtFile (reads written : List (List ℕ)) (Answers : Answer → Type 0) (f f' : FilesState) (stop : Stop) : Type 0 where
+  pub named : (line : _) → stop ≡ stops.File line → FileFaulted reads written Answers f f' (string_bytes line)
+
 -- ---- what is said on the error stream
 
 abbrev pub Says : Result Status Stop → SinkState → SinkState → Type 0
 Says (Ok status) e e' = SameSink e e'
-Says (Err stop) e e' = PutPrefix (line_of stop) e e'
+Says (Err stop) e e' = PutLine (line_of stop) e e'
+
+-- the whole line
+abbrev pub SaysAll : Result Status Stop → SinkState → SinkState → Type 0
+SaysAll (Ok status) e e' = SameSink e e'
+SaysAll (Err stop) e e' = Appends e e' (line_of stop)
 
 abbrev pub status_in : Result Status Stop → Status
 status_in (Ok status) = status
@@ -95,18 +108,18 @@ status_in (Err stop) = status_of stop
 
 -- ---- what the caller of the program is told
 
--- the effect is there whole and nothing is said; or nothing but the refusal's line is there, or a prefix of it
+-- the effect is there whole and nothing is said; or nothing but the refusal's line is there, or a prefix of it where the error stream gave up
 abbrev pub CarriedOut : Answer → FilesState → FilesState → SinkState → SinkState → SinkState → SinkState → Status → Type 0
 CarriedOut (Ok effect) f f' o o' e e' given = IsDone effect f f' o o' given × SameSink e e'
-CarriedOut (Err cause) f f' o o' e e' given = (given ≡ cause.status) × PutPrefix cause.line e e' × SameSink o o' × SameFiles f f'
+CarriedOut (Err cause) f f' o o' e e' given = (given ≡ cause.status) × PutLine cause.line e e' × SameSink o o' × SameFiles f f'
 
--- the error stream names one of these paths, or a prefix of its line is there
-abbrev pub NamesOne : List (List ℕ) → SinkState → SinkState → Type 0
-NamesOne paths e e' = (path : List ℕ) × Contains paths path × PutPrefix (file_line path) e e'
+-- the error stream names the file that failed
+abbrev pub FileTold : (reads written : List (List ℕ)) → (Answer → Type 0) → FilesState → FilesState → SinkState → SinkState → Type 0
+FileTold reads written Answers f f' e e' = (line : List ℕ) × FileFaulted reads written Answers f f' line × PutLine line e e'
 
 -- the command is refused because a file that it reads is missing
 abbrev pub IsMissed : Answer → SinkState → SinkState → Type 0
-IsMissed answer e e' = (path : List ℕ) × (answer ≡ Err (missing path)) × PutPrefix (file_line path) e e'
+IsMissed answer e e' = (path : List ℕ) × (answer ≡ Err (missing path)) × PutLine (file_line path) e e'
 
 -- what the answer's status is
 abbrev pub IsAnswered : Answer → Status → Type 0

@@ -1,7 +1,6 @@
-ghost use Rattle.std.specs.Prelude.{◌≡◌, ◌≤◌, true, [], ◌∷◌, OnOk, IfErr, string_bytes};
+ghost use Rattle.std.specs.Prelude.{◌≡◌, ◌≤◌, true, OnOk, IfErr, string_bytes};
 ghost use Rattle.outside.specs.Files.{Wrote, OnlyAt};
 ghost use Rattle.command_frame.specs.Answer.{effect_of, writes_of, paths_in};
-ghost use Rattle.command_frame.specs.Reads.{StopNames};
 ghost use Rattle.command_frame.specs.Finish.{OnlyAmong, WroteAll, StopsWriting, StopsWritingOne, Finishes};
 
 use crate::stop::file_stop;
@@ -19,8 +18,7 @@ fn write_file<F: Files>(
     ensures only { OnlyAt (F.state files.old) (F.state files.new) (string_bytes path.now) }
     ensures later { (F.state files.old).faults ≤ (F.state files.new).faults }
     ensures still { (F.state files.old).steady ≡ true → (F.state files.new).steady ≡ true }
-    ensures err { IfErr result (λ e. StopsWritingOne (F.state files.old) (F.state files.new) e) }
-    ensures names { IfErr result (StopNames (string_bytes path.now ∷ [])) }
+    ensures err { IfErr result (StopsWritingOne (string_bytes path.now) (F.state files.old) (F.state files.new)) }
 {
     match files.write(alloc, path, bytes) {
         Ok(()) => Ok(()),
@@ -33,8 +31,7 @@ fn write_file<F: Files>(
 fn write_files<F: Files>(alloc: Global, files: &mut F, writes: &[PlannedWrite]) -> Result<(), Stop>
     ensures ok { OnOk result (WroteAll (writes_of writes.now) (F.state files.old) (F.state files.new)) }
     ensures only { OnlyAmong (paths_in (writes_of writes.now)) (F.state files.old) (F.state files.new) }
-    ensures err { IfErr result (λ e. StopsWriting (paths_in (writes_of writes.now)) (F.state files.old) (F.state files.new) e) }
-    ensures names { IfErr result (StopNames (paths_in (writes_of writes.now))) }
+    ensures err { IfErr result (StopsWriting (writes_of writes.now) (F.state files.old) (F.state files.new)) }
 {
     for entry in writes {
         if let Err(stop) = write_file(alloc, files, &entry.path, &entry.bytes) {
@@ -56,7 +53,6 @@ pub fn finish_plan<F: Files, O: Sink>(
 ) -> Result<Status, Stop>
     ensures only { OnlyAmong (paths_in (effect_of plan.now).writes) (F.state files.old) (F.state files.new) }
     ensures finishes { Finishes (effect_of plan.now) (F.state files.old) (F.state files.new) (O.state out.old) (O.state out.new) result }
-    ensures names { IfErr result (StopNames (paths_in (effect_of plan.now).writes)) }
 {
     write_files(alloc, files, &plan.writes)?;
     match put_all(out, &plan.text) {

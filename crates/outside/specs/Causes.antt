@@ -13,7 +13,12 @@ pub record HasCause {T : Type 0} (before now : ℕ) (result : Result T file_err.
   pub later : before ≤ now
   pub failed : IsErrOf result file_err.TheVariants.Failed → Rose before now
 
--- the same of a call that takes no memory
+-- the count of calls that had no memory never falls, and a call has none only where it rose
+pub record HasShortage {T : Type 0} (before now : ℕ) (result : Result T file_err.FileErr) : Type 0 where
+  pub later : before ≤ now
+  pub short : IsErrOf result file_err.TheVariants.Memory → Rose before now
+
+-- the same as `HasCause` of a call that takes no memory
 pub record HasLinkCause {T : Type 0} (before now : ℕ) (result : Result T failed.Failed) : Type 0 where
   pub later : before ≤ now
   pub failed : OnErr result (Rose before now)

@@ -10,6 +10,7 @@ use std::alloc::Global;
 pub struct MemSink {
     bytes: Vec<u8>,
     plan: FaultPlan,
+    shortages: u64,
 }
 
 impl MemSink {
@@ -24,6 +25,7 @@ impl MemSink {
         MemSink {
             bytes: Vec::new(alloc),
             plan: FaultPlan::new(fails),
+            shortages: 0,
         }
     }
 
@@ -46,7 +48,10 @@ impl Sink for MemSink {
             return Err(FileErr::Failed);
         }
         let count = piece.len().min(7);
-        self.bytes.extend_from_slice(&piece[..count])?;
+        if self.bytes.extend_from_slice(&piece[..count]).is_err() {
+            self.shortages = self.shortages.saturating_add(1);
+            return Err(FileErr::Memory);
+        }
         Ok(count)
     }
 }

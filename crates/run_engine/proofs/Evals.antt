@@ -1,17 +1,13 @@
 -- What the answers of `eval` and `need` are, for files that are as they must be, and for files that are refused.
-use Rattle.std.proofs.Common.{◌≡◌, ◌⊎◌, ℕ, List, true, false, Some, Ok, Err, refl, ap, subst, sym, ◌∙◌, inl, inr}
-use Rattle.outside.specs.Files.{Contents, FilesState}
-use Rattle.outside.specs.Sink.{SinkState, Appends}
+use Rattle.std.proofs.Common.{◌≡◌, ℕ, List, Some, Ok, Err, refl, subst, sym, inl, inr}
+use Rattle.outside.specs.Files.{Contents}
 use Rattle.command_frame.specs.declared.status.Status.{Status}
-use Rattle.command_frame.specs.declared.status.Status.TheVariants as statuses
 use Rattle.command_frame.specs.Answer.{Answer, Cause}
-use Rattle.command_frame.specs.Status.{is_end, is_fault, is_refusal}
-use Rattle.command_frame.specs.Whole.{CarriedOut, IsAnswered}
 use Rattle.command_words.specs.Ask.{EvalAsk, eval, need, words_of}
 use Rattle.typed_tree.specs.Programs.{TypedProgramTree}
 use Rattle.value_file.specs.declared.inputs.Entry.{Entry}
 use Rattle.language_model.specs.Reports.{Report}
-use Rattle.run_engine.specs.Eval.{end_of, end_status, eval_of, eval_text, need_of, need_text, report_at, report_effect, report_for}
+use Rattle.run_engine.specs.Eval.{eval_of, eval_text, need_of, need_text, report_at, report_effect, report_for}
 use Rattle.run_engine.specs.Judging.{Finding, FoundAt, its_size}
 use Rattle.run_engine.specs.Programs.{bad_program, program_at, too_large}
 use Rattle.run_engine.specs.Run.{bad_input, inputs_at}
@@ -19,8 +15,8 @@ use Rattle.run_engine.specs.Runs.{HoldsTyped, HoldsEvaluation, Evaluates, EvalRe
 use Rattle.run_engine.specs.Words.{answer_to, question_of, IsAnswer}
 use Rattle.run_engine.proofs.EvalRefusals.{report_refused_only}
 use Rattle.run_engine.proofs.Judged.{any_size}
-use Rattle.run_engine.proofs.Refusals.{status_in_answer}
-use Rattle.run_engine.proofs.Runs.{HasAnswerOf, bad_judged, bad_tree, carried_status, command_answers, held_judged, held_tree, is_answer, no_fault, read_there, refusing}
+use Rattle.run_engine.proofs.Refusals.{Refuses, status_in_answer}
+use Rattle.run_engine.proofs.Runs.{HasAnswerOf, bad_judged, bad_tree, command_answers, held_judged, held_tree, is_answer, read_there}
 
 -- ---- files that are as they must be
 
@@ -56,15 +52,6 @@ unfolding answer_to question_of need_of
 need_answered words ask files p entries asks h =
     let found : Finding = finding ask.program files p h.program in
     subst (IsAnswer words files) (rw (report_there ask files p entries h) refl) (is_answer words (need ask) files found asks (found_there ask.program files p h.program))
-
-pub report_printed : (text : Report → List ℕ) (report : Report) (f f' : FilesState) (o o' e e' : SinkState) (s : Status)
-    → (is_fault s ≡ false → CarriedOut (printed text report) f f' o o' e e' s)
-    → IsAnswered (printed text report) s ⊎ (s ≡ statuses.Memory)
-    → ((s ≡ end_status report) × Appends o o' (text report)) ⊎ (s ≡ statuses.Memory)
-report_printed text report f f' o o' e e' s carried (inr m) = inr m
-report_printed text report f f' o o' e e' s carried (inl ends) =
-    let whole : CarriedOut (printed text report) f f' o o' e e' s = carried (ap is_fault ends ∙ no_fault (end_of report).how) in
-    inl (ends, whole.0.text)
 
 -- ---- files that are refused
 
@@ -105,14 +92,13 @@ eval_answered_so words ask files s (inr asks) out =
     let (found, c, at, e, is) = no_report ask files s out in
     (need_of found ask files, is_answer words (need ask) files found asks at, rw e (sym is))
 
-pub eval_refused_so : (words : List (List ℕ)) (ask : EvalAsk) (answer : Answer) (f f' : FilesState) (o o' e e' : SinkState) (s : Status) → Evaluates (words_of words) ask
-    → IsAnswer words f.contents answer → is_refusal s ≡ true → is_end s ≡ false → CarriedOut answer f f' o o' e e' s → EvalRefused ask f.contents s
+pub eval_refused_so : (words : List (List ℕ)) (ask : EvalAsk) (files : Contents) → Evaluates (words_of words) ask → (answer : Answer)
+    → IsAnswer words files answer
+    → Refuses (status_in_answer answer) → EvalRefused ask files (status_in_answer answer)
 unfolding answer_to question_of eval_of need_of
-eval_refused_so words ask answer f f' o o' e e' s (inl asks) a refusal unended carried =
-    let same : status_in_answer answer ≡ s = carried_status answer f f' o o' e e' s carried in
-    let (found, at, is) = command_answers words (eval ask) f.contents answer asks a in
-    subst (EvalRefused ask f.contents) same (report_refused_only found ask f.contents at answer (refusing answer s same refusal unended) eval_text is)
-eval_refused_so words ask answer f f' o o' e e' s (inr asks) a refusal unended carried =
-    let same : status_in_answer answer ≡ s = carried_status answer f f' o o' e e' s carried in
-    let (found, at, is) = command_answers words (need ask) f.contents answer asks a in
-    subst (EvalRefused ask f.contents) same (report_refused_only found ask f.contents at answer (refusing answer s same refusal unended) need_text is)
+eval_refused_so words ask files (inl asks) answer a why =
+    let (found, at, is) = command_answers words (eval ask) files answer asks a in
+    report_refused_only found ask files at answer why eval_text is
+eval_refused_so words ask files (inr asks) answer a why =
+    let (found, at, is) = command_answers words (need ask) files answer asks a in
+    report_refused_only found ask files at answer why need_text is

@@ -1,7 +1,8 @@
 pub mod EvalRefusals
 pub mod Evals
 pub mod Judged
-pub mod Planned
+pub mod Obeying
+pub mod Promises
 pub mod Refusals
 pub mod Runs
 pub mod Sizes

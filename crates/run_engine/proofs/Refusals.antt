@@ -111,7 +111,7 @@ not_missing r c path why is missed =
     let wrong : is_refusal statuses.File ≡ true = subst (λ (x : Status). is_refusal x ≡ true) file why.refusal in
     absurd cc
 
-end_is : (how : Ending) → is_end (status_of how) ≡ true
+pub end_is : (how : Ending) → is_end (status_of how) ≡ true
 end_is endings.Done = refl
 end_is (endings.Trap kind line) = refl
 end_is endings.Budget = refl

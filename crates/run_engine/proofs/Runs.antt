@@ -2,32 +2,32 @@
 -- a file of their own.
 use Rattle.std.proofs.Common.{◌≡◌, ◌≤◌, ◌⊎◌, ℕ, List, length, true, false, Option, Some, None, Ok, Err, refl, ap, subst, sym, ◌∙◌, inl, inr, arith}
 use Rattle.std.specs.Prelude.{nat_lt}
+use Rattle.std.proofs.lemmas.Bool.{false≢true}
 use Rattle.std.proofs.lemmas.Bool.Decides.{nat_tests}
 use Rattle.outside.specs.Files.{Contents, FilesState, file_at}
-use Rattle.outside.specs.Sink.{SinkState, Appends}
+use Rattle.outside.specs.Sink.{SinkState}
 use Rattle.command_frame.specs.declared.status.Status.{Status}
 use Rattle.command_frame.specs.declared.status.Status.TheVariants as statuses
-use Rattle.command_frame.specs.Answer.{Answer, after_writes, bytes_at, usage}
+use Rattle.command_frame.specs.Answer.{Answer, bytes_at, usage}
 use Rattle.command_frame.specs.Status.{is_end, is_fault, is_refusal}
-use Rattle.command_frame.specs.Whole.{CarriedOut, IsAnswered}
+use Rattle.command_frame.specs.Whole.{CarriedOut}
 use Rattle.command_words.specs.Ask.{Ask, CheckAsk, RunAsk, DealAsk, check, run, deal, words_of}
 use Rattle.secrec_ast.specs.Programs.{ProgramTree}
 use Rattle.front_end.specs.Judgement.{Judged, IsJudged}
 use Rattle.input_share.specs.Dealing.{need_of}
-use Rattle.sc_text.specs.declared.end.Ending.{Ending}
-use Rattle.sc_text.specs.declared.end.Ending.TheVariants as endings
 use Rattle.tape_file.specs.Tapes.{FourTapes}
 use Rattle.value_file.specs.declared.inputs.Entry.{Entry}
-use Rattle.run_engine.specs.Deal.{deal_of, deal_effect, deal_writes}
-use Rattle.run_engine.specs.Outcome.{Outcome, outcome_of, status_of}
-use Rattle.run_engine.specs.Check.{check_of, check_effect, check_text}
+use Rattle.run_engine.specs.Deal.{deal_of, deal_effect}
+use Rattle.run_engine.specs.Outcome.{Outcome, outcome_of}
+use Rattle.run_engine.specs.Check.{check_of, check_effect}
 use Rattle.run_engine.specs.Judging.{JudgedAt, Finding, FoundAt, HasFinding, Question, nothing}
 use Rattle.run_engine.specs.Programs.{bad_program, not_yet, sum_at, tree_at}
-use Rattle.run_engine.specs.Run.{bad_input, bad_tape, inputs_at, outcome_text, run_effect, run_of, tape_file_at, tapes_at}
+use Rattle.run_engine.specs.Run.{bad_input, bad_tape, inputs_at, run_effect, run_of, tape_file_at, tapes_at}
 use Rattle.run_engine.specs.Runs.{HoldsProgram, HoldsBadProgram, HoldsSum, HoldsRun, HoldsDeal, CheckRefused, RunRefused, cannot_run_yet, bad_program as program_refused, bad_input as input_refused, bad_tape as tape_refused}
 use Rattle.run_engine.specs.SumProgram.{SumProgram, IsSumProgram}
 use Rattle.run_engine.specs.SumReading.{sum_program_of}
-use Rattle.run_engine.specs.Words.{answer_to, answer_of, program_in, program_named, question_of, question_in, IsAnswer, HasAnswer}
+use Rattle.run_engine.specs.Words.{answer_to, answer_of, question_of, question_in, reads_of, read_by, writes_of, written_by, IsAnswer, HasAnswer}
+use Rattle.run_engine.specs.Obeying.{CommandAnswers}
 use Rattle.run_engine.proofs.Judged.{text_alone}
 use Rattle.run_engine.proofs.Refusals.{Refuses, check_refused_only, refused_only, status_in_answer}
 use Rattle.run_engine.proofs.SumTrees.{reading_is_tree}
@@ -42,9 +42,13 @@ answered_by : (words : List (List ℕ)) (ask : Ask) (found : Finding) (files : C
 unfolding answer_of
 answered_by words ask found files e = rw e refl
 
-program_by : (words : List (List ℕ)) (ask : Ask) → words_of words ≡ Some ask → program_named words ≡ program_in ask
-unfolding program_named
-program_by words ask e = rw e refl
+pub reads_by : (words : List (List ℕ)) (ask : Ask) → words_of words ≡ Some ask → read_by words ≡ reads_of ask
+unfolding read_by
+reads_by words ask e = rw e refl
+
+pub writes_by : (words : List (List ℕ)) (ask : Ask) → words_of words ≡ Some ask → written_by words ≡ writes_of ask
+unfolding written_by
+writes_by words ask e = rw e refl
 
 question_by : (words : List (List ℕ)) (ask : Ask) → words_of words ≡ Some ask → question_in words ≡ question_of ask
 unfolding question_in
@@ -55,9 +59,6 @@ unfolding question_in
 no_question words e = rw e refl
 
 -- an answer to the words is the command's, of what is found of its program
-abbrev pub CommandAnswers : Ask → Contents → Answer → Type 0
-CommandAnswers ask files answer = (found : Finding) × FoundAt (question_of ask) files found × (answer_to found ask files ≡ answer)
-
 pub command_answers : (words : List (List ℕ)) (ask : Ask) (files : Contents) (answer : Answer) → words_of words ≡ Some ask → IsAnswer words files answer → CommandAnswers ask files answer
 command_answers words ask files answer e a =
     (a.found, subst (λ (q : Question). FoundAt q files a.found) (question_by words ask e) a.of_program, sym (a.is ∙ answered_by words ask a.found files e))
@@ -82,9 +83,6 @@ answer_of_usage words files e (found, h) = (
     is = refl;
   },
 )
-
-pub program_of_command : (words : List (List ℕ)) (ask : Ask) (path : List ℕ) → words_of words ≡ Some ask → program_named words ≡ Some path → program_in ask ≡ Some path
-program_of_command words ask path e named = sym (program_by words ask e) ∙ named
 
 -- ---- the file of the program
 
@@ -145,21 +143,6 @@ run_answered words ask files sum entries tapes asks h =
     let found : Finding = text_alone (Ok h.program.tree) in
     subst (IsAnswer words files) (run_answer ask files sum entries tapes h) (is_answer words (run ask) files found asks (held_judged ask.program files h.program.tree h.program.held))
 
-pub no_fault : (how : Ending) → is_fault (status_of how) ≡ false
-no_fault endings.Done = refl
-no_fault (endings.Trap kind line) = refl
-no_fault endings.Budget = refl
-no_fault (endings.Tape owner need have) = refl
-
-pub run_printed : (outcome : Outcome) (f f' : FilesState) (o o' e e' : SinkState) (s : Status)
-    → (is_fault s ≡ false → CarriedOut (effect outcome) f f' o o' e e' s)
-    → IsAnswered (effect outcome) s ⊎ (s ≡ statuses.Memory)
-    → ((s ≡ status_of outcome.end.how) × Appends o o' (outcome_text outcome)) ⊎ (s ≡ statuses.Memory)
-run_printed outcome f f' o o' e e' s carried (inr m) = inr m
-run_printed outcome f f' o o' e e' s carried (inl ends) =
-    let whole : CarriedOut (effect outcome) f f' o o' e e' s = carried (ap is_fault ends ∙ no_fault outcome.end.how) in
-    inl (ends, whole.0.text)
-
 abbrev checked : Answer
 checked = Ok check_effect
 
@@ -173,14 +156,6 @@ unfolding answer_to question_of
 check_answered words ask files tree asks h =
     let found : Finding = text_alone (Ok tree) in
     subst (IsAnswer words files) (check_answer ask files tree h) (is_answer words (check ask) files found asks (held_judged ask.program files tree h))
-
-pub check_printed : (f f' : FilesState) (o o' e e' : SinkState) (s : Status)
-    → (is_fault s ≡ false → CarriedOut checked f f' o o' e e' s) → IsAnswered checked s ⊎ (s ≡ statuses.Memory)
-    → ((s ≡ statuses.Done) × Appends o o' check_text) ⊎ (s ≡ statuses.Memory)
-check_printed f f' o o' e e' s carried (inr m) = inr m
-check_printed f f' o o' e e' s carried (inl done) =
-    let whole : CarriedOut checked f f' o o' e e' s = carried (ap is_fault done) in
-    inl (done, whole.0.text)
 
 enough : (have need : ℕ) → need ≤ have → nat_lt have need ≡ false
 enough have need h = grind (arith, nat_tests)
@@ -199,15 +174,6 @@ pub deal_answered : (words : List (List ℕ)) (ask : DealAsk) (entries : List En
 unfolding answer_to question_of
 deal_answered words ask entries tapes files asks h most (found, any) =
     subst (IsAnswer words files) (deal_answer ask files entries tapes h most) (is_answer words (deal ask) files found asks any)
-
-pub deal_written : (to : List ℕ) (entries : List Entry) (tapes : FourTapes) (f f' : FilesState) (o o' e e' : SinkState) (s : Status)
-    → (is_fault s ≡ false → CarriedOut (dealt to entries tapes) f f' o o' e e' s)
-    → IsAnswered (dealt to entries tapes) s ⊎ (s ≡ statuses.Memory)
-    → ((s ≡ statuses.Done) × (f'.contents ≡ after_writes (deal_writes to entries tapes) f.contents)) ⊎ (s ≡ statuses.Memory)
-deal_written to entries tapes f f' o o' e e' s carried (inr m) = inr m
-deal_written to entries tapes f f' o o' e e' s carried (inl done) =
-    let whole : CarriedOut (dealt to entries tapes) f f' o o' e e' s = carried (ap is_fault done) in
-    inl (done, whole.0.files)
 
 -- ---- files that are refused
 
@@ -260,21 +226,21 @@ refusing answer s same refusal unended = record {
   no_end = ap is_end same ∙ unended;
 }
 
-pub run_refused_only : (words : List (List ℕ)) (ask : RunAsk) (answer : Answer) (f f' : FilesState) (o o' e e' : SinkState) (s : Status) → words_of words ≡ Some (run ask)
-    → IsAnswer words f.contents answer → is_refusal s ≡ true → is_end s ≡ false → CarriedOut answer f f' o o' e e' s → RunRefused ask f.contents s
+pub run_refused_only : (words : List (List ℕ)) (ask : RunAsk) (files : Contents) → words_of words ≡ Some (run ask) → (answer : Answer)
+    → IsAnswer words files answer
+    → Refuses (status_in_answer answer) → RunRefused ask files (status_in_answer answer)
 unfolding answer_to question_of
-run_refused_only words ask answer f f' o o' e e' s asks a refusal unended carried =
-    let same : status_in_answer answer ≡ s = carried_status answer f f' o o' e e' s carried in
-    let (found, at, is) = command_answers words (run ask) f.contents answer asks a in
-    subst (RunRefused ask f.contents) same (refused_only found.judged ask f.contents at answer (refusing answer s same refusal unended) is)
+run_refused_only words ask files asks answer a why =
+    let (found, at, is) = command_answers words (run ask) files answer asks a in
+    refused_only found.judged ask files at answer why is
 
-pub check_refused_so : (words : List (List ℕ)) (ask : CheckAsk) (answer : Answer) (f f' : FilesState) (o o' e e' : SinkState) (s : Status) → words_of words ≡ Some (check ask)
-    → IsAnswer words f.contents answer → is_refusal s ≡ true → is_end s ≡ false → CarriedOut answer f f' o o' e e' s → CheckRefused ask f.contents s
+pub check_refused_so : (words : List (List ℕ)) (ask : CheckAsk) (files : Contents) → words_of words ≡ Some (check ask) → (answer : Answer)
+    → IsAnswer words files answer
+    → Refuses (status_in_answer answer) → CheckRefused ask files (status_in_answer answer)
 unfolding answer_to question_of
-check_refused_so words ask answer f f' o o' e e' s asks a refusal unended carried =
-    let same : status_in_answer answer ≡ s = carried_status answer f f' o o' e e' s carried in
-    let (found, at, is) = command_answers words (check ask) f.contents answer asks a in
-    subst (CheckRefused ask f.contents) same (check_refused_only found.judged ask f.contents answer at (refusing answer s same refusal unended) is)
+check_refused_so words ask files asks answer a why =
+    let (found, at, is) = command_answers words (check ask) files answer asks a in
+    check_refused_only found.judged ask files answer at why is
 
 pub no_fault_refusal : (s : Status) → is_refusal s ≡ true → is_fault s ≡ false
 no_fault_refusal statuses.Done r = refl
@@ -286,12 +252,32 @@ no_fault_refusal statuses.TapeFile r = refl
 no_fault_refusal statuses.Schedule r = refl
 no_fault_refusal statuses.Budget r = refl
 no_fault_refusal statuses.Tape r = refl
-no_fault_refusal statuses.File r = absurd cc
+no_fault_refusal statuses.File r = absurd (false≢true r)
 no_fault_refusal statuses.Link r = refl
 no_fault_refusal statuses.Peer r = refl
 no_fault_refusal statuses.Child r = refl
 no_fault_refusal statuses.Disagree r = refl
 no_fault_refusal statuses.NotAlike r = refl
 no_fault_refusal statuses.OpenedShort r = refl
-no_fault_refusal statuses.Write r = absurd cc
-no_fault_refusal statuses.Memory r = absurd cc
+no_fault_refusal statuses.Write r = absurd (false≢true r)
+no_fault_refusal statuses.Memory r = absurd (false≢true r)
+
+pub no_fault_end : (s : Status) → is_end s ≡ true → is_fault s ≡ false
+no_fault_end statuses.Done e = refl
+no_fault_end statuses.Trap e = refl
+no_fault_end statuses.Usage e = refl
+no_fault_end statuses.Program e = refl
+no_fault_end statuses.Input e = refl
+no_fault_end statuses.TapeFile e = refl
+no_fault_end statuses.Schedule e = refl
+no_fault_end statuses.Budget e = refl
+no_fault_end statuses.Tape e = refl
+no_fault_end statuses.File e = absurd (false≢true e)
+no_fault_end statuses.Link e = refl
+no_fault_end statuses.Peer e = refl
+no_fault_end statuses.Child e = refl
+no_fault_end statuses.Disagree e = refl
+no_fault_end statuses.NotAlike e = refl
+no_fault_end statuses.OpenedShort e = refl
+no_fault_end statuses.Write e = absurd (false≢true e)
+no_fault_end statuses.Memory e = absurd (false≢true e)

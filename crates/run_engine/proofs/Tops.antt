@@ -1,30 +1,22 @@
 -- What a whole command leaves, for the answer that the words have.
-use Rattle.std.proofs.Common.{◌≡◌, ◌≢◌, ◌⊎◌, inl, inr, ℕ, List, [], true, false, Some, None, Ok, Err, Result, refl, subst}
+use Rattle.std.proofs.Common.{◌≡◌, ◌≢◌, ◌⊎◌, inl, inr, ℕ, List, true, false, Some, None, Ok, Err, Result, refl, subst}
+use Rattle.std.proofs.lemmas.Bool.{true≢false}
 use Rattle.std.specs.Prelude.{IsSome}
-use Rattle.outside.specs.Files.{Contents, FilesState}
+use Rattle.outside.specs.Files.{FilesState}
 use Rattle.outside.specs.Sink.{SinkState, SameSink}
 use Rattle.command_words.specs.declared.command.WordsErr.{WordsErr}
 use Rattle.command_words.specs.declared.command.WordsErr.TheVariants.{Usage}
 use Rattle.command_words.specs.Ask.{Ask, words_of}
 use Rattle.command_words.specs.Views.{Reads, ask_of}
-use Rattle.command_frame.specs.declared.plan.Plan.{Plan}
 use Rattle.command_frame.specs.declared.status.Status.{Status}
 use Rattle.command_frame.specs.declared.status.Status.TheVariants as statuses
 use Rattle.command_frame.specs.declared.stop.Stop.{Stop}
 use Rattle.command_frame.specs.declared.stop.Stop.TheVariants as stops
-use Rattle.command_frame.specs.Answer.{Answer, effect_of, paths_in}
-use Rattle.command_frame.specs.Finish.{OnlyAmong}
-use Rattle.command_frame.specs.Reads.{OnlyRead}
 use Rattle.command_frame.specs.Status.{is_fault}
 use Rattle.command_frame.specs.Whole.{status_in}
-use Rattle.command_frame.proofs.Wholes.{among_since}
-use Rattle.run_engine.specs.Judging.{Finding, FoundAt, HasFinding, Tells}
-use Rattle.run_engine.specs.Words.{answer_to, question_of, IsAnswer, HasAnswer}
-use Rattle.run_engine.proofs.Runs.{command_answers, has_answer}
-
--- a plan without files leaves all files as they were
-pub reads_only : (plan : Plan) (a b c : FilesState) → OnlyRead a b → plan.writes.items ≡ [] → OnlyAmong (paths_in (effect_of plan).writes) b c → OnlyAmong [] a c
-reads_only plan a b c read none among = among_since [] a b c read (rw none at among)
+use Rattle.run_engine.specs.Judging.{HasFinding, Tells}
+use Rattle.run_engine.specs.Words.{question_of, HasAnswer}
+use Rattle.run_engine.proofs.Runs.{has_answer}
 
 -- a status that neither want of memory has nor, of a store that isn't steady, a file
 pub telling : (files : FilesState) (r : Result Status Stop) → status_in r ≢ statuses.Memory → (status_in r ≡ statuses.File → files.steady ≡ true) → Tells files r
@@ -36,17 +28,10 @@ telling files (Err (stops.File line)) sound steady = steady refl
 telling files (Err stops.Out) sound steady = tt
 
 pub no_memory : (s : Status) → is_fault s ≡ false → s ≢ statuses.Memory
-no_memory s sound is = let wrong : is_fault statuses.Memory ≡ false = subst (λ (x : Status). is_fault x ≡ false) is sound in cc
+no_memory s sound is = let wrong : is_fault statuses.Memory ≡ false = subst (λ (x : Status). is_fault x ≡ false) is sound in true≢false wrong
 
 pub no_file : {X : Type 0} (s : Status) → is_fault s ≡ false → s ≡ statuses.File → X
-no_file s sound is = let wrong : is_fault statuses.File ≡ false = subst (λ (x : Status). is_fault x ≡ false) is sound in absurd cc
-
--- what holds of what the command decides holds of every answer of the words
-pub for_answer : (words : List (List ℕ)) (ask : Ask) (files : Contents) (P : Answer → Type 0) → words_of words ≡ Some ask
-    → ((found : Finding) → FoundAt (question_of ask) files found → P (answer_to found ask files)) → (answer : Answer) → IsAnswer words files answer → P answer
-for_answer words ask files P e all answer a =
-    let (found, at, is) = command_answers words ask files answer e a in
-    subst P is (all found at)
+no_file s sound is = let wrong : is_fault statuses.File ≡ false = subst (λ (x : Status). is_fault x ≡ false) is sound in absurd (true≢false wrong)
 
 pub is_named : (words : List (List ℕ)) (ask : Ask) → words_of words ≡ Some ask → IsSome (words_of words)
 is_named words ask e = rw e refl

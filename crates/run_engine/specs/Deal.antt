@@ -66,6 +66,6 @@ written_paths prefix =
     path_to prefix (codes ".1") ∷ path_to prefix (codes ".2") ∷ path_to prefix (codes ".3")
     ∷ path_to prefix (codes ".t1") ∷ path_to prefix (codes ".t2") ∷ path_to prefix (codes ".t3") ∷ []
 
--- the paths that `deal` reads or writes
+-- the paths that `deal` reads
 unfoldable pub deal_paths : DealAsk → List (List ℕ)
-deal_paths ask = ask.input ∷ ask.tape ∷ written_paths ask.to
+deal_paths ask = ask.input ∷ ask.tape ∷ []

@@ -4,9 +4,11 @@ pub mod Deal
 pub mod Dealing
 pub mod Eval
 pub mod Judging
+pub mod Obeying
 pub mod Outcome
 pub mod Outcomes
 pub mod Programs
+pub mod Promises
 pub mod Run
 pub mod Runs
 pub mod Sum

@@ -1,11 +1,11 @@
 -- What each command decides of the files' contents.
-use Rattle.std.specs.Prelude.{◌≡◌, ℕ, List, [], Option, Some, None, Err}
-use Rattle.std.specs.Option.{option_map_or, option_and_then}
+use Rattle.std.specs.Prelude.{◌≡◌, ℕ, List, [], Bool, false, Err}
+use Rattle.std.specs.Option.{option_map_or}
 use Rattle.outside.specs.Files.{Contents}
 use Rattle.command_frame.specs.Answer.{Answer, usage}
 use Rattle.command_words.specs.Ask.{Ask, run, deal, check, eval, need, words_of}
 use Rattle.run_engine.specs.Check.{check_of, check_paths}
-use Rattle.run_engine.specs.Deal.{deal_of, deal_paths}
+use Rattle.run_engine.specs.Deal.{deal_of, deal_paths, written_paths}
 use Rattle.run_engine.specs.Eval.{eval_of, need_of, eval_paths}
 use Rattle.run_engine.specs.Judging.{Finding, FoundAt, Question, nothing, its_text, its_size}
 use Rattle.run_engine.specs.Run.{run_of, run_paths}
@@ -26,21 +26,37 @@ question_of (check ask) = its_text ask.program
 question_of (eval ask) = its_size ask.program
 question_of (need ask) = its_size ask.program
 
--- the path of the program that a command reads, if it reads one
-unfoldable pub program_in : Ask → Option (List ℕ)
-program_in (run ask) = Some ask.program
-program_in (deal ask) = None
-program_in (check ask) = Some ask.program
-program_in (eval ask) = Some ask.program
-program_in (need ask) = Some ask.program
+-- the paths that a command reads
+unfoldable pub reads_of : Ask → List (List ℕ)
+reads_of (run ask) = run_paths ask
+reads_of (deal ask) = deal_paths ask
+reads_of (check ask) = check_paths ask
+reads_of (eval ask) = eval_paths ask
+reads_of (need ask) = eval_paths ask
 
--- the paths that a command reads or writes
-unfoldable pub paths_to : Ask → List (List ℕ)
-paths_to (run ask) = run_paths ask
-paths_to (deal ask) = deal_paths ask
-paths_to (check ask) = check_paths ask
-paths_to (eval ask) = eval_paths ask
-paths_to (need ask) = eval_paths ask
+-- the paths that it writes
+unfoldable pub writes_of : Ask → List (List ℕ)
+writes_of (run ask) = []
+writes_of (deal ask) = written_paths ask.to
+writes_of (check ask) = []
+writes_of (eval ask) = []
+writes_of (need ask) = []
+
+-- whether it reaches other miners
+abbrev pub uses_links : Ask → Bool
+uses_links (run ask) = false
+uses_links (deal ask) = false
+uses_links (check ask) = false
+uses_links (eval ask) = false
+uses_links (need ask) = false
+
+-- whether it starts other programs
+abbrev pub uses_children : Ask → Bool
+uses_children (run ask) = false
+uses_children (deal ask) = false
+uses_children (check ask) = false
+uses_children (eval ask) = false
+uses_children (need ask) = false
 
 -- the same of words; those that ask for no command are refused as usage
 unfoldable pub answer_of : Finding → List (List ℕ) → Contents → Answer
@@ -49,11 +65,17 @@ answer_of found words files = option_map_or (λ ask. answer_to found ask files) 
 unfoldable pub question_in : List (List ℕ) → Question
 question_in words = option_map_or question_of (words_of words) nothing
 
-unfoldable pub program_named : List (List ℕ) → Option (List ℕ)
-program_named words = option_and_then program_in (words_of words)
+unfoldable pub read_by : List (List ℕ) → List (List ℕ)
+read_by words = option_map_or reads_of (words_of words) []
 
-unfoldable pub paths_named : List (List ℕ) → List (List ℕ)
-paths_named words = option_map_or paths_to (words_of words) []
+unfoldable pub written_by : List (List ℕ) → List (List ℕ)
+written_by words = option_map_or writes_of (words_of words) []
+
+unfoldable pub reach_miners : List (List ℕ) → Bool
+reach_miners words = option_map_or uses_links (words_of words) false
+
+unfoldable pub start_programs : List (List ℕ) → Bool
+start_programs words = option_map_or uses_children (words_of words) false
 
 -- THE ANSWER: what the words ask for, where a program that they name is what its text is judged to be
 pub record IsAnswer (words : List (List ℕ)) (files : Contents) (answer : Answer) : Type 0 where

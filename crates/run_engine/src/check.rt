@@ -33,8 +33,7 @@ pub fn plan_check<F: Files>(alloc: Global, files: &mut F, words: &CheckWords) ->
         (check_of judged (check_ask words.now) (F.state files.old).contents) }
     ensures judged { (F.state files.old).told ≡ true → Tells (F.state files.old) result →
         HasJudgement (Some (check_ask words.now).program) (F.state files.old).contents }
-    ensures writes { IfOk result (λ plan. plan.writes.items ≡ []) }
-    ensures names { KeepsTo (check_paths (check_ask words.now)) result }
+    ensures names { KeepsTo (check_paths (check_ask words.now)) [] result }
 {
     let _program = read_tree(alloc, files, &words.program)?;
     Ok(Plan {

@@ -6,7 +6,7 @@ ghost use Rattle.command_frame.specs.Stops.{IsRefusalFor};
 ghost use Rattle.command_words.specs.Views.{deal_ask};
 ghost use Rattle.input_share.specs.Written.{file_bytes};
 ghost use Rattle.tape_file.specs.Format.{own_bytes};
-ghost use Rattle.run_engine.specs.Deal.{short_tape, path_to, lengths_of, file_of, deal_of, deal_paths};
+ghost use Rattle.run_engine.specs.Deal.{short_tape, path_to, lengths_of, file_of, deal_of, deal_paths, written_paths};
 
 use crate::readers::{read_inputs, read_tape_file, refusal_of};
 use command_frame::{Plan, PlannedWrite, Status, Stop};
@@ -108,7 +108,7 @@ pub fn plan_deal<F: Files>(alloc: Global, files: &mut F, words: &DealWords) -> R
     ensures answer { Gives effect_of (F.state files.old) (F.state files.new) result
         (deal_of (deal_ask words.now) (F.state files.old).contents) }
     ensures anyhow { IfErr result (StopsReading (F.state files.old) (F.state files.new)) }
-    ensures names { KeepsTo (deal_paths (deal_ask words.now)) result }
+    ensures names { KeepsTo (deal_paths (deal_ask words.now)) (written_paths (deal_ask words.now).to) result }
 {
     let inputs = read_inputs(alloc, files, &words.input)?;
     let tapes = read_tape_file(alloc, files, &words.tape)?;

@@ -44,8 +44,7 @@ pub fn plan_eval<F: Files>(alloc: Global, files: &mut F, words: &EvalWords) -> R
         (eval_of found (eval_ask words.now) (F.state files.old).contents) }
     ensures found { (F.state files.old).told ≡ true → Tells (F.state files.old) result →
         HasFinding (its_size (eval_ask words.now).program) (F.state files.old).contents }
-    ensures writes { IfOk result (λ plan. plan.writes.items ≡ []) }
-    ensures names { KeepsTo (eval_paths (eval_ask words.now)) result }
+    ensures names { KeepsTo (eval_paths (eval_ask words.now)) [] result }
 {
     let report = read_report(alloc, files, words)?;
     Ok(Plan {
@@ -86,8 +85,7 @@ pub fn plan_need<F: Files>(alloc: Global, files: &mut F, words: &EvalWords) -> R
         (need_of found (eval_ask words.now) (F.state files.old).contents) }
     ensures found { (F.state files.old).told ≡ true → Tells (F.state files.old) result →
         HasFinding (its_size (eval_ask words.now).program) (F.state files.old).contents }
-    ensures writes { IfOk result (λ plan. plan.writes.items ≡ []) }
-    ensures names { KeepsTo (eval_paths (eval_ask words.now)) result }
+    ensures names { KeepsTo (eval_paths (eval_ask words.now)) [] result }
 {
     let report = read_report(alloc, files, words)?;
     Ok(Plan {

@@ -56,8 +56,7 @@ pub fn plan_run<F: Files>(alloc: Global, files: &mut F, words: &RunWords) -> Res
         (run_of judged (run_ask words.now) (F.state files.old).contents) }
     ensures judged { (F.state files.old).told ≡ true → Tells (F.state files.old) result →
         HasJudgement (Some (run_ask words.now).program) (F.state files.old).contents }
-    ensures writes { IfOk result (λ plan. plan.writes.items ≡ []) }
-    ensures names { KeepsTo (run_paths (run_ask words.now)) result }
+    ensures names { KeepsTo (run_paths (run_ask words.now)) [] result }
 {
     let program = read_tree(alloc, files, &words.program)?;
     let Some(sum) = read_sum(&program) else {

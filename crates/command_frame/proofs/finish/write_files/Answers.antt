@@ -1,25 +1,28 @@
-use Rattle.std.proofs.Common.{◌∙◌, arith}
-use Rattle.command_frame.proofs.Writes.{among_more, among_whole, stops_more, written_more, names_here}
+use Rattle.std.proofs.Common.{arith}
+use Rattle.command_frame.proofs.Writes.{among_more, stops_here, wrote_all, wrote_more}
 use Rattle.command_frame.proofs.finish.write_files.Goals as goal
 
 pub returns-in-Err-clause-only : goal.returns-in-Err-clause-only
 returns-in-Err-clause-only g c =
-    among_whole c.args.writes.now _ _ _ (among_more c.args.writes.now c.loop-entry.entry-index c.entry-item.result _ _ _ (omega arith) c.entry-item.is c.loop-entry.invariant.only c.write_file.ensures.only c.write_file.ensures.later c.write_file.ensures.still)
+    among_more c.args.writes.now c.loop-entry.entry-index c.entry-item.result _ _ _ (omega arith) c.entry-item.is c.loop-entry.invariant.only
+    c.write_file.ensures.only c.write_file.ensures.later c.write_file.ensures.still
 
 pub returns-in-Err-clause-err : goal.returns-in-Err-clause-err
 returns-in-Err-clause-err g c =
-    stops_more c.args.writes.now c.loop-entry.entry-index _ _ _ c.in-Err.stop (omega arith) c.loop-entry.invariant.only
-    (among_more c.args.writes.now c.loop-entry.entry-index c.entry-item.result _ _ _ (omega arith) c.entry-item.is c.loop-entry.invariant.only c.write_file.ensures.only c.write_file.ensures.later c.write_file.ensures.still)
-    c.in-Err.ensures.err
-
-pub returns-in-Err-clause-names : goal.returns-in-Err-clause-names
-returns-in-Err-clause-names g c = names_here c.args.writes.now c.loop-entry.entry-index c.entry-item.result c.in-Err.stop (omega arith) c.entry-item.is c.in-Err.ensures.names
+    stops_here c.args.writes.now c.loop-entry.entry-index c.entry-item.result _ _ _ c.in-Err.stop (omega arith) c.entry-item.is c.loop-entry.invariant.only
+    c.loop-entry.invariant.done
+    c.write_file.ensures.only c.in-Err.ensures.err
 
 pub loop-entry-preserved : goal.loop-entry-preserved
 loop-entry-preserved g c = record {
   only = among_more c.args.writes.now c.loop-entry.entry-index c.entry-item.result _ _ _ (omega arith) c.entry-item.is c.loop-entry.invariant.only c.write_file.ensures.only c.write_file.ensures.later c.write_file.ensures.still;
-  rest = λ t. written_more c.args.writes.now c.loop-entry.entry-index c.entry-item.result _ _ (c.loop-entry.invariant.only.told ∙ t) c.deref.result.now _ c.deref.ensures.value (omega arith) c.entry-item.is c.in_default.ensures.ok (c.loop-entry.invariant.rest t);
+  done =
+      wrote_more c.args.writes.now c.loop-entry.entry-index c.entry-item.result (g.F.Files.state c.args.files.now) (g.F.Files.state c.loop-entry.files)
+      (g.F.Files.state c.write_file.new.files) c.deref.result.now c.deref.ensures.value (omega arith) c.entry-item.is c.loop-entry.invariant.only.told
+      c.loop-entry.invariant.done c.in_default.ensures.ok;
 }
 
-pub returns-clause-only : goal.returns-clause-only
-returns-clause-only g c = among_whole c.args.writes.now _ _ _ c.loop-entry.invariant.only
+pub returns-clause-ok : goal.returns-clause-ok
+returns-clause-ok g c =
+    wrote_all c.args.writes.now c.loop-entry.entry-index (g.F.Files.state c.args.files.now) (g.F.Files.state c.loop-entry.files) (omega arith)
+    c.loop-entry.invariant.done

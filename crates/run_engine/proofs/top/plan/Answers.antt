@@ -1,15 +1,26 @@
-use Rattle.run_engine.specs.Words.{question_of}
-use Rattle.run_engine.proofs.Judged.{found_nothing, found_text}
+use Rattle.run_engine.proofs.Obeying.{run_planned, deal_planned, check_planned, eval_planned, need_planned}
 use Rattle.run_engine.proofs.top.plan.Goals as goal
 
-pub returns-in-Run-clause-found : goal.returns-in-Run-clause-found
-unfolding question_of
-returns-in-Run-clause-found g c = λ t tells. rw c.in-Run.is (found_text (g.F.Files.state c.args.files.now).contents _ (c.plan_run.ensures.judged t tells))
+pub returns-in-Run : goal.returns-in-Run
+returns-in-Run g c =
+    rw c.in-Run.is (run_planned _ _ _ c.plan_run.ensures.files c.plan_run.ensures.anyhow _ c.plan_run.ensures.answer c.plan_run.ensures.judged
+    c.plan_run.ensures.names)
 
-pub returns-in-Deal-clause-found : goal.returns-in-Deal-clause-found
-unfolding question_of
-returns-in-Deal-clause-found g c = λ t tells. rw c.in-Deal.is (found_nothing (g.F.Files.state c.args.files.now).contents)
+pub returns-in-Deal : goal.returns-in-Deal
+returns-in-Deal g c =
+    rw c.in-Deal.is (deal_planned _ _ _ c.plan_deal.ensures.files c.plan_deal.ensures.anyhow _ c.plan_deal.ensures.answer c.plan_deal.ensures.names)
 
-pub returns-in-Check-clause-found : goal.returns-in-Check-clause-found
-unfolding question_of
-returns-in-Check-clause-found g c = λ t tells. rw c.in-Check.is (found_text (g.F.Files.state c.args.files.now).contents _ (c.plan_check.ensures.judged t tells))
+pub returns-in-Check : goal.returns-in-Check
+returns-in-Check g c =
+    rw c.in-Check.is (check_planned _ _ _ c.plan_check.ensures.files c.plan_check.ensures.anyhow _ c.plan_check.ensures.answer c.plan_check.ensures.judged
+    c.plan_check.ensures.names)
+
+pub returns-in-Eval : goal.returns-in-Eval
+returns-in-Eval g c =
+    rw c.in-Eval.is (eval_planned _ _ _ c.plan_eval.ensures.files c.plan_eval.ensures.anyhow _ c.plan_eval.ensures.answer c.plan_eval.ensures.found
+    c.plan_eval.ensures.names)
+
+pub returns-in-Need : goal.returns-in-Need
+returns-in-Need g c =
+    rw c.in-Need.is (need_planned _ _ _ c.plan_need.ensures.files c.plan_need.ensures.anyhow _ c.plan_need.ensures.answer c.plan_need.ensures.found
+    c.plan_need.ensures.names)

@@ -1,102 +1,98 @@
-use Rattle.command_frame.proofs.Wholes.{complete, carried_out, end_says_nothing, file_named, file_missed, file_in_order, write_cuts, memory_cuts}
-use Rattle.run_engine.specs.Eval.{eval_text, need_text, report_for}
-use Rattle.run_engine.proofs.Evals.{eval_answered, need_answered, report_printed, eval_refused_so, eval_answered_so}
-use Rattle.run_engine.proofs.Judged.{found_nothing}
-use Rattle.run_engine.proofs.Runs.{no_command, run_answered, run_printed, check_answered, check_printed, deal_answered, deal_written, run_answered_so, check_answered_so, refused_if, run_refused_only, check_refused_so, no_fault_refusal}
+use Rattle.command_frame.proofs.Wholes.{complete, carried_out, end_says_nothing, file_counted, file_missed, file_told, memory_cuts, memory_said, refused_prints_nothing, usage_of_unnamed, usage_said, usage_unnamed, write_counted, write_cuts, write_said}
+use Rattle.run_engine.proofs.Promises.{check_keeps, deal_gives, eval_keeps, need_keeps, run_keeps}
+use Rattle.run_engine.proofs.Runs.{no_command}
 use Rattle.run_engine.proofs.Sums.{miners_open}
-use Rattle.run_engine.proofs.Tops.{telling, no_memory, no_file}
+use Rattle.run_engine.proofs.Tops.{telling}
 use Rattle.run_engine.proofs.top.secrec.Goals as goal
+
+pub returns-clause-usage_only_without_command : goal.returns-clause-usage_only_without_command
+returns-clause-usage_only_without_command g c = rw c.ended_status.ensures (usage_unnamed _ _ _ _ _ c.act-ended.result c.act-ended.ensures.anyhow)
+
+pub returns-clause-usage_without_command : goal.returns-clause-usage_without_command
+returns-clause-usage_without_command g c = rw c.ended_status.ensures (usage_of_unnamed _ _ _ _ _ c.act-ended.result c.act-ended.ensures.anyhow)
+
+pub returns-clause-usage_said : goal.returns-clause-usage_said
+returns-clause-usage_said g c = rw c.ended_status.ensures (usage_said _ _ _ _ _ _ _ c.act-ended.result c.act-ended.ensures.anyhow c.say.ensures.said)
 
 pub returns-clause-answered : goal.returns-clause-answered
 returns-clause-answered g c = rw c.ended_status.ensures (λ t sound steady. c.act-ended.ensures.answered t (telling (g.F.Files.state c.args.files.now) c.act-ended.result sound steady))
 
+pub returns-clause-printed_if_answered : goal.returns-clause-printed_if_answered
+returns-clause-printed_if_answered g c = c.act-ended.ensures.out
+
 pub returns-clause-answer_carried_out : goal.returns-clause-answer_carried_out
 returns-clause-answer_carried_out g c = λ answer a.
-    rw c.ended_status.ensures (carried_out _ answer _ _ _ _ _ _ _ (no_command _ _ answer a) (c.act-ended.ensures.acts answer a) c.say.ensures)
+    rw c.ended_status.ensures (carried_out _ answer _ _ _ _ _ _ _ (no_command _ _ answer a) (c.act-ended.ensures.acts answer a) c.say.ensures.said)
 
-pub returns-clause-file_fault_named : goal.returns-clause-file_fault_named
-returns-clause-file_fault_named g c = rw c.ended_status.ensures (file_named _ _ _ _ _ _ _ _ _ c.act-ended.ensures.anyhow c.say.ensures c.act-ended.ensures.names)
+pub returns-clause-file_fault_counted : goal.returns-clause-file_fault_counted
+returns-clause-file_fault_counted g c = rw c.ended_status.ensures (file_counted _ _ _ _ _ c.act-ended.result c.act-ended.ensures.anyhow)
+
+pub returns-clause-file_fault_told : goal.returns-clause-file_fault_told
+returns-clause-file_fault_told g c =
+    rw c.ended_status.ensures (file_told _ _ _ _ _ _ _ _ _ _ c.act-ended.result c.act-ended.ensures.anyhow c.act-ended.ensures.stops c.say.ensures.said)
 
 pub returns-clause-file_missing_if_steady : goal.returns-clause-file_missing_if_steady
 returns-clause-file_missing_if_steady g c = λ answer a.
-    rw c.ended_status.ensures (file_missed _ answer _ _ _ _ _ _ _ _ (c.act-ended.ensures.acts answer a) c.say.ensures c.act-ended.ensures.names)
+    rw c.ended_status.ensures (file_missed _ answer _ _ _ _ _ _ _ _ _ c.act-ended.result (c.act-ended.ensures.acts answer a) c.act-ended.ensures.stops
+    c.say.ensures.said)
 
-pub returns-clause-file_fault_writes_in_order : goal.returns-clause-file_fault_writes_in_order
-returns-clause-file_fault_writes_in_order g c = λ answer a.
-    rw c.ended_status.ensures (file_in_order _ answer _ _ _ _ c.act-ended.result (c.act-ended.ensures.acts answer a))
+pub returns-clause-write_fault_counted : goal.returns-clause-write_fault_counted
+returns-clause-write_fault_counted g c = rw c.ended_status.ensures (write_counted _ _ _ _ _ c.act-ended.result c.act-ended.ensures.anyhow)
+
+pub returns-clause-write_fault_said : goal.returns-clause-write_fault_said
+returns-clause-write_fault_said g c = rw c.ended_status.ensures (write_said _ _ _ _ _ _ _ c.act-ended.result c.act-ended.ensures.anyhow c.say.ensures.said)
 
 pub returns-clause-write_fault_cuts_text : goal.returns-clause-write_fault_cuts_text
 returns-clause-write_fault_cuts_text g c = λ answer a.
     rw c.ended_status.ensures (write_cuts _ answer _ _ _ _ c.act-ended.result (c.act-ended.ensures.acts answer a))
+
+pub returns-clause-memory_said : goal.returns-clause-memory_said
+returns-clause-memory_said g c = rw c.ended_status.ensures (memory_said _ _ _ _ _ _ _ c.act-ended.result c.act-ended.ensures.anyhow c.say.ensures.said)
 
 pub returns-clause-memory_cuts_text : goal.returns-clause-memory_cuts_text
 returns-clause-memory_cuts_text g c = λ answer a.
     rw c.ended_status.ensures (memory_cuts _ answer _ _ _ _ c.act-ended.result (c.act-ended.ensures.acts answer a))
 
 pub returns-clause-end_says_nothing : goal.returns-clause-end_says_nothing
-returns-clause-end_says_nothing g c = rw c.ended_status.ensures (end_says_nothing _ _ _ c.say.ensures)
+returns-clause-end_says_nothing g c = rw c.ended_status.ensures (end_says_nothing _ _ c.act-ended.result c.say.ensures.said)
+
+pub returns-clause-refused_prints_nothing : goal.returns-clause-refused_prints_nothing
+returns-clause-refused_prints_nothing g c = rw c.ended_status.ensures (refused_prints_nothing _ _ _ _ _ c.act-ended.result c.act-ended.ensures.anyhow)
+
+pub returns-clause-files_only_as_answered : goal.returns-clause-files_only_as_answered
+returns-clause-files_only_as_answered g c = c.act-ended.ensures.files
+
+pub returns-clause-files_only_as_named : goal.returns-clause-files_only_as_named
+returns-clause-files_only_as_named g c = c.act-ended.ensures.only
 
 pub returns-clause-complete : goal.returns-clause-complete
-returns-clause-complete g c = λ answer a.
-    rw c.ended_status.ensures (complete _ answer _ _ _ _ _ (no_command _ _ answer a) (c.act-ended.ensures.acts answer a))
+returns-clause-complete g c = λ answer a steady.
+    rw c.ended_status.ensures (complete _ answer _ _ _ _ c.act-ended.result (no_command _ _ answer a) (c.act-ended.ensures.acts answer a) steady.0 steady.1)
 
-pub returns-clause-check_printed : goal.returns-clause-check_printed
-returns-clause-check_printed g c = λ ask tree asks holds fs os t.
-    let a = check_answered _ ask _ tree asks holds in
-    check_printed _ _ _ _ _ _ _ (λ sound. returns-clause-answer_carried_out g c _ a sound t) (returns-clause-complete g c _ a fs os t)
+pub returns-clause-checks : goal.returns-clause-checks
+returns-clause-checks g c = λ ask asks t.
+    check_keeps _ _ _ _ _ _ _ _ (returns-clause-answered g c t) (λ answer a sound. returns-clause-answer_carried_out g c answer a sound t)
+    (λ answer a steady. returns-clause-complete g c answer a steady t) ask asks
 
-pub returns-clause-check_refused_only : goal.returns-clause-check_refused_only
-returns-clause-check_refused_only g c = λ ask asks refusal unended t.
-    let sound = no_fault_refusal _ refusal in
-    let (answer, a) = returns-clause-answered g c t (no_memory _ sound) (no_file _ sound) in
-    check_refused_so _ ask answer _ _ _ _ _ _ _ asks a refusal unended (returns-clause-answer_carried_out g c answer a sound t)
+pub returns-clause-evaluates : goal.returns-clause-evaluates
+returns-clause-evaluates g c = λ ask asks t.
+    eval_keeps _ _ _ _ _ _ _ _ (returns-clause-answered g c t) (λ answer a sound. returns-clause-answer_carried_out g c answer a sound t)
+    (λ answer a steady. returns-clause-complete g c answer a steady t) ask asks
 
-pub returns-clause-check_refused_if : goal.returns-clause-check_refused_if
-returns-clause-check_refused_if g c = λ ask why asks out t.
-    let (answer, a, is) = check_answered_so _ ask _ why asks out in
-    refused_if answer why _ _ _ _ _ _ _ is (λ sound. returns-clause-answer_carried_out g c answer a sound t)
+pub returns-clause-tells_needs : goal.returns-clause-tells_needs
+returns-clause-tells_needs g c = λ ask asks t.
+    need_keeps _ _ _ _ _ _ _ _ (returns-clause-answered g c t) (λ answer a sound. returns-clause-answer_carried_out g c answer a sound t)
+    (λ answer a steady. returns-clause-complete g c answer a steady t) ask asks
 
-pub returns-clause-eval_printed : goal.returns-clause-eval_printed
-returns-clause-eval_printed g c = λ ask program entries asks holds fs os t.
-    let a = eval_answered _ ask _ program entries asks holds in
-    report_printed eval_text (report_for program entries ask.budget) _ _ _ _ _ _ _ (λ sound. returns-clause-answer_carried_out g c _ a sound t) (returns-clause-complete g c _ a fs os t)
-
-pub returns-clause-need_printed : goal.returns-clause-need_printed
-returns-clause-need_printed g c = λ ask program entries asks holds fs os t.
-    let a = need_answered _ ask _ program entries asks holds in
-    report_printed need_text (report_for program entries ask.budget) _ _ _ _ _ _ _ (λ sound. returns-clause-answer_carried_out g c _ a sound t) (returns-clause-complete g c _ a fs os t)
-
-pub returns-clause-eval_refused_only : goal.returns-clause-eval_refused_only
-returns-clause-eval_refused_only g c = λ ask asks refusal unended t.
-    let sound = no_fault_refusal _ refusal in
-    let (answer, a) = returns-clause-answered g c t (no_memory _ sound) (no_file _ sound) in
-    eval_refused_so _ ask answer _ _ _ _ _ _ _ asks a refusal unended (returns-clause-answer_carried_out g c answer a sound t)
-
-pub returns-clause-eval_refused_if : goal.returns-clause-eval_refused_if
-returns-clause-eval_refused_if g c = λ ask why asks out t.
-    let (answer, a, is) = eval_answered_so _ ask _ why asks out in
-    refused_if answer why _ _ _ _ _ _ _ is (λ sound. returns-clause-answer_carried_out g c answer a sound t)
-
-pub returns-clause-run_printed : goal.returns-clause-run_printed
-returns-clause-run_printed g c = λ ask sum entries tapes asks holds fs os t.
-    let a = run_answered _ ask _ sum entries tapes asks holds in
-    run_printed _ _ _ _ _ _ _ _ (λ sound. returns-clause-answer_carried_out g c _ a sound t) (returns-clause-complete g c _ a fs os t)
+pub returns-clause-runs : goal.returns-clause-runs
+returns-clause-runs g c = λ ask asks t.
+    run_keeps _ _ _ _ _ _ _ _ (returns-clause-answered g c t) (λ answer a sound. returns-clause-answer_carried_out g c answer a sound t)
+    (λ answer a steady. returns-clause-complete g c answer a steady t) ask asks
 
 pub returns-clause-sum_opened_by_miners : goal.returns-clause-sum_opened_by_miners
 returns-clause-sum_opened_by_miners g c = miners_open
 
-pub returns-clause-run_refused_only : goal.returns-clause-run_refused_only
-returns-clause-run_refused_only g c = λ ask asks refusal unended t.
-    let sound = no_fault_refusal _ refusal in
-    let (answer, a) = returns-clause-answered g c t (no_memory _ sound) (no_file _ sound) in
-    run_refused_only _ ask answer _ _ _ _ _ _ _ asks a refusal unended (returns-clause-answer_carried_out g c answer a sound t)
-
-pub returns-clause-run_refused_if : goal.returns-clause-run_refused_if
-returns-clause-run_refused_if g c = λ ask why asks out t.
-    let (answer, a, is) = run_answered_so _ ask _ why asks out in
-    refused_if answer why _ _ _ _ _ _ _ is (λ sound. returns-clause-answer_carried_out g c answer a sound t)
-
-pub returns-clause-deal_written : goal.returns-clause-deal_written
-returns-clause-deal_written g c = λ ask entries tapes asks holds most fs os t.
-    let a = deal_answered _ ask entries tapes _ asks holds most (found_nothing (g.F.Files.state c.args.files.now).contents) in
-    deal_written _ entries tapes _ _ _ _ _ _ _ (λ sound. returns-clause-answer_carried_out g c _ a sound t) (returns-clause-complete g c _ a fs os t)
+pub returns-clause-deals : goal.returns-clause-deals
+returns-clause-deals g c = λ ask asks t.
+    deal_gives _ _ _ _ _ _ _ _ (returns-clause-answered g c t) (λ answer a sound. returns-clause-answer_carried_out g c answer a sound t)
+    (λ answer a steady. returns-clause-complete g c answer a steady t) ask asks

@@ -1,0 +1,181 @@
+-- What a command did, from what its steps did.
+use Rattle.std.proofs.Common.{◌≡◌, ℕ, List, [], true, Some, None, Ok, Err, Result, subst, sym, ◌∙◌, inl, inr}
+use Rattle.std.specs.Prelude.{IfErr}
+use Rattle.std.specs.Result.{IsErrAnd}
+use Rattle.outside.specs.Files.{FilesState}
+use Rattle.outside.specs.Sink.{SinkState}
+use Rattle.front_end.specs.Judgement.{Judged}
+use Rattle.command_words.specs.Ask.{Ask, CheckAsk, DealAsk, EvalAsk, RunAsk, check, deal, eval, need, run, words_of}
+use Rattle.command_frame.specs.declared.plan.Plan.{Plan}
+use Rattle.command_frame.specs.declared.status.Status.{Status}
+use Rattle.command_frame.specs.declared.stop.Stop.{Stop}
+use Rattle.command_frame.specs.declared.stop.Stop.TheVariants as stops
+use Rattle.command_frame.specs.Answer.{Answer, effect_of, paths_in}
+use Rattle.command_frame.specs.Finish.{Finishes, OnlyAmong}
+use Rattle.command_frame.specs.Reads.{Gives, KeepsTo, OnlyRead, StopsReading}
+use Rattle.command_frame.specs.Whole.{EndsAs, StopsAtFile}
+use Rattle.command_frame.proofs.Wholes.{acts_anyhow, acts_as, among_written, ends_anyhow, ends_as, nothing_written, only_written, read_only, reading_stops, same_sink, stops_anyhow, stops_as, stops_so, unchanged, writing_stops}
+use Rattle.run_engine.specs.Check.{check_of, check_paths}
+use Rattle.run_engine.specs.Deal.{deal_of, deal_paths, written_paths}
+use Rattle.run_engine.specs.Eval.{eval_of, eval_paths, need_of}
+use Rattle.run_engine.specs.Judging.{Finding, FoundAt, HasFinding, HasJudgement, JudgedAt, Tells, its_size}
+use Rattle.run_engine.specs.Obeying.{Acted, CommandAnswers, Obeyed, Planned}
+use Rattle.run_engine.specs.Run.{run_of, run_paths}
+use Rattle.run_engine.specs.Words.{answer_to, question_of, reads_of, read_by, writes_of, written_by, IsAnswer}
+use Rattle.run_engine.proofs.Judged.{found_nothing, found_text}
+use Rattle.run_engine.proofs.Runs.{answer_of_usage, command_answers, has_answer, reads_by, writes_by}
+use Rattle.run_engine.proofs.Tops.{is_named, printed_so}
+
+-- ---- each command's own part
+
+module _ (f f' : FilesState) (r : Result Plan Stop) (read : OnlyRead f f') (anyhow : IfErr r (StopsReading f f')) where
+  pub run_planned : (ask : RunAsk) → ((judged : Judged) → JudgedAt (Some ask.program) f.contents judged → Gives effect_of f f' r (run_of judged ask f.contents))
+      → (f.told ≡ true → Tells f r → HasJudgement (Some ask.program) f.contents) → KeepsTo (run_paths ask) [] r → Planned (run ask) f f' r
+  unfolding answer_to question_of reads_of writes_of
+  run_planned ask answer judged keeps = record {
+    files = read;
+    anyhow = anyhow;
+    answer = λ found at. answer found.judged at;
+    found = λ t tells. found_text f.contents ask.program (judged t tells);
+    keeps = keeps;
+  }
+
+  pub check_planned : (ask : CheckAsk)
+      → ((judged : Judged) → JudgedAt (Some ask.program) f.contents judged → Gives effect_of f f' r (check_of judged ask f.contents))
+      → (f.told ≡ true → Tells f r → HasJudgement (Some ask.program) f.contents) → KeepsTo (check_paths ask) [] r → Planned (check ask) f f' r
+  unfolding answer_to question_of reads_of writes_of
+  check_planned ask answer judged keeps = record {
+    files = read;
+    anyhow = anyhow;
+    answer = λ found at. answer found.judged at;
+    found = λ t tells. found_text f.contents ask.program (judged t tells);
+    keeps = keeps;
+  }
+
+  pub deal_planned : (ask : DealAsk) → Gives effect_of f f' r (deal_of ask f.contents) → KeepsTo (deal_paths ask) (written_paths ask.to) r
+      → Planned (deal ask) f f' r
+  unfolding answer_to question_of reads_of writes_of
+  deal_planned ask answer keeps = record {
+    files = read;
+    anyhow = anyhow;
+    answer = λ found at. answer;
+    found = λ t tells. found_nothing f.contents;
+    keeps = keeps;
+  }
+
+  pub eval_planned : (ask : EvalAsk)
+      → ((found : Finding) → FoundAt (its_size ask.program) f.contents found → Gives effect_of f f' r (eval_of found ask f.contents))
+      → (f.told ≡ true → Tells f r → HasFinding (its_size ask.program) f.contents) → KeepsTo (eval_paths ask) [] r → Planned (eval ask) f f' r
+  unfolding answer_to question_of reads_of writes_of
+  eval_planned ask answer found keeps = record {
+    files = read;
+    anyhow = anyhow;
+    answer = answer;
+    found = found;
+    keeps = keeps;
+  }
+
+  pub need_planned : (ask : EvalAsk)
+      → ((found : Finding) → FoundAt (its_size ask.program) f.contents found → Gives effect_of f f' r (need_of found ask f.contents))
+      → (f.told ≡ true → Tells f r → HasFinding (its_size ask.program) f.contents) → KeepsTo (eval_paths ask) [] r → Planned (need ask) f f' r
+  unfolding answer_to question_of reads_of writes_of
+  need_planned ask answer found keeps = record {
+    files = read;
+    anyhow = anyhow;
+    answer = answer;
+    found = found;
+    keeps = keeps;
+  }
+
+-- ---- a whole command
+
+obeyed_at : (ask : Ask) (f f' : FilesState) (o : SinkState) (stop : Stop) → Planned ask f f' (Err stop) → Obeyed ask f f' o o (Err stop)
+obeyed_at ask f f' o stop p = record {
+  anyhow = stops_anyhow f f' o stop p.files p.anyhow;
+  ends = λ answer a. subst (λ (x : Answer). EndsAs x f f' o o (Err stop)) a.2 (stops_as (answer_to a.0 ask f.contents) f f' o stop p.files (p.answer a.0 a.1));
+  files = λ answer a. read_only answer f f' p.files;
+  only = nothing_written (writes_of ask) f f' p.files;
+  stops = reading_stops (reads_of ask) (writes_of ask) (CommandAnswers ask f.contents) f f' stop p.files p.keeps;
+  found = p.found;
+  out = inl (same_sink o);
+}
+
+pub obeyed_stop : (ask : Ask) (f f' : FilesState) (o : SinkState) (stop : Stop) (r : Result Status Stop) → IsErrAnd r (λ given. given ≡ stop)
+    → Planned ask f f' (Err stop) → Obeyed ask f f' o o r
+obeyed_stop ask f f' o stop (Ok s) is p = absurd is
+obeyed_stop ask f f' o stop (Err given) is p = subst (λ (x : Stop). Obeyed ask f f' o o (Err x)) (sym is) (obeyed_at ask f f' o stop p)
+
+-- what is decided is the plan's effect
+decided : (ask : Ask) (f m : FilesState) (plan : Plan) → Planned ask f m (Ok plan) → (answer : Answer) → CommandAnswers ask f.contents answer
+    → f.told ≡ true → answer ≡ Ok (effect_of plan)
+decided ask f m plan p answer a t = sym a.2 ∙ p.answer a.0 a.1 t
+
+finish_stops : (ask : Ask) (f m f' : FilesState) (o o' : SinkState) (plan : Plan) (r : Result Status Stop) → Planned ask f m (Ok plan)
+    → Finishes (effect_of plan) m f' o o' r
+    → IfErr r (StopsAtFile (reads_of ask) (writes_of ask) (CommandAnswers ask f.contents) f f')
+finish_stops ask f m f' o o' plan (Ok s) p finishes = tt
+finish_stops ask f m f' o o' plan (Err stop) p finishes =
+    writing_stops (reads_of ask) (writes_of ask) (CommandAnswers ask f.contents) plan f m f' o o' stop p.files p.keeps (decided ask f m plan p) finishes
+
+pub obeyed_end : (ask : Ask) (f m f' : FilesState) (o o' : SinkState) (plan : Plan) (r : Result Status Stop) → Planned ask f m (Ok plan)
+    → OnlyAmong (paths_in (effect_of plan).writes) m f' → Finishes (effect_of plan) m f' o o' r → Obeyed ask f f' o o' r
+obeyed_end ask f m f' o o' plan r p among finishes = record {
+  anyhow = ends_anyhow (effect_of plan) f m f' o o' r p.files plan.ends finishes;
+  ends = λ answer a. ends_as answer (effect_of plan) f m f' o o' r p.files (decided ask f m plan p answer a) plan.ends finishes;
+  files = λ answer a. only_written answer (effect_of plan) f m f' p.files (decided ask f m plan p answer a) among;
+  only = among_written (writes_of ask) plan f m f' p.files p.keeps among;
+  stops = finish_stops ask f m f' o o' plan r p finishes;
+  found = λ t tells. p.found t tt;
+  out = inr (λ t. p.found t tt);
+}
+
+-- ---- what the words ask for
+
+named_stops : (words : List (List ℕ)) (ask : Ask) (f f' : FilesState) (r : Result Status Stop) → words_of words ≡ Some ask
+    → IfErr r (StopsAtFile (reads_of ask) (writes_of ask) (CommandAnswers ask f.contents) f f')
+    → IfErr r (StopsAtFile (read_by words) (written_by words) (IsAnswer words f.contents) f f')
+named_stops words ask f f' (Ok s) e stops = tt
+named_stops words ask f f' (Err stop) e stops =
+    rw (reads_by words ask e, writes_by words ask e)
+    (stops_so (reads_of ask) (writes_of ask) (CommandAnswers ask f.contents) (IsAnswer words f.contents) f f' stop
+    (λ answer a. command_answers words ask f.contents answer e a) stops)
+
+pub acted_obeyed : (words : List (List ℕ)) (ask : Ask) (f f' : FilesState) (o o' : SinkState) (r : Result Status Stop) → words_of words ≡ Some ask
+    → Obeyed ask f f' o o' r → Acted words f f' o o' r
+acted_obeyed words ask f f' o o' r e b = record {
+  anyhow = acts_anyhow (words_of words) f f' o o' r (is_named words ask e) b.anyhow;
+  acts = λ answer a. acts_as (words_of words) answer f f' o o' r (is_named words ask e) (b.ends answer (command_answers words ask f.contents answer e a));
+  files = λ answer a. b.files answer (command_answers words ask f.contents answer e a);
+  only = rw (writes_by words ask e) b.only;
+  stops = named_stops words ask f f' r e b.stops;
+  answered = λ t tells. has_answer words ask f.contents e (b.found t tells);
+  out = printed_so words ask f o o' e b.out;
+}
+
+no_file_usage : (reads written : List (List ℕ)) (Answers : Answer → Type 0) (f f' : FilesState) → StopsAtFile reads written Answers f f' stops.Usage
+no_file_usage reads written Answers f f' = record { named = λ line is. absurd cc }
+
+no_file_memory : (reads written : List (List ℕ)) (Answers : Answer → Type 0) (f f' : FilesState) → StopsAtFile reads written Answers f f' stops.Memory
+no_file_memory reads written Answers f f' = record { named = λ line is. absurd cc }
+
+pub acted_usage : (words : List (List ℕ)) (f : FilesState) (o : SinkState) → words_of words ≡ None → Acted words f f o o (Err stops.Usage)
+acted_usage words f o none = record {
+  anyhow = (none, same_sink o, (unchanged f).same);
+  acts = λ answer a. (none, same_sink o, (unchanged f).same);
+  files = λ answer a. read_only answer f f (unchanged f);
+  only = nothing_written (written_by words) f f (unchanged f);
+  stops = no_file_usage (read_by words) (written_by words) (IsAnswer words f.contents) f f;
+  answered = λ t tells. answer_of_usage words f.contents none (found_nothing f.contents);
+  out = inl (same_sink o);
+}
+
+pub acted_memory : (words : List (List ℕ)) (f : FilesState) (o : SinkState) → Acted words f f o o (Err stops.Memory)
+acted_memory words f o = record {
+  anyhow = tt;
+  acts = λ answer a. inl (same_sink o);
+  files = λ answer a. read_only answer f f (unchanged f);
+  only = nothing_written (written_by words) f f (unchanged f);
+  stops = no_file_memory (read_by words) (written_by words) (IsAnswer words f.contents) f f;
+  answered = λ t tells. absurd tells;
+  out = inl (same_sink o);
+}

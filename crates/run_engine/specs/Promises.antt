@@ -1,0 +1,58 @@
+-- What each command promises: its effect over files that are as they must be, and for which files it is refused.
+use Rattle.std.specs.Prelude.{◌≡◌, ◌⊎◌, ◌≤◌, ℕ, List, length, true, false}
+use Rattle.outside.specs.Files.{Contents, FilesState}
+use Rattle.outside.specs.Sink.{SinkState}
+use Rattle.secrec_ast.specs.Programs.{ProgramTree}
+use Rattle.command_frame.specs.declared.status.Status.{Status}
+use Rattle.command_frame.specs.declared.status.Status.TheVariants.{Memory}
+use Rattle.command_frame.specs.Answer.{Effect}
+use Rattle.command_frame.specs.Status.{is_end, is_fault, is_refusal}
+use Rattle.command_frame.specs.Whole.{IsDone}
+use Rattle.command_words.specs.Ask.{CheckAsk, DealAsk, EvalAsk, RunAsk}
+use Rattle.input_share.specs.Dealing.{need_of}
+use Rattle.language_model.specs.Reports.{Report}
+use Rattle.tape_file.specs.Tapes.{FourTapes}
+use Rattle.typed_tree.specs.Programs.{TypedProgramTree}
+use Rattle.value_file.specs.declared.inputs.Entry.{Entry}
+use Rattle.run_engine.specs.Check.{check_effect}
+use Rattle.run_engine.specs.Deal.{deal_effect}
+use Rattle.run_engine.specs.Eval.{report_effect, report_for}
+use Rattle.run_engine.specs.Outcome.{outcome_of}
+use Rattle.run_engine.specs.Run.{run_effect}
+use Rattle.run_engine.specs.Runs.{HoldsProgram, HoldsEvaluation, HoldsRun, HoldsDeal}
+use Rattle.run_engine.specs.SumProgram.{SumProgram}
+
+-- files and output are steady
+abbrev pub AllSteady : FilesState → SinkState → Type 0
+AllSteady f o = (f.steady ≡ true) × (o.steady ≡ true)
+
+-- over steady objects the wanted effect is there whole, or memory ran out
+abbrev pub Gives : (Effect → Type 0) → FilesState → FilesState → SinkState → SinkState → Status → Type 0
+Gives Wanted f f' o o' given = (effect : Effect) → Wanted effect → AllSteady f o → IsDone effect f f' o o' given ⊎ (given ≡ Memory)
+
+-- what a command keeps, where the store tells what it holds: its effect, and that it is refused exactly for the files that are not as they must be
+pub record Keeps (Wanted : Effect → Type 0) (Refused : Status → Type 0) (f f' : FilesState) (o o' : SinkState) (given : Status) : Type 0 where
+  pub gives : Gives Wanted f f' o o' given
+  pub refused_only : is_refusal given ≡ true → is_end given ≡ false → Refused given
+  pub refused_if : (status : Status) → Refused status → (given ≡ status) ⊎ (is_fault given ≡ true)
+
+-- ---- the effects
+
+-- of `check`, over an accepted program
+abbrev pub CheckEffect : CheckAsk → Contents → Effect → Type 0
+CheckEffect ask files effect = (tree : ProgramTree) × HoldsProgram ask.program files tree × (effect ≡ check_effect)
+
+-- of `eval` and `need`, over an accepted program within the limits and a good input: a text of the evaluation in the clear, and its end
+abbrev pub EvalEffect : (Report → List ℕ) → EvalAsk → Contents → Effect → Type 0
+EvalEffect text ask files effect = (program : TypedProgramTree) × (entries : List Entry) × HoldsEvaluation ask files program entries
+    × (effect ≡ report_effect text (report_for program entries ask.budget))
+
+-- of `run`, over files that are all as they must be: the text of the run, and its end
+abbrev pub RunEffect : RunAsk → Contents → Effect → Type 0
+RunEffect ask files effect = (sum : SumProgram) × (entries : List Entry) × (tapes : FourTapes) × HoldsRun ask files sum entries tapes
+    × (effect ≡ run_effect (outcome_of sum entries tapes ask.budget))
+
+-- of `deal`, over files that are as they must be and a dealer's tape that has words enough: its six files
+abbrev pub DealEffect : DealAsk → Contents → Effect → Type 0
+DealEffect ask files effect = (entries : List Entry) × (tapes : FourTapes) × HoldsDeal ask files entries tapes × (need_of entries ≤ length tapes.dealer)
+    × (effect ≡ deal_effect ask.to entries tapes)
