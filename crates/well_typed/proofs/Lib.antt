@@ -9,3 +9,4 @@ pub mod Values
 pub mod Statements
 pub mod Functions
 pub mod Reaching
+pub mod Samples
