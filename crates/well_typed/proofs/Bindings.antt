@@ -1,10 +1,10 @@
 -- Domains on both sides: what operations make of them, and what a call binds domain variables to.
 use Rattle.std.proofs.Common.{◌≡◌, ℕ, zero, suc, ◌+◌, ◌<◌, ◌≤◌, List, [], ◌∷◌, ◌++◌, length, take, refl, sym, ap, ap₂, ◌∙◌, subst, Option, Some, None, Bool, true, false, cond, eq-eqb, arith}
-use Rattle.std.specs.Prelude.{map, nat_eq, bytes_eq, option_map, option_and_then, ◌||◌, unwrap_or}
+use Rattle.std.specs.Prelude.{map, nat_eq, bytes_eq, option_map, option_and_then}
 use Rattle.std.specs.List.{slice_get}
 use Rattle.std.proofs.lemmas.Bool.{eqb-true, or_parts}
 use Rattle.std.proofs.lemmas.Option.{same_Some}
-use Rattle.std.proofs.lemmas.List.{map-append, take_all, length-map}
+use Rattle.std.proofs.lemmas.List.{map-append, take_all}
 use Rattle.secrec_ast.specs.declared.statement.Domain.{Domain}
 use Rattle.secrec_ast.specs.declared.statement.Domain.TheVariants as domain
 use Rattle.secrec_ast.specs.declared.statement.DeclaredType.{DeclaredType}
@@ -23,7 +23,6 @@ use Rattle.domain_types.specs.Typing as typing
 use Rattle.typed_tree.specs.declared.kinds.SlotDomain.{SlotDomain}
 use Rattle.typed_tree.specs.declared.kinds.SlotDomain.TheVariants as slot
 use Rattle.typed_tree.specs.declared.kinds.Slot.{Slot}
-use Rattle.typed_tree.specs.Values.{of_both}
 use Rattle.typed_tree.specs.Functions.{variable_number, domain_named, slot_domain, slot_in, slot_written, and_slots, slots_written}
 use Rattle.typed_tree.proofs.SoundValues.{mapped, both_there, some_is}
 use Rattle.reached_instances.specs.declared.instance.BoundDomain.{BoundDomain}

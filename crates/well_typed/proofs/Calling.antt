@@ -1,6 +1,6 @@
 -- Calls: of built-in functions, and of a function of the program, whose head is read under the domains that the call binds.
-use Rattle.std.proofs.Common.{◌≡◌, ℕ, zero, suc, ◌+◌, List, [], ◌∷◌, ◌++◌, inl, inr, length, take, refl, sym, ap, ap₂, ◌∙◌, subst, Option, Some, None, Bool, true, false, cond, is_some, arith}
-use Rattle.std.specs.Prelude.{map, nat_eq, option_map, IsTrue}
+use Rattle.std.proofs.Common.{◌≡◌, ℕ, suc, List, [], ◌∷◌, inl, inr, length, take, refl, sym, ap, ap₂, ◌∙◌, subst, Option, Some, None}
+use Rattle.std.specs.Prelude.{map}
 use Rattle.std.specs.List.{slice_get}
 use Rattle.std.proofs.lemmas.List.{length-map}
 use Rattle.sc_text.specs.declared.span.Span.{Span}
@@ -16,24 +16,22 @@ use Rattle.domain_types.specs.declared.value_type.ExpressionType.{ExpressionType
 use Rattle.domain_types.specs.declared.value_type.ExpressionType.TheVariants.{Void, Value}
 use Rattle.domain_types.specs.declared.value_type.BuiltIn.{BuiltIn}
 use Rattle.domain_types.specs.declared.value_type.BuiltIn.TheVariants.{Size, Cat, Sum, BitExtract}
-use Rattle.domain_types.specs.Types.{public_scalar, scalar_of}
-use Rattle.domain_types.specs.Declarations.{Declared, Setting, declared_by, functions_of, domain_of, in_domain, type_written, Callee, built_in, defined, callee}
+use Rattle.domain_types.specs.Declarations.{Declared, Setting, declared_by, functions_of, domain_of, in_domain, type_written, defined, callee}
 use Rattle.domain_types.specs.Scopes as checked
-use Rattle.domain_types.specs.ExpressionTypes.{array_of, within, with_domain, binding_by, defined_faults, result_type}
+use Rattle.domain_types.specs.ExpressionTypes.{within, with_domain, binding_by, defined_faults, result_type}
 use Rattle.domain_types.specs.FunctionTypes as head
 use Rattle.domain_types.specs.Least.{Among}
 use Rattle.domain_types.specs.Reached.{Call, Instance, Calls, IsChecked, reached, function_calls, call_of}
-use Rattle.domain_types.specs.Reached as instances
-use Rattle.domain_types.specs.Typing.{IsBuiltInCall, ParameterTakes, ParametersTake, AreBound, AreParameters, IsDefinedCall, IsTypedFunction, IsTypedProgram}
+use Rattle.domain_types.specs.Typing.{IsBuiltInCall, ParameterTakes, ParametersTake, AreBound, AreParameters, IsDefinedCall, IsTypedProgram}
 use Rattle.domain_types.proofs.TypingSteps.{there, passes}
 use Rattle.domain_types.proofs.TypingCalls.{defined_from}
 use Rattle.typed_tree.specs.declared.kinds.Shape.{Shape}
 use Rattle.typed_tree.specs.declared.kinds.Slot.{Slot}
 use Rattle.typed_tree.specs.declared.function.Given.{Given}
 use Rattle.typed_tree.specs.declared.function.Given.TheVariants as given
-use Rattle.typed_tree.specs.Tree.{TypedTree, TypedTrees, call_node, typed_trees_of}
+use Rattle.typed_tree.specs.Tree.{TypedTrees, call_node, typed_trees_of}
 use Rattle.typed_tree.specs.Programs.{TypedFunctionTree}
-use Rattle.typed_tree.specs.Values.{TypedValue, TypedCall, shape_of, shape_returned, tree_of_value, built_in_value, called}
+use Rattle.typed_tree.specs.Values.{TypedValue, TypedCall, shape_of, shape_returned, tree_of_value, built_in_value}
 use Rattle.typed_tree.specs.Order as order
 use Rattle.typed_tree.specs.Functions.{slot_written, slots_written, given_back, typed_functions, with_functions}
 use Rattle.typed_tree.proofs.SoundValues.{callee_there, mapped, some_is}
@@ -45,7 +43,7 @@ use Rattle.well_typed.specs.Kinds.{GoesTo}
 use Rattle.well_typed.specs.Expressions.{Gives, AreTaken, shape_given}
 use Rattle.well_typed.specs.Laws.{bound_domain, IsCheckedInstance}
 use Rattle.well_typed.proofs.Bindings.{goes, own_numbers, declared_type, argument_domain, slots_first, bound_count, binding_same}
-use Rattle.well_typed.proofs.SlotsWritten.{shape_in, SlotIs, slot_same, slots_count, take_front}
+use Rattle.well_typed.proofs.SlotsWritten.{shape_in, slot_same, slots_count, take_front}
 use Rattle.well_typed.proofs.Heads.{IsMade, is_made, is_head, function_at}
 use Rattle.well_typed.proofs.Typed.{Good, AllGood, good_as, gives_as, good_size, good_cat, good_sum, good_bits, AreChecked, none_checked, both_checked}
 

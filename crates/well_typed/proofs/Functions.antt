@@ -1,6 +1,6 @@
 -- A function that the checker checked with some domains is well typed under the binding of just these.
-use Rattle.std.proofs.Common.{◌≡◌, ℕ, zero, suc, ◌+◌, ◌≤◌, List, [], ◌∷◌, ◌++◌, length, refl, sym, ap, ap₂, ◌∙◌, subst, Option, Some, None, Bool, true, false, arith}
-use Rattle.std.specs.Prelude.{map, IsTrue}
+use Rattle.std.proofs.Common.{◌≡◌, ℕ, zero, suc, ◌≤◌, List, [], ◌∷◌, length, refl, sym, ap, ◌∙◌, subst, Some, Bool, false, arith}
+use Rattle.std.specs.Prelude.{map}
 use Rattle.std.specs.List.{slice_get}
 use Rattle.std.proofs.lemmas.Option.{same_Some}
 use Rattle.std.proofs.lemmas.List.{length-map, length-append}
@@ -9,7 +9,7 @@ use Rattle.secrec_ast.specs.declared.function.Parameter.{Parameter}
 use Rattle.secrec_ast.specs.declared.function.ResultType.{ResultType}
 use Rattle.secrec_ast.specs.declared.function.ResultType.TheVariants as result
 use Rattle.secrec_ast.specs.Programs.{FunctionTree, ProgramTree}
-use Rattle.domain_types.specs.Declarations.{Setting, declared_by, functions_of}
+use Rattle.domain_types.specs.Declarations.{declared_by, functions_of}
 use Rattle.domain_types.specs.Scopes as checked
 use Rattle.domain_types.specs.FunctionTypes as head
 use Rattle.domain_types.specs.StatementTypes as checker
@@ -23,9 +23,7 @@ use Rattle.typed_tree.specs.Programs.{TypedFunctionTree, TypedProgramTree}
 use Rattle.typed_tree.specs.Functions.{slot_written, slots_written, given_back, with_parameters, typed_function, typed_functions}
 use Rattle.typed_tree.specs.Order as order
 use Rattle.typed_tree.proofs.SoundValues.{mapped, some_is}
-use Rattle.reached_instances.specs.declared.instance.BoundDomain.{BoundDomain}
 use Rattle.reached_instances.specs.Instances.{Instance}
-use Rattle.reached_instances.specs.Domains as domains
 use Rattle.reached_instances.specs.Calls.{commands_calls, function_calls, called_by}
 use Rattle.program_typing.proofs.ReachedFunctions.{reached_agree}
 use Rattle.well_typed.specs.Sources.{MayStandAll, AreWellWritten, IsWellWritten}

@@ -1,6 +1,6 @@
 -- Each instance that `main` reaches was checked, and so is well typed.
-use Rattle.std.proofs.Common.{◌≡◌, ℕ, zero, suc, ◌+◌, List, [], ◌∷◌, ◌++◌, inl, inr, length, refl, sym, ap, ap₂, ◌∙◌, subst, Option, Some, None, Bool, true, false, cond, arith}
-use Rattle.std.specs.Prelude.{map, codes, bytes_eq, ◌&&◌, ◌||◌}
+use Rattle.std.proofs.Common.{◌≡◌, ℕ, zero, suc, ◌+◌, List, [], ◌∷◌, inl, inr, length, refl, sym, ap, ◌∙◌, subst, Option, Some, None, Bool, true, false, cond}
+use Rattle.std.specs.Prelude.{codes, bytes_eq, ◌&&◌, ◌||◌}
 use Rattle.std.specs.List.{slice_get}
 use Rattle.std.proofs.lemmas.Bool.{and_parts}
 use Rattle.secrec_ast.specs.declared.function.DomainVariable.{DomainVariable}
@@ -8,31 +8,30 @@ use Rattle.secrec_ast.specs.declared.function.Parameter.{Parameter}
 use Rattle.secrec_ast.specs.declared.function.ResultType.{ResultType}
 use Rattle.secrec_ast.specs.declared.function.ResultType.TheVariants as result
 use Rattle.secrec_ast.specs.Programs.{FunctionTree, ProgramTree}
-use Rattle.domain_types.specs.Declarations.{Declared, declared_by, functions_of, Callee, built_in, defined, built_in_named, function_named, callee_or_function, callee}
+use Rattle.domain_types.specs.Declarations.{Declared, declared_by, functions_of, defined, function_named, callee}
 use Rattle.domain_types.specs.Least.{Among}
 use Rattle.domain_types.specs.Reached.{plain}
 use Rattle.domain_types.specs.ProgramTypes.{is_without, is_void, is_main, has_main}
 use Rattle.domain_types.specs.Typing.{IsTypedProgram}
-use Rattle.typed_tree.specs.declared.function.Given.{Given}
 use Rattle.typed_tree.specs.declared.function.Given.TheVariants as given
 use Rattle.typed_tree.specs.Programs.{TypedFunctionTree, TypedProgramTree}
-use Rattle.typed_tree.specs.Functions.{given_back, typed_function, typed_functions, program_of, typed_of}
+use Rattle.typed_tree.specs.Functions.{given_back, typed_function, typed_functions, program_of}
 use Rattle.typed_tree.specs.Order as order
 use Rattle.typed_tree.specs.Order.{is_found, with_callee, read_one, known_after}
 use Rattle.typed_tree.proofs.SoundValues.{mapped, some_is, callee_there}
 use Rattle.reached_instances.specs.declared.instance.BoundDomain.{BoundDomain}
 use Rattle.reached_instances.specs.Domains.{bound_below, binding_of}
 use Rattle.reached_instances.specs.Instances.{Instance}
-use Rattle.reached_instances.specs.Calls.{called, called_by, main_of}
+use Rattle.reached_instances.specs.Calls.{called, main_of}
 use Rattle.reached_instances.specs.Reached.{IsReached, begins, follows}
 use Rattle.program_typing.proofs.ReachedFunctions.{text_is, text_same, at_extended, extends_read}
 use Rattle.program_typing.proofs.TreesOfPrograms.{main_is_main}
 use Rattle.well_typed.specs.Sources.{IsWellWritten}
 use Rattle.well_typed.specs.Programs.{HasPlainMain, IsWellTyped}
-use Rattle.well_typed.specs.Laws.{bound_domain, IsCheckedInstance, IsWellTypedWhereAccepted, AreInstancesChecked}
+use Rattle.well_typed.specs.Laws.{IsCheckedInstance, IsWellTypedWhereAccepted, AreInstancesChecked}
 use Rattle.well_typed.proofs.Heads.{IsMade, is_made, function_at}
 use Rattle.well_typed.proofs.Calling.{known_in}
-use Rattle.well_typed.proofs.Functions.{GoodInstance, good_instance}
+use Rattle.well_typed.proofs.Functions.{good_instance}
 
 abbrev main_text : List ℕ
 main_text = codes "main"

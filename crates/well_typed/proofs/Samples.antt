@@ -1,5 +1,5 @@
 -- A program with a private call, for which all premises of the laws are proved, and what the laws say of it.
-use Rattle.std.proofs.Common.{◌≡◌, ℕ, zero, suc, ◌<◌, List, [], ◌∷◌, ◌⊎◌, inl, inr, refl, sym, ap, ap₂, ◌∙◌, subst, Option, Some, None, Bool, true, false, arith}
+use Rattle.std.proofs.Common.{◌≡◌, ℕ, zero, suc, List, [], ◌∷◌, ◌⊎◌, inl, inr, refl, sym, ap, ap₂, ◌∙◌, subst, Some, None, false, arith}
 use Rattle.std.specs.Prelude.{codes}
 use Rattle.std.specs.List.{slice_get}
 use Rattle.std.proofs.lemmas.Option.{same_Some}
@@ -11,10 +11,9 @@ use Rattle.secrec_ast.specs.declared.statement.Domain.TheVariants as domain
 use Rattle.secrec_ast.specs.declared.statement.Identifier.{Identifier}
 use Rattle.secrec_ast.specs.declared.statement.DeclaredType.{DeclaredType}
 use Rattle.secrec_ast.specs.declared.function.ResultType.TheVariants as result
-use Rattle.secrec_ast.specs.Tree.{Tree, number, variable, call, binary, declassify, argument, publish, trees_of}
+use Rattle.secrec_ast.specs.Tree.{number, variable, call, binary, declassify, argument, publish, trees_of}
 use Rattle.secrec_ast.specs.Statements.{returns, declaration, evaluation, statements_of}
 use Rattle.secrec_ast.specs.Programs.{FunctionTree, imports, domain as domains_item, defines, ProgramTree}
-use Rattle.domain_types.specs.declared.value_type.Protection.{Protection}
 use Rattle.domain_types.specs.declared.value_type.Protection.TheVariants as checked
 use Rattle.domain_types.specs.declared.value_type.ValueType.{ValueType}
 use Rattle.domain_types.specs.declared.value_type.ExpressionType.TheVariants.{Void}
@@ -25,7 +24,6 @@ use Rattle.domain_types.specs.Least.{Among}
 use Rattle.domain_types.specs.Reached.{Call, Instance, Calls, IsChecked, plain, reached, function_calls}
 use Rattle.domain_types.specs.Typing.{IsTypedFunction, AreDomainVariables, IsTypedProgram}
 use Rattle.typed_tree.specs.declared.kinds.SlotDomain.TheVariants as slot
-use Rattle.typed_tree.specs.declared.kinds.Slot.{Slot}
 use Rattle.typed_tree.specs.declared.function.Given.TheVariants.{Nothing, Value}
 use Rattle.typed_tree.specs.declared.operators.WordOperator.TheVariants as word
 use Rattle.typed_tree.specs.declared.operators.BinaryOperator.TheVariants.{Words}

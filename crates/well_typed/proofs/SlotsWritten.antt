@@ -21,7 +21,7 @@ use Rattle.typed_tree.specs.Values.{shape_of, of_both}
 use Rattle.typed_tree.specs.Functions.{variable_number, domain_named, slot_domain, slot_in, slot_written, and_slots, slots_written, with_functions}
 use Rattle.typed_tree.proofs.SoundValues.{mapped, some_is}
 use Rattle.reached_instances.specs.declared.instance.BoundDomain.{BoundDomain}
-use Rattle.reached_instances.specs.declared.instance.BoundDomain.TheVariants.{Public, Private}
+use Rattle.reached_instances.specs.declared.instance.BoundDomain.TheVariants.{Public}
 use Rattle.reached_instances.specs.Domains.{domain_under}
 use Rattle.program_typing.proofs.TreesOfFunctions.{unbound}
 use Rattle.well_typed.specs.Laws.{bound_domain}

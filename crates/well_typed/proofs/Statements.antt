@@ -1,6 +1,6 @@
 -- Statements: what the checker has typed is well typed where it stands, and returns where that returns.
-use Rattle.std.proofs.Common.{◌≡◌, ℕ, zero, suc, ◌+◌, ◌<◌, List, [], ◌∷◌, ◌++◌, ◌⊎◌, inl, inr, length, refl, sym, ap, ap₂, ◌∙◌, subst, Option, Some, None, Bool, true, false, arith}
-use Rattle.std.specs.Prelude.{map, ◌||◌, ◌&&◌, IsTrue, ◌^◌}
+use Rattle.std.proofs.Common.{◌≡◌, ℕ, List, [], ◌∷◌, ◌++◌, ◌⊎◌, inl, inr, length, refl, sym, ap, ap₂, ◌∙◌, subst, Option, Some, None, Bool, true, false, arith}
+use Rattle.std.specs.Prelude.{◌||◌, ◌&&◌, IsTrue}
 use Rattle.std.specs.List.{slice_get}
 use Rattle.sc_text.specs.declared.span.Span.{Span}
 use Rattle.secrec_ast.specs.declared.expression.DataType.{DataType}
@@ -12,7 +12,7 @@ use Rattle.secrec_ast.specs.declared.function.ResultType.TheVariants as result
 use Rattle.secrec_ast.specs.Tree.{Tree, Trees, number, truth, variable, call, index, parentheses, negation, cast, binary, declassify, argument, publish}
 use Rattle.secrec_ast.specs.Statements.{DeclarationTree, AssignmentTree, StartTree, starts_with_nothing, starts_with_declaration, starts_with_assignment, StepTree, steps_by_nothing, steps_by_assignment, steps_by_expression, StatementTree, block, empty, branch, choice, while_loop, do_loop, for_loop, breaks, continues, returns, assertion, declaration, assignment, evaluation, StatementTrees}
 use Rattle.secrec_ast.specs.Statements as Statements'
-use Rattle.secrec_ast.specs.Programs.{FunctionTree, ProgramTree}
+use Rattle.secrec_ast.specs.Programs.{ProgramTree}
 use Rattle.domain_types.specs.declared.value_type.ValueType.{ValueType}
 use Rattle.domain_types.specs.declared.value_type.ExpressionType.{ExpressionType}
 use Rattle.domain_types.specs.declared.value_type.ExpressionType.TheVariants.{Value}
@@ -33,7 +33,7 @@ use Rattle.typed_tree.specs.declared.function.Given.TheVariants as given_back
 use Rattle.typed_tree.specs.declared.variables.Known.{Known}
 use Rattle.typed_tree.specs.Tree.{TypedTree, truth_node}
 use Rattle.typed_tree.specs.Commands.{Command, Commands, none, also, empty_command, block_command, if_command, loop_command, do_command, break_command, continue_command, return_command, assert_command, store_command, default_command, fill_command, input_command, element_command, publish_command, evaluate_command}
-use Rattle.typed_tree.specs.Scopes.{Place, known_of, variable_named, shape_written, declaring, entering}
+use Rattle.typed_tree.specs.Scopes.{Place, known_of, variable_named, shape_written, declaring}
 use Rattle.typed_tree.specs.Values.{shape_of, value, call_made}
 use Rattle.typed_tree.specs.Resolving.{Resolving, carry, ◌>>=◌, done, reading, in_block, tree_in, value_at, expression, known_at, named}
 use Rattle.typed_tree.specs.Bodies.{tree_in_call, calling, evaluated, default_of, from_value, initial, declared, assigned_to, assigned, started, stepped, condition_of, returned, looped, resolved, resolved_all}
@@ -49,15 +49,15 @@ use Rattle.program_typing.proofs.TreesOfStatements.{names_in_optional, names_in_
 use Rattle.well_typed.specs.Sources.{HasWords, HasWordsIf, DeclaresWords, AssignsWords, StartsWithWords, StepsByWords, MayStand, MayStandAll}
 use Rattle.well_typed.specs.Kinds.{scalar, GoesTo}
 use Rattle.well_typed.specs.Expressions.{Gives}
-use Rattle.well_typed.specs.Commands.{IsPublicScalar, FitsInto, IsArraySlot, IsWellTypedCommand, AreWellTypedCommands, always_returns, one_returns}
+use Rattle.well_typed.specs.Commands.{FitsInto, IsArraySlot, IsWellTypedCommand, AreWellTypedCommands, always_returns, one_returns}
 use Rattle.well_typed.specs.Laws.{bound_domain}
 use Rattle.well_typed.proofs.Bindings.{goes}
 use Rattle.well_typed.proofs.SlotsWritten.{shape_in, SlotIs, slot_same, slots_at}
-use Rattle.well_typed.proofs.Steps.{Relation, Step, pair_of, comes, step_done, step_bind, step_reading, step_block, step_as}
+use Rattle.well_typed.proofs.Steps.{Step, pair_of, comes, step_done, step_bind, step_reading, step_block, step_as}
 use Rattle.well_typed.proofs.Heads.{Begins, begins_itself, begins_further}
 use Rattle.well_typed.proofs.Typed.{AreChecked, none_checked, both_checked, gives_as}
 use Rattle.well_typed.proofs.Calling.{known_in, Frame, setting, here, AreMade, shape_of_type}
-use Rattle.well_typed.proofs.Values.{SlotOf, SameVariable, Same, same_append, slot_named, good_value_of, good_call}
+use Rattle.well_typed.proofs.Values.{SameVariable, Same, same_append, slot_named, good_value_of, good_call}
 
 -- WHAT IS SAID OF STEPS
 

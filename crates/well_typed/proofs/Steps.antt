@@ -1,5 +1,5 @@
 -- Resolving, step by step: what holds between the place before a step, what it makes, and the place behind it.
-use Rattle.std.proofs.Common.{◌≡◌, ℕ, List, [], ◌∷◌, length, refl, ap, subst, Option, Some, None}
+use Rattle.std.proofs.Common.{◌≡◌, ℕ, length, refl, subst, Option, Some, None}
 use Rattle.std.specs.Prelude.{option_map}
 use Rattle.secrec_ast.specs.declared.statement.Identifier.{Identifier}
 use Rattle.secrec_ast.specs.declared.statement.DeclaredType.{DeclaredType}

@@ -1,13 +1,12 @@
 -- What is known of an expression that the checker has typed, and the nodes without operators and calls.
-use Rattle.std.proofs.Common.{◌≡◌, ℕ, ◌<◌, List, [], ◌∷◌, ◌++◌, ◌⊎◌, inl, inr, refl, sym, ap, ◌∙◌, subst, Option, Some, None, Bool, true, false}
-use Rattle.std.specs.Prelude.{map, ◌^◌}
+use Rattle.std.proofs.Common.{◌≡◌, ℕ, ◌<◌, List, [], ◌∷◌, ◌++◌, ◌⊎◌, inl, inr, refl, sym, ap, ◌∙◌, subst, Some, Bool, true, false}
+use Rattle.std.specs.Prelude.{◌^◌}
 use Rattle.std.specs.List.{slice_get}
 use Rattle.secrec_ast.specs.declared.expression.DataType.{DataType}
 use Rattle.secrec_ast.specs.declared.expression.DataType.TheVariants.{Uint64}
 use Rattle.secrec_ast.specs.declared.expression.DataType.TheVariants as datatype
 use Rattle.secrec_ast.specs.Programs.{ProgramTree}
 use Rattle.domain_types.specs.declared.value_type.Argument.{Argument}
-use Rattle.domain_types.specs.declared.value_type.Protection.TheVariants as checked
 use Rattle.domain_types.specs.declared.value_type.ValueType.{ValueType}
 use Rattle.domain_types.specs.Types.{scalar_of, public_scalar}
 use Rattle.domain_types.specs.ExpressionTypes.{cast_type, declassified, array_of}
@@ -16,12 +15,9 @@ use Rattle.domain_types.specs.Typing.{Meets}
 use Rattle.domain_types.proofs.TypingSteps.{among_parts}
 use Rattle.typed_tree.specs.declared.kinds.Shape.{Shape}
 use Rattle.typed_tree.specs.declared.kinds.Slot.{Slot}
-use Rattle.typed_tree.specs.declared.operators.Cast.TheVariants.{WordToWord, WordToBool, BoolToWord, BoolToBool}
 use Rattle.typed_tree.specs.Operators.{cast_between}
-use Rattle.typed_tree.specs.Tree.{TypedTree, word_node, truth_node, slot_node, size_node, cat_node, sum_node, bits_node, element_node, cast_node}
-use Rattle.typed_tree.specs.Values.{TypedValue, shape_of, made, element_value, negated, cast_value, declassified_value}
-use Rattle.reached_instances.specs.declared.instance.BoundDomain.{BoundDomain}
-use Rattle.reached_instances.specs.declared.instance.BoundDomain.TheVariants.{Public}
+use Rattle.typed_tree.specs.Tree.{TypedTree, word_node, truth_node, slot_node, size_node, cat_node, sum_node, bits_node, element_node}
+use Rattle.typed_tree.specs.Values.{TypedValue, shape_of, made, negated, cast_value, declassified_value}
 use Rattle.reached_instances.specs.Instances.{Instance}
 use Rattle.reached_instances.specs.Domains.{Setting, domain, slot_domain, joined}
 use Rattle.reached_instances.specs.Calls.{calls}

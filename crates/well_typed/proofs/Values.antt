@@ -1,20 +1,19 @@
 -- Expressions: what the checker has typed is well typed where it stands, of the same shape, and seen by the same.
 use Rattle.std.proofs.Common.{◌≡◌, ℕ, List, [], ◌∷◌, ◌++◌, inl, refl, sym, ap, ap₂, ◌∙◌, subst, Option, Some, None, Bool, true, false, cond}
-use Rattle.std.specs.Prelude.{map, nat_eq, bytes_eq, option_map, option_and_then, length}
+use Rattle.std.specs.Prelude.{nat_eq, bytes_eq, option_map, length}
 use Rattle.std.specs.List.{slice_get}
 use Rattle.sc_text.specs.declared.span.Span.{Span}
-use Rattle.secrec_ast.specs.declared.expression.DataType.{DataType}
 use Rattle.secrec_ast.specs.declared.expression.DataType.TheVariants.{Uint64}
 use Rattle.secrec_ast.specs.declared.expression.DataType.TheVariants as datatype
 use Rattle.secrec_ast.specs.Tree.{Tree, Trees, number, truth, variable, call, index, parentheses, negation, cast, binary, declassify, argument, publish}
 use Rattle.secrec_ast.specs.Tree as Tree'
-use Rattle.secrec_ast.specs.Programs.{FunctionTree, ProgramTree}
+use Rattle.secrec_ast.specs.Programs.{ProgramTree}
 use Rattle.domain_types.specs.declared.value_type.Argument.{Argument}
 use Rattle.domain_types.specs.declared.value_type.ValueType.{ValueType}
 use Rattle.domain_types.specs.declared.value_type.ExpressionType.{ExpressionType}
 use Rattle.domain_types.specs.declared.value_type.ExpressionType.TheVariants.{Void, Value}
 use Rattle.domain_types.specs.Types.{scalar_of, public_scalar}
-use Rattle.domain_types.specs.Declarations.{Declared, declared_by, Callee, built_in, defined, callee}
+use Rattle.domain_types.specs.Declarations.{declared_by, Callee, built_in, defined, callee}
 use Rattle.domain_types.specs.Scopes as checked
 use Rattle.domain_types.specs.ExpressionTypes.{variable_type, cast_type, declassified, arguments_of}
 use Rattle.domain_types.specs.Least.{Among}
@@ -22,22 +21,20 @@ use Rattle.domain_types.specs.Reached.{Call, call_of, calls_of, calls_of_all}
 use Rattle.domain_types.specs.Typing.{IsCall, HasType, HaveTypes}
 use Rattle.domain_types.proofs.TypingSteps.{among_left, among_right}
 use Rattle.domain_types.proofs.TypingExpressions.{types_from}
-use Rattle.typed_tree.specs.declared.kinds.Shape.{Shape}
 use Rattle.typed_tree.specs.declared.kinds.Slot.{Slot}
-use Rattle.typed_tree.specs.Tree.{TypedTree, word_node, truth_node, call_node}
+use Rattle.typed_tree.specs.Tree.{word_node, truth_node, call_node}
 use Rattle.typed_tree.specs.Operators.{operator_on}
 use Rattle.typed_tree.specs.Scopes.{Variable, Scope, variable_in, variable_named}
-use Rattle.typed_tree.specs.Values.{TypedValue, TypedCall, made, of_both, variable_value, element_value, negated, cast_value, declassified_value, operation_made, operation, gives_value, with_shape, value_given, shape_returned, tree_of_value, built_in_value, called, and_values, value, values, call_made}
+use Rattle.typed_tree.specs.Values.{TypedValue, TypedCall, made, of_both, variable_value, element_value, negated, cast_value, declassified_value, operation_made, operation, gives_value, with_shape, value_given, shape_returned, built_in_value, called, and_values, value, values, call_made}
 use Rattle.typed_tree.proofs.SoundValues.{mapped, both_there, then_there, some_is}
 use Rattle.reached_instances.specs.Domains as domains
 use Rattle.program_typing.proofs.TreesOfValues.{Agrees, Agree, agree_left, agree_right, names_in, names_in_all}
 use Rattle.well_typed.specs.Sources.{HasWords, HaveWords}
-use Rattle.well_typed.specs.Expressions.{Gives}
 use Rattle.well_typed.specs.Laws.{bound_domain}
 use Rattle.well_typed.proofs.SlotsWritten.{shape_in, SlotIs}
 use Rattle.well_typed.proofs.Typed.{Good, AllGood, good_as, good_number, good_truth, good_slot, good_element, good_not, good_cast, good_declassify}
 use Rattle.well_typed.proofs.Operations.{good_operation}
-use Rattle.well_typed.proofs.Calling.{known_in, Frame, setting, here, all_calls, AreMade, shape_of_type, GoodCall, good_built_in, trees_of, bound_call, call_seen, good_defined}
+use Rattle.well_typed.proofs.Calling.{known_in, Frame, setting, here, all_calls, AreMade, GoodCall, good_built_in, trees_of, bound_call, call_seen, good_defined}
 
 value_is : (x y : ValueType) → Value x ≡ Value y → x ≡ y
 value_is x y e = cc

@@ -1,5 +1,5 @@
 -- Which expressions and statements are well typed, worked out by hand.
-use Rattle.std.specs.Prelude.{◌≡◌, ℕ, Bool, true, false, List, [], ◌∷◌, take, Option, Some, None, refl}
+use Rattle.std.specs.Prelude.{◌≡◌, ℕ, Bool, true, false, [], ◌∷◌, take, Option, Some, refl}
 use Rattle.std.proofs.Common.{subst, arith}
 use Rattle.std.proofs.lemmas.Option.{same_Some}
 use Rattle.secrec_ast.specs.declared.expression.DataType.{DataType}
@@ -13,7 +13,7 @@ use Rattle.typed_tree.specs.declared.function.Given.TheVariants.{Nothing, Value}
 use Rattle.typed_tree.specs.declared.operators.WordOperator.TheVariants.{Add, Divide, Less}
 use Rattle.typed_tree.specs.declared.operators.BinaryOperator.TheVariants.{Words}
 use Rattle.typed_tree.specs.declared.operators.Operands.TheVariants.{Scalars, ArrayAndScalar}
-use Rattle.typed_tree.specs.Tree.{TypedTree, word_node, truth_node, slot_node, call_node, size_node, element_node, binary_node, declassify_node, typed_trees_of}
+use Rattle.typed_tree.specs.Tree.{truth_node, slot_node, call_node, element_node, binary_node, declassify_node, typed_trees_of}
 use Rattle.typed_tree.specs.Commands.{if_command, loop_command, empty_command, break_command, return_command, store_command, commands_of}
 use Rattle.typed_tree.specs.Programs.{TypedFunctionTree}
 use Rattle.typed_tree.specs.Values.{shape_of}
