@@ -249,7 +249,7 @@ extends_names d fs xs = keeps_names (Extends fs) d fs xs (extends_itself fs) (λ
 found_extended : (x : List ℕ) (fs gs : List FunctionTree) → Extends fs gs → is_found x fs ≡ true → is_found x gs ≡ true
 found_extended x fs gs h e = ap (is_found x) h.is ∙ found_before x fs h.more e
 
-at_extended : (fs gs : List FunctionTree) (k : ℕ) (f : FunctionTree) → Extends fs gs → slice_get fs k ≡ Some f → slice_get gs k ≡ Some f
+pub at_extended : (fs gs : List FunctionTree) (k : ℕ) (f : FunctionTree) → Extends fs gs → slice_get fs k ≡ Some f → slice_get gs k ≡ Some f
 at_extended fs gs k f h e = ap (λ l. slice_get l k) h.is ∙ further fs h.more k e
   where
     further : (xs ys : List FunctionTree) (i : ℕ) → slice_get xs i ≡ Some f → slice_get (xs ++ ys) i ≡ Some f
@@ -329,7 +329,7 @@ pub record Closed (d : Declared) (f : FunctionTree) (fs : List FunctionTree) : T
 closed_extended : (d : Declared) (f : FunctionTree) (fs gs : List FunctionTree) → Extends fs gs → Closed d f fs → Closed d f gs
 closed_extended d f fs gs h c = record { found = λ x n g m e. found_extended x fs gs h (c.found x n g m e) }
 
-extends_read : (d : Declared) (fs : List FunctionTree) (f : FunctionTree) → Extends fs (read_one d fs (Some f))
+pub extends_read : (d : Declared) (fs : List FunctionTree) (f : FunctionTree) → Extends fs (read_one d fs (Some f))
 extends_read d fs f = subst (Extends fs) (sym (in_statements d fs f.body.statements)) (extends_names d fs (names_by_all f.body.statements))
 
 closed_read : (d : Declared) (fs : List FunctionTree) (f : FunctionTree) → Closed d f (read_one d fs (Some f))

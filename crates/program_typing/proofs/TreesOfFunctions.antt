@@ -36,7 +36,7 @@ none_mapped h None e = refl
 none_mapped h (Some a) e = cc
 
 -- a name that is no domain variable is bound to nothing
-unbound : (x : List ℕ) (vs : List DomainVariable) (ds : List Protection) → variable_number x vs ≡ None → bound_to x (bind vs ds) ≡ None
+pub unbound : (x : List ℕ) (vs : List DomainVariable) (ds : List Protection) → variable_number x vs ≡ None → bound_to x (bind vs ds) ≡ None
 unbound x [] ds e = refl
 unbound x (v ∷ vs) [] e = refl
 unbound x (v ∷ vs) (d ∷ ds) e = go (bytes_eq x v.variable.text) e (unbound x vs ds)

@@ -66,13 +66,14 @@ no_further_main d (defines f ∷ items) ks fs h m t =
         cc
     go false q r rest = rest r
 
-main_is_plain : (d : Declared) (items : List ItemTree) (ks fs : List (List ℕ)) (n k : ℕ) (f : FunctionTree) → AreItems d ks fs items → has_main (functions_of items) ≡ true → function_named main_text n (functions_of items) ≡ Some (defined k f) → f.variables ≡ []
-main_is_plain d [] ks fs n k f h t e = cc
-main_is_plain d (imports x ∷ items) ks fs n k f h t e = main_is_plain d items ks fs n k f h.1 t e
-main_is_plain d (kind x ∷ items) ks fs n k f h t e = main_is_plain d items (ks ++ x.text ∷ []) fs n k f h.1 t e
-main_is_plain d (domain x i ∷ items) ks fs n k f h t e = main_is_plain d items (ks ++ x.text ∷ []) fs n k f h.1 t e
-main_is_plain d (defines g ∷ items) ks fs n k f h t e =
-    go (bytes_eq main_text g.function.text) (is_main g) refl refl t e (main_is_plain d items ks (fs ++ g.function.text ∷ []) (n + 1) k f h.1)
+-- the first function of that name is the one
+pub main_is_main : (d : Declared) (items : List ItemTree) (ks fs : List (List ℕ)) (n k : ℕ) (f : FunctionTree) → AreItems d ks fs items → has_main (functions_of items) ≡ true → function_named main_text n (functions_of items) ≡ Some (defined k f) → is_main f ≡ true
+main_is_main d [] ks fs n k f h t e = cc
+main_is_main d (imports x ∷ items) ks fs n k f h t e = main_is_main d items ks fs n k f h.1 t e
+main_is_main d (kind x ∷ items) ks fs n k f h t e = main_is_main d items (ks ++ x.text ∷ []) fs n k f h.1 t e
+main_is_main d (domain x i ∷ items) ks fs n k f h t e = main_is_main d items (ks ++ x.text ∷ []) fs n k f h.1 t e
+main_is_main d (defines g ∷ items) ks fs n k f h t e =
+    go (bytes_eq main_text g.function.text) (is_main g) refl refl t e (main_is_main d items ks (fs ++ g.function.text ∷ []) (n + 1) k f h.1)
   where
     found : bytes_eq main_text g.function.text ≡ true → is_one_of main_text (fs ++ g.function.text ∷ []) ≡ true
     found q =
@@ -80,11 +81,11 @@ main_is_plain d (defines g ∷ items) ks fs n k f h t e =
         ∙ ap (λ b. is_some (behind (number_in main_text fs) (length fs) b)) q
         ∙ some_at_last (number_in main_text fs) (length fs)
 
-    go : (b c : Bool) → bytes_eq main_text g.function.text ≡ b → is_main g ≡ c → (c || has_main (functions_of items)) ≡ true → cond b (Some (defined n g)) (function_named main_text (n + 1) (functions_of items)) ≡ Some (defined k f) → (has_main (functions_of items) ≡ true → function_named main_text (n + 1) (functions_of items) ≡ Some (defined k f) → f.variables ≡ []) → f.variables ≡ []
+    go : (b c : Bool) → bytes_eq main_text g.function.text ≡ b → is_main g ≡ c → (c || has_main (functions_of items)) ≡ true → cond b (Some (defined n g)) (function_named main_text (n + 1) (functions_of items)) ≡ Some (defined k f) → (has_main (functions_of items) ≡ true → function_named main_text (n + 1) (functions_of items) ≡ Some (defined k f) → is_main f ≡ true) → is_main f ≡ true
     go true true q m r s rest =
         let one : defined n g ≡ defined k f = cc in
         let same : g ≡ f = cc in
-        ap (λ z. z.variables) (sym same) ∙ (main_parts g m).1
+        ap is_main (sym same) ∙ m
     go true false q m r s rest = absurd (no_further_main d items ks (fs ++ g.function.text ∷ []) h.1 (found q) r)
     go false true q m r s rest =
         let no : true ≡ false = sym (text_same main_text g.function.text (sym (main_parts g m).0)) ∙ q in
@@ -107,7 +108,7 @@ main_checked p t n f e =
     record {
       number = n;
       domains = [];
-      checked = plain n f there (main_is_plain d p.items [] [] 0 n f t.items t.main named);
+      checked = plain n f there (main_parts f (main_is_main d p.items [] [] 0 n f t.items t.main named)).1;
       there = there;
     }
 

@@ -1,0 +1,12 @@
+pub mod Bindings
+pub mod SlotsWritten
+pub mod Steps
+pub mod Heads
+pub mod Typed
+pub mod Operations
+pub mod Calling
+pub mod Values
+pub mod Statements
+pub mod Functions
+pub mod Reaching
+pub mod Samples

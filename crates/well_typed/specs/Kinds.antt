@@ -1,0 +1,89 @@
+-- Where a value may go, and what the operators of a typed tree take.
+use Rattle.std.specs.Prelude.{◌≡◌, Bool, true, false}
+use Rattle.secrec_ast.specs.declared.expression.DataType.{DataType}
+use Rattle.secrec_ast.specs.declared.expression.DataType.TheVariants.{Uint64}
+use Rattle.secrec_ast.specs.declared.expression.DataType.TheVariants as datatype
+use Rattle.typed_tree.specs.declared.kinds.Shape.{Shape}
+use Rattle.typed_tree.specs.declared.operators.WordOperator.{WordOperator}
+use Rattle.typed_tree.specs.declared.operators.WordOperator.TheVariants as word
+use Rattle.typed_tree.specs.declared.operators.BinaryOperator.{BinaryOperator}
+use Rattle.typed_tree.specs.declared.operators.BinaryOperator.TheVariants.{Words, Bools}
+use Rattle.typed_tree.specs.declared.operators.Operands.{Operands}
+use Rattle.typed_tree.specs.declared.operators.Operands.TheVariants.{Scalars, ArrayAndScalar, ScalarAndArray, Arrays}
+use Rattle.typed_tree.specs.declared.operators.Cast.{Cast}
+use Rattle.typed_tree.specs.declared.operators.Cast.TheVariants.{WordToWord, WordToBool, BoolToWord, BoolToBool}
+use Rattle.typed_tree.specs.Values.{shape_of}
+use Rattle.reached_instances.specs.declared.instance.BoundDomain.{BoundDomain}
+use Rattle.reached_instances.specs.declared.instance.BoundDomain.TheVariants.{Public, Private}
+
+abbrev pub scalar : DataType → Shape
+scalar element = shape_of element false
+
+abbrev pub array : DataType → Shape
+array element = shape_of element true
+
+-- WHO MAY SEE WHAT
+
+-- a value of the one domain may go where the other is wanted: a public one anywhere, a private one to its own domain
+abbrev pub GoesTo : (given wanted : BoundDomain) → Type 0
+GoesTo Public wanted = Unit {0}
+GoesTo (Private k) Public = ⊥
+GoesTo (Private k) (Private m) = k ≡ m
+
+-- two operands meet where one of them is public, or both are of one private domain
+abbrev pub Meet : BoundDomain → BoundDomain → Type 0
+Meet Public d = Unit {0}
+Meet (Private k) Public = Unit {0}
+Meet (Private k) (Private m) = k ≡ m
+
+-- OPERATORS
+
+abbrev pub operand_of : BinaryOperator → DataType
+operand_of (Words op) = Uint64
+operand_of (Bools op) = datatype.Bool
+
+-- division, and words bit by bit, are for public operands
+abbrev pub is_for_public : WordOperator → Bool
+is_for_public word.Add = false
+is_for_public word.Subtract = false
+is_for_public word.Multiply = false
+is_for_public word.Divide = true
+is_for_public word.Remainder = true
+is_for_public word.Equal = false
+is_for_public word.NotEqual = false
+is_for_public word.Less = false
+is_for_public word.LessOrEqual = false
+is_for_public word.Greater = false
+is_for_public word.GreaterOrEqual = false
+is_for_public word.And = true
+is_for_public word.Or = true
+is_for_public word.Xor = true
+
+-- an operator may be used where its result has this domain
+abbrev pub MayOperate : BinaryOperator → BoundDomain → Type 0
+MayOperate (Words op) d = is_for_public op ≡ true → d ≡ Public
+MayOperate (Bools op) d = Unit {0}
+
+abbrev pub left_is_array : Operands → Bool
+left_is_array Scalars = false
+left_is_array ArrayAndScalar = true
+left_is_array ScalarAndArray = false
+left_is_array Arrays = true
+
+abbrev pub right_is_array : Operands → Bool
+right_is_array Scalars = false
+right_is_array ArrayAndScalar = false
+right_is_array ScalarAndArray = true
+right_is_array Arrays = true
+
+abbrev pub cast_from : Cast → DataType
+cast_from WordToWord = Uint64
+cast_from WordToBool = Uint64
+cast_from BoolToWord = datatype.Bool
+cast_from BoolToBool = datatype.Bool
+
+abbrev pub cast_to : Cast → DataType
+cast_to WordToWord = Uint64
+cast_to WordToBool = datatype.Bool
+cast_to BoolToWord = Uint64
+cast_to BoolToBool = datatype.Bool

@@ -1,0 +1,121 @@
+-- Which expressions and statements are well typed, worked out by hand.
+use Rattle.std.specs.Prelude.{◌≡◌, ℕ, Bool, true, false, [], ◌∷◌, take, Option, Some, refl}
+use Rattle.std.proofs.Common.{subst, arith}
+use Rattle.std.proofs.lemmas.Option.{same_Some}
+use Rattle.secrec_ast.specs.declared.expression.DataType.{DataType}
+use Rattle.secrec_ast.specs.declared.expression.DataType.TheVariants.{Uint64}
+use Rattle.secrec_ast.specs.declared.expression.DataType.TheVariants as datatype
+use Rattle.typed_tree.specs.declared.kinds.Shape.{Shape}
+use Rattle.typed_tree.specs.declared.kinds.SlotDomain.{SlotDomain}
+use Rattle.typed_tree.specs.declared.kinds.SlotDomain.TheVariants as slot
+use Rattle.typed_tree.specs.declared.kinds.Slot.{Slot}
+use Rattle.typed_tree.specs.declared.function.Given.TheVariants.{Nothing, Value}
+use Rattle.typed_tree.specs.declared.operators.WordOperator.TheVariants.{Add, Divide, Less}
+use Rattle.typed_tree.specs.declared.operators.BinaryOperator.TheVariants.{Words}
+use Rattle.typed_tree.specs.declared.operators.Operands.TheVariants.{Scalars, ArrayAndScalar}
+use Rattle.typed_tree.specs.Tree.{truth_node, slot_node, call_node, element_node, binary_node, declassify_node, typed_trees_of}
+use Rattle.typed_tree.specs.Commands.{if_command, loop_command, empty_command, break_command, return_command, store_command, commands_of}
+use Rattle.typed_tree.specs.Programs.{TypedFunctionTree}
+use Rattle.typed_tree.specs.Values.{shape_of}
+use Rattle.reached_instances.specs.declared.instance.BoundDomain.TheVariants.{Private}
+use Rattle.reached_instances.specs.Domains.{Setting, domain_under, binding_of}
+use Rattle.well_typed.specs.Kinds.{scalar, array, GoesTo}
+use Rattle.well_typed.specs.Expressions.{Gives, AreTaken}
+use Rattle.well_typed.specs.Commands.{IsWellTypedCommand}
+
+abbrev slot_of : SlotDomain → DataType → (array : Bool) → Slot
+slot_of d element array = record { domain = d; shape = shape_of element array }
+
+-- `template <domain D> D uint64 f(D uint64 x) { return x; }`
+abbrev template : TypedFunctionTree
+template =
+    record {
+      name = [];
+      variables = 1;
+      parameters = 1;
+      slots = slot_of (slot.Variable 0) Uint64 false ∷ [];
+      given = Value (slot_of (slot.Variable 0) Uint64 false);
+      body = commands_of (return_command (Some (slot_node 0)) ∷ []);
+      size = 5;
+    }
+
+-- slot 0 a public word, 1 one in the domain 0, 2 one in what is bound to the domain 5, 3 an array of words in the domain 0
+abbrev here : Setting
+here =
+    record {
+      functions = template ∷ [];
+      slots = slot_of slot.Public Uint64 false ∷ slot_of (slot.Private 0) Uint64 false ∷ slot_of (slot.Variable 0) Uint64 false ∷ slot_of (slot.Private 0) Uint64 true ∷ [];
+      binding = Private 5 ∷ [];
+    }
+
+-- EXPRESSIONS
+
+abbrev public_slot : Slot
+public_slot = slot_of slot.Public Uint64 false
+
+abbrev private_slot : Slot
+private_slot = slot_of (slot.Private 0) Uint64 false
+
+abbrev array_slot : Slot
+array_slot = slot_of (slot.Private 0) Uint64 true
+
+-- a private word and a public one may be added, a private array and a public word too
+added : Gives here (binary_node 2 (Words Add) Scalars (slot_node 1) (slot_node 0)) (Some (scalar Uint64))
+added = ((private_slot, refl, refl), (public_slot, refl, refl), tt, (λ e. cc), refl)
+
+array_added : Gives here (binary_node 2 (Words Add) ArrayAndScalar (slot_node 3) (slot_node 0)) (Some (array Uint64))
+array_added = ((array_slot, refl, refl), (public_slot, refl, refl), tt, (λ e. cc), refl)
+
+-- two private domains do not meet, and what is private is not divided
+two_domains : (g : Option Shape) → Gives here (binary_node 2 (Words Add) Scalars (slot_node 1) (slot_node 2)) g → ⊥
+two_domains g h = no_five h.2
+  where
+    no_five : ◌≡◌ {A = ℕ} 0 5 → ⊥
+    no_five e = omega arith
+
+private_divided : (g : Option Shape) → Gives here (binary_node 2 (Words Divide) Scalars (slot_node 1) (slot_node 0)) g → ⊥
+private_divided g h = let same = h.3 refl in cc
+
+-- an index is public
+indexed : Gives here (element_node 2 (slot_node 3) (slot_node 0)) (Some (scalar Uint64))
+indexed = (Uint64, (array_slot, refl, refl), (public_slot, refl, refl), refl, refl)
+
+private_index : (g : Option Shape) → Gives here (element_node 2 (slot_node 3) (slot_node 1)) g → ⊥
+private_index g h = let seen = h.3 in cc
+
+-- a call binds its parameter's domain to that of its argument, and gives back a value of its shape
+called : Gives here (call_node 2 0 (typed_trees_of (slot_node 1 ∷ []))) (Some (scalar Uint64))
+called = (template, refl, ((private_slot, refl, refl), refl, tt), refl)
+
+-- as many arguments as parameters
+without_argument : (g : Option Shape) → Gives here (call_node 2 0 (typed_trees_of [])) g → ⊥
+without_argument g h = go h.0 h.1 h.2
+  where
+    go : (f : TypedFunctionTree) → Some template ≡ Some f → AreTaken here (binding_of f []) (take f.parameters f.slots) (typed_trees_of []) → ⊥
+    go f e = subst (λ (z : TypedFunctionTree). AreTaken here (binding_of z []) (take z.parameters z.slots) (typed_trees_of []) → ⊥) (same_Some template f e) (λ n. n)
+
+-- STATEMENTS
+
+-- a private value is stored in a slot of its own domain, and not in a public one
+stored : IsWellTypedCommand here Nothing false (store_command 1 (slot_node 1))
+stored = (private_slot, refl, ((private_slot, refl, refl), refl))
+
+stored_in_public : IsWellTypedCommand here Nothing false (store_command 0 (slot_node 1)) → ⊥
+stored_in_public h = go h.0 h.1 h.2.1
+  where
+    go : (s : Slot) → Some public_slot ≡ Some s → GoesTo (Private 0) (domain_under here.binding s.domain) → ⊥
+    go s e = subst (λ (z : Slot). GoesTo (Private 0) (domain_under here.binding z.domain) → ⊥) (same_Some public_slot s e) (λ n. n)
+
+-- a loop's body may break, and nothing else may
+broken : IsWellTypedCommand here Nothing false (loop_command (truth_node true) empty_command break_command)
+broken = ((refl, refl), tt, refl)
+
+broken_outside : IsWellTypedCommand here Nothing false (if_command (truth_node true) break_command empty_command) → ⊥
+broken_outside h = let inside = h.1 in cc
+
+-- a condition is public, if only by `declassify`
+private_condition : IsWellTypedCommand here Nothing false (if_command (binary_node 2 (Words Less) Scalars (slot_node 1) (slot_node 0)) empty_command empty_command) → ⊥
+private_condition h = let seen = h.0.1 in cc
+
+opened_condition : IsWellTypedCommand here Nothing false (if_command (declassify_node (binary_node 2 (Words Less) Scalars (slot_node 1) (slot_node 0))) empty_command empty_command)
+opened_condition = (((scalar datatype.Bool, ((private_slot, refl, refl), (public_slot, refl, refl), tt, (λ e. cc), refl), refl), refl), tt, tt)
