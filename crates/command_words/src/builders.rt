@@ -1,6 +1,7 @@
 //! The `clap` command that reads the words.
 ghost use Rattle.std.specs.Prelude.{◌≡◌, IfOk, map};
-ghost use Rattle.command_words.specs.Shapes.{word_rule, option_rule, run_options, run_app, deal_app, check_app, eval_options, evaluation_app, input_app, clear_app, secrec_app};
+ghost use Rattle.command_words.specs.Shapes.{word_rule, option_rule, run_options, run_app, deal_app, check_app, eval_options, evaluation_app, bare_app, input_app, clear_app, secrec_app};
+ghost use Rattle.clap.specs.Words.{App, with_subcommand};
 ghost use Rattle.command_words.specs.Builds.{Builds, GetsOptions, IsLocal};
 
 use clap::{Arg, Command};
@@ -103,32 +104,47 @@ fn evaluation_command<'a>(alloc: Global, name: &'a str) -> Result<Command<'a>, A
     with_options(alloc, command, false, eval_options())
 }
 
-// The commands that take inputs. The words begin after the program's name, and `help` names no command.
-#[tactic(auto, unfolding(crate::specs::Shapes::input_app, crate::specs::Shapes::bare_app))]
-fn input_commands<'a>(alloc: Global) -> Result<Command<'a>, AllocError>
-    ensures { IfOk result (λ c. Builds input_app c) }
+// The command with one more command behind it; without memory for either there is none.
+fn with_command<'a>(
+    command: Result<Command<'a>, AllocError>,
+    inner: Result<Command<'a>, AllocError>,
+) -> Result<Command<'a>, AllocError>
+    ensures { (a b : App) → IfOk command.entry (Builds a) → IfOk inner.entry (Builds b) →
+        IfOk result (Builds (with_subcommand a b.top)) }
+{
+    let command = command?;
+    command.subcommand(inner?)
+}
+
+// No command yet. The words begin after the program's name, and `help` names no command.
+#[tactic(auto, unfolding(crate::specs::Shapes::bare_app))]
+fn bare_command<'a>(alloc: Global) -> Command<'a>
+    ensures { Builds bare_app result }
 {
     Command::new(alloc, "secrec")
         .no_binary_name(true)
         .disable_help_subcommand(true)
-        .subcommand(run_command(alloc)?)?
-        .subcommand(deal_command(alloc)?)
+}
+
+// The commands that take inputs.
+fn input_commands<'a>(alloc: Global) -> Result<Command<'a>, AllocError>
+    ensures { IfOk result (λ c. Builds input_app c) }
+{
+    let run = with_command(Ok(bare_command(alloc)), run_command(alloc));
+    with_command(run, deal_command(alloc))
 }
 
 // Those, and the commands that evaluate in the clear.
-#[tactic(auto, unfolding(crate::specs::Shapes::clear_app))]
 fn clear_commands<'a>(alloc: Global) -> Result<Command<'a>, AllocError>
     ensures { IfOk result (λ c. Builds clear_app c) }
 {
-    input_commands(alloc)?
-        .subcommand(evaluation_command(alloc, "eval")?)?
-        .subcommand(evaluation_command(alloc, "need")?)
+    let eval = with_command(input_commands(alloc), evaluation_command(alloc, "eval"));
+    with_command(eval, evaluation_command(alloc, "need"))
 }
 
 /// The whole command.
-#[tactic(auto, unfolding(crate::specs::Shapes::secrec_app))]
 pub(crate) fn secrec_command<'a>(alloc: Global) -> Result<Command<'a>, AllocError>
     ensures { IfOk result (λ c. Builds secrec_app c) }
 {
-    clear_commands(alloc)?.subcommand(check_command(alloc)?)
+    with_command(clear_commands(alloc), check_command(alloc))
 }

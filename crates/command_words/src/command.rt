@@ -24,7 +24,7 @@ pub struct RunWords {
 }
 
 /// The words of `deal`: the paths of the input file and the tape file, and the start of the paths that are written.
-#[derive(Debug, Drop)]
+#[derive(Drop)]
 pub struct DealWords {
     pub input: String,
     pub tape: String,
@@ -32,13 +32,13 @@ pub struct DealWords {
 }
 
 /// The words of `check`: the path of the program.
-#[derive(Debug, Drop)]
+#[derive(Drop)]
 pub struct CheckWords {
     pub program: String,
 }
 
 /// The words of `eval` and of `need`: the paths of the program and the input file, and the most that the evaluation may cost.
-#[derive(Debug, Drop)]
+#[derive(Drop)]
 pub struct EvalWords {
     pub program: String,
     pub input: String,
@@ -56,7 +56,7 @@ pub enum Command {
 }
 
 /// Why words aren't read as a command.
-#[derive(Clone, Copy, Debug, PartialEq, Eq)]
+#[derive(Clone, Copy)]
 pub enum WordsErr {
     /// The words ask for no command.
     Usage,

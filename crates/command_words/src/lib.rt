@@ -9,8 +9,6 @@ mod command;
 mod numbers;
 mod reading;
 mod tape_seed;
-#[cfg(test)]
-mod tests;
 mod values;
 
 pub use command::{CheckWords, Command, DealWords, EvalWords, RunWords, TapeSource, WordsErr};

@@ -80,24 +80,41 @@ fn budget_in(matches: &ArgMatches) -> Option<u64>
     number_or(DEFAULT_BUDGET, value(matches, "budget"))
 }
 
+// The paths that `run`, `eval` and `need` have.
+#[derive(Drop)]
+struct Paths {
+    program: String,
+    input: String,
+}
+
+fn paths_of(alloc: Global, matches: &ArgMatches) -> Result<Paths, AllocError>
+    ensures program { IfOk result (λ p. string_bytes p.program ≡ required_of (codes "program") (rows_of (found_of matches.now))) }
+    ensures input { IfOk result (λ p. string_bytes p.input ≡ required_of (codes "input") (rows_of (found_of matches.now))) }
+{
+    Ok(Paths {
+        program: required(alloc, matches, "program")?,
+        input: required(alloc, matches, "input")?,
+    })
+}
+
 // The words of `run`.
 #[tactic(auto, unfolding(crate::specs::Ask::run_of))]
 fn run_words(alloc: Global, matches: &ArgMatches) -> Result<RunWords, WordsErr>
     ensures { Reads run_ask (run_of (rows_of (found_of matches.now))) result }
 {
-    let source = source(
-        alloc,
-        value(matches, "tape"),
-        value(matches, "seed"),
-        value(matches, "words"),
-    )?;
     let Some(budget) = budget_in(matches) else {
         return Err(WordsErr::Usage);
     };
+    let paths = paths_of(alloc, matches)?;
     Ok(RunWords {
-        program: required(alloc, matches, "program")?,
-        input: required(alloc, matches, "input")?,
-        source,
+        source: source(
+            alloc,
+            value(matches, "tape"),
+            value(matches, "seed"),
+            value(matches, "words"),
+        )?,
+        program: paths.program,
+        input: paths.input,
         budget,
     })
 }
@@ -132,9 +149,10 @@ fn eval_words(alloc: Global, matches: &ArgMatches) -> Result<EvalWords, WordsErr
     let Some(budget) = budget_in(matches) else {
         return Err(WordsErr::Usage);
     };
+    let paths = paths_of(alloc, matches)?;
     Ok(EvalWords {
-        program: required(alloc, matches, "program")?,
-        input: required(alloc, matches, "input")?,
+        program: paths.program,
+        input: paths.input,
         budget,
     })
 }

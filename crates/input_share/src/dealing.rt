@@ -24,7 +24,7 @@ pub struct Dealt {
 }
 
 /// Why inputs are not dealt.
-#[derive(Clone, Copy, PartialEq, Eq, Debug)]
+#[derive(Clone, Copy, Debug)]
 pub enum DealErr {
     /// The dealer has fewer words than it needs: two for each element of a private input.
     TapeShort { need: u128, have: u64 },
@@ -98,7 +98,6 @@ fn share(
 }
 
 /// A miner's share of a private value.
-
 fn shared(alloc: Global, miner: Number, value: &Value, words: &[u64]) -> Result<Shared, AllocError>
     requires { 2 * count_of value.now ≤ length words.now }
     ensures { IfOk result (λ shared. shared ≡ record {

@@ -20,6 +20,3 @@ pub use reading::read_share;
 pub use shapes::{dealing_keeps_shapes, shape_part};
 pub use share_file::ShareFile;
 pub use writing::write_share;
-
-#[cfg(test)]
-mod tests;

@@ -2,7 +2,7 @@
 ghost use Rattle.std.specs.Prelude.{◌≡◌, ◌≤◌, ◌↔◌, IsTrue, Contains, true, false};
 
 /// Which calls of an object in memory are to fail, how many there were, and how many failed.
-#[derive(Debug, Drop)]
+#[derive(Drop)]
 pub(crate) struct FaultPlan {
     fails: Vec<u64>,
     calls: u64,

@@ -17,8 +17,6 @@ mod mem_spawner;
 mod sink;
 mod spawn_call;
 mod spawner;
-#[cfg(test)]
-mod tests;
 
 pub use error::{Failed, FileErr, SpawnErr};
 pub use files::Files;

@@ -9,7 +9,7 @@ use crate::{FileErr, Files};
 use std::alloc::{AllocError, Global};
 
 /// A store of files in memory. Of two entries with one path the first counts.
-#[derive(Debug, Drop)]
+#[derive(Drop)]
 pub struct MemFiles {
     entries: Vec<(String, Vec<u8>)>,
     plan: FaultPlan,

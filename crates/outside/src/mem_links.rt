@@ -7,7 +7,7 @@ use crate::{Failed, FileErr, Links};
 use std::alloc::{AllocError, Global};
 
 /// Links in memory: what comes from each peer is set up before, and what it was sent is kept.
-#[derive(Debug, Drop)]
+#[derive(Drop)]
 pub struct MemLinks {
     first: MemPeer,
     second: MemPeer,

@@ -4,7 +4,7 @@ ghost use Rattle.std.specs.Prelude.{◌≡◌, ◌<◌, ◌≤◌, [], ◌++◌,
 use std::alloc::{AllocError, Global};
 
 /// What one peer was sent, and the bytes that come from it, of which the first were taken.
-#[derive(Debug, Drop)]
+#[derive(Drop)]
 pub(crate) struct MemPeer {
     sent: Vec<u8>,
     coming: Vec<u8>,

@@ -6,7 +6,7 @@ use crate::{FileErr, Sink};
 use std::alloc::Global;
 
 /// A sink that keeps in memory what it was given.
-#[derive(Debug, Drop)]
+#[derive(Drop)]
 pub struct MemSink {
     bytes: Vec<u8>,
     plan: FaultPlan,

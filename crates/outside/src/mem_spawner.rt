@@ -9,7 +9,7 @@ use crate::{SpawnCall, SpawnErr, Spawner};
 use std::alloc::{AllocError, Global};
 
 /// A spawner in memory: the statuses that its children will have are set up before, and its calls are kept.
-#[derive(Debug, Drop)]
+#[derive(Drop)]
 pub struct MemSpawner {
     statuses: Vec<i32>,
     calls: Vec<SpawnCall>,

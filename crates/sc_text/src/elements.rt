@@ -28,7 +28,7 @@ impl fmt::Display for Element {
 }
 
 /// The elements of a printed value, in order. Clauses see the list.
-#[derive(Debug, Drop)]
+#[derive(Drop)]
 pub struct Elements {
     elements: Vec<Element>,
 }

@@ -6,7 +6,7 @@ use std::alloc::{AllocError, Global};
 use std::fmt;
 
 /// What a run tells the world.
-#[derive(Debug, Drop)]
+#[derive(Drop)]
 pub enum Event {
     /// A private value was opened.
     Open(Elements),

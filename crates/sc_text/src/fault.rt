@@ -6,7 +6,7 @@ use crate::{CountedFault, InputFault, PlacedFault, Span};
 use std::fmt;
 
 /// Why a command stopped before its end. Lines count from 1, bytes from 0.
-#[derive(Debug, Drop)]
+#[derive(Drop)]
 pub enum Fault {
     /// The words name no command.
     Usage,

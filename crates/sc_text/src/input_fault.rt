@@ -4,7 +4,7 @@ ghost use Rattle.sc_text.specs.Fault.{field_word, input_fault_text};
 use std::fmt;
 
 /// A field of an entry in an input file.
-#[derive(Clone, Copy, Debug, PartialEq, Eq)]
+#[derive(Clone, Copy)]
 pub enum EntryField {
     Name,
     Domain,
@@ -41,7 +41,7 @@ impl fmt::Display for EntryField {
 }
 
 /// What is wrong with an input, public or share file. Entries count from 0.
-#[derive(Clone, Copy, Debug, PartialEq, Eq)]
+#[derive(Clone, Copy)]
 pub enum InputFault {
     /// I1: the file is no JSON.
     NotJson,

@@ -12,8 +12,6 @@ mod fault;
 mod input_fault;
 mod name;
 mod span;
-#[cfg(test)]
-mod tests;
 
 pub use code::{CountedFault, PlacedFault};
 pub use elements::{Element, Elements};

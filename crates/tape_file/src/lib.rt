@@ -15,6 +15,3 @@ pub use own::{read_own, write_own};
 pub use read_err::ReadErr;
 pub use seeds::from_seed;
 pub use tapes::Tapes;
-
-#[cfg(test)]
-mod tests;

@@ -18,11 +18,10 @@ pub use inputs::{Entry, Inputs};
 pub use lists::{Bits, Words};
 pub use public::{PublicEntry, PublicPart, PublicValue, public_part};
 pub use public_reading::{read_public, shape_field};
-pub use public_writing::{shape_json, type_json, value_json, write_public};
+pub use public_writing::{
+    numbers_json, public_json, put_text, shape_json, type_json, type_word, value_json, write_public,
+};
 pub use read_err::{Field, ReadErr};
 pub use reading::read;
 pub use value::{DataType, Domain, Shape, Value};
 pub use value_reading::numbers;
-
-#[cfg(test)]
-mod tests;

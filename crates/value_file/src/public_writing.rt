@@ -1,16 +1,19 @@
 // The file of a public part.
-ghost use Rattle.std.specs.Prelude.{◌≡◌, List, ℕ, Bool, map, Ok, IfOk};
-ghost use Rattle.serde_json.specs.Data.{boolean, array};
-ghost use Rattle.serde_json.specs.View.{view, items_view, items_of};
+ghost use Rattle.std.specs.Prelude.{◌≡◌, List, ℕ, Bool, codes, map, Ok, IfOk, OnOk};
+ghost use Rattle.serde_json.specs.Data.{boolean, array, string, put as with_member};
+ghost use Rattle.serde_json.specs.View.{view, items_view, items_of, members_view};
 ghost use Rattle.value_file.specs.PublicFile.{read_public_of, IsWritable};
-ghost use Rattle.value_file.specs.Public.{number_data, value_data, shape_data, entry_data, part_data, part_bytes, type_data};
+ghost use Rattle.value_file.specs.Public.{number_data, value_data, shape_data, entry_data, entry_data_of, part_data, part_bytes, type_data};
+ghost use Rattle.value_file.specs.Values.{type_of};
+ghost use Rattle.value_file.specs.declared.public.PublicValue.TheVariants.{Known, Hidden};
 
 use crate::public::{PublicEntry, PublicPart, PublicValue};
 use crate::value::{DataType, Shape, Value};
-use serde_json::{Value as Json, json};
+use serde_json::{Map, Value as Json, json, put};
 use std::alloc::{AllocError, Global};
 
-fn numbers(alloc: Global, numbers: &[u64]) -> Result<Vec<Json>, AllocError>
+/// Numbers as JSON, in order.
+pub fn numbers_json(alloc: Global, numbers: &[u64]) -> Result<Vec<Json>, AllocError>
     ensures { IfOk result (λ list. items_view list.items ≡ items_of (map number_data numbers.now)) }
 {
     let mut list = Vec::new(alloc);
@@ -37,8 +40,18 @@ pub fn value_json(alloc: Global, value: &Value) -> Result<Json, AllocError>
     match value {
         Value::Number(number) => Ok(Json::from(*number)),
         Value::Truth(truth) => Ok(Json::Bool(*truth)),
-        Value::Numbers(words) => Ok(Json::Array(numbers(alloc, words.as_slice())?)),
+        Value::Numbers(words) => Ok(Json::Array(numbers_json(alloc, words.as_slice())?)),
         Value::Truths(bits) => Ok(Json::Array(truths(alloc, bits.as_slice())?)),
+    }
+}
+
+/// The word for a data type.
+pub fn type_word(data_type: DataType) -> &'static str
+    ensures { string result.now ≡ type_data data_type }
+{
+    match data_type {
+        DataType::Uint64 => "uint64",
+        DataType::Bool => "bool",
     }
 }
 
@@ -46,10 +59,7 @@ pub fn value_json(alloc: Global, value: &Value) -> Result<Json, AllocError>
 pub fn type_json(alloc: Global, data_type: DataType) -> Result<Json, AllocError>
     ensures { IfOk result (λ json. view json ≡ type_data data_type) }
 {
-    match data_type {
-        DataType::Uint64 => json!(in alloc; "uint64"),
-        DataType::Bool => json!(in alloc; "bool"),
-    }
+    json!(in alloc; type_word(data_type))
 }
 
 /// A shape as JSON: a scalar's is a word, an array's the count of its elements.
@@ -62,33 +72,111 @@ pub fn shape_json(alloc: Global, shape: Shape) -> Result<Json, AllocError>
     }
 }
 
+/// Puts a text among the members of an object.
+pub fn put_text(
+    members: &mut Map<String, Json>,
+    alloc: Global,
+    key: &str,
+    text: &str,
+) -> Result<(), AllocError>
+    ensures { OnOk result (members_view members.new.entries
+        ≡ with_member key.now (string text.now) (members_view members.old.entries)) }
+{
+    let text = String::from_str(alloc, text)?;
+    put(members, alloc, key, Json::String(text))
+}
+
+// The members of a public input's entry.
+fn put_public(
+    members: &mut Map<String, Json>,
+    alloc: Global,
+    name: &str,
+    value: &Value,
+) -> Result<(), AllocError>
+    ensures { OnOk result (members_view members.new.entries
+        ≡ with_member (codes "value") (value_data value.now)
+        (with_member (codes "type") (type_data (type_of value.now))
+        (with_member (codes "name") (string name.now)
+        (with_member (codes "domain") (string (codes "public")) (members_view members.old.entries))))) }
+{
+    put_text(members, alloc, "domain", "public")?;
+    put_text(members, alloc, "name", name)?;
+    put_text(members, alloc, "type", type_word(value.data_type()))?;
+    let value = value_json(alloc, value)?;
+    put(members, alloc, "value", value)
+}
+
+/// The entry of a public input as JSON.
+pub fn public_json(alloc: Global, name: &str, value: &Value) -> Result<Json, AllocError>
+    ensures { IfOk result (λ json. view json ≡ entry_data_of name.now (Known value.now)) }
+{
+    let mut members = Map::new(alloc);
+    put_public(&mut members, alloc, name, value)?;
+    Ok(Json::Object(members))
+}
+
+// The members of a private input's entry.
+fn put_hidden(
+    members: &mut Map<String, Json>,
+    alloc: Global,
+    name: &str,
+    data_type: DataType,
+    shape: Shape,
+) -> Result<(), AllocError>
+    ensures { OnOk result (members_view members.new.entries
+        ≡ with_member (codes "type") (type_data data_type)
+        (with_member (codes "shape") (shape_data shape)
+        (with_member (codes "name") (string name.now)
+        (with_member (codes "domain") (string (codes "private")) (members_view members.old.entries))))) }
+{
+    put_text(members, alloc, "domain", "private")?;
+    put_text(members, alloc, "name", name)?;
+    let shape = shape_json(alloc, shape)?;
+    put(members, alloc, "shape", shape)?;
+    put_text(members, alloc, "type", type_word(data_type))
+}
+
+// The entry of a private input as JSON.
+fn hidden_json(
+    alloc: Global,
+    name: &str,
+    data_type: DataType,
+    shape: Shape,
+) -> Result<Json, AllocError>
+    ensures { IfOk result (λ json. view json ≡ entry_data_of name.now (Hidden data_type shape)) }
+{
+    let mut members = Map::new(alloc);
+    put_hidden(&mut members, alloc, name, data_type, shape)?;
+    Ok(Json::Object(members))
+}
+
 fn entry_json(alloc: Global, entry: &PublicEntry) -> Result<Json, AllocError>
     ensures { IfOk result (λ json. view json ≡ entry_data entry.now) }
 {
     let name = entry.name.as_str();
     match &entry.value {
-        PublicValue::Known(value) => {
-            let data_type = type_json(alloc, value.data_type())?;
-            let value = value_json(alloc, value)?;
-            json!(in alloc; {"domain": "public", "name": name, "type": data_type, "value": value})
-        }
-        PublicValue::Hidden { data_type, shape } => {
-            let data_type = type_json(alloc, *data_type)?;
-            let shape = shape_json(alloc, *shape)?;
-            json!(in alloc; {"domain": "private", "name": name, "shape": shape, "type": data_type})
-        }
+        PublicValue::Known(value) => public_json(alloc, name, value),
+        PublicValue::Hidden { data_type, shape } => hidden_json(alloc, name, *data_type, *shape),
     }
+}
+
+fn entries_json(alloc: Global, entries: &[PublicEntry]) -> Result<Vec<Json>, AllocError>
+    ensures { IfOk result (λ list. items_view list.items ≡ items_of (map entry_data entries.now)) }
+{
+    let mut list = Vec::new(alloc);
+    for entry in entries {
+        list.push(entry_json(alloc, entry)?)?;
+    }
+    Ok(list)
 }
 
 fn part_json(alloc: Global, part: &PublicPart) -> Result<Json, AllocError>
     ensures { IfOk result (λ json. view json ≡ part_data part.now) }
 {
-    let mut list = Vec::new(alloc);
-    for entry in part.entries() {
-        list.push(entry_json(alloc, entry)?)?;
-    }
-    let list = Json::Array(list);
-    json!(in alloc; {"inputs": list})
+    let mut members = Map::new(alloc);
+    let list = entries_json(alloc, part.entries())?;
+    put(&mut members, alloc, "inputs", Json::Array(list))?;
+    Ok(Json::Object(members))
 }
 
 /// The file of a public part: compact JSON with its keys in byte order and no newline. `read_public` reads it as this part

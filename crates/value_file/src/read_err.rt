@@ -5,7 +5,7 @@ ghost use Rattle.value_file.specs.declared.read_err.ReadErr.TheVariants.{Memory}
 use std::alloc::AllocError;
 
 /// A field of an input file, of a public file or of a share file.
-#[derive(Clone, Copy, PartialEq, Eq, Debug)]
+#[derive(Clone, Copy, Debug)]
 pub enum Field {
     /// The list of entries, at top.
     Inputs,
@@ -28,7 +28,7 @@ pub enum Field {
 }
 
 /// Why a file is not read. Entries count from 0.
-#[derive(Clone, Copy, PartialEq, Eq, Debug)]
+#[derive(Clone, Copy, Debug)]
 pub enum ReadErr {
     /// The bytes are no JSON text in UTF-8.
     Syntax,

@@ -6,21 +6,21 @@ use crate::lists::{Bits, Words};
 use std::alloc::{AllocError, Global};
 
 /// Who may know a value: everybody, or nobody alone.
-#[derive(Clone, Copy, PartialEq, Eq, Debug)]
+#[derive(Clone, Copy, PartialEq, Eq)]
 pub enum Domain {
     Public,
     Private,
 }
 
 /// The data type of a value: numbers below 2^64, or truth values.
-#[derive(Clone, Copy, PartialEq, Eq, Debug)]
+#[derive(Clone, Copy)]
 pub enum DataType {
     Uint64,
     Bool,
 }
 
 /// The shape of a value: a scalar, or an array of so many elements.
-#[derive(Clone, Copy, PartialEq, Eq, Debug)]
+#[derive(Clone, Copy)]
 pub enum Shape {
     Scalar,
     Array(u64),
