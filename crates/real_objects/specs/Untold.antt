@@ -10,7 +10,7 @@ abbrev pub untold_files : ℕ → FilesState
 untold_files faults = record { told = false; contents = empty; faults = faults; steady = false }
 
 abbrev pub untold_sink : ℕ → SinkState
-untold_sink faults = record { told = false; written = []; faults = faults; steady = false }
+untold_sink faults = record { told = false; written = []; faults = faults; shortages = 0; steady = false }
 
 abbrev pub untold_links : ℕ → LinksState
 untold_links faults = record { told = false; sent = λ _. []; coming = λ _. []; faults = faults; steady = false }

@@ -1,48 +1,61 @@
 //! The program `secrec`: the real objects, and the top call.
 #![tactic(auto)]
 
-mod children;
-mod files;
-mod links;
-mod sink;
-
-use crate::children::RealSpawner;
-use crate::files::RealFiles;
-use crate::links::RealLinks;
-use crate::sink::RealSink;
-use command_frame::Status;
+use command_frame::{Status, Stop, ended_status, say};
+use outside::Sink;
+use real_objects::{RealFiles, RealLinks, RealSink, RealSpawner, open_streams};
 use run_engine::secrec;
 use std::alloc::Global;
-use std::env;
 use std::process::ExitCode;
+use std::{env, io};
+
+// Why there are no words: a word that is no text names no command.
+fn stop_of(error: &io::Error) -> Stop {
+    match error.kind() {
+        io::ErrorKind::OutOfMemory => Stop::Memory,
+        _ => Stop::Usage,
+    }
+}
 
 // The words after the program's name.
-fn words(rt: &HostRuntime, alloc: Global) -> std::io::Result<Vec<String>> {
-    let mut words = Vec::new(alloc);
-    for word in env::args(rt)?.skip(1) {
-        words.push(word)?;
+fn words(rt: &HostRuntime, alloc: Global) -> Result<Vec<String>, Stop> {
+    match env::args(rt) {
+        Ok(all) => Ok(all.skip(1).collect(alloc)?),
+        Err(error) => Err(stop_of(&error)),
     }
-    Ok(words)
+}
+
+// Says why nothing is done. A fault of the error stream changes nothing else.
+fn refuse<E: Sink>(err: &mut E, stop: Stop) -> Status {
+    let ended = Err(stop);
+    let _ = say(err, &ended);
+    ended_status(&ended)
+}
+
+// Does what the words ask for.
+fn obey<E: Sink>(rt: &HostRuntime, alloc: Global, words: &[String], err: &mut E) -> Status {
+    let mut files = RealFiles::new(rt);
+    let mut out = RealSink::new(rt.stdout());
+    let mut links = RealLinks::new(rt, alloc);
+    let mut children = RealSpawner::new(rt, alloc);
+    secrec(
+        alloc,
+        words,
+        &mut files,
+        &mut out,
+        err,
+        &mut links,
+        &mut children,
+    )
 }
 
 fn main(rt: HostRuntime) -> ExitCode {
+    open_streams(&rt);
     let alloc = rt.alloc();
-    let Ok(words) = words(&rt, alloc) else {
-        return ExitCode::from(Status::Usage.code());
-    };
-    let mut files = RealFiles::new(&rt);
-    let mut out = RealSink::new(rt.stdout());
     let mut err = RealSink::new(rt.stderr());
-    let mut links = RealLinks::new(&rt, alloc);
-    let mut children = RealSpawner::new(&rt, alloc);
-    let status = secrec(
-        alloc,
-        &words,
-        &mut files,
-        &mut out,
-        &mut err,
-        &mut links,
-        &mut children,
-    );
+    let status = match words(&rt, alloc) {
+        Ok(words) => obey(&rt, alloc, &words, &mut err),
+        Err(stop) => refuse(&mut err, stop),
+    };
     ExitCode::from(status.code())
 }

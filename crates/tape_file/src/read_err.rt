@@ -5,7 +5,7 @@ ghost use Rattle.tape_file.specs.declared.read_err.ReadErr.TheVariants.{Memory};
 use std::alloc::AllocError;
 
 /// Why a tape file is not read.
-#[derive(Clone, Copy, PartialEq, Eq, Debug)]
+#[derive(Clone, Copy, Debug)]
 pub enum ReadErr {
     /// The bytes are no tape file; `place` is where in them the first fault is.
     BadTape { place: u64 },
