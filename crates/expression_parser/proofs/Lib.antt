@@ -9,3 +9,4 @@ pub mod Unaries
 pub mod Levels
 pub mod Turns
 pub mod Told
+pub mod HandedOn

@@ -67,11 +67,14 @@ parentheses_up c s v =
     let b = enclosed_is signs.RightParenthesis (parentheses v.0) c v.2 v.5 in
     subst (λ z. Primary z s) (sym b.1) (tt, (v.1, v.2, v.3, v.4, b.2))
 
-parentheses_down : (c : Tree) (s : List Token) → Primary c s → first_kind c ≡ kinds.Sign signs.LeftParenthesis → ParenthesesPhrase c s
+parentheses_here : (p : Span) (e : Tree) (s : List Token) → Primary (parentheses p e) s → ParenthesesPhrase (parentheses p e) s
 unfolding ParenthesesPhrase
-parentheses_down (parentheses p e) s v k =
+parentheses_here p e s v =
     let w = v.1 in
     (p, w.0, w.1, w.2, w.3, is_enclosed signs.RightParenthesis (parentheses p) e w.1 w.4)
+
+parentheses_down : (c : Tree) (s : List Token) → Primary c s → first_kind c ≡ kinds.Sign signs.LeftParenthesis → ParenthesesPhrase c s
+parentheses_down (parentheses p e) s v k = parentheses_here p e s v
 parentheses_down (truth p true) s v k = cc
 parentheses_down (truth p false) s v k = cc
 parentheses_down c s v k = cc
@@ -86,12 +89,15 @@ declassify_up c s v =
     let b = enclosed_is signs.RightParenthesis (declassify v.0) c w.2 w.5 in
     subst (λ z. Primary z s) (sym b.1) (tt, (v.1, v.2, v.3, v.4, (w.1, w.2, w.3, (w.0, w.4), b.2)))
 
-declassify_down : (c : Tree) (s : List Token) → Primary c s → first_kind c ≡ kinds.Sign signs.Declassify → DeclassifyPhrase c s
+declassify_here : (p : Span) (e : Tree) (s : List Token) → Primary (declassify p e) s → DeclassifyPhrase (declassify p e) s
 unfolding DeclassifyPhrase
-declassify_down (declassify p e) s v k =
+declassify_here p e s v =
     let w = v.1 in
     let u = w.4 in
     (p, w.0, w.1, w.2, w.3, (u.3.0, u.0, u.1, u.2, u.3.1, is_enclosed signs.RightParenthesis (declassify p) e u.1 u.4))
+
+declassify_down : (c : Tree) (s : List Token) → Primary c s → first_kind c ≡ kinds.Sign signs.Declassify → DeclassifyPhrase c s
+declassify_down (declassify p e) s v k = declassify_here p e s v
 declassify_down (truth p true) s v k = cc
 declassify_down (truth p false) s v k = cc
 declassify_down c s v k = cc
@@ -111,13 +117,16 @@ argument_up c s v =
     let b = closing_is signs.RightParenthesis (argument v.0 u.0) c u.2 u.5 in
     subst (λ z. Primary z s) (sym b.0) (tt, (v.1, v.2, v.3, v.4, (w.1, w.2, w.3, (w.0, w.4), (u.1, u.2, u.3, u.4, b.1))))
 
-argument_down : (c : Tree) (s : List Token) → Primary c s → first_kind c ≡ kinds.Sign signs.Argument → ArgumentPhrase c s
+argument_here : (p : Span) (x : List ℕ) (s : List Token) → Primary (argument p x) s → ArgumentPhrase (argument p x) s
 unfolding ArgumentPhrase ArgumentBody
-argument_down (argument p x) s v k =
+argument_here p x s v =
     let w = v.1 in
     let u = w.4 in
     let t = u.4 in
     (p, w.0, w.1, w.2, w.3, (u.3.0, u.0, u.1, u.2, u.3.1, (x, t.0, t.1, t.2, t.3, is_closing signs.RightParenthesis (argument p x) t.1 t.4)))
+
+argument_down : (c : Tree) (s : List Token) → Primary c s → first_kind c ≡ kinds.Sign signs.Argument → ArgumentPhrase c s
+argument_down (argument p x) s v k = argument_here p x s v
 argument_down (truth p true) s v k = cc
 argument_down (truth p false) s v k = cc
 argument_down c s v k = cc
@@ -138,14 +147,17 @@ publish_up c s v =
     let b = enclosed_is signs.RightParenthesis (publish v.0 u.0) c t.2 t.5 in
     subst (λ z. Primary z s) (sym b.1) (tt, (v.1, v.2, v.3, v.4, (w.1, w.2, w.3, (w.0, w.4), (u.1, u.2, u.3, u.4, (t.1, t.2, t.3, (t.0, t.4), b.2)))))
 
-publish_down : (c : Tree) (s : List Token) → Primary c s → first_kind c ≡ kinds.Sign signs.Publish → PublishPhrase c s
+publish_here : (p : Span) (x : List ℕ) (e : Tree) (s : List Token) → Primary (publish p x e) s → PublishPhrase (publish p x e) s
 unfolding PublishPhrase PublishBody
-publish_down (publish p x e) s v k =
+publish_here p x e s v =
     let w = v.1 in
     let u = w.4 in
     let t = u.4 in
     let r = t.4 in
     (p, w.0, w.1, w.2, w.3, (u.3.0, u.0, u.1, u.2, u.3.1, (x, t.0, t.1, t.2, t.3, (r.3.0, r.0, r.1, r.2, r.3.1, is_enclosed signs.RightParenthesis (publish p x) e r.1 r.4))))
+
+publish_down : (c : Tree) (s : List Token) → Primary c s → first_kind c ≡ kinds.Sign signs.Publish → PublishPhrase c s
+publish_down (publish p x e) s v k = publish_here p x e s v
 publish_down (truth p true) s v k = cc
 publish_down (truth p false) s v k = cc
 publish_down c s v k = cc

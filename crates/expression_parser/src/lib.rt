@@ -5,6 +5,7 @@
 //! it, so that no tree is walked again.
 #![tactic(auto)]
 
+mod behind;
 mod parse;
 mod parsed;
 mod problem;
@@ -12,6 +13,7 @@ mod sign;
 mod stopped;
 mod token;
 
+pub use behind::{both, boxed, closed};
 pub use parse::expression;
 pub use parsed::{Parsed, binary};
 pub use problem::Problem;

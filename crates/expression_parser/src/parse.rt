@@ -6,7 +6,8 @@ ghost use Rattle.secrec_lexer.specs.Tokens.{IsEnded};
 ghost use Rattle.expression_parser.specs.Answer.{Answers};
 ghost use Rattle.expression_parser.specs.Given.{Gives, tree_of, tree_height, list_of, trees_height, trees_in};
 
-use crate::parsed::{Parsed, ParsedTrees, added, binary, leaf};
+use crate::behind::{both, closed};
+use crate::parsed::{Parsed, ParsedTrees, added, below, binary, element, leaf, no_trees};
 use crate::sign::{operator_at, why_not};
 use crate::token::{begins_data_type, data_type, expect, text};
 use crate::{Problem, Read, Stopped};
@@ -80,10 +81,12 @@ fn grow<'a>(
             return Ok((left, rest));
         };
         if room <= left.height {
+            drop(left);
             return Err(Stopped::At(Problem::TooHigh, rest));
         }
-        let (right, behind) = operators(alloc, behind, room - 1, level - 1)?;
-        left = binary(alloc, operator, left, right)?;
+        let right = operators(alloc, behind, room - 1, level - 1);
+        let ((first, second), behind) = both(left, right)?;
+        left = binary(alloc, operator, first, second)?;
         rest = behind;
     }
 }
@@ -118,9 +121,9 @@ fn negation<'a>(alloc: Global, place: Span, tokens: &'a [Token], room: u8) -> Re
     ensures height { IfOk result (λ x. (x.0.height ≡ tree_height x.0) × (x.0.height ≤ room)) }
     ensures shorter { IfOk result (λ x. length x.1.now < length tokens.now) }
 {
-    let (operand, rest) = operators(alloc, tokens, room - 1, UNARY)?;
-    let height = operand.height + 1;
-    let tree = Expression::Not(place, Box::new(alloc, operand.tree)?);
+    let operand = operators(alloc, tokens, room - 1, UNARY);
+    let ((operand, height), rest) = below(alloc, operand)?;
+    let tree = Expression::Not(place, operand);
     Ok((Parsed { tree, height }, rest))
 }
 
@@ -134,9 +137,9 @@ fn cast<'a>(alloc: Global, place: Span, tokens: &'a [Token], room: u8) -> Read<'
 {
     let (data_type, rest) = data_type(tokens)?;
     let (_, rest) = expect(Sign::RightParenthesis, rest)?;
-    let (operand, rest) = operators(alloc, rest, room - 1, UNARY)?;
-    let height = operand.height + 1;
-    let tree = Expression::Cast(place, data_type, Box::new(alloc, operand.tree)?);
+    let operand = operators(alloc, rest, room - 1, UNARY);
+    let ((operand, height), rest) = below(alloc, operand)?;
+    let tree = Expression::Cast(place, data_type, operand);
     Ok((Parsed { tree, height }, rest))
 }
 
@@ -157,15 +160,13 @@ fn postfix<'a>(alloc: Global, tokens: &'a [Token], room: u8) -> Read<'a, Parsed>
         return Ok((array, rest));
     }
     if room <= array.height {
+        drop(array);
         return Err(Stopped::At(Problem::TooHigh, rest));
     }
-    let (position, behind) = operators(alloc, behind, room - 1, LOOSEST)?;
-    let (_, behind) = expect(Sign::RightBracket, behind)?;
-    let height = array.height.max(position.height) + 1;
-    let place = array.tree.place();
-    let array = Box::new(alloc, array.tree)?;
-    let tree = Expression::Index(place, array, Box::new(alloc, position.tree)?);
-    Ok((Parsed { tree, height }, behind))
+    let position = operators(alloc, behind, room - 1, LOOSEST);
+    let (parts, behind) = both(array, position)?;
+    let ((array, position), behind) = closed(parts, expect(Sign::RightBracket, behind))?;
+    Ok((element(alloc, array, position)?, behind))
 }
 
 #[cycle(expressions)]
@@ -230,9 +231,9 @@ fn parentheses<'a>(alloc: Global, place: Span, tokens: &'a [Token], room: u8) ->
     ensures shorter { IfOk result (λ x. length x.1.now < length tokens.now) }
 {
     let (inner, rest) = operators(alloc, tokens, room - 1, LOOSEST)?;
-    let (_, rest) = expect(Sign::RightParenthesis, rest)?;
-    let height = inner.height + 1;
-    let tree = Expression::Parentheses(place, Box::new(alloc, inner.tree)?);
+    let inner = closed(inner, expect(Sign::RightParenthesis, rest));
+    let ((inner, height), rest) = below(alloc, inner)?;
+    let tree = Expression::Parentheses(place, inner);
     Ok((Parsed { tree, height }, rest))
 }
 
@@ -246,9 +247,9 @@ fn declassify<'a>(alloc: Global, place: Span, tokens: &'a [Token], room: u8) -> 
 {
     let (_, rest) = expect(Sign::LeftParenthesis, tokens)?;
     let (inner, rest) = operators(alloc, rest, room - 1, LOOSEST)?;
-    let (_, rest) = expect(Sign::RightParenthesis, rest)?;
-    let height = inner.height + 1;
-    let tree = Expression::Declassify(place, Box::new(alloc, inner.tree)?);
+    let inner = closed(inner, expect(Sign::RightParenthesis, rest));
+    let ((inner, height), rest) = below(alloc, inner)?;
+    let tree = Expression::Declassify(place, inner);
     Ok((Parsed { tree, height }, rest))
 }
 
@@ -260,7 +261,7 @@ fn argument<'a>(alloc: Global, place: Span, tokens: &'a [Token]) -> Read<'a, Par
 {
     let (_, rest) = expect(Sign::LeftParenthesis, tokens)?;
     let (name, rest) = text(alloc, rest)?;
-    let (_, rest) = expect(Sign::RightParenthesis, rest)?;
+    let (name, rest) = closed(name, expect(Sign::RightParenthesis, rest))?;
     Ok((leaf(Expression::Argument(place, name)), rest))
 }
 
@@ -274,11 +275,14 @@ fn publish<'a>(alloc: Global, place: Span, tokens: &'a [Token], room: u8) -> Rea
 {
     let (_, rest) = expect(Sign::LeftParenthesis, tokens)?;
     let (name, rest) = text(alloc, rest)?;
-    let (_, rest) = expect(Sign::Comma, rest)?;
-    let (inner, rest) = operators(alloc, rest, room - 1, LOOSEST)?;
-    let (_, rest) = expect(Sign::RightParenthesis, rest)?;
-    let height = inner.height + 1;
-    let tree = Expression::Publish(place, name, Box::new(alloc, inner.tree)?);
+    let (name, rest) = closed(name, expect(Sign::Comma, rest))?;
+    let inner = operators(alloc, rest, room - 1, LOOSEST);
+    let ((name, inner), rest) = both(name, below(alloc, inner))?;
+    let ((name, (inner, height)), rest) = closed(
+        (name, inner),
+        expect(Sign::RightParenthesis, rest),
+    )?;
+    let tree = Expression::Publish(place, name, inner);
     Ok((Parsed { tree, height }, rest))
 }
 
@@ -304,7 +308,7 @@ fn after_name<'a>(
         return Ok((leaf(Expression::Variable(place, name.copy(alloc)?)), tokens));
     }
     let (found, rest) = arguments(alloc, rest, room)?;
-    let (_, rest) = expect(Sign::RightParenthesis, rest)?;
+    let (found, rest) = closed(found, expect(Sign::RightParenthesis, rest))?;
     let height = found.height + 1;
     let tree = Expression::Call(place, name.copy(alloc)?, found.trees);
     Ok((Parsed { tree, height }, rest))
@@ -321,15 +325,11 @@ fn arguments<'a>(alloc: Global, tokens: &'a [Token], room: u8) -> Read<'a, Parse
     let Some((token, _)) = tokens.split_first() else {
         return Err(Stopped::At(Problem::Unexpected, tokens));
     };
-    let none = ParsedTrees {
-        trees: Vec::new(alloc),
-        height: 0,
-    };
     if token.is(Sign::RightParenthesis) {
-        return Ok((none, tokens));
+        return Ok((no_trees(alloc), tokens));
     }
     let (first, rest) = operators(alloc, tokens, room - 1, LOOSEST)?;
-    let found = added(none, first)?;
+    let found = added(no_trees(alloc), first)?;
     more(alloc, found, rest, room)
 }
 
@@ -357,8 +357,9 @@ fn more<'a>(
         if !token.is(Sign::Comma) {
             return Ok((found, rest));
         }
-        let (next, behind) = operators(alloc, behind, room - 1, LOOSEST)?;
-        found = added(found, next)?;
+        let next = operators(alloc, behind, room - 1, LOOSEST);
+        let ((before, next), behind) = both(found, next)?;
+        found = added(before, next)?;
         rest = behind;
     }
 }
