@@ -4,11 +4,12 @@
 # measures; it tests nothing. It wants bash and python3.
 set -eu
 top=$(cd "$(dirname "$0")/.." && pwd)
+. "$top/tools/build.sh"
+find_program
 work=$(mktemp -d)
 trap 'rm -rf "$work"' EXIT
-"$top/secrec" check "$top/examples/sum/sum.sc" >"$work/out"
 
-python3 - "$top/.build/secrec" "$work" <<'PY'
+python3 - "$program" "$work" <<'PY'
 import os, sys, time
 
 program, work = sys.argv[1:]

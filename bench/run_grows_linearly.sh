@@ -5,9 +5,10 @@
 # (or /tmp), and 2 GB of memory.
 set -eu
 top=$(cd "$(dirname "$0")/.." && pwd)
+. "$top/tools/build.sh"
+find_program
 work=$(mktemp -d)
 trap 'rm -rf "$work"' EXIT
-"$top/secrec" run "$top/examples/sum/sum.sc" --input "$top/examples/sum/sum.json" --tape "$top/examples/sum/sum.tape" >"$work/out"
 
 # A file of four tapes of so many words each.
 tapes() {
@@ -41,7 +42,7 @@ PY
 # Of five runs over these tapes and these inputs the one with the least processor time: its processor time in the program and in
 # the kernel, the time that went by (seconds), and its peak memory (kilobytes).
 measure() {
-  python3 - "$top/.build/secrec" "$top/examples/sum/sum.sc" "$work/$1.tape" "$work/$2.json" <<'PY'
+  python3 - "$program" "$top/examples/sum/sum.sc" "$work/$1.tape" "$work/$2.json" <<'PY'
 import os, sys, time
 program, source, tape, inputs = sys.argv[1:]
 def run():

@@ -1,14 +1,17 @@
 #!/usr/bin/env bash
 # Finds how much stack `secrec eval` takes for the programs that want most: 64 calls in one another, the most there may be, each from inside
 # an expression or a statement of the greatest height that the parser takes. It prints the least stack, to 64 kB, with which each shape ends, and ends
-# with status 1 where a shape doesn't end within 8 MiB, the stack that most systems give. It wants bash and python3; a program other than
-# `.build/secrec` can be named.
+# with status 1 where a shape doesn't end within 8 MiB, the stack that most systems give. It wants bash and python3; another program than the one
+# that `./secrec` runs can be named.
 set -eu
 top=$(cd "$(dirname "$0")/.." && pwd)
+program=${1-}
+if [ $# -eq 0 ]; then
+  . "$top/tools/build.sh"
+  find_program
+fi
 work=$(mktemp -d)
 trap 'rm -rf "$work"' EXIT
-program=${1:-$top/.build/secrec}
-[ $# -gt 0 ] || "$top/secrec" check "$top/examples/sum/sum.sc" >"$work/out"
 
 python3 - "$program" "$work" <<'PY'
 import subprocess, sys

@@ -73,31 +73,31 @@ make_build() {
   minutes=$((build_work / $(nproc)))
   [ "$minutes" -ge "$build_chain" ] || minutes=$build_chain
   echo "secrec: proving and building the program (its first use here, or a source has changed); about $minutes minutes on $(nproc) processors" >&2
-  work=$(mktemp -d 2>/dev/null) || give_up "no folder for temporary files can be made in ${TMPDIR:-/tmp}"
+  scratch=$(mktemp -d 2>/dev/null) || give_up "no folder for temporary files can be made in ${TMPDIR:-/tmp}"
   teller=
-  trap '[ -z "$teller" ] || kill "$teller" 2>/dev/null; rm -rf "$work" "$build/new.$$"' EXIT
+  trap '[ -z "$teller" ] || kill "$teller" 2>/dev/null; rm -rf "$scratch" "$build/new.$$"' EXIT
   trap 'exit 130' INT TERM HUP
   # (so rt takes it for the top of a repository of its own)
-  mkdir "$work/.git"
-  (cd "$top" && files_of_program | xargs -0 cp --parents -t "$work" && cp HANDLES "$work" &&
-    lines_of_program >"$work/crates.txt") || give_up "the sources could not be copied to $work"
+  mkdir "$scratch/.git"
+  (cd "$top" && files_of_program | xargs -0 cp --parents -t "$scratch" && cp HANDLES "$scratch" &&
+    lines_of_program >"$scratch/crates.txt") || give_up "the sources could not be copied to $scratch"
   # (neither holds the lock, should it outlive this script)
   tell_progress "$build/log" 9>&- &
   teller=$!
-  (cd "$work" && rt ci) >"$build/log" 2>&1 </dev/null 9>&-
-  status=$?
-  kill "$teller" 2>/dev/null
-  wait "$teller" 2>/dev/null
+  status=0
+  (cd "$scratch" && rt ci) >"$build/log" 2>&1 </dev/null 9>&- || status=$?
+  kill "$teller" 2>/dev/null || true
+  wait "$teller" 2>/dev/null || true
   teller=
-  if [ "$status" -ne 0 ] || [ ! -x "$work/crates/secrec_cli/out/secrec_cli" ]; then
+  if [ "$status" -ne 0 ] || [ ! -x "$scratch/crates/secrec_cli/out/secrec_cli" ]; then
     tail -n 20 "$build/log" >&2
     give_up "the program could not be proved and built; these are the last lines of $build/log"
   fi
-  mkdir "$build/new.$$" && cp "$work/crates/secrec_cli/out/secrec_cli" "$build/new.$$/secrec" && rt version >"$build/new.$$/kit" &&
-    { [ ! -d "$build/$sum" ] || mv "$build/$sum" "$work/old"; } && mv "$build/new.$$" "$build/$sum" || give_up "the program could not be written to $build"
+  mkdir "$build/new.$$" && cp "$scratch/crates/secrec_cli/out/secrec_cli" "$build/new.$$/secrec" && rt version >"$build/new.$$/kit" &&
+    { [ ! -d "$build/$sum" ] || mv "$build/$sum" "$scratch/old"; } && mv "$build/new.$$" "$build/$sum" || give_up "the program could not be written to $build"
   # (builds of other sources are let go)
   find "$build" -mindepth 1 -maxdepth 1 -type d ! -name "$sum" -exec rm -rf {} +
-  rm -rf "$work"
+  rm -rf "$scratch"
   trap - EXIT INT TERM HUP
   echo "secrec: proved and built" >&2
 }
