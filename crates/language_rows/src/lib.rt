@@ -1,20 +1,15 @@
-//! Rows of the language: texts, with the tokens, trees, types, instances and refusals that the rules give, worked out by hand.
+//! Rows of the language that no whole call of the program shows: the trees and tokens that texts are read as, with the place of each
+//! node, the instances that are checked and reached, and typed trees, all worked out by hand.
 //!
 //! They stand in a crate of their own, since they cross the lexer, the parsers and the checker, whose functions needn't be proved
-//! again for them.
+//! again for them. What whole calls show stands in the row files of the crate `rows`.
 #![tactic(auto)]
 
 #[cfg(test)]
-mod expressions;
-#[cfg(test)]
 mod instances;
-#[cfg(test)]
-mod reached;
-#[cfg(test)]
-mod statements;
 #[cfg(test)]
 mod tokens;
 #[cfg(test)]
-mod type_rules;
+mod trees;
 #[cfg(test)]
 mod typed_trees;

@@ -1,8 +1,9 @@
 // The typed tree of a program with a template, and a program that has none.
 use program_typing::type_program;
-use secrec_ast::DataType;
+use secrec_ast::{DataType, Program};
 use secrec_lexer::lex;
 use secrec_parser::parse;
+use std::alloc::Global;
 use std::test::Fail;
 use typed_tree::{
     Given, ResolveError, Shape, Slot, SlotDomain, TypedExpression, TypedFunction, TypedStatement,
@@ -52,23 +53,38 @@ fn is_template(function: &TypedFunction) -> bool {
         )
 }
 
+// `main` and the template that it calls, in the order of the calls.
+fn stand_in_order(functions: &[TypedFunction]) -> bool {
+    match functions {
+        [main, template] => is_main(main) && is_template(template),
+        _ => false,
+    }
+}
+
+// Whether the program is typed so.
+fn is_typed(alloc: Global, program: &Program) -> bool {
+    match type_program(alloc, program) {
+        Ok(typed) => stand_in_order(&typed.functions),
+        Err(_) => false,
+    }
+}
+
+// The program of a text, if it has one.
+fn program(alloc: Global, text: &[u8]) -> Result<Program, Fail> {
+    let tokens = lex(alloc, text).map_err(|_| Fail::from("no tokens"))?;
+    parse(alloc, &tokens).map_err(|_| Fail::from("no tree"))
+}
+
 #[test]
 fn functions_stand_in_the_order_of_their_calls(rt: HostRuntime) -> Result<(), Fail> {
-    let alloc = rt.alloc();
-    let tokens = lex(alloc, PROGRAM.as_bytes()).map_err(|_| Fail::from("no tokens"))?;
-    let program = parse(alloc, &tokens).map_err(|_| Fail::from("no tree"))?;
-    let typed = type_program(alloc, &program).map_err(|_| Fail::from("no types"))?;
-    assert_eq!(rt; typed.functions.len(), 2);
-    assert!(rt; is_main(&typed.functions[0]));
-    assert!(rt; is_template(&typed.functions[1]));
+    let program = program(rt.alloc(), PROGRAM.as_bytes())?;
+    assert!(rt; is_typed(rt.alloc(), &program));
     Ok(())
 }
 
 #[test]
 fn a_name_that_means_nothing_stays_unresolved(rt: HostRuntime) -> Result<(), Fail> {
-    let alloc = rt.alloc();
-    let tokens = lex(alloc, b"void main() { x; }").map_err(|_| Fail::from("no tokens"))?;
-    let program = parse(alloc, &tokens).map_err(|_| Fail::from("no tree"))?;
-    assert!(rt; matches!(resolve(alloc, &program), Err(ResolveError::Unresolved)));
+    let program = program(rt.alloc(), b"void main() { x; }")?;
+    assert!(rt; matches!(resolve(rt.alloc(), &program), Err(ResolveError::Unresolved)));
     Ok(())
 }
