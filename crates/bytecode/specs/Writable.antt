@@ -1,6 +1,6 @@
 -- Which code can be written so that it is read again.
 use Rattle.std.specs.Prelude.{◌≡◌, ℕ, ◌<◌, ◌^◌, List, [], ◌∷◌, length, map, Bool, not, ◌&&◌, IsTrue, Option, None, Some, slice_get}
-use Rattle.std.specs.List.{All, list_any}
+use Rattle.std.specs.List.{AllByRecursion as Each, list_any}
 use Rattle.std.specs.Str.{bytes_eq}
 use Rattle.sc_text.specs.Name.{is_name}
 use Rattle.bytecode.specs.Raw.{Raw, Literal, Move, Store, Binary, Not, Cast, Classify, Fill, At, Put, Size, Cat, Sum, Bits, Declassify, Argument, Publish, Assert, Branch, Jump, Call, Return, ReturnNone, RawFunction, RawCode}
@@ -58,11 +58,11 @@ AreNewNames earlier [] = Unit {0}
 AreNewNames earlier (name ∷ names) = IsTrue (is_new_name earlier name) × AreNewNames (name ∷ earlier) names
 
 abbrev pub AreProper : List ℕ → List RawFunction → Type 0
-AreProper ps = All (λ f. All (IsProper ps) f.body)
+AreProper ps = Each (λ f. Each (IsProper ps) f.body)
 
 pub record IsWritable (code : RawCode) : Type 0 where
   -- also says how many names, functions, registers and instructions there may be
-  pub fits : All Fits (code_numbers code)
+  pub fits : Each Fits (code_numbers code)
   pub names : AreNewNames [] code.names
   pub some_function : 0 < length code.functions
   pub instructions : AreProper (parameters_of code.functions) code.functions

@@ -2,7 +2,7 @@
 #![tactic(auto)]
 
 mod kind;
-
+mod laws;
 
 pub use kind::Kind;
-
+pub use laws::{read_code_is_written, written_code_is_read_again};
