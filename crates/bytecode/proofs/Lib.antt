@@ -1,3 +1,4 @@
 pub mod Layouts
 pub mod Instructions
 pub mod Codes
+pub mod Little

@@ -4,4 +4,6 @@ pub mod Written
 pub mod Writable
 pub mod Layouts
 pub mod Decoded
+pub mod InMemory
+pub mod Numbers
 pub mod Vectors

@@ -1,8 +1,17 @@
 //! Code as bytes: instructions with the numbers that the bytes say, how they are written, and how a text is read.
 #![tactic(auto)]
 
+mod code;
+mod instruction;
 mod kind;
-mod laws;
 
+mod laws;
+mod numbers;
+mod operator;
+mod writing;
+
+pub use code::{Code, Function};
+pub use instruction::{FunctionPlace, Instruction, NamePlace, Register, Target};
 pub use kind::Kind;
 pub use laws::{read_code_is_written, written_code_is_read_again};
+pub use operator::BinaryOperator;
