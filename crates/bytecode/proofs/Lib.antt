@@ -2,3 +2,4 @@ pub mod Layouts
 pub mod Instructions
 pub mod Codes
 pub mod Little
+pub mod Encoded

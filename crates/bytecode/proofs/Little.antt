@@ -1,6 +1,7 @@
 -- Numbers that are written byte by byte, and lists of numbers one by one.
-use Rattle.std.proofs.Common.{◌≡◌, ℕ, zero, suc, ◌+◌, ◌-◌, ◌/◌, ◌%◌, ◌<◌, List, [], ◌∷◌, ◌++◌, map, length, take, get_or, refl, sym, ap, ◌∙◌, subst, arith, append_assoc, append-nil}
+use Rattle.std.proofs.Common.{◌≡◌, ℕ, zero, suc, ◌+◌, ◌-◌, ◌/◌, ◌%◌, ◌<◌, ◌≤◌, List, [], ◌∷◌, ◌++◌, map, length, take, get_or, refl, sym, ap, ◌∙◌, subst, arith, append_assoc, append-nil, take_all}
 use Rattle.std.proofs.lemmas.List.{take_more, map-append}
+use Rattle.std.proofs.lemmas.List.Folds.{flat_map-map}
 use Rattle.std.proofs.lemmas.Grind.{flat_map-append}
 use Rattle.std.specs.List.{flat_map}
 use Rattle.bytecode.specs.Written.{Number, sized, little, bytes_of}
@@ -46,3 +47,14 @@ more_pieces f xs i d start old new l e g =
 pub map_twice : {X Y Z : Type 0} (g : Y → Z) (f : X → Y) (xs : List X) → map g (map f xs) ≡ map (λ x. g (f x)) xs
 map_twice g f [] = refl
 map_twice g f (x ∷ xs) = ap (λ z. g (f x) ∷ z) (map_twice g f xs)
+
+-- the element as a loop over a list has it
+pub more_items : {X : Type 0} (f : X → List Number) (xs : List X) (i : ℕ) (x : X) → x ≡ get_or xs i x → (start old new : List ℕ) → i < length xs
+    → old ≡ start ++ bytes_of (flat_map f (take i xs)) → new ≡ old ++ bytes_of (f x) → new ≡ start ++ bytes_of (flat_map f (take (i + 1) xs))
+more_items f xs i x e start old new l g h = more_pieces f xs i x start old new l g (subst (λ y. new ≡ old ++ bytes_of (f y)) e h)
+
+-- what a loop over mapped elements has written in the end
+pub all_items : {X Y : Type 0} (f : Y → List Number) (g : X → Y) (xs : List X) (i : ℕ) (start new : List ℕ) → length xs ≤ i
+    → new ≡ start ++ bytes_of (flat_map (λ x. f (g x)) (take i xs)) → new ≡ start ++ bytes_of (flat_map f (map g xs))
+all_items f g xs i start new l e =
+    e ∙ ap (λ z. start ++ bytes_of z) (ap (flat_map (λ x. f (g x))) (take_all i xs l) ∙ sym (flat_map-map f g xs))

@@ -2,6 +2,7 @@
 #![tactic(auto)]
 
 mod code;
+mod encoding;
 mod instruction;
 mod kind;
 
@@ -11,6 +12,7 @@ mod operator;
 mod writing;
 
 pub use code::{Code, Function};
+pub use encoding::encode;
 pub use instruction::{FunctionPlace, Instruction, NamePlace, Register, Target};
 pub use kind::Kind;
 pub use laws::{read_code_is_written, written_code_is_read_again};
