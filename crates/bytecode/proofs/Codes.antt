@@ -110,9 +110,25 @@ head_of f = record { parameters = f.parameters; gives = f.gives; registers = f.r
 
 head_spells : (f : RawFunction) → Spells head_layout (head_numbers f) (head_of f)
 head_spells f =
-    let r = return_back f.gives in
-    (_, _, refl, refl, (_, _, refl, r.1, (_, _, refl, refl,
-    kinds_spell f.registers _ (short (length f.body) ∷ []) (head_of f) (_, _, refl, refl, (refl, ap (λ g. record { parameters = f.parameters; gives = g; registers = f.registers; instructions = length f.body }) r.0)))))
+    let r = return_back f.gives in (
+      _,
+      _,
+      refl,
+      refl,
+      (
+        _,
+        _,
+        refl,
+        r.1,
+        (
+          _,
+          _,
+          refl,
+          refl,
+          kinds_spell f.registers _ (short (length f.body) ∷ []) (head_of f) (_, _, refl, refl, (refl, ap (λ g. record { parameters = f.parameters; gives = g; registers = f.registers; instructions = length f.body }) r.0)),
+        ),
+      ),
+    )
 
 -- the numbers of a head, whatever the body
 abbrev numbers_of_head : Head → List Number
@@ -130,8 +146,8 @@ head_told ns head h =
     let made : Head = record { parameters = p; gives = return_of b; registers = r.ks; instructions = count } in
     let end : r.rest ≡ short count ∷ [] = s.2 ∙ ap (λ z. short count ∷ z) s.4.0 in
     let same : ns ≡ numbers_of_head made =
-        h.2 ∙ ap (λ z. short p ∷ z) (h.4.2 ∙ ap (λ z. byte z ∷ h.4.1) (sym (return_byte_back b h.4.3)) ∙ ap (λ z. byte (return_byte (return_of b)) ∷ z)
-        (h.4.4.2 ∙ ap (λ z. short z ∷ h.4.4.1) (sym r.long) ∙ ap (λ z. short (length r.ks) ∷ z) (r.same ∙ ap (λ z. kind_numbers r.ks ++ z) end))) in
+    h.2 ∙ ap (λ z. short p ∷ z) (h.4.2 ∙ ap (λ z. byte z ∷ h.4.1) (sym (return_byte_back b h.4.3)) ∙ ap (λ z. byte (return_byte (return_of b)) ∷ z)
+    (h.4.4.2 ∙ ap (λ z. short z ∷ h.4.4.1) (sym r.long) ∙ ap (λ z. short (length r.ks) ∷ z) (r.same ∙ ap (λ z. kind_numbers r.ks ++ z) end))) in
     same ∙ ap numbers_of_head s.4.1
 
 heads_spell : (fs : List RawFunction) → Spells (heads_layout (length fs)) (flat_map head_numbers fs) (map head_of fs)
@@ -148,9 +164,10 @@ heads_told (suc n) ns hs h =
     let q = behind_apart (heads_layout n) (λ hs. Makes (r.value ∷ hs)) r.second hs r.seconds in
     let ih = heads_told n q.first q.value q.firsts in
     let e : (r.value ∷ q.value) ≡ hs = q.seconds.1 in
-    let tail : r.second ≡ flat_map numbers_of_head q.value = q.apart ∙ ap (λ z. q.first ++ z) q.seconds.0 ∙ append-nil q.first ∙ ih.0 in
-    (r.apart ∙ ap (λ z. z ++ r.second) (head_told r.first r.value r.firsts) ∙ ap (λ z. numbers_of_head r.value ++ z) tail ∙ ap (λ z. flat_map numbers_of_head z) e,
-    ap length (sym e) ∙ ap suc ih.1)
+    let tail : r.second ≡ flat_map numbers_of_head q.value = q.apart ∙ ap (λ z. q.first ++ z) q.seconds.0 ∙ append-nil q.first ∙ ih.0 in (
+      r.apart ∙ ap (λ z. z ++ r.second) (head_told r.first r.value r.firsts) ∙ ap (λ z. numbers_of_head r.value ++ z) tail ∙ ap (λ z. flat_map numbers_of_head z) e,
+      ap length (sym e) ∙ ap suc ih.1,
+    )
 
 -- ---- names
 
@@ -160,10 +177,15 @@ is_name_short name h = (and_parts _ _ h).0
 
 names_spell : (earlier names : List (List ℕ)) → AreNewNames earlier names → Spells (names_layout earlier (length names)) (flat_map name_numbers names) names
 names_spell earlier [] h = (refl, refl)
-names_spell earlier (name ∷ names) h =
-    (name, flat_map name_numbers names, refl, is_name_short name (and_parts _ _ h.0).0, h.0,
-    subst (λ z. Spells (behind (names_layout (name ∷ earlier) (length names)) (λ ns. Makes (name ∷ ns))) z (name ∷ names)) (append-nil (flat_map name_numbers names))
-    (behind_spells (names_layout (name ∷ earlier) (length names)) _ (flat_map name_numbers names) [] names (name ∷ names) (names_spell (name ∷ earlier) names h.1) (refl, refl)))
+names_spell earlier (name ∷ names) h = (
+  name,
+  flat_map name_numbers names,
+  refl,
+  is_name_short name (and_parts _ _ h.0).0,
+  h.0,
+  subst (λ z. Spells (behind (names_layout (name ∷ earlier) (length names)) (λ ns. Makes (name ∷ ns))) z (name ∷ names)) (append-nil (flat_map name_numbers names))
+      (behind_spells (names_layout (name ∷ earlier) (length names)) _ (flat_map name_numbers names) [] names (name ∷ names) (names_spell (name ∷ earlier) names h.1) (refl, refl)),
+)
 
 names_told : (earlier : List (List ℕ)) (n : ℕ) (ns : List Number) (names : List (List ℕ)) → Spells (names_layout earlier n) ns names
     → (ns ≡ flat_map name_numbers names) × (length names ≡ n) × AreNewNames earlier names
@@ -173,10 +195,11 @@ names_told earlier (suc n) ns names h =
     let q = behind_apart (names_layout (h.0 ∷ earlier) n) (λ names. Makes (h.0 ∷ names)) h.1 names h.5 in
     let ih = names_told (h.0 ∷ earlier) n q.first q.value q.firsts in
     let e : (h.0 ∷ q.value) ≡ names = q.seconds.1 in
-    let tail : h.1 ≡ flat_map name_numbers q.value = q.apart ∙ ap (λ z. q.first ++ z) q.seconds.0 ∙ append-nil q.first ∙ ih.0 in
-    (h.2 ∙ ap (λ z. name_numbers h.0 ++ z) tail ∙ ap (λ z. flat_map name_numbers z) e,
-    ap length (sym e) ∙ ap suc ih.1,
-    subst (AreNewNames earlier) e (h.4, ih.2))
+    let tail : h.1 ≡ flat_map name_numbers q.value = q.apart ∙ ap (λ z. q.first ++ z) q.seconds.0 ∙ append-nil q.first ∙ ih.0 in (
+      h.2 ∙ ap (λ z. name_numbers h.0 ++ z) tail ∙ ap (λ z. flat_map name_numbers z) e,
+      ap length (sym e) ∙ ap suc ih.1,
+      subst (AreNewNames earlier) e (h.4, ih.2),
+    )
 
 -- ---- bodies
 
@@ -196,10 +219,11 @@ body_told ps (suc n) ns is h =
     let ih = body_told ps n q.first q.value q.firsts in
     let i = instruction_told ps r.first r.value r.firsts in
     let e : (r.value ∷ q.value) ≡ is = q.seconds.1 in
-    let tail : r.second ≡ flat_map instruction_numbers q.value = q.apart ∙ ap (λ z. q.first ++ z) q.seconds.0 ∙ append-nil q.first ∙ ih.0 in
-    (r.apart ∙ ap (λ z. z ++ r.second) i.0 ∙ ap (λ z. instruction_numbers r.value ++ z) tail ∙ ap (λ z. flat_map instruction_numbers z) e,
-    ap length (sym e) ∙ ap suc ih.1,
-    subst (Each (IsProper ps)) e (i.1, ih.2))
+    let tail : r.second ≡ flat_map instruction_numbers q.value = q.apart ∙ ap (λ z. q.first ++ z) q.seconds.0 ∙ append-nil q.first ∙ ih.0 in (
+      r.apart ∙ ap (λ z. z ++ r.second) i.0 ∙ ap (λ z. instruction_numbers r.value ++ z) tail ∙ ap (λ z. flat_map instruction_numbers z) e,
+      ap length (sym e) ∙ ap suc ih.1,
+      subst (Each (IsProper ps)) e (i.1, ih.2),
+    )
 
 bodies_spell : (ps : List ℕ) (fs : List RawFunction) → AreProper ps fs → Spells (bodies_layout ps (map head_of fs)) (flat_map body_numbers fs) fs
 bodies_spell ps [] h = (refl, refl)
@@ -225,7 +249,7 @@ bodies_told ps (head ∷ hs) ns fs h =
     let f = function_of head r.value in
     let tail : r.second ≡ flat_map body_numbers q.value = q.apart ∙ ap (λ z. q.first ++ z) q.seconds.0 ∙ append-nil q.first ∙ ih.numbers in
     let own : numbers_of_head head ≡ head_numbers f =
-        ap (λ n. short head.parameters ∷ byte (return_byte head.gives) ∷ short (length head.registers) ∷ (kind_numbers head.registers ++ short n ∷ [])) (sym b.1) in
+    ap (λ n. short head.parameters ∷ byte (return_byte head.gives) ∷ short (length head.registers) ∷ (kind_numbers head.registers ++ short n ∷ [])) (sym b.1) in
     let told : BodiesTold ps (head ∷ hs) ns (f ∷ q.value) = record {
       numbers = r.apart ∙ ap (λ z. z ++ r.second) b.0 ∙ ap (λ z. body_numbers f ++ z) tail;
       heads = ap (λ z. z ++ flat_map numbers_of_head hs) own ∙ ap (λ z. head_numbers f ++ z) ih.heads;
@@ -252,10 +276,11 @@ functions_told : (n : ℕ) (ns : List Number) (fs : List RawFunction) → Spells
 functions_told n ns fs h =
     let r = behind_apart (heads_layout n) (λ hs. bodies_layout (map (λ h. h.parameters) hs) hs) ns fs h in
     let heads = heads_told n r.first r.value r.firsts in
-    let b = bodies_told (map (λ h. h.parameters) r.value) r.value r.second fs r.seconds in
-    (r.apart ∙ ap (λ z. z ++ r.second) (heads.0 ∙ b.heads) ∙ ap (λ z. flat_map head_numbers fs ++ z) b.numbers,
-    b.long ∙ heads.1,
-    subst (λ ps. AreProper ps fs) b.parameters b.proper)
+    let b = bodies_told (map (λ h. h.parameters) r.value) r.value r.second fs r.seconds in (
+      r.apart ∙ ap (λ z. z ++ r.second) (heads.0 ∙ b.heads) ∙ ap (λ z. flat_map head_numbers fs ++ z) b.numbers,
+      b.long ∙ heads.1,
+      subst (λ ps. AreProper ps fs) b.parameters b.proper,
+    )
 
 -- ---- code
 
@@ -263,12 +288,50 @@ abbrev counted : RawCode → List Number
 counted code = short (length code.functions) ∷ functions_numbers code.functions
 
 code_spells : (code : RawCode) → IsWritable code → Spells code_layout (code_numbers code) code
-code_spells code w =
-    (_, _, refl, refl, (_, _, refl, refl, (_, _, refl, refl, (_, _, refl, refl, (_, _, refl, refl, (_, _, refl, refl,
-    behind_spells (names_layout [] (length code.names)) _ (flat_map name_numbers code.names) (counted code) code.names code (names_spell [] code.names w.names)
-    (_, _, refl, lt-ltb 0 (length code.functions) w.some_function,
-    subst (λ z. Spells (behind (functions_layout (length code.functions)) (λ fs. Makes (record { names = code.names; functions = fs }))) z code) (append-nil (functions_numbers code.functions))
-    (behind_spells (functions_layout (length code.functions)) _ (functions_numbers code.functions) [] code.functions code (functions_spell code.functions w.instructions) (refl, refl)))))))))
+code_spells code w = (
+  _,
+  _,
+  refl,
+  refl,
+  (
+    _,
+    _,
+    refl,
+    refl,
+    (
+      _,
+      _,
+      refl,
+      refl,
+      (
+        _,
+        _,
+        refl,
+        refl,
+        (
+          _,
+          _,
+          refl,
+          refl,
+          (
+            _,
+            _,
+            refl,
+            refl,
+            behind_spells (names_layout [] (length code.names)) _ (flat_map name_numbers code.names) (counted code) code.names code (names_spell [] code.names w.names) (
+              _,
+              _,
+              refl,
+              lt-ltb 0 (length code.functions) w.some_function,
+              subst (λ z. Spells (behind (functions_layout (length code.functions)) (λ fs. Makes (record { names = code.names; functions = fs }))) z code) (append-nil (functions_numbers code.functions))
+                  (behind_spells (functions_layout (length code.functions)) _ (functions_numbers code.functions) [] code.functions code (functions_spell code.functions w.instructions) (refl, refl)),
+            ),
+          ),
+        ),
+      ),
+    ),
+  ),
+)
 
 record CodeTold (ns : List Number) (code : RawCode) : Type 0 where
   numbers : ns ≡ code_numbers code
@@ -292,12 +355,12 @@ code_told ns code h =
     let tail : s.1 ≡ functions_numbers q.value = q.apart ∙ ap (λ z. q.first ++ z) q.seconds.0 ∙ append-nil q.first ∙ functions.0 in
     let counts : r.second ≡ short (length q.value) ∷ functions_numbers q.value = s.2 ∙ ap (λ z. short z ∷ s.1) (sym functions.1) ∙ ap (λ z. short (length q.value) ∷ z) tail in
     let all : count.1 ≡ flat_map name_numbers r.value ++ (short (length q.value) ∷ functions_numbers q.value) =
-        r.apart ∙ ap (λ z. z ++ r.second) names.0 ∙ ap (λ z. flat_map name_numbers r.value ++ z) counts in
+    r.apart ∙ ap (λ z. z ++ r.second) names.0 ∙ ap (λ z. flat_map name_numbers r.value ++ z) counts in
     let told : CodeTold ns (record { names = r.value; functions = q.value }) = record {
       numbers =
-        opened h.0 83 h.1 ns _ h.3 h.2 (opened h.4.0 67 h.4.1 h.1 _ h.4.3 h.4.2 (opened h.4.4.0 51 h.4.4.1 h.4.1 _ h.4.4.3 h.4.4.2 (opened h.4.4.4.0 80 h.4.4.4.1 h.4.4.1 _ h.4.4.4.3 h.4.4.4.2
-        (opened version.0 1 version.1 h.4.4.4.1 _ version.3 version.2
-        (count.2 ∙ ap (λ z. short z ∷ count.1) (sym names.1) ∙ ap (λ z. short (length r.value) ∷ z) all)))));
+          opened h.0 83 h.1 ns _ h.3 h.2 (opened h.4.0 67 h.4.1 h.1 _ h.4.3 h.4.2 (opened h.4.4.0 51 h.4.4.1 h.4.1 _ h.4.4.3 h.4.4.2 (opened h.4.4.4.0 80 h.4.4.4.1 h.4.4.1 _ h.4.4.4.3 h.4.4.4.2
+          (opened version.0 1 version.1 h.4.4.4.1 _ version.3 version.2
+          (count.2 ∙ ap (λ z. short z ∷ count.1) (sym names.1) ∙ ap (λ z. short (length r.value) ∷ z) all)))));
       names = names.2;
       some_function = subst (λ z. 0 < z) (sym functions.1) (ltb-true 0 s.0 s.3);
       instructions = functions.2;
@@ -327,7 +390,8 @@ read_is_written text code bs h = go (read code_layout text) refl h
     go (Ok x) e h =
         let w = ended_whole (length text) x.0 code x.1 h in
         let s : Spelled code_layout text code [] =
-            subst (λ z. Spelled code_layout text z []) w.0 (subst (λ z. Spelled code_layout text x.0 z) w.1 (layout_spelled code_layout text x.0 x.1 bs e)) in
-        let t = code_told s.numbers code s.spells in
-        (ap bytes_of (sym t.numbers) ∙ sym (append-nil (bytes_of s.numbers)) ∙ sym s.same,
-        record { fits = subst (Each Fits) t.numbers s.fits; names = t.names; some_function = t.some_function; instructions = t.instructions })
+        subst (λ z. Spelled code_layout text z []) w.0 (subst (λ z. Spelled code_layout text x.0 z) w.1 (layout_spelled code_layout text x.0 x.1 bs e)) in
+        let t = code_told s.numbers code s.spells in (
+          ap bytes_of (sym t.numbers) ∙ sym (append-nil (bytes_of s.numbers)) ∙ sym s.same,
+          record { fits = subst (Each Fits) t.numbers s.fits; names = t.names; some_function = t.some_function; instructions = t.instructions },
+        )

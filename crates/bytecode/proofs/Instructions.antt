@@ -37,10 +37,26 @@ instruction_spells ps (Assert r line) h = (_, _, refl, refl, (_, _, refl, refl, 
 instruction_spells ps (Branch r v target) h = (_, _, refl, refl, (_, _, refl, refl, (_, _, refl, lt-ltb v 2 h, (_, _, refl, refl, (refl, refl)))))
 instruction_spells ps (Jump target) h = (_, _, refl, refl, (_, _, refl, refl, (refl, refl)))
 instruction_spells ps (Return r) h = (_, _, refl, refl, (_, _, refl, refl, (refl, refl)))
-instruction_spells ps (Call f d xs line) h =
-    (_, _, refl, refl, (_, _, refl, refl, (_, _, refl, refl,
-    subst (λ n. Spells (shorts n (λ xs. line_field (λ line. Makes (Call f d xs line)))) (map short xs ++ source_line line ∷ []) (Call f d xs line)) h
-    (shorts_spell xs (λ xs. line_field (λ line. Makes (Call f d xs line))) (source_line line ∷ []) (Call f d xs line) (_, _, refl, refl, (refl, refl))))))
+instruction_spells ps (Call f d xs line) h = (
+  _,
+  _,
+  refl,
+  refl,
+  (
+    _,
+    _,
+    refl,
+    refl,
+    (
+      _,
+      _,
+      refl,
+      refl,
+      subst (λ n. Spells (shorts n (λ xs. line_field (λ line. Makes (Call f d xs line)))) (map short xs ++ source_line line ∷ []) (Call f d xs line)) h
+          (shorts_spell xs (λ xs. line_field (λ line. Makes (Call f d xs line))) (source_line line ∷ []) (Call f d xs line) (_, _, refl, refl, (refl, refl))),
+    ),
+  ),
+)
 instruction_spells ps (ReturnNone) h = (_, _, refl, refl, (refl, refl))
 
 -- ---- and what spells is written

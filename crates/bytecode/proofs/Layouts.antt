@@ -193,8 +193,8 @@ layout_spelled {A} (NameField test next) text a rest bs h = go (number 1 text) r
               spells = (n, r.numbers, refl, subst (λ z. IsTrue (is_name_length z)) long l, t, r.spells);
               fits = (subst (λ z. z < 256 ^ 1) long m.small, fits);
               same =
-                m.same ∙ ap (λ z. little 1 z ++ y.1) long ∙ ap (λ z. little 1 (length n) ++ z)
-                (p.same ∙ ap (λ z. n ++ z) r.same ∙ sym (append_assoc n (bytes_of r.numbers) rest) ∙ ap (λ z. z ++ rest) (sym (name_bytes n r.numbers fits)));
+                  m.same ∙ ap (λ z. little 1 z ++ y.1) long ∙ ap (λ z. little 1 (length n) ++ z)
+                  (p.same ∙ ap (λ z. n ++ z) r.same ∙ sym (append_assoc n (bytes_of r.numbers) rest) ∙ ap (λ z. z ++ rest) (sym (name_bytes n r.numbers fits)));
               bytes = r.bytes;
             }
 

@@ -2,10 +2,10 @@
 #![tactic(auto)]
 
 mod code;
+mod copy;
 mod encoding;
 mod instruction;
 mod kind;
-
 mod laws;
 mod numbers;
 mod operator;
