@@ -1,5 +1,5 @@
 -- A whole text: what is written of code is read again, and what is read is what would be written.
-use Rattle.std.proofs.Common.{◌≡◌, ℕ, zero, suc, ◌+◌, ◌-◌, ◌==◌, ◌||◌, ◌<◌, List, [], ◌∷◌, ◌++◌, length, map, Bool, true, false, Option, None, Some, Result, Ok, Err, refl, sym, ap, ◌∙◌, subst, inl, inr, arith, append_assoc, append-nil, IsTrue, if◌then◌else◌}
+use Rattle.std.proofs.Common.{◌≡◌, ℕ, zero, suc, ◌==◌, ◌||◌, ◌<◌, List, [], ◌∷◌, ◌++◌, length, map, Bool, true, false, Option, None, Some, Ok, Err, refl, sym, ap, ◌∙◌, subst, inl, inr, arith, append-nil, IsTrue, if◌then◌else◌}
 use Rattle.std.proofs.lemmas.Bool.{lt-ltb, ltb-true, eqb-true, or_cases, and_parts}
 use Rattle.std.specs.List.{AllByRecursion as Each, All, flat_map}
 use Rattle.sc_text.specs.Name.{is_name}
@@ -8,11 +8,11 @@ use Rattle.secrec_ast.specs.declared.expression.DataType.TheVariants as types
 use Rattle.bytecode.specs.declared.kind.Kind.{Kind}
 use Rattle.bytecode.specs.Kinds.{kind_byte, is_kind, kind_of, return_byte, is_return, return_of}
 use Rattle.bytecode.specs.Raw.{Raw, RawFunction, RawCode}
-use Rattle.bytecode.specs.Written.{Number, sized, byte, short, bytes_of, instruction_numbers, head_numbers, body_numbers, name_numbers, opening_numbers, code_numbers, written_code}
-use Rattle.bytecode.specs.Writable.{Fits, parameters_of, IsProper, is_new_name, AreNewNames, AreProper, IsWritable}
-use Rattle.bytecode.specs.Layouts.{Why, Trailing, is_name_length, Layout, Makes, Field, Read, read, behind}
-use Rattle.bytecode.specs.Decoded.{instruction_layout, body_layout, Head, kinds, head_layout, heads_layout, names_layout, function_of, bodies_layout, functions_layout, code_layout, Fault, ended, whole, decoded}
-use Rattle.bytecode.proofs.Layouts.{Spells, layout_reads, AreBytes, Spelled, layout_spelled, behind_spells, Both, behind_apart}
+use Rattle.bytecode.specs.Written.{Number, byte, short, bytes_of, instruction_numbers, head_numbers, body_numbers, name_numbers, code_numbers, written_code}
+use Rattle.bytecode.specs.Writable.{Fits, parameters_of, IsProper, AreNewNames, AreProper, IsWritable}
+use Rattle.bytecode.specs.Layouts.{is_name_length, Layout, Makes, Field, Read, read, behind}
+use Rattle.bytecode.specs.Decoded.{instruction_layout, body_layout, Head, kinds, head_layout, heads_layout, names_layout, function_of, bodies_layout, functions_layout, code_layout, ended, whole, decoded}
+use Rattle.bytecode.proofs.Layouts.{Spells, layout_reads, AreBytes, Spelled, layout_spelled, behind_spells, behind_apart}
 use Rattle.bytecode.proofs.Instructions.{instruction_spells, instruction_told}
 
 -- ---- kinds

@@ -1,5 +1,5 @@
 -- What stands in a text when the parts of a head and of code have been written one after the other.
-use Rattle.std.proofs.Common.{◌≡◌, ℕ, List, [], ◌∷◌, ◌++◌, map, length, refl, sym, ap, ◌∙◌, append_assoc}
+use Rattle.std.proofs.Common.{◌≡◌, ℕ, List, [], ◌∷◌, ◌++◌, map, length, sym, ap, ◌∙◌, append_assoc}
 use Rattle.std.proofs.lemmas.List.{length-map}
 use Rattle.std.specs.List.{flat_map}
 use Rattle.bytecode.specs.declared.kind.Kind.{Kind}

@@ -1,12 +1,11 @@
 -- Instructions are spelled by the numbers that are written of them, and by no others.
-use Rattle.std.proofs.Common.{◌≡◌, ℕ, zero, suc, ◌<◌, List, [], ◌∷◌, ◌++◌, length, map, Bool, true, false, refl, sym, ap, ◌∙◌, subst, arith, IsTrue}
+use Rattle.std.proofs.Common.{◌≡◌, ℕ, zero, suc, ◌<◌, List, [], ◌∷◌, ◌++◌, length, map, refl, ap, ◌∙◌, subst, arith, IsTrue}
 use Rattle.std.proofs.lemmas.Bool.{lt-ltb, ltb-true, and_parts}
-use Rattle.std.specs.List.{AllByRecursion as Each}
 use Rattle.bytecode.specs.Raw.{Raw, Literal, Move, Store, Binary, Not, Cast, Classify, Fill, At, Put, Size, Cat, Sum, Bits, Declassify, Argument, Publish, Assert, Branch, Jump, Call, Return, ReturnNone}
-use Rattle.bytecode.specs.Written.{Number, sized, byte, short, source_line, word, instruction_numbers}
+use Rattle.bytecode.specs.Written.{Number, byte, short, source_line, word, instruction_numbers}
 use Rattle.bytecode.specs.Writable.{arguments_at, IsProper}
-use Rattle.bytecode.specs.Layouts.{Layout, Makes, Field}
-use Rattle.bytecode.specs.Decoded.{any, short_field, line_field, shorts, pair_layout, triple_layout, is_tag, operands, instruction_layout}
+use Rattle.bytecode.specs.Layouts.{Layout, Makes}
+use Rattle.bytecode.specs.Decoded.{line_field, shorts, pair_layout, triple_layout, is_tag, operands, instruction_layout}
 use Rattle.bytecode.proofs.Layouts.{Spells}
 
 -- ---- what is written spells

@@ -1,5 +1,5 @@
 -- What a text of code is read as, or its first fault.
-use Rattle.std.specs.Prelude.{ℕ, zero, suc, ◌-◌, ◌==◌, ◌&&◌, not, nat_le, nat_lt, List, [], ◌∷◌, length, map, Bool, true, Option, Result, Ok, Err, if◌then◌else◌}
+use Rattle.std.specs.Prelude.{ℕ, zero, suc, ◌-◌, ◌==◌, ◌&&◌, not, nat_lt, List, [], ◌∷◌, length, map, Bool, true, Option, Result, Ok, Err, if◌then◌else◌}
 use Rattle.bytecode.specs.declared.kind.Kind.{Kind}
 use Rattle.bytecode.specs.Kinds.{is_kind, kind_of, is_return, return_of}
 use Rattle.bytecode.specs.Raw.{Raw, Literal, Move, Store, Binary, Not, Cast, Classify, Fill, At, Put, Size, Cat, Sum, Bits, Declassify, Argument, Publish, Assert, Branch, Jump, Call, Return, ReturnNone, RawFunction, RawCode}

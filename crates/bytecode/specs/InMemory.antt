@@ -1,5 +1,5 @@
 -- What code in memory is as raw code.
-use Rattle.std.specs.Prelude.{ℕ, List, map, Bool, Option, None, Some, if◌then◌else◌}
+use Rattle.std.specs.Prelude.{ℕ, map, Bool, Option, None, Some, if◌then◌else◌}
 use Rattle.bytecode.specs.declared.operator.BinaryOperator.{BinaryOperator}
 use Rattle.bytecode.specs.declared.operator.BinaryOperator.TheVariants as operators
 use Rattle.bytecode.specs.declared.instruction.Register.{Register}

@@ -1,10 +1,5 @@
 use Rattle.std.proofs.Common.{◌≡◌, ◌++◌, map, take}
-use Rattle.bytecode.specs.Written.{byte, bytes_of, body_numbers, head_numbers, name_numbers, instruction_numbers}
-use Rattle.bytecode.specs.Kinds.{kind_byte}
-use Rattle.bytecode.specs.InMemory.{raw_function, raw_instruction}
-use Rattle.bytecode.specs.declared.code.Function.{Function}
-use Rattle.bytecode.specs.declared.kind.Kind.{Kind}
-use Rattle.bytecode.specs.declared.instruction.Instruction.{Instruction}
+use Rattle.bytecode.specs.Written.{byte, bytes_of}
 use Rattle.bytecode.proofs.encoding.push_bytes.Given as goal
 
 abbrev pub invariant-loop-one : goal.invariant-loop-one

@@ -1,7 +1,6 @@
-use Rattle.bytecode.specs.Written.{byte, bytes_of, body_numbers, head_numbers, name_numbers, instruction_numbers}
-use Rattle.bytecode.specs.InMemory.{raw_function, raw_instruction}
+use Rattle.bytecode.specs.Written.{head_numbers}
+use Rattle.bytecode.specs.InMemory.{raw_function}
 use Rattle.bytecode.specs.declared.code.Function.{Function}
-use Rattle.bytecode.specs.declared.instruction.Instruction.{Instruction}
 use Rattle.bytecode.proofs.Little.{more_items, all_items}
 use Rattle.bytecode.proofs.encoding.push_heads.Goals as goal
 

@@ -1,4 +1,4 @@
-use Rattle.std.proofs.Common.{◌≡◌, ◌∙◌, ◌++◌, ◌-◌, ◌+◌, ◌/◌, ap, sym, subst, arith}
+use Rattle.std.proofs.Common.{◌≡◌, ◌∙◌, ◌++◌, ◌-◌, ◌+◌, ◌/◌, ap, sym, arith}
 use Rattle.bytecode.specs.Written.{little}
 use Rattle.bytecode.proofs.Little.{little_begins, little_more, little_ends}
 use Rattle.bytecode.proofs.numbers.push_number.Goals as goal

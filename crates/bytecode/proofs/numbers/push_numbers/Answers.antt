@@ -1,4 +1,3 @@
-use Rattle.std.proofs.Common.{◌≡◌, ◌∙◌}
 use Rattle.bytecode.specs.Numbers.{number_in}
 use Rattle.bytecode.proofs.Little.{more_numbers, one_number}
 use Rattle.bytecode.proofs.numbers.push_numbers.Goals as goal

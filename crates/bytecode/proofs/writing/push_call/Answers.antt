@@ -1,4 +1,4 @@
-use Rattle.std.proofs.Common.{◌≡◌, ◌∙◌, ◌++◌, ◌∷◌, [], map, ap, sym}
+use Rattle.std.proofs.Common.{◌∙◌, ◌++◌, ◌∷◌, [], map, ap, sym}
 use Rattle.bytecode.specs.Written.{byte, short, source_line, bytes_of}
 use Rattle.bytecode.proofs.Little.{behind_bytes, map_twice}
 use Rattle.bytecode.specs.declared.instruction.Register.{Register}
