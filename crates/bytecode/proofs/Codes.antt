@@ -11,7 +11,7 @@ use Rattle.bytecode.specs.Raw.{Raw, RawFunction, RawCode}
 use Rattle.bytecode.specs.Written.{Number, byte, short, bytes_of, instruction_numbers, head_numbers, body_numbers, name_numbers, code_numbers, written_code}
 use Rattle.bytecode.specs.Writable.{Fits, parameters_of, IsProper, AreNewNames, AreProper, IsWritable}
 use Rattle.bytecode.specs.Layouts.{is_name_length, Layout, Makes, Field, Read, read, behind}
-use Rattle.bytecode.specs.Decoded.{instruction_layout, body_layout, Head, kinds, head_layout, heads_layout, names_layout, function_of, bodies_layout, functions_layout, code_layout, ended, whole, decoded}
+use Rattle.bytecode.specs.Decoded.{repeated, kind_layout, instruction_layout, body_layout, Head, kinds, head_layout, heads_layout, names_layout, function_of, bodies_layout, functions_layout, code_layout, ended, whole, decoded}
 use Rattle.bytecode.proofs.Layouts.{Spells, layout_reads, AreBytes, Spelled, layout_spelled, behind_spells, behind_apart}
 use Rattle.bytecode.proofs.Instructions.{instruction_spells, instruction_told}
 
@@ -79,10 +79,15 @@ return_byte_back b h = go (b == 255) refl
 abbrev kind_numbers : List Kind → List Number
 kind_numbers = map (λ k. byte (kind_byte k))
 
+all_kinds_spell : (ks : List Kind) → Spells (repeated kind_layout (length ks)) (kind_numbers ks) ks
+all_kinds_spell [] = (refl, refl)
+all_kinds_spell (k ∷ ks) =
+    behind_spells kind_layout (λ k. behind (repeated kind_layout (length ks)) (λ ys. Makes (k ∷ ys))) (byte (kind_byte k) ∷ []) (kind_numbers ks) k (k ∷ ks) (kind_byte k, [], refl, byte_is_kind k, (refl, kind_back k))
+    (subst (λ z. Spells (behind (repeated kind_layout (length ks)) (λ ys. Makes (k ∷ ys))) z (k ∷ ks)) (append-nil (kind_numbers ks))
+    (behind_spells (repeated kind_layout (length ks)) _ (kind_numbers ks) [] ks (k ∷ ks) (all_kinds_spell ks) (refl, refl)))
+
 kinds_spell : {A : Type 0} (ks : List Kind) (next : List Kind → Layout A) (rest : List Number) (a : A) → Spells (next ks) rest a → Spells (kinds (length ks) next) (kind_numbers ks ++ rest) a
-kinds_spell [] next rest a s = s
-kinds_spell {A} (k ∷ ks) next rest a s =
-    (kind_byte k, kind_numbers ks ++ rest, refl, byte_is_kind k, kinds_spell ks (λ ks. next (kind_of (kind_byte k) ∷ ks)) rest a (subst (λ z. Spells (next (z ∷ ks)) rest a) (sym (kind_back k)) s))
+kinds_spell ks next rest a s = behind_spells (repeated kind_layout (length ks)) next (kind_numbers ks) rest ks a (all_kinds_spell ks) s
 
 record KindsTold {A : Type 0} (n : ℕ) (next : List Kind → Layout A) (ns : List Number) (a : A) : Type 0 where
   ks : List Kind
@@ -91,17 +96,21 @@ record KindsTold {A : Type 0} (n : ℕ) (next : List Kind → Layout A) (ns : Li
   same : ns ≡ kind_numbers ks ++ rest
   spells : Spells (next ks) rest a
 
+all_kinds_told : (n : ℕ) (ns : List Number) (ks : List Kind) → Spells (repeated kind_layout n) ns ks → (ns ≡ kind_numbers ks) × (length ks ≡ n)
+all_kinds_told zero ns ks h = (h.0 ∙ ap (λ z. kind_numbers z) h.1, ap length (sym h.1))
+all_kinds_told (suc n) ns ks h =
+    let k = kind_of h.0 in
+    let q = behind_apart (repeated kind_layout n) (λ ys. Makes (k ∷ ys)) h.1 ks h.4 in
+    let ih = all_kinds_told n q.first q.value q.firsts in
+    let e : (k ∷ q.value) ≡ ks = q.seconds.1 in
+    let tail : h.1 ≡ kind_numbers q.value = q.apart ∙ ap (λ z. q.first ++ z) q.seconds.0 ∙ append-nil q.first ∙ ih.0 in
+    (h.2 ∙ ap (λ z. byte z ∷ h.1) (sym (byte_back h.0 h.3)) ∙ ap (λ z. byte (kind_byte k) ∷ z) tail ∙ ap (λ z. kind_numbers z) e, ap length (sym e) ∙ ap suc ih.1)
+
 kinds_told : {A : Type 0} (n : ℕ) (next : List Kind → Layout A) (ns : List Number) (a : A) → Spells (kinds n next) ns a → KindsTold n next ns a
-kinds_told zero next ns a h = record { ks = []; rest = ns; long = refl; same = refl; spells = h }
-kinds_told (suc n) next ns a h =
-    let r = kinds_told n (λ ks. next (kind_of h.0 ∷ ks)) h.1 a h.4 in
-    record {
-      ks = kind_of h.0 ∷ r.ks;
-      rest = r.rest;
-      long = ap suc r.long;
-      same = h.2 ∙ ap (λ z. byte z ∷ h.1) (sym (byte_back h.0 h.3)) ∙ ap (λ z. byte (kind_byte (kind_of h.0)) ∷ z) r.same;
-      spells = r.spells;
-    }
+kinds_told n next ns a h =
+    let r = behind_apart (repeated kind_layout n) next ns a h in
+    let q = all_kinds_told n r.first r.value r.firsts in
+    record { ks = r.value; rest = r.second; long = q.1; same = r.apart ∙ ap (λ z. z ++ r.second) q.0; spells = r.seconds }
 
 -- ---- heads
 

@@ -1,18 +1,24 @@
 -- Instructions are spelled by the numbers that are written of them, and by no others.
-use Rattle.std.proofs.Common.{◌≡◌, ℕ, zero, suc, ◌<◌, List, [], ◌∷◌, ◌++◌, length, map, refl, ap, ◌∙◌, subst, arith, IsTrue}
+use Rattle.std.proofs.Common.{append-nil, sym, ◌≡◌, ℕ, zero, suc, ◌<◌, List, [], ◌∷◌, ◌++◌, length, map, refl, ap, ◌∙◌, subst, arith, IsTrue}
 use Rattle.std.proofs.lemmas.Bool.{lt-ltb, ltb-true, and_parts}
 use Rattle.bytecode.specs.Raw.{Raw, Literal, Move, Store, Binary, Not, Cast, Classify, Fill, At, Put, Size, Cat, Sum, Bits, Declassify, Argument, Publish, Assert, Branch, Jump, Call, Return, ReturnNone}
 use Rattle.bytecode.specs.Written.{Number, byte, short, source_line, word, instruction_numbers}
 use Rattle.bytecode.specs.Writable.{arguments_at, IsProper}
-use Rattle.bytecode.specs.Layouts.{Layout, Makes}
-use Rattle.bytecode.specs.Decoded.{line_field, shorts, pair_layout, triple_layout, is_tag, operands, instruction_layout}
-use Rattle.bytecode.proofs.Layouts.{Spells}
+use Rattle.bytecode.specs.Layouts.{behind, Layout, Makes}
+use Rattle.bytecode.specs.Decoded.{repeated, short_layout, line_field, shorts, pair_layout, triple_layout, is_tag, operands, instruction_layout}
+use Rattle.bytecode.proofs.Layouts.{Spells, behind_spells, behind_apart}
 
 -- ---- what is written spells
 
+registers_spell : (xs : List ℕ) → Spells (repeated short_layout (length xs)) (map short xs) xs
+registers_spell [] = (refl, refl)
+registers_spell (x ∷ xs) =
+    behind_spells short_layout _ (short x ∷ []) (map short xs) x (x ∷ xs) (x, [], refl, refl, (refl, refl))
+    (subst (λ z. Spells (behind (repeated short_layout (length xs)) (λ ys. Makes (x ∷ ys))) z (x ∷ xs)) (append-nil (map short xs))
+    (behind_spells (repeated short_layout (length xs)) _ (map short xs) [] xs (x ∷ xs) (registers_spell xs) (refl, refl)))
+
 shorts_spell : {A : Type 0} (xs : List ℕ) (next : List ℕ → Layout A) (rest : List Number) (a : A) → Spells (next xs) rest a → Spells (shorts (length xs) next) (map short xs ++ rest) a
-shorts_spell [] next rest a s = s
-shorts_spell (x ∷ xs) next rest a s = (x, map short xs ++ rest, refl, refl, shorts_spell xs (λ xs. next (x ∷ xs)) rest a s)
+shorts_spell xs next rest a s = behind_spells (repeated short_layout (length xs)) next (map short xs) rest xs a (registers_spell xs) s
 
 pub instruction_spells : (ps : List ℕ) (i : Raw) → IsProper ps i → Spells (instruction_layout ps) (instruction_numbers i) i
 instruction_spells ps (Literal d x) h = (_, _, refl, refl, (_, _, refl, refl, (_, _, refl, refl, (refl, refl))))
@@ -74,11 +80,20 @@ record Shorts {A : Type 0} (n : ℕ) (next : List ℕ → Layout A) (ns : List N
   same : ns ≡ map short xs ++ rest
   spells : Spells (next xs) rest a
 
+registers_told : (n : ℕ) (ns : List Number) (xs : List ℕ) → Spells (repeated short_layout n) ns xs → (ns ≡ map short xs) × (length xs ≡ n)
+registers_told zero ns xs h = (h.0 ∙ ap (map short) h.1, ap length (sym h.1))
+registers_told (suc n) ns xs h =
+    let q = behind_apart (repeated short_layout n) (λ ys. Makes (h.0 ∷ ys)) h.1 xs h.4 in
+    let ih = registers_told n q.first q.value q.firsts in
+    let e : (h.0 ∷ q.value) ≡ xs = q.seconds.1 in
+    let tail : h.1 ≡ map short q.value = q.apart ∙ ap (λ z. q.first ++ z) q.seconds.0 ∙ append-nil q.first ∙ ih.0 in
+    (h.2 ∙ ap (λ z. short h.0 ∷ z) tail ∙ ap (map short) e, ap length (sym e) ∙ ap suc ih.1)
+
 shorts_told : {A : Type 0} (n : ℕ) (next : List ℕ → Layout A) (ns : List Number) (a : A) → Spells (shorts n next) ns a → Shorts n next ns a
-shorts_told zero next ns a h = record { xs = []; rest = ns; long = refl; same = refl; spells = h }
-shorts_told (suc n) next ns a h =
-    let r = shorts_told n (λ xs. next (h.0 ∷ xs)) h.1 a h.4 in
-    record { xs = h.0 ∷ r.xs; rest = r.rest; long = ap suc r.long; same = h.2 ∙ ap (λ z. short h.0 ∷ z) r.same; spells = r.spells }
+shorts_told n next ns a h =
+    let r = behind_apart (repeated short_layout n) next ns a h in
+    let q = registers_told n r.first r.value r.firsts in
+    record { xs = r.value; rest = r.second; long = q.1; same = r.apart ∙ ap (λ z. z ++ r.second) q.0; spells = r.seconds }
 
 pair_told : (ps : List ℕ) (tag : ℕ) (make : ℕ → ℕ → Raw) (ns : List Number) (i : Raw) → ((d r : ℕ) → (byte tag ∷ short d ∷ short r ∷ [] ≡ instruction_numbers (make d r)) × IsProper ps (make d r)) → Spells (pair_layout make) ns i → Told ps tag ns i
 pair_told ps tag make ns i w h =

@@ -4,7 +4,7 @@ use Rattle.std.specs.List.{AllByRecursion as Each}
 use native.Mathlib.Numerals.{unary_clauses}
 use Rattle.bytecode.specs.Written.{Number, sized, byte, little, bytes_of, name_numbers}
 use Rattle.bytecode.specs.Writable.{Fits}
-use Rattle.bytecode.specs.Layouts.{Why, BadTag, Layout, Makes, Field, NameField, Read, carry, number, characters, passed, is_name_length, read, behind}
+use Rattle.bytecode.specs.Layouts.{FaultKind, BadTag, Layout, Makes, Field, NameField, Read, carry, number, characters, passed, is_name_length, read, behind}
 
 -- these numbers are a's, in this layout
 abbrev pub Spells : {A : Type 0} → Layout A → List Number → A → Type 0
@@ -83,7 +83,7 @@ record NumberRead (n : ℕ) (text : List ℕ) (x : ℕ) (rest : List ℕ) : Type
 ok_same : {A : Type 0} (a b : A) (xs ys : List ℕ) → ◌≡◌ {A = Read A} (Ok (a, xs)) (Ok (b, ys)) → (a ≡ b) × (xs ≡ ys)
 ok_same {A} a b xs ys e = let p : ◌≡◌ {A = A × List ℕ} (a, xs) (b, ys) = cc in (ap (λ z. z.0) p, ap (λ z. z.1) p)
 
-err_ok : {A X : Type 0} (e : Why × List ℕ) (a : A × List ℕ) → ◌≡◌ {A = Read A} (Err e) (Ok a) → X
+err_ok : {A X : Type 0} (e : FaultKind × List ℕ) (a : A × List ℕ) → ◌≡◌ {A = Read A} (Err e) (Ok a) → X
 err_ok e a h = cc
 
 number_spelled : (n : ℕ) (text : List ℕ) (x : ℕ) (rest : List ℕ) → AreBytes text → number n text ≡ Ok (x, rest) → NumberRead n text x rest

@@ -3,3 +3,5 @@ pub mod Instructions
 pub mod Codes
 pub mod Little
 pub mod Encoded
+pub mod Reading
+pub mod SameOperands

@@ -4,7 +4,8 @@ use Rattle.bytecode.specs.declared.kind.Kind.{Kind}
 use Rattle.bytecode.specs.Kinds.{is_kind, kind_of, is_return, return_of}
 use Rattle.bytecode.specs.Raw.{Raw, Literal, Move, Store, Binary, Not, Cast, Classify, Fill, At, Put, Size, Cat, Sum, Bits, Declassify, Argument, Publish, Assert, Branch, Jump, Call, Return, ReturnNone, RawFunction, RawCode}
 use Rattle.bytecode.specs.Writable.{arguments_at, is_new_name}
-use Rattle.bytecode.specs.Layouts.{Why, BadTag, BadVersion, Trailing, Layout, Makes, Field, NameField, Read, read, behind}
+use Rattle.bytecode.specs.declared.fault.Fault.{Fault}
+use Rattle.bytecode.specs.Layouts.{FaultKind, BadTag, BadVersion, Trailing, Layout, Makes, Field, NameField, Read, read, behind}
 
 abbrev pub any : ℕ → Bool
 any x = true
@@ -23,9 +24,16 @@ pair_layout make = short_field (λ d. short_field (λ r. Makes (make d r)))
 abbrev pub triple_layout : (ℕ → ℕ → ℕ → ℕ → Raw) → Layout Raw
 triple_layout make = short_field (λ a. short_field (λ b. short_field (λ c. line_field (λ line. Makes (make a b c line)))))
 
+-- so many of a layout, one behind the other
+abbrev pub repeated : {A : Type 0} → Layout A → ℕ → Layout (List A)
+repeated layout zero = Makes []
+repeated layout (suc n) = behind layout (λ x. behind (repeated layout n) (λ xs. Makes (x ∷ xs)))
+
+abbrev pub short_layout : Layout ℕ
+short_layout = Field BadTag 2 any Makes
+
 abbrev pub shorts : {A : Type 0} → ℕ → (List ℕ → Layout A) → Layout A
-shorts zero next = next []
-shorts (suc n) next = short_field (λ x. shorts n (λ xs. next (x ∷ xs)))
+shorts n = behind (repeated short_layout n)
 
 abbrev pub is_tag : ℕ → Bool
 is_tag tag = nat_lt 0 tag && nat_lt tag 25 && not (tag == 0x15)
@@ -67,8 +75,7 @@ abbrev pub instruction_layout : List ℕ → Layout Raw
 instruction_layout ps = Field BadTag 1 is_tag (operands ps)
 
 abbrev pub body_layout : List ℕ → ℕ → Layout (List Raw)
-body_layout ps zero = Makes []
-body_layout ps (suc n) = behind (instruction_layout ps) (λ i. behind (body_layout ps n) (λ is. Makes (i ∷ is)))
+body_layout ps = repeated (instruction_layout ps)
 
 -- ---- what stands before the bodies
 
@@ -79,9 +86,11 @@ pub record Head : Type 0 where
   pub registers : List Kind
   pub instructions : ℕ
 
+abbrev pub kind_layout : Layout Kind
+kind_layout = Field BadTag 1 is_kind (λ b. Makes (kind_of b))
+
 abbrev pub kinds : {A : Type 0} → ℕ → (List Kind → Layout A) → Layout A
-kinds zero next = next []
-kinds (suc n) next = Field BadTag 1 is_kind (λ b. kinds n (λ ks. next (kind_of b ∷ ks)))
+kinds n = behind (repeated kind_layout n)
 
 abbrev pub head_layout : Layout Head
 head_layout =
@@ -89,8 +98,7 @@ head_layout =
     Makes (record { parameters = p; gives = return_of b; registers = ks; instructions = count }))))))
 
 abbrev pub heads_layout : ℕ → Layout (List Head)
-heads_layout zero = Makes []
-heads_layout (suc n) = behind head_layout (λ h. behind (heads_layout n) (λ hs. Makes (h ∷ hs)))
+heads_layout = repeated head_layout
 
 abbrev pub names_layout : List (List ℕ) → ℕ → Layout (List (List ℕ))
 names_layout earlier zero = Makes []
@@ -120,19 +128,14 @@ code_layout =
 
 -- ---- a whole text
 
--- the first fault of a text, and at which byte it is
-pub record Fault : Type 0 where
-  pub why : Why
-  pub place : ℕ
-
 -- the text, of so many bytes, has to end behind what was read
 abbrev pub ended : {A : Type 0} → ℕ → A → List ℕ → Result A Fault
 ended size a [] = Ok a
-ended size a (b ∷ left) = Err (record { why = Trailing; place = size - length (b ∷ left) })
+ended size a (b ∷ left) = Err (record { kind = Trailing; place = size - length (b ∷ left) })
 
 abbrev pub whole : {A : Type 0} → ℕ → Read A → Result A Fault
 whole size (Ok x) = ended size x.0 x.1
-whole size (Err e) = Err (record { why = e.0; place = size - length e.1 })
+whole size (Err e) = Err (record { kind = e.0; place = size - length e.1 })
 
 abbrev pub decoded : List ℕ → Result RawCode Fault
 decoded text = whole (length text) (read code_layout text)

@@ -1,22 +1,17 @@
 -- How a text is read: by a layout, one number after the other.
 use Rattle.std.specs.Prelude.{ℕ, zero, suc, ◌+◌, ◌*◌, List, [], ◌∷◌, Bool, true, false, ◌&&◌, nat_le, Result, Ok, Err}
-
--- why a text is no code: it ends too early, a byte is out of its range, the version is another one, or it goes on
-pub data Why : Type 0 where
-  Truncated : Why
-  BadTag : Why
-  BadVersion : Why
-  Trailing : Why
+pub use Rattle.bytecode.specs.declared.fault.FaultKind.{FaultKind}
+pub use Rattle.bytecode.specs.declared.fault.FaultKind.TheVariants.{Truncated, BadTag, BadVersion, Trailing}
 
 -- what is laid out: numbers of so many bytes, each of which passes a test, and names; what comes next may depend on them
 pub data Layout (A : Type 0) : Type 0 where
   Makes : A → Layout A
-  Field : Why → (bytes : ℕ) → (ℕ → Bool) → (ℕ → Layout A) → Layout A
+  Field : FaultKind → (bytes : ℕ) → (ℕ → Bool) → (ℕ → Layout A) → Layout A
   NameField : (List ℕ → Bool) → (List ℕ → Layout A) → Layout A
 
 -- what was read and the text behind it, or the fault and the text from its place on
 abbrev pub Read : Type 0 → Type 0
-Read A = Result (A × List ℕ) (Why × List ℕ)
+Read A = Result (A × List ℕ) (FaultKind × List ℕ)
 
 abbrev pub carry : {A B : Type 0} → Read A → (A → List ℕ → Read B) → Read B
 carry (Ok x) f = f x.0 x.1
@@ -35,7 +30,7 @@ characters (suc n) [] = Err (Truncated, [])
 characters (suc n) (b ∷ text) = carry (characters n text) (λ bs rest. Ok (b ∷ bs, rest))
 
 -- what doesn't pass its test is refused where it begins
-abbrev pub passed : {A : Type 0} → Bool → Why → (text : List ℕ) → Read A → Read A
+abbrev pub passed : {A : Type 0} → Bool → FaultKind → (text : List ℕ) → Read A → Read A
 passed true why text r = r
 passed false why text r = Err (why, text)
 

@@ -6,4 +6,7 @@ pub mod Layouts
 pub mod Decoded
 pub mod InMemory
 pub mod Numbers
+pub mod Reading
+pub mod Tests
+pub mod Tags
 pub mod Vectors

@@ -17,19 +17,19 @@ empty_main-written = refl
 pub empty_main-read : decoded empty_main_bytes ≡ Ok empty_main
 empty_main-read = refl
 
-pub one_byte_more : decoded (empty_main_bytes ++ 0 ∷ []) ≡ Err (record { why = Trailing; place = 17 })
+pub one_byte_more : decoded (empty_main_bytes ++ 0 ∷ []) ≡ Err (record { kind = Trailing; place = 17 })
 one_byte_more = refl
 
-pub one_byte_fewer : decoded (take 16 empty_main_bytes) ≡ Err (record { why = Truncated; place = 16 })
+pub one_byte_fewer : decoded (take 16 empty_main_bytes) ≡ Err (record { kind = Truncated; place = 16 })
 one_byte_fewer = refl
 
 -- without a function, at the count
-pub no_function : decoded (83 ∷ 67 ∷ 51 ∷ 80 ∷ 1 ∷ 0 ∷ 0 ∷ 0 ∷ 0 ∷ []) ≡ Err (record { why = BadTag; place = 7 })
+pub no_function : decoded (83 ∷ 67 ∷ 51 ∷ 80 ∷ 1 ∷ 0 ∷ 0 ∷ 0 ∷ 0 ∷ []) ≡ Err (record { kind = BadTag; place = 7 })
 no_function = refl
 
-pub another_version : decoded (83 ∷ 67 ∷ 51 ∷ 80 ∷ 2 ∷ []) ≡ Err (record { why = BadVersion; place = 4 })
+pub another_version : decoded (83 ∷ 67 ∷ 51 ∷ 80 ∷ 2 ∷ []) ≡ Err (record { kind = BadVersion; place = 4 })
 another_version = refl
 
 -- tag 15 in hexadecimal is none, though it lies between two
-pub no_tag : decoded (take 16 empty_main_bytes ++ 0x15 ∷ []) ≡ Err (record { why = BadTag; place = 16 })
+pub no_tag : decoded (take 16 empty_main_bytes ++ 0x15 ∷ []) ≡ Err (record { kind = BadTag; place = 16 })
 no_tag = refl

@@ -4,15 +4,21 @@
 mod code;
 mod copy;
 mod encoding;
+mod fault;
 mod instruction;
 mod kind;
 mod laws;
 mod numbers;
+mod operands;
 mod operator;
+mod reader;
+mod tag;
+mod test;
 mod writing;
 
 pub use code::{Code, Function};
 pub use encoding::encode;
+pub use fault::{Fault, FaultKind};
 pub use instruction::{FunctionPlace, Instruction, NamePlace, Register, Target};
 pub use kind::Kind;
 pub use laws::{read_code_is_written, written_code_is_read_again};

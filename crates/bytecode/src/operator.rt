@@ -1,4 +1,4 @@
-ghost use Rattle.std.specs.Prelude.{◌≡◌};
+ghost use Rattle.std.specs.Prelude.{◌≡◌, ◌<◌};
 ghost use Rattle.bytecode.specs.InMemory.{operator_byte};
 
 /// An operator between two registers.
@@ -41,5 +41,28 @@ impl BinaryOperator {
             BinaryOperator::Or => 12,
             BinaryOperator::Xor => 13,
         }
+    }
+}
+
+/// The operator of a byte that is one.
+pub(crate) fn operator_of(byte: u8) -> BinaryOperator
+    requires { byte < 14 }
+    ensures { operator_byte result ≡ byte }
+{
+    match byte {
+        0 => BinaryOperator::Add,
+        1 => BinaryOperator::Subtract,
+        2 => BinaryOperator::Multiply,
+        3 => BinaryOperator::Divide,
+        4 => BinaryOperator::Remainder,
+        5 => BinaryOperator::Equal,
+        6 => BinaryOperator::NotEqual,
+        7 => BinaryOperator::Less,
+        8 => BinaryOperator::LessOrEqual,
+        9 => BinaryOperator::Greater,
+        10 => BinaryOperator::GreaterOrEqual,
+        11 => BinaryOperator::And,
+        12 => BinaryOperator::Or,
+        _ => BinaryOperator::Xor,
     }
 }
