@@ -5,3 +5,4 @@ pub mod Little
 pub mod Encoded
 pub mod Reading
 pub mod SameOperands
+pub mod HeadReads

@@ -7,6 +7,8 @@ use Rattle.bytecode.specs.declared.instruction.Instruction.{Instruction}
 use Rattle.bytecode.specs.declared.instruction.Instruction.TheVariants as instructions
 use Rattle.bytecode.specs.declared.code.Function.{Function}
 use Rattle.bytecode.specs.declared.code.Code.{Code}
+use Rattle.bytecode.specs.declared.heads.Head as heads
+use Rattle.bytecode.specs.Decoded.{Head}
 use Rattle.bytecode.specs.Raw.{Raw, Literal, Move, Store, Binary, Not, Cast, Classify, Fill, At, Put, Size, Cat, Sum, Bits, Declassify, Argument, Publish, Assert, Branch, Jump, Call, Return, ReturnNone, RawFunction, RawCode}
 
 abbrev pub operator_byte : BinaryOperator → ℕ
@@ -68,3 +70,11 @@ raw_function f = record {
 
 abbrev pub raw_code : Code → RawCode
 raw_code code = record { names = code.names.items; functions = map raw_function code.functions.items }
+
+abbrev pub raw_head : heads.Head → Head
+raw_head head = record {
+  parameters = head.parameters;
+  gives = head.gives;
+  registers = head.registers.items;
+  instructions = head.instructions;
+}

@@ -1,5 +1,5 @@
 ghost use Rattle.std.specs.Prelude.{◌≡◌, ◌≤◌, if◌then◌else◌};
-ghost use Rattle.bytecode.specs.Kinds.{element_bit, kind_byte, return_byte};
+ghost use Rattle.bytecode.specs.Kinds.{element_bit, kind_byte, kind_of, return_byte, return_of};
 
 use secrec_ast::DataType;
 
@@ -44,5 +44,32 @@ pub(crate) fn return_byte(gives: Option<Kind>) -> u8
     match gives {
         Some(kind) => kind.byte(),
         None => 255,
+    }
+}
+
+/// The kind of a byte.
+pub(crate) fn kind_of(byte: u8) -> Kind
+    ensures { result ≡ kind_of byte }
+{
+    let element = if byte / 2 % 2 == 1 {
+        DataType::Bool
+    } else {
+        DataType::Uint64
+    };
+    Kind {
+        secret: byte % 2 == 1,
+        element,
+        array: byte / 4 == 1,
+    }
+}
+
+/// What a function gives back, of its byte.
+pub(crate) fn return_of(byte: u8) -> Option<Kind>
+    ensures { result ≡ return_of byte }
+{
+    if byte == 255 {
+        None
+    } else {
+        Some(kind_of(byte))
     }
 }

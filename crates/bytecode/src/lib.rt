@@ -5,6 +5,7 @@ mod code;
 mod copy;
 mod encoding;
 mod fault;
+mod heads;
 mod instruction;
 mod kind;
 mod laws;
