@@ -1,5 +1,5 @@
 -- A head is read part by part.
-use Rattle.std.proofs.Common.{◌≡◌, ℕ, List, Option, Ok, sym, ◌∙◌, subst}
+use Rattle.std.proofs.Common.{◌≡◌, ℕ, List, Ok, sym, ◌∙◌, subst}
 use Rattle.bytecode.specs.declared.kind.Kind.{Kind}
 use Rattle.bytecode.specs.declared.fault.Stopped.{Stopped}
 use Rattle.bytecode.specs.Kinds.{is_return, return_of}

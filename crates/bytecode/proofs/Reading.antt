@@ -36,7 +36,7 @@ number_ends n text h e =
 pub number_stops : (n : ℕ) (text : List ℕ) (b : ℕ) (rest : List ℕ) (e : Stopped) → (n ≡ 0 → ⊥) → text ≡ b ∷ rest → Stops (number (n - 1) rest) e → Stops (number n text) e
 number_stops n text b rest e h t s =
     let same : number n text ≡ carry (number (n - 1) rest) (λ x rest. Ok (b + 256 * x, rest)) =
-        ap (λ t. number n t) t ∙ ap (λ k. number k (b ∷ rest)) (predecessor n h) in
+    ap (λ t. number n t) t ∙ ap (λ k. number k (b ∷ rest)) (predecessor n h) in
     subst (λ r. Stops r e) (sym same) (stops_carry (number (n - 1) rest) (λ x rest. Ok (b + 256 * x, rest)) e s)
 
 power_suc : (n : ℕ) → 256 ^ suc n ≡ 256 * 256 ^ n
@@ -120,7 +120,7 @@ field_ok why n test text x left e t =
 pub field_refuses : (why : FaultKind) (n : ℕ) (test : ℕ → Bool) (text : List ℕ) (x : ℕ) (left : List ℕ) → number n text ≡ Ok (x, left) → test x ≡ false → Refuses (read (Field why n test Makes) text) why (length text)
 field_refuses why n test text x left e t =
     let same : read (Field why n test Makes) text ≡ Err (why, text) =
-        ap (λ r. carry r (λ x rest. passed (test x) why text (Ok (x, rest)))) e ∙ ap (λ b. passed b why text (Ok (x, left))) t in
+    ap (λ r. carry r (λ x rest. passed (test x) why text (Ok (x, rest)))) e ∙ ap (λ b. passed b why text (Ok (x, left))) t in
     subst (λ r. Refuses r why (length text)) (sym same) (refl, refl)
 
 pub field_stops : (why : FaultKind) (n : ℕ) (test : ℕ → Bool) (text : List ℕ) (e : Stopped) → Stops (number n text) e → Stops (read (Field why n test Makes) text) e
@@ -176,7 +176,7 @@ pub seven_ok : {A : Type 0} (f0 f1 f2 f3 f4 f5 f6 : Layout ℕ) (make : (x0 x1 x
 seven_ok f0 f1 f2 f3 f4 f5 f6 make x0 x1 x2 x3 x4 x5 x6 t0 t1 t2 t3 t4 t5 t6 t7 e0 e1 e2 e3 e4 e5 e6 = step_ok f0 (λ x0. behind f1 (λ x1. behind f2 (λ x2. behind f3 (λ x3. behind f4 (λ x4. behind f5 (λ x5. behind f6 (λ x6. Makes (make x0 x1 x2 x3 x4 x5 x6)))))))) t0 x0 t1 e0 ∙ step_ok f1 (λ x1. behind f2 (λ x2. behind f3 (λ x3. behind f4 (λ x4. behind f5 (λ x5. behind f6 (λ x6. Makes (make x0 x1 x2 x3 x4 x5 x6))))))) t1 x1 t2 e1 ∙ step_ok f2 (λ x2. behind f3 (λ x3. behind f4 (λ x4. behind f5 (λ x5. behind f6 (λ x6. Makes (make x0 x1 x2 x3 x4 x5 x6)))))) t2 x2 t3 e2 ∙ step_ok f3 (λ x3. behind f4 (λ x4. behind f5 (λ x5. behind f6 (λ x6. Makes (make x0 x1 x2 x3 x4 x5 x6))))) t3 x3 t4 e3 ∙ step_ok f4 (λ x4. behind f5 (λ x5. behind f6 (λ x6. Makes (make x0 x1 x2 x3 x4 x5 x6)))) t4 x4 t5 e4 ∙ step_ok f5 (λ x5. behind f6 (λ x6. Makes (make x0 x1 x2 x3 x4 x5 x6))) t5 x5 t6 e5 ∙ step_ok f6 (λ x6. Makes (make x0 x1 x2 x3 x4 x5 x6)) t6 x6 t7 e6
 
 pub seven_stops-0 : {A : Type 0} (f0 f1 f2 f3 f4 f5 f6 : Layout ℕ) (make : (x0 x1 x2 x3 x4 x5 x6 : ℕ) → A) (t0 : List ℕ) (e : Stopped) → Stops (read f0 t0) e → Stops (read (seven f0 f1 f2 f3 f4 f5 f6 make) t0) e
-seven_stops-0 f0 f1 f2 f3 f4 f5 f6 make  t0 e  s = step_stops f0 (λ x0. behind f1 (λ x1. behind f2 (λ x2. behind f3 (λ x3. behind f4 (λ x4. behind f5 (λ x5. behind f6 (λ x6. Makes (make x0 x1 x2 x3 x4 x5 x6)))))))) t0 e s
+seven_stops-0 f0 f1 f2 f3 f4 f5 f6 make t0 e s = step_stops f0 (λ x0. behind f1 (λ x1. behind f2 (λ x2. behind f3 (λ x3. behind f4 (λ x4. behind f5 (λ x5. behind f6 (λ x6. Makes (make x0 x1 x2 x3 x4 x5 x6)))))))) t0 e s
 
 pub seven_stops-1 : {A : Type 0} (f0 f1 f2 f3 f4 f5 f6 : Layout ℕ) (make : (x0 x1 x2 x3 x4 x5 x6 : ℕ) → A) (x0 : ℕ) (t0 t1 : List ℕ) (e : Stopped) → read f0 t0 ≡ Ok (x0, t1) → Stops (read f1 t1) e → Stops (read (seven f0 f1 f2 f3 f4 f5 f6 make) t0) e
 seven_stops-1 f0 f1 f2 f3 f4 f5 f6 make x0 t0 t1 e e0 s = subst (λ r. Stops r e) (sym (step_ok f0 (λ x0. behind f1 (λ x1. behind f2 (λ x2. behind f3 (λ x3. behind f4 (λ x4. behind f5 (λ x5. behind f6 (λ x6. Makes (make x0 x1 x2 x3 x4 x5 x6)))))))) t0 x0 t1 e0)) (step_stops f1 (λ x1. behind f2 (λ x2. behind f3 (λ x3. behind f4 (λ x4. behind f5 (λ x5. behind f6 (λ x6. Makes (make x0 x1 x2 x3 x4 x5 x6))))))) t1 e s)

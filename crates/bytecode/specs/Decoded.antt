@@ -5,7 +5,7 @@ use Rattle.bytecode.specs.Kinds.{is_kind, kind_of, is_return, return_of}
 use Rattle.bytecode.specs.Raw.{Raw, Literal, Move, Store, Binary, Not, Cast, Classify, Fill, At, Put, Size, Cat, Sum, Bits, Declassify, Argument, Publish, Assert, Branch, Jump, Call, Return, ReturnNone, RawFunction, RawCode}
 use Rattle.bytecode.specs.Writable.{arguments_at, is_new_name}
 use Rattle.bytecode.specs.declared.fault.Fault.{Fault}
-use Rattle.bytecode.specs.Layouts.{FaultKind, BadTag, BadVersion, Trailing, Layout, Makes, Field, NameField, Read, read, behind}
+use Rattle.bytecode.specs.Layouts.{BadTag, BadVersion, Trailing, Layout, Makes, Field, NameField, Read, read, behind}
 
 abbrev pub any : ℕ → Bool
 any x = true

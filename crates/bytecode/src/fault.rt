@@ -1,7 +1,7 @@
-use std::alloc::AllocError;
-
 ghost use Rattle.std.specs.Prelude.{◌≡◌};
 ghost use Rattle.bytecode.specs.declared.fault.Stopped.TheVariants as stopped;
+
+use std::alloc::AllocError;
 
 /// Why a text is no code.
 #[derive(Clone, Copy)]

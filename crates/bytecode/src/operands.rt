@@ -34,27 +34,102 @@ fn made(tag: Tag, o: Operands) -> Instruction
     ensures { raw_instruction result ≡ made tag o.operator o.first o.truth o.second o.third o.line o.word }
 {
     match tag {
-        Tag::Literal => Instruction::Literal { to: Register(o.first), word: o.word },
-        Tag::Move => Instruction::Move { to: Register(o.first), source: Register(o.second) },
-        Tag::Store => Instruction::Store { to: Register(o.first), source: Register(o.second) },
-        Tag::Binary => Instruction::Binary { operator: operator_of(o.operator), to: Register(o.first), left: Register(o.second), right: Register(o.third), line: o.line },
-        Tag::Not => Instruction::Not { to: Register(o.first), source: Register(o.second) },
-        Tag::Cast => Instruction::Cast { to: Register(o.first), source: Register(o.second) },
-        Tag::Classify => Instruction::Classify { to: Register(o.first), source: Register(o.second) },
-        Tag::Fill => Instruction::Fill { to: Register(o.first), size: Register(o.second), value: Register(o.third), line: o.line },
-        Tag::At => Instruction::At { to: Register(o.first), array: Register(o.second), index: Register(o.third), line: o.line },
-        Tag::Put => Instruction::Put { array: Register(o.first), index: Register(o.second), value: Register(o.third), line: o.line },
-        Tag::Size => Instruction::Size { to: Register(o.first), source: Register(o.second) },
-        Tag::Cat => Instruction::Cat { to: Register(o.first), left: Register(o.second), right: Register(o.third), line: o.line },
-        Tag::Sum => Instruction::Sum { to: Register(o.first), source: Register(o.second) },
-        Tag::Bits => Instruction::Bits { to: Register(o.first), source: Register(o.second), line: o.line },
-        Tag::Declassify => Instruction::Declassify { to: Register(o.first), source: Register(o.second) },
-        Tag::Argument => Instruction::Argument { to: Register(o.first), name: NamePlace(o.second), line: o.line },
-        Tag::Publish => Instruction::Publish { name: NamePlace(o.first), source: Register(o.second) },
-        Tag::Assert => Instruction::Assert { condition: Register(o.first), line: o.line },
-        Tag::Branch => Instruction::Branch { condition: Register(o.first), value: o.truth == 1, target: Target(o.second) },
-        Tag::Jump => Instruction::Jump { target: Target(o.first) },
-        Tag::Return => Instruction::Return { source: Register(o.first) },
+        Tag::Literal => Instruction::Literal {
+            to: Register(o.first),
+            word: o.word,
+        },
+        Tag::Move => Instruction::Move {
+            to: Register(o.first),
+            source: Register(o.second),
+        },
+        Tag::Store => Instruction::Store {
+            to: Register(o.first),
+            source: Register(o.second),
+        },
+        Tag::Binary => Instruction::Binary {
+            operator: operator_of(o.operator),
+            to: Register(o.first),
+            left: Register(o.second),
+            right: Register(o.third),
+            line: o.line,
+        },
+        Tag::Not => Instruction::Not {
+            to: Register(o.first),
+            source: Register(o.second),
+        },
+        Tag::Cast => Instruction::Cast {
+            to: Register(o.first),
+            source: Register(o.second),
+        },
+        Tag::Classify => Instruction::Classify {
+            to: Register(o.first),
+            source: Register(o.second),
+        },
+        Tag::Fill => Instruction::Fill {
+            to: Register(o.first),
+            size: Register(o.second),
+            value: Register(o.third),
+            line: o.line,
+        },
+        Tag::At => Instruction::At {
+            to: Register(o.first),
+            array: Register(o.second),
+            index: Register(o.third),
+            line: o.line,
+        },
+        Tag::Put => Instruction::Put {
+            array: Register(o.first),
+            index: Register(o.second),
+            value: Register(o.third),
+            line: o.line,
+        },
+        Tag::Size => Instruction::Size {
+            to: Register(o.first),
+            source: Register(o.second),
+        },
+        Tag::Cat => Instruction::Cat {
+            to: Register(o.first),
+            left: Register(o.second),
+            right: Register(o.third),
+            line: o.line,
+        },
+        Tag::Sum => Instruction::Sum {
+            to: Register(o.first),
+            source: Register(o.second),
+        },
+        Tag::Bits => Instruction::Bits {
+            to: Register(o.first),
+            source: Register(o.second),
+            line: o.line,
+        },
+        Tag::Declassify => Instruction::Declassify {
+            to: Register(o.first),
+            source: Register(o.second),
+        },
+        Tag::Argument => Instruction::Argument {
+            to: Register(o.first),
+            name: NamePlace(o.second),
+            line: o.line,
+        },
+        Tag::Publish => Instruction::Publish {
+            name: NamePlace(o.first),
+            source: Register(o.second),
+        },
+        Tag::Assert => Instruction::Assert {
+            condition: Register(o.first),
+            line: o.line,
+        },
+        Tag::Branch => Instruction::Branch {
+            condition: Register(o.first),
+            value: o.truth == 1,
+            target: Target(o.second),
+        },
+        Tag::Jump => Instruction::Jump {
+            target: Target(o.first),
+        },
+        Tag::Return => Instruction::Return {
+            source: Register(o.first),
+        },
         Tag::Call | Tag::ReturnNone => Instruction::ReturnNone,
     }
 }
@@ -90,11 +165,7 @@ fn push_register(registers: &mut Vec<Register>, register: Register) -> Result<()
     Ok(())
 }
 
-fn registers(
-    alloc: Global,
-    reader: &mut Reader<'_>,
-    count: usize,
-) -> Result<Vec<Register>, Stopped>
+fn registers(alloc: Global, reader: &mut Reader<'_>, count: usize) -> Result<Vec<Register>, Stopped>
     ensures { Reads (λ v. map (λ r. r.0) v.items) (read (repeated short_layout count) reader.old) result reader.new }
 {
     let mut registers = Vec::new(alloc);
@@ -125,11 +196,7 @@ fn result_of(to: u16) -> Option<Register>
     }
 }
 
-fn call(
-    alloc: Global,
-    reader: &mut Reader<'_>,
-    parameters: &[u16],
-) -> Result<Instruction, Stopped>
+fn call(alloc: Global, reader: &mut Reader<'_>, parameters: &[u16]) -> Result<Instruction, Stopped>
     ensures { Reads raw_instruction (read (operands parameters.now 0x16) reader.old) result reader.new }
 {
     let function = reader.short()?;

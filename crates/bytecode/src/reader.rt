@@ -113,14 +113,22 @@ impl<'a> Reader<'a> {
         ensures reads { Reads (λ x. x) (read (optional wanted (Field BadTag 1 is_operator Makes)) self.old) result self.new }
         ensures within { IfOk result (λ x. x < 14) }
     {
-        if wanted { self.tested(Test::Operator) } else { Ok(0) }
+        if wanted {
+            self.tested(Test::Operator)
+        } else {
+            Ok(0)
+        }
     }
 
     pub(crate) fn truth_if(&mut self, wanted: bool) -> Result<u8, Stopped>
         ensures reads { Reads (λ x. x) (read (optional wanted (Field BadTag 1 is_truth Makes)) self.old) result self.new }
         ensures within { IfOk result (λ x. x < 2) }
     {
-        if wanted { self.tested(Test::Truth) } else { Ok(0) }
+        if wanted {
+            self.tested(Test::Truth)
+        } else {
+            Ok(0)
+        }
     }
 
     pub(crate) fn short_if(&mut self, wanted: bool) -> Result<u16, Stopped>

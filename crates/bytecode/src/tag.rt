@@ -90,7 +90,23 @@ impl Tag {
     {
         matches!(
             self,
-            Tag::Move | Tag::Store | Tag::Not | Tag::Cast | Tag::Classify | Tag::Size | Tag::Sum | Tag::Declassify | Tag::Publish | Tag::Fill | Tag::At | Tag::Put | Tag::Cat | Tag::Binary | Tag::Bits | Tag::Argument | Tag::Branch
+            Tag::Move
+                | Tag::Store
+                | Tag::Not
+                | Tag::Cast
+                | Tag::Classify
+                | Tag::Size
+                | Tag::Sum
+                | Tag::Declassify
+                | Tag::Publish
+                | Tag::Fill
+                | Tag::At
+                | Tag::Put
+                | Tag::Cat
+                | Tag::Binary
+                | Tag::Bits
+                | Tag::Argument
+                | Tag::Branch
         )
     }
 
@@ -110,7 +126,14 @@ impl Tag {
     {
         matches!(
             self,
-            Tag::Fill | Tag::At | Tag::Put | Tag::Cat | Tag::Binary | Tag::Bits | Tag::Argument | Tag::Assert
+            Tag::Fill
+                | Tag::At
+                | Tag::Put
+                | Tag::Cat
+                | Tag::Binary
+                | Tag::Bits
+                | Tag::Argument
+                | Tag::Assert
         )
     }
 

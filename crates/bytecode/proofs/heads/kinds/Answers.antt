@@ -1,4 +1,4 @@
-use Rattle.std.proofs.Common.{◌≡◌, ◌∙◌, ◌-◌, ◌+◌, ap, sym, Vec, Global}
+use Rattle.std.proofs.Common.{◌∙◌, ◌-◌, ◌+◌, ap, sym, Vec, Global}
 use Rattle.std.proofs.lemmas.Result.{err_from_is_err_and}
 use Rattle.bytecode.specs.declared.kind.Kind.{Kind}
 use Rattle.bytecode.specs.Decoded.{repeated, kind_layout}
@@ -9,7 +9,7 @@ use Rattle.bytecode.proofs.heads.kinds.Goals as goal
 pub returns-in_err-next : goal.returns-in_err-next
 returns-in_err-next c =
     let stop = repeated_stops kind_layout c.args.count c.loop-place.place c.loop-place.found.items c.loop-place.reader
-        (read (repeated kind_layout c.args.count) c.args.reader.now) c.in_err-next.field-0.0 c.loop-place-test.true c.in_err-next.ensures c.loop-place.invariant in
+    (read (repeated kind_layout c.args.count) c.args.reader.now) c.in_err-next.field-0.0 c.loop-place-test.true c.in_err-next.ensures c.loop-place.invariant in
     let from = c.from_residual.ensures in
     reads_err (λ (v : Vec Kind Global). v.items) _ _ _ _ (err_from_is_err_and c.from_residual.result from.1) stop
 

@@ -1,4 +1,4 @@
-use Rattle.std.proofs.Common.{◌≡◌, ◌∙◌, ◌-◌, ◌+◌, map, ap, sym, Vec, Global}
+use Rattle.std.proofs.Common.{◌∙◌, ◌-◌, ◌+◌, map, ap, sym, Vec, Global}
 use Rattle.std.proofs.lemmas.List.{map-append}
 use Rattle.std.proofs.lemmas.Result.{err_from_is_err_and}
 use Rattle.bytecode.specs.declared.instruction.Instruction.{Instruction}
@@ -12,7 +12,7 @@ pub returns-in_err-next : goal.returns-in_err-next
 returns-in_err-next c =
     let ps = c.args.parameters.now in
     let stop = repeated_stops (instruction_layout ps) c.args.count c.loop-place.place (map raw_instruction c.loop-place.instructions.items) c.loop-place.reader
-        (read (body_layout ps c.args.count) c.args.reader.now) c.in_err-next.field-0.0 c.loop-place-test.true c.in_err-next.ensures c.loop-place.invariant in
+    (read (body_layout ps c.args.count) c.args.reader.now) c.in_err-next.field-0.0 c.loop-place-test.true c.in_err-next.ensures c.loop-place.invariant in
     let from = c.from_residual.ensures in
     reads_err (λ (v : Vec Instruction Global). map raw_instruction v.items) _ _ _ _ (err_from_is_err_and c.from_residual.result from.1) stop
 

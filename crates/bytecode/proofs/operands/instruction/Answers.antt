@@ -1,4 +1,4 @@
-use Rattle.std.proofs.Common.{◌≡◌, ◌∙◌, Ok, ap, sym, subst}
+use Rattle.std.proofs.Common.{◌∙◌, ap, subst}
 use Rattle.bytecode.specs.Decoded.{operands, is_tag}
 use Rattle.bytecode.specs.InMemory.{raw_instruction}
 use Rattle.bytecode.specs.Layouts.{Field, Makes, BadTag, read}
