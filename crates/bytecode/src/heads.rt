@@ -60,3 +60,26 @@ fn next_head(alloc: Global, reader: &mut Reader<'_>) -> Result<Head, Stopped>
         instructions,
     })
 }
+
+fn push_head(heads: &mut Vec<Head>, head: Head) -> Result<(), AllocError>
+    ensures { OnOk result (heads.new.items ≡ heads.old.items ++ head ∷ []) }
+{
+    heads.push(head)?;
+    Ok(())
+}
+
+/// The next heads, so many.
+pub(crate) fn all_heads(
+    alloc: Global,
+    reader: &mut Reader<'_>,
+    count: usize,
+) -> Result<Vec<Head>, Stopped>
+    ensures { Reads (λ v. map raw_head v.items) (read (heads_layout count) reader.old) result reader.new }
+{
+    let mut found = Vec::new(alloc);
+    for place in 0..count {
+        let next = next_head(alloc, reader)?;
+        push_head(&mut found, next)?;
+    }
+    Ok(found)
+}
