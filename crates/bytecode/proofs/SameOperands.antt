@@ -1,0 +1,144 @@
+-- The operands of a tag, one after the other, are what the layout has behind it.
+use Rattle.std.proofs.Common.{◌≡◌, ℕ, List, Bool, Ok, refl, sym, ap, ◌∙◌, subst}
+use Rattle.bytecode.specs.declared.tag.Tag.{Tag}
+use Rattle.bytecode.specs.declared.tag.Tag.TheVariants as tags
+use Rattle.bytecode.specs.Raw.{Raw, Call}
+use Rattle.bytecode.specs.Layouts.{behind, Layout, Makes, Field, BadTag, read}
+use Rattle.bytecode.specs.Decoded.{operands, short_layout, repeated, any, is_operator, is_truth}
+use Rattle.bytecode.specs.declared.fault.Stopped.{Stopped}
+use Rattle.bytecode.specs.Reading.{optional, Stops}
+use Rattle.bytecode.proofs.Reading.{step_ok, step_stops, seven, seven_ok, seven_stops-6}
+use Rattle.bytecode.specs.Writable.{arguments_at}
+use Rattle.bytecode.specs.Tags.{tag_byte, operands_of, made, has_operator, has_first, has_truth, has_second, has_third, has_line, has_word}
+
+-- a tag with plain operands
+abbrev pub IsPlain : Tag → Type 0
+IsPlain tags.Literal = Unit {0}
+IsPlain tags.Move = Unit {0}
+IsPlain tags.Store = Unit {0}
+IsPlain tags.Binary = Unit {0}
+IsPlain tags.Not = Unit {0}
+IsPlain tags.Cast = Unit {0}
+IsPlain tags.Classify = Unit {0}
+IsPlain tags.Fill = Unit {0}
+IsPlain tags.At = Unit {0}
+IsPlain tags.Put = Unit {0}
+IsPlain tags.Size = Unit {0}
+IsPlain tags.Cat = Unit {0}
+IsPlain tags.Sum = Unit {0}
+IsPlain tags.Bits = Unit {0}
+IsPlain tags.Declassify = Unit {0}
+IsPlain tags.Argument = Unit {0}
+IsPlain tags.Publish = Unit {0}
+IsPlain tags.Assert = Unit {0}
+IsPlain tags.Branch = Unit {0}
+IsPlain tags.Jump = Unit {0}
+IsPlain tags.Call = ⊥
+IsPlain tags.Return = Unit {0}
+IsPlain tags.ReturnNone = Unit {0}
+
+pub same_operands : (ps : List ℕ) (tag : Tag) → IsPlain tag → operands_of tag ≡ operands ps (tag_byte tag)
+same_operands ps tags.Literal h = refl
+same_operands ps tags.Move h = refl
+same_operands ps tags.Store h = refl
+same_operands ps tags.Binary h = refl
+same_operands ps tags.Not h = refl
+same_operands ps tags.Cast h = refl
+same_operands ps tags.Classify h = refl
+same_operands ps tags.Fill h = refl
+same_operands ps tags.At h = refl
+same_operands ps tags.Put h = refl
+same_operands ps tags.Size h = refl
+same_operands ps tags.Cat h = refl
+same_operands ps tags.Sum h = refl
+same_operands ps tags.Bits h = refl
+same_operands ps tags.Declassify h = refl
+same_operands ps tags.Argument h = refl
+same_operands ps tags.Publish h = refl
+same_operands ps tags.Assert h = refl
+same_operands ps tags.Branch h = refl
+same_operands ps tags.Jump h = refl
+same_operands ps tags.Call h = absurd h
+same_operands ps tags.Return h = refl
+same_operands ps tags.ReturnNone h = refl
+
+-- seven operands with these flags
+abbrev pub flagged : Tag → (b0 b1 b2 b3 b4 b5 b6 : Bool) → Layout Raw
+flagged tag b0 b1 b2 b3 b4 b5 b6 = seven (optional b0 (Field BadTag 1 is_operator Makes)) (optional b1 (Field BadTag 2 any Makes)) (optional b2 (Field BadTag 1 is_truth Makes)) (optional b3 (Field BadTag 2 any Makes)) (optional b4 (Field BadTag 2 any Makes)) (optional b5 (Field BadTag 4 any Makes)) (optional b6 (Field BadTag 8 any Makes)) (made tag)
+
+pub same_flags : (tag : Tag) (b0 b1 b2 b3 b4 b5 b6 : Bool) → b0 ≡ has_operator tag → b1 ≡ has_first tag → b2 ≡ has_truth tag → b3 ≡ has_second tag → b4 ≡ has_third tag → b5 ≡ has_line tag → b6 ≡ has_word tag → flagged tag b0 b1 b2 b3 b4 b5 b6 ≡ operands_of tag
+same_flags tag b0 b1 b2 b3 b4 b5 b6 e0 e1 e2 e3 e4 e5 e6 =
+    ap (λ z. flagged tag z b1 b2 b3 b4 b5 b6) e0
+    ∙ ap (λ z. flagged tag (has_operator tag) z b2 b3 b4 b5 b6) e1
+    ∙ ap (λ z. flagged tag (has_operator tag) (has_first tag) z b3 b4 b5 b6) e2
+    ∙ ap (λ z. flagged tag (has_operator tag) (has_first tag) (has_truth tag) z b4 b5 b6) e3
+    ∙ ap (λ z. flagged tag (has_operator tag) (has_first tag) (has_truth tag) (has_second tag) z b5 b6) e4
+    ∙ ap (λ z. flagged tag (has_operator tag) (has_first tag) (has_truth tag) (has_second tag) (has_third tag) z b6) e5
+    ∙ ap (λ z. flagged tag (has_operator tag) (has_first tag) (has_truth tag) (has_second tag) (has_third tag) (has_line tag) z) e6
+
+pub operands_ok : (tag : Tag) (b0 b1 b2 b3 b4 b5 b6 : Bool) (x0 x1 x2 x3 x4 x5 x6 : ℕ) (t0 t1 t2 t3 t4 t5 t6 t7 : List ℕ) → b0 ≡ has_operator tag → b1 ≡ has_first tag → b2 ≡ has_truth tag → b3 ≡ has_second tag → b4 ≡ has_third tag → b5 ≡ has_line tag → b6 ≡ has_word tag → read (optional b0 (Field BadTag 1 is_operator Makes)) t0 ≡ Ok (x0, t1) → read (optional b1 (Field BadTag 2 any Makes)) t1 ≡ Ok (x1, t2) → read (optional b2 (Field BadTag 1 is_truth Makes)) t2 ≡ Ok (x2, t3) → read (optional b3 (Field BadTag 2 any Makes)) t3 ≡ Ok (x3, t4) → read (optional b4 (Field BadTag 2 any Makes)) t4 ≡ Ok (x4, t5) → read (optional b5 (Field BadTag 4 any Makes)) t5 ≡ Ok (x5, t6) → read (optional b6 (Field BadTag 8 any Makes)) t6 ≡ Ok (x6, t7) → read (operands_of tag) t0 ≡ Ok (made tag x0 x1 x2 x3 x4 x5 x6, t7)
+operands_ok tag b0 b1 b2 b3 b4 b5 b6 x0 x1 x2 x3 x4 x5 x6 t0 t1 t2 t3 t4 t5 t6 t7 e0 e1 e2 e3 e4 e5 e6 r0 r1 r2 r3 r4 r5 r6 =
+    ap (λ l. read l t0) (sym (same_flags tag b0 b1 b2 b3 b4 b5 b6 e0 e1 e2 e3 e4 e5 e6))
+    ∙ seven_ok (optional b0 (Field BadTag 1 is_operator Makes)) (optional b1 (Field BadTag 2 any Makes)) (optional b2 (Field BadTag 1 is_truth Makes)) (optional b3 (Field BadTag 2 any Makes)) (optional b4 (Field BadTag 2 any Makes)) (optional b5 (Field BadTag 4 any Makes)) (optional b6 (Field BadTag 8 any Makes)) (made tag) x0 x1 x2 x3 x4 x5 x6 t0 t1 t2 t3 t4 t5 t6 t7 r0 r1 r2 r3 r4 r5 r6
+
+pub operands_stop : (tag : Tag) (b0 b1 b2 b3 b4 b5 b6 : Bool) (x0 x1 x2 x3 x4 x5 : ℕ) (t0 t1 t2 t3 t4 t5 t6 : List ℕ) (e : Stopped) → b0 ≡ has_operator tag → b1 ≡ has_first tag → b2 ≡ has_truth tag → b3 ≡ has_second tag → b4 ≡ has_third tag → b5 ≡ has_line tag → b6 ≡ has_word tag → read (optional b0 (Field BadTag 1 is_operator Makes)) t0 ≡ Ok (x0, t1) → read (optional b1 (Field BadTag 2 any Makes)) t1 ≡ Ok (x1, t2) → read (optional b2 (Field BadTag 1 is_truth Makes)) t2 ≡ Ok (x2, t3) → read (optional b3 (Field BadTag 2 any Makes)) t3 ≡ Ok (x3, t4) → read (optional b4 (Field BadTag 2 any Makes)) t4 ≡ Ok (x4, t5) → read (optional b5 (Field BadTag 4 any Makes)) t5 ≡ Ok (x5, t6) → Stops (read (optional b6 (Field BadTag 8 any Makes)) t6) e → Stops (read (operands_of tag) t0) e
+operands_stop tag b0 b1 b2 b3 b4 b5 b6 x0 x1 x2 x3 x4 x5 t0 t1 t2 t3 t4 t5 t6 e e0 e1 e2 e3 e4 e5 e6 r0 r1 r2 r3 r4 r5 s =
+    subst (λ l. Stops (read l t0) e) (same_flags tag b0 b1 b2 b3 b4 b5 b6 e0 e1 e2 e3 e4 e5 e6)
+    (seven_stops-6 (optional b0 (Field BadTag 1 is_operator Makes)) (optional b1 (Field BadTag 2 any Makes)) (optional b2 (Field BadTag 1 is_truth Makes)) (optional b3 (Field BadTag 2 any Makes)) (optional b4 (Field BadTag 2 any Makes)) (optional b5 (Field BadTag 4 any Makes)) (optional b6 (Field BadTag 8 any Makes)) (made tag) x0 x1 x2 x3 x4 x5 t0 t1 t2 t3 t4 t5 t6 e r0 r1 r2 r3 r4 r5 s)
+
+pub plain_unless_call : (tag : Tag) → (tag ≡ tags.Call → ⊥) → IsPlain tag
+plain_unless_call tags.Literal h = tt
+plain_unless_call tags.Move h = tt
+plain_unless_call tags.Store h = tt
+plain_unless_call tags.Binary h = tt
+plain_unless_call tags.Not h = tt
+plain_unless_call tags.Cast h = tt
+plain_unless_call tags.Classify h = tt
+plain_unless_call tags.Fill h = tt
+plain_unless_call tags.At h = tt
+plain_unless_call tags.Put h = tt
+plain_unless_call tags.Size h = tt
+plain_unless_call tags.Cat h = tt
+plain_unless_call tags.Sum h = tt
+plain_unless_call tags.Bits h = tt
+plain_unless_call tags.Declassify h = tt
+plain_unless_call tags.Argument h = tt
+plain_unless_call tags.Publish h = tt
+plain_unless_call tags.Assert h = tt
+plain_unless_call tags.Branch h = tt
+plain_unless_call tags.Jump h = tt
+plain_unless_call tags.Call h = h refl
+plain_unless_call tags.Return h = tt
+plain_unless_call tags.ReturnNone h = tt
+
+-- ---- calls
+
+abbrev line_layout : Layout ℕ
+line_layout = Field BadTag 4 any Makes
+
+abbrev last : ℕ → ℕ → List ℕ → Layout Raw
+last f d xs = behind line_layout (λ line. Makes (Call f d xs line))
+
+abbrev arguments : List ℕ → ℕ → ℕ → Layout Raw
+arguments ps f d = behind (repeated short_layout (arguments_at ps f)) (last f d)
+
+abbrev result : List ℕ → ℕ → Layout Raw
+result ps f = behind short_layout (arguments ps f)
+
+pub call_ok : (ps : List ℕ) (f d : ℕ) (xs : List ℕ) (line : ℕ) (t0 t1 t2 t3 t4 : List ℕ) → read short_layout t0 ≡ Ok (f, t1) → read short_layout t1 ≡ Ok (d, t2)
+    → read (repeated short_layout (arguments_at ps f)) t2 ≡ Ok (xs, t3) → read line_layout t3 ≡ Ok (line, t4) → read (operands ps 0x16) t0 ≡ Ok (Call f d xs line, t4)
+call_ok ps f d xs line t0 t1 t2 t3 t4 e0 e1 e2 e3 =
+    step_ok short_layout (result ps) t0 f t1 e0 ∙ step_ok short_layout (arguments ps f) t1 d t2 e1
+    ∙ step_ok (repeated short_layout (arguments_at ps f)) (last f d) t2 xs t3 e2 ∙ step_ok line_layout (λ line. Makes (Call f d xs line)) t3 line t4 e3
+
+pub call_stops_at_arguments : (ps : List ℕ) (f d : ℕ) (t0 t1 t2 : List ℕ) (e : Stopped) → read short_layout t0 ≡ Ok (f, t1) → read short_layout t1 ≡ Ok (d, t2)
+    → Stops (read (repeated short_layout (arguments_at ps f)) t2) e → Stops (read (operands ps 0x16) t0) e
+call_stops_at_arguments ps f d t0 t1 t2 e e0 e1 s =
+    subst (λ r. Stops r e) (sym (step_ok short_layout (result ps) t0 f t1 e0 ∙ step_ok short_layout (arguments ps f) t1 d t2 e1))
+    (step_stops (repeated short_layout (arguments_at ps f)) (last f d) t2 e s)
+
+pub call_stops_at_line : (ps : List ℕ) (f d : ℕ) (xs : List ℕ) (t0 t1 t2 t3 : List ℕ) (e : Stopped) → read short_layout t0 ≡ Ok (f, t1) → read short_layout t1 ≡ Ok (d, t2)
+    → read (repeated short_layout (arguments_at ps f)) t2 ≡ Ok (xs, t3) → Stops (read line_layout t3) e → Stops (read (operands ps 0x16) t0) e
+call_stops_at_line ps f d xs t0 t1 t2 t3 e e0 e1 e2 s =
+    subst (λ r. Stops r e) (sym (step_ok short_layout (result ps) t0 f t1 e0 ∙ step_ok short_layout (arguments ps f) t1 d t2 e1 ∙ step_ok (repeated short_layout (arguments_at ps f)) (last f d) t2 xs t3 e2))
+    (step_stops line_layout (λ line. Makes (Call f d xs line)) t3 e s)

@@ -1,0 +1,8 @@
+use Rattle.std.proofs.Common.{◌≡◌, ◌++◌, take}
+use Rattle.std.specs.List.{flat_map}
+use Rattle.bytecode.specs.Written.{bytes_of, body_numbers}
+use Rattle.bytecode.specs.InMemory.{raw_function}
+use Rattle.bytecode.proofs.encoding.push_bodies.Given as goal
+
+abbrev pub invariant-loop-function : goal.invariant-loop-function
+invariant-loop-function l = l.text.items ≡ l.initial.text.items ++ bytes_of (flat_map (λ f. body_numbers (raw_function f)) (take l.function-index l.functions))

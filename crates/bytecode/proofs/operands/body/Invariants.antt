@@ -1,0 +1,10 @@
+use Rattle.std.proofs.Common.{◌≡◌, ◌-◌, map}
+use Rattle.bytecode.specs.Decoded.{body_layout}
+use Rattle.bytecode.specs.InMemory.{raw_instruction}
+use Rattle.bytecode.specs.Layouts.{read}
+use Rattle.bytecode.proofs.Reading.{after}
+use Rattle.bytecode.proofs.operands.body.Given as goal
+
+abbrev pub invariant-loop-place : goal.invariant-loop-place
+invariant-loop-place l =
+    read (body_layout l.parameters l.fn.count) l.initial.reader ≡ after (map raw_instruction l.instructions.items) (read (body_layout l.parameters (l.fn.count - l.place)) l.reader)

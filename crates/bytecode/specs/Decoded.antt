@@ -1,0 +1,141 @@
+-- What a text of code is read as, or its first fault.
+use Rattle.std.specs.Prelude.{ℕ, zero, suc, ◌-◌, ◌==◌, ◌&&◌, not, nat_lt, List, [], ◌∷◌, length, map, Bool, true, Option, Result, Ok, Err, if◌then◌else◌}
+use Rattle.bytecode.specs.declared.kind.Kind.{Kind}
+use Rattle.bytecode.specs.Kinds.{is_kind, kind_of, is_return, return_of}
+use Rattle.bytecode.specs.Raw.{Raw, Literal, Move, Store, Binary, Not, Cast, Classify, Fill, At, Put, Size, Cat, Sum, Bits, Declassify, Argument, Publish, Assert, Branch, Jump, Call, Return, ReturnNone, RawFunction, RawCode}
+use Rattle.bytecode.specs.Writable.{arguments_at, is_new_name}
+use Rattle.bytecode.specs.declared.fault.Fault.{Fault}
+use Rattle.bytecode.specs.Layouts.{BadTag, BadVersion, Trailing, Layout, Makes, Field, NameField, Read, read, behind}
+
+abbrev pub any : ℕ → Bool
+any x = true
+
+abbrev pub short_field : {A : Type 0} → (ℕ → Layout A) → Layout A
+short_field = Field BadTag 2 any
+
+abbrev pub line_field : {A : Type 0} → (ℕ → Layout A) → Layout A
+line_field = Field BadTag 4 any
+
+-- ---- instructions
+
+abbrev pub pair_layout : (ℕ → ℕ → Raw) → Layout Raw
+pair_layout make = short_field (λ d. short_field (λ r. Makes (make d r)))
+
+abbrev pub triple_layout : (ℕ → ℕ → ℕ → ℕ → Raw) → Layout Raw
+triple_layout make = short_field (λ a. short_field (λ b. short_field (λ c. line_field (λ line. Makes (make a b c line)))))
+
+-- so many of a layout, one behind the other
+abbrev pub repeated : {A : Type 0} → Layout A → ℕ → Layout (List A)
+repeated layout zero = Makes []
+repeated layout (suc n) = behind layout (λ x. behind (repeated layout n) (λ xs. Makes (x ∷ xs)))
+
+abbrev pub short_layout : Layout ℕ
+short_layout = Field BadTag 2 any Makes
+
+abbrev pub shorts : {A : Type 0} → ℕ → (List ℕ → Layout A) → Layout A
+shorts n = behind (repeated short_layout n)
+
+abbrev pub is_tag : ℕ → Bool
+is_tag tag = nat_lt 0 tag && nat_lt tag 25 && not (tag == 0x15)
+
+abbrev pub is_operator : ℕ → Bool
+is_operator o = nat_lt o 14
+
+abbrev pub is_truth : ℕ → Bool
+is_truth v = nat_lt v 2
+
+-- the operands behind a tag, where the functions have so many parameters
+abbrev pub operands : List ℕ → ℕ → Layout Raw
+operands ps tag =
+    if tag == 0x01 then short_field (λ d. Field BadTag 8 any (λ x. Makes (Literal d x)))
+    else if tag == 0x02 then pair_layout Move
+    else if tag == 0x03 then pair_layout Store
+    else if tag == 0x04 then Field BadTag 1 is_operator (λ o. triple_layout (Binary o))
+    else if tag == 0x05 then pair_layout Not
+    else if tag == 0x06 then pair_layout Cast
+    else if tag == 0x07 then pair_layout Classify
+    else if tag == 0x08 then triple_layout Fill
+    else if tag == 0x09 then triple_layout At
+    else if tag == 0x0a then triple_layout Put
+    else if tag == 0x0b then pair_layout Size
+    else if tag == 0x0c then triple_layout Cat
+    else if tag == 0x0d then pair_layout Sum
+    else if tag == 0x0e then short_field (λ d. short_field (λ r. line_field (λ line. Makes (Bits d r line))))
+    else if tag == 0x0f then pair_layout Declassify
+    else if tag == 0x10 then short_field (λ d. short_field (λ name. line_field (λ line. Makes (Argument d name line))))
+    else if tag == 0x11 then pair_layout Publish
+    else if tag == 0x12 then short_field (λ r. line_field (λ line. Makes (Assert r line)))
+    else if tag == 0x13 then short_field (λ r. Field BadTag 1 is_truth (λ v. short_field (λ target. Makes (Branch r v target))))
+    else if tag == 0x14 then short_field (λ target. Makes (Jump target))
+    else if tag == 0x16 then short_field (λ f. short_field (λ d. shorts (arguments_at ps f) (λ xs. line_field (λ line. Makes (Call f d xs line)))))
+    else if tag == 0x17 then short_field (λ r. Makes (Return r))
+    else Makes ReturnNone
+
+abbrev pub instruction_layout : List ℕ → Layout Raw
+instruction_layout ps = Field BadTag 1 is_tag (operands ps)
+
+abbrev pub body_layout : List ℕ → ℕ → Layout (List Raw)
+body_layout ps = repeated (instruction_layout ps)
+
+-- ---- what stands before the bodies
+
+-- what is told of a function before all bodies
+pub record Head : Type 0 where
+  pub parameters : ℕ
+  pub gives : Option Kind
+  pub registers : List Kind
+  pub instructions : ℕ
+
+abbrev pub kind_layout : Layout Kind
+kind_layout = Field BadTag 1 is_kind (λ b. Makes (kind_of b))
+
+abbrev pub kinds : {A : Type 0} → ℕ → (List Kind → Layout A) → Layout A
+kinds n = behind (repeated kind_layout n)
+
+abbrev pub head_layout : Layout Head
+head_layout =
+    short_field (λ p. Field BadTag 1 is_return (λ b. short_field (λ n. kinds n (λ ks. short_field (λ count.
+    Makes (record { parameters = p; gives = return_of b; registers = ks; instructions = count }))))))
+
+abbrev pub heads_layout : ℕ → Layout (List Head)
+heads_layout = repeated head_layout
+
+abbrev pub names_layout : List (List ℕ) → ℕ → Layout (List (List ℕ))
+names_layout earlier zero = Makes []
+names_layout earlier (suc n) = NameField (is_new_name earlier) (λ name. behind (names_layout (name ∷ earlier) n) (λ names. Makes (name ∷ names)))
+
+-- ---- functions and code
+
+abbrev pub function_of : Head → List Raw → RawFunction
+function_of h is = record { parameters = h.parameters; gives = h.gives; registers = h.registers; body = is }
+
+abbrev pub bodies_layout : List ℕ → List Head → Layout (List RawFunction)
+bodies_layout ps [] = Makes []
+bodies_layout ps (h ∷ hs) = behind (body_layout ps h.instructions) (λ is. behind (bodies_layout ps hs) (λ fs. Makes (function_of h is ∷ fs)))
+
+abbrev pub functions_layout : ℕ → Layout (List RawFunction)
+functions_layout n = behind (heads_layout n) (λ hs. bodies_layout (map (λ h. h.parameters) hs) hs)
+
+abbrev pub is_some_count : ℕ → Bool
+is_some_count n = nat_lt 0 n
+
+-- `SC3P`, the version, the names, the functions' heads, their bodies
+abbrev pub code_layout : Layout RawCode
+code_layout =
+    Field BadTag 1 (λ b. b == 83) (λ s. Field BadTag 1 (λ b. b == 67) (λ c. Field BadTag 1 (λ b. b == 51) (λ t. Field BadTag 1 (λ b. b == 80) (λ p.
+    Field BadVersion 1 (λ b. b == 1) (λ version. short_field (λ names. behind (names_layout [] names) (λ ns.
+    Field BadTag 2 is_some_count (λ functions. behind (functions_layout functions) (λ fs. Makes (record { names = ns; functions = fs }))))))))))
+
+-- ---- a whole text
+
+-- the text, of so many bytes, has to end behind what was read
+abbrev pub ended : {A : Type 0} → ℕ → A → List ℕ → Result A Fault
+ended size a [] = Ok a
+ended size a (b ∷ left) = Err (record { kind = Trailing; place = size - length (b ∷ left) })
+
+abbrev pub whole : {A : Type 0} → ℕ → Read A → Result A Fault
+whole size (Ok x) = ended size x.0 x.1
+whole size (Err e) = Err (record { kind = e.0; place = size - length e.1 })
+
+abbrev pub decoded : List ℕ → Result RawCode Fault
+decoded text = whole (length text) (read code_layout text)

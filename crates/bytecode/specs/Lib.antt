@@ -1,0 +1,12 @@
+pub mod Raw
+pub mod Kinds
+pub mod Written
+pub mod Writable
+pub mod Layouts
+pub mod Decoded
+pub mod InMemory
+pub mod Numbers
+pub mod Reading
+pub mod Tests
+pub mod Tags
+pub mod Vectors

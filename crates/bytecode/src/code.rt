@@ -1,0 +1,21 @@
+use crate::instruction::Instruction;
+use crate::kind::Kind;
+use sc_text::Name;
+
+/// A function. Its parameters are its first registers.
+#[derive(Drop)]
+pub struct Function {
+    pub parameters: u16,
+    /// What the function gives back, if anything.
+    pub gives: Option<Kind>,
+    /// The kinds of the registers.
+    pub registers: Vec<Kind>,
+    pub body: Vec<Instruction>,
+}
+
+/// Code: the names of its arguments and results, and its functions, of which the first is main.
+#[derive(Drop)]
+pub struct Code {
+    pub names: Vec<Name>,
+    pub functions: Vec<Function>,
+}

@@ -1,0 +1,85 @@
+// How what stands of functions before their bodies is read.
+ghost use Rattle.std.specs.Prelude.{◌≡◌, ◌++◌, ◌∷◌, [], OnOk, map};
+ghost use Rattle.bytecode.specs.Decoded.{head_layout, heads_layout, kind_layout, repeated};
+ghost use Rattle.bytecode.specs.InMemory.{raw_head};
+ghost use Rattle.bytecode.specs.Layouts.{read};
+ghost use Rattle.bytecode.specs.Reading.{Reads};
+
+use crate::fault::Stopped;
+use crate::kind::{Kind, kind_of, return_of};
+use crate::reader::Reader;
+use crate::test::Test;
+use std::alloc::{AllocError, Global};
+
+/// What is told of a function before all bodies.
+#[derive(Drop)]
+pub(crate) struct Head {
+    pub(crate) parameters: u16,
+    pub(crate) gives: Option<Kind>,
+    pub(crate) registers: Vec<Kind>,
+    pub(crate) instructions: u16,
+}
+
+fn next_kind(reader: &mut Reader<'_>) -> Result<Kind, Stopped>
+    ensures { Reads (λ k. k) (read kind_layout reader.old) result reader.new }
+{
+    let byte = reader.tested(Test::Kind)?;
+    Ok(kind_of(byte))
+}
+
+fn push_kind(kinds: &mut Vec<Kind>, kind: Kind) -> Result<(), AllocError>
+    ensures { OnOk result (kinds.new.items ≡ kinds.old.items ++ kind ∷ []) }
+{
+    kinds.push(kind)?;
+    Ok(())
+}
+
+fn kinds(alloc: Global, reader: &mut Reader<'_>, count: usize) -> Result<Vec<Kind>, Stopped>
+    ensures { Reads (λ v. v.items) (read (repeated kind_layout count) reader.old) result reader.new }
+{
+    let mut found = Vec::new(alloc);
+    for place in 0..count {
+        let next = next_kind(reader)?;
+        push_kind(&mut found, next)?;
+    }
+    Ok(found)
+}
+
+fn next_head(alloc: Global, reader: &mut Reader<'_>) -> Result<Head, Stopped>
+    ensures { Reads raw_head (read head_layout reader.old) result reader.new }
+{
+    let parameters = reader.short()?;
+    let gives = reader.tested(Test::Return)?;
+    let count = reader.short()?;
+    let registers = kinds(alloc, reader, count as usize)?;
+    let instructions = reader.short()?;
+    Ok(Head {
+        parameters,
+        gives: return_of(gives),
+        registers,
+        instructions,
+    })
+}
+
+fn push_head(heads: &mut Vec<Head>, head: Head) -> Result<(), AllocError>
+    ensures { OnOk result (heads.new.items ≡ heads.old.items ++ head ∷ []) }
+{
+    heads.push(head)?;
+    Ok(())
+}
+
+/// The next heads, so many.
+pub(crate) fn all_heads(
+    alloc: Global,
+    reader: &mut Reader<'_>,
+    count: usize,
+) -> Result<Vec<Head>, Stopped>
+    ensures { Reads (λ v. map raw_head v.items) (read (heads_layout count) reader.old) result reader.new }
+{
+    let mut found = Vec::new(alloc);
+    for place in 0..count {
+        let next = next_head(alloc, reader)?;
+        push_head(&mut found, next)?;
+    }
+    Ok(found)
+}

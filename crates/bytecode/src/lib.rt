@@ -1,0 +1,26 @@
+//! Code as bytes: instructions with the numbers that the bytes say, how they are written, and how a text is read.
+#![tactic(auto)]
+
+mod code;
+mod copy;
+mod encoding;
+mod fault;
+mod heads;
+mod instruction;
+mod kind;
+mod laws;
+mod numbers;
+mod operands;
+mod operator;
+mod reader;
+mod tag;
+mod test;
+mod writing;
+
+pub use code::{Code, Function};
+pub use encoding::encode;
+pub use fault::{Fault, FaultKind};
+pub use instruction::{FunctionPlace, Instruction, NamePlace, Register, Target};
+pub use kind::Kind;
+pub use laws::{read_code_is_written, written_code_is_read_again};
+pub use operator::BinaryOperator;

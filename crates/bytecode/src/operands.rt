@@ -1,0 +1,255 @@
+// How an instruction is read.
+ghost use Rattle.std.specs.Prelude.{◌≡◌, ◌<◌, ◌++◌, ◌∷◌, [], OnOk, map};
+ghost use Rattle.bytecode.specs.Decoded.{body_layout, instruction_layout, operands, repeated, short_layout};
+ghost use Rattle.bytecode.specs.InMemory.{raw_instruction, result_register};
+ghost use Rattle.bytecode.specs.Layouts.{read};
+ghost use Rattle.bytecode.specs.Reading.{Reads};
+ghost use Rattle.bytecode.specs.Tags.{made, operands_of};
+ghost use Rattle.bytecode.specs.Writable.{arguments_at};
+
+use crate::fault::Stopped;
+use crate::instruction::{FunctionPlace, Instruction, NamePlace, Register, Target};
+use crate::operator::operator_of;
+use crate::reader::Reader;
+use crate::tag::{Tag, tag_of};
+use crate::test::Test;
+use std::alloc::{AllocError, Global};
+
+/// What stands behind a tag; 0 where it has no such operand.
+#[derive(Clone, Copy)]
+struct Operands {
+    operator: u8,
+    first: u16,
+    truth: u8,
+    second: u16,
+    third: u16,
+    line: u32,
+    word: u64,
+}
+
+/// The instruction of a tag with these operands.
+fn made(tag: Tag, o: Operands) -> Instruction
+    requires operator { o.operator < 14 }
+    requires truth { o.truth < 2 }
+    ensures { raw_instruction result ≡ made tag o.operator o.first o.truth o.second o.third o.line o.word }
+{
+    match tag {
+        Tag::Literal => Instruction::Literal {
+            to: Register(o.first),
+            word: o.word,
+        },
+        Tag::Move => Instruction::Move {
+            to: Register(o.first),
+            source: Register(o.second),
+        },
+        Tag::Store => Instruction::Store {
+            to: Register(o.first),
+            source: Register(o.second),
+        },
+        Tag::Binary => Instruction::Binary {
+            operator: operator_of(o.operator),
+            to: Register(o.first),
+            left: Register(o.second),
+            right: Register(o.third),
+            line: o.line,
+        },
+        Tag::Not => Instruction::Not {
+            to: Register(o.first),
+            source: Register(o.second),
+        },
+        Tag::Cast => Instruction::Cast {
+            to: Register(o.first),
+            source: Register(o.second),
+        },
+        Tag::Classify => Instruction::Classify {
+            to: Register(o.first),
+            source: Register(o.second),
+        },
+        Tag::Fill => Instruction::Fill {
+            to: Register(o.first),
+            size: Register(o.second),
+            value: Register(o.third),
+            line: o.line,
+        },
+        Tag::At => Instruction::At {
+            to: Register(o.first),
+            array: Register(o.second),
+            index: Register(o.third),
+            line: o.line,
+        },
+        Tag::Put => Instruction::Put {
+            array: Register(o.first),
+            index: Register(o.second),
+            value: Register(o.third),
+            line: o.line,
+        },
+        Tag::Size => Instruction::Size {
+            to: Register(o.first),
+            source: Register(o.second),
+        },
+        Tag::Cat => Instruction::Cat {
+            to: Register(o.first),
+            left: Register(o.second),
+            right: Register(o.third),
+            line: o.line,
+        },
+        Tag::Sum => Instruction::Sum {
+            to: Register(o.first),
+            source: Register(o.second),
+        },
+        Tag::Bits => Instruction::Bits {
+            to: Register(o.first),
+            source: Register(o.second),
+            line: o.line,
+        },
+        Tag::Declassify => Instruction::Declassify {
+            to: Register(o.first),
+            source: Register(o.second),
+        },
+        Tag::Argument => Instruction::Argument {
+            to: Register(o.first),
+            name: NamePlace(o.second),
+            line: o.line,
+        },
+        Tag::Publish => Instruction::Publish {
+            name: NamePlace(o.first),
+            source: Register(o.second),
+        },
+        Tag::Assert => Instruction::Assert {
+            condition: Register(o.first),
+            line: o.line,
+        },
+        Tag::Branch => Instruction::Branch {
+            condition: Register(o.first),
+            value: o.truth == 1,
+            target: Target(o.second),
+        },
+        Tag::Jump => Instruction::Jump {
+            target: Target(o.first),
+        },
+        Tag::Return => Instruction::Return {
+            source: Register(o.first),
+        },
+        Tag::Call | Tag::ReturnNone => Instruction::ReturnNone,
+    }
+}
+
+fn plain(reader: &mut Reader<'_>, tag: Tag) -> Result<Instruction, Stopped>
+    ensures { Reads raw_instruction (read (operands_of tag) reader.old) result reader.new }
+{
+    let operator = reader.operator_if(tag.has_operator())?;
+    let first = reader.short_if(tag.has_first())?;
+    let truth = reader.truth_if(tag.has_truth())?;
+    let second = reader.short_if(tag.has_second())?;
+    let third = reader.short_if(tag.has_third())?;
+    let line = reader.line_if(tag.has_line())?;
+    let word = reader.word_if(tag.has_word())?;
+    Ok(made(
+        tag,
+        Operands {
+            operator,
+            first,
+            truth,
+            second,
+            third,
+            line,
+            word,
+        },
+    ))
+}
+
+fn push_register(registers: &mut Vec<Register>, register: Register) -> Result<(), AllocError>
+    ensures { OnOk result (registers.new.items ≡ registers.old.items ++ register ∷ []) }
+{
+    registers.push(register)?;
+    Ok(())
+}
+
+fn registers(alloc: Global, reader: &mut Reader<'_>, count: usize) -> Result<Vec<Register>, Stopped>
+    ensures { Reads (λ v. map (λ r. r.0) v.items) (read (repeated short_layout count) reader.old) result reader.new }
+{
+    let mut registers = Vec::new(alloc);
+    for place in 0..count {
+        let register = Register(reader.short()?);
+        push_register(&mut registers, register)?;
+    }
+    Ok(registers)
+}
+
+/// How many arguments a call of a function has.
+fn arguments_at(parameters: &[u16], function: u16) -> usize
+    ensures { result ≡ arguments_at parameters.now function }
+{
+    match parameters.get(function as usize) {
+        Some(count) => *count as usize,
+        None => 0,
+    }
+}
+
+fn result_of(to: u16) -> Option<Register>
+    ensures { result_register result ≡ to }
+{
+    if to == 65_535 {
+        None
+    } else {
+        Some(Register(to))
+    }
+}
+
+fn call(alloc: Global, reader: &mut Reader<'_>, parameters: &[u16]) -> Result<Instruction, Stopped>
+    ensures { Reads raw_instruction (read (operands parameters.now 0x16) reader.old) result reader.new }
+{
+    let function = reader.short()?;
+    let to = reader.short()?;
+    let count = arguments_at(parameters, function);
+    let arguments = registers(alloc, reader, count)?;
+    let line = reader.line()?;
+    Ok(Instruction::Call {
+        function: FunctionPlace(function),
+        to: result_of(to),
+        arguments,
+        line,
+    })
+}
+
+/// The next instruction, where the functions have so many parameters.
+pub(crate) fn instruction(
+    alloc: Global,
+    reader: &mut Reader<'_>,
+    parameters: &[u16],
+) -> Result<Instruction, Stopped>
+    ensures { Reads raw_instruction (read (instruction_layout parameters.now) reader.old) result reader.new }
+{
+    let tag = tag_of(reader.tested(Test::Tag)?);
+    match tag {
+        Tag::Call => call(alloc, reader, parameters),
+        _ => plain(reader, tag),
+    }
+}
+
+fn push_instruction(
+    instructions: &mut Vec<Instruction>,
+    instruction: Instruction,
+) -> Result<(), AllocError>
+    ensures { OnOk result (instructions.new.items ≡ instructions.old.items ++ instruction ∷ []) }
+{
+    instructions.push(instruction)?;
+    Ok(())
+}
+
+/// The next instructions, so many.
+pub(crate) fn body(
+    alloc: Global,
+    reader: &mut Reader<'_>,
+    parameters: &[u16],
+    count: usize,
+) -> Result<Vec<Instruction>, Stopped>
+    ensures { Reads (λ v. map raw_instruction v.items) (read (body_layout parameters.now count) reader.old) result reader.new }
+{
+    let mut instructions = Vec::new(alloc);
+    for place in 0..count {
+        let next = instruction(alloc, reader, parameters)?;
+        push_instruction(&mut instructions, next)?;
+    }
+    Ok(instructions)
+}
