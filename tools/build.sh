@@ -3,7 +3,7 @@
 # A build stands in .build/SUM, SUM being a checksum of all that the program is made of. It is made under another name and
 # renamed when it is whole, so nobody ever meets half of one; a lock lets one build at a time work in a checkout.
 
-# What a build from nothing takes: processor minutes in all, and minutes of its longest chain of crates (docs/performance.md).
+# What a build from nothing takes, by estimate: processor minutes in all, and minutes of its longest chain of crates (docs/performance.md).
 build_work=75
 build_chain=35
 
