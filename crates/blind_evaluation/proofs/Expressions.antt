@@ -11,7 +11,7 @@ use Rattle.typed_tree.specs.Tree.{TypedTree, TypedTrees, word_node, truth_node, 
 use Rattle.typed_tree.specs.Tree as Tree'
 use Rattle.reached_instances.specs.declared.instance.BoundDomain.{BoundDomain}
 use Rattle.reached_instances.specs.Domains.{Setting, domains}
-use Rattle.typed_tree.specs.Values.{shape_of}
+use Rattle.typed_tree.specs.Shapes.{shape_of}
 use Rattle.language_model.specs.Effects.{Effect}
 use Rattle.language_model.specs.Values.{Value}
 use Rattle.language_model.specs.Words.{truth_word}

@@ -19,7 +19,7 @@ use Rattle.typed_tree.specs.declared.operators.BinaryOperator.{BinaryOperator}
 use Rattle.typed_tree.specs.declared.operators.Operands.{Operands}
 use Rattle.typed_tree.specs.declared.operators.Cast.{Cast}
 use Rattle.typed_tree.specs.declared.operators.Cast.TheVariants.{WordToWord, WordToBool, BoolToWord, BoolToBool}
-use Rattle.typed_tree.specs.Values.{shape_of}
+use Rattle.typed_tree.specs.Shapes.{shape_of}
 use Rattle.language_model.specs.Effects.{Words, words_each, Clear, Answers, World, Stage, Short, Effect, ◌>>=◌, carry, done, test, gate, draw, planned, emit, next_answers, show}
 use Rattle.language_model.specs.Values.{Secrecy, Private, Value, plain, is_secret, size, seen, is_true, ring_for, element_of, elements_of}
 use Rattle.language_model.specs.Words as W

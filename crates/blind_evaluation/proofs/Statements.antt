@@ -11,7 +11,7 @@ use Rattle.typed_tree.specs.Commands as Commands'
 use Rattle.typed_tree.specs.Programs.{TypedFunctionTree}
 use Rattle.reached_instances.specs.declared.instance.BoundDomain.{BoundDomain}
 use Rattle.reached_instances.specs.Domains.{domain_under}
-use Rattle.typed_tree.specs.Values.{shape_of}
+use Rattle.typed_tree.specs.Shapes.{shape_of}
 use Rattle.language_model.specs.Effects.{Stage, Effect}
 use Rattle.language_model.specs.Values.{Value, size, default_words}
 use Rattle.language_model.specs.Evaluation.{Frame, put, Calls, nothing, is_private, slot_is_private, behind_next, either, value, Flow, goes, returns, stops, skips, then_do, turned, turns, repeats, Place, slot_shape, stored, execute, execute_all, begins, entered, result_of, place_in, body_of, array_elements, call_at}

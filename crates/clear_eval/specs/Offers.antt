@@ -3,7 +3,7 @@ use Rattle.std.specs.Prelude.{ℕ, Bool, true, false, List, [], ◌∷◌, map, 
 use Rattle.secrec_ast.specs.declared.expression.DataType.TheVariants as datatype
 use Rattle.secrec_ast.specs.declared.expression.DataType.{DataType}
 use Rattle.typed_tree.specs.declared.kinds.Shape.{Shape}
-use Rattle.typed_tree.specs.Values.{shape_of}
+use Rattle.typed_tree.specs.Shapes.{shape_of}
 use Rattle.value_file.specs.declared.inputs.Entry.{Entry}
 use Rattle.value_file.specs.declared.public.PublicEntry.{PublicEntry}
 use Rattle.value_file.specs.declared.public.PublicValue.{PublicValue}

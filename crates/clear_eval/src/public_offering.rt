@@ -1,6 +1,6 @@
 // What the public part of a file's inputs is to a run.
 ghost use Rattle.std.specs.Prelude.{◌≡◌, ◌≤◌, IfOk, map};
-ghost use Rattle.typed_tree.specs.Values.{shape_of};
+ghost use Rattle.typed_tree.specs.Shapes.{shape_of};
 ghost use Rattle.value_file.specs.PublicFile.{IsWritable, public_count};
 ghost use Rattle.value_steps.specs.Views.{given_seen};
 ghost use Rattle.clear_eval.specs.Offers.{type_given, is_array, part_given};

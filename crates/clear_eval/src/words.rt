@@ -1,7 +1,7 @@
 // Values that come from the program's text.
 ghost use Rattle.std.specs.Prelude.{◌≡◌, [], ◌∷◌, false, IfOk};
 ghost use Rattle.secrec_ast.specs.declared.expression.DataType.TheVariants.{Uint64};
-ghost use Rattle.typed_tree.specs.Values.{shape_of};
+ghost use Rattle.typed_tree.specs.Shapes.{shape_of};
 ghost use Rattle.language_model.specs.Values.{plain};
 ghost use Rattle.language_model.specs.Evaluation.{is_private, nothing, truth_value, connective as operator_of, decides};
 ghost use Rattle.value_steps.specs.Views.{value_seen};

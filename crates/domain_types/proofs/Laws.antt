@@ -6,7 +6,8 @@ use Rattle.sc_text.specs.declared.span.Span.{Span}
 use Rattle.domain_types.specs.declared.fault.Problem.{Problem}
 use Rattle.domain_types.specs.declared.fault.Problem.TheVariants.{UnknownName, Twice, TypeMismatch, PrivateCondition, PrivateIndex, PrivateSize, PrivateToPublic, PrivateDivision, PrivateAssert, DomainMix, NoMain, BadImport, BadArity, MissingReturn, ArgumentPlace}
 use Rattle.domain_types.specs.declared.fault.Fault.{Fault}
-use Rattle.domain_types.specs.Least.{number_of, Among, NotAfter, IsLeast, is_before, least}
+use Rattle.sc_text.specs.Lists.{Among}
+use Rattle.domain_types.specs.Least.{number_of, NotAfter, IsLeast, is_before, least}
 
 -- what the test says
 told : (f g : Fault) → ((is_before f g ≡ true) × NotAfter f g) ⊎ ((is_before f g ≡ false) × NotAfter g f)

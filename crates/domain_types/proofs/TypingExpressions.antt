@@ -21,9 +21,10 @@ use Rattle.domain_types.specs.Declarations.{Declared, Setting, Callee, built_in,
 use Rattle.domain_types.specs.Scopes.{Variable, Scope, variable_named}
 use Rattle.domain_types.specs.ExpressionTypes.{variable_type, variable_faults, operator_faults, operator_type, negation_faults, negation_type, cast_type, declassified, index_faults, index_type, with_argument, built_in_faults, built_in_result, binding_by, within, defined_faults, result_type, callee_faults, callee_type, call_faults, of_two, given_value, nothing_given, type_of, arguments_of, value_type, faults, argument_list_faults, value_faults}
 use Rattle.domain_types.specs.Reached.{Call, binding_of, call_of, calls_of, calls_of_all}
-use Rattle.domain_types.specs.Least.{Among}
+use Rattle.sc_text.specs.Lists.{Among}
 use Rattle.domain_types.specs.Typing.{HasType, HaveTypes}
-use Rattle.domain_types.proofs.TypingSteps.{there, mapped, followed, paired, valued, passes, some_fault, parts, joined, says_nothing, said, among_left, among_right}
+use Rattle.sc_text.proofs.Lists.{among_left, among_right}
+use Rattle.domain_types.proofs.TypingSteps.{there, mapped, followed, paired, valued, passes, some_fault, parts, joined, says_nothing, said}
 use Rattle.domain_types.proofs.TypingRules.{operation, operator_from, no_operator_faults, operator_typed, negated, no_negation_fault, negation_typed, indexable, no_index_fault, indexed_faultless, index_typed}
 use Rattle.domain_types.proofs.TypingCalls.{built_in_typed, defined_bound, is_call, called, known_call, call_typed, call_said, call_says_nothing, callee_known, function_at}
 

@@ -17,7 +17,7 @@ use Rattle.domain_types.specs.declared.fault.Problem.TheVariants.{PrivateToPubli
 use Rattle.domain_types.specs.declared.value_type.Protection.{Protection}
 use Rattle.domain_types.specs.Declarations.{declared_by}
 use Rattle.domain_types.specs.ExpressionTypes.{within, operator_faults, operator_type}
-use Rattle.domain_types.specs.Least.{Among}
+use Rattle.sc_text.specs.Lists.{Among}
 use Rattle.domain_types.specs.Reached.{Call, Calls, Instance, function_calls, plain}
 use Rattle.domain_types.specs.ProgramTypes.{inside}
 use Rattle.domain_types.specs.Typing.{IsTypedFunction, IsTypedProgram}

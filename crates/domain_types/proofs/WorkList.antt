@@ -7,11 +7,12 @@ use Rattle.std.proofs.lemmas.Option.{same_Some}
 use Rattle.domain_types.specs.declared.fault.Fault.{Fault}
 use Rattle.domain_types.specs.declared.value_type.Protection.{Protection}
 use Rattle.domain_types.specs.Declarations.{Declared}
-use Rattle.domain_types.specs.Least.{Among, least}
+use Rattle.sc_text.specs.Lists.{Among}
+use Rattle.domain_types.specs.Least.{least}
 use Rattle.domain_types.specs.Reached.{Call, Instance}
 use Rattle.domain_types.specs.Instances.{same_instance, is_listed}
 use Rattle.domain_types.specs.WorkList.{added, with_binding, with_calls, instance_faults, instance_calls, gathered, is_called, IsReached, begins, follows, AreVisited}
-use Rattle.domain_types.proofs.TypingSteps.{among_left, among_right, among_parts}
+use Rattle.sc_text.proofs.Lists.{among_left, among_right, among_parts}
 use Rattle.domain_types.proofs.Visits.{then_least}
 use Rattle.domain_types.proofs.Listing.{same_instance-Decides}
 

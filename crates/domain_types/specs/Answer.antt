@@ -5,7 +5,7 @@ use Rattle.secrec_ast.specs.Programs.{ProgramTree}
 use Rattle.domain_types.specs.declared.fault.Fault.{Fault}
 use Rattle.domain_types.specs.declared.type_error.TypeError.{TypeError}
 use Rattle.domain_types.specs.declared.type_error.TypeError.TheVariants.{Refused, Memory}
-use Rattle.domain_types.specs.Least.{Among}
+use Rattle.sc_text.specs.Lists.{Among}
 use Rattle.domain_types.specs.declared.instance.Instance.{Instance}
 use Rattle.domain_types.specs.Reached as reached
 use Rattle.domain_types.specs.Reached.{IsChecked}

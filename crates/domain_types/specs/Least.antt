@@ -1,5 +1,6 @@
 -- The fault that is told: at the least place, and there of the least number.
 use Rattle.std.specs.Prelude.{◌≡◌, ℕ, ◌≤◌, Bool, ◌||◌, ◌&&◌, nat_eq, nat_lt, nat_le, List, [], ◌∷◌, Option, Some, None, if◌then◌else◌, ◌⊎◌}
+use Rattle.sc_text.specs.Lists.{Among}
 use Rattle.domain_types.specs.declared.fault.Problem.{Problem}
 use Rattle.domain_types.specs.declared.fault.Problem.TheVariants.{UnknownName, Twice, TypeMismatch, PrivateCondition, PrivateIndex, PrivateSize, PrivateToPublic, PrivateDivision, PrivateAssert, DomainMix, NoMain, BadImport, BadArity, MissingReturn, ArgumentPlace}
 use Rattle.domain_types.specs.declared.fault.Fault.{Fault}
@@ -27,10 +28,6 @@ pub record NotAfter (f g : Fault) : Type 0 where
   pub lines : f.place.line ≤ g.place.line
   pub columns : f.place.line ≡ g.place.line → f.place.column ≤ g.place.column
   pub numbers : f.place.line ≡ g.place.line → f.place.column ≡ g.place.column → number_of f.problem ≤ number_of g.problem
-
-abbrev pub Among : {A : Type 0} → A → List A → Type 0
-Among a [] = ⊥
-Among a (b ∷ bs) = (a ≡ b) ⊎ Among a bs
 
 pub record IsLeast (f : Fault) (fs : List Fault) : Type 0 where
   pub among : Among f fs

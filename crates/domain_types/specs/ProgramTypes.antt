@@ -12,7 +12,8 @@ use Rattle.domain_types.specs.Declarations.{Declared, declared_by, functions_of,
 use Rattle.domain_types.specs.ExpressionTypes.{within}
 use Rattle.domain_types.specs.FunctionTypes.{function_faults, head_faults}
 use Rattle.domain_types.specs.Reached.{Call, Instance, Calls, IsChecked}
-use Rattle.domain_types.specs.Least.{Among, NotAfter}
+use Rattle.sc_text.specs.Lists.{Among}
+use Rattle.domain_types.specs.Least.{NotAfter}
 
 -- DECLARATIONS
 

@@ -16,7 +16,7 @@ use Rattle.domain_types.specs.Scopes.{Scope, inner, nothing_known}
 use Rattle.domain_types.specs.ExpressionTypes.{arguments_of, binding_by, defined_faults, within}
 use Rattle.domain_types.specs.StatementTypes.{after, after_start}
 use Rattle.domain_types.specs.FunctionTypes.{with_parameters}
-use Rattle.domain_types.specs.Least.{Among}
+use Rattle.sc_text.specs.Lists.{Among}
 
 -- a call of a function of the program: its number, and what its domain variables are bound to, where the call is not refused
 pub record Call : Type 0 where

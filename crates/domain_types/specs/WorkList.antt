@@ -8,7 +8,7 @@ use Rattle.domain_types.specs.declared.value_type.Protection.{Protection}
 use Rattle.domain_types.specs.Declarations.{Declared}
 use Rattle.domain_types.specs.ExpressionTypes.{within}
 use Rattle.domain_types.specs.FunctionTypes.{function_faults, domain_variables_faults}
-use Rattle.domain_types.specs.Least.{Among}
+use Rattle.sc_text.specs.Lists.{Among}
 use Rattle.domain_types.specs.Reached.{Call, function_calls, Instance}
 use Rattle.domain_types.specs.ProgramTypes.{is_without}
 use Rattle.domain_types.specs.Instances.{is_listed}

@@ -23,7 +23,7 @@ use Rattle.reached_instances.specs.declared.instance.BoundDomain.{BoundDomain}
 use Rattle.reached_instances.specs.declared.instance.BoundDomain.TheVariants as bound
 use Rattle.reached_instances.specs.Domains.{Setting, domain, domains, domain_under, slot_domain, given_domain, binding_of}
 use Rattle.gates.specs.declared.gate.Gate.TheVariants.{Input}
-use Rattle.typed_tree.specs.Values.{shape_of}
+use Rattle.typed_tree.specs.Shapes.{shape_of}
 use Rattle.language_model.specs.Effects.{World, Given, Effect, ◌>>=◌, done, end, charge, test, gate}
 use Rattle.language_model.specs.Values.{Value, plain, never_stored, size, default_words}
 use Rattle.language_model.specs.Words.{truth_word}

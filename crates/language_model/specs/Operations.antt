@@ -26,7 +26,7 @@ use Rattle.typed_tree.specs.declared.operators.Operands.TheVariants.{Scalars, Ar
 use Rattle.typed_tree.specs.declared.operators.Cast.{Cast}
 use Rattle.typed_tree.specs.declared.operators.Cast.TheVariants.{WordToWord, WordToBool, BoolToWord, BoolToBool}
 use Rattle.typed_tree.specs.Operators.{element_made}
-use Rattle.typed_tree.specs.Values.{shape_of}
+use Rattle.typed_tree.specs.Shapes.{shape_of}
 use Rattle.language_model.specs.Effects.{Words, World, Effect, ◌>>=◌, done, charge, test, words_each, draw, gate, planned, next_number, emit, answer, show}
 use Rattle.language_model.specs.Values.{Secrecy, Plain, Private, Value, plain, hidden, is_secret, size, seen, is_true, ring_for, elements_of}
 use Rattle.language_model.specs.Words as W

@@ -25,7 +25,7 @@ use Rattle.typed_tree.specs.declared.operators.Cast.TheVariants.{WordToBool, Boo
 use Rattle.typed_tree.specs.Tree.{TypedTree, word_node, truth_node, slot_node, call_node, bits_node, element_node, cast_node, binary_node, cut_node, declassify_node, typed_trees_of}
 use Rattle.typed_tree.specs.Commands.{Command, commands_of, empty_command, block_command, if_command, loop_command, do_command, return_command, continue_command, assert_command, store_command, default_command, fill_command, input_command, publish_command}
 use Rattle.typed_tree.specs.Programs.{TypedFunctionTree, TypedProgramTree}
-use Rattle.typed_tree.specs.Values.{shape_of}
+use Rattle.typed_tree.specs.Shapes.{shape_of}
 use Rattle.language_model.specs.Effects.{Words, words_each, Given, Stop, Ended, Short}
 use Rattle.language_model.specs.Evaluation.{value, arguments, turns, repeats, execute, execute_all, call_at}
 use Rattle.language_model.specs.Reports.{Report, Offered, eval, blind}

@@ -22,10 +22,11 @@ use Rattle.domain_types.specs.Declarations.{Declared, Setting, Callee, built_in,
 use Rattle.domain_types.specs.Scopes.{Scope, inner}
 use Rattle.domain_types.specs.ExpressionTypes.{binding_by, within, defined_faults, result_type, arguments_of}
 use Rattle.domain_types.specs.StatementTypes.{is_argument, after, after_start}
-use Rattle.domain_types.specs.Least.{Among}
+use Rattle.sc_text.specs.Lists.{Among}
 use Rattle.domain_types.specs.Reached.{Call, binding_of, call_of, calls_of, calls_of_all, optional_calls, assignment_calls, start_calls, step_calls, statement_calls, block_calls}
 use Rattle.domain_types.specs.Typing.{IsCall, HasType, HaveTypes, HasFitting, IsInitial, IsElement, IsAssignment, IsStart, IsStep, IsOptionalCondition, IsReturn, IsTyped, AreTyped}
-use Rattle.domain_types.proofs.TypingSteps.{followed, passes, among_left, among_right, among_parts}
+use Rattle.sc_text.proofs.Lists.{among_left, among_right, among_parts}
+use Rattle.domain_types.proofs.TypingSteps.{followed, passes}
 use Rattle.domain_types.proofs.TypingCalls.{defined_from}
 use Rattle.domain_types.proofs.TypingExpressions.{types_from}
 use Rattle.program_typing.proofs.TreesOfValues.{names_in, names_in_all}

@@ -16,11 +16,11 @@ use Rattle.secrec_ast.specs.Statements as Statements'
 use Rattle.secrec_ast.specs.Programs.{FunctionTree}
 use Rattle.domain_types.specs.declared.value_type.BuiltIn.{BuiltIn}
 use Rattle.domain_types.specs.Declarations.{Declared, Callee, built_in, defined, built_in_named, function_named, callee_or_function, callee, number_in}
-use Rattle.domain_types.specs.Least.{Among}
+use Rattle.sc_text.specs.Lists.{Among}
 use Rattle.domain_types.proofs.Names.{bytes_eq-swap}
-use Rattle.typed_tree.specs.Order.{function_name, is_found, with_callee, called_in, called_in_all, called_in_optional, called_in_declaration, called_in_assignment, called_in_start, called_in_step, called_by, called_by_all, read_one, known_after, reached}
-use Rattle.typed_tree.specs.Functions.{with_functions}
-use Rattle.typed_tree.proofs.SoundValues.{some_is, callee_there}
+use Rattle.name_resolution.specs.Order.{function_name, is_found, with_callee, called_in, called_in_all, called_in_optional, called_in_declaration, called_in_assignment, called_in_start, called_in_step, called_by, called_by_all, read_one, known_after, reached}
+use Rattle.name_resolution.specs.Functions.{with_functions}
+use Rattle.name_resolution.proofs.SoundValues.{some_is, callee_there}
 use Rattle.program_typing.proofs.TreesOfValues.{Agrees, Agree, names_in, names_in_all}
 use Rattle.program_typing.proofs.TreesOfStatements.{names_in_optional, names_in_declaration, names_in_assignment, names_in_start, names_in_step, names_by, names_by_all}
 

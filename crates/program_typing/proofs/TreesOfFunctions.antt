@@ -22,10 +22,10 @@ use Rattle.typed_tree.specs.declared.kinds.SlotDomain.TheVariants.{Public, Priva
 use Rattle.typed_tree.specs.declared.kinds.Slot.{Slot}
 use Rattle.typed_tree.specs.declared.function.Given.{Given}
 use Rattle.typed_tree.specs.declared.function.Given.TheVariants.{Nothing, Value}
-use Rattle.typed_tree.specs.Scopes.{Place, no_place, declaring}
-use Rattle.typed_tree.specs.Values.{of_both}
+use Rattle.name_resolution.specs.Scopes.{Place, no_place, declaring}
+use Rattle.name_resolution.specs.Values.{of_both}
 use Rattle.typed_tree.specs.Programs.{TypedFunctionTree}
-use Rattle.typed_tree.specs.Functions.{variable_number, domain_named, slot_domain, slot_in, and_slots, slots_written, given_back, with_parameters, function_made, function_from, function_behind, typed_function, with_functions}
+use Rattle.name_resolution.specs.Functions.{variable_number, domain_named, slot_domain, slot_in, and_slots, slots_written, given_back, with_parameters, function_made, function_from, function_behind, typed_function, with_functions}
 use Rattle.program_typing.proofs.TreesOfValues.{Agree}
 use Rattle.program_typing.proofs.TreesOfStatements.{IsWritten, AreWritten, Frame, Fits, fits_declaring, names_by_all, goes_resolved_all}
 

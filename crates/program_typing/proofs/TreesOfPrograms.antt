@@ -10,18 +10,18 @@ use Rattle.domain_types.specs.Declarations.{Declared, declared_by, functions_of,
 use Rattle.domain_types.specs.Scopes.{nothing_known}
 use Rattle.domain_types.specs.ExpressionTypes.{within}
 use Rattle.domain_types.specs.FunctionTypes.{with_parameters}
-use Rattle.domain_types.specs.Least.{Among}
+use Rattle.sc_text.specs.Lists.{Among}
 use Rattle.domain_types.specs.Reached.{Instance, IsChecked, plain}
 use Rattle.domain_types.specs.Reached as checked
 use Rattle.domain_types.specs.ProgramTypes.{is_one_of, is_without, is_void, is_main, has_main}
 use Rattle.domain_types.specs.Typing.{AreItems, IsTypedProgram}
 use Rattle.domain_types.proofs.Names.{behind, number_in-append}
 use Rattle.typed_tree.specs.Programs.{TypedFunctionTree}
-use Rattle.typed_tree.specs.Order.{reached}
-use Rattle.typed_tree.specs.Values.{of_both}
-use Rattle.typed_tree.specs.Functions.{typed_function, and_functions, typed_functions, with_functions, program_of}
+use Rattle.name_resolution.specs.Order.{reached}
+use Rattle.name_resolution.specs.Values.{of_both}
+use Rattle.name_resolution.specs.Functions.{typed_function, and_functions, typed_functions, with_functions, program_of}
 use Rattle.program_typing.specs.Existence.{HasTree}
-use Rattle.typed_tree.proofs.SoundValues.{callee_there}
+use Rattle.name_resolution.proofs.SoundValues.{callee_there}
 use Rattle.program_typing.proofs.TreesOfStatements.{names_by_all}
 use Rattle.program_typing.proofs.TreesOfFunctions.{function_there}
 use Rattle.program_typing.proofs.CallsOfTyped.{block_called}

@@ -24,11 +24,11 @@ use Rattle.domain_types.specs.Typing.{HasType, HasFitting, HasPublicScalar, IsIn
 use Rattle.typed_tree.specs.declared.kinds.Slot.{Slot}
 use Rattle.typed_tree.specs.Tree.{TypedTree, truth_node}
 use Rattle.typed_tree.specs.Commands.{Command, none, also, empty_command, block_command, if_command, loop_command, do_command, break_command, continue_command, return_command, assert_command, store_command, default_command, fill_command, input_command, element_command, publish_command, evaluate_command}
-use Rattle.typed_tree.specs.Scopes.{Place, known_of, declaring, entering, behind_block}
-use Rattle.typed_tree.specs.Functions.{slot_written}
-use Rattle.typed_tree.specs.Resolving.{Resolving, carry, ◌>>=◌, done, reading, next_slot, declare, closed, in_block, tree_in, value_at, expression, known_at, named}
-use Rattle.typed_tree.specs.Bodies.{tree_in_call, calling, evaluated, default_of, from_value, initial, declared, assigned_to, assigned, started, stepped, condition_of, returned, looped, resolved, resolved_all}
-use Rattle.typed_tree.proofs.SoundValues.{mapped}
+use Rattle.name_resolution.specs.Scopes.{Place, known_of, declaring, entering, behind_block}
+use Rattle.name_resolution.specs.Functions.{slot_written}
+use Rattle.name_resolution.specs.Resolving.{Resolving, carry, ◌>>=◌, done, reading, next_slot, declare, closed, in_block, tree_in, value_at, expression, known_at, named}
+use Rattle.name_resolution.specs.Bodies.{tree_in_call, calling, evaluated, default_of, from_value, initial, declared, assigned_to, assigned, started, stepped, condition_of, returned, looped, resolved, resolved_all}
+use Rattle.name_resolution.proofs.SoundValues.{mapped}
 use Rattle.program_typing.proofs.TreesOfValues.{SameVariable, Same, same_append, names_same, Agree, agree_left, agree_right, names_in, value_makes, call_makes}
 
 -- THE NAMES THAT ARE CALLED, IN THE ORDER OF THE TEXT

@@ -24,18 +24,18 @@ use Rattle.domain_types.specs.Types.{scalar_of, public_scalar}
 use Rattle.domain_types.specs.Declarations.{Declared, Setting, in_domain, domain_of, type_written, Callee, built_in, defined, callee}
 use Rattle.domain_types.specs.Scopes as checked
 use Rattle.domain_types.specs.ExpressionTypes.{within, variable_type, result_type, cast_type, declassified}
-use Rattle.domain_types.specs.Least.{Among}
+use Rattle.sc_text.specs.Lists.{Among}
 use Rattle.domain_types.specs.Typing.{OperatesOn, IsBuiltInCall, ParametersTake, IsCall, HasType, HaveTypes}
-use Rattle.domain_types.proofs.TypingSteps.{among_left, among_right}
+use Rattle.sc_text.proofs.Lists.{among_left, among_right}
 use Rattle.typed_tree.specs.declared.operators.WordOperator.TheVariants as word
 use Rattle.typed_tree.specs.declared.operators.BoolOperator.TheVariants as truth_of
 use Rattle.typed_tree.specs.declared.operators.BinaryOperator.{BinaryOperator}
 use Rattle.typed_tree.specs.declared.operators.BinaryOperator.TheVariants.{Words, Bools}
 use Rattle.typed_tree.specs.Tree.{word_node, truth_node, call_node, size_node, cat_node, sum_node, bits_node, element_node, typed_trees_of}
 use Rattle.typed_tree.specs.Operators.{operator_on, element_made}
-use Rattle.typed_tree.specs.Scopes.{Variable, Scope, variable_in, variable_named, shape_written}
-use Rattle.typed_tree.specs.Values.{TypedValue, TypedCall, made, of_both, variable_value, element_value, negated, cast_value, declassified_value, operation_made, operation, gives_value, with_shape, value_given, shape_returned, tree_of_value, built_in_value, called, and_values, value, values, call_made}
-use Rattle.typed_tree.proofs.SoundValues.{mapped}
+use Rattle.name_resolution.specs.Scopes.{Variable, Scope, variable_in, variable_named, shape_written}
+use Rattle.name_resolution.specs.Values.{TypedValue, TypedCall, made, of_both, variable_value, element_value, negated, cast_value, declassified_value, operation_made, operation, gives_value, with_shape, value_given, shape_returned, tree_of_value, built_in_value, called, and_values, value, values, call_made}
+use Rattle.name_resolution.proofs.SoundValues.{mapped}
 
 -- WHAT IS MADE
 

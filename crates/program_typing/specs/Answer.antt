@@ -7,7 +7,7 @@ use Rattle.domain_types.specs.ProgramTypes.{IsRefused}
 use Rattle.domain_types.specs.Typing.{IsTypedProgram}
 use Rattle.typed_tree.specs.declared.function.TypedProgram.{TypedProgram}
 use Rattle.typed_tree.specs.Programs.{typed_program_tree}
-use Rattle.typed_tree.specs.Functions.{typed_of}
+use Rattle.name_resolution.specs.Functions.{typed_of}
 use Rattle.typed_tree.specs.Sound.{IsSound}
 
 -- the typed tree of a program that is typed, which names only what is there; else the first fault

@@ -2,7 +2,7 @@
 use Rattle.std.specs.Prelude.{◌≡◌, Some}
 use Rattle.secrec_ast.specs.Programs.{ProgramTree}
 use Rattle.typed_tree.specs.Programs.{TypedProgramTree}
-use Rattle.typed_tree.specs.Functions.{typed_of}
+use Rattle.name_resolution.specs.Functions.{typed_of}
 
 -- each name in it means something, and each operator is one for its operands
 abbrev pub HasTree : ProgramTree → Type 0

@@ -5,7 +5,8 @@ ghost use Rattle.program_typing.specs.Answer.{IsTypedAnswer};
 use domain_types::{TypeError, check};
 use secrec_ast::Program;
 use std::alloc::Global;
-use typed_tree::{ResolveError, TypedProgram, resolve};
+use name_resolution::{ResolveError, resolve};
+use typed_tree::TypedProgram;
 
 /// The typed tree of a program that the checker accepts: the functions that `main` reaches, in the order in which they are first
 /// called, with each slot and each call one that is there.

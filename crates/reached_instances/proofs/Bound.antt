@@ -8,8 +8,8 @@ use Rattle.typed_tree.specs.Tree as Tree'
 use Rattle.typed_tree.specs.Commands.{Command, Commands, empty_command, block_command, if_command, loop_command, do_command, break_command, continue_command, return_command, assert_command, store_command, default_command, fill_command, input_command, element_command, publish_command, evaluate_command}
 use Rattle.typed_tree.specs.Commands as Commands'
 use Rattle.typed_tree.specs.Programs.{TypedFunctionTree, TypedProgramTree}
-use Rattle.domain_types.specs.Least.{Among}
-use Rattle.domain_types.proofs.TypingSteps.{among_parts}
+use Rattle.sc_text.specs.Lists.{Among}
+use Rattle.sc_text.proofs.Lists.{among_parts}
 use Rattle.reached_instances.specs.declared.instance.BoundDomain.{BoundDomain}
 use Rattle.reached_instances.specs.Domains.{bound_to, bound_below, Setting, domains}
 use Rattle.reached_instances.specs.Instances.{Instance}

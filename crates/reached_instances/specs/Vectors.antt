@@ -13,7 +13,7 @@ use Rattle.typed_tree.specs.declared.operators.Operands.TheVariants.{Scalars}
 use Rattle.typed_tree.specs.Tree.{TypedTree, word_node, slot_node, call_node, size_node, element_node, binary_node, declassify_node, typed_trees_of}
 use Rattle.typed_tree.specs.Commands.{Command, loop_command, do_command, fill_command, evaluate_command, commands_of}
 use Rattle.typed_tree.specs.Programs.{TypedFunctionTree, TypedProgramTree}
-use Rattle.domain_types.specs.Least.{Among}
+use Rattle.sc_text.specs.Lists.{Among}
 use Rattle.std.proofs.Common.{inl, inr, subst}
 use Rattle.reached_instances.specs.declared.instance.BoundDomain.{BoundDomain}
 use Rattle.reached_instances.specs.declared.instance.BoundDomain.TheVariants.{Public, Private}

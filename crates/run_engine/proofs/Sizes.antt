@@ -4,7 +4,7 @@ use Rattle.std.specs.Result.{IsErrAnd}
 use Rattle.outside.specs.Files.{Contents, FilesState}
 use Rattle.secrec_ast.specs.Programs.{ProgramTree}
 use Rattle.typed_tree.specs.Programs.{TypedProgramTree}
-use Rattle.typed_tree.specs.Functions.{typed_of}
+use Rattle.name_resolution.specs.Functions.{typed_of}
 use Rattle.program_limits.specs.declared.limit_error.LimitError.{LimitError}
 use Rattle.program_limits.specs.declared.limit_error.LimitError.TheVariants.{TooManyInstances, ProgramTooLarge, FunctionTooLarge, Memory}
 use Rattle.program_limits.specs.Answer.{IsAnswer, IsJust}

@@ -2,7 +2,7 @@
 use Rattle.std.specs.Prelude.{◌≡◌, ℕ, List, true, Option, Some, None, Result, Ok, Err}
 use Rattle.secrec_ast.specs.Programs.{ProgramTree}
 use Rattle.typed_tree.specs.Programs.{TypedProgramTree}
-use Rattle.typed_tree.specs.Functions.{typed_of}
+use Rattle.name_resolution.specs.Functions.{typed_of}
 use Rattle.program_limits.specs.declared.limit_error.LimitError.{LimitError}
 use Rattle.program_limits.specs.Limits.{IsVerdict, IsWithinLimits}
 use Rattle.outside.specs.Files.{Contents, FilesState, file_at}

@@ -8,7 +8,7 @@ use Rattle.command_frame.specs.declared.status.Status.{Status}
 use Rattle.command_frame.specs.declared.status.Status.TheVariants.{Input, Program, TapeFile}
 use Rattle.command_words.specs.Ask.{Ask, CheckAsk, EvalAsk, RunAsk, DealAsk, eval, need, file}
 use Rattle.typed_tree.specs.Programs.{TypedProgramTree}
-use Rattle.typed_tree.specs.Functions.{typed_of}
+use Rattle.name_resolution.specs.Functions.{typed_of}
 use Rattle.program_limits.specs.declared.limit_error.LimitError.{LimitError}
 use Rattle.program_limits.specs.Limits.{IsVerdict, IsWithinLimits}
 use Rattle.tape_file.specs.Format.{read_of as tapes_read_of}

@@ -2,7 +2,7 @@
 ghost use Rattle.std.specs.Prelude.{◌≡◌, ◌∷◌, [], true, Some, IfOk, IfErr};
 ghost use Rattle.secrec_ast.specs.Programs.{program_tree};
 ghost use Rattle.domain_types.specs.Typing.{IsTypedProgram};
-ghost use Rattle.typed_tree.specs.Functions.{typed_of};
+ghost use Rattle.name_resolution.specs.Functions.{typed_of};
 ghost use Rattle.typed_tree.specs.Programs.{typed_program_tree};
 ghost use Rattle.typed_tree.specs.Sound.{IsSound};
 ghost use Rattle.front_end.specs.Judgement.{Judged};
@@ -19,7 +19,8 @@ use program_limits::{LimitError, check_limits};
 use sc_text::{Fault, Span};
 use secrec_ast::Program;
 use std::alloc::{AllocError, Global};
-use typed_tree::{ResolveError, TypedProgram, resolve};
+use name_resolution::{ResolveError, resolve};
+use typed_tree::TypedProgram;
 
 // Why a program is refused.
 #[tactic(auto, unfolding(crate::specs::Programs::bad_program))]

@@ -4,3 +4,4 @@ pub mod Event
 pub mod Fault
 pub mod Name
 pub mod Vectors
+pub mod Lists

@@ -8,7 +8,7 @@ use std::marker::Model;
 const LONGEST_NAME: usize = 64;
 
 /// A name: 1 to 64 ASCII letters, digits and `_`. Clauses see its bytes.
-#[derive(Debug, Drop)]
+#[derive(Drop)]
 pub struct Name {
     text: String,
 }

@@ -38,7 +38,6 @@ pub enum Operator {
 /// An expression. The first field of each node is the place where it begins: of an operator and an index that is where its
 /// left part begins.
 #[cycle(expressions)]
-#[derive(Drop)]
 pub enum Expression {
     Number(Span, u64),
     Truth(Span, bool),
@@ -57,6 +56,26 @@ pub enum Expression {
     Argument(Span, Name),
     /// Gives a value to the client, under a name.
     Publish(Span, Name, Box<Expression>),
+}
+
+// Written out, so that an early exit calls this once for a tree that it gives up, and doesn't take the tree apart in its place.
+impl Drop for Expression {
+    fn drop(self) {
+        match self {
+            Expression::Number(_, _)
+            | Expression::Truth(_, _)
+            | Expression::Variable(_, _)
+            | Expression::Call(_, _, _)
+            | Expression::Index(_, _, _)
+            | Expression::Parentheses(_, _)
+            | Expression::Not(_, _)
+            | Expression::Cast(_, _, _)
+            | Expression::Binary(_, _, _, _)
+            | Expression::Declassify(_, _)
+            | Expression::Argument(_, _)
+            | Expression::Publish(_, _, _) => {}
+        }
+    }
 }
 
 impl Expression {

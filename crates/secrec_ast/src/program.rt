@@ -3,7 +3,6 @@ use crate::statement::Identifier;
 use sc_text::Span;
 
 /// A part of a program.
-#[derive(Drop)]
 pub enum Item {
     /// `import NAME;`
     Import(Identifier),
@@ -12,6 +11,14 @@ pub enum Item {
     /// `domain NAME KIND;`
     Domain(Identifier, Identifier),
     Function(Function),
+}
+
+impl Drop for Item {
+    fn drop(self) {
+        match self {
+            Item::Import(_) | Item::Kind(_) | Item::Domain(_, _) | Item::Function(_) => {}
+        }
+    }
 }
 
 /// A program, with the place where its text ends.

@@ -25,14 +25,20 @@ impl Identifier {
 }
 
 /// Who may see a value: everybody, or only what a protection domain or domain variable of this name protects.
-#[derive(Drop)]
 pub enum Domain {
     Public,
     Named(Identifier),
 }
 
+impl Drop for Domain {
+    fn drop(self) {
+        match self {
+            Domain::Public | Domain::Named(_) => {}
+        }
+    }
+}
+
 /// A type as it is written: its domain, the type of its elements, and whether it is an array.
-#[derive(Drop)]
 pub struct DeclaredType {
     pub place: Span,
     pub domain: Domain,
@@ -40,8 +46,20 @@ pub struct DeclaredType {
     pub array: bool,
 }
 
+impl Drop for DeclaredType {
+    fn drop(self) {
+        match self {
+            DeclaredType {
+                place: _,
+                domain: _,
+                element: _,
+                array: _,
+            } => {}
+        }
+    }
+}
+
 /// A declaration of a variable, with its size and its first value where they are given.
-#[derive(Drop)]
 pub struct Declaration {
     pub declared: DeclaredType,
     pub variable: Identifier,
@@ -49,11 +67,34 @@ pub struct Declaration {
     pub value: Option<Expression>,
 }
 
+impl Drop for Declaration {
+    fn drop(self) {
+        match self {
+            Declaration {
+                declared: _,
+                variable: _,
+                size: _,
+                value: _,
+            } => {}
+        }
+    }
+}
+
 /// What is assigned to: a variable, or an element of one.
-#[derive(Drop)]
 pub struct Target {
     pub variable: Identifier,
     pub index: Option<Expression>,
+}
+
+impl Drop for Target {
+    fn drop(self) {
+        match self {
+            Target {
+                variable: _,
+                index: _,
+            } => {}
+        }
+    }
 }
 
 impl Target {
@@ -70,31 +111,54 @@ impl Target {
     }
 }
 
-#[derive(Drop)]
 pub struct Assignment {
     pub target: Target,
     pub value: Expression,
 }
 
+impl Drop for Assignment {
+    fn drop(self) {
+        match self {
+            Assignment {
+                target: _,
+                value: _,
+            } => {}
+        }
+    }
+}
+
 /// The first part of a `for`.
-#[derive(Drop)]
 pub enum ForStart {
     Nothing,
     Declaration(Declaration),
     Assignment(Assignment),
 }
 
+impl Drop for ForStart {
+    fn drop(self) {
+        match self {
+            ForStart::Nothing | ForStart::Declaration(_) | ForStart::Assignment(_) => {}
+        }
+    }
+}
+
 /// The third part of a `for`.
-#[derive(Drop)]
 pub enum ForStep {
     Nothing,
     Assignment(Assignment),
     Expression(Expression),
 }
 
+impl Drop for ForStep {
+    fn drop(self) {
+        match self {
+            ForStep::Nothing | ForStep::Assignment(_) | ForStep::Expression(_) => {}
+        }
+    }
+}
+
 /// A statement. A declaration begins at its type, an assignment at its target.
 #[cycle(statements)]
-#[derive(Drop)]
 pub enum Statement {
     Block(Span, Vec<Statement>),
     Empty(Span),
@@ -109,4 +173,25 @@ pub enum Statement {
     Declaration(Declaration),
     Assignment(Assignment),
     Expression(Expression),
+}
+
+// Written out, as that of `Expression`.
+impl Drop for Statement {
+    fn drop(self) {
+        match self {
+            Statement::Block(_, _)
+            | Statement::Empty(_)
+            | Statement::If(_, _, _, _)
+            | Statement::While(_, _, _)
+            | Statement::DoWhile(_, _, _)
+            | Statement::For(_, _, _, _, _)
+            | Statement::Break(_)
+            | Statement::Continue(_)
+            | Statement::Return(_, _)
+            | Statement::Assert(_, _)
+            | Statement::Declaration(_)
+            | Statement::Assignment(_)
+            | Statement::Expression(_) => {}
+        }
+    }
 }

@@ -2,16 +2,6 @@ pub mod Tree
 pub mod Commands
 pub mod Programs
 pub mod Equations
-pub mod Scopes
-pub mod Table
 pub mod Operators
-pub mod Values
-pub mod Resolving
-pub mod Bodies
-pub mod Order
-pub mod Sizes
-pub mod Functions
-pub mod Vectors
-pub mod Views
 pub mod Sound
-pub mod Answer
+pub mod Shapes

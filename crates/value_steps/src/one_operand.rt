@@ -3,7 +3,7 @@ ghost use Rattle.std.specs.Prelude.{◌≡◌, ◌≤◌, ◌*◌, false, length
 ghost use Rattle.std.specs.List.{flat_map};
 ghost use Rattle.gates.specs.Clear.{bits_of};
 ghost use Rattle.secrec_ast.specs.declared.expression.DataType.TheVariants.{Uint64};
-ghost use Rattle.typed_tree.specs.Values.{shape_of};
+ghost use Rattle.typed_tree.specs.Shapes.{shape_of};
 ghost use Rattle.language_model.specs.Operations.{negated, cast_to, cast_shape, changed, scalar_word, size_told, summed, summed_from, bits_extracted, bits_from};
 ghost use Rattle.value_steps.specs.Steps.{Does, itself};
 ghost use Rattle.value_steps.specs.Views.{stage_seen, value_seen, world_seen, secrecy_seen};

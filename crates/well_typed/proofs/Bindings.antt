@@ -23,8 +23,8 @@ use Rattle.domain_types.specs.Typing as typing
 use Rattle.typed_tree.specs.declared.kinds.SlotDomain.{SlotDomain}
 use Rattle.typed_tree.specs.declared.kinds.SlotDomain.TheVariants as slot
 use Rattle.typed_tree.specs.declared.kinds.Slot.{Slot}
-use Rattle.typed_tree.specs.Functions.{variable_number, domain_named, slot_domain, slot_in, slot_written, and_slots, slots_written}
-use Rattle.typed_tree.proofs.SoundValues.{mapped, both_there, some_is}
+use Rattle.name_resolution.specs.Functions.{variable_number, domain_named, slot_domain, slot_in, slot_written, and_slots, slots_written}
+use Rattle.name_resolution.proofs.SoundValues.{mapped, both_there, some_is}
 use Rattle.reached_instances.specs.declared.instance.BoundDomain.{BoundDomain}
 use Rattle.reached_instances.specs.declared.instance.BoundDomain.TheVariants.{Public, Private}
 use Rattle.reached_instances.specs.Domains.{joined, is_variable, bound_to, bound_below}

@@ -20,7 +20,7 @@ use Rattle.domain_types.specs.Declarations.{Declared, Setting, declared_by, func
 use Rattle.domain_types.specs.Scopes as checked
 use Rattle.domain_types.specs.ExpressionTypes.{within, with_domain, binding_by, defined_faults, result_type}
 use Rattle.domain_types.specs.FunctionTypes as head
-use Rattle.domain_types.specs.Least.{Among}
+use Rattle.sc_text.specs.Lists.{Among}
 use Rattle.domain_types.specs.Reached.{Call, Instance, Calls, IsChecked, reached, function_calls, call_of}
 use Rattle.domain_types.specs.Typing.{IsBuiltInCall, ParameterTakes, ParametersTake, AreBound, AreParameters, IsDefinedCall, IsTypedProgram}
 use Rattle.domain_types.proofs.TypingSteps.{there, passes}
@@ -31,10 +31,11 @@ use Rattle.typed_tree.specs.declared.function.Given.{Given}
 use Rattle.typed_tree.specs.declared.function.Given.TheVariants as given
 use Rattle.typed_tree.specs.Tree.{TypedTrees, call_node, typed_trees_of}
 use Rattle.typed_tree.specs.Programs.{TypedFunctionTree}
-use Rattle.typed_tree.specs.Values.{TypedValue, TypedCall, shape_of, shape_returned, tree_of_value, built_in_value}
-use Rattle.typed_tree.specs.Order as order
-use Rattle.typed_tree.specs.Functions.{slot_written, slots_written, given_back, typed_functions, with_functions}
-use Rattle.typed_tree.proofs.SoundValues.{callee_there, mapped, some_is}
+use Rattle.typed_tree.specs.Shapes.{shape_of}
+use Rattle.name_resolution.specs.Values.{TypedValue, TypedCall, shape_returned, tree_of_value, built_in_value}
+use Rattle.name_resolution.specs.Order as order
+use Rattle.name_resolution.specs.Functions.{slot_written, slots_written, given_back, typed_functions, with_functions}
+use Rattle.name_resolution.proofs.SoundValues.{callee_there, mapped, some_is}
 use Rattle.reached_instances.specs.declared.instance.BoundDomain.{BoundDomain}
 use Rattle.reached_instances.specs.Domains as domains
 use Rattle.reached_instances.specs.Domains.{domain, domain_under, given_domain, call_domain, bound_below, binding_of}

@@ -18,11 +18,11 @@ use Rattle.domain_types.specs.ExpressionTypes.{within}
 use Rattle.typed_tree.specs.declared.function.Given.{Given}
 use Rattle.typed_tree.specs.declared.function.Given.TheVariants as given
 use Rattle.typed_tree.specs.Commands.{Commands}
-use Rattle.typed_tree.specs.Scopes.{Place, no_place, declaring}
+use Rattle.name_resolution.specs.Scopes.{Place, no_place, declaring}
 use Rattle.typed_tree.specs.Programs.{TypedFunctionTree, TypedProgramTree}
-use Rattle.typed_tree.specs.Functions.{slot_written, slots_written, given_back, with_parameters, typed_function, typed_functions}
-use Rattle.typed_tree.specs.Order as order
-use Rattle.typed_tree.proofs.SoundValues.{mapped, some_is}
+use Rattle.name_resolution.specs.Functions.{slot_written, slots_written, given_back, with_parameters, typed_function, typed_functions}
+use Rattle.name_resolution.specs.Order as order
+use Rattle.name_resolution.proofs.SoundValues.{mapped, some_is}
 use Rattle.reached_instances.specs.Instances.{Instance}
 use Rattle.reached_instances.specs.Calls.{commands_calls, function_calls, called_by}
 use Rattle.program_typing.proofs.ReachedFunctions.{reached_agree}

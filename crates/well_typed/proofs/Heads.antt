@@ -14,12 +14,12 @@ use Rattle.domain_types.specs.Declarations.{Declared}
 use Rattle.typed_tree.specs.declared.kinds.Slot.{Slot}
 use Rattle.typed_tree.specs.Tree.{TypedTree, truth_node}
 use Rattle.typed_tree.specs.Commands.{Command, none, also, empty_command, block_command, if_command, loop_command, do_command, break_command, continue_command, return_command, assert_command, store_command, default_command, fill_command, input_command, element_command, publish_command, evaluate_command}
-use Rattle.typed_tree.specs.Scopes.{Place, no_place, declaring}
-use Rattle.typed_tree.specs.Resolving.{Resolving, ◌>>=◌, done, reading, next_slot, declare, in_block, value_at, expression, known_at, named}
-use Rattle.typed_tree.specs.Bodies.{calling, evaluated, default_of, from_value, initial, declared, assigned_to, assigned, started, stepped, condition_of, returned, looped, resolved, resolved_all}
+use Rattle.name_resolution.specs.Scopes.{Place, no_place, declaring}
+use Rattle.name_resolution.specs.Resolving.{Resolving, ◌>>=◌, done, reading, next_slot, declare, in_block, value_at, expression, known_at, named}
+use Rattle.name_resolution.specs.Bodies.{calling, evaluated, default_of, from_value, initial, declared, assigned_to, assigned, started, stepped, condition_of, returned, looped, resolved, resolved_all}
 use Rattle.typed_tree.specs.Programs.{TypedFunctionTree}
-use Rattle.typed_tree.specs.Functions.{slots_written, given_back, with_parameters, function_made, function_from, function_behind, typed_function, and_functions, typed_functions}
-use Rattle.typed_tree.proofs.SoundValues.{both_there, then_there, some_is}
+use Rattle.name_resolution.specs.Functions.{slots_written, given_back, with_parameters, function_made, function_from, function_behind, typed_function, and_functions, typed_functions}
+use Rattle.name_resolution.proofs.SoundValues.{both_there, then_there, some_is}
 use Rattle.well_typed.proofs.Bindings.{declared_type}
 use Rattle.well_typed.proofs.SlotsWritten.{slots_split}
 use Rattle.well_typed.proofs.Steps.{Relation, Step, step_done, step_bind, step_reading, step_block, step_declare, step_next, step_as}

@@ -21,8 +21,9 @@ use Rattle.typed_tree.specs.declared.operators.Operands.{Operands}
 use Rattle.typed_tree.specs.declared.operators.Operands.TheVariants.{Scalars, ArrayAndScalar, ScalarAndArray, Arrays}
 use Rattle.typed_tree.specs.Tree.{binary_node, cut_node}
 use Rattle.typed_tree.specs.Operators.{operator_on, element_made, operands_of, may_cut_short}
-use Rattle.typed_tree.specs.Values.{TypedValue, shape_of, operation_node, operation_made}
-use Rattle.typed_tree.proofs.SoundValues.{some_is}
+use Rattle.typed_tree.specs.Shapes.{shape_of}
+use Rattle.name_resolution.specs.Values.{TypedValue, operation_node, operation_made}
+use Rattle.name_resolution.proofs.SoundValues.{some_is}
 use Rattle.reached_instances.specs.Domains.{Setting, domain, joined}
 use Rattle.reached_instances.specs.Calls.{calls}
 use Rattle.well_typed.specs.Kinds.{scalar, Meet, operand_of, MayOperate, left_is_array, right_is_array}

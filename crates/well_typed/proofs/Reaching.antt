@@ -9,16 +9,16 @@ use Rattle.secrec_ast.specs.declared.function.ResultType.{ResultType}
 use Rattle.secrec_ast.specs.declared.function.ResultType.TheVariants as result
 use Rattle.secrec_ast.specs.Programs.{FunctionTree, ProgramTree}
 use Rattle.domain_types.specs.Declarations.{Declared, declared_by, functions_of, defined, function_named, callee}
-use Rattle.domain_types.specs.Least.{Among}
+use Rattle.sc_text.specs.Lists.{Among}
 use Rattle.domain_types.specs.Reached.{plain}
 use Rattle.domain_types.specs.ProgramTypes.{is_without, is_void, is_main, has_main}
 use Rattle.domain_types.specs.Typing.{IsTypedProgram}
 use Rattle.typed_tree.specs.declared.function.Given.TheVariants as given
 use Rattle.typed_tree.specs.Programs.{TypedFunctionTree, TypedProgramTree}
-use Rattle.typed_tree.specs.Functions.{given_back, typed_function, typed_functions, program_of}
-use Rattle.typed_tree.specs.Order as order
-use Rattle.typed_tree.specs.Order.{is_found, with_callee, read_one, known_after}
-use Rattle.typed_tree.proofs.SoundValues.{mapped, some_is, callee_there}
+use Rattle.name_resolution.specs.Functions.{given_back, typed_function, typed_functions, program_of}
+use Rattle.name_resolution.specs.Order as order
+use Rattle.name_resolution.specs.Order.{is_found, with_callee, read_one, known_after}
+use Rattle.name_resolution.proofs.SoundValues.{mapped, some_is, callee_there}
 use Rattle.reached_instances.specs.declared.instance.BoundDomain.{BoundDomain}
 use Rattle.reached_instances.specs.Domains.{bound_below, binding_of}
 use Rattle.reached_instances.specs.Instances.{Instance}

@@ -20,7 +20,7 @@ use Rattle.domain_types.specs.declared.value_type.ExpressionType.TheVariants.{Vo
 use Rattle.domain_types.specs.Types.{public_scalar}
 use Rattle.domain_types.specs.Declarations.{Declared, declared_by, functions_of, defined}
 use Rattle.domain_types.specs.ExpressionTypes.{within, defined_faults}
-use Rattle.domain_types.specs.Least.{Among}
+use Rattle.sc_text.specs.Lists.{Among}
 use Rattle.domain_types.specs.Reached.{Call, Instance, Calls, IsChecked, plain, reached, function_calls}
 use Rattle.domain_types.specs.Typing.{IsTypedFunction, AreDomainVariables, IsTypedProgram}
 use Rattle.typed_tree.specs.declared.kinds.SlotDomain.TheVariants as slot
@@ -31,8 +31,8 @@ use Rattle.typed_tree.specs.declared.operators.Operands.TheVariants.{Scalars}
 use Rattle.typed_tree.specs.Tree.{word_node, slot_node, call_node, binary_node, declassify_node, typed_trees_of}
 use Rattle.typed_tree.specs.Commands.{return_command, input_command, publish_command, commands_of}
 use Rattle.typed_tree.specs.Programs.{TypedProgramTree}
-use Rattle.typed_tree.specs.Values.{shape_of}
-use Rattle.typed_tree.specs.Functions.{typed_of}
+use Rattle.typed_tree.specs.Shapes.{shape_of}
+use Rattle.name_resolution.specs.Functions.{typed_of}
 use Rattle.reached_instances.specs.declared.instance.BoundDomain.TheVariants.{Private}
 use Rattle.reached_instances.specs.Reached.{IsReached, begins, follows}
 use Rattle.reached_instances.specs.Instances as typed

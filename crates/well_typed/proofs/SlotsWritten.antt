@@ -17,9 +17,10 @@ use Rattle.typed_tree.specs.declared.kinds.Shape.{Shape}
 use Rattle.typed_tree.specs.declared.kinds.SlotDomain.{SlotDomain}
 use Rattle.typed_tree.specs.declared.kinds.SlotDomain.TheVariants as slot
 use Rattle.typed_tree.specs.declared.kinds.Slot.{Slot}
-use Rattle.typed_tree.specs.Values.{shape_of, of_both}
-use Rattle.typed_tree.specs.Functions.{variable_number, domain_named, slot_domain, slot_in, slot_written, and_slots, slots_written, with_functions}
-use Rattle.typed_tree.proofs.SoundValues.{mapped, some_is}
+use Rattle.typed_tree.specs.Shapes.{shape_of}
+use Rattle.name_resolution.specs.Values.{of_both}
+use Rattle.name_resolution.specs.Functions.{variable_number, domain_named, slot_domain, slot_in, slot_written, and_slots, slots_written, with_functions}
+use Rattle.name_resolution.proofs.SoundValues.{mapped, some_is}
 use Rattle.reached_instances.specs.declared.instance.BoundDomain.{BoundDomain}
 use Rattle.reached_instances.specs.declared.instance.BoundDomain.TheVariants.{Public}
 use Rattle.reached_instances.specs.Domains.{domain_under}

@@ -25,22 +25,23 @@ use Rattle.domain_types.specs.StatementTypes as checker
 use Rattle.domain_types.specs.Reached.{Call, calls_of, optional_calls, declaration_calls, assignment_calls, start_calls, step_calls, statement_calls, block_calls}
 use Rattle.domain_types.specs.Typing.{HasType, HasFitting, HasPublicScalar, IsInitial, IsDeclaration, IsElement, IsAssignment, IsStart, IsStep, IsOptionalCondition, IsReturn, IsTyped, AreTyped}
 use Rattle.domain_types.specs.Typing as typing
-use Rattle.domain_types.proofs.TypingSteps.{among_left, among_right}
+use Rattle.sc_text.proofs.Lists.{among_left, among_right}
 use Rattle.typed_tree.specs.declared.kinds.Shape.{Shape}
 use Rattle.typed_tree.specs.declared.kinds.Slot.{Slot}
 use Rattle.typed_tree.specs.declared.function.Given.{Given}
 use Rattle.typed_tree.specs.declared.function.Given.TheVariants as given_back
-use Rattle.typed_tree.specs.declared.variables.Known.{Known}
+use Rattle.name_resolution.specs.declared.variables.Known.{Known}
 use Rattle.typed_tree.specs.Tree.{TypedTree, truth_node}
 use Rattle.typed_tree.specs.Commands.{Command, Commands, none, also, empty_command, block_command, if_command, loop_command, do_command, break_command, continue_command, return_command, assert_command, store_command, default_command, fill_command, input_command, element_command, publish_command, evaluate_command}
-use Rattle.typed_tree.specs.Scopes.{Place, known_of, variable_named, shape_written, declaring}
-use Rattle.typed_tree.specs.Values.{shape_of, value, call_made}
-use Rattle.typed_tree.specs.Resolving.{Resolving, carry, ◌>>=◌, done, reading, in_block, tree_in, value_at, expression, known_at, named}
-use Rattle.typed_tree.specs.Bodies.{tree_in_call, calling, evaluated, default_of, from_value, initial, declared, assigned_to, assigned, started, stepped, condition_of, returned, looped, resolved, resolved_all}
-use Rattle.typed_tree.specs.Functions.{slot_written, slots_written}
-use Rattle.typed_tree.specs.Functions as functions
-use Rattle.typed_tree.specs.Order as order
-use Rattle.typed_tree.proofs.SoundValues.{mapped, some_is}
+use Rattle.name_resolution.specs.Scopes.{Place, known_of, variable_named, shape_written, declaring}
+use Rattle.typed_tree.specs.Shapes.{shape_of}
+use Rattle.name_resolution.specs.Values.{value, call_made}
+use Rattle.name_resolution.specs.Resolving.{Resolving, carry, ◌>>=◌, done, reading, in_block, tree_in, value_at, expression, known_at, named}
+use Rattle.name_resolution.specs.Bodies.{tree_in_call, calling, evaluated, default_of, from_value, initial, declared, assigned_to, assigned, started, stepped, condition_of, returned, looped, resolved, resolved_all}
+use Rattle.name_resolution.specs.Functions.{slot_written, slots_written}
+use Rattle.name_resolution.specs.Functions as functions
+use Rattle.name_resolution.specs.Order as order
+use Rattle.name_resolution.proofs.SoundValues.{mapped, some_is}
 use Rattle.reached_instances.specs.Domains as domains
 use Rattle.reached_instances.specs.Domains.{domain, domain_under}
 use Rattle.reached_instances.specs.Calls.{calls, command_calls, commands_calls}

@@ -3,8 +3,8 @@ use Rattle.std.proofs.Common.{◌≡◌, ℕ, length, refl, subst, Option, Some,
 use Rattle.std.specs.Prelude.{option_map}
 use Rattle.secrec_ast.specs.declared.statement.Identifier.{Identifier}
 use Rattle.secrec_ast.specs.declared.statement.DeclaredType.{DeclaredType}
-use Rattle.typed_tree.specs.Scopes.{Place, declaring, entering, behind_block}
-use Rattle.typed_tree.specs.Resolving.{Resolving, carry, ◌>>=◌, done, reading, next_slot, declare, closed, in_block}
+use Rattle.name_resolution.specs.Scopes.{Place, declaring, entering, behind_block}
+use Rattle.name_resolution.specs.Resolving.{Resolving, carry, ◌>>=◌, done, reading, next_slot, declare, closed, in_block}
 
 -- what is said of a step from one place to another
 abbrev pub Relation : Type 0 → Type 1

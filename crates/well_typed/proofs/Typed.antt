@@ -10,14 +10,15 @@ use Rattle.domain_types.specs.declared.value_type.Argument.{Argument}
 use Rattle.domain_types.specs.declared.value_type.ValueType.{ValueType}
 use Rattle.domain_types.specs.Types.{scalar_of, public_scalar}
 use Rattle.domain_types.specs.ExpressionTypes.{cast_type, declassified, array_of}
-use Rattle.domain_types.specs.Least.{Among}
+use Rattle.sc_text.specs.Lists.{Among}
 use Rattle.domain_types.specs.Typing.{Meets}
-use Rattle.domain_types.proofs.TypingSteps.{among_parts}
+use Rattle.sc_text.proofs.Lists.{among_parts}
 use Rattle.typed_tree.specs.declared.kinds.Shape.{Shape}
 use Rattle.typed_tree.specs.declared.kinds.Slot.{Slot}
 use Rattle.typed_tree.specs.Operators.{cast_between}
 use Rattle.typed_tree.specs.Tree.{TypedTree, word_node, truth_node, slot_node, size_node, cat_node, sum_node, bits_node, element_node}
-use Rattle.typed_tree.specs.Values.{TypedValue, shape_of, made, negated, cast_value, declassified_value}
+use Rattle.typed_tree.specs.Shapes.{shape_of}
+use Rattle.name_resolution.specs.Values.{TypedValue, made, negated, cast_value, declassified_value}
 use Rattle.reached_instances.specs.Instances.{Instance}
 use Rattle.reached_instances.specs.Domains.{Setting, domain, slot_domain, joined}
 use Rattle.reached_instances.specs.Calls.{calls}

@@ -16,17 +16,17 @@ use Rattle.domain_types.specs.Types.{scalar_of, public_scalar}
 use Rattle.domain_types.specs.Declarations.{declared_by, Callee, built_in, defined, callee}
 use Rattle.domain_types.specs.Scopes as checked
 use Rattle.domain_types.specs.ExpressionTypes.{variable_type, cast_type, declassified, arguments_of}
-use Rattle.domain_types.specs.Least.{Among}
+use Rattle.sc_text.specs.Lists.{Among}
 use Rattle.domain_types.specs.Reached.{Call, call_of, calls_of, calls_of_all}
 use Rattle.domain_types.specs.Typing.{IsCall, HasType, HaveTypes}
-use Rattle.domain_types.proofs.TypingSteps.{among_left, among_right}
+use Rattle.sc_text.proofs.Lists.{among_left, among_right}
 use Rattle.domain_types.proofs.TypingExpressions.{types_from}
 use Rattle.typed_tree.specs.declared.kinds.Slot.{Slot}
 use Rattle.typed_tree.specs.Tree.{word_node, truth_node, call_node}
 use Rattle.typed_tree.specs.Operators.{operator_on}
-use Rattle.typed_tree.specs.Scopes.{Variable, Scope, variable_in, variable_named}
-use Rattle.typed_tree.specs.Values.{TypedValue, TypedCall, made, of_both, variable_value, element_value, negated, cast_value, declassified_value, operation_made, operation, gives_value, with_shape, value_given, shape_returned, built_in_value, called, and_values, value, values, call_made}
-use Rattle.typed_tree.proofs.SoundValues.{mapped, both_there, then_there, some_is}
+use Rattle.name_resolution.specs.Scopes.{Variable, Scope, variable_in, variable_named}
+use Rattle.name_resolution.specs.Values.{TypedValue, TypedCall, made, of_both, variable_value, element_value, negated, cast_value, declassified_value, operation_made, operation, gives_value, with_shape, value_given, shape_returned, built_in_value, called, and_values, value, values, call_made}
+use Rattle.name_resolution.proofs.SoundValues.{mapped, both_there, then_there, some_is}
 use Rattle.reached_instances.specs.Domains as domains
 use Rattle.program_typing.proofs.TreesOfValues.{Agrees, Agree, agree_left, agree_right, names_in, names_in_all}
 use Rattle.well_typed.specs.Sources.{HasWords, HaveWords}

@@ -8,8 +8,8 @@ use Rattle.domain_types.specs.Declarations.{declared_by, functions_of}
 use Rattle.domain_types.specs.Reached.{IsChecked}
 use Rattle.domain_types.specs.Typing.{IsTypedProgram}
 use Rattle.typed_tree.specs.Programs.{TypedProgramTree}
-use Rattle.typed_tree.specs.Order.{reached}
-use Rattle.typed_tree.specs.Functions.{typed_of}
+use Rattle.name_resolution.specs.Order.{reached}
+use Rattle.name_resolution.specs.Functions.{typed_of}
 use Rattle.reached_instances.specs.declared.instance.BoundDomain.{BoundDomain}
 use Rattle.reached_instances.specs.declared.instance.BoundDomain.TheVariants.{Public, Private}
 use Rattle.reached_instances.specs.Instances.{Instance}

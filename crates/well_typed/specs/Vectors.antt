@@ -16,7 +16,7 @@ use Rattle.typed_tree.specs.declared.operators.Operands.TheVariants.{Scalars, Ar
 use Rattle.typed_tree.specs.Tree.{truth_node, slot_node, call_node, element_node, binary_node, declassify_node, typed_trees_of}
 use Rattle.typed_tree.specs.Commands.{if_command, loop_command, empty_command, break_command, return_command, store_command, commands_of}
 use Rattle.typed_tree.specs.Programs.{TypedFunctionTree}
-use Rattle.typed_tree.specs.Values.{shape_of}
+use Rattle.typed_tree.specs.Shapes.{shape_of}
 use Rattle.reached_instances.specs.declared.instance.BoundDomain.TheVariants.{Private}
 use Rattle.reached_instances.specs.Domains.{Setting, domain_under, binding_of}
 use Rattle.well_typed.specs.Kinds.{scalar, array, GoesTo}

@@ -1,8 +1,8 @@
 use Rattle.std.proofs.Common.{◌≡◌, None, Err}
 use Rattle.secrec_ast.specs.Programs.{program_tree}
-use Rattle.typed_tree.specs.Answer.{Answers}
+use Rattle.name_resolution.specs.Answer.{Answers}
 use Rattle.typed_tree.specs.Programs.{typed_program_tree}
-use Rattle.typed_tree.specs.Functions.{typed_of}
+use Rattle.name_resolution.specs.Functions.{typed_of}
 use Rattle.program_typing.proofs.TreesOfPrograms.{typed_has_tree}
 use Rattle.run_engine.proofs.programs.typed.Goals as goal
 

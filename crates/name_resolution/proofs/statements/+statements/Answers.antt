@@ -1,0 +1,43 @@
+use Rattle.std.proofs.Common.{◌+◌, [], ◌∷◌, ◌≡◌, ◌++◌, ap, ◌∙◌, sym, take, get_or, Some, None}
+use Rattle.std.specs.Prelude.{map}
+use Rattle.std.proofs.lemmas.List.{take_all, take_more, map-append}
+use Rattle.secrec_ast.specs.Statements.{statement, statements_of}
+use Rattle.domain_types.specs.Views.{declared}
+use Rattle.typed_tree.specs.Commands.{command, commands_of}
+use Rattle.name_resolution.specs.Bodies.{resolved, resolved_all}
+use Rattle.name_resolution.specs.Views.{place_seen, with_place, commands_seen}
+use Rattle.name_resolution.proofs.Growing.{map_one}
+use Rattle.name_resolution.proofs.Missing.{passed_on, statements_none}
+use Rattle.name_resolution.proofs.Sequences.{resolved_all_more, place_made}
+use Rattle.name_resolution.proofs.statements.+statements.Goals as goal
+
+pub statements-loop-each-preserved : goal.statements-loop-each-preserved
+statements-loop-each-preserved t c =
+    let xs = c.deref-each-items.result.now in
+    let i = c.loop-each.each-index in
+    let x = c.each-item.result in
+    let ts = map statement (take i xs) in
+    let d = declared c.args.declarations.now in
+    let more : map statement (take (i + 1) xs) ≡ ts ++ statement x ∷ [] = ap (map statement) (take_more xs i x c.loop-each-test.true) ∙ map-append statement (take i xs) (get_or xs i x ∷ []) ∙ ap (λ z. ts ++ statement z ∷ []) (sym c.each-item.is) in
+    record {
+      made =
+          ap (λ l. resolved_all d (statements_of l) (place_seen c.args.place.now)) more
+          ∙ resolved_all_more d ts (statement x) (place_seen c.args.place.now) (place_seen c.loop-each.place) (place_seen c.statement.new.place) (map command c.loop-each.made.items) (command c.in_ok-next.next) c.loop-each.invariant.made c.in_ok-next.ensures.made
+          ∙ ap (λ l. Some (place_made (commands_of l) (place_seen c.statement.new.place))) (sym (ap (map command) c.in_ok-push.ensures.items ∙ map_one command c.loop-each.made.items c.in_ok-next.next));
+      outer = c.in_ok-next.ensures.outer ∙ c.loop-each.invariant.outer;
+    }
+
+pub statements-returns-in_err-next-clause-made : goal.statements-returns-in_err-next-clause-made
+statements-returns-in_err-next-clause-made t c =
+    let xs = c.deref-each-items.result.now in
+    let x = c.each-item.result in
+    let d = declared c.args.declarations.now in
+    let s = place_seen c.args.place.now in
+    let r = place_seen c.loop-each.place in
+    let none : resolved d (statement x) r ≡ None → resolved_all d (statements_of (map statement c.args.list.now.items)) s ≡ None = λ e. ap (λ l. resolved_all d (statements_of (map statement l)) s) (sym c.deref-each-items.ensures.value) ∙ statements_none d xs c.loop-each.each-index x s r (commands_of (map command c.loop-each.made.items)) c.loop-each-test.true c.each-item.is c.loop-each.invariant.made e in
+    passed_on (with_place command (place_seen c.statement.new.place)) (with_place commands_seen (place_seen c.statement.new.place)) c.in_err-next.field-0.0 (resolved d (statement x) r) _ c.from_residual.result c.from_residual.ensures.1 none c.in_err-next.ensures.made
+
+pub statements-returns-clause-made : goal.statements-returns-clause-made
+statements-returns-clause-made t c =
+    let all = take_all c.loop-each.each-index c.deref-each-items.result.now c.loop-each-test.false ∙ c.deref-each-items.ensures.value in
+    ap (λ l. resolved_all (declared c.args.declarations.now) (statements_of (map statement l)) (place_seen c.args.place.now)) (sym all) ∙ c.loop-each.invariant.made

@@ -1,0 +1,158 @@
+-- A statement of the program as a typed one.
+use Rattle.std.specs.Prelude.{ℕ, true, false, List, Option, Some, None, option_map}
+use Rattle.secrec_ast.specs.declared.expression.DataType.{DataType}
+use Rattle.secrec_ast.specs.declared.expression.DataType.TheVariants.{Uint64}
+use Rattle.secrec_ast.specs.declared.expression.DataType.TheVariants as datatype
+use Rattle.secrec_ast.specs.Tree.{Tree, Trees, call, argument, publish}
+use Rattle.secrec_ast.specs.Statements.{DeclarationTree, TargetTree, AssignmentTree, StartTree, starts_with_nothing, starts_with_declaration, starts_with_assignment, StepTree, steps_by_nothing, steps_by_assignment, steps_by_expression, StatementTree, block, empty, branch, choice, while_loop, do_loop, for_loop, breaks, continues, returns, assertion, declaration, assignment, evaluation, StatementTrees}
+use Rattle.secrec_ast.specs.Statements as Statements'
+use Rattle.domain_types.specs.Declarations.{Declared}
+use Rattle.typed_tree.specs.Tree.{TypedTree, word_node, truth_node}
+use Rattle.typed_tree.specs.Commands.{Command, Commands, none, also, empty_command, block_command, if_command, loop_command, do_command, break_command, continue_command, return_command, assert_command, store_command, default_command, fill_command, input_command, element_command, publish_command, evaluate_command}
+use Rattle.name_resolution.specs.Scopes.{Place}
+use Rattle.name_resolution.specs.Values.{TypedCall, call_made}
+use Rattle.name_resolution.specs.Resolving.{Resolving, ◌>>=◌, done, reading, next_slot, declare, in_block, expression, named}
+
+-- EXPRESSIONS FOR WHAT THEY DO
+
+abbrev pub tree_in_call : TypedCall → TypedTree
+tree_in_call c = c.tree
+
+abbrev pub calling : Declared → ℕ → List ℕ → Trees → Place → Option TypedTree
+calling d line x es s = option_map tree_in_call (call_made d s.scope line x es)
+
+-- what is published is told by its name; a call may give nothing
+abbrev pub evaluated : Declared → Tree → Resolving Command
+evaluated d (publish p x e) = do
+  v ← expression d e
+  done (publish_command x v)
+evaluated d (call p x es) = do
+  v ← reading (calling d p.line x es)
+  done (evaluate_command v)
+evaluated d e = do
+  v ← expression d e
+  done (evaluate_command v)
+
+-- DECLARATIONS
+
+-- what fills an array where no value is given
+abbrev pub default_of : DataType → TypedTree
+default_of Uint64 = word_node 0
+default_of datatype.Bool = truth_node false
+
+-- an input has the declared type
+abbrev pub from_value : Declared → ℕ → Tree → Resolving Command
+from_value d k (argument p x) = done (input_command p.line k x)
+from_value d k e = do
+  v ← expression d e
+  done (store_command k v)
+
+-- the slot is the next one, behind the size and the value
+abbrev pub initial : Declared → ℕ → ℕ → DataType → (size value : Option Tree) → Resolving Command
+initial d line k element None None = done (default_command k)
+initial d line k element None (Some e) = from_value d k e
+initial d line k element (Some n) None = do
+  m ← expression d n
+  done (fill_command line k m (default_of element))
+initial d line k element (Some n) (Some e) = do
+  m ← expression d n
+  v ← expression d e
+  done (fill_command line k m v)
+
+abbrev pub declared : Declared → DeclarationTree → Resolving Command
+declared d t = do
+  k ← next_slot
+  c ← initial d t.declared.place.line k t.declared.element t.size t.value
+  _ ← declare t.variable t.declared
+  done c
+
+-- ASSIGNMENTS
+
+abbrev pub assigned_to : Declared → ℕ → ℕ → Option Tree → Tree → Resolving Command
+assigned_to d line k None e = do
+  v ← expression d e
+  done (store_command k v)
+assigned_to d line k (Some i) e = do
+  j ← expression d i
+  v ← expression d e
+  done (element_command line k j v)
+
+abbrev pub assigned : Declared → AssignmentTree → Resolving Command
+assigned d a = do
+  x ← named a.target.variable.text
+  assigned_to d a.target.variable.place.line x.slot a.target.index a.value
+
+-- THE PARTS OF A `for`
+
+abbrev pub started : Declared → StartTree → Resolving Command
+started d starts_with_nothing = done empty_command
+started d (starts_with_declaration t) = declared d t
+started d (starts_with_assignment a) = assigned d a
+
+abbrev pub stepped : Declared → StepTree → Resolving Command
+stepped d steps_by_nothing = done empty_command
+stepped d (steps_by_assignment a) = assigned d a
+stepped d (steps_by_expression e) = evaluated d e
+
+-- a condition that is left out is true
+abbrev pub condition_of : Declared → Option Tree → Resolving TypedTree
+condition_of d None = done (truth_node true)
+condition_of d (Some e) = expression d e
+
+abbrev pub returned : Declared → Option Tree → Resolving Command
+returned d None = done (return_command None)
+returned d (Some e) = do
+  v ← expression d e
+  done (return_command (Some v))
+
+-- the parts of a `for`, whose body is a block
+abbrev pub looped : Declared → StartTree → Option Tree → StepTree → Resolving Command → Resolving Command
+looped d start e step body = do
+  a ← started d start
+  v ← condition_of d e
+  c ← stepped d step
+  b ← in_block body
+  done (block_command (also a (also (loop_command v c b) none)))
+
+-- STATEMENTS: a `for`, and each branch or body, is a block
+
+abbrev mutual
+  pub resolved : Declared → StatementTree → Resolving Command
+  resolved d (block p ss) = do
+    cs ← in_block (resolved_all d ss)
+    done (block_command cs)
+  resolved d (empty p) = done empty_command
+  resolved d (branch p e body) = do
+    v ← expression d e
+    c ← in_block (resolved d body)
+    done (if_command v c empty_command)
+  resolved d (choice p e body otherwise) = do
+    v ← expression d e
+    b ← in_block (resolved d body)
+    c ← in_block (resolved d otherwise)
+    done (if_command v b c)
+  resolved d (while_loop p e body) = do
+    v ← expression d e
+    b ← in_block (resolved d body)
+    done (loop_command v empty_command b)
+  resolved d (do_loop p body e) = do
+    b ← in_block (resolved d body)
+    v ← expression d e
+    done (do_command b v)
+  resolved d (for_loop p start e step body) = in_block (looped d start e step (resolved d body))
+  resolved d (breaks p) = done break_command
+  resolved d (continues p) = done continue_command
+  resolved d (returns p e) = returned d e
+  resolved d (assertion p e) = do
+    v ← expression d e
+    done (assert_command p.line v)
+  resolved d (declaration t) = declared d t
+  resolved d (assignment a) = assigned d a
+  resolved d (evaluation e) = evaluated d e
+
+  pub resolved_all : Declared → StatementTrees → Resolving Commands
+  resolved_all d Statements'.none = done none
+  resolved_all d (Statements'.also t ts) = do
+    c ← resolved d t
+    cs ← resolved_all d ts
+    done (also c cs)

@@ -1,0 +1,11 @@
+pub mod Scopes
+pub mod Table
+pub mod Values
+pub mod Resolving
+pub mod Bodies
+pub mod Order
+pub mod Sizes
+pub mod Functions
+pub mod Vectors
+pub mod Views
+pub mod Answer

@@ -1,0 +1,60 @@
+-- A piece of a function becomes a typed one at a place, and leads to the place behind it; or it has no typed one.
+use Rattle.std.specs.Prelude.{ℕ, List, length, Option, Some, None, option_map}
+use Rattle.secrec_ast.specs.declared.statement.DeclaredType.{DeclaredType}
+use Rattle.secrec_ast.specs.declared.statement.Identifier.{Identifier}
+use Rattle.secrec_ast.specs.Tree.{Tree}
+use Rattle.domain_types.specs.Declarations.{Declared}
+use Rattle.name_resolution.specs.declared.variables.Known.{Known}
+use Rattle.typed_tree.specs.Tree.{TypedTree}
+use Rattle.name_resolution.specs.Scopes.{Place, known_of, variable_named, declaring, entering, behind_block}
+use Rattle.name_resolution.specs.Values.{TypedValue, value}
+
+abbrev pub Resolving : Type 0 → Type 0
+Resolving A = Place → Option (A × Place)
+
+abbrev pub carry : {A B : Type 0} → Option (A × Place) → (A → Resolving B) → Option (B × Place)
+carry None f = None
+carry (Some r) f = f r.0 r.1
+
+infixl 20 ◌>>=◌
+abbrev pub ◌>>=◌ : {A B : Type 0} → Resolving A → (A → Resolving B) → Resolving B
+(m >>= f) s = carry (m s) f
+
+abbrev pub done : {A : Type 0} → A → Resolving A
+done a s = Some (a, s)
+
+-- what is read at a place leaves it
+abbrev pub reading : {A : Type 0} → (Place → Option A) → Resolving A
+reading f s = option_map (λ a. (a, s)) (f s)
+
+-- the number of the next slot
+abbrev pub next_slot : Resolving ℕ
+next_slot s = Some (length s.slots, s)
+
+abbrev pub declare : Identifier → DeclaredType → Resolving (Unit {0})
+declare x t s = Some (tt, declaring x t s)
+
+-- a block
+abbrev pub closed : {A : Type 0} → Place → Option (A × Place) → Option (A × Place)
+closed s None = None
+closed s (Some r) = Some (r.0, behind_block s r.1)
+
+abbrev pub in_block : {A : Type 0} → Resolving A → Resolving A
+in_block m s = closed s (m (entering s))
+
+abbrev pub tree_in : TypedValue → TypedTree
+tree_in v = v.tree
+
+abbrev pub value_at : Declared → Tree → Place → Option TypedTree
+value_at d e s = option_map tree_in (value d s.scope e)
+
+-- an expression that gives a value
+abbrev pub expression : Declared → Tree → Resolving TypedTree
+expression d e = reading (value_at d e)
+
+abbrev pub known_at : List ℕ → Place → Option Known
+known_at x s = option_map known_of (variable_named s.scope x)
+
+-- the variable of a name
+abbrev pub named : List ℕ → Resolving Known
+named x = reading (known_at x)

@@ -1,0 +1,137 @@
+// Which operator a sign means on operands of one data type, and what it gives.
+ghost use Rattle.std.specs.Prelude.{◌≡◌};
+ghost use Rattle.typed_tree.specs.Operators.{word_operator, bool_operator, operator_on, word_result, element_made, operands_of, may_cut_short, cast_between};
+
+use typed_tree::{BinaryOperator, BoolOperator, Cast, Connective, Operands, WordOperator};
+use secrec_ast::{DataType, Operator};
+
+fn word_operator(sign: Operator) -> Option<WordOperator>
+    ensures { result ≡ word_operator sign }
+{
+    match sign {
+        Operator::Add => Some(WordOperator::Add),
+        Operator::Subtract => Some(WordOperator::Subtract),
+        Operator::Multiply => Some(WordOperator::Multiply),
+        Operator::Divide => Some(WordOperator::Divide),
+        Operator::Remainder => Some(WordOperator::Remainder),
+        Operator::Equal => Some(WordOperator::Equal),
+        Operator::NotEqual => Some(WordOperator::NotEqual),
+        Operator::Less => Some(WordOperator::Less),
+        Operator::LessOrEqual => Some(WordOperator::LessOrEqual),
+        Operator::Greater => Some(WordOperator::Greater),
+        Operator::GreaterOrEqual => Some(WordOperator::GreaterOrEqual),
+        Operator::And => Some(WordOperator::And),
+        Operator::Or => Some(WordOperator::Or),
+        Operator::Xor => Some(WordOperator::Xor),
+        Operator::AndAlso | Operator::OrElse => None,
+    }
+}
+
+fn bool_operator(sign: Operator) -> Option<BoolOperator>
+    ensures { result ≡ bool_operator sign }
+{
+    match sign {
+        Operator::Equal => Some(BoolOperator::Equal),
+        Operator::NotEqual => Some(BoolOperator::NotEqual),
+        Operator::And | Operator::AndAlso => Some(BoolOperator::And),
+        Operator::Or | Operator::OrElse => Some(BoolOperator::Or),
+        Operator::Xor => Some(BoolOperator::Xor),
+        Operator::Add
+        | Operator::Subtract
+        | Operator::Multiply
+        | Operator::Divide
+        | Operator::Remainder
+        | Operator::Less
+        | Operator::LessOrEqual
+        | Operator::Greater
+        | Operator::GreaterOrEqual => None,
+    }
+}
+
+/// The operator that a sign means on operands of these data types, if there is one.
+pub fn operator_on(sign: Operator, left: DataType, right: DataType) -> Option<BinaryOperator>
+    ensures { result ≡ operator_on sign left right }
+{
+    match (left, right) {
+        (DataType::Uint64, DataType::Uint64) => match word_operator(sign) {
+            Some(operator) => Some(BinaryOperator::Words(operator)),
+            None => None,
+        },
+        (DataType::Bool, DataType::Bool) => match bool_operator(sign) {
+            Some(operator) => Some(BinaryOperator::Bools(operator)),
+            None => None,
+        },
+        _ => None,
+    }
+}
+
+impl WordOperator {
+    // The data type of what it gives.
+    fn result(self) -> DataType
+        ensures { result ≡ word_result self }
+    {
+        match self {
+            WordOperator::Equal
+            | WordOperator::NotEqual
+            | WordOperator::Less
+            | WordOperator::LessOrEqual
+            | WordOperator::Greater
+            | WordOperator::GreaterOrEqual => DataType::Bool,
+            WordOperator::Add
+            | WordOperator::Subtract
+            | WordOperator::Multiply
+            | WordOperator::Divide
+            | WordOperator::Remainder
+            | WordOperator::And
+            | WordOperator::Or
+            | WordOperator::Xor => DataType::Uint64,
+        }
+    }
+}
+
+impl BinaryOperator {
+    /// The data type of what it gives.
+    pub fn result(self) -> DataType
+        ensures { result ≡ element_made self }
+    {
+        match self {
+            BinaryOperator::Words(operator) => operator.result(),
+            BinaryOperator::Bools(_) => DataType::Bool,
+        }
+    }
+}
+
+/// Which of two operands are arrays.
+pub fn operands_of(left: bool, right: bool) -> Operands
+    ensures { result ≡ operands_of left right }
+{
+    match (left, right) {
+        (false, false) => Operands::Scalars,
+        (true, false) => Operands::ArrayAndScalar,
+        (false, true) => Operands::ScalarAndArray,
+        (true, true) => Operands::Arrays,
+    }
+}
+
+/// Whether a sign means an operator that may cut short: between scalars alone.
+pub fn may_cut_short(sign: Operator, operands: Operands) -> Option<Connective>
+    ensures { result ≡ may_cut_short sign operands }
+{
+    match (sign, operands) {
+        (Operator::AndAlso, Operands::Scalars) => Some(Connective::AndAlso),
+        (Operator::OrElse, Operands::Scalars) => Some(Connective::OrElse),
+        _ => None,
+    }
+}
+
+/// The cast from one data type to another.
+pub fn cast_between(given: DataType, wanted: DataType) -> Cast
+    ensures { result ≡ cast_between given wanted }
+{
+    match (given, wanted) {
+        (DataType::Uint64, DataType::Uint64) => Cast::WordToWord,
+        (DataType::Uint64, DataType::Bool) => Cast::WordToBool,
+        (DataType::Bool, DataType::Uint64) => Cast::BoolToWord,
+        (DataType::Bool, DataType::Bool) => Cast::BoolToBool,
+    }
+}

@@ -1,0 +1,143 @@
+// Statements: a `for`, and each branch or body, is a block.
+ghost use Rattle.std.specs.Prelude.{◌≡◌, IfOk, map};
+ghost use Rattle.secrec_ast.specs.Statements.{statement, statements_of, start_tree, step_tree, optional};
+ghost use Rattle.domain_types.specs.Views.{declared};
+ghost use Rattle.typed_tree.specs.Commands.{command};
+ghost use Rattle.name_resolution.specs.Resolving.{in_block};
+ghost use Rattle.name_resolution.specs.Bodies.{looped, resolved, resolved_all};
+ghost use Rattle.name_resolution.specs.Answer.{Answers};
+ghost use Rattle.name_resolution.specs.Views.{place_seen, with_place, command_in, commands_seen};
+
+use crate::place::Place;
+use crate::resolve_error::ResolveError;
+use crate::simple_statements::{
+    assigned, condition_of, declared, evaluated, expression, returned, started, stepped,
+};
+use typed_tree::TypedStatement;
+use domain_types::Declarations;
+use secrec_ast::{Expression, ForStart, ForStep, Statement};
+use std::alloc::Global;
+
+/// Statements one after another.
+#[cycle(statements)]
+pub fn statements<'p>(
+    alloc: Global,
+    declarations: &Declarations<'p>,
+    place: &mut Place<'p>,
+    list: &'p Vec<Statement>,
+) -> Result<Vec<TypedStatement>, ResolveError>
+    ensures made { Answers (with_place commands_seen (place_seen place.new)) result
+        (resolved_all (declared declarations.now) (statements_of (map statement list.now.items)) (place_seen place.old)) }
+    ensures outer { IfOk result (λ _. (place_seen place.new).scope.outer ≡ (place_seen place.old).scope.outer) }
+{
+    let mut made = Vec::new(alloc);
+    for each in list {
+        let next = statement(alloc, declarations, place, each)?;
+        made.push(next)?;
+    }
+    Ok(made)
+}
+
+/// A statement.
+#[cycle(statements)]
+pub fn statement<'p>(
+    alloc: Global,
+    declarations: &Declarations<'p>,
+    place: &mut Place<'p>,
+    s: &'p Statement,
+) -> Result<TypedStatement, ResolveError>
+    ensures made { Answers (with_place command (place_seen place.new)) result (resolved (declared declarations.now) (statement s.now) (place_seen place.old)) }
+    ensures outer { IfOk result (λ _. (place_seen place.new).scope.outer ≡ (place_seen place.old).scope.outer) }
+{
+    match s {
+        Statement::Block(_, list) => {
+            let outer = place.enter();
+            let inner = statements(alloc, declarations, place, list)?;
+            place.leave(outer);
+            Ok(TypedStatement::Block(inner))
+        }
+        Statement::Empty(_) => Ok(TypedStatement::Empty),
+        Statement::If(_, e, body, None) => {
+            let condition = expression(alloc, declarations, place, e)?;
+            let body = inside(alloc, declarations, place, body)?;
+            let nothing = Box::new(alloc, TypedStatement::Empty)?;
+            Ok(TypedStatement::If(condition, body, nothing))
+        }
+        Statement::If(_, e, body, Some(otherwise)) => {
+            let condition = expression(alloc, declarations, place, e)?;
+            let body = inside(alloc, declarations, place, body)?;
+            let otherwise = inside(alloc, declarations, place, otherwise)?;
+            Ok(TypedStatement::If(condition, body, otherwise))
+        }
+        Statement::While(_, e, body) => {
+            let condition = expression(alloc, declarations, place, e)?;
+            let body = inside(alloc, declarations, place, body)?;
+            let nothing = Box::new(alloc, TypedStatement::Empty)?;
+            Ok(TypedStatement::Loop(condition, nothing, body))
+        }
+        Statement::DoWhile(_, body, e) => {
+            let body = inside(alloc, declarations, place, body)?;
+            let condition = expression(alloc, declarations, place, e)?;
+            Ok(TypedStatement::DoWhile(body, condition))
+        }
+        Statement::For(_, start, e, step, body) => {
+            let outer = place.enter();
+            let made = looped(alloc, declarations, place, start, e, step, body)?;
+            place.leave(outer);
+            Ok(made)
+        }
+        Statement::Break(_) => Ok(TypedStatement::Break),
+        Statement::Continue(_) => Ok(TypedStatement::Continue),
+        Statement::Return(_, e) => returned(alloc, declarations, place, e),
+        Statement::Assert(at, e) => {
+            let condition = expression(alloc, declarations, place, e)?;
+            Ok(TypedStatement::Assert(at.line, condition))
+        }
+        Statement::Declaration(d) => declared(alloc, declarations, place, d),
+        Statement::Assignment(a) => assigned(alloc, declarations, place, a),
+        Statement::Expression(e) => evaluated(alloc, declarations, place, e),
+    }
+}
+
+// A statement in a block of its own.
+#[cycle(statements)]
+fn inside<'p>(
+    alloc: Global,
+    declarations: &Declarations<'p>,
+    place: &mut Place<'p>,
+    s: &'p Statement,
+) -> Result<Box<TypedStatement>, ResolveError>
+    ensures made { Answers (with_place command_in (place_seen place.new)) result
+        (in_block (resolved (declared declarations.now) (statement s.now)) (place_seen place.old)) }
+    ensures outer { IfOk result (λ _. (place_seen place.new).scope.outer ≡ (place_seen place.old).scope.outer) }
+{
+    let outer = place.enter();
+    let made = statement(alloc, declarations, place, s)?;
+    place.leave(outer);
+    Ok(Box::new(alloc, made)?)
+}
+
+// The parts of a `for`, in its block.
+#[cycle(statements)]
+fn looped<'p>(
+    alloc: Global,
+    declarations: &Declarations<'p>,
+    place: &mut Place<'p>,
+    start: &'p ForStart,
+    e: &'p Option<Expression>,
+    step: &'p ForStep,
+    body: &'p Statement,
+) -> Result<TypedStatement, ResolveError>
+    ensures made { Answers (with_place command (place_seen place.new)) result
+        (looped (declared declarations.now) (start_tree start.now) (optional e.now) (step_tree step.now) (resolved (declared declarations.now) (statement body.now)) (place_seen place.old)) }
+    ensures outer { IfOk result (λ _. (place_seen place.new).scope.outer ≡ (place_seen place.old).scope.outer) }
+{
+    let start = started(alloc, declarations, place, start)?;
+    let condition = condition_of(alloc, declarations, place, e)?;
+    let step = Box::new(alloc, stepped(alloc, declarations, place, step)?)?;
+    let body = inside(alloc, declarations, place, body)?;
+    let mut both = Vec::new(alloc);
+    both.push(start)?;
+    both.push(TypedStatement::Loop(condition, step, body))?;
+    Ok(TypedStatement::Block(both))
+}

@@ -1,0 +1,388 @@
+// Expressions that give values, and calls.
+ghost use Rattle.std.specs.Prelude.{◌≡◌, true, false, IfOk, Some, map, option_map};
+ghost use Rattle.secrec_ast.specs.Tree.{expression, trees_of};
+ghost use Rattle.secrec_ast.specs.Programs.{function_tree};
+ghost use Rattle.domain_types.specs.Declarations.{defined, callee};
+ghost use Rattle.domain_types.specs.Views.{declared};
+ghost use Rattle.typed_tree.specs.Tree.{typed_tree};
+ghost use Rattle.name_resolution.specs.Scopes.{variable_named, shape_written};
+ghost use Rattle.typed_tree.specs.Operators.{operands_of, may_cut_short};
+ghost use Rattle.name_resolution.specs.Values.{made, of_both, only, pair, variable_value, element_value, negated, cast_value, declassified_value, operation_node, operation, shape_returned, tree_of_value, built_in_value, called, value, values, call_made};
+ghost use Rattle.name_resolution.specs.Answer.{Answers};
+ghost use Rattle.name_resolution.specs.Views.{valued, values_seen, pair_seen, call_seen};
+
+use crate::choosing::{cast_between, may_cut_short, operands_of, operator_on};
+use typed_tree::TypedExpression;
+use typed_tree::Shape;
+use typed_tree::BinaryOperator;
+use crate::resolve_error::ResolveError;
+use crate::variables::Variables;
+use domain_types::{BuiltIn, Called, Declarations};
+use secrec_ast::{DataType, DeclaredType, Expression, Function, Operator, ResultType};
+use std::alloc::{AllocError, Global};
+
+/// An expression that gives a value, and the shape of the value.
+#[derive(Drop)]
+pub struct Valued {
+    pub tree: TypedExpression,
+    pub shape: Shape,
+}
+
+/// A call, and the shape of what it gives back, if it does.
+#[derive(Drop)]
+pub struct CallMade {
+    pub tree: TypedExpression,
+    pub gives: Option<Shape>,
+}
+
+fn scalar(tree: TypedExpression, element: DataType) -> Valued
+    ensures { valued result ≡ made (typed_tree tree) element false }
+{
+    Valued {
+        tree,
+        shape: Shape {
+            element,
+            array: false,
+        },
+    }
+}
+
+fn variable<'p>(variables: &Variables<'p>, name: &'p str) -> Result<Valued, ResolveError>
+    ensures { Answers valued result (option_map variable_value (variable_named variables.now name.now)) }
+{
+    match variables.find(name) {
+        Some(known) => Ok(Valued {
+            tree: TypedExpression::Variable(known.slot),
+            shape: known.shape,
+        }),
+        None => Err(ResolveError::Unresolved),
+    }
+}
+
+fn element(
+    alloc: Global,
+    line: u32,
+    array: Valued,
+    position: Valued,
+) -> Result<Valued, ResolveError>
+    ensures { Answers valued result (element_value line (valued array) (valued position)) }
+{
+    let position = Box::new(alloc, position.tree)?;
+    let element = array.shape.element;
+    let array = Box::new(alloc, array.tree)?;
+    Ok(scalar(TypedExpression::Element(line, array, position), element))
+}
+
+fn negated(alloc: Global, operand: Valued) -> Result<Valued, ResolveError>
+    ensures { Answers valued result (Some (negated (valued operand))) }
+{
+    let shape = operand.shape;
+    let tree = TypedExpression::Not(Box::new(alloc, operand.tree)?);
+    Ok(Valued { tree, shape })
+}
+
+fn cast(alloc: Global, element: DataType, operand: Valued) -> Result<Valued, ResolveError>
+    ensures { Answers valued result (Some (cast_value element (valued operand))) }
+{
+    let shape = operand.shape;
+    let cast = cast_between(shape.element, element);
+    let tree = TypedExpression::Cast(cast, Box::new(alloc, operand.tree)?);
+    Ok(Valued {
+        tree,
+        shape: Shape {
+            element,
+            array: shape.array,
+        },
+    })
+}
+
+fn declassified(alloc: Global, operand: Valued) -> Result<Valued, ResolveError>
+    ensures { Answers valued result (Some (declassified_value (valued operand))) }
+{
+    let shape = operand.shape;
+    let tree = TypedExpression::Declassify(Box::new(alloc, operand.tree)?);
+    Ok(Valued { tree, shape })
+}
+
+// The node of an operator between two operands.
+fn operation_node(
+    alloc: Global,
+    line: u32,
+    sign: Operator,
+    operator: BinaryOperator,
+    left: Valued,
+    right: Valued,
+) -> Result<TypedExpression, AllocError>
+    ensures { IfOk result (λ t. typed_tree t ≡ operation_node line operator (valued left) (valued right)
+        (may_cut_short sign (operands_of left.shape.array right.shape.array))) }
+{
+    let operands = operands_of(left.shape.array, right.shape.array);
+    let left = Box::new(alloc, left.tree)?;
+    let right = Box::new(alloc, right.tree)?;
+    match may_cut_short(sign, operands) {
+        Some(connective) => Ok(TypedExpression::CutShort(connective, left, right)),
+        None => Ok(TypedExpression::Binary(line, operator, operands, left, right)),
+    }
+}
+
+fn operation(
+    alloc: Global,
+    line: u32,
+    sign: Operator,
+    left: Valued,
+    right: Valued,
+) -> Result<Valued, ResolveError>
+    ensures { Answers valued result (operation line sign (valued left) (valued right)) }
+{
+    match operator_on(sign, left.shape.element, right.shape.element) {
+        None => Err(ResolveError::Unresolved),
+        Some(operator) => {
+            let shape = Shape {
+                element: operator.result(),
+                array: left.shape.array || right.shape.array,
+            };
+            let tree = operation_node(alloc, line, sign, operator, left, right)?;
+            Ok(Valued { tree, shape })
+        }
+    }
+}
+
+/// What is written, whoever may see it.
+pub fn shape_written(declared: &DeclaredType) -> Shape
+    ensures { result ≡ shape_written declared.now }
+{
+    Shape {
+        element: declared.element,
+        array: declared.array,
+    }
+}
+
+fn shape_returned(returned: &ResultType) -> Option<Shape>
+    ensures { result ≡ shape_returned returned.now }
+{
+    match returned {
+        ResultType::Void => None,
+        ResultType::Value(declared) => Some(shape_written(declared)),
+    }
+}
+
+// The one value.
+fn only(values: Vec<Valued>) -> Result<Valued, ResolveError>
+    ensures { Answers valued result (only (map valued values.items)) }
+{
+    let mut values = values;
+    match values.pop() {
+        Some(value) => if values.is_empty() {
+            Ok(value)
+        } else {
+            Err(ResolveError::Unresolved)
+        },
+        None => Err(ResolveError::Unresolved),
+    }
+}
+
+// The two values.
+fn pair(values: Vec<Valued>) -> Result<(Valued, Valued), ResolveError>
+    ensures { Answers pair_seen result (pair (map valued values.items)) }
+{
+    let mut values = values;
+    match values.pop() {
+        Some(second) => {
+            let first = only(values)?;
+            Ok((first, second))
+        }
+        None => Err(ResolveError::Unresolved),
+    }
+}
+
+fn built_in(
+    alloc: Global,
+    line: u32,
+    function: BuiltIn,
+    arguments: Vec<Valued>,
+) -> Result<Valued, ResolveError>
+    ensures { Answers valued result (built_in_value line function (map valued arguments.items)) }
+{
+    match function {
+        BuiltIn::Size => {
+            let array = Box::new(alloc, only(arguments)?.tree)?;
+            Ok(scalar(TypedExpression::Size(array), DataType::Uint64))
+        }
+        BuiltIn::Cat => {
+            let (first, second) = pair(arguments)?;
+            let element = first.shape.element;
+            let first = Box::new(alloc, first.tree)?;
+            let tree = TypedExpression::Cat(line, first, Box::new(alloc, second.tree)?);
+            Ok(array(tree, element))
+        }
+        BuiltIn::Sum => {
+            let array = Box::new(alloc, only(arguments)?.tree)?;
+            Ok(scalar(TypedExpression::Sum(array), DataType::Uint64))
+        }
+        BuiltIn::BitExtract => {
+            let words = Box::new(alloc, only(arguments)?.tree)?;
+            Ok(array(TypedExpression::BitExtract(line, words), DataType::Bool))
+        }
+    }
+}
+
+fn array(tree: TypedExpression, element: DataType) -> Valued
+    ensures { valued result ≡ made (typed_tree tree) element true }
+{
+    Valued {
+        tree,
+        shape: Shape {
+            element,
+            array: true,
+        },
+    }
+}
+
+#[tactic(auto, using(crate::proofs::Growing::map_one))]
+fn trees(alloc: Global, values: Vec<Valued>) -> Result<Vec<TypedExpression>, AllocError>
+    ensures { IfOk result (λ ts. map typed_tree ts.items ≡ map tree_of_value (map valued values.items)) }
+{
+    let mut trees = Vec::new(alloc);
+    for value in values {
+        trees.push(value.tree)?;
+    }
+    Ok(trees)
+}
+
+// A call of the function of this number.
+fn defined_call(
+    alloc: Global,
+    line: u32,
+    number: usize,
+    function: &Function,
+    arguments: Vec<Valued>,
+) -> Result<CallMade, ResolveError>
+    ensures { Answers call_seen result (called line (defined number (function_tree function.now)) (map valued arguments.items)) }
+{
+    if function.parameters.len() != arguments.len() {
+        return Err(ResolveError::Unresolved);
+    }
+    let trees = trees(alloc, arguments)?;
+    Ok(CallMade {
+        tree: TypedExpression::Call(line, number, trees),
+        gives: shape_returned(&function.result),
+    })
+}
+
+fn called<'p>(
+    alloc: Global,
+    declarations: &Declarations<'p>,
+    line: u32,
+    name: &'p str,
+    arguments: Vec<Valued>,
+) -> Result<CallMade, ResolveError>
+    ensures { Answers call_seen result (of_both (called line) (callee (declared declarations.now) name.now) (Some (map valued arguments.items))) }
+{
+    match declarations.callee(name) {
+        None => Err(ResolveError::Unresolved),
+        Some(Called::BuiltIn(function)) => {
+            let value = built_in(alloc, line, function, arguments)?;
+            Ok(CallMade {
+                tree: value.tree,
+                gives: Some(value.shape),
+            })
+        }
+        Some(Called::Defined(number, function)) => {
+            defined_call(alloc, line, number, function, arguments)
+        }
+    }
+}
+
+/// An expression that gives a value.
+#[cycle(values)]
+pub fn value<'p>(
+    alloc: Global,
+    declarations: &Declarations<'p>,
+    variables: &Variables<'p>,
+    e: &'p Expression,
+) -> Result<Valued, ResolveError>
+    ensures { Answers valued result (value (declared declarations.now) variables.now (expression e.now)) }
+{
+    match e {
+        Expression::Number(_, word) => {
+            Ok(scalar(TypedExpression::Word(*word), DataType::Uint64))
+        }
+        Expression::Truth(_, truth) => Ok(scalar(TypedExpression::Truth(*truth), DataType::Bool)),
+        Expression::Variable(_, name) => variable(variables, name.as_str()),
+        Expression::Call(place, name, arguments) => {
+            let made = call(
+                alloc,
+                declarations,
+                variables,
+                place.line,
+                name.as_str(),
+                arguments,
+            )?;
+            match made.gives {
+                Some(shape) => Ok(Valued {
+                    tree: made.tree,
+                    shape,
+                }),
+                None => Err(ResolveError::Unresolved),
+            }
+        }
+        Expression::Index(place, array, position) => {
+            let array = value(alloc, declarations, variables, array)?;
+            let position = value(alloc, declarations, variables, position)?;
+            element(alloc, place.line, array, position)
+        }
+        Expression::Parentheses(_, inner) => value(alloc, declarations, variables, inner),
+        Expression::Not(_, operand) => {
+            let operand = value(alloc, declarations, variables, operand)?;
+            negated(alloc, operand)
+        }
+        Expression::Cast(_, element, operand) => {
+            let operand = value(alloc, declarations, variables, operand)?;
+            cast(alloc, *element, operand)
+        }
+        Expression::Binary(place, sign, left, right) => {
+            let left = value(alloc, declarations, variables, left)?;
+            let right = value(alloc, declarations, variables, right)?;
+            operation(alloc, place.line, *sign, left, right)
+        }
+        Expression::Declassify(_, operand) => {
+            let operand = value(alloc, declarations, variables, operand)?;
+            declassified(alloc, operand)
+        }
+        Expression::Argument(_, _) | Expression::Publish(_, _, _) => Err(ResolveError::Unresolved),
+    }
+}
+
+// The arguments of a call.
+#[cycle(values)]
+fn values<'p>(
+    alloc: Global,
+    declarations: &Declarations<'p>,
+    variables: &Variables<'p>,
+    list: &'p Vec<Expression>,
+) -> Result<Vec<Valued>, ResolveError>
+    ensures { Answers values_seen result (values (declared declarations.now) variables.now (trees_of (map expression list.now.items))) }
+{
+    let mut found = Vec::new(alloc);
+    for each in list {
+        let value = value(alloc, declarations, variables, each)?;
+        found.push(value)?;
+    }
+    Ok(found)
+}
+
+/// A call of a name at this line.
+#[cycle(values)]
+pub fn call<'p>(
+    alloc: Global,
+    declarations: &Declarations<'p>,
+    variables: &Variables<'p>,
+    line: u32,
+    name: &'p str,
+    arguments: &'p Vec<Expression>,
+) -> Result<CallMade, ResolveError>
+    ensures { Answers call_seen result (call_made (declared declarations.now) variables.now line name.now (trees_of (map expression arguments.now.items))) }
+{
+    let values = values(alloc, declarations, variables, arguments)?;
+    called(alloc, declarations, line, name, values)
+}

@@ -1,5 +1,0 @@
-use Rattle.std.proofs.Common.{length}
-use Rattle.typed_tree.proofs.functions.+variable_number.Given as goal
-
-abbrev pub decreases-variable_number : goal.decreases-variable_number
-decreases-variable_number l = length l.variables.now

@@ -1,9 +1,0 @@
-use Rattle.std.proofs.Common.{◌≡◌, Some, take}
-use Rattle.std.specs.Prelude.{map}
-use Rattle.domain_types.specs.Views.{declared, tree_at}
-use Rattle.typed_tree.specs.Programs.{typed_function_tree}
-use Rattle.typed_tree.specs.Functions.{typed_functions}
-use Rattle.typed_tree.proofs.functions.typed_functions.Given as goal
-
-abbrev pub invariant-loop-each : goal.invariant-loop-each
-invariant-loop-each l = typed_functions (declared l.declarations) (map tree_at (take l.each-index l.each-items)) ≡ Some (map typed_function_tree l.made.items)

@@ -1,8 +1,0 @@
-use Rattle.std.proofs.Common.{◌≡◌, take}
-use Rattle.std.specs.Prelude.{map}
-use Rattle.secrec_ast.specs.Tree.{expression, trees_of}
-use Rattle.typed_tree.specs.Sizes.{nodes_all, counted}
-use Rattle.typed_tree.proofs.sizes.+nodes.Given as goal
-
-abbrev pub invariant-nodes_all-loop-each : goal.invariant-nodes_all-loop-each
-invariant-nodes_all-loop-each l = l.count ≡ counted (nodes_all (trees_of (map expression (take l.each-index l.each-items))))

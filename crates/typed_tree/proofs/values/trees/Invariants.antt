@@ -1,9 +1,0 @@
-use Rattle.std.proofs.Common.{◌≡◌}
-use Rattle.std.specs.Prelude.{map}
-use Rattle.typed_tree.specs.Tree.{typed_tree}
-use Rattle.typed_tree.specs.Values.{tree_of_value}
-use Rattle.typed_tree.specs.Views.{valued}
-use Rattle.typed_tree.proofs.values.trees.Given as goal
-
-abbrev pub invariant-loop-value : goal.invariant-loop-value
-invariant-loop-value l = map typed_tree l.trees.items ≡ map tree_of_value (map valued l.yielded)
