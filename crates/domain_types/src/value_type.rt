@@ -3,7 +3,7 @@ use secrec_ast::DataType;
 
 /// Who may see a value: everybody, or only what a private domain protects. Private domains are numbered from 0 in the order
 /// in which the program declares them.
-#[derive(Clone, Copy, Debug, PartialEq, Eq, PartialOrd, Ord)]
+#[derive(Clone, Copy, PartialEq, Eq, PartialOrd, Ord)]
 pub enum Protection {
     Public,
     Private(usize),

@@ -7,7 +7,7 @@ use expression_parser::Problem as SyntaxProblem;
 use sc_text::{PlacedFault, Span};
 
 /// What is wrong with a program, and where.
-#[derive(Clone, Copy, Debug, PartialEq, Eq)]
+#[derive(Clone, Copy, PartialEq, Eq)]
 pub struct ProgramFault {
     pub fault: PlacedFault,
     pub place: Span,

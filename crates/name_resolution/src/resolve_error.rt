@@ -1,7 +1,7 @@
 use std::alloc::{AllocError, AllocFailed};
 
 /// Why a program, or a piece of one, is given no typed tree.
-#[derive(Clone, Copy, Debug)]
+#[derive(Clone, Copy)]
 pub enum ResolveError {
     /// It has none: a name means nothing, or an operator or a call doesn't fit what it is given.
     Unresolved,

@@ -1,5 +1,5 @@
 /// Who may see a value, once the domain variables of its function are bound.
-#[derive(Clone, Copy, Debug, PartialEq, Eq, Hash)]
+#[derive(Clone, Copy, PartialEq, Eq, Hash)]
 pub enum BoundDomain {
     /// Everybody.
     Public,

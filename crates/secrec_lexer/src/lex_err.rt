@@ -6,7 +6,7 @@ use sc_text::{Fault, PlacedFault, Span};
 use std::alloc::{AllocError, AllocFailed};
 
 /// What is wrong with a text.
-#[derive(Clone, Copy, PartialEq, Eq, Debug)]
+#[derive(Clone, Copy, PartialEq, Eq)]
 pub enum LexFault {
     /// L1: a byte that no token has.
     BadByte,
@@ -23,7 +23,7 @@ pub enum LexFault {
 }
 
 /// Why there are no tokens.
-#[derive(Clone, Copy, PartialEq, Eq, Debug)]
+#[derive(Clone, Copy, PartialEq, Eq)]
 pub enum LexErr {
     /// Memory ran short.
     Memory,

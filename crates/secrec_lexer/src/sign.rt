@@ -1,5 +1,5 @@
 /// A sign or a keyword.
-#[derive(Clone, Copy, PartialEq, Eq, Debug)]
+#[derive(Clone, Copy, PartialEq, Eq)]
 pub enum Sign {
     /// `(`
     LeftParenthesis,

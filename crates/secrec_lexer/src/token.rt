@@ -7,7 +7,7 @@ use sc_text::{Name, Span};
 use std::marker::Model;
 
 /// What a token is.
-#[derive(Debug, Drop)]
+#[derive(Drop)]
 pub enum Kind {
     /// An identifier that is no keyword.
     Name(Name),
@@ -22,7 +22,7 @@ pub enum Kind {
 }
 
 /// A token, and the line and column of its first byte.
-#[derive(Debug, Drop)]
+#[derive(Drop)]
 pub struct Token {
     pub place: Span,
     pub kind: Kind,
@@ -41,7 +41,7 @@ impl Token {
 }
 
 /// The tokens of a text: the last is its end, and no other is. Clauses see the list.
-#[derive(Debug, Drop)]
+#[derive(Drop)]
 pub struct Tokens {
     tokens: Vec<Token>,
 }

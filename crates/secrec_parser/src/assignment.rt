@@ -17,7 +17,7 @@ use secrec_lexer::{Sign, Token};
 use std::alloc::{AllocError, Global};
 
 /// What an assignment does to its target.
-#[derive(Clone, Copy, Debug, PartialEq, Eq)]
+#[derive(Clone, Copy, PartialEq, Eq)]
 pub enum Update {
     /// `=`
     Plain,
