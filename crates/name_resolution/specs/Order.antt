@@ -61,17 +61,17 @@ called_in_step d fs steps_by_nothing = fs
 called_in_step d fs (steps_by_assignment a) = called_in_assignment d fs a
 called_in_step d fs (steps_by_expression e) = called_in d fs e
 
--- and those behind a statement, read in the order of the text
+-- and those behind a statement, read in the order of the code: of a loop the body, then the step, then the condition
 abbrev mutual
   pub called_by : Declared → List FunctionTree → StatementTree → List FunctionTree
   called_by d fs (block p ss) = called_by_all d fs ss
   called_by d fs (empty p) = fs
   called_by d fs (branch p e body) = called_by d (called_in d fs e) body
   called_by d fs (choice p e body otherwise) = called_by d (called_by d (called_in d fs e) body) otherwise
-  called_by d fs (while_loop p e body) = called_by d (called_in d fs e) body
+  called_by d fs (while_loop p e body) = called_in d (called_by d fs body) e
   called_by d fs (do_loop p body e) = called_in d (called_by d fs body) e
   called_by d fs (for_loop p start e step body) =
-      called_by d (called_in_step d (called_in_optional d (called_in_start d fs start) e) step) body
+      called_in_optional d (called_in_step d (called_by d (called_in_start d fs start) body) step) e
   called_by d fs (breaks p) = fs
   called_by d fs (continues p) = fs
   called_by d fs (returns p e) = called_in_optional d fs e

@@ -179,19 +179,15 @@ fn in_statement<'p>(
             let found = in_statement(found, declarations, body)?;
             in_statement(found, declarations, otherwise)
         }
-        Statement::While(_, e, body) => {
-            let found = in_expression(found, declarations, e)?;
-            in_statement(found, declarations, body)
-        }
-        Statement::DoWhile(_, body, e) => {
+        Statement::While(_, e, body) | Statement::DoWhile(_, body, e) => {
             let found = in_statement(found, declarations, body)?;
             in_expression(found, declarations, e)
         }
         Statement::For(_, start, e, step, body) => {
             let found = in_start(found, declarations, start)?;
-            let found = in_optional(found, declarations, e)?;
+            let found = in_statement(found, declarations, body)?;
             let found = in_step(found, declarations, step)?;
-            in_statement(found, declarations, body)
+            in_optional(found, declarations, e)
         }
         Statement::Return(_, e) => in_optional(found, declarations, e),
         Statement::Assert(_, e) | Statement::Expression(e) => in_expression(found, declarations, e),

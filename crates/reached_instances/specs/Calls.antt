@@ -41,13 +41,13 @@ abbrev pub optional_calls : Setting → Option TypedTree → List Instance
 optional_calls w None = []
 optional_calls w (Some e) = calls w e
 
--- a loop's step is read before its body, as it stands in the text
+-- of a loop the body is read first, then the step, then the condition, as they stand in its code
 abbrev mutual
   pub command_calls : Setting → Command → List Instance
   command_calls w empty_command = []
   command_calls w (block_command cs) = commands_calls w cs
   command_calls w (if_command e a b) = calls w e ++ (command_calls w a ++ command_calls w b)
-  command_calls w (loop_command e step body) = calls w e ++ (command_calls w step ++ command_calls w body)
+  command_calls w (loop_command e step body) = command_calls w body ++ (command_calls w step ++ calls w e)
   command_calls w (do_command body e) = command_calls w body ++ calls w e
   command_calls w break_command = []
   command_calls w continue_command = []

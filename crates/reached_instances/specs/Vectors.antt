@@ -162,7 +162,7 @@ swapping : following (program (main_with (evaluate_command (calling 1 (slot_node
 swapping = refl
 
 -- for (; f(x) ..; g(x)) h(x); then do h(x); while (g(x)); and a fill of size g(x) with f(x)
-in_reading_order : called_by (program (main_with (loop_command (calling 1 (slot_node 0 ∷ [])) (calls_one 2 (slot_node 0)) (calls_one 3 (slot_node 0)) ∷ do_command (calls_one 3 (slot_node 0)) (calling 2 (slot_node 0 ∷ [])) ∷ fill_command 2 0 (calling 2 (slot_node 0 ∷ [])) (calling 1 (slot_node 0 ∷ [])) ∷ []) ∷ template_with [] ∷ template_with [] ∷ template_with [] ∷ [])) (instance_of 0 []) ≡ instance_of 1 (Public ∷ []) ∷ instance_of 2 (Public ∷ []) ∷ instance_of 3 (Public ∷ []) ∷ instance_of 3 (Public ∷ []) ∷ instance_of 2 (Public ∷ []) ∷ instance_of 2 (Public ∷ []) ∷ instance_of 1 (Public ∷ []) ∷ []
+in_reading_order : called_by (program (main_with (loop_command (calling 1 (slot_node 0 ∷ [])) (calls_one 2 (slot_node 0)) (calls_one 3 (slot_node 0)) ∷ do_command (calls_one 3 (slot_node 0)) (calling 2 (slot_node 0 ∷ [])) ∷ fill_command 2 0 (calling 2 (slot_node 0 ∷ [])) (calling 1 (slot_node 0 ∷ [])) ∷ []) ∷ template_with [] ∷ template_with [] ∷ template_with [] ∷ [])) (instance_of 0 []) ≡ instance_of 3 (Public ∷ []) ∷ instance_of 2 (Public ∷ []) ∷ instance_of 1 (Public ∷ []) ∷ instance_of 3 (Public ∷ []) ∷ instance_of 2 (Public ∷ []) ∷ instance_of 2 (Public ∷ []) ∷ instance_of 1 (Public ∷ []) ∷ []
 in_reading_order = refl
 
 -- a function that nothing but itself calls may stand in a list that goes on so, but it is not reached

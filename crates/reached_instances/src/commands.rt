@@ -60,10 +60,15 @@ fn statement(
         | TypedStatement::StoreDefault(_)
         | TypedStatement::Input(_, _, _) => Ok(()),
         TypedStatement::Block(list) => statements(alloc, found, here, list),
-        TypedStatement::If(e, first, second) | TypedStatement::Loop(e, first, second) => {
+        TypedStatement::If(e, first, second) => {
             evaluation(alloc, found, here, e)?;
             statement(alloc, found, here, first)?;
             statement(alloc, found, here, second)
+        }
+        TypedStatement::Loop(e, step, body) => {
+            statement(alloc, found, here, body)?;
+            statement(alloc, found, here, step)?;
+            evaluation(alloc, found, here, e)
         }
         TypedStatement::DoWhile(body, e) => {
             statement(alloc, found, here, body)?;
