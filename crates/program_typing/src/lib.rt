@@ -5,4 +5,4 @@ mod laws;
 mod typing;
 
 pub use laws::accepted_programs_have_trees;
-pub use typing::type_program;
+pub use typing::{checked_tree, type_program};

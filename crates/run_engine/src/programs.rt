@@ -15,11 +15,11 @@ use crate::readers::refusal_of;
 use command_frame::{Status, Stop, read_file};
 use front_end::{ProgramErr, ProgramFault, read_program};
 use outside::Files;
+use program_typing::checked_tree;
 use program_limits::{LimitError, check_limits};
 use sc_text::{Fault, Span};
 use secrec_ast::Program;
-use std::alloc::{AllocError, Global};
-use name_resolution::{ResolveError, resolve};
+use std::alloc::Global;
 use typed_tree::TypedProgram;
 
 // Why a program is refused.
@@ -76,19 +76,6 @@ pub fn read_tree<F: Files>(alloc: Global, files: &mut F, path: &str) -> Result<P
     }
 }
 
-// The typed tree of an accepted program: there always is one.
-fn typed(alloc: Global, program: &Program) -> Result<TypedProgram, AllocError>
-    requires { IsTypedProgram (program_tree program.now) }
-    ensures tree { IfOk result (λ t. typed_of (program_tree program.now) ≡ Some (typed_program_tree t)) }
-    ensures sound { IfOk result (λ t. IsSound (typed_program_tree t)) }
-{
-    match resolve(alloc, program) {
-        Ok(typed) => Ok(typed),
-        Err(ResolveError::Memory) => Err(AllocError),
-        Err(ResolveError::Unresolved) => unreachable!(),
-    }
-}
-
 /// The typed tree of the program at this path, if it is accepted and small enough.
 #[tactic(auto, unfolding(crate::specs::Programs::program_at))]
 pub fn read_typed<F: Files>(alloc: Global, files: &mut F, path: &str) -> Result<TypedProgram, Stop>
@@ -103,7 +90,7 @@ pub fn read_typed<F: Files>(alloc: Global, files: &mut F, path: &str) -> Result<
     ensures names { IfErr result (StopNames (path.now ∷ [])) }
 {
     let program = read_tree(alloc, files, path)?;
-    let typed = typed(alloc, &program)?;
+    let typed = checked_tree(alloc, &program)?;
     match check_limits(alloc, &typed) {
         Ok(()) => Ok(typed),
         Err(error) => Err(size_stop(alloc, error)),

@@ -4,10 +4,7 @@ use Rattle.name_resolution.specs.Answer.{Answers}
 use Rattle.typed_tree.specs.Programs.{typed_program_tree}
 use Rattle.name_resolution.specs.Functions.{typed_of}
 use Rattle.program_typing.proofs.TreesOfPrograms.{typed_has_tree}
-use Rattle.program_typing.proofs.typing.type_program.Goals as goal
-
-pub returns-in-Ok : goal.returns-in-Ok
-returns-in-Ok c = (c.in_ok-check.ensures.0, c.in-Ok.ensures.exact, c.in-Ok.ensures.sound)
+use Rattle.program_typing.proofs.typing.checked_tree.Goals as goal
 
 pub unreachable-requires : goal.unreachable-requires
 unreachable-requires c =
@@ -15,5 +12,5 @@ unreachable-requires c =
     let answered : Answers typed_program_tree (Err c.in-Err-Unresolved.field-0) (typed_of p) = c.in-Err-Unresolved.ensures.exact in
     let unresolved = rw c.in-Err-Unresolved.field-0-is at answered in
     let none : typed_of p ≡ None = unresolved in
-    let there = (typed_has_tree p c.in_ok-check.ensures.0).1 in
+    let there = (typed_has_tree p c.requires).1 in
     cc
