@@ -1,0 +1,4 @@
+//! What code does, and the code of a typed program.
+//!
+//! There is nothing to run here: definitions in `specs/`, and the law that the code of a program does what the program does.
+#![tactic(auto)]
