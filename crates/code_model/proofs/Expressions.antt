@@ -29,7 +29,7 @@ use Rattle.code_model.proofs.Cut.{cut_runs}
 -- ---- CALLS
 
 -- whether a function gives a private value back
-pub result_secret : Option TypedFunctionTree → List BoundDomain → Bool
+unfoldable pub result_secret : Option TypedFunctionTree → List BoundDomain → Bool
 result_secret None b = false
 result_secret (Some f) b = is_private (given_domain b f.given)
 

@@ -48,6 +48,13 @@ gives_done h = record { from = λ s. (omega arith, h) }
 gives_end : {A : Type 0} {Q : A → Type 0} (e : Ending) → Gives (end {A = A} e) Q
 gives_end e = record { from = λ s. tt }
 
+pub gives_with : {A : Type 0} {c : Effect A} {P Q : A → Type 0} → Gives c P → ((a : A) → P a → Q a) → Gives c Q
+gives_with {A = A} {c = c} {P = P} {Q = Q} h k = record { from = λ s. go s (c s) (h.from s) }
+  where
+    go : (s : Stage) (r : Run A) → GivesAt s r P → GivesAt s r Q
+    go s (Ok x) g = (g.0, k x.0 g.1)
+    go s (Err e) g = tt
+
 abbrev pub Any : {A : Type 0} → A → Type 0
 Any a = Unit {0}
 
@@ -270,3 +277,8 @@ pub wanted_less : (n g : Bool) (x : Value) → IsSecret g x → wanted n x ≡ w
 wanted_less true true x h = kept_private x.secrecy x refl h
 wanted_less true false x h = refl
 wanted_less false g x h = refl
+
+-- what is as private as it is wanted stays as it is
+pub wanted_same : (n : Bool) (x : Value) → IsSecret n x → wanted n x ≡ done x
+wanted_same true x h = kept_private x.secrecy x refl h
+wanted_same false x h = refl

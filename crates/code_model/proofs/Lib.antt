@@ -6,3 +6,13 @@ pub mod Operands
 pub mod Lengths
 pub mod Cut
 pub mod Expressions
+pub mod Standing
+pub mod Loops
+pub mod Commands
+pub mod Always
+pub mod Calls
+pub mod Entered
+pub mod Ends
+pub mod Forward
+pub mod Means
+pub mod Samples

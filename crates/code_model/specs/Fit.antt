@@ -1,6 +1,6 @@
 -- What is asked of a program so that its code does what it does: slots and instances that are there, and nothing private where a
 -- public value is declared.
-use Rattle.std.specs.Prelude.{◌≡◌, ◌<◌, ℕ, Bool, true, false, ◌&&◌, ◌||◌, IsTrue, List, [], ◌∷◌, length, Option, Some, None}
+use Rattle.std.specs.Prelude.{◌≡◌, ◌<◌, ℕ, Bool, true, false, ◌&&◌, ◌||◌, List, [], ◌∷◌, length, Option, Some, None}
 use Rattle.std.specs.List.{slice_get}
 use Rattle.sc_text.specs.Lists.{Among}
 use Rattle.typed_tree.specs.declared.kinds.Slot.{Slot}
@@ -51,29 +51,30 @@ module _ (Known : ℕ → List BoundDomain → Type 0) where
   abbrev pub FitsSlot : Setting → ℕ → TypedTree → Type 0
   FitsSlot here k e = (k < length here.slots) × IsFit here e × MayStand (gives_private here e) (slot_is_private here k)
 
+  -- inside of a loop or not
   abbrev mutual
-    pub IsFitCommand : Place → Command → Type 0
-    IsFitCommand at empty_command = Unit {0}
-    IsFitCommand at (block_command cs) = AreFitCommands at cs
-    IsFitCommand at (if_command e a b) = IsFit at.here e × IsFitCommand at a × IsFitCommand at b
-    IsFitCommand at (loop_command e step body) = IsFit at.here e × IsFitCommand at step × IsFitCommand at body
-    IsFitCommand at (do_command body e) = IsFitCommand at body × IsFit at.here e
-    IsFitCommand at break_command = Unit {0}
-    IsFitCommand at continue_command = Unit {0}
-    IsFitCommand at (return_command None) = at.secret_result ≡ false
-    IsFitCommand at (return_command (Some e)) = IsFit at.here e × MayStand (gives_private at.here e) at.secret_result
-    IsFitCommand at (assert_command line e) = IsFit at.here e
-    IsFitCommand at (store_command k e) = FitsSlot at.here k e
-    IsFitCommand at (default_command k) = k < length at.here.slots
-    IsFitCommand at (fill_command line k n e) = IsFit at.here n × FitsSlot at.here k e
-    IsFitCommand at (input_command line k text) = k < length at.here.slots
-    IsFitCommand at (element_command line k i e) = IsFit at.here i × FitsSlot at.here k e
-    IsFitCommand at (publish_command text e) = IsFit at.here e
-    IsFitCommand at (evaluate_command e) = IsFit at.here e
+    pub IsFitCommand : Place → (inside : Bool) → Command → Type 0
+    IsFitCommand at inside empty_command = Unit {0}
+    IsFitCommand at inside (block_command cs) = AreFitCommands at inside cs
+    IsFitCommand at inside (if_command e a b) = IsFit at.here e × IsFitCommand at inside a × IsFitCommand at inside b
+    IsFitCommand at inside (loop_command e step body) = IsFit at.here e × IsFitCommand at false step × IsFitCommand at true body
+    IsFitCommand at inside (do_command body e) = IsFitCommand at true body × IsFit at.here e
+    IsFitCommand at inside break_command = inside ≡ true
+    IsFitCommand at inside continue_command = inside ≡ true
+    IsFitCommand at inside (return_command None) = at.secret_result ≡ false
+    IsFitCommand at inside (return_command (Some e)) = IsFit at.here e × MayStand (gives_private at.here e) at.secret_result
+    IsFitCommand at inside (assert_command line e) = IsFit at.here e
+    IsFitCommand at inside (store_command k e) = FitsSlot at.here k e
+    IsFitCommand at inside (default_command k) = k < length at.here.slots
+    IsFitCommand at inside (fill_command line k n e) = IsFit at.here n × FitsSlot at.here k e
+    IsFitCommand at inside (input_command line k text) = k < length at.here.slots
+    IsFitCommand at inside (element_command line k i e) = IsFit at.here i × FitsSlot at.here k e
+    IsFitCommand at inside (publish_command text e) = IsFit at.here e
+    IsFitCommand at inside (evaluate_command e) = IsFit at.here e
 
-    pub AreFitCommands : Place → Commands → Type 0
-    AreFitCommands at Commands'.none = Unit {0}
-    AreFitCommands at (Commands'.also c cs) = IsFitCommand at c × AreFitCommands at cs
+    pub AreFitCommands : Place → (inside : Bool) → Commands → Type 0
+    AreFitCommands at inside Commands'.none = Unit {0}
+    AreFitCommands at inside (Commands'.also c cs) = IsFitCommand at inside c × AreFitCommands at inside cs
 
 -- ---- FUNCTIONS AND PROGRAMS
 
@@ -91,8 +92,8 @@ abbrev mutual
 
 -- a function that gives a private value back never falls off its end
 pub record IsFitFunction (Known : ℕ → List BoundDomain → Type 0) (fs : List TypedFunctionTree) (f : TypedFunctionTree) (b : List BoundDomain) : Type 0 where
-  pub body : AreFitCommands Known (place_in fs f b) f.body
-  pub returns : (place_in fs f b).secret_result ≡ true → IsTrue (one_returns f.body)
+  pub body : AreFitCommands Known (place_in fs f b) false f.body
+  pub returns : (place_in fs f b).secret_result ≡ true → one_returns f.body ≡ true
 
 abbrev pub IsKnownIn : List Instance → ℕ → List BoundDomain → Type 0
 IsKnownIn is k b = Among (record { function = k; binding = b }) is
