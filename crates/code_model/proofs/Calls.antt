@@ -1,5 +1,6 @@
 -- A call of an instance does what evaluation's call does.
-use Rattle.std.proofs.Common.{◌≡◌, ℕ, zero, suc, ◌+◌, ◌<◌, ◌≤◌, List, [], ◌∷◌, ◌++◌, length, Option, Some, None, Ok, Err, Bool, true, false, refl, sym, ap, ◌∙◌, subst, arith}
+use Rattle.std.proofs.Common.{◌≡◌, ℕ, zero, suc, ◌+◌, ◌<◌, ◌≤◌, List, [], ◌∷◌, ◌++◌, length, Option, Some, None, Ok, Err, Bool, true, false, refl, sym, ap}
+use Rattle.std.proofs.Common.{◌∙◌, subst, arith}
 use Rattle.std.specs.Prelude.{slice_get, nat_lt, map, sum}
 use Rattle.std.proofs.lemmas.Bool.{lt-ltb, le-ltb}
 use Rattle.sc_text.specs.declared.end.Ending.TheVariants as ending
@@ -9,7 +10,8 @@ use Rattle.reached_instances.specs.declared.instance.BoundDomain.{BoundDomain}
 use Rattle.reached_instances.specs.Domains.{given_domain}
 use Rattle.language_model.specs.Effects.{World, Stage, Run, Effect, ◌>>=◌, carry, done, end, charge, test}
 use Rattle.language_model.specs.Values.{Value}
-use Rattle.language_model.specs.Evaluation.{Frame, Calls, Place, is_private, nothing, slots_of, array_elements, Flow, goes, returns, stops, skips, execute_all, entered, result_of, place_in, body_of, call_at}
+use Rattle.language_model.specs.Evaluation.{Frame, Calls, Place, is_private, nothing, slots_of, array_elements, Flow, goes, returns, stops, skips}
+use Rattle.language_model.specs.Evaluation.{execute_all, entered, result_of, place_in, body_of, call_at}
 use Rattle.language_model.proofs.Onward.{onward_charge}
 use Rattle.verified_code.specs.Steps.{Step, ReturnNone, Function}
 use Rattle.code_model.specs.Machine.{Caller, Machine, step, received, caller_of, entering, limit, resume, values_at}
@@ -44,8 +46,10 @@ module _ (w : World) (p : List Function) (number : Numbers) (fs : List TypedFunc
     abbrev pub Returns : List Caller → Bool → Value → Machine → Type 0
     Returns stack secret v m = (m.stack ≡ stack) × ((s : Stage) → step w p (slice_get m.steps m.pc) m s ≡ resume m.stack v s) × IsSecret secret v
 
-    pub body_runs : (calls : Calls) (d : ℕ) (ok : CallsRun w p number fs Known d calls) (k : ℕ) (b : List BoundDomain) (kn : IsKnown k b) (xs : List Value) (stack : List Caller) (m : Machine) → ArgumentsFit b kn.called.slots xs → length stack + d ≡ limit
-        → m.steps ≡ (function_code number fs kn.called b).steps → m.pc ≡ 0 → m.stack ≡ stack → ((i : ℕ) → m.registers i ≡ (entering (Some (function_code number fs kn.called b)) None xs m).registers i)
+    pub body_runs : (calls : Calls) (d : ℕ) (ok : CallsRun w p number fs Known d calls) (k : ℕ) (b : List BoundDomain) (kn : IsKnown k b) (xs : List Value)
+        (stack : List Caller) (m : Machine) → ArgumentsFit b kn.called.slots xs → length stack + d ≡ limit
+        → m.steps ≡ (function_code number fs kn.called b).steps → m.pc ≡ 0 → m.stack ≡ stack
+        → ((i : ℕ) → m.registers i ≡ (entering (Some (function_code number fs kn.called b)) None xs m).registers i)
         → Runs w p m (body_of w calls fs (Some kn.called) b xs) (Returns stack (is_private (given_domain b kn.called.given)))
     body_runs calls d ok k b kn xs stack m fits room hs hp hk hr =
         record { from = λ s. follow w p m s (c s) (λ g. done (result_of g)) W P (runs.from s) (λ g m1 s1 l e h. (ending' g m1 h (closed s g s1 e)).from s1) }
@@ -84,10 +88,12 @@ module _ (w : World) (p : List Function) (number : Numbers) (fs : List TypedFunc
         end_at = (has_back code 0 cs (ReturnNone ∷ []) has).0
 
         runs : Runs w p m c W
-        runs = commands_run w p number fs Known calls d ok pl refl code stack room f.body false kn.fit.body E E (first_free f.slots) 0 (entered b f.slots xs) m (omega arith) (has_front code 0 cs (ReturnNone ∷ []) has) (hs, hp, hk, begins_holding fs f b xs m.registers fits hr)
+        runs = commands_run w p number fs Known calls d ok pl refl code stack room f.body false kn.fit.body E E (first_free f.slots) 0 (entered b f.slots xs)
+            m (omega arith) (has_front code 0 cs (ReturnNone ∷ []) has) (hs, hp, hk, begins_holding fs f b xs m.registers fits hr)
 
         closed : (s : Stage) (g : Flow) (s1 : Stage) → c s ≡ Ok (g, s1) → always.Leads false (one_returns f.body) g
-        closed s g s1 e = subst (always.LeadsAt false (one_returns f.body)) e ((always.commands_yield Known w calls pl false f.body kn.fit.body (entered b f.slots xs)).from s)
+        closed s g s1 e = subst (always.LeadsAt false (one_returns f.body)) e
+            ((always.commands_yield Known w calls pl false f.body kn.fit.body (entered b f.slots xs)).from s)
 
         clash : false ≡ true → ⊥
         clash h = cc
@@ -112,7 +118,9 @@ module _ (w : World) (p : List Function) (number : Numbers) (fs : List TypedFunc
         let full : nat_lt (length m.stack) limit ≡ false = le-ltb (length m.stack) limit (omega arith) in
         let called = entering (slice_get p (number k b)) t (values_at m.registers args) m in
         moves m (λ s. carry (charge 1 s) (λ u. end (ending.Trap trap.Depth line))) (λ v. m) (λ v. ⊥) _
-        (λ s. ap (λ o. step w p o m s) at_call ∙ ap (λ z. carry (charge 1 s) (λ u. test z trap.Depth line >>= λ u. charge (sum (map array_elements (values_at m.registers args))) >>= λ u. done called)) full ∙ sym (assoc (charge 1 s) (λ u. end (ending.Trap trap.Depth line)) (λ v. done m)))
+        (λ s. ap (λ o. step w p o m s) at_call ∙ ap (λ z. carry (charge 1 s)
+        (λ u. test z trap.Depth line >>= λ u. charge (sum (map array_elements (values_at m.registers args))) >>= λ u. done called)) full ∙ sym
+        (assoc (charge 1 s) (λ u. end (ending.Trap trap.Depth line)) (λ v. done m)))
         (record { from = λ s. over s (charge 1 s) })
         (λ v q. absurd q)
       where
@@ -139,12 +147,14 @@ module _ (w : World) (p : List Function) (number : Numbers) (fs : List TypedFunc
         (charges n) (λ u q. refl))
         (λ u m1 e1.
         runs_more (subst (λ z. Runs w p z (body_of w (call_at w fs d) fs (Some kn.called) b xs) (Returns (caller ∷ m.stack) secret)) (sym e1)
-        (body_runs (call_at w fs d) d (calls_run d) k b kn xs (caller ∷ m.stack) to (subst (λ o. ArgumentsFit b (slots_of o) xs) kn.there fits) (omega arith) refl refl refl (λ i. refl)))
+        (body_runs (call_at w fs d) d (calls_run d) k b kn xs (caller ∷ m.stack) to (subst (λ o. ArgumentsFit b (slots_of o) xs) kn.there fits) (omega arith)
+        refl refl refl (λ i. refl)))
         (λ v m2 h2. silent m2 (back v) v (Next t m secret) (λ s. h2.1 s ∙ ap (λ z. resume z v s) h2.0)
         (record { steps = refl; stack = refl; pc = refl; registers = λ i. refl; private = h2.2 })))))
       where
         charges : (n : ℕ) → Gives (charge 1 >>= λ u. charge n) (Any {A = Unit {0}})
         charges n = gives_bind (gives_any w (onward_charge 1)) (λ a q. gives_any w (onward_charge n))
 
-        regroup : (m : Machine) (n : ℕ) (c : Effect Value) (P : Value → Machine → Type 0) → Runs w p m ((charge 1 >>= λ u. charge n) >>= λ u. c) P → Runs w p m (charge 1 >>= λ u. charge n >>= λ u. c) P
+        regroup : (m : Machine) (n : ℕ) (c : Effect Value) (P : Value → Machine → Type 0) → Runs w p m ((charge 1 >>= λ u. charge n) >>= λ u. c) P → Runs w p
+            m (charge 1 >>= λ u. charge n >>= λ u. c) P
         regroup m n c P h = record { from = λ s. subst (λ r. Follows w p m s r P) (assoc (charge 1 s) (λ u. charge n) (λ u. c)) (h.from s) }

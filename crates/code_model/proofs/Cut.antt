@@ -1,5 +1,6 @@
 -- The code of `&&` and `||`: where the left operand is public it may decide alone.
-use Rattle.std.proofs.Common.{◌≡◌, ℕ, ◌+◌, ◌<◌, ◌≤◌, List, [], ◌∷◌, ◌++◌, length, Some, Ok, Bool, true, false, not, ◌||◌, refl, sym, ap, ◌∙◌, subst, arith, length-append}
+use Rattle.std.proofs.Common.{◌≡◌, ℕ, ◌+◌, ◌<◌, ◌≤◌, List, [], ◌∷◌, ◌++◌, length, Some, Ok, Bool, true, false, not, ◌||◌, refl, sym, ap, ◌∙◌, subst, arith}
+use Rattle.std.proofs.Common.{length-append}
 use Rattle.std.specs.Prelude.{slice_get}
 use Rattle.secrec_ast.specs.declared.expression.DataType.TheVariants as datatype
 use Rattle.typed_tree.specs.declared.operators.BinaryOperator.TheVariants as binary
@@ -72,13 +73,26 @@ module _ (w : World) (p : List Function) (number : Numbers) (calls : Calls) (d :
     Standing = HasAt m.steps (pb + length cb) last
 
     -- the value that the left operand decides
-    settles : (s : Bool) (m3 : Machine) → slice_get m3.steps m3.pc ≡ Some (settling s t (t + 1)) → Near t m m3 → m3.pc ≡ pd + 1 → m3.registers (t + 1) ≡ truth_value (deciding c) → Runs w p m3 (wanted s (truth_value (deciding c))) (Landed t (pc + length whole) m s)
+    settles : (s : Bool) (m3 : Machine) → slice_get m3.steps m3.pc ≡ Some (settling s t (t + 1)) → Near t m m3 → m3.pc ≡ pd + 1 → m3.registers (t + 1)
+        ≡ truth_value (deciding c) → Runs w p m3 (wanted s (truth_value (deciding c))) (Landed t (pc + length whole) m s)
     settles true m3 h n e v3 =
-        instruct m3 (Classify t (t + 1)) (classified (truth_value (deciding c))) (λ v. next t v m3) (IsSecret true) _ h (λ s. ap (λ z. carry (classified z s) (λ v. done (next t v m3))) v3) (class_gives w (truth_value (deciding c)))
-        (λ v q. record { near = near_on (omega arith) n (near_set t t v m3 (omega arith)); pc = omega (arith, e, len); here = put_same t v m3.registers; private = q })
+        instruct m3 (Classify t (t + 1)) (classified (truth_value (deciding c))) (λ v. next t v m3) (IsSecret true) _ h
+        (λ s. ap (λ z. carry (classified z s) (λ v. done (next t v m3))) v3) (class_gives w (truth_value (deciding c)))
+        (λ v q. record {
+          near = near_on (omega arith) n (near_set t t v m3 (omega arith));
+          pc = omega (arith, e, len);
+          here = put_same t v m3.registers;
+          private = q;
+        })
     settles false m3 h n e v3 =
         silent m3 (next t (m3.registers (t + 1)) m3) (truth_value (deciding c)) _ (λ s. ap (λ o. step w p o m3 s) h)
-        (record { near = near_on (omega arith) n (near_set t t (m3.registers (t + 1)) m3 (omega arith)); pc = omega (arith, e, len); here = put_same t (m3.registers (t + 1)) m3.registers ∙ v3; private = refl })
+        (record {
+          near = near_on (omega arith) n (near_set t t (m3.registers (t + 1)) m3 (omega arith));
+          pc = omega (arith, e, len);
+          here = put_same t
+              (m3.registers (t + 1)) m3.registers ∙ v3;
+          private = refl;
+        })
 
     decided : Standing → (m2 : Machine) → Near t m m2 → m2.pc ≡ pd → Runs w p m2 (wanted secret (truth_value (deciding c))) Q
     unfolding Standing
@@ -87,8 +101,10 @@ module _ (w : World) (p : List Function) (number : Numbers) (calls : Calls) (d :
         let three : pd + 1 ≡ pb + length cb + 1 + 1 + 1 = omega arith in
         let v = truth_value (deciding c) in
         let m3 = next (t + 1) v m2 in
-        let lit : slice_get m2.steps m2.pc ≡ Some (Literal (t + 1) datatype.Bool (truth_word (deciding c))) = ap (λ z. slice_get z m2.pc) n.steps ∙ ap (λ z. slice_get m.steps z) (e ∙ two) ∙ has.1.1.0 in
-        let settled : slice_get m3.steps m3.pc ≡ Some (settling secret t (t + 1)) = ap (λ z. slice_get z (m2.pc + 1)) n.steps ∙ ap (λ z. slice_get m.steps (z + 1)) e ∙ ap (λ z. slice_get m.steps z) three ∙ has.1.1.1.0 in
+        let lit : slice_get m2.steps m2.pc ≡ Some (Literal (t + 1) datatype.Bool (truth_word (deciding c))) = ap (λ z. slice_get z m2.pc) n.steps ∙ ap
+        (λ z. slice_get m.steps z) (e ∙ two) ∙ has.1.1.0 in
+        let settled : slice_get m3.steps m3.pc ≡ Some (settling secret t (t + 1)) = ap (λ z. slice_get z (m2.pc + 1)) n.steps ∙ ap
+        (λ z. slice_get m.steps (z + 1)) e ∙ ap (λ z. slice_get m.steps z) three ∙ has.1.1.1.0 in
         runs_first m2 m3 (λ s. ap (λ o. step w p o m2 s) lit)
         (settles secret m3 settled (near_on (omega arith) n (near_set t (t + 1) v m2 (omega arith))) (ap (λ z. z + 1) e) (put_same (t + 1) v m2.registers))
 
@@ -100,12 +116,23 @@ module _ (w : World) (p : List Function) (number : Numbers) (calls : Calls) (d :
         let n3 = near_on (omega arith) n (near_less t (omega arith) h3.near) in
         let m4 = next t (m3.registers u) m3 in
         let move : slice_get m3.steps m3.pc ≡ Some (Move t u) = ap (λ z. slice_get z m3.pc) n3.steps ∙ ap (λ z. slice_get m.steps z) h3.pc ∙ has.0 in
-        let jump : slice_get m4.steps m4.pc ≡ Some (Jump (pd + 2)) = ap (λ z. slice_get z (m3.pc + 1)) n3.steps ∙ ap (λ z. slice_get m.steps (z + 1)) h3.pc ∙ has.1.0 in
+        let jump : slice_get m4.steps m4.pc ≡ Some (Jump (pd + 2)) = ap (λ z. slice_get z (m3.pc + 1)) n3.steps ∙ ap (λ z. slice_get m.steps (z + 1)) h3.pc
+        ∙ has.1.0 in
         runs_first m3 m4 (λ s. ap (λ o. step w p o m3 s) move)
         (silent m4 (at (pd + 2) m4) v Q (λ s. ap (λ o. step w p o m4 s) jump)
-        (record { near = record { steps = n3.steps; stack = n3.stack; kept = λ i l. put_other t i (m3.registers u) m3.registers (omega arith) ∙ n3.kept i l }; pc = len; here = put_same t (m3.registers u) m3.registers ∙ h3.here; private = h3.private })))
+        (record {
+          near = record {
+            steps = n3.steps;
+            stack = n3.stack;
+            kept = λ i l. put_other t i (m3.registers u) m3.registers (omega arith) ∙ n3.kept i l;
+          };
+          pc = len;
+          here = put_same t (m3.registers u) m3.registers ∙ h3.here;
+          private = h3.private;
+        })))
 
-    chosen : Standing → HasAt m.steps pb cb → Evaluates w p number calls d here b → Ready d here fr t pc whole m → (o : Bool) (m2 : Machine) → Near t m m2 → (e : Bool) → decides c o ≡ e → m2.pc ≡ either e pd pb
+    chosen : Standing → HasAt m.steps pb cb → Evaluates w p number calls d here b → Ready d here fr t pc whole m → (o : Bool) (m2 : Machine) → Near t m m2
+        → (e : Bool) → decides c o ≡ e → m2.pc ≡ either e pd pb
         → Runs w p m2 (either e (wanted secret (truth_value o)) (value w calls here b fr)) Q
     chosen has right evb r o m2 n true q e = subst (λ z. Runs w p m2 (wanted secret (truth_value z)) Q) (sym (decides_value c o q)) (decided has m2 n e)
     chosen has right evb r o m2 n false q e = other has m2 n (value w calls here b fr) (evb u pb fr m2 (ready_at u pb cb (omega arith) r n e right))
@@ -121,17 +148,25 @@ module _ (w : World) (p : List Function) (number : Numbers) (calls : Calls) (d :
         let n1 = near_less t (omega arith) h1.near in
         runs_bind (branch_runs (t + 3) (deciding c) pd x m1 h1.here (ready_step r1)) (λ o m2 h2.
         let n2 : Near t m m2 = record { steps = h2.steps ∙ n1.steps; stack = h2.stack ∙ n1.stack; kept = λ i l. h2.registers i ∙ n1.kept i l } in
-        let place : m2.pc ≡ either (decides c o) pd pb = h2.pc ∙ ap (λ z. either z pd (m1.pc + 1)) (decides_same c o) ∙ ap (λ z. either (decides c o) pd (z + 1)) h1.pc in
+        let place : m2.pc ≡ either (decides c o) pd pb = h2.pc ∙ ap (λ z. either z pd (m1.pc + 1)) (decides_same c o) ∙ ap
+        (λ z. either (decides c o) pd (z + 1)) h1.pc in
         chosen (has_back m.steps pb cb last behind) (has_front m.steps pb cb last behind) evb r o m2 n2 (decides c o) refl place))
 
   -- whether the left operand is private decides which code stands there
-  pub cut_runs : (here : Setting) (c : Connective) (a b : TypedTree) (t pc : ℕ) (fr : Frame) (m : Machine) → Evaluates w p number calls d here a → Evaluates w p number calls d here b
+  pub cut_runs : (here : Setting) (c : Connective) (a b : TypedTree) (t pc : ℕ) (fr : Frame) (m : Machine) → Evaluates w p number calls d here a → Evaluates
+      w p number calls d here b
       → (g : Bool) → gives_private here a ≡ g
-      → Ready d here fr t pc (either g (binary_code t (u here c a b t pc fr m) pc 0 (binary.Bools (connective c)) Scalars (gives_private here a) (gives_private here b) (ca here c a b t pc fr m) (λ q. code w p number calls d here (t + 3 + width a) q b)) (whole here c a b t pc fr m)) m
-      → Runs w p m (value w calls here a fr >>= λ x. either g (not_cut_short w c x (value w calls here b fr)) (cut_short c (gives_private here b) x (value w calls here b fr)))
-      (Landed t (pc + length (either g (binary_code t (u here c a b t pc fr m) pc 0 (binary.Bools (connective c)) Scalars (gives_private here a) (gives_private here b) (ca here c a b t pc fr m) (λ q. code w p number calls d here (t + 3 + width a) q b)) (whole here c a b t pc fr m))) m (gives_private here (cut_node c a b)))
+      → Ready d here fr t pc (either g (binary_code t (u here c a b t pc fr m) pc 0 (binary.Bools (connective c)) Scalars (gives_private here a)
+      (gives_private here b) (ca here c a b t pc fr m) (λ q. code w p number calls d here (t + 3 + width a) q b)) (whole here c a b t pc fr m)) m
+      → Runs w p m (value w calls here a fr >>= λ x. either g (not_cut_short w c x (value w calls here b fr))
+      (cut_short c (gives_private here b) x (value w calls here b fr)))
+      (Landed t (pc + length (either g (binary_code t (u here c a b t pc fr m) pc 0 (binary.Bools (connective c)) Scalars (gives_private here a)
+      (gives_private here b) (ca here c a b t pc fr m) (λ q. code w p number calls d here (t + 3 + width a) q b)) (whole here c a b t pc fr m))) m
+      (gives_private here (cut_node c a b)))
   cut_runs here c a b t pc fr m eva evb true e r = binary_runs w p number calls d here a b t pc 0 (binary.Bools (connective c)) Scalars fr m eva evb r
   cut_runs here c a b t pc fr m eva evb false e r =
-      let same : gives_private here (cut_node c a b) ≡ gives_private here b = private_joined (domain here a) (domain here b) ∙ ap (λ z. z || gives_private here b) e in
-      subst (λ z. Runs w p m (value w calls here a fr >>= λ x. cut_short c (gives_private here b) x (value w calls here b fr)) (Landed t (pc + length (whole here c a b t pc fr m)) m z)) (sym same)
+      let same : gives_private here (cut_node c a b) ≡ gives_private here b = private_joined (domain here a) (domain here b) ∙ ap
+      (λ z. z || gives_private here b) e in
+      subst (λ z. Runs w p m (value w calls here a fr >>= λ x. cut_short c (gives_private here b) x (value w calls here b fr))
+      (Landed t (pc + length (whole here c a b t pc fr m)) m z)) (sym same)
       (cut_short_runs here c a b t pc fr m eva evb r)

@@ -1,5 +1,6 @@
 -- Effects that give no budget back, and what is known of the values that they give.
-use Rattle.std.proofs.Common.{◌≡◌, ℕ, ◌+◌, ◌-◌, ◌*◌, ◌≤◌, List, [], ◌∷◌, Option, Some, None, Bool, true, false, not, ◌&&◌, ◌||◌, Ok, Err, refl, sym, ap, ◌∙◌, subst, arith}
+use Rattle.std.proofs.Common.{◌≡◌, ℕ, ◌+◌, ◌-◌, ◌*◌, ◌≤◌, List, [], ◌∷◌, Option, Some, None, Bool, true, false, not, ◌&&◌, ◌||◌, Ok, Err, refl, sym, ap, ◌∙◌}
+use Rattle.std.proofs.Common.{subst, arith}
 use Rattle.std.specs.Prelude.{length, map}
 use Rattle.secrec_ast.specs.declared.expression.DataType.TheVariants.{Uint64}
 use Rattle.sc_text.specs.declared.end.Ending.{Ending}
@@ -19,7 +20,12 @@ use Rattle.secrec_ast.specs.declared.expression.DataType.TheVariants as datatype
 use Rattle.language_model.specs.Effects.{World, Given, Stage, Run, Effect, ◌>>=◌, carry, done, end, test}
 use Rattle.language_model.specs.Values.{Secrecy, Plain, Private, Value, plain, hidden, is_secret, size, seen, elements_of}
 use Rattle.language_model.specs.Words as W
-use Rattle.language_model.specs.Operations.{charged, no_traps, operator_traps, number_of, stretched, operator_gates, result_shape, is_scalar_left, is_scalar_right, words_of_operator, classified_from, classified, made_private, wanted, opened_from, revealed, read_answer, declassified, private_result, product_with, combined_from, operated, negated_from, negated, size_told, element_from, element_of_array, position, words_for_bits, changed, cast_from, cast_to, summed_from, summed, not_too_large, bits_from, bits_extracted, joined_from, joined, with_element_from, with_element, filled_from, filled, tested, published, asserted, flip}
+use Rattle.language_model.specs.Operations.{charged, no_traps, operator_traps, number_of, stretched, operator_gates, result_shape, is_scalar_left}
+use Rattle.language_model.specs.Operations.{is_scalar_right, words_of_operator, classified_from, classified, made_private, wanted, opened_from, revealed}
+use Rattle.language_model.specs.Operations.{read_answer, declassified, private_result, product_with, combined_from, operated, negated_from, negated}
+use Rattle.language_model.specs.Operations.{size_told, element_from, element_of_array, position, words_for_bits, changed, cast_from, cast_to, summed_from}
+use Rattle.language_model.specs.Operations.{summed, not_too_large, bits_from, bits_extracted, joined_from, joined, with_element_from, with_element}
+use Rattle.language_model.specs.Operations.{filled_from, filled, tested, published, asserted, flip}
 use Rattle.language_model.specs.Evaluation.{given_value, asked_for, is_as_declared}
 use Rattle.language_model.proofs.Walk as walk
 use Rattle.language_model.proofs.Onward.{Onward, Went, stage_of, is_onward, onward_law, onward_draw, onward_gate, onward_charge}
@@ -31,7 +37,8 @@ GivesAt s (Err e) Q = Unit {0}
 pub record Gives {A : Type 0} (c : Effect A) (Q : A → Type 0) : Type 0 where
   pub from : (s : Stage) → GivesAt s (c s) Q
 
-pub gives_bind : {A B : Type 0} {c : Effect A} {f : A → Effect B} {P : A → Type 0} {Q : B → Type 0} → Gives c P → ((a : A) → P a → Gives (f a) Q) → Gives (c >>= f) Q
+pub gives_bind : {A B : Type 0} {c : Effect A} {f : A → Effect B} {P : A → Type 0} {Q : B → Type 0} → Gives c P → ((a : A) → P a → Gives (f a) Q) → Gives
+    (c >>= f) Q
 gives_bind {A = A} {B = B} {c = c} {f = f} {P = P} {Q = Q} h k = record { from = λ s. go s (c s) (h.from s) }
   where
     less : (s t : Stage) (r : Run B) → t.left ≤ s.left → GivesAt t r Q → GivesAt s r Q
@@ -111,7 +118,8 @@ module _ (w : World) where
   unfolding is_onward
   opened_gives Plain v e = gives_done (ap is_secret e)
   opened_gives (Private k) v e =
-      gives_after w (onward_draw w _) (λ _. gives_after w (walk.number_holds w w (is_onward w) law v) (λ u. gives_after w (onward_gate _) (λ _. revealed_gives v)))
+      gives_after w (onward_draw w _) (λ _. gives_after w (walk.number_holds w w (is_onward w) law v)
+      (λ u. gives_after w (onward_gate _) (λ _. revealed_gives v)))
 
   pub declassified_gives : (v : Value) → Gives (declassified w v) (IsSecret false)
   declassified_gives v = gives_after w (plain_charge (size v)) (λ _. opened_gives v.secrecy v refl)
@@ -123,33 +131,42 @@ module _ (w : World) where
   unfolding is_onward
   private_gives op ds x y =
       let n = W.result_size ds x y in
-      gives_after w (onward_draw w (words_of_operator op n)) (λ _. gives_after w (walk.number_holds w w (is_onward w) law x) (λ j. gives_after w (walk.number_holds w w (is_onward w) law y) (λ k.
-      gives_after w (walk.stretched_holds w w (is_onward w) law (is_scalar_left ds) n j) (λ u. gives_after w (walk.stretched_holds w w (is_onward w) law (is_scalar_right ds) n k) (λ v.
+      gives_after w (onward_draw w (words_of_operator op n)) (λ _. gives_after w (walk.number_holds w w (is_onward w) law x)
+      (λ j. gives_after w (walk.number_holds w w (is_onward w) law y) (λ k.
+      gives_after w (walk.stretched_holds w w (is_onward w) law (is_scalar_left ds) n j)
+      (λ u. gives_after w (walk.stretched_holds w w (is_onward w) law (is_scalar_right ds) n k) (λ v.
       gives_after w (walk.operator_gates_hold w w (is_onward w) law op n u v) (λ r. made_gives (result_shape op ds) (W.result_words op ds x y) r))))))
 
-  product_gives : (op : BinaryOperator) (ds : Operands) (scalar : Bool) (x : Value) (known words : List ℕ) → Gives (product_with op ds scalar x known words) (IsSecret true)
+  product_gives : (op : BinaryOperator) (ds : Operands) (scalar : Bool) (x : Value) (known words : List ℕ) → Gives (product_with op ds scalar x known words)
+      (IsSecret true)
   unfolding is_onward
   product_gives op ds scalar x known words =
-      gives_after w (walk.number_holds w w (is_onward w) law x) (λ j. gives_after w (walk.stretched_holds w w (is_onward w) law _ _ j) (λ u. gives_after w (onward_gate _) (λ r. made_gives _ _ r)))
+      gives_after w (walk.number_holds w w (is_onward w) law x) (λ j. gives_after w (walk.stretched_holds w w (is_onward w) law _ _ j)
+      (λ u. gives_after w (onward_gate _) (λ r. made_gives _ _ r)))
 
-  combined_gives : (a b : Secrecy) (op : BinaryOperator) (ds : Operands) (x y : Value) → Gives (combined_from a b w op ds x y) (IsSecret (is_secret a || is_secret b))
+  combined_gives : (a b : Secrecy) (op : BinaryOperator) (ds : Operands) (x y : Value) → Gives (combined_from a b w op ds x y)
+      (IsSecret (is_secret a || is_secret b))
   combined_gives Plain Plain op ds x y = gives_done refl
   combined_gives (Private j) (Private k) op ds x y = private_gives op ds x y
   combined_gives (Private j) Plain op ds x y = product_gives op ds _ x _ _
   combined_gives Plain (Private k) op ds x y = product_gives op ds _ y _ _
 
-  traps_on : (line : ℕ) (op : BinaryOperator) (ds : Operands) (x y : Value) → is_onward w (Unit {0}) (operator_traps line op ds x y) (operator_traps line op ds x y)
+  traps_on : (line : ℕ) (op : BinaryOperator) (ds : Operands) (x y : Value) → is_onward w (Unit {0}) (operator_traps line op ds x y)
+      (operator_traps line op ds x y)
   traps_on line op ds x y = law.bind (law.on_test (W.are_alike ds x y) trap.Length line) (λ _. law.on_test (W.may_divide op (seen y)) trap.Div line)
 
-  pub operated_gives : (line : ℕ) (op : BinaryOperator) (ds : Operands) (x y : Value) → Gives (operated w line op ds x y) (IsSecret (is_secret x.secrecy || is_secret y.secrecy))
+  pub operated_gives : (line : ℕ) (op : BinaryOperator) (ds : Operands) (x y : Value) → Gives (operated w line op ds x y)
+      (IsSecret (is_secret x.secrecy || is_secret y.secrecy))
   unfolding is_onward
   operated_gives line op ds x y =
-      gives_after w (charged_on (operator_traps line op ds x y) (W.result_size ds x y) (traps_on line op ds x y)) (λ _. combined_gives x.secrecy y.secrecy op ds x y)
+      gives_after w (charged_on (operator_traps line op ds x y) (W.result_size ds x y) (traps_on line op ds x y))
+      (λ _. combined_gives x.secrecy y.secrecy op ds x y)
 
   negated_from_gives : (a : Secrecy) (x : Value) → Gives (negated_from a x) (IsSecret (is_secret a))
   unfolding is_onward
   negated_from_gives Plain x = gives_done refl
-  negated_from_gives (Private k) x = gives_after w (walk.number_holds w w (is_onward w) law x) (λ u. gives_after w (walk.flip_holds w w (is_onward w) law (size x) u) (λ r. made_gives x.shape (map W.flipped x.words) r))
+  negated_from_gives (Private k) x = gives_after w (walk.number_holds w w (is_onward w) law x)
+      (λ u. gives_after w (walk.flip_holds w w (is_onward w) law (size x) u) (λ r. made_gives x.shape (map W.flipped x.words) r))
 
   pub negated_gives : (x : Value) → Gives (negated x) (IsSecret (is_secret x.secrecy))
   negated_gives x = gives_after w (plain_charge (size x)) (λ _. negated_from_gives x.secrecy x)
@@ -166,7 +183,8 @@ module _ (w : World) where
   changed_gives : (c : Cast) (x : Value) → Gives (changed w c x) (IsSecret true)
   unfolding is_onward
   changed_gives c x =
-      gives_after w (onward_draw w _) (λ _. gives_after w (walk.number_holds w w (is_onward w) law x) (λ u. gives_after w (walk.cast_gates_hold w w (is_onward w) law c (size x) u) (λ r. made_gives _ _ r)))
+      gives_after w (onward_draw w _) (λ _. gives_after w (walk.number_holds w w (is_onward w) law x)
+      (λ u. gives_after w (walk.cast_gates_hold w w (is_onward w) law c (size x) u) (λ r. made_gives _ _ r)))
 
   cast_from_gives : (a : Secrecy) (c : Cast) (x : Value) → x.secrecy ≡ a → Gives (cast_from w a c x) (IsSecret (is_secret a))
   cast_from_gives a WordToWord x e = gives_done (ap is_secret e)
@@ -194,16 +212,20 @@ module _ (w : World) where
   unfolding is_onward
   bits_from_gives Plain x = plain_gives _ _
   bits_from_gives (Private k) x =
-      gives_after w (onward_draw w (words_for_bits (size x))) (λ _. gives_after w (walk.number_holds w w (is_onward w) law x) (λ u. gives_after w (walk.planned_holds w w (is_onward w) law (λ first. bits_plan first u (size x))) (λ b. gives_after w (onward_gate (Spread b)) (λ r. made_gives (shape_of datatype.Bool true) (flat_map bits_of x.words) r))))
+      gives_after w (onward_draw w (words_for_bits (size x))) (λ _. gives_after w (walk.number_holds w w (is_onward w) law x)
+      (λ u. gives_after w (walk.planned_holds w w (is_onward w) law (λ first. bits_plan first u (size x)))
+      (λ b. gives_after w (onward_gate (Spread b)) (λ r. made_gives (shape_of datatype.Bool true) (flat_map bits_of x.words) r))))
 
   pub bits_gives : (line : ℕ) (x : Value) → Gives (bits_extracted w line x) (IsSecret (is_secret x.secrecy))
   unfolding is_onward
-  bits_gives line x = gives_after w (charged_on (not_too_large line (64 * size x)) (64 * size x) (large_on line (64 * size x))) (λ _. bits_from_gives x.secrecy x)
+  bits_gives line x = gives_after w (charged_on (not_too_large line (64 * size x)) (64 * size x) (large_on line (64 * size x)))
+      (λ _. bits_from_gives x.secrecy x)
 
   catenated_gives : (x y : Value) → Gives (joined_from (Private None) Plain x y) (IsSecret true)
   unfolding is_onward
   catenated_gives x y =
-      gives_after w (walk.number_holds w w (is_onward w) law x) (λ u. gives_after w (walk.number_holds w w (is_onward w) law y) (λ v. gives_after w (onward_gate _) (λ r. made_gives _ _ r)))
+      gives_after w (walk.number_holds w w (is_onward w) law x) (λ u. gives_after w (walk.number_holds w w (is_onward w) law y)
+      (λ v. gives_after w (onward_gate _) (λ r. made_gives _ _ r)))
 
   joined_from_gives : (a b : Secrecy) (x y : Value) → Gives (joined_from a b x y) (IsSecret (is_secret a || is_secret b))
   joined_from_gives Plain Plain x y = plain_gives _ _
@@ -213,17 +235,20 @@ module _ (w : World) where
 
   pub joined_gives : (line : ℕ) (x y : Value) → Gives (joined line x y) (IsSecret (is_secret x.secrecy || is_secret y.secrecy))
   unfolding is_onward
-  joined_gives line x y = gives_after w (charged_on (not_too_large line (size x + size y)) (size x + size y) (large_on line (size x + size y))) (λ _. joined_from_gives x.secrecy y.secrecy x y)
+  joined_gives line x y = gives_after w (charged_on (not_too_large line (size x + size y)) (size x + size y) (large_on line (size x + size y)))
+      (λ _. joined_from_gives x.secrecy y.secrecy x y)
 
   with_element_from_gives : (a : Secrecy) (x : Value) (i : ℕ) (y : Value) → Gives (with_element_from a x i y) (IsSecret (is_secret a))
   unfolding is_onward
   with_element_from_gives Plain x i y = plain_gives _ _
   with_element_from_gives (Private k) x i y =
-      gives_after w (walk.number_holds w w (is_onward w) law x) (λ u. gives_after w (walk.number_holds w w (is_onward w) law y) (λ e. gives_after w (onward_gate _) (λ r. made_gives _ _ r)))
+      gives_after w (walk.number_holds w w (is_onward w) law x) (λ u. gives_after w (walk.number_holds w w (is_onward w) law y)
+      (λ e. gives_after w (onward_gate _) (λ r. made_gives _ _ r)))
 
   pub with_element_gives : (line : ℕ) (x i y : Value) → Gives (with_element line x i y) (IsSecret (is_secret x.secrecy))
   unfolding is_onward
-  with_element_gives line x i y = gives_after w (onward_charge 1) (λ _. gives_after w (law.on_test _ _ _) (λ _. with_element_from_gives x.secrecy x (position i) y))
+  with_element_gives line x i y = gives_after w (onward_charge 1)
+      (λ _. gives_after w (law.on_test _ _ _) (λ _. with_element_from_gives x.secrecy x (position i) y))
 
   filled_from_gives : (a : Secrecy) (n : ℕ) (x : Value) → Gives (filled_from a n x) (IsSecret (is_secret a))
   unfolding is_onward
@@ -232,20 +257,23 @@ module _ (w : World) where
 
   pub filled_gives : (line : ℕ) (n x : Value) → Gives (filled line n x) (IsSecret (is_secret x.secrecy))
   unfolding is_onward
-  filled_gives line n x = gives_after w (charged_on (not_too_large line (position n)) (position n) (large_on line (position n))) (λ _. filled_from_gives x.secrecy (position n) x)
+  filled_gives line n x = gives_after w (charged_on (not_too_large line (position n)) (position n) (large_on line (position n)))
+      (λ _. filled_from_gives x.secrecy (position n) x)
 
   given_gives : (secret : Bool) (x : Given) (k : ℕ) → Gives (given_value secret x k) (IsSecret secret)
   given_gives false x k = plain_gives _ _
   given_gives true x k = gives_after w (onward_gate _) (λ r. made_gives _ _ r)
 
-  declared_on : (secret : Bool) (shape : Shape) (line : ℕ) (x : Given) → is_onward w (Unit {0}) (test (is_as_declared secret shape x) trap.Argument line) (test (is_as_declared secret shape x) trap.Argument line)
+  declared_on : (secret : Bool) (shape : Shape) (line : ℕ) (x : Given) → is_onward w (Unit {0}) (test (is_as_declared secret shape x) trap.Argument line)
+      (test (is_as_declared secret shape x) trap.Argument line)
   declared_on secret shape line x = law.on_test _ _ _
 
   pub asked_gives : (secret : Bool) (shape : Shape) (line : ℕ) (o : Option (Given × ℕ)) → Gives (asked_for secret shape line o) (IsSecret secret)
   unfolding is_onward
   asked_gives secret shape line None = gives_after w (onward_charge 1) (λ _. gives_end _)
   asked_gives secret shape line (Some x) =
-      gives_after w (charged_on (test (is_as_declared secret shape x.0) trap.Argument line) (length x.0.words) (declared_on secret shape line x.0)) (λ _. given_gives secret x.0 x.1)
+      gives_after w (charged_on (test (is_as_declared secret shape x.0) trap.Argument line) (length x.0.words) (declared_on secret shape line x.0))
+      (λ _. given_gives secret x.0 x.1)
 
   pub size_gives : (x : Value) → Gives (size_told x) (IsSecret false)
   size_gives x = gives_after w (onward_charge 1) (λ _. gives_done refl)

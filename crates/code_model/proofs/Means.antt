@@ -1,5 +1,6 @@
 -- The meaning of a program's code is the program's evaluation, in the clear and blind.
-use Rattle.std.proofs.Common.{◌≡◌, ℕ, zero, suc, ◌+◌, List, [], ◌∷◌, Option, Some, None, Ok, Err, Bool, true, false, cond, refl, sym, ap, ◌∙◌, subst, arith, ◌⊎◌, inl, inr}
+use Rattle.std.proofs.Common.{◌≡◌, ℕ, zero, suc, ◌+◌, List, [], ◌∷◌, Option, Some, None, Ok, Err, Bool, true, false, cond, refl, sym, ap, ◌∙◌, subst, arith}
+use Rattle.std.proofs.Common.{◌⊎◌, inl, inr}
 use Rattle.std.specs.Prelude.{slice_get, nat_le, map, if◌then◌else◌}
 use Rattle.sc_text.specs.Lists.{Among}
 use Rattle.sc_text.specs.declared.end.Ending.TheVariants as ending
@@ -33,7 +34,8 @@ place_found {A = A} f i (j ∷ js) h = go (same_instance i j) refl h (place_foun
     clash {b = true} e g = cc
     clash {b = false} e g = cc
 
-    go : (b : Bool) → same_instance i j ≡ b → (i ≡ j) ⊎ Among i js → (Among i js → slice_get (map f js) (place_of i js) ≡ Some (f i)) → slice_get (f j ∷ map f js) (cond b 0 (place_of i js + 1)) ≡ Some (f i)
+    go : (b : Bool) → same_instance i j ≡ b → (i ≡ j) ⊎ Among i js → (Among i js → slice_get (map f js) (place_of i js) ≡ Some (f i)) → slice_get
+        (f j ∷ map f js) (cond b 0 (place_of i js + 1)) ≡ Some (f i)
     go true e m rest = ap (λ z. Some (f z)) (sym ((same_instance-Decides i j).0 e))
     go false e (inl same) rest = absurd (clash ((same_instance-Decides i j).1 same) e)
     go false e (inr m) rest = let n : place_of i js + 1 ≡ suc (place_of i js) = omega arith in ap (slice_get (f j ∷ map f js)) n ∙ rest m
@@ -65,13 +67,16 @@ module _ (p : TypedProgramTree) (is : List Instance) (fit : IsFitProgram p is) w
   ended (Ok x) = (Ended ending.Done, x.1)
   ended (Err e) = e
 
-  runs_to : (w : World) (s : Stage) → (k : ℕ) × (exec w code k (start code) s ≡ Some (ended (body_of w (call_at w p.functions limit) p.functions (slice_get p.functions 0) [] [] s)))
+  runs_to : (w : World) (s : Stage) → (k : ℕ) × (exec w code k (start code) s ≡ Some
+      (ended (body_of w (call_at w p.functions limit) p.functions (slice_get p.functions 0) [] [] s)))
   unfolding ended
   runs_to w s =
-      subst (λ z. (k : ℕ) × (exec w code k z s ≡ Some (ended (body_of w (call_at w p.functions limit) p.functions (slice_get p.functions 0) [] [] s)))) (sym begins)
+      subst (λ z. (k : ℕ) × (exec w code k z s ≡ Some (ended (body_of w (call_at w p.functions limit) p.functions (slice_get p.functions 0) [] [] s))))
+      (sym begins)
       (subst (λ z. (k : ℕ) × (exec w code k m0 s ≡ Some (ended (body_of w (call_at w p.functions limit) p.functions z [] [] s)))) (sym kn.there)
       (go (body_of w (call_at w p.functions limit) p.functions (Some kn.called) [] [] s)
-      ((body_runs w code (numbers_in is) p.functions (IsKnownIn is) (known w) (call_at w p.functions limit) limit (calls_run w code (numbers_in is) p.functions (IsKnownIn is) (known w) limit) 0 [] kn [] [] m0 tt refl refl refl refl (λ i. refl)).from s)))
+      ((body_runs w code (numbers_in is) p.functions (IsKnownIn is) (known w) (call_at w p.functions limit) limit
+      (calls_run w code (numbers_in is) p.functions (IsKnownIn is) (known w) limit) 0 [] kn [] [] m0 tt refl refl refl refl (λ i. refl)).from s)))
     where
       kn : IsKnown w code (numbers_in is) p.functions (IsKnownIn is) 0 []
       kn = known w 0 [] main_known
@@ -82,7 +87,8 @@ module _ (p : TypedProgramTree) (is : List Instance) (fit : IsFitProgram p is) w
       begins : start code ≡ m0
       begins = ap begin_at (ap (slice_get code) (sym main_first) ∙ kn.code)
 
-      go : (r : Run Value) → Follows w code m0 s r (Returns w code (numbers_in is) p.functions (IsKnownIn is) (known w) [] (is_private (given_domain [] kn.called.given))) → (k : ℕ) × (exec w code k m0 s ≡ Some (ended r))
+      go : (r : Run Value) → Follows w code m0 s r (Returns w code (numbers_in is) p.functions (IsKnownIn is) (known w) []
+          (is_private (given_domain [] kn.called.given))) → (k : ℕ) × (exec w code k m0 s ≡ Some (ended r))
       go (Err x) h = h
       go (Ok x) h = let a = h.2.by 1 in (a.0, a.1 ∙ one w code 0 h.0 x.1 ∙ ap (λ z. further z (exec w code 0)) (h.3.1 x.1 ∙ ap (λ z. resume z x.0 x.1) h.3.0))
 

@@ -1,5 +1,6 @@
 -- What a piece of code leaves as it was, and what is ready for the next piece.
-use Rattle.std.proofs.Common.{◌≡◌, ◌≢◌, ℕ, ◌+◌, ◌<◌, ◌≤◌, List, [], ◌∷◌, ◌++◌, length, Some, Ok, Bool, true, false, not, ◌&&◌, ◌||◌, refl, sym, ap, ◌∙◌, subst, arith}
+use Rattle.std.proofs.Common.{◌≡◌, ◌≢◌, ℕ, ◌+◌, ◌<◌, ◌≤◌, List, [], ◌∷◌, ◌++◌, length, Some, Ok, Bool, true, false, not, ◌&&◌, ◌||◌, refl, sym, ap, ◌∙◌}
+use Rattle.std.proofs.Common.{subst, arith}
 use Rattle.std.specs.Prelude.{slice_get}
 use Rattle.typed_tree.specs.declared.kinds.Shape.{Shape}
 use Rattle.typed_tree.specs.declared.kinds.Slot.{Slot}
@@ -64,7 +65,8 @@ below_free (x ∷ ss) s h = let l : shape_number s < 4 = small s in omega (arith
         go datatype.Bool true = omega arith
         go datatype.Bool false = omega arith
 
-pub holds_kept : {here : Setting} {fr registers registers' : Frame} (t : ℕ) → first_free here.slots ≤ t → Holds here fr registers → ((i : ℕ) → i < t → registers' i ≡ registers i) → Holds here fr registers'
+pub holds_kept : {here : Setting} {fr registers registers' : Frame} (t : ℕ) → first_free here.slots ≤ t → Holds here fr registers
+    → ((i : ℕ) → i < t → registers' i ≡ registers i) → Holds here fr registers'
 holds_kept {here = here} t l h k = record {
   agree = λ i j. k i (omega arith) ∙ h.agree i j;
   fits = h.fits;
@@ -79,11 +81,20 @@ pub record Ready (d : ℕ) (here : Setting) (fr : Frame) (t pc : ℕ) (is : List
   pub room : length m.stack + d ≡ limit
   pub free : first_free here.slots ≤ t
 
-pub ready_front : {d : ℕ} {here : Setting} {fr : Frame} {t pc : ℕ} {m : Machine} (u : ℕ) (a b : List Step) → t ≤ u → Ready d here fr t pc (a ++ b) m → Ready d here fr u pc a m
-ready_front {pc = pc} {m = m} u a b l r = record { place = r.place; has = has_front m.steps pc a b r.has; holds = r.holds; room = r.room; free = omega (arith, r.free) }
+pub ready_front : {d : ℕ} {here : Setting} {fr : Frame} {t pc : ℕ} {m : Machine} (u : ℕ) (a b : List Step) → t ≤ u → Ready d here fr t pc (a ++ b) m → Ready
+    d here fr u pc a m
+ready_front {pc = pc} {m = m} u a b l r = record {
+  place = r.place;
+  has = has_front m.steps pc a b r.has;
+  holds = r.holds;
+  room = r.room;
+  free = omega
+      (arith, r.free);
+}
 
 -- behind the first of them
-pub ready_back : {d : ℕ} {here : Setting} {fr : Frame} {t pc : ℕ} {m m1 : Machine} (u v : ℕ) (a b : List Step) → t ≤ u → t ≤ v → Ready d here fr t pc (a ++ b) m → Near v m m1 → m1.pc ≡ pc + length a → Ready d here fr u (pc + length a) b m1
+pub ready_back : {d : ℕ} {here : Setting} {fr : Frame} {t pc : ℕ} {m m1 : Machine} (u v : ℕ) (a b : List Step) → t ≤ u → t ≤ v → Ready d here fr t pc
+    (a ++ b) m → Near v m m1 → m1.pc ≡ pc + length a → Ready d here fr u (pc + length a) b m1
 ready_back {d = d} {pc = pc} {m = m} {m1 = m1} u v a b l k r n e = record {
   place = e;
   has = subst (λ z. HasAt z (pc + length a) b) (sym n.steps) (has_back m.steps pc a b r.has);
@@ -93,7 +104,8 @@ ready_back {d = d} {pc = pc} {m = m} {m1 = m1} u v a b l k r n e = record {
 }
 
 -- elsewhere in the same code
-pub ready_at : {d : ℕ} {here : Setting} {fr : Frame} {t pc : ℕ} {is : List Step} {m m1 : Machine} (u pc' : ℕ) (is' : List Step) → t ≤ u → Ready d here fr t pc is m → Near t m m1 → m1.pc ≡ pc' → HasAt m.steps pc' is' → Ready d here fr u pc' is' m1
+pub ready_at : {d : ℕ} {here : Setting} {fr : Frame} {t pc : ℕ} {is : List Step} {m m1 : Machine} (u pc' : ℕ) (is' : List Step) → t ≤ u → Ready d here fr t
+    pc is m → Near t m m1 → m1.pc ≡ pc' → HasAt m.steps pc' is' → Ready d here fr u pc' is' m1
 ready_at {d = d} {t = t} u pc' is' l r n e h = record {
   place = e;
   has = subst (λ z. HasAt z pc' is') (sym n.steps) h;
@@ -102,7 +114,8 @@ ready_at {d = d} {t = t} u pc' is' l r n e h = record {
   free = omega (arith, r.free);
 }
 
-pub ready_step : {d : ℕ} {here : Setting} {fr : Frame} {t pc : ℕ} {i : Step} {is : List Step} {m : Machine} → Ready d here fr t pc (i ∷ is) m → slice_get m.steps m.pc ≡ Some i
+pub ready_step : {d : ℕ} {here : Setting} {fr : Frame} {t pc : ℕ} {i : Step} {is : List Step} {m : Machine} → Ready d here fr t pc (i ∷ is) m → slice_get
+    m.steps m.pc ≡ Some i
 ready_step {i = i} {m = m} r = ap (λ z. slice_get m.steps z) r.place ∙ r.has.0
 
 -- ---- BRANCHES
@@ -114,9 +127,12 @@ pub record Branched (m : Machine) (to : ℕ) (m' : Machine) : Type 0 where
   pub registers : (i : ℕ) → m'.registers i ≡ m.registers i
 
 module _ {w : World} {p : List Function} where
-  pub branch_runs : (r : ℕ) (b : Bool) (target : ℕ) (v : Value) (m : Machine) → m.registers r ≡ v → slice_get m.steps m.pc ≡ Some (Branch r b target) → Runs w p m (tested v) (λ o m'. Branched m (either (same_bool o b) target (m.pc + 1)) m')
+  pub branch_runs : (r : ℕ) (b : Bool) (target : ℕ) (v : Value) (m : Machine) → m.registers r ≡ v → slice_get m.steps m.pc ≡ Some (Branch r b target) → Runs
+      w p m (tested v) (λ o m'. Branched m (either (same_bool o b) target (m.pc + 1)) m')
   branch_runs r b target v m e h =
-      instruct m (Branch r b target) (tested v) (λ o. at (either (same_bool o b) target (m.pc + 1)) m) (Any {A = Bool}) _ h (λ s. ap (λ z. carry (tested z s) (λ o. done (at (either (same_bool o b) target (m.pc + 1)) m))) e) (tested_gives w v) (λ o q. record { steps = refl; stack = refl; pc = refl; registers = λ i. refl })
+      instruct m (Branch r b target) (tested v) (λ o. at (either (same_bool o b) target (m.pc + 1)) m) (Any {A = Bool}) _ h
+      (λ s. ap (λ z. carry (tested z s) (λ o. done (at (either (same_bool o b) target (m.pc + 1)) m))) e) (tested_gives w v)
+      (λ o q. record { steps = refl; stack = refl; pc = refl; registers = λ i. refl })
 
 -- ---- CLASSIFICATION
 
@@ -131,10 +147,12 @@ pub record Wanting (b : Bool) (c r : ℕ) (m : Machine) (secret : Bool) (v : Val
 pub near_wanting : {b : Bool} {c r : ℕ} {m m' : Machine} {secret : Bool} {v : Value} (t : ℕ) → t ≤ c → Wanting b c r m secret v m' → Near t m m'
 near_wanting t l h = record { steps = h.steps; stack = h.stack; kept = λ i k. h.kept i (omega arith) }
 
-pub ready_classify : {d : ℕ} {here : Setting} {fr : Frame} {t pc : ℕ} {m : Machine} (b : Bool) (c r : ℕ) (is : List Step) → Ready d here fr t pc (classifying b c r ++ is) m → HasAt m.steps m.pc (classifying b c r)
+pub ready_classify : {d : ℕ} {here : Setting} {fr : Frame} {t pc : ℕ} {m : Machine} (b : Bool) (c r : ℕ) (is : List Step) → Ready d here fr t pc
+    (classifying b c r ++ is) m → HasAt m.steps m.pc (classifying b c r)
 ready_classify {pc = pc} {m = m} b c r is h = subst (λ z. HasAt m.steps z (classifying b c r)) (sym h.place) (has_front m.steps pc (classifying b c r) is h.has)
 
-pub ready_wanting : {d : ℕ} {here : Setting} {fr : Frame} {t pc : ℕ} {m m' : Machine} {secret : Bool} {v : Value} (b : Bool) (c r : ℕ) (is : List Step) → t ≤ c → Ready d here fr t pc (classifying b c r ++ is) m → Wanting b c r m secret v m' → Ready d here fr t (pc + length (classifying b c r)) is m'
+pub ready_wanting : {d : ℕ} {here : Setting} {fr : Frame} {t pc : ℕ} {m m' : Machine} {secret : Bool} {v : Value} (b : Bool) (c r : ℕ) (is : List Step) → t
+    ≤ c → Ready d here fr t pc (classifying b c r ++ is) m → Wanting b c r m secret v m' → Ready d here fr t (pc + length (classifying b c r)) is m'
 ready_wanting {t = t} b c r is l h k =
     ready_back t c (classifying b c r) is (omega arith) l h (near_wanting c (omega arith) k) (k.pc ∙ ap (λ z. z + length (classifying b c r)) h.place)
 
@@ -145,14 +163,18 @@ joined_want false false h = refl
 joined_want false true h = sym (h refl)
 
 module _ {w : World} {p : List Function} where
-  pub classifying_runs : (b : Bool) (c r : ℕ) (x : Value) (m : Machine) → m.registers r ≡ x → HasAt m.steps m.pc (classifying b c r) → Runs w p m (wanted b x) (Wanting b c r m (b || is_secret x.secrecy))
+  pub classifying_runs : (b : Bool) (c r : ℕ) (x : Value) (m : Machine) → m.registers r ≡ x → HasAt m.steps m.pc (classifying b c r) → Runs w p m
+      (wanted b x) (Wanting b c r m (b || is_secret x.secrecy))
   classifying_runs true c r x m e h =
-      instruct m (Classify c r) (classified x) (λ v. next c v m) (IsSecret true) (Wanting true c r m true) h.0 (λ s. ap (λ z. carry (classified z s) (λ v. done (next c v m))) e) (class_gives w x)
+      instruct m (Classify c r) (classified x) (λ v. next c v m) (IsSecret true) (Wanting true c r m true) h.0
+      (λ s. ap (λ z. carry (classified z s) (λ v. done (next c v m))) e) (class_gives w x)
       (λ v q. record { steps = refl; stack = refl; pc = refl; kept = λ i n. put_other c i v m.registers n; here = put_same c v m.registers; private = q })
   classifying_runs false c r x m e h = runs_done (record { steps = refl; stack = refl; pc = omega arith; kept = λ i n. refl; here = e; private = refl })
 
   -- where private values are wanted, and nothing private stands where a public one is
-  pub wanting_runs : (n g : Bool) (c r : ℕ) (x : Value) (m : Machine) → IsSecret g x → MayStand g n → m.registers r ≡ x → HasAt m.steps m.pc (classifying (lacks n g) c r) → Runs w p m (wanted n x) (Wanting (lacks n g) c r m n)
+  pub wanting_runs : (n g : Bool) (c r : ℕ) (x : Value) (m : Machine) → IsSecret g x → MayStand g n → m.registers r ≡ x → HasAt m.steps m.pc
+      (classifying (lacks n g) c r) → Runs w p m (wanted n x) (Wanting (lacks n g) c r m n)
   wanting_runs n g c r x m q d e h =
       subst (λ z. Runs w p m z (Wanting (lacks n g) c r m n)) (sym (wanted_less n g x q))
-      (subst (λ z. Runs w p m (wanted (lacks n g) x) (Wanting (lacks n g) c r m z)) (ap (λ z. lacks n g || z) q ∙ joined_want n g d) (classifying_runs (lacks n g) c r x m e h))
+      (subst (λ z. Runs w p m (wanted (lacks n g) x) (Wanting (lacks n g) c r m z)) (ap (λ z. lacks n g || z) q ∙ joined_want n g d)
+      (classifying_runs (lacks n g) c r x m e h))

@@ -1,10 +1,12 @@
 -- The code of nodes with one operand and with two, where the operands' code does what the operands do.
-use Rattle.std.proofs.Common.{◌≡◌, ◌≢◌, ℕ, ◌+◌, ◌<◌, ◌≤◌, List, [], ◌∷◌, ◌++◌, length, Some, Ok, Bool, true, false, not, ◌&&◌, ◌||◌, refl, sym, ap, ◌∙◌, subst, arith, length-append}
+use Rattle.std.proofs.Common.{◌≡◌, ◌≢◌, ℕ, ◌+◌, ◌<◌, ◌≤◌, List, [], ◌∷◌, ◌++◌, length, Some, Ok, Bool, true, false, not, ◌&&◌, ◌||◌, refl, sym, ap, ◌∙◌}
+use Rattle.std.proofs.Common.{subst, arith, length-append}
 use Rattle.std.specs.Prelude.{slice_get}
 use Rattle.secrec_ast.specs.declared.expression.DataType.TheVariants as datatype
 use Rattle.typed_tree.specs.declared.operators.BinaryOperator.{BinaryOperator}
 use Rattle.typed_tree.specs.declared.operators.Operands.{Operands}
-use Rattle.typed_tree.specs.Tree.{TypedTree, TypedTrees, word_node, truth_node, slot_node, call_node, size_node, cat_node, sum_node, bits_node, element_node, not_node, cast_node, binary_node, cut_node, declassify_node}
+use Rattle.typed_tree.specs.Tree.{TypedTree, TypedTrees, word_node, truth_node, slot_node, call_node, size_node, cat_node, sum_node, bits_node, element_node}
+use Rattle.typed_tree.specs.Tree.{not_node, cast_node, binary_node, cut_node, declassify_node}
 use Rattle.reached_instances.specs.declared.instance.BoundDomain.{BoundDomain}
 use Rattle.reached_instances.specs.declared.instance.BoundDomain.TheVariants as bound
 use Rattle.reached_instances.specs.Domains.{Setting, domain, joined}
@@ -21,7 +23,8 @@ use Rattle.code_model.specs.Fit.{MayStand}
 use Rattle.code_model.proofs.Places.{put_same, put_other}
 use Rattle.code_model.proofs.Gives.{Gives, IsSecret, operated_gives, joined_gives, element_gives}
 use Rattle.code_model.proofs.Follows.{Runs, runs_bind, instruct}
-use Rattle.code_model.proofs.Near.{Near, near_on, near_less, near_set, Landed, Ready, ready_front, ready_back, ready_step, Wanting, near_wanting, ready_classify, ready_wanting, classifying_runs, wanting_runs}
+use Rattle.code_model.proofs.Near.{Near, near_on, near_less, near_set, Landed, Ready, ready_front, ready_back, ready_step, Wanting, near_wanting}
+use Rattle.code_model.proofs.Near.{ready_classify, ready_wanting, classifying_runs, wanting_runs}
 
 pub width_some : (e : TypedTree) → 0 < width e
 width_some (word_node k) = omega arith
@@ -95,9 +98,11 @@ module _ (w : World) (p : List Function) (number : Numbers) (calls : Calls) (d :
   -- the code of an expression does what the expression does
   abbrev pub Evaluates : Setting → TypedTree → Type 0
   Evaluates here e =
-      (t pc : ℕ) (fr : Frame) (m : Machine) → Ready d here fr t pc (code here t pc e) m → Runs w p m (value w calls here e fr) (Landed t (pc + length (code here t pc e)) m (gives_private here e))
+      (t pc : ℕ) (fr : Frame) (m : Machine) → Ready d here fr t pc (code here t pc e) m → Runs w p m (value w calls here e fr)
+      (Landed t (pc + length (code here t pc e)) m (gives_private here e))
 
-  pub unary_runs : (here : Setting) (e : TypedTree) (t pc : ℕ) (fr : Frame) (m : Machine) (last : Step) (c : Value → Effect Value) (out : Bool) → Evaluates here e
+  pub unary_runs : (here : Setting) (e : TypedTree) (t pc : ℕ) (fr : Frame) (m : Machine) (last : Step) (c : Value → Effect Value) (out : Bool) → Evaluates
+      here e
       → ((x : Value) (m1 : Machine) (s : Stage) → m1.registers (t + 1) ≡ x → step w p (Some last) m1 s ≡ carry (c x s) (λ v. done (next t v m1)))
       → ((x : Value) → IsSecret (gives_private here e) x → Gives (c x) (IsSecret out)) → Ready d here fr t pc (code here (t + 1) pc e ++ last ∷ []) m
       → Runs w p m (value w calls here e fr >>= c) (Landed t (pc + length (code here (t + 1) pc e ++ last ∷ [])) m out)
@@ -106,11 +111,19 @@ module _ (w : World) (p : List Function) (number : Numbers) (calls : Calls) (d :
       runs_bind (ev (t + 1) pc fr m (ready_front (t + 1) ce (last ∷ []) (omega arith) r)) (λ x m1 h.
       let r1 = ready_back t (t + 1) ce (last ∷ []) (omega arith) (omega arith) r h.near h.pc in
       instruct m1 last (c x) (λ v. next t v m1) (IsSecret out) _ (ready_step r1) (λ s. st x m1 s h.here) (gives x h.private)
-      (λ v q. record { near = near_on (omega arith) (near_less t (omega arith) h.near) (near_set t t v m1 (omega arith)); pc = omega (arith, h.pc, length-append ce (last ∷ [])); here = put_same t v m1.registers; private = q }))
+      (λ v q. record {
+        near = near_on (omega arith) (near_less t (omega arith) h.near) (near_set t t v m1 (omega arith));
+        pc = omega
+            (arith, h.pc, length-append ce (last ∷ []));
+        here = put_same t v m1.registers;
+        private = q;
+      }))
 
-  pub operands_run : {A : Type 0} (here : Setting) (a b : TypedTree) (t ta u pc : ℕ) (fr : Frame) (m : Machine) (rest : List Step) (f : Value → Value → Effect A) (Q : A → Machine → Type 0) → t ≤ ta → ta < u → Evaluates here a → Evaluates here b
+  pub operands_run : {A : Type 0} (here : Setting) (a b : TypedTree) (t ta u pc : ℕ) (fr : Frame) (m : Machine) (rest : List Step)
+      (f : Value → Value → Effect A) (Q : A → Machine → Type 0) → t ≤ ta → ta < u → Evaluates here a → Evaluates here b
       → Ready d here fr t pc (code here ta pc a ++ (code here u (pc + length (code here ta pc a)) b ++ rest)) m
-      → ((x y : Value) (m2 : Machine) → Both (gives_private here a) (gives_private here b) t ta u m x y m2 → Ready d here fr t (pc + length (code here ta pc a) + length (code here u (pc + length (code here ta pc a)) b)) rest m2 → Runs w p m2 (f x y) Q)
+      → ((x y : Value) (m2 : Machine) → Both (gives_private here a) (gives_private here b) t ta u m x y m2 → Ready d here fr t
+      (pc + length (code here ta pc a) + length (code here u (pc + length (code here ta pc a)) b)) rest m2 → Runs w p m2 (f x y) Q)
       → Runs w p m (value w calls here a fr >>= λ x. value w calls here b fr >>= λ y. f x y) Q
   operands_run here a b t ta u pc fr m rest f Q la lu eva evb r k =
       let ca = code here ta pc a in
@@ -119,11 +132,19 @@ module _ (w : World) (p : List Function) (number : Numbers) (calls : Calls) (d :
       let r1 = ready_back t ta ca (cb ++ rest) (omega arith) la r h1.near h1.pc in
       runs_bind (evb u (pc + length ca) fr m1 (ready_front u cb rest (omega (arith, la, lu)) r1)) (λ y m2 h2.
       let r2 = ready_back t u cb rest (omega arith) (omega (arith, la, lu)) r1 h2.near h2.pc in
-      k x y m2 (record { near = near_on (omega (arith, la, lu)) (near_less t la h1.near) h2.near; left = h2.near.kept ta lu ∙ h1.here; right = h2.here; left_private = h1.private; right_private = h2.private }) r2))
+      k x y m2 (record {
+        near = near_on (omega (arith, la, lu)) (near_less t la h1.near) h2.near;
+        left = h2.near.kept ta lu ∙ h1.here;
+        right = h2.here;
+        left_private = h1.private;
+        right_private = h2.private;
+      }) r2))
 
   pub element_runs : (here : Setting) (a i : TypedTree) (t pc line : ℕ) (fr : Frame) (m : Machine) → Evaluates here a → Evaluates here i
       → Ready d here fr t pc (element_code t (t + 1 + width a) pc line (code here (t + 1) pc a) (λ q. code here (t + 1 + width a) q i)) m
-      → Runs w p m (value w calls here a fr >>= λ x. value w calls here i fr >>= λ j. row.element_of_array line x j) (Landed t (pc + length (element_code t (t + 1 + width a) pc line (code here (t + 1) pc a) (λ q. code here (t + 1 + width a) q i))) m (gives_private here a))
+      → Runs w p m (value w calls here a fr >>= λ x. value w calls here i fr >>= λ j. row.element_of_array line x j)
+      (Landed t (pc + length (element_code t (t + 1 + width a) pc line (code here (t + 1) pc a) (λ q. code here (t + 1 + width a) q i))) m
+      (gives_private here a))
   element_runs here a i t pc line fr m eva evi r =
       let u = t + 1 + width a in
       let ca = code here (t + 1) pc a in
@@ -132,7 +153,8 @@ module _ (w : World) (p : List Function) (number : Numbers) (calls : Calls) (d :
       let some = width_some a in
       operands_run here a i t (t + 1) u pc fr m last (row.element_of_array line) _ (omega arith) (omega (arith, some)) eva evi r (λ x j m2 h r2.
       instruct m2 (At line t (t + 1) u) (row.element_of_array line x j) (λ v. next t v m2) (IsSecret (gives_private here a)) _ (ready_step r2)
-      (λ s. ap (λ z. carry (row.element_of_array line z (m2.registers u) s) (λ v. done (next t v m2))) h.left ∙ ap (λ z. carry (row.element_of_array line x z s) (λ v. done (next t v m2))) h.right)
+      (λ s. ap (λ z. carry (row.element_of_array line z (m2.registers u) s) (λ v. done (next t v m2))) h.left ∙ ap
+      (λ z. carry (row.element_of_array line x z s) (λ v. done (next t v m2))) h.right)
       (subst (λ z. Gives (row.element_of_array line x j) (IsSecret z)) h.left_private (element_gives w line x j))
       (λ v q. record {
         near = near_on (omega arith) h.near (near_set t t v m2 (omega arith));
@@ -141,9 +163,13 @@ module _ (w : World) (p : List Function) (number : Numbers) (calls : Calls) (d :
         private = q;
       }))
 
-  pub binary_runs : (here : Setting) (a b : TypedTree) (t pc line : ℕ) (op : BinaryOperator) (ds : Operands) (fr : Frame) (m : Machine) → Evaluates here a → Evaluates here b
-      → Ready d here fr t pc (binary_code t (t + 3 + width a) pc line op ds (gives_private here a) (gives_private here b) (code here (t + 3) pc a) (λ q. code here (t + 3 + width a) q b)) m
-      → Runs w p m (value w calls here a fr >>= λ x. value w calls here b fr >>= λ y. operation w line op ds x y) (Landed t (pc + length (binary_code t (t + 3 + width a) pc line op ds (gives_private here a) (gives_private here b) (code here (t + 3) pc a) (λ q. code here (t + 3 + width a) q b))) m (is_private (joined (domain here a) (domain here b))))
+  pub binary_runs : (here : Setting) (a b : TypedTree) (t pc line : ℕ) (op : BinaryOperator) (ds : Operands) (fr : Frame) (m : Machine) → Evaluates here a
+      → Evaluates here b
+      → Ready d here fr t pc (binary_code t (t + 3 + width a) pc line op ds (gives_private here a) (gives_private here b) (code here (t + 3) pc a)
+      (λ q. code here (t + 3 + width a) q b)) m
+      → Runs w p m (value w calls here a fr >>= λ x. value w calls here b fr >>= λ y. operation w line op ds x y)
+      (Landed t (pc + length (binary_code t (t + 3 + width a) pc line op ds (gives_private here a) (gives_private here b) (code here (t + 3) pc a)
+      (λ q. code here (t + 3 + width a) q b))) m (is_private (joined (domain here a) (domain here b))))
   binary_runs here a b t pc line op ds fr m eva evb r =
       let ga = gives_private here a in
       let gb = gives_private here b in
@@ -157,30 +183,46 @@ module _ (w : World) (p : List Function) (number : Numbers) (calls : Calls) (d :
       let last = Binary line op ds t (picked f1 (t + 1) (t + 3)) (picked f2 (t + 2) u) ∷ [] in
       let some = width_some a in
       operands_run here a b t (t + 3) u pc fr m (cl ++ (cr ++ last)) (operation w line op ds) _ (omega arith) (omega (arith, some)) eva evb r (λ x y m2 h r2.
-      let flags : is_classified op x y ≡ f1 = ap (λ z. not (is_product op) && (z && not (is_secret x.secrecy))) h.right_private ∙ ap (λ z. not (is_product op) && (gb && not z)) h.left_private in
-      let other_flags : is_classified op y x ≡ f2 = ap (λ z. not (is_product op) && (z && not (is_secret y.secrecy))) h.left_private ∙ ap (λ z. not (is_product op) && (ga && not z)) h.right_private in
-      runs_bind (subst (λ z. Runs w p m2 (wanted z x) (Wanting f1 (t + 1) (t + 3) m2 (f1 || ga))) (sym flags) (subst (λ z. Runs w p m2 (wanted f1 x) (Wanting f1 (t + 1) (t + 3) m2 (f1 || z))) h.left_private
+      let flags : is_classified op x y ≡ f1 = ap (λ z. not (is_product op) && (z && not (is_secret x.secrecy))) h.right_private ∙ ap
+      (λ z. not (is_product op) && (gb && not z)) h.left_private in
+      let other_flags : is_classified op y x ≡ f2 = ap (λ z. not (is_product op) && (z && not (is_secret y.secrecy))) h.left_private ∙ ap
+      (λ z. not (is_product op) && (ga && not z)) h.right_private in
+      runs_bind (subst (λ z. Runs w p m2 (wanted z x) (Wanting f1 (t + 1) (t + 3) m2 (f1 || ga))) (sym flags)
+      (subst (λ z. Runs w p m2 (wanted f1 x) (Wanting f1 (t + 1) (t + 3) m2 (f1 || z))) h.left_private
       (classifying_runs f1 (t + 1) (t + 3) x m2 h.left (ready_classify f1 (t + 1) (t + 3) (cr ++ last) r2)))) (λ a' m3 h3.
       let r3 = ready_wanting f1 (t + 1) (t + 3) (cr ++ last) (omega arith) r2 h3 in
-      runs_bind (subst (λ z. Runs w p m3 (wanted z y) (Wanting f2 (t + 2) u m3 (f2 || gb))) (sym other_flags) (subst (λ z. Runs w p m3 (wanted f2 y) (Wanting f2 (t + 2) u m3 (f2 || z))) h.right_private
+      runs_bind (subst (λ z. Runs w p m3 (wanted z y) (Wanting f2 (t + 2) u m3 (f2 || gb))) (sym other_flags)
+      (subst (λ z. Runs w p m3 (wanted f2 y) (Wanting f2 (t + 2) u m3 (f2 || z))) h.right_private
       (classifying_runs f2 (t + 2) u y m3 (h3.kept u (omega arith) ∙ h.right) (ready_classify f2 (t + 2) u last r3)))) (λ b' m4 h4.
       let r4 = ready_wanting f2 (t + 2) u last (omega arith) r3 h4 in
       let left : m4.registers (picked f1 (t + 1) (t + 3)) ≡ a' = h4.kept (picked f1 (t + 1) (t + 3)) (apart f1 t) ∙ h3.here in
       let secret : (is_secret a'.secrecy || is_secret b'.secrecy) ≡ is_private (joined (domain here a) (domain here b)) =
-      ap (λ z. z || is_secret b'.secrecy) h3.private ∙ ap (λ z. (f1 || ga) || z) h4.private ∙ either_secret (not (is_product op)) ga gb ∙ sym (private_joined (domain here a) (domain here b)) in
-      instruct m4 (Binary line op ds t (picked f1 (t + 1) (t + 3)) (picked f2 (t + 2) u)) (operated w line op ds a' b') (λ v. next t v m4) (IsSecret (is_private (joined (domain here a) (domain here b)))) _ (ready_step r4)
-      (λ s. ap (λ z. carry (operated w line op ds z (m4.registers (picked f2 (t + 2) u)) s) (λ v. done (next t v m4))) left ∙ ap (λ z. carry (operated w line op ds a' z s) (λ v. done (next t v m4))) h4.here)
+      ap (λ z. z || is_secret b'.secrecy) h3.private ∙ ap (λ z. (f1 || ga) || z) h4.private ∙ either_secret (not (is_product op)) ga gb ∙ sym
+      (private_joined (domain here a) (domain here b)) in
+      instruct m4 (Binary line op ds t (picked f1 (t + 1) (t + 3)) (picked f2 (t + 2) u)) (operated w line op ds a' b') (λ v. next t v m4)
+      (IsSecret (is_private (joined (domain here a) (domain here b)))) _ (ready_step r4)
+      (λ s. ap (λ z. carry (operated w line op ds z (m4.registers (picked f2 (t + 2) u)) s) (λ v. done (next t v m4))) left ∙ ap
+      (λ z. carry (operated w line op ds a' z s) (λ v. done (next t v m4))) h4.here)
       (subst (λ z. Gives (operated w line op ds a' b') (IsSecret z)) secret (operated_gives w line op ds a' b'))
       (λ v q. record {
-        near = near_on (omega arith) h.near (near_on (omega arith) (near_wanting t (omega arith) h3) (near_on (omega arith) (near_wanting t (omega arith) h4) (near_set t t v m4 (omega arith))));
-        pc = omega (arith, r4.place, length-append ca (cb ++ (cl ++ (cr ++ last))), length-append cb (cl ++ (cr ++ last)), length-append cl (cr ++ last), length-append cr last);
+        near = near_on (omega arith) h.near (near_on (omega arith) (near_wanting t (omega arith) h3) (near_on (omega arith) (near_wanting t (omega arith) h4)
+            (near_set t t v m4 (omega arith))));
+        pc = omega (
+          arith,
+          r4.place,
+          length-append ca (cb ++ (cl ++ (cr ++ last))),
+          length-append cb (cl ++ (cr ++ last)),
+          length-append cl (cr ++ last),
+          length-append cr last,
+        );
         here = put_same t v m4.registers;
         private = q;
       }))))
 
   pub cat_runs : (here : Setting) (a b : TypedTree) (t pc line : ℕ) (fr : Frame) (m : Machine) → Evaluates here a → Evaluates here b
       → Ready d here fr t pc (code here t pc (cat_node line a b)) m
-      → Runs w p m (value w calls here (cat_node line a b) fr) (Landed t (pc + length (code here t pc (cat_node line a b))) m (gives_private here (cat_node line a b)))
+      → Runs w p m (value w calls here (cat_node line a b) fr) (Landed t (pc + length (code here t pc (cat_node line a b))) m
+      (gives_private here (cat_node line a b)))
   unfolding value
   cat_runs here a b t pc line fr m eva evb r =
       let ga = gives_private here a in
@@ -198,21 +240,35 @@ module _ (w : World) (p : List Function) (number : Numbers) (calls : Calls) (d :
       let some = width_some a in
       runs_bind (eva (t + 3) pc fr m (ready_front (t + 3) ca (cl ++ (cb ++ (cr ++ last))) (omega arith) r)) (λ x m1 h1.
       let r1 = ready_back t (t + 3) ca (cl ++ (cb ++ (cr ++ last))) (omega arith) (omega arith) r h1.near h1.pc in
-      runs_bind (wanting_runs g ga (t + 1) (t + 3) x m1 h1.private (left_may (domain here a) (domain here b)) h1.here (ready_classify f1 (t + 1) (t + 3) (cb ++ (cr ++ last)) r1)) (λ x' m2 h2.
+      runs_bind (wanting_runs g ga (t + 1) (t + 3) x m1 h1.private (left_may (domain here a) (domain here b)) h1.here
+      (ready_classify f1 (t + 1) (t + 3) (cb ++ (cr ++ last)) r1)) (λ x' m2 h2.
       let r2 = ready_wanting f1 (t + 1) (t + 3) (cb ++ (cr ++ last)) (omega arith) r1 h2 in
       runs_bind (evb u pb fr m2 (ready_front u cb (cr ++ last) (omega arith) r2)) (λ y m3 h3.
       let r3 = ready_back t u cb (cr ++ last) (omega arith) (omega arith) r2 h3.near h3.pc in
-      runs_bind (wanting_runs g gb (t + 2) u y m3 h3.private (right_may (domain here a) (domain here b)) h3.here (ready_classify f2 (t + 2) u last r3)) (λ y' m4 h4.
+      runs_bind (wanting_runs g gb (t + 2) u y m3 h3.private (right_may (domain here a) (domain here b)) h3.here (ready_classify f2 (t + 2) u last r3))
+      (λ y' m4 h4.
       let r4 = ready_wanting f2 (t + 2) u last (omega arith) r3 h4 in
       let low = before f1 t in
-      let left : m4.registers (picked f1 (t + 1) (t + 3)) ≡ x' = h4.kept (picked f1 (t + 1) (t + 3)) (apart f1 t) ∙ h3.near.kept (picked f1 (t + 1) (t + 3)) (omega (arith, low, some)) ∙ h2.here in
-      let secret : (is_secret x'.secrecy || is_secret y'.secrecy) ≡ g = ap (λ z. z || is_secret y'.secrecy) h2.private ∙ ap (λ z. g || z) h4.private ∙ joined_both (domain here a) (domain here b) in
+      let left : m4.registers (picked f1 (t + 1) (t + 3)) ≡ x' = h4.kept (picked f1 (t + 1) (t + 3)) (apart f1 t) ∙ h3.near.kept (picked f1 (t + 1) (t + 3))
+      (omega (arith, low, some)) ∙ h2.here in
+      let secret : (is_secret x'.secrecy || is_secret y'.secrecy) ≡ g = ap (λ z. z || is_secret y'.secrecy) h2.private ∙ ap (λ z. g || z) h4.private
+      ∙ joined_both (domain here a) (domain here b) in
       instruct m4 (Cat line t (picked f1 (t + 1) (t + 3)) (picked f2 (t + 2) u)) (row.joined line x' y') (λ v. next t v m4) (IsSecret g) _ (ready_step r4)
-      (λ s. ap (λ z. carry (row.joined line z (m4.registers (picked f2 (t + 2) u)) s) (λ v. done (next t v m4))) left ∙ ap (λ z. carry (row.joined line x' z s) (λ v. done (next t v m4))) h4.here)
+      (λ s. ap (λ z. carry (row.joined line z (m4.registers (picked f2 (t + 2) u)) s) (λ v. done (next t v m4))) left ∙ ap
+      (λ z. carry (row.joined line x' z s) (λ v. done (next t v m4))) h4.here)
       (subst (λ z. Gives (row.joined line x' y') (IsSecret z)) secret (joined_gives w line x' y'))
       (λ v q. record {
-        near = near_on (omega arith) (near_less t (omega arith) h1.near) (near_on (omega arith) (near_wanting t (omega arith) h2) (near_on (omega arith) (near_less t (omega arith) h3.near) (near_on (omega arith) (near_wanting t (omega arith) h4) (near_set t t v m4 (omega arith)))));
-        pc = omega (arith, r4.place, length-append ca (cl ++ (cb ++ (cr ++ last))), length-append cl (cb ++ (cr ++ last)), length-append cb (cr ++ last), length-append cr last);
+        near = near_on (omega arith) (near_less t (omega arith) h1.near) (near_on (omega arith) (near_wanting t (omega arith) h2)
+            (near_on (omega arith) (near_less t (omega arith) h3.near) (near_on (omega arith) (near_wanting t (omega arith) h4)
+            (near_set t t v m4 (omega arith)))));
+        pc = omega (
+          arith,
+          r4.place,
+          length-append ca (cl ++ (cb ++ (cr ++ last))),
+          length-append cl (cb ++ (cr ++ last)),
+          length-append cb (cr ++ last),
+          length-append cr last,
+        );
         here = put_same t v m4.registers;
         private = q;
       })))))

@@ -9,7 +9,8 @@ use Rattle.typed_tree.specs.declared.operators.Operands.TheVariants.{Scalars}
 use Rattle.typed_tree.specs.declared.operators.Connective.TheVariants.{AndAlso}
 use Rattle.typed_tree.specs.Shapes.{shape_of}
 use Rattle.typed_tree.specs.Tree.{word_node, truth_node, slot_node, call_node, binary_node, cut_node, declassify_node, typed_trees_of}
-use Rattle.typed_tree.specs.Commands.{Command, block_command, if_command, loop_command, do_command, break_command, return_command, store_command, default_command, fill_command, element_command, publish_command, empty_command, evaluate_command, commands_of}
+use Rattle.typed_tree.specs.Commands.{Command, block_command, if_command, loop_command, do_command, break_command, return_command, store_command}
+use Rattle.typed_tree.specs.Commands.{default_command, fill_command, element_command, publish_command, empty_command, evaluate_command, commands_of}
 use Rattle.typed_tree.specs.Programs.{TypedFunctionTree, TypedProgramTree}
 use Rattle.reached_instances.specs.Instances.{Instance}
 use Rattle.sc_text.specs.Lists.{Among}
@@ -29,9 +30,11 @@ main_function =
       parameters = 0;
       slots = record { domain = domain.Public; shape = shape_of Uint64 false } ∷ record { domain = domain.Private 0; shape = shape_of Uint64 true } ∷ [];
       given = given.Nothing;
-      body = commands_of (store_command 0 (declassify_node (call_node 2 1 (typed_trees_of (word_node 2 ∷ [])))) ∷ default_command 1 ∷ fill_command 3 1 (word_node 3) (word_node 5)
-      ∷ do_command (element_command 4 1 (word_node 0) (slot_node 0)) (truth_node false) ∷ loop_command (cut_node AndAlso (truth_node true) (truth_node true)) empty_command (block_command (commands_of (break_command ∷ [])))
-      ∷ evaluate_command (call_node 7 1 (typed_trees_of (slot_node 0 ∷ []))) ∷ publish_command (121 ∷ []) (slot_node 1) ∷ []);
+      body = commands_of (store_command 0 (declassify_node (call_node 2 1 (typed_trees_of (word_node 2 ∷ [])))) ∷ default_command 1 ∷ fill_command 3 1
+          (word_node 3) (word_node 5)
+          ∷ do_command (element_command 4 1 (word_node 0) (slot_node 0)) (truth_node false) ∷ loop_command
+          (cut_node AndAlso (truth_node true) (truth_node true)) empty_command (block_command (commands_of (break_command ∷ [])))
+          ∷ evaluate_command (call_node 7 1 (typed_trees_of (slot_node 0 ∷ []))) ∷ publish_command (121 ∷ []) (slot_node 1) ∷ []);
       size = 0;
     }
 
@@ -43,7 +46,8 @@ f_function =
       parameters = 1;
       slots = record { domain = domain.Private 0; shape = shape_of Uint64 false } ∷ [];
       given = given.Value (record { domain = domain.Private 0; shape = shape_of Uint64 false });
-      body = commands_of (if_command (truth_node true) (return_command (Some (binary_node 1 (Words word.Add) Scalars (slot_node 0) (word_node 1)))) (return_command (Some (word_node 1))) ∷ []);
+      body = commands_of (if_command (truth_node true) (return_command (Some (binary_node 1 (Words word.Add) Scalars (slot_node 0) (word_node 1))))
+          (return_command (Some (word_node 1))) ∷ []);
       size = 0;
     }
 
@@ -72,7 +76,19 @@ fits = record {
       called = main_function;
       there = refl;
       fit = record {
-        body = ((omega arith, (f_there, (tt, (λ h. refl), tt)), λ h. h), (omega arith, ((tt, (omega arith, tt, λ h. refl)), (((tt, (omega arith, omega arith, λ h. refl)), tt), (((tt, tt), tt, (refl, tt)), ((f_there, (omega arith, (λ h. refl), tt)), (omega arith, tt)))))));
+        body = (
+          (omega arith, (f_there, (tt, (λ h. refl), tt)), λ h. h),
+          (
+            omega arith,
+            (
+              (tt, (omega arith, tt, λ h. refl)),
+              (
+                ((tt, (omega arith, omega arith, λ h. refl)), tt),
+                (((tt, tt), tt, (refl, tt)), ((f_there, (omega arith, (λ h. refl), tt)), (omega arith, tt))),
+              ),
+            ),
+          ),
+        );
         returns = λ h. cc;
       };
     }
@@ -98,7 +114,17 @@ sample w budget answers = means program instances fits w budget answers
 
 -- the code of a program that does nothing is one step, and has no register
 nothing_program : TypedProgramTree
-nothing_program = record { functions = record { name = []; variables = 0; parameters = 0; slots = []; given = given.Nothing; body = commands_of []; size = 0 } ∷ [] }
+nothing_program = record {
+  functions = record {
+    name = [];
+    variables = 0;
+    parameters = 0;
+    slots = [];
+    given = given.Nothing;
+    body = commands_of [];
+    size = 0;
+  } ∷ [];
+}
 
 nothing_code : code_of nothing_program (the_main ∷ []) ≡ record { parameters = 0; gives = None; kinds = []; steps = ReturnNone ∷ [] } ∷ []
 unfolding nothing_program

@@ -5,3 +5,4 @@ pub mod Expressions
 pub mod Commands
 pub mod Programs
 pub mod Fit
+pub mod Laws

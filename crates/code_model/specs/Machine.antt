@@ -9,7 +9,8 @@ use Rattle.language_model.specs.Values.{Value, plain, never_stored, size}
 use Rattle.language_model.specs.Operations as row
 use Rattle.language_model.specs.Evaluation.{Frame, put, nothing, array_elements, either, asked_for, input_named}
 use Rattle.bytecode.specs.declared.kind.Kind.{Kind}
-use Rattle.verified_code.specs.Steps.{kind_shape, Step, Literal, Move, Store, Binary, Not, Cast, Classify, Fill, At, Put, Size, Cat, Sum, Bits, Declassify, Argument, Publish, Assert, Branch, Jump, Call, Return, ReturnNone, Function}
+use Rattle.verified_code.specs.Steps.{kind_shape, Step, Literal, Move, Store, Binary, Not, Cast, Classify, Fill, At, Put, Size, Cat, Sum, Bits, Declassify}
+use Rattle.verified_code.specs.Steps.{Argument, Publish, Assert, Branch, Jump, Call, Return, ReturnNone, Function}
 
 -- where a call comes back to, and the register of its result
 pub record Caller : Type 0 where

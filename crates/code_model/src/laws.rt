@@ -1,0 +1,21 @@
+// What is true of the code of every program, and of every code whose jumps go forward.
+ghost use Rattle.std.specs.Prelude.{ℕ, List};
+ghost use Rattle.typed_tree.specs.Programs.{TypedProgramTree};
+ghost use Rattle.reached_instances.specs.Instances.{Instance};
+ghost use Rattle.language_model.specs.Effects.{World};
+ghost use Rattle.verified_code.specs.Steps.{Function};
+ghost use Rattle.code_model.specs.Meaning.{AreForward};
+ghost use Rattle.code_model.specs.Programs.{code_of};
+ghost use Rattle.code_model.specs.Laws.{EndsWithinFuel, MeansTheProgram};
+
+/// Law: the meaning of a program's code is the program's evaluation: the same end, cost, words of tapes, events, opened words and
+/// gates, whatever the tapes, the inputs, the budget and the answers, in the clear and blind.
+pub fn code_means_what_the_program_does()
+    ensures { (p : TypedProgramTree) (is : List Instance) (w : World) (budget : ℕ) (answers : List ℕ) → MeansTheProgram p is w budget answers }
+{}
+
+/// Law: each run of code whose jumps go forward ends within its fuel, and the jumps of a program's code go forward.
+pub fn runs_of_code_end()
+    ensures ends { (w : World) (c : List Function) (budget : ℕ) (answers : List ℕ) → EndsWithinFuel w c budget answers }
+    ensures forward { (p : TypedProgramTree) (is : List Instance) → AreForward (code_of p is) }
+{}
