@@ -1,24 +1,26 @@
 -- A call of an instance does what evaluation's call does.
-use Rattle.std.proofs.Common.{◌≡◌, ℕ, zero, suc, ◌+◌, ◌<◌, ◌≤◌, List, [], ◌∷◌, ◌++◌, length, Option, Some, None, Ok, Err, Bool, true, false, refl, sym, ap}
+use Rattle.std.proofs.Common.{◌≡◌, ℕ, zero, suc, ◌+◌, List, [], ◌∷◌, ◌++◌, length, Some, None, Ok, Err, Bool, true, false, refl, sym, ap}
 use Rattle.std.proofs.Common.{◌∙◌, subst, arith}
 use Rattle.std.specs.Prelude.{slice_get, nat_lt, map, sum}
 use Rattle.std.proofs.lemmas.Bool.{lt-ltb, le-ltb}
 use Rattle.sc_text.specs.declared.end.Ending.TheVariants as ending
 use Rattle.sc_text.specs.declared.end.TrapKind.TheVariants as trap
+use Rattle.typed_tree.specs.declared.function.Given.{Given}
+use Rattle.typed_tree.specs.declared.function.Given.TheVariants as given
 use Rattle.typed_tree.specs.Programs.{TypedFunctionTree}
 use Rattle.reached_instances.specs.declared.instance.BoundDomain.{BoundDomain}
 use Rattle.reached_instances.specs.Domains.{given_domain}
 use Rattle.language_model.specs.Effects.{World, Stage, Run, Effect, ◌>>=◌, carry, done, end, charge, test}
 use Rattle.language_model.specs.Values.{Value}
-use Rattle.language_model.specs.Evaluation.{Frame, Calls, Place, is_private, nothing, slots_of, array_elements, Flow, goes, returns, stops, skips}
+use Rattle.language_model.specs.Evaluation.{Calls, Place, is_private, nothing, slots_of, array_elements, Flow, goes, returns, stops, skips}
 use Rattle.language_model.specs.Evaluation.{execute_all, entered, result_of, place_in, body_of, call_at}
 use Rattle.language_model.proofs.Onward.{onward_charge}
-use Rattle.verified_code.specs.Steps.{Step, ReturnNone, Function}
+use Rattle.verified_code.specs.Steps.{Step, Function}
 use Rattle.code_model.specs.Machine.{Caller, Machine, step, received, caller_of, entering, limit, resume, values_at}
 use Rattle.code_model.specs.Expressions.{Numbers}
-use Rattle.code_model.specs.Commands.{first_free, commands_code}
-use Rattle.code_model.specs.Programs.{body_end, function_code}
-use Rattle.code_model.specs.Fit.{IsFitFunction, one_returns}
+use Rattle.code_model.specs.Commands.{first_free, commands_width, commands_code}
+use Rattle.code_model.specs.Programs.{last_step, body_end, function_code}
+use Rattle.code_model.specs.Fit.{gives_value, IsFitFunction, one_returns}
 use Rattle.code_model.proofs.Places.{HasAt, has_front, has_back, has_all}
 use Rattle.code_model.proofs.Gives.{GivesAt, Gives, Any, IsSecret, gives_bind, gives_any}
 use Rattle.code_model.proofs.Follows.{Follows, follow, Runs, runs_bind, runs_done, runs_more, moves, silent}
@@ -72,8 +74,11 @@ module _ (w : World) (p : List Function) (number : Numbers) (fs : List TypedFunc
         e0 : E ≡ 0 + length cs
         e0 = omega (arith, commands_length number pl f.body (first_free f.slots) E E 0 0 0 0)
 
+        last : Step
+        last = last_step f.given (first_free f.slots + commands_width f.body)
+
         code : List Step
-        code = cs ++ ReturnNone ∷ []
+        code = cs ++ last ∷ []
 
         W : Flow → Machine → Type 0
         W = Went w p number calls d pl code stack room E E (0 + length cs)
@@ -84,12 +89,12 @@ module _ (w : World) (p : List Function) (number : Numbers) (fs : List TypedFunc
         has : HasAt code 0 code
         has = has_all code []
 
-        end_at : slice_get code (0 + length cs) ≡ Some ReturnNone
-        end_at = (has_back code 0 cs (ReturnNone ∷ []) has).0
+        end_at : slice_get code (0 + length cs) ≡ Some last
+        end_at = (has_back code 0 cs (last ∷ []) has).0
 
         runs : Runs w p m c W
         runs = commands_run w p number fs Known calls d ok pl refl code stack room f.body false kn.fit.body E E (first_free f.slots) 0 (entered b f.slots xs)
-            m (omega arith) (has_front code 0 cs (ReturnNone ∷ []) has) (hs, hp, hk, begins_holding fs f b xs m.registers fits hr)
+            m (omega arith) (has_front code 0 cs (last ∷ []) has) (hs, hp, hk, begins_holding fs f b xs m.registers fits hr)
 
         closed : (s : Stage) (g : Flow) (s1 : Stage) → c s ≡ Ok (g, s1) → always.Leads false (one_returns f.body) g
         closed s g s1 e = subst (always.LeadsAt false (one_returns f.body)) e
@@ -98,16 +103,24 @@ module _ (w : World) (p : List Function) (number : Numbers) (fs : List TypedFunc
         clash : false ≡ true → ⊥
         clash h = cc
 
-        -- it falls off its end only where nothing private is given back
-        falls : one_returns f.body ≡ false → IsSecret (is_private (given_domain b f.given)) nothing
-        falls h = go (is_private (given_domain b f.given)) refl
-          where
-            go : (x : Bool) → is_private (given_domain b f.given) ≡ x → IsSecret x nothing
-            go false e = refl
-            go true e = absurd (clash (sym h ∙ kn.fit.returns e))
+        -- it falls off its end only where nothing is given back
+        falls_step : (g : Given) → (gives_value g ≡ true → one_returns f.body ≡ true) → one_returns f.body ≡ false → (m1 : Machine) (s : Stage)
+            → step w p (Some (last_step g (first_free f.slots + commands_width f.body))) m1 s ≡ resume m1.stack nothing s
+        falls_step given.Nothing r h m1 s = refl
+        falls_step (given.Value x) r h m1 s = absurd (clash (sym h ∙ r refl))
+
+        falls_secret : (g : Given) → (gives_value g ≡ true → one_returns f.body ≡ true) → one_returns f.body ≡ false
+            → IsSecret (is_private (given_domain b g)) nothing
+        falls_secret given.Nothing r h = refl
+        falls_secret (given.Value x) r h = absurd (clash (sym h ∙ r refl))
 
         ending' : (g : Flow) (m1 : Machine) → W g m1 → always.Leads false (one_returns f.body) g → Runs w p m1 (done (result_of g)) P
-        ending' (goes fr) m1 h q = runs_done (h.2, λ s. ap (λ o. step w p o m1 s) (next_step w p number calls d pl code stack room h end_at), falls q)
+        ending' (goes fr) m1 h q =
+            runs_done (
+              h.2,
+              λ s. ap (λ o. step w p o m1 s) (next_step w p number calls d pl code stack room h end_at) ∙ falls_step f.given kn.fit.returns q m1 s,
+              falls_secret f.given kn.fit.returns q,
+            )
         ending' (returns v) m1 h q = runs_done h
         ending' (stops fr) m1 h q = absurd (clash q)
         ending' (skips fr) m1 h q = absurd (clash q)

@@ -1,11 +1,10 @@
 -- The code of a statement does what the statement does.
-use Rattle.std.proofs.Common.{◌≡◌, ◌≢◌, ℕ, suc, ◌+◌, ◌<◌, ◌≤◌, List, [], ◌∷◌, ◌++◌, length, Option, Some, None, Ok, Bool, true, false, refl, sym, ap, ◌∙◌}
+use Rattle.std.proofs.Common.{◌≡◌, ℕ, ◌+◌, ◌<◌, ◌≤◌, List, [], ◌∷◌, ◌++◌, length, Option, Some, None, Bool, true, false, refl, sym, ap, ◌∙◌}
 use Rattle.std.proofs.Common.{subst, arith, length-append}
 use Rattle.std.specs.Prelude.{slice_get}
-use Rattle.typed_tree.specs.declared.kinds.Slot.{Slot}
 use Rattle.typed_tree.specs.declared.function.Given.{Given}
 use Rattle.typed_tree.specs.declared.function.Given.TheVariants as given
-use Rattle.typed_tree.specs.Tree.{TypedTree, TypedTrees, word_node, truth_node, slot_node, call_node, size_node, cat_node, sum_node, bits_node, element_node}
+use Rattle.typed_tree.specs.Tree.{TypedTree, word_node, truth_node, slot_node, call_node, size_node, cat_node, sum_node, bits_node, element_node}
 use Rattle.typed_tree.specs.Tree.{not_node, cast_node, binary_node, cut_node, declassify_node}
 use Rattle.typed_tree.specs.Commands.{Command, Commands, empty_command, block_command, if_command, loop_command, do_command, break_command, continue_command}
 use Rattle.typed_tree.specs.Commands.{return_command, assert_command, store_command, default_command, fill_command, input_command, element_command}
@@ -13,26 +12,26 @@ use Rattle.typed_tree.specs.Commands.{publish_command, evaluate_command}
 use Rattle.typed_tree.specs.Commands as Commands'
 use Rattle.typed_tree.specs.Programs.{TypedFunctionTree}
 use Rattle.reached_instances.specs.declared.instance.BoundDomain.{BoundDomain}
-use Rattle.reached_instances.specs.Domains.{Setting, domains}
+use Rattle.reached_instances.specs.Domains.{domains}
 use Rattle.language_model.specs.Effects.{World, Stage, Effect, ◌>>=◌, carry, done}
 use Rattle.language_model.specs.Values.{Value, plain, size, default_words}
 use Rattle.language_model.specs.Operations as row
 use Rattle.language_model.specs.Operations.{charged, no_traps, wanted, tested}
 use Rattle.language_model.specs.Evaluation.{Frame, put, Calls, Place, gives_private, slot_is_private, slot_shape, slots_of, bound_at, asked_for, input_named}
-use Rattle.language_model.specs.Evaluation.{either, value, Flow, goes, returns, stops, skips, turns, repeats, stored, execute, execute_all}
-use Rattle.verified_code.specs.Steps.{Step, Store, Fill, Put, Argument, Publish, Assert, Branch, Jump, Call, Return, ReturnNone, Function}
-use Rattle.code_model.specs.Machine.{Caller, Machine, at, next, step, further, exec, resume, received, limit, same_bool}
+use Rattle.language_model.specs.Evaluation.{either, value, Flow, goes, stops, skips, stored, execute, execute_all}
+use Rattle.verified_code.specs.Steps.{Step, Store, Fill, Put, Argument, Publish, Assert, Branch, Jump, Call, Return, Function}
+use Rattle.code_model.specs.Machine.{Caller, Machine, at, next, step, resume, received, limit, same_bool}
 use Rattle.code_model.specs.Kinds.{width, kind_of}
 use Rattle.code_model.specs.Expressions.{Numbers, classifying, picked, lacks, arguments_code, arguments_places, given_at, result_at, unread_code}
 use Rattle.code_model.specs.Commands.{shape_number, first_free, command_width, behind_classifying, command_code, commands_code}
 use Rattle.code_model.specs.Fit.{MayStand, IsFit, IsFitCommand, AreFitCommands}
 use Rattle.code_model.proofs.Places.{HasAt, has_front, has_back, put_same, put_other}
-use Rattle.code_model.proofs.Gives.{Gives, gives_with, Any, IsSecret, charge_gives, filled_gives, with_element_gives, asked_gives, published_gives}
+use Rattle.code_model.proofs.Gives.{Gives, gives_with, IsSecret, charge_gives, filled_gives, with_element_gives, asked_gives, published_gives}
 use Rattle.code_model.proofs.Gives.{asserted_gives, wanted_same}
-use Rattle.code_model.proofs.Follows.{Follows, follow, extend, one, Runs, runs_bind, runs_done, runs_more, runs_first, instruct, silent}
-use Rattle.code_model.proofs.Near.{Near, Holds, holds_kept, Ready, ready_front, ready_back, Branched, branch_runs}
+use Rattle.code_model.proofs.Follows.{Runs, runs_bind, runs_done, runs_more, runs_first, instruct, silent}
+use Rattle.code_model.proofs.Near.{holds_kept, ready_front, ready_back, branch_runs}
 use Rattle.code_model.proofs.Operands.{width_some, operands_run}
-use Rattle.code_model.proofs.Expressions.{CallsRun, Next, Passed, call_runs, expression_runs, arguments_run}
+use Rattle.code_model.proofs.Expressions.{CallsRun, call_runs, expression_runs, arguments_run}
 use Rattle.code_model.proofs.Lengths.{expression_length, command_length}
 use Rattle.code_model.proofs.Standing as standing
 use Rattle.code_model.proofs.Loops.{turns_run, repeats_run}

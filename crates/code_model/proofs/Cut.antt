@@ -1,5 +1,5 @@
 -- The code of `&&` and `||`: where the left operand is public it may decide alone.
-use Rattle.std.proofs.Common.{◌≡◌, ℕ, ◌+◌, ◌<◌, ◌≤◌, List, [], ◌∷◌, ◌++◌, length, Some, Ok, Bool, true, false, not, ◌||◌, refl, sym, ap, ◌∙◌, subst, arith}
+use Rattle.std.proofs.Common.{◌≡◌, ℕ, ◌+◌, List, [], ◌∷◌, ◌++◌, length, Some, Bool, true, false, ◌||◌, refl, sym, ap, ◌∙◌, subst, arith}
 use Rattle.std.proofs.Common.{length-append}
 use Rattle.std.specs.Prelude.{slice_get}
 use Rattle.secrec_ast.specs.declared.expression.DataType.TheVariants as datatype
@@ -9,10 +9,10 @@ use Rattle.typed_tree.specs.declared.operators.Connective.{Connective}
 use Rattle.typed_tree.specs.declared.operators.Connective.TheVariants.{AndAlso, OrElse}
 use Rattle.typed_tree.specs.Tree.{TypedTree, cut_node}
 use Rattle.reached_instances.specs.Domains.{Setting, domain}
-use Rattle.language_model.specs.Effects.{World, Stage, Effect, ◌>>=◌, carry, done}
+use Rattle.language_model.specs.Effects.{World, Effect, ◌>>=◌, carry, done}
 use Rattle.language_model.specs.Values.{Value}
 use Rattle.language_model.specs.Words.{truth_word}
-use Rattle.language_model.specs.Operations.{classified, wanted, tested}
+use Rattle.language_model.specs.Operations.{classified, wanted}
 use Rattle.language_model.specs.Evaluation.{Frame, Calls, gives_private, connective, decides, truth_value, either, cut_short, not_cut_short, value}
 use Rattle.verified_code.specs.Steps.{Step, Literal, Move, Classify, Branch, Jump, Function}
 use Rattle.code_model.specs.Machine.{Machine, at, next, step, same_bool}
@@ -21,8 +21,8 @@ use Rattle.code_model.specs.Expressions.{Numbers, binary_code, deciding, settlin
 use Rattle.code_model.proofs.Places.{HasAt, has_front, has_back, put_same, put_other}
 use Rattle.code_model.proofs.Gives.{IsSecret, class_gives}
 use Rattle.code_model.proofs.Follows.{Runs, runs_bind, runs_more, runs_first, instruct, silent}
-use Rattle.code_model.proofs.Near.{Near, near_on, near_less, near_set, Landed, Ready, ready_front, ready_back, ready_step, ready_at, Branched, branch_runs}
-use Rattle.code_model.proofs.Operands.{width_some, private_joined, code, Evaluates, binary_runs}
+use Rattle.code_model.proofs.Near.{Near, near_on, near_less, near_set, Landed, Ready, ready_front, ready_back, ready_step, ready_at, branch_runs}
+use Rattle.code_model.proofs.Operands.{private_joined, code, Evaluates, binary_runs}
 
 decides_same : (c : Connective) (o : Bool) → same_bool o (deciding c) ≡ decides c o
 decides_same AndAlso true = refl

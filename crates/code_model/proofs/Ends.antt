@@ -1,15 +1,15 @@
 -- Each run of code whose jumps go forward ends within its fuel.
 use Rattle.std.proofs.Common.{◌≡◌, ℕ, zero, suc, ◌+◌, ◌-◌, ◌<◌, ◌≤◌, List, [], ◌∷◌, length, Option, Some, None, Ok, Err, Bool, true, false, cond, refl, sym}
 use Rattle.std.proofs.Common.{ap, ◌∙◌, subst, arith, ◌⊎◌, inl, inr}
-use Rattle.std.specs.Prelude.{slice_get, nat_lt, nat_le, map, sum, max}
+use Rattle.std.specs.Prelude.{slice_get, nat_lt, nat_le, map, sum}
 use Rattle.std.proofs.lemmas.Bool.{cases_lt, leb-true}
 use Rattle.std.proofs.lemmas.Option.{slice_get_past}
 use Rattle.sc_text.specs.declared.end.Ending.TheVariants as ending
 use Rattle.sc_text.specs.declared.end.TrapKind.TheVariants as trap
-use Rattle.language_model.specs.Effects.{World, Stage, Stop, Ended, Run, Effect, ◌>>=◌, carry, done, end, charge, test}
+use Rattle.language_model.specs.Effects.{World, Stage, Stop, Ended, Run, Effect, ◌>>=◌, carry, done, charge, test}
 use Rattle.language_model.specs.Values.{Value, size}
 use Rattle.language_model.specs.Operations as row
-use Rattle.language_model.specs.Evaluation.{Frame, put, nothing, array_elements, either, asked_for, input_named}
+use Rattle.language_model.specs.Evaluation.{nothing, array_elements, either, asked_for, input_named}
 use Rattle.language_model.proofs.Onward.{onward_charge}
 use Rattle.verified_code.specs.Steps.{kind_shape, Step, Literal, Move, Store, Binary, Not, Cast, Classify, Fill, At, Put, Size, Cat, Sum, Bits, Declassify}
 use Rattle.verified_code.specs.Steps.{Argument, Publish, Assert, Branch, Jump, Call, Return, ReturnNone, Function}

@@ -1,5 +1,5 @@
 -- What stands in the registers where a function begins.
-use Rattle.std.proofs.Common.{◌≡◌, ℕ, zero, suc, ◌+◌, ◌<◌, ◌≤◌, List, [], ◌∷◌, ◌++◌, length, Option, Some, None, Bool, true, false, refl, sym, ap, ◌∙◌, subst}
+use Rattle.std.proofs.Common.{◌≡◌, ℕ, zero, suc, ◌+◌, ◌<◌, List, [], ◌∷◌, ◌++◌, length, Option, Some, None, Bool, true, false, refl, ap, ◌∙◌}
 use Rattle.std.proofs.Common.{arith}
 use Rattle.std.specs.Prelude.{slice_get, map}
 use Rattle.secrec_ast.specs.declared.expression.DataType.{DataType}
@@ -10,12 +10,13 @@ use Rattle.typed_tree.specs.declared.kinds.Slot.{Slot}
 use Rattle.typed_tree.specs.Programs.{TypedFunctionTree}
 use Rattle.reached_instances.specs.declared.instance.BoundDomain.{BoundDomain}
 use Rattle.reached_instances.specs.Domains.{domain_under, slot_domain}
-use Rattle.language_model.specs.Values.{Value, is_secret, never_stored}
+use Rattle.language_model.specs.Values.{Value, never_stored}
 use Rattle.language_model.specs.Evaluation.{Frame, is_private, begins, entered, place_in}
 use Rattle.bytecode.specs.declared.kind.Kind.{Kind}
 use Rattle.code_model.specs.Machine.{begun, filled_with}
 use Rattle.code_model.specs.Kinds.{slot_kind}
 use Rattle.code_model.specs.Commands.{shape_number, default_kinds, defaults_behind, commands_kinds}
+use Rattle.code_model.specs.Programs.{last_kinds}
 use Rattle.code_model.proofs.Gives.{IsSecret}
 use Rattle.code_model.proofs.Near.{Holds}
 use Rattle.code_model.proofs.Expressions.{ArgumentsFit}
@@ -80,10 +81,11 @@ with_defaults (s ∷ ss) h = refl
 
 pub begins_holding : (fs : List TypedFunctionTree) (f : TypedFunctionTree) (b : List BoundDomain) (xs : List Value) (registers : Frame) → ArgumentsFit b
     f.slots xs
-    → ((i : ℕ) → registers i ≡ filled_with (map (slot_kind b) f.slots ++ (defaults_behind f.slots ++ commands_kinds (place_in fs f b).here f.body)) xs i)
+    → ((i : ℕ) → registers i ≡ filled_with (map (slot_kind b) f.slots
+    ++ (defaults_behind f.slots ++ (commands_kinds (place_in fs f b).here f.body ++ last_kinds b f.given))) xs i)
     → Holds (place_in fs f b).here (entered b f.slots xs) registers
 begins_holding fs f b xs registers fit h =
-    let more = commands_kinds (place_in fs f b).here f.body in
+    let more = commands_kinds (place_in fs f b).here f.body ++ last_kinds b f.given in
     record {
       agree = λ i l. h i ∙ filled_same b f.slots (defaults_behind f.slots ++ more) xs i l;
       fits = entered_fit b f.slots xs fit;

@@ -1,5 +1,5 @@
 -- The code of an expression does what the expression does.
-use Rattle.std.proofs.Common.{◌≡◌, ◌≢◌, ℕ, ◌+◌, ◌<◌, ◌≤◌, List, [], ◌∷◌, ◌++◌, length, Option, Some, None, Ok, Bool, true, false, ◌||◌, refl, sym, ap, ◌∙◌}
+use Rattle.std.proofs.Common.{◌≡◌, ℕ, ◌+◌, ◌<◌, List, [], ◌∷◌, ◌++◌, length, Option, Some, None, Ok, Bool, true, false, refl, sym, ap, ◌∙◌}
 use Rattle.std.proofs.Common.{subst, arith, length-append}
 use Rattle.std.specs.Prelude.{slice_get}
 use Rattle.secrec_ast.specs.declared.expression.DataType.TheVariants.{Uint64}
@@ -11,21 +11,21 @@ use Rattle.typed_tree.specs.Tree as Tree'
 use Rattle.typed_tree.specs.Programs.{TypedFunctionTree}
 use Rattle.reached_instances.specs.declared.instance.BoundDomain.{BoundDomain}
 use Rattle.reached_instances.specs.Domains.{Setting, domains, given_domain, call_domain}
-use Rattle.language_model.specs.Effects.{World, Stage, Effect, ◌>>=◌, carry, done}
+use Rattle.language_model.specs.Effects.{World, carry, done}
 use Rattle.language_model.specs.Values.{Value}
 use Rattle.language_model.specs.Words.{truth_word}
 use Rattle.language_model.specs.Operations as row
-use Rattle.language_model.specs.Evaluation.{Frame, Calls, is_private, gives_private, slot_is_private, slots_of, bound_at, next_is_private, behind_next}
+use Rattle.language_model.specs.Evaluation.{Frame, Calls, is_private, gives_private, slot_is_private, slots_of, bound_at, next_is_private}
 use Rattle.language_model.specs.Evaluation.{truth_value, value, arguments}
-use Rattle.verified_code.specs.Steps.{Step, Literal, Move, Not, Cast, Size, Sum, Bits, Declassify, Call, Function}
-use Rattle.code_model.specs.Machine.{Machine, next, step, received, values_at, limit}
+use Rattle.verified_code.specs.Steps.{Literal, Move, Not, Cast, Size, Sum, Bits, Declassify, Call, Function}
+use Rattle.code_model.specs.Machine.{Machine, next, received, values_at, limit}
 use Rattle.code_model.specs.Kinds.{width}
 use Rattle.code_model.specs.Expressions.{Numbers, classifying, picked, lacks, expression_code, arguments_code, arguments_places}
 use Rattle.code_model.specs.Fit.{IsFit, AreFit}
 use Rattle.code_model.proofs.Places.{put_same, put_other}
 use Rattle.code_model.proofs.Gives.{Gives, IsSecret, gives_done, size_gives, negated_gives, cast_gives, summed_gives, bits_gives, declassified_gives}
 use Rattle.code_model.proofs.Follows.{Runs, runs_bind, runs_done, runs_more, instruct}
-use Rattle.code_model.proofs.Near.{Near, near_on, near_less, near_set, Landed, Ready, ready_front, ready_back, ready_at, ready_step, Wanting, near_wanting}
+use Rattle.code_model.proofs.Near.{Near, near_on, near_less, near_set, Ready, ready_front, ready_back, ready_at, ready_step, near_wanting}
 use Rattle.code_model.proofs.Near.{ready_classify, ready_wanting, wanting_runs}
 use Rattle.code_model.proofs.Operands.{width_some, Evaluates, unary_runs, element_runs, binary_runs, cat_runs}
 use Rattle.code_model.proofs.Cut.{cut_runs}

@@ -1,5 +1,5 @@
 -- The jumps of a program's code go forward.
-use Rattle.std.proofs.Common.{◌≡◌, ℕ, zero, suc, ◌+◌, ◌<◌, ◌≤◌, List, [], ◌∷◌, ◌++◌, length, Option, Some, None, Bool, true, false, refl, sym, ap, ◌∙◌, subst}
+use Rattle.std.proofs.Common.{◌≡◌, ℕ, zero, suc, ◌+◌, ◌<◌, ◌≤◌, List, [], ◌∷◌, ◌++◌, length, Option, Some, None, Bool, true, false, ap, subst}
 use Rattle.std.proofs.Common.{arith, length-append}
 use Rattle.std.specs.Prelude.{slice_get, map}
 use Rattle.secrec_ast.specs.declared.expression.DataType.TheVariants as datatype
@@ -16,6 +16,8 @@ use Rattle.typed_tree.specs.Commands.{Command, Commands, empty_command, block_co
 use Rattle.typed_tree.specs.Commands.{return_command, assert_command, store_command, default_command, fill_command, input_command, element_command}
 use Rattle.typed_tree.specs.Commands.{publish_command, evaluate_command}
 use Rattle.typed_tree.specs.Commands as Commands'
+use Rattle.typed_tree.specs.declared.function.Given.{Given}
+use Rattle.typed_tree.specs.declared.function.Given.TheVariants as given
 use Rattle.typed_tree.specs.Programs.{TypedFunctionTree, TypedProgramTree}
 use Rattle.reached_instances.specs.declared.instance.BoundDomain.{BoundDomain}
 use Rattle.reached_instances.specs.Domains.{Setting, domains}
@@ -23,14 +25,14 @@ use Rattle.reached_instances.specs.Instances.{Instance}
 use Rattle.language_model.specs.Words.{truth_word}
 use Rattle.language_model.specs.Evaluation.{Place, gives_private, slot_is_private, slot_shape, slots_of, bound_at, next_is_private, behind_next, connective}
 use Rattle.language_model.specs.Evaluation.{either, place_in}
-use Rattle.verified_code.specs.Steps.{Step, Literal, Move, Store, Fill, Put, Return, Binary, Cat, At, Call, Branch, Jump, ReturnNone, Function}
+use Rattle.verified_code.specs.Steps.{Step, Literal, Move, Store, Fill, Put, Return, Branch, Jump, Function}
 use Rattle.code_model.specs.Kinds.{width}
-use Rattle.code_model.specs.Expressions.{Numbers, classifying, picked, lacks, mixes, binary_code, cat_code, element_code, deciding, settling, cut_code}
-use Rattle.code_model.specs.Expressions.{expression_code, arguments_code, arguments_places, result_at, unread_code}
-use Rattle.code_model.specs.Commands.{shape_number, first_free, command_width, behind_classifying, command_code, commands_code}
-use Rattle.code_model.specs.Programs.{function_code, body_end, nothing_code, code_of_found, instance_code, numbers_in, code_of}
+use Rattle.code_model.specs.Expressions.{Numbers, classifying, lacks, mixes, binary_code, cat_code, element_code, deciding, settling, cut_code}
+use Rattle.code_model.specs.Expressions.{expression_code, arguments_code, unread_code}
+use Rattle.code_model.specs.Commands.{shape_number, first_free, command_width, commands_width, behind_classifying, command_code, commands_code}
+use Rattle.code_model.specs.Programs.{last_step, function_code, body_end, code_of_found, instance_code, numbers_in, code_of}
 use Rattle.code_model.specs.Meaning.{IsForward, AreForward}
-use Rattle.code_model.proofs.Lengths.{expression_length, command_length, commands_length}
+use Rattle.code_model.proofs.Lengths.{command_length, commands_length}
 
 abbrev GoesOn : ℕ → Step → Type 0
 GoesOn pc (Jump target) = pc < target
@@ -256,6 +258,10 @@ jump_at (i ∷ is) base (suc pc) target h e =
     let r : base + 1 + pc < target = jump_at is (base + 1) pc target h.1 e in
     omega (arith, r)
 
+last_on : (g : Given) (r pc : ℕ) → GoesOn pc (last_step g r)
+last_on given.Nothing r pc = tt
+last_on (given.Value s) r pc = tt
+
 nothing_forward : IsForward []
 nothing_forward pc target e = absurd (none_some e)
 
@@ -266,9 +272,11 @@ function_forward number fs f b pc target e =
     let t = first_free f.slots in
     let E = body_end number fs f b in
     let cs = commands_code number pl t E E 0 f.body in
+    let last = last_step f.given (t + commands_width f.body) in
     let e0 : E ≡ 0 + length cs = omega (arith, commands_length number pl f.body t E E 0 0 0 0) in
-    let r : 0 + pc < target = jump_at (cs ++ ReturnNone ∷ []) 0 pc target
-    (both_on 0 cs (ReturnNone ∷ []) (commands_on number pl f.body t E E 0 (omega (arith, e0)) (omega (arith, e0))) (tt, tt)) e in
+    let r : 0 + pc < target = jump_at (cs ++ last ∷ []) 0 pc target
+    (both_on 0 cs (last ∷ []) (commands_on number pl f.body t E E 0 (omega (arith, e0)) (omega (arith, e0)))
+    (last_on f.given (t + commands_width f.body) _, tt)) e in
     omega (arith, r)
 
 instance_forward : (fs : List TypedFunctionTree) (number : Numbers) (i : Instance) → IsForward (instance_code fs number i).steps

@@ -1,6 +1,6 @@
 -- Effects that give no budget back, and what is known of the values that they give.
-use Rattle.std.proofs.Common.{◌≡◌, ℕ, ◌+◌, ◌-◌, ◌*◌, ◌≤◌, List, [], ◌∷◌, Option, Some, None, Bool, true, false, not, ◌&&◌, ◌||◌, Ok, Err, refl, sym, ap, ◌∙◌}
-use Rattle.std.proofs.Common.{subst, arith}
+use Rattle.std.proofs.Common.{◌≡◌, ℕ, ◌+◌, ◌*◌, ◌≤◌, List, Option, Some, None, Bool, true, false, not, ◌&&◌, ◌||◌, Ok, Err, refl, ap}
+use Rattle.std.proofs.Common.{arith}
 use Rattle.std.specs.Prelude.{length, map}
 use Rattle.secrec_ast.specs.declared.expression.DataType.TheVariants.{Uint64}
 use Rattle.sc_text.specs.declared.end.Ending.{Ending}
@@ -18,14 +18,14 @@ use Rattle.std.specs.List.{flat_map}
 use Rattle.typed_tree.specs.Shapes.{shape_of}
 use Rattle.secrec_ast.specs.declared.expression.DataType.TheVariants as datatype
 use Rattle.language_model.specs.Effects.{World, Given, Stage, Run, Effect, ◌>>=◌, carry, done, end, test}
-use Rattle.language_model.specs.Values.{Secrecy, Plain, Private, Value, plain, hidden, is_secret, size, seen, elements_of}
+use Rattle.language_model.specs.Values.{Secrecy, Plain, Private, Value, plain, is_secret, size, seen, elements_of}
 use Rattle.language_model.specs.Words as W
-use Rattle.language_model.specs.Operations.{charged, no_traps, operator_traps, number_of, stretched, operator_gates, result_shape, is_scalar_left}
+use Rattle.language_model.specs.Operations.{charged, no_traps, operator_traps, result_shape, is_scalar_left}
 use Rattle.language_model.specs.Operations.{is_scalar_right, words_of_operator, classified_from, classified, made_private, wanted, opened_from, revealed}
 use Rattle.language_model.specs.Operations.{read_answer, declassified, private_result, product_with, combined_from, operated, negated_from, negated}
 use Rattle.language_model.specs.Operations.{size_told, element_from, element_of_array, position, words_for_bits, changed, cast_from, cast_to, summed_from}
 use Rattle.language_model.specs.Operations.{summed, not_too_large, bits_from, bits_extracted, joined_from, joined, with_element_from, with_element}
-use Rattle.language_model.specs.Operations.{filled_from, filled, tested, published, asserted, flip}
+use Rattle.language_model.specs.Operations.{filled_from, filled, tested, published, asserted}
 use Rattle.language_model.specs.Evaluation.{given_value, asked_for, is_as_declared}
 use Rattle.language_model.proofs.Walk as walk
 use Rattle.language_model.proofs.Onward.{Onward, Went, stage_of, is_onward, onward_law, onward_draw, onward_gate, onward_charge}

@@ -1,5 +1,5 @@
 -- Neither the place of a piece of code nor where its breaks and continues lead changes how long it is.
-use Rattle.std.proofs.Common.{◌≡◌, ℕ, ◌+◌, List, [], ◌∷◌, ◌++◌, length, Option, Some, None, Bool, true, false, refl, sym, ap, ◌∙◌, arith, length-append}
+use Rattle.std.proofs.Common.{◌≡◌, ℕ, ◌+◌, List, [], ◌∷◌, ◌++◌, length, Some, None, Bool, true, false, refl, arith, length-append}
 use Rattle.std.specs.Prelude.{slice_get}
 use Rattle.typed_tree.specs.declared.kinds.Slot.{Slot}
 use Rattle.typed_tree.specs.declared.operators.BinaryOperator.{BinaryOperator}
@@ -18,12 +18,12 @@ use Rattle.typed_tree.specs.Commands as Commands'
 use Rattle.reached_instances.specs.declared.instance.BoundDomain.{BoundDomain}
 use Rattle.reached_instances.specs.Domains.{Setting, domains}
 use Rattle.language_model.specs.Words.{truth_word}
-use Rattle.language_model.specs.Evaluation.{Place, gives_private, slot_is_private, slots_of, bound_at, next_is_private, behind_next, connective, either}
-use Rattle.verified_code.specs.Steps.{Step, Literal, Move, Binary, Cat, At, Call, Branch, Jump}
+use Rattle.language_model.specs.Evaluation.{Place, gives_private, slots_of, bound_at, next_is_private, behind_next, connective, either}
+use Rattle.verified_code.specs.Steps.{Step, Literal, Move, Branch, Jump}
 use Rattle.code_model.specs.Kinds.{width}
-use Rattle.code_model.specs.Expressions.{Numbers, classifying, picked, lacks, mixes, binary_code, cat_code, element_code, deciding, settling, cut_code}
-use Rattle.code_model.specs.Expressions.{expression_code, arguments_code, arguments_places, result_at, unread_code}
-use Rattle.code_model.specs.Commands.{command_width, behind_classifying, command_code, commands_code}
+use Rattle.code_model.specs.Expressions.{Numbers, classifying, lacks, mixes, binary_code, cat_code, element_code, deciding, settling, cut_code}
+use Rattle.code_model.specs.Expressions.{expression_code, arguments_code, unread_code}
+use Rattle.code_model.specs.Commands.{command_width, command_code, commands_code}
 
 append_same : (a a' b b' : List Step) → length a ≡ length a' → length b ≡ length b' → length (a ++ b) ≡ length (a' ++ b')
 append_same a a' b b' e f = omega (arith, e, f, length-append a b, length-append a' b')

@@ -16,3 +16,4 @@ pub mod Ends
 pub mod Forward
 pub mod Means
 pub mod Samples
+pub mod Widths

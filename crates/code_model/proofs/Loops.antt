@@ -1,5 +1,5 @@
 -- Loops: each turn is charged, so that the turns that evaluation counts are no bound.
-use Rattle.std.proofs.Common.{◌≡◌, ℕ, zero, suc, ◌+◌, ◌-◌, ◌<◌, ◌≤◌, List, [], ◌∷◌, length, Some, Ok, Err, Bool, true, false, cond, refl, sym, ap, ◌∙◌, arith}
+use Rattle.std.proofs.Common.{◌≡◌, ℕ, zero, suc, ◌+◌, ◌-◌, ◌<◌, ◌≤◌, List, length, Some, Ok, Err, Bool, true, false, cond, refl, ap, ◌∙◌, arith}
 use Rattle.std.specs.Prelude.{slice_get, nat_le}
 use Rattle.std.proofs.lemmas.Bool.{leb-true}
 use Rattle.sc_text.specs.declared.end.Ending.TheVariants as ending
@@ -13,7 +13,7 @@ use Rattle.code_model.specs.Machine.{Caller, Machine, limit, same_bool}
 use Rattle.code_model.specs.Expressions.{Numbers}
 use Rattle.code_model.proofs.Places.{HasAt}
 use Rattle.code_model.proofs.Follows.{Follows, follow, comes_none, Runs}
-use Rattle.code_model.proofs.Near.{Holds, holds_kept, Branched, branch_runs}
+use Rattle.code_model.proofs.Near.{holds_kept, Branched, branch_runs}
 use Rattle.code_model.proofs.Standing.{base, Stands, Went, next_step, Evaluated, here_code, Expressed, evaluates}
 
 -- a test costs

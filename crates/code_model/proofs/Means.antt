@@ -1,24 +1,23 @@
 -- The meaning of a program's code is the program's evaluation, in the clear and blind.
-use Rattle.std.proofs.Common.{◌≡◌, ℕ, zero, suc, ◌+◌, List, [], ◌∷◌, Option, Some, None, Ok, Err, Bool, true, false, cond, refl, sym, ap, ◌∙◌, subst, arith}
+use Rattle.std.proofs.Common.{◌≡◌, ℕ, suc, ◌+◌, List, [], ◌∷◌, Some, Ok, Err, Bool, true, false, cond, refl, sym, ap, ◌∙◌, subst, arith}
 use Rattle.std.proofs.Common.{◌⊎◌, inl, inr}
 use Rattle.std.specs.Prelude.{slice_get, nat_le, map, if◌then◌else◌}
 use Rattle.sc_text.specs.Lists.{Among}
 use Rattle.sc_text.specs.declared.end.Ending.TheVariants as ending
-use Rattle.typed_tree.specs.Programs.{TypedFunctionTree, TypedProgramTree}
+use Rattle.typed_tree.specs.Programs.{TypedProgramTree}
 use Rattle.reached_instances.specs.declared.instance.BoundDomain.{BoundDomain}
 use Rattle.reached_instances.specs.Domains.{given_domain}
 use Rattle.reached_instances.specs.Instances.{Instance, same_instance}
 use Rattle.reached_instances.proofs.Listing.{same_instance-Decides}
-use Rattle.language_model.specs.Effects.{World, Stage, Stop, Ended, Run, done}
+use Rattle.language_model.specs.Effects.{World, Stage, Stop, Ended, Run}
 use Rattle.language_model.specs.Values.{Value}
 use Rattle.language_model.specs.Evaluation.{is_private, body_of, call_at}
-use Rattle.language_model.specs.Reports.{Report, dealing, not_dealt, beginning, report_of, evaluated}
+use Rattle.language_model.specs.Reports.{dealing, not_dealt, beginning, report_of, evaluated}
 use Rattle.verified_code.specs.Steps.{Function}
-use Rattle.code_model.specs.Machine.{Machine, step, further, exec, resume, limit, begin_at, start}
+use Rattle.code_model.specs.Machine.{Machine, further, exec, resume, limit, begin_at, start}
 use Rattle.code_model.specs.Meaning.{fuel, report_at, stopped_or, mean_in}
 use Rattle.code_model.specs.Programs.{place_of, numbers_in, code_of_found, instance_code, function_code, code_of}
 use Rattle.code_model.specs.Fit.{IsKnownIn, IsFitProgram, the_main}
-use Rattle.code_model.proofs.Gives.{IsSecret}
 use Rattle.code_model.proofs.Follows.{Follows, one}
 use Rattle.code_model.proofs.Calls.{IsKnown, Returns, body_runs, calls_run}
 use Rattle.code_model.proofs.Ends.{one_end}

@@ -1,5 +1,5 @@
 -- What a piece of code leaves as it was, and what is ready for the next piece.
-use Rattle.std.proofs.Common.{◌≡◌, ◌≢◌, ℕ, ◌+◌, ◌<◌, ◌≤◌, List, [], ◌∷◌, ◌++◌, length, Some, Ok, Bool, true, false, not, ◌&&◌, ◌||◌, refl, sym, ap, ◌∙◌}
+use Rattle.std.proofs.Common.{◌≡◌, ◌≢◌, ℕ, ◌+◌, ◌<◌, ◌≤◌, List, [], ◌∷◌, ◌++◌, length, Some, Bool, true, false, ◌||◌, refl, sym, ap, ◌∙◌}
 use Rattle.std.proofs.Common.{subst, arith}
 use Rattle.std.specs.Prelude.{slice_get}
 use Rattle.typed_tree.specs.declared.kinds.Shape.{Shape}
@@ -7,17 +7,17 @@ use Rattle.typed_tree.specs.declared.kinds.Slot.{Slot}
 use Rattle.secrec_ast.specs.declared.expression.DataType.TheVariants.{Uint64}
 use Rattle.secrec_ast.specs.declared.expression.DataType.TheVariants as datatype
 use Rattle.reached_instances.specs.Domains.{Setting}
-use Rattle.language_model.specs.Effects.{World, Stage, Run, Effect, carry, done}
+use Rattle.language_model.specs.Effects.{World, carry, done}
 use Rattle.language_model.specs.Values.{Value, is_secret, never_stored}
 use Rattle.language_model.specs.Operations.{classified, wanted, tested}
 use Rattle.language_model.specs.Evaluation.{Frame, slot_is_private, either}
 use Rattle.verified_code.specs.Steps.{Step, Classify, Branch, Function}
-use Rattle.code_model.specs.Machine.{Caller, Machine, at, next, limit, same_bool}
+use Rattle.code_model.specs.Machine.{Machine, at, next, limit, same_bool}
 use Rattle.code_model.specs.Expressions.{classifying, picked, lacks}
-use Rattle.code_model.specs.Commands.{shape_number, defaults_behind, first_free}
+use Rattle.code_model.specs.Commands.{shape_number, first_free}
 use Rattle.code_model.specs.Fit.{MayStand}
-use Rattle.code_model.proofs.Places.{HasAt, has_front, has_back, put_same, put_other, stands}
-use Rattle.code_model.proofs.Gives.{Gives, Any, IsSecret, class_gives, tested_gives, wanted_less}
+use Rattle.code_model.proofs.Places.{HasAt, has_front, has_back, put_same, put_other}
+use Rattle.code_model.proofs.Gives.{Any, IsSecret, class_gives, tested_gives, wanted_less}
 use Rattle.code_model.proofs.Follows.{Runs, runs_done, instruct}
 
 -- ---- WHAT STAYS

@@ -1,16 +1,14 @@
 -- The code of nodes with one operand and with two, where the operands' code does what the operands do.
-use Rattle.std.proofs.Common.{◌≡◌, ◌≢◌, ℕ, ◌+◌, ◌<◌, ◌≤◌, List, [], ◌∷◌, ◌++◌, length, Some, Ok, Bool, true, false, not, ◌&&◌, ◌||◌, refl, sym, ap, ◌∙◌}
+use Rattle.std.proofs.Common.{◌≡◌, ◌≢◌, ℕ, ◌+◌, ◌<◌, ◌≤◌, List, [], ◌∷◌, ◌++◌, length, Some, Bool, true, false, not, ◌&&◌, ◌||◌, refl, sym, ap, ◌∙◌}
 use Rattle.std.proofs.Common.{subst, arith, length-append}
-use Rattle.std.specs.Prelude.{slice_get}
-use Rattle.secrec_ast.specs.declared.expression.DataType.TheVariants as datatype
 use Rattle.typed_tree.specs.declared.operators.BinaryOperator.{BinaryOperator}
 use Rattle.typed_tree.specs.declared.operators.Operands.{Operands}
-use Rattle.typed_tree.specs.Tree.{TypedTree, TypedTrees, word_node, truth_node, slot_node, call_node, size_node, cat_node, sum_node, bits_node, element_node}
+use Rattle.typed_tree.specs.Tree.{TypedTree, word_node, truth_node, slot_node, call_node, size_node, cat_node, sum_node, bits_node, element_node}
 use Rattle.typed_tree.specs.Tree.{not_node, cast_node, binary_node, cut_node, declassify_node}
 use Rattle.reached_instances.specs.declared.instance.BoundDomain.{BoundDomain}
 use Rattle.reached_instances.specs.declared.instance.BoundDomain.TheVariants as bound
 use Rattle.reached_instances.specs.Domains.{Setting, domain, joined}
-use Rattle.language_model.specs.Effects.{World, Stage, Run, Effect, ◌>>=◌, carry, done}
+use Rattle.language_model.specs.Effects.{World, Stage, Effect, ◌>>=◌, carry, done}
 use Rattle.language_model.specs.Values.{Value, is_secret}
 use Rattle.language_model.specs.Operations as row
 use Rattle.language_model.specs.Operations.{wanted, is_product, is_classified, operated, operation}
@@ -18,9 +16,9 @@ use Rattle.language_model.specs.Evaluation.{Frame, Calls, is_private, gives_priv
 use Rattle.verified_code.specs.Steps.{Step, Function, Binary, Cat, At}
 use Rattle.code_model.specs.Machine.{Machine, next, step}
 use Rattle.code_model.specs.Kinds.{width}
-use Rattle.code_model.specs.Expressions.{Numbers, classifying, picked, lacks, mixes, binary_code, cat_code, element_code, expression_code}
+use Rattle.code_model.specs.Expressions.{Numbers, classifying, picked, lacks, mixes, binary_code, element_code, expression_code}
 use Rattle.code_model.specs.Fit.{MayStand}
-use Rattle.code_model.proofs.Places.{put_same, put_other}
+use Rattle.code_model.proofs.Places.{put_same}
 use Rattle.code_model.proofs.Gives.{Gives, IsSecret, operated_gives, joined_gives, element_gives}
 use Rattle.code_model.proofs.Follows.{Runs, runs_bind, instruct}
 use Rattle.code_model.proofs.Near.{Near, near_on, near_less, near_set, Landed, Ready, ready_front, ready_back, ready_step, Wanting, near_wanting}

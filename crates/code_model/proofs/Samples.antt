@@ -1,5 +1,5 @@
 -- A program for which all that the law asks is there: f adds 1 to a private number, and main opens f(2), fills an array and publishes.
-use Rattle.std.proofs.Common.{◌≡◌, ℕ, ◌<◌, List, [], ◌∷◌, Option, Some, None, Bool, true, false, refl, sym, subst, arith, inl, inr, ◌⊎◌}
+use Rattle.std.proofs.Common.{◌≡◌, ℕ, List, [], ◌∷◌, Some, None, true, false, refl, sym, subst, arith, inl, inr}
 use Rattle.secrec_ast.specs.declared.expression.DataType.TheVariants.{Uint64}
 use Rattle.typed_tree.specs.declared.kinds.SlotDomain.TheVariants as domain
 use Rattle.typed_tree.specs.declared.function.Given.TheVariants as given
@@ -9,7 +9,7 @@ use Rattle.typed_tree.specs.declared.operators.Operands.TheVariants.{Scalars}
 use Rattle.typed_tree.specs.declared.operators.Connective.TheVariants.{AndAlso}
 use Rattle.typed_tree.specs.Shapes.{shape_of}
 use Rattle.typed_tree.specs.Tree.{word_node, truth_node, slot_node, call_node, binary_node, cut_node, declassify_node, typed_trees_of}
-use Rattle.typed_tree.specs.Commands.{Command, block_command, if_command, loop_command, do_command, break_command, return_command, store_command}
+use Rattle.typed_tree.specs.Commands.{block_command, if_command, loop_command, do_command, break_command, return_command, store_command}
 use Rattle.typed_tree.specs.Commands.{default_command, fill_command, element_command, publish_command, empty_command, evaluate_command, commands_of}
 use Rattle.typed_tree.specs.Programs.{TypedFunctionTree, TypedProgramTree}
 use Rattle.reached_instances.specs.Instances.{Instance}

@@ -1,8 +1,7 @@
 -- Where the code of a statement leads: behind itself, to where breaks or continues lead, or to a step that returns.
-use Rattle.std.proofs.Common.{◌≡◌, ◌≢◌, ℕ, ◌+◌, ◌<◌, ◌≤◌, List, [], ◌∷◌, ◌++◌, length, Option, Some, Ok, Bool, true, false, refl, sym, ap, ◌∙◌, subst, arith}
+use Rattle.std.proofs.Common.{◌≡◌, ◌≢◌, ℕ, ◌+◌, ◌<◌, ◌≤◌, List, [], ◌∷◌, ◌++◌, length, Some, Bool, refl, sym, ap, ◌∙◌, subst, arith}
 use Rattle.std.proofs.Common.{length-append}
 use Rattle.std.specs.Prelude.{slice_get}
-use Rattle.typed_tree.specs.declared.kinds.Shape.{Shape}
 use Rattle.typed_tree.specs.Tree.{TypedTree}
 use Rattle.reached_instances.specs.Domains.{Setting}
 use Rattle.language_model.specs.Effects.{World, Stage, Effect, ◌>>=◌, carry, done}
@@ -14,10 +13,10 @@ use Rattle.code_model.specs.Machine.{Caller, Machine, at, next, step, resume, li
 use Rattle.code_model.specs.Expressions.{Numbers, classifying, picked, lacks, expression_code}
 use Rattle.code_model.specs.Commands.{shape_number, first_free}
 use Rattle.code_model.specs.Fit.{MayStand}
-use Rattle.code_model.proofs.Places.{HasAt, has_front, has_back, put_same, put_other, put_agrees, put_all, stands}
+use Rattle.code_model.proofs.Places.{HasAt, has_front, has_back, put_other, put_agrees, put_all, stands}
 use Rattle.code_model.proofs.Gives.{Gives, Any, IsSecret}
 use Rattle.code_model.proofs.Follows.{Runs, runs_bind, runs_done, runs_more, instruct, silent}
-use Rattle.code_model.proofs.Near.{Near, Landed, Holds, holds_kept, Ready, Wanting, near_wanting, wanting_runs}
+use Rattle.code_model.proofs.Near.{Near, Holds, holds_kept, Ready, near_wanting, wanting_runs}
 use Rattle.code_model.proofs.Operands.{Evaluates}
 
 -- a value is stored in a slot

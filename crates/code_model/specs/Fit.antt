@@ -1,6 +1,6 @@
 -- What is asked of a program so that its code does what it does: slots and instances that are there, and nothing private where a
 -- public value is declared.
-use Rattle.std.specs.Prelude.{◌≡◌, ◌<◌, ℕ, Bool, true, false, ◌&&◌, ◌||◌, List, [], ◌∷◌, length, Option, Some, None}
+use Rattle.std.specs.Prelude.{◌≡◌, ◌<◌, ℕ, Bool, true, false, ◌&&◌, ◌||◌, List, [], ◌∷◌, length, Some, None}
 use Rattle.std.specs.List.{slice_get}
 use Rattle.sc_text.specs.Lists.{Among}
 use Rattle.typed_tree.specs.declared.kinds.Slot.{Slot}
@@ -11,11 +11,13 @@ use Rattle.typed_tree.specs.Commands.{Command, Commands, empty_command, block_co
 use Rattle.typed_tree.specs.Commands.{return_command, assert_command, store_command, default_command, fill_command, input_command, element_command}
 use Rattle.typed_tree.specs.Commands.{publish_command, evaluate_command}
 use Rattle.typed_tree.specs.Commands as Commands'
+use Rattle.typed_tree.specs.declared.function.Given.{Given}
+use Rattle.typed_tree.specs.declared.function.Given.TheVariants as given
 use Rattle.typed_tree.specs.Programs.{TypedFunctionTree, TypedProgramTree}
 use Rattle.reached_instances.specs.declared.instance.BoundDomain.{BoundDomain}
 use Rattle.reached_instances.specs.Domains.{Setting, domains}
 use Rattle.reached_instances.specs.Instances.{Instance}
-use Rattle.language_model.specs.Evaluation.{Place, place_in, gives_private, slot_is_private, slots_of, bound_at, next_is_private, behind_next}
+use Rattle.language_model.specs.Evaluation.{Place, place_in, gives_private, slot_is_private, slots_of, bound_at, next_is_private}
 
 -- a private value stands only where a private one is declared
 abbrev pub MayStand : (given declared : Bool) → Type 0
@@ -93,10 +95,14 @@ abbrev mutual
   one_returns Commands'.none = false
   one_returns (Commands'.also c cs) = always_returns c || one_returns cs
 
--- a function that gives a private value back never falls off its end
+abbrev pub gives_value : Given → Bool
+gives_value given.Nothing = false
+gives_value (given.Value s) = true
+
+-- a function that gives a value back never falls off its end
 pub record IsFitFunction (Known : ℕ → List BoundDomain → Type 0) (fs : List TypedFunctionTree) (f : TypedFunctionTree) (b : List BoundDomain) : Type 0 where
   pub body : AreFitCommands Known (place_in fs f b) false f.body
-  pub returns : (place_in fs f b).secret_result ≡ true → one_returns f.body ≡ true
+  pub returns : gives_value f.given ≡ true → one_returns f.body ≡ true
 
 abbrev pub IsKnownIn : List Instance → ℕ → List BoundDomain → Type 0
 IsKnownIn is k b = Among (record { function = k; binding = b }) is

@@ -17,7 +17,7 @@ use Rattle.typed_tree.specs.Programs.{TypedFunctionTree}
 use Rattle.reached_instances.specs.declared.instance.BoundDomain.{BoundDomain}
 use Rattle.reached_instances.specs.Domains.{Setting, domain_under}
 use Rattle.language_model.specs.Operations.{result_shape, cast_shape}
-use Rattle.language_model.specs.Evaluation.{is_private, gives_private, slot_shape, either}
+use Rattle.language_model.specs.Evaluation.{is_private, gives_private, slot_shape}
 use Rattle.bytecode.specs.declared.kind.Kind.{Kind}
 
 -- ---- HOW MANY

@@ -1,5 +1,5 @@
 -- The code of a typed function under a binding, and of a program.
-use Rattle.std.specs.Prelude.{ℕ, zero, ◌+◌, List, [], ◌∷◌, ◌++◌, length, map, Option, Some, None, if◌then◌else◌}
+use Rattle.std.specs.Prelude.{ℕ, ◌+◌, List, [], ◌∷◌, ◌++◌, length, map, Option, Some, None, if◌then◌else◌}
 use Rattle.std.specs.List.{slice_get}
 use Rattle.typed_tree.specs.declared.function.Given.{Given}
 use Rattle.typed_tree.specs.declared.function.Given.TheVariants as given
@@ -8,14 +8,24 @@ use Rattle.reached_instances.specs.declared.instance.BoundDomain.{BoundDomain}
 use Rattle.reached_instances.specs.Instances.{Instance, same_instance}
 use Rattle.language_model.specs.Evaluation.{place_in}
 use Rattle.bytecode.specs.declared.kind.Kind.{Kind}
-use Rattle.verified_code.specs.Steps.{Step, ReturnNone, Function}
+use Rattle.verified_code.specs.Steps.{Step, Return, ReturnNone, Function}
 use Rattle.code_model.specs.Kinds.{slot_kind}
 use Rattle.code_model.specs.Expressions.{Numbers}
-use Rattle.code_model.specs.Commands.{defaults_behind, first_free, commands_kinds, commands_code}
+use Rattle.code_model.specs.Commands.{defaults_behind, first_free, commands_width, commands_kinds, commands_code}
 
 abbrev pub given_kind : List BoundDomain → Given → Option Kind
 given_kind b given.Nothing = None
 given_kind b (given.Value s) = Some (slot_kind b s)
+
+-- a body that falls off its end gives nothing back. Where something is wanted it never does: its last step would return a register of
+-- this kind that no step writes, which is the last one
+abbrev pub last_kinds : List BoundDomain → Given → List Kind
+last_kinds b given.Nothing = []
+last_kinds b (given.Value s) = slot_kind b s ∷ []
+
+abbrev pub last_step : Given → (r : ℕ) → Step
+last_step given.Nothing r = ReturnNone
+last_step (given.Value s) r = Return r
 
 module _ (number : Numbers) (fs : List TypedFunctionTree) where
   -- where the body ends
@@ -28,8 +38,9 @@ module _ (number : Numbers) (fs : List TypedFunctionTree) where
       record {
         parameters = f.parameters;
         gives = given_kind b f.given;
-        kinds = map (slot_kind b) f.slots ++ (defaults_behind f.slots ++ commands_kinds (place_in fs f b).here f.body);
-        steps = commands_code number (place_in fs f b) (first_free f.slots) (body_end f b) (body_end f b) 0 f.body ++ ReturnNone ∷ [];
+        kinds = map (slot_kind b) f.slots ++ (defaults_behind f.slots ++ (commands_kinds (place_in fs f b).here f.body ++ last_kinds b f.given));
+        steps = commands_code number (place_in fs f b) (first_free f.slots) (body_end f b) (body_end f b) 0 f.body
+            ++ last_step f.given (first_free f.slots + commands_width f.body) ∷ [];
       }
 
 -- ---- PROGRAMS
