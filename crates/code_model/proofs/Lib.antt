@@ -17,3 +17,4 @@ pub mod Forward
 pub mod Means
 pub mod Samples
 pub mod Widths
+pub mod KindRows

@@ -6,3 +6,4 @@ pub mod Commands
 pub mod Programs
 pub mod Fit
 pub mod Laws
+pub mod Kinded
