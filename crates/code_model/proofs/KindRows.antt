@@ -1,5 +1,6 @@
 -- Of which kind the values are that rows give, where their operands are of theirs.
-use Rattle.std.proofs.Common.{◌≡◌, ℕ, zero, suc, ◌+◌, ◌-◌, ◌*◌, ◌≤◌, List, [], ◌∷◌, ◌++◌, length, Option, Some, None, Ok, Err, Bool, true, false, cond, not, ◌&&◌, ◌||◌, refl, sym, ap, ◌∙◌, subst, arith, ◌⊎◌, inl, inr}
+use Rattle.std.proofs.Common.{◌≡◌, ℕ, zero, suc, ◌+◌, ◌-◌, ◌*◌, ◌≤◌, List, [], ◌∷◌, ◌++◌, length, Option, Some, None, Ok, Err, Bool, true, false, cond, not}
+use Rattle.std.proofs.Common.{◌&&◌, ◌||◌, refl, sym, ap, ◌∙◌, subst, arith, ◌⊎◌, inl, inr}
 use Rattle.std.specs.Prelude.{map, nat_le, take, drop, nat_lt, bytes_eq, if◌then◌else◌, sum, replicate, set, ◌%◌, ◌^◌}
 use Rattle.std.specs.List.{flat_map}
 use Rattle.std.proofs.lemmas.Bool.{leb-true, and_parts}
@@ -23,7 +24,8 @@ use Rattle.typed_tree.specs.declared.operators.Operands.TheVariants.{Scalars, Ar
 use Rattle.typed_tree.specs.declared.operators.Cast as casts
 use Rattle.typed_tree.specs.declared.operators.Cast.TheVariants.{WordToWord, WordToBool, BoolToWord, BoolToBool}
 use Rattle.typed_tree.specs.Shapes.{shape_of}
-use Rattle.language_model.specs.Effects.{World, Given, Source, Clear, Answers, Stage, Short, Run, Effect, ◌>>=◌, carry, done, end, test, charge, draw, gate, planned, show, emit, words_each, answer, next_answers}
+use Rattle.language_model.specs.Effects.{World, Given, Source, Clear, Answers, Stage, Short, Run, Effect, ◌>>=◌, carry, done, end, test, charge, draw, gate}
+use Rattle.language_model.specs.Effects.{planned, show, emit, words_each, answer, next_answers}
 use Rattle.language_model.specs.Values.{Secrecy, Plain, Private, Value, plain, hidden, is_secret, size, elements_of, ring_for}
 use Rattle.language_model.specs.Words as W
 use Rattle.language_model.specs.Operations as row
@@ -32,7 +34,8 @@ use Rattle.bytecode.specs.declared.kind.Kind.{Kind}
 use Rattle.verified_code.specs.Steps.{kind_shape}
 use Rattle.code_model.specs.Kinds.{kind_of}
 use Rattle.code_model.specs.Kinded.{IsOf, IsSingle, AreSingle, with_secret, with_array, public_scalar, cast_source, cast_target, left_array, right_array}
-use Rattle.code_model.proofs.Gives.{GivesAt, Gives, IsSecret, class_gives, operated_gives, negated_gives, cast_gives, summed_gives, bits_gives, joined_gives, element_gives, with_element_gives, filled_gives, size_gives, declassified_gives, asked_gives}
+use Rattle.code_model.proofs.Gives.{GivesAt, Gives, IsSecret, class_gives, operated_gives, negated_gives, cast_gives, summed_gives, bits_gives, joined_gives}
+use Rattle.code_model.proofs.Gives.{element_gives, with_element_gives, filled_gives, size_gives, declassified_gives, asked_gives}
 
 -- ---- WHAT AN EFFECT MAKES, whatever it does before
 
@@ -43,13 +46,14 @@ MakesAt (Err e) Q = Unit {0}
 pub record Makes {A : Type 0} (c : Effect A) (Q : A → Type 0) : Type 0 where
   pub from : (s : Stage) → MakesAt (c s) Q
 
-makes_done : {A : Type 0} {a : A} {Q : A → Type 0} → Q a → Makes (done a) Q
+pub makes_done : {A : Type 0} {a : A} {Q : A → Type 0} → Q a → Makes (done a) Q
 makes_done h = record { from = λ s. h }
 
-makes_end : {A : Type 0} {Q : A → Type 0} (e : Ending) → Makes (end {A = A} e) Q
+pub makes_end : {A : Type 0} {Q : A → Type 0} (e : Ending) → Makes (end {A = A} e) Q
 makes_end e = record { from = λ s. tt }
 
-makes_bind : {A B : Type 0} (c : Effect A) (f : A → Effect B) (P : A → Type 0) {Q : B → Type 0} → Makes c P → ((a : A) → P a → Makes (f a) Q) → Makes (c >>= f) Q
+pub makes_bind : {A B : Type 0} (c : Effect A) (f : A → Effect B) (P : A → Type 0) {Q : B → Type 0} → Makes c P → ((a : A) → P a → Makes (f a) Q) → Makes
+    (c >>= f) Q
 makes_bind {A = A} c f P {Q = Q} h k = record { from = λ s. go (c s) (h.from s) }
   where
     go : (r : Run A) → MakesAt r P → MakesAt (carry r f) Q
@@ -63,16 +67,23 @@ makes_fact {A = A} {B = B} c b = record { from = λ s. go (c s) }
     go (Ok x) = b
     go (Err e) = tt
 
-makes_after : {A B : Type 0} (c : Effect A) (f : A → Effect B) {Q : B → Type 0} → ((a : A) → Makes (f a) Q) → Makes (c >>= f) Q
+pub makes_after : {A B : Type 0} (c : Effect A) (f : A → Effect B) {Q : B → Type 0} → ((a : A) → Makes (f a) Q) → Makes (c >>= f) Q
 makes_after {A = A} c f k = makes_bind c f (λ a. Unit {0}) (makes_fact c tt) (λ a u. k a)
 
--- what is known of the budget and of secrecy beside
-gives_makes : {A : Type 0} {c : Effect A} {P Q R : A → Type 0} → Gives c P → Makes c Q → ((a : A) → P a → Q a → R a) → Gives c R
-gives_makes {A = A} {c = c} {P = P} {Q = Q} {R = R} g m k = record { from = λ s. go s (c s) (g.from s) (m.from s) }
+-- what is known of the budget is left out
+makes_of : {A : Type 0} {c : Effect A} {P : A → Type 0} → Gives c P → Makes c P
+makes_of {A = A} {c = c} {P = P} h = record { from = λ s. go s (c s) (h.from s) }
   where
-    go : (s : Stage) (r : Run A) → GivesAt s r P → MakesAt r Q → GivesAt s r R
-    go s (Ok x) h n = (h.0, k x.0 h.1 n)
-    go s (Err e) h n = tt
+    go : (s : Stage) (r : Run A) → GivesAt s r P → MakesAt r P
+    go s (Ok x) g = g.1
+    go s (Err e) g = tt
+
+makes_both : {A : Type 0} {c : Effect A} {P Q : A → Type 0} (R : A → Type 0) → Makes c P → Makes c Q → ((a : A) → P a → Q a → R a) → Makes c R
+makes_both {A = A} {c = c} {P = P} {Q = Q} R h m k = record { from = λ s. go (c s) (h.from s) (m.from s) }
+  where
+    go : (r : Run A) → MakesAt r P → MakesAt r Q → MakesAt r R
+    go (Ok x) h n = k x.0 h n
+    go (Err e) h n = tt
 
 -- ---- SHAPES
 
@@ -93,7 +104,7 @@ two_single f (x ∷ x' ∷ xs) (y ∷ ys) h k = absurd (omega (arith, h))
 made : (shape : Shape) (words : List ℕ) (r : ℕ) → (shape.array ≡ false → length words ≡ 1) → Makes (row.made_private shape words r) (IsShaped shape)
 made shape words r h = makes_done (record { same = refl; single = h })
 
-shown : (shape : Shape) (words : List ℕ) → (shape.array ≡ false → length words ≡ 1) → Makes (done (plain shape words)) (IsShaped shape)
+pub shown : (shape : Shape) (words : List ℕ) → (shape.array ≡ false → length words ≡ 1) → Makes (done (plain shape words)) (IsShaped shape)
 shown shape words h = makes_done (record { same = refl; single = h })
 
 itself : (v : Value) → (v.shape.array ≡ false → length v.words ≡ 1) → Makes (done v) (IsShaped v.shape)
@@ -102,7 +113,8 @@ itself v h = makes_done (record { same = refl; single = h })
 module _ (w : World) where
   -- ---- OPERATORS
 
-  combined_makes : (a b : Secrecy) (op : BinaryOperator) (ds : Operands) (x y : Value) → ((row.result_shape op ds).array ≡ false → length (W.result_words op ds x y) ≡ 1) → Makes (row.combined_from a b w op ds x y) (IsShaped (row.result_shape op ds))
+  combined_makes : (a b : Secrecy) (op : BinaryOperator) (ds : Operands) (x y : Value) → ((row.result_shape op ds).array ≡ false → length
+      (W.result_words op ds x y) ≡ 1) → Makes (row.combined_from a b w op ds x y) (IsShaped (row.result_shape op ds))
   combined_makes Plain Plain op ds x y h = shown (row.result_shape op ds) (W.result_words op ds x y) h
   combined_makes (Private j) (Private k) op ds x y h =
       let n = W.result_size ds x y in
@@ -111,24 +123,29 @@ module _ (w : World) where
       makes_after (row.operator_gates op n u v) _ (λ r. made (row.result_shape op ds) (W.result_words op ds x y) r h))))))
   combined_makes (Private j) Plain op ds x y h =
       makes_after (row.number_of x) _ (λ j. makes_after (row.stretched (row.is_scalar_left ds) (length (W.right_words ds x y)) j) _ (λ u.
-      makes_after (gate (gates.MulPub (ring_for x.shape.element) u (W.right_words ds x y))) _ (λ r. made (row.result_shape op ds) (W.result_words op ds x y) r h)))
+      makes_after (gate (gates.MulPub (ring_for x.shape.element) u (W.right_words ds x y))) _ (λ r. made (row.result_shape op ds) (W.result_words op ds x y)
+      r h)))
   combined_makes Plain (Private k) op ds x y h =
       makes_after (row.number_of y) _ (λ j. makes_after (row.stretched (row.is_scalar_right ds) (length (W.left_words ds x y)) j) _ (λ u.
-      makes_after (gate (gates.MulPub (ring_for y.shape.element) u (W.left_words ds x y))) _ (λ r. made (row.result_shape op ds) (W.result_words op ds x y) r h)))
+      makes_after (gate (gates.MulPub (ring_for y.shape.element) u (W.left_words ds x y))) _ (λ r. made (row.result_shape op ds) (W.result_words op ds x y) r
+      h)))
 
-  result_single : (op : BinaryOperator) (ds : Operands) (x y : Value) → (left_array ds ≡ false → length x.words ≡ 1) → (right_array ds ≡ false → length y.words ≡ 1) → (row.result_shape op ds).array ≡ false → length (W.result_words op ds x y) ≡ 1
+  result_single : (op : BinaryOperator) (ds : Operands) (x y : Value) → (left_array ds ≡ false → length x.words ≡ 1)
+      → (right_array ds ≡ false → length y.words ≡ 1) → (row.result_shape op ds).array ≡ false → length (W.result_words op ds x y) ≡ 1
   result_single op Scalars x y h k e = two_single (W.meaning op) x.words y.words (h refl) (k refl)
   result_single op ArrayAndScalar x y h k e = absurd (clash e)
   result_single op ScalarAndArray x y h k e = absurd (clash e)
   result_single op Arrays x y h k e = absurd (clash e)
 
-  operated_makes : (line : ℕ) (op : BinaryOperator) (ds : Operands) (x y : Value) → (left_array ds ≡ false → length x.words ≡ 1) → (right_array ds ≡ false → length y.words ≡ 1) → Makes (row.operated w line op ds x y) (IsShaped (row.result_shape op ds))
+  pub operated_makes : (line : ℕ) (op : BinaryOperator) (ds : Operands) (x y : Value) → (left_array ds ≡ false → length x.words ≡ 1)
+      → (right_array ds ≡ false → length y.words ≡ 1) → Makes (row.operated w line op ds x y) (IsShaped (row.result_shape op ds))
   operated_makes line op ds x y h k =
-      makes_after (row.charged (row.operator_traps line op ds x y) (W.result_size ds x y)) _ (λ _. combined_makes x.secrecy y.secrecy op ds x y (result_single op ds x y h k))
+      makes_after (row.charged (row.operator_traps line op ds x y) (W.result_size ds x y)) _ (λ _. combined_makes x.secrecy y.secrecy op ds x y
+      (result_single op ds x y h k))
 
   -- ---- OTHER ROWS
 
-  negated_makes : (x : Value) → (x.shape.array ≡ false → length x.words ≡ 1) → Makes (row.negated x) (IsShaped x.shape)
+  pub negated_makes : (x : Value) → (x.shape.array ≡ false → length x.words ≡ 1) → Makes (row.negated x) (IsShaped x.shape)
   negated_makes x h = makes_after (row.charged row.no_traps (size x)) _ (λ _. go x.secrecy)
     where
       single : x.shape.array ≡ false → length (map W.flipped x.words) ≡ 1
@@ -138,7 +155,8 @@ module _ (w : World) where
       go Plain = shown x.shape (map W.flipped x.words) single
       go (Private k) = makes_after (row.number_of x) _ (λ u. makes_after (row.flip (size x) u) _ (λ r. made x.shape (map W.flipped x.words) r single))
 
-  cast_makes : (c : casts.Cast) (x : Value) → x.shape.element ≡ cast_source c → (x.shape.array ≡ false → length x.words ≡ 1) → Makes (row.cast_to w c x) (IsShaped (row.cast_shape c x.shape.array))
+  pub cast_makes : (c : casts.Cast) (x : Value) → x.shape.element ≡ cast_source c → (x.shape.array ≡ false → length x.words ≡ 1) → Makes (row.cast_to w c x)
+      (IsShaped (row.cast_shape c x.shape.array))
   cast_makes c x e h = makes_after (row.charged row.no_traps (size x)) _ (λ _. go c e x.secrecy)
     where
       same : (s : Shape) (element : DataType) → s.element ≡ element → s ≡ shape_of element s.array
@@ -153,25 +171,30 @@ module _ (w : World) where
       go WordToBool e Plain = shown _ _ (single WordToBool)
       go BoolToWord e Plain = shown _ _ (single BoolToWord)
       go WordToBool e (Private k) =
-          makes_after (draw w (row.words_of_cast WordToBool (size x))) _ (λ _. makes_after (row.number_of x) _ (λ u. makes_after (row.cast_gates WordToBool (size x) u) _ (λ r. made (shape_of datatype.Bool x.shape.array) (map (W.cast_word WordToBool) x.words) r (single WordToBool))))
+          makes_after (draw w (row.words_of_cast WordToBool (size x))) _
+          (λ _. makes_after (row.number_of x) _ (λ u. makes_after (row.cast_gates WordToBool (size x) u) _
+          (λ r. made (shape_of datatype.Bool x.shape.array) (map (W.cast_word WordToBool) x.words) r (single WordToBool))))
       go BoolToWord e (Private k) =
-          makes_after (draw w (row.words_of_cast BoolToWord (size x))) _ (λ _. makes_after (row.number_of x) _ (λ u. makes_after (row.cast_gates BoolToWord (size x) u) _ (λ r. made (shape_of Uint64 x.shape.array) (map (W.cast_word BoolToWord) x.words) r (single BoolToWord))))
+          makes_after (draw w (row.words_of_cast BoolToWord (size x))) _
+          (λ _. makes_after (row.number_of x) _ (λ u. makes_after (row.cast_gates BoolToWord (size x) u) _
+          (λ r. made (shape_of Uint64 x.shape.array) (map (W.cast_word BoolToWord) x.words) r (single BoolToWord))))
 
-  classified_makes : (x : Value) → (x.shape.array ≡ false → length x.words ≡ 1) → Makes (row.classified x) (IsShaped x.shape)
+  pub classified_makes : (x : Value) → (x.shape.array ≡ false → length x.words ≡ 1) → Makes (row.classified x) (IsShaped x.shape)
   classified_makes x h = go x.secrecy
     where
       go : (a : Secrecy) → Makes (row.classified_from a x) (IsShaped x.shape)
       go (Private k) = itself x h
       go Plain = makes_after (row.charged row.no_traps (size x)) _ (λ _. makes_after (gate (gates.Const x.words)) _ (λ k. made x.shape x.words k h))
 
-  filled_makes : (line : ℕ) (n x : Value) → Makes (row.filled line n x) (IsShaped (shape_of x.shape.element true))
+  pub filled_makes : (line : ℕ) (n x : Value) → Makes (row.filled line n x) (IsShaped (shape_of x.shape.element true))
   filled_makes line n x = makes_after (row.charged (row.not_too_large line (row.position n)) (row.position n)) _ (λ _. go x.secrecy)
     where
       go : (a : Secrecy) → Makes (row.filled_from a (row.position n) x) (IsShaped (shape_of x.shape.element true))
       go Plain = shown (shape_of x.shape.element true) (replicate (row.position n) (first_word x.words)) (λ e. absurd (clash e))
-      go (Private k) = makes_after (row.number_of x) _ (λ u. makes_after (gate (gates.Rep u (row.position n))) _ (λ r. made (shape_of x.shape.element true) (replicate (row.position n) (first_word x.words)) r (λ e. absurd (clash e))))
+      go (Private k) = makes_after (row.number_of x) _ (λ u. makes_after (gate (gates.Rep u (row.position n))) _
+          (λ r. made (shape_of x.shape.element true) (replicate (row.position n) (first_word x.words)) r (λ e. absurd (clash e))))
 
-  element_makes : (line : ℕ) (x i : Value) → Makes (row.element_of_array line x i) (IsShaped (shape_of x.shape.element false))
+  pub element_makes : (line : ℕ) (x i : Value) → Makes (row.element_of_array line x i) (IsShaped (shape_of x.shape.element false))
   element_makes line x i = makes_after (charge 1) _ (λ _. makes_after (test (nat_lt (row.position i) (size x)) trap.Index line) _ (λ _. go x.secrecy))
     where
       words : List ℕ
@@ -179,9 +202,10 @@ module _ (w : World) where
 
       go : (a : Secrecy) → Makes (row.element_from a x (row.position i)) (IsShaped (shape_of x.shape.element false))
       go Plain = shown (shape_of x.shape.element false) words (λ e. refl)
-      go (Private k) = makes_after (row.number_of x) _ (λ u. makes_after (gate (gates.Part u (row.position i) 1)) _ (λ r. made (shape_of x.shape.element false) words r (λ e. refl)))
+      go (Private k) = makes_after (row.number_of x) _ (λ u. makes_after (gate (gates.Part u (row.position i) 1)) _
+          (λ r. made (shape_of x.shape.element false) words r (λ e. refl)))
 
-  with_element_makes : (line : ℕ) (x i y : Value) → x.shape.array ≡ true → Makes (row.with_element line x i y) (IsShaped x.shape)
+  pub with_element_makes : (line : ℕ) (x i y : Value) → x.shape.array ≡ true → Makes (row.with_element line x i y) (IsShaped x.shape)
   with_element_makes line x i y h = makes_after (charge 1) _ (λ _. makes_after (test (nat_lt (row.position i) (size x)) trap.Index line) _ (λ _. go x.secrecy))
     where
       never : {n : ℕ} → x.shape.array ≡ false → n ≡ 1
@@ -189,35 +213,40 @@ module _ (w : World) where
 
       go : (a : Secrecy) → Makes (row.with_element_from a x (row.position i) y) (IsShaped x.shape)
       go Plain = shown x.shape _ never
-      go (Private k) = makes_after (row.number_of x) _ (λ u. makes_after (row.number_of y) _ (λ e. makes_after (gate (gates.Put u (row.position i) e)) _ (λ r. made x.shape (set x.words (row.position i) (first_word y.words)) r never)))
+      go (Private k) = makes_after (row.number_of x) _ (λ u. makes_after (row.number_of y) _ (λ e. makes_after (gate (gates.Put u (row.position i) e)) _
+          (λ r. made x.shape (set x.words (row.position i) (first_word y.words)) r never)))
 
-  size_makes : (x : Value) → Makes (row.size_told x) (IsShaped (shape_of Uint64 false))
+  pub size_makes : (x : Value) → Makes (row.size_told x) (IsShaped (shape_of Uint64 false))
   size_makes x = makes_after (charge 1) _ (λ _. shown (shape_of Uint64 false) (size x ∷ []) (λ e. refl))
 
-  summed_makes : (x : Value) → Makes (row.summed x) (IsShaped (shape_of Uint64 false))
+  pub summed_makes : (x : Value) → Makes (row.summed x) (IsShaped (shape_of Uint64 false))
   summed_makes x = makes_after (charge 1) _ (λ _. go x.secrecy)
     where
       go : (a : Secrecy) → Makes (row.summed_from a x) (IsShaped (shape_of Uint64 false))
       go Plain = shown (shape_of Uint64 false) (sum x.words % 2 ^ 64 ∷ []) (λ e. refl)
-      go (Private k) = makes_after (row.number_of x) _ (λ u. makes_after (gate (gates.Sum u)) _ (λ r. made (shape_of Uint64 false) (sum x.words % 2 ^ 64 ∷ []) r (λ e. refl)))
+      go (Private k) = makes_after (row.number_of x) _ (λ u. makes_after (gate (gates.Sum u)) _
+          (λ r. made (shape_of Uint64 false) (sum x.words % 2 ^ 64 ∷ []) r (λ e. refl)))
 
-  bits_makes : (line : ℕ) (x : Value) → Makes (row.bits_extracted w line x) (IsShaped (shape_of datatype.Bool true))
+  pub bits_makes : (line : ℕ) (x : Value) → Makes (row.bits_extracted w line x) (IsShaped (shape_of datatype.Bool true))
   bits_makes line x = makes_after (row.charged (row.not_too_large line (64 * size x)) (64 * size x)) _ (λ _. go x.secrecy)
     where
       go : (a : Secrecy) → Makes (row.bits_from w a x) (IsShaped (shape_of datatype.Bool true))
       go Plain = shown (shape_of datatype.Bool true) (flat_map bits_of x.words) (λ e. absurd (clash e))
       go (Private k) =
-          makes_after (draw w (row.words_for_bits (size x))) _ (λ _. makes_after (row.number_of x) _ (λ u. makes_after (planned (λ first. bits_plan first u (size x))) _ (λ b. makes_after (gate (gates.Spread b)) _ (λ r.
+          makes_after (draw w (row.words_for_bits (size x))) _
+          (λ _. makes_after (row.number_of x) _ (λ u. makes_after (planned (λ first. bits_plan first u (size x))) _
+          (λ b. makes_after (gate (gates.Spread b)) _ (λ r.
           made (shape_of datatype.Bool true) (flat_map bits_of x.words) r (λ e. absurd (clash e))))))
 
-  joined_makes : (line : ℕ) (x y : Value) → x.shape.array ≡ true → Makes (row.joined line x y) (IsShaped x.shape)
+  pub joined_makes : (line : ℕ) (x y : Value) → x.shape.array ≡ true → Makes (row.joined line x y) (IsShaped x.shape)
   joined_makes line x y h = makes_after (row.charged (row.not_too_large line (size x + size y)) (size x + size y)) _ (λ _. go x.secrecy y.secrecy)
     where
       never : {n : ℕ} → x.shape.array ≡ false → n ≡ 1
       never e = absurd (clash (sym h ∙ e))
 
       put_together : Makes (row.joined_from (Private None) Plain x y) (IsShaped x.shape)
-      put_together = makes_after (row.number_of x) _ (λ u. makes_after (row.number_of y) _ (λ v. makes_after (gate (gates.Cat u v)) _ (λ r. made x.shape (x.words ++ y.words) r never)))
+      put_together = makes_after (row.number_of x) _ (λ u. makes_after (row.number_of y) _
+          (λ v. makes_after (gate (gates.Cat u v)) _ (λ r. made x.shape (x.words ++ y.words) r never)))
 
       go : (a b : Secrecy) → Makes (row.joined_from a b x y) (IsShaped x.shape)
       go Plain Plain = shown x.shape (x.words ++ y.words) never
@@ -231,7 +260,8 @@ module _ (w : World) where
   answered Clear words = makes_done refl
   answered Answers words = record { from = λ s. go s (nat_le (length words) (length s.answers)) refl }
     where
-      go : (s : Stage) (c : Bool) → nat_le (length words) (length s.answers) ≡ c → MakesAt (cond c (Ok (take (length words) s.answers, record s { answers = drop (length words) s.answers })) (Err (Short, s))) (λ ws. length ws ≡ length words)
+      go : (s : Stage) (c : Bool) → nat_le (length words) (length s.answers) ≡ c → MakesAt
+          (cond c (Ok (take (length words) s.answers, record s { answers = drop (length words) s.answers })) (Err (Short, s))) (λ ws. length ws ≡ length words)
       go s true e = length-take-le (length words) s.answers (leb-true (length words) (length s.answers) e)
       go s false e = tt
 
@@ -246,12 +276,13 @@ module _ (w : World) where
       makes_after (show known) _ (λ _. makes_after (emit (event.Open (elements_of (plain x.shape known)))) _ (λ _.
       shown x.shape known (λ e. read_length x.shape.element ws ∙ q ∙ h e))))
 
-  declassified_makes : (x : Value) → (x.shape.array ≡ false → length x.words ≡ 1) → Makes (row.declassified w x) (IsShaped x.shape)
+  pub declassified_makes : (x : Value) → (x.shape.array ≡ false → length x.words ≡ 1) → Makes (row.declassified w x) (IsShaped x.shape)
   declassified_makes x h = makes_after (row.charged row.no_traps (size x)) _ (λ _. go x.secrecy)
     where
       go : (a : Secrecy) → Makes (row.opened_from w a x) (IsShaped x.shape)
       go Plain = itself x h
-      go (Private k) = makes_after (draw w (words_each (size x))) _ (λ _. makes_after (row.number_of x) _ (λ u. makes_after (gate (gates.Open (ring_for x.shape.element) u)) _ (λ _. revealed_makes x h)))
+      go (Private k) = makes_after (draw w (words_each (size x))) _
+          (λ _. makes_after (row.number_of x) _ (λ u. makes_after (gate (gates.Open (ring_for x.shape.element) u)) _ (λ _. revealed_makes x h)))
 
   -- ---- INPUTS
 
@@ -260,7 +291,8 @@ module _ (w : World) where
   tested false kind line = record { from = λ s. tt }
 
   charged_test : (b : Bool) (kind : TrapKind) (line n : ℕ) → Makes (row.charged (test b kind line) n) (λ u. b ≡ true)
-  charged_test b kind line n = makes_after (charge 1) _ (λ _. makes_bind (test b kind line) _ (λ u. b ≡ true) (tested b kind line) (λ u q. makes_fact (charge (n - 1)) q))
+  charged_test b kind line n = makes_after (charge 1) _ (λ _. makes_bind (test b kind line) _ (λ u. b ≡ true) (tested b kind line)
+      (λ u q. makes_fact (charge (n - 1)) q))
 
   types_same : (a b : DataType) → same_type a b ≡ true → a ≡ b
   types_same Uint64 Uint64 h = refl
@@ -277,16 +309,19 @@ module _ (w : World) where
   shapes_same : (s t : Shape) → same_shape s t ≡ true → s ≡ t
   shapes_same s t h =
       let two = and_parts (same_type s.element t.element) (same_truth s.array t.array) h in
-      ap (λ z. record { element = z; array = s.array }) (types_same s.element t.element two.0) ∙ ap (λ z. record { element = t.element; array = z }) (truths_same s.array t.array two.1)
+      ap (λ z. record { element = z; array = s.array }) (types_same s.element t.element two.0) ∙ ap (λ z. record { element = t.element; array = z })
+      (truths_same s.array t.array two.1)
 
   given_makes : (secret : Bool) (x : Given) (k : ℕ) → IsSingle x → Makes (given_value secret x k) (IsShaped x.shape)
   given_makes false x k h = shown x.shape x.words h
   given_makes true x k h = makes_after (gate (gates.Input k)) _ (λ r. made x.shape x.words r h)
 
-  asked_makes : (secret : Bool) (shape : Shape) (line : ℕ) (o : Option (Given × ℕ)) → ((x : Given × ℕ) → o ≡ Some x → IsSingle x.0) → Makes (asked_for secret shape line o) (IsShaped shape)
+  pub asked_makes : (secret : Bool) (shape : Shape) (line : ℕ) (o : Option (Given × ℕ)) → ((x : Given × ℕ) → o ≡ Some x → IsSingle x.0) → Makes
+      (asked_for secret shape line o) (IsShaped shape)
   asked_makes secret shape line None h = makes_after (charge 1) _ (λ _. makes_end (ending.Trap trap.Argument line))
   asked_makes secret shape line (Some x) h =
-      makes_bind (row.charged (test (is_as_declared secret shape x.0) trap.Argument line) (length x.0.words)) _ (λ u. is_as_declared secret shape x.0 ≡ true) (charged_test (is_as_declared secret shape x.0) trap.Argument line (length x.0.words)) (λ u q.
+      makes_bind (row.charged (test (is_as_declared secret shape x.0) trap.Argument line) (length x.0.words)) _ (λ u. is_as_declared secret shape x.0 ≡ true)
+      (charged_test (is_as_declared secret shape x.0) trap.Argument line (length x.0.words)) (λ u q.
       let same = shapes_same x.0.shape shape (and_parts (same_truth x.0.secret secret) (same_shape x.0.shape shape) q).1 in
       subst (λ z. Makes (given_value secret x.0 x.1) (IsShaped z)) same (given_makes secret x.0 x.1 (h x refl)))
 
@@ -301,7 +336,8 @@ input_there k text (y ∷ ys) x e = go (bytes_eq text y.text) e (input_there (be
         first None = a.0
         first (Some z) = z.0
 
-    go : (b : Bool) → (if b then Some (y, k) else input_from (behind y k) text ys) ≡ Some x → (input_from (behind y k) text ys ≡ Some x → Among x.0 ys) → Among x.0 (y ∷ ys)
+    go : (b : Bool) → (if b then Some (y, k) else input_from (behind y k) text ys) ≡ Some x → (input_from (behind y k) text ys ≡ Some x → Among x.0 ys)
+        → Among x.0 (y ∷ ys)
     go true e rest = inl (found (y, k) x e)
     go false e rest = inr (rest e)
 
@@ -318,5 +354,86 @@ singled : (k : Kind) (v : Value) → IsOf k v → v.shape.array ≡ false → le
 singled k v h e = h.single (sym (shape_array k v h) ∙ e)
 
 -- secrecy and shape make a kind
-kinded : (secret : Bool) (shape : Shape) (v : Value) → IsSecret secret v → IsShaped shape v → IsOf (kind_of secret shape) v
-kinded secret shape v q h = record { secret = q; shape = h.same; single = h.single }
+kinded : (k : Kind) (shape : Shape) (v : Value) → IsSecret k.secret v → IsShaped shape v → shape ≡ kind_shape k → IsOf k v
+kinded k shape v q h e = record { secret = q; shape = h.same ∙ e; single = λ a. h.single (ap (λ z. z.array) e ∙ a) }
+
+cast_shape_same : (c : casts.Cast) (a : Bool) → row.cast_shape c a ≡ shape_of (cast_target c) a
+cast_shape_same WordToWord a = refl
+cast_shape_same WordToBool a = refl
+cast_shape_same BoolToWord a = refl
+cast_shape_same BoolToBool a = refl
+
+same_twice : (b : Bool) → (b || b) ≡ b
+same_twice true = refl
+same_twice false = refl
+
+module _ (w : World) where
+  pub operated_kind : (line : ℕ) (op : BinaryOperator) (ds : Operands) (a b : Kind) (x y : Value) → IsOf a x → IsOf b y → a.array ≡ left_array ds → b.array
+      ≡ right_array ds → Makes (row.operated w line op ds x y) (IsOf (kind_of (a.secret || b.secret) (row.result_shape op ds)))
+  operated_kind line op ds a b x y h k e f =
+      let result : Kind = kind_of (a.secret || b.secret) (row.result_shape op ds) in
+      makes_both (IsOf result) (makes_of (operated_gives w line op ds x y)) (operated_makes w line op ds x y (λ z. h.single (e ∙ z)) (λ z. k.single (f ∙ z)))
+      (λ v p q. kinded result (row.result_shape op ds) v (p ∙ ap (λ z. z || is_secret y.secrecy) h.secret ∙ ap (λ z. a.secret || z) k.secret) q refl)
+
+  pub negated_kind : (k : Kind) (x : Value) → IsOf k x → Makes (row.negated x) (IsOf k)
+  negated_kind k x h = makes_both (IsOf k) (makes_of (negated_gives w x)) (negated_makes w x (singled k x h))
+      (λ v p q. kinded k x.shape v (p ∙ h.secret) q h.shape)
+
+  pub cast_kind : (c : casts.Cast) (b a : Bool) (x : Value) → IsOf (record { secret = b; element = cast_source c; array = a }) x → Makes (row.cast_to w c x)
+      (IsOf (record { secret = b; element = cast_target c; array = a }))
+  cast_kind c b a x h =
+      let source : Kind = record { secret = b; element = cast_source c; array = a } in
+      let target : Kind = record { secret = b; element = cast_target c; array = a } in
+      makes_both (IsOf target) (makes_of (cast_gives w c x)) (cast_makes w c x (shape_element source x h) (singled source x h))
+      (λ v p q. kinded target (row.cast_shape c x.shape.array) v (p ∙ h.secret) q (ap (row.cast_shape c) (shape_array source x h) ∙ cast_shape_same c a))
+
+  pub classified_kind : (k : Kind) (x : Value) → IsOf k x → Makes (row.classified x) (IsOf (with_secret true k))
+  classified_kind k x h = makes_both (IsOf (with_secret true k)) (makes_of (class_gives w x)) (classified_makes w x (singled k x h))
+      (λ v p q. kinded (with_secret true k) x.shape v p q h.shape)
+
+  pub filled_kind : (line : ℕ) (n : Value) (k : Kind) (x : Value) → IsOf k x → Makes (row.filled line n x) (IsOf (with_array true k))
+  filled_kind line n k x h =
+      makes_both (IsOf (with_array true k)) (makes_of (filled_gives w line n x)) (filled_makes w line n x)
+      (λ v p q. kinded (with_array true k) (shape_of x.shape.element true) v (p ∙ h.secret) q (ap (λ z. shape_of z true) (shape_element k x h)))
+
+  pub element_kind : (line : ℕ) (k : Kind) (x i : Value) → IsOf k x → Makes (row.element_of_array line x i) (IsOf (with_array false k))
+  element_kind line k x i h =
+      makes_both (IsOf (with_array false k)) (makes_of (element_gives w line x i)) (element_makes w line x i)
+      (λ v p q. kinded (with_array false k) (shape_of x.shape.element false) v (p ∙ h.secret) q (ap (λ z. shape_of z false) (shape_element k x h)))
+
+  pub with_element_kind : (line : ℕ) (k : Kind) (x i y : Value) → IsOf k x → k.array ≡ true → Makes (row.with_element line x i y) (IsOf k)
+  with_element_kind line k x i y h e =
+      makes_both (IsOf k) (makes_of (with_element_gives w line x i y)) (with_element_makes w line x i y (shape_array k x h ∙ e))
+      (λ v p q. kinded k x.shape v (p ∙ h.secret) q h.shape)
+
+  pub size_kind : (x : Value) → Makes (row.size_told x) (IsOf (public_scalar Uint64))
+  size_kind x = makes_both (IsOf (public_scalar Uint64)) (makes_of (size_gives w x)) (size_makes w x)
+      (λ v p q. kinded (public_scalar Uint64) (shape_of Uint64 false) v p q refl)
+
+  pub joined_kind : (line : ℕ) (k : Kind) (x y : Value) → IsOf k x → IsOf k y → k.array ≡ true → Makes (row.joined line x y) (IsOf k)
+  joined_kind line k x y h j e =
+      makes_both (IsOf k) (makes_of (joined_gives w line x y)) (joined_makes w line x y (shape_array k x h ∙ e))
+      (λ v p q. kinded k x.shape v (p ∙ ap (λ z. z || is_secret y.secrecy) h.secret ∙ ap (λ z. k.secret || z) j.secret ∙ same_twice k.secret) q h.shape)
+
+  pub summed_kind : (k : Kind) (x : Value) → IsOf k x → Makes (row.summed x) (IsOf (with_secret k.secret (public_scalar Uint64)))
+  summed_kind k x h =
+      let result = with_secret k.secret (public_scalar Uint64) in
+      makes_both (IsOf result) (makes_of (summed_gives w x)) (summed_makes w x) (λ v p q. kinded result (shape_of Uint64 false) v (p ∙ h.secret) q refl)
+
+  pub bits_kind : (line : ℕ) (k : Kind) (x : Value) → IsOf k x → Makes (row.bits_extracted w line x)
+      (IsOf (with_array true (with_secret k.secret (public_scalar datatype.Bool))))
+  bits_kind line k x h =
+      let result = with_array true (with_secret k.secret (public_scalar datatype.Bool)) in
+      makes_both (IsOf result) (makes_of (bits_gives w line x)) (bits_makes w line x) (λ v p q. kinded result (shape_of datatype.Bool true) v (p ∙ h.secret)
+      q refl)
+
+  pub declassified_kind : (k : Kind) (x : Value) → IsOf k x → Makes (row.declassified w x) (IsOf (with_secret false k))
+  declassified_kind k x h =
+      makes_both (IsOf (with_secret false k)) (makes_of (declassified_gives w x)) (declassified_makes w x (singled k x h))
+      (λ v p q. kinded (with_secret false k) x.shape v p q h.shape)
+
+  pub asked_kind : (k : Kind) (line : ℕ) (text : List ℕ) → AreSingle w.inputs → Makes (asked_for k.secret (kind_shape k) line (input_named w text)) (IsOf k)
+  asked_kind k line text singles =
+      makes_both (IsOf k) (makes_of (asked_gives w k.secret (kind_shape k) line (input_named w text)))
+      (asked_makes w k.secret (kind_shape k) line (input_named w text) (λ x e. singles x.0 (input_there 0 text w.inputs x e)))
+      (λ v p q. kinded k (kind_shape k) v p q refl)

@@ -18,3 +18,4 @@ pub mod Means
 pub mod Samples
 pub mod Widths
 pub mod KindRows
+pub mod Within

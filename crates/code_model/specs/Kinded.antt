@@ -13,7 +13,10 @@ use Rattle.language_model.specs.Effects.{World, Given}
 use Rattle.language_model.specs.Values.{Value, is_secret}
 use Rattle.language_model.specs.Operations.{result_shape}
 use Rattle.bytecode.specs.declared.kind.Kind.{Kind}
-use Rattle.verified_code.specs.Steps.{kind_shape, Step, Literal, Move, Store, Binary, Not, Cast, Classify, Fill, At, Put, Size, Cat, Sum, Bits, Declassify, Argument, Publish, Assert, Branch, Jump, Call, Return, ReturnNone, Function}
+use Rattle.verified_code.specs.Steps.{kind_shape, Step, Literal, Move, Store, Binary, Not, Cast, Classify, Fill, At, Put, Size, Cat, Sum, Bits, Declassify}
+use Rattle.verified_code.specs.Steps.{Argument, Publish, Assert, Branch, Jump, Call, Return, ReturnNone, Function}
+use Rattle.language_model.specs.Evaluation.{Frame}
+use Rattle.code_model.specs.Machine.{Caller, Machine}
 use Rattle.code_model.specs.Kinds.{kind_of}
 
 -- ---- VALUES
@@ -65,3 +68,86 @@ right_array Scalars = false
 right_array ArrayAndScalar = false
 right_array ScalarAndArray = true
 right_array Arrays = true
+
+-- ---- STEPS
+
+-- a register is there, and is of this kind
+abbrev pub HasKind : List Kind → ℕ → Kind → Type 0
+HasKind kinds r k = slice_get kinds r ≡ Some k
+
+-- the arguments of a call are of the kinds of the called function's first registers
+abbrev pub ArgumentsHave : List Kind → List ℕ → List Kind → Type 0
+ArgumentsHave kinds [] ks = Unit {0}
+ArgumentsHave kinds (r ∷ rs) [] = ⊥
+ArgumentsHave kinds (r ∷ rs) (k ∷ ks) = HasKind kinds r k × ArgumentsHave kinds rs ks
+
+-- a result that is wanted is given, and its register is of its kind
+abbrev pub ResultFits : List Kind → Option ℕ → Option Kind → Type 0
+ResultFits kinds None given = Unit {0}
+ResultFits kinds (Some d) given = (k : Kind) × (given ≡ Some k) × HasKind kinds d k
+
+-- the operands of a step of this function are such that its registers keep their kinds
+abbrev pub StepFits : List Function → Function → Step → Type 0
+StepFits p f (Literal d e n) = HasKind f.kinds d (public_scalar e)
+StepFits p f (Move d r) = (k : Kind) × HasKind f.kinds r k × HasKind f.kinds d k
+StepFits p f (Store d r) = (k : Kind) × HasKind f.kinds r k × HasKind f.kinds d k
+StepFits p f (Binary line op ds d a b) =
+    (x : Kind) × (y : Kind) × HasKind f.kinds a x × HasKind f.kinds b y × (x.array ≡ left_array ds) × (y.array ≡ right_array ds)
+    × HasKind f.kinds d (kind_of (x.secret || y.secret) (result_shape op ds))
+StepFits p f (Not d r) = (k : Kind) × HasKind f.kinds r k × HasKind f.kinds d k
+StepFits p f (Cast c d r) =
+    (b : Bool) × (a : Bool) × HasKind f.kinds r (record { secret = b; element = cast_source c; array = a })
+    × HasKind f.kinds d (record { secret = b; element = cast_target c; array = a })
+StepFits p f (Classify d r) = (k : Kind) × HasKind f.kinds r k × HasKind f.kinds d (with_secret true k)
+StepFits p f (Fill line d n x) = (k : Kind) × HasKind f.kinds x k × HasKind f.kinds d (with_array true k)
+StepFits p f (At line d a i) = (k : Kind) × HasKind f.kinds a k × HasKind f.kinds d (with_array false k)
+StepFits p f (Put line a i x) = (k : Kind) × HasKind f.kinds a k × (k.array ≡ true)
+StepFits p f (Size d r) = HasKind f.kinds d (public_scalar Uint64)
+StepFits p f (Cat line d a b) = (k : Kind) × HasKind f.kinds a k × HasKind f.kinds b k × (k.array ≡ true) × HasKind f.kinds d k
+StepFits p f (Sum d r) = (k : Kind) × HasKind f.kinds r k × HasKind f.kinds d (with_secret k.secret (public_scalar Uint64))
+StepFits p f (Bits line d r) = (k : Kind) × HasKind f.kinds r k × HasKind f.kinds d (with_array true (with_secret k.secret (public_scalar datatype.Bool)))
+StepFits p f (Declassify d r) = (k : Kind) × HasKind f.kinds r k × HasKind f.kinds d (with_secret false k)
+StepFits p f (Argument line k text d) = HasKind f.kinds d k
+StepFits p f (Publish text r) = Unit {0}
+StepFits p f (Assert line r) = Unit {0}
+StepFits p f (Branch r b target) = target < length f.steps
+StepFits p f (Jump target) = target < length f.steps
+StepFits p f (Call line g d args) =
+    (h : Function) × (slice_get p g ≡ Some h) × ArgumentsHave f.kinds args h.kinds × ResultFits f.kinds d h.gives
+StepFits p f (Return r) = (k : Kind) × (f.gives ≡ Some k) × HasKind f.kinds r k
+StepFits p f ReturnNone = f.gives ≡ None
+
+abbrev pub is_return : Step → Bool
+is_return (Return r) = true
+is_return ReturnNone = true
+is_return i = false
+
+-- each step fits, and all but a return have a step behind them
+pub record IsFitting (p : List Function) (f : Function) : Type 0 where
+  pub some : 0 < length f.steps
+  pub fits : (place : ℕ) (i : Step) → slice_get f.steps place ≡ Some i → StepFits p f i
+  pub goes_on : (place : ℕ) (i : Step) → slice_get f.steps place ≡ Some i → is_return i ≡ false → place + 1 < length f.steps
+
+abbrev pub IsIn : List Function → Function → Type 0
+IsIn p f = (g : ℕ) × (slice_get p g ≡ Some f)
+
+-- ---- MACHINES
+
+abbrev pub RegistersFit : List Kind → Frame → Type 0
+RegistersFit kinds registers = (r : ℕ) (k : Kind) → HasKind kinds r k → IsOf k (registers r)
+
+-- each caller goes on in a function of the code, with registers of its kinds, and has one for the result if it wants it
+abbrev pub AreWithin : List Function → Option Kind → List Caller → Type 0
+AreWithin p given [] = Unit {0}
+AreWithin p given (c ∷ cs) =
+    (f : Function) × IsIn p f × (c.steps ≡ f.steps) × (c.pc < length f.steps) × RegistersFit f.kinds c.registers × ResultFits f.kinds c.result given
+    × AreWithin p f.gives cs
+
+-- a machine is in a function of the code, at a step that is there, and each register is of its kind
+pub record IsWithin (p : List Function) (m : Machine) : Type 0 where
+  pub own : Function
+  pub there : IsIn p own
+  pub steps : m.steps ≡ own.steps
+  pub place : m.pc < length own.steps
+  pub registers : RegistersFit own.kinds m.registers
+  pub callers : AreWithin p own.gives m.stack
