@@ -17,5 +17,8 @@ pub mod Forward
 pub mod Means
 pub mod Samples
 pub mod Widths
+pub mod Makes
+pub mod ShapeRows
 pub mod KindRows
 pub mod Within
+pub mod Kept

@@ -15,7 +15,8 @@ use Rattle.code_model.specs.Machine.{same_bool, step, begin_at, start}
 use Rattle.code_model.specs.Kinded.{IsOf, AreSingle, public_scalar, HasKind, ArgumentsHave, ResultFits, StepFits, is_return, IsFitting, IsIn, RegistersFit}
 use Rattle.code_model.specs.Kinded.{AreWithin, IsWithin}
 use Rattle.code_model.proofs.Places.{put_all}
-use Rattle.code_model.proofs.KindRows.{Makes, makes_done, makes_end, makes_bind, makes_after, operated_kind, negated_kind, cast_kind, classified_kind}
+use Rattle.code_model.proofs.Makes.{Makes, makes_done, makes_end, makes_bind, makes_after}
+use Rattle.code_model.proofs.KindRows.{operated_kind, negated_kind, cast_kind, classified_kind}
 use Rattle.code_model.proofs.KindRows.{filled_kind, element_kind, with_element_kind, size_kind, joined_kind, summed_kind, bits_kind, declassified_kind}
 use Rattle.code_model.proofs.KindRows.{asked_kind}
 
@@ -165,15 +166,15 @@ module _ (w : World) (p : List Function) (fits : (f : Function) → IsIn p f →
         subst (λ o. Makes (step w p o m) (IsWithin p)) (sym (ap (λ z. slice_get z m.pc) h.steps ∙ x.1))
         (act x.0 (fit.fits m.pc x.0 x.1) (fit.goes_on m.pc x.0 x.1))
 
-  -- where `main` is there, it begins so
-  pub begins_within : (main : Function) → slice_get p 0 ≡ Some main → IsWithin p (start p)
-  begins_within main e =
-      subst (λ o. IsWithin p (begin_at o)) (sym e) (record {
-        own = main;
-        there = (0, e);
-        steps = refl;
-        place = (fits main (0, e)).some;
-        registers
-            = filled_fits main.kinds [] tt;
-        callers = tt;
-      })
+-- where `main` is there, it begins so
+pub begins_within : {p : List Function} → ((f : Function) → IsIn p f → IsFitting p f) → (main : Function) → slice_get p 0 ≡ Some main → IsWithin p (start p)
+begins_within {p = p} fits main e =
+    subst (λ o. IsWithin p (begin_at o)) (sym e) (record {
+      own = main;
+      there = (0, e);
+      steps = refl;
+      place = (fits main (0, e)).some;
+      registers = filled_fits
+          main.kinds [] tt;
+      callers = tt;
+    })

@@ -1,0 +1,84 @@
+-- What is known of the value that an effect makes, whatever it does before.
+use Rattle.std.proofs.Common.{◌≡◌, ℕ, zero, suc, ◌+◌, ◌-◌, ◌*◌, ◌≤◌, List, [], ◌∷◌, ◌++◌, length, Option, Some, None, Ok, Err, Bool, true, false, cond, not}
+use Rattle.std.proofs.Common.{◌&&◌, ◌||◌, refl, sym, ap, ◌∙◌, subst, arith, ◌⊎◌, inl, inr}
+use Rattle.std.specs.Prelude.{map, nat_le, take, drop, nat_lt, bytes_eq, if◌then◌else◌, sum, replicate, set, ◌%◌, ◌^◌}
+use Rattle.std.specs.List.{flat_map}
+use Rattle.std.proofs.lemmas.Bool.{leb-true, and_parts}
+use Rattle.std.proofs.lemmas.List.{length-map, length-take-le}
+use Rattle.secrec_ast.specs.declared.expression.DataType.{DataType}
+use Rattle.secrec_ast.specs.declared.expression.DataType.TheVariants.{Uint64}
+use Rattle.secrec_ast.specs.declared.expression.DataType.TheVariants as datatype
+use Rattle.sc_text.specs.Lists.{Among}
+use Rattle.sc_text.specs.declared.end.Ending.{Ending}
+use Rattle.sc_text.specs.declared.end.Ending.TheVariants as ending
+use Rattle.sc_text.specs.declared.end.TrapKind.{TrapKind}
+use Rattle.sc_text.specs.declared.end.TrapKind.TheVariants as trap
+use Rattle.sc_text.specs.declared.event.Event.TheVariants as event
+use Rattle.gates.specs.declared.gate.Gate.TheVariants as gates
+use Rattle.gates.specs.Clear.{each_two, first_word, bits_of}
+use Rattle.bit_extract.specs.Plan.{bits_plan}
+use Rattle.typed_tree.specs.declared.kinds.Shape.{Shape}
+use Rattle.typed_tree.specs.declared.operators.BinaryOperator.{BinaryOperator}
+use Rattle.typed_tree.specs.declared.operators.Operands.{Operands}
+use Rattle.typed_tree.specs.declared.operators.Operands.TheVariants.{Scalars, ArrayAndScalar, ScalarAndArray, Arrays}
+use Rattle.typed_tree.specs.declared.operators.Cast as casts
+use Rattle.typed_tree.specs.declared.operators.Cast.TheVariants.{WordToWord, WordToBool, BoolToWord, BoolToBool}
+use Rattle.typed_tree.specs.Shapes.{shape_of}
+use Rattle.language_model.specs.Effects.{World, Given, Source, Clear, Answers, Stage, Short, Run, Effect, ◌>>=◌, carry, done, end, test, charge, draw, gate}
+use Rattle.language_model.specs.Effects.{planned, show, emit, words_each, answer, next_answers}
+use Rattle.language_model.specs.Values.{Secrecy, Plain, Private, Value, plain, hidden, is_secret, size, elements_of, ring_for}
+use Rattle.language_model.specs.Words as W
+use Rattle.language_model.specs.Operations as row
+use Rattle.language_model.specs.Evaluation.{same_type, same_truth, same_shape, is_as_declared, behind, input_from, input_named, given_value, asked_for}
+use Rattle.bytecode.specs.declared.kind.Kind.{Kind}
+use Rattle.verified_code.specs.Steps.{kind_shape}
+use Rattle.code_model.specs.Kinds.{kind_of}
+use Rattle.code_model.specs.Kinded.{IsOf, IsSingle, AreSingle, with_secret, with_array, public_scalar, cast_source, cast_target, left_array, right_array}
+use Rattle.code_model.proofs.Gives.{GivesAt, Gives, IsSecret, class_gives, operated_gives, negated_gives, cast_gives, summed_gives, bits_gives, joined_gives}
+use Rattle.code_model.proofs.Gives.{element_gives, with_element_gives, filled_gives, size_gives, declassified_gives, asked_gives}
+
+abbrev pub MakesAt : {A : Type 0} → Run A → (A → Type 0) → Type 0
+MakesAt (Ok x) Q = Q x.0
+MakesAt (Err e) Q = Unit {0}
+
+pub record Makes {A : Type 0} (c : Effect A) (Q : A → Type 0) : Type 0 where
+  pub from : (s : Stage) → MakesAt (c s) Q
+
+pub makes_done : {A : Type 0} {a : A} {Q : A → Type 0} → Q a → Makes (done a) Q
+makes_done h = record { from = λ s. h }
+
+pub makes_end : {A : Type 0} {Q : A → Type 0} (e : Ending) → Makes (end {A = A} e) Q
+makes_end e = record { from = λ s. tt }
+
+pub makes_bind : {A B : Type 0} (c : Effect A) (f : A → Effect B) (P : A → Type 0) {Q : B → Type 0} → Makes c P → ((a : A) → P a → Makes (f a) Q) → Makes
+    (c >>= f) Q
+makes_bind {A = A} c f P {Q = Q} h k = record { from = λ s. go (c s) (h.from s) }
+  where
+    go : (r : Run A) → MakesAt r P → MakesAt (carry r f) Q
+    go (Ok x) g = (k x.0 g).from x.1
+    go (Err e) g = tt
+
+pub makes_fact : {A B : Type 0} (c : Effect A) → B → Makes c (λ a. B)
+makes_fact {A = A} {B = B} c b = record { from = λ s. go (c s) }
+  where
+    go : (r : Run A) → MakesAt r (λ a. B)
+    go (Ok x) = b
+    go (Err e) = tt
+
+pub makes_after : {A B : Type 0} (c : Effect A) (f : A → Effect B) {Q : B → Type 0} → ((a : A) → Makes (f a) Q) → Makes (c >>= f) Q
+makes_after {A = A} c f k = makes_bind c f (λ a. Unit {0}) (makes_fact c tt) (λ a u. k a)
+
+-- what is known of the budget is left out
+pub makes_of : {A : Type 0} {c : Effect A} {P : A → Type 0} → Gives c P → Makes c P
+makes_of {A = A} {c = c} {P = P} h = record { from = λ s. go s (c s) (h.from s) }
+  where
+    go : (s : Stage) (r : Run A) → GivesAt s r P → MakesAt r P
+    go s (Ok x) g = g.1
+    go s (Err e) g = tt
+
+pub makes_both : {A : Type 0} {c : Effect A} {P Q : A → Type 0} (R : A → Type 0) → Makes c P → Makes c Q → ((a : A) → P a → Q a → R a) → Makes c R
+makes_both {A = A} {c = c} {P = P} {Q = Q} R h m k = record { from = λ s. go (c s) (h.from s) (m.from s) }
+  where
+    go : (r : Run A) → MakesAt r P → MakesAt r Q → MakesAt r R
+    go (Ok x) h n = k x.0 h n
+    go (Err e) h n = tt
