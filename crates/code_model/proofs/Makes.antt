@@ -1,41 +1,8 @@
 -- What is known of the value that an effect makes, whatever it does before.
-use Rattle.std.proofs.Common.{◌≡◌, ℕ, zero, suc, ◌+◌, ◌-◌, ◌*◌, ◌≤◌, List, [], ◌∷◌, ◌++◌, length, Option, Some, None, Ok, Err, Bool, true, false, cond, not}
-use Rattle.std.proofs.Common.{◌&&◌, ◌||◌, refl, sym, ap, ◌∙◌, subst, arith, ◌⊎◌, inl, inr}
-use Rattle.std.specs.Prelude.{map, nat_le, take, drop, nat_lt, bytes_eq, if◌then◌else◌, sum, replicate, set, ◌%◌, ◌^◌}
-use Rattle.std.specs.List.{flat_map}
-use Rattle.std.proofs.lemmas.Bool.{leb-true, and_parts}
-use Rattle.std.proofs.lemmas.List.{length-map, length-take-le}
-use Rattle.secrec_ast.specs.declared.expression.DataType.{DataType}
-use Rattle.secrec_ast.specs.declared.expression.DataType.TheVariants.{Uint64}
-use Rattle.secrec_ast.specs.declared.expression.DataType.TheVariants as datatype
-use Rattle.sc_text.specs.Lists.{Among}
+use Rattle.std.proofs.Common.{Ok, Err}
 use Rattle.sc_text.specs.declared.end.Ending.{Ending}
-use Rattle.sc_text.specs.declared.end.Ending.TheVariants as ending
-use Rattle.sc_text.specs.declared.end.TrapKind.{TrapKind}
-use Rattle.sc_text.specs.declared.end.TrapKind.TheVariants as trap
-use Rattle.sc_text.specs.declared.event.Event.TheVariants as event
-use Rattle.gates.specs.declared.gate.Gate.TheVariants as gates
-use Rattle.gates.specs.Clear.{each_two, first_word, bits_of}
-use Rattle.bit_extract.specs.Plan.{bits_plan}
-use Rattle.typed_tree.specs.declared.kinds.Shape.{Shape}
-use Rattle.typed_tree.specs.declared.operators.BinaryOperator.{BinaryOperator}
-use Rattle.typed_tree.specs.declared.operators.Operands.{Operands}
-use Rattle.typed_tree.specs.declared.operators.Operands.TheVariants.{Scalars, ArrayAndScalar, ScalarAndArray, Arrays}
-use Rattle.typed_tree.specs.declared.operators.Cast as casts
-use Rattle.typed_tree.specs.declared.operators.Cast.TheVariants.{WordToWord, WordToBool, BoolToWord, BoolToBool}
-use Rattle.typed_tree.specs.Shapes.{shape_of}
-use Rattle.language_model.specs.Effects.{World, Given, Source, Clear, Answers, Stage, Short, Run, Effect, ◌>>=◌, carry, done, end, test, charge, draw, gate}
-use Rattle.language_model.specs.Effects.{planned, show, emit, words_each, answer, next_answers}
-use Rattle.language_model.specs.Values.{Secrecy, Plain, Private, Value, plain, hidden, is_secret, size, elements_of, ring_for}
-use Rattle.language_model.specs.Words as W
-use Rattle.language_model.specs.Operations as row
-use Rattle.language_model.specs.Evaluation.{same_type, same_truth, same_shape, is_as_declared, behind, input_from, input_named, given_value, asked_for}
-use Rattle.bytecode.specs.declared.kind.Kind.{Kind}
-use Rattle.verified_code.specs.Steps.{kind_shape}
-use Rattle.code_model.specs.Kinds.{kind_of}
-use Rattle.code_model.specs.Kinded.{IsOf, IsSingle, AreSingle, with_secret, with_array, public_scalar, cast_source, cast_target, left_array, right_array}
-use Rattle.code_model.proofs.Gives.{GivesAt, Gives, IsSecret, class_gives, operated_gives, negated_gives, cast_gives, summed_gives, bits_gives, joined_gives}
-use Rattle.code_model.proofs.Gives.{element_gives, with_element_gives, filled_gives, size_gives, declassified_gives, asked_gives}
+use Rattle.language_model.specs.Effects.{Stage, Run, Effect, ◌>>=◌, carry, done, end}
+use Rattle.code_model.proofs.Gives.{GivesAt, Gives}
 
 abbrev pub MakesAt : {A : Type 0} → Run A → (A → Type 0) → Type 0
 MakesAt (Ok x) Q = Q x.0

@@ -1,6 +1,6 @@
 -- Of which shape the values are that rows give, and that scalars have one element.
-use Rattle.std.proofs.Common.{◌≡◌, ℕ, zero, suc, ◌+◌, ◌-◌, ◌*◌, ◌≤◌, List, [], ◌∷◌, ◌++◌, length, Option, Some, None, Ok, Err, Bool, true, false, cond, not}
-use Rattle.std.proofs.Common.{◌&&◌, ◌||◌, refl, sym, ap, ◌∙◌, subst, arith, ◌⊎◌, inl, inr}
+use Rattle.std.proofs.Common.{◌≡◌, ℕ, ◌+◌, ◌-◌, ◌*◌, List, [], ◌∷◌, ◌++◌, length, Option, Some, None, Ok, Err, Bool, true, false, cond}
+use Rattle.std.proofs.Common.{refl, sym, ap, ◌∙◌, subst, arith, inl, inr}
 use Rattle.std.specs.Prelude.{map, nat_le, take, drop, nat_lt, bytes_eq, if◌then◌else◌, sum, replicate, set, ◌%◌, ◌^◌}
 use Rattle.std.specs.List.{flat_map}
 use Rattle.std.proofs.lemmas.Bool.{leb-true, and_parts}
@@ -9,7 +9,6 @@ use Rattle.secrec_ast.specs.declared.expression.DataType.{DataType}
 use Rattle.secrec_ast.specs.declared.expression.DataType.TheVariants.{Uint64}
 use Rattle.secrec_ast.specs.declared.expression.DataType.TheVariants as datatype
 use Rattle.sc_text.specs.Lists.{Among}
-use Rattle.sc_text.specs.declared.end.Ending.{Ending}
 use Rattle.sc_text.specs.declared.end.Ending.TheVariants as ending
 use Rattle.sc_text.specs.declared.end.TrapKind.{TrapKind}
 use Rattle.sc_text.specs.declared.end.TrapKind.TheVariants as trap
@@ -24,19 +23,14 @@ use Rattle.typed_tree.specs.declared.operators.Operands.TheVariants.{Scalars, Ar
 use Rattle.typed_tree.specs.declared.operators.Cast as casts
 use Rattle.typed_tree.specs.declared.operators.Cast.TheVariants.{WordToWord, WordToBool, BoolToWord, BoolToBool}
 use Rattle.typed_tree.specs.Shapes.{shape_of}
-use Rattle.language_model.specs.Effects.{World, Given, Source, Clear, Answers, Stage, Short, Run, Effect, ◌>>=◌, carry, done, end, test, charge, draw, gate}
-use Rattle.language_model.specs.Effects.{planned, show, emit, words_each, answer, next_answers}
-use Rattle.language_model.specs.Values.{Secrecy, Plain, Private, Value, plain, hidden, is_secret, size, elements_of, ring_for}
+use Rattle.language_model.specs.Effects.{World, Given, Source, Clear, Answers, Stage, Short, done, test, charge, draw, gate}
+use Rattle.language_model.specs.Effects.{planned, show, emit, words_each, answer}
+use Rattle.language_model.specs.Values.{Secrecy, Plain, Private, Value, plain, size, elements_of, ring_for}
 use Rattle.language_model.specs.Words as W
 use Rattle.language_model.specs.Operations as row
-use Rattle.language_model.specs.Evaluation.{same_type, same_truth, same_shape, is_as_declared, behind, input_from, input_named, given_value, asked_for}
-use Rattle.bytecode.specs.declared.kind.Kind.{Kind}
-use Rattle.verified_code.specs.Steps.{kind_shape}
-use Rattle.code_model.specs.Kinds.{kind_of}
-use Rattle.code_model.specs.Kinded.{IsOf, IsSingle, AreSingle, with_secret, with_array, public_scalar, cast_source, cast_target, left_array, right_array}
-use Rattle.code_model.proofs.Gives.{GivesAt, Gives, IsSecret, class_gives, operated_gives, negated_gives, cast_gives, summed_gives, bits_gives, joined_gives}
-use Rattle.code_model.proofs.Gives.{element_gives, with_element_gives, filled_gives, size_gives, declassified_gives, asked_gives}
-use Rattle.code_model.proofs.Makes.{MakesAt, Makes, makes_done, makes_end, makes_bind, makes_fact, makes_after, makes_of, makes_both}
+use Rattle.language_model.specs.Evaluation.{same_type, same_truth, same_shape, is_as_declared, behind, input_from, given_value, asked_for}
+use Rattle.code_model.specs.Kinded.{IsSingle, cast_source, left_array, right_array}
+use Rattle.code_model.proofs.Makes.{MakesAt, Makes, makes_done, makes_end, makes_bind, makes_fact, makes_after}
 
 -- of this shape, and of one element where it is no array
 pub record IsShaped (shape : Shape) (v : Value) : Type 0 where

@@ -3,7 +3,7 @@ use Rattle.std.proofs.Common.{◌≡◌, ℕ, zero, suc, ◌+◌, ◌<◌, List,
 use Rattle.std.specs.Prelude.{slice_get, map, sum, nat_lt}
 use Rattle.sc_text.specs.declared.end.Ending.TheVariants as ending
 use Rattle.sc_text.specs.declared.end.TrapKind.TheVariants as trap
-use Rattle.language_model.specs.Effects.{World, Stage, Effect, ◌>>=◌, done, charge, test}
+use Rattle.language_model.specs.Effects.{World, Effect, ◌>>=◌, done, charge, test}
 use Rattle.language_model.specs.Values.{Value, size, never_stored}
 use Rattle.language_model.specs.Operations as row
 use Rattle.language_model.specs.Evaluation.{Frame, put, array_elements, either, asked_for, input_named, nothing}

@@ -1,5 +1,5 @@
 -- Values and registers of a kind, and code whose steps have operands of the kinds that they want.
-use Rattle.std.specs.Prelude.{◌≡◌, ◌<◌, ◌≤◌, ℕ, ◌+◌, Bool, true, false, ◌||◌, List, [], ◌∷◌, length, Option, Some, None}
+use Rattle.std.specs.Prelude.{◌≡◌, ◌<◌, ℕ, ◌+◌, Bool, true, false, ◌||◌, List, [], ◌∷◌, length, Option, Some, None}
 use Rattle.std.specs.List.{slice_get}
 use Rattle.secrec_ast.specs.declared.expression.DataType.{DataType}
 use Rattle.secrec_ast.specs.declared.expression.DataType.TheVariants.{Uint64}
@@ -9,7 +9,7 @@ use Rattle.typed_tree.specs.declared.operators.Cast as casts
 use Rattle.typed_tree.specs.declared.operators.Cast.TheVariants.{WordToWord, WordToBool, BoolToWord, BoolToBool}
 use Rattle.typed_tree.specs.declared.operators.Operands.{Operands}
 use Rattle.typed_tree.specs.declared.operators.Operands.TheVariants.{Scalars, ArrayAndScalar, ScalarAndArray, Arrays}
-use Rattle.language_model.specs.Effects.{World, Given}
+use Rattle.language_model.specs.Effects.{Given}
 use Rattle.language_model.specs.Values.{Value, is_secret}
 use Rattle.language_model.specs.Operations.{result_shape}
 use Rattle.bytecode.specs.declared.kind.Kind.{Kind}
