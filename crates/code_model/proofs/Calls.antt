@@ -54,7 +54,10 @@ module _ (w : World) (p : List Function) (number : Numbers) (fs : List TypedFunc
         → ((i : ℕ) → m.registers i ≡ (entering (Some (function_code number fs kn.called b)) None xs m).registers i)
         → Runs w p m (body_of w calls fs (Some kn.called) b xs) (Returns stack (is_private (given_domain b kn.called.given)))
     body_runs calls d ok k b kn xs stack m fits room hs hp hk hr =
-        record { from = λ s. follow w p m s (c s) (λ g. done (result_of g)) W P (runs.from s) (λ g m1 s1 l e h. (ending' g m1 h (closed s g s1 e)).from s1) }
+        record {
+          from = λ s. follow w p m s (c s) (λ g. done (result_of g)) Behind Post (runs.from s)
+              (λ g m1 s1 l e h. (ending' g m1 h (closed s g s1 e)).from s1);
+        }
       where
         f : TypedFunctionTree
         f = kn.called
@@ -65,14 +68,14 @@ module _ (w : World) (p : List Function) (number : Numbers) (fs : List TypedFunc
         c : Effect Flow
         c = execute_all w calls pl f.body (entered b f.slots xs)
 
-        E : ℕ
-        E = body_end number fs f b
+        finish : ℕ
+        finish = body_end number fs f b
 
         cs : List Step
-        cs = commands_code number pl (first_free f.slots) E E 0 f.body
+        cs = commands_code number pl (first_free f.slots) finish finish 0 f.body
 
-        e0 : E ≡ 0 + length cs
-        e0 = omega (arith, commands_length number pl f.body (first_free f.slots) E E 0 0 0 0)
+        e0 : finish ≡ 0 + length cs
+        e0 = omega (arith, commands_length number pl f.body (first_free f.slots) finish finish 0 0 0 0)
 
         last : Step
         last = last_step f.given (first_free f.slots + commands_width f.body)
@@ -80,11 +83,11 @@ module _ (w : World) (p : List Function) (number : Numbers) (fs : List TypedFunc
         code : List Step
         code = cs ++ last ∷ []
 
-        W : Flow → Machine → Type 0
-        W = Went w p number calls d pl code stack room E E (0 + length cs)
+        Behind : Flow → Machine → Type 0
+        Behind = Went w p number calls d pl code stack room finish finish (0 + length cs)
 
-        P : Value → Machine → Type 0
-        P = Returns stack (is_private (given_domain b f.given))
+        Post : Value → Machine → Type 0
+        Post = Returns stack (is_private (given_domain b f.given))
 
         has : HasAt code 0 code
         has = has_all code []
@@ -92,8 +95,9 @@ module _ (w : World) (p : List Function) (number : Numbers) (fs : List TypedFunc
         end_at : slice_get code (0 + length cs) ≡ Some last
         end_at = (has_back code 0 cs (last ∷ []) has).0
 
-        runs : Runs w p m c W
-        runs = commands_run w p number fs Known calls d ok pl refl code stack room f.body false kn.fit.body E E (first_free f.slots) 0 (entered b f.slots xs)
+        runs : Runs w p m c Behind
+        runs = commands_run w p number fs Known calls d ok pl refl code stack room f.body false kn.fit.body finish finish (first_free f.slots) 0
+            (entered b f.slots xs)
             m (omega arith) (has_front code 0 cs (last ∷ []) has) (hs, hp, hk, begins_holding fs f b xs m.registers fits hr)
 
         closed : (s : Stage) (g : Flow) (s1 : Stage) → c s ≡ Ok (g, s1) → always.Leads false (one_returns f.body) g
@@ -114,7 +118,7 @@ module _ (w : World) (p : List Function) (number : Numbers) (fs : List TypedFunc
         falls_secret given.Nothing r h = refl
         falls_secret (given.Value x) r h = absurd (clash (sym h ∙ r refl))
 
-        ending' : (g : Flow) (m1 : Machine) → W g m1 → always.Leads false (one_returns f.body) g → Runs w p m1 (done (result_of g)) P
+        ending' : (g : Flow) (m1 : Machine) → Behind g m1 → always.Leads false (one_returns f.body) g → Runs w p m1 (done (result_of g)) Post
         ending' (goes fr) m1 h q =
             runs_done (
               h.2,
@@ -168,6 +172,7 @@ module _ (w : World) (p : List Function) (number : Numbers) (fs : List TypedFunc
         charges : (n : ℕ) → Gives (charge 1 >>= λ u. charge n) (Any {A = Unit {0}})
         charges n = gives_bind (gives_any w (onward_charge 1)) (λ a q. gives_any w (onward_charge n))
 
-        regroup : (m : Machine) (n : ℕ) (c : Effect Value) (P : Value → Machine → Type 0) → Runs w p m ((charge 1 >>= λ u. charge n) >>= λ u. c) P → Runs w p
-            m (charge 1 >>= λ u. charge n >>= λ u. c) P
-        regroup m n c P h = record { from = λ s. subst (λ r. Follows w p m s r P) (assoc (charge 1 s) (λ u. charge n) (λ u. c)) (h.from s) }
+        regroup : (m : Machine) (n : ℕ) (c : Effect Value) (Post : Value → Machine → Type 0) → Runs w p m ((charge 1 >>= λ u. charge n) >>= λ u. c) Post
+            → Runs w p
+            m (charge 1 >>= λ u. charge n >>= λ u. c) Post
+        regroup m n c Post h = record { from = λ s. subst (λ r. Follows w p m s r Post) (assoc (charge 1 s) (λ u. charge n) (λ u. c)) (h.from s) }

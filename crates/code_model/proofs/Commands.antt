@@ -229,26 +229,27 @@ module _ (w : World) (p : List Function) (number : Numbers) (fs : List TypedFunc
         let n1 = length (command_at t 0 0 0 body) in
         let n2 = length (command_at ts 0 0 0 step') in
         let n3 = length (here_code te 0 e) in
-        let Y = pc + 1 + n1 in
-        let Z = Y + n2 in
-        let X = Z + n3 + 1 in
-        let ca = command_at t X Y (pc + 1) body in
+        let over = pc + 1 + n1 in
+        let again = over + n2 in
+        let out = again + n3 + 1 in
+        let ca = command_at t out over (pc + 1) body in
         let py = pc + 1 + length ca in
-        let cb = command_at ts X Z py step' in
+        let cb = command_at ts out again py step' in
         let pt = py + length cb in
         let ce = here_code te pt e in
         let last = Branch te true (pc + 1) ∷ [] in
-        let ey : Y ≡ py = omega (arith, command_length number place body t X Y (pc + 1) 0 0 0) in
-        let ez : Z ≡ pt = omega (arith, ey, command_length number place step' ts X Z py 0 0 0) in
-        let ex : X ≡ pt + length ce + 1 = omega (arith, ez, expression_length number place.here e te pt 0) in
+        let ey : over ≡ py = omega (arith, command_length number place body t out over (pc + 1) 0 0 0) in
+        let ez : again ≡ pt = omega (arith, ey, command_length number place step' ts out again py 0 0 0) in
+        let ex : out ≡ pt + length ce + 1 = omega (arith, ez, expression_length number place.here e te pt 0) in
         let has1 = has_back code (pc + 1) ca (cb ++ (ce ++ last)) has.1 in
         let has2 = has_back code py cb (ce ++ last) has1 in
         let len : pt + length ce + 1 ≡ pc + length (Jump pt ∷ (ca ++ (cb ++ (ce ++ last)))) = omega
         (arith, length-append ca (cb ++ (ce ++ last)), length-append cb (ce ++ last), length-append ce last) in
-        let turning = turns_run w p number calls d place code stack room x y X Y Z te pc py pt e (execute w calls place step') (execute w calls place body)
+        let turning = turns_run w p number calls d place code stack room x y out over again te pc py pt e (execute w calls place step')
+        (execute w calls place body)
         (express e fit.0) (omega (arith, le)) (has_front code pt ce last has2) (has_back code pt ce last has2).0
-        (λ fr1 m1 k. command_runs body true fit.2 X Y t (pc + 1) fr1 m1 le (has_front code (pc + 1) ca (cb ++ (ce ++ last)) has.1) k)
-        (λ fr1 m1 k. command_runs step' false fit.1 X Z ts py fr1 m1 (omega (arith, le)) (has_front code py cb (ce ++ last) has1) k) ex ey ez in
+        (λ fr1 m1 k. command_runs body true fit.2 out over t (pc + 1) fr1 m1 le (has_front code (pc + 1) ca (cb ++ (ce ++ last)) has.1) k)
+        (λ fr1 m1 k. command_runs step' false fit.1 out again ts py fr1 m1 (omega (arith, le)) (has_front code py cb (ce ++ last) has1) k) ex ey ez in
         standing.went_at w p number calls d place code stack room x y (pt + length ce + 1) (pc + length (Jump pt ∷ (ca ++ (cb ++ (ce ++ last))))) len
         (runs_first m (at pt m) (λ s. ap (λ o. step w p o m s) (standing.next_step w p number calls d place code stack room h has.0))
         (record { from = λ s. turning (s.left + 1) fr (at pt m) s (omega arith) (h.0, refl, h.2, h.3) }))
@@ -256,19 +257,19 @@ module _ (w : World) (p : List Function) (number : Numbers) (fs : List TypedFunc
         let te = t + command_width body in
         let n1 = length (command_at t 0 0 0 body) in
         let n3 = length (here_code te 0 e) in
-        let Z = pc + n1 in
-        let X = Z + n3 + 1 in
-        let ca = command_at t X Z pc body in
+        let again = pc + n1 in
+        let out = again + n3 + 1 in
+        let ca = command_at t out again pc body in
         let pt = pc + length ca in
         let ce = here_code te pt e in
         let last = Branch te true pc ∷ [] in
-        let ez : Z ≡ pt = omega (arith, command_length number place body t X Z pc 0 0 0) in
-        let ex : X ≡ pt + length ce + 1 = omega (arith, ez, expression_length number place.here e te pt 0) in
+        let ez : again ≡ pt = omega (arith, command_length number place body t out again pc 0 0 0) in
+        let ex : out ≡ pt + length ce + 1 = omega (arith, ez, expression_length number place.here e te pt 0) in
         let has1 = has_back code pc ca (ce ++ last) has in
         let len : pt + length ce + 1 ≡ pc + length (ca ++ (ce ++ last)) = omega (arith, length-append ca (ce ++ last), length-append ce last) in
-        let repeating = repeats_run w p number calls d place code stack room x y X Z te pc pt e (execute w calls place body) (express e fit.1)
+        let repeating = repeats_run w p number calls d place code stack room x y out again te pc pt e (execute w calls place body) (express e fit.1)
         (omega (arith, le)) (has_front code pt ce last has1) (has_back code pt ce last has1).0
-        (λ fr1 m1 k. command_runs body true fit.0 X Z t pc fr1 m1 le (has_front code pc ca (ce ++ last) has) k) ex ez in
+        (λ fr1 m1 k. command_runs body true fit.0 out again t pc fr1 m1 le (has_front code pc ca (ce ++ last) has) k) ex ez in
         standing.went_at w p number calls d place code stack room x y (pt + length ce + 1) (pc + length (ca ++ (ce ++ last))) len
         (record { from = λ s. repeating (s.left + 1) fr m s (omega arith) h })
     command_runs break_command i fit x y t pc fr m le has h = goes_to x pc (stops fr) fr m _ has.0 h (λ k. k)

@@ -179,33 +179,33 @@ module _ (number : Numbers) where
         let n1 = length (command_code number at t 0 0 0 body) in
         let n2 = length (command_code number at ts 0 0 0 step) in
         let n3 = length (expression_code number at.here te 0 e) in
-        let Y = pc + 1 + n1 in
-        let Z = Y + n2 in
-        let X = Z + n3 + 1 in
-        let ca = command_code number at t X Y (pc + 1) body in
+        let over = pc + 1 + n1 in
+        let again = over + n2 in
+        let out = again + n3 + 1 in
+        let ca = command_code number at t out over (pc + 1) body in
         let py = pc + 1 + length ca in
-        let cb = command_code number at ts X Z py step in
+        let cb = command_code number at ts out again py step in
         let pt = py + length cb in
         let ce = expression_code number at.here te pt e in
-        let ey : Y ≡ py = omega (arith, command_length number at body t X Y (pc + 1) 0 0 0) in
-        let ez : Z ≡ pt = omega (arith, ey, command_length number at step ts X Z py 0 0 0) in
+        let ey : over ≡ py = omega (arith, command_length number at body t out over (pc + 1) 0 0 0) in
+        let ez : again ≡ pt = omega (arith, ey, command_length number at step ts out again py 0 0 0) in
         let jump : pc < pt = omega arith in (
           jump,
-          both_on (pc + 1) ca (cb ++ (ce ++ Branch te true (pc + 1) ∷ [])) (command_on at body t X Y (pc + 1) (omega (arith, ey)) (omega (arith, ey)))
-              (both_on py cb (ce ++ Branch te true (pc + 1) ∷ []) (command_on at step ts X Z py (omega (arith, ez)) (omega (arith, ez)))
+          both_on (pc + 1) ca (cb ++ (ce ++ Branch te true (pc + 1) ∷ [])) (command_on at body t out over (pc + 1) (omega (arith, ey)) (omega (arith, ey)))
+              (both_on py cb (ce ++ Branch te true (pc + 1) ∷ []) (command_on at step ts out again py (omega (arith, ez)) (omega (arith, ez)))
               (both_on pt ce (Branch te true (pc + 1) ∷ []) (expression_on at.here e te pt) (tt, tt))),
         )
     command_on at (do_command body e) t x y pc hx hy =
         let te = t + command_width body in
         let n1 = length (command_code number at t 0 0 0 body) in
         let n3 = length (expression_code number at.here te 0 e) in
-        let Z = pc + n1 in
-        let X = Z + n3 + 1 in
-        let ca = command_code number at t X Z pc body in
+        let again = pc + n1 in
+        let out = again + n3 + 1 in
+        let ca = command_code number at t out again pc body in
         let pt = pc + length ca in
         let ce = expression_code number at.here te pt e in
-        let ez : Z ≡ pt = omega (arith, command_length number at body t X Z pc 0 0 0) in
-        both_on pc ca (ce ++ Branch te true pc ∷ []) (command_on at body t X Z pc (omega (arith, ez)) (omega (arith, ez)))
+        let ez : again ≡ pt = omega (arith, command_length number at body t out again pc 0 0 0) in
+        both_on pc ca (ce ++ Branch te true pc ∷ []) (command_on at body t out again pc (omega (arith, ez)) (omega (arith, ez)))
         (both_on pt ce (Branch te true pc ∷ []) (expression_on at.here e te pt) (tt, tt))
     command_on at break_command t x y pc hx hy = let h : pc < x = omega (arith, hx) in (h, tt)
     command_on at continue_command t x y pc hx hy = let h : pc < y = omega (arith, hy) in (h, tt)
@@ -270,12 +270,12 @@ function_forward : (number : Numbers) (fs : List TypedFunctionTree) (f : TypedFu
 function_forward number fs f b pc target e =
     let pl = place_in fs f b in
     let t = first_free f.slots in
-    let E = body_end number fs f b in
-    let cs = commands_code number pl t E E 0 f.body in
+    let finish = body_end number fs f b in
+    let cs = commands_code number pl t finish finish 0 f.body in
     let last = last_step f.given (t + commands_width f.body) in
-    let e0 : E ≡ 0 + length cs = omega (arith, commands_length number pl f.body t E E 0 0 0 0) in
+    let e0 : finish ≡ 0 + length cs = omega (arith, commands_length number pl f.body t finish finish 0 0 0 0) in
     let r : 0 + pc < target = jump_at (cs ++ last ∷ []) 0 pc target
-    (both_on 0 cs (last ∷ []) (commands_on number pl f.body t E E 0 (omega (arith, e0)) (omega (arith, e0)))
+    (both_on 0 cs (last ∷ []) (commands_on number pl f.body t finish finish 0 (omega (arith, e0)) (omega (arith, e0)))
     (last_on f.given (t + commands_width f.body) _, tt)) e in
     omega (arith, r)
 

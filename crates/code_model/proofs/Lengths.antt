@@ -182,20 +182,20 @@ module _ (number : Numbers) where
         let n1 = length (command_code number at t 0 0 0 body) in
         let n2 = length (command_code number at ts 0 0 0 step) in
         let n3 = length (expression_code number at.here te 0 e) in
-        let Y = pc + 1 + n1 in
-        let Z = Y + n2 in
-        let X = Z + n3 + 1 in
-        let ca = command_code number at t X Y (pc + 1) body in
+        let over = pc + 1 + n1 in
+        let again = over + n2 in
+        let out = again + n3 + 1 in
+        let ca = command_code number at t out over (pc + 1) body in
         let py = pc + 1 + length ca in
-        let cb = command_code number at ts X Z py step in
+        let cb = command_code number at ts out again py step in
         let pt = py + length cb in
         let ce = expression_code number at.here te pt e in
-        let Y' = pc' + 1 + n1 in
-        let Z' = Y' + n2 in
-        let X' = Z' + n3 + 1 in
-        let ca' = command_code number at t X' Y' (pc' + 1) body in
+        let over' = pc' + 1 + n1 in
+        let again' = over' + n2 in
+        let out' = again' + n3 + 1 in
+        let ca' = command_code number at t out' over' (pc' + 1) body in
         let py' = pc' + 1 + length ca' in
-        let cb' = command_code number at ts X' Z' py' step in
+        let cb' = command_code number at ts out' again' py' step in
         let pt' = py' + length cb' in
         let ce' = expression_code number at.here te pt' e in
         omega (
@@ -206,22 +206,22 @@ module _ (number : Numbers) where
           length-append ca' (cb' ++ (ce' ++ Branch te true (pc' + 1) ∷ [])),
           length-append cb' (ce' ++ Branch te true (pc' + 1) ∷ []),
           length-append ce' (Branch te true (pc' + 1) ∷ []),
-          command_length at body t X Y (pc + 1) X' Y' (pc' + 1),
-          command_length at step ts X Z py X' Z' py',
+          command_length at body t out over (pc + 1) out' over' (pc' + 1),
+          command_length at step ts out again py out' again' py',
           expression_length at.here e te pt pt',
         )
     command_length at (do_command body e) t x y pc x' y' pc' =
         let te = t + command_width body in
         let n1 = length (command_code number at t 0 0 0 body) in
         let n3 = length (expression_code number at.here te 0 e) in
-        let Z = pc + n1 in
-        let X = Z + n3 + 1 in
-        let ca = command_code number at t X Z pc body in
+        let again = pc + n1 in
+        let out = again + n3 + 1 in
+        let ca = command_code number at t out again pc body in
         let pt = pc + length ca in
         let ce = expression_code number at.here te pt e in
-        let Z' = pc' + n1 in
-        let X' = Z' + n3 + 1 in
-        let ca' = command_code number at t X' Z' pc' body in
+        let again' = pc' + n1 in
+        let out' = again' + n3 + 1 in
+        let ca' = command_code number at t out' again' pc' body in
         let pt' = pc' + length ca' in
         let ce' = expression_code number at.here te pt' e in
         omega (
@@ -230,7 +230,7 @@ module _ (number : Numbers) where
           length-append ce (Branch te true pc ∷ []),
           length-append ca' (ce' ++ Branch te true pc' ∷ []),
           length-append ce' (Branch te true pc' ∷ []),
-          command_length at body t X Z pc X' Z' pc',
+          command_length at body t out again pc out' again' pc',
           expression_length at.here e te pt pt',
         )
     command_length at break_command t x y pc x' y' pc' = refl

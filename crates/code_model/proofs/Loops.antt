@@ -65,19 +65,20 @@ module _ (w : World) (p : List Function) (number : Numbers) (calls : Calls) (d :
       )))
 
   -- a loop, from its test on
-  pub turns_run : (x y X Y Z t pc py pt : ℕ) (e : TypedTree) (st b : Frame → Effect Flow) → Expressed w p number calls d place code stack room e → base w p
+  pub turns_run : (x y out over again t pc py pt : ℕ) (e : TypedTree) (st b : Frame → Effect Flow) → Expressed w p number calls d place code stack room e
+      → base w p
       number calls d place code stack room ≤ t
       → HasAt code pt (test_code t pt e) → slice_get code (pt + length (test_code t pt e)) ≡ Some (Branch t true (pc + 1))
-      → ((fr : Frame) (m : Machine) → At (pc + 1) fr m → Runs w p m (b fr) (Leads X Y py))
-      → ((fr : Frame) (m : Machine) → At py fr m → Runs w p m (st fr) (Leads X Z pt))
-      → X ≡ pt + length (test_code t pt e) + 1 → Y ≡ py → Z ≡ pt
+      → ((fr : Frame) (m : Machine) → At (pc + 1) fr m → Runs w p m (b fr) (Leads out over py))
+      → ((fr : Frame) (m : Machine) → At py fr m → Runs w p m (st fr) (Leads out again pt))
+      → out ≡ pt + length (test_code t pt e) + 1 → over ≡ py → again ≡ pt
       → (k : ℕ) (fr : Frame) (m : Machine) (s : Stage) → s.left < k → At pt fr m → Follows w p m s (turns k (value w calls place.here e) st b fr s)
       (Leads x y (pt + length (test_code t pt e) + 1))
   unfolding turns
-  turns_run x y X Y Z t pc py pt e st b ev le has brn ib ist ex ey ez zero fr m s less h = absurd (omega arith)
-  turns_run x y X Y Z t pc py pt e st b ev le has brn ib ist ex ey ez (suc k) fr m s less h =
+  turns_run x y out over again t pc py pt e st b ev le has brn ib ist ex ey ez zero fr m s less h = absurd (omega arith)
+  turns_run x y out over again t pc py pt e st b ev le has brn ib ist ex ey ez (suc k) fr m s less h =
       tests t pt (pc + 1) e fr m s _ Q ev le has brn h (λ o m2 s2 l2 h2.
-      branch o m2 s2 (omega arith) h2 (λ fr3 m3 s3 less3 h3. turns_run x y X Y Z t pc py pt e st b ev le has brn ib ist ex ey ez k fr3 m3 s3 less3 h3))
+      branch o m2 s2 (omega arith) h2 (λ fr3 m3 s3 less3 h3. turns_run x y out over again t pc py pt e st b ev le has brn ib ist ex ey ez k fr3 m3 s3 less3 h3))
     where
       Q : Flow → Machine → Type 0
       Q = Leads x y (pt + length (test_code t pt e) + 1)
@@ -88,17 +89,17 @@ module _ (w : World) (p : List Function) (number : Numbers) (calls : Calls) (d :
       Again : Type 0
       Again = (fr3 : Frame) (m3 : Machine) (s3 : Stage) → s3.left < k → At pt fr3 m3 → Follows w p m3 s3 (rest fr3 s3) Q
 
-      behind_step : (g : Flow) (m3 : Machine) (s3 : Stage) → s3.left < k → Leads X Z pt g m3 → Again → Follows w p m3 s3 (turned g rest s3) Q
+      behind_step : (g : Flow) (m3 : Machine) (s3 : Stage) → s3.left < k → Leads out again pt g m3 → Again → Follows w p m3 s3 (turned g rest s3) Q
       behind_step (goes fr3) m3 s3 l h ih = ih fr3 m3 s3 l h
       behind_step (skips fr3) m3 s3 l h ih = ih fr3 m3 s3 l (h.0, h.1 ∙ ez, h.2, h.3)
       behind_step (stops fr3) m3 s3 l h ih = (m3, omega arith, comes_none w p m3 s3, (h.0, h.1 ∙ ex, h.2, h.3))
       behind_step (returns v) m3 s3 l h ih = (m3, omega arith, comes_none w p m3 s3, h)
 
       stepping : (fr3 : Frame) (m3 : Machine) (s3 : Stage) → s3.left < k → At py fr3 m3 → Again → Follows w p m3 s3 ((st fr3 >>= λ h. turned h rest) s3) Q
-      stepping fr3 m3 s3 l h ih = follow w p m3 s3 (st fr3 s3) (λ h. turned h rest) (Leads X Z pt) Q ((ist fr3 m3 h).from s3)
+      stepping fr3 m3 s3 l h ih = follow w p m3 s3 (st fr3 s3) (λ h. turned h rest) (Leads out again pt) Q ((ist fr3 m3 h).from s3)
           (λ g m4 s4 l4 e4 h4. behind_step g m4 s4 (omega arith) h4 ih)
 
-      behind_body : (g : Flow) (m3 : Machine) (s3 : Stage) → s3.left < k → Leads X Y py g m3 → Again → Follows w p m3 s3
+      behind_body : (g : Flow) (m3 : Machine) (s3 : Stage) → s3.left < k → Leads out over py g m3 → Again → Follows w p m3 s3
           (turned g (λ f. st f >>= λ h. turned h rest) s3) Q
       behind_body (goes fr3) m3 s3 l h ih = stepping fr3 m3 s3 l h ih
       behind_body (skips fr3) m3 s3 l h ih = stepping fr3 m3 s3 l (h.0, h.1 ∙ ey, h.2, h.3) ih
@@ -108,22 +109,24 @@ module _ (w : World) (p : List Function) (number : Numbers) (calls : Calls) (d :
       branch : (o : Bool) (m2 : Machine) (s2 : Stage) → s2.left < k → At (either (same_bool o true) (pc + 1) (pt + length (test_code t pt e) + 1)) fr m2
           → Again → Follows w p m2 s2 (either o (b fr >>= λ g. turned g (λ f. st f >>= λ h. turned h rest)) (done (goes fr)) s2) Q
       branch false m2 s2 l h ih = (m2, omega arith, comes_none w p m2 s2, h)
-      branch true m2 s2 l h ih = follow w p m2 s2 (b fr s2) _ (Leads X Y py) Q ((ib fr m2 h).from s2) (λ g m3 s3 l3 e3 h3. behind_body g m3 s3 (omega arith)
+      branch true m2 s2 l h ih = follow w p m2 s2 (b fr s2) _ (Leads out over py) Q ((ib fr m2 h).from s2)
+          (λ g m3 s3 l3 e3 h3. behind_body g m3 s3 (omega arith)
           h3 ih)
 
   -- a loop whose body comes first
-  pub repeats_run : (x y X Z t pc pt : ℕ) (e : TypedTree) (b : Frame → Effect Flow) → Expressed w p number calls d place code stack room e → base w p number
+  pub repeats_run : (x y out again t pc pt : ℕ) (e : TypedTree) (b : Frame → Effect Flow) → Expressed w p number calls d place code stack room e → base w p
+      number
       calls d place code stack room ≤ t
       → HasAt code pt (test_code t pt e) → slice_get code (pt + length (test_code t pt e)) ≡ Some (Branch t true pc)
-      → ((fr : Frame) (m : Machine) → At pc fr m → Runs w p m (b fr) (Leads X Z pt))
-      → X ≡ pt + length (test_code t pt e) + 1 → Z ≡ pt
+      → ((fr : Frame) (m : Machine) → At pc fr m → Runs w p m (b fr) (Leads out again pt))
+      → out ≡ pt + length (test_code t pt e) + 1 → again ≡ pt
       → (k : ℕ) (fr : Frame) (m : Machine) (s : Stage) → s.left < k → At pc fr m → Follows w p m s (repeats k (value w calls place.here e) b fr s)
       (Leads x y (pt + length (test_code t pt e) + 1))
   unfolding repeats
-  repeats_run x y X Z t pc pt e b ev le has brn ib ex ez zero fr m s less h = absurd (omega arith)
-  repeats_run x y X Z t pc pt e b ev le has brn ib ex ez (suc k) fr m s less h =
-      follow w p m s (b fr s) _ (Leads X Z pt) Q ((ib fr m h).from s) (λ g m3 s3 l3 e3 h3.
-      behind_body g m3 s3 (omega arith) h3 (λ fr4 m4 s4 less4 h4. repeats_run x y X Z t pc pt e b ev le has brn ib ex ez k fr4 m4 s4 less4 h4))
+  repeats_run x y out again t pc pt e b ev le has brn ib ex ez zero fr m s less h = absurd (omega arith)
+  repeats_run x y out again t pc pt e b ev le has brn ib ex ez (suc k) fr m s less h =
+      follow w p m s (b fr s) _ (Leads out again pt) Q ((ib fr m h).from s) (λ g m3 s3 l3 e3 h3.
+      behind_body g m3 s3 (omega arith) h3 (λ fr4 m4 s4 less4 h4. repeats_run x y out again t pc pt e b ev le has brn ib ex ez k fr4 m4 s4 less4 h4))
     where
       Q : Flow → Machine → Type 0
       Q = Leads x y (pt + length (test_code t pt e) + 1)
@@ -144,7 +147,7 @@ module _ (w : World) (p : List Function) (number : Numbers) (calls : Calls) (d :
       testing fr3 m3 s3 l h ih = tests t pt pc e fr3 m3 s3 (λ o. either o (rest fr3) (done (goes fr3))) Q ev le has brn h
           (λ o m2 s2 l2 h2. branch o fr3 m2 s2 (omega arith) h2 ih)
 
-      behind_body : (g : Flow) (m3 : Machine) (s3 : Stage) → s3.left < suc k → Leads X Z pt g m3 → Again → Follows w p m3 s3
+      behind_body : (g : Flow) (m3 : Machine) (s3 : Stage) → s3.left < suc k → Leads out again pt g m3 → Again → Follows w p m3 s3
           (turned g (λ f. value w calls place.here e f >>= λ v. tested v >>= λ o. either o (rest f) (done (goes f))) s3) Q
       behind_body (goes fr3) m3 s3 l h ih = testing fr3 m3 s3 l h ih
       behind_body (skips fr3) m3 s3 l h ih = testing fr3 m3 s3 l (h.0, h.1 ∙ ez, h.2, h.3) ih
