@@ -22,3 +22,4 @@ pub mod ShapeRows
 pub mod KindRows
 pub mod Within
 pub mod Kept
+pub mod Reached

@@ -112,6 +112,18 @@ pub record IsFitInstance (p : TypedProgramTree) (is : List Instance) (i : Instan
   pub there : slice_get p.functions i.function ≡ Some called
   pub fit : IsFitFunction (IsKnownIn is) p.functions called i.binding
 
+-- ---- REACHED INSTANCES
+
+-- the function of an instance is there
+abbrev pub IsThere : List TypedFunctionTree → ℕ → List BoundDomain → Type 0
+IsThere fs k b = (f : TypedFunctionTree) × (slice_get fs k ≡ Some f)
+
+-- an instance that fits but for what it calls, of which only the functions are there
+pub record IsFitAlone (p : TypedProgramTree) (i : Instance) : Type 0 where
+  pub called : TypedFunctionTree
+  pub there : slice_get p.functions i.function ≡ Some called
+  pub fit : IsFitFunction (IsThere p.functions) p.functions called i.binding
+
 abbrev pub the_main : Instance
 the_main = record { function = 0; binding = [] }
 

@@ -1,19 +1,26 @@
 -- What is promised of code.
-use Rattle.std.specs.Prelude.{◌≡◌, ℕ, List, Some, Ok, Err}
+use Rattle.std.specs.Prelude.{◌≡◌, ℕ, List, [], ◌∷◌, Some, Ok, Err}
 use Rattle.std.specs.List.{slice_get}
 use Rattle.typed_tree.specs.Programs.{TypedProgramTree}
+use Rattle.sc_text.specs.Lists.{Among}
 use Rattle.reached_instances.specs.Instances.{Instance}
+use Rattle.reached_instances.specs.Calls.{main_of}
+use Rattle.reached_instances.specs.Reached.{IsReachedList}
 use Rattle.language_model.specs.Effects.{World, Stage, Stop, Run}
 use Rattle.language_model.specs.Reports.{beginning, evaluated}
 use Rattle.verified_code.specs.Steps.{Step, Function}
 use Rattle.code_model.specs.Machine.{Machine, step, exec, start}
 use Rattle.code_model.specs.Meaning.{fuel, mean_in, AreForward}
 use Rattle.code_model.specs.Programs.{code_of}
-use Rattle.code_model.specs.Fit.{IsFitProgram}
+use Rattle.code_model.specs.Fit.{IsFitAlone, IsFitProgram, the_main}
 use Rattle.code_model.specs.Kinded.{AreSingle, IsFitting, IsIn, IsWithin}
 
 abbrev pub MeansTheProgram : TypedProgramTree → List Instance → World → (budget : ℕ) → (answers : List ℕ) → Type 0
 MeansTheProgram p is w budget answers = IsFitProgram p is → mean_in w (code_of p is) budget answers ≡ evaluated w p budget answers
+
+-- of the list of reached instances it is enough that each fits alone, and that `main` has no domain variables
+abbrev pub FitsWhereReached : TypedProgramTree → List Instance → Type 0
+FitsWhereReached p is = IsReachedList p is → main_of p ≡ the_main ∷ [] → ((i : Instance) → Among i is → IsFitAlone p i) → IsFitProgram p is
 
 -- why the run stopped and where it stood
 abbrev pub Stops : World → List Function → (fuel : ℕ) → Stage → Type 0

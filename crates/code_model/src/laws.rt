@@ -6,12 +6,15 @@ ghost use Rattle.language_model.specs.Effects.{World};
 ghost use Rattle.verified_code.specs.Steps.{Function};
 ghost use Rattle.code_model.specs.Meaning.{AreForward};
 ghost use Rattle.code_model.specs.Programs.{code_of};
-ghost use Rattle.code_model.specs.Laws.{BeginsWithin, EndsWithinFuel, KeepsKinds, MeansTheProgram};
+ghost use Rattle.code_model.specs.Laws.{BeginsWithin, EndsWithinFuel, FitsWhereReached, KeepsKinds, MeansTheProgram};
 
 /// Law: the meaning of a program's code is the program's evaluation: the same end, cost, words of tapes, events, opened words and
-/// gates, whatever the tapes, the inputs, the budget and the answers, in the clear and blind.
+/// gates, whatever the tapes, the inputs, the budget and the answers, in the clear and blind. The instances that have code may be those
+/// that the program reaches.
 pub fn code_means_what_the_program_does()
-    ensures { (p : TypedProgramTree) (is : List Instance) (w : World) (budget : ℕ) (answers : List ℕ) → MeansTheProgram p is w budget answers }
+    ensures means { (p : TypedProgramTree) (is : List Instance) (w : World) (budget : ℕ) (answers : List ℕ) →
+        MeansTheProgram p is w budget answers }
+    ensures reached { (p : TypedProgramTree) (is : List Instance) → FitsWhereReached p is }
 {}
 
 /// Law: each run of code whose jumps go forward ends within its fuel, and the jumps of a program's code go forward.
