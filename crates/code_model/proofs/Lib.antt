@@ -23,3 +23,4 @@ pub mod KindRows
 pub mod Within
 pub mod Kept
 pub mod Reached
+pub mod Blind

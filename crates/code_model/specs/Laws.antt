@@ -1,5 +1,5 @@
 -- What is promised of code.
-use Rattle.std.specs.Prelude.{◌≡◌, ℕ, List, [], ◌∷◌, Some, Ok, Err}
+use Rattle.std.specs.Prelude.{◌≡◌, ℕ, List, [], ◌∷◌, ◌++◌, Some, Ok, Err}
 use Rattle.std.specs.List.{slice_get}
 use Rattle.typed_tree.specs.Programs.{TypedProgramTree}
 use Rattle.sc_text.specs.Lists.{Among}
@@ -7,16 +7,26 @@ use Rattle.reached_instances.specs.Instances.{Instance}
 use Rattle.reached_instances.specs.Calls.{main_of}
 use Rattle.reached_instances.specs.Reached.{IsReachedList}
 use Rattle.language_model.specs.Effects.{World, Stage, Stop, Run}
-use Rattle.language_model.specs.Reports.{beginning, evaluated}
+use Rattle.language_model.specs.Reports.{Offered, beginning, evaluated}
+use Rattle.blind_evaluation.specs.Courses.{TakeSameCourse, IsEnded}
 use Rattle.verified_code.specs.Steps.{Step, Function}
 use Rattle.code_model.specs.Machine.{Machine, step, exec, start}
-use Rattle.code_model.specs.Meaning.{fuel, mean_in, AreForward}
+use Rattle.code_model.specs.Meaning.{fuel, mean_in, mean, blind_mean, AreForward}
 use Rattle.code_model.specs.Programs.{code_of}
 use Rattle.code_model.specs.Fit.{IsFitAlone, IsFitProgram, the_main}
 use Rattle.code_model.specs.Kinded.{AreSingle, IsFitting, IsIn, IsWithin}
 
 abbrev pub MeansTheProgram : TypedProgramTree → List Instance → World → (budget : ℕ) → (answers : List ℕ) → Type 0
 MeansTheProgram p is w budget answers = IsFitProgram p is → mean_in w (code_of p is) budget answers ≡ evaluated w p budget answers
+
+-- told the words that the run in the clear opens, and any more behind them
+abbrev pub BlindTakesTheSameCourse : TypedProgramTree → List Instance → Offered → (budget : ℕ) → (more : List ℕ) → Type 0
+BlindTakesTheSameCourse p is o budget more =
+    IsFitProgram p is → TakeSameCourse (mean (code_of p is) o budget) (blind_mean (code_of p is) o ((mean (code_of p is) o budget).opened ++ more) budget)
+
+abbrev pub BlindNeverWants : TypedProgramTree → List Instance → Offered → (budget : ℕ) → (more : List ℕ) → Type 0
+BlindNeverWants p is o budget more =
+    IsFitProgram p is → IsEnded (blind_mean (code_of p is) o ((mean (code_of p is) o budget).opened ++ more) budget).stop
 
 -- of the list of reached instances it is enough that each fits alone, and that `main` has no domain variables
 abbrev pub FitsWhereReached : TypedProgramTree → List Instance → Type 0

@@ -3,10 +3,11 @@ ghost use Rattle.std.specs.Prelude.{ℕ, List};
 ghost use Rattle.typed_tree.specs.Programs.{TypedProgramTree};
 ghost use Rattle.reached_instances.specs.Instances.{Instance};
 ghost use Rattle.language_model.specs.Effects.{World};
+ghost use Rattle.language_model.specs.Reports.{Offered};
 ghost use Rattle.verified_code.specs.Steps.{Function};
 ghost use Rattle.code_model.specs.Meaning.{AreForward};
 ghost use Rattle.code_model.specs.Programs.{code_of};
-ghost use Rattle.code_model.specs.Laws.{BeginsWithin, EndsWithinFuel, FitsWhereReached, KeepsKinds, MeansTheProgram};
+ghost use Rattle.code_model.specs.Laws.{BlindNeverWants, BlindTakesTheSameCourse, BeginsWithin, EndsWithinFuel, FitsWhereReached, KeepsKinds, MeansTheProgram};
 
 /// Law: the meaning of a program's code is the program's evaluation: the same end, cost, words of tapes, events, opened words and
 /// gates, whatever the tapes, the inputs, the budget and the answers, in the clear and blind. The instances that have code may be those
@@ -15,6 +16,15 @@ pub fn code_means_what_the_program_does()
     ensures means { (p : TypedProgramTree) (is : List Instance) (w : World) (budget : ℕ) (answers : List ℕ) →
         MeansTheProgram p is w budget answers }
     ensures reached { (p : TypedProgramTree) (is : List Instance) → FitsWhereReached p is }
+{}
+
+/// Law: a blind run of a program's code, told the words that the run in the clear opens and any more behind them, takes the course
+/// of the run in the clear, and never wants an answer.
+pub fn blind_runs_of_code_take_the_same_course()
+    ensures same { (p : TypedProgramTree) (is : List Instance) (o : Offered) (budget : ℕ) (more : List ℕ) →
+        BlindTakesTheSameCourse p is o budget more }
+    ensures never_short { (p : TypedProgramTree) (is : List Instance) (o : Offered) (budget : ℕ) (more : List ℕ) →
+        BlindNeverWants p is o budget more }
 {}
 
 /// Law: each run of code whose jumps go forward ends within its fuel, and the jumps of a program's code go forward.
