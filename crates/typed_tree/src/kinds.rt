@@ -1,7 +1,7 @@
 use secrec_ast::DataType;
 
 /// What a value is made of, whoever may see it: the type of its elements, and whether it is an array.
-#[derive(Clone, Copy, Debug, PartialEq, Eq)]
+#[derive(Clone, Copy, PartialEq, Eq)]
 pub struct Shape {
     pub element: DataType,
     pub array: bool,

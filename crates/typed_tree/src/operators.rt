@@ -1,5 +1,5 @@
 /// An operator on uint64 words.
-#[derive(Clone, Copy, Debug, PartialEq, Eq)]
+#[derive(Clone, Copy, PartialEq, Eq)]
 pub enum WordOperator {
     Add,
     Subtract,
@@ -18,7 +18,7 @@ pub enum WordOperator {
 }
 
 /// An operator on truth values. It evaluates both operands.
-#[derive(Clone, Copy, Debug, PartialEq, Eq)]
+#[derive(Clone, Copy, PartialEq, Eq)]
 pub enum BoolOperator {
     Equal,
     NotEqual,
