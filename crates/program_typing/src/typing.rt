@@ -3,9 +3,9 @@ ghost use Rattle.secrec_ast.specs.Programs.{program_tree};
 ghost use Rattle.program_typing.specs.Answer.{IsTypedAnswer};
 
 use domain_types::{TypeError, check};
+use name_resolution::{ResolveError, resolve};
 use secrec_ast::Program;
 use std::alloc::Global;
-use name_resolution::{ResolveError, resolve};
 use typed_tree::TypedProgram;
 
 /// The typed tree of a program that the checker accepts: the functions that `main` reaches, in the order in which they are first
