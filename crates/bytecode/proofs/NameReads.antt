@@ -1,5 +1,5 @@
 -- Names and bodies are read one by one.
-use Rattle.std.proofs.Common.{◌≡◌, ℕ, zero, suc, ◌+◌, ◌-◌, ◌<◌, ◌≤◌, List, [], ◌∷◌, ◌++◌, append-nil, length, map, take, drop, Bool, true, false, Result, Ok, Err, refl, sym, ap, ◌∙◌, subst, arith, IsTrue, not, ◌&&◌}
+use Rattle.std.proofs.Common.{◌≡◌, ℕ, zero, suc, ◌+◌, ◌-◌, ◌<◌, ◌≤◌, List, [], ◌∷◌, ◌++◌, append-nil, length, take, drop, Bool, true, false, Ok, Err, refl, sym, ap, ◌∙◌, subst, arith, not, ◌&&◌}
 use Rattle.std.specs.List.{list_all, list_any}
 use Rattle.std.specs.Str.{bytes_eq, IsAscii, IsUtf8}
 use Rattle.std.proofs.lemmas.Bool.{and_parts}
@@ -7,9 +7,7 @@ use Rattle.std.proofs.lemmas.Bool.Decides.{nat_tests}
 use Rattle.std.proofs.lemmas.List.{drop-drop}
 use Rattle.std.proofs.lemmas.Str.{IsUtf8-from_ascii}
 use Rattle.sc_text.specs.Name.{is_name, is_name_byte}
-use Rattle.bytecode.specs.declared.fault.FaultKind.{FaultKind}
 use Rattle.bytecode.specs.declared.fault.Stopped.{Stopped}
-use Rattle.bytecode.specs.declared.fault.Stopped.TheVariants.{Refused, Memory}
 use Rattle.bytecode.specs.Raw.{Raw, RawFunction}
 use Rattle.bytecode.specs.Layouts.{Truncated, BadTag, Layout, Makes, Field, NameField, Read, carry, number, characters, passed, is_name_length, read, behind}
 use Rattle.bytecode.specs.Writable.{is_new_name}

@@ -1,4 +1,4 @@
-use Rattle.std.proofs.Common.{◌≡◌, ◌≤◌, ◌<◌, length, arith, sym}
+use Rattle.std.proofs.Common.{◌≤◌, ◌<◌, length, arith, sym}
 use Rattle.bytecode.proofs.NameReads.{characters_here, characters_end}
 use Rattle.bytecode.proofs.reader.Reader.characters.Goals as goal
 
