@@ -2,8 +2,8 @@
 ghost use Rattle.std.specs.Prelude.{◌≡◌};
 ghost use Rattle.typed_tree.specs.Operators.{word_operator, bool_operator, operator_on, word_result, element_made, operands_of, may_cut_short, cast_between};
 
-use typed_tree::{BinaryOperator, BoolOperator, Cast, Connective, Operands, WordOperator};
 use secrec_ast::{DataType, Operator};
+use typed_tree::{BinaryOperator, BoolOperator, Cast, Connective, Operands, WordOperator};
 
 fn word_operator(sign: Operator) -> Option<WordOperator>
     ensures { result ≡ word_operator sign }
@@ -65,39 +65,35 @@ pub fn operator_on(sign: Operator, left: DataType, right: DataType) -> Option<Bi
     }
 }
 
-impl WordOperator {
-    // The data type of what it gives.
-    fn result(self) -> DataType
-        ensures { result ≡ word_result self }
-    {
-        match self {
-            WordOperator::Equal
-            | WordOperator::NotEqual
-            | WordOperator::Less
-            | WordOperator::LessOrEqual
-            | WordOperator::Greater
-            | WordOperator::GreaterOrEqual => DataType::Bool,
-            WordOperator::Add
-            | WordOperator::Subtract
-            | WordOperator::Multiply
-            | WordOperator::Divide
-            | WordOperator::Remainder
-            | WordOperator::And
-            | WordOperator::Or
-            | WordOperator::Xor => DataType::Uint64,
-        }
+// The data type of what an operator on words gives.
+fn word_result(operator: WordOperator) -> DataType
+    ensures { result ≡ word_result operator }
+{
+    match operator {
+        WordOperator::Equal
+        | WordOperator::NotEqual
+        | WordOperator::Less
+        | WordOperator::LessOrEqual
+        | WordOperator::Greater
+        | WordOperator::GreaterOrEqual => DataType::Bool,
+        WordOperator::Add
+        | WordOperator::Subtract
+        | WordOperator::Multiply
+        | WordOperator::Divide
+        | WordOperator::Remainder
+        | WordOperator::And
+        | WordOperator::Or
+        | WordOperator::Xor => DataType::Uint64,
     }
 }
 
-impl BinaryOperator {
-    /// The data type of what it gives.
-    pub fn result(self) -> DataType
-        ensures { result ≡ element_made self }
-    {
-        match self {
-            BinaryOperator::Words(operator) => operator.result(),
-            BinaryOperator::Bools(_) => DataType::Bool,
-        }
+/// The data type of what an operator gives.
+pub fn element_made(operator: BinaryOperator) -> DataType
+    ensures { result ≡ element_made operator }
+{
+    match operator {
+        BinaryOperator::Words(operator) => word_result(operator),
+        BinaryOperator::Bools(_) => DataType::Bool,
     }
 }
 

@@ -7,13 +7,13 @@ ghost use Rattle.typed_tree.specs.Programs.{typed_program_tree};
 ghost use Rattle.typed_tree.specs.Sound.{IsSound};
 
 use crate::found::Found;
-use typed_tree::TypedProgram;
 use crate::functions::typed_functions;
 use crate::order::reached;
 use crate::resolve_error::ResolveError;
 use domain_types::{Declarations, collect};
 use secrec_ast::Program;
 use std::alloc::Global;
+use typed_tree::TypedProgram;
 
 /// The typed tree of a program, whether or not the checker accepts it: the functions that `main` reaches, in the order in which
 /// they are first called. Each slot that the tree names is one of its function, and each call is one of a function of the tree

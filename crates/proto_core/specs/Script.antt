@@ -3,7 +3,7 @@ use Rattle.std.specs.Prelude.{◌≡◌, ℕ, true, if◌then◌else◌, List, [
 use Rattle.proto_core.specs.declared.party.Number.{Number}
 use Rattle.proto_core.specs.declared.link.Link.{Link}
 use Rattle.proto_core.specs.Parties.{sender_of, receiver_of}
-use Rattle.proto_core.specs.Strand.{Shape, accepts, same_link, Sent, Opened, Strand, Ends, Acts, Waits}
+use Rattle.proto_core.specs.Strand.{Shape, accepts, same_link, Sent, Opened, Told, Strand, Ends, Acts, Waits}
 
 pub data Move : Type 0 where
   Sends : (link : Link) (shape : Shape) → Move
@@ -14,6 +14,7 @@ abbrev pub Moves : {A : Type 0} → Strand A → List Move → Type 0
 Moves (Ends a) [] = Unit {0}
 Moves (Ends a) (move ∷ moves) = ⊥
 Moves (Acts (Opened w) s) moves = Moves s moves
+Moves (Acts (Told t) s) moves = Moves s moves
 Moves (Acts (Sent k m) s) (Sends l shape ∷ moves) = (l ≡ k) × (accepts shape m ≡ true) × Moves s moves
 Moves (Acts (Sent k m) s) (Takes l shape ∷ moves) = ⊥
 Moves (Acts (Sent k m) s) [] = ⊥

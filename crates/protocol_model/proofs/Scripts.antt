@@ -1,6 +1,6 @@
 -- Scripts of strands, one behind the other.
 use Rattle.std.proofs.Common.{List, [], ◌∷◌, ◌++◌}
-use Rattle.proto_core.specs.Strand.{Sent, Opened, Strand, Ends, Acts, Waits, then_do}
+use Rattle.proto_core.specs.Strand.{Sent, Opened, Told, Strand, Ends, Acts, Waits, then_do}
 use Rattle.proto_core.specs.Script.{Move, Sends, Takes, Moves, EndsWith}
 
 -- the moves of one after the other, where the second's hold of whatever the first ends with
@@ -10,6 +10,7 @@ pub moves-then :
 moves-then P (Ends a) f [] second h e k = k a e
 moves-then P (Ends a) f (move ∷ moves) second h e k = absurd h
 moves-then P (Acts (Opened w) s) f moves second h e k = moves-then P s f moves second h e k
+moves-then P (Acts (Told t) s) f moves second h e k = moves-then P s f moves second h e k
 moves-then P (Acts (Sent l m) s) f [] second h e k = absurd h
 moves-then P (Acts (Sent l m) s) f (Takes j n ∷ moves) second h e k = absurd h
 moves-then P (Acts (Sent l m) s) f (Sends j n ∷ moves) second h e k = (h.0, h.1, moves-then P s f moves second h.2 e k)

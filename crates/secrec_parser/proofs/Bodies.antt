@@ -17,7 +17,7 @@ use Rattle.expression_parser.proofs.Reading.{Good, Reads, Stops}
 use Rattle.expression_parser.proofs.Tokens.{Any, All, origin, any_stops, good_ended, is_sign-true, is_sign-false}
 use Rattle.expression_parser.proofs.Nodes.{Low, leaf}
 use Rattle.secrec_parser.specs.Grammar.{parenthesised, IsStatement, AreStatements, AreAll, Closed}
-use Rattle.secrec_parser.specs.Steps.{Inner, leader_of, listed, at_sign, braced, while_step, do_step, for_step}
+use Rattle.secrec_parser.specs.Steps.{Inner, leader_of, listed, at_sign, braced, while_step, do_behind, do_step, for_step}
 use Rattle.secrec_parser.specs.Steps as steps
 use Rattle.secrec_parser.proofs.Made.{Made, Both, Living, reads_same, seq, made, sign_seq, sign_end}
 use Rattle.secrec_parser.proofs.TypeReadings.{lone}
@@ -70,7 +70,7 @@ module _ (room : ℕ) (two : 2 ≤ room) (inside : Bool) (inner : Inner)
     ended = (lone signs.While, parens ++ lone signs.Semicolon, refl, (origin, refl), (parens, lone signs.Semicolon, refl, are_parens, (origin, refl)))
 
     pub do_reads : (x : Token) (m : List Token) → x.kind ≡ kinds.Sign signs.Do → family (leader_of inside x) ≡ 4 → IsEnded (x ∷ m) → Reads (IsStatement inside) (LowStatement room) Follow (x ∷ m) (do_step (room - 1) inner x.place m)
-    unfolding do_step
+    unfolding do_step do_behind
     do_reads x m k fam en =
         keyword_reads inside room signs.Do 4 Repeated (λ p b. do_loop p b.0 b.1.0) Any refl (λ p b s v. v) do_down follow_any
         (λ p. ((empty origin, (leaf, tt)), lone signs.Semicolon ++ lone signs.While ++ parens ++ lone signs.Semicolon, (lone signs.Semicolon, lone signs.While ++ parens ++ lone signs.Semicolon, refl, refl, ended), omega (arith, two)))

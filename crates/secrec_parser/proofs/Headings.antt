@@ -32,6 +32,7 @@ use Rattle.secrec_parser.specs.declared.assignment.Update.TheVariants as updates
 use Rattle.secrec_parser.specs.Grammar.{identifier, bracketed, optional, IsDomain, IsType, IsDeclaration, IsAssignment, IsStart, IsStep, heading}
 use Rattle.secrec_parser.specs.Steps.{operand, optional_operand, is_type, is_named_type, declares, update_of, declaration_step, assignment_step, target_index, assigned, assigned_by, ActionTree, assigns, evaluates, action, start_step, step_of, last_step, start_part, test_part, last_part}
 use Rattle.secrec_parser.specs.Steps as steps
+use Rattle.secrec_parser.proofs.Clashes.{false_true}
 use Rattle.secrec_parser.proofs.Made.{Made, Both, reads_same, seq, made, sign_seq, sign_end}
 use Rattle.secrec_parser.proofs.Heads.{nothing_reads, unexpected, some_reads, none_reads}
 use Rattle.secrec_parser.proofs.TypeReadings.{is_one, lone}
@@ -295,7 +296,7 @@ type_declares signs.Public p m e = refl
 type_declares signs.Uint64 p m e = refl
 type_declares signs.Uint p m e = refl
 type_declares signs.Bool p m e = refl
-type_declares s p m e = cc
+type_declares s p m e = absurd (false_true e)
 
 module _ (h : ℕ) (one : 1 ≤ h) where
   Choice : Bool → List Token → Outcome StartTree
@@ -344,11 +345,11 @@ module _ (h : ℕ) (one : 1 ≤ h) where
 
   choice_reads : (x : Token) (m : List Token) → is_sign signs.Semicolon x ≡ false → IsEnded (x ∷ m) → (k : Kind) → x.kind ≡ k → Reads IsStart (LowStart h) Semicolon (x ∷ m) (Choice (declares (token x.place k ∷ m)) (x ∷ m))
   unfolding Choice
-  choice_reads x [] other en (kinds.Name text) k = let f = after_kind x [] (kinds.Name text) en k refl in cc
+  choice_reads x [] other en (kinds.Name text) k = let f = after_kind x [] (kinds.Name text) en k refl in absurd (false_true f)
   choice_reads x (y ∷ n) other en (kinds.Name text) k = named_start x y n text k en (is_type y) refl
-  choice_reads x m other en (kinds.Number n) k = no_choice x m (kinds.Number n) k other refl (λ (b : false ≡ true). cc) (λ text (b : kinds.Number n ≡ kinds.Name text). cc)
-  choice_reads x m other en (kinds.Text t) k = no_choice x m (kinds.Text t) k other refl (λ (b : false ≡ true). cc) (λ text (b : kinds.Text t ≡ kinds.Name text). cc)
-  choice_reads x m other en kinds.End k = no_choice x m kinds.End k other refl (λ (b : false ≡ true). cc) (λ text (b : kinds.End ≡ kinds.Name text). cc)
+  choice_reads x m other en (kinds.Number n) k = no_choice x m (kinds.Number n) k other refl false_true (λ text (b : kinds.Number n ≡ kinds.Name text). cc)
+  choice_reads x m other en (kinds.Text t) k = no_choice x m (kinds.Text t) k other refl false_true (λ text (b : kinds.Text t ≡ kinds.Name text). cc)
+  choice_reads x m other en kinds.End k = no_choice x m kinds.End k other refl false_true (λ text (b : kinds.End ≡ kinds.Name text). cc)
   choice_reads x m other en (kinds.Sign s) k = go (declares (token x.place (kinds.Sign s) ∷ m)) refl
     where
       go : (b : Bool) → declares (token x.place (kinds.Sign s) ∷ m) ≡ b → Reads IsStart (LowStart h) Semicolon (x ∷ m) (Choice b (x ∷ m))

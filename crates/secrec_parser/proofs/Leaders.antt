@@ -26,6 +26,7 @@ use Rattle.secrec_parser.specs.declared.leader.Leader.{Leader}
 use Rattle.secrec_parser.specs.declared.leader.Leader.TheVariants as leaders
 use Rattle.secrec_parser.specs.Grammar.{IsDomain, IsType, IsStatement, Closed}
 use Rattle.secrec_parser.specs.Steps.{leader_of, least}
+use Rattle.secrec_parser.proofs.Clashes.{none_some, false_true}
 
 -- statements that can be taken for one another by their first token alone
 abbrev pub family : Leader → ℕ
@@ -99,7 +100,7 @@ type_family inside (kinds.Sign signs.Public) p e = refl
 type_family inside (kinds.Sign signs.Uint64) p e = refl
 type_family inside (kinds.Sign signs.Uint) p e = refl
 type_family inside (kinds.Sign signs.Bool) p e = refl
-type_family inside k p e = cc
+type_family inside k p e = absurd (false_true e)
 
 expression_family : (inside : Bool) (k : Kind) (p : Span) (n : ℕ) → expressions.least k ≡ Some n → family (leader_of inside (token p k)) ≡ 10
 expression_family inside (kinds.Name bytes) p n e = refl
@@ -111,7 +112,7 @@ expression_family inside (kinds.Sign signs.LeftParenthesis) p n e = refl
 expression_family inside (kinds.Sign signs.Exclamation) p n e = refl
 expression_family inside (kinds.Sign signs.Declassify) p n e = refl
 expression_family inside (kinds.Sign signs.Publish) p n e = refl
-expression_family inside k p n e = cc
+expression_family inside k p n e = absurd (none_some n e)
 
 -- the first token of a phrase is that of its first part
 pub front : {P Q : Phrase} (s m m2 : List Token) (x : Token) (v : (P then Q) s) → s ++ m ≡ x ∷ m2 → v.0 ++ (v.1 ++ m) ≡ x ∷ m2
@@ -249,7 +250,7 @@ keyword_kind true (kinds.Sign signs.Break) p s e = same_sign signs.Break s e
 keyword_kind true (kinds.Sign signs.Continue) p s e = same_sign signs.Continue s e
 keyword_kind inside (kinds.Sign signs.Return) p s e = same_sign signs.Return s e
 keyword_kind inside (kinds.Sign signs.Assert) p s e = same_sign signs.Assert s e
-keyword_kind inside k p s e = cc
+keyword_kind inside k p s e = absurd (none_some s e)
 
 -- the sign of a leader
 pub leads : (inside : Bool) (x : Token) (l : Leader) (s : Sign) → leader_of inside x ≡ l → keyword l ≡ Some s → x.kind ≡ kinds.Sign s

@@ -32,6 +32,7 @@ use Rattle.secrec_parser.specs.declared.leader.Leader.TheVariants as leaders
 use Rattle.secrec_parser.specs.declared.assignment.Update.{Update}
 use Rattle.secrec_parser.specs.Grammar.{IsDeclaration, IsStatement}
 use Rattle.secrec_parser.specs.Steps.{leader_of, is_type, declares, update_of, updates_by, is_operator, follows_name, only_declares, name_statement, declaration_statement, ActionTree, assigns, evaluates, action_statement}
+use Rattle.secrec_parser.proofs.Clashes.{false_true}
 use Rattle.secrec_parser.proofs.TypeReadings.{is_one, lone}
 use Rattle.secrec_parser.proofs.Declarations.{clash, name_token}
 use Rattle.secrec_parser.proofs.Assignments.{alive_by, IsAction}
@@ -249,7 +250,7 @@ module _ (inside : Bool) (x y : Token) (n : List Token) (text : List ℕ) (k : x
       go false false true u o ae be ce ue oe f = end_begun (is_sign-true signs.Semicolon y ce)
       go false false false (Some u) o ae be ce ue oe f = update_begun u ue
       go false false false None (Some op) ae be ce ue oe f = operator_begun op oe
-      go false false false None None ae be ce ue oe f = cc
+      go false false false None None ae be ce ue oe f = absurd (false_true f)
 
   named_fault : is_type y ≡ false → Reads (IsStatement inside) (LowStatement 1) Follow (x ∷ y ∷ n) (only_declares (y ∷ n))
   named_fault t = go (follows_name y) refl

@@ -22,6 +22,7 @@ use Rattle.secrec_parser.specs.declared.leader.Leader.TheVariants as leaders
 use Rattle.secrec_parser.specs.Grammar.{parenthesised, IsStatement, Closed}
 use Rattle.secrec_parser.specs.Steps.{Inner, leader_of, least, else_step, if_step, while_step, for_step, led, statement_by, statement_step, statement_at_most}
 use Rattle.secrec_parser.specs.Steps as steps
+use Rattle.secrec_parser.proofs.Clashes.{false_true, no_break, no_continue}
 use Rattle.secrec_parser.proofs.Heads.{too_high}
 use Rattle.secrec_parser.proofs.Declarations.{parenthesised_reads}
 use Rattle.secrec_parser.proofs.Headings.{IsHeading, LowHeading, heading_reads}
@@ -131,17 +132,17 @@ module _ (room : ℕ) (lower : Bool → Inner)
         for_reads room low inside (lower true) (reads_lower (omega (arith, low)) true) x m (leads inside x leaders.For signs.For e refl) (ap family e) en
     by_reads leaders.Break e low =
         let k = leads inside x leaders.Break signs.Break e refl in
-        break_reads inside room low x m k (leads_inside inside x signs.Break leaders.Break k e (λ (f : leaders.Expression ≡ leaders.Break). cc)) (ap family e) en
+        break_reads inside room low x m k (leads_inside inside x signs.Break leaders.Break k e no_break) (ap family e) en
     by_reads leaders.Continue e low =
         let k = leads inside x leaders.Continue signs.Continue e refl in
-        continue_reads inside room low x m k (leads_inside inside x signs.Continue leaders.Continue k e (λ (f : leaders.Expression ≡ leaders.Continue). cc)) (ap family e) en
+        continue_reads inside room low x m k (leads_inside inside x signs.Continue leaders.Continue k e no_continue) (ap family e) en
     by_reads leaders.Return e low = return_reads inside room low x m (leads inside x leaders.Return signs.Return e refl) (ap family e) en
     by_reads leaders.Assert e low = assert_reads inside room low x m (leads inside x leaders.Assert signs.Assert e refl) (ap family e) en
     by_reads leaders.Declaration e low = typed_reads room low inside x m e en
     by_reads leaders.Name e low = behind m en
       where
         behind : (m : List Token) → IsEnded (x ∷ m) → Reads (IsStatement inside) (LowStatement room) Follow (x ∷ m) (steps.name_statement room (x ∷ m) m)
-        behind [] en = let k = name_kind inside x.kind x.place e in let f = after_kind x [] (kinds.Name k.0) en k.1 refl in cc
+        behind [] en = let k = name_kind inside x.kind x.place e in let f = after_kind x [] (kinds.Name k.0) en k.1 refl in absurd (false_true f)
         behind (y ∷ n) en = let k = name_kind inside x.kind x.place e in named_reads inside x y n k.0 k.1 (ap family e) en room low
     by_reads leaders.Expression e low = expression_reads room inside x m e en
 

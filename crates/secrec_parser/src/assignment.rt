@@ -1,23 +1,23 @@
 // Assignments, and what may be one or an expression.
 
-ghost use Rattle.std.specs.Prelude.{◌≡◌, ◌<◌, ◌≤◌, length, IfOk, option_map};
+ghost use Rattle.std.specs.Prelude.{◌≡◌, ◌<◌, ◌≤◌, length, IfOk};
 ghost use Rattle.secrec_ast.specs.Tree.{expression};
-ghost use Rattle.secrec_ast.specs.Statements.{assignment_tree, optional, target_tree};
+ghost use Rattle.secrec_ast.specs.Statements.{assignment_tree, optional, statement, step_tree, target_tree};
 ghost use Rattle.secrec_ast.specs.Heights.{height, optional_height, target_height};
 ghost use Rattle.secrec_parser.specs.Sugar.{held, updated};
-ghost use Rattle.secrec_parser.specs.Steps.{action, assigned, assignment_step, element_target, is_update, least_height, target_index, target_of, update_of, value_by};
+ghost use Rattle.secrec_parser.specs.Steps.{action, assigned, assignment_step, is_update, least_height, statement_of, step_of, target_index, update_of, value_by};
 ghost use Rattle.expression_parser.specs.Given.{Gives};
 ghost use Rattle.secrec_parser.specs.Given.{action_tree};
 
 use crate::declaration::operand;
 use crate::tokens::at_sign;
 use expression_parser::{Problem, Read, Stopped, expect, expression, identifier};
-use secrec_ast::{Assignment, Expression, Identifier, Operator, Target};
+use secrec_ast::{Assignment, Expression, ForStep, Operator, Statement, Target};
 use secrec_lexer::{Sign, Token};
 use std::alloc::{AllocError, Global};
 
 /// What an assignment does to its target.
-#[derive(Clone, Copy, PartialEq, Eq)]
+#[derive(Clone, Copy)]
 pub enum Update {
     /// `=`
     Plain,
@@ -28,10 +28,40 @@ pub enum Update {
 }
 
 /// An assignment or an expression.
-#[derive(Drop)]
 pub enum Action {
     Assignment(Assignment),
     Expression(Expression),
+}
+
+// Written out, so that an early exit calls it.
+impl Drop for Action {
+    fn drop(self) {
+        match self {
+            Action::Assignment(_) | Action::Expression(_) => {}
+        }
+    }
+}
+
+impl Action {
+    /// The same as a statement.
+    pub fn into_statement(self) -> Statement
+        ensures { statement result ≡ statement_of (action_tree self) }
+    {
+        match self {
+            Action::Assignment(found) => Statement::Assignment(found),
+            Action::Expression(found) => Statement::Expression(found),
+        }
+    }
+
+    /// The same as the third part of a `for`.
+    pub fn into_step(self) -> ForStep
+        ensures { step_tree result ≡ step_of (action_tree self) }
+    {
+        match self {
+            Action::Assignment(found) => ForStep::Assignment(found),
+            Action::Expression(found) => ForStep::Expression(found),
+        }
+    }
 }
 
 /// What a token does to a target, if it assigns.
@@ -199,35 +229,6 @@ pub fn assignment<'a>(alloc: Global, tokens: &'a [Token], room: u8) -> Read<'a, 
     assigned(alloc, Target { variable, index }, height + 1, rest, room)
 }
 
-fn element_target(array: Expression, index: Expression) -> Option<Target>
-    ensures { option_map target_tree result ≡ element_target (expression array) (expression index) }
-{
-    match array {
-        Expression::Variable(place, text) => Some(Target {
-            variable: Identifier { place, text },
-            index: Some(index),
-        }),
-        _ => None,
-    }
-}
-
-/// An expression as a target, if it may be one.
-fn target_of(found: Expression) -> Option<Target>
-    ensures { option_map target_tree result ≡ target_of (expression found) }
-{
-    match found {
-        Expression::Variable(place, text) => Some(Target {
-            variable: Identifier { place, text },
-            index: None,
-        }),
-        Expression::Index(_, array, index) => element_target(
-            Box::into_inner(array),
-            Box::into_inner(index),
-        ),
-        _ => None,
-    }
-}
-
 /// An expression of at most the first height, or an assignment of at most the second.
 #[tactic(auto, unfolding(crate::specs::Steps::action))]
 pub fn assignment_or_expression<'a>(
@@ -244,7 +245,7 @@ pub fn assignment_or_expression<'a>(
         return Ok((Action::Expression(parsed.tree), rest));
     }
     let height = parsed.height;
-    let Some(target) = target_of(parsed.tree) else {
+    let Some(target) = parsed.tree.into_target() else {
         return Err(Stopped::At(Problem::Unexpected, rest));
     };
     let (assignment, rest) = assigned(alloc, target, height, rest, room)?;

@@ -3,12 +3,12 @@
 ghost use Rattle.std.specs.Prelude.{◌≡◌, ◌<◌, ◌≤◌, length, IfOk};
 ghost use Rattle.secrec_ast.specs.Tree.{expression};
 ghost use Rattle.secrec_ast.specs.Statements.{optional, declaration_tree};
-ghost use Rattle.secrec_parser.specs.Steps.{declaration_step, initialiser, operand, optional_operand, parenthesised, size};
+ghost use Rattle.secrec_parser.specs.Steps.{declaration_step, initialiser, operand, parenthesised, size};
 ghost use Rattle.expression_parser.specs.Given.{Gives};
 
 use crate::tokens::at_sign;
 use crate::types::declared_type;
-use expression_parser::{Problem, Read, Stopped, expect, expression, identifier};
+use expression_parser::{Problem, Read, Stopped, closed, expect, expression, identifier};
 use secrec_ast::{Declaration, Expression};
 use secrec_lexer::{Sign, Token};
 use std::alloc::Global;
@@ -29,24 +29,7 @@ pub fn parenthesised<'a>(alloc: Global, tokens: &'a [Token], room: u8) -> Read<'
 {
     let (_, rest) = expect(Sign::LeftParenthesis, tokens)?;
     let (found, rest) = operand(alloc, rest, room)?;
-    let (_, rest) = expect(Sign::RightParenthesis, rest)?;
-    Ok((found, rest))
-}
-
-/// An expression, or nothing before a semicolon.
-pub fn optional_operand<'a>(
-    alloc: Global,
-    tokens: &'a [Token],
-    room: u8,
-) -> Read<'a, Option<Expression>>
-    ensures step { Gives (λ x. (optional x.0, x.1.now)) result (optional_operand room tokens.now) }
-    ensures shorter { IfOk result (λ x. length x.1.now ≤ length tokens.now) }
-{
-    if at_sign(Sign::Semicolon, tokens) {
-        return Ok((None, tokens));
-    }
-    let (found, rest) = operand(alloc, tokens, room)?;
-    Ok((Some(found), rest))
+    closed(found, expect(Sign::RightParenthesis, rest))
 }
 
 /// The size of an array that is declared, in parentheses, if there is one.

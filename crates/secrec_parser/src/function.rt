@@ -8,7 +8,7 @@ ghost use Rattle.expression_parser.specs.Given.{Gives};
 use crate::statement::braced;
 use crate::tokens::at_sign;
 use crate::types::declared_type;
-use expression_parser::{Read, expect, identifier};
+use expression_parser::{Read, closed, expect, identifier};
 use secrec_ast::{Block, DomainVariable, Function, Identifier, Parameter, ResultType};
 use secrec_lexer::{Sign, Token};
 use std::alloc::Global;
@@ -74,8 +74,7 @@ fn template<'a>(alloc: Global, tokens: &'a [Token]) -> Read<'a, Vec<DomainVariab
     let (_, rest) = expect(Sign::Less, rest)?;
     let (first, rest) = domain_variable(alloc, rest)?;
     let (variables, rest) = more_variables(alloc, first, rest)?;
-    let (_, rest) = expect(Sign::Greater, rest)?;
-    Ok((variables, rest))
+    closed(variables, expect(Sign::Greater, rest))
 }
 
 #[tactic(auto, unfolding(crate::specs::Steps::result_type))]
@@ -143,8 +142,7 @@ fn parameter_list<'a>(alloc: Global, tokens: &'a [Token]) -> Read<'a, Vec<Parame
 {
     let (_, rest) = expect(Sign::LeftParenthesis, tokens)?;
     let (found, rest) = parameters(alloc, rest)?;
-    let (_, rest) = expect(Sign::RightParenthesis, rest)?;
-    Ok((found, rest))
+    closed(found, expect(Sign::RightParenthesis, rest))
 }
 
 /// A function's body; room is the greatest height of its statements.

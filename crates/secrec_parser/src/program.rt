@@ -7,7 +7,7 @@ ghost use Rattle.expression_parser.specs.Given.{Gives};
 
 use crate::function::function;
 use crate::tokens::{at_end, place_at};
-use expression_parser::{Problem, Read, Stopped, expect, identifier};
+use expression_parser::{Problem, Read, Stopped, closed, expect, identifier};
 use secrec_ast::{Identifier, Item, Program};
 use secrec_lexer::{Sign, Token};
 use std::alloc::Global;
@@ -18,8 +18,7 @@ fn named<'a>(alloc: Global, tokens: &'a [Token]) -> Read<'a, Identifier>
     ensures shorter { IfOk result (λ x. length x.1.now < length tokens.now) }
 {
     let (name, rest) = identifier(alloc, tokens)?;
-    let (_, rest) = expect(Sign::Semicolon, rest)?;
-    Ok((name, rest))
+    closed(name, expect(Sign::Semicolon, rest))
 }
 
 /// A domain and its kind, behind the keyword.
@@ -30,8 +29,7 @@ fn domain<'a>(alloc: Global, tokens: &'a [Token]) -> Read<'a, Item>
 {
     let (domain, rest) = identifier(alloc, tokens)?;
     let (kind, rest) = identifier(alloc, rest)?;
-    let (_, rest) = expect(Sign::Semicolon, rest)?;
-    Ok((Item::Domain(domain, kind), rest))
+    closed(Item::Domain(domain, kind), expect(Sign::Semicolon, rest))
 }
 
 /// A part of a program; room is the greatest height of the statements of functions.

@@ -5,7 +5,7 @@ ghost use Rattle.secrec_parser.specs.Steps.{brackets, declared_type, dimension, 
 ghost use Rattle.expression_parser.specs.Given.{Gives};
 
 use crate::tokens::{at_sign, place_at};
-use expression_parser::{Problem, Read, Stopped, data_type, expect};
+use expression_parser::{Problem, Read, Stopped, closed, data_type, expect};
 use secrec_ast::{DeclaredType, Domain, Identifier};
 use secrec_lexer::{Kind, Sign, Token};
 use std::alloc::Global;
@@ -64,8 +64,7 @@ fn brackets<'a>(tokens: &'a [Token]) -> Read<'a, bool>
     let (_, rest) = expect(Sign::LeftBracket, rest)?;
     let (array, rest) = zero_or_one(rest)?;
     let (_, rest) = expect(Sign::RightBracket, rest)?;
-    let (_, rest) = expect(Sign::RightBracket, rest)?;
-    Ok((array, rest))
+    closed(array, expect(Sign::RightBracket, rest))
 }
 
 /// Whether an array is declared: `[[1]]`. A scalar has `[[0]]` or nothing.

@@ -1,6 +1,34 @@
--- Elements that are read one after the other.
-use Rattle.std.proofs.Common.{List, ◌++◌, Option, option_map}
+-- Elements that are read or shown one after the other.
+use Rattle.std.proofs.Common.{◌≡◌, ℕ, ◌+◌, ◌<◌, ◌≤◌, List, [], ◌∷◌, ◌++◌, Option, Some, None, map, option_map, length, take, drop, get_or, refl, ap, sym, ◌∙◌, append_assoc}
+use Rattle.std.proofs.lemmas.List.{append-nil, drop_all, drop_more, map-append, map_more}
+use Rattle.serde_json.specs.Data.{Data}
+use Rattle.serde_json.specs.declared.value.Value.{Value}
+use Rattle.serde_json.specs.View.{view, items_view}
+use Rattle.value_file.specs.Values.{all_in, joined}
 
 -- what was read before, and then the rest
 abbrev pub behind : {A : Type 0} → List A → Option (List A) → Option (List A)
 behind before rest = option_map (λ xs. before ++ xs) rest
+
+-- the next element joins what was read before
+behind-joined : {A : Type 0} (before : List A) (x : A) (rest : Option (List A)) → behind before (joined (Some x) rest) ≡ behind (before ++ x ∷ []) rest
+behind-joined before x (Some xs) = ap Some (sym (append_assoc before (x ∷ []) xs))
+behind-joined before x None = refl
+
+module _ {A : Type 0} (one : Data → Option A) (vs : List Value) (i : ℕ) (before : List A) (whole : Option (List A))
+    (same : whole ≡ behind before (all_in one (items_view (drop i vs)))) where
+  -- an element that is good joins those before it
+  pub all_in-more : (v : Value) (x : A) (after : List A) → i < length vs → v ≡ get_or vs i v → one (view v) ≡ Some x → after ≡ before ++ x ∷ [] → whole ≡ behind after (all_in one (items_view (drop (i + 1) vs)))
+  all_in-more v x after here at good grown = same ∙ rw (drop_more vs i v here, ← at, good, grown) (behind-joined before x (all_in one (items_view (drop (i + 1) vs))))
+
+  -- an element that isn't good ends the reading
+  pub all_in-none : (v : Value) → i < length vs → v ≡ get_or vs i v → one (view v) ≡ None → None ≡ whole
+  all_in-none v here at bad = sym (same ∙ rw (drop_more vs i v here, ← at, bad) refl)
+
+  -- behind the last element
+  pub all_in-end : length vs ≤ i → Some before ≡ whole
+  all_in-end past = sym (same ∙ rw (drop_all i vs past) (ap Some (append-nil before)))
+
+-- one more element is shown
+pub shown-more : {X Y Z : Type 0} (view : Y → Z) (f : X → Z) (before after : List Y) (y : Y) (xs : List X) (i : ℕ) (x : X) → i < length xs → map view before ≡ map f (take i xs) → after ≡ before ++ y ∷ [] → view y ≡ f (get_or xs i x) → map view after ≡ map f (take (i + 1) xs)
+shown-more view f before after y xs i x here same joined one = rw (joined, map-append view before (y ∷ []), same, one, map_more f xs i x here) refl

@@ -1,4 +1,4 @@
-use Rattle.std.proofs.Common.{◌≡◌, ◌-◌, ◌<◌, ℕ, List, [], ◌∷◌, ◌++◌, refl, sym, ap, ◌∙◌, Ok, Err, length, arith}
+use Rattle.std.proofs.Common.{◌≡◌, subst, ◌-◌, ◌<◌, ℕ, List, [], ◌∷◌, ◌++◌, refl, sym, ap, ◌∙◌, Ok, Err, length, arith}
 use Rattle.std.specs.Prelude.{map}
 use Rattle.std.proofs.lemmas.List.{map-append}
 use Rattle.std.proofs.lemmas.Result.{err_from_is_err_and}
@@ -7,8 +7,10 @@ use Rattle.secrec_ast.specs.Tree.{expression}
 use Rattle.secrec_ast.specs.Statements.{branch, choice, statement}
 use Rattle.secrec_ast.specs.Equations.{branch_statement_is, choice_statement_is}
 use Rattle.expression_parser.specs.Steps.{◌>>=◌, expect}
+use Rattle.expression_parser.specs.Given.{Gives}
+use Rattle.expression_parser.proofs.HandedOn.{read}
 use Rattle.secrec_parser.specs.Steps.{at_sign, braced, list_from, statement_at_most}
-use Rattle.secrec_parser.proofs.Turns.{list_stops, list_goes_on, list_fails, passes, read_shorter, else_none, else_some, statement_none, statement_high, statement_declares, statement_names, statement_evaluates, statement_led}
+use Rattle.secrec_parser.proofs.Turns.{list_stops, list_goes_on, list_fails, passes, read_shorter, closed_gives, if_alone, if_chosen, led_short, statement_none, statement_high, statement_declares, statement_names, statement_evaluates, statement_led}
 use Rattle.secrec_parser.proofs.statement.+statements.Goals as goal
 
 pub braced-returns-in_err-next-clause-step : goal.braced-returns-in_err-next-clause-step
@@ -46,19 +48,40 @@ braced-returns-clause-step t c =
     let i = c.loop-alloc.invariant.step in
     let inner = statement_at_most c.args.room c.args.inside in
     let found = map statement c.loop-alloc.found.items in
-    ap (λ o. o >>= λ ss. expect signs.RightBrace ss.1 >>= λ b. Ok (ss.0, b.1))
-    (i.2 ∙ list_stops (λ found w. at_sign signs.RightBrace w) inner i.0 found c.loop-alloc.rest.now (sym c.at_sign.ensures ∙ c.loop-alloc-test.false))
-    ∙ ap (λ o. o >>= λ b. Ok (found, b.1)) c.in_ok-rest.ensures.step
+    let w = c.loop-alloc.rest.now in
+    subst (λ o. Gives (λ x. (map statement x.0.items, x.1.now)) c.closed.result (o >>= λ ss. expect signs.RightBrace ss.1 >>= λ b. Ok (ss.0, b.1)))
+    (sym (i.2 ∙ list_stops (λ found w. at_sign signs.RightBrace w) inner i.0 found w (sym c.at_sign.ensures ∙ c.loop-alloc-test.false)))
+    (closed_gives c.loop-alloc.found c.expect.result c.closed.result (λ v. map statement v.items) (λ p. p) (expect signs.RightBrace w) c.closed.ensures c.expect.ensures.step)
 
-pub otherwise-returns-then-not-at_sign-clause-step : goal.otherwise-returns-then-not-at_sign-clause-step
-otherwise-returns-then-not-at_sign-clause-step t c =
-    else_none (statement_at_most c.args.room c.args.inside) c.args.place (expression c.args.test) (statement c.args.body) c.args.tokens.now (sym c.at_sign.ensures ∙ c.if-not-at_sign.true)
-    ∙ ap (λ z. Ok (z, c.args.tokens.now)) (sym (branch_statement_is c.args.place c.args.test c.in_ok-body.body ∙ ap (λ b. branch c.args.place (expression c.args.test) (statement b)) c.in_ok-body.ensures.ok))
+pub if_statement-returns-then-not-at_sign-clause-step : goal.if_statement-returns-then-not-at_sign-clause-step
+if_statement-returns-then-not-at_sign-clause-step t c =
+    let inner = statement_at_most c.args.room c.args.inside in
+    let w = c.in_ok-test.rest.now in
+    let w2 = c.in_ok-body.rest.now in
+    let test = c.in_ok-test.test in
+    let body = c.in_ok-body.body in
+    let held = read statement c.statement-first.result (inner w) _ c.in_ok-body.ensures c.statement-first.ensures.step in
+    if_alone c.args.room inner c.args.place c.args.tokens.now (expression test) w (statement body.value) w2 c.in_ok-test.ensures.step held (sym c.at_sign.ensures ∙ c.if-not-at_sign.true)
+    ∙ ap (λ z. Ok (z, w2)) (sym (branch_statement_is c.args.place test body))
 
-pub otherwise-returns-clause-step : goal.otherwise-returns-clause-step
-otherwise-returns-clause-step t c =
-    else_some (statement_at_most c.args.room c.args.inside) c.args.place (expression c.args.test) (statement c.args.body) (statement c.in_ok-other.other) c.args.tokens.now c.in_ok-rest.rest.now c.in_ok-other.rest.now _ (sym c.at_sign.ensures ∙ c.if-not-at_sign.false) c.in_ok-rest.ensures.step c.in_ok-other.ensures.step
-    ∙ ap (λ z. Ok (z, c.in_ok-other.rest.now)) (sym (choice_statement_is c.args.place c.args.test c.in_ok-body-2.body c.in_ok-other-2.other ∙ ap (λ b. choice c.args.place (expression c.args.test) (statement b) (statement c.in_ok-other-2.other.value)) c.in_ok-body-2.ensures.ok ∙ ap (λ b. choice c.args.place (expression c.args.test) (statement c.args.body) (statement b)) c.in_ok-other-2.ensures.ok))
+pub if_statement-returns-clause-step : goal.if_statement-returns-clause-step
+if_statement-returns-clause-step t c =
+    let inner = statement_at_most c.args.room c.args.inside in
+    let w = c.in_ok-test.rest.now in
+    let w2 = c.in_ok-body.rest.now in
+    let w3 = c.in_ok-rest.rest.now in
+    let w4 = c.in_ok-other.rest.now in
+    let test = c.in_ok-test.test in
+    let body = c.in_ok-body.body in
+    let other = c.in_ok-other.other in
+    let held = read statement c.statement-first.result (inner w) _ c.in_ok-body.ensures c.statement-first.ensures.step in
+    let chosen = read statement c.statement-second.result (inner w3) _ c.in_ok-other.ensures c.statement-second.ensures.step in
+    if_chosen c.args.room inner c.args.place c.args.tokens.now (expression test) w (statement body.value) w2 c.in_ok-test.ensures.step held _ w3 (statement other.value) w4 (sym c.at_sign.ensures ∙ c.if-not-at_sign.false) c.in_ok-rest.ensures.step chosen
+    ∙ ap (λ z. Ok (z, w4)) (sym (choice_statement_is c.args.place test body other))
+
+pub led-returns-in_default-clause-step : goal.led-returns-in_default-clause-step
+led-returns-in_default-clause-step t c =
+    rw (led_short c.args.leader c.args.room (statement_at_most (c.args.room - 1)) c.args.inside c.args.place c.args.tokens.now c.in_default.not-Block c.in_default.not-If c.in_default.not-While c.in_default.not-DoWhile c.in_default.not-For) c.short_statement.ensures.step
 
 pub statement-returns-in_default-clause-step : goal.statement-returns-in_default-clause-step
 statement-returns-in_default-clause-step t c = statement_none c.args.room c.args.inside c.args.tokens.now c.in_default.ensures.cases

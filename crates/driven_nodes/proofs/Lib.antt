@@ -1,0 +1,4 @@
+pub mod Strands
+pub mod Nets
+pub mod Gates
+pub mod DrivenRuns

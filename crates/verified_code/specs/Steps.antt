@@ -1,0 +1,50 @@
+-- Steps: instructions in which the operator, the operands' dimensions and the kinds are settled.
+use Rattle.std.specs.Prelude.{ℕ, Bool, List, Option}
+use Rattle.secrec_ast.specs.declared.expression.DataType.{DataType}
+use Rattle.typed_tree.specs.declared.kinds.Shape.{Shape}
+use Rattle.typed_tree.specs.declared.operators.BinaryOperator.{BinaryOperator}
+use Rattle.typed_tree.specs.declared.operators.Operands.{Operands}
+use Rattle.typed_tree.specs.declared.operators.Cast.{Cast}
+use Rattle.typed_tree.specs.Shapes.{shape_of}
+use Rattle.bytecode.specs.declared.kind.Kind.{Kind}
+
+-- what a value of a kind is made of, whoever may see it
+abbrev pub kind_shape : Kind → Shape
+kind_shape kind = shape_of kind.element kind.array
+
+-- A number that says where a value goes or comes from is a register's; a line is that of the construct, for traps.
+pub data Step : Type 0 where
+  -- a public scalar; a truth value is 1 or 0
+  Literal : (to : ℕ) → DataType → (word : ℕ) → Step
+  Move : (to source : ℕ) → Step
+  Store : (to source : ℕ) → Step
+  Binary : (line : ℕ) → BinaryOperator → Operands → (to left right : ℕ) → Step
+  Not : (to source : ℕ) → Step
+  Cast : Cast → (to source : ℕ) → Step
+  Classify : (to source : ℕ) → Step
+  Fill : (line to size value : ℕ) → Step
+  At : (line to array index : ℕ) → Step
+  Put : (line array index value : ℕ) → Step
+  Size : (to source : ℕ) → Step
+  Cat : (line to left right : ℕ) → Step
+  Sum : (to source : ℕ) → Step
+  Bits : (line to source : ℕ) → Step
+  Declassify : (to source : ℕ) → Step
+  -- the input of a name, where one of this kind is wanted
+  Argument : (line : ℕ) → Kind → (text : List ℕ) → (to : ℕ) → Step
+  Publish : (text : List ℕ) → (source : ℕ) → Step
+  Assert : (line condition : ℕ) → Step
+  -- goes to the target where the condition is the value
+  Branch : (condition : ℕ) → (value : Bool) → (target : ℕ) → Step
+  Jump : (target : ℕ) → Step
+  -- a call of the function of this place; the result is let go where there is no register for it
+  Call : (line function : ℕ) → (to : Option ℕ) → (arguments : List ℕ) → Step
+  Return : (source : ℕ) → Step
+  ReturnNone : Step
+
+-- a function: how many of its registers, the first, are parameters, what it gives back, its registers' kinds, its steps
+pub record Function : Type 0 where
+  pub parameters : ℕ
+  pub gives : Option Kind
+  pub kinds : List Kind
+  pub steps : List Step
