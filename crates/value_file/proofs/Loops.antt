@@ -1,9 +1,12 @@
 -- Elements that are read or shown one after the other.
-use Rattle.std.proofs.Common.{◌≡◌, ℕ, ◌+◌, ◌<◌, ◌≤◌, List, [], ◌∷◌, ◌++◌, Option, Some, None, map, option_map, length, take, drop, get_or, refl, ap, sym, ◌∙◌, append_assoc}
-use Rattle.std.proofs.lemmas.List.{append-nil, drop_all, drop_more, map-append, map_more}
-use Rattle.serde_json.specs.Data.{Data}
+use Rattle.std.proofs.Common.{◌≡◌, ℕ, Bool, ◌+◌, ◌<◌, ◌≤◌, List, [], ◌∷◌, ◌++◌, Option, Some, None, map, option_map, length, take, drop, get_or, refl, ap, sym, ◌∙◌, append_assoc}
+use Rattle.std.proofs.lemmas.List.{append-nil, drop_all, drop_more, map-append, map_more, take_all}
+use Rattle.serde_json.specs.Data.{Data, boolean}
 use Rattle.serde_json.specs.declared.value.Value.{Value}
-use Rattle.serde_json.specs.View.{view, items_view}
+use Rattle.serde_json.specs.declared.value.Value.TheFolds.{fold-roll-Value}
+use Rattle.serde_json.specs.declared.value.Value.TheOpen.{Value-F}
+use Rattle.serde_json.specs.declared.value.Value.TheVariants.{Bool as Truth, rolls-Bool}
+use Rattle.serde_json.specs.View.{view, view_step, items_view}
 use Rattle.value_file.specs.Values.{all_in, joined}
 
 -- what was read before, and then the rest
@@ -32,3 +35,15 @@ module _ {A : Type 0} (one : Data → Option A) (vs : List Value) (i : ℕ) (bef
 -- one more element is shown
 pub shown-more : {X Y Z : Type 0} (view : Y → Z) (f : X → Z) (before after : List Y) (y : Y) (xs : List X) (i : ℕ) (x : X) → i < length xs → map view before ≡ map f (take i xs) → after ≡ before ++ y ∷ [] → view y ≡ f (get_or xs i x) → map view after ≡ map f (take (i + 1) xs)
 shown-more view f before after y xs i x here same joined one = rw (joined, map-append view before (y ∷ []), same, one, map_more f xs i x here) refl
+
+-- one more element is built
+pub built-more : {X Z : Type 0} (f : X → Z) (before after : List Z) (z : Z) (xs : List X) (i : ℕ) (x : X) → i < length xs → before ≡ map f (take i xs) → after ≡ before ++ z ∷ [] → z ≡ f (get_or xs i x) → after ≡ map f (take (i + 1) xs)
+built-more f before after z xs i x here same joined one = rw (joined, same, one, map_more f xs i x here) refl
+
+-- behind the last element all are built
+pub built-all : {X Z : Type 0} (f : X → Z) (built : List Z) (xs : List X) (i : ℕ) → length xs ≤ i → built ≡ map f (take i xs) → built ≡ map f xs
+built-all f built xs i past same = same ∙ ap (map f) (take_all i xs past)
+
+-- a truth value as data
+pub view-truth : (b : Bool) → view (Truth b) ≡ boolean b
+view-truth b = ap view (sym (rolls-Bool b)) ∙ fold-roll-Value Data view_step (Value-F.Bool b)
