@@ -1,11 +1,11 @@
 -- Elements that are read or shown one after the other.
-use Rattle.std.proofs.Common.{◌≡◌, ℕ, Bool, ◌+◌, ◌<◌, ◌≤◌, List, [], ◌∷◌, ◌++◌, Option, Some, None, map, option_map, length, take, drop, get_or, refl, ap, sym, ◌∙◌, append_assoc}
+use Rattle.std.proofs.Common.{◌≡◌, ℕ, Bool, Vec, Global, rules, ◌+◌, ◌<◌, ◌≤◌, List, [], ◌∷◌, ◌++◌, Option, Some, None, map, option_map, length, take, drop, get_or, refl, ap, sym, ◌∙◌, append_assoc}
 use Rattle.std.proofs.lemmas.List.{append-nil, drop_all, drop_more, map-append, map_more, take_all}
-use Rattle.serde_json.specs.Data.{Data, boolean}
-use Rattle.serde_json.specs.declared.value.Value.{Value}
+use Rattle.serde_json.specs.Data.{Data, array, boolean}
+use Rattle.serde_json.specs.declared.value.Value.{Value, the_lemmas}
 use Rattle.serde_json.specs.declared.value.Value.TheFolds.{fold-roll-Value}
 use Rattle.serde_json.specs.declared.value.Value.TheOpen.{Value-F}
-use Rattle.serde_json.specs.declared.value.Value.TheVariants.{Bool as Truth, rolls-Bool}
+use Rattle.serde_json.specs.declared.value.Value.TheVariants.{Bool as Truth, Array as Listed, rolls-Bool}
 use Rattle.serde_json.specs.View.{view, view_step, items_view}
 use Rattle.value_file.specs.Values.{all_in, joined}
 
@@ -47,3 +47,7 @@ built-all f built xs i past same = same ∙ ap (map f) (take_all i xs past)
 -- a truth value as data
 pub view-truth : (b : Bool) → view (Truth b) ≡ boolean b
 view-truth b = ap view (sym (rolls-Bool b)) ∙ fold-roll-Value Data view_step (Value-F.Bool b)
+
+-- a list of values as data
+pub view-list : (list : Vec Value Global) → view (Listed list) ≡ array (items_view list.items)
+view-list list = search (rules, the_lemmas)
