@@ -21,8 +21,8 @@ behind-joined before x None = refl
 module _ {A : Type 0} (one : Data → Option A) (vs : List Value) (i : ℕ) (before : List A) (whole : Option (List A))
     (same : whole ≡ behind before (all_in one (items_view (drop i vs)))) where
   -- an element that is good joins those before it
-  pub all_in-more : (v : Value) (x : A) (after : List A) → i < length vs → v ≡ get_or vs i v → one (view v) ≡ Some x → after ≡ before ++ x ∷ [] → whole ≡ behind after (all_in one (items_view (drop (i + 1) vs)))
-  all_in-more v x after here at good grown = same ∙ rw (drop_more vs i v here, ← at, good, grown) (behind-joined before x (all_in one (items_view (drop (i + 1) vs))))
+  pub all_in-more : (v : Value) (x : A) (after : List A) → i < length vs → v ≡ get_or vs i v → after ≡ before ++ x ∷ [] → one (view v) ≡ Some x → whole ≡ behind after (all_in one (items_view (drop (i + 1) vs)))
+  all_in-more v x after here at grown good = same ∙ rw (drop_more vs i v here, ← at, good, grown) (behind-joined before x (all_in one (items_view (drop (i + 1) vs))))
 
   -- an element that isn't good ends the reading
   pub all_in-none : (v : Value) → i < length vs → v ≡ get_or vs i v → one (view v) ≡ None → None ≡ whole
