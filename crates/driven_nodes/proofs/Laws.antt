@@ -12,7 +12,7 @@ use Rattle.proto_core.proofs.Nets.{into-more, schedule-begins}
 use Rattle.proto_core.proofs.Strands.{run-more, begins-opened}
 use Rattle.protocol_model.specs.Arrivals.{arrivals, arrived, to_come}
 use Rattle.protocol_model.specs.Complete.{IsComplete}
-use Rattle.protocol_model.specs.Gates.{Gate, AreSound, gates_script}
+use Rattle.protocol_model.specs.Gates.{Gate, AreSound, AreSilent, gates_script}
 use Rattle.protocol_model.specs.Network.{Accepted, Default, Delivery, Shuffled, net, order_of, walked, counted, counts, made_order, total}
 use Rattle.protocol_model.specs.Runs.{Shares, Tapes, Ready, run_messages, run_values, run_opened, nodes_of}
 use Rattle.protocol_model.specs.Schedules.{AnyOrder}
@@ -21,7 +21,6 @@ use Rattle.protocol_model.proofs.GateRuns.{run-finishes, run-opens}
 use Rattle.protocol_model.proofs.GateSchedules.{moves-along_run, schedule-counted, made-order_accepted}
 use Rattle.driven_nodes.specs.Alike.{AreAlike}
 use Rattle.driven_nodes.specs.Driven.{Turn, path, stop, notices, Led, driven_nodes}
-use Rattle.driven_nodes.specs.Silent.{AreSilent}
 use Rattle.driven_nodes.proofs.Nets.{walked_same, finish_too, opened_same, alike_schedules_are_counted, alike_made_orders_are_accepted}
 use Rattle.driven_nodes.proofs.Nets.{alike_orders_are_the_run, alike_accepted_orders_are_complete}
 use Rattle.driven_nodes.proofs.DrivenRuns.{with_values, driven_alike, led_goes}
@@ -67,7 +66,9 @@ module _ {S : Type 0} (next : S → Option (Turn S)) (fuel : ℕ) (s : S) (value
     driven_orders_are_the_run =
         alike_orders_are_the_run _ nodes (nodes_of gates values tapes) full driven_are_alike (run_values gates values tapes) known
 
-    pub driven_orders_open_the_run : (order : List Link) (i : Number) → Begins (opened_by nodes (all_delivered nodes nothing order) i) (run_opened gates values tapes)
+    pub driven_orders_open_the_run :
+        (order : List Link) (i : Number) →
+        Begins (opened_by nodes (all_delivered nodes nothing order) i) (run_opened gates values tapes)
     driven_orders_open_the_run order i =
         let mail = all_delivered nodes nothing order in
         subst (λ v. Begins (opened_by nodes mail i) v) (driven_open i)

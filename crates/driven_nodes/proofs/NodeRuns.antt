@@ -107,7 +107,9 @@ module _ {C P G : Type 0} (course : Course C G) (steps : Steps P G) (to_run : To
             Taken fuel (stand_by course (stand_after course fuel) w) g place rest values tapes (turn_of steps to_run p z) →
             SameRunAs (suc fuel) c p values tapes
         finish w e g place rest whole z st taken =
-            let mine = subst (λ v. Taken fuel (stand_by course (stand_after course fuel) w) g place rest values tapes (turn_of steps to_run p v)) (sym st) taken in
+            let mine =
+            subst (λ v. Taken fuel (stand_by course (stand_after course fuel) w) g place rest values tapes (turn_of steps to_run p v)) (sym st)
+            taken in
             record {
               gates = mine.path ∙ whole ∙ ap (λ v. to_run (course.gates c) (gates_by course (gates_of course fuel) c v)) (sym e);
               led = mine.led;

@@ -3,25 +3,18 @@ use Rattle.std.proofs.Common.{◌≡◌, ℕ, zero, suc, Bool, true, false, List
 use Rattle.std.specs.Prelude.{Option, Some, None}
 use Rattle.proto_core.specs.declared.party.Number.{Number}
 use Rattle.proto_core.specs.Strand.{Act, Notice, Sent, Opened, Told, accepts, Mail, Strand, Ends, Acts, Waits, Begins, taken, run, then_do, told_in}
+use Rattle.proto_core.specs.Script.{IsSilent}
 use Rattle.proto_core.specs.Net.{into, run_of, added, MailBegins, Finishes}
 use Rattle.proto_core.proofs.Beginnings.{begins-append, begins-rest}
 use Rattle.proto_core.proofs.Strands.{run-none, run-took, run-refused, run-then, run-more, followed, told-append}
 use Rattle.proto_core.proofs.Nets.{into-added, into-more}
-use Rattle.protocol_model.specs.Gates.{Gate, Joined, Local, AreSound, value_at, operand, needed, gates_strand}
+use Rattle.protocol_model.specs.Gates.{Gate, Joined, Local, AreSound, AreSilent, value_at, operand, needed, gates_strand}
 use Rattle.protocol_model.specs.Runs.{Shares, Tapes, Ready, run_messages, nodes_of}
 use Rattle.protocol_model.proofs.GateRuns.{run-finishes}
+use Rattle.protocol_model.proofs.Scripts.{silent_then}
 use Rattle.driven_nodes.specs.Driven.{Turn, of_turn, OfTurn, telling, shares_behind, tapes_behind, place_behind, LeadsTogether}
 use Rattle.driven_nodes.specs.Driven.{driven, path, notices, Goes, driven_nodes}
-use Rattle.driven_nodes.specs.Silent.{IsSilent, AreSilent}
 use Rattle.driven_nodes.proofs.Gates.{messages_then}
-
-silent_then :
-    {A B : Type 0} (s : Strand A) (f : A → Strand B) → IsSilent s → ((a : A) → IsSilent (f a)) → IsSilent (then_do s f)
-silent_then (Ends a) f h more = more a
-silent_then (Acts (Sent l m) s) f h more = silent_then s f h more
-silent_then (Acts (Opened w) s) f h more = silent_then s f h more
-silent_then (Acts (Told t) s) f h more = absurd h
-silent_then (Waits l n k) f h more = λ m. silent_then (k m) f (h m) more
 
 silent_gates : (i : Number) (gates : List Gate) (values : List (List ℕ)) (tape : List ℕ) → AreSilent gates → IsSilent (gates_strand i gates values tape)
 silent_gates i [] values tape h = tt

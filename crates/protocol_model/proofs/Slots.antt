@@ -132,7 +132,8 @@ value_past [] k h = refl
 value_past (x ∷ xs) zero h = below_zero (length xs) (omega arith)
 value_past (x ∷ xs) (suc k) h = value_past xs k (omega arith)
 
-module _ (i : Number) (gates : List Gate) (values all : List (List ℕ)) (tape : List ℕ) (mail : Mail) (k : ℕ) (ends : (run (gates_strand i gates values tape) mail).left ≡ Ends all) where
+module _ (i : Number) (gates : List Gate) (values all : List (List ℕ)) (tape : List ℕ) (mail : Mail) (k : ℕ)
+    (ends : (run (gates_strand i gates values tape) mail).left ≡ Ends all) where
   pub values_before_stay : k < length values → value_at all k ≡ value_at values k
   values_before_stay below =
       let h = of_run_end (Grown values) (gates_strand i gates values tape) mail all (grows i gates values tape) ends in
