@@ -82,11 +82,11 @@ module _ {S : Type 0} (next : S → Option (Turn S)) where
             ends = λ b e. ap (λ v. Ends (s, v)) (ends_same (values i) b e);
           }
       by_turn (Some t) h later =
-          subst (λ k. Alike there (into i (run_messages (t.gates ++ rest) values tapes)) mine k) (sym (gates_then i t.gates rest (values i) (tapes i)))
+          subst (λ k. Alike there (into i (run_messages (t.gates ++ rest) values tapes)) mine k)
+          (sym (gates_then i t.gates rest (values i) (tapes i)))
           (subst (λ mail. Alike there mail mine (then_do (gates_strand i t.gates (values i) (tapes i)) known)) (sym mails)
-          (alike_then (gates_strand i t.gates (values i) (tapes i)) _ known (into i (run_messages t.gates values tapes))
-          (into i (run_messages rest now later_tapes)) (now i) (done.ended i) (done.read i)
-          (alike_telling (t.tells (now i)) (driven next fuel i (t.leads (now i)) (now i) (later_tapes i)) (nodes_of rest now later_tapes i) (into i (run_messages rest now later_tapes)) behind)))
+          (alike_then (gates_strand i t.gates (values i) (tapes i)) _ known (into i (run_messages t.gates values tapes)) ahead (now i)
+          (done.ended i) (done.read i) (alike_telling (t.tells (now i)) (on (t.leads (now i))) (nodes_of rest now later_tapes i) ahead behind)))
         where
           now : Shares
           now = shares_behind t values tapes
@@ -112,12 +112,17 @@ module _ {S : Type 0} (next : S → Option (Turn S)) where
           done : Finishes (nodes_of t.gates values tapes) (run_messages t.gates values tapes) now
           done = run-finishes t.gates values tapes h.0 h.1
 
-          behind : Alike there (into i (run_messages rest now later_tapes)) (driven next fuel i (t.leads (now i)) (now i) (later_tapes i)) (nodes_of rest now later_tapes i)
-          behind =
-              subst (λ z. Alike there (into i (run_messages rest now later_tapes)) (driven next fuel i z (now i) (later_tapes i)) (nodes_of rest now later_tapes i)) (sym (h.2 i))
-              (later place now later_tapes h.3)
+          -- what comes to this miner behind the turn, and what it does then
+          ahead : Mail
+          ahead = into i (run_messages rest now later_tapes)
 
-          mails : into i (run_messages (t.gates ++ rest) values tapes) ≡ added (into i (run_messages t.gates values tapes)) (into i (run_messages rest now later_tapes))
+          on : S → Strand (S × List (List ℕ))
+          on z = driven next fuel i z (now i) (later_tapes i)
+
+          behind : Alike there ahead (on (t.leads (now i))) (nodes_of rest now later_tapes i)
+          behind = subst (λ z. Alike there ahead (on z) (nodes_of rest now later_tapes i)) (sym (h.2 i)) (later place now later_tapes h.3)
+
+          mails : into i (run_messages (t.gates ++ rest) values tapes) ≡ added (into i (run_messages t.gates values tapes)) ahead
           mails =
               ap (into i) (λ d. λ l. messages_then t.gates rest values tapes l d)
               ∙ into-added i (run_messages t.gates values tapes) (run_messages rest now later_tapes)

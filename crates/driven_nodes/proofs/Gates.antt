@@ -48,9 +48,11 @@ messages_then (Local n f ∷ xs) ys values tapes l = messages_then xs ys (after_
 messages_then (Joined p n u v ∷ xs) ys values tapes l =
     let here = p.messages n (joint_of u v values (drawn p n tapes)) l in
     let next = after p n u v values (drawn p n tapes) in
+    let first = run_messages xs next (left p n tapes) l in
+    let all = run_values xs next (left p n tapes) in
     ap (λ w. here ++ w) (messages_then xs ys next (left p n tapes) l)
-    ∙ ap (λ t. here ++ (run_messages xs next (left p n tapes) l ++ run_messages ys (run_values xs next (left p n tapes)) t l)) (tapes_regrouped p n u v xs tapes)
-    ∙ sym (append_assoc here (run_messages xs next (left p n tapes) l) (run_messages ys (run_values xs next (left p n tapes)) (rest_of_tapes (Joined p n u v ∷ xs) tapes) l))
+    ∙ ap (λ t. here ++ (first ++ run_messages ys all t l)) (tapes_regrouped p n u v xs tapes)
+    ∙ sym (append_assoc here first (run_messages ys all (rest_of_tapes (Joined p n u v ∷ xs) tapes) l))
 
 pub values_then :
     (xs ys : List Gate) (values : Shares) (tapes : Tapes) →

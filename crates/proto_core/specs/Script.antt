@@ -23,6 +23,14 @@ Moves (Waits k shape f) (Takes l wanted ∷ moves) =
 Moves (Waits k shape f) (Sends l wanted ∷ moves) = ⊥
 Moves (Waits k shape f) [] = ⊥
 
+-- whatever the messages are, it tells nothing
+abbrev pub IsSilent : {A : Type 0} → Strand A → Type 0
+IsSilent (Ends a) = Unit {0}
+IsSilent (Acts (Sent k m) s) = IsSilent s
+IsSilent (Acts (Opened w) s) = IsSilent s
+IsSilent (Acts (Told t) s) = ⊥
+IsSilent (Waits l shape k) = (m : List ℕ) → IsSilent (k m)
+
 -- whatever the words are, this holds of what it ends with
 abbrev pub EndsWith : {A : Type 0} → (A → Type 0) → Strand A → Type 0
 EndsWith P (Ends a) = P a

@@ -6,7 +6,6 @@ use Rattle.secrec_lexer.specs.declared.token.Token.{Token}
 use Rattle.sc_text.specs.declared.span.Span.{Span}
 use Rattle.secrec_lexer.specs.declared.sign.Sign.TheVariants as signs
 use Rattle.secrec_ast.specs.declared.function.DomainVariable.{DomainVariable}
-use Rattle.secrec_ast.specs.declared.statement.Statement.{Statement}
 use Rattle.secrec_ast.specs.Tree.{Tree}
 use Rattle.secrec_ast.specs.Statements.{TargetTree, StatementTree, branch, choice}
 use Rattle.secrec_ast.specs.Heights.{target_height}
@@ -19,6 +18,7 @@ use Rattle.secrec_parser.specs.declared.assignment.Update.{Update}
 use Rattle.secrec_parser.specs.declared.leader.Leader.{Leader}
 use Rattle.secrec_parser.specs.declared.leader.Leader.TheVariants as leaders
 use Rattle.expression_parser.specs.Steps.{Outcome, ◌>>=◌, expect}
+use Rattle.secrec_parser.specs.Given.{Takes}
 use Rattle.secrec_parser.specs.Steps.{list_from, at_sign, update_of, least_height, value_by, assigned_by, assigned, comma_then, no_more_variables, leader_of, least, Inner, led, declaration_statement, name_statement, action_statement, else_step, if_step, parenthesised, short, statement_by, statement_step, statement_at_most}
 
 module _ {A : Type 0} (stop : List A → List Token → Bool) (inner : List Token → Outcome A) where
@@ -153,18 +153,29 @@ module _ (h : ℕ) (inner : Inner) (p : Span) (w : List Token) (e : Tree) (r : L
       ∙ ap (λ o. o >>= λ t. Ok (choice p e s t.0, t.1)) k
 
 -- what stopped one step stops another that begins with it
-pub passes : {Y Z : Type 0} (s : Stopped) (o : Outcome Y) (u : Outcome Z) → ((p : Problem) (r : List Token) → o ≡ Err (p, r) → u ≡ Err (p, r)) → Gives {X = Y × List Token} (λ v. v) (Err s) o → Gives {X = Z × List Token} (λ v. v) (Err s) u
-passes Memory o u k g = tt
-passes (At p r) o u k g = k p r.now g
+pub passes : {Y Z : Type 0} (s : Stopped) (o : Outcome Y) (u : Outcome Z) (k n : ℕ) → ((p : Problem) (r : List Token) → o ≡ Err (p, r) → u ≡ Err (p, r)) → Takes {X = Y × List Token} (λ v. v) (Err s) o k → Takes {X = Z × List Token} (λ v. v) (Err s) u n
+passes Memory o u k n f t = tt
+passes (At p r) o u k n f t = f p r.now t
+
+pub passes_on : {Y Z : Type 0} (s : Stopped) (o : Outcome Y) (u : Outcome Z) (k : ℕ) → ((p : Problem) (r : List Token) → o ≡ Err (p, r) → u ≡ Err (p, r)) → Takes {X = Y × List Token} (λ v. v) (Err s) o k → Gives {X = Z × List Token} (λ v. v) (Err s) u
+passes_on Memory o u k f t = tt
+passes_on (At p r) o u k f t = f p r.now t
 
 -- what was found stays, where what closes it stands behind it
-pub closed_gives : {A B Y Z : Type 0} (found : A) (close : Result (B × Bor (List Token)) Stopped) (r : Result (A × Bor (List Token)) Stopped) (view : A → Y) (seen : B → Z) (o : Outcome Z) → Closed found close r → Gives (λ x. (seen x.0, x.1.now)) close o → Gives (λ x. (view x.0, x.1.now)) r (o >>= λ b. Ok (view found, b.1))
-closed_gives found close (Ok x) view seen o c g =
-    ap (λ o. o >>= λ b. Ok (view found, b.1)) (subst (λ z. Gives (λ x. (seen x.0, x.1.now)) z o) c.1.1 g)
-    ∙ ap (λ a. Ok (view a, x.1.now)) (sym c.0)
-closed_gives found close (Err Memory) view seen o c g = tt
-closed_gives found close (Err (At p r)) view seen o c g =
+pub closed_takes : {A B Y Z : Type 0} (found : A) (close : Result (B × Bor (List Token)) Stopped) (r : Result (A × Bor (List Token)) Stopped) (view : A → Y) (seen : B → Z) (o : Outcome Z) (k n : ℕ) → k ≤ n → Closed found close r → Gives (λ x. (seen x.0, x.1.now)) close o → IfOk close (λ x. length x.1.now < k) → Takes (λ x. (view x.0, x.1.now)) r (o >>= λ b. Ok (view found, b.1)) n
+closed_takes found close (Ok x) view seen o k n le c g l =
+    let shorter : length x.1.now < k = subst (λ z. IfOk z (λ x. length x.1.now < k)) c.1.1 l in (
+      ap (λ o. o >>= λ b. Ok (view found, b.1)) (subst (λ z. Gives (λ x. (seen x.0, x.1.now)) z o) c.1.1 g)
+          ∙ ap (λ a. Ok (view a, x.1.now)) (sym c.0),
+      omega (arith, shorter, le),
+    )
+closed_takes found close (Err Memory) view seen o k n le c g l = tt
+closed_takes found close (Err (At p r)) view seen o k n le c g l =
     ap (λ o. o >>= λ b. Ok (view found, b.1)) (subst (λ z. Gives (λ x. (seen x.0, x.1.now)) z o) c g)
+
+-- what is known of it where it was read
+pub taken : {B Y : Type 0} (view : B → Y) (r : Result (B × Bor (List Token)) Stopped) (o : Outcome Y) (n : ℕ) (x : B × Bor (List Token)) → r ≡ Ok x → Takes (λ x. (view x.0, x.1.now)) r o n → (o ≡ Ok (view x.0, x.1.now)) × (length x.1.now < n)
+taken view r o n x e t = subst (λ z. Takes (λ x. (view x.0, x.1.now)) z o n) e t
 
 -- a leader that leads a statement that holds none
 pub led_short : (l : Leader) (room : ℕ) (lower : Bool → Inner) (inside : Bool) (p : Span) (m : List Token) → (l ≡ leaders.Block → ⊥) → (l ≡ leaders.If → ⊥) → (l ≡ leaders.While → ⊥) → (l ≡ leaders.DoWhile → ⊥) → (l ≡ leaders.For → ⊥) → led l room lower inside p m ≡ short l room p m
@@ -197,6 +208,7 @@ pub comma_reads : {A : Type 0} (inner : List Token → Outcome A) (w r r2 : List
 comma_reads inner w r r2 q a e f = ap (λ o. o >>= λ a. inner a.1) e ∙ f
 
 -- what reads past a token reads past the tokens that it began
-pub read_shorter : (o : Result (Statement × Bor (List Token)) Stopped) (w v : List Token) → length v < length w → IfOk o (λ x. length x.1.now ≤ length v) → IfOk o (λ x. length x.1.now < length w)
-read_shorter (Ok x) w v l h = omega (arith, l, h)
-read_shorter (Err e) w v l h = tt
+pub takes_less : {B Y : Type 0} (view : B → Y) (r : Result (B × Bor (List Token)) Stopped) (o : Outcome Y) (k n : ℕ) → k ≤ n → Takes (λ x. (view x.0, x.1.now)) r o k → Takes (λ x. (view x.0, x.1.now)) r o n
+takes_less view (Ok x) o k n le t = let l = t.1 in (t.0, omega (arith, l, le))
+takes_less view (Err Memory) o k n le t = tt
+takes_less view (Err (At p r)) o k n le t = t

@@ -1,13 +1,12 @@
 // Assignments, and what may be one or an expression.
 
-ghost use Rattle.std.specs.Prelude.{◌≡◌, ◌<◌, ◌≤◌, length, IfOk};
+ghost use Rattle.std.specs.Prelude.{◌≡◌, ◌+◌, ◌<◌, ◌≤◌, length, IfOk};
 ghost use Rattle.secrec_ast.specs.Tree.{expression};
 ghost use Rattle.secrec_ast.specs.Statements.{assignment_tree, optional, statement, step_tree, target_tree};
 ghost use Rattle.secrec_ast.specs.Heights.{height, optional_height, target_height};
 ghost use Rattle.secrec_parser.specs.Sugar.{held, updated};
 ghost use Rattle.secrec_parser.specs.Steps.{action, assigned, assignment_step, is_update, least_height, statement_of, step_of, target_index, update_of, value_by};
-ghost use Rattle.expression_parser.specs.Given.{Gives};
-ghost use Rattle.secrec_parser.specs.Given.{action_tree};
+ghost use Rattle.secrec_parser.specs.Given.{action_tree, Takes};
 
 use crate::declaration::operand;
 use crate::tokens::at_sign;
@@ -155,8 +154,7 @@ fn value_by<'a>(
     room: u8,
 ) -> Read<'a, Expression>
     requires { 2 ≤ room }
-    ensures step { Gives (λ x. (expression x.0, x.1.now)) result (value_by room (target_tree target.now) update tokens.now) }
-    ensures shorter { IfOk result (λ x. length x.1.now ≤ length tokens.now) }
+    ensures { Takes (λ x. (expression x.0, x.1.now)) result (value_by room (target_tree target.now) update tokens.now) (length tokens.now + 1) }
 {
     match update {
         Update::Plain => operand(alloc, tokens, room - 1),
@@ -180,8 +178,7 @@ fn assigned<'a>(
     room: u8,
 ) -> Read<'a, Assignment>
     requires { height ≡ target_height (target_tree target) }
-    ensures step { Gives (λ x. (assignment_tree x.0, x.1.now)) result (assigned room (target_tree target) tokens.now) }
-    ensures shorter { IfOk result (λ x. length x.1.now < length tokens.now) }
+    ensures { Takes (λ x. (assignment_tree x.0, x.1.now)) result (assigned room (target_tree target) tokens.now) (length tokens.now) }
 {
     let Some((token, rest)) = tokens.split_first() else {
         return Err(Stopped::At(Problem::Unexpected, tokens));
@@ -202,9 +199,8 @@ fn target_index<'a>(
     tokens: &'a [Token],
     room: u8,
 ) -> Read<'a, (Option<Expression>, u8)>
-    ensures step { Gives (λ x. (optional x.0.0, x.1.now)) result (target_index room tokens.now) }
+    ensures step { Takes (λ x. (optional x.0.0, x.1.now)) result (target_index room tokens.now) (length tokens.now + 1) }
     ensures height { IfOk result (λ x. (x.0.1 ≡ optional_height (optional x.0.0)) × (x.0.1 < 255)) }
-    ensures shorter { IfOk result (λ x. length x.1.now ≤ length tokens.now) }
 {
     if !at_sign(Sign::LeftBracket, tokens) {
         return Ok(((None, 0), tokens));
@@ -221,8 +217,7 @@ fn target_index<'a>(
 /// An assignment of at most this height.
 #[tactic(auto, unfolding(crate::specs::Steps::assignment_step))]
 pub fn assignment<'a>(alloc: Global, tokens: &'a [Token], room: u8) -> Read<'a, Assignment>
-    ensures step { Gives (λ x. (assignment_tree x.0, x.1.now)) result (assignment_step room tokens.now) }
-    ensures shorter { IfOk result (λ x. length x.1.now < length tokens.now) }
+    ensures { Takes (λ x. (assignment_tree x.0, x.1.now)) result (assignment_step room tokens.now) (length tokens.now) }
 {
     let (variable, rest) = identifier(alloc, tokens)?;
     let ((index, height), rest) = target_index(alloc, rest, room)?;
@@ -237,8 +232,7 @@ pub fn assignment_or_expression<'a>(
     expression_room: u8,
     room: u8,
 ) -> Read<'a, Action>
-    ensures step { Gives (λ x. (action_tree x.0, x.1.now)) result (action expression_room room tokens.now) }
-    ensures shorter { IfOk result (λ x. length x.1.now < length tokens.now) }
+    ensures { Takes (λ x. (action_tree x.0, x.1.now)) result (action expression_room room tokens.now) (length tokens.now) }
 {
     let (parsed, rest) = expression(alloc, tokens, expression_room)?;
     if !is_update(rest) {

@@ -1,10 +1,9 @@
 // Statements that hold no statement, and the heading of a `for`.
 
-ghost use Rattle.std.specs.Prelude.{◌≡◌, ◌<◌, ◌≤◌, length, Err, IfOk};
+ghost use Rattle.std.specs.Prelude.{◌≡◌, ◌+◌, ◌<◌, ◌≤◌, length, Err};
 ghost use Rattle.secrec_ast.specs.Statements.{optional, start_tree, statement, step_tree};
 ghost use Rattle.secrec_parser.specs.Steps.{action_statement, assert_step, declaration_statement, declares, do_behind, follows_name, headed, heading, last_part, last_step, least, name_statement, only_declares, return_step, short, start_part, start_step, test_part};
-ghost use Rattle.expression_parser.specs.Given.{Gives};
-ghost use Rattle.secrec_parser.specs.Given.{heading_parts};
+ghost use Rattle.secrec_parser.specs.Given.{heading_parts, Takes};
 
 use crate::assignment::{assignment, assignment_or_expression, update_of};
 use crate::declaration::{declaration, operand, parenthesised};
@@ -45,8 +44,7 @@ pub fn declaration_statement<'a>(
     tokens: &'a [Token],
     room: u8,
 ) -> Read<'a, Statement>
-    ensures step { Gives (λ x. (statement x.0, x.1.now)) result (declaration_statement room tokens.now) }
-    ensures shorter { IfOk result (λ x. length x.1.now < length tokens.now) }
+    ensures { Takes (λ x. (statement x.0, x.1.now)) result (declaration_statement room tokens.now) (length tokens.now) }
 {
     let (found, rest) = declaration(alloc, tokens, room)?;
     closed(Statement::Declaration(found), expect(Sign::Semicolon, rest))
@@ -55,8 +53,7 @@ pub fn declaration_statement<'a>(
 /// An assignment or an expression, and its semicolon.
 #[tactic(auto, unfolding(crate::specs::Steps::action_statement))]
 pub fn action_statement<'a>(alloc: Global, tokens: &'a [Token], room: u8) -> Read<'a, Statement>
-    ensures step { Gives (λ x. (statement x.0, x.1.now)) result (action_statement room tokens.now) }
-    ensures shorter { IfOk result (λ x. length x.1.now < length tokens.now) }
+    ensures { Takes (λ x. (statement x.0, x.1.now)) result (action_statement room tokens.now) (length tokens.now) }
 {
     let (action, rest) = assignment_or_expression(alloc, tokens, room.saturating_sub(1), room)?;
     closed(action.into_statement(), expect(Sign::Semicolon, rest))
@@ -97,8 +94,7 @@ pub fn name_statement<'a>(
 ) -> Read<'a, Statement>
     requires room { 1 ≤ room }
     requires rest { length rest.now < length tokens.now }
-    ensures step { Gives (λ x. (statement x.0, x.1.now)) result (name_statement room tokens.now rest.now) }
-    ensures shorter { IfOk result (λ x. length x.1.now < length tokens.now) }
+    ensures { Takes (λ x. (statement x.0, x.1.now)) result (name_statement room tokens.now rest.now) (length tokens.now) }
 {
     if declares(tokens) {
         declaration_statement(alloc, tokens, room - 1)
@@ -112,8 +108,7 @@ pub fn name_statement<'a>(
 /// An expression if there is one, and its semicolon.
 #[tactic(auto, unfolding(crate::specs::Steps::test_part))]
 fn optional_part<'a>(alloc: Global, tokens: &'a [Token], room: u8) -> Read<'a, Option<Expression>>
-    ensures step { Gives (λ x. (optional x.0, x.1.now)) result (test_part room tokens.now) }
-    ensures shorter { IfOk result (λ x. length x.1.now < length tokens.now) }
+    ensures { Takes (λ x. (optional x.0, x.1.now)) result (test_part room tokens.now) (length tokens.now) }
 {
     if at_sign(Sign::Semicolon, tokens) {
         return closed(None, expect(Sign::Semicolon, tokens));
@@ -132,8 +127,7 @@ pub fn short_statement<'a>(
     room: u8,
 ) -> Read<'a, Statement>
     requires { least leader ≤ room }
-    ensures step { Gives (λ x. (statement x.0, x.1.now)) result (short leader room place tokens.now) }
-    ensures shorter { IfOk result (λ x. length x.1.now ≤ length tokens.now) }
+    ensures { Takes (λ x. (statement x.0, x.1.now)) result (short leader room place tokens.now) (length tokens.now + 1) }
 {
     match leader {
         Leader::Break => closed(Statement::Break(place), expect(Sign::Semicolon, tokens)),
@@ -162,8 +156,7 @@ pub fn do_test<'a>(
     tokens: &'a [Token],
     room: u8,
 ) -> Read<'a, Statement>
-    ensures step { Gives (λ x. (statement x.0, x.1.now)) result (do_behind room place (statement body.value) tokens.now) }
-    ensures shorter { IfOk result (λ x. length x.1.now < length tokens.now) }
+    ensures { Takes (λ x. (statement x.0, x.1.now)) result (do_behind room place (statement body.value) tokens.now) (length tokens.now) }
 {
     let (_, rest) = expect(Sign::While, tokens)?;
     let (test, rest) = parenthesised(alloc, rest, room)?;
@@ -177,8 +170,7 @@ pub fn do_test<'a>(
 #[tactic(auto, unfolding(crate::specs::Steps::start_step))]
 fn start<'a>(alloc: Global, tokens: &'a [Token], room: u8) -> Read<'a, ForStart>
     requires { 1 ≤ room }
-    ensures step { Gives (λ x. (start_tree x.0, x.1.now)) result (start_step room tokens.now) }
-    ensures shorter { IfOk result (λ x. length x.1.now ≤ length tokens.now) }
+    ensures { Takes (λ x. (start_tree x.0, x.1.now)) result (start_step room tokens.now) (length tokens.now + 1) }
 {
     if at_sign(Sign::Semicolon, tokens) {
         Ok((ForStart::Nothing, tokens))
@@ -194,8 +186,7 @@ fn start<'a>(alloc: Global, tokens: &'a [Token], room: u8) -> Read<'a, ForStart>
 /// The third part of a `for`, up to its parenthesis.
 #[tactic(auto, unfolding(crate::specs::Steps::last_step))]
 fn last<'a>(alloc: Global, tokens: &'a [Token], room: u8) -> Read<'a, ForStep>
-    ensures step { Gives (λ x. (step_tree x.0, x.1.now)) result (last_step room tokens.now) }
-    ensures shorter { IfOk result (λ x. length x.1.now ≤ length tokens.now) }
+    ensures { Takes (λ x. (step_tree x.0, x.1.now)) result (last_step room tokens.now) (length tokens.now + 1) }
 {
     if at_sign(Sign::RightParenthesis, tokens) {
         return Ok((ForStep::Nothing, tokens));
@@ -208,8 +199,7 @@ fn last<'a>(alloc: Global, tokens: &'a [Token], room: u8) -> Read<'a, ForStep>
 #[tactic(auto, unfolding(crate::specs::Steps::start_part))]
 fn start_part<'a>(alloc: Global, tokens: &'a [Token], room: u8) -> Read<'a, ForStart>
     requires { 1 ≤ room }
-    ensures step { Gives (λ x. (start_tree x.0, x.1.now)) result (start_part room tokens.now) }
-    ensures shorter { IfOk result (λ x. length x.1.now < length tokens.now) }
+    ensures { Takes (λ x. (start_tree x.0, x.1.now)) result (start_part room tokens.now) (length tokens.now) }
 {
     let (_, rest) = expect(Sign::LeftParenthesis, tokens)?;
     let (found, rest) = start(alloc, rest, room)?;
@@ -219,8 +209,7 @@ fn start_part<'a>(alloc: Global, tokens: &'a [Token], room: u8) -> Read<'a, ForS
 /// The third part of a `for`, with the parenthesis behind it.
 #[tactic(auto, unfolding(crate::specs::Steps::last_part))]
 fn last_part<'a>(alloc: Global, tokens: &'a [Token], room: u8) -> Read<'a, ForStep>
-    ensures step { Gives (λ x. (step_tree x.0, x.1.now)) result (last_part room tokens.now) }
-    ensures shorter { IfOk result (λ x. length x.1.now < length tokens.now) }
+    ensures { Takes (λ x. (step_tree x.0, x.1.now)) result (last_part room tokens.now) (length tokens.now) }
 {
     let (found, rest) = last(alloc, tokens, room)?;
     closed(found, expect(Sign::RightParenthesis, rest))
@@ -260,8 +249,7 @@ impl Heading {
 #[tactic(auto, unfolding(crate::specs::Steps::heading))]
 pub fn for_heading<'a>(alloc: Global, tokens: &'a [Token], room: u8) -> Read<'a, Heading>
     requires { 1 ≤ room }
-    ensures step { Gives (λ x. (heading_parts x.0, x.1.now)) result (heading room tokens.now) }
-    ensures shorter { IfOk result (λ x. length x.1.now < length tokens.now) }
+    ensures { Takes (λ x. (heading_parts x.0, x.1.now)) result (heading room tokens.now) (length tokens.now) }
 {
     let (start, rest) = start_part(alloc, tokens, room)?;
     let (test, rest) = optional_part(alloc, rest, room)?;

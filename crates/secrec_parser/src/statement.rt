@@ -1,9 +1,9 @@
 // Statements.
 
-ghost use Rattle.std.specs.Prelude.{◌≡◌, ◌-◌, ◌<◌, ◌≤◌, true, length, map, IfOk};
+ghost use Rattle.std.specs.Prelude.{◌≡◌, ◌+◌, ◌-◌, ◌≤◌, true, length, map};
 ghost use Rattle.secrec_ast.specs.Statements.{statement};
 ghost use Rattle.secrec_parser.specs.Steps.{braced, do_step, for_step, if_step, least, led, statement_at_most, while_step};
-ghost use Rattle.expression_parser.specs.Given.{Gives};
+ghost use Rattle.secrec_parser.specs.Given.{Takes};
 
 use crate::declaration::parenthesised;
 use crate::leader::{Leader, leader_of};
@@ -20,8 +20,7 @@ use std::alloc::Global;
 /// A statement of at most this height, inside a loop or not.
 #[cycle(statements)]
 fn statement<'a>(alloc: Global, tokens: &'a [Token], room: u8, inside: bool) -> Read<'a, Statement>
-    ensures step { Gives (λ x. (statement x.0, x.1.now)) result (statement_at_most room inside tokens.now) }
-    ensures shorter { IfOk result (λ x. length x.1.now < length tokens.now) }
+    ensures { Takes (λ x. (statement x.0, x.1.now)) result (statement_at_most room inside tokens.now) (length tokens.now) }
 {
     let Some((token, rest)) = tokens.split_first() else {
         return Err(Stopped::At(Problem::Unexpected, tokens));
@@ -50,8 +49,7 @@ fn led<'a>(
     inside: bool,
 ) -> Read<'a, Statement>
     requires { least leader ≤ room }
-    ensures step { Gives (λ x. (statement x.0, x.1.now)) result (led leader room (statement_at_most (room - 1)) inside place tokens.now) }
-    ensures shorter { IfOk result (λ x. length x.1.now ≤ length tokens.now) }
+    ensures { Takes (λ x. (statement x.0, x.1.now)) result (led leader room (statement_at_most (room - 1)) inside place tokens.now) (length tokens.now + 1) }
 {
     match leader {
         Leader::Block => {
@@ -74,8 +72,7 @@ pub fn braced<'a>(
     room: u8,
     inside: bool,
 ) -> Read<'a, Vec<Statement>>
-    ensures step { Gives (λ x. (map statement x.0.items, x.1.now)) result (braced (statement_at_most room inside) tokens.now) }
-    ensures shorter { IfOk result (λ x. length x.1.now < length tokens.now) }
+    ensures { Takes (λ x. (map statement x.0.items, x.1.now)) result (braced (statement_at_most room inside) tokens.now) (length tokens.now) }
 {
     let mut found = Vec::new(alloc);
     let mut rest = tokens;
@@ -96,8 +93,7 @@ fn if_statement<'a>(
     room: u8,
     inside: bool,
 ) -> Read<'a, Statement>
-    ensures step { Gives (λ x. (statement x.0, x.1.now)) result (if_step room (statement_at_most room inside) place tokens.now) }
-    ensures shorter { IfOk result (λ x. length x.1.now < length tokens.now) }
+    ensures { Takes (λ x. (statement x.0, x.1.now)) result (if_step room (statement_at_most room inside) place tokens.now) (length tokens.now) }
 {
     let (test, rest) = parenthesised(alloc, tokens, room)?;
     let first = statement(alloc, rest, room, inside);
@@ -119,8 +115,7 @@ fn while_statement<'a>(
     tokens: &'a [Token],
     room: u8,
 ) -> Read<'a, Statement>
-    ensures step { Gives (λ x. (statement x.0, x.1.now)) result (while_step room (statement_at_most room true) place tokens.now) }
-    ensures shorter { IfOk result (λ x. length x.1.now < length tokens.now) }
+    ensures { Takes (λ x. (statement x.0, x.1.now)) result (while_step room (statement_at_most room true) place tokens.now) (length tokens.now) }
 {
     let (test, rest) = parenthesised(alloc, tokens, room)?;
     let body = statement(alloc, rest, room, true);
@@ -136,8 +131,7 @@ fn do_statement<'a>(
     tokens: &'a [Token],
     room: u8,
 ) -> Read<'a, Statement>
-    ensures step { Gives (λ x. (statement x.0, x.1.now)) result (do_step room (statement_at_most room true) place tokens.now) }
-    ensures shorter { IfOk result (λ x. length x.1.now < length tokens.now) }
+    ensures { Takes (λ x. (statement x.0, x.1.now)) result (do_step room (statement_at_most room true) place tokens.now) (length tokens.now) }
 {
     let body = statement(alloc, tokens, room, true);
     let (body, rest) = boxed(alloc, body)?;
@@ -153,8 +147,7 @@ fn for_statement<'a>(
     room: u8,
 ) -> Read<'a, Statement>
     requires { 1 ≤ room }
-    ensures step { Gives (λ x. (statement x.0, x.1.now)) result (for_step room (statement_at_most room true) place tokens.now) }
-    ensures shorter { IfOk result (λ x. length x.1.now < length tokens.now) }
+    ensures { Takes (λ x. (statement x.0, x.1.now)) result (for_step room (statement_at_most room true) place tokens.now) (length tokens.now) }
 {
     let (heading, rest) = for_heading(alloc, tokens, room)?;
     let body = statement(alloc, rest, room, true);
