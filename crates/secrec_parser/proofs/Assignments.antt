@@ -1,6 +1,6 @@
 -- Readings of assignments, and of what may be one or an expression.
-use Rattle.std.proofs.Common.{◌≡◌, ℕ, zero, suc, ◌+◌, ◌-◌, ◌<◌, ◌≤◌, List, [], ◌∷◌, ◌++◌, ◌⊎◌, inl, inr, refl, sym, ap, ◌∙◌, subst, append_assoc, append-nil, Result, Ok, Err, Bool, true, false, cond, Option, Some, None, arith}
-use Rattle.std.specs.Prelude.{nat_eq, nat_lt, max}
+use Rattle.std.proofs.Common.{◌≡◌, ℕ, suc, ◌+◌, ◌-◌, ◌≤◌, List, [], ◌∷◌, ◌++◌, inl, inr, refl, sym, ap, ◌∙◌, subst, append_assoc, append-nil, Ok, Err, Bool, true, false, cond, Option, Some, None, arith}
+use Rattle.std.specs.Prelude.{nat_lt, max}
 use Rattle.std.proofs.lemmas.Bool.{ltb-true, ltb-false}
 use Rattle.sc_text.specs.declared.span.Span.{Span}
 use Rattle.secrec_lexer.specs.declared.sign.Sign.{Sign}
@@ -8,22 +8,21 @@ use Rattle.secrec_lexer.specs.declared.sign.Sign.TheVariants as signs
 use Rattle.secrec_lexer.specs.declared.token.Kind.{Kind}
 use Rattle.secrec_lexer.specs.declared.token.Kind.TheVariants as kinds
 use Rattle.secrec_lexer.specs.declared.token.Token.{Token}
-use Rattle.secrec_lexer.specs.Tokens.{is_sign, is_end, IsEnded}
+use Rattle.secrec_lexer.specs.Tokens.{is_sign, IsEnded}
 use Rattle.secrec_ast.specs.declared.expression.Operator.{Operator}
 use Rattle.secrec_ast.specs.declared.expression.Operator.TheVariants as operators
 use Rattle.secrec_ast.specs.declared.statement.Identifier.{Identifier}
-use Rattle.secrec_ast.specs.Tree.{Tree, number, truth, variable, call, index, parentheses, negation, cast, binary, declassify, argument, publish}
+use Rattle.secrec_ast.specs.Tree.{Tree, number, variable, index}
 use Rattle.secrec_ast.specs.Statements.{TargetTree, AssignmentTree, target_of}
-use Rattle.secrec_ast.specs.Heights.{height, optional_height, target_height, assignment_height, place_of}
-use Rattle.expression_parser.specs.declared.problem.Problem.{Problem}
-use Rattle.expression_parser.specs.declared.problem.Problem.TheVariants.{Unexpected, TooHigh}
-use Rattle.expression_parser.specs.Phrases.{Phrase, token, nothing, one_at, one, sign_at, sign, ◌then◌}
-use Rattle.expression_parser.specs.Grammar.{IsExpression, IsPrimary, loosest, unary}
+use Rattle.secrec_ast.specs.Heights.{height, optional_height, target_height, assignment_height}
+use Rattle.expression_parser.specs.declared.problem.Problem.TheVariants.{TooHigh}
+use Rattle.expression_parser.specs.Phrases.{Phrase, token, nothing, one_at, sign, ◌then◌}
+use Rattle.expression_parser.specs.Grammar.{IsExpression, loosest}
 use Rattle.expression_parser.specs.Follow.{goes_on, Free}
 use Rattle.expression_parser.specs.Steps.{Outcome, ◌>>=◌, expect}
 use Rattle.expression_parser.specs.Steps as expressions
-use Rattle.expression_parser.proofs.Reading.{Good, Bad, Reads, Stops, Then, cons_head, reads_as, bind_reads}
-use Rattle.expression_parser.proofs.Tokens.{Any, All, origin, any_stops, ended_cons, good_ended, after_kind, head_kind, is_sign-true, is_sign-false}
+use Rattle.expression_parser.proofs.Reading.{Good, Reads, Stops, Then, cons_head, reads_as, bind_reads}
+use Rattle.expression_parser.proofs.Tokens.{Any, All, origin, any_stops, good_ended, after_kind, is_sign-true, is_sign-false}
 use Rattle.expression_parser.proofs.Nodes.{Low, tall, leaf, leaf_token}
 use Rattle.secrec_parser.specs.declared.assignment.Update.{Update}
 use Rattle.secrec_parser.specs.declared.assignment.Update.TheVariants as updates
@@ -35,8 +34,8 @@ use Rattle.secrec_parser.proofs.Clashes.{none_some}
 use Rattle.secrec_parser.proofs.Targets.{target_of_height}
 use Rattle.secrec_parser.proofs.Made.{Made, Both, reads_same, seq, made, known}
 use Rattle.secrec_parser.proofs.Heads.{nothing_reads, one_reads, unexpected, too_high, some_reads, none_reads, optional_high}
-use Rattle.secrec_parser.proofs.TypeReadings.{one_is, is_one, NoBracket, lone, identifier_reads}
-use Rattle.secrec_parser.proofs.Declarations.{bind_bind, operand_reads, Before, sign_head, bracketed_reads, LowOption, clash, no_height}
+use Rattle.secrec_parser.proofs.TypeReadings.{is_one, NoBracket, lone, identifier_reads}
+use Rattle.secrec_parser.proofs.Declarations.{bind_bind, operand_reads, Before, sign_head, bracketed_reads, clash, no_height}
 
 -- Which token does what to a target
 

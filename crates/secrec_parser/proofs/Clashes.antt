@@ -1,6 +1,5 @@
 -- Constructors that clash, cited where a catch-all would search for the clash in each case that is left.
-use Rattle.std.proofs.Common.{◌≡◌, Bool, true, false, Option, Some, None}
-use Rattle.secrec_parser.specs.declared.leader.Leader.{Leader}
+use Rattle.std.proofs.Common.{◌≡◌, true, false, Some, None}
 use Rattle.secrec_parser.specs.declared.leader.Leader.TheVariants as leaders
 
 pub none_some : {A : Type 0} (a : A) → None ≡ Some a → ⊥

@@ -1,6 +1,6 @@
 -- Readings of the parentheses of a `for`, and of what may be left out before a semicolon.
-use Rattle.std.proofs.Common.{◌≡◌, ℕ, zero, suc, ◌+◌, ◌-◌, ◌<◌, ◌≤◌, List, [], ◌∷◌, ◌++◌, ◌⊎◌, inl, inr, refl, sym, ap, ◌∙◌, subst, append_assoc, append-nil, Result, Ok, Err, Bool, true, false, cond, Option, Some, None, arith}
-use Rattle.std.specs.Prelude.{nat_eq, nat_lt, max}
+use Rattle.std.proofs.Common.{◌≡◌, ℕ, suc, ◌-◌, ◌≤◌, List, [], ◌∷◌, ◌++◌, ◌⊎◌, inl, inr, refl, sym, ap, ◌∙◌, subst, append_assoc, Ok, Err, Bool, true, false, cond, Option, Some, None, arith}
+use Rattle.std.specs.Prelude.{nat_lt, max}
 use Rattle.std.proofs.lemmas.Bool.{ltb-true, ltb-false}
 use Rattle.sc_text.specs.declared.span.Span.{Span}
 use Rattle.secrec_lexer.specs.declared.sign.Sign.{Sign}
@@ -8,28 +8,27 @@ use Rattle.secrec_lexer.specs.declared.sign.Sign.TheVariants as signs
 use Rattle.secrec_lexer.specs.declared.token.Kind.{Kind}
 use Rattle.secrec_lexer.specs.declared.token.Kind.TheVariants as kinds
 use Rattle.secrec_lexer.specs.declared.token.Token.{Token}
-use Rattle.secrec_lexer.specs.Tokens.{is_sign, is_end, IsEnded}
+use Rattle.secrec_lexer.specs.Tokens.{is_sign, IsEnded}
 use Rattle.secrec_ast.specs.declared.expression.DataType.TheVariants as types
 use Rattle.secrec_ast.specs.declared.statement.Identifier.{Identifier}
 use Rattle.secrec_ast.specs.declared.statement.Domain.TheVariants as domains
 use Rattle.secrec_ast.specs.declared.statement.DeclaredType.{DeclaredType}
 use Rattle.secrec_ast.specs.Tree.{Tree}
 use Rattle.secrec_ast.specs.Statements.{DeclarationTree, TargetTree, AssignmentTree, StartTree, starts_with_nothing, starts_with_declaration, starts_with_assignment, StepTree, steps_by_nothing, steps_by_assignment, steps_by_expression}
-use Rattle.secrec_ast.specs.Heights.{height, optional_height, declaration_height, target_height, assignment_height, start_height, step_height}
-use Rattle.expression_parser.specs.declared.problem.Problem.{Problem}
+use Rattle.secrec_ast.specs.Heights.{optional_height, assignment_height, start_height, step_height}
 use Rattle.expression_parser.specs.declared.problem.Problem.TheVariants.{Unexpected, TooHigh}
-use Rattle.expression_parser.specs.Phrases.{Phrase, token, nothing, one_at, one, sign_at, sign, ◌then◌}
-use Rattle.expression_parser.specs.Grammar.{IsDataType, IsExpression, loosest}
-use Rattle.expression_parser.specs.Follow.{goes_on, Free}
+use Rattle.expression_parser.specs.Phrases.{Phrase, token, one, sign, ◌then◌}
+use Rattle.expression_parser.specs.Grammar.{IsExpression, loosest}
+use Rattle.expression_parser.specs.Follow.{Free}
 use Rattle.expression_parser.specs.Steps.{Outcome, ◌>>=◌, expect}
 use Rattle.expression_parser.specs.Steps as expressions
-use Rattle.expression_parser.proofs.Reading.{Good, Bad, Reads, Stops, cons_head, reads_as}
+use Rattle.expression_parser.proofs.Reading.{Bad, Reads, Stops, reads_as}
 use Rattle.expression_parser.proofs.Peek.{reads_peek}
-use Rattle.expression_parser.proofs.Tokens.{Any, All, origin, any_stops, ended_cons, good_ended, after_kind, head_kind, is_sign-true, is_sign-false}
+use Rattle.expression_parser.proofs.Tokens.{Any, origin, any_stops, good_ended, after_kind, head_kind, is_sign-true, is_sign-false}
 use Rattle.expression_parser.proofs.Nodes.{Low, tall, leaf, leaf_token, first_token}
 use Rattle.secrec_parser.specs.declared.assignment.Update.{Update}
 use Rattle.secrec_parser.specs.declared.assignment.Update.TheVariants as updates
-use Rattle.secrec_parser.specs.Grammar.{identifier, bracketed, optional, IsDomain, IsType, IsDeclaration, IsAssignment, IsStart, IsStep, heading}
+use Rattle.secrec_parser.specs.Grammar.{identifier, optional, IsDeclaration, IsAssignment, IsStart, IsStep, heading}
 use Rattle.secrec_parser.specs.Steps.{operand, optional_operand, is_type, is_named_type, declares, update_of, declaration_step, assignment_step, target_index, assigned, assigned_by, ActionTree, assigns, evaluates, action, start_step, step_of, last_step, start_part, test_part, last_part}
 use Rattle.secrec_parser.specs.Steps as steps
 use Rattle.secrec_parser.proofs.Clashes.{false_true}

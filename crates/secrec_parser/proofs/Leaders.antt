@@ -1,30 +1,26 @@
 -- What the first token tells of a statement.
-use Rattle.std.proofs.Common.{◌≡◌, ℕ, zero, suc, ◌+◌, ◌<◌, ◌≤◌, List, [], ◌∷◌, ◌++◌, ◌⊎◌, inl, inr, refl, sym, ap, ◌∙◌, subst, append_assoc, Bool, true, false, cond, Option, Some, None, arith}
-use Rattle.std.specs.Prelude.{max}
+use Rattle.std.proofs.Common.{◌≡◌, ℕ, zero, suc, ◌≤◌, List, [], ◌∷◌, ◌++◌, inl, inr, refl, sym, ap, ◌∙◌, subst, append_assoc, Bool, true, false, Option, Some, None, arith}
 use Rattle.sc_text.specs.declared.span.Span.{Span}
 use Rattle.secrec_lexer.specs.declared.sign.Sign.{Sign}
 use Rattle.secrec_lexer.specs.declared.sign.Sign.TheVariants as signs
 use Rattle.secrec_lexer.specs.declared.token.Kind.{Kind}
 use Rattle.secrec_lexer.specs.declared.token.Kind.TheVariants as kinds
 use Rattle.secrec_lexer.specs.declared.token.Token.{Token}
-use Rattle.secrec_lexer.specs.Tokens.{is_sign}
 use Rattle.secrec_ast.specs.declared.expression.DataType.{DataType}
 use Rattle.secrec_ast.specs.declared.expression.DataType.TheVariants as types
 use Rattle.secrec_ast.specs.declared.statement.Domain.{Domain}
 use Rattle.secrec_ast.specs.declared.statement.Domain.TheVariants as domains
 use Rattle.secrec_ast.specs.declared.statement.DeclaredType.{DeclaredType}
-use Rattle.secrec_ast.specs.Tree.{Tree}
-use Rattle.secrec_ast.specs.Statements.{StatementTree, StatementTrees, block, empty, branch, choice, while_loop, do_loop, for_loop, breaks, continues, returns, assertion, declaration, assignment, evaluation}
-use Rattle.secrec_ast.specs.Heights.{height, statement_height}
-use Rattle.expression_parser.specs.Phrases.{Phrase, token, nothing, one_at, one, sign_at, sign, ◌then◌}
-use Rattle.expression_parser.specs.Grammar.{IsDataType, IsExpression, loosest}
+use Rattle.secrec_ast.specs.Statements.{StatementTree, block, empty, branch, choice, while_loop, do_loop, for_loop, breaks, continues, returns, assertion, declaration, assignment, evaluation}
+use Rattle.secrec_ast.specs.Heights.{statement_height}
+use Rattle.expression_parser.specs.Phrases.{Phrase, token, sign_at, ◌then◌}
+use Rattle.expression_parser.specs.Grammar.{IsDataType, loosest}
 use Rattle.expression_parser.specs.Steps as expressions
-use Rattle.expression_parser.proofs.Reading.{cons_head}
 use Rattle.expression_parser.proofs.Tokens.{head_kind}
 use Rattle.expression_parser.proofs.Nodes.{tall, begins}
 use Rattle.secrec_parser.specs.declared.leader.Leader.{Leader}
 use Rattle.secrec_parser.specs.declared.leader.Leader.TheVariants as leaders
-use Rattle.secrec_parser.specs.Grammar.{IsDomain, IsType, IsStatement, Closed}
+use Rattle.secrec_parser.specs.Grammar.{IsDomain, IsType, IsStatement}
 use Rattle.secrec_parser.specs.Steps.{leader_of, least}
 use Rattle.secrec_parser.proofs.Clashes.{none_some, false_true}
 

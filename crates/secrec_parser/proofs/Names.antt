@@ -1,12 +1,11 @@
 -- The second token of what begins with a name.
-use Rattle.std.proofs.Common.{◌≡◌, ℕ, List, [], ◌∷◌, ◌++◌, ◌⊎◌, inl, inr, refl, sym, ap, ◌∙◌, subst, append_assoc, append-nil, Bool, true, false, Option, Some, None}
+use Rattle.std.proofs.Common.{◌≡◌, ℕ, List, [], ◌∷◌, ◌++◌, ◌⊎◌, inl, inr, refl, sym, ap, ◌∙◌, true, false, Option, Some, None}
 use Rattle.sc_text.specs.declared.span.Span.{Span}
 use Rattle.secrec_lexer.specs.declared.sign.Sign.{Sign}
 use Rattle.secrec_lexer.specs.declared.sign.Sign.TheVariants as signs
 use Rattle.secrec_lexer.specs.declared.token.Kind.{Kind}
 use Rattle.secrec_lexer.specs.declared.token.Kind.TheVariants as kinds
 use Rattle.secrec_lexer.specs.declared.token.Token.{Token}
-use Rattle.secrec_lexer.specs.Tokens.{is_sign}
 use Rattle.secrec_ast.specs.declared.expression.DataType.{DataType}
 use Rattle.secrec_ast.specs.declared.expression.DataType.TheVariants as types
 use Rattle.secrec_ast.specs.declared.expression.Operator.{Operator}
@@ -17,14 +16,13 @@ use Rattle.secrec_ast.specs.declared.statement.DeclaredType.{DeclaredType}
 use Rattle.secrec_ast.specs.Tree.{Tree, number, truth, variable, call, index, parentheses, negation, cast, binary, declassify, argument, publish}
 use Rattle.secrec_ast.specs.Statements.{DeclarationTree, AssignmentTree}
 use Rattle.expression_parser.specs.declared.problem.Problem.{Problem}
-use Rattle.expression_parser.specs.Phrases.{Phrase, token, nothing, one_at, one, sign_at, sign, ◌then◌}
+use Rattle.expression_parser.specs.Phrases.{Phrase, token, sign, ◌then◌}
 use Rattle.expression_parser.specs.Grammar.{IsDataType, IsExpression, level, sign_of, loosest, unary}
-use Rattle.expression_parser.specs.Follow.{goes_on, Free}
-use Rattle.expression_parser.specs.Steps.{Outcome}
+use Rattle.expression_parser.specs.Follow.{goes_on}
 use Rattle.expression_parser.proofs.Reading.{Bad, Stops, Allowed, Begun, cons_head, cons_tail}
 use Rattle.expression_parser.proofs.Tokens.{head_kind}
 use Rattle.secrec_parser.specs.declared.assignment.Update.{Update}
-use Rattle.secrec_parser.specs.Grammar.{identifier, bracketed, optional, IsDomain, IsDimension, IsType, IsDeclaration, IsAssignment}
+use Rattle.secrec_parser.specs.Grammar.{bracketed, optional, IsDomain, IsDimension, IsType, IsDeclaration, IsAssignment}
 use Rattle.secrec_parser.specs.Steps.{is_type, update_of, follows_name, ActionTree, assigns, evaluates}
 use Rattle.secrec_parser.proofs.Clashes.{none_some, false_true}
 use Rattle.secrec_parser.proofs.Declarations.{clash, sign_head}

@@ -1,5 +1,5 @@
 -- Readings of all statements of a height, from those of a smaller one.
-use Rattle.std.proofs.Common.{◌≡◌, ℕ, zero, suc, ◌+◌, ◌-◌, ◌<◌, ◌≤◌, List, [], ◌∷◌, ◌++◌, ◌⊎◌, inl, inr, refl, sym, ap, ◌∙◌, subst, Result, Ok, Err, Bool, true, false, cond, Option, Some, None, arith}
+use Rattle.std.proofs.Common.{◌≡◌, ℕ, zero, suc, ◌-◌, ◌<◌, ◌≤◌, List, [], ◌∷◌, refl, sym, ap, ◌∙◌, subst, Ok, Err, Bool, true, false, cond, Some, arith}
 use Rattle.std.specs.Prelude.{nat_lt}
 use Rattle.std.proofs.lemmas.Bool.{ltb-true, ltb-false}
 use Rattle.sc_text.specs.declared.span.Span.{Span}
@@ -9,12 +9,11 @@ use Rattle.secrec_lexer.specs.declared.token.Kind.TheVariants as kinds
 use Rattle.secrec_lexer.specs.declared.token.Token.{Token}
 use Rattle.secrec_lexer.specs.Tokens.{is_sign, IsEnded}
 use Rattle.secrec_ast.specs.Tree.{Tree}
-use Rattle.secrec_ast.specs.Statements.{StatementTree, block, empty, branch, choice, while_loop, do_loop, for_loop, breaks, continues, returns, assertion, declaration, assignment, evaluation}
-use Rattle.secrec_ast.specs.Heights.{statement_height}
+use Rattle.secrec_ast.specs.Statements.{StatementTree, branch, choice, while_loop, for_loop}
 use Rattle.expression_parser.specs.declared.problem.Problem.TheVariants.{Unexpected, TooHigh}
 use Rattle.expression_parser.specs.Phrases.{Phrase}
 use Rattle.expression_parser.specs.Steps.{Outcome, ◌>>=◌, expect}
-use Rattle.expression_parser.proofs.Reading.{Good, Bad, Reads, Stops, cons_head}
+use Rattle.expression_parser.proofs.Reading.{Good, Bad, Reads, Stops}
 use Rattle.expression_parser.proofs.Tokens.{Any, good_ended, after_kind, is_sign-true, is_sign-false}
 use Rattle.expression_parser.proofs.Nodes.{Low}
 use Rattle.secrec_parser.specs.declared.leader.Leader.{Leader}

@@ -1,5 +1,5 @@
 -- What statements begin with, and some statement that begins with each such token.
-use Rattle.std.proofs.Common.{◌≡◌, ℕ, ◌≤◌, List, [], ◌∷◌, ◌++◌, ◌⊎◌, inl, inr, refl, sym, ap, ◌∙◌, subst, append_assoc, Bool, true, false, Option, Some, None}
+use Rattle.std.proofs.Common.{◌≡◌, ℕ, List, [], ◌∷◌, ◌++◌, inl, inr, refl, sym, ap, Bool, true, false, Some, None}
 use Rattle.sc_text.specs.declared.span.Span.{Span}
 use Rattle.secrec_lexer.specs.declared.sign.Sign.{Sign}
 use Rattle.secrec_lexer.specs.declared.sign.Sign.TheVariants as signs
@@ -9,17 +9,17 @@ use Rattle.secrec_lexer.specs.declared.token.Token.{Token}
 use Rattle.secrec_ast.specs.declared.expression.DataType.TheVariants as types
 use Rattle.secrec_ast.specs.declared.statement.Domain.TheVariants as domains
 use Rattle.secrec_ast.specs.declared.statement.DeclaredType.{DeclaredType}
-use Rattle.secrec_ast.specs.Tree.{Tree, variable}
+use Rattle.secrec_ast.specs.Tree.{variable}
 use Rattle.secrec_ast.specs.Statements.{DeclarationTree, StatementTree, StatementTrees, starts_with_nothing, steps_by_nothing, block, empty, branch, choice, while_loop, do_loop, for_loop, breaks, continues, returns, assertion, declaration, assignment, evaluation}
 use Rattle.secrec_ast.specs.Statements as statements
-use Rattle.expression_parser.specs.Phrases.{Phrase, token, one_at, one, sign_at, sign, ◌then◌}
-use Rattle.expression_parser.specs.Grammar.{IsExpression, loosest}
+use Rattle.expression_parser.specs.Phrases.{token, sign_at}
+use Rattle.expression_parser.specs.Grammar.{loosest}
 use Rattle.expression_parser.specs.Steps as expressions
 use Rattle.expression_parser.proofs.Tokens.{origin, head_kind}
 use Rattle.expression_parser.proofs.Nodes.{leaf, leaf_token, first_token}
 use Rattle.secrec_parser.specs.declared.leader.Leader.{Leader}
 use Rattle.secrec_parser.specs.declared.leader.Leader.TheVariants as leaders
-use Rattle.secrec_parser.specs.Grammar.{parenthesised, IsDeclaration, heading, IsStatement}
+use Rattle.secrec_parser.specs.Grammar.{parenthesised, heading, IsStatement}
 use Rattle.secrec_parser.specs.Steps.{leader_of}
 use Rattle.secrec_parser.proofs.Clashes.{none_some, false_true, no_break, no_continue}
 use Rattle.secrec_parser.proofs.TypeReadings.{lone}
@@ -289,11 +289,20 @@ module _ (inside : Bool) (x : Token) where
     (x ∷ [], heads ++ lone signs.Semicolon, refl, here signs.For (leads inside x leaders.For signs.For e refl), (heads, lone signs.Semicolon, refl, are_heads, refl)),
   )
   sample leaders.Break e other =
-      let k = leads inside x leaders.Break signs.Break e refl in
-      (breaks x.place, lone signs.Semicolon, (leads_inside inside x signs.Break leaders.Break k e no_break, (x ∷ [], lone signs.Semicolon, refl, here signs.Break k, (origin, refl))))
+      let k = leads inside x leaders.Break signs.Break e refl in (
+        breaks x.place,
+        lone signs.Semicolon,
+        (leads_inside inside x signs.Break leaders.Break k e no_break, (x ∷ [], lone signs.Semicolon, refl, here signs.Break k, (origin, refl))),
+      )
   sample leaders.Continue e other =
-      let k = leads inside x leaders.Continue signs.Continue e refl in
-      (continues x.place, lone signs.Semicolon, (leads_inside inside x signs.Continue leaders.Continue k e no_continue, (x ∷ [], lone signs.Semicolon, refl, here signs.Continue k, (origin, refl))))
+      let k = leads inside x leaders.Continue signs.Continue e refl in (
+        continues x.place,
+        lone signs.Semicolon,
+        (
+          leads_inside inside x signs.Continue leaders.Continue k e no_continue,
+          (x ∷ [], lone signs.Semicolon, refl, here signs.Continue k, (origin, refl)),
+        ),
+      )
   sample leaders.Return e other =
       (returns x.place None, lone signs.Semicolon, (x ∷ [], lone signs.Semicolon, refl, here signs.Return (leads inside x leaders.Return signs.Return e refl), ([], lone signs.Semicolon, refl, refl, (origin, refl))))
   sample leaders.Assert e other =

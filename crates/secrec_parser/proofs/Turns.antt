@@ -1,5 +1,5 @@
 -- The steps, as the code comes to them.
-use Rattle.std.proofs.Common.{Bor, ◌≡◌, subst, ℕ, zero, suc, ◌+◌, ◌-◌, ◌<◌, ◌≤◌, Bool, true, false, cond, Option, Some, None, List, [], ◌∷◌, ◌++◌, refl, sym, ap, ◌∙◌, Result, Ok, Err, length, arith}
+use Rattle.std.proofs.Common.{Bor, ◌≡◌, subst, ℕ, zero, suc, ◌-◌, ◌<◌, ◌≤◌, Bool, true, false, cond, Option, Some, None, List, [], ◌∷◌, ◌++◌, refl, sym, ap, ◌∙◌, Result, Ok, Err, length, arith}
 use Rattle.std.specs.Prelude.{◌&&◌, not, nat_lt, IfOk}
 use Rattle.std.proofs.lemmas.Bool.{ltb-false, lt-ltb, le-ltb}
 use Rattle.secrec_lexer.specs.declared.token.Token.{Token}
@@ -135,7 +135,8 @@ module _ (room : ℕ) (t : TargetTree) (w : List Token) (x : Token) (m : List To
         (ap (λ h. nat_lt room (least_height h u)) (sym high) ∙ le-ltb room (least_height h u) le)
 
 -- an `if` whose test and body were read
-module _ (h : ℕ) (inner : Inner) (p : Span) (w : List Token) (e : Tree) (r : List Token) (s : StatementTree) (r2 : List Token) (tested : parenthesised h w ≡ Ok (e, r)) (held : inner r ≡ Ok (s, r2)) where
+module _ (h : ℕ) (inner : Inner) (p : Span) (w : List Token) (e : Tree) (r : List Token) (s : StatementTree) (r2 : List Token)
+    (tested : parenthesised h w ≡ Ok (e, r)) (held : inner r ≡ Ok (s, r2)) where
   if_at : if_step h inner p w ≡ else_step inner p e s r2
   unfolding if_step
   if_at =
@@ -145,7 +146,8 @@ module _ (h : ℕ) (inner : Inner) (p : Span) (w : List Token) (e : Tree) (r : L
   pub if_alone : at_sign signs.Else r2 ≡ false → if_step h inner p w ≡ Ok (branch p e s, r2)
   if_alone f = if_at ∙ ap (λ b. cond b (expect signs.Else r2 >>= λ a. inner a.1 >>= λ t. Ok (choice p e s t.0, t.1)) (Ok (branch p e s, r2))) f
 
-  pub if_chosen : (q : Span) (r3 : List Token) (t : StatementTree) (r4 : List Token) → at_sign signs.Else r2 ≡ true → expect signs.Else r2 ≡ Ok (q, r3) → inner r3 ≡ Ok (t, r4) → if_step h inner p w ≡ Ok (choice p e s t, r4)
+  pub if_chosen : (q : Span) (r3 : List Token) (t : StatementTree) (r4 : List Token) → at_sign signs.Else r2 ≡ true → expect signs.Else r2 ≡ Ok
+      (q, r3) → inner r3 ≡ Ok (t, r4) → if_step h inner p w ≡ Ok (choice p e s t, r4)
   if_chosen q r3 t r4 f g k =
       if_at
       ∙ ap (λ b. cond b (expect signs.Else r2 >>= λ a. inner a.1 >>= λ t. Ok (choice p e s t.0, t.1)) (Ok (branch p e s, r2))) f
@@ -153,16 +155,22 @@ module _ (h : ℕ) (inner : Inner) (p : Span) (w : List Token) (e : Tree) (r : L
       ∙ ap (λ o. o >>= λ t. Ok (choice p e s t.0, t.1)) k
 
 -- what stopped one step stops another that begins with it
-pub passes : {Y Z : Type 0} (s : Stopped) (o : Outcome Y) (u : Outcome Z) (k n : ℕ) → ((p : Problem) (r : List Token) → o ≡ Err (p, r) → u ≡ Err (p, r)) → Takes {X = Y × List Token} (λ v. v) (Err s) o k → Takes {X = Z × List Token} (λ v. v) (Err s) u n
+pub passes : {Y Z : Type 0} (s : Stopped) (o : Outcome Y) (u : Outcome Z) (k n : ℕ) →
+    ((p : Problem) (r : List Token) → o ≡ Err (p, r) → u ≡ Err (p, r)) → Takes {X = Y × List Token} (λ v. v) (Err s) o k → Takes {X = Z × List Token}
+    (λ v. v) (Err s) u n
 passes Memory o u k n f t = tt
 passes (At p r) o u k n f t = f p r.now t
 
-pub passes_on : {Y Z : Type 0} (s : Stopped) (o : Outcome Y) (u : Outcome Z) (k : ℕ) → ((p : Problem) (r : List Token) → o ≡ Err (p, r) → u ≡ Err (p, r)) → Takes {X = Y × List Token} (λ v. v) (Err s) o k → Gives {X = Z × List Token} (λ v. v) (Err s) u
+pub passes_on : {Y Z : Type 0} (s : Stopped) (o : Outcome Y) (u : Outcome Z) (k : ℕ) →
+    ((p : Problem) (r : List Token) → o ≡ Err (p, r) → u ≡ Err (p, r)) → Takes {X = Y × List Token} (λ v. v) (Err s) o k → Gives {X = Z × List Token}
+    (λ v. v) (Err s) u
 passes_on Memory o u k f t = tt
 passes_on (At p r) o u k f t = f p r.now t
 
 -- what was found stays, where what closes it stands behind it
-pub closed_takes : {A B Y Z : Type 0} (found : A) (close : Result (B × Bor (List Token)) Stopped) (r : Result (A × Bor (List Token)) Stopped) (view : A → Y) (seen : B → Z) (o : Outcome Z) (k n : ℕ) → k ≤ n → Closed found close r → Gives (λ x. (seen x.0, x.1.now)) close o → IfOk close (λ x. length x.1.now < k) → Takes (λ x. (view x.0, x.1.now)) r (o >>= λ b. Ok (view found, b.1)) n
+pub closed_takes : {A B Y Z : Type 0} (found : A) (close : Result (B × Bor (List Token)) Stopped) (r : Result (A × Bor (List Token)) Stopped)
+    (view : A → Y) (seen : B → Z) (o : Outcome Z) (k n : ℕ) → k ≤ n → Closed found close r → Gives (λ x. (seen x.0, x.1.now)) close o → IfOk close
+    (λ x. length x.1.now < k) → Takes (λ x. (view x.0, x.1.now)) r (o >>= λ b. Ok (view found, b.1)) n
 closed_takes found close (Ok x) view seen o k n le c g l =
     let shorter : length x.1.now < k = subst (λ z. IfOk z (λ x. length x.1.now < k)) c.1.1 l in (
       ap (λ o. o >>= λ b. Ok (view found, b.1)) (subst (λ z. Gives (λ x. (seen x.0, x.1.now)) z o) c.1.1 g)
@@ -174,11 +182,14 @@ closed_takes found close (Err (At p r)) view seen o k n le c g l =
     ap (λ o. o >>= λ b. Ok (view found, b.1)) (subst (λ z. Gives (λ x. (seen x.0, x.1.now)) z o) c g)
 
 -- what is known of it where it was read
-pub taken : {B Y : Type 0} (view : B → Y) (r : Result (B × Bor (List Token)) Stopped) (o : Outcome Y) (n : ℕ) (x : B × Bor (List Token)) → r ≡ Ok x → Takes (λ x. (view x.0, x.1.now)) r o n → (o ≡ Ok (view x.0, x.1.now)) × (length x.1.now < n)
+pub taken : {B Y : Type 0} (view : B → Y) (r : Result (B × Bor (List Token)) Stopped) (o : Outcome Y) (n : ℕ) (x : B × Bor (List Token)) → r ≡ Ok x →
+    Takes (λ x. (view x.0, x.1.now)) r o n → (o ≡ Ok (view x.0, x.1.now)) × (length x.1.now < n)
 taken view r o n x e t = subst (λ z. Takes (λ x. (view x.0, x.1.now)) z o n) e t
 
 -- a leader that leads a statement that holds none
-pub led_short : (l : Leader) (room : ℕ) (lower : Bool → Inner) (inside : Bool) (p : Span) (m : List Token) → (l ≡ leaders.Block → ⊥) → (l ≡ leaders.If → ⊥) → (l ≡ leaders.While → ⊥) → (l ≡ leaders.DoWhile → ⊥) → (l ≡ leaders.For → ⊥) → led l room lower inside p m ≡ short l room p m
+pub led_short : (l : Leader) (room : ℕ) (lower : Bool → Inner) (inside : Bool) (p : Span) (m : List Token) → (l ≡ leaders.Block → ⊥) →
+    (l ≡ leaders.If → ⊥) → (l ≡ leaders.While → ⊥) → (l ≡ leaders.DoWhile → ⊥) → (l ≡ leaders.For → ⊥) → led l room lower inside p m ≡ short l room p
+    m
 unfolding led
 led_short leaders.Block room lower inside p m a b c d e = absurd (a refl)
 led_short leaders.If room lower inside p m a b c d e = absurd (b refl)
@@ -208,7 +219,8 @@ pub comma_reads : {A : Type 0} (inner : List Token → Outcome A) (w r r2 : List
 comma_reads inner w r r2 q a e f = ap (λ o. o >>= λ a. inner a.1) e ∙ f
 
 -- what reads past a token reads past the tokens that it began
-pub takes_less : {B Y : Type 0} (view : B → Y) (r : Result (B × Bor (List Token)) Stopped) (o : Outcome Y) (k n : ℕ) → k ≤ n → Takes (λ x. (view x.0, x.1.now)) r o k → Takes (λ x. (view x.0, x.1.now)) r o n
+pub takes_less : {B Y : Type 0} (view : B → Y) (r : Result (B × Bor (List Token)) Stopped) (o : Outcome Y) (k n : ℕ) → k ≤ n → Takes
+    (λ x. (view x.0, x.1.now)) r o k → Takes (λ x. (view x.0, x.1.now)) r o n
 takes_less view (Ok x) o k n le t = let l = t.1 in (t.0, omega (arith, l, le))
 takes_less view (Err Memory) o k n le t = tt
 takes_less view (Err (At p r)) o k n le t = t

@@ -1,4 +1,4 @@
-use Rattle.std.proofs.Common.{◌≡◌, ◌-◌, ◌<◌, ℕ, List, [], ◌∷◌, ◌++◌, refl, sym, ap, ◌∙◌, Ok, Err, length, arith}
+use Rattle.std.proofs.Common.{◌-◌, [], ◌∷◌, sym, ap, ◌∙◌, length, arith}
 use Rattle.std.specs.Prelude.{map}
 use Rattle.std.proofs.lemmas.List.{map-append}
 use Rattle.std.proofs.lemmas.Result.{err_from_is_err_and}
@@ -15,7 +15,8 @@ returns-in_err-next c =
     let p = err_from_is_err_and c.from_residual.result c.from_residual.ensures.1 in
     record {
       step =
-          rw (p.1, p.2) (passes_on c.in_err-next.field-0.0 (item c.args.room w) (listed (λ found w. at_end w) (item c.args.room) [] c.args.tokens.now) (length w)
+          rw (p.1, p.2)
+          (passes_on c.in_err-next.field-0.0 (item c.args.room w) (listed (λ found w. at_end w) (item c.args.room) [] c.args.tokens.now) (length w)
           (λ q r e. i.2 ∙ list_fails (λ found w. at_end w) (item c.args.room) i.0 found w r q (omega (arith, i.1)) (sym c.at_end.ensures ∙ c.loop-alloc-test.true) e)
           c.in_err-next.ensures);
     }
@@ -33,7 +34,8 @@ loop-alloc-preserved c =
         i.0 - 1,
         omega (arith, l, i.1),
         i.2
-            ∙ list_goes_on (λ found w. at_end w) (item c.args.room) i.0 found w c.in_ok-next.behind.now (item_tree c.in_ok-next.next) (omega (arith, i.1)) (sym c.at_end.ensures ∙ c.loop-alloc-test.true) e.0
+            ∙ list_goes_on (λ found w. at_end w) (item c.args.room) i.0 found w c.in_ok-next.behind.now (item_tree c.in_ok-next.next)
+            (omega (arith, i.1)) (sym c.at_end.ensures ∙ c.loop-alloc-test.true) e.0
             ∙ ap (λ l. list_from (λ found w. at_end w) (item c.args.room) (i.0 - 1) l c.in_ok-next.behind.now) (sym one_more),
       );
     }

@@ -1,10 +1,10 @@
-use Rattle.std.proofs.Common.{◌≡◌, subst, ◌+◌, ◌-◌, ◌<◌, ℕ, List, [], ◌∷◌, ◌++◌, refl, sym, ap, ◌∙◌, Ok, Err, length, arith}
+use Rattle.std.proofs.Common.{subst, ◌+◌, ◌-◌, [], ◌∷◌, sym, ap, ◌∙◌, Ok, length, arith}
 use Rattle.std.specs.Prelude.{map}
 use Rattle.std.proofs.lemmas.List.{map-append}
 use Rattle.std.proofs.lemmas.Result.{err_from_is_err_and}
 use Rattle.secrec_lexer.specs.declared.sign.Sign.TheVariants as signs
 use Rattle.secrec_ast.specs.Tree.{expression}
-use Rattle.secrec_ast.specs.Statements.{branch, choice, statement}
+use Rattle.secrec_ast.specs.Statements.{statement}
 use Rattle.secrec_ast.specs.Equations.{branch_statement_is, choice_statement_is}
 use Rattle.expression_parser.specs.Steps.{◌>>=◌, expect}
 use Rattle.secrec_parser.specs.Given.{Takes}
@@ -18,7 +18,8 @@ braced-returns-in_err-next t c =
     let inner = statement_at_most c.args.room c.args.inside in
     let found = map statement c.loop-alloc.found.items in
     let p = err_from_is_err_and c.from_residual.result c.from_residual.ensures.1 in
-    rw (p.1, p.2) (passes c.in_err-next.field-0.0 (inner c.loop-alloc.rest.now) (braced inner c.args.tokens.now) (length c.loop-alloc.rest.now) (length c.args.tokens.now)
+    rw (p.1, p.2)
+    (passes c.in_err-next.field-0.0 (inner c.loop-alloc.rest.now) (braced inner c.args.tokens.now) (length c.loop-alloc.rest.now) (length c.args.tokens.now)
     (λ q r e.
     ap (λ o. o >>= λ ss. expect signs.RightBrace ss.1 >>= λ b. Ok (ss.0, b.1))
     (i.2 ∙ list_fails (λ found w. at_sign signs.RightBrace w) inner i.0 found c.loop-alloc.rest.now r q (omega (arith, i.1)) (sym c.at_sign.ensures ∙ c.loop-alloc-test.true) e))
@@ -38,7 +39,8 @@ braced-loop-alloc-preserved t c =
         i.0 - 1,
         omega (arith, l, i.1),
         i.2
-            ∙ list_goes_on (λ found w. at_sign signs.RightBrace w) inner i.0 found c.loop-alloc.rest.now c.in_ok-next.behind.now (statement c.in_ok-next.next) (omega (arith, i.1)) (sym c.at_sign.ensures ∙ c.loop-alloc-test.true) e.0
+            ∙ list_goes_on (λ found w. at_sign signs.RightBrace w) inner i.0 found c.loop-alloc.rest.now c.in_ok-next.behind.now
+            (statement c.in_ok-next.next) (omega (arith, i.1)) (sym c.at_sign.ensures ∙ c.loop-alloc-test.true) e.0
             ∙ ap (λ l. list_from (λ found w. at_sign signs.RightBrace w) inner (i.0 - 1) l c.in_ok-next.behind.now) (sym one_more),
       );
     }
@@ -49,9 +51,11 @@ braced-returns t c =
     let inner = statement_at_most c.args.room c.args.inside in
     let found = map statement c.loop-alloc.found.items in
     let w = c.loop-alloc.rest.now in
-    subst (λ o. Takes (λ x. (map statement x.0.items, x.1.now)) c.closed.result (o >>= λ ss. expect signs.RightBrace ss.1 >>= λ b. Ok (ss.0, b.1)) (length c.args.tokens.now))
+    subst (λ o. Takes (λ x. (map statement x.0.items, x.1.now)) c.closed.result (o >>= λ ss. expect signs.RightBrace ss.1 >>= λ b. Ok (ss.0, b.1))
+    (length c.args.tokens.now))
     (sym (i.2 ∙ list_stops (λ found w. at_sign signs.RightBrace w) inner i.0 found w (sym c.at_sign.ensures ∙ c.loop-alloc-test.false)))
-    (closed_takes c.loop-alloc.found c.expect.result c.closed.result (λ v. map statement v.items) (λ p. p) (expect signs.RightBrace w) (length w) (length c.args.tokens.now) c.loop-alloc.invariant.shorter c.closed.ensures c.expect.ensures.step c.expect.ensures.shorter)
+    (closed_takes c.loop-alloc.found c.expect.result c.closed.result (λ v. map statement v.items) (λ p. p) (expect signs.RightBrace w) (length w)
+    (length c.args.tokens.now) c.loop-alloc.invariant.shorter c.closed.ensures c.expect.ensures.step c.expect.ensures.shorter)
 
 pub if_statement-returns-then-not-at_sign : goal.if_statement-returns-then-not-at_sign
 if_statement-returns-then-not-at_sign t c =
@@ -64,7 +68,8 @@ if_statement-returns-then-not-at_sign t c =
     let held = taken statement c.statement-first.result (inner w) (length w) _ c.in_ok-body.ensures c.statement-first.ensures in
     let l = tested.1 in
     let l2 = held.1 in (
-      if_alone c.args.room inner c.args.place c.args.tokens.now (expression test) w (statement body.value) w2 tested.0 held.0 (sym c.at_sign.ensures ∙ c.if-not-at_sign.true)
+      if_alone c.args.room inner c.args.place c.args.tokens.now (expression test) w (statement body.value) w2 tested.0 held.0
+          (sym c.at_sign.ensures ∙ c.if-not-at_sign.true)
           ∙ ap (λ z. Ok (z, w2)) (sym (branch_statement_is c.args.place test body)),
       omega (arith, l, l2),
     )
@@ -85,14 +90,16 @@ if_statement-returns t c =
     let l = tested.1 in
     let l2 = held.1 in
     let l4 = chosen.1 in (
-      if_chosen c.args.room inner c.args.place c.args.tokens.now (expression test) w (statement body.value) w2 tested.0 held.0 _ w3 (statement other.value) w4 (sym c.at_sign.ensures ∙ c.if-not-at_sign.false) c.in_ok-rest.ensures.step chosen.0
+      if_chosen c.args.room inner c.args.place c.args.tokens.now (expression test) w (statement body.value) w2 tested.0 held.0 _ w3
+          (statement other.value) w4 (sym c.at_sign.ensures ∙ c.if-not-at_sign.false) c.in_ok-rest.ensures.step chosen.0
           ∙ ap (λ z. Ok (z, w4)) (sym (choice_statement_is c.args.place test body other)),
       omega (arith, l, l2, c.in_ok-rest.ensures.shorter, l4),
     )
 
 pub led-returns-in_default : goal.led-returns-in_default
 led-returns-in_default t c =
-    rw (led_short c.args.leader c.args.room (statement_at_most (c.args.room - 1)) c.args.inside c.args.place c.args.tokens.now c.in_default.not-Block c.in_default.not-If c.in_default.not-While c.in_default.not-DoWhile c.in_default.not-For) c.short_statement.ensures
+    rw (led_short c.args.leader c.args.room (statement_at_most (c.args.room - 1)) c.args.inside c.args.place c.args.tokens.now c.in_default.not-Block
+    c.in_default.not-If c.in_default.not-While c.in_default.not-DoWhile c.in_default.not-For) c.short_statement.ensures
 
 pub statement-returns-in_default : goal.statement-returns-in_default
 statement-returns-in_default t c = statement_none c.args.room c.args.inside c.args.tokens.now c.in_default.ensures.cases
@@ -103,19 +110,28 @@ statement-returns-then-room-least_height t c =
 
 pub statement-returns-in-Declaration : goal.statement-returns-in-Declaration
 statement-returns-in-Declaration t c =
-    rw (statement_declares c.args.room c.args.inside c.args.tokens.now c.in-Some.token.now c.in-Some.rest.now c.leader_of-leader.result c.least_height.result c.in-Some.ensures.cases.0 c.leader_of-leader.ensures c.least_height.ensures c.if-room-least_height.false c.in-Declaration.is) c.declaration_statement.ensures
+    rw (statement_declares c.args.room c.args.inside c.args.tokens.now c.in-Some.token.now c.in-Some.rest.now c.leader_of-leader.result
+    c.least_height.result c.in-Some.ensures.cases.0 c.leader_of-leader.ensures c.least_height.ensures c.if-room-least_height.false
+    c.in-Declaration.is) c.declaration_statement.ensures
 
 pub statement-returns-in-Name : goal.statement-returns-in-Name
 statement-returns-in-Name t c =
-    rw (statement_names c.args.room c.args.inside c.args.tokens.now c.in-Some.token.now c.in-Some.rest.now c.leader_of-leader.result c.least_height.result c.in-Some.ensures.cases.0 c.leader_of-leader.ensures c.least_height.ensures c.if-room-least_height.false c.in-Name.is) c.name_statement.ensures
+    rw (statement_names c.args.room c.args.inside c.args.tokens.now c.in-Some.token.now c.in-Some.rest.now c.leader_of-leader.result
+    c.least_height.result c.in-Some.ensures.cases.0 c.leader_of-leader.ensures c.least_height.ensures c.if-room-least_height.false
+    c.in-Name.is) c.name_statement.ensures
 
 pub statement-returns-in-Expression : goal.statement-returns-in-Expression
 statement-returns-in-Expression t c =
-    rw (statement_evaluates c.args.room c.args.inside c.args.tokens.now c.in-Some.token.now c.in-Some.rest.now c.leader_of-leader.result c.least_height.result c.in-Some.ensures.cases.0 c.leader_of-leader.ensures c.least_height.ensures c.if-room-least_height.false c.in-Expression.is) c.action_statement.ensures
+    rw (statement_evaluates c.args.room c.args.inside c.args.tokens.now c.in-Some.token.now c.in-Some.rest.now c.leader_of-leader.result
+    c.least_height.result c.in-Some.ensures.cases.0 c.leader_of-leader.ensures c.least_height.ensures c.if-room-least_height.false
+    c.in-Expression.is) c.action_statement.ensures
 
 pub statement-returns-in_default-leader : goal.statement-returns-in_default-leader
 statement-returns-in_default-leader t c =
     let front = c.in-Some.ensures.cases.0 in
     let longer = ap length front in
-    takes_less statement c.led.result (statement_at_most c.args.room c.args.inside c.args.tokens.now) (length c.in-Some.rest.now + 1) (length c.args.tokens.now) (omega (arith, longer))
-    (rw (statement_led c.args.room c.args.inside c.args.tokens.now c.in-Some.token.now c.in-Some.rest.now c.leader_of-leader.result c.least_height.result front c.leader_of-leader.ensures c.least_height.ensures c.if-room-least_height.false c.in_default-leader.not-Declaration c.in_default-leader.not-Name c.in_default-leader.not-Expression) c.led.ensures)
+    takes_less statement c.led.result (statement_at_most c.args.room c.args.inside c.args.tokens.now) (length c.in-Some.rest.now + 1)
+    (length c.args.tokens.now) (omega (arith, longer))
+    (rw (statement_led c.args.room c.args.inside c.args.tokens.now c.in-Some.token.now c.in-Some.rest.now c.leader_of-leader.result
+    c.least_height.result front c.leader_of-leader.ensures c.least_height.ensures c.if-room-least_height.false
+    c.in_default-leader.not-Declaration c.in_default-leader.not-Name c.in_default-leader.not-Expression) c.led.ensures)
