@@ -1,6 +1,6 @@
 // Which operator a sign means on operands of one data type, and what it gives.
 ghost use Rattle.std.specs.Prelude.{◌≡◌};
-ghost use Rattle.typed_tree.specs.Operators.{word_operator, bool_operator, operator_on, word_result, element_made, operands_of, may_cut_short, cast_between};
+ghost use Rattle.typed_tree.specs.Operators.{word_operator, bool_operator, operator_on, operands_of, may_cut_short, cast_between};
 
 use secrec_ast::{DataType, Operator};
 use typed_tree::{BinaryOperator, BoolOperator, Cast, Connective, Operands, WordOperator};
@@ -62,38 +62,6 @@ pub fn operator_on(sign: Operator, left: DataType, right: DataType) -> Option<Bi
             None => None,
         },
         _ => None,
-    }
-}
-
-// The data type of what an operator on words gives.
-fn word_result(operator: WordOperator) -> DataType
-    ensures { result ≡ word_result operator }
-{
-    match operator {
-        WordOperator::Equal
-        | WordOperator::NotEqual
-        | WordOperator::Less
-        | WordOperator::LessOrEqual
-        | WordOperator::Greater
-        | WordOperator::GreaterOrEqual => DataType::Bool,
-        WordOperator::Add
-        | WordOperator::Subtract
-        | WordOperator::Multiply
-        | WordOperator::Divide
-        | WordOperator::Remainder
-        | WordOperator::And
-        | WordOperator::Or
-        | WordOperator::Xor => DataType::Uint64,
-    }
-}
-
-/// The data type of what an operator gives.
-pub fn element_made(operator: BinaryOperator) -> DataType
-    ensures { result ≡ element_made operator }
-{
-    match operator {
-        BinaryOperator::Words(operator) => word_result(operator),
-        BinaryOperator::Bools(_) => DataType::Bool,
     }
 }
 

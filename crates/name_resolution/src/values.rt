@@ -11,7 +11,7 @@ ghost use Rattle.name_resolution.specs.Values.{made, of_both, only, pair, variab
 ghost use Rattle.name_resolution.specs.Answer.{Answers};
 ghost use Rattle.name_resolution.specs.Views.{valued, values_seen, pair_seen, call_seen};
 
-use crate::choosing::{cast_between, element_made, may_cut_short, operands_of, operator_on};
+use crate::choosing::{cast_between, may_cut_short, operands_of, operator_on};
 use crate::resolve_error::ResolveError;
 use crate::variables::Variables;
 use domain_types::{BuiltIn, Called, Declarations};
@@ -136,7 +136,7 @@ fn operation(
         None => Err(ResolveError::Unresolved),
         Some(operator) => {
             let shape = Shape {
-                element: element_made(operator),
+                element: operator.result(),
                 array: left.shape.array || right.shape.array,
             };
             let tree = operation_node(alloc, line, sign, operator, left, right)?;
