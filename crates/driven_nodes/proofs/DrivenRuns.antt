@@ -1,13 +1,12 @@
 -- A driven miner does, with all messages of the joint run, what one does that knows the gates from the start.
-use Rattle.std.proofs.Common.{◌≡◌, ℕ, zero, suc, List, [], ◌∷◌, ◌++◌, drop, refl, sym, ◌∙◌, ap, subst}
+use Rattle.std.proofs.Common.{◌≡◌, ℕ, zero, suc, List, [], ◌++◌, drop, refl, sym, ◌∙◌, ap, subst}
 use Rattle.std.specs.Prelude.{Option, Some, None}
 use Rattle.proto_core.specs.declared.party.Number.{Number}
-use Rattle.proto_core.specs.declared.party.Number.TheVariants.{One}
 use Rattle.proto_core.specs.Strand.{Mail, Strand, Ends, then_do}
 use Rattle.proto_core.specs.Net.{into, added, Finishes}
 use Rattle.proto_core.proofs.Nets.{into-added}
 use Rattle.protocol_model.specs.Gates.{Gate, AreSound, needed, gates_strand}
-use Rattle.protocol_model.specs.Runs.{Shares, Tapes, Ready, run_messages, run_values, nodes_of}
+use Rattle.protocol_model.specs.Runs.{Shares, Tapes, Ready, run_messages, nodes_of}
 use Rattle.protocol_model.proofs.GateRuns.{run-finishes}
 use Rattle.driven_nodes.specs.Alike.{Alike}
 use Rattle.driven_nodes.specs.Driven.{Turn, of_turn, OfTurn, telling, shares_behind, tapes_behind, place_behind, LeadsTogether}

@@ -1,6 +1,6 @@
 -- Three driven miners are led to one place at each turn, and the gates of the whole run are sound and can be run: then all
 -- that holds of miners that know these gates from the start holds of them, under every schedule.
-use Rattle.std.proofs.Common.{◌≡◌, ℕ, ◌≤◌, ◌+◌, List, sym, ◌∙◌, ap, subst, arith}
+use Rattle.std.proofs.Common.{◌≡◌, ℕ, ◌≤◌, ◌+◌, List, ◌∙◌, subst}
 use Rattle.std.specs.Prelude.{Option}
 use Rattle.proto_core.specs.declared.party.Number.{Number}
 use Rattle.proto_core.specs.declared.link.Link.{Link}
@@ -18,10 +18,10 @@ use Rattle.protocol_model.specs.Runs.{Shares, Tapes, Ready, run_messages, run_va
 use Rattle.protocol_model.specs.Schedules.{AnyOrder}
 use Rattle.protocol_model.proofs.Coming.{come-in_order}
 use Rattle.protocol_model.proofs.GateRuns.{run-finishes, run-opens}
-use Rattle.protocol_model.proofs.GateSchedules.{moves-along_run, schedule-counted, made-order_accepted}
+use Rattle.protocol_model.proofs.GateSchedules.{moves-along_run, made-order_accepted}
 use Rattle.driven_nodes.specs.Alike.{AreAlike}
 use Rattle.driven_nodes.specs.Driven.{Turn, path, stop, notices, Led, driven_nodes}
-use Rattle.driven_nodes.proofs.Nets.{walked_same, finish_too, opened_same, alike_schedules_are_counted, alike_made_orders_are_accepted}
+use Rattle.driven_nodes.proofs.Nets.{finish_too, opened_same, alike_schedules_are_counted, alike_made_orders_are_accepted}
 use Rattle.driven_nodes.proofs.Nets.{alike_orders_are_the_run, alike_accepted_orders_are_complete}
 use Rattle.driven_nodes.proofs.DrivenRuns.{with_values, driven_alike, led_goes}
 use Rattle.driven_nodes.proofs.Telling.{driven_tells_in_order, driven_tells}

@@ -5,3 +5,4 @@ pub mod DrivenRuns
 pub mod Telling
 pub mod Laws
 pub mod NodeRuns
+pub mod Sample

@@ -4,7 +4,7 @@ use Rattle.std.specs.Prelude.{nat_lt}
 use Rattle.proto_core.specs.declared.party.Number.{Number}
 use Rattle.proto_core.specs.declared.link.Link.{Link}
 use Rattle.proto_core.specs.Parties.{sender_of}
-use Rattle.proto_core.specs.Strand.{same_link, Mail, Strand, Ends, Begins, next_after}
+use Rattle.proto_core.specs.Strand.{same_link, Mail, Strand, Begins, next_after}
 use Rattle.proto_core.specs.Script.{Move}
 use Rattle.proto_core.specs.Net.{into, run_of, nothing, posted, delivered, all_delivered, opened_by, rounds, MailBegins, Finishes}
 use Rattle.proto_core.proofs.Beginnings.{begins-trans, begins-self}

@@ -1,6 +1,6 @@
 -- Three miners that take the steps of a run, told what is opened by their own shares, run the gates of the run beside it.
-use Rattle.std.proofs.Common.{◌≡◌, ◌≢◌, ℕ, zero, suc, List, [], ◌∷◌, ◌++◌, length, drop, refl, sym, ◌∙◌, ap, subst}
-use Rattle.std.specs.Prelude.{Option, Some, None}
+use Rattle.std.proofs.Common.{◌≡◌, ℕ, zero, suc, List, [], ◌++◌, drop, refl, sym, ◌∙◌, ap, subst}
+use Rattle.std.specs.Prelude.{Option}
 use Rattle.proto_core.specs.declared.party.Number.{Number}
 use Rattle.proto_core.specs.declared.party.Number.TheVariants.{One}
 use Rattle.proto_core.proofs.Beginnings.{append-none}
@@ -8,7 +8,7 @@ use Rattle.protocol_model.specs.Gates.{Gate, needed}
 use Rattle.protocol_model.specs.Runs.{Shares, Tapes, run_values}
 use Rattle.driven_nodes.specs.Driven.{Turn, LeadsTogether, shares_behind, tapes_behind, place_behind, path, stop, Led}
 use Rattle.driven_nodes.specs.Steps.{Went, On, Over, Wants, Steps, Stand, Running, Stopped, ToRun, gained, last_of, stand_of, turn_of, next_turn}
-use Rattle.driven_nodes.specs.Twins.{Course, gates_by, gates_of, stand_by, stand_after, shown, ReadsBy, Reads, Follows, untold, told, TwinBy, Twins, StandAlike}
+use Rattle.driven_nodes.specs.Twins.{Course, gates_by, gates_of, stand_by, stand_after, ReadsBy, Reads, Follows, untold, told, TwinBy, Twins, StandAlike}
 
 -- gates that are run in one are run part by part
 pub record RunsJoin {G : Type 0} (to_run : ToRun G) : Type 0 where

@@ -6,7 +6,7 @@ use Rattle.proto_core.specs.Strand.{Act, Notice, Sent, Opened, Told, accepts, Ma
 use Rattle.proto_core.specs.Script.{IsSilent}
 use Rattle.proto_core.specs.Net.{into, run_of, added, MailBegins, Finishes}
 use Rattle.proto_core.proofs.Beginnings.{begins-append, begins-rest}
-use Rattle.proto_core.proofs.Strands.{run-none, run-took, run-refused, run-then, run-more, followed, told-append}
+use Rattle.proto_core.proofs.Strands.{run-none, run-took, run-refused, run-then, run-more, told-append}
 use Rattle.proto_core.proofs.Nets.{into-added, into-more}
 use Rattle.protocol_model.specs.Gates.{Gate, Joined, Local, AreSound, AreSilent, value_at, operand, needed, gates_strand}
 use Rattle.protocol_model.specs.Runs.{Shares, Tapes, Ready, run_messages, nodes_of}

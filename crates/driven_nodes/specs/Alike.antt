@@ -1,5 +1,5 @@
 -- Two miners that do the same but for what they tell.
-use Rattle.std.specs.Prelude.{◌≡◌, ℕ, List}
+use Rattle.std.specs.Prelude.{◌≡◌}
 use Rattle.proto_core.specs.declared.party.Number.{Number}
 use Rattle.proto_core.specs.declared.link.Link.{Link}
 use Rattle.proto_core.specs.Strand.{Mail, Strand, Ends, Ran, run, on_link, opened_in}

@@ -1,5 +1,5 @@
 -- Turns made of the steps of a run, of which each makes gates; a step that has to know opened words is done again with them.
-use Rattle.std.specs.Prelude.{ℕ, ◌-◌, List, [], ◌∷◌, length, drop, Option, Some, None}
+use Rattle.std.specs.Prelude.{ℕ, ◌-◌, List, [], length, drop, Option, Some, None}
 use Rattle.proto_core.specs.Strand.{Notice}
 use Rattle.protocol_model.specs.Gates.{Gate, value_at}
 use Rattle.driven_nodes.specs.Driven.{Turn}

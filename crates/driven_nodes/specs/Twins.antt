@@ -1,5 +1,5 @@
 -- A run of one who is told the opened words beside one of one who knows them.
-use Rattle.std.specs.Prelude.{◌≡◌, ◌≢◌, ℕ, zero, suc, List, [], ◌∷◌, ◌++◌, drop}
+use Rattle.std.specs.Prelude.{◌≡◌, ◌≢◌, ℕ, zero, suc, List, [], ◌++◌, drop}
 use Rattle.proto_core.specs.declared.party.Number.{Number}
 use Rattle.protocol_model.specs.Gates.{needed}
 use Rattle.protocol_model.specs.Runs.{Shares, Tapes, run_values}

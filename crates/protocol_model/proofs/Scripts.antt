@@ -1,5 +1,5 @@
 -- Scripts of strands, one behind the other.
-use Rattle.std.proofs.Common.{ℕ, List, [], ◌∷◌, ◌++◌}
+use Rattle.std.proofs.Common.{List, [], ◌∷◌, ◌++◌}
 use Rattle.proto_core.specs.Strand.{Sent, Opened, Told, Strand, Ends, Acts, Waits, then_do}
 use Rattle.proto_core.specs.Script.{Move, Sends, Takes, Moves, EndsWith, IsSilent}
 
