@@ -1,10 +1,8 @@
 // An operator and its operands, side by side: a scalar meets every element of an array.
 ghost use Rattle.std.specs.Prelude.{◌≡◌};
-ghost use Rattle.typed_tree.specs.Operators.{word_result, element_made};
 ghost use Rattle.language_model.specs.Operations.{is_product};
 
 use crate::value::{Secrecy, Value};
-use secrec_ast::DataType;
 use std::alloc::{AllocError, Global};
 use typed_tree::{BinaryOperator, BoolOperator, Operands, Shape, WordOperator};
 
@@ -133,41 +131,9 @@ impl Applied<'_> {
             Operands::ArrayAndScalar | Operands::ScalarAndArray | Operands::Arrays => true,
         };
         Shape {
-            element: element_made(self.operator),
+            element: self.operator.result(),
             array,
         }
-    }
-}
-
-/// The data type of what an operator on numbers gives.
-fn word_result(op: WordOperator) -> DataType
-    ensures { result ≡ word_result op }
-{
-    match op {
-        WordOperator::Equal
-        | WordOperator::NotEqual
-        | WordOperator::Less
-        | WordOperator::LessOrEqual
-        | WordOperator::Greater
-        | WordOperator::GreaterOrEqual => DataType::Bool,
-        WordOperator::Add
-        | WordOperator::Subtract
-        | WordOperator::Multiply
-        | WordOperator::Divide
-        | WordOperator::Remainder
-        | WordOperator::And
-        | WordOperator::Or
-        | WordOperator::Xor => DataType::Uint64,
-    }
-}
-
-/// The data type of what an operator gives.
-fn element_made(op: BinaryOperator) -> DataType
-    ensures { result ≡ element_made op }
-{
-    match op {
-        BinaryOperator::Words(op) => word_result(op),
-        BinaryOperator::Bools(_) => DataType::Bool,
     }
 }
 
