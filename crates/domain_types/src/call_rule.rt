@@ -31,7 +31,8 @@ fn call_defined<'p>(
     arguments: &Option<Vec<Argument>>,
 ) -> Result<Option<ExpressionType>, AllocError>
     ensures { IfOk result (λ t. Gives
-        (option_and_then (callee_type (declared here.now.declarations.now) place (defined number (function_tree function.now))) (option_map vec_items arguments.now))
+        (option_and_then (callee_type (declared here.now.declarations.now) place (defined number (function_tree function.now)))
+        (option_map vec_items arguments.now))
         t found.old found.new
         (of_typed (option_map vec_items arguments.now) (defined_faults (declared here.now.declarations.now) place (function_tree function.now)))
         (call_of (declared here.now.declarations.now) place (Some (defined number (function_tree function.now))) (option_map vec_items arguments.now))) }
