@@ -199,11 +199,12 @@ arguments_fit kinds [] (k ∷ ks) = false
 arguments_fit kinds (r ∷ rs) [] = false
 arguments_fit kinds (r ∷ rs) (k ∷ ks) = same_kind (kind_at kinds r) k && arguments_fit kinds rs ks
 
--- a call of a function, of which there are as many arguments as parameters; the result may be let go
+-- a call of a function, whose parameters are registers and of which there are as many arguments; the result may be let go
 abbrev pub call_fits : List Kind → Option RawFunction → ℕ → List ℕ → Bool
 call_fits kinds None d arguments = false
 call_fits kinds (Some f) d arguments =
-    length arguments == f.parameters && arguments_fit kinds arguments (take f.parameters f.registers) && (is_none d || gives_fits f.gives (kind_at kinds d))
+    nat_le f.parameters (length f.registers) && length arguments == f.parameters && arguments_fit kinds arguments (take f.parameters f.registers)
+    && (is_none d || gives_fits f.gives (kind_at kinds d))
 
 abbrev pub operands_fit : Here → Raw → Bool
 operands_fit h (Literal d x) = literal_fits (kind_at h.own.registers d) x

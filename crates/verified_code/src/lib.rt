@@ -2,5 +2,11 @@
 #![tactic(auto)]
 
 mod fault;
+mod kinds;
+mod operators;
+mod place;
+mod verified;
+mod verifying;
 
 pub use fault::{Problem, VerifyErr};
+pub use verified::{Verified, verify};
