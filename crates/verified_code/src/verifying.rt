@@ -71,9 +71,8 @@ fn functions_fault(code: &Code) -> Option<VerifyErr>
     ensures { result ≡ functions_fault (raw_code code.now) 0 (raw_code code.now).functions }
 {
     for number in 0..code.functions.len() {
-        let fault = function_fault(code, number, &code.functions[number]);
-        if fault.is_some() {
-            return fault;
+        if let Some(fault) = function_fault(code, number, &code.functions[number]) {
+            return Some(fault);
         }
     }
     None
