@@ -1,5 +1,5 @@
 -- Worked values: code that is verified, and first faults.
-use Rattle.std.specs.Prelude.{◌≡◌, ℕ, List, [], ◌∷◌, Bool, true, false, None, Some, refl}
+use Rattle.std.specs.Prelude.{◌≡◌, List, [], ◌∷◌, Bool, true, false, None, Some, refl}
 use Rattle.secrec_ast.specs.declared.expression.DataType.TheVariants as types
 use Rattle.bytecode.specs.declared.kind.Kind.{Kind}
 use Rattle.bytecode.specs.Raw.{Raw, Literal, Binary, Jump, Branch, Call, Return, ReturnNone, RawCode}

@@ -2,7 +2,6 @@
 use Rattle.std.specs.Prelude.{◌≡◌, ℕ, ◌+◌, Bool, true, false, not, ◌&&◌, ◌||◌, ◌==◌, nat_le, List, [], ◌∷◌, length, Option, Some, None, Result, Ok, Err, if◌then◌else◌}
 use Rattle.bytecode.specs.declared.code.Code.{Code}
 use Rattle.bytecode.specs.InMemory.{raw_code}
-use Rattle.bytecode.specs.declared.kind.Kind.{Kind}
 use Rattle.bytecode.specs.Raw.{Raw, RawFunction, RawCode}
 use Rattle.verified_code.specs.declared.fault.Problem.{Problem}
 use Rattle.verified_code.specs.declared.fault.Problem.TheVariants.{BadRegister, BadKind, BadJump}

@@ -1,4 +1,4 @@
-use Rattle.std.proofs.Common.{rules, ◌≡◌, ◌∙◌, ◌<◌, Bool, true, false, map, length, get_or, arith, ap, sym}
+use Rattle.std.proofs.Common.{rules, ◌≡◌, ◌∙◌, ◌<◌, true, false, map, length, get_or, arith, ap, sym}
 use Rattle.std.proofs.lemmas.List.{get_or_default}
 use Rattle.secrec_ast.specs.declared.expression.DataType.TheVariants.{Uint64}
 use Rattle.bytecode.specs.declared.instruction.Register.{Register}
