@@ -1,4 +1,5 @@
 // The typed tree of a program with a template, and a program that has none.
+use name_resolution::{ResolveError, resolve};
 use program_typing::type_program;
 use secrec_ast::{DataType, Program};
 use secrec_lexer::lex;
@@ -6,8 +7,7 @@ use secrec_parser::parse;
 use std::alloc::Global;
 use std::test::Fail;
 use typed_tree::{
-    Given, ResolveError, Shape, Slot, SlotDomain, TypedExpression, TypedFunction, TypedStatement,
-    resolve,
+    Given, Shape, Slot, SlotDomain, TypedExpression, TypedFunction, TypedStatement,
 };
 
 // Line 2 fills an array whose size is asked for in line 3.

@@ -1,5 +1,5 @@
 -- What an instruction asks of its place: what it names is there, its operands are of the kinds that it wants, its target may be led to.
-use Rattle.std.specs.Prelude.{ℕ, ◌+◌, Bool, true, false, not, ◌&&◌, ◌||◌, ◌==◌, nat_lt, nat_le, List, [], ◌∷◌, length, map, take, Option, Some, None, slice_get, if◌then◌else◌}
+use Rattle.std.specs.Prelude.{ℕ, ◌+◌, Bool, true, false, not, ◌&&◌, ◌||◌, ◌==◌, nat_lt, nat_le, List, [], ◌∷◌, length, take, Option, Some, None, slice_get, if◌then◌else◌}
 use Rattle.std.specs.List.{list_all}
 use Rattle.secrec_ast.specs.declared.expression.DataType.{DataType}
 use Rattle.secrec_ast.specs.declared.expression.DataType.TheVariants as types
@@ -199,11 +199,12 @@ arguments_fit kinds [] (k ∷ ks) = false
 arguments_fit kinds (r ∷ rs) [] = false
 arguments_fit kinds (r ∷ rs) (k ∷ ks) = same_kind (kind_at kinds r) k && arguments_fit kinds rs ks
 
--- a call of a function, of which there are as many arguments as parameters; the result may be let go
+-- a call of a function, whose parameters are registers and of which there are as many arguments; the result may be let go
 abbrev pub call_fits : List Kind → Option RawFunction → ℕ → List ℕ → Bool
 call_fits kinds None d arguments = false
 call_fits kinds (Some f) d arguments =
-    length arguments == f.parameters && arguments_fit kinds arguments (take f.parameters f.registers) && (is_none d || gives_fits f.gives (kind_at kinds d))
+    nat_le f.parameters (length f.registers) && length arguments == f.parameters && arguments_fit kinds arguments (take f.parameters f.registers)
+    && (is_none d || gives_fits f.gives (kind_at kinds d))
 
 abbrev pub operands_fit : Here → Raw → Bool
 operands_fit h (Literal d x) = literal_fits (kind_at h.own.registers d) x

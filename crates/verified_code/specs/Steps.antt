@@ -4,7 +4,7 @@ use Rattle.secrec_ast.specs.declared.expression.DataType.{DataType}
 use Rattle.typed_tree.specs.declared.kinds.Shape.{Shape}
 use Rattle.typed_tree.specs.declared.operators.BinaryOperator.{BinaryOperator}
 use Rattle.typed_tree.specs.declared.operators.Operands.{Operands}
-use Rattle.typed_tree.specs.declared.operators.Cast.{Cast}
+use Rattle.typed_tree.specs.declared.operators.Cast as casts
 use Rattle.typed_tree.specs.Shapes.{shape_of}
 use Rattle.bytecode.specs.declared.kind.Kind.{Kind}
 
@@ -20,7 +20,7 @@ pub data Step : Type 0 where
   Store : (to source : ℕ) → Step
   Binary : (line : ℕ) → BinaryOperator → Operands → (to left right : ℕ) → Step
   Not : (to source : ℕ) → Step
-  Cast : Cast → (to source : ℕ) → Step
+  Cast : casts.Cast → (to source : ℕ) → Step
   Classify : (to source : ℕ) → Step
   Fill : (line to size value : ℕ) → Step
   At : (line to array index : ℕ) → Step

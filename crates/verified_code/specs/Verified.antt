@@ -1,6 +1,7 @@
 -- Which code is verified, and the first fault of other code.
-use Rattle.std.specs.Prelude.{◌≡◌, ℕ, suc, zero, Bool, true, false, not, ◌&&◌, ◌||◌, ◌==◌, nat_le, List, [], ◌∷◌, length, Option, Some, None, if◌then◌else◌}
-use Rattle.bytecode.specs.declared.kind.Kind.{Kind}
+use Rattle.std.specs.Prelude.{◌≡◌, ℕ, ◌+◌, Bool, true, false, not, ◌&&◌, ◌||◌, ◌==◌, nat_le, List, [], ◌∷◌, length, Option, Some, None, Result, Ok, Err, if◌then◌else◌}
+use Rattle.bytecode.specs.declared.code.Code.{Code}
+use Rattle.bytecode.specs.InMemory.{raw_code}
 use Rattle.bytecode.specs.Raw.{Raw, RawFunction, RawCode}
 use Rattle.verified_code.specs.declared.fault.Problem.{Problem}
 use Rattle.verified_code.specs.declared.fault.Problem.TheVariants.{BadRegister, BadKind, BadJump}
@@ -38,7 +39,7 @@ fault_if_any f k (Some p) later = Some (record { problem = p; function = f; inst
 abbrev pub body_fault : RawCode → (number : ℕ) → RawFunction → (place : ℕ) → List Raw → Option VerifyErr
 body_fault code number f place [] = None
 body_fault code number f place (i ∷ is) =
-    fault_if_any number place (problem_at number (here code f place) i) (body_fault code number f (suc place) is)
+    fault_if_any number place (problem_at number (here code f place) i) (body_fault code number f (place + 1) is)
 
 -- a function without instructions has no return
 abbrev pub function_problem : (number : ℕ) → RawFunction → List Raw → Option Problem
@@ -54,7 +55,7 @@ or_later (Some e) later = Some e
 
 abbrev pub functions_fault : RawCode → (number : ℕ) → List RawFunction → Option VerifyErr
 functions_fault code number [] = None
-functions_fault code number (f ∷ fs) = or_later (function_fault code number f) (functions_fault code (suc number) fs)
+functions_fault code number (f ∷ fs) = or_later (function_fault code number f) (functions_fault code (number + 1) fs)
 
 abbrev pub main_problem : List RawFunction → Option Problem
 main_problem [] = Some BadRegister
@@ -66,3 +67,8 @@ first_fault code = fault_if_any 0 0 (main_problem code.functions) (functions_fau
 
 abbrev pub IsVerified : RawCode → Type 0
 IsVerified code = first_fault code ≡ None
+
+-- what is answered: the code again, which is verified, or its first fault
+abbrev pub IsVerdict : Code → Result RawCode (Code × VerifyErr) → Type 0
+IsVerdict code (Ok verified) = (verified ≡ raw_code code) × IsVerified (raw_code code)
+IsVerdict code (Err e) = (e.0 ≡ code) × (first_fault (raw_code code) ≡ Some e.1)

@@ -2,5 +2,13 @@
 #![tactic(auto)]
 
 mod fault;
+mod kinds;
+mod laws;
+mod operators;
+mod place;
+mod verified;
+mod verifying;
 
 pub use fault::{Problem, VerifyErr};
+pub use laws::{sound_code_is_verified, verified_code_is_sound};
+pub use verified::{Verified, verify};
