@@ -6,9 +6,7 @@ use secrec_lexer::lex;
 use secrec_parser::parse;
 use std::alloc::Global;
 use std::test::Fail;
-use typed_tree::{
-    Given, Shape, Slot, SlotDomain, TypedExpression, TypedFunction, TypedStatement,
-};
+use typed_tree::{Given, Shape, Slot, SlotDomain, TypedExpression, TypedFunction, TypedStatement};
 
 // Line 2 fills an array whose size is asked for in line 3.
 const PROGRAM: &str = "\
