@@ -85,5 +85,8 @@ gates = refl
 stops : stop (next_turn asking known_words) 3 (Running 0) (λ i. []) (λ i. []) ≡ Stopped 2
 stops = refl
 
-tells : (i : Number) → notices (next_turn asking known_words) 3 i (Running 0) (λ i. []) (λ i. []) ≡ Shown (record { element = Words; array = false }) (7 ∷ []) ∷ []
+tells :
+    (i : Number) →
+    notices (next_turn asking known_words) 3 i (Running 0) (λ i. []) (λ i. [])
+    ≡ Shown (record { element = Words; array = false }) (7 ∷ []) ∷ []
 tells i = refl

@@ -1,5 +1,6 @@
 -- Where a miner refuses a message, it says what the protocol's own refusal says, and goes on refusing it.
-use Rattle.std.proofs.Common.{◌≡◌, ◌≢◌, ℕ, zero, suc, ◌+◌, ◌*◌, ◌<◌, ◌≤◌, ◌==◌, Bool, true, false, ◌&&◌, if◌then◌else◌, List, [], ◌∷◌, ◌++◌, length, take, drop, refl, sym, ◌∙◌, ap, subst, arith, inl, inr, is_none}
+use Rattle.std.proofs.Common.{◌≡◌, ◌≢◌, ℕ, zero, suc, ◌+◌, ◌*◌, ◌<◌, ◌≤◌, ◌==◌, Bool, true, false, ◌&&◌, if◌then◌else◌}
+use Rattle.std.proofs.Common.{List, [], ◌∷◌, ◌++◌, length, take, drop, refl, sym, ◌∙◌, ap, subst, arith, inl, inr, is_none}
 use Rattle.std.specs.Prelude.{Option, Some, None, replicate}
 use Rattle.std.specs.List.{list_all}
 use Rattle.std.proofs.lemmas.List.{get_or-take, get_or-drop, length-take, length-drop, drop-drop}
@@ -143,6 +144,26 @@ module _ (n before after : ℕ) (m : List ℕ) where
         | inr bits ↦ fault_by_bits one_bit_field m (bits.0 ∙ size)
             ∙ wrong_bit refused.cause (omega (arith, bits.0)) (subst (λ v. WrongBit m v n refused.cause) place bits.1)
       ]
+
+one_times : (n : ℕ) → n ≡ 1 * n
+one_times n = omega arith
+
+two_times : (n : ℕ) → 1 * n + n ≤ 2 * n
+two_times n = omega arith
+
+-- so in the messages that have a field of bits: behind, between or before words, or alone
+module _ {S : Type 0} (state : S) (n : ℕ) (m : List ℕ) (refused : Refused S) where
+  pub bits_between_words : RefusesBits state m (3 * n) n n refused → fault_of (shaped n (Words ∷ Bits ∷ Words ∷ [])) m ≡ Some refused.cause
+  bits_between_words h = wrong_bits_are_told n 1 1 m state (3 * n) n refused refl (one_times n) (omega arith) h
+
+  pub bits_behind_words : RefusesBits state m (2 * n) n n refused → fault_of (shaped n (Words ∷ Bits ∷ [])) m ≡ Some refused.cause
+  bits_behind_words h = wrong_bits_are_told n 1 0 m state (2 * n) n refused refl (one_times n) (two_times n) h
+
+  pub bits_before_words : RefusesBits state m (2 * n) 0 n refused → fault_of (shaped n (Bits ∷ Words ∷ [])) m ≡ Some refused.cause
+  bits_before_words h = wrong_bits_are_told n 0 1 m state (2 * n) 0 refused refl (none_times n) (omega arith) h
+
+  pub bits_alone : RefusesBits state m n 0 n refused → fault_of (shaped n (Bits ∷ [])) m ≡ Some refused.cause
+  bits_alone h = wrong_bits_are_told n 0 0 m state n 0 refused (one_times n) (none_times n) (omega arith) h
 
 -- ---- runs
 
