@@ -271,7 +271,7 @@ module _ (o : Offered) where
   traps_alike : (line : ℕ) (op : BinaryOperator) (ds : Operands) {x x' y y' : Value} → LikeValues x x' → LikeValues y y' → Alike (Any {A = Unit {0}} {B = Unit {0}}) (operator_traps line op ds x y) (operator_traps line op ds x' y')
   traps_alike line op ds l m = any_bind (test_equal trap.Length line (same_are_alike ds l m)) (λ _ _. test_equal trap.Div line (ap (W.may_divide op) (like_seen m)))
 
-  operated_alike : (line : ℕ) (op : BinaryOperator) (ds : Operands) {x x' y y' : Value} → LikeValues x x' → LikeValues y y' → Alike LikeValues (operated clear line op ds x y) (operated unseen line op ds x' y')
+  pub operated_alike : (line : ℕ) (op : BinaryOperator) (ds : Operands) {x x' y y' : Value} → LikeValues x x' → LikeValues y y' → Alike LikeValues (operated clear line op ds x y) (operated unseen line op ds x' y')
   operated_alike line op ds l m = any_bind (charged_alike (traps_alike line op ds l m) (same_result_size ds l m)) (λ _ _. combined_alike op ds l m)
 
   pub operation_alike : (line : ℕ) (op : BinaryOperator) (ds : Operands) {x x' y y' : Value} → LikeValues x x' → LikeValues y y' → Alike LikeValues (operation clear line op ds x y) (operation unseen line op ds x' y')

@@ -123,7 +123,7 @@ onward_show {w = w} words =
 
 -- ---- whole programs
 
-pub is_onward : World → (A : Type 0) → Effect A → Effect A → Type 0
+unfoldable pub is_onward : World → (A : Type 0) → Effect A → Effect A → Type 0
 is_onward w A m m' = Onward w m
 
 onward_flow : (w : World) → IsFlow (is_onward w)
@@ -144,7 +144,7 @@ onward_turns w hc hs hb fr = record { from = λ s. (turns_onward w (s.left + 1) 
 pub onward_repeats : (w : World) {condition : Frame → Effect Value} {body : Frame → Effect Flow} → ((fr : Frame) → Onward w (condition fr)) → ((fr : Frame) → Onward w (body fr)) → (fr : Frame) → Onward w (λ s. repeats (s.left + 1) condition body fr s)
 onward_repeats w hc hb fr = record { from = λ s. (repeats_onward w (s.left + 1) _ _ hc hb fr).from s }
 
-onward_law : (w : World) → IsLaw w w (is_onward w)
+pub onward_law : (w : World) → IsLaw w w (is_onward w)
 unfolding is_onward
 onward_law w = record {
   source = refl;

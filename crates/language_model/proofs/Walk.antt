@@ -67,64 +67,64 @@ main_of w p = body_of w (call_at w p.functions (deepest - 1)) p.functions (slice
 module _ (w w' : World) (P : (A : Type 0) → Effect A → Effect A → Type 0) (law : IsLaw w w' P) where
   -- ---- OPERATIONS
 
-  charged_holds : (t : Effect (Unit {0})) (n : ℕ) → P _ t t → P _ (charged t n) (charged t n)
+  pub charged_holds : (t : Effect (Unit {0})) (n : ℕ) → P _ t t → P _ (charged t n) (charged t n)
   charged_holds t n h = law.bind (law.on_charge 1) (λ _. law.bind h (λ _. law.on_charge (n - 1)))
 
-  untrapped_holds : (n : ℕ) → P _ (charged (done tt) n) (charged (done tt) n)
+  pub untrapped_holds : (n : ℕ) → P _ (charged (done tt) n) (charged (done tt) n)
   untrapped_holds n = charged_holds (done tt) n (law.on_done tt)
 
-  number_from_holds : (x : Secrecy) (words : List ℕ) → P _ (number_from x words) (number_from x words)
+  pub number_from_holds : (x : Secrecy) (words : List ℕ) → P _ (number_from x words) (number_from x words)
   number_from_holds (Private (Some k)) words = law.on_done k
   number_from_holds (Private None) words = law.on_gate (Const words)
   number_from_holds Plain words = law.on_gate (Const words)
 
-  number_holds : (v : Value) → P _ (number_of v) (number_of v)
+  pub number_holds : (v : Value) → P _ (number_of v) (number_of v)
   number_holds v = number_from_holds v.secrecy v.words
 
-  made_holds : (shape : Shape) (words : List ℕ) (k : ℕ) → P _ (made_private shape words k) (made_private shape words k)
+  pub made_holds : (shape : Shape) (words : List ℕ) (k : ℕ) → P _ (made_private shape words k) (made_private shape words k)
   made_holds shape words k = law.on_done (hidden shape k words)
 
-  classified_holds : (x : Secrecy) (v : Value) → P _ (classified_from x v) (classified_from x v)
+  pub classified_holds : (x : Secrecy) (v : Value) → P _ (classified_from x v) (classified_from x v)
   classified_holds (Private k) v = law.on_done v
   classified_holds Plain v = law.bind (untrapped_holds (size v)) (λ _. law.bind (law.on_gate (Const v.words)) (λ k. law.on_done _))
 
-  wanted_holds : (secret : Bool) (v : Value) → P _ (wanted secret v) (wanted secret v)
+  pub wanted_holds : (secret : Bool) (v : Value) → P _ (wanted secret v) (wanted secret v)
   wanted_holds true v = classified_holds v.secrecy v
   wanted_holds false v = law.on_done v
 
-  answer_holds : (o : Source) (words : List ℕ) → P _ (answer o words) (answer o words)
+  pub answer_holds : (o : Source) (words : List ℕ) → P _ (answer o words) (answer o words)
   answer_holds Clear words = law.on_done words
   answer_holds Answers words = law.on_answers (length words)
 
-  revealed_holds : (v : Value) → P _ (revealed w v) (revealed w' v)
+  pub revealed_holds : (v : Value) → P _ (revealed w v) (revealed w' v)
   revealed_holds v =
       law.bind (subst (λ o. P _ (answer w.source v.words) (answer o v.words)) law.source (answer_holds w.source v.words)) (λ words.
       law.bind (law.on_show (read_answer v.shape.element words)) (λ _. law.bind (law.on_emit (event.Open (elements_of (plain v.shape (read_answer v.shape.element words))))) (λ _. law.on_done (plain v.shape (read_answer v.shape.element words)))))
 
-  opened_holds : (x : Secrecy) (v : Value) → P _ (opened_from w x v) (opened_from w' x v)
+  pub opened_holds : (x : Secrecy) (v : Value) → P _ (opened_from w x v) (opened_from w' x v)
   opened_holds Plain v = law.on_done v
   opened_holds (Private k) v = law.bind (law.on_draw _) (λ _. law.bind (number_holds v) (λ u. law.bind (law.on_gate _) (λ _. revealed_holds v)))
 
-  declassified_holds : (v : Value) → P _ (declassified w v) (declassified w' v)
+  pub declassified_holds : (v : Value) → P _ (declassified w v) (declassified w' v)
   declassified_holds v = law.bind (untrapped_holds (size v)) (λ _. opened_holds v.secrecy v)
 
-  stretched_holds : (scalar : Bool) (n u : ℕ) → P _ (stretched scalar n u) (stretched scalar n u)
+  pub stretched_holds : (scalar : Bool) (n u : ℕ) → P _ (stretched scalar n u) (stretched scalar n u)
   stretched_holds true n u = law.on_gate _
   stretched_holds false n u = law.on_done u
 
-  flip_holds : (n u : ℕ) → P _ (flip n u) (flip n u)
+  pub flip_holds : (n u : ℕ) → P _ (flip n u) (flip n u)
   flip_holds n u = law.bind (law.on_gate _) (λ ones. law.on_gate _)
 
-  planned_holds : (plan : ℕ → List Gate) → P _ (planned plan) (planned plan)
+  pub planned_holds : (plan : ℕ → List Gate) → P _ (planned plan) (planned plan)
   planned_holds plan = law.bind law.on_number (λ first. law.on_gates (plan first))
 
-  equal_holds : (u v : ℕ) → P _ (equal_gates u v) (equal_gates u v)
+  pub equal_holds : (u v : ℕ) → P _ (equal_gates u v) (equal_gates u v)
   equal_holds u v = law.bind (law.on_gate (Sub u v)) (λ d. planned_holds (λ first. eq_plan first d))
 
-  less_holds : (n u v : ℕ) → P _ (less_gates n u v) (less_gates n u v)
+  pub less_holds : (n u v : ℕ) → P _ (less_gates n u v) (less_gates n u v)
   less_holds n u v = planned_holds (λ first. less_plan first u v n)
 
-  word_gates_hold : (op : WordOperator) (n u v : ℕ) → P _ (word_gates op n u v) (word_gates op n u v)
+  pub word_gates_hold : (op : WordOperator) (n u v : ℕ) → P _ (word_gates op n u v) (word_gates op n u v)
   word_gates_hold word.Add n u v = law.on_gate _
   word_gates_hold word.Subtract n u v = law.on_gate _
   word_gates_hold word.Multiply n u v = law.on_gate _
@@ -136,57 +136,57 @@ module _ (w w' : World) (P : (A : Type 0) → Effect A → Effect A → Type 0) 
   word_gates_hold word.LessOrEqual n u v = law.bind (less_holds n v u) (flip_holds n)
   word_gates_hold op n u v = law.on_number
 
-  bool_gates_hold : (op : BoolOperator) (n u v : ℕ) → P _ (bool_gates op n u v) (bool_gates op n u v)
+  pub bool_gates_hold : (op : BoolOperator) (n u v : ℕ) → P _ (bool_gates op n u v) (bool_gates op n u v)
   bool_gates_hold truth.Xor n u v = law.on_gate _
   bool_gates_hold truth.And n u v = law.on_gate _
   bool_gates_hold truth.Or n u v = law.bind (law.on_gate (And u v)) (λ both. law.bind (law.on_gate (Xor u v)) (λ one. law.on_gate (Xor one both)))
   bool_gates_hold truth.NotEqual n u v = law.on_gate _
   bool_gates_hold truth.Equal n u v = law.bind (law.on_gate _) (flip_holds n)
 
-  operator_gates_hold : (op : BinaryOperator) (n u v : ℕ) → P _ (operator_gates op n u v) (operator_gates op n u v)
+  pub operator_gates_hold : (op : BinaryOperator) (n u v : ℕ) → P _ (operator_gates op n u v) (operator_gates op n u v)
   operator_gates_hold (binary.Words op) n u v = word_gates_hold op n u v
   operator_gates_hold (binary.Bools op) n u v = bool_gates_hold op n u v
 
-  private_result_holds : (op : BinaryOperator) (ds : Operands) (x y : Value) → P _ (private_result w op ds x y) (private_result w' op ds x y)
+  pub private_result_holds : (op : BinaryOperator) (ds : Operands) (x y : Value) → P _ (private_result w op ds x y) (private_result w' op ds x y)
   private_result_holds op ds x y =
       let n = result_size ds x y in
       law.bind (law.on_draw (words_of_operator op n)) (λ _. law.bind (number_holds x) (λ j. law.bind (number_holds y) (λ k.
       law.bind (stretched_holds (is_scalar_left ds) n j) (λ u. law.bind (stretched_holds (is_scalar_right ds) n k) (λ v.
       law.bind (operator_gates_hold op n u v) (λ r. made_holds (result_shape op ds) (result_words op ds x y) r))))))
 
-  product_holds : (op : BinaryOperator) (ds : Operands) (scalar : Bool) (x : Value) (known words : List ℕ) → P _ (product_with op ds scalar x known words) (product_with op ds scalar x known words)
+  pub product_holds : (op : BinaryOperator) (ds : Operands) (scalar : Bool) (x : Value) (known words : List ℕ) → P _ (product_with op ds scalar x known words) (product_with op ds scalar x known words)
   product_holds op ds scalar x known words = law.bind (number_holds x) (λ j. law.bind (stretched_holds scalar _ j) (λ u. law.bind (law.on_gate _) (λ r. law.on_done _)))
 
-  combined_holds : (a b : Secrecy) (op : BinaryOperator) (ds : Operands) (x y : Value) → P _ (combined_from a b w op ds x y) (combined_from a b w' op ds x y)
+  pub combined_holds : (a b : Secrecy) (op : BinaryOperator) (ds : Operands) (x y : Value) → P _ (combined_from a b w op ds x y) (combined_from a b w' op ds x y)
   combined_holds Plain Plain op ds x y = law.on_done _
   combined_holds (Private j) (Private k) op ds x y = private_result_holds op ds x y
   combined_holds (Private j) Plain op ds x y = product_holds op ds _ x _ _
   combined_holds Plain (Private k) op ds x y = product_holds op ds _ y _ _
 
-  operated_holds : (line : ℕ) (op : BinaryOperator) (ds : Operands) (x y : Value) → P _ (operated w line op ds x y) (operated w' line op ds x y)
+  pub operated_holds : (line : ℕ) (op : BinaryOperator) (ds : Operands) (x y : Value) → P _ (operated w line op ds x y) (operated w' line op ds x y)
   operated_holds line op ds x y =
       law.bind (charged_holds (operator_traps line op ds x y) (result_size ds x y) (law.bind (law.on_test (are_alike ds x y) trap.Length line) (λ _. law.on_test (may_divide op (seen y)) trap.Div line))) (λ _. combined_holds x.secrecy y.secrecy op ds x y)
 
-  operation_holds : (line : ℕ) (op : BinaryOperator) (ds : Operands) (x y : Value) → P _ (operation w line op ds x y) (operation w' line op ds x y)
+  pub operation_holds : (line : ℕ) (op : BinaryOperator) (ds : Operands) (x y : Value) → P _ (operation w line op ds x y) (operation w' line op ds x y)
   operation_holds line op ds x y = law.bind (wanted_holds (is_classified op x y) x) (λ a. law.bind (wanted_holds (is_classified op y x) y) (λ b. operated_holds line op ds a b))
 
-  negated_from_holds : (x : Secrecy) (v : Value) → P _ (negated_from x v) (negated_from x v)
+  pub negated_from_holds : (x : Secrecy) (v : Value) → P _ (negated_from x v) (negated_from x v)
   negated_from_holds Plain v = law.on_done _
   negated_from_holds (Private k) v = law.bind (number_holds v) (λ u. law.bind (flip_holds (size v) u) (λ r. made_holds v.shape (map flipped v.words) r))
 
-  negated_holds : (v : Value) → P _ (negated v) (negated v)
+  pub negated_holds : (v : Value) → P _ (negated v) (negated v)
   negated_holds v = law.bind (untrapped_holds (size v)) (λ _. negated_from_holds v.secrecy v)
 
-  cast_gates_hold : (c : Cast) (n u : ℕ) → P _ (cast_gates c n u) (cast_gates c n u)
+  pub cast_gates_hold : (c : Cast) (n u : ℕ) → P _ (cast_gates c n u) (cast_gates c n u)
   cast_gates_hold WordToBool n u = law.bind (planned_holds (λ first. eq_plan first u)) (flip_holds n)
   cast_gates_hold BoolToWord n u = law.on_gate _
   cast_gates_hold WordToWord n u = law.on_done u
   cast_gates_hold BoolToBool n u = law.on_done u
 
-  changed_holds : (c : Cast) (v : Value) → P _ (changed w c v) (changed w' c v)
+  pub changed_holds : (c : Cast) (v : Value) → P _ (changed w c v) (changed w' c v)
   changed_holds c v = law.bind (law.on_draw _) (λ _. law.bind (number_holds v) (λ u. law.bind (cast_gates_hold c _ u) (λ r. law.on_done _)))
 
-  cast_from_holds : (x : Secrecy) (c : Cast) (v : Value) → P _ (cast_from w x c v) (cast_from w' x c v)
+  pub cast_from_holds : (x : Secrecy) (c : Cast) (v : Value) → P _ (cast_from w x c v) (cast_from w' x c v)
   cast_from_holds x WordToWord v = law.on_done v
   cast_from_holds x BoolToBool v = law.on_done v
   cast_from_holds Plain WordToBool v = law.on_done _
@@ -194,84 +194,84 @@ module _ (w w' : World) (P : (A : Type 0) → Effect A → Effect A → Type 0) 
   cast_from_holds (Private k) WordToBool v = changed_holds WordToBool v
   cast_from_holds (Private k) BoolToWord v = changed_holds BoolToWord v
 
-  cast_holds : (c : Cast) (v : Value) → P _ (cast_to w c v) (cast_to w' c v)
+  pub cast_holds : (c : Cast) (v : Value) → P _ (cast_to w c v) (cast_to w' c v)
   cast_holds c v = law.bind (untrapped_holds (size v)) (λ _. cast_from_holds v.secrecy c v)
 
-  size_holds : (v : Value) → P _ (size_told v) (size_told v)
+  pub size_holds : (v : Value) → P _ (size_told v) (size_told v)
   size_holds v = law.bind (law.on_charge 1) (λ _. law.on_done _)
 
-  summed_from_holds : (x : Secrecy) (v : Value) → P _ (summed_from x v) (summed_from x v)
+  pub summed_from_holds : (x : Secrecy) (v : Value) → P _ (summed_from x v) (summed_from x v)
   summed_from_holds Plain v = law.on_done _
   summed_from_holds (Private k) v = law.bind (number_holds v) (λ u. law.bind (law.on_gate _) (λ r. law.on_done _))
 
-  summed_holds : (v : Value) → P _ (summed v) (summed v)
+  pub summed_holds : (v : Value) → P _ (summed v) (summed v)
   summed_holds v = law.bind (law.on_charge 1) (λ _. summed_from_holds v.secrecy v)
 
-  bits_from_holds : (x : Secrecy) (v : Value) → P _ (bits_from w x v) (bits_from w' x v)
+  pub bits_from_holds : (x : Secrecy) (v : Value) → P _ (bits_from w x v) (bits_from w' x v)
   bits_from_holds Plain v = law.on_done _
   bits_from_holds (Private k) v =
       law.bind (law.on_draw (words_for_bits (size v))) (λ _. law.bind (number_holds v) (λ u. law.bind (planned_holds (λ first. bits_plan first u (size v))) (λ b. law.bind (law.on_gate (Spread b)) (λ r. made_holds (shape_of datatype.Bool true) (flat_map bits_of v.words) r))))
 
-  bits_holds : (line : ℕ) (v : Value) → P _ (bits_extracted w line v) (bits_extracted w' line v)
+  pub bits_holds : (line : ℕ) (v : Value) → P _ (bits_extracted w line v) (bits_extracted w' line v)
   bits_holds line v = law.bind (charged_holds _ _ (law.on_test _ _ _)) (λ _. bits_from_holds v.secrecy v)
 
-  catenated_holds : (x y : Value) → P _ (joined_from (Private None) Plain x y) (joined_from (Private None) Plain x y)
+  pub catenated_holds : (x y : Value) → P _ (joined_from (Private None) Plain x y) (joined_from (Private None) Plain x y)
   catenated_holds x y = law.bind (number_holds x) (λ u. law.bind (number_holds y) (λ v. law.bind (law.on_gate _) (λ r. law.on_done _)))
 
-  joined_from_holds : (a b : Secrecy) (x y : Value) → P _ (joined_from a b x y) (joined_from a b x y)
+  pub joined_from_holds : (a b : Secrecy) (x y : Value) → P _ (joined_from a b x y) (joined_from a b x y)
   joined_from_holds Plain Plain x y = law.on_done _
   joined_from_holds Plain (Private k) x y = catenated_holds x y
   joined_from_holds (Private j) Plain x y = catenated_holds x y
   joined_from_holds (Private j) (Private k) x y = catenated_holds x y
 
-  joined_holds : (line : ℕ) (x y : Value) → P _ (joined line x y) (joined line x y)
+  pub joined_holds : (line : ℕ) (x y : Value) → P _ (joined line x y) (joined line x y)
   joined_holds line x y = law.bind (charged_holds _ _ (law.on_test _ _ _)) (λ _. joined_from_holds x.secrecy y.secrecy x y)
 
-  element_from_holds : (x : Secrecy) (v : Value) (i : ℕ) → P _ (element_from x v i) (element_from x v i)
+  pub element_from_holds : (x : Secrecy) (v : Value) (i : ℕ) → P _ (element_from x v i) (element_from x v i)
   element_from_holds Plain v i = law.on_done _
   element_from_holds (Private k) v i = law.bind (number_holds v) (λ u. law.bind (law.on_gate _) (λ r. law.on_done _))
 
-  element_holds : (line : ℕ) (v i : Value) → P _ (element_of_array line v i) (element_of_array line v i)
+  pub element_holds : (line : ℕ) (v i : Value) → P _ (element_of_array line v i) (element_of_array line v i)
   element_holds line v i = law.bind (law.on_charge 1) (λ _. law.bind (law.on_test _ _ _) (λ _. element_from_holds v.secrecy v _))
 
-  with_element_from_holds : (a : Secrecy) (v : Value) (i : ℕ) (x : Value) → P _ (with_element_from a v i x) (with_element_from a v i x)
+  pub with_element_from_holds : (a : Secrecy) (v : Value) (i : ℕ) (x : Value) → P _ (with_element_from a v i x) (with_element_from a v i x)
   with_element_from_holds Plain v i x = law.on_done _
   with_element_from_holds (Private k) v i x = law.bind (number_holds v) (λ u. law.bind (number_holds x) (λ e. law.bind (law.on_gate _) (λ r. law.on_done _)))
 
-  with_element_holds : (line : ℕ) (v i x : Value) → P _ (with_element line v i x) (with_element line v i x)
+  pub with_element_holds : (line : ℕ) (v i x : Value) → P _ (with_element line v i x) (with_element line v i x)
   with_element_holds line v i x = law.bind (law.on_charge 1) (λ _. law.bind (law.on_test _ _ _) (λ _. with_element_from_holds v.secrecy v _ x))
 
-  filled_from_holds : (a : Secrecy) (n : ℕ) (x : Value) → P _ (filled_from a n x) (filled_from a n x)
+  pub filled_from_holds : (a : Secrecy) (n : ℕ) (x : Value) → P _ (filled_from a n x) (filled_from a n x)
   filled_from_holds Plain n x = law.on_done _
   filled_from_holds (Private k) n x = law.bind (number_holds x) (λ u. law.bind (law.on_gate _) (λ r. law.on_done _))
 
-  filled_holds : (line : ℕ) (n x : Value) → P _ (filled line n x) (filled line n x)
+  pub filled_holds : (line : ℕ) (n x : Value) → P _ (filled line n x) (filled line n x)
   filled_holds line n x = law.bind (charged_holds _ _ (law.on_test _ _ _)) (λ _. filled_from_holds x.secrecy _ x)
 
-  handed_holds : (x : Secrecy) (v : Value) → P _ (handed_over w x v) (handed_over w' x v)
+  pub handed_holds : (x : Secrecy) (v : Value) → P _ (handed_over w x v) (handed_over w' x v)
   handed_holds Plain v = law.on_done tt
   handed_holds (Private k) v = law.bind (law.on_draw _) (λ _. law.bind (number_holds v) (λ u. law.bind (law.on_gate _) (λ _. law.on_done tt)))
 
-  published_holds : (text : List ℕ) (v : Value) → P _ (published w text v) (published w' text v)
+  pub published_holds : (text : List ℕ) (v : Value) → P _ (published w text v) (published w' text v)
   published_holds text v = law.bind (untrapped_holds (size v)) (λ _. law.bind (handed_holds v.secrecy v) (λ _. law.on_emit _))
 
-  tested_holds : (v : Value) → P _ (tested v) (tested v)
+  pub tested_holds : (v : Value) → P _ (tested v) (tested v)
   tested_holds v = law.bind (law.on_charge 1) (λ _. law.on_done _)
 
-  asserted_holds : (line : ℕ) (v : Value) → P _ (asserted line v) (asserted line v)
+  pub asserted_holds : (line : ℕ) (v : Value) → P _ (asserted line v) (asserted line v)
   asserted_holds line v = law.bind (law.on_charge 1) (λ _. law.on_test _ _ _)
 
   -- ---- INPUTS
 
-  given_holds : (secret : Bool) (x : Given) (k : ℕ) → P _ (given_value secret x k) (given_value secret x k)
+  pub given_holds : (secret : Bool) (x : Given) (k : ℕ) → P _ (given_value secret x k) (given_value secret x k)
   given_holds false x k = law.on_done _
   given_holds true x k = law.bind (law.on_gate _) (λ r. law.on_done _)
 
-  asked_holds : (secret : Bool) (shape : Shape) (line : ℕ) (o : Option (Given × ℕ)) → P _ (asked_for secret shape line o) (asked_for secret shape line o)
+  pub asked_holds : (secret : Bool) (shape : Shape) (line : ℕ) (o : Option (Given × ℕ)) → P _ (asked_for secret shape line o) (asked_for secret shape line o)
   asked_holds secret shape line None = law.bind (law.on_charge 1) (λ _. law.on_end _)
   asked_holds secret shape line (Some x) = law.bind (charged_holds _ _ (law.on_test _ _ _)) (λ _. given_holds secret x.0 x.1)
 
-  input_holds : (secret : Bool) (shape : Shape) (line : ℕ) (text : List ℕ) → P _ (asked_for secret shape line (input_named w text)) (asked_for secret shape line (input_named w' text))
+  pub input_holds : (secret : Bool) (shape : Shape) (line : ℕ) (text : List ℕ) → P _ (asked_for secret shape line (input_named w text)) (asked_for secret shape line (input_named w' text))
   input_holds secret shape line text =
       subst (λ xs. P _ (asked_for secret shape line (input_named w text)) (asked_for secret shape line (input_from 0 text xs))) law.inputs (asked_holds secret shape line (input_named w text))
 

@@ -21,7 +21,7 @@ same_domain-Decides Public (Private m) = (λ e. cc, λ e. cc)
 same_domain-Decides (Private k) Public = (λ e. cc, λ e. cc)
 same_domain-Decides (Private k) (Private m) = (λ e. ap Private (eqb-true k m e), λ e. let same : k ≡ m = cc in eq-eqb k m same)
 
-same_instance-Decides : (i j : Instance) → Decides (same_instance i j) (i ≡ j)
+pub same_instance-Decides : (i j : Instance) → Decides (same_instance i j) (i ≡ j)
 same_instance-Decides i j = (told, back)
   where
     lists : Decides (pointwise same_domain i.binding j.binding) (i.binding ≡ j.binding)

@@ -1,0 +1,201 @@
+-- A body that always returns gives a value back wherever it ends.
+use Rattle.std.proofs.Common.{◌≡◌, ℕ, zero, suc, ◌+◌, List, Some, None, Ok, Err, Bool, true, false, ◌&&◌, ◌||◌, refl, ap, ◌∙◌}
+use Rattle.typed_tree.specs.Commands.{Command, Commands, empty_command, block_command, if_command, loop_command, do_command, break_command, continue_command}
+use Rattle.typed_tree.specs.Commands.{return_command, assert_command, store_command, default_command, fill_command, input_command, element_command}
+use Rattle.typed_tree.specs.Commands.{publish_command, evaluate_command}
+use Rattle.typed_tree.specs.Commands as Commands'
+use Rattle.typed_tree.specs.Tree.{TypedTree}
+use Rattle.reached_instances.specs.declared.instance.BoundDomain.{BoundDomain}
+use Rattle.reached_instances.specs.Domains.{Setting}
+use Rattle.sc_text.specs.declared.end.Ending.{Ending}
+use Rattle.sc_text.specs.declared.end.Ending.TheVariants as ending
+use Rattle.language_model.specs.Effects.{World, Stage, Run, Effect, ◌>>=◌, carry, done, end}
+use Rattle.language_model.specs.Values.{Value, size}
+use Rattle.language_model.specs.Operations.{charged, no_traps, tested, wanted, asserted, published, filled, with_element}
+use Rattle.language_model.specs.Evaluation.{Frame, put, Calls, Place, slot_is_private, slot_shape, asked_for, input_named, either, value, Flow, goes, returns}
+use Rattle.language_model.specs.Evaluation.{stops, skips, then_do, turned, turns, repeats, stored, execute, execute_all}
+use Rattle.code_model.specs.Fit.{IsFitCommand, AreFitCommands, always_returns, one_returns}
+
+-- where a statement leads, inside of a loop or not, that always returns or not
+abbrev pub Leads : (inside always : Bool) → Flow → Type 0
+Leads inside always (goes fr) = always ≡ false
+Leads inside always (returns v) = Unit {0}
+Leads inside always (stops fr) = inside ≡ true
+Leads inside always (skips fr) = inside ≡ true
+
+abbrev pub LeadsAt : (inside always : Bool) → Run Flow → Type 0
+LeadsAt inside always (Ok x) = Leads inside always x.0
+LeadsAt inside always (Err e) = Unit {0}
+
+pub record Yields (inside always : Bool) (c : Effect Flow) : Type 0 where
+  pub from : (s : Stage) → LeadsAt inside always (c s)
+
+yields_done : {inside always : Bool} {g : Flow} → Leads inside always g → Yields inside always (done g)
+yields_done h = record { from = λ s. h }
+
+yields_end : {inside always : Bool} (e : Ending) → Yields inside always (end e)
+yields_end e = record { from = λ s. tt }
+
+yields_after : {A : Type 0} {inside always : Bool} (c : Effect A) (f : A → Effect Flow) → ((a : A) → Yields inside always (f a)) → Yields inside always
+    (c >>= f)
+yields_after {A = A} {inside = inside} {always = always} c f k = record { from = λ s. go (c s) }
+  where
+    go : (r : Run A) → LeadsAt inside always (carry r f)
+    go (Ok x) = (k x.0).from x.1
+    go (Err e) = tt
+
+yields_then : {inside always always' : Bool} {c : Effect Flow} {f : Flow → Effect Flow} → Yields inside always c
+    → ((g : Flow) → Leads inside always g → Yields inside always' (f g)) → Yields inside always' (c >>= f)
+yields_then {inside = inside} {always = always} {always' = always'} {c = c} {f = f} h k = record { from = λ s. go (c s) (h.from s) }
+  where
+    go : (r : Run Flow) → LeadsAt inside always r → LeadsAt inside always' (carry r f)
+    go (Ok x) h = (k x.0 h).from x.1
+    go (Err e) h = tt
+
+-- all that goes on is a statement that need not return
+yields_less : {inside : Bool} (always always' : Bool) {c : Effect Flow} → (always ≡ false → always' ≡ false) → Yields inside always c → Yields inside always' c
+yields_less {inside = inside} always always' {c = c} l h = record { from = λ s. go (c s) (h.from s) }
+  where
+    flow : (g : Flow) → Leads inside always g → Leads inside always' g
+    flow (goes fr) h = l h
+    flow (returns v) h = tt
+    flow (stops fr) h = h
+    flow (skips fr) h = h
+
+    go : (r : Run Flow) → LeadsAt inside always r → LeadsAt inside always' r
+    go (Ok x) h = flow x.0 h
+    go (Err e) h = tt
+
+-- behind the body of a loop
+yields_loop : {inside : Bool} (g : Flow) (f : Frame → Effect Flow) → ((fr : Frame) → Yields inside false (f fr)) → Yields inside false (turned g f)
+yields_loop (goes fr) f h = h fr
+yields_loop (skips fr) f h = h fr
+yields_loop (stops fr) f h = yields_done refl
+yields_loop (returns v) f h = yields_done tt
+
+pub turns_yield : {inside : Bool} (n : ℕ) (condition : Frame → Effect Value) (st b : Frame → Effect Flow) (fr : Frame) → Yields inside false
+    (turns n condition st b fr)
+unfolding turns
+turns_yield zero condition st b fr = yields_end ending.Budget
+turns_yield {inside = inside} (suc n) condition st b fr = yields_after (condition fr) (λ v. tested v >>= λ o. turn o)
+    (λ v. yields_after (tested v) turn (λ o. go o (λ f. turns_yield n condition st b f)))
+  where
+    rest : Frame → Effect Flow
+    rest = turns n condition st b
+
+    stepping : Frame → Effect Flow
+    stepping f = st f >>= λ h. turned h rest
+
+    turn : Bool → Effect Flow
+    turn o = either o (b fr >>= λ g. turned g stepping) (done (goes fr))
+
+    go : (o : Bool) → ((f : Frame) → Yields inside false (rest f)) → Yields inside false (turn o)
+    go true ih = yields_after (b fr) (λ g. turned g stepping)
+        (λ g. yields_loop g stepping (λ f. yields_after (st f) (λ h. turned h rest) (λ h. yields_loop h rest ih)))
+    go false ih = yields_done refl
+
+pub repeats_yield : {inside : Bool} (n : ℕ) (condition : Frame → Effect Value) (b : Frame → Effect Flow) (fr : Frame) → Yields inside false
+    (repeats n condition b fr)
+unfolding repeats
+repeats_yield zero condition b fr = yields_end ending.Budget
+repeats_yield {inside = inside} (suc n) condition b fr = yields_after (b fr) (λ g. turned g testing)
+    (λ g. yields_loop g testing (λ f. yields_after (condition f) (λ v. tested v >>= λ o. turn o f)
+    (λ v. yields_after (tested v) (λ o. turn o f) (λ o. go o f (λ f'. repeats_yield n condition b f')))))
+  where
+    rest : Frame → Effect Flow
+    rest = repeats n condition b
+
+    turn : Bool → Frame → Effect Flow
+    turn o f = either o (rest f) (done (goes f))
+
+    testing : Frame → Effect Flow
+    testing f = condition f >>= λ v. tested v >>= λ o. turn o f
+
+    go : (o : Bool) (f : Frame) → ((f' : Frame) → Yields inside false (rest f')) → Yields inside false (turn o f)
+    go true f ih = ih f
+    go false f ih = yields_done refl
+
+and_false : (a b : Bool) → a ≡ false → (a && b) ≡ false
+and_false false b h = refl
+and_false true b h = absurd (clash h)
+  where
+    clash : true ≡ false → ⊥
+    clash h = cc
+
+and_false_right : (a b : Bool) → b ≡ false → (a && b) ≡ false
+and_false_right false b h = refl
+and_false_right true b h = h
+
+or_false : (a b : Bool) → a ≡ false → b ≡ false → (a || b) ≡ false
+or_false a b h k = ap (λ z. z || b) h ∙ k
+
+module _ (Known : ℕ → List BoundDomain → Type 0) (w : World) (calls : Calls) (place : Place) where
+  abbrev evaluated : TypedTree → Frame → Effect Value
+  evaluated e fr = value w calls place.here e fr
+
+  stored_yields : {inside : Bool} (here : Setting) (k : ℕ) (x : Value) (fr : Frame) → Yields inside false (stored here k x fr)
+  stored_yields here k x fr = yields_after (wanted (slot_is_private here k) x) (λ v. charged no_traps (size v) >>= λ u. done (goes (put k v fr)))
+      (λ v. yields_after (charged no_traps (size v)) (λ u. done (goes (put k v fr))) (λ u. yields_done refl))
+
+  -- two operands, and a store in a slot
+  sets_yield : {inside : Bool} (k : ℕ) (a b : TypedTree) (c : Value → Value → Effect Value) (fr : Frame) → Yields inside false
+      (evaluated a fr >>= λ j. evaluated b fr >>= λ x. wanted (slot_is_private place.here k) x >>= λ v. c j v >>= λ z. done (goes (put k z fr)))
+  sets_yield k a b c fr =
+      yields_after (evaluated a fr) _ (λ j. yields_after (evaluated b fr) _ (λ x. yields_after (wanted (slot_is_private place.here k) x) _
+      (λ v. yields_after (c j v) (λ z. done (goes (put k z fr))) (λ z. yields_done refl))))
+
+  -- an expression, something with its value, and on
+  goes_on : {inside : Bool} (e : TypedTree) (c : Value → Effect (Unit {0})) (fr : Frame) → Yields inside false
+      (evaluated e fr >>= λ v. c v >>= λ u. done (goes fr))
+  goes_on e c fr = yields_after (evaluated e fr) (λ v. c v >>= λ u. done (goes fr)) (λ v. yields_after (c v) (λ u. done (goes fr)) (λ u. yields_done refl))
+
+  choice : {inside : Bool} (o : Bool) (a b : Command) (m n : Effect Flow) → Yields inside (always_returns a) m → Yields inside (always_returns b) n → Yields
+      inside (always_returns a && always_returns b) (either o m n)
+  choice true a b m n h k = yields_less (always_returns a) (always_returns a && always_returns b) (and_false (always_returns a) (always_returns b)) h
+  choice false a b m n h k = yields_less (always_returns b) (always_returns a && always_returns b) (and_false_right (always_returns a) (always_returns b)) k
+
+  sequence : {inside : Bool} (a b : Bool) (f : Frame → Effect Flow) → ((fr : Frame) → Yields inside b (f fr)) → (g : Flow) → Leads inside a g → Yields inside
+      (a || b) (then_do g f)
+  sequence a b f k (goes fr1) h = yields_less b (a || b) (or_false a b h) (k fr1)
+  sequence a b f k (returns v) h = yields_done tt
+  sequence a b f k (stops fr1) h = yields_done h
+  sequence a b f k (skips fr1) h = yields_done h
+
+  mutual
+    unfolding execute execute_all
+
+    command_yields : (i : Bool) (c : Command) → IsFitCommand Known place i c → (fr : Frame) → Yields i (always_returns c) (execute w calls place c fr)
+    command_yields i empty_command fit fr = yields_done refl
+    command_yields i (block_command cs) fit fr = commands_yield i cs fit fr
+    command_yields i (if_command e a b) fit fr =
+        yields_after (evaluated e fr) (λ v. tested v >>= λ o. either o (execute w calls place a fr) (execute w calls place b fr))
+        (λ v. yields_after (tested v) (λ o. either o (execute w calls place a fr) (execute w calls place b fr))
+        (λ o. choice o a b (execute w calls place a fr) (execute w calls place b fr) (command_yields i a fit.1 fr) (command_yields i b fit.2 fr)))
+    command_yields i (loop_command e step body) fit fr =
+        record {
+          from = λ s. (turns_yield {inside = i} (s.left + 1) (value w calls place.here e) (execute w calls place step) (execute w calls place body)
+              fr).from s;
+        }
+    command_yields i (do_command body e) fit fr = record
+        { from = λ s. (repeats_yield {inside = i} (s.left + 1) (value w calls place.here e) (execute w calls place body) fr).from s }
+    command_yields i break_command fit fr = yields_done fit
+    command_yields i continue_command fit fr = yields_done fit
+    command_yields i (return_command None) fit fr = yields_done tt
+    command_yields i (return_command (Some e)) fit fr = yields_after (evaluated e fr) (λ x. wanted place.secret_result x >>= λ v. done (returns v))
+        (λ x. yields_after (wanted place.secret_result x) (λ v. done (returns v)) (λ v. yields_done tt))
+    command_yields i (assert_command line e) fit fr = goes_on e (asserted line) fr
+    command_yields i (store_command k e) fit fr = yields_after (evaluated e fr) (λ x. stored place.here k x fr) (λ x. stored_yields place.here k x fr)
+    command_yields i (default_command k) fit fr = stored_yields place.here k _ fr
+    command_yields i (fill_command line k n e) fit fr = sets_yield k n e (filled line) fr
+    command_yields i (input_command line k text) fit fr =
+        yields_after (asked_for (slot_is_private place.here k) (slot_shape place.here k) line (input_named w text)) (λ x. stored place.here k x fr)
+        (λ x. stored_yields place.here k x fr)
+    command_yields i (element_command line k j e) fit fr = sets_yield k j e (with_element line (fr k)) fr
+    command_yields i (publish_command text e) fit fr = goes_on e (published w text) fr
+    command_yields i (evaluate_command e) fit fr = yields_after (evaluated e fr) (λ v. done (goes fr)) (λ v. yields_done refl)
+
+    pub commands_yield : (i : Bool) (cs : Commands) → AreFitCommands Known place i cs → (fr : Frame) → Yields i (one_returns cs)
+        (execute_all w calls place cs fr)
+    commands_yield i Commands'.none fit fr = yields_done refl
+    commands_yield i (Commands'.also c cs) fit fr = yields_then (command_yields i c fit.0 fr)
+        (sequence (always_returns c) (one_returns cs) (execute_all w calls place cs) (λ fr1. commands_yield i cs fit.1 fr1))

@@ -1,0 +1,255 @@
+-- Neither the place of a piece of code nor where its breaks and continues lead changes how long it is.
+use Rattle.std.proofs.Common.{◌≡◌, ℕ, ◌+◌, List, [], ◌∷◌, ◌++◌, length, Some, None, Bool, true, false, refl, arith, length-append}
+use Rattle.std.specs.Prelude.{slice_get}
+use Rattle.typed_tree.specs.declared.kinds.Slot.{Slot}
+use Rattle.typed_tree.specs.declared.operators.BinaryOperator.{BinaryOperator}
+use Rattle.typed_tree.specs.declared.operators.BinaryOperator.TheVariants as binary
+use Rattle.typed_tree.specs.declared.operators.Operands.{Operands}
+use Rattle.typed_tree.specs.declared.operators.Operands.TheVariants.{Scalars}
+use Rattle.typed_tree.specs.declared.operators.Connective.{Connective}
+use Rattle.secrec_ast.specs.declared.expression.DataType.TheVariants as datatype
+use Rattle.typed_tree.specs.Tree.{TypedTree, TypedTrees, word_node, truth_node, slot_node, call_node, size_node, cat_node, sum_node, bits_node, element_node}
+use Rattle.typed_tree.specs.Tree.{not_node, cast_node, binary_node, cut_node, declassify_node}
+use Rattle.typed_tree.specs.Tree as Tree'
+use Rattle.typed_tree.specs.Commands.{Command, Commands, empty_command, block_command, if_command, loop_command, do_command, break_command, continue_command}
+use Rattle.typed_tree.specs.Commands.{return_command, assert_command, store_command, default_command, fill_command, input_command, element_command}
+use Rattle.typed_tree.specs.Commands.{publish_command, evaluate_command}
+use Rattle.typed_tree.specs.Commands as Commands'
+use Rattle.reached_instances.specs.declared.instance.BoundDomain.{BoundDomain}
+use Rattle.reached_instances.specs.Domains.{Setting, domains}
+use Rattle.language_model.specs.Words.{truth_word}
+use Rattle.language_model.specs.Evaluation.{Place, gives_private, slots_of, bound_at, next_is_private, behind_next, connective, either}
+use Rattle.verified_code.specs.Steps.{Step, Literal, Move, Branch, Jump}
+use Rattle.code_model.specs.Kinds.{width}
+use Rattle.code_model.specs.Expressions.{Numbers, classifying, lacks, mixes, binary_code, cat_code, element_code, deciding, settling, cut_code}
+use Rattle.code_model.specs.Expressions.{expression_code, arguments_code, unread_code}
+use Rattle.code_model.specs.Commands.{command_width, command_code, commands_code}
+
+append_same : (a a' b b' : List Step) → length a ≡ length a' → length b ≡ length b' → length (a ++ b) ≡ length (a' ++ b')
+append_same a a' b b' e f = omega (arith, e, f, length-append a b, length-append a' b')
+
+-- codes of one length at each place
+abbrev SameLengths : (ℕ → List Step) → Type 0
+SameLengths b = (q q' : ℕ) → length (b q) ≡ length (b q')
+
+binary_length : (t u pc pc' line : ℕ) (op : BinaryOperator) (ds : Operands) (ga gb : Bool) (a a' : List Step) (b : ℕ → List Step) → length a ≡ length a'
+    → SameLengths b
+    → length (binary_code t u pc line op ds ga gb a b) ≡ length (binary_code t u pc' line op ds ga gb a' b)
+binary_length t u pc pc' line op ds ga gb a a' b e f =
+    let l = mixes op ga gb in
+    let r = mixes op gb ga in
+    append_same a a' _ _ e (append_same (b (pc + length a)) (b (pc' + length a')) _ _ (f (pc + length a) (pc' + length a')) refl)
+
+cat_length : (t u pc pc' line : ℕ) (l r : Bool) (a a' : List Step) (b : ℕ → List Step) → length a ≡ length a' → SameLengths b → length
+    (cat_code t u pc line l r a b) ≡ length (cat_code t u pc' line l r a' b)
+cat_length t u pc pc' line l r a a' b e f =
+    let cl = classifying l (t + 1) (t + 3) in
+    append_same a a' _ _ e (append_same cl cl _ _ refl (append_same (b (pc + length a + length cl)) (b (pc' + length a' + length cl)) _ _
+    (f (pc + length a + length cl) (pc' + length a' + length cl)) refl))
+
+element_length : (t u pc pc' line : ℕ) (a a' : List Step) (b : ℕ → List Step) → length a ≡ length a' → SameLengths b → length (element_code t u pc line a b)
+    ≡ length (element_code t u pc' line a' b)
+element_length t u pc pc' line a a' b e f = append_same a a' _ _ e (append_same (b (pc + length a)) (b (pc' + length a')) _ _
+    (f (pc + length a) (pc' + length a')) refl)
+
+cut_length : (t u pc pc' : ℕ) (c : Connective) (secret : Bool) (a a' : List Step) (b : ℕ → List Step) → length a ≡ length a' → SameLengths b → length
+    (cut_code t u pc c secret a b) ≡ length (cut_code t u pc' c secret a' b)
+cut_length t u pc pc' c secret a a' b e f =
+    let pb = pc + length a + 1 in
+    let pd = pb + length (b pb) + 2 in
+    let last = Move t u ∷ Jump (pd + 2) ∷ Literal (t + 1) datatype.Bool (truth_word (deciding c)) ∷ settling secret t (t + 1) ∷ [] in
+    let pb' = pc' + length a' + 1 in
+    let pd' = pb' + length (b pb') + 2 in
+    let last' = Move t u ∷ Jump (pd' + 2) ∷ Literal (t + 1) datatype.Bool (truth_word (deciding c)) ∷ settling secret t (t + 1) ∷ [] in
+    omega (
+      arith,
+      e,
+      f pb pb',
+      length-append a (Branch (t + 3) (deciding c) pd ∷ (b pb ++ last)),
+      length-append (b pb) last,
+      length-append a'
+          (Branch (t + 3) (deciding c) pd' ∷ (b pb' ++ last')),
+      length-append (b pb') last',
+    )
+
+either_length : (g : Bool) (a a' b b' : List Step) → length a ≡ length a' → length b ≡ length b' → length (either g a b) ≡ length (either g a' b')
+either_length true a a' b b' e f = e
+either_length false a a' b b' e f = f
+
+module _ (number : Numbers) where
+  mutual
+    pub expression_length : (here : Setting) (e : TypedTree) (t pc pc' : ℕ) → length (expression_code number here t pc e) ≡ length
+        (expression_code number here t pc' e)
+    expression_length here (word_node n) t pc pc' = refl
+    expression_length here (truth_node b) t pc pc' = refl
+    expression_length here (slot_node k) t pc pc' = refl
+    expression_length here (call_node line k es) t pc pc' =
+        append_same _ _ _ _ (arguments_length here (bound_at (slice_get here.functions k) (domains here es)) (slots_of (slice_get here.functions k)) es
+        (t + 1) pc pc') refl
+    expression_length here (size_node e) t pc pc' = append_same _ _ _ _ (expression_length here e (t + 1) pc pc') refl
+    expression_length here (cat_node line a b) t pc pc' =
+        cat_length t (t + 3 + width a) pc pc' line (lacks (gives_private here (cat_node line a b)) (gives_private here a))
+        (lacks (gives_private here (cat_node line a b)) (gives_private here b)) _ _ _ (expression_length here a (t + 3) pc pc')
+        (λ q q'. expression_length here b (t + 3 + width a) q q')
+    expression_length here (sum_node e) t pc pc' = append_same _ _ _ _ (expression_length here e (t + 1) pc pc') refl
+    expression_length here (bits_node line e) t pc pc' = append_same _ _ _ _ (expression_length here e (t + 1) pc pc') refl
+    expression_length here (element_node line a i) t pc pc' =
+        element_length t (t + 1 + width a) pc pc' line _ _ _ (expression_length here a (t + 1) pc pc') (λ q q'. expression_length here i (t + 1 + width a) q q')
+    expression_length here (not_node e) t pc pc' = append_same _ _ _ _ (expression_length here e (t + 1) pc pc') refl
+    expression_length here (cast_node c e) t pc pc' = append_same _ _ _ _ (expression_length here e (t + 1) pc pc') refl
+    expression_length here (binary_node line op ds a b) t pc pc' =
+        binary_length t (t + 3 + width a) pc pc' line op ds (gives_private here a) (gives_private here b) _ _ _ (expression_length here a (t + 3) pc pc')
+        (λ q q'. expression_length here b (t + 3 + width a) q q')
+    expression_length here (cut_node c a b) t pc pc' =
+        either_length (gives_private here a) _ _ _ _
+        (binary_length t (t + 3 + width a) pc pc' 0 (binary.Bools (connective c)) Scalars (gives_private here a) (gives_private here b) _ _ _
+        (expression_length here a (t + 3) pc pc')
+        (λ q q'. expression_length here b (t + 3 + width a) q q'))
+        (cut_length t (t + 3 + width a) pc pc' c (gives_private here b) _ _ _ (expression_length here a (t + 3) pc pc')
+        (λ q q'. expression_length here b (t + 3 + width a) q q'))
+    expression_length here (declassify_node e) t pc pc' = append_same _ _ _ _ (expression_length here e (t + 1) pc pc') refl
+
+    arguments_length : (here : Setting) (b : List BoundDomain) (ss : List Slot) (es : TypedTrees) (t pc pc' : ℕ) → length
+        (arguments_code number here b ss t pc es) ≡ length (arguments_code number here b ss t pc' es)
+    arguments_length here b ss Tree'.none t pc pc' = refl
+    arguments_length here b ss (Tree'.also e es) t pc pc' =
+        let cl = classifying (lacks (next_is_private b ss) (gives_private here e)) t (t + 1) in
+        append_same _ _ _ _ (expression_length here e (t + 1) pc pc')
+        (append_same cl cl _ _ refl (arguments_length here b (behind_next ss) es (t + 1 + width e) (pc + length (expression_code number here (t + 1) pc e) +
+        length cl) (pc' + length (expression_code number here (t + 1) pc' e) + length cl)))
+
+  unread_length : (here : Setting) (e : TypedTree) (t pc pc' : ℕ) → length (unread_code number here t pc e) ≡ length (unread_code number here t pc' e)
+  unread_length here (call_node line k es) t pc pc' =
+      append_same _ _ _ _ (arguments_length here (bound_at (slice_get here.functions k) (domains here es)) (slots_of (slice_get here.functions k)) es (t + 1)
+      pc pc') refl
+  unread_length here (word_node n) t pc pc' = expression_length here (word_node n) t pc pc'
+  unread_length here (truth_node b) t pc pc' = expression_length here (truth_node b) t pc pc'
+  unread_length here (slot_node k) t pc pc' = expression_length here (slot_node k) t pc pc'
+  unread_length here (size_node e) t pc pc' = expression_length here (size_node e) t pc pc'
+  unread_length here (cat_node line a b) t pc pc' = expression_length here (cat_node line a b) t pc pc'
+  unread_length here (sum_node e) t pc pc' = expression_length here (sum_node e) t pc pc'
+  unread_length here (bits_node line e) t pc pc' = expression_length here (bits_node line e) t pc pc'
+  unread_length here (element_node line a i) t pc pc' = expression_length here (element_node line a i) t pc pc'
+  unread_length here (not_node e) t pc pc' = expression_length here (not_node e) t pc pc'
+  unread_length here (cast_node c e) t pc pc' = expression_length here (cast_node c e) t pc pc'
+  unread_length here (binary_node line op ds a b) t pc pc' = expression_length here (binary_node line op ds a b) t pc pc'
+  unread_length here (cut_node c a b) t pc pc' = expression_length here (cut_node c a b) t pc pc'
+  unread_length here (declassify_node e) t pc pc' = expression_length here (declassify_node e) t pc pc'
+
+  -- an expression, and steps that hang on no place
+  behind_expression : (here : Setting) (e : TypedTree) (t pc pc' : ℕ) (is : List Step) → length (expression_code number here t pc e ++ is) ≡ length
+      (expression_code number here t pc' e ++ is)
+  behind_expression here e t pc pc' is = append_same _ _ is is (expression_length here e t pc pc') refl
+
+  behind_both : (here : Setting) (a b : TypedTree) (t u pc pc' : ℕ) (is : List Step) → length
+      (expression_code number here t pc a ++ (expression_code number here u (pc + length (expression_code number here t pc a)) b ++ is)) ≡ length
+      (expression_code number here t pc' a ++ (expression_code number here u (pc' + length (expression_code number here t pc' a)) b ++ is))
+  behind_both here a b t u pc pc' is =
+      append_same _ _ _ _ (expression_length here a t pc pc') (behind_expression here b u (pc + length (expression_code number here t pc a))
+      (pc' + length (expression_code number here t pc' a)) is)
+
+  mutual
+    pub command_length : (at : Place) (c : Command) (t x y pc x' y' pc' : ℕ) → length (command_code number at t x y pc c) ≡ length
+        (command_code number at t x' y' pc' c)
+    command_length at empty_command t x y pc x' y' pc' = refl
+    command_length at (block_command cs) t x y pc x' y' pc' = commands_length at cs t x y pc x' y' pc'
+    command_length at (if_command e a b) t x y pc x' y' pc' =
+        let ta = t + width e in
+        let tb = ta + command_width a in
+        let ce = expression_code number at.here t pc e in
+        let pa = pc + length ce + 1 in
+        let ca = command_code number at ta x y pa a in
+        let pb = pa + length ca + 1 in
+        let cb = command_code number at tb x y pb b in
+        let ce' = expression_code number at.here t pc' e in
+        let pa' = pc' + length ce' + 1 in
+        let ca' = command_code number at ta x' y' pa' a in
+        let pb' = pa' + length ca' + 1 in
+        let cb' = command_code number at tb x' y' pb' b in
+        omega (
+          arith,
+          length-append ce (Branch t false pb ∷ (ca ++ (Jump (pb + length cb) ∷ cb))),
+          length-append ca (Jump (pb + length cb) ∷ cb),
+          length-append ce' (Branch t false pb' ∷ (ca' ++ (Jump (pb' + length cb') ∷ cb'))),
+          length-append ca' (Jump (pb' + length cb') ∷ cb'),
+          expression_length at.here e t pc pc',
+          command_length at a ta x y pa x' y' pa',
+          command_length at b tb x y pb x' y' pb',
+        )
+    command_length at (loop_command e step body) t x y pc x' y' pc' =
+        let ts = t + command_width body in
+        let te = ts + command_width step in
+        let n1 = length (command_code number at t 0 0 0 body) in
+        let n2 = length (command_code number at ts 0 0 0 step) in
+        let n3 = length (expression_code number at.here te 0 e) in
+        let over = pc + 1 + n1 in
+        let again = over + n2 in
+        let out = again + n3 + 1 in
+        let ca = command_code number at t out over (pc + 1) body in
+        let py = pc + 1 + length ca in
+        let cb = command_code number at ts out again py step in
+        let pt = py + length cb in
+        let ce = expression_code number at.here te pt e in
+        let over' = pc' + 1 + n1 in
+        let again' = over' + n2 in
+        let out' = again' + n3 + 1 in
+        let ca' = command_code number at t out' over' (pc' + 1) body in
+        let py' = pc' + 1 + length ca' in
+        let cb' = command_code number at ts out' again' py' step in
+        let pt' = py' + length cb' in
+        let ce' = expression_code number at.here te pt' e in
+        omega (
+          arith,
+          length-append ca (cb ++ (ce ++ Branch te true (pc + 1) ∷ [])),
+          length-append cb (ce ++ Branch te true (pc + 1) ∷ []),
+          length-append ce (Branch te true (pc + 1) ∷ []),
+          length-append ca' (cb' ++ (ce' ++ Branch te true (pc' + 1) ∷ [])),
+          length-append cb' (ce' ++ Branch te true (pc' + 1) ∷ []),
+          length-append ce' (Branch te true (pc' + 1) ∷ []),
+          command_length at body t out over (pc + 1) out' over' (pc' + 1),
+          command_length at step ts out again py out' again' py',
+          expression_length at.here e te pt pt',
+        )
+    command_length at (do_command body e) t x y pc x' y' pc' =
+        let te = t + command_width body in
+        let n1 = length (command_code number at t 0 0 0 body) in
+        let n3 = length (expression_code number at.here te 0 e) in
+        let again = pc + n1 in
+        let out = again + n3 + 1 in
+        let ca = command_code number at t out again pc body in
+        let pt = pc + length ca in
+        let ce = expression_code number at.here te pt e in
+        let again' = pc' + n1 in
+        let out' = again' + n3 + 1 in
+        let ca' = command_code number at t out' again' pc' body in
+        let pt' = pc' + length ca' in
+        let ce' = expression_code number at.here te pt' e in
+        omega (
+          arith,
+          length-append ca (ce ++ Branch te true pc ∷ []),
+          length-append ce (Branch te true pc ∷ []),
+          length-append ca' (ce' ++ Branch te true pc' ∷ []),
+          length-append ce' (Branch te true pc' ∷ []),
+          command_length at body t out again pc out' again' pc',
+          expression_length at.here e te pt pt',
+        )
+    command_length at break_command t x y pc x' y' pc' = refl
+    command_length at continue_command t x y pc x' y' pc' = refl
+    command_length at (return_command None) t x y pc x' y' pc' = refl
+    command_length at (return_command (Some e)) t x y pc x' y' pc' = behind_expression at.here e (t + 1) pc pc' _
+    command_length at (assert_command line e) t x y pc x' y' pc' = behind_expression at.here e t pc pc' _
+    command_length at (store_command k e) t x y pc x' y' pc' = behind_expression at.here e (t + 1) pc pc' _
+    command_length at (default_command k) t x y pc x' y' pc' = refl
+    command_length at (fill_command line k n e) t x y pc x' y' pc' = behind_both at.here n e (t + 1) (t + 1 + width n) pc pc' _
+    command_length at (input_command line k text) t x y pc x' y' pc' = refl
+    command_length at (element_command line k i e) t x y pc x' y' pc' = behind_both at.here i e (t + 1) (t + 1 + width i) pc pc' _
+    command_length at (publish_command text e) t x y pc x' y' pc' = behind_expression at.here e t pc pc' _
+    command_length at (evaluate_command e) t x y pc x' y' pc' = unread_length at.here e t pc pc'
+
+    pub commands_length : (at : Place) (cs : Commands) (t x y pc x' y' pc' : ℕ) → length (commands_code number at t x y pc cs) ≡ length
+        (commands_code number at t x' y' pc' cs)
+    commands_length at Commands'.none t x y pc x' y' pc' = refl
+    commands_length at (Commands'.also c cs) t x y pc x' y' pc' =
+        append_same _ _ _ _ (command_length at c t x y pc x' y' pc')
+        (commands_length at cs (t + command_width c) x y (pc + length (command_code number at t x y pc c)) x' y'
+        (pc' + length (command_code number at t x' y' pc' c)))

@@ -1,0 +1,161 @@
+-- The list of reached instances has each instance that one of it calls.
+use Rattle.std.proofs.Common.{◌≡◌, ℕ, List, [], ◌∷◌, ◌++◌, Option, Some, None, Bool, true, false, refl, sym, ap, ◌∙◌, subst, ◌⊎◌, inl, inr}
+use Rattle.std.specs.Prelude.{slice_get}
+use Rattle.sc_text.specs.Lists.{Among}
+use Rattle.sc_text.proofs.Lists.{among_left, among_right}
+use Rattle.typed_tree.specs.declared.kinds.Slot.{Slot}
+use Rattle.typed_tree.specs.Tree.{TypedTree, TypedTrees, word_node, truth_node, slot_node, call_node, size_node, cat_node, sum_node, bits_node, element_node}
+use Rattle.typed_tree.specs.Tree.{not_node, cast_node, binary_node, cut_node, declassify_node}
+use Rattle.typed_tree.specs.Tree as Tree'
+use Rattle.typed_tree.specs.Commands.{Command, Commands, empty_command, block_command, if_command, loop_command, do_command, break_command, continue_command}
+use Rattle.typed_tree.specs.Commands.{return_command, assert_command, store_command, default_command, fill_command, input_command, element_command}
+use Rattle.typed_tree.specs.Commands.{publish_command, evaluate_command}
+use Rattle.typed_tree.specs.Commands as Commands'
+use Rattle.typed_tree.specs.Programs.{TypedFunctionTree, TypedProgramTree}
+use Rattle.reached_instances.specs.declared.instance.BoundDomain.{BoundDomain}
+use Rattle.reached_instances.specs.Domains.{Setting, domains, binding_of}
+use Rattle.reached_instances.specs.Instances.{Instance}
+use Rattle.reached_instances.specs.Calls.{called, calls, calls_of_all, command_calls, commands_calls, function_calls, called_by, main_of}
+use Rattle.reached_instances.specs.Reached.{IsReached, follows, IsReachedList}
+use Rattle.reached_instances.proofs.ReachedLists.{has_each_reached, begins_with_main}
+use Rattle.language_model.specs.Evaluation.{Place, place_in, bound_at, slots_of}
+use Rattle.code_model.specs.Fit.{IsFit, AreFit, FitsSlot, IsFitCommand, AreFitCommands, IsThere, IsKnownIn, IsFitFunction, IsFitInstance, IsFitAlone}
+use Rattle.code_model.specs.Fit.{IsFitProgram, the_main}
+
+none_some : {A : Type 0} {a : A} → ◌≡◌ {A = Option A} None (Some a) → ⊥
+none_some e = cc
+
+module _ (Known : ℕ → List BoundDomain → Type 0) where
+  abbrev AllKnown : List Instance → Type 0
+  AllKnown is = (j : Instance) → Among j is → Known j.function j.binding
+
+  front : (a b : List Instance) → AllKnown (a ++ b) → AllKnown a
+  front a b h = λ j m. h j (among_left j a b m)
+
+  rest : (a b : List Instance) → AllKnown (a ++ b) → AllKnown b
+  rest a b h = λ j m. h j (among_right j a b m)
+
+  call_known : (k : ℕ) (o : Option TypedFunctionTree) (ds : List BoundDomain) → (f : TypedFunctionTree) × (o ≡ Some f) → AllKnown (called k o ds) → Known k
+      (bound_at o ds)
+  call_known k None ds there h = absurd (none_some there.1)
+  call_known k (Some f) ds there h = h (record { function = k; binding = binding_of f ds }) (inl refl)
+
+  mutual
+    knows : (here : Setting) (e : TypedTree) → IsFit (IsThere here.functions) here e → AllKnown (calls here e) → IsFit Known here e
+    knows here (word_node n) fit h = tt
+    knows here (truth_node b) fit h = tt
+    knows here (slot_node k) fit h = fit
+    knows here (call_node line k es) fit h =
+        let o = slice_get here.functions k in
+        let ds = domains here es in (
+          call_known k o ds fit.0 (rest (calls_of_all here es) (called k o ds) h),
+          all_know here (bound_at o ds) (slots_of o) es fit.1 (front (calls_of_all here es) (called k o ds) h),
+        )
+    knows here (size_node e) fit h = knows here e fit h
+    knows here (cat_node line a b) fit h = (
+      knows here a fit.0 (front (calls here a) (calls here b) h),
+      knows here b fit.1
+          (rest (calls here a) (calls here b) h),
+    )
+    knows here (sum_node e) fit h = knows here e fit h
+    knows here (bits_node line e) fit h = knows here e fit h
+    knows here (element_node line a i) fit h = (
+      knows here a fit.0 (front (calls here a) (calls here i) h),
+      knows here i fit.1
+          (rest (calls here a) (calls here i) h),
+    )
+    knows here (not_node e) fit h = knows here e fit h
+    knows here (cast_node c e) fit h = knows here e fit h
+    knows here (binary_node line op ds a b) fit h = (
+      knows here a fit.0 (front (calls here a) (calls here b) h),
+      knows here b fit.1
+          (rest (calls here a) (calls here b) h),
+    )
+    knows here (cut_node c a b) fit h = (knows here a fit.0 (front (calls here a) (calls here b) h), knows here b fit.1 (rest (calls here a) (calls here b) h))
+    knows here (declassify_node e) fit h = knows here e fit h
+
+    all_know : (here : Setting) (b : List BoundDomain) (ss : List Slot) (es : TypedTrees) → AreFit (IsThere here.functions) here b ss es → AllKnown
+        (calls_of_all here es) → AreFit Known here b ss es
+    all_know here b ss Tree'.none fit h = tt
+    all_know here b [] (Tree'.also e es) fit h = fit
+    all_know here b (s ∷ ss) (Tree'.also e es) fit h =
+        (knows here e fit.0 (front (calls here e) (calls_of_all here es) h), fit.1, all_know here b ss es fit.2 (rest (calls here e) (calls_of_all here es) h))
+
+  slot_knows : (here : Setting) (k : ℕ) (e : TypedTree) → FitsSlot (IsThere here.functions) here k e → AllKnown (calls here e) → FitsSlot Known here k e
+  slot_knows here k e fit h = (fit.0, knows here e fit.1 h, fit.2)
+
+  mutual
+    command_knows : (at : Place) (i : Bool) (c : Command) → IsFitCommand (IsThere at.here.functions) at i c → AllKnown (command_calls at.here c)
+        → IsFitCommand Known at i c
+    command_knows at i empty_command fit h = tt
+    command_knows at i (block_command cs) fit h = commands_know at i cs fit h
+    command_knows at i (if_command e a b) fit h =
+        let ce = calls at.here e in
+        let ca = command_calls at.here a in
+        let cb = command_calls at.here b in
+        let more = rest ce (ca ++ cb) h in
+        (knows at.here e fit.0 (front ce (ca ++ cb) h), command_knows at i a fit.1 (front ca cb more), command_knows at i b fit.2 (rest ca cb more))
+    command_knows at i (loop_command e step body) fit h =
+        let ce = calls at.here e in
+        let cs = command_calls at.here step in
+        let cb = command_calls at.here body in
+        let more = rest cb (cs ++ ce) h in (
+          knows at.here e fit.0 (rest cs ce more),
+          command_knows at false step fit.1 (front cs ce more),
+          command_knows at true body fit.2
+              (front cb (cs ++ ce) h),
+        )
+    command_knows at i (do_command body e) fit h =
+        let ce = calls at.here e in
+        let cb = command_calls at.here body in
+        (command_knows at true body fit.0 (front cb ce h), knows at.here e fit.1 (rest cb ce h))
+    command_knows at i break_command fit h = fit
+    command_knows at i continue_command fit h = fit
+    command_knows at i (return_command None) fit h = fit
+    command_knows at i (return_command (Some e)) fit h = (knows at.here e fit.0 h, fit.1)
+    command_knows at i (assert_command line e) fit h = knows at.here e fit h
+    command_knows at i (store_command k e) fit h = slot_knows at.here k e fit h
+    command_knows at i (default_command k) fit h = fit
+    command_knows at i (fill_command line k n e) fit h =
+        let cn = calls at.here n in
+        let ce = calls at.here e in
+        (knows at.here n fit.0 (front cn ce h), slot_knows at.here k e fit.1 (rest cn ce h))
+    command_knows at i (input_command line k text) fit h = fit
+    command_knows at i (element_command line k j e) fit h =
+        let cj = calls at.here j in
+        let ce = calls at.here e in
+        (knows at.here j fit.0 (front cj ce h), slot_knows at.here k e fit.1 (rest cj ce h))
+    command_knows at i (publish_command text e) fit h = knows at.here e fit h
+    command_knows at i (evaluate_command e) fit h = knows at.here e fit h
+
+    commands_know : (at : Place) (i : Bool) (cs : Commands) → AreFitCommands (IsThere at.here.functions) at i cs → AllKnown (commands_calls at.here cs)
+        → AreFitCommands Known at i cs
+    commands_know at i Commands'.none fit h = tt
+    commands_know at i (Commands'.also c cs) fit h =
+        let a = command_calls at.here c in
+        let b = commands_calls at.here cs in
+        (command_knows at i c fit.0 (front a b h), commands_know at i cs fit.1 (rest a b h))
+
+-- ---- PROGRAMS
+
+-- what an instance of the list calls is in the list
+calls_listed : (p : TypedProgramTree) (is : List Instance) → IsReachedList p is → (i j : Instance) → Among i is → Among j (called_by p i) → Among j is
+calls_listed p is h i j m n = has_each_reached p is j h (follows i j (h.reached i m) n)
+
+pub reached_fit : (p : TypedProgramTree) (is : List Instance) → IsReachedList p is → main_of p ≡ the_main ∷ []
+    → ((i : Instance) → Among i is → IsFitAlone p i) → IsFitProgram p is
+reached_fit p is h main alone =
+    let first = begins_with_main p is h in
+    record { others = first.0; begins = first.1 ∙ ap (λ z. z ++ first.0) main; instances = fits }
+  where
+    fits : (i : Instance) → Among i is → IsFitInstance p is i
+    fits i m =
+        let a = alone i m in
+        let at = place_in p.functions a.called i.binding in
+        let listed : (j : Instance) → Among j (commands_calls at.here a.called.body) → IsKnownIn is j.function j.binding =
+        λ j n. calls_listed p is h i j m (subst (λ o. Among j (function_calls p.functions i.binding o)) (sym a.there) n) in
+        record {
+          called = a.called;
+          there = a.there;
+          fit = record { body = commands_know (IsKnownIn is) at false a.called.body a.fit.body listed; returns = a.fit.returns };
+        }

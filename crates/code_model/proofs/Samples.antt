@@ -1,0 +1,131 @@
+-- A program for which all that the law asks is there: f adds 1 to a private number, and main opens f(2), fills an array and publishes.
+use Rattle.std.proofs.Common.{◌≡◌, ℕ, List, [], ◌∷◌, Some, None, true, false, refl, sym, subst, arith, inl, inr}
+use Rattle.secrec_ast.specs.declared.expression.DataType.TheVariants.{Uint64}
+use Rattle.typed_tree.specs.declared.kinds.SlotDomain.TheVariants as domain
+use Rattle.typed_tree.specs.declared.function.Given.TheVariants as given
+use Rattle.typed_tree.specs.declared.operators.BinaryOperator.TheVariants.{Words}
+use Rattle.typed_tree.specs.declared.operators.WordOperator.TheVariants as word
+use Rattle.typed_tree.specs.declared.operators.Operands.TheVariants.{Scalars}
+use Rattle.typed_tree.specs.declared.operators.Connective.TheVariants.{AndAlso}
+use Rattle.typed_tree.specs.Shapes.{shape_of}
+use Rattle.typed_tree.specs.Tree.{word_node, truth_node, slot_node, call_node, binary_node, cut_node, declassify_node, typed_trees_of}
+use Rattle.typed_tree.specs.Commands.{block_command, if_command, loop_command, do_command, break_command, return_command, store_command}
+use Rattle.typed_tree.specs.Commands.{default_command, fill_command, element_command, publish_command, empty_command, evaluate_command, commands_of}
+use Rattle.typed_tree.specs.Programs.{TypedFunctionTree, TypedProgramTree}
+use Rattle.reached_instances.specs.Instances.{Instance}
+use Rattle.sc_text.specs.Lists.{Among}
+use Rattle.language_model.specs.Effects.{World}
+use Rattle.language_model.specs.Reports.{evaluated}
+use Rattle.verified_code.specs.Steps.{ReturnNone}
+use Rattle.code_model.specs.Meaning.{mean_in}
+use Rattle.code_model.specs.Programs.{code_of}
+use Rattle.code_model.specs.Fit.{IsFitInstance, IsFitProgram, the_main}
+use Rattle.code_model.proofs.Means.{means}
+
+main_function : TypedFunctionTree
+main_function =
+    record {
+      name = [];
+      variables = 0;
+      parameters = 0;
+      slots = record { domain = domain.Public; shape = shape_of Uint64 false } ∷ record { domain = domain.Private 0; shape = shape_of Uint64 true } ∷ [];
+      given = given.Nothing;
+      body = commands_of (store_command 0 (declassify_node (call_node 2 1 (typed_trees_of (word_node 2 ∷ [])))) ∷ default_command 1 ∷ fill_command 3 1
+          (word_node 3) (word_node 5)
+          ∷ do_command (element_command 4 1 (word_node 0) (slot_node 0)) (truth_node false) ∷ loop_command
+          (cut_node AndAlso (truth_node true) (truth_node true)) empty_command (block_command (commands_of (break_command ∷ [])))
+          ∷ evaluate_command (call_node 7 1 (typed_trees_of (slot_node 0 ∷ []))) ∷ publish_command (121 ∷ []) (slot_node 1) ∷ []);
+      size = 0;
+    }
+
+f_function : TypedFunctionTree
+f_function =
+    record {
+      name = [];
+      variables = 0;
+      parameters = 1;
+      slots = record { domain = domain.Private 0; shape = shape_of Uint64 false } ∷ [];
+      given = given.Value (record { domain = domain.Private 0; shape = shape_of Uint64 false });
+      body = commands_of (if_command (truth_node true) (return_command (Some (binary_node 1 (Words word.Add) Scalars (slot_node 0) (word_node 1))))
+          (return_command (Some (word_node 1))) ∷ []);
+      size = 0;
+    }
+
+program : TypedProgramTree
+program = record { functions = main_function ∷ f_function ∷ [] }
+
+the_f : Instance
+the_f = record { function = 1; binding = [] }
+
+instances : List Instance
+instances = the_main ∷ the_f ∷ []
+
+fits : IsFitProgram program instances
+unfolding program instances main_function f_function the_f
+fits = record {
+  others = the_f ∷ [];
+  begins = refl;
+  instances = λ i m. of i m;
+}
+  where
+    f_there : Among the_f instances
+    f_there = inr (inl refl)
+
+    main_fits : IsFitInstance program instances the_main
+    main_fits = record {
+      called = main_function;
+      there = refl;
+      fit = record {
+        body = (
+          (omega arith, (f_there, (tt, (λ h. refl), tt)), λ h. h),
+          (
+            omega arith,
+            (
+              (tt, (omega arith, tt, λ h. refl)),
+              (
+                ((tt, (omega arith, omega arith, λ h. refl)), tt),
+                (((tt, tt), tt, (refl, tt)), ((f_there, (omega arith, (λ h. refl), tt)), (omega arith, tt))),
+              ),
+            ),
+          ),
+        );
+        returns = λ h. cc;
+      };
+    }
+
+    f_fits : IsFitInstance program instances the_f
+    f_fits = record {
+      called = f_function;
+      there = refl;
+      fit = record {
+        body = ((tt, ((omega arith, tt), λ h. refl), (tt, λ h. refl)), tt);
+        returns = λ h. refl;
+      };
+    }
+
+    of : (i : Instance) → Among i instances → IsFitInstance program instances i
+    of i (inl e) = subst (IsFitInstance program instances) (sym e) main_fits
+    of i (inr (inl e)) = subst (IsFitInstance program instances) (sym e) f_fits
+    of i (inr (inr e)) = absurd e
+
+-- so its code means what it does, in every world
+sample : (w : World) (budget : ℕ) (answers : List ℕ) → mean_in w (code_of program instances) budget answers ≡ evaluated w program budget answers
+sample w budget answers = means program instances fits w budget answers
+
+-- the code of a program that does nothing is one step, and has no register
+nothing_program : TypedProgramTree
+nothing_program = record {
+  functions = record {
+    name = [];
+    variables = 0;
+    parameters = 0;
+    slots = [];
+    given = given.Nothing;
+    body = commands_of [];
+    size = 0;
+  } ∷ [];
+}
+
+nothing_code : code_of nothing_program (the_main ∷ []) ≡ record { parameters = 0; gives = None; kinds = []; steps = ReturnNone ∷ [] } ∷ []
+unfolding nothing_program
+nothing_code = refl

@@ -1,0 +1,160 @@
+-- The code of an expression.
+--
+-- Its registers are counted up from t, and its value stands in t. Targets of branches are places in the function's code, so that the
+-- code hangs on the place pc where it stands.
+use Rattle.std.specs.Prelude.{ℕ, ◌+◌, Bool, true, false, not, ◌&&◌, List, [], ◌∷◌, ◌++◌, length, Option, Some, None}
+use Rattle.std.specs.List.{slice_get}
+use Rattle.secrec_ast.specs.declared.expression.DataType.TheVariants.{Uint64}
+use Rattle.secrec_ast.specs.declared.expression.DataType.TheVariants as datatype
+use Rattle.typed_tree.specs.declared.kinds.Slot.{Slot}
+use Rattle.typed_tree.specs.declared.operators.BinaryOperator.{BinaryOperator}
+use Rattle.typed_tree.specs.declared.operators.BinaryOperator.TheVariants as binary
+use Rattle.typed_tree.specs.declared.operators.Operands.{Operands}
+use Rattle.typed_tree.specs.declared.operators.Operands.TheVariants.{Scalars}
+use Rattle.typed_tree.specs.declared.operators.Connective.{Connective}
+use Rattle.typed_tree.specs.declared.operators.Connective.TheVariants.{AndAlso, OrElse}
+use Rattle.typed_tree.specs.Tree.{TypedTree, TypedTrees, word_node, truth_node, slot_node, call_node, size_node, cat_node, sum_node, bits_node, element_node}
+use Rattle.typed_tree.specs.Tree.{not_node, cast_node, binary_node, cut_node, declassify_node}
+use Rattle.typed_tree.specs.Tree as Tree'
+use Rattle.typed_tree.specs.Programs.{TypedFunctionTree}
+use Rattle.typed_tree.specs.declared.function.Given.{Given}
+use Rattle.typed_tree.specs.declared.function.Given.TheVariants as given
+use Rattle.reached_instances.specs.declared.instance.BoundDomain.{BoundDomain}
+use Rattle.reached_instances.specs.Domains.{Setting, domains}
+use Rattle.language_model.specs.Words.{truth_word}
+use Rattle.language_model.specs.Operations.{is_product}
+use Rattle.language_model.specs.Evaluation.{gives_private, bound_at, slots_of, next_is_private, behind_next, connective, either}
+use Rattle.verified_code.specs.Steps.{Step, Literal, Move, Binary, Not, Cast, Classify, At, Size, Cat, Sum, Bits, Declassify, Branch, Jump, Call}
+use Rattle.code_model.specs.Kinds.{width}
+
+-- the number that the code gives to an instance
+abbrev pub Numbers : Type 0
+Numbers = (function : ℕ) → List BoundDomain → ℕ
+
+-- the register of what a call gives, where there is something
+abbrev pub given_at : Given → ℕ → Option ℕ
+given_at given.Nothing t = None
+given_at (given.Value s) t = Some t
+
+abbrev pub result_at : Option TypedFunctionTree → ℕ → Option ℕ
+result_at None t = None
+result_at (Some f) t = given_at f.given t
+
+-- ---- CLASSIFICATION
+
+-- the register r is classified into c, where this is wanted
+abbrev pub classifying : Bool → (c r : ℕ) → List Step
+classifying true c r = Classify c r ∷ []
+classifying false c r = []
+
+-- where the value stands then
+abbrev pub picked : Bool → (c r : ℕ) → ℕ
+picked true c r = c
+picked false c r = r
+
+-- a public value where a private one is wanted
+abbrev pub lacks : (wanted given : Bool) → Bool
+lacks wanted given = wanted && not given
+
+-- one operand is public beside a private one, and this is no product
+abbrev pub mixes : BinaryOperator → (this other : Bool) → Bool
+mixes op this other = not (is_product op) && lacks other this
+
+-- ---- NODES WITH TWO OPERANDS: ca is the code of the left one, cb that of the right one at its place, u the right one's register
+
+-- both operands, and then the classification of one of them
+abbrev pub binary_code : (t u pc line : ℕ) → BinaryOperator → Operands → (left right : Bool) → List Step → (ℕ → List Step) → List Step
+binary_code t u pc line op ds ga gb ca cb =
+    let l = mixes op ga gb in
+    let r = mixes op gb ga in
+    ca ++ (cb (pc + length ca) ++ (classifying l (t + 1) (t + 3)
+    ++ (classifying r (t + 2) u ++ Binary line op ds t (picked l (t + 1) (t + 3)) (picked r (t + 2) u) ∷ [])))
+
+-- each operand is classified right behind its code, where it lacks that
+abbrev pub cat_code : (t u pc line : ℕ) → (left right : Bool) → List Step → (ℕ → List Step) → List Step
+cat_code t u pc line l r ca cb =
+    let cl = classifying l (t + 1) (t + 3) in
+    ca ++ (cl ++ (cb (pc + length ca + length cl)
+    ++ (classifying r (t + 2) u ++ Cat line t (picked l (t + 1) (t + 3)) (picked r (t + 2) u) ∷ [])))
+
+abbrev pub element_code : (t u pc line : ℕ) → List Step → (ℕ → List Step) → List Step
+element_code t u pc line ca cb = ca ++ (cb (pc + length ca) ++ At line t (t + 1) u ∷ [])
+
+-- the left operand that decides alone
+abbrev pub deciding : Connective → Bool
+deciding AndAlso = false
+deciding OrElse = true
+
+-- a classified value, or the same one
+abbrev pub settling : Bool → (t r : ℕ) → Step
+settling true t r = Classify t r
+settling false t r = Move t r
+
+-- the test of the left operand; the right one; and what stands in its place where the left one decides
+abbrev pub cut_code : (t u pc : ℕ) → Connective → (secret : Bool) → List Step → (ℕ → List Step) → List Step
+cut_code t u pc c secret ca cb =
+    let pb = pc + length ca + 1 in
+    let pd = pb + length (cb pb) + 2 in
+    ca ++ (Branch (t + 3) (deciding c) pd ∷ (cb pb ++ (Move t u ∷ Jump (pd + 2)
+    ∷ Literal (t + 1) datatype.Bool (truth_word (deciding c)) ∷ settling secret t (t + 1) ∷ [])))
+
+-- ---- EXPRESSIONS
+
+module _ (number : Numbers) where
+  abbrev mutual
+    pub expression_code : Setting → (t pc : ℕ) → TypedTree → List Step
+    expression_code here t pc (word_node n) = Literal t Uint64 n ∷ []
+    expression_code here t pc (truth_node b) = Literal t datatype.Bool (truth_word b) ∷ []
+    expression_code here t pc (slot_node k) = Move t k ∷ []
+    expression_code here t pc (call_node line k es) =
+        let b = bound_at (slice_get here.functions k) (domains here es) in
+        let ss = slots_of (slice_get here.functions k) in
+        arguments_code here b ss (t + 1) pc es ++ Call line (number k b) (Some t) (arguments_places here b ss (t + 1) es) ∷ []
+    expression_code here t pc (size_node e) = expression_code here (t + 1) pc e ++ Size t (t + 1) ∷ []
+    expression_code here t pc (cat_node line a b) =
+        let g = gives_private here (cat_node line a b) in
+        let u = t + 3 + width a in
+        cat_code t u pc line (lacks g (gives_private here a)) (lacks g (gives_private here b)) (expression_code here (t + 3) pc a)
+        (λ p. expression_code here u p b)
+    expression_code here t pc (sum_node e) = expression_code here (t + 1) pc e ++ Sum t (t + 1) ∷ []
+    expression_code here t pc (bits_node line e) = expression_code here (t + 1) pc e ++ Bits line t (t + 1) ∷ []
+    expression_code here t pc (element_node line a i) =
+        let u = t + 1 + width a in
+        element_code t u pc line (expression_code here (t + 1) pc a) (λ p. expression_code here u p i)
+    expression_code here t pc (not_node e) = expression_code here (t + 1) pc e ++ Not t (t + 1) ∷ []
+    expression_code here t pc (cast_node c e) = expression_code here (t + 1) pc e ++ Cast c t (t + 1) ∷ []
+    expression_code here t pc (binary_node line op ds a b) =
+        let u = t + 3 + width a in
+        binary_code t u pc line op ds (gives_private here a) (gives_private here b) (expression_code here (t + 3) pc a)
+        (λ p. expression_code here u p b)
+    expression_code here t pc (cut_node c a b) =
+        let u = t + 3 + width a in
+        let ca = expression_code here (t + 3) pc a in
+        let gb = gives_private here b in
+        either (gives_private here a)
+        (binary_code t u pc 0 (binary.Bools (connective c)) Scalars (gives_private here a) gb ca (λ p. expression_code here u p b))
+        (cut_code t u pc c gb ca (λ p. expression_code here u p b))
+    expression_code here t pc (declassify_node e) = expression_code here (t + 1) pc e ++ Declassify t (t + 1) ∷ []
+
+    -- each argument, classified right behind its code where its parameter is private
+    pub arguments_code : Setting → List BoundDomain → List Slot → (t pc : ℕ) → TypedTrees → List Step
+    arguments_code here b ss t pc Tree'.none = []
+    arguments_code here b ss t pc (Tree'.also e es) =
+        let ce = expression_code here (t + 1) pc e in
+        let cl = classifying (lacks (next_is_private b ss) (gives_private here e)) t (t + 1) in
+        ce ++ (cl ++ arguments_code here b (behind_next ss) (t + 1 + width e) (pc + length ce + length cl) es)
+
+    pub arguments_places : Setting → List BoundDomain → List Slot → ℕ → TypedTrees → List ℕ
+    arguments_places here b ss t Tree'.none = []
+    arguments_places here b ss t (Tree'.also e es) =
+        picked (lacks (next_is_private b ss) (gives_private here e)) t (t + 1)
+        ∷ arguments_places here b (behind_next ss) (t + 1 + width e) es
+
+  -- where nobody reads what a call gives, it has a register only if there is something
+  abbrev pub unread_code : Setting → (t pc : ℕ) → TypedTree → List Step
+  unread_code here t pc (call_node line k es) =
+      let b = bound_at (slice_get here.functions k) (domains here es) in
+      let ss = slots_of (slice_get here.functions k) in
+      arguments_code here b ss (t + 1) pc es
+      ++ Call line (number k b) (result_at (slice_get here.functions k) t) (arguments_places here b ss (t + 1) es) ∷ []
+  unread_code here t pc e = expression_code here t pc e

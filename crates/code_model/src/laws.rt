@@ -1,0 +1,31 @@
+// What is true of the code of every program, and of every code whose jumps go forward.
+ghost use Rattle.std.specs.Prelude.{ℕ, List};
+ghost use Rattle.typed_tree.specs.Programs.{TypedProgramTree};
+ghost use Rattle.reached_instances.specs.Instances.{Instance};
+ghost use Rattle.language_model.specs.Effects.{World};
+ghost use Rattle.verified_code.specs.Steps.{Function};
+ghost use Rattle.code_model.specs.Meaning.{AreForward};
+ghost use Rattle.code_model.specs.Programs.{code_of};
+ghost use Rattle.code_model.specs.Laws.{BeginsWithin, EndsWithinFuel, FitsWhereReached, KeepsKinds, MeansTheProgram};
+
+/// Law: the meaning of a program's code is the program's evaluation: the same end, cost, words of tapes, events, opened words and
+/// gates, whatever the tapes, the inputs, the budget and the answers, in the clear and blind. The instances that have code may be those
+/// that the program reaches.
+pub fn code_means_what_the_program_does()
+    ensures means { (p : TypedProgramTree) (is : List Instance) (w : World) (budget : ℕ) (answers : List ℕ) →
+        MeansTheProgram p is w budget answers }
+    ensures reached { (p : TypedProgramTree) (is : List Instance) → FitsWhereReached p is }
+{}
+
+/// Law: each run of code whose jumps go forward ends within its fuel, and the jumps of a program's code go forward.
+pub fn runs_of_code_end()
+    ensures ends { (w : World) (c : List Function) (budget : ℕ) (answers : List ℕ) → EndsWithinFuel w c budget answers }
+    ensures forward { (p : TypedProgramTree) (is : List Instance) → AreForward (code_of p is) }
+{}
+
+/// Law: code whose steps fit begins within itself. From within, the next step is there, and leads to a place within the code, where
+/// each register is of its kind again: as private as it says, of its shape, and of one element where it is no array.
+pub fn registers_keep_their_kinds()
+    ensures begins { (c : List Function) → BeginsWithin c }
+    ensures keeps { (w : World) (c : List Function) → KeepsKinds w c }
+{}

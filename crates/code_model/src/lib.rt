@@ -1,0 +1,8 @@
+//! What code does, and the code of a typed program.
+//!
+//! There is nothing to run here: definitions in `specs/`, and the laws that follow from them.
+#![tactic(auto)]
+
+mod laws;
+
+pub use laws::{code_means_what_the_program_does, registers_keep_their_kinds, runs_of_code_end};
