@@ -17,7 +17,7 @@ use value_file::PublicPart;
 use value_steps::Source;
 
 /// Why a blind run has no report.
-#[derive(Clone, Copy, PartialEq, Eq)]
+#[derive(Clone, Copy)]
 pub enum BlindError {
     /// An opened value wanted more answers than were left; `have` were given in all.
     OpenedShort { have: u64 },

@@ -1,13 +1,11 @@
 // How a function is entered and left.
-ghost use Rattle.std.specs.Prelude.{◌≡◌, ◌≤◌, IfOk, List, length, map};
+ghost use Rattle.std.specs.Prelude.{◌≡◌, ◌≤◌, IfOk, length, map};
 ghost use Rattle.std.specs.List.{slice_get};
 ghost use Rattle.language_model.specs.Values.{never_stored};
-ghost use Rattle.language_model.specs.Evaluation.{begins, entered, result_of};
-ghost use Rattle.value_steps.specs.declared.value.Value.{Value as Kept};
+ghost use Rattle.language_model.specs.Evaluation.{begins, entered};
 ghost use Rattle.value_steps.specs.Views.{value_seen};
-ghost use Rattle.clear_eval.specs.Views.{frame_seen, flow_seen};
+ghost use Rattle.clear_eval.specs.Views.{frame_seen};
 
-use crate::flow::Flow;
 use crate::slots::default_words;
 use crate::words::{is_private, nothing};
 use reached_instances::{BoundDomain, domain_under};
@@ -64,14 +62,4 @@ pub fn enter(
         frame.push(beginning(alloc, binding, slots, number)?)?;
     }
     Ok(frame)
-}
-
-/// What a function gives whose body was left so.
-pub fn result_of(alloc: Global, flow: Flow) -> Result<Value, AllocError>
-    ensures { IfOk result (λ v. (frame : List Kept) → value_seen v ≡ result_of (flow_seen frame flow)) }
-{
-    match flow {
-        Flow::Returns(value) => Ok(value),
-        Flow::Goes | Flow::Stops | Flow::Skips => nothing(alloc),
-    }
 }

@@ -15,7 +15,6 @@ ghost use Rattle.clear_eval.specs.Views.{frame_seen, flow_seen, held_seen, value
 
 use crate::beginning::{Begun, begin};
 use crate::calling::{add_argument, bound_by, charge_call, slots_of};
-use crate::entering::result_of;
 use crate::flow::Flow;
 use crate::held::Held;
 use crate::parts::{Parts, StatementParts, parts_of, statement_parts_of};
@@ -372,7 +371,7 @@ pub fn body(
         body,
     } = begin(alloc, functions, room, number, binding, arguments)?;
     let flow = statements(alloc, world, &at, stage, &mut frame, body)?;
-    Ok(result_of(alloc, flow)?)
+    Ok(flow.into_result(alloc)?)
 }
 
 /// Executes a statement.
@@ -528,9 +527,10 @@ fn statements(
     ensures spends { stage.new.left ≤ stage.old.left }
 {
     for s in list {
-        match statement(alloc, world, at, stage, frame, s)? {
+        let flow = statement(alloc, world, at, stage, frame, s)?;
+        match &flow {
             Flow::Goes => {}
-            flow => return Ok(flow),
+            _ => return Ok(flow),
         }
     }
     Ok(Flow::Goes)
@@ -564,12 +564,14 @@ fn turns(
             return Ok(Flow::Goes);
         }
         let flow = statement(alloc, world, at, stage, frame, body)?;
-        if let Some(flow) = flow.behind_loop() {
-            return Ok(flow);
+        match flow.behind_loop() {
+            Some(flow) => return Ok(flow),
+            None => {}
         }
         let flow = statement(alloc, world, at, stage, frame, step)?;
-        if let Some(flow) = flow.behind_loop() {
-            return Ok(flow);
+        match flow.behind_loop() {
+            Some(flow) => return Ok(flow),
+            None => {}
         }
     }
 }
@@ -596,8 +598,9 @@ fn repeats(
 {
     loop {
         let flow = statement(alloc, world, at, stage, frame, body)?;
-        if let Some(flow) = flow.behind_loop() {
-            return Ok(flow);
+        match flow.behind_loop() {
+            Some(flow) => return Ok(flow),
+            None => {}
         }
         let again = holds(alloc, world, at, stage, frame, condition)?;
         if !again {

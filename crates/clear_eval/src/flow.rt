@@ -1,12 +1,16 @@
 // Where a function goes on behind a statement.
-ghost use Rattle.std.specs.Prelude.{List};
+ghost use Rattle.std.specs.Prelude.{◌≡◌, IfOk, List};
+ghost use Rattle.language_model.specs.Evaluation.{result_of};
+ghost use Rattle.value_steps.specs.Views.{value_seen};
 ghost use Rattle.value_steps.specs.declared.value.Value.{Value as Kept};
 ghost use Rattle.clear_eval.specs.Flows.{LeavesLoop};
+ghost use Rattle.clear_eval.specs.Views.{flow_seen};
 
+use crate::words::nothing;
+use std::alloc::{AllocError, Global};
 use value_steps::Value;
 
 /// Where a function goes on behind a statement.
-#[derive(Drop)]
 pub enum Flow {
     /// With the next statement.
     Goes,
@@ -18,7 +22,26 @@ pub enum Flow {
     Skips,
 }
 
+// Written out, so that an early exit calls this once, and doesn't take the way on apart in its place.
+impl Drop for Flow {
+    fn drop(self) {
+        match self {
+            Flow::Goes | Flow::Returns(_) | Flow::Stops | Flow::Skips => {}
+        }
+    }
+}
+
 impl Flow {
+    /// What a function gives whose body was left so.
+    pub fn into_result(self, alloc: Global) -> Result<Value, AllocError>
+        ensures { IfOk result (λ v. (frame : List Kept) → value_seen v ≡ result_of (flow_seen frame self)) }
+    {
+        match self {
+            Flow::Returns(value) => Ok(value),
+            Flow::Goes | Flow::Stops | Flow::Skips => nothing(alloc),
+        }
+    }
+
     /// Where a function goes on behind a loop in which a statement left it so; nowhere where the loop goes on.
     pub fn behind_loop(self) -> Option<Flow>
         ensures { (frame : List Kept) → LeavesLoop frame self result }

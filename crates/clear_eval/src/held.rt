@@ -7,10 +7,18 @@ use std::alloc::{AllocError, Global};
 use value_steps::Value;
 
 /// A value that an operation only reads: one in a slot, or one of its own.
-#[derive(Drop)]
 pub enum Held<'a> {
     Lent(&'a Value),
     Own(Value),
+}
+
+// Written out, so that an early exit calls this once, and doesn't take the operand apart in its place.
+impl Drop for Held<'_> {
+    fn drop(self) {
+        match self {
+            Held::Lent(_) | Held::Own(_) => {}
+        }
+    }
 }
 
 impl Held<'_> {

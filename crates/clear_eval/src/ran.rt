@@ -30,12 +30,25 @@ pub enum Stop {
 }
 
 /// What a run gave: why it stopped, its cost, the words that it needed of the dealer's tape, and how far it came.
-#[derive(Drop)]
 pub struct Ran<'a> {
     pub stop: Stop,
     pub cost: u64,
     pub dealt: u64,
     pub stage: Stage<'a>,
+}
+
+// Written out, so that who gives a run up calls this once, and doesn't take the run apart in its place.
+impl Drop for Ran<'_> {
+    fn drop(self) {
+        match self {
+            Ran {
+                stop: _,
+                cost: _,
+                dealt: _,
+                stage: _,
+            } => {}
+        }
+    }
 }
 
 impl Ran<'_> {
@@ -44,10 +57,10 @@ impl Ran<'_> {
         ensures { report_seen result ≡ record (ran_seen self.entry) { stop = Ended how } }
     {
         let Ran {
+            stop: _,
             cost,
             dealt,
             stage,
-            ..
         } = self;
         let Stage {
             drawn,

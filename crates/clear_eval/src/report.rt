@@ -3,7 +3,7 @@ use gates::Gate;
 use sc_text::{End, Event};
 
 /// How many words of each tape a run used: the dealer's, and the three miners'.
-#[derive(Clone, Copy, PartialEq, Eq)]
+#[derive(Clone, Copy)]
 pub struct Needs {
     pub dealer: u64,
     pub first: u64,

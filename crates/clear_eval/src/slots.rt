@@ -15,7 +15,7 @@ use secrec_ast::DataType;
 use std::alloc::{AllocError, Global};
 use std::mem;
 use typed_tree::{Shape, Slot};
-use value_steps::{Halt, Secrecy, Stage, Value, charge, wanted, with_element};
+use value_steps::{Halt, Secrecy, Stage, Value, charged, wanted, with_element};
 
 /// Whether a slot's values are private.
 pub fn is_private_slot(at: &Place<'_>, slot: usize) -> bool
@@ -141,8 +141,7 @@ pub fn store(
     ensures spends { stage.new.left ≤ stage.old.left }
 {
     let value = wanted(alloc, stage, is_private_slot(at, slot), value)?;
-    charge(stage, 1)?;
-    charge(stage, (value.words.len() as u64).saturating_sub(1))?;
+    charged(stage, value.size())?;
     put(frame, slot, value);
     Ok(())
 }

@@ -4,7 +4,7 @@ ghost use Rattle.command_frame.specs.Status.{is_refusal};
 use crate::Status;
 
 /// Why what was read is refused: the status, and the line for the error stream with its newline.
-#[derive(Debug, Drop)]
+#[derive(Drop)]
 pub struct Refusal {
     pub status: Status,
     pub line: String,

@@ -6,7 +6,6 @@ use crate::{Refusal, Status};
 use std::alloc::{AllocError, AllocFailed, Global};
 
 /// Why a command stopped before its end.
-#[derive(Debug, Drop)]
 pub enum Stop {
     /// Memory ran out.
     Memory,
@@ -18,6 +17,15 @@ pub enum Stop {
     File(String),
     /// Standard output failed.
     Out,
+}
+
+// Written out, so that an early exit calls this once.
+impl Drop for Stop {
+    fn drop(self) {
+        match self {
+            Stop::Memory | Stop::Usage | Stop::Refused(_) | Stop::File(_) | Stop::Out => {}
+        }
+    }
 }
 
 impl From<AllocError> for Stop {

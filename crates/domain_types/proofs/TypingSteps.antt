@@ -1,5 +1,5 @@
 -- What a step of the rules says of its parts where it gives a type, and where it finds no fault.
-use Rattle.std.proofs.Common.{◌≡◌, List, [], ◌∷◌, ◌++◌, ◌⊎◌, inl, inr, refl, sym, ap, ◌∙◌, Option, Some, None, Bool, true, false, is_some}
+use Rattle.std.proofs.Common.{◌≡◌, List, [], ◌∷◌, ◌++◌, refl, sym, ap, ◌∙◌, Option, Some, None, Bool, true, false, is_some}
 use Rattle.std.specs.Prelude.{option_map, option_and_then}
 use Rattle.std.proofs.lemmas.Option.{none-some, same_Some}
 use Rattle.sc_text.specs.declared.span.Span.{Span}
@@ -10,8 +10,6 @@ use Rattle.domain_types.specs.declared.value_type.ExpressionType.{ExpressionType
 use Rattle.domain_types.specs.declared.value_type.ExpressionType.TheVariants.{Void, Value}
 use Rattle.domain_types.specs.Types.{fault_if, of_typed, unless_refused, value_of}
 use Rattle.domain_types.specs.ExpressionTypes.{of_two}
-use Rattle.sc_text.proofs.Lists.{among_left, among_right, among_parts}
-use Rattle.sc_text.specs.Lists.{Among}
 
 -- TYPES
 

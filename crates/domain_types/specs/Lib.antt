@@ -13,6 +13,7 @@ pub mod Least
 pub mod Reached
 pub mod Instances
 pub mod ProgramTypes
+pub mod Walks
 pub mod WorkList
 pub mod Answer
 pub mod Typing

@@ -30,7 +30,7 @@ callee_of (BuiltIn b) = built_in b
 callee_of (Defined k f) = defined k (tree_at f)
 
 abbrev pub setting : Setting → names.Setting
-setting w = record { declared = declared w.declarations.now; bound = bind w.variables.now w.binding.now }
+setting w = record { declared = declared w.declarations.now; bound = bind w.function.now.variables.items w.binding.now }
 
 abbrev pub call_seen : Call → reached.Call
 call_seen c = record { function = c.function; binding = option_map vec_items c.binding }

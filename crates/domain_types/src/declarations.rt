@@ -6,7 +6,6 @@ use crate::value_type::BuiltIn as BuiltInFunction;
 use secrec_ast::Function;
 
 /// What a program declares, for look-ups by name.
-#[derive(Drop)]
 pub struct Declarations<'p> {
     /// Whether `stdlib` is imported.
     pub stdlib: bool,
@@ -22,6 +21,22 @@ pub struct Declarations<'p> {
     ghost named: { names ≡ map name_of functions.items },
 }
 
+// Written out, so that an early exit calls this once, and doesn't take the declarations apart in its place.
+impl Drop for Declarations<'_> {
+    fn drop(self) {
+        match self {
+            Declarations {
+                stdlib: _,
+                shared3p: _,
+                kind_declared: _,
+                domains: _,
+                names: _,
+                functions: _,
+            } => {}
+        }
+    }
+}
+
 /// What a called name means.
 #[derive(Drop)]
 pub enum Called<'p> {
@@ -32,8 +47,35 @@ pub enum Called<'p> {
 
 impl<'p> Declarations<'p> {
     ghost use Rattle.std.specs.Prelude.{option_map};
-    ghost use Rattle.domain_types.specs.Views.{declared, callee_of};
+    ghost use Rattle.domain_types.specs.Views.{tree_at, declared, callee_of};
     ghost use Rattle.domain_types.specs.Declarations.{built_in_named, function_named, callee};
+
+    /// The same, but that its functions are these, whose names are given.
+    pub fn with_functions(
+        self,
+        names: NameIndex<'p>,
+        functions: Vec<&'p Function>,
+    ) -> Declarations<'p>
+        requires { names ≡ map name_of functions.items }
+        ensures { declared result ≡ record (declared self.entry) { functions = map tree_at functions.entry.items } }
+    {
+        let Declarations {
+            stdlib,
+            shared3p,
+            kind_declared,
+            domains,
+            names: _,
+            functions: _,
+        } = self;
+        Declarations {
+            stdlib,
+            shared3p,
+            kind_declared,
+            domains,
+            names,
+            functions,
+        }
+    }
 
     /// The built-in function of a name, if it is there.
     pub fn built_in(&self, name: &str) -> Option<BuiltInFunction>

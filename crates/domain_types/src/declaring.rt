@@ -10,20 +10,19 @@ ghost use Rattle.domain_types.specs.Views.{setting, calls_seen};
 ghost use Rattle.domain_types.specs.Least.{least};
 
 use crate::calls::Found;
-use crate::expressions::{place_of, variable};
+use crate::expressions::{place_of, value, variable};
 use crate::fault::{Fault, Problem};
 use crate::operations::indexing;
-use crate::rules::{scalar, store};
+use crate::rules::{scalar, store, store_typed};
 use crate::setting::{Setting, domain, written};
 use crate::value_type::ValueType;
-use crate::values::value;
 use crate::variables::Variables;
 use crate::worst::note_if;
 use sc_text::Span;
 use secrec_ast::{
     Assignment, DataType, Declaration, DeclaredType, Domain, Expression, Identifier, Target,
 };
-use std::alloc::{AllocError, Global};
+use std::alloc::AllocError;
 
 /// The name of a domain is known.
 pub fn known<'p>(worst: &mut Option<Fault>, here: &Setting<'_, 'p>, written: &'p Domain)
@@ -63,18 +62,25 @@ fn is_argument(e: &Expression) -> bool
     }
 }
 
-// The size of an array of this type.
+// The size of an array of this type, where both have types.
 #[tactic(auto, using(crate::proofs::Faults::appends), unfolding(crate::specs::StatementTypes::sized_faults))]
-fn sized(worst: &mut Option<Fault>, place: Span, declared: ValueType, size: ValueType)
-    ensures { worst.new ≡ least worst.old (sized_faults place declared size) }
+fn sized(
+    worst: &mut Option<Fault>,
+    place: Span,
+    declared: Option<ValueType>,
+    size: Option<ValueType>,
+)
+    ensures { worst.new ≡ least worst.old (of_typed declared (λ t. of_typed size (sized_faults place t))) }
 {
-    note_if(worst, !declared.array, place, Problem::TypeMismatch);
-    let _ = scalar(worst, DataType::Uint64, Problem::PrivateSize, place, size);
+    if let (Some(declared), Some(size)) = (declared, size) {
+        note_if(worst, !declared.array, place, Problem::TypeMismatch);
+        let _ = scalar(worst, DataType::Uint64, Problem::PrivateSize, place, size);
+    }
 }
 
 // The size of an array of this type, and the scalar that fills it.
 #[tactic(auto, using(crate::proofs::Faults::appends), unfolding(crate::specs::StatementTypes::filled_faults))]
-fn filled(
+fn fill(
     worst: &mut Option<Fault>,
     size_place: Span,
     place: Span,
@@ -84,7 +90,7 @@ fn filled(
 )
     ensures { worst.new ≡ least worst.old (filled_faults size_place place declared size value) }
 {
-    sized(worst, size_place, declared, size);
+    sized(worst, size_place, Some(declared), Some(size));
     let wanted = ValueType {
         domain: declared.domain,
         element: declared.element,
@@ -93,10 +99,26 @@ fn filled(
     let _ = store(worst, place, wanted, value);
 }
 
+// The size of an array of this type, and the scalar that fills it, where all have types.
+fn filled(
+    worst: &mut Option<Fault>,
+    size_place: Span,
+    place: Span,
+    declared: Option<ValueType>,
+    size: Option<ValueType>,
+    value: Option<ValueType>,
+)
+    ensures { worst.new ≡ least worst.old
+        (of_typed declared (λ t. of_typed size (λ n. of_typed value (filled_faults size_place place t n)))) }
+{
+    if let (Some(declared), Some(size), Some(value)) = (declared, size, value) {
+        fill(worst, size_place, place, declared, size, value);
+    }
+}
+
 // The initialiser of a variable of the declared type, without a size: it may be an argument, which has that type.
 #[tactic(auto, using(crate::proofs::Faults::appends))]
 fn first_value<'p>(
-    alloc: Global,
     found: &mut Found,
     here: &Setting<'_, 'p>,
     variables: &Variables<'p>,
@@ -112,17 +134,14 @@ fn first_value<'p>(
     if is_argument(e) {
         return Ok(());
     }
-    let given = value(alloc, found, here, variables, e)?;
-    if let (Some(declared), Some(given)) = (declared, given) {
-        let _ = store(&mut found.worst, place_of(e), declared, given);
-    }
+    let given = value(found, here, variables, e)?;
+    store_typed(&mut found.worst, place_of(e), declared, given);
     Ok(())
 }
 
 // The size and the initialiser of a variable of the declared type.
 #[tactic(auto, using(crate::proofs::Faults::appends))]
 fn initial<'p>(
-    alloc: Global,
     found: &mut Found,
     here: &Setting<'_, 'p>,
     variables: &Variables<'p>,
@@ -137,27 +156,23 @@ fn initial<'p>(
 {
     match (&declaration.size, &declaration.value) {
         (None, None) => Ok(()),
-        (None, Some(e)) => first_value(alloc, found, here, variables, declared, e),
+        (None, Some(e)) => first_value(found, here, variables, declared, e),
         (Some(size), None) => {
-            let counted = value(alloc, found, here, variables, size)?;
-            if let (Some(declared), Some(counted)) = (declared, counted) {
-                sized(&mut found.worst, place_of(size), declared, counted);
-            }
+            let counted = value(found, here, variables, size)?;
+            sized(&mut found.worst, place_of(size), declared, counted);
             Ok(())
         }
         (Some(size), Some(e)) => {
-            let counted = value(alloc, found, here, variables, size)?;
-            let given = value(alloc, found, here, variables, e)?;
-            if let (Some(declared), Some(counted), Some(given)) = (declared, counted, given) {
-                filled(
-                    &mut found.worst,
-                    place_of(size),
-                    place_of(e),
-                    declared,
-                    counted,
-                    given,
-                );
-            }
+            let counted = value(found, here, variables, size)?;
+            let given = value(found, here, variables, e)?;
+            filled(
+                &mut found.worst,
+                place_of(size),
+                place_of(e),
+                declared,
+                counted,
+                given,
+            );
             Ok(())
         }
     }
@@ -166,7 +181,6 @@ fn initial<'p>(
 /// Declares a variable, and checks its declaration.
 #[tactic(auto, using(crate::proofs::Faults::appends))]
 pub fn declaration<'p>(
-    alloc: Global,
     found: &mut Found,
     here: &Setting<'_, 'p>,
     variables: &mut Variables<'p>,
@@ -182,14 +196,13 @@ pub fn declaration<'p>(
     known(&mut found.worst, here, &declaration.declared.domain);
     is_new(&mut found.worst, variables, &declaration.variable);
     let declared = written(here, &declaration.declared);
-    initial(alloc, found, here, variables, declared, declaration)?;
+    initial(found, here, variables, declared, declaration)?;
     variables.declare(declaration.variable.text.as_str(), declared)
 }
 
 // What is assigned to.
 #[tactic(auto, using(crate::proofs::Faults::appends))]
 fn target<'p>(
-    alloc: Global,
     found: &mut Found,
     here: &Setting<'_, 'p>,
     variables: &Variables<'p>,
@@ -211,7 +224,7 @@ fn target<'p>(
     match &target.index {
         None => Ok(held),
         Some(position) => {
-            let counted = value(alloc, found, here, variables, position)?;
+            let counted = value(found, here, variables, position)?;
             Ok(indexing(&mut found.worst, place, place_of(position), held, counted))
         }
     }
@@ -220,7 +233,6 @@ fn target<'p>(
 /// Checks an assignment.
 #[tactic(auto, using(crate::proofs::Faults::appends))]
 pub fn assignment<'p>(
-    alloc: Global,
     found: &mut Found,
     here: &Setting<'_, 'p>,
     variables: &Variables<'p>,
@@ -231,10 +243,8 @@ pub fn assignment<'p>(
     ensures calls { IfOk result (λ _. calls_seen found.new.calls.items ≡
         calls_seen found.old.calls.items ++ assignment_calls (setting here.now) variables.now (assignment_tree assignment.now)) }
 {
-    let wanted = target(alloc, found, here, variables, &assignment.target)?;
-    let given = value(alloc, found, here, variables, &assignment.value)?;
-    if let (Some(wanted), Some(given)) = (wanted, given) {
-        let _ = store(&mut found.worst, place_of(&assignment.value), wanted, given);
-    }
+    let wanted = target(found, here, variables, &assignment.target)?;
+    let given = value(found, here, variables, &assignment.value)?;
+    store_typed(&mut found.worst, place_of(&assignment.value), wanted, given);
     Ok(())
 }

@@ -7,7 +7,6 @@ ghost use Rattle.domain_types.specs.Views.{declared, setting};
 ghost use Rattle.domain_types.specs.ExpressionTypes.{is_named, bound_from, bound_by, bound_faults, binding_faults, binding_by, argument_faults, defined_faults, within, result_type};
 ghost use Rattle.domain_types.specs.Least.{least};
 
-use crate::declarations::Declarations;
 use crate::fault::{Fault, Problem};
 use crate::rules::{meet, store};
 use crate::setting::{Setting, written};
@@ -149,18 +148,17 @@ fn arguments_fit<'p>(
 /// The rule of a call of a function of the program: the domains of its domain variables, where the call is not refused.
 #[tactic(auto, using(crate::proofs::Faults::appends), unfolding(crate::specs::ExpressionTypes::defined_faults))]
 pub fn defined_call<'p>(
-    alloc: Global,
     worst: &mut Option<Fault>,
-    declarations: &Declarations<'p>,
+    here: &Setting<'_, 'p>,
     place: Span,
     function: &'p Function,
     arguments: &[Argument],
 ) -> Result<Option<Vec<Protection>>, AllocError>
     ensures binding { IfOk result (λ ds. option_map vec_items ds ≡
-        unless_refused (defined_faults (declared declarations.now) place (function_tree function.now) arguments.now)
+        unless_refused (defined_faults (declared here.now.declarations.now) place (function_tree function.now) arguments.now)
         (binding_by function.now.variables.items function.now.parameters.items arguments.now)) }
     ensures worst { IfOk result (λ _. worst.new ≡
-        least worst.old (defined_faults (declared declarations.now) place (function_tree function.now) arguments.now)) }
+        least worst.old (defined_faults (declared here.now.declarations.now) place (function_tree function.now) arguments.now)) }
 {
     if function.parameters.len() != arguments.len() {
         note(worst, place, Problem::BadArity);
@@ -173,13 +171,19 @@ pub fn defined_call<'p>(
         &function.parameters,
         arguments,
     );
-    let domains = binding(alloc, &function.variables, &function.parameters, arguments)?;
+    let domains = binding(
+        here.alloc,
+        &function.variables,
+        &function.parameters,
+        arguments,
+    )?;
     let Some(domains) = domains else {
         return Ok(None);
     };
     let callee = Setting {
-        declarations,
-        variables: &function.variables,
+        alloc: here.alloc,
+        declarations: here.declarations,
+        function,
         binding: &domains,
     };
     let fits = arguments_fit(worst, &callee, &function.parameters, arguments);

@@ -1,13 +1,14 @@
 // The types of expressions: the checker goes over a tree once, keeps the least fault and what is called.
-ghost use Rattle.std.specs.Prelude.{◌≡◌, ◌++◌, IfOk, Some, option_map, vec_items};
+ghost use Rattle.std.specs.Prelude.{◌≡◌, IfOk, Some, map, option_map, vec_items};
 ghost use Rattle.secrec_ast.specs.Tree.{expression, trees_of};
 ghost use Rattle.secrec_ast.specs.Heights.{place_of};
 ghost use Rattle.domain_types.specs.Types.{value_of, void_faults, public_scalar};
 ghost use Rattle.domain_types.specs.declared.value_type.ExpressionType.TheVariants.{Value};
 ghost use Rattle.domain_types.specs.Scopes.{variable_named};
-ghost use Rattle.domain_types.specs.ExpressionTypes.{variable_type, variable_faults, cast_type, declassified, given_value, nothing_given, and_argument, type_of, faults};
-ghost use Rattle.domain_types.specs.Reached.{calls_of};
-ghost use Rattle.domain_types.specs.Views.{setting, calls_seen};
+ghost use Rattle.domain_types.specs.ExpressionTypes.{variable_type, variable_faults, cast_type, declassified, given_value, nothing_given, and_argument, type_of, value_type, arguments_of, faults, value_faults, argument_list_faults};
+ghost use Rattle.domain_types.specs.Reached.{calls_of, calls_of_all};
+ghost use Rattle.domain_types.specs.Views.{setting};
+ghost use Rattle.domain_types.specs.Walks.{Gives};
 ghost use Rattle.domain_types.specs.Least.{least};
 
 use crate::call_rule::call;
@@ -20,7 +21,7 @@ use crate::variables::Variables;
 use crate::worst::note;
 use sc_text::Span;
 use secrec_ast::{DataType, Expression};
-use std::alloc::{AllocError, Global};
+use std::alloc::AllocError;
 
 /// Where an expression begins.
 pub fn place_of(e: &Expression) -> Span
@@ -150,18 +151,16 @@ fn with_argument(
 }
 
 /// The type of an expression, if it has one.
+#[cycle(expressions)]
 #[tactic(auto, using(crate::proofs::Faults::appends))]
 pub fn expression<'p>(
-    alloc: Global,
     found: &mut Found,
     here: &Setting<'_, 'p>,
     variables: &Variables<'p>,
     e: &'p Expression,
 ) -> Result<Option<ExpressionType>, AllocError>
-    ensures kind { IfOk result (λ t. t ≡ type_of (setting here.now) variables.now (expression e.now)) }
-    ensures worst { IfOk result (λ _. found.new.worst ≡ least found.old.worst (faults (setting here.now) variables.now (expression e.now))) }
-    ensures calls { IfOk result (λ _. calls_seen found.new.calls.items ≡
-        calls_seen found.old.calls.items ++ calls_of (setting here.now) variables.now (expression e.now)) }
+    ensures { IfOk result (λ t. Gives (type_of (setting here.now) variables.now (expression e.now)) t found.old found.new
+        (faults (setting here.now) variables.now (expression e.now)) (calls_of (setting here.now) variables.now (expression e.now))) }
 {
     match e {
         Expression::Number(_, _) => Ok(scalar(DataType::Uint64)),
@@ -172,55 +171,35 @@ pub fn expression<'p>(
             *place,
             name.as_str(),
         ))),
-        Expression::Call(place, name, arguments) => {
-            let mut types = Some(Vec::new(alloc));
-            for argument in arguments {
-                let t = expression(alloc, found, here, variables, argument)?;
-                let value = used(&mut found.worst, place_of(argument), t);
-                types = with_argument(types, place_of(argument), value)?;
-            }
-            call(
-                alloc,
-                &mut found.worst,
-                &mut found.calls,
-                here.declarations,
-                *place,
-                name.as_str(),
-                types,
-            )
+        Expression::Call(place, name, list) => {
+            let types = arguments(found, here, variables, list)?;
+            call(found, here, *place, name.as_str(), &types)
         }
         Expression::Index(place, array, position) => {
-            let t = expression(alloc, found, here, variables, array)?;
-            let held = used(&mut found.worst, place_of(array), t);
-            let t = expression(alloc, found, here, variables, position)?;
+            let held = value(found, here, variables, array)?;
+            let counted = value(found, here, variables, position)?;
             let at = place_of(position);
-            let counted = used(&mut found.worst, at, t);
             Ok(given(indexing(&mut found.worst, *place, at, held, counted)))
         }
         Expression::Parentheses(_, inner) => {
-            let t = expression(alloc, found, here, variables, inner)?;
-            Ok(given(used(&mut found.worst, place_of(inner), t)))
+            let value = value(found, here, variables, inner)?;
+            Ok(given(value))
         }
         Expression::Not(place, operand) => {
-            let t = expression(alloc, found, here, variables, operand)?;
-            let value = used(&mut found.worst, place_of(operand), t);
+            let value = value(found, here, variables, operand)?;
             Ok(given(negation(&mut found.worst, *place, value)))
         }
         Expression::Cast(_, element, operand) => {
-            let t = expression(alloc, found, here, variables, operand)?;
-            let value = used(&mut found.worst, place_of(operand), t);
+            let value = value(found, here, variables, operand)?;
             Ok(given(cast(*element, value)))
         }
         Expression::Binary(place, op, left, right) => {
-            let t = expression(alloc, found, here, variables, left)?;
-            let a = used(&mut found.worst, place_of(left), t);
-            let t = expression(alloc, found, here, variables, right)?;
-            let b = used(&mut found.worst, place_of(right), t);
+            let a = value(found, here, variables, left)?;
+            let b = value(found, here, variables, right)?;
             Ok(given(operation(&mut found.worst, *place, *op, a, b)))
         }
         Expression::Declassify(_, operand) => {
-            let t = expression(alloc, found, here, variables, operand)?;
-            let value = used(&mut found.worst, place_of(operand), t);
+            let value = value(found, here, variables, operand)?;
             Ok(given(declassified(value)))
         }
         Expression::Argument(place, _) => {
@@ -228,9 +207,45 @@ pub fn expression<'p>(
             Ok(None)
         }
         Expression::Publish(_, _, operand) => {
-            let t = expression(alloc, found, here, variables, operand)?;
-            let value = used(&mut found.worst, place_of(operand), t);
+            let value = value(found, here, variables, operand)?;
             Ok(published(value))
         }
     }
+}
+
+/// The value that an expression gives, if it has a type: a void call is a fault.
+#[cycle(expressions)]
+#[tactic(auto, using(crate::proofs::Faults::appends))]
+pub fn value<'p>(
+    found: &mut Found,
+    here: &Setting<'_, 'p>,
+    variables: &Variables<'p>,
+    e: &'p Expression,
+) -> Result<Option<ValueType>, AllocError>
+    ensures { IfOk result (λ t. Gives (value_type (setting here.now) variables.now (expression e.now)) t found.old found.new
+        (value_faults (setting here.now) variables.now (expression e.now)) (calls_of (setting here.now) variables.now (expression e.now))) }
+{
+    let t = expression(found, here, variables, e)?;
+    Ok(used(&mut found.worst, place_of(e), t))
+}
+
+// The arguments of a call, where each has a type.
+#[cycle(expressions)]
+fn arguments<'p>(
+    found: &mut Found,
+    here: &Setting<'_, 'p>,
+    variables: &Variables<'p>,
+    list: &'p Vec<Expression>,
+) -> Result<Option<Vec<Argument>>, AllocError>
+    ensures { IfOk result (λ types. Gives (arguments_of (setting here.now) variables.now (trees_of (map expression list.now.items)))
+        (option_map vec_items types) found.old found.new
+        (argument_list_faults (setting here.now) variables.now (trees_of (map expression list.now.items)))
+        (calls_of_all (setting here.now) variables.now (trees_of (map expression list.now.items)))) }
+{
+    let mut types = Some(Vec::new(here.alloc));
+    for argument in list {
+        let given = value(found, here, variables, argument)?;
+        types = with_argument(types, place_of(argument), given)?;
+    }
+    Ok(types)
 }

@@ -17,7 +17,7 @@ use crate::statements::statements;
 use crate::variables::Variables;
 use crate::worst::note_if;
 use secrec_ast::{Function, Parameter, ResultType, Statement};
-use std::alloc::{AllocError, Global};
+use std::alloc::AllocError;
 
 // Whether a statement always returns.
 #[cycle(returns)]
@@ -96,29 +96,18 @@ fn returns_on_every_way(worst: &mut Option<Fault>, function: &Function)
     }
 }
 
-/// Checks a function whose domain variables are bound as `here` says.
+/// Checks the function that `here` is in, whose domain variables are bound as it says.
 #[tactic(auto, using(crate::proofs::Faults::appends))]
-pub fn function<'p>(
-    alloc: Global,
-    found: &mut Found,
-    here: &Setting<'_, 'p>,
-    function: &'p Function,
-) -> Result<(), AllocError>
-    ensures worst { IfOk result (λ _. found.new.worst ≡ least found.old.worst (function_faults (setting here.now) (function_tree function.now))) }
+pub fn function(found: &mut Found, here: &Setting<'_, '_>) -> Result<(), AllocError>
+    ensures worst { IfOk result (λ _. found.new.worst ≡ least found.old.worst (function_faults (setting here.now) (function_tree here.now.function.now))) }
     ensures calls { IfOk result (λ _. calls_seen found.new.calls.items ≡
-        calls_seen found.old.calls.items ++ function_calls (setting here.now) (function_tree function.now)) }
+        calls_seen found.old.calls.items ++ function_calls (setting here.now) (function_tree here.now.function.now)) }
 {
+    let function = here.function;
     known_result(&mut found.worst, here, &function.result);
-    let mut variables = Variables::new(alloc);
+    let mut variables = Variables::new(here.alloc);
     parameters(&mut found.worst, here, &mut variables, &function.parameters)?;
-    statements(
-        alloc,
-        found,
-        here,
-        &function.result,
-        &mut variables,
-        &function.body.statements,
-    )?;
+    statements(found, here, &mut variables, &function.body.statements)?;
     returns_on_every_way(&mut found.worst, function);
     Ok(())
 }

@@ -2,7 +2,7 @@
 ghost use Rattle.std.specs.Prelude.{◌≡◌, [], IfOk, map};
 ghost use Rattle.secrec_ast.specs.Programs.{function_tree, item_tree};
 ghost use Rattle.domain_types.specs.Declarations.{is_known_kind};
-ghost use Rattle.domain_types.specs.ProgramTypes.{is_module, space_faults, items_faults, is_main, has_main};
+ghost use Rattle.domain_types.specs.ProgramTypes.{is_module, space_faults, item_faults, items_faults, is_main, has_main};
 ghost use Rattle.domain_types.specs.Views.{declared, tree_at};
 ghost use Rattle.domain_types.specs.Least.{least};
 
@@ -40,6 +40,40 @@ fn is_new<'p>(
     note_if(worst, twice, name.place, Problem::Twice);
 }
 
+// What a declaration does against the rules, behind these kinds and domains and behind these functions.
+#[tactic(auto, using(crate::proofs::Faults::appends))]
+fn item_faults<'p>(
+    worst: &mut Option<Fault>,
+    declarations: &Declarations<'p>,
+    kinds: &NameIndex<'p>,
+    functions: &NameIndex<'p>,
+    item: &'p Item,
+)
+    ensures { worst.new ≡ least worst.old (item_faults (declared declarations.now) kinds.now functions.now (item_tree item.now)) }
+{
+    match item {
+        Item::Import(name) => {
+            let known = is_module(name.text.as_str());
+            note_if(worst, !known, name.place, Problem::BadImport);
+        }
+        Item::Kind(name) => {
+            let known = name.text.as_str() == "shared3p";
+            note_if(worst, !known, name.place, Problem::UnknownName);
+            is_new(worst, declarations, kinds, name);
+        }
+        Item::Domain(name, kind) => {
+            is_new(worst, declarations, kinds, name);
+            let known = is_known_kind(declarations, kind.text.as_str());
+            note_if(worst, !known, kind.place, Problem::UnknownName);
+        }
+        Item::Function(function) => {
+            let name = function.function.text.as_str();
+            let twice = declarations.built_in(name).is_some() || functions.number(name).is_some();
+            note_if(worst, twice, function.function.place, Problem::Twice);
+        }
+    }
+}
+
 /// Checks the names of the declarations.
 #[tactic(auto, using(crate::proofs::Faults::appends))]
 pub fn items<'p>(
@@ -54,29 +88,13 @@ pub fn items<'p>(
     let mut functions = NameIndex::new(alloc);
     let mut rest = list;
     while let Some((item, more)) = rest.split_first() {
+        item_faults(worst, declarations, &kinds, &functions, item);
         match item {
-            Item::Import(name) => {
-                let known = is_module(name.text.as_str());
-                note_if(worst, !known, name.place, Problem::BadImport);
-            }
-            Item::Kind(name) => {
-                let known = name.text.as_str() == "shared3p";
-                note_if(worst, !known, name.place, Problem::UnknownName);
-                is_new(worst, declarations, &kinds, name);
-                kinds = kinds.with(name.text.as_str())?;
-            }
-            Item::Domain(name, kind) => {
-                is_new(worst, declarations, &kinds, name);
-                let known = is_known_kind(declarations, kind.text.as_str());
-                note_if(worst, !known, kind.place, Problem::UnknownName);
-                kinds = kinds.with(name.text.as_str())?;
-            }
+            Item::Import(_) => {}
+            Item::Kind(name) => kinds = kinds.with(name.text.as_str())?,
+            Item::Domain(name, _) => kinds = kinds.with(name.text.as_str())?,
             Item::Function(function) => {
-                let name = function.function.text.as_str();
-                let twice = declarations.built_in(name).is_some()
-                    || functions.number(name).is_some();
-                note_if(worst, twice, function.function.place, Problem::Twice);
-                functions = functions.with(name)?;
+                functions = functions.with(function.function.text.as_str())?;
             }
         }
         rest = more;

@@ -6,10 +6,21 @@ use std::collections::BTreeMap;
 use std::marker::Model;
 
 /// Names in order, with where each stands first. Clauses see the list of the names' bytes.
-#[derive(Drop)]
 pub struct NameIndex<'p> {
     names: Vec<&'p str>,
     numbers: BTreeMap<&'p str, usize>,
+}
+
+// Written out, so that an early exit calls this once, and doesn't take the index apart in its place.
+impl Drop for NameIndex<'_> {
+    fn drop(self) {
+        match self {
+            NameIndex {
+                names: _,
+                numbers: _,
+            } => {}
+        }
+    }
 }
 
 impl<'p> Model for NameIndex<'p> {

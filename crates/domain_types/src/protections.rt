@@ -10,10 +10,21 @@ use std::alloc::{AllocError, Global};
 use std::marker::Model;
 
 /// The kinds and domains of a program in order, which share one space of names. Clauses see the list of them.
-#[derive(Drop)]
 pub struct Protections<'p> {
     names: NameIndex<'p>,
     identifiers: Vec<&'p Identifier>,
+}
+
+// Written out, as that of `NameIndex`.
+impl Drop for Protections<'_> {
+    fn drop(self) {
+        match self {
+            Protections {
+                names: _,
+                identifiers: _,
+            } => {}
+        }
+    }
 }
 
 impl<'p> Model for Protections<'p> {

@@ -1,6 +1,6 @@
 // Where a value may go. Each rule notes its faults and says whether there is none.
 ghost use Rattle.std.specs.Prelude.{◌≡◌};
-ghost use Rattle.domain_types.specs.Types.{is_faultless, is_private, is_uint64, same_element, same_dimension, meet, mix_faults, flow_faults, store_faults, scalar_faults};
+ghost use Rattle.domain_types.specs.Types.{is_faultless, of_typed, is_private, is_uint64, same_element, same_dimension, meet, mix_faults, flow_faults, store_faults, scalar_faults};
 ghost use Rattle.domain_types.specs.Least.{least};
 
 use crate::fault::{Fault, Problem};
@@ -96,6 +96,20 @@ pub fn store(worst: &mut Option<Fault>, place: Span, wanted: ValueType, given: V
     note_if(worst, !same, place, Problem::TypeMismatch);
     let flows = flow(worst, place, wanted.domain, given.domain);
     same && flows
+}
+
+/// A value goes to a variable, a parameter or a result, where both have types.
+pub fn store_typed(
+    worst: &mut Option<Fault>,
+    place: Span,
+    wanted: Option<ValueType>,
+    given: Option<ValueType>,
+)
+    ensures { worst.new ≡ least worst.old (of_typed wanted (λ t. of_typed given (store_faults place t))) }
+{
+    if let (Some(wanted), Some(given)) = (wanted, given) {
+        let _ = store(worst, place, wanted, given);
+    }
 }
 
 /// A public scalar is wanted; a private one is this problem.

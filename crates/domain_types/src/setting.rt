@@ -4,14 +4,17 @@ ghost use Rattle.domain_types.specs.Views.{setting};
 
 use crate::declarations::Declarations;
 use crate::value_type::{Protection, ValueType};
-use secrec_ast::{DeclaredType, Domain, DomainVariable};
+use secrec_ast::{DeclaredType, Domain, DomainVariable, Function};
+use std::alloc::Global;
 
-/// Where a piece of a program stands: in a function whose domain variables are bound.
+/// Where a piece of a program stands: in a function whose domain variables are bound. What is found there is kept in memory from
+/// `alloc`.
 #[derive(Clone, Copy)]
 pub struct Setting<'a, 'p> {
+    pub alloc: Global,
     pub declarations: &'a Declarations<'p>,
-    pub variables: &'p [DomainVariable],
-    /// The domain of each of these variables.
+    pub function: &'p Function,
+    /// The domain of each of the function's domain variables.
     pub binding: &'a [Protection],
 }
 
@@ -39,7 +42,7 @@ pub fn domain<'p>(here: &Setting<'_, 'p>, domain: &'p Domain) -> Option<Protecti
         Domain::Public => Some(Protection::Public),
         Domain::Named(name) => {
             let name = name.text.as_str();
-            match bound(name, here.variables, here.binding) {
+            match bound(name, &here.function.variables, here.binding) {
                 Some(domain) => Some(domain),
                 None => match here.declarations.domains.number(name) {
                     Some(number) => Some(Protection::Private(number)),

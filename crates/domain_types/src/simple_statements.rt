@@ -9,21 +9,19 @@ ghost use Rattle.domain_types.specs.Least.{least};
 
 use crate::calls::Found;
 use crate::declaring::{assignment, declaration};
-use crate::expressions::{expression, place_of};
+use crate::expressions::{expression, place_of, value};
 use crate::fault::{Fault, Problem};
-use crate::rules::{scalar, store};
+use crate::rules::{scalar, store_typed};
 use crate::setting::{Setting, written};
 use crate::value_type::ValueType;
-use crate::values::value;
 use crate::variables::Variables;
 use crate::worst::note;
 use sc_text::Span;
 use secrec_ast::{DataType, Expression, ForStart, ForStep, ResultType};
-use std::alloc::{AllocError, Global};
+use std::alloc::AllocError;
 
 /// Checks the first part of a `for`.
 pub fn start<'p>(
-    alloc: Global,
     found: &mut Found,
     here: &Setting<'_, 'p>,
     variables: &mut Variables<'p>,
@@ -36,14 +34,13 @@ pub fn start<'p>(
 {
     match start {
         ForStart::Nothing => Ok(()),
-        ForStart::Declaration(d) => declaration(alloc, found, here, variables, d),
-        ForStart::Assignment(a) => assignment(alloc, found, here, variables, a),
+        ForStart::Declaration(d) => declaration(found, here, variables, d),
+        ForStart::Assignment(a) => assignment(found, here, variables, a),
     }
 }
 
 /// Checks the third part of a `for`; whether it has a type, if it is an expression.
 pub fn step<'p>(
-    alloc: Global,
     found: &mut Found,
     here: &Setting<'_, 'p>,
     variables: &Variables<'p>,
@@ -57,11 +54,11 @@ pub fn step<'p>(
     match step {
         ForStep::Nothing => Ok(true),
         ForStep::Assignment(a) => {
-            assignment(alloc, found, here, variables, a)?;
+            assignment(found, here, variables, a)?;
             Ok(true)
         }
         ForStep::Expression(e) => {
-            let t = expression(alloc, found, here, variables, e)?;
+            let t = expression(found, here, variables, e)?;
             Ok(t.is_some())
         }
     }
@@ -69,7 +66,6 @@ pub fn step<'p>(
 
 /// The value of an expression that may be left out: nothing where it is.
 pub fn optional_value<'p>(
-    alloc: Global,
     found: &mut Found,
     here: &Setting<'_, 'p>,
     variables: &Variables<'p>,
@@ -82,7 +78,7 @@ pub fn optional_value<'p>(
 {
     match e {
         None => Ok(None),
-        Some(e) => value(alloc, found, here, variables, e),
+        Some(e) => value(found, here, variables, e),
     }
 }
 
@@ -111,22 +107,19 @@ pub fn returning<'p>(
     worst: &mut Option<Fault>,
     here: &Setting<'_, 'p>,
     place: Span,
-    returned: &'p ResultType,
     value: &Option<Expression>,
     given: Option<ValueType>,
 )
-    ensures { worst.new ≡ least worst.old (return_rule (setting here.now) place returned.now (optional value.now) given) }
+    ensures { worst.new ≡ least worst.old (return_rule (setting here.now) place here.now.function.now.result (optional value.now) given) }
 {
-    match (returned, value) {
+    match (&here.function.result, value) {
         (ResultType::Void, None) => {}
         (ResultType::Void, Some(_)) => if given.is_some() {
             note(worst, place, Problem::TypeMismatch);
         },
         (ResultType::Value(_), None) => note(worst, place, Problem::TypeMismatch),
         (ResultType::Value(declared), Some(e)) => {
-            if let (Some(wanted), Some(given)) = (written(here, declared), given) {
-                let _ = store(worst, place_of(e), wanted, given);
-            }
+            store_typed(worst, place_of(e), written(here, declared), given);
         }
     }
 }

@@ -15,27 +15,25 @@ use crate::setting::Setting;
 use crate::simple_statements::{for_condition, optional_value, returning, start, step};
 use crate::values::test;
 use crate::variables::Variables;
-use secrec_ast::{ResultType, Statement};
-use std::alloc::{AllocError, Global};
+use secrec_ast::Statement;
+use std::alloc::AllocError;
 
 /// Checks statements in order, each in what is known there.
 #[cycle(statements)]
 pub fn statements<'p>(
-    alloc: Global,
     found: &mut Found,
     here: &Setting<'_, 'p>,
-    returned: &'p ResultType,
     variables: &mut Variables<'p>,
     list: &'p Vec<Statement>,
 ) -> Result<(), AllocError>
     ensures worst { IfOk result (λ _. found.new.worst ≡ least found.old.worst
-        (block_faults (setting here.now) returned.now variables.old (statements_of (map statement list.now.items)))) }
+        (block_faults (setting here.now) here.now.function.now.result variables.old (statements_of (map statement list.now.items)))) }
     ensures calls { IfOk result (λ _. calls_seen found.new.calls.items ≡
         calls_seen found.old.calls.items ++ block_calls (setting here.now) variables.old (statements_of (map statement list.now.items))) }
     ensures variables { IfOk result (λ _. variables.new ≡ after_all (setting here.now) variables.old (statements_of (map statement list.now.items))) }
 {
     for each in list {
-        statement(alloc, found, here, returned, variables, each)?;
+        statement(found, here, variables, each)?;
     }
     Ok(())
 }
@@ -44,15 +42,13 @@ pub fn statements<'p>(
 #[cycle(statements)]
 #[tactic(auto, using(crate::proofs::Faults::appends))]
 pub fn statement<'p>(
-    alloc: Global,
     found: &mut Found,
     here: &Setting<'_, 'p>,
-    returned: &'p ResultType,
     variables: &mut Variables<'p>,
     s: &'p Statement,
 ) -> Result<(), AllocError>
     ensures worst { IfOk result (λ _. found.new.worst ≡ least found.old.worst
-        (statement_faults (setting here.now) returned.now variables.old (statement s.now))) }
+        (statement_faults (setting here.now) here.now.function.now.result variables.old (statement s.now))) }
     ensures calls { IfOk result (λ _. calls_seen found.new.calls.items ≡
         calls_seen found.old.calls.items ++ statement_calls (setting here.now) variables.old (statement s.now)) }
     ensures variables { IfOk result (λ _. variables.new ≡ after (setting here.now) variables.old (statement s.now)) }
@@ -60,47 +56,47 @@ pub fn statement<'p>(
     match s {
         Statement::Block(_, list) => {
             let outer = variables.enter();
-            statements(alloc, found, here, returned, variables, list)?;
+            statements(found, here, variables, list)?;
             variables.leave(outer);
             Ok(())
         }
         Statement::Empty(_) | Statement::Break(_) | Statement::Continue(_) => Ok(()),
         Statement::If(_, e, body, otherwise) => {
-            test(alloc, found, here, variables, Problem::PrivateCondition, e)?;
-            inside(alloc, found, here, returned, variables, body)?;
+            test(found, here, variables, Problem::PrivateCondition, e)?;
+            inside(found, here, variables, body)?;
             match otherwise {
                 None => Ok(()),
-                Some(otherwise) => inside(alloc, found, here, returned, variables, otherwise),
+                Some(otherwise) => inside(found, here, variables, otherwise),
             }
         }
         Statement::While(_, e, body) => {
-            test(alloc, found, here, variables, Problem::PrivateCondition, e)?;
-            inside(alloc, found, here, returned, variables, body)
+            test(found, here, variables, Problem::PrivateCondition, e)?;
+            inside(found, here, variables, body)
         }
         Statement::DoWhile(_, body, e) => {
-            inside(alloc, found, here, returned, variables, body)?;
-            test(alloc, found, here, variables, Problem::PrivateCondition, e)
+            inside(found, here, variables, body)?;
+            test(found, here, variables, Problem::PrivateCondition, e)
         }
         Statement::For(_, first, e, last, body) => {
             let outer = variables.enter();
-            start(alloc, found, here, variables, first)?;
-            let given = optional_value(alloc, found, here, variables, e)?;
-            let typed = step(alloc, found, here, variables, last)?;
+            start(found, here, variables, first)?;
+            let given = optional_value(found, here, variables, e)?;
+            let typed = step(found, here, variables, last)?;
             for_condition(&mut found.worst, e, given, typed);
-            inside(alloc, found, here, returned, variables, body)?;
+            inside(found, here, variables, body)?;
             variables.leave(outer);
             Ok(())
         }
         Statement::Return(place, e) => {
-            let given = optional_value(alloc, found, here, variables, e)?;
-            returning(&mut found.worst, here, *place, returned, e, given);
+            let given = optional_value(found, here, variables, e)?;
+            returning(&mut found.worst, here, *place, e, given);
             Ok(())
         }
-        Statement::Assert(_, e) => test(alloc, found, here, variables, Problem::PrivateAssert, e),
-        Statement::Declaration(d) => declaration(alloc, found, here, variables, d),
-        Statement::Assignment(a) => assignment(alloc, found, here, variables, a),
+        Statement::Assert(_, e) => test(found, here, variables, Problem::PrivateAssert, e),
+        Statement::Declaration(d) => declaration(found, here, variables, d),
+        Statement::Assignment(a) => assignment(found, here, variables, a),
         Statement::Expression(e) => {
-            let _ = expression(alloc, found, here, variables, e)?;
+            let _ = expression(found, here, variables, e)?;
             Ok(())
         }
     }
@@ -109,21 +105,19 @@ pub fn statement<'p>(
 // Checks a statement in a block of its own.
 #[cycle(statements)]
 fn inside<'p>(
-    alloc: Global,
     found: &mut Found,
     here: &Setting<'_, 'p>,
-    returned: &'p ResultType,
     variables: &mut Variables<'p>,
     s: &'p Statement,
 ) -> Result<(), AllocError>
     ensures worst { IfOk result (λ _. found.new.worst ≡ least found.old.worst
-        (statement_faults (setting here.now) returned.now (inner variables.old) (statement s.now))) }
+        (statement_faults (setting here.now) here.now.function.now.result (inner variables.old) (statement s.now))) }
     ensures calls { IfOk result (λ _. calls_seen found.new.calls.items ≡
         calls_seen found.old.calls.items ++ statement_calls (setting here.now) (inner variables.old) (statement s.now)) }
     ensures variables { IfOk result (λ _. variables.new ≡ variables.old) }
 {
     let outer = variables.enter();
-    statement(alloc, found, here, returned, variables, s)?;
+    statement(found, here, variables, s)?;
     variables.leave(outer);
     Ok(())
 }

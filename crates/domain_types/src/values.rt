@@ -1,44 +1,23 @@
-// Expressions that are used as values, and tests.
+// Conditions and assertions.
 ghost use Rattle.std.specs.Prelude.{◌≡◌, ◌++◌, IfOk};
 ghost use Rattle.secrec_ast.specs.Tree.{expression};
-ghost use Rattle.domain_types.specs.ExpressionTypes.{value_type, value_faults};
 ghost use Rattle.domain_types.specs.StatementTypes.{test_faults};
 ghost use Rattle.domain_types.specs.Reached.{calls_of};
 ghost use Rattle.domain_types.specs.Views.{setting, calls_seen};
 ghost use Rattle.domain_types.specs.Least.{least};
 
 use crate::calls::Found;
-use crate::expressions::{expression, place_of, used};
+use crate::expressions::{place_of, value};
 use crate::fault::Problem;
 use crate::rules::scalar;
 use crate::setting::Setting;
-use crate::value_type::ValueType;
 use crate::variables::Variables;
 use secrec_ast::{DataType, Expression};
-use std::alloc::{AllocError, Global};
-
-/// The value that an expression gives, if it has a type: a void call is a fault.
-#[tactic(auto, using(crate::proofs::Faults::appends))]
-pub fn value<'p>(
-    alloc: Global,
-    found: &mut Found,
-    here: &Setting<'_, 'p>,
-    variables: &Variables<'p>,
-    e: &'p Expression,
-) -> Result<Option<ValueType>, AllocError>
-    ensures kind { IfOk result (λ t. t ≡ value_type (setting here.now) variables.now (expression e.now)) }
-    ensures worst { IfOk result (λ _. found.new.worst ≡ least found.old.worst (value_faults (setting here.now) variables.now (expression e.now))) }
-    ensures calls { IfOk result (λ _. calls_seen found.new.calls.items ≡
-        calls_seen found.old.calls.items ++ calls_of (setting here.now) variables.now (expression e.now)) }
-{
-    let t = expression(alloc, found, here, variables, e)?;
-    Ok(used(&mut found.worst, place_of(e), t))
-}
+use std::alloc::AllocError;
 
 /// A condition or an assertion: a public truth value is wanted, where a private one is this problem.
 #[tactic(auto, using(crate::proofs::Faults::appends))]
 pub fn test<'p>(
-    alloc: Global,
     found: &mut Found,
     here: &Setting<'_, 'p>,
     variables: &Variables<'p>,
@@ -49,7 +28,7 @@ pub fn test<'p>(
     ensures calls { IfOk result (λ _. calls_seen found.new.calls.items ≡
         calls_seen found.old.calls.items ++ calls_of (setting here.now) variables.now (expression e.now)) }
 {
-    if let Some(given) = value(alloc, found, here, variables, e)? {
+    if let Some(given) = value(found, here, variables, e)? {
         let _ = scalar(
             &mut found.worst,
             DataType::Bool,

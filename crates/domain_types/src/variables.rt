@@ -23,12 +23,24 @@ pub struct Entry<'p> {
 }
 
 /// The variables that are known at a place. Clauses see the scope: the variables of the innermost block and those around it.
-#[derive(Drop)]
 pub struct Variables<'p> {
     entries: Vec<Entry<'p>>,
     latest: BTreeMap<&'p str, Latest>,
     // how many entries are of the blocks around the innermost one
     outer: usize,
+}
+
+// Written out, so that an early exit calls this once, and doesn't take the table apart in its place.
+impl Drop for Variables<'_> {
+    fn drop(self) {
+        match self {
+            Variables {
+                entries: _,
+                latest: _,
+                outer: _,
+            } => {}
+        }
+    }
 }
 
 impl<'p> Model for Variables<'p> {

@@ -68,11 +68,12 @@ fn visit<'p>(
     };
     if let Some(each) = declarations.functions.get(instance.function) {
         let here = Setting {
+            alloc,
             declarations,
-            variables: &each.variables,
+            function: *each,
             binding: &instance.binding,
         };
-        function(alloc, &mut found, &here, each)?;
+        function(&mut found, &here)?;
     }
     let Found { worst: now, calls } = found;
     *worst = now;

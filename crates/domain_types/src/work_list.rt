@@ -11,10 +11,21 @@ use std::collections::BTreeSet;
 use std::marker::Model;
 
 /// Instances in the order in which they are to be visited, each once. Clauses see the list of them.
-#[derive(Drop)]
 pub struct WorkList {
     instances: Vec<Instance>,
     seen: BTreeSet<Instance>,
+}
+
+// Written out, so that an early exit calls this once, and doesn't take the list apart in its place.
+impl Drop for WorkList {
+    fn drop(self) {
+        match self {
+            WorkList {
+                instances: _,
+                seen: _,
+            } => {}
+        }
+    }
 }
 
 impl Model for WorkList {

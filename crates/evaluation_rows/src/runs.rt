@@ -4,11 +4,12 @@ ghost use Rattle.typed_tree.specs.Programs.{typed_program_tree};
 ghost use Rattle.typed_tree.specs.Sound.{IsSound};
 
 use clear_eval::{BlindError, Report, blind, eval};
+use name_resolution::resolve;
 use secrec_lexer::lex;
 use secrec_parser::parse;
 use std::alloc::{AllocError, Global};
 use std::test::Fail;
-use typed_tree::{TypedProgram, resolve};
+use typed_tree::TypedProgram;
 use value_file::{public_part, read};
 
 // The typed tree of a program whose `main` has this body.

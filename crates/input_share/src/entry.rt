@@ -14,10 +14,18 @@ pub struct Shared {
 }
 
 /// What a miner has of an input: a public value as it is, a private one as its share.
-#[derive(Drop)]
 pub enum Part {
     Public(Value),
     Private(Shared),
+}
+
+// Written out, so that an early exit calls this once and doesn't take the part apart.
+impl Drop for Part {
+    fn drop(self) {
+        match self {
+            Part::Public(_) | Part::Private(_) => {}
+        }
+    }
 }
 
 impl Part {
@@ -33,8 +41,14 @@ impl Part {
 }
 
 /// One input in a share file.
-#[derive(Drop)]
 pub struct ShareEntry {
     pub name: Name,
     pub part: Part,
+}
+
+// Written out, so that an early exit calls this once.
+impl Drop for ShareEntry {
+    fn drop(self) {
+        let ShareEntry { name: _, part: _ } = self;
+    }
 }

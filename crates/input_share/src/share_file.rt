@@ -9,11 +9,21 @@ use std::marker::Model;
 
 /// One miner's share file: the inputs in the order of their file, the lengths of the tapes of the dealer and of miners 1, 2
 /// and 3, and the miner whose file it is.
-#[derive(Drop)]
 pub struct ShareFile {
     entries: Vec<ShareEntry>,
     lens: [u64; 4],
     miner: Number,
+}
+
+// Written out, so that an early exit calls this once.
+impl Drop for ShareFile {
+    fn drop(self) {
+        let ShareFile {
+            entries: _,
+            lens: _,
+            miner: _,
+        } = self;
+    }
 }
 
 impl Model for ShareFile {

@@ -125,8 +125,8 @@ fn add_instances(text: &mut String, instances: &[Instance]) -> Result<(), AllocE
 fn reached(alloc: Global, typed: &TypedProgram) -> Result<(String, usize), AllocError> {
     let mut text = String::new(alloc);
     let instances = reached_instances(alloc, typed)?;
-    add_instances(&mut text, &instances)?;
-    Ok((text, template_count(&instances, typed)))
+    add_instances(&mut text, instances.as_slice())?;
+    Ok((text, template_count(instances.as_slice(), typed)))
 }
 
 fn reached_of(alloc: Global, rest: &str) -> Result<(String, usize), Fail> {

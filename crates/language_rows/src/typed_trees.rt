@@ -1,14 +1,12 @@
 // The typed tree of a program with a template, and a program that has none.
+use name_resolution::{ResolveError, resolve};
 use program_typing::type_program;
 use secrec_ast::{DataType, Program};
 use secrec_lexer::lex;
 use secrec_parser::parse;
 use std::alloc::Global;
 use std::test::Fail;
-use typed_tree::{
-    Given, ResolveError, Shape, Slot, SlotDomain, TypedExpression, TypedFunction, TypedStatement,
-    resolve,
-};
+use typed_tree::{Given, Shape, Slot, SlotDomain, TypedExpression, TypedFunction, TypedStatement};
 
 // Line 2 fills an array whose size is asked for in line 3.
 const PROGRAM: &str = "\

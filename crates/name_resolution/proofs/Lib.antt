@@ -2,6 +2,7 @@ pub mod Tables
 pub mod Growing
 pub mod Missing
 pub mod Sequences
+pub mod Blocks
 pub mod Calls
 pub mod Counts
 pub mod Reading

@@ -1,9 +1,9 @@
 // Which operator a sign means on operands of one data type, and what it gives.
 ghost use Rattle.std.specs.Prelude.{◌≡◌};
-ghost use Rattle.typed_tree.specs.Operators.{word_operator, bool_operator, operator_on, word_result, element_made, operands_of, may_cut_short, cast_between};
+ghost use Rattle.typed_tree.specs.Operators.{word_operator, bool_operator, operator_on, operands_of, may_cut_short, cast_between};
 
-use typed_tree::{BinaryOperator, BoolOperator, Cast, Connective, Operands, WordOperator};
 use secrec_ast::{DataType, Operator};
+use typed_tree::{BinaryOperator, BoolOperator, Cast, Connective, Operands, WordOperator};
 
 fn word_operator(sign: Operator) -> Option<WordOperator>
     ensures { result ≡ word_operator sign }
@@ -62,42 +62,6 @@ pub fn operator_on(sign: Operator, left: DataType, right: DataType) -> Option<Bi
             None => None,
         },
         _ => None,
-    }
-}
-
-impl WordOperator {
-    // The data type of what it gives.
-    fn result(self) -> DataType
-        ensures { result ≡ word_result self }
-    {
-        match self {
-            WordOperator::Equal
-            | WordOperator::NotEqual
-            | WordOperator::Less
-            | WordOperator::LessOrEqual
-            | WordOperator::Greater
-            | WordOperator::GreaterOrEqual => DataType::Bool,
-            WordOperator::Add
-            | WordOperator::Subtract
-            | WordOperator::Multiply
-            | WordOperator::Divide
-            | WordOperator::Remainder
-            | WordOperator::And
-            | WordOperator::Or
-            | WordOperator::Xor => DataType::Uint64,
-        }
-    }
-}
-
-impl BinaryOperator {
-    /// The data type of what it gives.
-    pub fn result(self) -> DataType
-        ensures { result ≡ element_made self }
-    {
-        match self {
-            BinaryOperator::Words(operator) => operator.result(),
-            BinaryOperator::Bools(_) => DataType::Bool,
-        }
     }
 }
 

@@ -1,13 +1,77 @@
 ghost use Rattle.std.specs.Prelude.{◌≡◌, map};
 ghost use Rattle.domain_types.specs.Named.{name_of};
 
-use domain_types::NameIndex;
+use domain_types::{Called, Declarations, NameIndex};
 use secrec_ast::Function;
+use std::alloc::{AllocError, Global};
 
 /// The functions that have been called so far, in the order in which they were first called.
-#[derive(Drop)]
 pub struct Found<'p> {
     pub names: NameIndex<'p>,
     pub functions: Vec<&'p Function>,
     ghost named: { names ≡ map name_of functions.items },
+}
+
+// Written out, so that an early exit calls this once, and doesn't take the list apart in its place.
+impl Drop for Found<'_> {
+    fn drop(self) {
+        match self {
+            Found {
+                names: _,
+                functions: _,
+            } => {}
+        }
+    }
+}
+
+impl<'p> Found<'p> {
+    ghost use Rattle.std.specs.Prelude.{[], IfOk};
+    ghost use Rattle.domain_types.specs.Declarations.{callee};
+    ghost use Rattle.domain_types.specs.Views.{declared};
+    ghost use Rattle.name_resolution.specs.Order.{with_callee};
+    ghost use Rattle.name_resolution.specs.Views.{found_seen};
+
+    /// No functions.
+    pub fn new(alloc: Global) -> Found<'p>
+        ensures { found_seen result ≡ [] }
+    {
+        Found {
+            names: NameIndex::new(alloc),
+            functions: Vec::new(alloc),
+        }
+    }
+
+    /// These functions and the one that a name calls, if it is one of the program and new.
+    #[tactic(auto, using(crate::proofs::Calls::named_trees, crate::proofs::Growing::map_one))]
+    pub fn with_callee(
+        self,
+        declarations: &Declarations<'p>,
+        name: &'p str,
+    ) -> Result<Found<'p>, AllocError>
+        ensures { IfOk result (λ f. found_seen f ≡ with_callee (found_seen self.entry) name.now (callee (declared declarations.now) name.now)) }
+    {
+        match declarations.callee(name) {
+            Some(Called::Defined(_, function)) => {
+                if self.names.number(name).is_some() {
+                    return Ok(self);
+                }
+                let Found {
+                    names,
+                    mut functions,
+                } = self;
+                let names = names.with(function.function.text.as_str())?;
+                functions.push(function)?;
+                Ok(Found { names, functions })
+            }
+            Some(Called::BuiltIn(_)) | None => Ok(self),
+        }
+    }
+
+    /// The declarations of a program with these functions alone, numbered as they were first called.
+    pub fn into_declarations(self, declarations: Declarations<'p>) -> Declarations<'p>
+        ensures { declared result ≡ record (declared declarations.entry) { functions = found_seen self.entry } }
+    {
+        let Found { names, functions } = self;
+        declarations.with_functions(names, functions)
+    }
 }

@@ -7,8 +7,6 @@ ghost use Rattle.typed_tree.specs.Programs.{typed_function_tree};
 ghost use Rattle.name_resolution.specs.Answer.{Answers};
 ghost use Rattle.name_resolution.specs.Views.{place_seen, type_at, slots_seen, functions_seen};
 
-use typed_tree::{Given, TypedFunction};
-use typed_tree::{Slot, SlotDomain};
 use crate::place::Place;
 use crate::resolve_error::ResolveError;
 use crate::sizes::size_of;
@@ -17,6 +15,7 @@ use crate::values::shape_written;
 use domain_types::Declarations;
 use secrec_ast::{DeclaredType, Domain, DomainVariable, Function, Parameter, ResultType};
 use std::alloc::{AllocError, Global};
+use typed_tree::{Given, Slot, SlotDomain, TypedFunction};
 
 // The number of a domain variable.
 fn variable_number(name: &str, variables: &[DomainVariable]) -> Option<usize>

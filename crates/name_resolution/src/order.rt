@@ -1,54 +1,15 @@
 // Which functions are reached from `main`, in the order in which they are first called.
-ghost use Rattle.std.specs.Prelude.{◌≡◌, [], IfOk, map, option_map};
+ghost use Rattle.std.specs.Prelude.{◌≡◌, IfOk, map, option_map};
 ghost use Rattle.secrec_ast.specs.Tree.{expression, trees_of};
 ghost use Rattle.secrec_ast.specs.Statements.{statement, statements_of, optional, declaration_tree, assignment_tree, start_tree, step_tree};
-ghost use Rattle.domain_types.specs.Declarations.{callee};
 ghost use Rattle.domain_types.specs.Views.{declared, tree_at};
-ghost use Rattle.name_resolution.specs.Order.{called_in, called_in_all, called_in_optional, called_in_declaration, called_in_assignment, called_in_start, called_in_step, called_by, called_by_all, with_callee, read_one, reached};
+ghost use Rattle.name_resolution.specs.Order.{called_in, called_in_all, called_in_optional, called_in_declaration, called_in_assignment, called_in_start, called_in_step, called_by, called_by_all, read_one, reached};
 ghost use Rattle.name_resolution.specs.Views.{found_seen};
 
 use crate::found::Found;
-use domain_types::{Called, Declarations, NameIndex};
+use domain_types::Declarations;
 use secrec_ast::{Assignment, Declaration, Expression, ForStart, ForStep, Function, Statement};
 use std::alloc::{AllocError, Global};
-
-impl<'p> Found<'p> {
-    // No functions.
-    fn new(alloc: Global) -> Found<'p>
-        ensures { found_seen result ≡ [] }
-    {
-        Found {
-            names: NameIndex::new(alloc),
-            functions: Vec::new(alloc),
-        }
-    }
-
-    // These functions and the one that a name calls, if it is one of the program and new.
-    #[tactic(auto, using(crate::proofs::Calls::named_trees, crate::proofs::Growing::map_one))]
-    fn with_callee(
-        self,
-        declarations: &Declarations<'p>,
-        name: &'p str,
-    ) -> Result<Found<'p>, AllocError>
-        ensures { IfOk result (λ f. found_seen f ≡ with_callee (found_seen self.entry) name.now (callee (declared declarations.now) name.now)) }
-    {
-        match declarations.callee(name) {
-            Some(Called::Defined(_, function)) => {
-                if self.names.number(name).is_some() {
-                    return Ok(self);
-                }
-                let Found {
-                    names,
-                    mut functions,
-                } = self;
-                let names = names.with(function.function.text.as_str())?;
-                functions.push(function)?;
-                Ok(Found { names, functions })
-            }
-            Some(Called::BuiltIn(_)) | None => Ok(self),
-        }
-    }
-}
 
 // These functions and those that an expression calls.
 #[cycle(expressions)]

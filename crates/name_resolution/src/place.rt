@@ -9,10 +9,21 @@ use secrec_ast::{DeclaredType, Identifier};
 use std::alloc::{AllocError, Global};
 
 /// The variables that are known at a place of a function, and the types of the slots that were declared before it.
-#[derive(Drop)]
 pub struct Place<'p> {
     pub variables: Variables<'p>,
     pub slots: Vec<&'p DeclaredType>,
+}
+
+// Written out, as that of `Variables`.
+impl Drop for Place<'_> {
+    fn drop(self) {
+        match self {
+            Place {
+                variables: _,
+                slots: _,
+            } => {}
+        }
+    }
 }
 
 impl<'p> Place<'p> {

@@ -6,14 +6,13 @@ ghost use Rattle.name_resolution.specs.Functions.{typed_of};
 ghost use Rattle.typed_tree.specs.Programs.{typed_program_tree};
 ghost use Rattle.typed_tree.specs.Sound.{IsSound};
 
-use crate::found::Found;
-use typed_tree::TypedProgram;
 use crate::functions::typed_functions;
 use crate::order::reached;
 use crate::resolve_error::ResolveError;
-use domain_types::{Declarations, collect};
+use domain_types::collect;
 use secrec_ast::Program;
 use std::alloc::Global;
+use typed_tree::TypedProgram;
 
 /// The typed tree of a program, whether or not the checker accepts it: the functions that `main` reaches, in the order in which
 /// they are first called. Each slot that the tree names is one of its function, and each call is one of a function of the tree
@@ -26,15 +25,7 @@ pub fn resolve(alloc: Global, program: &Program) -> Result<TypedProgram, Resolve
     ensures sound { IfOk result (λ t. IsSound (typed_program_tree t)) }
 {
     let declarations = collect(alloc, &program.items)?;
-    let Found { names, functions } = reached(alloc, &declarations)?;
-    let known = Declarations {
-        stdlib: declarations.stdlib,
-        shared3p: declarations.shared3p,
-        kind_declared: declarations.kind_declared,
-        domains: declarations.domains,
-        names,
-        functions,
-    };
+    let known = reached(alloc, &declarations)?.into_declarations(declarations);
     let functions = typed_functions(alloc, &known)?;
     Ok(TypedProgram { functions })
 }

@@ -10,15 +10,14 @@ ghost use Rattle.name_resolution.specs.Bodies.{evaluated, default_of, from_value
 ghost use Rattle.name_resolution.specs.Answer.{Answers};
 ghost use Rattle.name_resolution.specs.Views.{place_seen, with_place};
 
-use typed_tree::TypedExpression;
 use crate::place::Place;
 use crate::resolve_error::ResolveError;
-use typed_tree::TypedStatement;
 use crate::values::{call, value};
 use crate::variables::Known;
 use domain_types::Declarations;
 use secrec_ast::{Assignment, DataType, Declaration, Expression, ForStart, ForStep};
 use std::alloc::Global;
+use typed_tree::{TypedExpression, TypedStatement};
 
 /// An expression that gives a value.
 pub fn expression<'p>(

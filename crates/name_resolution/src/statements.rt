@@ -13,10 +13,10 @@ use crate::resolve_error::ResolveError;
 use crate::simple_statements::{
     assigned, condition_of, declared, evaluated, expression, returned, started, stepped,
 };
-use typed_tree::TypedStatement;
 use domain_types::Declarations;
 use secrec_ast::{Expression, ForStart, ForStep, Statement};
 use std::alloc::Global;
+use typed_tree::TypedStatement;
 
 /// Statements one after another.
 #[cycle(statements)]

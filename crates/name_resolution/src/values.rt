@@ -12,14 +12,12 @@ ghost use Rattle.name_resolution.specs.Answer.{Answers};
 ghost use Rattle.name_resolution.specs.Views.{valued, values_seen, pair_seen, call_seen};
 
 use crate::choosing::{cast_between, may_cut_short, operands_of, operator_on};
-use typed_tree::TypedExpression;
-use typed_tree::Shape;
-use typed_tree::BinaryOperator;
 use crate::resolve_error::ResolveError;
 use crate::variables::Variables;
 use domain_types::{BuiltIn, Called, Declarations};
 use secrec_ast::{DataType, DeclaredType, Expression, Function, Operator, ResultType};
 use std::alloc::{AllocError, Global};
+use typed_tree::{BinaryOperator, Shape, TypedExpression};
 
 /// An expression that gives a value, and the shape of the value.
 #[derive(Drop)]

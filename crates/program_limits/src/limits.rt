@@ -46,7 +46,7 @@ pub fn check_limits(alloc: Global, program: &TypedProgram) -> Result<(), LimitEr
     ensures only { (refused : Option LimitError) → IsVerdict (typed_program_tree program.now) refused → IsJust result refused }
 {
     let instances = reached_instances(alloc, program)?;
-    match refusal(program, &instances) {
+    match refusal(program, instances.as_slice()) {
         None => Ok(()),
         Some(error) => Err(error),
     }

@@ -22,7 +22,8 @@ use Rattle.name_resolution.specs.Order.{function_name, is_found, with_callee, ca
 use Rattle.name_resolution.specs.Functions.{with_functions}
 use Rattle.name_resolution.proofs.SoundValues.{some_is, callee_there}
 use Rattle.program_typing.proofs.TreesOfValues.{Agrees, Agree, names_in, names_in_all}
-use Rattle.program_typing.proofs.TreesOfStatements.{names_in_optional, names_in_declaration, names_in_assignment, names_in_start, names_in_step, names_by, names_by_all}
+use Rattle.program_typing.proofs.TreesOfStatements.{names_in_optional, names_in_declaration, names_in_assignment, names_in_start, names_in_step, names_by_all}
+use Rattle.program_typing.proofs.ReadingOrder.{read_by, read_by_all, same_names_all}
 
 -- CALLEES BY THEIR NAMES, ONE AFTER ANOTHER
 
@@ -85,31 +86,31 @@ in_step d fs (steps_by_assignment t) = in_assignment d fs t
 in_step d fs (steps_by_expression e) = in_value d fs e
 
 mutual
-  in_statement : (d : Declared) (fs : List FunctionTree) (t : StatementTree) → called_by d fs t ≡ with_names d fs (names_by t)
+  in_statement : (d : Declared) (fs : List FunctionTree) (t : StatementTree) → called_by d fs t ≡ with_names d fs (read_by t)
   in_statement d fs (block p ss) = in_statements d fs ss
   in_statement d fs (empty p) = refl
   in_statement d fs (branch p e body) =
       let gs = called_in d fs e in
-      then_with d fs gs (called_by d gs body) (names_in e) (names_by body) (in_value d fs e) (in_statement d (called_in d fs e) body)
+      then_with d fs gs (called_by d gs body) (names_in e) (read_by body) (in_value d fs e) (in_statement d (called_in d fs e) body)
   in_statement d fs (choice p e body otherwise) =
       let gs = called_in d fs e in
       let hs = called_by d (called_in d fs e) body in
-      then_with d fs gs (called_by d hs otherwise) (names_in e) (names_by body ++ names_by otherwise) (in_value d fs e)
-      (then_with d gs hs (called_by d hs otherwise) (names_by body) (names_by otherwise) (in_statement d (called_in d fs e) body) (in_statement d (called_by d (called_in d fs e) body) otherwise))
+      then_with d fs gs (called_by d hs otherwise) (names_in e) (read_by body ++ read_by otherwise) (in_value d fs e)
+      (then_with d gs hs (called_by d hs otherwise) (read_by body) (read_by otherwise) (in_statement d (called_in d fs e) body) (in_statement d (called_by d (called_in d fs e) body) otherwise))
   in_statement d fs (while_loop p e body) =
-      let gs = called_in d fs e in
-      then_with d fs gs (called_by d gs body) (names_in e) (names_by body) (in_value d fs e) (in_statement d (called_in d fs e) body)
+      let gs = called_by d fs body in
+      then_with d fs gs (called_in d gs e) (read_by body) (names_in e) (in_statement d fs body) (in_value d gs e)
   in_statement d fs (do_loop p body e) =
       let gs = called_by d fs body in
-      then_with d fs gs (called_in d gs e) (names_by body) (names_in e) (in_statement d fs body) (in_value d gs e)
+      then_with d fs gs (called_in d gs e) (read_by body) (names_in e) (in_statement d fs body) (in_value d gs e)
   in_statement d fs (for_loop p b e c body) =
       let one = called_in_start d fs b in
-      let two = called_in_optional d one e in
+      let two = called_by d one body in
       let three = called_in_step d two c in
-      let four = called_by d three body in
-      then_with d fs one four (names_in_start b) (names_in_optional e ++ (names_in_step c ++ names_by body)) (in_start d fs b)
-      (then_with d one two four (names_in_optional e) (names_in_step c ++ names_by body) (in_optional d one e)
-      (then_with d two three four (names_in_step c) (names_by body) (in_step d two c) (in_statement d (called_in_step d (called_in_optional d (called_in_start d fs b) e) c) body)))
+      let four = called_in_optional d three e in
+      then_with d fs one four (names_in_start b) (read_by body ++ (names_in_step c ++ names_in_optional e)) (in_start d fs b)
+      (then_with d one two four (read_by body) (names_in_step c ++ names_in_optional e) (in_statement d (called_in_start d fs b) body)
+      (then_with d two three four (names_in_step c) (names_in_optional e) (in_step d two c) (in_optional d three e)))
   in_statement d fs (breaks p) = refl
   in_statement d fs (continues p) = refl
   in_statement d fs (returns p e) = in_optional d fs e
@@ -118,11 +119,11 @@ mutual
   in_statement d fs (assignment t) = in_assignment d fs t
   in_statement d fs (evaluation e) = in_value d fs e
 
-  in_statements : (d : Declared) (fs : List FunctionTree) (ts : StatementTrees) → called_by_all d fs ts ≡ with_names d fs (names_by_all ts)
+  in_statements : (d : Declared) (fs : List FunctionTree) (ts : StatementTrees) → called_by_all d fs ts ≡ with_names d fs (read_by_all ts)
   in_statements d fs Statements'.none = refl
   in_statements d fs (Statements'.also t ts) =
       let gs = called_by d fs t in
-      then_with d fs gs (called_by_all d gs ts) (names_by t) (names_by_all ts) (in_statement d fs t) (in_statements d (called_by d fs t) ts)
+      then_with d fs gs (called_by_all d gs ts) (read_by t) (read_by_all ts) (in_statement d fs t) (in_statements d (called_by d fs t) ts)
 
 -- WHAT HOLDS OF EACH
 
@@ -300,7 +301,7 @@ list_known d (suc n) = go (slice_get (known_after d n) n) (list_known d n)
   where
     go : (o : Option FunctionTree) → IsList d (known_after d n) → IsList d (read_one d (known_after d n) o)
     go None h = h
-    go (Some f) h = subst (IsList d) (sym (in_statements d (known_after d n) f.body.statements)) (list_names d (known_after d n) (names_by_all f.body.statements) h)
+    go (Some f) h = subst (IsList d) (sym (in_statements d (known_after d n) f.body.statements)) (list_names d (known_after d n) (read_by_all f.body.statements) h)
 
 any_at : (x : List ℕ) (fs : List FunctionTree) (k : ℕ) (f : FunctionTree) → slice_get fs k ≡ Some f → bytes_eq x f.function.text ≡ true → list_any (bytes_eq x) (map function_name fs) ≡ true
 any_at x [] k f e t = cc
@@ -330,10 +331,10 @@ closed_extended : (d : Declared) (f : FunctionTree) (fs gs : List FunctionTree) 
 closed_extended d f fs gs h c = record { found = λ x n g m e. found_extended x fs gs h (c.found x n g m e) }
 
 pub extends_read : (d : Declared) (fs : List FunctionTree) (f : FunctionTree) → Extends fs (read_one d fs (Some f))
-extends_read d fs f = subst (Extends fs) (sym (in_statements d fs f.body.statements)) (extends_names d fs (names_by_all f.body.statements))
+extends_read d fs f = subst (Extends fs) (sym (in_statements d fs f.body.statements)) (extends_names d fs (read_by_all f.body.statements))
 
 closed_read : (d : Declared) (fs : List FunctionTree) (f : FunctionTree) → Closed d f (read_one d fs (Some f))
-closed_read d fs f = record { found = λ x n g m e. ap (is_found x) (in_statements d fs f.body.statements) ∙ found_names d fs (names_by_all f.body.statements) x n g m e }
+closed_read d fs f = record { found = λ x n g m e. ap (is_found x) (in_statements d fs f.body.statements) ∙ found_names d fs (read_by_all f.body.statements) x n g ((same_names_all f.body.statements x).0 m) e }
 
 up_to : (i n : ℕ) → i < suc n → (i < n) ⊎ (i ≡ n)
 up_to zero zero l = inr refl
@@ -383,7 +384,8 @@ each_known P d first further (suc n) = go (slice_get (known_after d n) n) refl (
     go None e h = h
     go (Some f) e h =
         subst (Each P) (sym (in_statements d (known_after d n) f.body.statements))
-        (keeps_names (Each P) d (known_after d n) (names_by_all f.body.statements) h (λ gs x m g q among c a. each_push P gs g q (further f (each_at P (known_after d n) n f h e) x m g among c)))
+        (keeps_names (Each P) d (known_after d n) (read_by_all f.body.statements) h
+        (λ gs x m g q among c a. each_push P gs g q (further f (each_at P (known_after d n) n f h e) x m g ((same_names_all f.body.statements x).1 among) c)))
 
 -- A NAME MEANS THE SAME FUNCTION THERE
 

@@ -8,3 +8,4 @@ pub mod Beginnings
 pub mod Strands
 pub mod Nets
 pub mod Nodes
+pub mod Refusing

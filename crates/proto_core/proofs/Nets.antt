@@ -80,7 +80,7 @@ rounds-add nodes (suc k) c l =
     let e : suc k + c ≡ suc (k + c) = omega arith in
     ap (λ n. rounds nodes n nothing l) e ∙ ap (λ m. posted nodes m l) (λ d. λ j. rounds-add nodes k c j d)
 
-into-added : (i : Number) (x y : Mail) → into i (added x y) ≡ added (into i x) (into i y)
+pub into-added : (i : Number) (x y : Mail) → into i (added x y) ≡ added (into i x) (into i y)
 into-added i x y = λ d. λ l. at_link l d
   where
     at_link : (l : Link) → into i (added x y) l ≡ added (into i x) (into i y) l

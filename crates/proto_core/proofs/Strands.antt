@@ -5,7 +5,7 @@ use Rattle.proto_core.specs.Net.{added, MailBegins}
 use Rattle.proto_core.proofs.Beginnings.{begins-append, begins-rest, append-none, agree-begins, longer, begins-longer, agree-longer}
 use Rattle.proto_core.specs.declared.link.Link.{Link}
 use Rattle.proto_core.specs.declared.link.Link.TheVariants.{Link12, Link13, Link21, Link23, Link31, Link32}
-use Rattle.proto_core.specs.Strand.{Shape, accepts, same_link, Act, Sent, Opened, Mail, Strand, Ends, Acts, Waits, taken, came, Ran, acted, run, then_do, on_link, opened_in, Begins, Agree, IsEnded}
+use Rattle.proto_core.specs.Strand.{Shape, accepts, same_link, Act, Sent, Opened, Told, Mail, Strand, Ends, Acts, Waits, taken, came, Ran, acted, run, then_do, on_link, opened_in, told_in, Begins, Agree, IsEnded}
 
 pub same-link_is : (l k : Link) → same_link l k ≡ true → l ≡ k
 same-link_is Link12 Link12 h = refl
@@ -83,11 +83,19 @@ on_link-append l (Sent k m ∷ xs) ys =
     elim (same_link l k) as (λ b. (if b then m ∷ on_link l (xs ++ ys) else on_link l (xs ++ ys)) ≡ (if b then m ∷ on_link l xs else on_link l xs) ++ on_link l ys)
     [ true ↦ ap (λ v. m ∷ v) (on_link-append l xs ys) | false ↦ on_link-append l xs ys ]
 on_link-append l (Opened w ∷ xs) ys = on_link-append l xs ys
+on_link-append l (Told t ∷ xs) ys = on_link-append l xs ys
 
 pub opened-append : (xs ys : List Act) → opened_in (xs ++ ys) ≡ opened_in xs ++ opened_in ys
 opened-append [] ys = refl
 opened-append (Sent k m ∷ xs) ys = opened-append xs ys
 opened-append (Opened w ∷ xs) ys = ap (λ v. w ++ v) (opened-append xs ys) ∙ sym (append_assoc w (opened_in xs) (opened_in ys))
+opened-append (Told t ∷ xs) ys = opened-append xs ys
+
+pub told-append : (xs ys : List Act) → told_in (xs ++ ys) ≡ told_in xs ++ told_in ys
+told-append [] ys = refl
+told-append (Sent k m ∷ xs) ys = told-append xs ys
+told-append (Opened w ∷ xs) ys = told-append xs ys
+told-append (Told t ∷ xs) ys = ap (λ v. t ∷ v) (told-append xs ys)
 
 -- ---- what follows from it
 

@@ -5,6 +5,7 @@ pub mod Net
 pub mod Script
 pub mod Protocol
 pub mod Refusals
+pub mod Standing
 pub mod MessageLists
 pub mod Resharing
 pub mod Elementwise

@@ -3,7 +3,7 @@ use Rattle.std.specs.Prelude.{◌≡◌, ℕ, true, if◌then◌else◌, List, [
 use Rattle.proto_core.specs.declared.party.Number.{Number}
 use Rattle.proto_core.specs.declared.link.Link.{Link}
 use Rattle.proto_core.specs.Parties.{sender_of, receiver_of}
-use Rattle.proto_core.specs.Strand.{Shape, accepts, same_link, Sent, Opened, Strand, Ends, Acts, Waits}
+use Rattle.proto_core.specs.Strand.{Shape, accepts, same_link, Sent, Opened, Told, Strand, Ends, Acts, Waits}
 
 pub data Move : Type 0 where
   Sends : (link : Link) (shape : Shape) → Move
@@ -14,6 +14,7 @@ abbrev pub Moves : {A : Type 0} → Strand A → List Move → Type 0
 Moves (Ends a) [] = Unit {0}
 Moves (Ends a) (move ∷ moves) = ⊥
 Moves (Acts (Opened w) s) moves = Moves s moves
+Moves (Acts (Told t) s) moves = Moves s moves
 Moves (Acts (Sent k m) s) (Sends l shape ∷ moves) = (l ≡ k) × (accepts shape m ≡ true) × Moves s moves
 Moves (Acts (Sent k m) s) (Takes l shape ∷ moves) = ⊥
 Moves (Acts (Sent k m) s) [] = ⊥
@@ -21,6 +22,14 @@ Moves (Waits k shape f) (Takes l wanted ∷ moves) =
     (l ≡ k) × (wanted ≡ shape) × ((m : List ℕ) → accepts shape m ≡ true → Moves (f m) moves)
 Moves (Waits k shape f) (Sends l wanted ∷ moves) = ⊥
 Moves (Waits k shape f) [] = ⊥
+
+-- whatever the messages are, it tells nothing
+abbrev pub IsSilent : {A : Type 0} → Strand A → Type 0
+IsSilent (Ends a) = Unit {0}
+IsSilent (Acts (Sent k m) s) = IsSilent s
+IsSilent (Acts (Opened w) s) = IsSilent s
+IsSilent (Acts (Told t) s) = ⊥
+IsSilent (Waits l shape k) = (m : List ℕ) → IsSilent (k m)
 
 -- whatever the words are, this holds of what it ends with
 abbrev pub EndsWith : {A : Type 0} → (A → Type 0) → Strand A → Type 0

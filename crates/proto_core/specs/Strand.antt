@@ -33,10 +33,25 @@ accepts s m = (length m == length s.fields * s.count) && has_bits s.count s.fiel
 
 -- ---- what a miner does
 
--- a message that it sends, words that it learns
+-- what a value is made of: words, or bits as 0 and 1; one of them, or an array
+pub record Form : Type 0 where
+  pub element : Field
+  pub array : Bool
+
+-- what a miner tells the world
+pub data Notice : Type 0 where
+  -- a value that all three have opened
+  Shown : (form : Form) (words : List ℕ) → Notice
+  -- a public value, under the name under which it is published
+  Published : (name : List ℕ) (form : Form) (words : List ℕ) → Notice
+  -- its own share of a private one
+  Handed : (name : List ℕ) (form : Form) (words : List ℕ) → Notice
+
+-- a message that it sends, words that it learns, something that it tells
 pub data Act : Type 0 where
   Sent : (link : Link) (message : List ℕ) → Act
   Opened : (words : List ℕ) → Act
+  Told : (notice : Notice) → Act
 
 pub data Strand (A : Type 0) : Type 0 where
   Ends : A → Strand A
@@ -109,12 +124,21 @@ abbrev pub on_link : Link → List Act → List (List ℕ)
 on_link l [] = []
 on_link l (Sent k m ∷ acts) = if same_link l k then m ∷ on_link l acts else on_link l acts
 on_link l (Opened w ∷ acts) = on_link l acts
+on_link l (Told t ∷ acts) = on_link l acts
 
 -- the words that it learns, one after another
 abbrev pub opened_in : List Act → List ℕ
 opened_in [] = []
 opened_in (Sent k m ∷ acts) = opened_in acts
 opened_in (Opened w ∷ acts) = w ++ opened_in acts
+opened_in (Told t ∷ acts) = opened_in acts
+
+-- what it tells, in order
+abbrev pub told_in : List Act → List Notice
+told_in [] = []
+told_in (Sent k m ∷ acts) = told_in acts
+told_in (Opened w ∷ acts) = told_in acts
+told_in (Told t ∷ acts) = t ∷ told_in acts
 
 -- ---- lists of which one begins the other
 

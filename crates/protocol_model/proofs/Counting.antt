@@ -2,7 +2,7 @@
 use Rattle.std.proofs.Common.{◌≡◌, ℕ, zero, suc, pred, ◌+◌, Bool, true, false, if◌then◌else◌, List, [], ◌∷◌, ◌++◌, length, refl, sym, ◌∙◌, ap, subst, arith}
 use Rattle.std.specs.Prelude.{Option, Some}
 use Rattle.proto_core.specs.declared.link.Link.{Link}
-use Rattle.proto_core.specs.Strand.{same_link, Sent, Opened, Mail, Strand, Ends, Acts, Waits, rest_of, taken, run, then_do, on_link, Begins, IsEnded, accepts}
+use Rattle.proto_core.specs.Strand.{same_link, Sent, Opened, Told, Mail, Strand, Ends, Acts, Waits, rest_of, taken, run, then_do, on_link, Begins, IsEnded, accepts}
 use Rattle.proto_core.specs.Net.{added, MailBegins}
 use Rattle.proto_core.specs.Script.{Move, Sends, Takes, Moves}
 use Rattle.proto_core.proofs.Strands.{run-none, run-took, run-refused, taken-added}
@@ -37,6 +37,8 @@ pub along-counted : {A : Type 0} (s : Strand A) (moves : List Move) (mail full :
 along-counted (Ends a) [] mail full h b = record { sent = λ l. refl; waits = refl }
 along-counted (Ends a) (move ∷ moves) mail full h b = absurd h
 along-counted (Acts (Opened w) s) moves mail full h b =
+    let rest = along-counted s moves mail full h b in record { sent = rest.sent; waits = rest.waits }
+along-counted (Acts (Told t) s) moves mail full h b =
     let rest = along-counted s moves mail full h b in record { sent = rest.sent; waits = rest.waits }
 along-counted (Acts (Sent k m) s) [] mail full h b = absurd h
 along-counted (Acts (Sent k m) s) (Takes j n ∷ moves) mail full h b = absurd h
@@ -91,6 +93,7 @@ pub moves-along : {A : Type 0} (s : Strand A) (moves : List Move) (full : Mail) 
 moves-along (Ends a) [] full h e = tt
 moves-along (Ends a) (move ∷ moves) full h e = absurd h
 moves-along (Acts (Opened w) s) moves full h e = moves-along s moves full h e
+moves-along (Acts (Told t) s) moves full h e = moves-along s moves full h e
 moves-along (Acts (Sent k m) s) [] full h e = absurd h
 moves-along (Acts (Sent k m) s) (Takes j n ∷ moves) full h e = absurd h
 moves-along (Acts (Sent k m) s) (Sends j n ∷ moves) full h e = (h.0, h.1, moves-along s moves full h.2 e)
@@ -118,6 +121,7 @@ along-then (Ends b) f [] second x y a h e g = subst (λ v. MovesAlong (f v) seco
     ends_are e = cc
 along-then (Ends b) f (move ∷ moves) second x y a h e g = absurd h
 along-then (Acts (Opened w) s) f moves second x y a h e g = along-then s f moves second x y a h e g
+along-then (Acts (Told t) s) f moves second x y a h e g = along-then s f moves second x y a h e g
 along-then (Acts (Sent k m) s) f [] second x y a h e g = absurd h
 along-then (Acts (Sent k m) s) f (Takes j n ∷ moves) second x y a h e g = absurd h
 along-then (Acts (Sent k m) s) f (Sends j n ∷ moves) second x y a h e g = (h.0, h.1, along-then s f moves second x y a h.2 e g)

@@ -8,3 +8,4 @@ pub mod MadeOrders
 pub mod Coming
 pub mod Completing
 pub mod GateSchedules
+pub mod Slots

@@ -1,6 +1,6 @@
 -- The moves of a miner in one run: those that it makes on the messages of this run, whatever it would do on others.
 use Rattle.std.specs.Prelude.{◌≡◌, ℕ, true, List, [], ◌∷◌}
-use Rattle.proto_core.specs.Strand.{Shape, accepts, Sent, Opened, Mail, Strand, Ends, Acts, Waits, taken}
+use Rattle.proto_core.specs.Strand.{Shape, accepts, Sent, Opened, Told, Mail, Strand, Ends, Acts, Waits, taken}
 use Rattle.proto_core.specs.Script.{Move, Sends, Takes}
 
 -- there is an oldest message, it has this shape, and this holds of it
@@ -12,6 +12,7 @@ abbrev pub MovesAlong : {A : Type 0} → Strand A → List Move → Mail → Typ
 MovesAlong (Ends a) [] mail = Unit {0}
 MovesAlong (Ends a) (move ∷ moves) mail = ⊥
 MovesAlong (Acts (Opened w) s) moves mail = MovesAlong s moves mail
+MovesAlong (Acts (Told t) s) moves mail = MovesAlong s moves mail
 MovesAlong (Acts (Sent k m) s) (Sends l shape ∷ moves) mail = (l ≡ k) × (accepts shape m ≡ true) × MovesAlong s moves mail
 MovesAlong (Acts (Sent k m) s) (Takes l shape ∷ moves) mail = ⊥
 MovesAlong (Acts (Sent k m) s) [] mail = ⊥

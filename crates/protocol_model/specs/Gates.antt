@@ -2,7 +2,7 @@
 use Rattle.std.specs.Prelude.{◌≡◌, ℕ, zero, suc, ◌+◌, List, [], ◌∷◌, ◌++◌, length, map, take, drop, Option, Some, None}
 use Rattle.proto_core.specs.declared.party.Number.{Number}
 use Rattle.proto_core.specs.Strand.{Strand, Ends, then_do}
-use Rattle.proto_core.specs.Script.{Move}
+use Rattle.proto_core.specs.Script.{Move, IsSilent}
 use Rattle.proto_core.specs.Protocol.{Protocol, Sound, Private}
 
 -- one block of an interactive gate, with the numbers of its operands; or a local gate that makes a value of this size,
@@ -56,6 +56,12 @@ abbrev pub ArePrivate : List Gate → Type 0
 ArePrivate [] = Unit {0}
 ArePrivate (Joined p n u v ∷ gates) = Private p × ArePrivate gates
 ArePrivate (Local n f ∷ gates) = ArePrivate gates
+
+-- no miner's part in a protocol tells anything
+abbrev pub AreSilent : List Gate → Type 0
+AreSilent [] = Unit {0}
+AreSilent (Joined p n u v ∷ gates) = ((i : Number) (own other words : List ℕ) → IsSilent (p.strand n i own other words)) × AreSilent gates
+AreSilent (Local n f ∷ gates) = AreSilent gates
 
 -- ---- one miner
 

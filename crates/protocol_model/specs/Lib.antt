@@ -5,5 +5,6 @@ pub mod Schedules
 pub mod Network
 pub mod Along
 pub mod Arrivals
+pub mod Slots
 pub mod Complete
 pub mod Vectors

@@ -1,16 +1,17 @@
-ghost use Rattle.std.specs.Prelude.{◌+◌, ◌≡◌, ◌≤◌, ℕ, List};
+ghost use Rattle.std.specs.Prelude.{◌+◌, ◌≡◌, ◌≤◌, ◌<◌, ℕ, List, length};
 ghost use Rattle.proto_core.specs.declared.link.Link.{Link};
 ghost use Rattle.proto_core.specs.declared.party.Number.{Number};
 ghost use Rattle.proto_core.specs.Net.{MailBegins, Finishes, nothing, all_delivered, into, posted};
 ghost use Rattle.proto_core.specs.Script.{Move};
-ghost use Rattle.proto_core.specs.Strand.{Begins, Mail, Strand, run};
+ghost use Rattle.proto_core.specs.Strand.{Begins, Ends, Mail, Strand, run};
 ghost use Rattle.protocol_model.specs.Along.{MovesAlong};
 ghost use Rattle.protocol_model.specs.Arrivals.{arrivals, arrived, to_come};
 ghost use Rattle.protocol_model.specs.Complete.{IsComplete};
-ghost use Rattle.protocol_model.specs.Gates.{Gate, AreSound, ArePrivate, gates_script};
+ghost use Rattle.protocol_model.specs.Gates.{Gate, AreSound, ArePrivate, Sized, gates_script, gates_strand, needed, sizes_of, value_at};
 ghost use Rattle.protocol_model.specs.Network.{Accepted, Default, Delivery, Shuffled, counted, counts, made_order, net, order_of, total, walked};
 ghost use Rattle.protocol_model.specs.Runs.{Shares, Tapes, Ready, RunTogether, nodes_of, run_messages};
 ghost use Rattle.protocol_model.specs.Schedules.{AnyOrder, ThreeNodes};
+ghost use Rattle.protocol_model.specs.Slots.{IsOwn};
 ghost use Rattle.protocol_model.specs.Views.{MadeBy, OneToOne};
 
 /// Law: with more messages a miner does what it did with fewer, and perhaps more.
@@ -99,4 +100,16 @@ pub fn messages_come_in_order()
     ensures { (nodes : Number → Strand (List (List ℕ))) (full : Mail) (outputs : Number → List (List ℕ)) (order : List Link) (entry : ℕ) (mail : Mail) (i : Number) →
         Finishes nodes full outputs → MailBegins mail full → walked nodes entry mail order ≡ Accepted →
         arrived nodes i mail order ≡ arrivals i (to_come full mail) order }
+{}
+
+/// Law: where a miner has run gates, with any messages, each value that was there before is as it was; and so is what stands
+/// under any other number that is none of the gates' own, for sound gates whose operands are there.
+pub fn gates_keep_other_values()
+    ensures before { (i : Number) (gates : List Gate) (values all : List (List ℕ)) (tape : List ℕ) (mail : Mail) (number : ℕ) →
+        (run (gates_strand i gates values tape) mail).left ≡ Ends all → number < length values →
+        value_at all number ≡ value_at values number }
+    ensures others { (i : Number) (gates : List Gate) (values all : List (List ℕ)) (tape : List ℕ) (mail : Mail) (number : ℕ) →
+        (run (gates_strand i gates values tape) mail).left ≡ Ends all →
+        AreSound gates → Sized gates (sizes_of values) → needed gates i ≤ length tape → (IsOwn (length values) gates number → ⊥) →
+        value_at all number ≡ value_at values number }
 {}

@@ -7,7 +7,8 @@
 mod laws;
 
 pub use laws::{
-    accepted_orders_are_complete, every_order_is_the_run, gates_move_along_their_scripts,
-    gates_run_together, made_orders_are_accepted, messages_come_in_order, more_mail_extends,
-    schedules_are_counted, tapes_correspond, three_nodes_agree, views_are_made,
+    accepted_orders_are_complete, every_order_is_the_run, gates_keep_other_values,
+    gates_move_along_their_scripts, gates_run_together, made_orders_are_accepted,
+    messages_come_in_order, more_mail_extends, schedules_are_counted, tapes_correspond,
+    three_nodes_agree, views_are_made,
 };

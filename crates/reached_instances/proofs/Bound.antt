@@ -79,7 +79,8 @@ mutual
   command_bound w empty_command = none_bound w.functions
   command_bound w (block_command cs) = commands_bound w cs
   command_bound w (if_command e a b) = three_bound w.functions (calls w e) (command_calls w a) (command_calls w b) (calls_bound w e) (command_bound w a) (command_bound w b)
-  command_bound w (loop_command e step body) = three_bound w.functions (command_calls w body) (command_calls w step) (calls w e) (command_bound w body) (command_bound w step) (calls_bound w e)
+  command_bound w (loop_command e step body) =
+      three_bound w.functions (command_calls w body) (command_calls w step) (calls w e) (command_bound w body) (command_bound w step) (calls_bound w e)
   command_bound w (do_command body e) = both_bound w.functions (command_calls w body) (calls w e) (command_bound w body) (calls_bound w e)
   command_bound w break_command = none_bound w.functions
   command_bound w continue_command = none_bound w.functions

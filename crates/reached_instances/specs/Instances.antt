@@ -1,6 +1,6 @@
 -- Instances of functions, when two are the same, and lists in which each stands once.
-use Rattle.std.specs.Prelude.{ℕ, Bool, true, false, nat_eq, ◌&&◌, if◌then◌else◌, List, [], ◌∷◌, ◌++◌, vec_items}
-use Rattle.std.specs.List.{list_any}
+use Rattle.std.specs.Prelude.{ℕ, Bool, true, false, nat_eq, ◌&&◌, if◌then◌else◌, List, [], ◌∷◌, ◌++◌, Option, vec_items}
+use Rattle.std.specs.List.{list_any, position}
 use Rattle.std.specs.Cmp.Lexicographic.{pointwise}
 use Rattle.reached_instances.specs.declared.instance.BoundDomain.{BoundDomain}
 use Rattle.reached_instances.specs.declared.instance.BoundDomain.TheVariants.{Public, Private}
@@ -25,6 +25,10 @@ same_instance i j = nat_eq i.function j.function && pointwise same_domain i.bind
 
 abbrev pub is_listed : Instance → List Instance → Bool
 is_listed i is = list_any (same_instance i) is
+
+-- the number of an instance in a list: the first place where it stands
+abbrev pub number_in : List Instance → Instance → Option ℕ
+number_in is i = position (same_instance i) is
 
 -- one more behind a list, unless it is there
 abbrev pub listing : List Instance → Instance → List Instance

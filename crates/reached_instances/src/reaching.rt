@@ -9,6 +9,7 @@ ghost use Rattle.reached_instances.specs.Views.{instances_seen};
 use crate::commands::called_by;
 use crate::expressions::call;
 use crate::instance::Instance;
+use crate::list::ReachedInstances;
 use indexmap::IndexSet;
 use std::alloc::{AllocError, Global};
 use typed_tree::TypedProgram;
@@ -32,20 +33,17 @@ fn list_all(list: &mut IndexSet<Instance>, found: Vec<Instance>) -> Result<(), A
     Ok(())
 }
 
-fn into_vec(alloc: Global, list: IndexSet<Instance>) -> Result<Vec<Instance>, AllocError>
-    ensures { IfOk result (λ v. v.items ≡ list.keys) }
-{
-    list.into_iter().collect(alloc)
-}
-
 /// The instances that `main` reaches, in the order in which they are first called: `main` is the first, and the others follow as
 /// calls name them where the instances are read from the first one on, arguments before the call. Each stands there once; its
 /// function is one of the program, and each of the function's domain variables is bound.
 ///
 /// An error comes where memory runs short.
-pub fn reached_instances(alloc: Global, program: &TypedProgram) -> Result<Vec<Instance>, AllocError>
-    ensures list { IfOk result (λ list. IsReachedList (typed_program_tree program.now) (instances_seen list.items)) }
-    ensures bound { IfOk result (λ list. All (IsBound (typed_program_tree program.now)) (instances_seen list.items)) }
+pub fn reached_instances(
+    alloc: Global,
+    program: &TypedProgram,
+) -> Result<ReachedInstances, AllocError>
+    ensures list { IfOk result (λ list. IsReachedList (typed_program_tree program.now) list) }
+    ensures bound { IfOk result (λ list. All (IsBound (typed_program_tree program.now)) list) }
 {
     let mut list = IndexSet::new(alloc);
     list_all(&mut list, main_of(alloc, program)?)?;
@@ -55,5 +53,5 @@ pub fn reached_instances(alloc: Global, program: &TypedProgram) -> Result<Vec<In
         list_all(&mut list, found)?;
         next += 1;
     }
-    into_vec(alloc, list)
+    Ok(ReachedInstances::new(list))
 }

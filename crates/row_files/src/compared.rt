@@ -1,7 +1,7 @@
 // What came out against what the row says.
 ghost use Rattle.std.specs.Prelude.{◌≡◌, true, IfOk};
 
-use crate::row::{Kind, Row, Text};
+use crate::row::{Kind, Row, Text, peer_of};
 use outside::{MemFiles, MemLinks, MemSink, MemSpawner, SpawnCall};
 use std::alloc::{AllocError, Global};
 
@@ -19,57 +19,99 @@ pub struct Outcome {
 // No more bytes of a text are shown.
 const SHOWN: usize = 2000;
 
-fn add_hex(report: &mut String, bytes: &[u8]) -> Result<(), AllocError> {
-    report.push_str("    hex")?;
-    for byte in bytes {
-        write!(report, " {byte:02x}")?;
+// A text that is added to, and whether memory ran short.
+struct Report {
+    text: String,
+    is_short: bool,
+}
+
+// Written out, so that an early exit calls this once.
+impl Drop for Report {
+    fn drop(self) {
+        let Report {
+            text: _,
+            is_short: _,
+        } = self;
     }
-    report.push_str("\n")
+}
+
+impl Report {
+    fn new(alloc: Global) -> Self {
+        Report {
+            text: String::new(alloc),
+            is_short: false,
+        }
+    }
+
+    fn add(&mut self, piece: &str) {
+        if self.text.push_str(piece).is_err() {
+            self.is_short = true;
+        }
+    }
+
+    fn add_number(&mut self, number: u64) {
+        if write!(self.text, "{number}").is_err() {
+            self.is_short = true;
+        }
+    }
+
+    fn add_byte(&mut self, byte: u8) {
+        if write!(self.text, " {byte:02x}").is_err() {
+            self.is_short = true;
+        }
+    }
+}
+
+fn add_hex(report: &mut Report, bytes: &[u8]) {
+    report.add("    hex");
+    for byte in bytes {
+        report.add_byte(*byte);
+    }
+    report.add("\n");
 }
 
 // Each line of a text as a row file gives it.
-fn add_lines(report: &mut String, text: &str) -> Result<(), AllocError> {
+fn add_lines(report: &mut Report, text: &str) {
     for line in text.lines() {
-        writeln!(report, "    |{line}")?;
+        report.add("    |");
+        report.add(line);
+        report.add("\n");
     }
     if !text.is_empty() && !text.ends_with('\n') {
-        report.push_str("    # with no line feed at the end\n")?;
+        report.add("    # with no line feed at the end\n");
     }
-    Ok(())
 }
 
 // Bytes as a row file gives them.
-fn add_bytes(report: &mut String, bytes: &[u8]) -> Result<(), AllocError> {
+fn add_bytes(report: &mut Report, bytes: &[u8]) {
     let shown = &bytes[..bytes.len().min(SHOWN)];
     let is_plain = shown.iter().all(|b| *b >= b' ' || *b == b'\n');
     match str::from_utf8(shown) {
-        Ok(text) if is_plain => add_lines(report, text)?,
-        _ => add_hex(report, shown)?,
+        Ok(text) if is_plain => add_lines(report, text),
+        _ => add_hex(report, shown),
     }
     if bytes.len() > SHOWN {
-        writeln!(report, "    # and so on, {} bytes in all", bytes.len())?;
+        report.add("    # and so on, ");
+        report.add_number(bytes.len() as u64);
+        report.add(" bytes in all\n");
     }
-    Ok(())
 }
 
 // Whether the two are the same. Where they are not, the report says so.
-fn same(
-    report: &mut String,
-    name: &str,
-    path: &str,
-    wanted: &[u8],
-    found: &[u8],
-) -> Result<bool, AllocError>
-    ensures { IfOk result (λ same. same ≡ true → wanted.now ≡ found.now) }
+fn same(report: &mut Report, name: &str, path: &str, wanted: &[u8], found: &[u8]) -> bool
+    ensures { result ≡ true → wanted.now ≡ found.now }
 {
     if wanted == found {
-        return Ok(true);
+        return true;
     }
-    writeln!(report, "  {name}{path}: the row says")?;
-    add_bytes(report, wanted)?;
-    writeln!(report, "  but there came")?;
-    add_bytes(report, found)?;
-    Ok(false)
+    report.add("  ");
+    report.add(name);
+    report.add(path);
+    report.add(": the row says\n");
+    add_bytes(report, wanted);
+    report.add("  but there came\n");
+    add_bytes(report, found);
+    false
 }
 
 // Whether a text speaks of this file.
@@ -97,92 +139,99 @@ fn is_told(row: &Row, count: usize, path: &str) -> bool {
     false
 }
 
-fn same_file(report: &mut String, wanted: &Text, outcome: &Outcome) -> Result<bool, AllocError> {
+fn say_of_file(report: &mut Report, path: &str, what: &str) {
+    report.add("  file ");
+    report.add(path);
+    report.add(what);
+}
+
+fn same_file(report: &mut Report, wanted: &Text, outcome: &Outcome) -> bool {
     let path = wanted.name.as_str();
-    match (wanted.kind, outcome.files.get(path)) {
-        (Kind::Absent, None) => Ok(true),
-        (Kind::Absent, Some(_)) => {
-            writeln!(report, "  file {path}: is there")?;
-            Ok(false)
+    let is_absent = matches!(wanted.kind, Kind::Absent);
+    match outcome.files.get(path) {
+        Some(_) if is_absent => {
+            say_of_file(report, path, ": is there\n");
+            false
         }
-        (_, Some(found)) => same(report, "file ", path, &wanted.bytes, found),
-        (_, None) => {
-            writeln!(report, "  file {path}: is not there")?;
-            Ok(false)
+        Some(found) => same(report, "file ", path, &wanted.bytes, found),
+        None => {
+            if !is_absent {
+                say_of_file(report, path, ": is not there\n");
+            }
+            is_absent
         }
     }
 }
 
 // Each file that the row names, once.
-fn same_files(report: &mut String, row: &Row, outcome: &Outcome) -> Result<bool, AllocError> {
+fn same_files(report: &mut Report, row: &Row, outcome: &Outcome) -> bool {
     let mut all = true;
     for (index, text) in row.texts.iter().enumerate() {
         let path = text.name.as_str();
         if is_of(text, path) && !is_told(row, index, path) {
             let wanted = wanted_file(row, path).unwrap_or(text);
-            let agrees = same_file(report, wanted, outcome)?;
+            let agrees = same_file(report, wanted, outcome);
             all = all && agrees;
         }
     }
-    Ok(all)
+    all
 }
 
-fn same_links(report: &mut String, row: &Row, outcome: &Outcome) -> Result<bool, AllocError> {
-    let mut all = true;
-    for (peer, name) in [(1u8, "1"), (2, "2"), (3, "3")] {
-        let wanted = row.bytes(Kind::Sent, name);
-        let agrees = same(report, "sent ", name, wanted, outcome.links.sent(peer))?;
-        all = all && agrees;
-    }
-    Ok(all)
+fn same_sent(report: &mut Report, row: &Row, outcome: &Outcome, name: &str) -> bool {
+    same(
+        report,
+        "sent ",
+        name,
+        row.bytes(Kind::Sent, name),
+        outcome.links.sent(peer_of(name)),
+    )
 }
 
 // A call of a child as a line: `start WORD WORD ..` or `wait CHILD`.
-fn add_call(calls: &mut String, call: &SpawnCall) -> Result<(), AllocError> {
+fn add_call(calls: &mut Report, call: &SpawnCall) {
     match call {
         SpawnCall::Started { words, .. } => {
-            calls.push_str("start")?;
+            calls.add("start");
             for word in words.iter() {
-                calls.push_str(" ")?;
-                calls.push_str(word.as_str())?;
+                calls.add(" ");
+                calls.add(word.as_str());
             }
         }
-        SpawnCall::Awaited(child) => write!(calls, "wait {child}")?,
+        SpawnCall::Awaited(child) => {
+            calls.add("wait ");
+            calls.add_number(u64::from(*child));
+        }
     }
-    calls.push_str("\n")
+    calls.add("\n");
 }
 
-fn same_calls(
-    alloc: Global,
-    report: &mut String,
-    row: &Row,
-    outcome: &Outcome,
-) -> Result<bool, AllocError> {
-    let mut calls = String::new(alloc);
+fn same_calls(alloc: Global, report: &mut Report, row: &Row, outcome: &Outcome) -> bool {
+    let mut calls = Report::new(alloc);
     for call in outcome.children.calls() {
-        add_call(&mut calls, call)?;
+        add_call(&mut calls, call);
     }
+    report.is_short = report.is_short || calls.is_short;
     same(
         report,
         "calls",
         "",
         row.bytes(Kind::Calls, ""),
-        calls.as_bytes(),
+        calls.text.as_bytes(),
     )
 }
 
-fn same_status(report: &mut String, row: &Row, outcome: &Outcome) -> Result<bool, AllocError>
-    ensures { IfOk result (λ same. same ≡ true → outcome.now.status ≡ row.now.status) }
+fn same_status(report: &mut Report, row: &Row, outcome: &Outcome) -> bool
+    ensures { result ≡ true → outcome.now.status ≡ row.now.status }
 {
     if outcome.status == row.status {
-        return Ok(true);
+        return true;
     }
-    let (wanted, found) = (row.status, outcome.status);
-    writeln!(
-        report,
-        "  status: the row says {wanted} but there came {found}"
-    )?;
-    Ok(false)
+    report.add("  status: the row says ");
+    report.add_number(u64::from(row.status));
+    report.add(" but there came ");
+    report.add_number(u64::from(outcome.status));
+    report.add("\n");
+    false
 }
 
 /// Whether what came out is what the row says. Where it is not, the report says how it differs.
@@ -194,23 +243,20 @@ pub fn judge(
 ) -> Result<bool, AllocError>
     ensures { IfOk result (λ agrees. agrees ≡ true → outcome.now.status ≡ row.now.status) }
 {
-    let status = same_status(report, row, outcome)?;
-    let out = same(
-        report,
-        "out",
-        "",
-        row.bytes(Kind::Out, ""),
-        outcome.out.bytes(),
-    )?;
-    let err = same(
-        report,
-        "err",
-        "",
-        row.bytes(Kind::Err, ""),
-        outcome.err.bytes(),
-    )?;
-    let files = same_files(report, row, outcome)?;
-    let links = same_links(report, row, outcome)?;
-    let calls = same_calls(alloc, report, row, outcome)?;
+    let mut told = Report::new(alloc);
+    let status = same_status(&mut told, row, outcome);
+    let wanted = row.bytes(Kind::Out, "");
+    let out = same(&mut told, "out", "", wanted, outcome.out.bytes());
+    let wanted = row.bytes(Kind::Err, "");
+    let err = same(&mut told, "err", "", wanted, outcome.err.bytes());
+    let files = same_files(&mut told, row, outcome);
+    let first = same_sent(&mut told, row, outcome, "1");
+    let second = same_sent(&mut told, row, outcome, "2");
+    let third = same_sent(&mut told, row, outcome, "3");
+    let links = first && second && third;
+    let calls = same_calls(alloc, &mut told, row, outcome);
+    if told.is_short || report.push_str(told.text.as_str()).is_err() {
+        return Err(AllocError);
+    }
     Ok(status && out && err && files && links && calls)
 }

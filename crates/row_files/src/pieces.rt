@@ -1,15 +1,10 @@
 // The lines that give bytes.
-use crate::wrong::Wrong;
-use std::alloc::{AllocError, Global};
+use crate::row::Row;
+use crate::wrong::Fault;
+use std::alloc::Global;
 
 // A line gives no more bytes than this, nor a tape more words.
 const MOST: u64 = 16_777_216;
-
-const BAD_HEX: Wrong = Wrong::Said("a byte is two digits of 0-9 and a-f");
-
-const BAD_INPUT: Wrong = Wrong::Said(
-    "an input is NAME DOMAIN TYPE VALUE; the next comes after `; `",
-);
 
 fn digit(byte: u8) -> Option<u8> {
     match byte {
@@ -27,30 +22,32 @@ fn byte(word: &str) -> Option<u8> {
     }
 }
 
-fn add_hex(bytes: &mut Vec<u8>, text: &str) -> Result<(), Wrong> {
+fn add_hex(row: &mut Row, text: &str) {
     for word in text.split_whitespace() {
-        let Some(byte) = byte(word) else {
-            return Err(BAD_HEX);
-        };
-        bytes.push(byte)?;
+        match byte(word) {
+            Some(byte) => row.put(&[byte]),
+            None => row.refuse(Fault::Byte),
+        }
     }
-    Ok(())
 }
 
-/// A number in decimal digits.
-pub fn number(text: &str) -> Result<u64, Wrong> {
+/// A number in decimal digits. Where there is none the row is refused.
+pub fn number(row: &mut Row, text: &str) -> u64 {
     match text.parse::<u64>() {
-        Ok(number) => Ok(number),
-        Err(_) => Err(Wrong::Said("here stand numbers below 2^64, in decimal")),
+        Ok(number) => number,
+        Err(_) => {
+            row.refuse(Fault::Number);
+            0
+        }
     }
 }
 
 // Each number in eight bytes, the lowest first.
-fn add_numbers(bytes: &mut Vec<u8>, text: &str) -> Result<(), Wrong> {
+fn add_numbers(row: &mut Row, text: &str) {
     for word in text.split_whitespace() {
-        bytes.extend_from_slice(&number(word)?.to_le_bytes())?;
+        let number = number(row, word);
+        row.put(&number.to_le_bytes());
     }
-    Ok(())
 }
 
 // How many words stand between blanks.
@@ -63,152 +60,163 @@ fn word_count(text: &str) -> u64 {
 }
 
 // A tape file: the lengths of the tapes, which stand between `/`, and then their words.
-fn add_tapes(bytes: &mut Vec<u8>, text: &str) -> Result<(), Wrong> {
+fn add_tapes(row: &mut Row, text: &str) {
     for tape in text.split('/') {
-        bytes.extend_from_slice(&word_count(tape).to_le_bytes())?;
+        row.put(&word_count(tape).to_le_bytes());
     }
     for tape in text.split('/') {
-        add_numbers(bytes, tape)?;
+        add_numbers(row, tape);
     }
-    Ok(())
+}
+
+fn add_zero_words(row: &mut Row, count: u64) {
+    if count > MOST {
+        row.refuse(Fault::Tape);
+        return;
+    }
+    for _ in 0..count {
+        row.put(&[0; 8]);
+    }
 }
 
 // A tape file of zeros: the lengths, and as many zeros as they are together.
-fn add_zeros(bytes: &mut Vec<u8>, text: &str) -> Result<(), Wrong> {
-    add_numbers(bytes, text)?;
+fn add_zeros(row: &mut Row, text: &str) {
+    add_numbers(row, text);
     for word in text.split_whitespace() {
-        let length = number(word)?;
-        if length > MOST {
-            return Err(Wrong::Said("a tape has at most 16777216 words"));
-        }
-        for _ in 0..length {
-            bytes.extend_from_slice(&[0; 8])?;
-        }
+        let count = number(row, word);
+        add_zero_words(row, count);
     }
-    Ok(())
 }
 
-// Adds a text in which each `#` is a number.
-fn add_numbered(alloc: Global, bytes: &mut Vec<u8>, text: &[u8], number: u64) -> Result<(), Wrong> {
-    for byte in text {
-        if *byte == b'#' {
-            let digits = format!(in alloc; "{number}")?;
-            bytes.extend_from_slice(digits.as_bytes())?;
-        } else {
-            bytes.push(*byte)?;
-        }
+// Adds a text in which each `#` is this number.
+fn add_numbered(alloc: Global, row: &mut Row, text: &[u8], number: u64) {
+    match format!(in alloc; "{number}") {
+        Ok(digits) => row.put_numbered(text, digits.as_bytes()),
+        Err(_) => row.refuse(Fault::Memory),
     }
-    if bytes.len() > MOST as usize {
-        return Err(Wrong::Said("a text has at most 16777216 bytes"));
-    }
-    Ok(())
 }
 
 // So many copies of a text, in which each `#` is the number of the copy, from 0.
-fn add_copies(alloc: Global, bytes: &mut Vec<u8>, text: &[u8], count: u64) -> Result<(), Wrong> {
+fn add_copies(alloc: Global, row: &mut Row, text: &[u8], count: u64) {
     if count > MOST {
-        return Err(Wrong::Said("a text is repeated at most 16777216 times"));
+        row.refuse(Fault::Copies);
+        return;
     }
+    let is_plain = !text.contains(&b'#');
     for copy in 0..count {
-        add_numbered(alloc, bytes, text, copy)?;
+        if is_plain {
+            row.put(text);
+        } else {
+            add_numbered(alloc, row, text, copy);
+        }
+        if row.size() > MOST as usize {
+            row.refuse(Fault::Size);
+        }
+        if row.wrong.is_some() {
+            return;
+        }
     }
-    Ok(())
 }
 
 // `COUNT TEXT`: so many copies of the text.
-fn add_repeated(alloc: Global, bytes: &mut Vec<u8>, text: &str) -> Result<(), Wrong> {
+fn add_repeated(alloc: Global, row: &mut Row, text: &str) {
     let (count, text) = text.split_once(' ').unwrap_or((text, ""));
-    add_copies(alloc, bytes, text.as_bytes(), number(count)?)
+    let count = number(row, count);
+    add_copies(alloc, row, text.as_bytes(), count);
 }
 
 // `COUNT TEXT`: so many copies of the text, each a line.
-fn add_repeated_lines(alloc: Global, bytes: &mut Vec<u8>, text: &str) -> Result<(), Wrong> {
+fn add_repeated_lines(alloc: Global, row: &mut Row, text: &str) {
     let (count, text) = text.split_once(' ').unwrap_or((text, ""));
-    let line = format!(in alloc; "{text}\n")?;
-    add_copies(alloc, bytes, line.as_bytes(), number(count)?)
+    let count = number(row, count);
+    match format!(in alloc; "{text}\n") {
+        Ok(line) => add_copies(alloc, row, line.as_bytes(), count),
+        Err(_) => row.refuse(Fault::Memory),
+    }
 }
 
 // Puts so many copies of all bytes so far in their place.
-fn copy_all(alloc: Global, bytes: &mut Vec<u8>, count: &str) -> Result<(), Wrong> {
-    let text = bytes.to_vec(alloc)?;
-    bytes.clear();
-    add_copies(alloc, bytes, &text, number(count)?)
+fn copy_all(alloc: Global, row: &mut Row, count: &str) {
+    let count = number(row, count);
+    let text = row.take(alloc);
+    add_copies(alloc, row, &text, count);
+}
+
+fn put_text(row: &mut Row, text: &str) {
+    row.put(text.as_bytes());
+}
+
+// Name, domain, type and value of an entry, which stand between blanks.
+fn entry_parts(entry: &str) -> Option<(&str, &str, &str, &str)> {
+    let (name, rest) = entry.split_once(' ')?;
+    let (domain, rest) = rest.split_once(' ')?;
+    let (type_name, value) = rest.split_once(' ')?;
+    Some((name, domain, type_name, value))
 }
 
 // An entry of an input file: `NAME DOMAIN TYPE VALUE`, the value as JSON.
-fn add_input(bytes: &mut Vec<u8>, entry: &str) -> Result<(), Wrong> {
-    let Some((name, rest)) = entry.split_once(' ') else {
-        return Err(BAD_INPUT);
-    };
-    let Some((domain, rest)) = rest.split_once(' ') else {
-        return Err(BAD_INPUT);
-    };
-    let Some((type_name, value)) = rest.split_once(' ') else {
-        return Err(BAD_INPUT);
-    };
-    for part in [
-        "{\"name\":\"",
-        name,
-        "\",\"domain\":\"",
-        domain,
-        "\",\"type\":\"",
-        type_name,
-        "\",\"value\":",
-        value,
-        "}",
-    ] {
-        bytes.extend_from_slice(part.as_bytes())?;
-    }
-    Ok(())
-}
-
-/// An input file of these entries, which stand between `; `.
-pub fn add_inputs(bytes: &mut Vec<u8>, entries: &str) -> Result<(), Wrong> {
-    bytes.extend_from_slice(b"{\"inputs\":[")?;
-    if !entries.is_empty() {
-        for (index, entry) in entries.split(';').enumerate() {
-            if index != 0 {
-                bytes.push(b',')?;
-            }
-            add_input(bytes, entry.trim())?;
+fn add_input(row: &mut Row, entry: &str) {
+    match entry_parts(entry) {
+        Some((name, domain, type_name, value)) => {
+            put_text(row, "{\"name\":\"");
+            put_text(row, name);
+            put_text(row, "\",\"domain\":\"");
+            put_text(row, domain);
+            put_text(row, "\",\"type\":\"");
+            put_text(row, type_name);
+            put_text(row, "\",\"value\":");
+            put_text(row, value);
+            put_text(row, "}");
         }
+        None => row.refuse(Fault::Input),
     }
-    bytes.extend_from_slice(b"]}")?;
-    Ok(())
 }
 
-fn add_line(bytes: &mut Vec<u8>, text: &str) -> Result<(), Wrong> {
-    bytes.extend_from_slice(text.as_bytes())?;
-    bytes.push(b'\n')?;
-    Ok(())
+fn add_entries(row: &mut Row, entries: &str) {
+    for (index, entry) in entries.split(';').enumerate() {
+        if index != 0 {
+            row.put(b",");
+        }
+        add_input(row, entry.trim());
+    }
 }
 
-fn add_bare(bytes: &mut Vec<u8>, text: &str) -> Result<(), Wrong> {
-    Ok(bytes.extend_from_slice(text.as_bytes())?)
+/// Adds an input file of these entries, which stand between `; `.
+pub fn add_inputs(row: &mut Row, entries: &str) {
+    row.put(b"{\"inputs\":[");
+    if !entries.is_empty() {
+        add_entries(row, entries);
+    }
+    row.put(b"]}");
 }
 
-/// Adds the bytes that a line gives, and says whether it gives any.
-pub fn add_piece(alloc: Global, bytes: &mut Vec<u8>, line: &str) -> Result<bool, Wrong> {
+// Adds the bytes that a word and the rest of its line give, and says whether they give any.
+fn add_words(alloc: Global, row: &mut Row, word: &str, rest: &str) -> bool {
+    match word {
+        "hex" => add_hex(row, rest),
+        "u64" => add_numbers(row, rest),
+        "tape" => add_tapes(row, rest),
+        "zeros" => add_zeros(row, rest),
+        "repeat" => add_repeated(alloc, row, rest),
+        "lines" => add_repeated_lines(alloc, row, rest),
+        "copies" => copy_all(alloc, row, rest),
+        "inputs" => add_inputs(row, rest),
+        _ => return false,
+    }
+    true
+}
+
+/// Adds the bytes that a line gives to the last text, and says whether it gives any.
+pub fn add_piece(alloc: Global, row: &mut Row, line: &str) -> bool {
     if let Some(text) = line.strip_prefix('|') {
-        add_line(bytes, text)?;
-        return Ok(true);
+        put_text(row, text);
+        row.put(b"\n");
+        return true;
     }
     if let Some(text) = line.strip_prefix('>') {
-        add_bare(bytes, text)?;
-        return Ok(true);
+        put_text(row, text);
+        return true;
     }
     let (word, rest) = line.split_once(' ').unwrap_or((line, ""));
-    let added = match word {
-        "hex" => add_hex(bytes, rest),
-        "u64" => add_numbers(bytes, rest),
-        "tape" => add_tapes(bytes, rest),
-        "zeros" => add_zeros(bytes, rest),
-        "repeat" => add_repeated(alloc, bytes, rest),
-        "lines" => add_repeated_lines(alloc, bytes, rest),
-        "copies" => copy_all(alloc, bytes, rest),
-        "inputs" => add_inputs(bytes, rest),
-        _ => return Ok(false),
-    };
-    added?;
-    Ok(true)
+    add_words(alloc, row, word, rest)
 }

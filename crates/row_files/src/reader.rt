@@ -2,8 +2,8 @@
 use crate::pieces::{add_inputs, add_piece, number};
 use crate::row::{Failing, Kind, Object, Row};
 use crate::tables::{add_printed, is_fault, place_behind, set_check, set_eval, set_need};
-use crate::wrong::Wrong;
-use std::alloc::{AllocError, Global};
+use crate::wrong::{Fault, Wrong};
+use std::alloc::Global;
 
 /// Why a row file cannot be read, and in which line.
 #[derive(Clone, Copy)]
@@ -28,42 +28,57 @@ struct Reader {
     place: Place,
     // The last text of the row or the group takes the bytes of the next lines.
     takes: bool,
+    // Why a line cannot be read, where no row says it.
+    wrong: Option<Fault>,
 }
 
-fn set_fails(row: &mut Row, text: &str) -> Result<(), Wrong> {
-    let (word, calls) = text.split_once(' ').unwrap_or((text, ""));
-    let object = match word {
-        "files" => Object::Files,
-        "out" => Object::Out,
-        "err" => Object::Err,
-        "links" => Object::Links,
-        "children" => Object::Children,
-        _ => return Err(Wrong::Said("calls fail of files, out, err, links or children")),
-    };
+fn object_of(word: &str) -> Option<Object> {
+    match word {
+        "files" => Some(Object::Files),
+        "out" => Some(Object::Out),
+        "err" => Some(Object::Err),
+        "links" => Some(Object::Links),
+        "children" => Some(Object::Children),
+        _ => None,
+    }
+}
+
+fn add_failing(row: &mut Row, object: Object, calls: &str) {
     for word in calls.split_whitespace() {
-        let call = number(word)?;
-        row.failing.push(Failing { object, call })?;
-    }
-    Ok(())
-}
-
-fn set_children(row: &mut Row, text: &str) -> Result<(), Wrong> {
-    for word in text.split_whitespace() {
-        let Ok(status) = word.parse::<i32>() else {
-            return Err(Wrong::Said("a child's status is a number"));
-        };
-        row.children.push(status)?;
-    }
-    Ok(())
-}
-
-fn set_status(row: &mut Row, text: &str) -> Result<(), Wrong> {
-    match text.parse::<u8>() {
-        Ok(status) => {
-            row.status = status;
-            Ok(())
+        let call = number(row, word);
+        if row.failing.push(Failing { object, call }).is_err() {
+            row.refuse(Fault::Memory);
         }
-        Err(_) => Err(Wrong::Said("a status is a number below 256")),
+    }
+}
+
+fn set_fails(row: &mut Row, text: &str) {
+    let (word, calls) = text.split_once(' ').unwrap_or((text, ""));
+    match object_of(word) {
+        Some(object) => add_failing(row, object, calls),
+        None => row.refuse(Fault::Object),
+    }
+}
+
+fn add_child(row: &mut Row, status: i32) {
+    if row.children.push(status).is_err() {
+        row.refuse(Fault::Memory);
+    }
+}
+
+fn set_children(row: &mut Row, text: &str) {
+    for word in text.split_whitespace() {
+        match word.parse::<i32>() {
+            Ok(status) => add_child(row, status),
+            Err(_) => row.refuse(Fault::Child),
+        }
+    }
+}
+
+fn set_status(row: &mut Row, text: &str) {
+    match text.parse::<u8>() {
+        Ok(status) => row.status = status,
+        Err(_) => row.refuse(Fault::Status),
     }
 }
 
@@ -85,88 +100,56 @@ fn kind_of(word: &str) -> Option<Kind> {
 }
 
 // Begins a text. One line of what is printed can stand behind the word.
-fn add_text(alloc: Global, row: &mut Row, kind: Kind, text: &str) -> Result<(), Wrong> {
+fn add_text(alloc: Global, row: &mut Row, kind: Kind, text: &str) {
     match kind {
         Kind::Arriving | Kind::Sent => match text {
-            "1" | "2" | "3" => row.add(alloc, kind, text)?,
-            _ => return Err(Wrong::Said("a peer is 1, 2 or 3")),
+            "1" | "2" | "3" => row.add(alloc, kind, text),
+            _ => row.refuse(Fault::Peer),
         },
-        Kind::Held | Kind::Written => row.add(alloc, kind, text)?,
+        Kind::Held | Kind::Written => row.add(alloc, kind, text),
         _ => {
-            row.add(alloc, kind, "")?;
+            row.add(alloc, kind, "");
             if !text.is_empty() {
-                row.put(text.as_bytes())?;
-                row.put(b"\n")?;
+                row.put(text.as_bytes());
+                row.put(b"\n");
             }
         }
     }
-    Ok(())
-}
-
-fn set_call(alloc: Global, row: &mut Row, words: &str) -> Result<(), Wrong> {
-    Ok(row.call(alloc, words)?)
-}
-
-fn add_word(alloc: Global, row: &mut Row, word: &str) -> Result<(), Wrong> {
-    let word = String::from_str(alloc, word)?;
-    row.words.push(word)?;
-    Ok(())
-}
-
-fn set_slow(row: &mut Row) -> Result<(), Wrong> {
-    row.slow = true;
-    Ok(())
-}
-
-fn add_absent(alloc: Global, row: &mut Row, path: &str) -> Result<(), Wrong> {
-    Ok(row.add(alloc, Kind::Absent, path)?)
 }
 
 // The input file of the programs below.
-fn set_given(alloc: Global, row: &mut Row, entries: &str) -> Result<(), Wrong> {
-    row.add(alloc, Kind::Held, "p.json")?;
-    match row.texts.last_mut() {
-        Some(text) => add_inputs(&mut text.bytes, entries),
-        None => Ok(()),
-    }
+fn set_given(alloc: Global, row: &mut Row, entries: &str) {
+    row.add(alloc, Kind::Held, "p.json");
+    add_inputs(row, entries);
 }
 
 // A line of a row or a group; the answer says whether the next lines give bytes.
-fn set_field(alloc: Global, row: &mut Row, word: &str, rest: &str) -> Result<bool, Wrong> {
+fn set_field(alloc: Global, row: &mut Row, word: &str, rest: &str) -> bool {
     if let Some(kind) = kind_of(word) {
-        add_text(alloc, row, kind, rest)?;
-        return Ok(true);
+        add_text(alloc, row, kind, rest);
+        return true;
     }
-    let set = match word {
-        "call" => set_call(alloc, row, rest),
-        "word" => add_word(alloc, row, rest),
+    match word {
+        "call" => row.call(alloc, rest),
+        "word" => row.add_word(alloc, rest),
         "fail" => set_fails(row, rest),
-        "slow" => set_slow(row),
+        "slow" => row.slow = true,
         "status" => set_status(row, rest),
         "children" => set_children(row, rest),
-        "absent" => add_absent(alloc, row, rest),
+        "absent" => row.add(alloc, Kind::Absent, rest),
         "given" => set_given(alloc, row, rest),
-        _ => Err(Wrong::Said("no line begins with this word")),
-    };
-    set?;
-    Ok(false)
+        _ => row.refuse(Fault::Line),
+    }
+    false
 }
 
-// Adds a row with nothing but a title.
-fn begin_row<'a>(
-    alloc: Global,
-    rows: &'a mut Vec<Row>,
-    line: usize,
-    title: &str,
-) -> Result<&'a mut Row, Wrong> {
-    rows.push(Row::new(alloc, line))?;
-    match rows.last_mut() {
-        Some(row) => {
-            row.title.push_str(title)?;
-            Ok(row)
-        }
-        None => Err(Wrong::Memory),
+// A row with nothing but a title.
+fn titled(alloc: Global, line: usize, title: &str) -> Row {
+    let mut row = Row::new(alloc, line);
+    if row.title.push_str(title).is_err() {
+        row.refuse(Fault::Memory);
     }
+    row
 }
 
 impl Reader {
@@ -179,84 +162,88 @@ impl Reader {
         }
     }
 
+    fn push(&mut self, row: Row) {
+        if self.rows.push(row).is_err() {
+            self.wrong = Some(Fault::Memory);
+        }
+    }
+
     // Gives the bytes of a line to the text that takes them. The answer says whether it did.
-    fn take_bytes(&mut self, alloc: Global, line: &str) -> Result<bool, Wrong> {
+    fn take_bytes(&mut self, alloc: Global, line: &str) -> bool {
         if !self.takes {
-            return Ok(false);
+            return false;
         }
         match self.current() {
-            Some(row) => match row.texts.last_mut() {
-                Some(text) => add_piece(alloc, &mut text.bytes, line),
-                None => Ok(false),
-            },
-            None => Ok(false),
+            Some(row) => !row.texts.is_empty() && add_piece(alloc, row, line),
+            None => false,
         }
     }
 
     // A line that the program of the last row prints, or the row of `need`.
-    fn printed(&mut self, alloc: Global, line: usize, text: &str) -> Result<(), Wrong> {
-        if text == "need" || text.starts_with("need ") {
-            return self.need(alloc, line, text);
-        }
-        match self.rows.last_mut() {
-            Some(row) => Ok(add_printed(alloc, row, text)?),
-            None => Err(Wrong::Said("a line that is printed stands below a `do`")),
+    fn printed(&mut self, alloc: Global, line: usize, text: &str) {
+        if self.rows.is_empty() {
+            self.wrong = Some(Fault::Printed);
+        } else if text == "need" || text.starts_with("need ") {
+            self.need(alloc, line, text);
+        } else if let Some(row) = self.rows.last_mut() {
+            add_printed(alloc, row, text);
         }
     }
 
-    fn need(&mut self, alloc: Global, line: usize, text: &str) -> Result<(), Wrong> {
+    fn need(&mut self, alloc: Global, line: usize, text: &str) {
         let mut need = Row::new(alloc, line);
-        match self.rows.last() {
-            Some(row) => set_need(alloc, &mut need, row, text)?,
-            None => return Err(Wrong::Said("a line that is printed stands below a `do`")),
+        if let Some(row) = self.rows.last() {
+            set_need(alloc, &mut need, row, text);
         }
-        self.rows.push(need)?;
-        Ok(())
+        self.push(need);
     }
 
-    fn begin_group(&mut self, alloc: Global, line: usize) -> Result<(), Wrong> {
+    fn begin_group(&mut self, alloc: Global, line: usize) {
         self.group = Row::new(alloc, line);
         self.place = Place::Group;
-        Ok(())
     }
 
-    fn begin_row(&mut self, alloc: Global, line: usize, title: &str) -> Result<(), Wrong> {
+    fn begin_row(&mut self, alloc: Global, line: usize, title: &str) {
         self.place = Place::Row;
-        let row = begin_row(alloc, &mut self.rows, line, title)?;
-        Ok(row.join(alloc, &self.group)?)
+        let mut row = titled(alloc, line, title);
+        row.join(alloc, &self.group);
+        self.push(row);
     }
 
     // The row of a program that is evaluated.
-    fn eval(&mut self, alloc: Global, line: usize, text: &str) -> Result<(), Wrong> {
+    fn eval(&mut self, alloc: Global, line: usize, text: &str) {
         self.place = Place::Group;
-        let row = begin_row(alloc, &mut self.rows, line, text)?;
-        set_eval(alloc, row, &self.group, text)
+        let mut row = titled(alloc, line, text);
+        set_eval(alloc, &mut row, &self.group, text);
+        self.push(row);
     }
 
     // The row of a program that is checked.
-    fn check(&mut self, alloc: Global, line: usize, text: &str) -> Result<(), Wrong> {
+    fn check(&mut self, alloc: Global, line: usize, text: &str) {
         self.place = Place::Group;
         let (word, rest) = text.split_once(' ').unwrap_or((text, ""));
-        let row = begin_row(alloc, &mut self.rows, line, text)?;
-        set_check(alloc, row, &self.group, word, rest)
+        let mut row = titled(alloc, line, text);
+        set_check(alloc, &mut row, &self.group, word, rest);
+        self.push(row);
     }
 
-    fn field(&mut self, alloc: Global, word: &str, rest: &str) -> Result<(), Wrong> {
-        match self.current() {
-            Some(row) => {
-                let takes = set_field(alloc, row, word, rest)?;
-                self.takes = takes;
-                Ok(())
-            }
-            None => Err(Wrong::Said("a file begins with `group` or `row`")),
+    fn field(&mut self, alloc: Global, word: &str, rest: &str) {
+        let takes = match self.current() {
+            Some(row) => Some(set_field(alloc, row, word, rest)),
+            None => None,
+        };
+        match takes {
+            Some(takes) => self.takes = takes,
+            None => self.wrong = Some(Fault::Beginning),
         }
     }
 
     // A line that begins a row or a group, or is a row of its own; or else a field.
-    fn word_line(&mut self, alloc: Global, line: usize, text: &str) -> Result<(), Wrong> {
+    fn word_line(&mut self, alloc: Global, line: usize, text: &str) {
         let (word, rest) = text.split_once(' ').unwrap_or((text, ""));
         if word == "ok" || is_fault(word) {
-            return self.check(alloc, line, text);
+            self.check(alloc, line, text);
+            return;
         }
         match word {
             "group" => self.begin_group(alloc, line),
@@ -268,26 +255,33 @@ impl Reader {
     }
 
     // Any line.
-    fn line(&mut self, alloc: Global, line: usize, text: &str) -> Result<(), Wrong> {
-        if text.is_empty() || text.starts_with('#') || self.take_bytes(alloc, text)? {
-            return Ok(());
+    fn line(&mut self, alloc: Global, line: usize, text: &str) {
+        if text.is_empty() || text.starts_with('#') || self.take_bytes(alloc, text) {
+            return;
         }
         self.takes = false;
-        self.word_line(alloc, line, text)
+        self.word_line(alloc, line, text);
+    }
+
+    // Why the lines so far cannot be read, if they cannot.
+    fn wrong(&self) -> Option<Fault> {
+        let in_row = match self.rows.last() {
+            Some(row) => row.wrong,
+            None => None,
+        };
+        self.wrong.or(self.group.wrong).or(in_row)
     }
 
     fn lines(&mut self, alloc: Global, text: &str) -> Result<(), Refused> {
         let mut number = 0usize;
         for line in text.lines() {
             number = number.saturating_add(1);
-            match self.line(alloc, number, line) {
-                Ok(()) => {}
-                Err(wrong) => {
-                    return Err(Refused {
-                        line: number,
-                        wrong,
-                    });
-                }
+            self.line(alloc, number, line);
+            if let Some(fault) = self.wrong() {
+                return Err(Refused {
+                    line: number,
+                    wrong: fault.wrong(),
+                });
             }
         }
         Ok(())
@@ -309,6 +303,7 @@ pub fn read_rows(alloc: Global, bytes: &[u8]) -> Result<Vec<Row>, Refused> {
         group: Row::new(alloc, 0),
         place: Place::Nowhere,
         takes: false,
+        wrong: None,
     };
     match reader.lines(alloc, text) {
         Ok(()) => Ok(reader.rows),

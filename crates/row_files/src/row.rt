@@ -1,7 +1,9 @@
 // One call of the program, and what must come of it.
 ghost use Rattle.std.specs.Prelude.{◌≤◌};
 
+use crate::wrong::Fault;
 use std::alloc::{AllocError, Global};
+use std::mem;
 
 /// What the bytes of a text are.
 #[derive(Clone, Copy, PartialEq, Eq)]
@@ -31,11 +33,21 @@ pub enum Kind {
 }
 
 /// Bytes that have a name.
-#[derive(Drop)]
 pub struct Text {
     pub kind: Kind,
     pub name: String,
     pub bytes: Vec<u8>,
+}
+
+// Written out, so that an early exit calls this once.
+impl Drop for Text {
+    fn drop(self) {
+        let Text {
+            kind: _,
+            name: _,
+            bytes: _,
+        } = self;
+    }
 }
 
 /// An object whose calls can fail.
@@ -56,7 +68,6 @@ pub struct Failing {
 }
 
 /// A call of the program: its words and what it finds; and what it must answer and leave.
-#[derive(Drop)]
 pub struct Row {
     /// The line of the row file where the row begins.
     pub line: usize,
@@ -70,6 +81,25 @@ pub struct Row {
     pub status: u8,
     /// Of two texts of one kind and one name the later counts.
     pub texts: Vec<Text>,
+    // Why a line of the row cannot be read. The first counts.
+    pub(crate) wrong: Option<Fault>,
+}
+
+// Written out, so that an early exit calls this once.
+impl Drop for Row {
+    fn drop(self) {
+        let Row {
+            line: _,
+            title: _,
+            words: _,
+            failing: _,
+            slow: _,
+            children: _,
+            status: _,
+            texts: _,
+            wrong: _,
+        } = self;
+    }
 }
 
 /// The number of a peer: 1, 2 or 3.
@@ -84,6 +114,18 @@ pub fn peer_of(name: &str) -> u8
     }
 }
 
+// Adds bytes in which each `#` is this number.
+fn add_numbered(bytes: &mut Vec<u8>, text: &[u8], number: &[u8]) -> Result<(), AllocError> {
+    for byte in text {
+        if *byte == b'#' {
+            bytes.extend_from_slice(number)?;
+        } else {
+            bytes.push(*byte)?;
+        }
+    }
+    Ok(())
+}
+
 impl Row {
     /// A call with no words over nothing, which must end well and print nothing.
     pub fn new(alloc: Global, line: usize) -> Self {
@@ -96,52 +138,106 @@ impl Row {
             children: Vec::new(alloc),
             status: 0,
             texts: Vec::new(alloc),
+            wrong: None,
+        }
+    }
+
+    /// Keeps why a line of the row cannot be read.
+    pub(crate) fn refuse(&mut self, wrong: Fault) {
+        if self.wrong.is_none() {
+            self.wrong = Some(wrong);
         }
     }
 
     /// Lets the call have all that this one has.
-    pub fn join(&mut self, alloc: Global, group: &Row) -> Result<(), AllocError> {
+    pub(crate) fn join(&mut self, alloc: Global, group: &Row) {
         for word in group.words.iter() {
-            self.words.push(String::from_str(alloc, word.as_str())?)?;
+            self.add_word(alloc, word.as_str());
         }
-        self.failing.extend_from_slice(&group.failing)?;
-        self.children.extend_from_slice(&group.children)?;
+        let failing = self.failing.extend_from_slice(&group.failing);
+        let children = self.children.extend_from_slice(&group.children);
+        if failing.is_err() || children.is_err() {
+            self.refuse(Fault::Memory);
+        }
         self.slow = group.slow;
         self.status = group.status;
-        self.join_texts(alloc, group)
+        self.join_texts(alloc, group);
     }
 
-    fn join_texts(&mut self, alloc: Global, group: &Row) -> Result<(), AllocError> {
+    fn join_texts(&mut self, alloc: Global, group: &Row) {
         for text in group.texts.iter() {
-            self.add(alloc, text.kind, text.name.as_str())?;
-            self.put(&text.bytes)?;
+            self.add(alloc, text.kind, text.name.as_str());
+            self.put(&text.bytes);
         }
-        Ok(())
+    }
+
+    /// Lets the call have one more word.
+    pub(crate) fn add_word(&mut self, alloc: Global, word: &str) {
+        let added = match String::from_str(alloc, word) {
+            Ok(word) => self.words.push(word).is_ok(),
+            Err(_) => false,
+        };
+        if !added {
+            self.refuse(Fault::Memory);
+        }
     }
 
     /// Lets the call have these words, which stand between blanks; `""` is the empty word.
-    pub fn call(&mut self, alloc: Global, words: &str) -> Result<(), AllocError> {
+    pub(crate) fn call(&mut self, alloc: Global, words: &str) {
         self.words = Vec::new(alloc);
         for word in words.split_whitespace() {
             let word = if word == "\"\"" { "" } else { word };
-            self.words.push(String::from_str(alloc, word)?)?;
+            self.add_word(alloc, word);
         }
-        Ok(())
     }
 
     /// Adds a text with no bytes.
-    pub fn add(&mut self, alloc: Global, kind: Kind, name: &str) -> Result<(), AllocError> {
-        let name = String::from_str(alloc, name)?;
+    pub(crate) fn add(&mut self, alloc: Global, kind: Kind, name: &str) {
         let bytes = Vec::new(alloc);
-        self.texts.push(Text { kind, name, bytes })?;
-        Ok(())
+        let added = match String::from_str(alloc, name) {
+            Ok(name) => self.texts.push(Text { kind, name, bytes }).is_ok(),
+            Err(_) => false,
+        };
+        if !added {
+            self.refuse(Fault::Memory);
+        }
     }
 
     /// Adds bytes to the last text.
-    pub fn put(&mut self, bytes: &[u8]) -> Result<(), AllocError> {
+    pub(crate) fn put(&mut self, bytes: &[u8]) {
+        let added = match self.texts.last_mut() {
+            Some(text) => text.bytes.extend_from_slice(bytes).is_ok(),
+            None => true,
+        };
+        if !added {
+            self.refuse(Fault::Memory);
+        }
+    }
+
+    /// Adds bytes in which each `#` is this number to the last text.
+    pub(crate) fn put_numbered(&mut self, bytes: &[u8], number: &[u8]) {
+        let added = match self.texts.last_mut() {
+            Some(text) => add_numbered(&mut text.bytes, bytes, number).is_ok(),
+            None => true,
+        };
+        if !added {
+            self.refuse(Fault::Memory);
+        }
+    }
+
+    /// Takes the bytes of the last text.
+    pub(crate) fn take(&mut self, alloc: Global) -> Vec<u8> {
         match self.texts.last_mut() {
-            Some(text) => text.bytes.extend_from_slice(bytes),
-            None => Ok(()),
+            Some(text) => mem::replace(&mut text.bytes, Vec::new(alloc)),
+            None => Vec::new(alloc),
+        }
+    }
+
+    /// How many bytes the last text has.
+    pub(crate) fn size(&self) -> usize {
+        match self.texts.last() {
+            Some(text) => text.bytes.len(),
+            None => 0,
         }
     }
 

@@ -1,48 +1,57 @@
 // Lines that are rows of their own: programs that are checked or evaluated.
 use crate::row::{Kind, Row};
-use crate::wrong::Wrong;
-use std::alloc::{AllocError, Global};
+use crate::wrong::Fault;
+use std::alloc::Global;
 
-const BAD_ESCAPE: Wrong = Wrong::Said("behind a backslash stands n, r, t or a backslash");
+// What a byte behind a backslash stands for.
+fn escaped(byte: u8) -> Option<u8> {
+    match byte {
+        b'n' => Some(b'\n'),
+        b'r' => Some(b'\r'),
+        b't' => Some(b'\t'),
+        b'\\' => Some(b'\\'),
+        _ => None,
+    }
+}
+
+fn add_escaped(row: &mut Row, byte: u8) {
+    match escaped(byte) {
+        Some(byte) => row.put(&[byte]),
+        None => row.refuse(Fault::Escape),
+    }
+}
 
 // Adds a text in which `\n` is a line feed, `\r` a carriage return, `\t` a tab and `\\` a backslash.
-fn add_text(bytes: &mut Vec<u8>, text: &str) -> Result<(), Wrong> {
-    let mut escaped = false;
+fn add_text(row: &mut Row, text: &str) {
+    let mut behind = false;
     for byte in text.bytes() {
-        match (escaped, byte) {
-            (false, b'\\') => escaped = true,
-            (false, byte) => bytes.push(byte)?,
-            (true, byte) => {
-                bytes.push(match byte {
-                    b'n' => b'\n',
-                    b'r' => b'\r',
-                    b't' => b'\t',
-                    b'\\' => b'\\',
-                    _ => return Err(BAD_ESCAPE),
-                })?;
-                escaped = false;
-            }
+        if behind {
+            add_escaped(row, byte);
+            behind = false;
+        } else if byte == b'\\' {
+            behind = true;
+        } else {
+            row.put(&[byte]);
         }
     }
-    if escaped { Err(BAD_ESCAPE) } else { Ok(()) }
+    if behind {
+        row.refuse(Fault::Escape);
+    }
 }
 
 // The program of a line: what stands before and behind it, and in the place of its first `~`, is the group's.
-fn add_program(bytes: &mut Vec<u8>, group: &Row, text: &str) -> Result<(), Wrong> {
-    bytes.extend_from_slice(group.bytes(Kind::Before, ""))?;
+fn add_program(row: &mut Row, group: &Row, text: &str) {
+    row.put(group.bytes(Kind::Before, ""));
     match (group.find(Kind::Between, ""), text.split_once('~')) {
-        (None, _) => add_text(bytes, text)?,
-        (Some(_), None) => return Err(Wrong::Said(
-            "where a group has `between`, a `~` parts the text",
-        )),
+        (None, _) => add_text(row, text),
+        (Some(_), None) => row.refuse(Fault::Between),
         (Some(between), Some((first, second))) => {
-            add_text(bytes, first)?;
-            bytes.extend_from_slice(&between.bytes)?;
-            add_text(bytes, second)?;
+            add_text(row, first);
+            row.put(&between.bytes);
+            add_text(row, second);
         }
     }
-    bytes.extend_from_slice(group.bytes(Kind::After, ""))?;
-    Ok(())
+    row.put(group.bytes(Kind::After, ""));
 }
 
 /// The place behind these bytes: the line and the column, from 1.
@@ -81,21 +90,17 @@ pub fn is_fault(word: &str) -> bool {
 }
 
 // The row of a program: it has what the group has, and calls the command that the group calls, or else this one.
-fn set_row(alloc: Global, row: &mut Row, group: &Row, words: &str) -> Result<(), Wrong> {
-    row.join(alloc, group)?;
+fn set_row(alloc: Global, row: &mut Row, group: &Row, words: &str) {
+    row.join(alloc, group);
     if row.words.is_empty() {
-        row.call(alloc, words)?;
+        row.call(alloc, words);
     }
-    Ok(())
 }
 
 // Lets the row find the program of a line.
-fn set_program(alloc: Global, row: &mut Row, group: &Row, text: &str) -> Result<(), Wrong> {
-    row.add(alloc, Kind::Held, "p.sc")?;
-    match row.texts.last_mut() {
-        Some(program) => add_program(&mut program.bytes, group, text),
-        None => Ok(()),
-    }
+fn set_program(alloc: Global, row: &mut Row, group: &Row, text: &str) {
+    row.add(alloc, Kind::Held, "p.sc");
+    add_program(row, group, text);
 }
 
 // The place of the mark in the program, which is the last text.
@@ -107,50 +112,40 @@ fn place_in(row: &mut Row) -> Option<(usize, usize)> {
 }
 
 // Lets the row want that its program is refused for this fault at this place.
-fn set_fault(
-    alloc: Global,
-    row: &mut Row,
-    fault: &str,
-    place: (usize, usize),
-) -> Result<(), AllocError> {
+fn set_fault(alloc: Global, row: &mut Row, fault: &str, place: (usize, usize)) {
     let (line, column) = place;
     row.status = 3;
-    row.add(alloc, Kind::Err, "")?;
-    let said = format!(in alloc; "error: {fault} line {line} column {column}\n")?;
-    row.put(said.as_bytes())
+    row.add(alloc, Kind::Err, "");
+    match format!(in alloc; "error: {fault} line {line} column {column}\n") {
+        Ok(said) => row.put(said.as_bytes()),
+        Err(_) => row.refuse(Fault::Memory),
+    }
 }
 
 /// The row of a program that is checked: `ok TEXT`, or `FAULT TEXT` with `@` at the place of the fault.
-pub fn set_check(
-    alloc: Global,
-    row: &mut Row,
-    group: &Row,
-    word: &str,
-    text: &str,
-) -> Result<(), Wrong> {
-    set_row(alloc, row, group, "check p.sc")?;
-    set_program(alloc, row, group, text)?;
+pub fn set_check(alloc: Global, row: &mut Row, group: &Row, word: &str, text: &str) {
+    set_row(alloc, row, group, "check p.sc");
+    set_program(alloc, row, group, text);
     if word == "ok" {
-        row.add(alloc, Kind::Out, "")?;
-        row.put(b"ok\n")?;
-        return Ok(());
+        row.add(alloc, Kind::Out, "");
+        row.put(b"ok\n");
+        return;
     }
     match place_in(row) {
-        Some(place) => Ok(set_fault(alloc, row, word, place)?),
-        None => Err(Wrong::Said("an `@` must stand at the place of the fault")),
+        Some(place) => set_fault(alloc, row, word, place),
+        None => row.refuse(Fault::Mark),
     }
 }
 
 /// The row of a program that is evaluated, with no inputs where none are given; the lines below say what it prints.
-pub fn set_eval(alloc: Global, row: &mut Row, group: &Row, text: &str) -> Result<(), Wrong> {
-    set_row(alloc, row, group, "eval p.sc --input p.json")?;
+pub fn set_eval(alloc: Global, row: &mut Row, group: &Row, text: &str) {
+    set_row(alloc, row, group, "eval p.sc --input p.json");
     if row.find(Kind::Held, "p.json").is_none() {
-        row.add(alloc, Kind::Held, "p.json")?;
-        row.put(b"{\"inputs\":[]}")?;
+        row.add(alloc, Kind::Held, "p.json");
+        row.put(b"{\"inputs\":[]}");
     }
-    set_program(alloc, row, group, text)?;
-    row.add(alloc, Kind::Out, "")?;
-    Ok(())
+    set_program(alloc, row, group, text);
+    row.add(alloc, Kind::Out, "");
 }
 
 // The status that goes with the last line of a run, or with a line of the error stream.
@@ -170,26 +165,33 @@ fn status_of(line: &str) -> u8 {
     }
 }
 
-/// Makes a row of `eval` one of `need`, which prints this line, or else nothing.
-pub fn set_need(alloc: Global, need: &mut Row, row: &Row, line: &str) -> Result<(), AllocError> {
-    need.join(alloc, row)?;
+// Lets the first word of a call be `need`.
+fn call_need(alloc: Global, need: &mut Row) {
     if let Some(word) = need.words.first_mut() {
-        *word = String::from_str(alloc, "need")?;
+        match String::from_str(alloc, "need") {
+            Ok(text) => *word = text,
+            Err(_) => need.refuse(Fault::Memory),
+        }
     }
-    need.add(alloc, Kind::Out, "")?;
+}
+
+/// Makes a row of `eval` one of `need`, which prints this line, or else nothing.
+pub fn set_need(alloc: Global, need: &mut Row, row: &Row, line: &str) {
+    need.join(alloc, row);
+    call_need(alloc, need);
+    need.add(alloc, Kind::Out, "");
     if line != "need" {
-        need.put(line.as_bytes())?;
-        need.put(b"\n")?;
+        need.put(line.as_bytes());
+        need.put(b"\n");
     }
-    Ok(())
 }
 
 /// A line that the last row must print, or that must stand on the error stream.
-pub fn add_printed(alloc: Global, row: &mut Row, line: &str) -> Result<(), AllocError> {
+pub fn add_printed(alloc: Global, row: &mut Row, line: &str) {
     row.status = status_of(line);
     if line.starts_with("error: ") {
-        row.add(alloc, Kind::Err, "")?;
+        row.add(alloc, Kind::Err, "");
     }
-    row.put(line.as_bytes())?;
-    row.put(b"\n")
+    row.put(line.as_bytes());
+    row.put(b"\n");
 }

@@ -53,12 +53,12 @@ program_cases found files path h r is =
 
 module _ (found : Finding) (ask : EvalAsk) (files : Contents) (h : FoundAt (its_size ask.program) files found) (r : Answer) (why : Refuses (status_in_answer r)) where
   by_program : (c : Cause) → r ≡ Err c → ProgramRead files ask.program (Err c) → EvalRefused ask files (status_in_answer r)
-  by_program c is (inl missed) = not_missing r c ask.program why is missed
+  by_program c is (inl missed) = not_missing r c ask.program why.refusal is missed
   by_program c is (inr (status, inl bad)) = bad_text (refusing r c is ∙ status) bad
   by_program c is (inr (status, inr (error, large))) = size_refused (refusing r c is ∙ status) error large
 
   by_input : (p : TypedProgramTree) → HoldsTyped ask.program files p → (c : Cause) → r ≡ Err c → ReadRefused files ask.input bad_input inputs_read_of c → EvalRefused ask files (status_in_answer r)
-  by_input p held c is (inl missed) = not_missing r c ask.input why is missed
+  by_input p held c is (inl missed) = not_missing r c ask.input why.refusal is missed
   by_input p held c is (inr (bytes, err, there, bad, e)) = bad_entries (refusing r c is ∙ ap status_of_cause e ∙ input_status err) p held bytes err there bad
 
   abbrev evaluated : TypedProgramTree → List Entry → Result Report Cause

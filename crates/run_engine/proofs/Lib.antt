@@ -1,3 +1,4 @@
+mod Deals
 pub mod EvalRefusals
 pub mod Evals
 pub mod Judged

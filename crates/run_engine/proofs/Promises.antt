@@ -1,22 +1,23 @@
 -- What each command promises, from its answer.
-use Rattle.std.proofs.Common.{◌≡◌, ◌≢◌, ◌⊎◌, ℕ, List, true, false, Some, Ok, refl, ap, subst, sym, ◌∙◌, inl, inr}
+use Rattle.std.proofs.Common.{◌≡◌, ◌≢◌, ◌⊎◌, ℕ, List, Bool, true, false, Some, Ok, refl, ap, subst, sym, ◌∙◌, inl, inr}
 use Rattle.outside.specs.Files.{Contents, FilesState}
 use Rattle.outside.specs.Sink.{SinkState}
 use Rattle.command_frame.specs.declared.status.Status.{Status}
 use Rattle.command_frame.specs.declared.status.Status.TheVariants as statuses
 use Rattle.command_frame.specs.Answer.{Answer, Effect}
-use Rattle.command_frame.specs.Status.{is_end, is_fault}
+use Rattle.command_frame.specs.Status.{is_end, is_fault, is_refusal}
 use Rattle.command_frame.specs.Whole.{CarriedOut, IsAnswered}
 use Rattle.command_words.specs.Ask.{CheckAsk, DealAsk, EvalAsk, RunAsk, check, deal, eval, need, run, words_of}
 use Rattle.run_engine.specs.Eval.{end_of, eval_text, need_text, report_for}
 use Rattle.run_engine.specs.Outcome.{outcome_of}
-use Rattle.run_engine.specs.Promises.{AllSteady, CheckEffect, DealEffect, EvalEffect, RunEffect, Gives, Keeps}
-use Rattle.run_engine.specs.Runs.{CheckRefused, EvalRefused, RunRefused}
+use Rattle.run_engine.specs.Promises.{AllSteady, CheckEffect, DealEffect, EvalEffect, RunEffect, Gives, Keeps, is_done}
+use Rattle.run_engine.specs.Runs.{CheckRefused, DealRefused, EvalRefused, RunRefused}
 use Rattle.run_engine.specs.Words.{IsAnswer, HasAnswer}
+use Rattle.run_engine.proofs.Deals.{deal_answered_so, deal_refused_only}
 use Rattle.run_engine.proofs.Evals.{eval_answered, eval_answered_so, eval_refused_so, need_answered}
 use Rattle.run_engine.proofs.Judged.{found_nothing}
 use Rattle.run_engine.proofs.Refusals.{Refuses, end_is, status_in_answer}
-use Rattle.run_engine.proofs.Runs.{HasAnswerOf, carried_status, check_answered, check_answered_so, check_refused_so, deal_answered, no_fault_end, no_fault_refusal, refused_if, refusing, run_answered, run_answered_so, run_refused_only}
+use Rattle.run_engine.proofs.Runs.{HasAnswerOf, carried_status, check_answered, check_answered_so, check_refused_so, deal_answered, no_fault_end, no_fault_refusal, refused_if, run_answered, run_answered_so, run_refused_only}
 use Rattle.run_engine.proofs.Tops.{no_file, no_memory}
 
 -- the effect is the answer to the words, and ends
@@ -36,45 +37,52 @@ module _ (words : List (List ℕ)) (f f' : FilesState) (o o' e e' : SinkState) (
         | inr m ↦ inr m
       ]
 
-  keeps : (Wanted : Effect → Type 0) (Refused : Status → Type 0) → ((effect : Effect) → Wanted effect → IsEndingAnswer words f.contents effect)
-      → ((answer : Answer) → IsAnswer words f.contents answer → Refuses (status_in_answer answer) → Refused (status_in_answer answer))
-      → ((status : Status) → Refused status → HasAnswerOf words f.contents status) → Keeps Wanted Refused f f' o o' s
-  keeps Wanted Refused all only so = record {
+  keeps : (Wanted : Effect → Type 0) (Refused : Status → Type 0) (ends : Status → Bool)
+      → ((effect : Effect) → Wanted effect → IsEndingAnswer words f.contents effect)
+      → ((answer : Answer) → IsAnswer words f.contents answer → is_refusal (status_in_answer answer) ≡ true → ends (status_in_answer answer) ≡ false
+      → Refused (status_in_answer answer))
+      → ((status : Status) → Refused status → HasAnswerOf words f.contents status) → Keeps Wanted Refused ends f f' o o' s
+  keeps Wanted Refused ends all only so = record {
     gives = gives Wanted all;
     refused_only = λ refusal unended.
         let sound = no_fault_refusal s refusal in
         let (answer, a) = answered (no_memory s sound) (no_file s sound) in
         let same : status_in_answer answer ≡ s = carried_status answer f f' o o' e e' s (carried answer a sound) in
-        subst Refused same (only answer a (refusing answer s same refusal unended));
+        subst Refused same (only answer a (ap is_refusal same ∙ refusal) (ap ends same ∙ unended));
     refused_if = λ status refused.
         let (answer, a, is) = so status refused in
         refused_if answer status f f' o o' e e' s is (carried answer a);
   }
 
-  pub check_keeps : (ask : CheckAsk) → words_of words ≡ Some (check ask) → Keeps (CheckEffect ask f.contents) (CheckRefused ask f.contents) f f' o o' s
-  check_keeps ask asks = keeps (CheckEffect ask f.contents) (CheckRefused ask f.contents)
-      (λ effect w. subst (IsEndingAnswer words f.contents) (sym w.2) (record { answer = check_answered words ask f.contents w.0 asks w.1; ends = refl }))
-      (check_refused_so words ask f.contents asks) (λ status refused. check_answered_so words ask f.contents status asks refused)
+  abbrev refuses : (answer : Answer) → is_refusal (status_in_answer answer) ≡ true → is_end (status_in_answer answer) ≡ false
+      → Refuses (status_in_answer answer)
+  refuses answer refusal unended = record { refusal = refusal; no_end = unended }
 
-  pub eval_keeps : (ask : EvalAsk) → words_of words ≡ Some (eval ask) → Keeps (EvalEffect eval_text ask f.contents) (EvalRefused ask f.contents) f f' o o' s
-  eval_keeps ask asks = keeps (EvalEffect eval_text ask f.contents) (EvalRefused ask f.contents)
+  pub check_keeps : (ask : CheckAsk) → words_of words ≡ Some (check ask) → Keeps (CheckEffect ask f.contents) (CheckRefused ask f.contents) is_end f f' o o' s
+  check_keeps ask asks = keeps (CheckEffect ask f.contents) (CheckRefused ask f.contents) is_end
+      (λ effect w. subst (IsEndingAnswer words f.contents) (sym w.2) (record { answer = check_answered words ask f.contents w.0 asks w.1; ends = refl }))
+      (λ answer a r u. check_refused_so words ask f.contents asks answer a (refuses answer r u)) (λ status refused. check_answered_so words ask f.contents status asks refused)
+
+  pub eval_keeps : (ask : EvalAsk) → words_of words ≡ Some (eval ask) → Keeps (EvalEffect eval_text ask f.contents) (EvalRefused ask f.contents) is_end f f' o o' s
+  eval_keeps ask asks = keeps (EvalEffect eval_text ask f.contents) (EvalRefused ask f.contents) is_end
       (λ effect w. subst (IsEndingAnswer words f.contents) (sym w.3)
       (record { answer = eval_answered words ask f.contents w.0 w.1 asks w.2; ends = end_is (end_of (report_for w.0 w.1 ask.budget)).how }))
-      (eval_refused_so words ask f.contents (inl asks)) (λ status refused. eval_answered_so words ask f.contents status (inl asks) refused)
+      (λ answer a r u. eval_refused_so words ask f.contents (inl asks) answer a (refuses answer r u)) (λ status refused. eval_answered_so words ask f.contents status (inl asks) refused)
 
-  pub need_keeps : (ask : EvalAsk) → words_of words ≡ Some (need ask) → Keeps (EvalEffect need_text ask f.contents) (EvalRefused ask f.contents) f f' o o' s
-  need_keeps ask asks = keeps (EvalEffect need_text ask f.contents) (EvalRefused ask f.contents)
+  pub need_keeps : (ask : EvalAsk) → words_of words ≡ Some (need ask) → Keeps (EvalEffect need_text ask f.contents) (EvalRefused ask f.contents) is_end f f' o o' s
+  need_keeps ask asks = keeps (EvalEffect need_text ask f.contents) (EvalRefused ask f.contents) is_end
       (λ effect w. subst (IsEndingAnswer words f.contents) (sym w.3)
       (record { answer = need_answered words ask f.contents w.0 w.1 asks w.2; ends = end_is (end_of (report_for w.0 w.1 ask.budget)).how }))
-      (eval_refused_so words ask f.contents (inr asks)) (λ status refused. eval_answered_so words ask f.contents status (inr asks) refused)
+      (λ answer a r u. eval_refused_so words ask f.contents (inr asks) answer a (refuses answer r u)) (λ status refused. eval_answered_so words ask f.contents status (inr asks) refused)
 
-  pub run_keeps : (ask : RunAsk) → words_of words ≡ Some (run ask) → Keeps (RunEffect ask f.contents) (RunRefused ask f.contents) f f' o o' s
-  run_keeps ask asks = keeps (RunEffect ask f.contents) (RunRefused ask f.contents)
+  pub run_keeps : (ask : RunAsk) → words_of words ≡ Some (run ask) → Keeps (RunEffect ask f.contents) (RunRefused ask f.contents) is_end f f' o o' s
+  run_keeps ask asks = keeps (RunEffect ask f.contents) (RunRefused ask f.contents) is_end
       (λ effect w. subst (IsEndingAnswer words f.contents) (sym w.4)
       (record { answer = run_answered words ask f.contents w.0 w.1 w.2 asks w.3; ends = end_is (outcome_of w.0 w.1 w.2 ask.budget).end.how }))
-      (run_refused_only words ask f.contents asks) (λ status refused. run_answered_so words ask f.contents status asks refused)
+      (λ answer a r u. run_refused_only words ask f.contents asks answer a (refuses answer r u)) (λ status refused. run_answered_so words ask f.contents status asks refused)
 
-  pub deal_gives : (ask : DealAsk) → words_of words ≡ Some (deal ask) → Gives (DealEffect ask f.contents) f f' o o' s
-  deal_gives ask asks = gives (DealEffect ask f.contents)
+  pub deal_keeps : (ask : DealAsk) → words_of words ≡ Some (deal ask) → Keeps (DealEffect ask f.contents) (DealRefused ask f.contents) is_done f f' o o' s
+  deal_keeps ask asks = keeps (DealEffect ask f.contents) (DealRefused ask f.contents) is_done
       (λ effect w. subst (IsEndingAnswer words f.contents) (sym w.4)
       (record { answer = deal_answered words ask w.0 w.1 f.contents asks w.2 w.3 (found_nothing f.contents); ends = refl }))
+      (λ answer a r u. deal_refused_only words ask f.contents asks answer a r) (λ status refused. deal_answered_so words ask f.contents status asks refused)

@@ -105,10 +105,10 @@ status_of_cause c = c.status
 pub refusing : (r : Answer) (c : Cause) → r ≡ Err c → status_in_answer r ≡ c.status
 refusing r c is = ap status_in_answer is
 
-pub not_missing : {X : Type 0} (r : Answer) (c : Cause) (path : List ℕ) → Refuses (status_in_answer r) → r ≡ Err c → c ≡ missing path → X
-not_missing r c path why is missed =
+pub not_missing : {X : Type 0} (r : Answer) (c : Cause) (path : List ℕ) → is_refusal (status_in_answer r) ≡ true → r ≡ Err c → c ≡ missing path → X
+not_missing r c path refusal is missed =
     let file : status_in_answer r ≡ statuses.File = refusing r c is ∙ ap status_of_cause missed in
-    let wrong : is_refusal statuses.File ≡ true = subst (λ (x : Status). is_refusal x ≡ true) file why.refusal in
+    let wrong : is_refusal statuses.File ≡ true = subst (λ (x : Status). is_refusal x ≡ true) file refusal in
     absurd cc
 
 pub end_is : (how : Ending) → is_end (status_of how) ≡ true
@@ -198,16 +198,20 @@ pub inputs_refused : (files : Contents) (path : List ℕ) (c : Cause) → inputs
 unfolding inputs_at
 inputs_refused files path c is = read_refused files path bad_input inputs_read_of c is
 
+pub tape_file_refused : (files : Contents) (path : List ℕ) (c : Cause) → tape_file_at files path ≡ Err c → ReadRefused files path bad_tape tapes_read_of c
+unfolding tape_file_at
+tape_file_refused files path c is = read_refused files path bad_tape tapes_read_of c is
+
 tapes_refused : (files : Contents) (source : Source) (c : Cause) → tapes_at files source ≡ Err c → (path : List ℕ) × (source ≡ file path) × ReadRefused files path bad_tape tapes_read_of c
-unfolding tapes_at tape_file_at
-tapes_refused files (file path) c is = (path, refl, read_refused files path bad_tape tapes_read_of c is)
+unfolding tapes_at
+tapes_refused files (file path) c is = (path, refl, tape_file_refused files path c is)
 tapes_refused files (seeded seed words) c is = absurd cc
 
 pub input_status : (err : ReadErr) → status_of_cause (bad_input err) ≡ statuses.Input
 unfolding bad_input
 input_status err = refl
 
-tape_status : (place : ℕ) → status_of_cause (bad_tape place) ≡ statuses.TapeFile
+pub tape_status : (place : ℕ) → status_of_cause (bad_tape place) ≡ statuses.TapeFile
 unfolding bad_tape
 tape_status place = refl
 
@@ -223,7 +227,7 @@ check_refused_only judged ask files r h why is =
     ]
   where
     at_refusal : (c : Cause) → r ≡ Err c → TreeRead files ask.program (Err c) → CheckRefused ask files (status_in_answer r)
-    at_refusal c is_r (inl missed) = not_missing r c ask.program why is_r missed
+    at_refusal c is_r (inl missed) = not_missing r c ask.program why.refusal is_r missed
     at_refusal c is_r (inr (status, bad)) = record { status = refusing r c is_r ∙ status; program = bad }
 
 -- ---- `run`
@@ -233,17 +237,17 @@ module _ (judged : Judged) (ask : RunAsk) (files : Contents) (h : JudgedAt (Some
   ran sum entries tapes = Ok (run_effect (outcome_of sum entries tapes ask.budget))
 
   by_program : (c : Cause) → r ≡ Err c → SumRead files ask.program (Err c) → RunRefused ask files (status_in_answer r)
-  by_program c is (inl missed) = not_missing r c ask.program why is missed
+  by_program c is (inl missed) = not_missing r c ask.program why.refusal is missed
   by_program c is (inr (status, inl bad)) = program_refused (refusing r c is ∙ status) bad
   by_program c is (inr (status, inr (tree, held, other))) = cannot_run_yet (refusing r c is ∙ status) tree held other
 
   by_input : (sum : SumProgram) → HoldsSum ask.program files sum → (c : Cause) → r ≡ Err c → ReadRefused files ask.input bad_input inputs_read_of c → RunRefused ask files (status_in_answer r)
-  by_input sum p c is (inl missed) = not_missing r c ask.input why is missed
+  by_input sum p c is (inl missed) = not_missing r c ask.input why.refusal is missed
   by_input sum p c is (inr (bytes, err, there, bad, e)) = input_refused (refusing r c is ∙ ap status_of_cause e ∙ input_status err) sum p bytes err there bad
 
   by_tape : (sum : SumProgram) → HoldsSum ask.program files sum → (entries : List Entry) → inputs_at files ask.input ≡ Ok entries → (c : Cause) → r ≡ Err c
       → (path : List ℕ) → ask.source ≡ file path → ReadRefused files path bad_tape tapes_read_of c → RunRefused ask files (status_in_answer r)
-  by_tape sum p entries inputs c is path source (inl missed) = not_missing r c path why is missed
+  by_tape sum p entries inputs c is path source (inl missed) = not_missing r c path why.refusal is missed
   by_tape sum p entries inputs c is path source (inr (bytes, place, there, bad, e)) =
       tape_refused (refusing r c is ∙ ap status_of_cause e ∙ tape_status place) sum p entries inputs path bytes place source there bad
 

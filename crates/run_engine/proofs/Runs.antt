@@ -219,13 +219,6 @@ refused_if answer why f f' o o' e e' s is carried =
       | inr sound ↦ inl (sym (carried_status answer f f' o o' e e' s (carried sound)) ∙ is)
     ]
 
--- why the status of an answer that is carried out is that of a refusal
-pub refusing : (answer : Answer) (s : Status) → status_in_answer answer ≡ s → is_refusal s ≡ true → is_end s ≡ false → Refuses (status_in_answer answer)
-refusing answer s same refusal unended = record {
-  refusal = ap is_refusal same ∙ refusal;
-  no_end = ap is_end same ∙ unended;
-}
-
 pub run_refused_only : (words : List (List ℕ)) (ask : RunAsk) (files : Contents) → words_of words ≡ Some (run ask) → (answer : Answer)
     → IsAnswer words files answer
     → Refuses (status_in_answer answer) → RunRefused ask files (status_in_answer answer)

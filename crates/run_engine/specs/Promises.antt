@@ -1,12 +1,12 @@
 -- What each command promises: its effect over files that are as they must be, and for which files it is refused.
-use Rattle.std.specs.Prelude.{◌≡◌, ◌⊎◌, ◌≤◌, ℕ, List, length, true, false}
+use Rattle.std.specs.Prelude.{◌≡◌, ◌⊎◌, ◌≤◌, ℕ, List, length, Bool, true, false}
 use Rattle.outside.specs.Files.{Contents, FilesState}
 use Rattle.outside.specs.Sink.{SinkState}
 use Rattle.secrec_ast.specs.Programs.{ProgramTree}
 use Rattle.command_frame.specs.declared.status.Status.{Status}
-use Rattle.command_frame.specs.declared.status.Status.TheVariants.{Memory}
+use Rattle.command_frame.specs.declared.status.Status.TheVariants.{Done, Memory}
 use Rattle.command_frame.specs.Answer.{Effect}
-use Rattle.command_frame.specs.Status.{is_end, is_fault, is_refusal}
+use Rattle.command_frame.specs.Status.{is_fault, is_refusal}
 use Rattle.command_frame.specs.Whole.{IsDone}
 use Rattle.command_words.specs.Ask.{CheckAsk, DealAsk, EvalAsk, RunAsk}
 use Rattle.input_share.specs.Dealing.{need_of}
@@ -30,11 +30,18 @@ AllSteady f o = (f.steady ≡ true) × (o.steady ≡ true)
 abbrev pub Gives : (Effect → Type 0) → FilesState → FilesState → SinkState → SinkState → Status → Type 0
 Gives Wanted f f' o o' given = (effect : Effect) → Wanted effect → AllSteady f o → IsDone effect f f' o o' given ⊎ (given ≡ Memory)
 
--- what a command keeps, where the store tells what it holds: its effect, and that it is refused exactly for the files that are not as they must be
-pub record Keeps (Wanted : Effect → Type 0) (Refused : Status → Type 0) (f f' : FilesState) (o o' : SinkState) (given : Status) : Type 0 where
+-- what a command keeps, where the store tells what it holds: its effect, and that it is refused exactly for the files that are not as they must be.
+-- A status that the command can end with is no refusal.
+pub record Keeps (Wanted : Effect → Type 0) (Refused : Status → Type 0) (ends : Status → Bool) (f f' : FilesState) (o o' : SinkState) (given : Status)
+    : Type 0 where
   pub gives : Gives Wanted f f' o o' given
-  pub refused_only : is_refusal given ≡ true → is_end given ≡ false → Refused given
+  pub refused_only : is_refusal given ≡ true → ends given ≡ false → Refused given
   pub refused_if : (status : Status) → Refused status → (given ≡ status) ⊎ (is_fault given ≡ true)
+
+-- `deal` runs no program, so it has one end
+abbrev pub is_done : Status → Bool
+is_done Done = true
+is_done _ = false
 
 -- ---- the effects
 

@@ -1,13 +1,14 @@
 -- Files that can be checked, evaluated, run and dealt, and files that are refused.
-use Rattle.std.specs.Prelude.{◌≡◌, ◌⊎◌, ℕ, List, Option, Some, Ok, Err}
+use Rattle.std.specs.Prelude.{◌≡◌, ◌⊎◌, ◌<◌, ℕ, List, length, Option, Some, Ok, Err}
 use Rattle.outside.specs.Files.{Contents, file_at}
 use Rattle.secrec_ast.specs.Programs.{ProgramTree}
 use Rattle.front_end.specs.declared.program_fault.ProgramFault.{ProgramFault}
 use Rattle.front_end.specs.Judgement.{IsProgramText, IsRefusedText}
 use Rattle.command_frame.specs.declared.status.Status.{Status}
-use Rattle.command_frame.specs.declared.status.Status.TheVariants.{Input, Program, TapeFile}
+use Rattle.command_frame.specs.declared.status.Status.TheVariants.{Input, Program, Tape, TapeFile}
 use Rattle.command_words.specs.Ask.{Ask, CheckAsk, EvalAsk, RunAsk, DealAsk, eval, need, file}
 use Rattle.typed_tree.specs.Programs.{TypedProgramTree}
+use Rattle.input_share.specs.Dealing.{need_of}
 use Rattle.name_resolution.specs.Functions.{typed_of}
 use Rattle.program_limits.specs.declared.limit_error.LimitError.{LimitError}
 use Rattle.program_limits.specs.Limits.{IsVerdict, IsWithinLimits}
@@ -94,3 +95,12 @@ pub data RunRefused (ask : RunAsk) (files : Contents) (status : Status) : Type 0
       → (bytes : List ℕ) (err : ReadErr) → file_at files ask.input ≡ Some bytes → inputs_read_of bytes ≡ Err err → RunRefused ask files status
   bad_tape : status ≡ TapeFile → (sum : SumProgram) → HoldsSum ask.program files sum → (entries : List Entry) → inputs_at files ask.input ≡ Ok entries
       → (path bytes : List ℕ) (place : ℕ) → ask.source ≡ file path → file_at files path ≡ Some bytes → tapes_read_of bytes ≡ Err place → RunRefused ask files status
+
+-- why `deal` is refused with this status: the first file that is there and not as it must be, or a dealer's tape with too few words
+pub data DealRefused (ask : DealAsk) (files : Contents) (status : Status) : Type 0 where
+  unreadable_entries : status ≡ Input → (bytes : List ℕ) (err : ReadErr) → file_at files ask.input ≡ Some bytes → inputs_read_of bytes ≡ Err err
+      → DealRefused ask files status
+  unreadable_tapes : status ≡ TapeFile → (entries : List Entry) → inputs_at files ask.input ≡ Ok entries
+      → (bytes : List ℕ) (place : ℕ) → file_at files ask.tape ≡ Some bytes → tapes_read_of bytes ≡ Err place → DealRefused ask files status
+  too_few_words : status ≡ Tape → (entries : List Entry) (given : FourTapes) → HoldsDeal ask files entries given
+      → length given.dealer < need_of entries → DealRefused ask files status

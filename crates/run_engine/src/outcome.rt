@@ -18,7 +18,7 @@ use tape_file::Tapes;
 use value_file::Entry;
 
 /// How far a run came with its sum.
-#[derive(Clone, Copy, Debug, PartialEq, Eq)]
+#[derive(Clone, Copy, PartialEq, Eq)]
 pub enum Told {
     /// The sum wasn't opened.
     Nothing,
@@ -29,7 +29,7 @@ pub enum Told {
 }
 
 /// What a run told, and how it ended.
-#[derive(Clone, Copy, Debug, PartialEq, Eq)]
+#[derive(Clone, Copy, PartialEq, Eq)]
 pub struct Outcome {
     pub told: Told,
     pub end: End,

@@ -14,8 +14,8 @@ ghost use Rattle.tape_file.specs.Tapes.{FourTapes};
 ghost use Rattle.run_engine.specs.Arguments.{Argument};
 ghost use Rattle.run_engine.specs.Eval.{eval_text, need_text};
 ghost use Rattle.run_engine.specs.Obeying.{Acted, Obeyed, Planned};
-ghost use Rattle.run_engine.specs.Promises.{AllSteady, CheckEffect, DealEffect, EvalEffect, RunEffect, Gives, Keeps};
-ghost use Rattle.run_engine.specs.Runs.{CheckRefused, EvalRefused, RunRefused};
+ghost use Rattle.run_engine.specs.Promises.{AllSteady, CheckEffect, DealEffect, EvalEffect, RunEffect, Keeps, is_done};
+ghost use Rattle.run_engine.specs.Runs.{CheckRefused, DealRefused, EvalRefused, RunRefused};
 ghost use Rattle.run_engine.specs.Sum.{sum_of, MinersOpen};
 ghost use Rattle.run_engine.specs.Words.{read_by, written_by, reach_miners, start_programs, IsAnswer, HasAnswer};
 
@@ -152,16 +152,16 @@ pub fn secrec<F: Files, O: Sink, E: Sink, L: Links, C: Spawner>(
     // out: `check` prints `ok`, `eval` the text of the evaluation in the clear and `need` the words that it used, `run` the text of
     // the run. Each is refused exactly for the first file that is there and not as it must be.
     ensures checks { (ask : CheckAsk) → words_of (texts words.now) ≡ Some (check ask) → (F.state files.old).told ≡ true →
-        Keeps (CheckEffect ask (F.state files.old).contents) (CheckRefused ask (F.state files.old).contents)
+        Keeps (CheckEffect ask (F.state files.old).contents) (CheckRefused ask (F.state files.old).contents) is_end
         (F.state files.old) (F.state files.new) (O.state out.old) (O.state out.new) result }
     ensures evaluates { (ask : EvalAsk) → words_of (texts words.now) ≡ Some (eval ask) → (F.state files.old).told ≡ true →
-        Keeps (EvalEffect eval_text ask (F.state files.old).contents) (EvalRefused ask (F.state files.old).contents)
+        Keeps (EvalEffect eval_text ask (F.state files.old).contents) (EvalRefused ask (F.state files.old).contents) is_end
         (F.state files.old) (F.state files.new) (O.state out.old) (O.state out.new) result }
     ensures tells_needs { (ask : EvalAsk) → words_of (texts words.now) ≡ Some (need ask) → (F.state files.old).told ≡ true →
-        Keeps (EvalEffect need_text ask (F.state files.old).contents) (EvalRefused ask (F.state files.old).contents)
+        Keeps (EvalEffect need_text ask (F.state files.old).contents) (EvalRefused ask (F.state files.old).contents) is_end
         (F.state files.old) (F.state files.new) (O.state out.old) (O.state out.new) result }
     ensures runs { (ask : RunAsk) → words_of (texts words.now) ≡ Some (run ask) → (F.state files.old).told ≡ true →
-        Keeps (RunEffect ask (F.state files.old).contents) (RunRefused ask (F.state files.old).contents)
+        Keeps (RunEffect ask (F.state files.old).contents) (RunRefused ask (F.state files.old).contents) is_end
         (F.state files.old) (F.state files.new) (O.state out.old) (O.state out.new) result }
 
     // The sum that such a run opens: the three miners' parts, each of its own share and word alone, run together come to
@@ -169,10 +169,9 @@ pub fn secrec<F: Files, O: Sink, E: Sink, L: Links, C: Spawner>(
     ensures sum_opened_by_miners { (tapes : FourTapes) (left right : Argument) →
         MinersOpen tapes left right (sum_of left right) }
 
-    // `deal` over files that are as they must be, all steady, and a dealer's tape that has words enough: its six
-    // files are written, or memory ran out.
+    // `deal` writes its six files. A dealer's tape with too few words is a refusal of it.
     ensures deals { (ask : DealAsk) → words_of (texts words.now) ≡ Some (deal ask) → (F.state files.old).told ≡ true →
-        Gives (DealEffect ask (F.state files.old).contents)
+        Keeps (DealEffect ask (F.state files.old).contents) (DealRefused ask (F.state files.old).contents) is_done
         (F.state files.old) (F.state files.new) (O.state out.old) (O.state out.new) result }
 {
     let ended = act(alloc, words, files, out);

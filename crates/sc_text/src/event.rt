@@ -6,12 +6,20 @@ use std::alloc::{AllocError, Global};
 use std::fmt;
 
 /// What a run tells the world.
-#[derive(Drop)]
 pub enum Event {
     /// A private value was opened.
     Open(Elements),
     /// A value was published under a name.
     Publish(Name, Elements),
+}
+
+// Written out, so that an early exit calls this once.
+impl Drop for Event {
+    fn drop(self) {
+        match self {
+            Event::Open(_) | Event::Publish(_, _) => {}
+        }
+    }
 }
 
 /// Writes the event's line, with its newline.

@@ -6,7 +6,6 @@ use crate::{CountedFault, InputFault, PlacedFault, Span};
 use std::fmt;
 
 /// Why a command stopped before its end. Lines count from 1, bytes from 0.
-#[derive(Drop)]
 pub enum Fault {
     /// The words name no command.
     Usage,
@@ -32,6 +31,26 @@ pub enum Fault {
     Write,
     /// Memory ran out.
     Memory,
+}
+
+// Written out, so that an early exit calls this once.
+impl Drop for Fault {
+    fn drop(self) {
+        match self {
+            Fault::Usage
+            | Fault::Placed { fault: _, span: _ }
+            | Fault::Counted { fault: _, count: _ }
+            | Fault::NotYet { place: _ }
+            | Fault::Input(_)
+            | Fault::BadView { line: _ }
+            | Fault::BadTape { place: _ }
+            | Fault::ShortTape { need: _, have: _ }
+            | Fault::BadSchedule { line: _ }
+            | Fault::File { path: _ }
+            | Fault::Write
+            | Fault::Memory => {}
+        }
+    }
 }
 
 // What the fault's line says after `error: `.

@@ -15,7 +15,7 @@ use Rattle.secrec_ast.specs.declared.statement.ForStep.TheVariants as ForStep'
 use Rattle.secrec_ast.specs.declared.statement.Statement.{Statement}
 use Rattle.secrec_ast.specs.declared.statement.Statement.TheOpen.{Statement-F, Block, Empty, If, While, DoWhile, For, Break, Continue, Return, Assert, Declaration as Declares, Assignment as Assigns, Expression as Evaluates}
 use Rattle.secrec_ast.specs.declared.statement.Statement.TheFolds.{fold-Statement}
-use Rattle.secrec_ast.specs.Tree.{Tree, expression}
+use Rattle.secrec_ast.specs.Tree.{Tree, variable, index, expression}
 
 abbrev pub optional : Option Expression → Option Tree
 optional None = None
@@ -78,6 +78,16 @@ declaration_tree d = record { declared = d.declared; variable = d.variable; size
 
 abbrev pub target_tree : Target → TargetTree
 target_tree t = record { variable = t.variable; index = optional t.index }
+
+-- an expression as what is assigned to, where it may be: a variable, or an element of one
+abbrev pub element_target : Tree → Tree → Option TargetTree
+element_target (variable p x) i = Some (record { variable = record { place = p; text = x }; index = Some i })
+element_target other i = None
+
+abbrev pub target_of : Tree → Option TargetTree
+target_of (variable p x) = Some (record { variable = record { place = p; text = x }; index = None })
+target_of (index p a i) = element_target a i
+target_of other = None
 
 abbrev pub assignment_tree : Assignment → AssignmentTree
 assignment_tree a = record { target = target_tree a.target; value = expression a.value }

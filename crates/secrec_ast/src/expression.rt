@@ -1,7 +1,9 @@
-ghost use Rattle.std.specs.Prelude.{◌≡◌, IfOk};
+ghost use Rattle.std.specs.Prelude.{◌≡◌, IfOk, option_map};
 ghost use Rattle.secrec_ast.specs.Tree.{expression};
+ghost use Rattle.secrec_ast.specs.Statements.{element_target, target_of, target_tree};
 ghost use Rattle.secrec_ast.specs.Heights.{place_of};
 
+use crate::statement::{Identifier, Target};
 use sc_text::{Name, Span};
 use std::alloc::{AllocError, Global};
 
@@ -96,6 +98,35 @@ impl Expression {
             | Expression::Declassify(place, _)
             | Expression::Argument(place, _)
             | Expression::Publish(place, _, _) => *place,
+        }
+    }
+
+    /// The same as a target, if it may be assigned to: a variable, or an element of one.
+    pub fn into_target(self) -> Option<Target>
+        ensures { option_map target_tree result ≡ target_of (expression self) }
+    {
+        match self {
+            Expression::Variable(place, text) => Some(Target {
+                variable: Identifier { place, text },
+                index: None,
+            }),
+            Expression::Index(_, array, index) => {
+                Box::into_inner(array).into_element(Box::into_inner(index))
+            }
+            _ => None,
+        }
+    }
+
+    /// The element at this index as a target, if this is a variable.
+    fn into_element(self, index: Expression) -> Option<Target>
+        ensures { option_map target_tree result ≡ element_target (expression self) (expression index) }
+    {
+        match self {
+            Expression::Variable(place, text) => Some(Target {
+                variable: Identifier { place, text },
+                index: Some(index),
+            }),
+            _ => None,
         }
     }
 

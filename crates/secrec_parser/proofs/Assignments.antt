@@ -1,6 +1,6 @@
 -- Readings of assignments, and of what may be one or an expression.
-use Rattle.std.proofs.Common.{◌≡◌, ℕ, zero, suc, ◌+◌, ◌-◌, ◌<◌, ◌≤◌, List, [], ◌∷◌, ◌++◌, ◌⊎◌, inl, inr, refl, sym, ap, ◌∙◌, subst, append_assoc, append-nil, Result, Ok, Err, Bool, true, false, cond, Option, Some, None, arith}
-use Rattle.std.specs.Prelude.{nat_eq, nat_lt, max}
+use Rattle.std.proofs.Common.{◌≡◌, ℕ, suc, ◌+◌, ◌-◌, ◌≤◌, List, [], ◌∷◌, ◌++◌, inl, inr, refl, sym, ap, ◌∙◌, subst, append_assoc, append-nil, Ok, Err, Bool, true, false, cond, Option, Some, None, arith}
+use Rattle.std.specs.Prelude.{nat_lt, max}
 use Rattle.std.proofs.lemmas.Bool.{ltb-true, ltb-false}
 use Rattle.sc_text.specs.declared.span.Span.{Span}
 use Rattle.secrec_lexer.specs.declared.sign.Sign.{Sign}
@@ -8,33 +8,34 @@ use Rattle.secrec_lexer.specs.declared.sign.Sign.TheVariants as signs
 use Rattle.secrec_lexer.specs.declared.token.Kind.{Kind}
 use Rattle.secrec_lexer.specs.declared.token.Kind.TheVariants as kinds
 use Rattle.secrec_lexer.specs.declared.token.Token.{Token}
-use Rattle.secrec_lexer.specs.Tokens.{is_sign, is_end, IsEnded}
+use Rattle.secrec_lexer.specs.Tokens.{is_sign, IsEnded}
 use Rattle.secrec_ast.specs.declared.expression.Operator.{Operator}
 use Rattle.secrec_ast.specs.declared.expression.Operator.TheVariants as operators
 use Rattle.secrec_ast.specs.declared.statement.Identifier.{Identifier}
-use Rattle.secrec_ast.specs.Tree.{Tree, number, truth, variable, call, index, parentheses, negation, cast, binary, declassify, argument, publish}
-use Rattle.secrec_ast.specs.Statements.{TargetTree, AssignmentTree}
-use Rattle.secrec_ast.specs.Heights.{height, optional_height, target_height, assignment_height, place_of}
-use Rattle.expression_parser.specs.declared.problem.Problem.{Problem}
-use Rattle.expression_parser.specs.declared.problem.Problem.TheVariants.{Unexpected, TooHigh}
-use Rattle.expression_parser.specs.Phrases.{Phrase, token, nothing, one_at, one, sign_at, sign, ◌then◌}
-use Rattle.expression_parser.specs.Grammar.{IsExpression, IsPrimary, loosest, unary}
+use Rattle.secrec_ast.specs.Tree.{Tree, number, variable, index}
+use Rattle.secrec_ast.specs.Statements.{TargetTree, AssignmentTree, target_of}
+use Rattle.secrec_ast.specs.Heights.{height, optional_height, target_height, assignment_height}
+use Rattle.expression_parser.specs.declared.problem.Problem.TheVariants.{TooHigh}
+use Rattle.expression_parser.specs.Phrases.{Phrase, token, nothing, one_at, sign, ◌then◌}
+use Rattle.expression_parser.specs.Grammar.{IsExpression, loosest}
 use Rattle.expression_parser.specs.Follow.{goes_on, Free}
 use Rattle.expression_parser.specs.Steps.{Outcome, ◌>>=◌, expect}
 use Rattle.expression_parser.specs.Steps as expressions
-use Rattle.expression_parser.proofs.Reading.{Good, Bad, Reads, Stops, Then, cons_head, reads_as, bind_reads}
-use Rattle.expression_parser.proofs.Tokens.{Any, All, origin, any_stops, ended_cons, good_ended, after_kind, head_kind, is_sign-true, is_sign-false}
+use Rattle.expression_parser.proofs.Reading.{Good, Reads, Stops, Then, cons_head, reads_as, bind_reads}
+use Rattle.expression_parser.proofs.Tokens.{Any, All, origin, any_stops, good_ended, after_kind, is_sign-true, is_sign-false}
 use Rattle.expression_parser.proofs.Nodes.{Low, tall, leaf, leaf_token}
 use Rattle.secrec_parser.specs.declared.assignment.Update.{Update}
 use Rattle.secrec_parser.specs.declared.assignment.Update.TheVariants as updates
 use Rattle.secrec_parser.specs.Sugar.{held_in, held, updated}
 use Rattle.secrec_parser.specs.Grammar.{identifier, bracketed, optional, compound, stepping, IsTarget, IsAssigned, IsAssignment}
-use Rattle.secrec_parser.specs.Steps.{operand, update_of, updates_by, is_update, least_height, value_by, assigned_by, assigned, target_index, assignment_step, element_target, target_of, ActionTree, assigns, evaluates, assigns_to, action}
+use Rattle.secrec_parser.specs.Steps.{operand, update_of, updates_by, is_update, least_height, value_by, assigned_by, assigned, target_index, assignment_step, ActionTree, assigns, evaluates, assigns_to, action}
 use Rattle.secrec_parser.specs.Steps as steps
+use Rattle.secrec_parser.proofs.Clashes.{none_some}
+use Rattle.secrec_parser.proofs.Targets.{target_of_height}
 use Rattle.secrec_parser.proofs.Made.{Made, Both, reads_same, seq, made, known}
 use Rattle.secrec_parser.proofs.Heads.{nothing_reads, one_reads, unexpected, too_high, some_reads, none_reads, optional_high}
-use Rattle.secrec_parser.proofs.TypeReadings.{one_is, is_one, NoBracket, lone, identifier_reads}
-use Rattle.secrec_parser.proofs.Declarations.{bind_bind, operand_reads, Before, sign_head, bracketed_reads, LowOption, clash, no_height}
+use Rattle.secrec_parser.proofs.TypeReadings.{is_one, NoBracket, lone, identifier_reads}
+use Rattle.secrec_parser.proofs.Declarations.{bind_bind, operand_reads, Before, sign_head, bracketed_reads, clash, no_height}
 
 -- Which token does what to a target
 
@@ -63,7 +64,7 @@ update_sign x u e = go x.kind refl e
     go (kinds.Sign signs.CaretAssign) k f = at signs.CaretAssign (updates.Compound operators.Xor) k (λ p. (p, refl)) f
     go (kinds.Sign signs.Increment) k f = at signs.Increment (updates.Step operators.Add) k (λ p. (p, refl)) f
     go (kinds.Sign signs.Decrement) k f = at signs.Decrement (updates.Step operators.Subtract) k (λ p. (p, refl)) f
-    go k e f = cc
+    go k e f = absurd (none_some u f)
 
 compound_is : (op : Operator) (s : List Token) → compound op s → (q : Span) × (k : Sign) × (s ≡ token q (kinds.Sign k) ∷ []) × (update_of (token q (kinds.Sign k)) ≡ Some (updates.Compound op))
 compound_is operators.Add s v = (v.0, signs.PlusAssign, v.1, refl)
@@ -289,7 +290,7 @@ update_goes_on (kinds.Sign signs.BarAssign) p u e = (refl, refl)
 update_goes_on (kinds.Sign signs.CaretAssign) p u e = (refl, refl)
 update_goes_on (kinds.Sign signs.Increment) p u e = (refl, refl)
 update_goes_on (kinds.Sign signs.Decrement) p u e = (refl, refl)
-update_goes_on k p u e = cc
+update_goes_on k p u e = absurd (none_some u e)
 
 -- Whole assignments
 
@@ -381,7 +382,7 @@ expression_target (variable p x) t s f v =
 expression_target (index p (variable q x) i) t s f v =
     let w = v.2 in
     subst (λ z. IsTarget z s) (some_is (target_at (record { place = q; text = x }) (Some i)) t f) w
-expression_target e t s f v = cc
+expression_target e t s f v = absurd (none_some t f)
 
 pub target_expression : (t : TargetTree) (s : List Token) → IsTarget t s → IsExpression loosest (held t) s
 target_expression t s v = go t.variable t.index v
@@ -396,14 +397,6 @@ target_of-held t = go t.variable t.index
     go : (x : Identifier) (i : Option Tree) → target_of (held_in x i) ≡ Some (target_at x i)
     go x None = refl
     go x (Some e) = refl
-
-pub target_of-height : (e : Tree) (t : TargetTree) → target_of e ≡ Some t → target_height t ≡ height e
-target_of-height (variable p x) t f = sym (ap target_height (some_is (target_at (record { place = p; text = x }) None) t f))
-target_of-height (index p (variable q x) i) t f =
-    let h = tall i in
-    let e = ap target_height (some_is (target_at (record { place = q; text = x }) (Some i)) t f) in
-    omega (arith, h, e)
-target_of-height e t f = cc
 
 abbrev pub IsAction : ActionTree → Phrase
 IsAction (assigns a) ts = IsAssignment a ts
@@ -431,7 +424,7 @@ tail_down (evaluates d) s v = (d, s, [], sym (append-nil s), v, (refl, refl))
 -- in front of this sign
 module _ (end : Sign) (free : (e : Tree) (x : Token) → x.kind ≡ kinds.Sign end → Free loosest e x) (no_update : (p : Span) → update_of (token p (kinds.Sign end)) ≡ None) (h room : ℕ) (near : room ≤ suc h) where
   tail_low : (e : Tree) (c : ActionTree) (s : List Token) → Tail e c s → LowAction h room c → Low h e
-  tail_low e (assigns a) s v f = let t = target_of-height e a.target v.0 in omega (arith, t, f, near)
+  tail_low e (assigns a) s v f = let t = target_of_height e a.target v.0 in omega (arith, t, f, near)
   tail_low e (evaluates d) s v f = let t = ap height v.0 in omega (arith, t, f)
 
   tail_first : (e : Tree) (c : ActionTree) (s m : List Token) → Tail e c s → Stops (Before end c) m → Stops (Free loosest e) (s ++ m)

@@ -1,25 +1,24 @@
 -- Readings of loops and blocks.
-use Rattle.std.proofs.Common.{◌≡◌, ℕ, zero, suc, ◌+◌, ◌-◌, ◌<◌, ◌≤◌, List, [], ◌∷◌, ◌++◌, ◌⊎◌, inl, inr, refl, sym, ap, ◌∙◌, subst, append_assoc, append-nil, Result, Ok, Err, Bool, true, false, cond, Option, Some, None, arith}
-use Rattle.std.specs.Prelude.{max}
+use Rattle.std.proofs.Common.{◌≡◌, ℕ, ◌-◌, ◌≤◌, List, [], ◌∷◌, ◌++◌, refl, sym, ap, ◌∙◌, subst, Ok, Bool, true, false, None, arith}
 use Rattle.sc_text.specs.declared.span.Span.{Span}
 use Rattle.secrec_lexer.specs.declared.sign.Sign.{Sign}
 use Rattle.secrec_lexer.specs.declared.sign.Sign.TheVariants as signs
 use Rattle.secrec_lexer.specs.declared.token.Kind.TheVariants as kinds
 use Rattle.secrec_lexer.specs.declared.token.Token.{Token}
-use Rattle.secrec_lexer.specs.Tokens.{is_sign, IsEnded}
+use Rattle.secrec_lexer.specs.Tokens.{IsEnded}
 use Rattle.secrec_ast.specs.Tree.{Tree}
 use Rattle.secrec_ast.specs.Statements.{starts_with_nothing, steps_by_nothing, StatementTree, StatementTrees, statements_of, block, empty, while_loop, do_loop, for_loop}
 use Rattle.secrec_ast.specs.Statements as statements
-use Rattle.secrec_ast.specs.Heights.{height, statement_height, statement_heights}
-use Rattle.expression_parser.specs.Phrases.{Phrase, token, nothing, one_at, one, sign_at, sign, ◌then◌}
-use Rattle.expression_parser.specs.Steps.{Outcome, ◌>>=◌, expect}
-use Rattle.expression_parser.proofs.Reading.{Good, Reads, Stops}
-use Rattle.expression_parser.proofs.Tokens.{Any, All, origin, any_stops, good_ended, is_sign-true, is_sign-false}
+use Rattle.secrec_ast.specs.Heights.{statement_heights}
+use Rattle.expression_parser.specs.Phrases.{Phrase, sign_at, sign, ◌then◌}
+use Rattle.expression_parser.specs.Steps.{◌>>=◌}
+use Rattle.expression_parser.proofs.Reading.{Reads, Stops}
+use Rattle.expression_parser.proofs.Tokens.{Any, origin, any_stops, good_ended, is_sign-true, is_sign-false}
 use Rattle.expression_parser.proofs.Nodes.{Low, leaf}
-use Rattle.secrec_parser.specs.Grammar.{parenthesised, IsStatement, AreStatements, AreAll, Closed}
-use Rattle.secrec_parser.specs.Steps.{Inner, leader_of, listed, at_sign, braced, while_step, do_step, for_step}
+use Rattle.secrec_parser.specs.Grammar.{parenthesised, IsStatement, AreStatements, AreAll}
+use Rattle.secrec_parser.specs.Steps.{Inner, leader_of, listed, at_sign, braced, while_step, do_behind, do_step, for_step}
 use Rattle.secrec_parser.specs.Steps as steps
-use Rattle.secrec_parser.proofs.Made.{Made, Both, Living, reads_same, seq, made, sign_seq, sign_end}
+use Rattle.secrec_parser.proofs.Made.{Made, Both, reads_same, seq, made, sign_seq, sign_end}
 use Rattle.secrec_parser.proofs.TypeReadings.{lone}
 use Rattle.secrec_parser.proofs.Declarations.{parenthesised_reads, last_sign_first, sign_first}
 use Rattle.secrec_parser.proofs.Lists.{listed_reads}
@@ -70,7 +69,7 @@ module _ (room : ℕ) (two : 2 ≤ room) (inside : Bool) (inner : Inner)
     ended = (lone signs.While, parens ++ lone signs.Semicolon, refl, (origin, refl), (parens, lone signs.Semicolon, refl, are_parens, (origin, refl)))
 
     pub do_reads : (x : Token) (m : List Token) → x.kind ≡ kinds.Sign signs.Do → family (leader_of inside x) ≡ 4 → IsEnded (x ∷ m) → Reads (IsStatement inside) (LowStatement room) Follow (x ∷ m) (do_step (room - 1) inner x.place m)
-    unfolding do_step
+    unfolding do_step do_behind
     do_reads x m k fam en =
         keyword_reads inside room signs.Do 4 Repeated (λ p b. do_loop p b.0 b.1.0) Any refl (λ p b s v. v) do_down follow_any
         (λ p. ((empty origin, (leaf, tt)), lone signs.Semicolon ++ lone signs.While ++ parens ++ lone signs.Semicolon, (lone signs.Semicolon, lone signs.While ++ parens ++ lone signs.Semicolon, refl, refl, ended), omega (arith, two)))

@@ -1,6 +1,6 @@
 -- Readings of expressions in their places, and of declarations.
-use Rattle.std.proofs.Common.{◌≡◌, ℕ, zero, suc, ◌+◌, ◌<◌, ◌≤◌, List, [], ◌∷◌, ◌++◌, ◌⊎◌, inl, inr, refl, sym, ap, ◌∙◌, subst, Result, Ok, Err, Bool, true, false, cond, Option, Some, None, arith}
-use Rattle.std.specs.Prelude.{nat_eq, max}
+use Rattle.std.proofs.Common.{◌≡◌, ℕ, suc, ◌<◌, ◌≤◌, List, [], ◌∷◌, ◌++◌, refl, sym, ap, ◌∙◌, subst, Ok, Err, Bool, true, false, cond, Option, Some, None, arith}
+use Rattle.std.specs.Prelude.{nat_eq}
 use Rattle.std.proofs.lemmas.Bool.{eqb-true, eqb-false}
 use Rattle.sc_text.specs.declared.span.Span.{Span}
 use Rattle.secrec_lexer.specs.declared.sign.Sign.{Sign}
@@ -8,29 +8,28 @@ use Rattle.secrec_lexer.specs.declared.sign.Sign.TheVariants as signs
 use Rattle.secrec_lexer.specs.declared.token.Kind.{Kind}
 use Rattle.secrec_lexer.specs.declared.token.Kind.TheVariants as kinds
 use Rattle.secrec_lexer.specs.declared.token.Token.{Token}
-use Rattle.secrec_lexer.specs.Tokens.{is_sign, is_end, IsEnded}
+use Rattle.secrec_lexer.specs.Tokens.{is_sign, IsEnded}
 use Rattle.secrec_ast.specs.declared.statement.Identifier.{Identifier}
 use Rattle.secrec_ast.specs.declared.statement.DeclaredType.{DeclaredType}
-use Rattle.secrec_ast.specs.Tree.{Tree, number}
+use Rattle.secrec_ast.specs.Tree.{Tree}
 use Rattle.secrec_ast.specs.Statements.{DeclarationTree}
 use Rattle.secrec_ast.specs.Heights.{height, optional_height, declaration_height}
-use Rattle.expression_parser.specs.declared.problem.Problem.{Problem}
-use Rattle.expression_parser.specs.declared.problem.Problem.TheVariants.{Unexpected, TooHigh}
-use Rattle.expression_parser.specs.Phrases.{Phrase, token, nothing, one_at, one, sign_at, sign, ◌then◌}
+use Rattle.expression_parser.specs.declared.problem.Problem.TheVariants.{TooHigh}
+use Rattle.expression_parser.specs.Phrases.{Phrase, token, sign, ◌then◌}
 use Rattle.expression_parser.specs.Grammar.{IsExpression, loosest}
 use Rattle.expression_parser.specs.Follow.{goes_on, Free}
 use Rattle.expression_parser.specs.Steps.{Outcome, ◌>>=◌, expect}
 use Rattle.expression_parser.specs.Steps as expressions
-use Rattle.expression_parser.proofs.Reading.{Good, Bad, Reads, Stops, cons_head, reads_as}
-use Rattle.expression_parser.proofs.Tokens.{Any, All, origin, any_stops, good_ended, after_kind, head_kind, is_sign-true, is_sign-false}
+use Rattle.expression_parser.proofs.Reading.{Reads, Stops}
+use Rattle.expression_parser.proofs.Tokens.{Any, All, origin, any_stops, good_ended, head_kind, is_sign-true, is_sign-false}
 use Rattle.expression_parser.proofs.Nodes.{Low, tall, leaf, leaf_token}
 use Rattle.expression_parser.proofs.Levels.{at_most_reads}
 use Rattle.secrec_parser.specs.Grammar.{identifier, parenthesised, bracketed, initialiser, optional, IsType, IsDeclaration}
 use Rattle.secrec_parser.specs.Steps.{operand, at_sign, size, optional_operand, declared_type, declaration_step}
 use Rattle.secrec_parser.specs.Steps as steps
 use Rattle.secrec_parser.proofs.Made.{Made, Both, reads_same, seq, made, sign_seq, sign_end}
-use Rattle.secrec_parser.proofs.Heads.{nothing_reads, one_reads, unexpected, some_reads, none_reads, optional_high}
-use Rattle.secrec_parser.proofs.TypeReadings.{one_is, is_one, NoBracket, lone, type_reads, identifier_reads}
+use Rattle.secrec_parser.proofs.Heads.{some_reads, none_reads, optional_high}
+use Rattle.secrec_parser.proofs.TypeReadings.{is_one, NoBracket, lone, type_reads, identifier_reads}
 
 pub bind_bind : {A B C : Type 0} (o : Outcome A) (f : A × List Token → Outcome B) (g : B × List Token → Outcome C) → ((o >>= f) >>= g) ≡ (o >>= λ a. f a >>= g)
 bind_bind (Ok o) f g = refl

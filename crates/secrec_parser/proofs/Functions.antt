@@ -1,5 +1,5 @@
 -- Readings of functions.
-use Rattle.std.proofs.Common.{◌≡◌, ℕ, zero, suc, ◌+◌, ◌<◌, ◌≤◌, List, [], ◌∷◌, ◌++◌, ◌⊎◌, inl, inr, refl, sym, ap, ◌∙◌, subst, append_assoc, append-nil, Result, Ok, Err, Bool, true, false, cond, Option, Some, None, length, length-append, arith}
+use Rattle.std.proofs.Common.{◌≡◌, ℕ, ◌+◌, ◌≤◌, List, [], ◌∷◌, ◌++◌, ◌⊎◌, inl, inr, refl, sym, ap, ◌∙◌, subst, Ok, Bool, true, false, cond, Option, Some, None, length, length-append, arith}
 use Rattle.std.specs.Prelude.{◌&&◌, not, nat_lt}
 use Rattle.std.proofs.lemmas.Bool.{ltb-true, ltb-false}
 use Rattle.sc_text.specs.declared.span.Span.{Span}
@@ -21,11 +21,11 @@ use Rattle.secrec_ast.specs.Statements.{StatementTree, StatementTrees, statement
 use Rattle.secrec_ast.specs.Statements as statements
 use Rattle.secrec_ast.specs.Programs.{BlockTree, FunctionTree}
 use Rattle.secrec_ast.specs.Heights.{statement_heights, function_height}
-use Rattle.expression_parser.specs.Phrases.{Phrase, token, nothing, one_at, one, sign_at, sign, ◌then◌}
+use Rattle.expression_parser.specs.Phrases.{Phrase, token, sign_at, sign, ◌then◌}
 use Rattle.expression_parser.specs.Steps.{Outcome, ◌>>=◌, expect}
 use Rattle.expression_parser.specs.Steps as expressions
-use Rattle.expression_parser.proofs.Reading.{Good, Bad, Reads, Stops, cons_head, reads_as}
-use Rattle.expression_parser.proofs.Tokens.{Any, All, origin, any_stops, good_ended, after_kind, head_kind, is_sign-true, is_sign-false, sign_reads}
+use Rattle.expression_parser.proofs.Reading.{Reads, Stops, reads_as}
+use Rattle.expression_parser.proofs.Tokens.{Any, All, origin, any_stops, good_ended, head_kind, is_sign-true, is_sign-false, sign_reads}
 use Rattle.secrec_parser.specs.Grammar.{identifier, optional, comma_and, AreAll, IsType, AreStatements, IsDomainVariable, IsTemplate, IsResult, IsParameter, AreParameters, IsBlock, IsFunction}
 use Rattle.secrec_parser.specs.Grammar as grammar
 use Rattle.secrec_parser.specs.Steps.{at_sign, listed, comma_then, no_more_variables, no_comma, declared_type, domain_variable, template, result_type, parameter, parameters, parameter_list, body, function_step, braced, statement_at_most}
@@ -37,7 +37,6 @@ use Rattle.secrec_parser.proofs.Declarations.{bind_bind, clash, sign_head, sign_
 use Rattle.secrec_parser.proofs.Lists.{listed_reads}
 use Rattle.secrec_parser.proofs.Leaders.{begins_type, declared_kind, front}
 use Rattle.secrec_parser.proofs.Headings.{then_left, then_right, then_map}
-use Rattle.secrec_parser.proofs.Statements.{LowStatement, Follow}
 use Rattle.secrec_parser.proofs.Bodies.{listed_of, of_list, LowStatements, braced_reads}
 use Rattle.secrec_parser.proofs.Rooms.{statement_reads}
 

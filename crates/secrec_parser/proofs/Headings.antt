@@ -1,6 +1,6 @@
 -- Readings of the parentheses of a `for`, and of what may be left out before a semicolon.
-use Rattle.std.proofs.Common.{◌≡◌, ℕ, zero, suc, ◌+◌, ◌-◌, ◌<◌, ◌≤◌, List, [], ◌∷◌, ◌++◌, ◌⊎◌, inl, inr, refl, sym, ap, ◌∙◌, subst, append_assoc, append-nil, Result, Ok, Err, Bool, true, false, cond, Option, Some, None, arith}
-use Rattle.std.specs.Prelude.{nat_eq, nat_lt, max}
+use Rattle.std.proofs.Common.{◌≡◌, ℕ, suc, ◌-◌, ◌≤◌, List, [], ◌∷◌, ◌++◌, ◌⊎◌, inl, inr, refl, sym, ap, ◌∙◌, subst, append_assoc, Ok, Err, Bool, true, false, cond, Option, Some, None, arith}
+use Rattle.std.specs.Prelude.{nat_lt, max}
 use Rattle.std.proofs.lemmas.Bool.{ltb-true, ltb-false}
 use Rattle.sc_text.specs.declared.span.Span.{Span}
 use Rattle.secrec_lexer.specs.declared.sign.Sign.{Sign}
@@ -8,30 +8,30 @@ use Rattle.secrec_lexer.specs.declared.sign.Sign.TheVariants as signs
 use Rattle.secrec_lexer.specs.declared.token.Kind.{Kind}
 use Rattle.secrec_lexer.specs.declared.token.Kind.TheVariants as kinds
 use Rattle.secrec_lexer.specs.declared.token.Token.{Token}
-use Rattle.secrec_lexer.specs.Tokens.{is_sign, is_end, IsEnded}
+use Rattle.secrec_lexer.specs.Tokens.{is_sign, IsEnded}
 use Rattle.secrec_ast.specs.declared.expression.DataType.TheVariants as types
 use Rattle.secrec_ast.specs.declared.statement.Identifier.{Identifier}
 use Rattle.secrec_ast.specs.declared.statement.Domain.TheVariants as domains
 use Rattle.secrec_ast.specs.declared.statement.DeclaredType.{DeclaredType}
 use Rattle.secrec_ast.specs.Tree.{Tree}
 use Rattle.secrec_ast.specs.Statements.{DeclarationTree, TargetTree, AssignmentTree, StartTree, starts_with_nothing, starts_with_declaration, starts_with_assignment, StepTree, steps_by_nothing, steps_by_assignment, steps_by_expression}
-use Rattle.secrec_ast.specs.Heights.{height, optional_height, declaration_height, target_height, assignment_height, start_height, step_height}
-use Rattle.expression_parser.specs.declared.problem.Problem.{Problem}
+use Rattle.secrec_ast.specs.Heights.{optional_height, assignment_height, start_height, step_height}
 use Rattle.expression_parser.specs.declared.problem.Problem.TheVariants.{Unexpected, TooHigh}
-use Rattle.expression_parser.specs.Phrases.{Phrase, token, nothing, one_at, one, sign_at, sign, ◌then◌}
-use Rattle.expression_parser.specs.Grammar.{IsDataType, IsExpression, loosest}
-use Rattle.expression_parser.specs.Follow.{goes_on, Free}
+use Rattle.expression_parser.specs.Phrases.{Phrase, token, one, sign, ◌then◌}
+use Rattle.expression_parser.specs.Grammar.{IsExpression, loosest}
+use Rattle.expression_parser.specs.Follow.{Free}
 use Rattle.expression_parser.specs.Steps.{Outcome, ◌>>=◌, expect}
 use Rattle.expression_parser.specs.Steps as expressions
-use Rattle.expression_parser.proofs.Reading.{Good, Bad, Reads, Stops, cons_head, reads_as}
+use Rattle.expression_parser.proofs.Reading.{Bad, Reads, Stops, reads_as}
 use Rattle.expression_parser.proofs.Peek.{reads_peek}
-use Rattle.expression_parser.proofs.Tokens.{Any, All, origin, any_stops, ended_cons, good_ended, after_kind, head_kind, is_sign-true, is_sign-false}
+use Rattle.expression_parser.proofs.Tokens.{Any, origin, any_stops, good_ended, after_kind, head_kind, is_sign-true, is_sign-false}
 use Rattle.expression_parser.proofs.Nodes.{Low, tall, leaf, leaf_token, first_token}
 use Rattle.secrec_parser.specs.declared.assignment.Update.{Update}
 use Rattle.secrec_parser.specs.declared.assignment.Update.TheVariants as updates
-use Rattle.secrec_parser.specs.Grammar.{identifier, bracketed, optional, IsDomain, IsType, IsDeclaration, IsAssignment, IsStart, IsStep, heading}
+use Rattle.secrec_parser.specs.Grammar.{identifier, optional, IsDeclaration, IsAssignment, IsStart, IsStep, heading}
 use Rattle.secrec_parser.specs.Steps.{operand, optional_operand, is_type, is_named_type, declares, update_of, declaration_step, assignment_step, target_index, assigned, assigned_by, ActionTree, assigns, evaluates, action, start_step, step_of, last_step, start_part, test_part, last_part}
 use Rattle.secrec_parser.specs.Steps as steps
+use Rattle.secrec_parser.proofs.Clashes.{false_true}
 use Rattle.secrec_parser.proofs.Made.{Made, Both, reads_same, seq, made, sign_seq, sign_end}
 use Rattle.secrec_parser.proofs.Heads.{nothing_reads, unexpected, some_reads, none_reads}
 use Rattle.secrec_parser.proofs.TypeReadings.{is_one, lone}
@@ -295,7 +295,7 @@ type_declares signs.Public p m e = refl
 type_declares signs.Uint64 p m e = refl
 type_declares signs.Uint p m e = refl
 type_declares signs.Bool p m e = refl
-type_declares s p m e = cc
+type_declares s p m e = absurd (false_true e)
 
 module _ (h : ℕ) (one : 1 ≤ h) where
   Choice : Bool → List Token → Outcome StartTree
@@ -344,11 +344,11 @@ module _ (h : ℕ) (one : 1 ≤ h) where
 
   choice_reads : (x : Token) (m : List Token) → is_sign signs.Semicolon x ≡ false → IsEnded (x ∷ m) → (k : Kind) → x.kind ≡ k → Reads IsStart (LowStart h) Semicolon (x ∷ m) (Choice (declares (token x.place k ∷ m)) (x ∷ m))
   unfolding Choice
-  choice_reads x [] other en (kinds.Name text) k = let f = after_kind x [] (kinds.Name text) en k refl in cc
+  choice_reads x [] other en (kinds.Name text) k = let f = after_kind x [] (kinds.Name text) en k refl in absurd (false_true f)
   choice_reads x (y ∷ n) other en (kinds.Name text) k = named_start x y n text k en (is_type y) refl
-  choice_reads x m other en (kinds.Number n) k = no_choice x m (kinds.Number n) k other refl (λ (b : false ≡ true). cc) (λ text (b : kinds.Number n ≡ kinds.Name text). cc)
-  choice_reads x m other en (kinds.Text t) k = no_choice x m (kinds.Text t) k other refl (λ (b : false ≡ true). cc) (λ text (b : kinds.Text t ≡ kinds.Name text). cc)
-  choice_reads x m other en kinds.End k = no_choice x m kinds.End k other refl (λ (b : false ≡ true). cc) (λ text (b : kinds.End ≡ kinds.Name text). cc)
+  choice_reads x m other en (kinds.Number n) k = no_choice x m (kinds.Number n) k other refl false_true (λ text (b : kinds.Number n ≡ kinds.Name text). cc)
+  choice_reads x m other en (kinds.Text t) k = no_choice x m (kinds.Text t) k other refl false_true (λ text (b : kinds.Text t ≡ kinds.Name text). cc)
+  choice_reads x m other en kinds.End k = no_choice x m kinds.End k other refl false_true (λ text (b : kinds.End ≡ kinds.Name text). cc)
   choice_reads x m other en (kinds.Sign s) k = go (declares (token x.place (kinds.Sign s) ∷ m)) refl
     where
       go : (b : Bool) → declares (token x.place (kinds.Sign s) ∷ m) ≡ b → Reads IsStart (LowStart h) Semicolon (x ∷ m) (Choice b (x ∷ m))

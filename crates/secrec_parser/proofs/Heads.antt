@@ -1,5 +1,5 @@
 -- Readings that the next token decides.
-use Rattle.std.proofs.Common.{◌≡◌, ℕ, List, [], ◌∷◌, ◌++◌, ◌⊎◌, inl, inr, refl, sym, ap, ◌∙◌, subst, Result, Ok, Err, Option, Some, None}
+use Rattle.std.proofs.Common.{◌≡◌, List, [], ◌∷◌, ◌++◌, ◌⊎◌, inl, inr, refl, sym, ap, ◌∙◌, subst, Ok, Err, Option, Some, None}
 use Rattle.secrec_lexer.specs.declared.token.Token.{Token}
 use Rattle.secrec_lexer.specs.Tokens.{IsEnded}
 use Rattle.expression_parser.specs.declared.problem.Problem.{Problem}

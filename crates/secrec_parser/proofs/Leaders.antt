@@ -1,31 +1,28 @@
 -- What the first token tells of a statement.
-use Rattle.std.proofs.Common.{◌≡◌, ℕ, zero, suc, ◌+◌, ◌<◌, ◌≤◌, List, [], ◌∷◌, ◌++◌, ◌⊎◌, inl, inr, refl, sym, ap, ◌∙◌, subst, append_assoc, Bool, true, false, cond, Option, Some, None, arith}
-use Rattle.std.specs.Prelude.{max}
+use Rattle.std.proofs.Common.{◌≡◌, ℕ, zero, suc, ◌≤◌, List, [], ◌∷◌, ◌++◌, inl, inr, refl, sym, ap, ◌∙◌, subst, append_assoc, Bool, true, false, Option, Some, None, arith}
 use Rattle.sc_text.specs.declared.span.Span.{Span}
 use Rattle.secrec_lexer.specs.declared.sign.Sign.{Sign}
 use Rattle.secrec_lexer.specs.declared.sign.Sign.TheVariants as signs
 use Rattle.secrec_lexer.specs.declared.token.Kind.{Kind}
 use Rattle.secrec_lexer.specs.declared.token.Kind.TheVariants as kinds
 use Rattle.secrec_lexer.specs.declared.token.Token.{Token}
-use Rattle.secrec_lexer.specs.Tokens.{is_sign}
 use Rattle.secrec_ast.specs.declared.expression.DataType.{DataType}
 use Rattle.secrec_ast.specs.declared.expression.DataType.TheVariants as types
 use Rattle.secrec_ast.specs.declared.statement.Domain.{Domain}
 use Rattle.secrec_ast.specs.declared.statement.Domain.TheVariants as domains
 use Rattle.secrec_ast.specs.declared.statement.DeclaredType.{DeclaredType}
-use Rattle.secrec_ast.specs.Tree.{Tree}
-use Rattle.secrec_ast.specs.Statements.{StatementTree, StatementTrees, block, empty, branch, choice, while_loop, do_loop, for_loop, breaks, continues, returns, assertion, declaration, assignment, evaluation}
-use Rattle.secrec_ast.specs.Heights.{height, statement_height}
-use Rattle.expression_parser.specs.Phrases.{Phrase, token, nothing, one_at, one, sign_at, sign, ◌then◌}
-use Rattle.expression_parser.specs.Grammar.{IsDataType, IsExpression, loosest}
+use Rattle.secrec_ast.specs.Statements.{StatementTree, block, empty, branch, choice, while_loop, do_loop, for_loop, breaks, continues, returns, assertion, declaration, assignment, evaluation}
+use Rattle.secrec_ast.specs.Heights.{statement_height}
+use Rattle.expression_parser.specs.Phrases.{Phrase, token, sign_at, ◌then◌}
+use Rattle.expression_parser.specs.Grammar.{IsDataType, loosest}
 use Rattle.expression_parser.specs.Steps as expressions
-use Rattle.expression_parser.proofs.Reading.{cons_head}
 use Rattle.expression_parser.proofs.Tokens.{head_kind}
 use Rattle.expression_parser.proofs.Nodes.{tall, begins}
 use Rattle.secrec_parser.specs.declared.leader.Leader.{Leader}
 use Rattle.secrec_parser.specs.declared.leader.Leader.TheVariants as leaders
-use Rattle.secrec_parser.specs.Grammar.{IsDomain, IsType, IsStatement, Closed}
+use Rattle.secrec_parser.specs.Grammar.{IsDomain, IsType, IsStatement}
 use Rattle.secrec_parser.specs.Steps.{leader_of, least}
+use Rattle.secrec_parser.proofs.Clashes.{none_some, false_true}
 
 -- statements that can be taken for one another by their first token alone
 abbrev pub family : Leader → ℕ
@@ -99,7 +96,7 @@ type_family inside (kinds.Sign signs.Public) p e = refl
 type_family inside (kinds.Sign signs.Uint64) p e = refl
 type_family inside (kinds.Sign signs.Uint) p e = refl
 type_family inside (kinds.Sign signs.Bool) p e = refl
-type_family inside k p e = cc
+type_family inside k p e = absurd (false_true e)
 
 expression_family : (inside : Bool) (k : Kind) (p : Span) (n : ℕ) → expressions.least k ≡ Some n → family (leader_of inside (token p k)) ≡ 10
 expression_family inside (kinds.Name bytes) p n e = refl
@@ -111,7 +108,7 @@ expression_family inside (kinds.Sign signs.LeftParenthesis) p n e = refl
 expression_family inside (kinds.Sign signs.Exclamation) p n e = refl
 expression_family inside (kinds.Sign signs.Declassify) p n e = refl
 expression_family inside (kinds.Sign signs.Publish) p n e = refl
-expression_family inside k p n e = cc
+expression_family inside k p n e = absurd (none_some n e)
 
 -- the first token of a phrase is that of its first part
 pub front : {P Q : Phrase} (s m m2 : List Token) (x : Token) (v : (P then Q) s) → s ++ m ≡ x ∷ m2 → v.0 ++ (v.1 ++ m) ≡ x ∷ m2
@@ -249,7 +246,7 @@ keyword_kind true (kinds.Sign signs.Break) p s e = same_sign signs.Break s e
 keyword_kind true (kinds.Sign signs.Continue) p s e = same_sign signs.Continue s e
 keyword_kind inside (kinds.Sign signs.Return) p s e = same_sign signs.Return s e
 keyword_kind inside (kinds.Sign signs.Assert) p s e = same_sign signs.Assert s e
-keyword_kind inside k p s e = cc
+keyword_kind inside k p s e = absurd (none_some s e)
 
 -- the sign of a leader
 pub leads : (inside : Bool) (x : Token) (l : Leader) (s : Sign) → leader_of inside x ≡ l → keyword l ≡ Some s → x.kind ≡ kinds.Sign s

@@ -1,3 +1,4 @@
+pub mod Clashes
 pub mod Targets
 pub mod Turns
 pub mod Made

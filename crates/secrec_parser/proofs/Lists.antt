@@ -1,10 +1,10 @@
 -- Readings of lists: one part after another.
-use Rattle.std.proofs.Common.{◌≡◌, ℕ, zero, suc, ◌+◌, ◌<◌, ◌≤◌, List, [], ◌∷◌, ◌++◌, ◌⊎◌, inl, inr, refl, sym, ap, ◌∙◌, subst, append_assoc, append-nil, Result, Ok, Err, Bool, true, false, cond, length, length-append, arith}
+use Rattle.std.proofs.Common.{◌≡◌, ℕ, zero, suc, ◌<◌, List, [], ◌∷◌, ◌++◌, refl, sym, ap, ◌∙◌, subst, append_assoc, append-nil, Ok, Bool, true, false, cond, length, length-append, arith}
 use Rattle.secrec_lexer.specs.declared.token.Token.{Token}
 use Rattle.secrec_lexer.specs.Tokens.{IsEnded}
-use Rattle.expression_parser.specs.Phrases.{Phrase, nothing, ◌then◌}
+use Rattle.expression_parser.specs.Phrases.{Phrase}
 use Rattle.expression_parser.specs.Steps.{Outcome, ◌>>=◌}
-use Rattle.expression_parser.proofs.Reading.{Good, Reads, Stops, reads_as}
+use Rattle.expression_parser.proofs.Reading.{Reads, Stops, reads_as}
 use Rattle.expression_parser.proofs.Tokens.{good_ended}
 use Rattle.secrec_parser.specs.Grammar.{AreAll}
 use Rattle.secrec_parser.specs.Steps.{list_from, listed}

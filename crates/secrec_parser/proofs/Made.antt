@@ -1,16 +1,15 @@
 -- Readings whose value is made from the values of their parts.
-use Rattle.std.proofs.Common.{◌≡◌, ℕ, List, [], ◌∷◌, ◌++◌, ◌⊎◌, inl, inr, refl, sym, ap, ◌∙◌, subst, append-nil, Result, Ok, Err, Bool, false}
+use Rattle.std.proofs.Common.{◌≡◌, List, [], ◌∷◌, ◌++◌, ◌⊎◌, inl, inr, refl, sym, ap, ◌∙◌, subst, append-nil, Ok, Err, false}
 use Rattle.sc_text.specs.declared.span.Span.{Span}
 use Rattle.secrec_lexer.specs.declared.sign.Sign.{Sign}
 use Rattle.secrec_lexer.specs.declared.token.Kind.{Kind}
-use Rattle.secrec_lexer.specs.declared.token.Kind.TheVariants as kinds
 use Rattle.secrec_lexer.specs.declared.token.Token.{Token}
 use Rattle.secrec_lexer.specs.Tokens.{is_end, IsEnded}
 use Rattle.expression_parser.specs.declared.problem.Problem.{Problem}
 use Rattle.expression_parser.specs.declared.problem.Problem.TheVariants.{Unexpected, TooHigh}
-use Rattle.expression_parser.specs.Phrases.{Phrase, token, one_at, one, sign_at, sign, ◌then◌}
+use Rattle.expression_parser.specs.Phrases.{Phrase, one_at, sign_at, sign, ◌then◌}
 use Rattle.expression_parser.specs.Steps.{Outcome, ◌>>=◌, expect}
-use Rattle.expression_parser.proofs.Reading.{Good, Bad, Reads, Allowed, Begun, Stops, Then, Only, second, bad_one}
+use Rattle.expression_parser.proofs.Reading.{Good, Reads, Allowed, Begun, Stops, Then, second, bad_one}
 use Rattle.expression_parser.proofs.Tokens.{Any, All, Alive, any_stops, sign_reads, good_ended, token_then, Closing, closing, closing_is}
 
 -- c is made from what is spelled

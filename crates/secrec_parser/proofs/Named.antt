@@ -1,9 +1,7 @@
 -- Readings of statements that begin with a type, a name or an expression.
-use Rattle.std.proofs.Common.{◌≡◌, ℕ, zero, suc, ◌+◌, ◌-◌, ◌<◌, ◌≤◌, List, [], ◌∷◌, ◌++◌, ◌⊎◌, inl, inr, refl, sym, ap, ◌∙◌, subst, Result, Ok, Err, Bool, true, false, cond, Option, Some, None, arith}
-use Rattle.std.specs.Prelude.{nat_eq, max, ◌||◌}
+use Rattle.std.proofs.Common.{◌≡◌, ℕ, ◌-◌, ◌≤◌, List, [], ◌∷◌, ◌++◌, refl, sym, ap, ◌∙◌, subst, Err, Bool, true, false, cond, Option, Some, None, arith}
+use Rattle.std.specs.Prelude.{nat_eq, ◌||◌}
 use Rattle.std.proofs.lemmas.Bool.{eqb-true, eqb-false}
-use Rattle.sc_text.specs.declared.span.Span.{Span}
-use Rattle.secrec_lexer.specs.declared.sign.Sign.{Sign}
 use Rattle.secrec_lexer.specs.declared.sign.Sign.TheVariants as signs
 use Rattle.secrec_lexer.specs.declared.token.Kind.{Kind}
 use Rattle.secrec_lexer.specs.declared.token.Kind.TheVariants as kinds
@@ -11,27 +9,23 @@ use Rattle.secrec_lexer.specs.declared.token.Token.{Token}
 use Rattle.secrec_lexer.specs.Tokens.{is_sign, IsEnded}
 use Rattle.secrec_ast.specs.declared.expression.Operator.{Operator}
 use Rattle.secrec_ast.specs.declared.expression.Operator.TheVariants as operators
-use Rattle.secrec_ast.specs.declared.statement.Identifier.{Identifier}
 use Rattle.secrec_ast.specs.Tree.{Tree, variable, call, index, binary}
 use Rattle.secrec_ast.specs.Tree as trees
-use Rattle.secrec_ast.specs.Statements.{DeclarationTree, TargetTree, AssignmentTree, StatementTree, declaration, assignment, evaluation}
-use Rattle.secrec_ast.specs.Heights.{height, assignment_height, statement_height}
-use Rattle.expression_parser.specs.declared.problem.Problem.{Problem}
+use Rattle.secrec_ast.specs.Statements.{TargetTree, StatementTree, declaration, assignment, evaluation}
 use Rattle.expression_parser.specs.declared.problem.Problem.TheVariants.{Unexpected, TooHigh}
-use Rattle.expression_parser.specs.Phrases.{Phrase, token, nothing, one_at, one, sign_at, sign, ◌then◌}
-use Rattle.expression_parser.specs.Grammar.{IsExpression, loosest, level, sign_of, operator_of}
-use Rattle.expression_parser.specs.Steps.{Outcome, ◌>>=◌, operator_at}
-use Rattle.expression_parser.specs.Steps as expressions
-use Rattle.expression_parser.proofs.Reading.{Good, Bad, Reads, Stops, reads_as}
+use Rattle.expression_parser.specs.Phrases.{token, one, sign, ◌then◌}
+use Rattle.expression_parser.specs.Grammar.{IsExpression, loosest, level, sign_of}
+use Rattle.expression_parser.specs.Steps.{operator_at}
+use Rattle.expression_parser.proofs.Reading.{Reads, reads_as}
 use Rattle.expression_parser.proofs.Peek.{reads_peek}
-use Rattle.expression_parser.proofs.Tokens.{Any, origin, any_stops, after_kind, is_sign-true, is_sign-false}
+use Rattle.expression_parser.proofs.Tokens.{Any, origin, is_sign-true}
 use Rattle.expression_parser.proofs.Nodes.{tall, leaf, leaf_token, first_token}
 use Rattle.expression_parser.proofs.Operators.{operator_of-some}
-use Rattle.secrec_parser.specs.declared.leader.Leader.{Leader}
 use Rattle.secrec_parser.specs.declared.leader.Leader.TheVariants as leaders
 use Rattle.secrec_parser.specs.declared.assignment.Update.{Update}
-use Rattle.secrec_parser.specs.Grammar.{IsDeclaration, IsStatement}
+use Rattle.secrec_parser.specs.Grammar.{IsStatement}
 use Rattle.secrec_parser.specs.Steps.{leader_of, is_type, declares, update_of, updates_by, is_operator, follows_name, only_declares, name_statement, declaration_statement, ActionTree, assigns, evaluates, action_statement}
+use Rattle.secrec_parser.proofs.Clashes.{false_true}
 use Rattle.secrec_parser.proofs.TypeReadings.{is_one, lone}
 use Rattle.secrec_parser.proofs.Declarations.{clash, name_token}
 use Rattle.secrec_parser.proofs.Assignments.{alive_by, IsAction}
@@ -249,7 +243,7 @@ module _ (inside : Bool) (x y : Token) (n : List Token) (text : List ℕ) (k : x
       go false false true u o ae be ce ue oe f = end_begun (is_sign-true signs.Semicolon y ce)
       go false false false (Some u) o ae be ce ue oe f = update_begun u ue
       go false false false None (Some op) ae be ce ue oe f = operator_begun op oe
-      go false false false None None ae be ce ue oe f = cc
+      go false false false None None ae be ce ue oe f = absurd (false_true f)
 
   named_fault : is_type y ≡ false → Reads (IsStatement inside) (LowStatement 1) Follow (x ∷ y ∷ n) (only_declares (y ∷ n))
   named_fault t = go (follows_name y) refl

@@ -1,12 +1,11 @@
 -- The second token of what begins with a name.
-use Rattle.std.proofs.Common.{◌≡◌, ℕ, List, [], ◌∷◌, ◌++◌, ◌⊎◌, inl, inr, refl, sym, ap, ◌∙◌, subst, append_assoc, append-nil, Bool, true, false, Option, Some, None}
+use Rattle.std.proofs.Common.{◌≡◌, ℕ, List, [], ◌∷◌, ◌++◌, ◌⊎◌, inl, inr, refl, sym, ap, ◌∙◌, true, false, Option, Some, None}
 use Rattle.sc_text.specs.declared.span.Span.{Span}
 use Rattle.secrec_lexer.specs.declared.sign.Sign.{Sign}
 use Rattle.secrec_lexer.specs.declared.sign.Sign.TheVariants as signs
 use Rattle.secrec_lexer.specs.declared.token.Kind.{Kind}
 use Rattle.secrec_lexer.specs.declared.token.Kind.TheVariants as kinds
 use Rattle.secrec_lexer.specs.declared.token.Token.{Token}
-use Rattle.secrec_lexer.specs.Tokens.{is_sign}
 use Rattle.secrec_ast.specs.declared.expression.DataType.{DataType}
 use Rattle.secrec_ast.specs.declared.expression.DataType.TheVariants as types
 use Rattle.secrec_ast.specs.declared.expression.Operator.{Operator}
@@ -17,15 +16,15 @@ use Rattle.secrec_ast.specs.declared.statement.DeclaredType.{DeclaredType}
 use Rattle.secrec_ast.specs.Tree.{Tree, number, truth, variable, call, index, parentheses, negation, cast, binary, declassify, argument, publish}
 use Rattle.secrec_ast.specs.Statements.{DeclarationTree, AssignmentTree}
 use Rattle.expression_parser.specs.declared.problem.Problem.{Problem}
-use Rattle.expression_parser.specs.Phrases.{Phrase, token, nothing, one_at, one, sign_at, sign, ◌then◌}
+use Rattle.expression_parser.specs.Phrases.{Phrase, token, sign, ◌then◌}
 use Rattle.expression_parser.specs.Grammar.{IsDataType, IsExpression, level, sign_of, loosest, unary}
-use Rattle.expression_parser.specs.Follow.{goes_on, Free}
-use Rattle.expression_parser.specs.Steps.{Outcome}
+use Rattle.expression_parser.specs.Follow.{goes_on}
 use Rattle.expression_parser.proofs.Reading.{Bad, Stops, Allowed, Begun, cons_head, cons_tail}
 use Rattle.expression_parser.proofs.Tokens.{head_kind}
 use Rattle.secrec_parser.specs.declared.assignment.Update.{Update}
-use Rattle.secrec_parser.specs.Grammar.{identifier, bracketed, optional, IsDomain, IsDimension, IsType, IsDeclaration, IsAssignment}
+use Rattle.secrec_parser.specs.Grammar.{bracketed, optional, IsDomain, IsDimension, IsType, IsDeclaration, IsAssignment}
 use Rattle.secrec_parser.specs.Steps.{is_type, update_of, follows_name, ActionTree, assigns, evaluates}
+use Rattle.secrec_parser.proofs.Clashes.{none_some, false_true}
 use Rattle.secrec_parser.proofs.Declarations.{clash, sign_head}
 use Rattle.secrec_parser.proofs.Assignments.{by_down, IsAction}
 use Rattle.secrec_parser.proofs.Leaders.{front}
@@ -131,7 +130,7 @@ type_stops : (k : Kind) (p : Span) → is_type (token p k) ≡ true → follows_
 type_stops (kinds.Sign signs.Uint64) p e = refl
 type_stops (kinds.Sign signs.Uint) p e = refl
 type_stops (kinds.Sign signs.Bool) p e = refl
-type_stops k p e = cc
+type_stops k p e = absurd (false_true e)
 
 pub type_follows_not : (y : Token) → is_type y ≡ true → follows_name y ≡ true → ⊥
 type_follows_not y e f = clash (follows_name y) f (type_stops y.kind y.place e)
@@ -155,7 +154,7 @@ follows (kinds.Sign signs.Bar) p e = refl
 follows (kinds.Sign signs.Caret) p e = refl
 follows (kinds.Sign signs.DoubleAmpersand) p e = refl
 follows (kinds.Sign signs.DoubleBar) p e = refl
-follows k p e = cc
+follows k p e = absurd (false_true e)
 
 update_follows : (k : Kind) (p : Span) (u : Update) → update_of (token p k) ≡ Some u → follows_name (token p k) ≡ true
 update_follows (kinds.Sign signs.Assign) p u e = refl
@@ -167,7 +166,7 @@ update_follows (kinds.Sign signs.BarAssign) p u e = refl
 update_follows (kinds.Sign signs.CaretAssign) p u e = refl
 update_follows (kinds.Sign signs.Increment) p u e = refl
 update_follows (kinds.Sign signs.Decrement) p u e = refl
-update_follows k p u e = cc
+update_follows k p u e = absurd (none_some u e)
 
 -- an assignment goes on with a bracket or an update
 pub assignment_second : (a : AssignmentTree) (s m m2 : List Token) (x y : Token) → IsAssignment a s → s ++ m ≡ x ∷ y ∷ m2 → (y.kind ≡ kinds.Sign signs.LeftBracket) ⊎ ((u : Update) × (update_of y ≡ Some u))

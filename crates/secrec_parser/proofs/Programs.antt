@@ -1,6 +1,6 @@
 -- Readings of programs, and what the whole parser answers.
-use Rattle.std.proofs.Common.{◌≡◌, ℕ, zero, suc, ◌+◌, ◌<◌, ◌≤◌, List, [], ◌∷◌, ◌++◌, ◌⊎◌, inl, inr, refl, sym, ap, ◌∙◌, subst, append_assoc, append-nil, Result, Ok, Err, Bool, true, false, cond, length, length-append, arith}
-use Rattle.std.specs.Prelude.{◌&&◌, not, max}
+use Rattle.std.proofs.Common.{◌≡◌, ℕ, zero, suc, ◌+◌, ◌<◌, ◌≤◌, List, [], ◌∷◌, ◌++◌, ◌⊎◌, inl, inr, refl, sym, ap, ◌∙◌, subst, append_assoc, Ok, Err, Bool, true, false, cond, length, length-append, arith}
+use Rattle.std.specs.Prelude.{◌&&◌, not}
 use Rattle.sc_text.specs.declared.span.Span.{Span}
 use Rattle.secrec_lexer.specs.declared.sign.Sign.{Sign}
 use Rattle.secrec_lexer.specs.declared.sign.Sign.TheVariants as signs
@@ -14,18 +14,18 @@ use Rattle.secrec_ast.specs.Programs.{FunctionTree, ItemTree, imports, kind, dom
 use Rattle.secrec_ast.specs.Heights.{function_height, items_height, program_height}
 use Rattle.expression_parser.specs.declared.problem.Problem.{Problem}
 use Rattle.expression_parser.specs.declared.problem.Problem.TheVariants.{Unexpected, TooHigh}
-use Rattle.expression_parser.specs.Phrases.{Phrase, token, nothing, one_at, one, sign_at, sign, ◌then◌}
+use Rattle.expression_parser.specs.Phrases.{Phrase, token, one_at, sign, ◌then◌}
 use Rattle.expression_parser.specs.Steps.{Outcome, ◌>>=◌, expect}
 use Rattle.expression_parser.specs.Steps as expressions
-use Rattle.expression_parser.proofs.Reading.{Good, Bad, Reads, Allowed, Stops, cons_head, cons_tail, cancel, reads_as}
-use Rattle.expression_parser.proofs.Tokens.{Any, All, origin, any_stops, good_ended, after_kind, head_kind, is_sign-true, is_sign-false}
-use Rattle.secrec_parser.specs.Grammar.{identifier, AreAll, IsTemplate, IsResult, IsFunction, IsItem, IsProgram}
+use Rattle.expression_parser.proofs.Reading.{Good, Bad, Reads, Allowed, Stops, cons_head, cancel, reads_as}
+use Rattle.expression_parser.proofs.Tokens.{Any, All, origin, any_stops, good_ended, is_sign-true, is_sign-false}
+use Rattle.secrec_parser.specs.Grammar.{identifier, AreAll, IsTemplate, IsFunction, IsItem, IsProgram}
 use Rattle.secrec_parser.specs.Steps.{at_end, list_from, listed, place_at, named, domain_item, function_step, item_step, item, program}
 use Rattle.secrec_parser.specs.declared.parse_err.ParseErr.{ParseErr}
-use Rattle.secrec_parser.specs.FirstFault.{Begins, BeginsAny, IsCause, IsFirstFault}
+use Rattle.secrec_parser.specs.FirstFault.{Begins, IsCause, IsFirstFault}
 use Rattle.secrec_parser.specs.Answer.{RefusesAtFault, refusal_at}
-use Rattle.secrec_parser.proofs.Made.{Made, Both, reads_same, seq, made, known, sign_seq, sign_end}
-use Rattle.secrec_parser.proofs.TypeReadings.{is_one, lone, identifier_reads}
+use Rattle.secrec_parser.proofs.Made.{Made, Both, reads_same, seq, made, known, sign_end}
+use Rattle.secrec_parser.proofs.TypeReadings.{lone, identifier_reads}
 use Rattle.secrec_parser.proofs.Declarations.{clash, sign_head, some_name, name_token}
 use Rattle.secrec_parser.proofs.Lists.{listed_reads}
 use Rattle.secrec_parser.proofs.Leaders.{begins_type, front}

@@ -1,5 +1,5 @@
 -- Readings of all statements of a height, from those of a smaller one.
-use Rattle.std.proofs.Common.{◌≡◌, ℕ, zero, suc, ◌+◌, ◌-◌, ◌<◌, ◌≤◌, List, [], ◌∷◌, ◌++◌, ◌⊎◌, inl, inr, refl, sym, ap, ◌∙◌, subst, Result, Ok, Err, Bool, true, false, cond, Option, Some, None, arith}
+use Rattle.std.proofs.Common.{◌≡◌, ℕ, zero, suc, ◌-◌, ◌<◌, ◌≤◌, List, [], ◌∷◌, refl, sym, ap, ◌∙◌, subst, Ok, Err, Bool, true, false, cond, Some, arith}
 use Rattle.std.specs.Prelude.{nat_lt}
 use Rattle.std.proofs.lemmas.Bool.{ltb-true, ltb-false}
 use Rattle.sc_text.specs.declared.span.Span.{Span}
@@ -9,12 +9,11 @@ use Rattle.secrec_lexer.specs.declared.token.Kind.TheVariants as kinds
 use Rattle.secrec_lexer.specs.declared.token.Token.{Token}
 use Rattle.secrec_lexer.specs.Tokens.{is_sign, IsEnded}
 use Rattle.secrec_ast.specs.Tree.{Tree}
-use Rattle.secrec_ast.specs.Statements.{StatementTree, block, empty, branch, choice, while_loop, do_loop, for_loop, breaks, continues, returns, assertion, declaration, assignment, evaluation}
-use Rattle.secrec_ast.specs.Heights.{statement_height}
+use Rattle.secrec_ast.specs.Statements.{StatementTree, branch, choice, while_loop, for_loop}
 use Rattle.expression_parser.specs.declared.problem.Problem.TheVariants.{Unexpected, TooHigh}
 use Rattle.expression_parser.specs.Phrases.{Phrase}
 use Rattle.expression_parser.specs.Steps.{Outcome, ◌>>=◌, expect}
-use Rattle.expression_parser.proofs.Reading.{Good, Bad, Reads, Stops, cons_head}
+use Rattle.expression_parser.proofs.Reading.{Good, Bad, Reads, Stops}
 use Rattle.expression_parser.proofs.Tokens.{Any, good_ended, after_kind, is_sign-true, is_sign-false}
 use Rattle.expression_parser.proofs.Nodes.{Low}
 use Rattle.secrec_parser.specs.declared.leader.Leader.{Leader}
@@ -22,6 +21,7 @@ use Rattle.secrec_parser.specs.declared.leader.Leader.TheVariants as leaders
 use Rattle.secrec_parser.specs.Grammar.{parenthesised, IsStatement, Closed}
 use Rattle.secrec_parser.specs.Steps.{Inner, leader_of, least, else_step, if_step, while_step, for_step, led, statement_by, statement_step, statement_at_most}
 use Rattle.secrec_parser.specs.Steps as steps
+use Rattle.secrec_parser.proofs.Clashes.{false_true, no_break, no_continue}
 use Rattle.secrec_parser.proofs.Heads.{too_high}
 use Rattle.secrec_parser.proofs.Declarations.{parenthesised_reads}
 use Rattle.secrec_parser.proofs.Headings.{IsHeading, LowHeading, heading_reads}
@@ -131,17 +131,17 @@ module _ (room : ℕ) (lower : Bool → Inner)
         for_reads room low inside (lower true) (reads_lower (omega (arith, low)) true) x m (leads inside x leaders.For signs.For e refl) (ap family e) en
     by_reads leaders.Break e low =
         let k = leads inside x leaders.Break signs.Break e refl in
-        break_reads inside room low x m k (leads_inside inside x signs.Break leaders.Break k e (λ (f : leaders.Expression ≡ leaders.Break). cc)) (ap family e) en
+        break_reads inside room low x m k (leads_inside inside x signs.Break leaders.Break k e no_break) (ap family e) en
     by_reads leaders.Continue e low =
         let k = leads inside x leaders.Continue signs.Continue e refl in
-        continue_reads inside room low x m k (leads_inside inside x signs.Continue leaders.Continue k e (λ (f : leaders.Expression ≡ leaders.Continue). cc)) (ap family e) en
+        continue_reads inside room low x m k (leads_inside inside x signs.Continue leaders.Continue k e no_continue) (ap family e) en
     by_reads leaders.Return e low = return_reads inside room low x m (leads inside x leaders.Return signs.Return e refl) (ap family e) en
     by_reads leaders.Assert e low = assert_reads inside room low x m (leads inside x leaders.Assert signs.Assert e refl) (ap family e) en
     by_reads leaders.Declaration e low = typed_reads room low inside x m e en
     by_reads leaders.Name e low = behind m en
       where
         behind : (m : List Token) → IsEnded (x ∷ m) → Reads (IsStatement inside) (LowStatement room) Follow (x ∷ m) (steps.name_statement room (x ∷ m) m)
-        behind [] en = let k = name_kind inside x.kind x.place e in let f = after_kind x [] (kinds.Name k.0) en k.1 refl in cc
+        behind [] en = let k = name_kind inside x.kind x.place e in let f = after_kind x [] (kinds.Name k.0) en k.1 refl in absurd (false_true f)
         behind (y ∷ n) en = let k = name_kind inside x.kind x.place e in named_reads inside x y n k.0 k.1 (ap family e) en room low
     by_reads leaders.Expression e low = expression_reads room inside x m e en
 

@@ -1,5 +1,5 @@
 -- What statements begin with, and some statement that begins with each such token.
-use Rattle.std.proofs.Common.{◌≡◌, ℕ, ◌≤◌, List, [], ◌∷◌, ◌++◌, ◌⊎◌, inl, inr, refl, sym, ap, ◌∙◌, subst, append_assoc, Bool, true, false, Option, Some, None}
+use Rattle.std.proofs.Common.{◌≡◌, ℕ, List, [], ◌∷◌, ◌++◌, inl, inr, refl, sym, ap, Bool, true, false, Some, None}
 use Rattle.sc_text.specs.declared.span.Span.{Span}
 use Rattle.secrec_lexer.specs.declared.sign.Sign.{Sign}
 use Rattle.secrec_lexer.specs.declared.sign.Sign.TheVariants as signs
@@ -9,18 +9,19 @@ use Rattle.secrec_lexer.specs.declared.token.Token.{Token}
 use Rattle.secrec_ast.specs.declared.expression.DataType.TheVariants as types
 use Rattle.secrec_ast.specs.declared.statement.Domain.TheVariants as domains
 use Rattle.secrec_ast.specs.declared.statement.DeclaredType.{DeclaredType}
-use Rattle.secrec_ast.specs.Tree.{Tree, variable}
+use Rattle.secrec_ast.specs.Tree.{variable}
 use Rattle.secrec_ast.specs.Statements.{DeclarationTree, StatementTree, StatementTrees, starts_with_nothing, steps_by_nothing, block, empty, branch, choice, while_loop, do_loop, for_loop, breaks, continues, returns, assertion, declaration, assignment, evaluation}
 use Rattle.secrec_ast.specs.Statements as statements
-use Rattle.expression_parser.specs.Phrases.{Phrase, token, one_at, one, sign_at, sign, ◌then◌}
-use Rattle.expression_parser.specs.Grammar.{IsExpression, loosest}
+use Rattle.expression_parser.specs.Phrases.{token, sign_at}
+use Rattle.expression_parser.specs.Grammar.{loosest}
 use Rattle.expression_parser.specs.Steps as expressions
 use Rattle.expression_parser.proofs.Tokens.{origin, head_kind}
 use Rattle.expression_parser.proofs.Nodes.{leaf, leaf_token, first_token}
 use Rattle.secrec_parser.specs.declared.leader.Leader.{Leader}
 use Rattle.secrec_parser.specs.declared.leader.Leader.TheVariants as leaders
-use Rattle.secrec_parser.specs.Grammar.{parenthesised, IsDeclaration, heading, IsStatement}
+use Rattle.secrec_parser.specs.Grammar.{parenthesised, heading, IsStatement}
 use Rattle.secrec_parser.specs.Steps.{leader_of}
+use Rattle.secrec_parser.proofs.Clashes.{none_some, false_true, no_break, no_continue}
 use Rattle.secrec_parser.proofs.TypeReadings.{lone}
 use Rattle.secrec_parser.proofs.Declarations.{some_name, name_token}
 use Rattle.secrec_parser.proofs.Leaders.{begins_type, leads, leads_inside, front, led_kind}
@@ -60,7 +61,7 @@ type_starter (kinds.Sign signs.Public) e = refl
 type_starter (kinds.Sign signs.Uint64) e = refl
 type_starter (kinds.Sign signs.Uint) e = refl
 type_starter (kinds.Sign signs.Bool) e = refl
-type_starter k e = cc
+type_starter k e = absurd (false_true e)
 
 expression_starter : (k : Kind) (n : ℕ) → expressions.least k ≡ Some n → starter k ≡ true
 expression_starter (kinds.Name bytes) n e = refl
@@ -72,7 +73,7 @@ expression_starter (kinds.Sign signs.LeftParenthesis) n e = refl
 expression_starter (kinds.Sign signs.Exclamation) n e = refl
 expression_starter (kinds.Sign signs.Declassify) n e = refl
 expression_starter (kinds.Sign signs.Publish) n e = refl
-expression_starter k n e = cc
+expression_starter k n e = absurd (none_some n e)
 
 pub starts : (inside : Bool) (c : StatementTree) (s m m2 : List Token) (x : Token) → IsStatement inside c s → s ++ m ≡ x ∷ m2 → starter x.kind ≡ true
 starts inside (block p ss) s m m2 x v eq = ap starter (sym (led_kind p signs.LeftBrace _ s m m2 x v eq))
@@ -99,40 +100,47 @@ statement_some inside c v = let f : false ≡ true = starts inside c [] (else_to
 
 -- Leaders of declarations, names and expressions
 
+is_declaration : Leader → Bool
+is_declaration leaders.Declaration = true
+is_declaration other = false
+
+is_expression : Leader → Bool
+is_expression leaders.Expression = true
+is_expression other = false
+
 pub declared_leader : (inside : Bool) (k : Kind) (p : Span) → begins_type k ≡ true → leader_of inside (token p k) ≡ leaders.Expression → ⊥
-declared_leader inside (kinds.Name bytes) p e f = cc
-declared_leader inside (kinds.Sign signs.Public) p e f = cc
-declared_leader inside (kinds.Sign signs.Uint64) p e f = cc
-declared_leader inside (kinds.Sign signs.Uint) p e f = cc
-declared_leader inside (kinds.Sign signs.Bool) p e f = cc
-declared_leader inside k p e f = cc
+unfolding is_expression
+declared_leader inside (kinds.Name bytes) p e f = false_true (ap is_expression f)
+declared_leader inside (kinds.Sign signs.Public) p e f = false_true (ap is_expression f)
+declared_leader inside (kinds.Sign signs.Uint64) p e f = false_true (ap is_expression f)
+declared_leader inside (kinds.Sign signs.Uint) p e f = false_true (ap is_expression f)
+declared_leader inside (kinds.Sign signs.Bool) p e f = false_true (ap is_expression f)
+declared_leader inside k p e f = false_true e
 
 pub expression_leader : (inside : Bool) (k : Kind) (p : Span) (n : ℕ) → expressions.least k ≡ Some n → leader_of inside (token p k) ≡ leaders.Declaration → ⊥
-expression_leader inside (kinds.Name bytes) p n e f = cc
-expression_leader inside (kinds.Number v) p n e f = cc
-expression_leader inside (kinds.Sign signs.True) p n e f = cc
-expression_leader inside (kinds.Sign signs.False) p n e f = cc
-expression_leader inside (kinds.Sign signs.Argument) p n e f = cc
-expression_leader inside (kinds.Sign signs.LeftParenthesis) p n e f = cc
-expression_leader inside (kinds.Sign signs.Exclamation) p n e f = cc
-expression_leader inside (kinds.Sign signs.Declassify) p n e f = cc
-expression_leader inside (kinds.Sign signs.Publish) p n e f = cc
-expression_leader inside k p n e f = cc
+unfolding is_declaration
+expression_leader inside (kinds.Name bytes) p n e f = false_true (ap is_declaration f)
+expression_leader inside (kinds.Number v) p n e f = false_true (ap is_declaration f)
+expression_leader inside (kinds.Sign signs.True) p n e f = false_true (ap is_declaration f)
+expression_leader inside (kinds.Sign signs.False) p n e f = false_true (ap is_declaration f)
+expression_leader inside (kinds.Sign signs.Argument) p n e f = false_true (ap is_declaration f)
+expression_leader inside (kinds.Sign signs.LeftParenthesis) p n e f = false_true (ap is_declaration f)
+expression_leader inside (kinds.Sign signs.Exclamation) p n e f = false_true (ap is_declaration f)
+expression_leader inside (kinds.Sign signs.Declassify) p n e f = false_true (ap is_declaration f)
+expression_leader inside (kinds.Sign signs.Publish) p n e f = false_true (ap is_declaration f)
+expression_leader inside k p n e f = none_some n e
 
 is_name : Leader → Bool
 is_name leaders.Name = true
 is_name other = false
 
-no_truth : false ≡ true → ⊥
-no_truth e = cc
-
 pub name_kind : (inside : Bool) (k : Kind) (p : Span) → leader_of inside (token p k) ≡ leaders.Name → (text : List ℕ) × (k ≡ kinds.Name text)
 unfolding is_name
 name_kind inside (kinds.Name text) p e = (text, refl)
-name_kind inside (kinds.Sign signs.LeftBrace) p e = absurd (no_truth (ap is_name e))
-name_kind true (kinds.Sign signs.Break) p e = absurd (no_truth (ap is_name e))
-name_kind true (kinds.Sign signs.Continue) p e = absurd (no_truth (ap is_name e))
-name_kind inside k p e = absurd (no_truth (ap is_name e))
+name_kind inside (kinds.Sign signs.LeftBrace) p e = absurd (false_true (ap is_name e))
+name_kind true (kinds.Sign signs.Break) p e = absurd (false_true (ap is_name e))
+name_kind true (kinds.Sign signs.Continue) p e = absurd (false_true (ap is_name e))
+name_kind inside k p e = absurd (false_true (ap is_name e))
 
 -- what a declaration begins with that begins with no name
 pub data Typed (x : Token) : Type 0 where
@@ -140,10 +148,6 @@ pub data Typed (x : Token) : Type 0 where
   uint64_type : x.kind ≡ kinds.Sign signs.Uint64 → Typed x
   uint_type : x.kind ≡ kinds.Sign signs.Uint → Typed x
   bool_type : x.kind ≡ kinds.Sign signs.Bool → Typed x
-
-is_declaration : Leader → Bool
-is_declaration leaders.Declaration = true
-is_declaration other = false
 
 pub typed : (inside : Bool) (x : Token) → leader_of inside x ≡ leaders.Declaration → Typed x
 unfolding is_declaration
@@ -154,9 +158,9 @@ typed inside x e = go inside x.kind refl e
     go inside (kinds.Sign signs.Uint64) k e = uint64_type k
     go inside (kinds.Sign signs.Uint) k e = uint_type k
     go inside (kinds.Sign signs.Bool) k e = bool_type k
-    go true (kinds.Sign signs.Break) k e = absurd (no_truth (ap is_declaration e))
-    go true (kinds.Sign signs.Continue) k e = absurd (no_truth (ap is_declaration e))
-    go inside kind k e = absurd (no_truth (ap is_declaration e))
+    go true (kinds.Sign signs.Break) k e = absurd (false_true (ap is_declaration e))
+    go true (kinds.Sign signs.Continue) k e = absurd (false_true (ap is_declaration e))
+    go inside kind k e = absurd (false_true (ap is_declaration e))
 
 -- Samples
 
@@ -285,11 +289,20 @@ module _ (inside : Bool) (x : Token) where
     (x ∷ [], heads ++ lone signs.Semicolon, refl, here signs.For (leads inside x leaders.For signs.For e refl), (heads, lone signs.Semicolon, refl, are_heads, refl)),
   )
   sample leaders.Break e other =
-      let k = leads inside x leaders.Break signs.Break e refl in
-      (breaks x.place, lone signs.Semicolon, (leads_inside inside x signs.Break leaders.Break k e (λ (f : leaders.Expression ≡ leaders.Break). cc), (x ∷ [], lone signs.Semicolon, refl, here signs.Break k, (origin, refl))))
+      let k = leads inside x leaders.Break signs.Break e refl in (
+        breaks x.place,
+        lone signs.Semicolon,
+        (leads_inside inside x signs.Break leaders.Break k e no_break, (x ∷ [], lone signs.Semicolon, refl, here signs.Break k, (origin, refl))),
+      )
   sample leaders.Continue e other =
-      let k = leads inside x leaders.Continue signs.Continue e refl in
-      (continues x.place, lone signs.Semicolon, (leads_inside inside x signs.Continue leaders.Continue k e (λ (f : leaders.Expression ≡ leaders.Continue). cc), (x ∷ [], lone signs.Semicolon, refl, here signs.Continue k, (origin, refl))))
+      let k = leads inside x leaders.Continue signs.Continue e refl in (
+        continues x.place,
+        lone signs.Semicolon,
+        (
+          leads_inside inside x signs.Continue leaders.Continue k e no_continue,
+          (x ∷ [], lone signs.Semicolon, refl, here signs.Continue k, (origin, refl)),
+        ),
+      )
   sample leaders.Return e other =
       (returns x.place None, lone signs.Semicolon, (x ∷ [], lone signs.Semicolon, refl, here signs.Return (leads inside x leaders.Return signs.Return e refl), ([], lone signs.Semicolon, refl, refl, (origin, refl))))
   sample leaders.Assert e other =

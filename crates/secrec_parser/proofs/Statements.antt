@@ -1,41 +1,30 @@
 -- Readings of statements.
-use Rattle.std.proofs.Common.{◌≡◌, ℕ, zero, suc, ◌+◌, ◌-◌, ◌<◌, ◌≤◌, List, [], ◌∷◌, ◌++◌, ◌⊎◌, inl, inr, refl, sym, ap, ◌∙◌, subst, append_assoc, append-nil, Result, Ok, Err, Bool, true, false, cond, Option, Some, None, arith}
-use Rattle.std.specs.Prelude.{nat_eq, nat_lt, max}
-use Rattle.std.proofs.lemmas.Bool.{ltb-true, ltb-false, eqb-true, eqb-false}
+use Rattle.std.proofs.Common.{◌≡◌, ℕ, suc, ◌-◌, ◌≤◌, List, [], ◌∷◌, ◌++◌, refl, sym, ap, ◌∙◌, subst, append-nil, Ok, Bool, true, false, cond, Option, Some, None, arith}
 use Rattle.sc_text.specs.declared.span.Span.{Span}
 use Rattle.secrec_lexer.specs.declared.sign.Sign.{Sign}
 use Rattle.secrec_lexer.specs.declared.sign.Sign.TheVariants as signs
-use Rattle.secrec_lexer.specs.declared.token.Kind.{Kind}
 use Rattle.secrec_lexer.specs.declared.token.Kind.TheVariants as kinds
 use Rattle.secrec_lexer.specs.declared.token.Token.{Token}
 use Rattle.secrec_lexer.specs.Tokens.{is_sign, is_end, IsEnded}
-use Rattle.secrec_ast.specs.Tree.{Tree, variable}
-use Rattle.secrec_ast.specs.Statements.{DeclarationTree, AssignmentTree, starts_with_nothing, steps_by_nothing, StatementTree, StatementTrees, statements_of, block, empty, branch, choice, while_loop, do_loop, for_loop, breaks, continues, returns, assertion, declaration, assignment, evaluation}
-use Rattle.secrec_ast.specs.Statements as statements
-use Rattle.secrec_ast.specs.Heights.{height, declaration_height, statement_height, statement_heights}
-use Rattle.expression_parser.specs.declared.problem.Problem.{Problem}
-use Rattle.expression_parser.specs.declared.problem.Problem.TheVariants.{Unexpected, TooHigh}
+use Rattle.secrec_ast.specs.Tree.{Tree}
+use Rattle.secrec_ast.specs.Statements.{DeclarationTree, StatementTree, empty, branch, choice, breaks, continues, returns, assertion, declaration}
+use Rattle.secrec_ast.specs.Heights.{statement_height}
 use Rattle.expression_parser.specs.Phrases.{Phrase, token, nothing, one_at, one, sign_at, sign, ◌then◌}
-use Rattle.expression_parser.specs.Grammar.{IsExpression, loosest}
 use Rattle.expression_parser.specs.Steps.{Outcome, ◌>>=◌, expect}
-use Rattle.expression_parser.specs.Steps as expressions
-use Rattle.expression_parser.proofs.Reading.{Good, Bad, Reads, Stops, cons_head, reads_as}
-use Rattle.expression_parser.proofs.Tokens.{Any, All, origin, any_stops, ended_cons, good_ended, after_kind, head_kind, is_sign-true, is_sign-false}
-use Rattle.expression_parser.proofs.Nodes.{Low, tall, leaf, leaf_token, first_token}
-use Rattle.secrec_parser.specs.declared.leader.Leader.{Leader}
-use Rattle.secrec_parser.specs.declared.leader.Leader.TheVariants as leaders
-use Rattle.secrec_parser.specs.Grammar.{parenthesised, IsDeclaration, IsStatement, AreStatements, AreAll, Closed}
+use Rattle.expression_parser.proofs.Reading.{Good, Reads, Stops, cons_head, reads_as}
+use Rattle.expression_parser.proofs.Tokens.{Any, origin, any_stops, good_ended, after_kind, is_sign-true, is_sign-false}
+use Rattle.expression_parser.proofs.Nodes.{Low, tall, leaf}
+use Rattle.secrec_parser.specs.Grammar.{parenthesised, IsDeclaration, IsStatement, Closed}
 use Rattle.secrec_parser.specs.Steps.{Inner, leader_of, least, listed, at_sign, braced, else_step, if_step, while_step, do_step, for_step, return_step, assert_step, declaration_step, declaration_statement, action, ActionTree, assigns, evaluates, statement_of, action_statement}
 use Rattle.secrec_parser.specs.Steps as steps
-use Rattle.secrec_parser.proofs.Made.{Made, Both, Living, reads_same, seq, made, known, sign_seq, sign_end}
+use Rattle.secrec_parser.proofs.Made.{Made, Both, Living, seq, made, known, sign_seq, sign_end}
 use Rattle.secrec_parser.proofs.Heads.{nothing_reads, one_reads}
 use Rattle.secrec_parser.proofs.TypeReadings.{lone}
 use Rattle.secrec_parser.proofs.Declarations.{Before, sign_head, last_sign_first, LowOption, LowDeclaration, Semicolon, semicolon_free, declaration_reads, parenthesised_reads}
 use Rattle.secrec_parser.proofs.Assignments.{IsAction, LowAction, action_reads}
-use Rattle.secrec_parser.proofs.Lists.{listed_reads}
-use Rattle.secrec_parser.proofs.Leaders.{family, family_of, family_is, statement_tall, front}
-use Rattle.secrec_parser.proofs.Headings.{TestPart, test_reads, IsHeading, HeadingParts, LowHeading, heading_reads, then_map}
-use Rattle.secrec_parser.proofs.Starts.{starter, starts, statement_some, parens, are_parens, heads, are_heads}
+use Rattle.secrec_parser.proofs.Leaders.{family, family_of, family_is}
+use Rattle.secrec_parser.proofs.Headings.{TestPart, test_reads}
+use Rattle.secrec_parser.proofs.Starts.{parens, are_parens}
 
 abbrev pub LowStatement : ℕ → StatementTree → Type 0
 LowStatement h c = statement_height c ≤ h

@@ -1,10 +1,9 @@
 -- An expression as a target is as high as it was.
 use Rattle.std.proofs.Common.{◌≡◌, ℕ, ◌+◌, ◌≤◌, Option, Some, None, refl, sym, ap, ◌∙◌, arith}
-use Rattle.std.specs.Prelude.{max, option_map}
+use Rattle.std.specs.Prelude.{max}
 use Rattle.secrec_ast.specs.Tree.{Tree, number, truth, variable, call, index, parentheses, negation, cast, binary, declassify, argument, publish}
-use Rattle.secrec_ast.specs.Statements.{TargetTree, target_tree}
-use Rattle.secrec_ast.specs.Heights.{height, heights, optional_height, target_height}
-use Rattle.secrec_parser.specs.Steps.{target_of, element_target}
+use Rattle.secrec_ast.specs.Statements.{TargetTree, element_target, target_of}
+use Rattle.secrec_ast.specs.Heights.{height, target_height}
 
 pub tall : (e : Tree) → 1 ≤ height e
 tall (number p n) = omega arith

@@ -1,23 +1,25 @@
 -- The steps, as the code comes to them.
-use Rattle.std.proofs.Common.{Bor, ◌≡◌, ℕ, zero, suc, ◌+◌, ◌-◌, ◌<◌, ◌≤◌, Bool, true, false, cond, List, [], ◌∷◌, ◌++◌, refl, sym, ap, ◌∙◌, Result, Ok, Err, length, arith}
+use Rattle.std.proofs.Common.{Bor, ◌≡◌, subst, ℕ, zero, suc, ◌-◌, ◌<◌, ◌≤◌, Bool, true, false, cond, Option, Some, None, List, [], ◌∷◌, ◌++◌, refl, sym, ap, ◌∙◌, Result, Ok, Err, length, arith}
 use Rattle.std.specs.Prelude.{◌&&◌, not, nat_lt, IfOk}
 use Rattle.std.proofs.lemmas.Bool.{ltb-false, lt-ltb, le-ltb}
 use Rattle.secrec_lexer.specs.declared.token.Token.{Token}
 use Rattle.sc_text.specs.declared.span.Span.{Span}
 use Rattle.secrec_lexer.specs.declared.sign.Sign.TheVariants as signs
 use Rattle.secrec_ast.specs.declared.function.DomainVariable.{DomainVariable}
-use Rattle.secrec_ast.specs.declared.statement.Statement.{Statement}
 use Rattle.secrec_ast.specs.Tree.{Tree}
-use Rattle.secrec_ast.specs.Statements.{StatementTree, branch, choice}
+use Rattle.secrec_ast.specs.Statements.{TargetTree, StatementTree, branch, choice}
+use Rattle.secrec_ast.specs.Heights.{target_height}
 use Rattle.expression_parser.specs.declared.stopped.Stopped.{Stopped}
 use Rattle.expression_parser.specs.declared.stopped.Stopped.TheVariants.{Memory, At}
-use Rattle.expression_parser.specs.Given.{Gives}
+use Rattle.expression_parser.specs.Given.{Gives, Closed}
 use Rattle.expression_parser.specs.declared.problem.Problem.{Problem}
 use Rattle.expression_parser.specs.declared.problem.Problem.TheVariants.{Unexpected, TooHigh}
+use Rattle.secrec_parser.specs.declared.assignment.Update.{Update}
 use Rattle.secrec_parser.specs.declared.leader.Leader.{Leader}
 use Rattle.secrec_parser.specs.declared.leader.Leader.TheVariants as leaders
 use Rattle.expression_parser.specs.Steps.{Outcome, ◌>>=◌, expect}
-use Rattle.secrec_parser.specs.Steps.{list_from, at_sign, comma_then, no_more_variables, leader_of, least, Inner, led, declaration_statement, name_statement, action_statement, else_step, statement_by, statement_step, statement_at_most}
+use Rattle.secrec_parser.specs.Given.{Takes}
+use Rattle.secrec_parser.specs.Steps.{list_from, at_sign, update_of, least_height, value_by, assigned_by, assigned, comma_then, no_more_variables, leader_of, least, Inner, led, declaration_statement, name_statement, action_statement, else_step, if_step, parenthesised, short, statement_by, statement_step, statement_at_most}
 
 module _ {A : Type 0} (stop : List A → List Token → Bool) (inner : List Token → Outcome A) where
   pub list_stops : (n : ℕ) (found : List A) (w : List Token) → stop found w ≡ true → list_from stop inner n found w ≡ Ok (found, w)
@@ -110,19 +112,91 @@ module _ (room : ℕ) (inside : Bool) (w : List Token) (x : Token) (m : List Tok
       other leaders.Expression d k e = absurd (e refl)
       other l d k e = refl
 
-pub else_none : (inner : Inner) (p : Span) (e : Tree) (s : StatementTree) (w : List Token) → at_sign signs.Else w ≡ false → else_step inner p e s w ≡ Ok (branch p e s, w)
-else_none inner p e s w f = ap (λ b. cond b (expect signs.Else w >>= λ a. inner a.1 >>= λ t. Ok (choice p e s t.0, t.1)) (Ok (branch p e s, w))) f
+-- what a target gets, by what the first token does
+module _ (room : ℕ) (t : TargetTree) (w : List Token) (x : Token) (m : List Token) (front : w ≡ x ∷ m) where
+  assigned_is : (o : Option Update) → update_of x ≡ o → assigned room t w ≡ assigned_by room t o x m
+  assigned_is o does = ap (assigned room t) front ∙ ap (λ o. assigned_by room t o x m) does
 
-pub else_some : (inner : Inner) (p : Span) (e : Tree) (s t : StatementTree) (w r r2 : List Token) (q : Span) → at_sign signs.Else w ≡ true → expect signs.Else w ≡ Ok (q, r) → inner r ≡ Ok (t, r2) → else_step inner p e s w ≡ Ok (choice p e s t, r2)
-else_some inner p e s t w r r2 q f g h =
-    ap (λ b. cond b (expect signs.Else w >>= λ a. inner a.1 >>= λ t. Ok (choice p e s t.0, t.1)) (Ok (branch p e s, w))) f
-    ∙ ap (λ o. o >>= λ a. inner a.1 >>= λ t. Ok (choice p e s t.0, t.1)) g
-    ∙ ap (λ o. o >>= λ t. Ok (choice p e s t.0, t.1)) h
+  pub assigned_none : update_of x ≡ None → assigned room t w ≡ Err (Unexpected, w)
+  assigned_none does = assigned_is None does ∙ ap (λ v. Err (Unexpected, v)) (sym front)
+
+  module _ (u : Update) (does : update_of x ≡ Some u) (h : ℕ) (high : h ≡ target_height t) where
+    pub assigned_high : room < least_height h u → assigned room t w ≡ Err (TooHigh, w)
+    assigned_high lt =
+        assigned_is (Some u) does
+        ∙ ap (λ b. cond b (Err (TooHigh, x ∷ m)) (value_by room t u m >>= λ v. Ok (record { target = t; value = v.0 }, v.1)))
+        (ap (λ h. nat_lt room (least_height h u)) (sym high) ∙ lt-ltb room (least_height h u) lt)
+        ∙ ap (λ v. Err (TooHigh, v)) (sym front)
+
+    pub assigned_value : least_height h u ≤ room → assigned room t w ≡ (value_by room t u m >>= λ v. Ok (record { target = t; value = v.0 }, v.1))
+    assigned_value le =
+        assigned_is (Some u) does
+        ∙ ap (λ b. cond b (Err (TooHigh, x ∷ m)) (value_by room t u m >>= λ v. Ok (record { target = t; value = v.0 }, v.1)))
+        (ap (λ h. nat_lt room (least_height h u)) (sym high) ∙ le-ltb room (least_height h u) le)
+
+-- an `if` whose test and body were read
+module _ (h : ℕ) (inner : Inner) (p : Span) (w : List Token) (e : Tree) (r : List Token) (s : StatementTree) (r2 : List Token)
+    (tested : parenthesised h w ≡ Ok (e, r)) (held : inner r ≡ Ok (s, r2)) where
+  if_at : if_step h inner p w ≡ else_step inner p e s r2
+  unfolding if_step
+  if_at =
+      ap (λ o. o >>= λ e. inner e.1 >>= λ s. else_step inner p e.0 s.0 s.1) tested
+      ∙ ap (λ o. o >>= λ s. else_step inner p e s.0 s.1) held
+
+  pub if_alone : at_sign signs.Else r2 ≡ false → if_step h inner p w ≡ Ok (branch p e s, r2)
+  if_alone f = if_at ∙ ap (λ b. cond b (expect signs.Else r2 >>= λ a. inner a.1 >>= λ t. Ok (choice p e s t.0, t.1)) (Ok (branch p e s, r2))) f
+
+  pub if_chosen : (q : Span) (r3 : List Token) (t : StatementTree) (r4 : List Token) → at_sign signs.Else r2 ≡ true → expect signs.Else r2 ≡ Ok
+      (q, r3) → inner r3 ≡ Ok (t, r4) → if_step h inner p w ≡ Ok (choice p e s t, r4)
+  if_chosen q r3 t r4 f g k =
+      if_at
+      ∙ ap (λ b. cond b (expect signs.Else r2 >>= λ a. inner a.1 >>= λ t. Ok (choice p e s t.0, t.1)) (Ok (branch p e s, r2))) f
+      ∙ ap (λ o. o >>= λ a. inner a.1 >>= λ t. Ok (choice p e s t.0, t.1)) g
+      ∙ ap (λ o. o >>= λ t. Ok (choice p e s t.0, t.1)) k
 
 -- what stopped one step stops another that begins with it
-pub passes : {Y Z : Type 0} (s : Stopped) (o : Outcome Y) (u : Outcome Z) → ((p : Problem) (r : List Token) → o ≡ Err (p, r) → u ≡ Err (p, r)) → Gives {X = Y × List Token} (λ v. v) (Err s) o → Gives {X = Z × List Token} (λ v. v) (Err s) u
-passes Memory o u k g = tt
-passes (At p r) o u k g = k p r.now g
+pub passes : {Y Z : Type 0} (s : Stopped) (o : Outcome Y) (u : Outcome Z) (k n : ℕ) →
+    ((p : Problem) (r : List Token) → o ≡ Err (p, r) → u ≡ Err (p, r)) → Takes {X = Y × List Token} (λ v. v) (Err s) o k → Takes {X = Z × List Token}
+    (λ v. v) (Err s) u n
+passes Memory o u k n f t = tt
+passes (At p r) o u k n f t = f p r.now t
+
+pub passes_on : {Y Z : Type 0} (s : Stopped) (o : Outcome Y) (u : Outcome Z) (k : ℕ) →
+    ((p : Problem) (r : List Token) → o ≡ Err (p, r) → u ≡ Err (p, r)) → Takes {X = Y × List Token} (λ v. v) (Err s) o k → Gives {X = Z × List Token}
+    (λ v. v) (Err s) u
+passes_on Memory o u k f t = tt
+passes_on (At p r) o u k f t = f p r.now t
+
+-- what was found stays, where what closes it stands behind it
+pub closed_takes : {A B Y Z : Type 0} (found : A) (close : Result (B × Bor (List Token)) Stopped) (r : Result (A × Bor (List Token)) Stopped)
+    (view : A → Y) (seen : B → Z) (o : Outcome Z) (k n : ℕ) → k ≤ n → Closed found close r → Gives (λ x. (seen x.0, x.1.now)) close o → IfOk close
+    (λ x. length x.1.now < k) → Takes (λ x. (view x.0, x.1.now)) r (o >>= λ b. Ok (view found, b.1)) n
+closed_takes found close (Ok x) view seen o k n le c g l =
+    let shorter : length x.1.now < k = subst (λ z. IfOk z (λ x. length x.1.now < k)) c.1.1 l in (
+      ap (λ o. o >>= λ b. Ok (view found, b.1)) (subst (λ z. Gives (λ x. (seen x.0, x.1.now)) z o) c.1.1 g)
+          ∙ ap (λ a. Ok (view a, x.1.now)) (sym c.0),
+      omega (arith, shorter, le),
+    )
+closed_takes found close (Err Memory) view seen o k n le c g l = tt
+closed_takes found close (Err (At p r)) view seen o k n le c g l =
+    ap (λ o. o >>= λ b. Ok (view found, b.1)) (subst (λ z. Gives (λ x. (seen x.0, x.1.now)) z o) c g)
+
+-- what is known of it where it was read
+pub taken : {B Y : Type 0} (view : B → Y) (r : Result (B × Bor (List Token)) Stopped) (o : Outcome Y) (n : ℕ) (x : B × Bor (List Token)) → r ≡ Ok x →
+    Takes (λ x. (view x.0, x.1.now)) r o n → (o ≡ Ok (view x.0, x.1.now)) × (length x.1.now < n)
+taken view r o n x e t = subst (λ z. Takes (λ x. (view x.0, x.1.now)) z o n) e t
+
+-- a leader that leads a statement that holds none
+pub led_short : (l : Leader) (room : ℕ) (lower : Bool → Inner) (inside : Bool) (p : Span) (m : List Token) → (l ≡ leaders.Block → ⊥) →
+    (l ≡ leaders.If → ⊥) → (l ≡ leaders.While → ⊥) → (l ≡ leaders.DoWhile → ⊥) → (l ≡ leaders.For → ⊥) → led l room lower inside p m ≡ short l room p
+    m
+unfolding led
+led_short leaders.Block room lower inside p m a b c d e = absurd (a refl)
+led_short leaders.If room lower inside p m a b c d e = absurd (b refl)
+led_short leaders.While room lower inside p m a b c d e = absurd (c refl)
+led_short leaders.DoWhile room lower inside p m a b c d e = absurd (d refl)
+led_short leaders.For room lower inside p m a b c d e = absurd (e refl)
+led_short l room lower inside p m a b c d e = refl
 
 pub variables_go : (found : List DomainVariable) (w : List Token) → at_sign signs.Comma w ≡ true → length found < 4 → no_more_variables found w ≡ false
 variables_go found w e l = ap (λ b. not (b && nat_lt (length found) 4)) e ∙ ap not (lt-ltb (length found) 4 l)
@@ -145,6 +219,8 @@ pub comma_reads : {A : Type 0} (inner : List Token → Outcome A) (w r r2 : List
 comma_reads inner w r r2 q a e f = ap (λ o. o >>= λ a. inner a.1) e ∙ f
 
 -- what reads past a token reads past the tokens that it began
-pub read_shorter : (o : Result (Statement × Bor (List Token)) Stopped) (w v : List Token) → length v < length w → IfOk o (λ x. length x.1.now ≤ length v) → IfOk o (λ x. length x.1.now < length w)
-read_shorter (Ok x) w v l h = omega (arith, l, h)
-read_shorter (Err e) w v l h = tt
+pub takes_less : {B Y : Type 0} (view : B → Y) (r : Result (B × Bor (List Token)) Stopped) (o : Outcome Y) (k n : ℕ) → k ≤ n → Takes
+    (λ x. (view x.0, x.1.now)) r o k → Takes (λ x. (view x.0, x.1.now)) r o n
+takes_less view (Ok x) o k n le t = let l = t.1 in (t.0, omega (arith, l, le))
+takes_less view (Err Memory) o k n le t = tt
+takes_less view (Err (At p r)) o k n le t = t

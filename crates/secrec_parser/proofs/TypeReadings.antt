@@ -1,5 +1,5 @@
 -- Readings of types.
-use Rattle.std.proofs.Common.{◌≡◌, ℕ, List, [], ◌∷◌, ◌++◌, ◌⊎◌, inl, inr, refl, sym, ap, ◌∙◌, subst, Result, Ok, Err, Bool, true, false, cond}
+use Rattle.std.proofs.Common.{◌≡◌, ℕ, List, [], ◌∷◌, ◌++◌, inl, inr, refl, sym, ap, ◌∙◌, subst, Ok, Err, Bool, true, false, cond}
 use Rattle.std.specs.Prelude.{nat_eq}
 use Rattle.std.proofs.lemmas.Bool.{eqb-true, eqb-false}
 use Rattle.sc_text.specs.declared.span.Span.{Span}
@@ -8,16 +8,15 @@ use Rattle.secrec_lexer.specs.declared.sign.Sign.TheVariants as signs
 use Rattle.secrec_lexer.specs.declared.token.Kind.{Kind}
 use Rattle.secrec_lexer.specs.declared.token.Kind.TheVariants as kinds
 use Rattle.secrec_lexer.specs.declared.token.Token.{Token}
-use Rattle.secrec_lexer.specs.Tokens.{is_sign, is_end, IsEnded}
+use Rattle.secrec_lexer.specs.Tokens.{is_sign, IsEnded}
 use Rattle.secrec_ast.specs.declared.expression.DataType.{DataType}
 use Rattle.secrec_ast.specs.declared.expression.DataType.TheVariants as types
 use Rattle.secrec_ast.specs.declared.statement.Identifier.{Identifier}
 use Rattle.secrec_ast.specs.declared.statement.Domain.{Domain}
 use Rattle.secrec_ast.specs.declared.statement.Domain.TheVariants as domains
 use Rattle.secrec_ast.specs.declared.statement.DeclaredType.{DeclaredType}
-use Rattle.expression_parser.specs.declared.problem.Problem.{Problem}
-use Rattle.expression_parser.specs.declared.problem.Problem.TheVariants.{Unexpected, TooHigh}
-use Rattle.expression_parser.specs.Phrases.{Phrase, token, nothing, one_at, one, sign_at, sign, ◌then◌}
+use Rattle.expression_parser.specs.declared.problem.Problem.TheVariants.{Unexpected}
+use Rattle.expression_parser.specs.Phrases.{Phrase, token, one, sign, ◌then◌}
 use Rattle.expression_parser.specs.Grammar.{IsDataType}
 use Rattle.expression_parser.specs.Steps.{Outcome, ◌>>=◌, expect, data_type}
 use Rattle.expression_parser.specs.Steps as expressions
@@ -25,9 +24,8 @@ use Rattle.expression_parser.proofs.Reading.{Good, Bad, Reads, Stops, cons_head,
 use Rattle.expression_parser.proofs.Tokens.{Any, All, origin, any_stops, good_ended, after_kind, head_kind, is_sign-true, is_sign-false}
 use Rattle.expression_parser.proofs.Unaries.{data_type_reads}
 use Rattle.secrec_parser.specs.Grammar.{identifier, BeginsAt, IsDomain, IsDimension, IsType}
-use Rattle.secrec_parser.specs.Grammar as grammar
-use Rattle.secrec_parser.specs.Steps.{domain_of, optional_domain, zero_or_one, zero_or_one_of, brackets, dimension, declared_type, at_sign}
-use Rattle.secrec_parser.proofs.Made.{Made, Both, reads_same, seq, made, sign_seq, sign_end}
+use Rattle.secrec_parser.specs.Steps.{domain_of, zero_or_one, zero_or_one_of, brackets, dimension, declared_type}
+use Rattle.secrec_parser.proofs.Made.{Made, Both, seq, made, sign_seq, sign_end}
 use Rattle.secrec_parser.proofs.Heads.{nothing_reads, one_reads, unexpected, reads_placed}
 
 -- one token is the next

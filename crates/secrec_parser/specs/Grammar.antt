@@ -1,13 +1,9 @@
 -- The grammar above expressions: types, declarations, assignments, statements, functions and programs. For each tree it
 -- says which tokens spell it.
-use Rattle.std.specs.Prelude.{◌≡◌, ℕ, ◌<◌, ◌≤◌, Bool, true, false, ◌⊎◌, List, [], ◌∷◌, ◌++◌, length, Option, Some, None}
+use Rattle.std.specs.Prelude.{◌≡◌, ℕ, ◌<◌, Bool, true, false, ◌⊎◌, List, [], ◌∷◌, length, Option, Some, None}
 use Rattle.sc_text.specs.declared.span.Span.{Span}
-use Rattle.secrec_lexer.specs.declared.sign.Sign.{Sign}
-use Rattle.secrec_lexer.specs.declared.sign.Sign.TheVariants.{LeftParenthesis, RightParenthesis, LeftBracket, RightBracket, LeftBrace, RightBrace, Less, Greater, Comma, Semicolon, Colon, Assign, PlusAssign, MinusAssign, StarAssign, AmpersandAssign, BarAssign, CaretAssign, Increment, Decrement, Import, Kind as KindWord, Domain as DomainWord, Template, Public, Void, Uint64, Uint, Bool as BoolWord, If, Else, While, Do, For, Break, Continue, Return, Assert}
-use Rattle.secrec_lexer.specs.declared.token.Kind.TheVariants.{Name, Number, Sign as Sign', End}
-use Rattle.secrec_lexer.specs.declared.token.Token.{Token}
-use Rattle.secrec_ast.specs.declared.expression.DataType.{DataType}
-use Rattle.secrec_ast.specs.declared.expression.DataType.TheVariants as types
+use Rattle.secrec_lexer.specs.declared.sign.Sign.TheVariants.{LeftParenthesis, RightParenthesis, LeftBracket, RightBracket, LeftBrace, RightBrace, Less, Greater, Comma, Semicolon, Colon, Assign, PlusAssign, MinusAssign, StarAssign, AmpersandAssign, BarAssign, CaretAssign, Increment, Decrement, Import, Kind as KindWord, Domain as DomainWord, Template, Public, Void, If, Else, While, Do, For, Break, Continue, Return, Assert}
+use Rattle.secrec_lexer.specs.declared.token.Kind.TheVariants.{Name, Number, End}
 use Rattle.secrec_ast.specs.declared.expression.Operator.{Operator}
 use Rattle.secrec_ast.specs.declared.expression.Operator.TheVariants.{Add, Subtract, Multiply, And, Or, Xor}
 use Rattle.secrec_ast.specs.declared.statement.Identifier.{Identifier}
@@ -18,10 +14,9 @@ use Rattle.secrec_ast.specs.declared.function.DomainVariable.{DomainVariable}
 use Rattle.secrec_ast.specs.declared.function.Parameter.{Parameter}
 use Rattle.secrec_ast.specs.declared.function.ResultType.{ResultType}
 use Rattle.secrec_ast.specs.declared.function.ResultType.TheVariants as results
-use Rattle.secrec_ast.specs.Tree.{Tree, number, variable, index, binary}
+use Rattle.secrec_ast.specs.Tree.{Tree, number}
 use Rattle.secrec_ast.specs.Statements.{DeclarationTree, TargetTree, AssignmentTree, StartTree, starts_with_nothing, starts_with_declaration, starts_with_assignment, StepTree, steps_by_nothing, steps_by_assignment, steps_by_expression, StatementTree, StatementTrees, block, empty, branch, choice, while_loop, do_loop, for_loop, breaks, continues, returns, assertion, declaration, assignment, evaluation, none, also}
 use Rattle.secrec_ast.specs.Programs.{BlockTree, FunctionTree, ItemTree, imports, kind, domain, defines, ProgramTree}
-use Rattle.secrec_ast.specs.Heights.{program_height}
 use Rattle.secrec_parser.specs.Sugar.{updated}
 use Rattle.expression_parser.specs.Phrases.{Phrase, nothing, one_at, one, sign_at, sign, ◌then◌}
 use Rattle.expression_parser.specs.Grammar.{IsDataType, IsExpression, loosest}

@@ -1,5 +1,5 @@
 -- The steps of the parser as functions on lists of tokens. Only contracts of private functions cite them.
-use Rattle.std.specs.Prelude.{◌≡◌, ℕ, zero, suc, ◌+◌, ◌-◌, nat_eq, nat_lt, Bool, true, false, ◌||◌, ◌&&◌, not, if◌then◌else◌, List, [], ◌∷◌, ◌++◌, length, Option, Some, None, Result, Ok, Err}
+use Rattle.std.specs.Prelude.{ℕ, zero, suc, ◌+◌, ◌-◌, nat_eq, nat_lt, Bool, true, false, ◌||◌, ◌&&◌, not, if◌then◌else◌, List, [], ◌∷◌, ◌++◌, length, Option, Some, None, Ok, Err}
 use Rattle.sc_text.specs.declared.span.Span.{Span}
 use Rattle.secrec_lexer.specs.declared.sign.Sign.{Sign}
 use Rattle.secrec_lexer.specs.declared.sign.Sign.TheVariants as signs
@@ -7,8 +7,6 @@ use Rattle.secrec_lexer.specs.declared.token.Kind.{Kind}
 use Rattle.secrec_lexer.specs.declared.token.Kind.TheVariants as kinds
 use Rattle.secrec_lexer.specs.declared.token.Token.{Token}
 use Rattle.secrec_lexer.specs.Tokens.{is_sign, is_end}
-use Rattle.secrec_ast.specs.declared.expression.DataType.{DataType}
-use Rattle.secrec_ast.specs.declared.expression.DataType.TheVariants as types
 use Rattle.secrec_ast.specs.declared.expression.Operator.{Operator}
 use Rattle.secrec_ast.specs.declared.expression.Operator.TheVariants as operators
 use Rattle.secrec_ast.specs.declared.statement.Identifier.{Identifier}
@@ -19,17 +17,16 @@ use Rattle.secrec_ast.specs.declared.function.DomainVariable.{DomainVariable}
 use Rattle.secrec_ast.specs.declared.function.Parameter.{Parameter}
 use Rattle.secrec_ast.specs.declared.function.ResultType.{ResultType}
 use Rattle.secrec_ast.specs.declared.function.ResultType.TheVariants as results
-use Rattle.secrec_ast.specs.Tree.{Tree, number, truth, variable, call, index, parentheses, negation, cast, binary, declassify, argument, publish}
-use Rattle.secrec_ast.specs.Statements.{DeclarationTree, TargetTree, AssignmentTree, StartTree, starts_with_nothing, starts_with_declaration, starts_with_assignment, StepTree, steps_by_nothing, steps_by_assignment, steps_by_expression, StatementTree, StatementTrees, statements_of, block, empty, branch, choice, while_loop, do_loop, for_loop, breaks, continues, returns, assertion, declaration, assignment, evaluation}
+use Rattle.secrec_ast.specs.Tree.{Tree, number}
+use Rattle.secrec_ast.specs.Statements.{DeclarationTree, TargetTree, target_of, AssignmentTree, StartTree, starts_with_nothing, starts_with_declaration, starts_with_assignment, StepTree, steps_by_nothing, steps_by_assignment, steps_by_expression, StatementTree, statements_of, block, empty, branch, choice, while_loop, do_loop, for_loop, breaks, continues, returns, assertion, declaration, assignment, evaluation}
 use Rattle.secrec_ast.specs.Programs.{BlockTree, FunctionTree, ItemTree, imports, kind, domain, defines, ProgramTree}
 use Rattle.secrec_ast.specs.Heights.{target_height}
-use Rattle.expression_parser.specs.declared.problem.Problem.{Problem}
 use Rattle.expression_parser.specs.declared.problem.Problem.TheVariants.{Unexpected, TooHigh}
 use Rattle.secrec_parser.specs.declared.leader.Leader.{Leader}
 use Rattle.secrec_parser.specs.declared.leader.Leader.TheVariants as leaders
 use Rattle.secrec_parser.specs.declared.assignment.Update.{Update}
 use Rattle.secrec_parser.specs.declared.assignment.Update.TheVariants as updates
-use Rattle.expression_parser.specs.Steps.{Outcome, ◌>>=◌, expect, identifier, data_type, data_type_of, operator_at, at_most}
+use Rattle.expression_parser.specs.Steps.{Outcome, ◌>>=◌, expect, identifier, data_type, operator_at, at_most}
 use Rattle.expression_parser.specs.Grammar.{loosest}
 use Rattle.secrec_parser.specs.Sugar.{updated}
 
@@ -192,16 +189,6 @@ assignment_step room w = do
   i ← target_index room x.1
   assigned room (record { variable = x.0; index = i.0 }) i.1
 
--- an expression as a target
-abbrev pub element_target : Tree → Tree → Option TargetTree
-element_target (variable p x) i = Some (record { variable = record { place = p; text = x }; index = Some i })
-element_target other i = None
-
-abbrev pub target_of : Tree → Option TargetTree
-target_of (variable p x) = Some (record { variable = record { place = p; text = x }; index = None })
-target_of (index p a i) = element_target a i
-target_of other = None
-
 -- an assignment or an expression
 pub data ActionTree : Type 0 where
   assigns : AssignmentTree → ActionTree
@@ -293,13 +280,18 @@ while_step h inner p w = do
   s ← inner e.1
   Ok (while_loop p e.0 s.0, s.1)
 
+-- the test of a `do` with this body, and the signs around it
+unfoldable pub do_behind : ℕ → Span → StatementTree → List Token → Outcome StatementTree
+do_behind h p s w = do
+  a ← expect signs.While w
+  e ← parenthesised h a.1
+  b ← expect signs.Semicolon e.1
+  Ok (do_loop p s e.0, b.1)
+
 unfoldable pub do_step : ℕ → Inner → Span → List Token → Outcome StatementTree
 do_step h inner p w = do
   s ← inner w
-  a ← expect signs.While s.1
-  e ← parenthesised h a.1
-  b ← expect signs.Semicolon e.1
-  Ok (do_loop p s.0 e.0, b.1)
+  do_behind h p s.0 s.1
 
 -- whether a declaration begins here: with a type, or with a name and a type
 abbrev pub is_named_type : Kind → List Token → Bool
@@ -353,11 +345,14 @@ heading h w = do
   t ← last_part h e.1
   Ok ((s.0, e.0, t.0), t.1)
 
+abbrev pub headed : Span → StartTree × Option Tree × StepTree → StatementTree → StatementTree
+headed p f s = for_loop p f.0 f.1 f.2 s
+
 unfoldable pub for_step : ℕ → Inner → Span → List Token → Outcome StatementTree
 for_step h inner p w = do
   f ← heading h w
   s ← inner f.1
-  Ok (for_loop p f.0.0 f.0.1 f.0.2 s.0, s.1)
+  Ok (headed p f.0 s.0, s.1)
 
 unfoldable pub return_step : ℕ → Span → List Token → Outcome StatementTree
 return_step h p w = test_part h w >>= λ e. Ok (returns p e.0, e.1)
@@ -406,6 +401,14 @@ name_statement room w m =
     else if nat_eq room 1 then only_declares m
     else action_statement room w
 
+-- a statement that holds none and that a keyword or a semicolon leads, which stands at this place before the tokens
+abbrev pub short : Leader → ℕ → Span → List Token → Outcome StatementTree
+short leaders.Break room p m = expect signs.Semicolon m >>= λ b. Ok (breaks p, b.1)
+short leaders.Continue room p m = expect signs.Semicolon m >>= λ b. Ok (continues p, b.1)
+short leaders.Return room p m = return_step (room - 1) p m
+short leaders.Assert room p m = assert_step (room - 1) p m
+short other room p m = Ok (empty p, m)
+
 -- what a keyword, a brace or a semicolon leads, which stands at this place before the tokens
 unfoldable pub led : Leader → ℕ → (Bool → Inner) → Bool → Span → List Token → Outcome StatementTree
 led leaders.Block room lower inside p m = braced (lower inside) m >>= λ ss. Ok (block p (statements_of ss.0), ss.1)
@@ -413,11 +416,7 @@ led leaders.If room lower inside p m = if_step (room - 1) (lower inside) p m
 led leaders.While room lower inside p m = while_step (room - 1) (lower true) p m
 led leaders.DoWhile room lower inside p m = do_step (room - 1) (lower true) p m
 led leaders.For room lower inside p m = for_step (room - 1) (lower true) p m
-led leaders.Break room lower inside p m = expect signs.Semicolon m >>= λ b. Ok (breaks p, b.1)
-led leaders.Continue room lower inside p m = expect signs.Semicolon m >>= λ b. Ok (continues p, b.1)
-led leaders.Return room lower inside p m = return_step (room - 1) p m
-led leaders.Assert room lower inside p m = assert_step (room - 1) p m
-led other room lower inside p m = Ok (empty p, m)
+led other room lower inside p m = short other room p m
 
 abbrev pub statement_by : Leader → ℕ → (Bool → Inner) → Bool → Token → List Token → Outcome StatementTree
 statement_by leaders.Declaration room lower inside x m = declaration_statement (room - 1) (x ∷ m)

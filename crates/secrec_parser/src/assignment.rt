@@ -1,23 +1,22 @@
 // Assignments, and what may be one or an expression.
 
-ghost use Rattle.std.specs.Prelude.{◌≡◌, ◌<◌, ◌≤◌, length, IfOk, option_map};
+ghost use Rattle.std.specs.Prelude.{◌≡◌, ◌+◌, ◌<◌, ◌≤◌, length, IfOk};
 ghost use Rattle.secrec_ast.specs.Tree.{expression};
-ghost use Rattle.secrec_ast.specs.Statements.{assignment_tree, optional, target_tree};
+ghost use Rattle.secrec_ast.specs.Statements.{assignment_tree, optional, statement, step_tree, target_tree};
 ghost use Rattle.secrec_ast.specs.Heights.{height, optional_height, target_height};
 ghost use Rattle.secrec_parser.specs.Sugar.{held, updated};
-ghost use Rattle.secrec_parser.specs.Steps.{action, assigned, assignment_step, element_target, is_update, least_height, target_index, target_of, update_of, value_by};
-ghost use Rattle.expression_parser.specs.Given.{Gives};
-ghost use Rattle.secrec_parser.specs.Given.{action_tree};
+ghost use Rattle.secrec_parser.specs.Steps.{action, assigned, assignment_step, is_update, least_height, statement_of, step_of, target_index, update_of, value_by};
+ghost use Rattle.secrec_parser.specs.Given.{action_tree, Takes};
 
 use crate::declaration::operand;
 use crate::tokens::at_sign;
 use expression_parser::{Problem, Read, Stopped, expect, expression, identifier};
-use secrec_ast::{Assignment, Expression, Identifier, Operator, Target};
+use secrec_ast::{Assignment, Expression, ForStep, Operator, Statement, Target};
 use secrec_lexer::{Sign, Token};
 use std::alloc::{AllocError, Global};
 
 /// What an assignment does to its target.
-#[derive(Clone, Copy, PartialEq, Eq)]
+#[derive(Clone, Copy)]
 pub enum Update {
     /// `=`
     Plain,
@@ -28,10 +27,40 @@ pub enum Update {
 }
 
 /// An assignment or an expression.
-#[derive(Drop)]
 pub enum Action {
     Assignment(Assignment),
     Expression(Expression),
+}
+
+// Written out, so that an early exit calls it.
+impl Drop for Action {
+    fn drop(self) {
+        match self {
+            Action::Assignment(_) | Action::Expression(_) => {}
+        }
+    }
+}
+
+impl Action {
+    /// The same as a statement.
+    pub fn into_statement(self) -> Statement
+        ensures { statement result ≡ statement_of (action_tree self) }
+    {
+        match self {
+            Action::Assignment(found) => Statement::Assignment(found),
+            Action::Expression(found) => Statement::Expression(found),
+        }
+    }
+
+    /// The same as the third part of a `for`.
+    pub fn into_step(self) -> ForStep
+        ensures { step_tree result ≡ step_of (action_tree self) }
+    {
+        match self {
+            Action::Assignment(found) => ForStep::Assignment(found),
+            Action::Expression(found) => ForStep::Expression(found),
+        }
+    }
 }
 
 /// What a token does to a target, if it assigns.
@@ -125,8 +154,7 @@ fn value_by<'a>(
     room: u8,
 ) -> Read<'a, Expression>
     requires { 2 ≤ room }
-    ensures step { Gives (λ x. (expression x.0, x.1.now)) result (value_by room (target_tree target.now) update tokens.now) }
-    ensures shorter { IfOk result (λ x. length x.1.now ≤ length tokens.now) }
+    ensures { Takes (λ x. (expression x.0, x.1.now)) result (value_by room (target_tree target.now) update tokens.now) (length tokens.now + 1) }
 {
     match update {
         Update::Plain => operand(alloc, tokens, room - 1),
@@ -150,8 +178,7 @@ fn assigned<'a>(
     room: u8,
 ) -> Read<'a, Assignment>
     requires { height ≡ target_height (target_tree target) }
-    ensures step { Gives (λ x. (assignment_tree x.0, x.1.now)) result (assigned room (target_tree target) tokens.now) }
-    ensures shorter { IfOk result (λ x. length x.1.now < length tokens.now) }
+    ensures { Takes (λ x. (assignment_tree x.0, x.1.now)) result (assigned room (target_tree target) tokens.now) (length tokens.now) }
 {
     let Some((token, rest)) = tokens.split_first() else {
         return Err(Stopped::At(Problem::Unexpected, tokens));
@@ -172,9 +199,8 @@ fn target_index<'a>(
     tokens: &'a [Token],
     room: u8,
 ) -> Read<'a, (Option<Expression>, u8)>
-    ensures step { Gives (λ x. (optional x.0.0, x.1.now)) result (target_index room tokens.now) }
+    ensures step { Takes (λ x. (optional x.0.0, x.1.now)) result (target_index room tokens.now) (length tokens.now + 1) }
     ensures height { IfOk result (λ x. (x.0.1 ≡ optional_height (optional x.0.0)) × (x.0.1 < 255)) }
-    ensures shorter { IfOk result (λ x. length x.1.now ≤ length tokens.now) }
 {
     if !at_sign(Sign::LeftBracket, tokens) {
         return Ok(((None, 0), tokens));
@@ -191,41 +217,11 @@ fn target_index<'a>(
 /// An assignment of at most this height.
 #[tactic(auto, unfolding(crate::specs::Steps::assignment_step))]
 pub fn assignment<'a>(alloc: Global, tokens: &'a [Token], room: u8) -> Read<'a, Assignment>
-    ensures step { Gives (λ x. (assignment_tree x.0, x.1.now)) result (assignment_step room tokens.now) }
-    ensures shorter { IfOk result (λ x. length x.1.now < length tokens.now) }
+    ensures { Takes (λ x. (assignment_tree x.0, x.1.now)) result (assignment_step room tokens.now) (length tokens.now) }
 {
     let (variable, rest) = identifier(alloc, tokens)?;
     let ((index, height), rest) = target_index(alloc, rest, room)?;
     assigned(alloc, Target { variable, index }, height + 1, rest, room)
-}
-
-fn element_target(array: Expression, index: Expression) -> Option<Target>
-    ensures { option_map target_tree result ≡ element_target (expression array) (expression index) }
-{
-    match array {
-        Expression::Variable(place, text) => Some(Target {
-            variable: Identifier { place, text },
-            index: Some(index),
-        }),
-        _ => None,
-    }
-}
-
-/// An expression as a target, if it may be one.
-fn target_of(found: Expression) -> Option<Target>
-    ensures { option_map target_tree result ≡ target_of (expression found) }
-{
-    match found {
-        Expression::Variable(place, text) => Some(Target {
-            variable: Identifier { place, text },
-            index: None,
-        }),
-        Expression::Index(_, array, index) => element_target(
-            Box::into_inner(array),
-            Box::into_inner(index),
-        ),
-        _ => None,
-    }
 }
 
 /// An expression of at most the first height, or an assignment of at most the second.
@@ -236,15 +232,14 @@ pub fn assignment_or_expression<'a>(
     expression_room: u8,
     room: u8,
 ) -> Read<'a, Action>
-    ensures step { Gives (λ x. (action_tree x.0, x.1.now)) result (action expression_room room tokens.now) }
-    ensures shorter { IfOk result (λ x. length x.1.now < length tokens.now) }
+    ensures { Takes (λ x. (action_tree x.0, x.1.now)) result (action expression_room room tokens.now) (length tokens.now) }
 {
     let (parsed, rest) = expression(alloc, tokens, expression_room)?;
     if !is_update(rest) {
         return Ok((Action::Expression(parsed.tree), rest));
     }
     let height = parsed.height;
-    let Some(target) = target_of(parsed.tree) else {
+    let Some(target) = parsed.tree.into_target() else {
         return Err(Stopped::At(Problem::Unexpected, rest));
     };
     let (assignment, rest) = assigned(alloc, target, height, rest, room)?;

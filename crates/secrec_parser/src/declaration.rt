@@ -1,22 +1,21 @@
 // Expressions in their places, and declarations.
 
-ghost use Rattle.std.specs.Prelude.{◌≡◌, ◌<◌, ◌≤◌, length, IfOk};
+ghost use Rattle.std.specs.Prelude.{◌≡◌, ◌+◌, length};
 ghost use Rattle.secrec_ast.specs.Tree.{expression};
 ghost use Rattle.secrec_ast.specs.Statements.{optional, declaration_tree};
-ghost use Rattle.secrec_parser.specs.Steps.{declaration_step, initialiser, operand, optional_operand, parenthesised, size};
-ghost use Rattle.expression_parser.specs.Given.{Gives};
+ghost use Rattle.secrec_parser.specs.Steps.{declaration_step, initialiser, operand, parenthesised, size};
+ghost use Rattle.secrec_parser.specs.Given.{Takes};
 
 use crate::tokens::at_sign;
 use crate::types::declared_type;
-use expression_parser::{Problem, Read, Stopped, expect, expression, identifier};
+use expression_parser::{Problem, Read, Stopped, closed, expect, expression, identifier};
 use secrec_ast::{Declaration, Expression};
 use secrec_lexer::{Sign, Token};
 use std::alloc::Global;
 
 /// An expression of at most this height.
 pub fn operand<'a>(alloc: Global, tokens: &'a [Token], room: u8) -> Read<'a, Expression>
-    ensures step { Gives (λ x. (expression x.0, x.1.now)) result (operand room tokens.now) }
-    ensures shorter { IfOk result (λ x. length x.1.now < length tokens.now) }
+    ensures { Takes (λ x. (expression x.0, x.1.now)) result (operand room tokens.now) (length tokens.now) }
 {
     let (parsed, rest) = expression(alloc, tokens, room)?;
     Ok((parsed.tree, rest))
@@ -24,35 +23,16 @@ pub fn operand<'a>(alloc: Global, tokens: &'a [Token], room: u8) -> Read<'a, Exp
 
 /// An expression in parentheses, without a node for them.
 pub fn parenthesised<'a>(alloc: Global, tokens: &'a [Token], room: u8) -> Read<'a, Expression>
-    ensures step { Gives (λ x. (expression x.0, x.1.now)) result (parenthesised room tokens.now) }
-    ensures shorter { IfOk result (λ x. length x.1.now < length tokens.now) }
+    ensures { Takes (λ x. (expression x.0, x.1.now)) result (parenthesised room tokens.now) (length tokens.now) }
 {
     let (_, rest) = expect(Sign::LeftParenthesis, tokens)?;
     let (found, rest) = operand(alloc, rest, room)?;
-    let (_, rest) = expect(Sign::RightParenthesis, rest)?;
-    Ok((found, rest))
-}
-
-/// An expression, or nothing before a semicolon.
-pub fn optional_operand<'a>(
-    alloc: Global,
-    tokens: &'a [Token],
-    room: u8,
-) -> Read<'a, Option<Expression>>
-    ensures step { Gives (λ x. (optional x.0, x.1.now)) result (optional_operand room tokens.now) }
-    ensures shorter { IfOk result (λ x. length x.1.now ≤ length tokens.now) }
-{
-    if at_sign(Sign::Semicolon, tokens) {
-        return Ok((None, tokens));
-    }
-    let (found, rest) = operand(alloc, tokens, room)?;
-    Ok((Some(found), rest))
+    closed(found, expect(Sign::RightParenthesis, rest))
 }
 
 /// The size of an array that is declared, in parentheses, if there is one.
 fn size<'a>(alloc: Global, tokens: &'a [Token], room: u8) -> Read<'a, Option<Expression>>
-    ensures step { Gives (λ x. (optional x.0, x.1.now)) result (size room tokens.now) }
-    ensures shorter { IfOk result (λ x. length x.1.now ≤ length tokens.now) }
+    ensures { Takes (λ x. (optional x.0, x.1.now)) result (size room tokens.now) (length tokens.now + 1) }
 {
     if !at_sign(Sign::LeftParenthesis, tokens) {
         return Ok((None, tokens));
@@ -66,8 +46,7 @@ fn size<'a>(alloc: Global, tokens: &'a [Token], room: u8) -> Read<'a, Option<Exp
 
 /// The first value of a variable, if there is one.
 fn initialiser<'a>(alloc: Global, tokens: &'a [Token], room: u8) -> Read<'a, Option<Expression>>
-    ensures step { Gives (λ x. (optional x.0, x.1.now)) result (initialiser room tokens.now) }
-    ensures shorter { IfOk result (λ x. length x.1.now ≤ length tokens.now) }
+    ensures { Takes (λ x. (optional x.0, x.1.now)) result (initialiser room tokens.now) (length tokens.now + 1) }
 {
     if !at_sign(Sign::Assign, tokens) {
         return Ok((None, tokens));
@@ -83,8 +62,7 @@ fn initialiser<'a>(alloc: Global, tokens: &'a [Token], room: u8) -> Read<'a, Opt
 /// A declaration whose size and value are of at most this height.
 #[tactic(auto, unfolding(crate::specs::Steps::declaration_step))]
 pub fn declaration<'a>(alloc: Global, tokens: &'a [Token], room: u8) -> Read<'a, Declaration>
-    ensures step { Gives (λ x. (declaration_tree x.0, x.1.now)) result (declaration_step room tokens.now) }
-    ensures shorter { IfOk result (λ x. length x.1.now < length tokens.now) }
+    ensures { Takes (λ x. (declaration_tree x.0, x.1.now)) result (declaration_step room tokens.now) (length tokens.now) }
 {
     let (declared, rest) = declared_type(alloc, tokens)?;
     let (variable, rest) = identifier(alloc, rest)?;

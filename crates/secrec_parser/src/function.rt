@@ -1,14 +1,14 @@
 // Functions.
 
-ghost use Rattle.std.specs.Prelude.{◌≡◌, ◌<◌, ◌≤◌, [], ◌∷◌, length, map, IfOk};
+ghost use Rattle.std.specs.Prelude.{◌≡◌, ◌+◌, [], ◌∷◌, length, map};
 ghost use Rattle.secrec_ast.specs.Programs.{block_tree, function_tree};
 ghost use Rattle.secrec_parser.specs.Steps.{body, comma_then, constraint, domain_variable, function_step, listed, no_comma, no_more_variables, parameter, parameter_list, parameters, result_type, template};
-ghost use Rattle.expression_parser.specs.Given.{Gives};
+ghost use Rattle.secrec_parser.specs.Given.{Takes};
 
 use crate::statement::braced;
 use crate::tokens::at_sign;
 use crate::types::declared_type;
-use expression_parser::{Read, expect, identifier};
+use expression_parser::{Read, closed, expect, identifier};
 use secrec_ast::{Block, DomainVariable, Function, Identifier, Parameter, ResultType};
 use secrec_lexer::{Sign, Token};
 use std::alloc::Global;
@@ -18,8 +18,7 @@ const MOST_VARIABLES: usize = 4;
 
 /// The kind that a domain variable is bound to a domain of, if there is one.
 fn constraint<'a>(alloc: Global, tokens: &'a [Token]) -> Read<'a, Option<Identifier>>
-    ensures step { Gives (λ x. (x.0, x.1.now)) result (constraint tokens.now) }
-    ensures shorter { IfOk result (λ x. length x.1.now ≤ length tokens.now) }
+    ensures { Takes (λ x. (x.0, x.1.now)) result (constraint tokens.now) (length tokens.now + 1) }
 {
     if !at_sign(Sign::Colon, tokens) {
         return Ok((None, tokens));
@@ -31,8 +30,7 @@ fn constraint<'a>(alloc: Global, tokens: &'a [Token]) -> Read<'a, Option<Identif
 
 #[tactic(auto, unfolding(crate::specs::Steps::domain_variable))]
 fn domain_variable<'a>(alloc: Global, tokens: &'a [Token]) -> Read<'a, DomainVariable>
-    ensures step { Gives (λ x. (x.0, x.1.now)) result (domain_variable tokens.now) }
-    ensures shorter { IfOk result (λ x. length x.1.now < length tokens.now) }
+    ensures { Takes (λ x. (x.0, x.1.now)) result (domain_variable tokens.now) (length tokens.now) }
 {
     let (_, rest) = expect(Sign::Domain, tokens)?;
     let (variable, rest) = identifier(alloc, rest)?;
@@ -46,8 +44,7 @@ fn more_variables<'a>(
     first: DomainVariable,
     tokens: &'a [Token],
 ) -> Read<'a, Vec<DomainVariable>>
-    ensures step { Gives (λ x. (x.0.items, x.1.now)) result (listed no_more_variables (comma_then domain_variable) (first ∷ []) tokens.now) }
-    ensures shorter { IfOk result (λ x. length x.1.now ≤ length tokens.now) }
+    ensures { Takes (λ x. (x.0.items, x.1.now)) result (listed no_more_variables (comma_then domain_variable) (first ∷ []) tokens.now) (length tokens.now + 1) }
 {
     let mut found = Vec::new(alloc);
     found.push(first)?;
@@ -64,8 +61,7 @@ fn more_variables<'a>(
 /// The domain variables of a function; none where it is no template.
 #[tactic(auto, unfolding(crate::specs::Steps::template))]
 fn template<'a>(alloc: Global, tokens: &'a [Token]) -> Read<'a, Vec<DomainVariable>>
-    ensures step { Gives (λ x. (x.0.items, x.1.now)) result (template tokens.now) }
-    ensures shorter { IfOk result (λ x. length x.1.now ≤ length tokens.now) }
+    ensures { Takes (λ x. (x.0.items, x.1.now)) result (template tokens.now) (length tokens.now + 1) }
 {
     if !at_sign(Sign::Template, tokens) {
         return Ok((Vec::new(alloc), tokens));
@@ -74,14 +70,12 @@ fn template<'a>(alloc: Global, tokens: &'a [Token]) -> Read<'a, Vec<DomainVariab
     let (_, rest) = expect(Sign::Less, rest)?;
     let (first, rest) = domain_variable(alloc, rest)?;
     let (variables, rest) = more_variables(alloc, first, rest)?;
-    let (_, rest) = expect(Sign::Greater, rest)?;
-    Ok((variables, rest))
+    closed(variables, expect(Sign::Greater, rest))
 }
 
 #[tactic(auto, unfolding(crate::specs::Steps::result_type))]
 fn result_type<'a>(alloc: Global, tokens: &'a [Token]) -> Read<'a, ResultType>
-    ensures step { Gives (λ x. (x.0, x.1.now)) result (result_type tokens.now) }
-    ensures shorter { IfOk result (λ x. length x.1.now < length tokens.now) }
+    ensures { Takes (λ x. (x.0, x.1.now)) result (result_type tokens.now) (length tokens.now) }
 {
     if at_sign(Sign::Void, tokens) {
         let (_, rest) = expect(Sign::Void, tokens)?;
@@ -94,8 +88,7 @@ fn result_type<'a>(alloc: Global, tokens: &'a [Token]) -> Read<'a, ResultType>
 
 #[tactic(auto, unfolding(crate::specs::Steps::parameter))]
 fn parameter<'a>(alloc: Global, tokens: &'a [Token]) -> Read<'a, Parameter>
-    ensures step { Gives (λ x. (x.0, x.1.now)) result (parameter tokens.now) }
-    ensures shorter { IfOk result (λ x. length x.1.now < length tokens.now) }
+    ensures { Takes (λ x. (x.0, x.1.now)) result (parameter tokens.now) (length tokens.now) }
 {
     let (declared, rest) = declared_type(alloc, tokens)?;
     let (variable, rest) = identifier(alloc, rest)?;
@@ -108,8 +101,7 @@ fn more_parameters<'a>(
     first: Parameter,
     tokens: &'a [Token],
 ) -> Read<'a, Vec<Parameter>>
-    ensures step { Gives (λ x. (x.0.items, x.1.now)) result (listed no_comma (comma_then parameter) (first ∷ []) tokens.now) }
-    ensures shorter { IfOk result (λ x. length x.1.now ≤ length tokens.now) }
+    ensures { Takes (λ x. (x.0.items, x.1.now)) result (listed no_comma (comma_then parameter) (first ∷ []) tokens.now) (length tokens.now + 1) }
 {
     let mut found = Vec::new(alloc);
     found.push(first)?;
@@ -125,8 +117,7 @@ fn more_parameters<'a>(
 
 #[tactic(auto, unfolding(crate::specs::Steps::parameters))]
 fn parameters<'a>(alloc: Global, tokens: &'a [Token]) -> Read<'a, Vec<Parameter>>
-    ensures step { Gives (λ x. (x.0.items, x.1.now)) result (parameters tokens.now) }
-    ensures shorter { IfOk result (λ x. length x.1.now ≤ length tokens.now) }
+    ensures { Takes (λ x. (x.0.items, x.1.now)) result (parameters tokens.now) (length tokens.now + 1) }
 {
     if at_sign(Sign::RightParenthesis, tokens) {
         return Ok((Vec::new(alloc), tokens));
@@ -138,20 +129,17 @@ fn parameters<'a>(alloc: Global, tokens: &'a [Token]) -> Read<'a, Vec<Parameter>
 /// The parameters of a function, in their parentheses.
 #[tactic(auto, unfolding(crate::specs::Steps::parameter_list))]
 fn parameter_list<'a>(alloc: Global, tokens: &'a [Token]) -> Read<'a, Vec<Parameter>>
-    ensures step { Gives (λ x. (x.0.items, x.1.now)) result (parameter_list tokens.now) }
-    ensures shorter { IfOk result (λ x. length x.1.now < length tokens.now) }
+    ensures { Takes (λ x. (x.0.items, x.1.now)) result (parameter_list tokens.now) (length tokens.now) }
 {
     let (_, rest) = expect(Sign::LeftParenthesis, tokens)?;
     let (found, rest) = parameters(alloc, rest)?;
-    let (_, rest) = expect(Sign::RightParenthesis, rest)?;
-    Ok((found, rest))
+    closed(found, expect(Sign::RightParenthesis, rest))
 }
 
 /// A function's body; room is the greatest height of its statements.
 #[tactic(auto, unfolding(crate::specs::Steps::body))]
 fn body<'a>(alloc: Global, tokens: &'a [Token], room: u8) -> Read<'a, Block>
-    ensures step { Gives (λ x. (block_tree x.0, x.1.now)) result (body room tokens.now) }
-    ensures shorter { IfOk result (λ x. length x.1.now < length tokens.now) }
+    ensures { Takes (λ x. (block_tree x.0, x.1.now)) result (body room tokens.now) (length tokens.now) }
 {
     let (place, rest) = expect(Sign::LeftBrace, tokens)?;
     let (statements, rest) = braced(alloc, rest, room, false)?;
@@ -160,8 +148,7 @@ fn body<'a>(alloc: Global, tokens: &'a [Token], room: u8) -> Read<'a, Block>
 
 #[tactic(auto, unfolding(crate::specs::Steps::function_step))]
 pub fn function<'a>(alloc: Global, tokens: &'a [Token], room: u8) -> Read<'a, Function>
-    ensures step { Gives (λ x. (function_tree x.0, x.1.now)) result (function_step room tokens.now) }
-    ensures shorter { IfOk result (λ x. length x.1.now < length tokens.now) }
+    ensures { Takes (λ x. (function_tree x.0, x.1.now)) result (function_step room tokens.now) (length tokens.now) }
 {
     let (variables, rest) = template(alloc, tokens)?;
     let (result, rest) = result_type(alloc, rest)?;

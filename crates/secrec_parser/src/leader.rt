@@ -6,7 +6,7 @@ ghost use Rattle.secrec_parser.specs.Steps.{leader_of, least, is_type, name_lead
 use secrec_lexer::{Kind, Sign, Token};
 
 /// What a statement is, as far as its first token tells.
-#[derive(Clone, Copy, PartialEq, Eq)]
+#[derive(Clone, Copy)]
 pub enum Leader {
     Block,
     Empty,

@@ -2,7 +2,7 @@ use expression_parser::Problem;
 use sc_text::Span;
 
 /// Why there is no program.
-#[derive(Clone, Copy, PartialEq, Eq)]
+#[derive(Clone, Copy)]
 pub enum ParseErr {
     /// Memory ran short.
     Memory,

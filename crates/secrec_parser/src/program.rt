@@ -1,44 +1,40 @@
 // Programs.
 
-ghost use Rattle.std.specs.Prelude.{◌≡◌, ◌<◌, ◌≤◌, [], length, map, IfOk};
+ghost use Rattle.std.specs.Prelude.{◌≡◌, [], length, map};
 ghost use Rattle.secrec_ast.specs.Programs.{item_tree, program_tree};
 ghost use Rattle.secrec_parser.specs.Steps.{at_end, domain_item, item, item_step, listed, named, program};
 ghost use Rattle.expression_parser.specs.Given.{Gives};
+ghost use Rattle.secrec_parser.specs.Given.{Takes};
 
 use crate::function::function;
 use crate::tokens::{at_end, place_at};
-use expression_parser::{Problem, Read, Stopped, expect, identifier};
+use expression_parser::{Problem, Read, Stopped, closed, expect, identifier};
 use secrec_ast::{Identifier, Item, Program};
 use secrec_lexer::{Sign, Token};
 use std::alloc::Global;
 
 /// A name and a semicolon.
 fn named<'a>(alloc: Global, tokens: &'a [Token]) -> Read<'a, Identifier>
-    ensures step { Gives (λ x. (x.0, x.1.now)) result (named tokens.now) }
-    ensures shorter { IfOk result (λ x. length x.1.now < length tokens.now) }
+    ensures { Takes (λ x. (x.0, x.1.now)) result (named tokens.now) (length tokens.now) }
 {
     let (name, rest) = identifier(alloc, tokens)?;
-    let (_, rest) = expect(Sign::Semicolon, rest)?;
-    Ok((name, rest))
+    closed(name, expect(Sign::Semicolon, rest))
 }
 
 /// A domain and its kind, behind the keyword.
 #[tactic(auto, unfolding(crate::specs::Steps::domain_item))]
 fn domain<'a>(alloc: Global, tokens: &'a [Token]) -> Read<'a, Item>
-    ensures step { Gives (λ x. (item_tree x.0, x.1.now)) result (domain_item tokens.now) }
-    ensures shorter { IfOk result (λ x. length x.1.now < length tokens.now) }
+    ensures { Takes (λ x. (item_tree x.0, x.1.now)) result (domain_item tokens.now) (length tokens.now) }
 {
     let (domain, rest) = identifier(alloc, tokens)?;
     let (kind, rest) = identifier(alloc, rest)?;
-    let (_, rest) = expect(Sign::Semicolon, rest)?;
-    Ok((Item::Domain(domain, kind), rest))
+    closed(Item::Domain(domain, kind), expect(Sign::Semicolon, rest))
 }
 
 /// A part of a program; room is the greatest height of the statements of functions.
 #[tactic(auto, unfolding(crate::specs::Steps::item))]
 fn item<'a>(alloc: Global, tokens: &'a [Token], room: u8) -> Read<'a, Item>
-    ensures step { Gives (λ x. (item_tree x.0, x.1.now)) result (item room tokens.now) }
-    ensures shorter { IfOk result (λ x. length x.1.now < length tokens.now) }
+    ensures { Takes (λ x. (item_tree x.0, x.1.now)) result (item room tokens.now) (length tokens.now) }
 {
     let Some((token, rest)) = tokens.split_first() else {
         return Err(Stopped::At(Problem::Unexpected, tokens));

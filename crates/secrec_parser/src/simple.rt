@@ -1,16 +1,15 @@
 // Statements that hold no statement, and the heading of a `for`.
 
-ghost use Rattle.std.specs.Prelude.{◌≡◌, ◌<◌, ◌≤◌, length, IfOk};
+ghost use Rattle.std.specs.Prelude.{◌≡◌, ◌+◌, ◌<◌, ◌≤◌, length, Err};
 ghost use Rattle.secrec_ast.specs.Statements.{optional, start_tree, statement, step_tree};
-ghost use Rattle.secrec_parser.specs.Steps.{action_statement, assert_step, declaration_statement, declares, follows_name, heading, last_part, last_step, name_statement, only_declares, return_step, start_part, start_step, test_part};
-ghost use Rattle.expression_parser.specs.Given.{Gives};
-ghost use Rattle.secrec_parser.specs.Given.{heading_parts};
+ghost use Rattle.secrec_parser.specs.Steps.{action_statement, assert_step, declaration_statement, declares, do_behind, follows_name, headed, heading, last_part, last_step, least, name_statement, only_declares, return_step, short, start_part, start_step, test_part};
+ghost use Rattle.secrec_parser.specs.Given.{heading_parts, Takes};
 
-use crate::assignment::{Action, assignment, assignment_or_expression, update_of};
-use crate::declaration::{declaration, optional_operand, parenthesised};
-use crate::leader::is_type;
+use crate::assignment::{assignment, assignment_or_expression, update_of};
+use crate::declaration::{declaration, operand, parenthesised};
+use crate::leader::{Leader, is_type};
 use crate::tokens::{at_sign, operator_of};
-use expression_parser::{Problem, Read, Stopped, expect};
+use expression_parser::{Problem, Read, Stopped, closed, expect};
 use sc_text::Span;
 use secrec_ast::{Expression, ForStart, ForStep, Statement};
 use secrec_lexer::{Kind, Sign, Token};
@@ -45,26 +44,19 @@ pub fn declaration_statement<'a>(
     tokens: &'a [Token],
     room: u8,
 ) -> Read<'a, Statement>
-    ensures step { Gives (λ x. (statement x.0, x.1.now)) result (declaration_statement room tokens.now) }
-    ensures shorter { IfOk result (λ x. length x.1.now < length tokens.now) }
+    ensures { Takes (λ x. (statement x.0, x.1.now)) result (declaration_statement room tokens.now) (length tokens.now) }
 {
     let (found, rest) = declaration(alloc, tokens, room)?;
-    let (_, rest) = expect(Sign::Semicolon, rest)?;
-    Ok((Statement::Declaration(found), rest))
+    closed(Statement::Declaration(found), expect(Sign::Semicolon, rest))
 }
 
 /// An assignment or an expression, and its semicolon.
 #[tactic(auto, unfolding(crate::specs::Steps::action_statement))]
 pub fn action_statement<'a>(alloc: Global, tokens: &'a [Token], room: u8) -> Read<'a, Statement>
-    ensures step { Gives (λ x. (statement x.0, x.1.now)) result (action_statement room tokens.now) }
-    ensures shorter { IfOk result (λ x. length x.1.now < length tokens.now) }
+    ensures { Takes (λ x. (statement x.0, x.1.now)) result (action_statement room tokens.now) (length tokens.now) }
 {
     let (action, rest) = assignment_or_expression(alloc, tokens, room.saturating_sub(1), room)?;
-    let (_, rest) = expect(Sign::Semicolon, rest)?;
-    match action {
-        Action::Assignment(found) => Ok((Statement::Assignment(found), rest)),
-        Action::Expression(found) => Ok((Statement::Expression(found), rest)),
-    }
+    closed(action.into_statement(), expect(Sign::Semicolon, rest))
 }
 
 /// Whether a token goes on with an assignment or an expression behind a name.
@@ -78,18 +70,17 @@ fn follows_name(token: &Token) -> bool
         || operator_of(token).is_some()
 }
 
-/// Behind a name where a declaration alone has room, and none stands.
-fn only_declares<'a>(tokens: &'a [Token]) -> Read<'a, Statement>
-    ensures step { Gives (λ x. (statement x.0, x.1.now)) result (only_declares tokens.now) }
-    ensures shorter { IfOk result (λ x. length x.1.now < length tokens.now) }
+/// What is wrong behind a name where a declaration alone has room, and none stands.
+fn fault_behind_name(tokens: &[Token]) -> Problem
+    ensures { only_declares tokens.now ≡ Err (result, tokens.now) }
 {
     let Some((token, _)) = tokens.split_first() else {
-        return Err(Stopped::At(Problem::Unexpected, tokens));
+        return Problem::Unexpected;
     };
     if follows_name(token) {
-        Err(Stopped::At(Problem::TooHigh, tokens))
+        Problem::TooHigh
     } else {
-        Err(Stopped::At(Problem::Unexpected, tokens))
+        Problem::Unexpected
     }
 }
 
@@ -103,13 +94,12 @@ pub fn name_statement<'a>(
 ) -> Read<'a, Statement>
     requires room { 1 ≤ room }
     requires rest { length rest.now < length tokens.now }
-    ensures step { Gives (λ x. (statement x.0, x.1.now)) result (name_statement room tokens.now rest.now) }
-    ensures shorter { IfOk result (λ x. length x.1.now < length tokens.now) }
+    ensures { Takes (λ x. (statement x.0, x.1.now)) result (name_statement room tokens.now rest.now) (length tokens.now) }
 {
     if declares(tokens) {
         declaration_statement(alloc, tokens, room - 1)
     } else if room == 1 {
-        only_declares(rest)
+        Err(Stopped::At(fault_behind_name(rest), rest))
     } else {
         action_statement(alloc, tokens, room)
     }
@@ -118,49 +108,69 @@ pub fn name_statement<'a>(
 /// An expression if there is one, and its semicolon.
 #[tactic(auto, unfolding(crate::specs::Steps::test_part))]
 fn optional_part<'a>(alloc: Global, tokens: &'a [Token], room: u8) -> Read<'a, Option<Expression>>
-    ensures step { Gives (λ x. (optional x.0, x.1.now)) result (test_part room tokens.now) }
-    ensures shorter { IfOk result (λ x. length x.1.now < length tokens.now) }
+    ensures { Takes (λ x. (optional x.0, x.1.now)) result (test_part room tokens.now) (length tokens.now) }
 {
-    let (found, rest) = optional_operand(alloc, tokens, room)?;
-    let (_, rest) = expect(Sign::Semicolon, rest)?;
-    Ok((found, rest))
+    if at_sign(Sign::Semicolon, tokens) {
+        return closed(None, expect(Sign::Semicolon, tokens));
+    }
+    let (found, rest) = operand(alloc, tokens, room)?;
+    closed(Some(found), expect(Sign::Semicolon, rest))
 }
 
-#[tactic(auto, unfolding(crate::specs::Steps::return_step))]
-pub fn return_statement<'a>(
+/// A statement that holds no statement and that a keyword or a semicolon led, which stands before the tokens.
+#[tactic(auto, unfolding(crate::specs::Steps::return_step, crate::specs::Steps::assert_step))]
+pub fn short_statement<'a>(
     alloc: Global,
+    leader: Leader,
     place: Span,
     tokens: &'a [Token],
     room: u8,
 ) -> Read<'a, Statement>
-    ensures step { Gives (λ x. (statement x.0, x.1.now)) result (return_step room place tokens.now) }
-    ensures shorter { IfOk result (λ x. length x.1.now < length tokens.now) }
+    requires { least leader ≤ room }
+    ensures { Takes (λ x. (statement x.0, x.1.now)) result (short leader room place tokens.now) (length tokens.now + 1) }
 {
-    let (value, rest) = optional_part(alloc, tokens, room)?;
-    Ok((Statement::Return(place, value), rest))
+    match leader {
+        Leader::Break => closed(Statement::Break(place), expect(Sign::Semicolon, tokens)),
+        Leader::Continue => closed(Statement::Continue(place), expect(Sign::Semicolon, tokens)),
+        Leader::Return => {
+            let (value, rest) = optional_part(alloc, tokens, room - 1)?;
+            Ok((Statement::Return(place, value), rest))
+        }
+        Leader::Assert => {
+            let (test, rest) = parenthesised(alloc, tokens, room - 1)?;
+            closed(
+                Statement::Assert(place, test),
+                expect(Sign::Semicolon, rest),
+            )
+        }
+        _ => Ok((Statement::Empty(place), tokens)),
+    }
 }
 
-#[tactic(auto, unfolding(crate::specs::Steps::assert_step))]
-pub fn assert_statement<'a>(
+/// The test of a `do` with this body, and the signs around it.
+#[tactic(auto, unfolding(crate::specs::Steps::do_behind))]
+pub fn do_test<'a>(
     alloc: Global,
     place: Span,
+    body: Box<Statement>,
     tokens: &'a [Token],
     room: u8,
 ) -> Read<'a, Statement>
-    ensures step { Gives (λ x. (statement x.0, x.1.now)) result (assert_step room place tokens.now) }
-    ensures shorter { IfOk result (λ x. length x.1.now < length tokens.now) }
+    ensures { Takes (λ x. (statement x.0, x.1.now)) result (do_behind room place (statement body.value) tokens.now) (length tokens.now) }
 {
-    let (test, rest) = parenthesised(alloc, tokens, room)?;
-    let (_, rest) = expect(Sign::Semicolon, rest)?;
-    Ok((Statement::Assert(place, test), rest))
+    let (_, rest) = expect(Sign::While, tokens)?;
+    let (test, rest) = parenthesised(alloc, rest, room)?;
+    closed(
+        Statement::DoWhile(place, body, test),
+        expect(Sign::Semicolon, rest),
+    )
 }
 
 /// The first part of a `for`, up to its semicolon.
 #[tactic(auto, unfolding(crate::specs::Steps::start_step))]
 fn start<'a>(alloc: Global, tokens: &'a [Token], room: u8) -> Read<'a, ForStart>
     requires { 1 ≤ room }
-    ensures step { Gives (λ x. (start_tree x.0, x.1.now)) result (start_step room tokens.now) }
-    ensures shorter { IfOk result (λ x. length x.1.now ≤ length tokens.now) }
+    ensures { Takes (λ x. (start_tree x.0, x.1.now)) result (start_step room tokens.now) (length tokens.now + 1) }
 {
     if at_sign(Sign::Semicolon, tokens) {
         Ok((ForStart::Nothing, tokens))
@@ -176,57 +186,70 @@ fn start<'a>(alloc: Global, tokens: &'a [Token], room: u8) -> Read<'a, ForStart>
 /// The third part of a `for`, up to its parenthesis.
 #[tactic(auto, unfolding(crate::specs::Steps::last_step))]
 fn last<'a>(alloc: Global, tokens: &'a [Token], room: u8) -> Read<'a, ForStep>
-    ensures step { Gives (λ x. (step_tree x.0, x.1.now)) result (last_step room tokens.now) }
-    ensures shorter { IfOk result (λ x. length x.1.now ≤ length tokens.now) }
+    ensures { Takes (λ x. (step_tree x.0, x.1.now)) result (last_step room tokens.now) (length tokens.now + 1) }
 {
     if at_sign(Sign::RightParenthesis, tokens) {
         return Ok((ForStep::Nothing, tokens));
     }
     let (action, rest) = assignment_or_expression(alloc, tokens, room, room)?;
-    match action {
-        Action::Assignment(found) => Ok((ForStep::Assignment(found), rest)),
-        Action::Expression(found) => Ok((ForStep::Expression(found), rest)),
-    }
+    Ok((action.into_step(), rest))
 }
 
 /// The first part of a `for`, with the parenthesis before it and the semicolon behind it.
 #[tactic(auto, unfolding(crate::specs::Steps::start_part))]
 fn start_part<'a>(alloc: Global, tokens: &'a [Token], room: u8) -> Read<'a, ForStart>
     requires { 1 ≤ room }
-    ensures step { Gives (λ x. (start_tree x.0, x.1.now)) result (start_part room tokens.now) }
-    ensures shorter { IfOk result (λ x. length x.1.now < length tokens.now) }
+    ensures { Takes (λ x. (start_tree x.0, x.1.now)) result (start_part room tokens.now) (length tokens.now) }
 {
     let (_, rest) = expect(Sign::LeftParenthesis, tokens)?;
     let (found, rest) = start(alloc, rest, room)?;
-    let (_, rest) = expect(Sign::Semicolon, rest)?;
-    Ok((found, rest))
+    closed(found, expect(Sign::Semicolon, rest))
 }
 
 /// The third part of a `for`, with the parenthesis behind it.
 #[tactic(auto, unfolding(crate::specs::Steps::last_part))]
 fn last_part<'a>(alloc: Global, tokens: &'a [Token], room: u8) -> Read<'a, ForStep>
-    ensures step { Gives (λ x. (step_tree x.0, x.1.now)) result (last_part room tokens.now) }
-    ensures shorter { IfOk result (λ x. length x.1.now < length tokens.now) }
+    ensures { Takes (λ x. (step_tree x.0, x.1.now)) result (last_part room tokens.now) (length tokens.now) }
 {
     let (found, rest) = last(alloc, tokens, room)?;
-    let (_, rest) = expect(Sign::RightParenthesis, rest)?;
-    Ok((found, rest))
+    closed(found, expect(Sign::RightParenthesis, rest))
 }
 
 /// What stands in the parentheses of a `for`.
-#[derive(Drop)]
 pub struct Heading {
-    pub start: ForStart,
-    pub test: Option<Expression>,
-    pub step: ForStep,
+    start: ForStart,
+    test: Option<Expression>,
+    step: ForStep,
+}
+
+// Written out, so that an early exit calls it.
+impl Drop for Heading {
+    fn drop(self) {
+        match self {
+            Heading {
+                start: _,
+                test: _,
+                step: _,
+            } => {}
+        }
+    }
+}
+
+impl Heading {
+    /// The `for` at this place with this heading and body.
+    pub fn into_statement(self, place: Span, body: Box<Statement>) -> Statement
+        ensures { statement result ≡ headed place (heading_parts self) (statement body.value) }
+    {
+        let Heading { start, test, step } = self;
+        Statement::For(place, start, test, step, body)
+    }
 }
 
 /// The parentheses of a `for` and what stands in them.
 #[tactic(auto, unfolding(crate::specs::Steps::heading))]
 pub fn for_heading<'a>(alloc: Global, tokens: &'a [Token], room: u8) -> Read<'a, Heading>
     requires { 1 ≤ room }
-    ensures step { Gives (λ x. (heading_parts x.0, x.1.now)) result (heading room tokens.now) }
-    ensures shorter { IfOk result (λ x. length x.1.now < length tokens.now) }
+    ensures { Takes (λ x. (heading_parts x.0, x.1.now)) result (heading room tokens.now) (length tokens.now) }
 {
     let (start, rest) = start_part(alloc, tokens, room)?;
     let (test, rest) = optional_part(alloc, rest, room)?;

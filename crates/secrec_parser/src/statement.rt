@@ -1,29 +1,26 @@
 // Statements.
 
-ghost use Rattle.std.specs.Prelude.{◌≡◌, ◌-◌, ◌<◌, ◌≤◌, true, length, map, IfOk};
-ghost use Rattle.secrec_ast.specs.Tree.{expression};
+ghost use Rattle.std.specs.Prelude.{◌≡◌, ◌+◌, ◌-◌, ◌≤◌, true, length, map};
 ghost use Rattle.secrec_ast.specs.Statements.{statement};
-ghost use Rattle.secrec_parser.specs.Steps.{braced, do_step, else_step, for_step, if_step, least, led, statement_at_most, while_step};
-ghost use Rattle.expression_parser.specs.Given.{Gives};
+ghost use Rattle.secrec_parser.specs.Steps.{braced, do_step, for_step, if_step, least, led, statement_at_most, while_step};
+ghost use Rattle.secrec_parser.specs.Given.{Takes};
 
 use crate::declaration::parenthesised;
 use crate::leader::{Leader, leader_of};
 use crate::simple::{
-    action_statement, assert_statement, declaration_statement, for_heading, name_statement,
-    return_statement,
+    action_statement, declaration_statement, do_test, for_heading, name_statement, short_statement,
 };
 use crate::tokens::at_sign;
-use expression_parser::{Problem, Read, Stopped, expect};
+use expression_parser::{Problem, Read, Stopped, boxed, closed, expect};
 use sc_text::Span;
-use secrec_ast::{Expression, Statement};
+use secrec_ast::Statement;
 use secrec_lexer::{Sign, Token};
 use std::alloc::Global;
 
 /// A statement of at most this height, inside a loop or not.
 #[cycle(statements)]
 fn statement<'a>(alloc: Global, tokens: &'a [Token], room: u8, inside: bool) -> Read<'a, Statement>
-    ensures step { Gives (λ x. (statement x.0, x.1.now)) result (statement_at_most room inside tokens.now) }
-    ensures shorter { IfOk result (λ x. length x.1.now < length tokens.now) }
+    ensures { Takes (λ x. (statement x.0, x.1.now)) result (statement_at_most room inside tokens.now) (length tokens.now) }
 {
     let Some((token, rest)) = tokens.split_first() else {
         return Err(Stopped::At(Problem::Unexpected, tokens));
@@ -52,8 +49,7 @@ fn led<'a>(
     inside: bool,
 ) -> Read<'a, Statement>
     requires { least leader ≤ room }
-    ensures step { Gives (λ x. (statement x.0, x.1.now)) result (led leader room (statement_at_most (room - 1)) inside place tokens.now) }
-    ensures shorter { IfOk result (λ x. length x.1.now ≤ length tokens.now) }
+    ensures { Takes (λ x. (statement x.0, x.1.now)) result (led leader room (statement_at_most (room - 1)) inside place tokens.now) (length tokens.now + 1) }
 {
     match leader {
         Leader::Block => {
@@ -64,17 +60,7 @@ fn led<'a>(
         Leader::While => while_statement(alloc, place, tokens, room - 1),
         Leader::DoWhile => do_statement(alloc, place, tokens, room - 1),
         Leader::For => for_statement(alloc, place, tokens, room - 1),
-        Leader::Break => {
-            let (_, rest) = expect(Sign::Semicolon, tokens)?;
-            Ok((Statement::Break(place), rest))
-        }
-        Leader::Continue => {
-            let (_, rest) = expect(Sign::Semicolon, tokens)?;
-            Ok((Statement::Continue(place), rest))
-        }
-        Leader::Return => return_statement(alloc, place, tokens, room - 1),
-        Leader::Assert => assert_statement(alloc, place, tokens, room - 1),
-        _ => Ok((Statement::Empty(place), tokens)),
+        _ => short_statement(alloc, leader, place, tokens, room),
     }
 }
 
@@ -86,8 +72,7 @@ pub fn braced<'a>(
     room: u8,
     inside: bool,
 ) -> Read<'a, Vec<Statement>>
-    ensures step { Gives (λ x. (map statement x.0.items, x.1.now)) result (braced (statement_at_most room inside) tokens.now) }
-    ensures shorter { IfOk result (λ x. length x.1.now < length tokens.now) }
+    ensures { Takes (λ x. (map statement x.0.items, x.1.now)) result (braced (statement_at_most room inside) tokens.now) (length tokens.now) }
 {
     let mut found = Vec::new(alloc);
     let mut rest = tokens;
@@ -96,8 +81,7 @@ pub fn braced<'a>(
         found.push(next)?;
         rest = behind;
     }
-    let (_, rest) = expect(Sign::RightBrace, rest)?;
-    Ok((found, rest))
+    closed(found, expect(Sign::RightBrace, rest))
 }
 
 #[cycle(statements)]
@@ -109,36 +93,17 @@ fn if_statement<'a>(
     room: u8,
     inside: bool,
 ) -> Read<'a, Statement>
-    ensures step { Gives (λ x. (statement x.0, x.1.now)) result (if_step room (statement_at_most room inside) place tokens.now) }
-    ensures shorter { IfOk result (λ x. length x.1.now < length tokens.now) }
+    ensures { Takes (λ x. (statement x.0, x.1.now)) result (if_step room (statement_at_most room inside) place tokens.now) (length tokens.now) }
 {
     let (test, rest) = parenthesised(alloc, tokens, room)?;
-    let (body, rest) = statement(alloc, rest, room, inside)?;
-    otherwise(alloc, place, test, body, rest, room, inside)
-}
-
-/// The `else` of an `if`, if there is one.
-#[cycle(statements)]
-fn otherwise<'a>(
-    alloc: Global,
-    place: Span,
-    test: Expression,
-    body: Statement,
-    tokens: &'a [Token],
-    room: u8,
-    inside: bool,
-) -> Read<'a, Statement>
-    ensures step { Gives (λ x. (statement x.0, x.1.now)) result (else_step (statement_at_most room inside) place (expression test) (statement body) tokens.now) }
-    ensures shorter { IfOk result (λ x. length x.1.now ≤ length tokens.now) }
-{
-    if !at_sign(Sign::Else, tokens) {
-        let body = Box::new(alloc, body)?;
-        return Ok((Statement::If(place, test, body, None), tokens));
+    let first = statement(alloc, rest, room, inside);
+    let (body, rest) = boxed(alloc, first)?;
+    if !at_sign(Sign::Else, rest) {
+        return Ok((Statement::If(place, test, body, None), rest));
     }
-    let (_, rest) = expect(Sign::Else, tokens)?;
-    let (other, rest) = statement(alloc, rest, room, inside)?;
-    let body = Box::new(alloc, body)?;
-    let other = Box::new(alloc, other)?;
+    let (_, rest) = expect(Sign::Else, rest)?;
+    let second = statement(alloc, rest, room, inside);
+    let (other, rest) = boxed(alloc, second)?;
     Ok((Statement::If(place, test, body, Some(other)), rest))
 }
 
@@ -150,12 +115,12 @@ fn while_statement<'a>(
     tokens: &'a [Token],
     room: u8,
 ) -> Read<'a, Statement>
-    ensures step { Gives (λ x. (statement x.0, x.1.now)) result (while_step room (statement_at_most room true) place tokens.now) }
-    ensures shorter { IfOk result (λ x. length x.1.now < length tokens.now) }
+    ensures { Takes (λ x. (statement x.0, x.1.now)) result (while_step room (statement_at_most room true) place tokens.now) (length tokens.now) }
 {
     let (test, rest) = parenthesised(alloc, tokens, room)?;
-    let (body, rest) = statement(alloc, rest, room, true)?;
-    Ok((Statement::While(place, test, Box::new(alloc, body)?), rest))
+    let body = statement(alloc, rest, room, true);
+    let (body, rest) = boxed(alloc, body)?;
+    Ok((Statement::While(place, test, body), rest))
 }
 
 #[cycle(statements)]
@@ -166,17 +131,11 @@ fn do_statement<'a>(
     tokens: &'a [Token],
     room: u8,
 ) -> Read<'a, Statement>
-    ensures step { Gives (λ x. (statement x.0, x.1.now)) result (do_step room (statement_at_most room true) place tokens.now) }
-    ensures shorter { IfOk result (λ x. length x.1.now < length tokens.now) }
+    ensures { Takes (λ x. (statement x.0, x.1.now)) result (do_step room (statement_at_most room true) place tokens.now) (length tokens.now) }
 {
-    let (body, rest) = statement(alloc, tokens, room, true)?;
-    let (_, rest) = expect(Sign::While, rest)?;
-    let (test, rest) = parenthesised(alloc, rest, room)?;
-    let (_, rest) = expect(Sign::Semicolon, rest)?;
-    Ok((
-        Statement::DoWhile(place, Box::new(alloc, body)?, test),
-        rest,
-    ))
+    let body = statement(alloc, tokens, room, true);
+    let (body, rest) = boxed(alloc, body)?;
+    do_test(alloc, place, body, rest, room)
 }
 
 #[cycle(statements)]
@@ -188,14 +147,10 @@ fn for_statement<'a>(
     room: u8,
 ) -> Read<'a, Statement>
     requires { 1 ≤ room }
-    ensures step { Gives (λ x. (statement x.0, x.1.now)) result (for_step room (statement_at_most room true) place tokens.now) }
-    ensures shorter { IfOk result (λ x. length x.1.now < length tokens.now) }
+    ensures { Takes (λ x. (statement x.0, x.1.now)) result (for_step room (statement_at_most room true) place tokens.now) (length tokens.now) }
 {
     let (heading, rest) = for_heading(alloc, tokens, room)?;
-    let (body, rest) = statement(alloc, rest, room, true)?;
-    let body = Box::new(alloc, body)?;
-    Ok((
-        Statement::For(place, heading.start, heading.test, heading.step, body),
-        rest,
-    ))
+    let body = statement(alloc, rest, room, true);
+    let (body, rest) = boxed(alloc, body)?;
+    Ok((heading.into_statement(place, body), rest))
 }

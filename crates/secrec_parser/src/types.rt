@@ -1,19 +1,18 @@
 // Types as they are declared.
 
-ghost use Rattle.std.specs.Prelude.{◌≡◌, ◌<◌, ◌≤◌, length, IfOk};
+ghost use Rattle.std.specs.Prelude.{◌≡◌, ◌+◌, length};
 ghost use Rattle.secrec_parser.specs.Steps.{brackets, declared_type, dimension, optional_domain, zero_or_one};
-ghost use Rattle.expression_parser.specs.Given.{Gives};
+ghost use Rattle.secrec_parser.specs.Given.{Takes};
 
 use crate::tokens::{at_sign, place_at};
-use expression_parser::{Problem, Read, Stopped, data_type, expect};
+use expression_parser::{Problem, Read, Stopped, closed, data_type, expect};
 use secrec_ast::{DeclaredType, Domain, Identifier};
 use secrec_lexer::{Kind, Sign, Token};
 use std::alloc::Global;
 
 /// `public`, a name, or nothing.
 fn optional_domain<'a>(alloc: Global, tokens: &'a [Token]) -> Read<'a, Domain>
-    ensures step { Gives (λ x. (x.0, x.1.now)) result (optional_domain tokens.now) }
-    ensures shorter { IfOk result (λ x. length x.1.now ≤ length tokens.now) }
+    ensures { Takes (λ x. (x.0, x.1.now)) result (optional_domain tokens.now) (length tokens.now + 1) }
 {
     let Some((token, rest)) = tokens.split_first() else {
         return Err(Stopped::At(Problem::Unexpected, tokens));
@@ -36,8 +35,7 @@ fn optional_domain<'a>(alloc: Global, tokens: &'a [Token]) -> Read<'a, Domain>
 
 /// The number 0 or 1.
 fn zero_or_one<'a>(tokens: &'a [Token]) -> Read<'a, bool>
-    ensures step { Gives (λ x. (x.0, x.1.now)) result (zero_or_one tokens.now) }
-    ensures shorter { IfOk result (λ x. length x.1.now < length tokens.now) }
+    ensures { Takes (λ x. (x.0, x.1.now)) result (zero_or_one tokens.now) (length tokens.now) }
 {
     let Some((token, rest)) = tokens.split_first() else {
         return Err(Stopped::At(Problem::Unexpected, tokens));
@@ -57,21 +55,18 @@ fn zero_or_one<'a>(tokens: &'a [Token]) -> Read<'a, bool>
 }
 
 fn brackets<'a>(tokens: &'a [Token]) -> Read<'a, bool>
-    ensures step { Gives (λ x. (x.0, x.1.now)) result (brackets tokens.now) }
-    ensures shorter { IfOk result (λ x. length x.1.now < length tokens.now) }
+    ensures { Takes (λ x. (x.0, x.1.now)) result (brackets tokens.now) (length tokens.now) }
 {
     let (_, rest) = expect(Sign::LeftBracket, tokens)?;
     let (_, rest) = expect(Sign::LeftBracket, rest)?;
     let (array, rest) = zero_or_one(rest)?;
     let (_, rest) = expect(Sign::RightBracket, rest)?;
-    let (_, rest) = expect(Sign::RightBracket, rest)?;
-    Ok((array, rest))
+    closed(array, expect(Sign::RightBracket, rest))
 }
 
 /// Whether an array is declared: `[[1]]`. A scalar has `[[0]]` or nothing.
 fn dimension<'a>(tokens: &'a [Token]) -> Read<'a, bool>
-    ensures step { Gives (λ x. (x.0, x.1.now)) result (dimension tokens.now) }
-    ensures shorter { IfOk result (λ x. length x.1.now ≤ length tokens.now) }
+    ensures { Takes (λ x. (x.0, x.1.now)) result (dimension tokens.now) (length tokens.now + 1) }
 {
     if at_sign(Sign::LeftBracket, tokens) {
         brackets(tokens)
@@ -82,8 +77,7 @@ fn dimension<'a>(tokens: &'a [Token]) -> Read<'a, bool>
 
 #[tactic(auto, unfolding(crate::specs::Steps::declared_type))]
 pub fn declared_type<'a>(alloc: Global, tokens: &'a [Token]) -> Read<'a, DeclaredType>
-    ensures step { Gives (λ x. (x.0, x.1.now)) result (declared_type tokens.now) }
-    ensures shorter { IfOk result (λ x. length x.1.now < length tokens.now) }
+    ensures { Takes (λ x. (x.0, x.1.now)) result (declared_type tokens.now) (length tokens.now) }
 {
     let (place, rest) = place_at(tokens)?;
     let (domain, rest) = optional_domain(alloc, rest)?;

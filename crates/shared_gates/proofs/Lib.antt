@@ -7,3 +7,4 @@ pub mod Gained
 pub mod Computing
 pub mod Drawn
 pub mod OwnShares
+pub mod Silence

@@ -10,7 +10,7 @@ use Rattle.proto_core.specs.declared.party.Number.TheVariants.{One, Two, Three}
 use Rattle.proto_core.specs.Lists.{at, AreWords}
 use Rattle.proto_core.proofs.Parts.{AreWords-append}
 use Rattle.gates.specs.Clear.{each_two}
-use Rattle.gates.proofs.Columns.{word, Column, Column-of, Column-map, Column-each_two}
+use Rattle.gates.proofs.Columns.{Column, Column-of, Column-map, Column-each_two}
 use Rattle.shared_gates.specs.Shares.{sum_of, AreShares}
 use Rattle.shared_gates.proofs.RingSums.{sum-same}
 

@@ -11,7 +11,7 @@ ghost use Rattle.protocol_model.specs.Runs.{Tapes, Ready, run_values, run_opened
 ghost use Rattle.gates.specs.Counts.{words_of_all};
 ghost use Rattle.proto_core.specs.Lists.{AreWords};
 ghost use Rattle.shared_gates.specs.Model.{AllSizesSuit, run_gates, sizes_after, miner_of};
-ghost use Rattle.protocol_model.specs.Gates.{AreSound, ArePrivate, Sized, sizes_of, needed};
+ghost use Rattle.protocol_model.specs.Gates.{AreSound, ArePrivate, AreSilent, Sized, sizes_of, needed};
 
 /// Law: where three miners hold the values before a gate that sends nothing, what each makes of its own shares and its
 /// own number are shares of the value that the gate makes.
@@ -28,6 +28,12 @@ pub fn run_gates_are_sound_and_private()
         AreSound (run_gates dealt dealt_sizes sizes gates) }
     ensures private { (dealt : Number → Values) (dealt_sizes sizes : List ℕ) (gates : List GateValue) →
         ArePrivate (run_gates dealt dealt_sizes sizes gates) }
+{}
+
+/// Law: no protocol of a run's gates tells anything: what a miner tells, it tells beside them.
+pub fn run_gates_tell_nothing()
+    ensures { (dealt : Number → Values) (dealt_sizes sizes : List ℕ) (gates : List GateValue) →
+        AreSilent (run_gates dealt dealt_sizes sizes gates) }
 {}
 
 /// Law: where each gate suits the sizes of the values before it, a run of them has operands of the sizes that it wants.

@@ -1,3 +1,9 @@
+// Operators, casts, and what they give.
+ghost use Rattle.std.specs.Prelude.{◌≡◌};
+ghost use Rattle.typed_tree.specs.Operators.{word_result, element_made};
+
+use secrec_ast::DataType;
+
 /// An operator on uint64 words.
 #[derive(Clone, Copy, PartialEq, Eq)]
 pub enum WordOperator {
@@ -32,6 +38,42 @@ pub enum BoolOperator {
 pub enum BinaryOperator {
     Words(WordOperator),
     Bools(BoolOperator),
+}
+
+impl WordOperator {
+    // The data type of what it gives.
+    fn result(self) -> DataType
+        ensures { result ≡ word_result self }
+    {
+        match self {
+            WordOperator::Equal
+            | WordOperator::NotEqual
+            | WordOperator::Less
+            | WordOperator::LessOrEqual
+            | WordOperator::Greater
+            | WordOperator::GreaterOrEqual => DataType::Bool,
+            WordOperator::Add
+            | WordOperator::Subtract
+            | WordOperator::Multiply
+            | WordOperator::Divide
+            | WordOperator::Remainder
+            | WordOperator::And
+            | WordOperator::Or
+            | WordOperator::Xor => DataType::Uint64,
+        }
+    }
+}
+
+impl BinaryOperator {
+    /// The data type of what it gives.
+    pub fn result(self) -> DataType
+        ensures { result ≡ element_made self }
+    {
+        match self {
+            BinaryOperator::Words(operator) => operator.result(),
+            BinaryOperator::Bools(_) => DataType::Bool,
+        }
+    }
 }
 
 /// `&&` or `||` between two scalars: where the left one is public it may decide alone.

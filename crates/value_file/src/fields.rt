@@ -55,11 +55,8 @@ pub fn name<'v>(
     let Some(text) = text_field(json, "name") else {
         return Ok(None);
     };
-    let Some(name) = Name::from_str(alloc, text)? else {
-        return Ok(None);
-    };
     if is_new(names, text)? {
-        Ok(Some(name))
+        Name::from_str(alloc, text)
     } else {
         Ok(None)
     }

@@ -6,17 +6,33 @@ use sc_text::Name;
 use std::marker::Model;
 
 /// One input of a run: its name, who may know it, and its value.
-#[derive(Drop)]
 pub struct Entry {
     pub name: Name,
     pub domain: Domain,
     pub value: Value,
 }
 
+// Written out, so that an early exit calls this once.
+impl Drop for Entry {
+    fn drop(self) {
+        let Entry {
+            name: _,
+            domain: _,
+            value: _,
+        } = self;
+    }
+}
+
 /// The inputs of a run, in the order of their file. Clauses see the list of the entries.
-#[derive(Drop)]
 pub struct Inputs {
     entries: Vec<Entry>,
+}
+
+// Written out, so that an early exit calls this once.
+impl Drop for Inputs {
+    fn drop(self) {
+        let Inputs { entries: _ } = self;
+    }
 }
 
 impl Model for Inputs {

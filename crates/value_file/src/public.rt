@@ -11,10 +11,22 @@ use std::alloc::{AllocError, Global};
 use std::marker::Model;
 
 /// What everybody may know of an input: the value of a public one, type and shape of a private one.
-#[derive(Drop)]
 pub enum PublicValue {
     Known(Value),
     Hidden { data_type: DataType, shape: Shape },
+}
+
+// Written out, so that an early exit calls this once and doesn't take the value apart in its place.
+impl Drop for PublicValue {
+    fn drop(self) {
+        match self {
+            PublicValue::Known(_)
+            | PublicValue::Hidden {
+                data_type: _,
+                shape: _,
+            } => {}
+        }
+    }
 }
 
 impl PublicValue {
@@ -33,16 +45,28 @@ impl PublicValue {
 }
 
 /// What everybody may know of one input, with its name.
-#[derive(Drop)]
 pub struct PublicEntry {
     pub name: Name,
     pub value: PublicValue,
 }
 
+// Written out, so that an early exit calls this once.
+impl Drop for PublicEntry {
+    fn drop(self) {
+        let PublicEntry { name: _, value: _ } = self;
+    }
+}
+
 /// What everybody may know of the inputs of a run, in the order of their file. Clauses see the list of the entries.
-#[derive(Drop)]
 pub struct PublicPart {
     entries: Vec<PublicEntry>,
+}
+
+// Written out, so that an early exit calls this once.
+impl Drop for PublicPart {
+    fn drop(self) {
+        let PublicPart { entries: _ } = self;
+    }
 }
 
 impl Model for PublicPart {

@@ -39,12 +39,20 @@ impl Shape {
 }
 
 /// A value: a number, a truth value, or an array of either.
-#[derive(Drop)]
 pub enum Value {
     Number(u64),
     Truth(bool),
     Numbers(Words),
     Truths(Bits),
+}
+
+// Written out, so that an early exit calls this once and doesn't take the value apart in its place.
+impl Drop for Value {
+    fn drop(self) {
+        match self {
+            Value::Number(_) | Value::Truth(_) | Value::Numbers(_) | Value::Truths(_) => {}
+        }
+    }
 }
 
 impl Value {

@@ -34,10 +34,11 @@ pub fn joined(
     ensures spends { stage.new.left ≤ stage.old.left }
 {
     charged_array(stage, line, left.size() + right.size())?;
+    let shape = left.shape;
     match (left.secrecy, right.secrecy) {
         (Secrecy::Plain, Secrecy::Plain) => {
-            let words = extended(left.words, &right.words)?;
-            Ok(Value::plain(left.shape, words))
+            let words = extended(left.into_words(), &right.words)?;
+            Ok(Value::plain(shape, words))
         }
         (Secrecy::Private(_), _) | (Secrecy::Plain, Secrecy::Private(_)) => {
             let first = number_of(alloc, stage, &left)?;
@@ -49,8 +50,8 @@ pub fn joined(
                     right: second,
                 },
             )?;
-            let words = extended(left.words, &right.words)?;
-            Ok(Value::hidden(left.shape, number, words))
+            let words = extended(left.into_words(), &right.words)?;
+            Ok(Value::hidden(shape, number, words))
         }
     }
 }
@@ -114,10 +115,11 @@ pub fn with_element(
     charge(stage, 1)?;
     let place = index.seen_word();
     test_at(stage, place < array.size(), TrapKind::Index, line)?;
+    let shape = array.shape;
     match array.secrecy {
         Secrecy::Plain => {
-            let words = with_word(array.words, place, element.seen_word());
-            Ok(Value::plain(array.shape, words))
+            let words = with_word(array.into_words(), place, element.seen_word());
+            Ok(Value::plain(shape, words))
         }
         Secrecy::Private(_) => {
             let alloc = *array.words.allocator();
@@ -131,8 +133,8 @@ pub fn with_element(
                     element: element_number,
                 },
             )?;
-            let words = with_word(array.words, place, element.word());
-            Ok(Value::hidden(array.shape, number, words))
+            let words = with_word(array.into_words(), place, element.word());
+            Ok(Value::hidden(shape, number, words))
         }
     }
 }

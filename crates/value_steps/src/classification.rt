@@ -21,7 +21,7 @@ fn classified(alloc: Global, stage: &mut Stage<'_>, value: Value) -> Result<Valu
         Secrecy::Plain => {
             charged(stage, value.size())?;
             let number = number_of(alloc, stage, &value)?;
-            Ok(Value::hidden(value.shape, number, value.words))
+            Ok(value.into_hidden(number))
         }
     }
 }

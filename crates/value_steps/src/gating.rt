@@ -56,14 +56,14 @@ fn values_made(gates: &[Gate]) -> Option<u64>
     Some(made)
 }
 
-/// Makes these gates, and tells the number of the last value that they make.
-pub(crate) fn put_gates(stage: &mut Stage<'_>, mut gates: Vec<Gate>) -> Result<u64, Halt>
-    ensures step { Does itself (put_gates gates.items) (stage_seen stage.old) result (stage_seen stage.new) }
+/// Moves these gates behind those that were made, and tells the number of the last value that they make.
+pub(crate) fn put_gates(stage: &mut Stage<'_>, gates: &mut Vec<Gate>) -> Result<u64, Halt>
+    ensures step { Does itself (put_gates gates.old.items) (stage_seen stage.old) result (stage_seen stage.new) }
     ensures spends { stage.new.left ≤ stage.old.left }
 {
-    let made = values_made(&gates).ok_or(Halt::Memory)?;
+    let made = values_made(gates).ok_or(Halt::Memory)?;
     let next = stage.made.checked_add(made).ok_or(Halt::Memory)?;
-    stage.gates.append(&mut gates)?;
+    stage.gates.append(gates)?;
     stage.made = next;
     Ok(next.saturating_sub(1))
 }
@@ -80,8 +80,8 @@ pub(crate) fn zero_test(
     ensures spends { stage.new.left ≤ stage.old.left }
 {
     let first = next_number(stage)?;
-    let gates = equality::plan(alloc, first, operand, n)?;
-    put_gates(stage, gates)
+    let mut gates = equality::plan(alloc, first, operand, n)?;
+    put_gates(stage, &mut gates)
 }
 
 /// The gates that turn `n` numbers into their bits.
@@ -96,8 +96,8 @@ pub(crate) fn bits_gates(
     ensures spends { stage.new.left ≤ stage.old.left }
 {
     let first = next_number(stage)?;
-    let gates = bit_extract::plan(alloc, first, operand, n)?;
-    put_gates(stage, gates)
+    let mut gates = bit_extract::plan(alloc, first, operand, n)?;
+    put_gates(stage, &mut gates)
 }
 
 /// The gates that tell of each two of `n` numbers whether the first is less.
@@ -113,8 +113,8 @@ pub(crate) fn less_gates(
     ensures spends { stage.new.left ≤ stage.old.left }
 {
     let first = next_number(stage)?;
-    let gates = compare::plan(alloc, first, left, right, n)?;
-    put_gates(stage, gates)
+    let mut gates = compare::plan(alloc, first, left, right, n)?;
+    put_gates(stage, &mut gates)
 }
 
 /// The number of a private value. One that was never stored, and a public one, is first made a constant.

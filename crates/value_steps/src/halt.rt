@@ -4,7 +4,7 @@ use sc_text::Ending;
 use std::alloc::{AllocError, AllocFailed};
 
 /// Why a run stopped.
-#[derive(Clone, Copy, Debug, PartialEq, Eq)]
+#[derive(Clone, Copy)]
 pub enum Halt {
     /// Memory ran short: nothing is said of the run.
     Memory,

@@ -34,6 +34,6 @@ pub use opening::declassified;
 pub use operators::operation;
 pub use publishing::published;
 pub use stage::{Drawn, Stage};
-pub use steps::{charge, test, test_at};
+pub use steps::{charge, charged, test, test_at};
 pub use value::{Secrecy, Value};
 pub use world::{Given, Lengths, Source, World};

@@ -39,12 +39,13 @@ fn revealed(
     ensures step { Does value_seen (revealed (world_seen world.now) (value_seen value)) (stage_seen stage.old) result (stage_seen stage.new) }
     ensures spends { stage.new.left ≤ stage.old.left }
 {
-    let told = answer(alloc, world.source, stage, value.words)?;
-    let words = read_answer(alloc, value.shape.element, told)?;
+    let shape = value.shape;
+    let told = answer(alloc, world.source, stage, value.into_words())?;
+    let words = read_answer(alloc, shape.element, told)?;
     show(stage, &words)?;
-    let opened = elements(alloc, value.shape.element, &words)?;
+    let opened = elements(alloc, shape.element, &words)?;
     emit(stage, Event::Open(opened))?;
-    Ok(Value::plain(value.shape, words))
+    Ok(Value::plain(shape, words))
 }
 
 /// Opens a private value that was charged; a public one stays as it is.

@@ -3,7 +3,7 @@ use gates::Gate;
 use sc_text::Event;
 
 /// How many words were drawn of each miner's tape.
-#[derive(Clone, Copy, Debug, PartialEq, Eq)]
+#[derive(Clone, Copy)]
 pub struct Drawn {
     pub first: u64,
     pub second: u64,

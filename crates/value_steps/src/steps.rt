@@ -49,7 +49,7 @@ pub fn test_at(stage: &Stage<'_>, holds: bool, kind: TrapKind, line: u32) -> Res
 }
 
 /// Charges an operation that has no traps, whose result has `n` elements.
-pub(crate) fn charged(stage: &mut Stage<'_>, n: u64) -> Result<(), Halt>
+pub fn charged(stage: &mut Stage<'_>, n: u64) -> Result<(), Halt>
     ensures step { Does itself (charged no_traps n) (stage_seen stage.old) result (stage_seen stage.new) }
     ensures spends { stage.new.left ≤ stage.old.left }
 {

@@ -5,7 +5,7 @@ use std::alloc::{AllocError, Global};
 use typed_tree::Shape;
 
 /// Who may see a value.
-#[derive(Clone, Copy, Debug, PartialEq, Eq)]
+#[derive(Clone, Copy)]
 pub enum Secrecy {
     /// Everybody.
     Plain,
@@ -15,12 +15,24 @@ pub enum Secrecy {
 
 /// A value: who may see it, its shape, and its elements as words, a truth value as 1 or 0. A scalar has one element; no array has more
 /// than 1,048,576.
-#[derive(Drop)]
 pub struct Value {
     pub secrecy: Secrecy,
     pub shape: Shape,
     pub words: Vec<u64>,
     ghost bounded: { length words.items ≤ 1048576 },
+}
+
+// Written out, so that an early exit calls this once for a value that it gives up, and doesn't take the value apart in its place.
+impl Drop for Value {
+    fn drop(self) {
+        match self {
+            Value {
+                secrecy: _,
+                shape: _,
+                words: _,
+            } => {}
+        }
+    }
 }
 
 impl Value {
@@ -50,6 +62,36 @@ impl Value {
             secrecy: Secrecy::Private(Some(number)),
             shape,
             words,
+        }
+    }
+
+    /// The same elements as the private value of a gate.
+    pub(crate) fn into_hidden(self, number: u64) -> Value
+        ensures { value_seen result ≡ hidden self.shape number self.words.items }
+    {
+        match self {
+            Value {
+                secrecy: _,
+                shape,
+                words,
+            } => Value {
+                secrecy: Secrecy::Private(Some(number)),
+                shape,
+                words,
+            },
+        }
+    }
+
+    /// The elements.
+    pub(crate) fn into_words(self) -> Vec<u64>
+        ensures { result.items ≡ self.words.items }
+    {
+        match self {
+            Value {
+                secrecy: _,
+                shape: _,
+                words,
+            } => words,
         }
     }
 

@@ -426,8 +426,10 @@ module _ (p : ProgramTree) (z : Frame p) (g : Given) where
           typed = (a.typed, (((t.gives, t.seen_by), c.typed, b.typed), tt));
           returns_so = ap (λ d. d || (false || false)) a.returns_so;
           called =
-              both_checked p (command_calls (here z) x) ((calls (here z) v ++ (command_calls (here z) y ++ command_calls (here z) q)) ++ []) a.called
-              (both_checked p (calls (here z) v ++ (command_calls (here z) y ++ command_calls (here z) q)) [] (both_checked p (calls (here z) v) (command_calls (here z) y ++ command_calls (here z) q) t.called (both_checked p (command_calls (here z) y) (command_calls (here z) q) c.called b.called)) (none_checked p));
+              both_checked p (command_calls (here z) x) ((command_calls (here z) q ++ (command_calls (here z) y ++ calls (here z) v)) ++ []) a.called
+              (both_checked p (command_calls (here z) q ++ (command_calls (here z) y ++ calls (here z) v)) []
+              (both_checked p (command_calls (here z) q) (command_calls (here z) y ++ calls (here z) v) b.called
+              (both_checked p (command_calls (here z) y) (calls (here z) v) c.called t.called)) (none_checked p));
         }
 
     good_looped : (inside r : Bool) (s u : checked.Scope) (b : StartTree) (e : Option Tree) (c : StepTree) (body : Resolving Command) → Agreed (names_in_start b) → Agreed (names_in_optional e) → Agreed (names_in_step c) → AreMade z (start_calls (setting z) s b) → AreMade z (optional_calls (setting z) (after_start (setting z) s b) e) → AreMade z (step_calls (setting z) (after_start (setting z) s b) c) → StartsWithWords b → HasWordsIf e → StepsByWords c → IsStart (setting z) s b → IsOptionalCondition (setting z) (after_start (setting z) s b) e → IsStep (setting z) (after_start (setting z) s b) c → Walks body (checked.inner (after_start (setting z) s b)) u (GoodCommand p (here z) g true r) → Walks (looped (known_in p) b e c body) s (after_start (setting z) s b) (Runs inside)
@@ -514,7 +516,7 @@ module _ (p : ProgramTree) (z : Frame p) (g : Given) where
           good_test (GoodCommand p (here z) g true r) (Runs inside) s (after (setting z) (checked.inner s) body) e (resolved (known_in p) body) (λ v d. loop_command v empty_command d)
           (left_of (names_in e) (names_by body) a) (made_left (calls_of (setting z) s e) (statement_calls (setting z) (checked.inner s) body) c) w.0 h.0
           (good_statement true (checked.inner s) body back (right_of (names_in e) (names_by body) a) (made_right (calls_of (setting z) s e) (statement_calls (setting z) (checked.inner s) body) c) w.1 h.1)
-          (λ v d t k. record { typed = ((t.gives, t.seen_by), tt, k.typed); returns_so = refl; called = both_checked p (calls (here z) v) ([] ++ command_calls (here z) d) t.called k.called })
+          (λ v d t k. record { typed = ((t.gives, t.seen_by), tt, k.typed); returns_so = refl; called = both_checked p (command_calls (here z) d) ([] ++ calls (here z) v) k.called t.called })
       good_statement inside s (do_loop q body e) back a c w h =
           good_do inside (checker.always_returns body) s (after (setting z) (checked.inner s) body) e (resolved (known_in p) body)
           (right_of (names_by body) (names_in e) a) (made_right (statement_calls (setting z) (checked.inner s) body) (calls_of (setting z) s e) c) w.1 h.1

@@ -263,7 +263,7 @@ turns-returns-in_err-flow-2-clause-step t c =
     let s3 = stage_seen c.statement.new.stage in
     let g = flow_seen c.statement.new.frame.items c.in_ok-flow.flow in
     let f = frame_seen c.statement.new.frame.items in
-    let in_step = at_step C S B fr0 s0 fr s r s2 s3 g f in_body c.in_ok-flow.ensures.step (λ next. c.in_default.ensures c.statement.new.frame.items next) in
+    let in_step = at_step C S B fr0 s0 fr s r s2 s3 g f in_body c.in_ok-flow.ensures.step (λ next. c.in-None.ensures c.statement.new.frame.items next) in
     let seen = flow_seen c.statement-in-loop-again.new.frame.items in
     stop_run seen seen whole s0 (S f) s3 (stage_seen c.statement-in-loop-again.new.stage) (behind_step C S B fr0 s0 fr s r) c.in_err-flow-2.field-0.0 c.from_residual-in_err-flow-2.result in_step c.in_err-flow-2.ensures.step c.from_residual-in_err-flow-2.ensures.1
 
@@ -285,7 +285,7 @@ turns-returns-in-Some-behind_loop-clause-step t c =
     let s3 = stage_seen c.statement.new.stage in
     let g = flow_seen c.statement.new.frame.items c.in_ok-flow.flow in
     let f = frame_seen c.statement.new.frame.items in
-    let in_step = at_step C S B fr0 s0 fr s r s2 s3 g f in_body c.in_ok-flow.ensures.step (λ next. c.in_default.ensures c.statement.new.frame.items next) in
+    let in_step = at_step C S B fr0 s0 fr s r s2 s3 g f in_body c.in_ok-flow.ensures.step (λ next. c.in-None.ensures c.statement.new.frame.items next) in
     let s4 = stage_seen c.statement-in-loop-again.new.stage in
     let h = flow_seen c.statement-in-loop-again.new.frame.items c.in_ok-flow-2.flow in
     left_behind_step C S B fr0 s0 fr s r s3 s4 f h (flow_seen c.statement-in-loop-again.new.frame.items c.in-Some-behind_loop.flow) in_step c.in_ok-flow-2.ensures.step (λ next. c.in-Some-behind_loop.ensures c.statement-in-loop-again.new.frame.items next)
@@ -308,7 +308,7 @@ turns-loop-again-preserved t c =
     let s3 = stage_seen c.statement.new.stage in
     let g = flow_seen c.statement.new.frame.items c.in_ok-flow.flow in
     let f = frame_seen c.statement.new.frame.items in
-    let in_step = at_step C S B fr0 s0 fr s r s2 s3 g f in_body c.in_ok-flow.ensures.step (λ next. c.in_default.ensures c.statement.new.frame.items next) in
+    let in_step = at_step C S B fr0 s0 fr s r s2 s3 g f in_body c.in_ok-flow.ensures.step (λ next. c.in-None.ensures c.statement.new.frame.items next) in
     let s4 = stage_seen c.statement-in-loop-again.new.stage in
     let h = flow_seen c.statement-in-loop-again.new.frame.items c.in_ok-flow-2.flow in
     let f' = frame_seen c.statement-in-loop-again.new.frame.items in
@@ -316,7 +316,7 @@ turns-loop-again-preserved t c =
     record {
       slots = c.in_ok-flow-2.ensures.slots ∙ c.in_ok-flow.ensures.slots ∙ c.loop-again.invariant.slots;
       spends = omega (arith, less, c.loop-again.invariant.spends);
-      turns = next_turn C S B fr0 s0 fr s r s3 s4 f f' h in_step c.in_ok-flow-2.ensures.step (λ next. c.in_default-behind_loop.ensures c.statement-in-loop-again.new.frame.items next) less;
+      turns = next_turn C S B fr0 s0 fr s r s3 s4 f f' h in_step c.in_ok-flow-2.ensures.step (λ next. c.in-None-behind_loop.ensures c.statement-in-loop-again.new.frame.items next) less;
     }
 
 pub repeats-returns-in_err-flow-clause-step : goal.repeats-returns-in_err-flow-clause-step
@@ -365,7 +365,7 @@ repeats-returns-in_err-again-clause-step t c =
     let s1 = stage_seen c.statement.new.stage in
     let g = flow_seen c.statement.new.frame.items c.in_ok-flow.flow in
     let f = frame_seen c.statement.new.frame.items in
-    let in_test = again_at_test C B fr0 s0 fr s r s1 g f c.in_ok-flow.ensures.step (λ next. c.in_default.ensures c.statement.new.frame.items next) in
+    let in_test = again_at_test C B fr0 s0 fr s r s1 g f c.in_ok-flow.ensures.step (λ next. c.in-None.ensures c.statement.new.frame.items next) in
     stop_run itself (flow_seen c.statement.new.frame.items) whole s0 (λ u. carry (C f u) tested) s1 (stage_seen c.holds.new.stage) (again_on C B fr0 s0 fr s r f) c.in_err-again.field-0.0 c.from_residual-in_err-again.result
     in_test c.in_err-again.ensures.step c.from_residual-in_err-again.ensures.1
 
@@ -384,7 +384,7 @@ repeats-returns-then-not-again-clause-step t c =
     let s1 = stage_seen c.statement.new.stage in
     let g = flow_seen c.statement.new.frame.items c.in_ok-flow.flow in
     let f = frame_seen c.statement.new.frame.items in
-    let in_test = again_at_test C B fr0 s0 fr s r s1 g f c.in_ok-flow.ensures.step (λ next. c.in_default.ensures c.statement.new.frame.items next) in
+    let in_test = again_at_test C B fr0 s0 fr s r s1 g f c.in_ok-flow.ensures.step (λ next. c.in-None.ensures c.statement.new.frame.items next) in
     let s3 = stage_seen c.holds.new.stage in
     again_ended C B fr0 s0 fr s r s1 s3 f in_test (c.in_ok-again.ensures.step ∙ ap (λ (b : Bool). Ok (b, s3)) c.if-not-again.true)
 
@@ -403,7 +403,7 @@ repeats-loop-flow-preserved t c =
     let s1 = stage_seen c.statement.new.stage in
     let g = flow_seen c.statement.new.frame.items c.in_ok-flow.flow in
     let f = frame_seen c.statement.new.frame.items in
-    let in_test = again_at_test C B fr0 s0 fr s r s1 g f c.in_ok-flow.ensures.step (λ next. c.in_default.ensures c.statement.new.frame.items next) in
+    let in_test = again_at_test C B fr0 s0 fr s r s1 g f c.in_ok-flow.ensures.step (λ next. c.in-None.ensures c.statement.new.frame.items next) in
     let s3 = stage_seen c.holds.new.stage in
     let less : s3.left < s.left = omega (arith, c.in_ok-again.ensures.spends, c.in_ok-flow.ensures.spends) in
     record {

@@ -1,16 +1,13 @@
 use Rattle.std.proofs.Common.{◌≡◌, ◌++◌, length}
-use Rattle.std.specs.Prelude.{map, ◌||◌, codes}
+use Rattle.std.specs.Prelude.{map}
 use Rattle.secrec_ast.specs.Programs.{item_tree}
-use Rattle.domain_types.specs.Declarations.{is_imported, is_kind, domains_of, functions_of}
+use Rattle.domain_types.specs.Declarations.{domains_of, functions_of}
 use Rattle.domain_types.specs.Named.{name_of}
 use Rattle.domain_types.specs.Views.{tree_at}
 use Rattle.domain_types.proofs.collecting.collect.Given as goal
 
 abbrev pub invariant-loop-item : goal.invariant-loop-item
 invariant-loop-item l = record {
-  stdlib : is_imported (codes "stdlib") (map item_tree l.fn.items) ≡ l.stdlib || is_imported (codes "stdlib") (map item_tree l.rest);
-  shared3p : is_imported (codes "shared3p") (map item_tree l.fn.items) ≡ l.shared3p || is_imported (codes "shared3p") (map item_tree l.rest);
-  kind : is_kind (codes "shared3p") (map item_tree l.fn.items) ≡ l.kind_declared || is_kind (codes "shared3p") (map item_tree l.rest);
   domains : domains_of (map item_tree l.fn.items) ≡ l.domains ++ domains_of (map item_tree l.rest);
   functions : functions_of (map item_tree l.fn.items) ≡ map tree_at l.functions.items ++ functions_of (map item_tree l.rest);
   names : l.names ≡ map name_of l.functions.items;

@@ -37,7 +37,7 @@ pub statement-returns-in-None-clause-worst : goal.statement-returns-in-None-clau
 statement-returns-in-None-clause-worst t c =
     let s = c.args.variables.now in
     let w = setting c.args.here.now in
-    let r = c.args.returned.now in
+    let r = c.args.here.now.function.now.result in
     let o = c.args.found.now.worst in
     let d : c.deref.result.now ≡ c.in-If.body.value = cc in
     let tree = ap statement c.in-If.is ∙ ap (λ x. statement (If c.in-If.field-0 c.in-If.e c.in-If.body x)) c.in-None.is ∙ branch_statement_is _ _ _ in
@@ -58,7 +58,7 @@ pub statement-returns-in-Some-clause-worst : goal.statement-returns-in-Some-clau
 statement-returns-in-Some-clause-worst t c =
     let s = c.args.variables.now in
     let w = setting c.args.here.now in
-    let r = c.args.returned.now in
+    let r = c.args.here.now.function.now.result in
     let o = c.args.found.now.worst in
     let o2 = c.inside.new.found.worst in
     let d : c.deref.result.now ≡ c.in-If.body.value = cc in
@@ -101,7 +101,7 @@ pub statement-returns-in_ok-test-in-While-clause-worst : goal.statement-returns-
 statement-returns-in_ok-test-in-While-clause-worst t c =
     let s = c.args.variables.now in
     let w = setting c.args.here.now in
-    let r = c.args.returned.now in
+    let r = c.args.here.now.function.now.result in
     let o = c.args.found.now.worst in
     let o1 = c.test-in-While.new.found.worst in
     let d : c.deref-in-While.result.now ≡ c.in-While.body.value = cc in
@@ -134,7 +134,7 @@ pub statement-returns-in_ok-inside-in-DoWhile-clause-worst : goal.statement-retu
 statement-returns-in_ok-inside-in-DoWhile-clause-worst t c =
     let s = c.args.variables.now in
     let w = setting c.args.here.now in
-    let r = c.args.returned.now in
+    let r = c.args.here.now.function.now.result in
     let o = c.args.found.now.worst in
     let o1 = c.inside-in-DoWhile.new.found.worst in
     let d : c.deref-in-DoWhile.result.now ≡ c.in-DoWhile.body.value = cc in
@@ -169,7 +169,7 @@ pub statement-returns-in_ok-inside-in-For-clause-worst : goal.statement-returns-
 statement-returns-in_ok-inside-in-For-clause-worst t c =
     let s = c.args.variables.now in
     let w = setting c.args.here.now in
-    let r = c.args.returned.now in
+    let r = c.args.here.now.function.now.result in
     let o = c.args.found.now.worst in
     let v = c.start.new.variables in
     let d : c.deref-in-For.result.now ≡ c.in-For.body.value = cc in
@@ -201,7 +201,7 @@ pub statement-returns-in_ok-given-in-Return-clause-worst : goal.statement-return
 statement-returns-in_ok-given-in-Return-clause-worst t c =
     let s = c.args.variables.now in
     let w = setting c.args.here.now in
-    let r = c.args.returned.now in
+    let r = c.args.here.now.function.now.result in
     let o = c.args.found.now.worst in
     let e = optional c.in-Return.e in
     then_least o c.optional_value-in-Return.new.found.worst c.returning.new.worst (optional_faults w s e) (return_rule w c.in-Return.place r e (optional_type w s e)) c.in_ok-given-in-Return.ensures.worst (c.returning.ensures ∙ ap (λ g. least c.optional_value-in-Return.new.found.worst (return_rule w c.in-Return.place r e g)) c.in_ok-given-in-Return.ensures.kind)
@@ -211,7 +211,7 @@ pub statements-loop-each-preserved : goal.statements-loop-each-preserved
 statements-loop-each-preserved t c =
     let s = c.args.variables.now in
     let w = setting c.args.here.now in
-    let r = c.args.returned.now in
+    let r = c.args.here.now.function.now.result in
     let xs = c.deref-each-items.result.now in
     let i = c.loop-each.each-index in
     let x = c.each-item.result in
@@ -238,7 +238,7 @@ statements-loop-each-preserved t c =
 pub statements-returns-clause-worst : goal.statements-returns-clause-worst
 statements-returns-clause-worst t c =
     let all = take_all c.loop-each.each-index c.deref-each-items.result.now c.loop-each-test.false ∙ c.deref-each-items.ensures.value in
-    c.loop-each.invariant.worst ∙ ap (λ l. least c.args.found.now.worst (block_faults (setting c.args.here.now) c.args.returned.now c.args.variables.now (statements_of (map statement l)))) all
+    c.loop-each.invariant.worst ∙ ap (λ l. least c.args.found.now.worst (block_faults (setting c.args.here.now) c.args.here.now.function.now.result c.args.variables.now (statements_of (map statement l)))) all
 
 pub statements-returns-clause-calls : goal.statements-returns-clause-calls
 statements-returns-clause-calls t c =

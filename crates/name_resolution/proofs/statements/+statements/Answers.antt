@@ -1,14 +1,17 @@
 use Rattle.std.proofs.Common.{◌+◌, [], ◌∷◌, ◌≡◌, ◌++◌, ap, ◌∙◌, sym, take, get_or, Some, None}
 use Rattle.std.specs.Prelude.{map}
 use Rattle.std.proofs.lemmas.List.{take_all, take_more, map-append}
-use Rattle.secrec_ast.specs.Statements.{statement, statements_of}
+use Rattle.secrec_ast.specs.Statements.{statement, statements_of, start_tree, step_tree, optional}
+use Rattle.secrec_ast.specs.Equations.{for_statement_is}
 use Rattle.domain_types.specs.Views.{declared}
 use Rattle.typed_tree.specs.Commands.{command, commands_of}
-use Rattle.name_resolution.specs.Bodies.{resolved, resolved_all}
+use Rattle.name_resolution.specs.Scopes.{Place}
+use Rattle.name_resolution.specs.Bodies.{looped, resolved, resolved_all}
 use Rattle.name_resolution.specs.Views.{place_seen, with_place, commands_seen}
 use Rattle.name_resolution.proofs.Growing.{map_one}
 use Rattle.name_resolution.proofs.Missing.{passed_on, statements_none}
 use Rattle.name_resolution.proofs.Sequences.{resolved_all_more, place_made}
+use Rattle.name_resolution.proofs.Blocks.{block_fits, block_left, block_made}
 use Rattle.name_resolution.proofs.statements.+statements.Goals as goal
 
 pub statements-loop-each-preserved : goal.statements-loop-each-preserved
@@ -41,3 +44,30 @@ pub statements-returns-clause-made : goal.statements-returns-clause-made
 statements-returns-clause-made t c =
     let all = take_all c.loop-each.each-index c.deref-each-items.result.now c.loop-each-test.false ∙ c.deref-each-items.ensures.value in
     ap (λ l. resolved_all (declared c.args.declarations.now) (statements_of (map statement l)) (place_seen c.args.place.now)) (sym all) ∙ c.loop-each.invariant.made
+
+pub statement-leave-requires : goal.statement-leave-requires
+statement-leave-requires t c =
+    block_fits (place_seen c.args.place.now) (place_seen c.enter-outer.new.self) (place_seen c.statements.new.place) c.enter-outer.result c.enter-outer.ensures.inner c.enter-outer.ensures.outer c.in_ok-inner-in-Block.ensures.outer
+
+pub statement-leave-requires-in-For : goal.statement-leave-requires-in-For
+statement-leave-requires-in-For t c =
+    block_fits (place_seen c.args.place.now) (place_seen c.enter-outer-in-For.new.self) (place_seen c.looped.new.place) c.enter-outer-in-For.result c.enter-outer-in-For.ensures.inner c.enter-outer-in-For.ensures.outer c.in_ok-made-in-For.ensures.outer
+
+pub statement-returns-in_ok-made-in-For-clause-made : goal.statement-returns-in_ok-made-in-For-clause-made
+statement-returns-in_ok-made-in-For-clause-made t c =
+    let d = declared c.args.declarations.now in
+    let s = place_seen c.args.place.now in
+    let e = place_seen c.enter-outer-in-For.new.self in
+    let body : c.deref-in-For.result.now ≡ c.in-For.body.value = cc in
+    let parts = looped d (start_tree c.in-For.start) (optional c.in-For.e) (step_tree c.in-For.step) in
+    ap (λ t. resolved d t s) (ap statement c.in-For.is ∙ for_statement_is _ _ _ _ _)
+    ∙ block_made (parts (resolved d (statement c.in-For.body.value))) s e (place_seen c.looped.new.place) (place_seen c.leave-in-For.new.self) c.enter-outer-in-For.result (command c.in_ok-made-in-For.made) c.enter-outer-in-For.ensures.inner c.enter-outer-in-For.ensures.outer
+    (ap (λ z. parts (resolved d (statement z)) e) (sym body) ∙ c.in_ok-made-in-For.ensures.made) c.in_ok-made-in-For.ensures.outer c.leave-in-For.ensures
+
+pub statement-returns-in_ok-made-in-For-clause-outer : goal.statement-returns-in_ok-made-in-For-clause-outer
+statement-returns-in_ok-made-in-For-clause-outer t c =
+    ap (λ (p : Place). p.scope.outer) (block_left (place_seen c.args.place.now) (place_seen c.enter-outer-in-For.new.self) (place_seen c.looped.new.place) (place_seen c.leave-in-For.new.self) c.enter-outer-in-For.result c.enter-outer-in-For.ensures.inner c.enter-outer-in-For.ensures.outer c.in_ok-made-in-For.ensures.outer c.leave-in-For.ensures)
+
+pub inside-leave-requires : goal.inside-leave-requires
+inside-leave-requires t c =
+    block_fits (place_seen c.args.place.now) (place_seen c.enter-outer.new.self) (place_seen c.statement.new.place) c.enter-outer.result c.enter-outer.ensures.inner c.enter-outer.ensures.outer c.in_ok-made.ensures.outer

@@ -1,7 +1,6 @@
 use Rattle.std.proofs.Common.{◌≡◌, ◌≤◌, [], length, sym, ap, ◌∙◌, subst, arith}
 use Rattle.std.specs.Prelude.{All}
 use Rattle.std.proofs.lemmas.List.{length-map}
-use Rattle.std.proofs.lemmas.Result.{IfOk-weaker}
 use Rattle.typed_tree.specs.Programs.{typed_program_tree}
 use Rattle.reached_instances.specs.Instances.{instance_seen, listing_all}
 use Rattle.reached_instances.specs.Reached.{IsReachedList, IsBound}
@@ -35,12 +34,10 @@ returns-clause-list c =
     let p = typed_program_tree c.args.program.now in
     let ks = c.loop-next.list.keys in
     let below : length (instances_seen ks) ≤ c.loop-next.next = omega (arith, length-map ks instance_seen) in
-    let all = read_all p c.loop-next.next (instances_seen ks) below c.loop-next.invariant in
-    IfOk-weaker c.into_vec.result (λ v. v.items ≡ ks) (λ v. IsReachedList p (instances_seen v.items)) (λ v e. subst (λ l. IsReachedList p (instances_seen l)) (sym e) all) c.into_vec.ensures
+    subst (IsReachedList p) (sym c.new.ensures) (read_all p c.loop-next.next (instances_seen ks) below c.loop-next.invariant)
 
 pub returns-clause-bound : goal.returns-clause-bound
 returns-clause-bound c =
     let p = typed_program_tree c.args.program.now in
-    let ks = c.loop-next.list.keys in
-    let bound = all_bound p (instances_seen ks) (λ i m. reached_bound p i (c.loop-next.invariant.reached i m)) in
-    IfOk-weaker c.into_vec.result (λ v. v.items ≡ ks) (λ v. All (IsBound p) (instances_seen v.items)) (λ v e. subst (λ l. All (IsBound p) (instances_seen l)) (sym e) bound) c.into_vec.ensures
+    let is = instances_seen c.loop-next.list.keys in
+    subst (All (IsBound p)) (sym c.new.ensures) (all_bound p is (λ i m. reached_bound p i (c.loop-next.invariant.reached i m)))

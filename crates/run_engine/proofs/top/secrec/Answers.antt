@@ -1,5 +1,5 @@
 use Rattle.command_frame.proofs.Wholes.{complete, carried_out, end_says_nothing, file_counted, file_missed, file_told, memory_cuts, memory_said, refused_prints_nothing, usage_of_unnamed, usage_said, usage_unnamed, write_counted, write_cuts, write_said}
-use Rattle.run_engine.proofs.Promises.{check_keeps, deal_gives, eval_keeps, need_keeps, run_keeps}
+use Rattle.run_engine.proofs.Promises.{check_keeps, deal_keeps, eval_keeps, need_keeps, run_keeps}
 use Rattle.run_engine.proofs.Runs.{no_command}
 use Rattle.run_engine.proofs.Sums.{miners_open}
 use Rattle.run_engine.proofs.Tops.{telling}
@@ -94,5 +94,5 @@ returns-clause-sum_opened_by_miners g c = miners_open
 
 pub returns-clause-deals : goal.returns-clause-deals
 returns-clause-deals g c = λ ask asks t.
-    deal_gives _ _ _ _ _ _ _ _ (returns-clause-answered g c t) (λ answer a sound. returns-clause-answer_carried_out g c answer a sound t)
+    deal_keeps _ _ _ _ _ _ _ _ (returns-clause-answered g c t) (λ answer a sound. returns-clause-answer_carried_out g c answer a sound t)
     (λ answer a steady. returns-clause-complete g c answer a steady t) ask asks

@@ -1,4 +1,4 @@
-use Rattle.std.proofs.Common.{sym, ◌∙◌, arith}
+use Rattle.std.proofs.Common.{arith}
 use Rattle.secrec_parser.proofs.Programs.{found, only, none, some_rest, refuses}
 use Rattle.secrec_parser.proofs.parsing.parse.Goals as goal
 

@@ -1,10 +1,10 @@
-use Rattle.std.proofs.Common.{◌≡◌, ◌-◌, ◌<◌, ℕ, List, [], ◌∷◌, ◌++◌, refl, sym, ap, ◌∙◌, Ok, Err, arith}
+use Rattle.std.proofs.Common.{◌-◌, [], ◌∷◌, sym, ap, ◌∙◌, length, arith}
 use Rattle.std.specs.Prelude.{map}
 use Rattle.std.proofs.lemmas.List.{map-append}
 use Rattle.std.proofs.lemmas.Result.{err_from_is_err_and}
 use Rattle.secrec_ast.specs.Programs.{item_tree}
 use Rattle.secrec_parser.specs.Steps.{at_end, item, list_from, listed}
-use Rattle.secrec_parser.proofs.Turns.{list_stops, list_goes_on, list_fails, passes}
+use Rattle.secrec_parser.proofs.Turns.{list_stops, list_goes_on, list_fails, passes_on}
 use Rattle.secrec_parser.proofs.program.items.Goals as goal
 
 pub returns-in_err-next : goal.returns-in_err-next
@@ -15,9 +15,10 @@ returns-in_err-next c =
     let p = err_from_is_err_and c.from_residual.result c.from_residual.ensures.1 in
     record {
       step =
-          rw (p.1, p.2) (passes c.in_err-next.field-0.0 (item c.args.room w) (listed (λ found w. at_end w) (item c.args.room) [] c.args.tokens.now)
+          rw (p.1, p.2)
+          (passes_on c.in_err-next.field-0.0 (item c.args.room w) (listed (λ found w. at_end w) (item c.args.room) [] c.args.tokens.now) (length w)
           (λ q r e. i.2 ∙ list_fails (λ found w. at_end w) (item c.args.room) i.0 found w r q (omega (arith, i.1)) (sym c.at_end.ensures ∙ c.loop-alloc-test.true) e)
-          c.in_err-next.ensures.step);
+          c.in_err-next.ensures);
     }
 
 pub loop-alloc-preserved : goal.loop-alloc-preserved
@@ -26,13 +27,15 @@ loop-alloc-preserved c =
     let found = map item_tree c.loop-alloc.found.items in
     let w = c.loop-alloc.rest.now in
     let e = c.in_ok-next.ensures in
+    let l = e.1 in
     let one_more = ap (map item_tree) c.in_ok-push.ensures.items ∙ map-append item_tree c.loop-alloc.found.items (c.in_ok-next.next ∷ []) in
     record {
       step = (
         i.0 - 1,
-        omega arith,
+        omega (arith, l, i.1),
         i.2
-            ∙ list_goes_on (λ found w. at_end w) (item c.args.room) i.0 found w c.in_ok-next.behind.now (item_tree c.in_ok-next.next) (omega (arith, i.1)) (sym c.at_end.ensures ∙ c.loop-alloc-test.true) e.step
+            ∙ list_goes_on (λ found w. at_end w) (item c.args.room) i.0 found w c.in_ok-next.behind.now (item_tree c.in_ok-next.next)
+            (omega (arith, i.1)) (sym c.at_end.ensures ∙ c.loop-alloc-test.true) e.0
             ∙ ap (λ l. list_from (λ found w. at_end w) (item c.args.room) (i.0 - 1) l c.in_ok-next.behind.now) (sym one_more),
       );
     }

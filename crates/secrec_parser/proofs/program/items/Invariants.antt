@@ -1,4 +1,4 @@
-use Rattle.std.proofs.Common.{◌≡◌, ◌<◌, ◌≤◌, ℕ, [], length}
+use Rattle.std.proofs.Common.{◌≡◌, ◌<◌, ℕ, [], length}
 use Rattle.std.specs.Prelude.{map}
 use Rattle.secrec_ast.specs.Programs.{item_tree}
 use Rattle.secrec_parser.specs.Steps.{at_end, item, list_from, listed}

@@ -17,9 +17,6 @@ decreases-braced l = 4 * l.room + 4
 abbrev pub decreases-if_statement : goal.decreases-if_statement
 decreases-if_statement l = 4 * l.room + 5
 
-abbrev pub decreases-otherwise : goal.decreases-otherwise
-decreases-otherwise l = 4 * l.room + 4
-
 abbrev pub decreases-while_statement : goal.decreases-while_statement
 decreases-while_statement l = 4 * l.room + 4
 

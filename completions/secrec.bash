@@ -1,0 +1,62 @@
+# Completion of secrec for bash.
+
+# Offers the words of the list that begin as the current one does.
+_secrec_words() {
+  mapfile -t COMPREPLY < <(compgen -W "$1" -- "$current")
+}
+# Offers folders and the files that match a pattern; all files where none does.
+_secrec_files() {
+  compopt -o filenames 2>/dev/null
+  mapfile -t COMPREPLY < <(compgen -f -X "!$1" -- "$current"; compgen -d -- "$current")
+  [ "${#COMPREPLY[@]}" -gt 0 ] || mapfile -t COMPREPLY < <(compgen -f -- "$current")
+}
+# Whether one of these options is there already.
+_secrec_used() {
+  local option
+  for option; do case $used in *" $option "*) return 0 ;; esac; done
+  return 1
+}
+_secrec() {
+  local current=${COMP_WORDS[COMP_CWORD]} before=$((COMP_CWORD - 1)) options used=' ' left='' option program='' k
+  COMPREPLY=()
+  if [ "$COMP_CWORD" -eq 1 ]; then
+    _secrec_words 'check eval need run deal'
+    return
+  fi
+  case ${COMP_WORDS[1]} in
+    check) options='' ;;
+    eval | need) options='--input --budget' ;;
+    run) options='--input --tape --seed --words --budget' ;;
+    deal) options='--input --tape --to' program=none ;;
+    *) return ;;
+  esac
+  # (`--name=value` comes in three words)
+  if [ "$current" = '=' ]; then current=''; elif [ "${COMP_WORDS[before]}" = '=' ]; then before=$((before - 1)); fi
+  case ${COMP_WORDS[before]} in
+    --input) _secrec_files '*.json'; return ;;
+    --tape | --to) _secrec_files '*'; return ;;
+    --seed | --words | --budget) return ;;
+  esac
+  for ((k = 2; k < COMP_CWORD; k++)); do
+    case ${COMP_WORDS[k]} in
+      --*)
+        used+="${COMP_WORDS[k]} "
+        k=$((k + 1))
+        [ "${COMP_WORDS[k]-}" != '=' ] || k=$((k + 1))
+        ;;
+      *) program=${COMP_WORDS[k]} ;;
+    esac
+  done
+  for option in $options; do
+    case $option in
+      --tape) _secrec_used --tape --seed --words || left+="$option " ;;
+      --seed | --words) _secrec_used "$option" --tape || left+="$option " ;;
+      *) _secrec_used "$option" || left+="$option " ;;
+    esac
+  done
+  case $current in
+    -*) _secrec_words "$left" ;;
+    *) if [ -z "$program" ]; then _secrec_files '*.sc'; else _secrec_words "$left"; fi ;;
+  esac
+}
+complete -F _secrec secrec

@@ -1,0 +1,4 @@
+pub mod Alike
+pub mod Driven
+pub mod Steps
+pub mod Twins

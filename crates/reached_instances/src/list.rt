@@ -1,0 +1,46 @@
+// The list of the reached instances, with the number of each.
+ghost use Rattle.std.specs.Prelude.{◌≡◌, List};
+ghost use Rattle.reached_instances.specs.Instances as listed;
+ghost use Rattle.reached_instances.specs.Instances.{instance_seen, number_in};
+ghost use Rattle.reached_instances.specs.Views.{instances_seen};
+
+use crate::instance::Instance;
+use indexmap::IndexSet;
+use std::marker::Model;
+
+/// The instances that `main` reaches, each once, in the order in which they are first called; `main` is number 0. Clauses see
+/// the list.
+#[derive(Drop)]
+pub struct ReachedInstances {
+    list: IndexSet<Instance>,
+}
+
+impl Model for ReachedInstances {
+    ghost Value = { List listed.Instance };
+
+    ghost view = { λ r. instances_seen r.list.keys };
+}
+
+impl ReachedInstances {
+    /// These instances.
+    pub(crate) fn new(list: IndexSet<Instance>) -> ReachedInstances
+        ensures { result ≡ instances_seen list.keys }
+    {
+        ReachedInstances { list }
+    }
+
+    /// The instances in their order.
+    pub fn as_slice(&self) -> &[Instance]
+        ensures { instances_seen result.now ≡ self.now }
+    {
+        self.list.as_slice()
+    }
+
+    /// The number of an instance, if it is reached; it is found without a walk over the list.
+    #[tactic(auto, using(crate::proofs::Keys::key_numbered))]
+    pub fn number(&self, instance: &Instance) -> Option<usize>
+        ensures { result ≡ number_in self.now (instance_seen instance.now) }
+    {
+        self.list.get_index_of(instance)
+    }
+}
