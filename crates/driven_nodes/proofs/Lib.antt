@@ -5,4 +5,5 @@ pub mod DrivenRuns
 pub mod Telling
 pub mod Laws
 pub mod NodeRuns
+pub mod StepLaws
 pub mod Sample
