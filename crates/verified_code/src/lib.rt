@@ -10,5 +10,5 @@ mod verified;
 mod verifying;
 
 pub use fault::{Problem, VerifyErr};
-pub use laws::{sound_code_is_verified, verified_code_is_sound};
+pub use laws::{operators_are_those_of_signs, sound_code_is_verified, verified_code_is_sound};
 pub use verified::{Verified, verify};
