@@ -6,3 +6,5 @@ pub mod Encoded
 pub mod Reading
 pub mod SameOperands
 pub mod HeadReads
+pub mod NameReads
+pub mod WholeReads

@@ -132,7 +132,7 @@ field_stops why n test text e h = stops_carry (number n text) (λ x rest. passed
 abbrev pub after : {A : Type 0} → List A → Read (List A) → Read (List A)
 after xs r = carry r (λ ys rest. Ok (xs ++ ys, rest))
 
-after_nothing : {A : Type 0} (r : Read (List A)) → r ≡ after [] r
+pub after_nothing : {A : Type 0} (r : Read (List A)) → r ≡ after [] r
 after_nothing (Ok x) = refl
 after_nothing (Err e) = refl
 
@@ -140,7 +140,7 @@ pub repeated_begins : {A : Type 0} (f : Layout A) (n : ℕ) (text : List ℕ) �
 repeated_begins f n text =
     let e : n ≡ n - 0 = omega arith in ap (λ k. read (repeated f k) text) e ∙ after_nothing (read (repeated f (n - 0)) text)
 
-after_step : {A : Type 0} (xs : List A) (x : A) (r : Read (List A)) → after xs (carry r (λ ys rest. Ok (x ∷ ys, rest))) ≡ after (xs ++ x ∷ []) r
+pub after_step : {A : Type 0} (xs : List A) (x : A) (r : Read (List A)) → after xs (carry r (λ ys rest. Ok (x ∷ ys, rest))) ≡ after (xs ++ x ∷ []) r
 after_step xs x (Ok y) = ap (λ z. Ok (z, y.1)) (sym (append_assoc xs (x ∷ []) y.0))
 after_step xs x (Err e) = refl
 

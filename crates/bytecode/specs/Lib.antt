@@ -4,6 +4,7 @@ pub mod Written
 pub mod Writable
 pub mod Layouts
 pub mod Decoded
+pub mod Decoding
 pub mod InMemory
 pub mod Numbers
 pub mod Reading

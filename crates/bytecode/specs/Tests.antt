@@ -3,6 +3,7 @@ use Rattle.std.specs.Prelude.{ℕ, Bool}
 use Rattle.bytecode.specs.declared.test.Test.{Test}
 use Rattle.bytecode.specs.declared.test.Test.TheVariants as tests
 use Rattle.bytecode.specs.Kinds.{is_kind, is_return}
+use Rattle.bytecode.specs.Layouts.{is_name_length}
 use Rattle.bytecode.specs.Decoded.{any, is_tag, is_operator, is_truth, is_some_count}
 
 abbrev pub passes : Test → ℕ → Bool
@@ -13,3 +14,4 @@ passes tests.Truth = is_truth
 passes tests.Kind = is_kind
 passes tests.Return = is_return
 passes tests.Count = is_some_count
+passes tests.NameLength = is_name_length

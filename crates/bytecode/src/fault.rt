@@ -23,6 +23,13 @@ pub struct Fault {
     pub place: usize,
 }
 
+/// Why there is no code of a text: its first fault, or memory ran short.
+#[derive(Clone, Copy)]
+pub enum DecodeErr {
+    Refused(Fault),
+    Memory,
+}
+
 /// Why reading stopped: a fault, with the number of bytes from its place on, or memory.
 #[derive(Clone, Copy)]
 pub(crate) enum Stopped {

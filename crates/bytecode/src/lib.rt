@@ -3,12 +3,14 @@
 
 mod code;
 mod copy;
+mod decoding;
 mod encoding;
 mod fault;
 mod heads;
 mod instruction;
 mod kind;
 mod laws;
+mod names;
 mod numbers;
 mod operands;
 mod operator;
@@ -18,8 +20,9 @@ mod test;
 mod writing;
 
 pub use code::{Code, Function};
+pub use decoding::decode;
 pub use encoding::encode;
-pub use fault::{Fault, FaultKind};
+pub use fault::{DecodeErr, Fault, FaultKind};
 pub use instruction::{FunctionPlace, Instruction, NamePlace, Register, Target};
 pub use kind::Kind;
 pub use laws::{read_code_is_written, written_code_is_read_again};

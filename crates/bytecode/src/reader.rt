@@ -1,8 +1,8 @@
 // What is left of a text, read number by number.
-ghost use Rattle.std.specs.Prelude.{◌≡◌, ◌≤◌, ◌<◌, ◌^◌, ◌∷◌, [], List, ℕ, length, drop, IfOk, IsTrue, MatchResult};
-ghost use Rattle.bytecode.specs.Decoded.{any, is_operator, is_truth};
+ghost use Rattle.std.specs.Prelude.{◌≡◌, ◌==◌, ◌≤◌, ◌<◌, ◌^◌, ◌∷◌, [], List, ℕ, length, drop, IfOk, IsTrue, MatchResult};
+ghost use Rattle.bytecode.specs.Decoded.{any, is_operator, is_some_count, is_truth};
 ghost use Rattle.bytecode.specs.Tests.{passes};
-ghost use Rattle.bytecode.specs.Layouts.{number, read, Field, Makes};
+ghost use Rattle.bytecode.specs.Layouts.{characters, number, read, Field, Makes};
 ghost use Rattle.bytecode.specs.Reading.{Reads, optional};
 ghost use Rattle.bytecode.specs.declared.fault.FaultKind.TheVariants.{BadTag, Truncated};
 ghost use Rattle.bytecode.specs.declared.fault.Stopped.TheVariants.{Refused};
@@ -12,6 +12,7 @@ use crate::test::Test;
 use std::marker::Model;
 
 /// A text that is read. Clauses see the bytes that are left.
+#[derive(Drop)]
 pub(crate) struct Reader<'a> {
     text: &'a [u8],
     place: usize,
@@ -84,6 +85,41 @@ impl<'a> Reader<'a> {
     {
         let value = self.checked(1, test)?;
         Ok(value as u8)
+    }
+
+    /// A number in two bytes that isn't 0.
+    pub(crate) fn count(&mut self) -> Result<u16, Stopped>
+        ensures { Reads (λ x. x) (read (Field BadTag 2 is_some_count Makes) self.old) result self.new }
+    {
+        let value = self.checked(2, Test::Count)?;
+        Ok(value as u16)
+    }
+
+    /// A byte that has to be this one.
+    pub(crate) fn expect(&mut self, wanted: u8, kind: FaultKind) -> Result<(), Stopped>
+        ensures { Reads (λ _. wanted) (read (Field kind 1 (λ b. b == wanted) Makes) self.old) result self.new }
+    {
+        let left = self.left();
+        let byte = self.number(1)?;
+        if byte == wanted as u64 {
+            Ok(())
+        } else {
+            Err(Stopped::Refused(kind, left))
+        }
+    }
+
+    /// The next bytes, so many.
+    pub(crate) fn characters(&mut self, count: usize) -> Result<&'a [u8], Stopped>
+        requires { 0 < count }
+        ensures { Reads (λ bytes. bytes.now) (characters count self.old) result self.new }
+    {
+        if count <= self.left() {
+            let place = self.place;
+            self.place += count;
+            Ok(&self.text[place..place + count])
+        } else {
+            Err(Stopped::Refused(FaultKind::Truncated, 0))
+        }
     }
 
     /// A number in two bytes.

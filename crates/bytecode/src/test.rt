@@ -11,6 +11,7 @@ pub(crate) enum Test {
     Kind,
     Return,
     Count,
+    NameLength,
 }
 
 impl Test {
@@ -26,6 +27,7 @@ impl Test {
             Test::Kind => value < 8,
             Test::Return => value < 8 || value == 255,
             Test::Count => 0 < value,
+            Test::NameLength => 1 <= value && value <= 64,
         }
     }
 }

@@ -1,0 +1,134 @@
+// How a whole text is read.
+ghost use Rattle.std.specs.Prelude.{◌≡◌, ◌++◌, ◌∷◌, ◌-◌, [], IfOk, OnOk, map};
+ghost use Rattle.bytecode.specs.declared.fault.DecodeErr.TheVariants.{Refused};
+ghost use Rattle.bytecode.specs.Decoded.{bodies_layout, code_layout, decoded};
+ghost use Rattle.bytecode.specs.Decoding.{IsDecoded, function_layout, opening_layout, settled, some_functions_layout};
+ghost use Rattle.bytecode.specs.InMemory.{raw_code, raw_function, raw_head};
+ghost use Rattle.bytecode.specs.Layouts.{read};
+ghost use Rattle.bytecode.specs.Reading.{Reads};
+
+use crate::code::{Code, Function};
+use crate::fault::{DecodeErr, Fault, FaultKind, Stopped};
+use crate::heads::{Head, all_heads};
+use crate::names::all_names;
+use crate::operands::body;
+use crate::reader::Reader;
+use std::alloc::{AllocError, Global};
+
+fn opening(reader: &mut Reader<'_>) -> Result<(), Stopped>
+    ensures { Reads (λ _. 1) (read opening_layout reader.old) result reader.new }
+{
+    reader.expect(83, FaultKind::BadTag)?;
+    reader.expect(67, FaultKind::BadTag)?;
+    reader.expect(51, FaultKind::BadTag)?;
+    reader.expect(80, FaultKind::BadTag)?;
+    reader.expect(1, FaultKind::BadVersion)
+}
+
+fn push_count(counts: &mut Vec<u16>, count: u16) -> Result<(), AllocError>
+    ensures { OnOk result (counts.new.items ≡ counts.old.items ++ count ∷ []) }
+{
+    counts.push(count)?;
+    Ok(())
+}
+
+/// How many parameters the functions have.
+fn parameters_of(alloc: Global, heads: &[Head]) -> Result<Vec<u16>, AllocError>
+    ensures { IfOk result (λ counts. counts.items ≡ map (λ h. h.parameters) heads.now) }
+{
+    let mut counts = Vec::new(alloc);
+    for head in heads {
+        push_count(&mut counts, head.parameters)?;
+    }
+    Ok(counts)
+}
+
+fn function(
+    alloc: Global,
+    reader: &mut Reader<'_>,
+    parameters: &[u16],
+    head: Head,
+) -> Result<Function, Stopped>
+    ensures { Reads raw_function (read (function_layout parameters.now (raw_head head)) reader.old) result reader.new }
+{
+    let body = body(alloc, reader, parameters, head.instructions as usize)?;
+    Ok(Function {
+        parameters: head.parameters,
+        gives: head.gives,
+        registers: head.registers,
+        body,
+    })
+}
+
+fn push_function(functions: &mut Vec<Function>, function: Function) -> Result<(), AllocError>
+    ensures { OnOk result (functions.new.items ≡ functions.old.items ++ function ∷ []) }
+{
+    functions.push(function)?;
+    Ok(())
+}
+
+fn bodies(
+    alloc: Global,
+    reader: &mut Reader<'_>,
+    parameters: &[u16],
+    heads: Vec<Head>,
+) -> Result<Vec<Function>, Stopped>
+    ensures { Reads (λ v. map raw_function v.items) (read (bodies_layout parameters.now (map raw_head heads.items)) reader.old) result reader.new }
+{
+    let mut functions = Vec::new(alloc);
+    for head in heads {
+        let next = function(alloc, reader, parameters, head)?;
+        push_function(&mut functions, next)?;
+    }
+    Ok(functions)
+}
+
+fn functions(alloc: Global, reader: &mut Reader<'_>) -> Result<Vec<Function>, Stopped>
+    ensures { Reads (λ v. map raw_function v.items) (read some_functions_layout reader.old) result reader.new }
+{
+    let count = reader.count()?;
+    let heads = all_heads(alloc, reader, count as usize)?;
+    let parameters = parameters_of(alloc, &heads)?;
+    bodies(alloc, reader, &parameters, heads)
+}
+
+fn code(alloc: Global, reader: &mut Reader<'_>) -> Result<Code, Stopped>
+    ensures { Reads raw_code (read code_layout reader.old) result reader.new }
+{
+    opening(reader)?;
+    let count = reader.short()?;
+    let names = all_names(alloc, reader, count as usize)?;
+    let functions = functions(alloc, reader)?;
+    Ok(Code { names, functions })
+}
+
+fn fault(kind: FaultKind, size: usize, left: usize) -> DecodeErr
+    ensures { result ≡ Refused (record { kind = kind; place = size - left }) }
+{
+    DecodeErr::Refused(Fault {
+        kind,
+        place: size.saturating_sub(left),
+    })
+}
+
+/// What was read of a text of so many bytes, of which so many are left.
+fn settled(read: Result<Code, Stopped>, size: usize, left: usize) -> Result<Code, DecodeErr>
+    ensures { result ≡ settled size read left }
+{
+    match read {
+        Ok(code) if left == 0 => Ok(code),
+        Ok(_) => Err(fault(FaultKind::Trailing, size, left)),
+        Err(Stopped::Refused(kind, behind)) => Err(fault(kind, size, behind)),
+        Err(Stopped::Memory) => Err(DecodeErr::Memory),
+    }
+}
+
+/// Reads code, or tells the first fault of the text.
+pub fn decode(alloc: Global, bytes: &[u8]) -> Result<Code, DecodeErr>
+    ensures { IsDecoded (decoded bytes.now) result }
+{
+    let mut reader = Reader::new(bytes);
+    let code = code(alloc, &mut reader);
+    let left = reader.left();
+    settled(code, bytes.len(), left)
+}
