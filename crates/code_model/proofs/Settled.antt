@@ -16,10 +16,12 @@ use Rattle.bytecode.specs.declared.kind.Kind.{Kind}
 use Rattle.bytecode.specs.Raw.{Raw, RawFunction, RawCode}
 use Rattle.bytecode.specs.Raw as raw
 use Rattle.verified_code.specs.Steps.{Step, Function}
+use Rattle.verified_code.specs.Steps as steps
 use Rattle.verified_code.specs.Fitting as fitting
 use Rattle.verified_code.specs.Verified.{here}
 use Rattle.verified_code.specs.Settled.{settle, settled_function, settled, result_at}
 use Rattle.verified_code.specs.Sound.{passes, IsSoundFunction, IsSound}
+use Rattle.code_model.specs.Meaning.{AreForward}
 use Rattle.code_model.specs.Kinds.{kind_of}
 use Rattle.code_model.specs.Kinded.{public_scalar, with_secret, with_array, cast_source, cast_target, left_array, right_array, HasKind, ArgumentsHave}
 use Rattle.code_model.specs.Kinded.{ResultFits, StepFits, is_return, IsFitting, IsIn}
@@ -329,3 +331,43 @@ pub sound_fits : (c : RawCode) → IsSound c → (f : Function) → IsIn (settle
 sound_fits c sound f there =
     let x = unmapped (settled_function c.names) c.functions there.0 f there.1 in
     subst (IsFitting (settled c)) x.2 (function_fits c there.0 x.0 (sound.functions there.0 x.0 x.1))
+
+-- ---- JUMPS
+
+abbrev LeadsOn : ℕ → Step → Type 0
+LeadsOn place (steps.Jump target) = place < target
+LeadsOn place i = Unit {0}
+
+leads_on : (c : RawCode) (f : RawFunction) (place : ℕ) (i : Raw) → fitting.target_fits (here c f place) i ≡ true → LeadsOn place (settle c.names f.registers i)
+leads_on c f place (raw.Jump target) t = ltb-true place target (and_parts (nat_lt place target) (nat_lt target (length f.body)) t).0
+leads_on c f place (raw.Literal d x) t = tt
+leads_on c f place (raw.Move d r) t = tt
+leads_on c f place (raw.Store d r) t = tt
+leads_on c f place (raw.Binary q d a b line) t = tt
+leads_on c f place (raw.Not d r) t = tt
+leads_on c f place (raw.Cast d r) t = tt
+leads_on c f place (raw.Classify d r) t = tt
+leads_on c f place (raw.Fill d q x line) t = tt
+leads_on c f place (raw.At d a i line) t = tt
+leads_on c f place (raw.Put a i x line) t = tt
+leads_on c f place (raw.Size d r) t = tt
+leads_on c f place (raw.Cat d a b line) t = tt
+leads_on c f place (raw.Sum d r) t = tt
+leads_on c f place (raw.Bits d r line) t = tt
+leads_on c f place (raw.Declassify d r) t = tt
+leads_on c f place (raw.Argument d name line) t = tt
+leads_on c f place (raw.Publish name r) t = tt
+leads_on c f place (raw.Assert r line) t = tt
+leads_on c f place (raw.Branch r v target) t = tt
+leads_on c f place (raw.Call g d args line) t = tt
+leads_on c f place (raw.Return r) t = tt
+leads_on c f place raw.ReturnNone t = tt
+
+pub sound_forward : (c : RawCode) → IsSound c → AreForward (settled c)
+sound_forward c sound g f e pc target j =
+    let x = unmapped (settled_function c.names) c.functions g f e in
+    let y = unmapped (settle c.names x.0.registers) x.0.body pc (steps.Jump target) (ap (λ z. slice_get z.steps pc) x.2 ∙ j) in
+    let at = here c x.0 pc in
+    let m = four_parts (fitting.names_there at y.0) (fitting.operands_fit at y.0) (fitting.target_fits at y.0) (fitting.goes_on at y.0)
+    ((sound.functions g x.0 x.1).instructions pc y.0 y.1) in
+    subst (LeadsOn pc) y.2 (leads_on c x.0 pc y.0 m.2)
