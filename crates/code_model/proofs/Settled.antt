@@ -23,7 +23,7 @@ use Rattle.verified_code.specs.Settled.{settle, settled_function, settled, resul
 use Rattle.verified_code.specs.Sound.{passes, IsSoundFunction, IsSound}
 use Rattle.code_model.specs.Meaning.{AreForward}
 use Rattle.code_model.specs.Kinds.{kind_of}
-use Rattle.code_model.specs.Kinded.{public_scalar, with_secret, with_array, cast_source, cast_target, left_array, right_array, HasKind, ArgumentsHave}
+use Rattle.code_model.specs.Kinded.{cast_source, cast_target, left_array, right_array, HasKind, ArgumentsHave}
 use Rattle.code_model.specs.Kinded.{ResultFits, StepFits, is_return, IsFitting, IsIn}
 
 clash : false ≡ true → ⊥
@@ -163,8 +163,8 @@ module _ (c : RawCode) (f : RawFunction) (place : ℕ) where
   abbrev ks : List Kind
   ks = f.registers
 
-  abbrev K : ℕ → Kind
-  K = fitting.kind_at f.registers
+  abbrev its_kind : ℕ → Kind
+  its_kind = fitting.kind_at f.registers
 
   abbrev at : fitting.Here
   at = here c f place
@@ -182,7 +182,7 @@ module _ (c : RawCode) (f : RawFunction) (place : ℕ) where
   call_fits g d args None e t l h = absurd (clash h)
   call_fits g d args (Some r) e t l h =
       let m = four_parts (nat_le r.parameters (length r.registers)) (length args == r.parameters)
-      (fitting.arguments_fit ks args (take r.parameters r.registers)) (fitting.is_none d || fitting.gives_fits r.gives (K d)) h in (
+      (fitting.arguments_fit ks args (take r.parameters r.registers)) (fitting.is_none d || fitting.gives_fits r.gives (its_kind d)) h in (
         settled_function c.names r,
         mapped (settled_function c.names) c.functions g r e,
         arguments_have ks args r.registers r.parameters l m.2,
@@ -190,7 +190,7 @@ module _ (c : RawCode) (f : RawFunction) (place : ℕ) where
             d r.gives t m.3,
       )
 
-  gives_this : (g : Option Kind) (r : ℕ) → fitting.is_there ks r ≡ true → fitting.gives_fits g (K r) ≡ true → (k : Kind) × (g ≡ Some k) × HasKind ks r k
+  gives_this : (g : Option Kind) (r : ℕ) → fitting.is_there ks r ≡ true → fitting.gives_fits g (its_kind r) ≡ true → (k : Kind) × (g ≡ Some k) × HasKind ks r k
   gives_this None r t h = absurd (clash h)
   gives_this (Some k) r t h = (k, refl, has_as ks r k t h)
 
@@ -200,72 +200,100 @@ module _ (c : RawCode) (f : RawFunction) (place : ℕ) where
 
   step_fits : (i : Raw) → fitting.names_there at i ≡ true → fitting.operands_fit at i ≡ true → fitting.target_fits at i ≡ true → StepFits (settled c) own
       (settle c.names ks i)
-  step_fits (raw.Literal d x) n o t = has_as ks d _ n (and_parts (fitting.same_kind (K d) (fitting.public_scalar (K d).element))
-      (fitting.is_word (K d).element || nat_lt x 2) o).0
-  step_fits (raw.Move d r) n o t = let m = two_there d r n in (K r, has ks r m.1, has_as ks d (K r) m.0 o)
-  step_fits (raw.Store d r) n o t = let m = two_there d r n in (K r, has ks r m.1, has_as ks d (K r) m.0 o)
+  step_fits (raw.Literal d x) n o t = has_as ks d _ n (and_parts (fitting.same_kind (its_kind d) (fitting.public_scalar (its_kind d).element))
+      (fitting.is_word (its_kind d).element || nat_lt x 2) o).0
+  step_fits (raw.Move d r) n o t = let m = two_there d r n in (its_kind r, has ks r m.1, has_as ks d (its_kind r) m.0 o)
+  step_fits (raw.Store d r) n o t = let m = two_there d r n in (its_kind r, has ks r m.1, has_as ks d (its_kind r) m.0 o)
   step_fits (raw.Binary q d a b line) n o t =
       let m = three_there d a b n in
-      let op = fitting.operator_at (K a).element q in
-      let last = fitting.same_kind (K d) (fitting.result_kind op (K a) (K b)) in
-      let secrecy = fitting.secrecy_fits op (K a).secret (K b).secret in
-      let four = four_parts (fitting.same_element (K a).element (K b).element) (fitting.operator_exists (K a).element q) secrecy last o in (
-        K a,
-        K b,
+      let op = fitting.operator_at (its_kind a).element q in
+      let last = fitting.same_kind (its_kind d) (fitting.result_kind op (its_kind a) (its_kind b)) in
+      let secrecy = fitting.secrecy_fits op (its_kind a).secret (its_kind b).secret in
+      let four = four_parts (fitting.same_element (its_kind a).element (its_kind b).element) (fitting.operator_exists (its_kind a).element q) secrecy last o
+      in (
+        its_kind a,
+        its_kind b,
         has ks a m.1,
         has ks b m.2,
-        left_is (K a).array (K b).array,
-        right_is (K a).array (K b).array,
+        left_is (its_kind a).array (its_kind b).array,
+        right_is (its_kind a).array (its_kind b).array,
         has_as ks d _ m.0 four.3 ∙ ap Some
-            (result_is op ((K a).secret || (K b).secret) (K a).array (K b).array),
+            (result_is op ((its_kind a).secret || (its_kind b).secret) (its_kind a).array (its_kind b).array),
       )
   step_fits (raw.Not d r) n o t = let m = two_there d r n
-      in (K r, has ks r m.1, has_as ks d (K r) m.0 (and_parts (fitting.same_kind (K d) (K r)) (not (fitting.is_word (K r).element)) o).0)
+      in (
+        its_kind r,
+        has ks r m.1,
+        has_as ks d (its_kind r) m.0 (and_parts (fitting.same_kind (its_kind d) (its_kind r))
+            (not (fitting.is_word (its_kind r).element)) o).0,
+      )
   step_fits (raw.Cast d r) n o t =
       let m = two_there d r n in
-      let two = and_parts (fitting.same_truth (K d).secret (K r).secret) (fitting.same_truth (K d).array (K r).array) o in (
-        (K r).secret,
-        (K r).array,
-        has ks r m.1 ∙ ap (λ z. Some (record { secret = (K r).secret; element = z; array = (K r).array })) (source_is (K r).element (K d).element),
-        has ks d m.0 ∙ ap (λ z. Some (record { secret = z; element = (K d).element; array = (K d).array })) (truths (K d).secret (K r).secret two.0)
-            ∙ ap (λ z. Some (record { secret = (K r).secret; element = z; array = (K d).array })) (target_is (K r).element (K d).element)
-            ∙ ap (λ z. Some (record { secret = (K r).secret; element = cast_target (cast_between (K r).element (K d).element); array = z }))
-            (truths (K d).array (K r).array two.1),
+      let two = and_parts (fitting.same_truth (its_kind d).secret (its_kind r).secret) (fitting.same_truth (its_kind d).array (its_kind r).array) o in (
+        (its_kind r).secret,
+        (its_kind r).array,
+        has ks r m.1 ∙ ap (λ z. Some (record { secret = (its_kind r).secret; element = z; array = (its_kind r).array }))
+            (source_is (its_kind r).element (its_kind d).element),
+        has ks d m.0 ∙ ap (λ z. Some (record { secret = z; element = (its_kind d).element; array = (its_kind d).array }))
+            (truths (its_kind d).secret (its_kind r).secret two.0)
+            ∙ ap (λ z. Some (record { secret = (its_kind r).secret; element = z; array = (its_kind d).array }))
+            (target_is (its_kind r).element (its_kind d).element)
+            ∙ ap (λ z. Some (record {
+              secret = (its_kind r).secret;
+              element = cast_target (cast_between (its_kind r).element (its_kind d).element);
+              array = z;
+            }))
+            (truths (its_kind d).array (its_kind r).array two.1),
       )
   step_fits (raw.Classify d r) n o t = let m = two_there d r n
-      in (K r, has ks r m.1, has_as ks d _ m.0 (and_parts (not (K r).secret) (fitting.same_kind (K d) (fitting.private_as (K r))) o).1)
+      in (
+        its_kind r,
+        has ks r m.1,
+        has_as ks d _ m.0 (and_parts (not (its_kind r).secret) (fitting.same_kind (its_kind d) (fitting.private_as (its_kind r)))
+            o).1,
+      )
   step_fits (raw.Fill d q x line) n o t =
       let m = three_there d q x n in
-      let last = fitting.same_kind (K d) (fitting.array_of (K x)) in
-      (K x, has ks x m.2, has_as ks d _ m.0 (three_parts (fitting.same_kind (K q) (fitting.public_scalar Uint64)) (not (K x).array) last o).2)
+      let last = fitting.same_kind (its_kind d) (fitting.array_of (its_kind x)) in (
+        its_kind x,
+        has ks x m.2,
+        has_as ks d _ m.0 (three_parts (fitting.same_kind (its_kind q) (fitting.public_scalar Uint64)) (not (its_kind x).array) last
+            o).2,
+      )
   step_fits (raw.At d a i line) n o t =
       let m = three_there d a i n in
-      let last = fitting.same_kind (K d) (fitting.element_of (K a)) in
-      (K a, has ks a m.1, has_as ks d _ m.0 (three_parts (K a).array (fitting.same_kind (K i) (fitting.public_scalar Uint64)) last o).2)
+      let last = fitting.same_kind (its_kind d) (fitting.element_of (its_kind a)) in
+      (its_kind a, has ks a m.1, has_as ks d _ m.0 (three_parts (its_kind a).array (fitting.same_kind (its_kind i) (fitting.public_scalar Uint64)) last o).2)
   step_fits (raw.Put a i x line) n o t =
       let m = three_there a i x n in (
-        K a,
+        its_kind a,
         has ks a m.0,
-        (three_parts (K a).array (fitting.same_kind (K i) (fitting.public_scalar Uint64))
-            (fitting.same_kind (K x) (fitting.element_of (K a))) o).0,
+        (three_parts (its_kind a).array (fitting.same_kind (its_kind i) (fitting.public_scalar Uint64))
+            (fitting.same_kind (its_kind x) (fitting.element_of (its_kind a))) o).0,
       )
   step_fits (raw.Size d r) n o t = let m = two_there d r n in has_as ks d _ m.0
-      (and_parts (K r).array (fitting.same_kind (K d) (fitting.public_scalar Uint64)) o).1
+      (and_parts (its_kind r).array (fitting.same_kind (its_kind d) (fitting.public_scalar Uint64)) o).1
   step_fits (raw.Cat d a b line) n o t =
       let m = three_there d a b n in
-      let parts = three_parts (K d).array (fitting.same_kind (K a) (K d)) (fitting.same_kind (K b) (K d)) o in
-      (K d, has_as ks a (K d) m.1 parts.1, has_as ks b (K d) m.2 parts.2, parts.0, has ks d m.0)
+      let parts = three_parts (its_kind d).array (fitting.same_kind (its_kind a) (its_kind d)) (fitting.same_kind (its_kind b) (its_kind d)) o in
+      (its_kind d, has_as ks a (its_kind d) m.1 parts.1, has_as ks b (its_kind d) m.2 parts.2, parts.0, has ks d m.0)
   step_fits (raw.Sum d r) n o t =
       let m = two_there d r n in
-      let parts = three_parts (K r).array (fitting.is_word (K r).element) (fitting.same_kind (K d) (fitting.element_of (K r))) o in (
-        K r,
+      let parts = three_parts (its_kind r).array (fitting.is_word (its_kind r).element) (fitting.same_kind (its_kind d) (fitting.element_of (its_kind r))) o
+      in (
+        its_kind r,
         has ks r m.1,
-        has_as ks d _ m.0 parts.2 ∙ ap (λ z. Some (record { secret = (K r).secret; element = z; array = false }))
-            (word_is (K r).element parts.1),
+        has_as ks d _ m.0 parts.2 ∙ ap (λ z. Some (record { secret = (its_kind r).secret; element = z; array = false }))
+            (word_is (its_kind r).element parts.1),
       )
   step_fits (raw.Bits d r line) n o t = let m = two_there d r n
-      in (K r, has ks r m.1, has_as ks d _ m.0 (and_parts (fitting.is_word (K r).element) (fitting.same_kind (K d) (fitting.bits_of (K r))) o).1)
-  step_fits (raw.Declassify d r) n o t = let m = two_there d r n in (K r, has ks r m.1, has_as ks d _ m.0 o)
+      in (
+        its_kind r,
+        has ks r m.1,
+        has_as ks d _ m.0 (and_parts (fitting.is_word (its_kind r).element)
+            (fitting.same_kind (its_kind d) (fitting.bits_of (its_kind r))) o).1,
+      )
+  step_fits (raw.Declassify d r) n o t = let m = two_there d r n in (its_kind r, has ks r m.1, has_as ks d _ m.0 o)
   step_fits (raw.Argument d name line) n o t = has ks d (and_parts (fitting.is_there ks d) (fitting.is_there c.names name) n).0
   step_fits (raw.Publish name r) n o t = tt
   step_fits (raw.Assert r line) n o t = tt

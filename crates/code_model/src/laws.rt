@@ -8,7 +8,8 @@ ghost use Rattle.bytecode.specs.Raw.{RawCode};
 ghost use Rattle.verified_code.specs.Steps.{Function};
 ghost use Rattle.code_model.specs.Meaning.{AreForward};
 ghost use Rattle.code_model.specs.Programs.{code_of};
-ghost use Rattle.code_model.specs.Laws.{BlindNeverWants, BlindTakesTheSameCourse, BeginsWithin, EndsWithinFuel, FitsWhereReached, KeepsKinds, MeansTheProgram, RunsWhereVerified};
+ghost use Rattle.code_model.specs.Laws.{BlindNeverWants, BlindTakesTheSameCourse, BeginsWithin};
+ghost use Rattle.code_model.specs.Laws.{EndsWithinFuel, FitsWhereReached, KeepsKinds, MeansTheProgram, RunsWhereVerified};
 
 /// Law: the meaning of a program's code is the program's evaluation: the same end, cost, words of tapes, events, opened words and
 /// gates, whatever the tapes, the inputs, the budget and the answers, in the clear and blind. The instances that have code may be those
