@@ -1,5 +1,5 @@
 -- A blind run of a program's code takes the course of the run in the clear.
-use Rattle.std.proofs.Common.{◌≡◌, ℕ, List, [], ◌++◌, sym, subst}
+use Rattle.std.proofs.Common.{ℕ, List, [], ◌++◌, sym, subst}
 use Rattle.typed_tree.specs.Programs.{TypedProgramTree}
 use Rattle.reached_instances.specs.Instances.{Instance}
 use Rattle.language_model.specs.Effects.{Clear, Answers}
@@ -8,7 +8,6 @@ use Rattle.blind_evaluation.specs.Courses.{TakeSameCourse, IsEnded}
 use Rattle.blind_evaluation.proofs.Course.{same_course, never_short}
 use Rattle.code_model.specs.Meaning.{blind_mean}
 use Rattle.code_model.specs.Programs.{code_of}
-use Rattle.code_model.specs.Fit.{IsFitProgram}
 use Rattle.code_model.specs.Laws.{BlindTakesTheSameCourse, BlindNeverWants}
 use Rattle.code_model.proofs.Means.{means}
 

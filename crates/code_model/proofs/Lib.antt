@@ -24,3 +24,4 @@ pub mod Within
 pub mod Kept
 pub mod Reached
 pub mod Blind
+pub mod Settled

@@ -1,5 +1,5 @@
 -- The list of reached instances has each instance that one of it calls.
-use Rattle.std.proofs.Common.{◌≡◌, ℕ, List, [], ◌∷◌, ◌++◌, Option, Some, None, Bool, true, false, refl, sym, ap, ◌∙◌, subst, ◌⊎◌, inl, inr}
+use Rattle.std.proofs.Common.{◌≡◌, ℕ, List, [], ◌∷◌, ◌++◌, Option, Some, None, Bool, true, false, refl, sym, ap, ◌∙◌, subst, inl}
 use Rattle.std.specs.Prelude.{slice_get}
 use Rattle.sc_text.specs.Lists.{Among}
 use Rattle.sc_text.proofs.Lists.{among_left, among_right}
@@ -16,10 +16,10 @@ use Rattle.reached_instances.specs.declared.instance.BoundDomain.{BoundDomain}
 use Rattle.reached_instances.specs.Domains.{Setting, domains, binding_of}
 use Rattle.reached_instances.specs.Instances.{Instance}
 use Rattle.reached_instances.specs.Calls.{called, calls, calls_of_all, command_calls, commands_calls, function_calls, called_by, main_of}
-use Rattle.reached_instances.specs.Reached.{IsReached, follows, IsReachedList}
+use Rattle.reached_instances.specs.Reached.{follows, IsReachedList}
 use Rattle.reached_instances.proofs.ReachedLists.{has_each_reached, begins_with_main}
 use Rattle.language_model.specs.Evaluation.{Place, place_in, bound_at, slots_of}
-use Rattle.code_model.specs.Fit.{IsFit, AreFit, FitsSlot, IsFitCommand, AreFitCommands, IsThere, IsKnownIn, IsFitFunction, IsFitInstance, IsFitAlone}
+use Rattle.code_model.specs.Fit.{IsFit, AreFit, FitsSlot, IsFitCommand, AreFitCommands, IsThere, IsKnownIn, IsFitInstance, IsFitAlone}
 use Rattle.code_model.specs.Fit.{IsFitProgram, the_main}
 
 none_some : {A : Type 0} {a : A} → ◌≡◌ {A = Option A} None (Some a) → ⊥

@@ -9,6 +9,9 @@ use Rattle.reached_instances.specs.Reached.{IsReachedList}
 use Rattle.language_model.specs.Effects.{World, Stage, Stop, Run}
 use Rattle.language_model.specs.Reports.{Offered, beginning, evaluated}
 use Rattle.blind_evaluation.specs.Courses.{TakeSameCourse, IsEnded}
+use Rattle.bytecode.specs.Raw.{RawCode}
+use Rattle.verified_code.specs.Settled.{settled}
+use Rattle.verified_code.specs.Verified.{IsVerified}
 use Rattle.verified_code.specs.Steps.{Step, Function}
 use Rattle.code_model.specs.Machine.{Machine, step, exec, start}
 use Rattle.code_model.specs.Meaning.{fuel, mean_in, mean, blind_mean, AreForward}
@@ -57,3 +60,9 @@ KeepsKinds w c = AreFitting c → AreSingle w.inputs → (m : Machine) → IsWit
 
 abbrev pub BeginsWithin : List Function → Type 0
 BeginsWithin c = AreFitting c → (main : Function) → slice_get c 0 ≡ Some main → IsWithin c (start c)
+
+-- ---- VERIFIED CODE
+
+-- its steps fit, and its jumps go forward
+abbrev pub RunsWhereVerified : RawCode → Type 0
+RunsWhereVerified c = IsVerified c → AreFitting (settled c) × AreForward (settled c)

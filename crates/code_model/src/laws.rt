@@ -4,10 +4,12 @@ ghost use Rattle.typed_tree.specs.Programs.{TypedProgramTree};
 ghost use Rattle.reached_instances.specs.Instances.{Instance};
 ghost use Rattle.language_model.specs.Effects.{World};
 ghost use Rattle.language_model.specs.Reports.{Offered};
+ghost use Rattle.bytecode.specs.Raw.{RawCode};
 ghost use Rattle.verified_code.specs.Steps.{Function};
 ghost use Rattle.code_model.specs.Meaning.{AreForward};
 ghost use Rattle.code_model.specs.Programs.{code_of};
-ghost use Rattle.code_model.specs.Laws.{BlindNeverWants, BlindTakesTheSameCourse, BeginsWithin, EndsWithinFuel, FitsWhereReached, KeepsKinds, MeansTheProgram};
+ghost use Rattle.code_model.specs.Laws.{BlindNeverWants, BlindTakesTheSameCourse, BeginsWithin};
+ghost use Rattle.code_model.specs.Laws.{EndsWithinFuel, FitsWhereReached, KeepsKinds, MeansTheProgram, RunsWhereVerified};
 
 /// Law: the meaning of a program's code is the program's evaluation: the same end, cost, words of tapes, events, opened words and
 /// gates, whatever the tapes, the inputs, the budget and the answers, in the clear and blind. The instances that have code may be those
@@ -38,4 +40,10 @@ pub fn runs_of_code_end()
 pub fn registers_keep_their_kinds()
     ensures begins { (c : List Function) → BeginsWithin c }
     ensures keeps { (w : World) (c : List Function) → KeepsKinds w c }
+{}
+
+/// Law: the steps of verified code fit, and its jumps go forward. So its runs end within their fuel, and its registers keep their
+/// kinds: a machine that runs it looks nothing up in vain.
+pub fn verified_code_runs()
+    ensures { (c : RawCode) → RunsWhereVerified c }
 {}

@@ -1,2 +1,4 @@
 pub mod Faults
 pub mod Sound
+pub mod Signs
+pub mod Places

@@ -4,7 +4,7 @@ use Rattle.bytecode.specs.Raw.{Raw, RawFunction, RawCode}
 use Rattle.verified_code.specs.declared.fault.Problem.{Problem}
 use Rattle.verified_code.specs.declared.fault.VerifyErr.{VerifyErr}
 use Rattle.verified_code.specs.Fitting.{names_there, operands_fit, target_fits, goes_on}
-use Rattle.verified_code.specs.Verified.{problem_of, problem_at, head_fits, here, fault_if_any, body_fault, or_later, function_problem, function_fault, functions_fault, main_problem, first_fault, IsVerified}
+use Rattle.verified_code.specs.Verified.{problem_of, problem_at, head_fits, here, fault_if_any, body_fault, or_later, function_problem, function_fault, functions_fault, main_problem, IsVerified}
 use Rattle.verified_code.specs.Sound.{passes, IsSoundFunction, IsSound}
 
 -- ---- one instruction

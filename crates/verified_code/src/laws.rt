@@ -1,4 +1,5 @@
 ghost use Rattle.bytecode.specs.Raw.{RawCode};
+ghost use Rattle.verified_code.specs.Signs.{BoolsAreSigned, WordsAreSigned};
 ghost use Rattle.verified_code.specs.Sound.{IsSound};
 ghost use Rattle.verified_code.specs.Verified.{IsVerified};
 
@@ -10,4 +11,10 @@ pub fn verified_code_is_sound()
 /// Law: code in which all are so is verified.
 pub fn sound_code_is_verified()
     ensures { (code : RawCode) → IsSound code → IsVerified code }
+{}
+
+/// Law: the operators of code are those that the language's signs mean, between words and between bools.
+pub fn operators_are_those_of_signs()
+    ensures words { WordsAreSigned }
+    ensures bools { BoolsAreSigned }
 {}

@@ -6,9 +6,12 @@ mod kinds;
 mod laws;
 mod operators;
 mod place;
+mod settling;
+mod step;
 mod verified;
 mod verifying;
 
 pub use fault::{Problem, VerifyErr};
-pub use laws::{sound_code_is_verified, verified_code_is_sound};
+pub use laws::{operators_are_those_of_signs, sound_code_is_verified, verified_code_is_sound};
+pub use step::Step;
 pub use verified::{Verified, verify};
