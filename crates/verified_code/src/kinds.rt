@@ -1,6 +1,8 @@
 // Kinds, and whether one is as wanted.
 ghost use Rattle.std.specs.Prelude.{◌≡◌};
-ghost use Rattle.verified_code.specs.Fitting.{array_of, bits_of, bits_fit, cast_fits, cat_fits, classify_fits, element_fits, element_of, fill_fits, gives_fits, gives_none, is_condition, is_word, kind_at, literal_fits, not_fits, private_as, public_as, public_scalar, same_element, same_kind, size_fits, sum_fits};
+ghost use Rattle.verified_code.specs.Fitting.{bits_fit, cast_fits, cat_fits, classify_fits, element_fits, fill_fits, gives_fits, gives_none};
+ghost use Rattle.verified_code.specs.Fitting.{array_of, element_of, kind_at, literal_fits, not_fits, public_as, public_scalar, size_fits, sum_fits};
+ghost use Rattle.verified_code.specs.Fitting.{is_condition, is_word, same_element, same_kind};
 
 use bytecode::{Kind, Register};
 use secrec_ast::DataType;
