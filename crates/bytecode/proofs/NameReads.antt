@@ -71,11 +71,13 @@ behind_length test t n rest = carry (characters n rest) (λ name left. passed (t
 name_read : (test : List ℕ → Bool) (t : List ℕ) → read (NameField test Makes) t ≡ carry (read length_layout t) (behind_length test t)
 name_read test t = go (number 1 t)
   where
-    by_test : (n : ℕ) (rest : List ℕ) (b : Bool) → passed b BadTag t (behind_length test t n rest) ≡ carry (passed b BadTag t (Ok (n, rest))) (behind_length test t)
+    by_test : (n : ℕ) (rest : List ℕ) (b : Bool)
+        → passed b BadTag t (behind_length test t n rest) ≡ carry (passed b BadTag t (Ok (n, rest))) (behind_length test t)
     by_test n rest false = refl
     by_test n rest true = refl
 
-    go : (r : Read ℕ) → carry r (λ n rest. passed (is_name_length n) BadTag t (behind_length test t n rest)) ≡ carry (carry r (λ n rest. passed (is_name_length n) BadTag t (Ok (n, rest)))) (behind_length test t)
+    go : (r : Read ℕ) → carry r (λ n rest. passed (is_name_length n) BadTag t (behind_length test t n rest))
+        ≡ carry (carry r (λ n rest. passed (is_name_length n) BadTag t (Ok (n, rest)))) (behind_length test t)
     go (Err e) = refl
     go (Ok y) = by_test y.0 y.1 (is_name_length y.0)
 
@@ -86,11 +88,13 @@ name_passed : (test : List ℕ → Bool) (n : ℕ) (t0 t1 bytes t2 : List ℕ) �
     → read (NameField test Makes) t0 ≡ passed (test bytes) BadTag t0 (Ok (bytes, t2))
 name_passed test n t0 t1 bytes t2 e h = name_from test n t0 t1 e ∙ ap (λ r. carry r (λ name left. passed (test name) BadTag t0 (Ok (name, left)))) h
 
-pub name_ok : (test : List ℕ → Bool) (n : ℕ) (t0 t1 bytes t2 : List ℕ) → read length_layout t0 ≡ Ok (n, t1) → characters n t1 ≡ Ok (bytes, t2) → test bytes ≡ true
+pub name_ok : (test : List ℕ → Bool) (n : ℕ) (t0 t1 bytes t2 : List ℕ) → read length_layout t0 ≡ Ok (n, t1) → characters n t1 ≡ Ok (bytes, t2)
+    → test bytes ≡ true
     → read (NameField test Makes) t0 ≡ Ok (bytes, t2)
 name_ok test n t0 t1 bytes t2 e h y = name_passed test n t0 t1 bytes t2 e h ∙ ap (λ b. passed b BadTag t0 (Ok (bytes, t2))) y
 
-pub name_refused : (test : List ℕ → Bool) (n : ℕ) (t0 t1 bytes t2 : List ℕ) → read length_layout t0 ≡ Ok (n, t1) → characters n t1 ≡ Ok (bytes, t2) → test bytes ≡ false
+pub name_refused : (test : List ℕ → Bool) (n : ℕ) (t0 t1 bytes t2 : List ℕ) → read length_layout t0 ≡ Ok (n, t1) → characters n t1 ≡ Ok (bytes, t2)
+    → test bytes ≡ false
     → Refuses (read (NameField test Makes) t0) BadTag (length t0)
 name_refused test n t0 t1 bytes t2 e h y =
     subst (λ r. Refuses r BadTag (length t0)) (sym (name_passed test n t0 t1 bytes t2 e h ∙ ap (λ b. passed b BadTag t0 (Ok (bytes, t2))) y)) (refl, refl)
@@ -98,7 +102,8 @@ name_refused test n t0 t1 bytes t2 e h y =
 pub name_stops_at_length : (test : List ℕ → Bool) (t0 : List ℕ) (e : Stopped) → Stops (read length_layout t0) e → Stops (read (NameField test Makes) t0) e
 name_stops_at_length test t0 e s = subst (λ r. Stops r e) (sym (name_read test t0)) (stops_carry (read length_layout t0) (behind_length test t0) e s)
 
-pub name_stops_inside : (test : List ℕ → Bool) (n : ℕ) (t0 t1 : List ℕ) (e : Stopped) → read length_layout t0 ≡ Ok (n, t1) → Stops (characters n t1) e → Stops (read (NameField test Makes) t0) e
+pub name_stops_inside : (test : List ℕ → Bool) (n : ℕ) (t0 t1 : List ℕ) (e : Stopped) → read length_layout t0 ≡ Ok (n, t1)
+    → Stops (characters n t1) e → Stops (read (NameField test Makes) t0) e
 name_stops_inside test n t0 t1 e h s =
     subst (λ r. Stops r e) (sym (name_from test n t0 t1 h)) (stops_carry (characters n t1) (λ name left. passed (test name) BadTag t0 (Ok (name, left))) e s)
 
@@ -107,7 +112,8 @@ name_stops_inside test n t0 t1 e h s =
 abbrev then_names : List (List ℕ) → ℕ → List ℕ → List ℕ → Read (List (List ℕ))
 then_names earlier n name rest = carry (read (names_layout (name ∷ earlier) n) rest) (λ names left. Ok (name ∷ names, left))
 
-names_step : (earlier : List (List ℕ)) (n : ℕ) (t : List ℕ) → read (names_layout earlier (suc n)) t ≡ carry (read (NameField (is_new_name earlier) Makes) t) (then_names earlier n)
+names_step : (earlier : List (List ℕ)) (n : ℕ) (t : List ℕ)
+    → read (names_layout earlier (suc n)) t ≡ carry (read (NameField (is_new_name earlier) Makes) t) (then_names earlier n)
 names_step earlier n t = read_behind (NameField (is_new_name earlier) Makes) next t ∙ go (read (NameField (is_new_name earlier) Makes) t)
   where
     next : List ℕ → Layout (List (List ℕ))
@@ -156,7 +162,8 @@ nothing_left (x ∷ xs) h = absurd (omega (arith, h))
 abbrev then_bodies : List ℕ → List Head → RawFunction → List ℕ → Read (List RawFunction)
 then_bodies ps hs f rest = carry (read (bodies_layout ps hs) rest) (λ fs left. Ok (f ∷ fs, left))
 
-bodies_step : (ps : List ℕ) (h : Head) (hs : List Head) (t : List ℕ) → read (bodies_layout ps (h ∷ hs)) t ≡ carry (read (function_layout ps h) t) (then_bodies ps hs)
+bodies_step : (ps : List ℕ) (h : Head) (hs : List Head) (t : List ℕ)
+    → read (bodies_layout ps (h ∷ hs)) t ≡ carry (read (function_layout ps h) t) (then_bodies ps hs)
 bodies_step ps h hs t =
     read_behind (body_layout ps h.instructions) next t ∙ go (read (body_layout ps h.instructions) t)
     ∙ ap (λ r. carry r (then_bodies ps hs)) (sym (read_behind (body_layout ps h.instructions) (λ is. Makes (function_of h is)) t))
@@ -171,7 +178,8 @@ bodies_step ps h hs t =
 pub bodies_begin : (ps : List ℕ) (hs : List Head) (t : List ℕ) → read (bodies_layout ps hs) t ≡ after [] (read (bodies_layout ps hs) t)
 bodies_begin ps hs t = after_nothing (read (bodies_layout ps hs) t)
 
-pub bodies_more : (ps : List ℕ) (all hs : List Head) (h : Head) (fs : List RawFunction) (f : RawFunction) (t left : List ℕ) (r : Read (List RawFunction)) → all ≡ h ∷ hs
+pub bodies_more : (ps : List ℕ) (all hs : List Head) (h : Head) (fs : List RawFunction) (f : RawFunction) (t left : List ℕ)
+    (r : Read (List RawFunction)) → all ≡ h ∷ hs
     → read (function_layout ps h) t ≡ Ok (f, left) → r ≡ after fs (read (bodies_layout ps all) t) → r ≡ after (fs ++ f ∷ []) (read (bodies_layout ps hs) left)
 bodies_more ps all hs h fs f t left r a e q =
     q ∙ ap (λ z. after fs (read (bodies_layout ps z) t)) a ∙ ap (after fs) (bodies_step ps h hs t ∙ ap (λ r. carry r (then_bodies ps hs)) e)

@@ -14,19 +14,23 @@ use Rattle.bytecode.specs.Decoded.{Head, bodies_layout, code_layout, decoded, fu
 use Rattle.bytecode.specs.Decoding.{IsDecoded, opening_layout, settled, some_functions_layout}
 use Rattle.bytecode.proofs.Reading.{reads_behind, step_ok, step_stops}
 
-answered : (size : ℕ) (r : Read RawCode) (a : Result Code Stopped) (rest : List ℕ) → Reads raw_code r a rest → IsDecoded (whole size r) (settled size a (length rest))
+answered : (size : ℕ) (r : Read RawCode) (a : Result Code Stopped) (rest : List ℕ) → Reads raw_code r a rest
+    → IsDecoded (whole size r) (settled size a (length rest))
 answered size r (Ok code) rest e = subst (λ r. IsDecoded (whole size r) (settled size (Ok code) (length rest))) (sym e) (by_rest rest)
   where
     by_rest : (rest : List ℕ) → IsDecoded (whole size (Ok (raw_code code, rest))) (settled size (Ok code) (length rest))
     by_rest [] = refl
     by_rest (b ∷ bs) =
         let more : nat_eq (length (b ∷ bs)) 0 ≡ false = grind (arith, nat_tests) in
-        subst (λ t. IsDecoded (whole size (Ok (raw_code code, b ∷ bs))) (if t then Ok code else Err (decoding.Refused (record { kind = Trailing; place = size - length (b ∷ bs) })))) (sym more) refl
+        subst (λ t. IsDecoded (whole size (Ok (raw_code code, b ∷ bs)))
+        (if t then Ok code else Err (decoding.Refused (record { kind = Trailing; place = size - length (b ∷ bs) })))) (sym more) refl
 answered size (Ok x) (Err (Refused k n)) rest h = absurd h
-answered size (Err e) (Err (Refused k n)) rest h = ap (λ k. Err (record { kind = k; place = size - length e.1 })) h.0 ∙ ap (λ n. Err (record { kind = k; place = size - n })) h.1
+answered size (Err e) (Err (Refused k n)) rest h = ap (λ k. Err (record { kind = k; place = size - length e.1 })) h.0
+    ∙ ap (λ n. Err (record { kind = k; place = size - n })) h.1
 answered size r (Err Memory) rest h = tt
 
-pub decoded_answered : (text : List ℕ) (size left : ℕ) (a : Result Code Stopped) (rest : List ℕ) → size ≡ length text → left ≡ length rest → Reads raw_code (read code_layout text) a rest
+pub decoded_answered : (text : List ℕ) (size left : ℕ) (a : Result Code Stopped) (rest : List ℕ) → size ≡ length text → left ≡ length rest
+    → Reads raw_code (read code_layout text) a rest
     → IsDecoded (decoded text) (settled size a left)
 decoded_answered text size left a rest s l h =
     subst (λ n. IsDecoded (decoded text) (settled n a left)) (sym s) (subst (λ n. IsDecoded (decoded text) (settled (length text) a n)) (sym l)
@@ -44,11 +48,15 @@ count_layout = Field BadTag 2 is_some_count Makes
 abbrev of_heads : List Head → Layout (List RawFunction)
 of_heads hs = bodies_layout (map (λ h. h.parameters) hs) hs
 
-pub functions_stop_at_heads : (n : ℕ) (t0 t1 : List ℕ) (e : Stopped) → read count_layout t0 ≡ Ok (n, t1) → Stops (read (heads_layout n) t1) e → Stops (read some_functions_layout t0) e
-functions_stop_at_heads n t0 t1 e e0 s = subst (λ r. Stops r e) (sym (step_ok count_layout functions_layout t0 n t1 e0)) (step_stops (heads_layout n) of_heads t1 e s)
+pub functions_stop_at_heads : (n : ℕ) (t0 t1 : List ℕ) (e : Stopped) → read count_layout t0 ≡ Ok (n, t1) → Stops (read (heads_layout n) t1) e
+    → Stops (read some_functions_layout t0) e
+functions_stop_at_heads n t0 t1 e e0 s = subst (λ r. Stops r e) (sym (step_ok count_layout functions_layout t0 n t1 e0))
+    (step_stops (heads_layout n) of_heads t1 e s)
 
-pub functions_read : {T : Type 0} (view : T → List RawFunction) (n : ℕ) (hs : List heads.Head) (ps : List ℕ) (t0 t1 t2 : List ℕ) (answer : Result T Stopped) (new : List ℕ) → read count_layout t0 ≡ Ok (n, t1)
-    → read (heads_layout n) t1 ≡ Ok (map raw_head hs, t2) → ps ≡ map (λ h. h.parameters) hs → Reads view (read (bodies_layout ps (map raw_head hs)) t2) answer new → Reads view (read some_functions_layout t0) answer new
+pub functions_read : {T : Type 0} (view : T → List RawFunction) (n : ℕ) (hs : List heads.Head) (ps : List ℕ) (t0 t1 t2 : List ℕ)
+    (answer : Result T Stopped) (new : List ℕ) → read count_layout t0 ≡ Ok (n, t1)
+    → read (heads_layout n) t1 ≡ Ok (map raw_head hs, t2) → ps ≡ map (λ h. h.parameters) hs
+    → Reads view (read (bodies_layout ps (map raw_head hs)) t2) answer new → Reads view (read some_functions_layout t0) answer new
 functions_read view n hs ps t0 t1 t2 answer new e0 e1 p h =
     reads_behind view count_layout functions_layout t0 n t1 answer new e0
     (reads_behind view (heads_layout n) of_heads t1 (map raw_head hs) t2 answer new e1
@@ -65,22 +73,29 @@ with_names n = behind (names_layout [] n) with_functions
 abbrev counted : ℕ → Layout RawCode
 counted version = behind short_layout with_names
 
-to_names : (v n : ℕ) (t0 t1 t2 : List ℕ) → read opening_layout t0 ≡ Ok (v, t1) → read short_layout t1 ≡ Ok (n, t2) → read code_layout t0 ≡ read (with_names n) t2
+to_names : (v n : ℕ) (t0 t1 t2 : List ℕ) → read opening_layout t0 ≡ Ok (v, t1) → read short_layout t1 ≡ Ok (n, t2)
+    → read code_layout t0 ≡ read (with_names n) t2
 to_names v n t0 t1 t2 e0 e1 = step_ok opening_layout counted t0 v t1 e0 ∙ step_ok short_layout with_names t1 n t2 e1
 
-pub code_stops_at_names : (v n : ℕ) (t0 t1 t2 : List ℕ) (e : Stopped) → read opening_layout t0 ≡ Ok (v, t1) → read short_layout t1 ≡ Ok (n, t2) → Stops (read (names_layout [] n) t2) e → Stops (read code_layout t0) e
+pub code_stops_at_names : (v n : ℕ) (t0 t1 t2 : List ℕ) (e : Stopped) → read opening_layout t0 ≡ Ok (v, t1) → read short_layout t1 ≡ Ok (n, t2)
+    → Stops (read (names_layout [] n) t2) e → Stops (read code_layout t0) e
 code_stops_at_names v n t0 t1 t2 e e0 e1 s = subst (λ r. Stops r e) (sym (to_names v n t0 t1 t2 e0 e1)) (step_stops (names_layout [] n) with_functions t2 e s)
 
-to_functions : (v n : ℕ) (ns : List (List ℕ)) (t0 t1 t2 t3 : List ℕ) → read opening_layout t0 ≡ Ok (v, t1) → read short_layout t1 ≡ Ok (n, t2) → read (names_layout [] n) t2 ≡ Ok (ns, t3)
+to_functions : (v n : ℕ) (ns : List (List ℕ)) (t0 t1 t2 t3 : List ℕ) → read opening_layout t0 ≡ Ok (v, t1) → read short_layout t1 ≡ Ok (n, t2)
+    → read (names_layout [] n) t2 ≡ Ok (ns, t3)
     → read code_layout t0 ≡ read (with_functions ns) t3
 to_functions v n ns t0 t1 t2 t3 e0 e1 e2 = to_names v n t0 t1 t2 e0 e1 ∙ step_ok (names_layout [] n) with_functions t2 ns t3 e2
 
-pub code_stops_at_functions : (v n : ℕ) (ns : List (List ℕ)) (t0 t1 t2 t3 : List ℕ) (e : Stopped) → read opening_layout t0 ≡ Ok (v, t1) → read short_layout t1 ≡ Ok (n, t2)
+pub code_stops_at_functions : (v n : ℕ) (ns : List (List ℕ)) (t0 t1 t2 t3 : List ℕ) (e : Stopped) → read opening_layout t0 ≡ Ok (v, t1)
+    → read short_layout t1 ≡ Ok (n, t2)
     → read (names_layout [] n) t2 ≡ Ok (ns, t3) → Stops (read some_functions_layout t3) e → Stops (read code_layout t0) e
 code_stops_at_functions v n ns t0 t1 t2 t3 e e0 e1 e2 s =
-    subst (λ r. Stops r e) (sym (to_functions v n ns t0 t1 t2 t3 e0 e1 e2)) (step_stops some_functions_layout (λ fs. Makes (record { names = ns; functions = fs })) t3 e s)
+    subst (λ r. Stops r e) (sym (to_functions v n ns t0 t1 t2 t3 e0 e1 e2))
+    (step_stops some_functions_layout (λ fs. Makes (record { names = ns; functions = fs })) t3 e s)
 
-pub code_ok : (v n : ℕ) (ns : List (List ℕ)) (fs : List RawFunction) (t0 t1 t2 t3 t4 : List ℕ) → read opening_layout t0 ≡ Ok (v, t1) → read short_layout t1 ≡ Ok (n, t2)
-    → read (names_layout [] n) t2 ≡ Ok (ns, t3) → read some_functions_layout t3 ≡ Ok (fs, t4) → read code_layout t0 ≡ Ok (record { names = ns; functions = fs }, t4)
+pub code_ok : (v n : ℕ) (ns : List (List ℕ)) (fs : List RawFunction) (t0 t1 t2 t3 t4 : List ℕ) → read opening_layout t0 ≡ Ok (v, t1)
+    → read short_layout t1 ≡ Ok (n, t2)
+    → read (names_layout [] n) t2 ≡ Ok (ns, t3) → read some_functions_layout t3 ≡ Ok (fs, t4)
+    → read code_layout t0 ≡ Ok (record { names = ns; functions = fs }, t4)
 code_ok v n ns fs t0 t1 t2 t3 t4 e0 e1 e2 e3 =
     to_functions v n ns t0 t1 t2 t3 e0 e1 e2 ∙ step_ok some_functions_layout (λ fs. Makes (record { names = ns; functions = fs })) t3 fs t4 e3

@@ -36,12 +36,14 @@ list_all_map p g (x ∷ xs) = ap (λ b. p (g x) && b) (list_all_map p g xs)
 
 -- ---- instructions
 
-pub body_more : {A : Type 0} (c : RawCode) (n : ℕ) (f : RawFunction) (g : A → Raw) (xs : List A) (k : ℕ) (x : A) (r : Option VerifyErr) → x ≡ get_or xs k x → k < length xs
+pub body_more : {A : Type 0} (c : RawCode) (n : ℕ) (f : RawFunction) (g : A → Raw) (xs : List A) (k : ℕ) (x : A) (r : Option VerifyErr)
+    → x ≡ get_or xs k x → k < length xs
     → problem_at n (here c f k) (g x) ≡ None → r ≡ body_fault c n f k (drop k (map g xs)) → r ≡ body_fault c n f (k + 1) (drop (k + 1) (map g xs))
 body_more c n f g xs k x r e l p h =
     h ∙ ap (body_fault c n f k) (next_mapped g xs k x e l) ∙ ap (λ o. fault_if_any n k o (body_fault c n f (k + 1) (drop (k + 1) (map g xs)))) p
 
-pub body_found : {A : Type 0} (c : RawCode) (n : ℕ) (f : RawFunction) (g : A → Raw) (xs : List A) (k : ℕ) (x : A) (r : Option VerifyErr) (p : Problem) → x ≡ get_or xs k x → k < length xs
+pub body_found : {A : Type 0} (c : RawCode) (n : ℕ) (f : RawFunction) (g : A → Raw) (xs : List A) (k : ℕ) (x : A) (r : Option VerifyErr)
+    (p : Problem) → x ≡ get_or xs k x → k < length xs
     → problem_at n (here c f k) (g x) ≡ Some p → r ≡ body_fault c n f k (drop k (map g xs)) → r ≡ Some (record { problem = p; function = n; instruction = k })
 body_found c n f g xs k x r p e l q h =
     h ∙ ap (body_fault c n f k) (next_mapped g xs k x e l) ∙ ap (λ o. fault_if_any n k o (body_fault c n f (k + 1) (drop (k + 1) (map g xs)))) q
@@ -57,7 +59,8 @@ pub functions_more : {A : Type 0} (c : RawCode) (g : A → RawFunction) (xs : Li
 functions_more c g xs k x r e l p h =
     h ∙ ap (functions_fault c k) (next_mapped g xs k x e l) ∙ ap (λ o. or_later o (functions_fault c (k + 1) (drop (k + 1) (map g xs)))) p
 
-pub functions_found : {A : Type 0} (c : RawCode) (g : A → RawFunction) (xs : List A) (k : ℕ) (x : A) (r : Option VerifyErr) (q : VerifyErr) → x ≡ get_or xs k x → k < length xs
+pub functions_found : {A : Type 0} (c : RawCode) (g : A → RawFunction) (xs : List A) (k : ℕ) (x : A) (r : Option VerifyErr) (q : VerifyErr)
+    → x ≡ get_or xs k x → k < length xs
     → function_fault c k (g x) ≡ Some q → r ≡ functions_fault c k (drop k (map g xs)) → r ≡ Some q
 functions_found c g xs k x r q e l p h =
     h ∙ ap (functions_fault c k) (next_mapped g xs k x e l) ∙ ap (λ o. or_later o (functions_fault c (k + 1) (drop (k + 1) (map g xs)))) p
@@ -68,17 +71,21 @@ functions_done c g xs k r l h = h ∙ ap (functions_fault c k) (drop_mapped g xs
 
 -- ---- arguments
 
-pub arguments_more : {A : Type 0} (kinds : List Kind) (g : A → ℕ) (xs : List A) (ks : List Kind) (i : ℕ) (x : A) (k : Kind) (r : Bool) → x ≡ get_or xs i x → k ≡ get_or ks i k
+pub arguments_more : {A : Type 0} (kinds : List Kind) (g : A → ℕ) (xs : List A) (ks : List Kind) (i : ℕ) (x : A) (k : Kind) (r : Bool)
+    → x ≡ get_or xs i x → k ≡ get_or ks i k
     → i < length xs → i < length ks → same_kind (kind_at kinds (g x)) k ≡ true → r ≡ arguments_fit kinds (drop i (map g xs)) (drop i ks)
     → r ≡ arguments_fit kinds (drop (i + 1) (map g xs)) (drop (i + 1) ks)
 arguments_more kinds g xs ks i x k r e d l m s h =
-    h ∙ ap (λ rs. arguments_fit kinds rs (drop i ks)) (next_mapped g xs i x e l) ∙ ap (arguments_fit kinds (g x ∷ drop (i + 1) (map g xs))) (next_one ks i k d m)
+    h ∙ ap (λ rs. arguments_fit kinds rs (drop i ks)) (next_mapped g xs i x e l)
+    ∙ ap (arguments_fit kinds (g x ∷ drop (i + 1) (map g xs))) (next_one ks i k d m)
     ∙ ap (λ b. b && arguments_fit kinds (drop (i + 1) (map g xs)) (drop (i + 1) ks)) s
 
-pub arguments_wrong : {A : Type 0} (kinds : List Kind) (g : A → ℕ) (xs : List A) (ks : List Kind) (i : ℕ) (x : A) (k : Kind) (r : Bool) → x ≡ get_or xs i x → k ≡ get_or ks i k
+pub arguments_wrong : {A : Type 0} (kinds : List Kind) (g : A → ℕ) (xs : List A) (ks : List Kind) (i : ℕ) (x : A) (k : Kind) (r : Bool)
+    → x ≡ get_or xs i x → k ≡ get_or ks i k
     → i < length xs → i < length ks → same_kind (kind_at kinds (g x)) k ≡ false → r ≡ arguments_fit kinds (drop i (map g xs)) (drop i ks) → r ≡ false
 arguments_wrong kinds g xs ks i x k r e d l m s h =
-    h ∙ ap (λ rs. arguments_fit kinds rs (drop i ks)) (next_mapped g xs i x e l) ∙ ap (arguments_fit kinds (g x ∷ drop (i + 1) (map g xs))) (next_one ks i k d m)
+    h ∙ ap (λ rs. arguments_fit kinds rs (drop i ks)) (next_mapped g xs i x e l)
+    ∙ ap (arguments_fit kinds (g x ∷ drop (i + 1) (map g xs))) (next_one ks i k d m)
     ∙ ap (λ b. b && arguments_fit kinds (drop (i + 1) (map g xs)) (drop (i + 1) ks)) s
 
 pub arguments_done : {A : Type 0} (kinds : List Kind) (g : A → ℕ) (xs : List A) (ks : List Kind) (i : ℕ) (r : Bool) → length xs ≤ i → length ks ≤ i

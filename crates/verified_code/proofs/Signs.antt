@@ -1,5 +1,5 @@
 -- Each operator's byte means what its sign means.
-use Rattle.std.proofs.Common.{ℕ, zero, suc, refl, arith}
+use Rattle.std.proofs.Common.{zero, suc, refl, arith}
 use Rattle.verified_code.specs.Signs.{WordsAreSigned, BoolsAreSigned}
 
 pub words_are_signed : WordsAreSigned

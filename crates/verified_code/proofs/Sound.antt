@@ -28,7 +28,8 @@ none_bools true true true true true h e = refl
 abbrev head_counts : ℕ → RawFunction → ℕ → Bool
 head_counts n f k = head_fits n f || not (k == 0)
 
-passing : (n : ℕ) (c : RawCode) (f : RawFunction) (k : ℕ) (i : Raw) → problem_at n (here c f k) i ≡ None → IsTrue (passes (here c f k) i) × (head_counts n f k ≡ true)
+passing : (n : ℕ) (c : RawCode) (f : RawFunction) (k : ℕ) (i : Raw) → problem_at n (here c f k) i ≡ None
+    → IsTrue (passes (here c f k) i) × (head_counts n f k ≡ true)
 passing n c f k i h =
     bools_none (names_there (here c f k) i) (operands_fit (here c f k) i) (head_counts n f k) (target_fits (here c f k) i) (goes_on (here c f k) i) h
 
@@ -56,7 +57,8 @@ at_first k = omega arith
 at_next : (k j : ℕ) → k + 1 + j ≡ k + suc j
 at_next k j = omega arith
 
-body_ok : (c : RawCode) (n : ℕ) (f : RawFunction) (is : List Raw) (k : ℕ) → body_fault c n f k is ≡ None → (j : ℕ) (i : Raw) → slice_get is j ≡ Some i → problem_at n (here c f (k + j)) i ≡ None
+body_ok : (c : RawCode) (n : ℕ) (f : RawFunction) (is : List Raw) (k : ℕ) → body_fault c n f k is ≡ None → (j : ℕ) (i : Raw)
+    → slice_get is j ≡ Some i → problem_at n (here c f (k + j)) i ≡ None
 body_ok c n f [] k h j i g = cc
 body_ok c n f (x ∷ is) k h zero i g =
     subst (λ z. problem_at n (here c f z) i ≡ None) (at_first k)
@@ -65,22 +67,26 @@ body_ok c n f (x ∷ is) k h (suc j) i g =
     subst (λ z. problem_at n (here c f z) i ≡ None) (at_next k j)
     (body_ok c n f is (k + 1) (fault_none n k (problem_at n (here c f k) x) (body_fault c n f (k + 1) is) h).1 j i g)
 
-body_back : (c : RawCode) (n : ℕ) (f : RawFunction) → head_fits n f ≡ true → (is : List Raw) (k : ℕ) → ((j : ℕ) (i : Raw) → slice_get is j ≡ Some i → IsTrue (passes (here c f (k + j)) i)) → body_fault c n f k is ≡ None
+body_back : (c : RawCode) (n : ℕ) (f : RawFunction) → head_fits n f ≡ true → (is : List Raw) (k : ℕ)
+    → ((j : ℕ) (i : Raw) → slice_get is j ≡ Some i → IsTrue (passes (here c f (k + j)) i)) → body_fault c n f k is ≡ None
 body_back c n f h [] k all = refl
 body_back c n f h (x ∷ is) k all =
     let own : IsTrue (passes (here c f k) x) = subst (λ z. IsTrue (passes (here c f z) x)) (sym (at_first k)) (all zero x refl) in
     ap (λ o. fault_if_any n k o (body_fault c n f (k + 1) is)) (passed n c f k x own h)
     ∙ body_back c n f h is (k + 1) (λ j i g. subst (λ z. IsTrue (passes (here c f z) i)) (sym (at_next k j)) (all (suc j) i g))
 
-functions_ok : (c : RawCode) (fs : List RawFunction) (k : ℕ) → functions_fault c k fs ≡ None → (j : ℕ) (f : RawFunction) → slice_get fs j ≡ Some f → function_fault c (k + j) f ≡ None
+functions_ok : (c : RawCode) (fs : List RawFunction) (k : ℕ) → functions_fault c k fs ≡ None → (j : ℕ) (f : RawFunction) → slice_get fs j ≡ Some f
+    → function_fault c (k + j) f ≡ None
 functions_ok c [] k h j f g = cc
 functions_ok c (x ∷ fs) k h zero f g =
     subst (λ z. function_fault c z f ≡ None) (at_first k)
     (subst (λ z. function_fault c k z ≡ None) (some_same x f g) (later_none (function_fault c k x) (functions_fault c (k + 1) fs) h).0)
 functions_ok c (x ∷ fs) k h (suc j) f g =
-    subst (λ z. function_fault c z f ≡ None) (at_next k j) (functions_ok c fs (k + 1) (later_none (function_fault c k x) (functions_fault c (k + 1) fs) h).1 j f g)
+    subst (λ z. function_fault c z f ≡ None) (at_next k j)
+    (functions_ok c fs (k + 1) (later_none (function_fault c k x) (functions_fault c (k + 1) fs) h).1 j f g)
 
-functions_back : (c : RawCode) (fs : List RawFunction) (k : ℕ) → ((j : ℕ) (f : RawFunction) → slice_get fs j ≡ Some f → function_fault c (k + j) f ≡ None) → functions_fault c k fs ≡ None
+functions_back : (c : RawCode) (fs : List RawFunction) (k : ℕ)
+    → ((j : ℕ) (f : RawFunction) → slice_get fs j ≡ Some f → function_fault c (k + j) f ≡ None) → functions_fault c k fs ≡ None
 functions_back c [] k all = refl
 functions_back c (x ∷ fs) k all =
     ap (λ o. or_later o (functions_fault c (k + 1) fs)) (subst (λ z. function_fault c z x ≡ None) (sym (at_first k)) (all zero x refl))
@@ -92,7 +98,8 @@ without_or : (b : Bool) → (b || false) ≡ true → b ≡ true
 without_or true h = refl
 without_or false h = cc
 
-head_of : (c : RawCode) (n : ℕ) (f : RawFunction) (is : List Raw) → function_problem n f is ≡ None → body_fault c n f 0 is ≡ None → (head_fits n f ≡ true) × (0 < length is)
+head_of : (c : RawCode) (n : ℕ) (f : RawFunction) (is : List Raw) → function_problem n f is ≡ None → body_fault c n f 0 is ≡ None
+    → (head_fits n f ≡ true) × (0 < length is)
 head_of c n f [] p h = cc
 head_of c n f (x ∷ is) p h =
     let own = passing n c f 0 x (fault_none n 0 (problem_at n (here c f 0) x) (body_fault c n f 1 is) h).0 in

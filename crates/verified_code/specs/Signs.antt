@@ -1,5 +1,5 @@
 -- The operators' bytes, as the signs of the language.
-use Rattle.std.specs.Prelude.{◌≡◌, ℕ, ◌<◌, ◌==◌, Option, Some, None, if◌then◌else◌}
+use Rattle.std.specs.Prelude.{◌≡◌, ℕ, ◌<◌, ◌==◌, Some, None, if◌then◌else◌}
 use Rattle.secrec_ast.specs.declared.expression.Operator.{Operator}
 use Rattle.secrec_ast.specs.declared.expression.Operator.TheVariants as sign
 use Rattle.typed_tree.specs.Operators.{word_operator, bool_operator}

@@ -30,13 +30,15 @@ no_register = refl
 pub main_gives : first_fault (main_of (number false ∷ []) (Return 0 ∷ [])) ≡ Some (record { problem = BadKind; function = 0; instruction = 0 })
 main_gives = refl
 
-pub sum_of_both : first_fault (main_of (number true ∷ number false ∷ []) (Binary 0 0 0 1 1 ∷ ReturnNone ∷ [])) ≡ Some (record { problem = BadKind; function = 0; instruction = 0 })
+pub sum_of_both : first_fault (main_of (number true ∷ number false ∷ []) (Binary 0 0 0 1 1 ∷ ReturnNone ∷ []))
+    ≡ Some (record { problem = BadKind; function = 0; instruction = 0 })
 sum_of_both = refl
 
 pub product_of_both : first_fault (main_of (number true ∷ number false ∷ []) (Binary 2 0 0 1 1 ∷ ReturnNone ∷ [])) ≡ None
 product_of_both = refl
 
-pub private_division : first_fault (main_of (number true ∷ []) (Binary 3 0 0 0 1 ∷ ReturnNone ∷ [])) ≡ Some (record { problem = BadKind; function = 0; instruction = 0 })
+pub private_division : first_fault (main_of (number true ∷ []) (Binary 3 0 0 0 1 ∷ ReturnNone ∷ []))
+    ≡ Some (record { problem = BadKind; function = 0; instruction = 0 })
 private_division = refl
 
 pub truth_of_two : first_fault (main_of (truth ∷ []) (Literal 0 2 ∷ ReturnNone ∷ [])) ≡ Some (record { problem = BadKind; function = 0; instruction = 0 })

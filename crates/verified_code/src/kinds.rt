@@ -1,6 +1,8 @@
 // Kinds, and whether one is as wanted.
 ghost use Rattle.std.specs.Prelude.{◌≡◌};
-ghost use Rattle.verified_code.specs.Fitting.{array_of, bits_of, bits_fit, cast_fits, cat_fits, classify_fits, element_fits, element_of, fill_fits, gives_fits, gives_none, is_condition, is_word, kind_at, literal_fits, not_fits, private_as, public_as, public_scalar, same_element, same_kind, size_fits, sum_fits};
+ghost use Rattle.verified_code.specs.Fitting.{bits_fit, cast_fits, cat_fits, classify_fits, element_fits, fill_fits, gives_fits, gives_none};
+ghost use Rattle.verified_code.specs.Fitting.{array_of, element_of, kind_at, literal_fits, not_fits, public_as, public_scalar, size_fits, sum_fits};
+ghost use Rattle.verified_code.specs.Fitting.{is_condition, is_word, same_element, same_kind};
 
 use bytecode::{Kind, Register};
 use secrec_ast::DataType;
@@ -49,6 +51,13 @@ pub(crate) fn kind_at(kinds: &[Kind], register: Register) -> Kind
     }
 }
 
+/// Two registers are of one kind.
+pub(crate) fn are_alike(kinds: &[Kind], to: Register, source: Register) -> bool
+    ensures { result ≡ same_kind (kind_at kinds.now to.0) (kind_at kinds.now source.0) }
+{
+    same_kind(kind_at(kinds, to), kind_at(kinds, source))
+}
+
 fn element_of(array: Kind) -> Kind
     ensures { result ≡ element_of array }
 {
@@ -69,27 +78,34 @@ fn array_of(scalar: Kind) -> Kind
     }
 }
 
-pub(crate) fn literal_fits(to: Kind, word: u64) -> bool
-    ensures { result ≡ literal_fits to word }
+pub(crate) fn literal_fits(kinds: &[Kind], to: Register, word: u64) -> bool
+    ensures { result ≡ literal_fits (kind_at kinds.now to.0) word }
 {
+    let to = kind_at(kinds, to);
     same_kind(to, public_scalar(to.element)) && (is_word(to.element) || word < 2)
 }
 
-pub(crate) fn not_fits(to: Kind, source: Kind) -> bool
-    ensures { result ≡ not_fits to source }
+pub(crate) fn not_fits(kinds: &[Kind], to: Register, source: Register) -> bool
+    ensures { result ≡ not_fits (kind_at kinds.now to.0) (kind_at kinds.now source.0) }
 {
+    let to = kind_at(kinds, to);
+    let source = kind_at(kinds, source);
     same_kind(to, source) && !is_word(source.element)
 }
 
-pub(crate) fn cast_fits(to: Kind, source: Kind) -> bool
-    ensures { result ≡ cast_fits to source }
+pub(crate) fn cast_fits(kinds: &[Kind], to: Register, source: Register) -> bool
+    ensures { result ≡ cast_fits (kind_at kinds.now to.0) (kind_at kinds.now source.0) }
 {
+    let to = kind_at(kinds, to);
+    let source = kind_at(kinds, source);
     to.secret == source.secret && to.array == source.array
 }
 
-pub(crate) fn classify_fits(to: Kind, source: Kind) -> bool
-    ensures { result ≡ classify_fits to source }
+pub(crate) fn classify_fits(kinds: &[Kind], to: Register, source: Register) -> bool
+    ensures { result ≡ classify_fits (kind_at kinds.now to.0) (kind_at kinds.now source.0) }
 {
+    let to = kind_at(kinds, to);
+    let source = kind_at(kinds, source);
     let private = Kind {
         secret: true,
         element: source.element,
@@ -98,9 +114,11 @@ pub(crate) fn classify_fits(to: Kind, source: Kind) -> bool
     !source.secret && same_kind(to, private)
 }
 
-pub(crate) fn declassify_fits(to: Kind, source: Kind) -> bool
-    ensures { result ≡ same_kind to (public_as source) }
+pub(crate) fn declassify_fits(kinds: &[Kind], to: Register, source: Register) -> bool
+    ensures { result ≡ same_kind (kind_at kinds.now to.0) (public_as (kind_at kinds.now source.0)) }
 {
+    let to = kind_at(kinds, to);
+    let source = kind_at(kinds, source);
     let public = Kind {
         secret: false,
         element: source.element,
@@ -109,43 +127,63 @@ pub(crate) fn declassify_fits(to: Kind, source: Kind) -> bool
     same_kind(to, public)
 }
 
-pub(crate) fn fill_fits(to: Kind, size: Kind, value: Kind) -> bool
-    ensures { result ≡ fill_fits to size value }
+pub(crate) fn fill_fits(kinds: &[Kind], to: Register, size: Register, value: Register) -> bool
+    ensures { result ≡ fill_fits (kind_at kinds.now to.0) (kind_at kinds.now size.0) (kind_at kinds.now value.0) }
 {
+    let to = kind_at(kinds, to);
+    let size = kind_at(kinds, size);
+    let value = kind_at(kinds, value);
     same_kind(size, public_scalar(DataType::Uint64))
         && !value.array
         && same_kind(to, array_of(value))
 }
 
-pub(crate) fn element_fits(array: Kind, index: Kind, element: Kind) -> bool
-    ensures { result ≡ element_fits array index element }
+pub(crate) fn element_fits(
+    kinds: &[Kind],
+    array: Register,
+    index: Register,
+    element: Register,
+) -> bool
+    ensures { result ≡ element_fits (kind_at kinds.now array.0) (kind_at kinds.now index.0) (kind_at kinds.now element.0) }
 {
+    let array = kind_at(kinds, array);
+    let index = kind_at(kinds, index);
+    let element = kind_at(kinds, element);
     array.array
         && same_kind(index, public_scalar(DataType::Uint64))
         && same_kind(element, element_of(array))
 }
 
-pub(crate) fn size_fits(to: Kind, source: Kind) -> bool
-    ensures { result ≡ size_fits to source }
+pub(crate) fn size_fits(kinds: &[Kind], to: Register, source: Register) -> bool
+    ensures { result ≡ size_fits (kind_at kinds.now to.0) (kind_at kinds.now source.0) }
 {
+    let to = kind_at(kinds, to);
+    let source = kind_at(kinds, source);
     source.array && same_kind(to, public_scalar(DataType::Uint64))
 }
 
-pub(crate) fn cat_fits(to: Kind, left: Kind, right: Kind) -> bool
-    ensures { result ≡ cat_fits to left right }
+pub(crate) fn cat_fits(kinds: &[Kind], to: Register, left: Register, right: Register) -> bool
+    ensures { result ≡ cat_fits (kind_at kinds.now to.0) (kind_at kinds.now left.0) (kind_at kinds.now right.0) }
 {
+    let to = kind_at(kinds, to);
+    let left = kind_at(kinds, left);
+    let right = kind_at(kinds, right);
     to.array && same_kind(left, to) && same_kind(right, to)
 }
 
-pub(crate) fn sum_fits(to: Kind, source: Kind) -> bool
-    ensures { result ≡ sum_fits to source }
+pub(crate) fn sum_fits(kinds: &[Kind], to: Register, source: Register) -> bool
+    ensures { result ≡ sum_fits (kind_at kinds.now to.0) (kind_at kinds.now source.0) }
 {
+    let to = kind_at(kinds, to);
+    let source = kind_at(kinds, source);
     source.array && is_word(source.element) && same_kind(to, element_of(source))
 }
 
-pub(crate) fn bits_fit(to: Kind, source: Kind) -> bool
-    ensures { result ≡ bits_fit to source }
+pub(crate) fn bits_fit(kinds: &[Kind], to: Register, source: Register) -> bool
+    ensures { result ≡ bits_fit (kind_at kinds.now to.0) (kind_at kinds.now source.0) }
 {
+    let to = kind_at(kinds, to);
+    let source = kind_at(kinds, source);
     let bits = Kind {
         secret: source.secret,
         element: DataType::Bool,
@@ -154,15 +192,17 @@ pub(crate) fn bits_fit(to: Kind, source: Kind) -> bool
     is_word(source.element) && same_kind(to, bits)
 }
 
-pub(crate) fn is_condition(source: Kind) -> bool
-    ensures { result ≡ is_condition source }
+pub(crate) fn is_condition(kinds: &[Kind], source: Register) -> bool
+    ensures { result ≡ is_condition (kind_at kinds.now source.0) }
 {
+    let source = kind_at(kinds, source);
     same_kind(source, public_scalar(DataType::Bool))
 }
 
-pub(crate) fn gives_fits(wanted: Option<Kind>, given: Kind) -> bool
-    ensures { result ≡ gives_fits wanted given }
+pub(crate) fn gives_fits(kinds: &[Kind], wanted: Option<Kind>, given: Register) -> bool
+    ensures { result ≡ gives_fits wanted (kind_at kinds.now given.0) }
 {
+    let given = kind_at(kinds, given);
     match wanted {
         Some(wanted) => same_kind(given, wanted),
         None => false,

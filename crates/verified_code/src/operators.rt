@@ -2,10 +2,10 @@
 ghost use Rattle.std.specs.Prelude.{◌≡◌};
 ghost use Rattle.bytecode.specs.InMemory.{operator_byte};
 ghost use Rattle.typed_tree.specs.Operators.{element_made};
-ghost use Rattle.verified_code.specs.Fitting.{binary_fits, has_bools, is_product, may_be_private, operator_at, operator_exists, secrecy_fits};
+ghost use Rattle.verified_code.specs.Fitting.{binary_fits, has_bools, is_product, kind_at, may_be_private, operator_at, operator_exists, secrecy_fits};
 
-use crate::kinds::{is_word, same_element, same_kind};
-use bytecode::{BinaryOperator, Kind};
+use crate::kinds::{kind_at, same_element, same_kind};
+use bytecode::{BinaryOperator, Kind, Register};
 use secrec_ast::DataType;
 
 fn has_bools(operator: BinaryOperator) -> bool
@@ -82,9 +82,18 @@ fn secrecy_fits(operator: BinaryOperator, left: Kind, right: Kind) -> bool
         && (!(left.secret || right.secret) || may_be_private(left.element, operator))
 }
 
-pub(crate) fn binary_fits(operator: BinaryOperator, to: Kind, left: Kind, right: Kind) -> bool
-    ensures { result ≡ binary_fits (operator_byte operator) to left right }
+pub(crate) fn binary_fits(
+    kinds: &[Kind],
+    operator: BinaryOperator,
+    to: Register,
+    left: Register,
+    right: Register,
+) -> bool
+    ensures { result ≡ binary_fits (operator_byte operator) (kind_at kinds.now to.0) (kind_at kinds.now left.0) (kind_at kinds.now right.0) }
 {
+    let to = kind_at(kinds, to);
+    let left = kind_at(kinds, left);
+    let right = kind_at(kinds, right);
     let made = Kind {
         secret: left.secret || right.secret,
         element: element_made(left.element, operator),

@@ -6,9 +6,9 @@ ghost use Rattle.verified_code.specs.Fitting.{arguments_fit, call_fits, gives_fi
 ghost use Rattle.verified_code.specs.Places.{here_in};
 
 use crate::kinds::{
-    bits_fit, cast_fits, cat_fits, classify_fits, declassify_fits, element_fits, fill_fits,
-    gives_fits, gives_none, is_condition, kind_at, literal_fits, not_fits, same_kind, size_fits,
-    sum_fits,
+    are_alike, bits_fit, cast_fits, cat_fits, classify_fits, declassify_fits, element_fits,
+    fill_fits, gives_fits, gives_none, is_condition, kind_at, literal_fits, not_fits, same_kind,
+    size_fits, sum_fits,
 };
 use crate::operators::binary_fits;
 use bytecode::{Code, Function, FunctionPlace, Instruction, Kind, NamePlace, Register};
@@ -83,7 +83,7 @@ fn result_fits(kinds: &[Kind], gives: Option<Kind>, to: Option<Register>) -> boo
     ensures { result ≡ (result_register to == 65535 || gives_fits gives (kind_at kinds.now (result_register to))) }
 {
     match to {
-        Some(register) => register.0 == 65_535 || gives_fits(gives, kind_at(kinds, register)),
+        Some(register) => register.0 == 65_535 || gives_fits(kinds, gives, register),
         None => true,
     }
 }
@@ -201,9 +201,9 @@ pub(crate) fn operands_fit(here: Here<'_>, instruction: &Instruction) -> bool
 {
     let kinds = &here.own.registers;
     match instruction {
-        Instruction::Literal { to, word } => literal_fits(kind_at(kinds, *to), *word),
+        Instruction::Literal { to, word } => literal_fits(kinds, *to, *word),
         Instruction::Move { to, source } | Instruction::Store { to, source } => {
-            same_kind(kind_at(kinds, *to), kind_at(kinds, *source))
+            are_alike(kinds, *to, *source)
         }
         Instruction::Binary {
             operator,
@@ -211,92 +211,55 @@ pub(crate) fn operands_fit(here: Here<'_>, instruction: &Instruction) -> bool
             left,
             right,
             line: _,
-        } => {
-            binary_fits(
-                *operator,
-                kind_at(kinds, *to),
-                kind_at(kinds, *left),
-                kind_at(kinds, *right),
-            )
-        }
-        Instruction::Not { to, source } => not_fits(kind_at(kinds, *to), kind_at(kinds, *source)),
-        Instruction::Cast { to, source } => cast_fits(kind_at(kinds, *to), kind_at(kinds, *source)),
-        Instruction::Classify { to, source } => classify_fits(
-            kind_at(kinds, *to),
-            kind_at(kinds, *source),
-        ),
+        } => binary_fits(kinds, *operator, *to, *left, *right),
+        Instruction::Not { to, source } => not_fits(kinds, *to, *source),
+        Instruction::Cast { to, source } => cast_fits(kinds, *to, *source),
+        Instruction::Classify { to, source } => classify_fits(kinds, *to, *source),
         Instruction::Fill {
             to,
             size,
             value,
             line: _,
-        } => {
-            fill_fits(
-                kind_at(kinds, *to),
-                kind_at(kinds, *size),
-                kind_at(kinds, *value),
-            )
-        }
+        } => fill_fits(kinds, *to, *size, *value),
         Instruction::At {
             to,
             array,
             index,
             line: _,
-        } => {
-            element_fits(
-                kind_at(kinds, *array),
-                kind_at(kinds, *index),
-                kind_at(kinds, *to),
-            )
-        }
+        } => element_fits(kinds, *array, *index, *to),
         Instruction::Put {
             array,
             index,
             value,
             line: _,
-        } => {
-            element_fits(
-                kind_at(kinds, *array),
-                kind_at(kinds, *index),
-                kind_at(kinds, *value),
-            )
-        }
-        Instruction::Size { to, source } => size_fits(kind_at(kinds, *to), kind_at(kinds, *source)),
+        } => element_fits(kinds, *array, *index, *value),
+        Instruction::Size { to, source } => size_fits(kinds, *to, *source),
         Instruction::Cat {
             to,
             left,
             right,
             line: _,
-        } => {
-            cat_fits(
-                kind_at(kinds, *to),
-                kind_at(kinds, *left),
-                kind_at(kinds, *right),
-            )
-        }
-        Instruction::Sum { to, source } => sum_fits(kind_at(kinds, *to), kind_at(kinds, *source)),
+        } => cat_fits(kinds, *to, *left, *right),
+        Instruction::Sum { to, source } => sum_fits(kinds, *to, *source),
         Instruction::Bits {
             to,
             source,
             line: _,
-        } => bits_fit(kind_at(kinds, *to), kind_at(kinds, *source)),
-        Instruction::Declassify { to, source } => declassify_fits(
-            kind_at(kinds, *to),
-            kind_at(kinds, *source),
-        ),
-        Instruction::Assert { condition, line: _ } => is_condition(kind_at(kinds, *condition)),
+        } => bits_fit(kinds, *to, *source),
+        Instruction::Declassify { to, source } => declassify_fits(kinds, *to, *source),
+        Instruction::Assert { condition, line: _ } => is_condition(kinds, *condition),
         Instruction::Branch {
             condition,
             value: _,
             target: _,
-        } => is_condition(kind_at(kinds, *condition)),
+        } => is_condition(kinds, *condition),
         Instruction::Call {
             function,
             to,
             arguments,
             line: _,
         } => call_fits(here.code, kinds, *function, *to, arguments),
-        Instruction::Return { source } => gives_fits(here.own.gives, kind_at(kinds, *source)),
+        Instruction::Return { source } => gives_fits(kinds, here.own.gives, *source),
         Instruction::ReturnNone => gives_none(here.own.gives),
         Instruction::Argument {
             to: _,

@@ -21,11 +21,14 @@ loop-place-preserved c =
     let later = c.args.count - (c.loop-place.place + 1) in
     names_more earlier c.args.count c.loop-place.place c.loop-place.found.items c.in_ok-next.next c.loop-place.reader c.next_name.new.reader
     (read (names_layout [] c.args.count) c.args.reader.now) c.loop-place-test.true c.in_ok-next.ensures.reads c.loop-place.invariant
-    ∙ ap (λ earlier. after (c.loop-place.found.items ++ c.in_ok-next.next ∷ []) (read (names_layout earlier later) c.next_name.new.reader)) (sym c.in_ok-next.ensures.remembered)
-    ∙ ap (λ xs. after xs (read (names_layout (reverse (map (λ n. n.now) c.next_name.new.earlier.keys)) later) c.next_name.new.reader)) (sym c.in_ok-push_name.ensures)
+    ∙ ap (λ earlier. after (c.loop-place.found.items ++ c.in_ok-next.next ∷ []) (read (names_layout earlier later) c.next_name.new.reader))
+    (sym c.in_ok-next.ensures.remembered)
+    ∙ ap (λ xs. after xs (read (names_layout (reverse (map (λ n. n.now) c.next_name.new.earlier.keys)) later) c.next_name.new.reader))
+    (sym c.in_ok-push_name.ensures)
 
 pub returns : goal.returns
 returns c =
     let earlier = reverse (map (λ n. n.now) c.loop-place.earlier.keys) in
     let out : c.args.count ≤ c.loop-place.place = omega arith in
-    names_end earlier c.args.count c.loop-place.place c.loop-place.found.items c.loop-place.reader (read (names_layout [] c.args.count) c.args.reader.now) out c.loop-place.invariant
+    names_end earlier c.args.count c.loop-place.place c.loop-place.found.items c.loop-place.reader
+    (read (names_layout [] c.args.count) c.args.reader.now) out c.loop-place.invariant

@@ -13,4 +13,5 @@ pub returns-in-Ok-clause-new : goal.returns-in-Ok-clause-new
 returns-in-Ok-clause-new c =
     let keys = map (λ n. n.now) c.args.earlier.now.keys in
     c.in-Ok.ensures.added
-    ∙ ap not (sym (any_map (bytes_eq c.args.name.now) (λ n. n.now) c.args.earlier.now.keys) ∙ list_any-IsPermutation (bytes_eq c.args.name.now) keys (reverse keys) (IsPermutation-reverse keys))
+    ∙ ap not (sym (any_map (bytes_eq c.args.name.now) (λ n. n.now) c.args.earlier.now.keys)
+    ∙ list_any-IsPermutation (bytes_eq c.args.name.now) keys (reverse keys) (IsPermutation-reverse keys))

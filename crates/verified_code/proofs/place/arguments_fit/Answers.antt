@@ -24,7 +24,8 @@ returns-then-not-same_kind c =
     let m : i < length ks = omega (arith, l, c.requires) in
     let wrong : c.same_kind.result ≡ false = search rules in
     sym (arguments_wrong c.args.kinds.now (λ (r : Register). r.0) rs ks i x k (arguments_fit c.args.kinds.now (map (λ (r : Register). r.0) rs) ks)
-    (get_or_default rs i first x l) (get_or_default ks i none k m) l m (sym (c.same_kind.ensures ∙ ap (λ z. same_kind z k) c.kind_at.ensures) ∙ wrong) c.loop-place.invariant)
+    (get_or_default rs i first x l) (get_or_default ks i none k m) l m
+    (sym (c.same_kind.ensures ∙ ap (λ z. same_kind z k) c.kind_at.ensures) ∙ wrong) c.loop-place.invariant)
 
 pub loop-place-preserved : goal.loop-place-preserved
 loop-place-preserved c =
@@ -37,4 +38,5 @@ loop-place-preserved c =
     let m : i < length ks = omega (arith, l, c.requires) in
     let right : c.same_kind.result ≡ true = search rules in
     arguments_more c.args.kinds.now (λ (r : Register). r.0) rs ks i x k (arguments_fit c.args.kinds.now (map (λ (r : Register). r.0) rs) ks)
-    (get_or_default rs i first x l) (get_or_default ks i none k m) l m (sym (c.same_kind.ensures ∙ ap (λ z. same_kind z k) c.kind_at.ensures) ∙ right) c.loop-place.invariant
+    (get_or_default rs i first x l) (get_or_default ks i none k m) l m
+    (sym (c.same_kind.ensures ∙ ap (λ z. same_kind z k) c.kind_at.ensures) ∙ right) c.loop-place.invariant

@@ -10,7 +10,8 @@ returns-in-Some c =
     let names = c.args.names.now in
     let i = c.in-Some.instruction.now in
     let found : slice_get c.args.own.now.body.items c.args.place ≡ Some i =
-    subst (λ xs. slice_get xs c.args.place ≡ Some i) c.deref.ensures.value (there_at c.deref.result.now c.args.place i c.in-Some.ensures.lookup.3.0 c.in-Some.ensures.lookup.1) in
+    subst (λ xs. slice_get xs c.args.place ≡ Some i) c.deref.ensures.value
+    (there_at c.deref.result.now c.args.place i c.in-Some.ensures.lookup.3.0 c.in-Some.ensures.lookup.1) in
     ap Some (c.settle.ensures ∙ ap (λ ks. settle names ks (raw_instruction i)) c.deref-in-Some.ensures.value)
     ∙ sym (step_there names c.args.own.now.registers.items c.args.own.now.body.items c.args.place i found)
 

@@ -10,7 +10,8 @@ returns-in-Some c =
     let own = raw_function c.args.own.now in
     let items = c.args.own.now.body.items in
     let l : c.loop-place.place < length items = search rules in
-    sym (body_found code c.args.number own raw_instruction items c.loop-place.place c.index.result.now (body_fault code c.args.number own 0 (map raw_instruction items)) c.in-Some.problem
+    sym (body_found code c.args.number own raw_instruction items c.loop-place.place c.index.result.now
+    (body_fault code c.args.number own 0 (map raw_instruction items)) c.in-Some.problem
     c.index.ensures l (sym c.problem_at.ensures ∙ c.in-Some.is) c.loop-place.invariant)
 
 pub loop-place-preserved : goal.loop-place-preserved
@@ -19,5 +20,6 @@ loop-place-preserved c =
     let own = raw_function c.args.own.now in
     let items = c.args.own.now.body.items in
     let l : c.loop-place.place < length items = search rules in
-    body_more code c.args.number own raw_instruction items c.loop-place.place c.index.result.now (body_fault code c.args.number own 0 (map raw_instruction items))
+    body_more code c.args.number own raw_instruction items c.loop-place.place c.index.result.now
+    (body_fault code c.args.number own 0 (map raw_instruction items))
     c.index.ensures l (sym c.problem_at.ensures ∙ c.in_default.is) c.loop-place.invariant
