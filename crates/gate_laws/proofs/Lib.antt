@@ -1,0 +1,5 @@
+pub mod Effects
+pub mod Gains
+pub mod Singles
+pub mod Parts
+pub mod Ranges
