@@ -75,3 +75,10 @@ one_below b x h = below_cons b x [] h (below_none b (omega (arith, h)))
 pub truth_below : (t : Bool) → truth_word t < 2
 truth_below true = omega arith
 truth_below false = omega arith
+
+pub length_replicated : (n x : ℕ) → length (replicate n x) ≡ n
+length_replicated zero x = refl
+length_replicated (suc n) x = ap suc (length_replicated n x)
+
+pub below_more : (a b : ℕ) (xs : List ℕ) → a ≤ b → Below a xs → Below b xs
+below_more a b xs le h = λ k. let low : at xs k < a = h k in omega arith
