@@ -28,7 +28,7 @@ use Rattle.language_model.specs.Values.{ring_for}
 use Rattle.language_model.specs.Words.{truth_word, flipped, word_meaning, truth_meaning, meaning}
 use Rattle.language_model.specs.Operations.{flip, words_for_equality, words_for_order, words_of_word_operator, words_of_bool_operator, words_of_operator}
 use Rattle.language_model.specs.Operations.{equal_gates, less_gates, word_gates, or_gates, bool_gates, operator_gates}
-use Rattle.gate_laws.specs.Facts.{drawn_by, none_of, Fact, Dealt, Suits}
+use Rattle.gate_laws.specs.Facts.{InRange, drawn_by, none_of, Fact, Dealt, Suits}
 use Rattle.gate_laws.specs.Rows.{element_taken, has_gates}
 use Rattle.gate_laws.proofs.Effects.{Tell, Any, suits_bind, suits_with}
 use Rattle.gate_laws.proofs.Gains.{fact, gate_suits, planned_suits}
@@ -36,8 +36,8 @@ use Rattle.gate_laws.proofs.Singles.{add_gain, sub_gain, mul_gain, xor_gain, and
 use Rattle.gate_laws.proofs.Plans.{zero_gain, less_gain}
 use Rattle.gate_laws.proofs.Parts.{tell_same, tell_first, tell_later, const_suits}
 use Rattle.gate_laws.proofs.Ranges.{Below, two_same, two_lengths, two_below, replicate_below, length_replicated, below_more, truth_below}
-use Rattle.gate_laws.proofs.Meanings.{map_two, two_ext, two_swapped, equal_word, less_word, flipped_truth, at_most_word, flips, xor_bits, and_bits, or_bits}
-use Rattle.gate_laws.proofs.Meanings.{differ_bits, equal_bits}
+use Rattle.gate_laws.proofs.Meanings.{map_two, two_of_two, two_ext, two_swapped, equal_word, less_word, flipped_truth, at_most_word, flips, xor_bits, and_bits, or_bits}
+use Rattle.gate_laws.proofs.Meanings.{differ_bits, equal_bits, xor_low}
 
 false_true : false ≡ true → ⊥
 false_true h = cc
@@ -153,12 +153,50 @@ module _ (w : World) (d : Dealt) where
     -- ---- truth values
 
     module _ (t : Both fs u v Boolean us vs) (p : Below 2 us) (q : Below 2 vs) where
-      xor_suits : (before : Miner → ℕ) → Suits w d fs before (gate (gates.Xor u v)) before (Numbered Boolean (each_two xor_ring.add us vs)) (Any {A = ℕ})
-      xor_suits before =
-          gate_suits w d fs before (λ m. 0 * length us) before (gates.Xor u v) Boolean (each_two xor_ring.add us vs)
-          (λ m. omega arith) refl (λ r good facts. xor_gain r good u v us vs same (t.from r facts).0 (t.from r facts).1.0)
+      xor_suits : (gs : List Fact) (before after : Miner → ℕ) → Both gs u v Boolean us vs → ((m : Miner) → before m ≡ after m)
+          → Suits w d gs before (gate (gates.Xor u v)) after (Numbered Boolean (each_two xor_ring.add us vs)) (Any {A = ℕ})
+      xor_suits gs before after tell e =
+          gate_suits w d gs before (λ m. 0 * length us) after (gates.Xor u v) Boolean (each_two xor_ring.add us vs)
+          (λ m. let f = e m in omega (arith, f)) refl (λ r good facts. xor_gain r good u v us vs same (tell.from r facts).0 (tell.from r facts).1.0)
 
       and_suits : Suits w d fs (drawn_by (words_each (3 * n))) (gate (gates.And u v)) none_of (Numbered Boolean (each_two xor_ring.mul us vs)) (Any {A = ℕ})
       and_suits =
           gate_suits w d fs (drawn_by (words_each (3 * n))) (λ m. 3 * length us) none_of (gates.And u v) Boolean (each_two xor_ring.mul us vs)
           (λ m. let e = same_each (3 * n) m in omega (arith, e, left)) refl (λ r good facts. and_gain r good u v us vs same (t.from r facts).0 (t.from r facts).1.0)
+
+      -- one of them is true, or both are
+      or_suits : Suits w d fs (drawn_by (words_each (3 * n))) (or_gates u v) none_of (Numbered Boolean (each_two (truth_meaning truth.Or) us vs)) (Any {A = ℕ})
+      or_suits =
+          let one_words = each_two xor_ring.add us vs in
+          let both_words = each_two xor_ring.mul us vs in
+          suits_bind w d and_suits (λ both _.
+          suits_bind w d (xor_suits (fact both Boolean both_words ∷ fs) none_of none_of (record { from = λ r facts. t.from r facts.1 }) (λ m. refl)) (λ one _.
+          in_terms (two_of_two xor_ring.add xor_ring.add xor_ring.mul us vs
+          ∙ two_same 2 (λ x y. xor_ring.add (xor_ring.add x y) (xor_ring.mul x y)) (truth_meaning truth.Or) us vs or_bits p q)
+          (gate_suits w d (fact one Boolean one_words ∷ (fact both Boolean both_words ∷ fs)) none_of (λ m. 0 * length one_words) none_of (gates.Xor one both) Boolean
+          (each_two xor_ring.add one_words both_words) (λ m. omega arith) refl
+          (λ r good facts. xor_gain r good one both one_words both_words (two_lengths xor_ring.add us vs same ∙ sym (two_lengths xor_ring.mul us vs same)) facts.0 facts.1.0))))
+
+      none_each : (m : Miner) → drawn_by (words_each 0) m ≡ none_of m
+      none_each m = same_each 0 m
+
+      bool_suits : (op : BoolOperator)
+          → Suits w d fs (drawn_by (words_of_bool_operator op n)) (bool_gates op n u v) none_of (Numbered Boolean (each_two (truth_meaning op) us vs)) (Any {A = ℕ})
+      bool_suits truth.Xor = in_terms (two_same 2 xor_ring.add (truth_meaning truth.Xor) us vs xor_bits p q) (xor_suits fs (drawn_by (words_each 0)) none_of t none_each)
+      bool_suits truth.NotEqual =
+          in_terms (two_same 2 xor_ring.add (truth_meaning truth.NotEqual) us vs differ_bits p q) (xor_suits fs (drawn_by (words_each 0)) none_of t none_each)
+      bool_suits truth.And = in_terms (two_same 2 xor_ring.mul (truth_meaning truth.And) us vs and_bits p q) and_suits
+      bool_suits truth.Or = or_suits
+      bool_suits truth.Equal =
+          let xs = each_two xor_ring.add us vs in
+          suits_bind w d (xor_suits fs (drawn_by (words_each 0)) none_of t none_each) (λ k _.
+          in_terms (map_two flipped xor_ring.add us vs ∙ two_same 2 (λ x y. flipped (xor_ring.add x y)) (truth_meaning truth.Equal) us vs equal_bits p q)
+          (flip_suits (fact k Boolean xs ∷ fs) none_of n k xs (tell_first (fact k Boolean xs) fs) (two_lengths xor_ring.add us vs same ∙ left)
+          (two_below 2 2 xor_ring.add us vs (omega arith) xor_low p q)))
+
+    -- ---- all of them
+
+    pub operator_suits : (op : BinaryOperator) → has_gates op ≡ true → Both fs u v (ring_for (element_taken op)) us vs → InRange (element_taken op) us → InRange (element_taken op) vs
+        → Suits w d fs (drawn_by (words_of_operator op n)) (operator_gates op n u v) none_of (Numbered (ring_for (element_made op)) (each_two (meaning op) us vs)) (Any {A = ℕ})
+    operator_suits (Words op) h t p q = word_suits t p q op h
+    operator_suits (Bools op) h t p q = bool_suits t p q op
