@@ -6,3 +6,4 @@ pub mod Ranges
 pub mod Plans
 pub mod Meanings
 pub mod Operators
+pub mod Binary

@@ -60,6 +60,11 @@ module _ (w : World) (d : Dealt) where
     number_from_suits (Private None) e words t range = const_suits (ring_for e) words (range_words e words range)
     number_from_suits Plain e words t range = const_suits (ring_for e) words (range_words e words range)
 
+    -- the number of a value of these elements, whose words it has
+    pub number_as : (e : DataType) (v : Value) → v.shape.element ≡ e → Tell fs (facts_of v) → InRange e v.words
+        → Suits w d fs owed (number_of v) owed (λ k. fact k (ring_for e) v.words ∷ []) (Any {A = ℕ})
+    number_as e v same t range = number_from_suits v.secrecy e v.words (subst (λ z. Tell fs (fact_from v.secrecy z v.words)) same t) range
+
     -- the number of a value, whose words it has
     pub number_suits : (v : Value) → Tell fs (facts_of v) → HasRange v
         → Suits w d fs owed (number_of v) owed (λ k. fact k (ring_for v.shape.element) v.words ∷ []) (Any {A = ℕ})
@@ -76,6 +81,11 @@ module _ (w : World) (d : Dealt) where
   pub given_suits : (fs : List Fact) (shape : Shape) (words : List ℕ) (k : ℕ) → Tell fs (fact k (ring_for shape.element) words ∷ []) → InRange shape.element words
       → Suits w d fs none_of (made_private shape words k) none_of facts_of HasRange
   given_suits fs shape words k t range = suits_done w d t range
+
+  pub given_as : (fs : List Fact) (e : DataType) (shape : Shape) (words : List ℕ) (k : ℕ) → shape.element ≡ e → Tell fs (fact k (ring_for e) words ∷ []) → InRange e words
+      → Suits w d fs none_of (made_private shape words k) none_of facts_of HasRange
+  given_as fs e shape words k same t range =
+      given_suits fs shape words k (subst (λ z. Tell fs (fact k (ring_for z) words ∷ [])) (sym same) t) (subst (λ z. InRange z words) (sym same) range)
 
   -- a public value
   pub shown_suits : (fs : List Fact) (shape : Shape) (words : List ℕ) → InRange shape.element words

@@ -82,3 +82,7 @@ length_replicated (suc n) x = ap suc (length_replicated n x)
 
 pub below_more : (a b : ℕ) (xs : List ℕ) → a ≤ b → Below a xs → Below b xs
 below_more a b xs le h = λ k. let low : at xs k < a = h k in omega arith
+
+pub first_below : (b : ℕ) (xs : List ℕ) → 0 < b → Below b xs → first_word xs < b
+first_below b [] some h = some
+first_below b (x ∷ xs) some h = below_head b x xs h
