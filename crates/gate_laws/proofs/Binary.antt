@@ -137,3 +137,118 @@ module _ (op : BinaryOperator) (ds : Operands) (x y : Value) (h : OperandsSuit o
         (operator_suits w d (fact v ring vs ∷ (fact u ring us ∷ (fact k ring y.words ∷ (fact j ring x.words ∷ both)))) n u v us vs (left_size ds h.left_single)
         (right_size ds h.right_single alike) op gates (record { from = λ r k. (k.1.0, (k.0, tt)) }) (left_low ds) (right_low ds)) (λ r _.
         given_as w d _ (element_made op) (result_shape op ds) (W.result_words op ds x y) r (made_element op ds) (tell_first _ _) result_low))))))
+
+-- ---- a private operand and public words
+
+-- the product of the ring is what the operator means
+product_meaning : (op : BinaryOperator) → is_product op ≡ true → (x y : ℕ) → x < bound (element_taken op) → y < bound (element_taken op)
+    → (ring_of (ring_for (element_taken op))).mul x y ≡ W.meaning op x y
+product_meaning (Words word.Multiply) h x y p q = refl
+product_meaning (Bools truth.And) h x y p q = and_bits x y p q
+product_meaning (Words word.Add) h x y p q = cc
+product_meaning (Words word.Subtract) h x y p q = cc
+product_meaning (Words word.Divide) h x y p q = cc
+product_meaning (Words word.Remainder) h x y p q = cc
+product_meaning (Words word.Equal) h x y p q = cc
+product_meaning (Words word.NotEqual) h x y p q = cc
+product_meaning (Words word.Less) h x y p q = cc
+product_meaning (Words word.LessOrEqual) h x y p q = cc
+product_meaning (Words word.Greater) h x y p q = cc
+product_meaning (Words word.GreaterOrEqual) h x y p q = cc
+product_meaning (Words word.And) h x y p q = cc
+product_meaning (Words word.Or) h x y p q = cc
+product_meaning (Words word.Xor) h x y p q = cc
+product_meaning (Bools truth.Equal) h x y p q = cc
+product_meaning (Bools truth.NotEqual) h x y p q = cc
+product_meaning (Bools truth.Or) h x y p q = cc
+product_meaning (Bools truth.Xor) h x y p q = cc
+
+product_element : (op : BinaryOperator) → is_product op ≡ true → element_made op ≡ element_taken op
+product_element (Words word.Multiply) h = refl
+product_element (Bools op) h = refl
+product_element (Words word.Add) h = cc
+product_element (Words word.Subtract) h = cc
+product_element (Words word.Divide) h = cc
+product_element (Words word.Remainder) h = cc
+product_element (Words word.Equal) h = cc
+product_element (Words word.NotEqual) h = cc
+product_element (Words word.Less) h = cc
+product_element (Words word.LessOrEqual) h = cc
+product_element (Words word.Greater) h = cc
+product_element (Words word.GreaterOrEqual) h = cc
+product_element (Words word.And) h = cc
+product_element (Words word.Or) h = cc
+product_element (Words word.Xor) h = cc
+
+product_swaps : (e : DataType) (x y : ℕ) → (ring_of (ring_for e)).mul x y ≡ (ring_of (ring_for e)).mul y x
+product_swaps Uint64 x y = add_ring_laws.mul_comm x y
+product_swaps datatype.Bool x y = xor_ring_laws.mul_comm x y
+
+module _ (w : World) (d : Dealt) (op : BinaryOperator) (ds : Operands) where
+  product_suits :
+      (fs : List Fact) (scalar : Bool) (x : Value) (known us words : List ℕ) → is_product op ≡ true → Tell fs (facts_of x) → HasRange x
+      → x.shape.element ≡ element_taken op → (scalar ≡ true → length x.words ≡ 1) → stretched_words scalar (length known) x.words ≡ us → length us ≡ length known
+      → each_two (ring_of (ring_for (element_taken op))).mul us known ≡ words → InRange (element_made op) words
+      → Suits w d fs none_of (product_with op ds scalar x known words) none_of facts_of HasRange
+  product_suits fs scalar x known us words product t range e single stretch same mean low =
+      let ring = ring_for x.shape.element in
+      let made = made_element op ds ∙ product_element op product ∙ sym e in
+      suits_bind w d (number_suits w d fs none_of x t range) (λ j _.
+      suits_bind w d (in_terms w d stretch (stretched_suits w d (fact j ring x.words ∷ fs) none_of scalar (length known) j ring x.words (tell_first _ _) single)) (λ u _.
+      suits_bind w d
+      (in_terms w d (subst (λ z. each_two (ring_of (ring_for z)).mul us known ≡ words) (sym e) mean)
+      (gate_suits w d (fact u ring us ∷ (fact j ring x.words ∷ fs)) none_of none_of none_of (MulPub ring u known) ring (each_two (ring_of ring).mul us known) (λ m. refl) refl
+      (λ r good facts. mulpub_gain r good u ring us facts.0 known same))) (λ r _.
+      given_as w d _ x.shape.element (result_shape op ds) words r made (tell_first _ _)
+      (subst (λ z. InRange z words) (product_element op product ∙ sym e) low))))
+
+module _ (w : World) (d : Dealt) (op : BinaryOperator) (ds : Operands) (x y : Value) (h : OperandsSuit op ds x y) (alike : W.are_alike ds x y ≡ true) where
+  abbrev all : List Fact
+  all = facts_of x ++ facts_of y
+
+  left_product : is_product op ≡ true
+      → Suits w d all none_of (product_with op ds (is_scalar_left ds) x (W.right_words ds x y) (W.result_words op ds x y)) none_of facts_of HasRange
+  left_product product =
+      let us = W.left_words ds x y in
+      let vs = W.right_words ds x y in
+      let size = right_size op ds x y h ds h.right_single alike in
+      product_suits w d op ds all (is_scalar_left ds) x vs us (W.result_words op ds x y) product (tell_left op ds x y h w d) h.left_range h.left_element
+      (left_one op ds x y h) (ap (λ n. stretched_words (is_scalar_left ds) n x.words) size ∙ left_stretch op ds x y h ds)
+      (left_size op ds x y h ds h.left_single ∙ sym size)
+      (two_same (bound (element_taken op)) (ring_of (ring_for (element_taken op))).mul (W.meaning op) us vs (product_meaning op product)
+      (left_low op ds x y h ds) (right_low op ds x y h ds))
+      (result_low op ds x y h)
+
+  right_product : is_product op ≡ true
+      → Suits w d all none_of (product_with op ds (is_scalar_right ds) y (W.left_words ds x y) (W.result_words op ds x y)) none_of facts_of HasRange
+  right_product product =
+      let us = W.left_words ds x y in
+      let vs = W.right_words ds x y in
+      let mul = (ring_of (ring_for (element_taken op))).mul in
+      let size = left_size op ds x y h ds h.left_single in
+      product_suits w d op ds all (is_scalar_right ds) y us vs (W.result_words op ds x y) product (tell_right op ds x y h w d) h.right_range h.right_element
+      (right_one op ds x y h) (ap (λ n. stretched_words (is_scalar_right ds) n y.words) size ∙ right_stretch op ds x y h ds)
+      (right_size op ds x y h ds h.right_single alike ∙ sym size)
+      (two_swapped mul us vs ∙ two_ext (λ x y. mul y x) mul us vs (λ x y. product_swaps (element_taken op) y x)
+      ∙ two_same (bound (element_taken op)) mul (W.meaning op) us vs (product_meaning op product) (left_low op ds x y h ds) (right_low op ds x y h ds))
+      (result_low op ds x y h)
+
+  combined_suits : (a b : Secrecy) → secrecy_suits op (is_secret a) (is_secret b) → Suits w d all none_of (combined_from a b w op ds x y) none_of facts_of HasRange
+  combined_suits Plain Plain s =
+      shown_suits w d all (result_shape op ds) (W.result_words op ds x y)
+      (subst (λ z. InRange z (W.result_words op ds x y)) (sym (made_element op ds)) (result_low op ds x y h))
+  combined_suits (Private j) (Private k) s = private_suits op ds x y h w d s alike
+  combined_suits (Private j) Plain s = left_product s
+  combined_suits Plain (Private k) s = right_product s
+
+-- ---- the row
+
+pub operated_suits : (w : World) (d : Dealt) (line : ℕ) (op : BinaryOperator) (ds : Operands) (x y : Value) → OperandsSuit op ds x y
+    → Suits w d (facts_of x ++ facts_of y) none_of (operated w line op ds x y) none_of facts_of HasRange
+operated_suits w d line op ds x y h =
+    let fs = facts_of x ++ facts_of y in
+    suits_bind w d
+    (charged_suits w d fs (operator_traps line op ds x y) (W.result_size ds x y) (W.are_alike ds x y ≡ true)
+    (suits_bind w d (test_suits w d fs (W.are_alike ds x y) trap.Length line) (λ _ alike.
+    suits_with w d (test_suits w d fs (W.may_divide op (seen y)) trap.Div line) (λ _ _. tell_same []) (λ _ _. alike)))) (λ _ alike.
+    combined_suits w d op ds x y h alike x.secrecy y.secrecy h.secrecy)
