@@ -21,13 +21,13 @@ use Rattle.language_model.specs.Effects.{World, test}
 use Rattle.language_model.specs.Values.{Secrecy, Plain, Private, Value, is_secret, size, seen, ring_for}
 use Rattle.language_model.specs.Words as W
 use Rattle.language_model.specs.Operations.{words_of_operator, is_scalar_left, is_scalar_right, is_product, result_shape, private_result, product_with, combined_from, operator_traps, operated}
-use Rattle.gate_laws.specs.Facts.{bound, InRange, HasRange, drawn_by, none_of, Fact, facts_of, Dealt, Suits}
+use Rattle.gate_laws.specs.Facts.{bound, InRange, HasRange, IsProper, drawn_by, none_of, Fact, facts_of, Dealt, Suits}
 use Rattle.gate_laws.specs.Rows.{element_taken, has_gates, secrecy_suits, is_left_scalar, is_right_scalar, OperandsSuit}
 use Rattle.gate_laws.proofs.Effects.{Tell, Any, NoFacts, suits_bind, suits_with, suits_done, suits_from, test_suits, draw_suits, first_stand, second_stand}
 use Rattle.gate_laws.proofs.Gains.{fact, gate_suits}
 use Rattle.gate_laws.proofs.Singles.{mulpub_gain}
 use Rattle.gate_laws.proofs.Parts.{tell_same, tell_first, stretched_words, charged_suits, number_as, number_suits, stretched_suits, given_as, shown_suits}
-use Rattle.gate_laws.proofs.Ranges.{Below, two_same, replicate_below, length_replicated, first_below}
+use Rattle.gate_laws.proofs.Ranges.{Below, two_same, two_lengths, replicate_below, length_replicated, first_below}
 use Rattle.gate_laws.proofs.Meanings.{two_ext, two_swapped, and_bits, operator_range, some_bound}
 use Rattle.gate_laws.proofs.Operators.{in_terms, operator_suits}
 
@@ -45,10 +45,10 @@ module _ (op : BinaryOperator) (ds : Operands) (x y : Value) (h : OperandsSuit o
   taken = element_taken op
 
   left_in : InRange taken x.words
-  left_in = subst (λ e. InRange e x.words) h.left_element h.left_range
+  left_in = subst (λ e. InRange e x.words) h.left_element h.left.range
 
   right_in : InRange taken y.words
-  right_in = subst (λ e. InRange e y.words) h.right_element h.right_range
+  right_in = subst (λ e. InRange e y.words) h.right_element h.right.range
 
   left_stretch : (ds : Operands) → stretched_words (is_scalar_left ds) (W.result_size ds x y) x.words ≡ W.left_words ds x y
   left_stretch Scalars = refl
@@ -89,6 +89,18 @@ module _ (op : BinaryOperator) (ds : Operands) (x y : Value) (h : OperandsSuit o
   result_low : InRange (element_made op) (W.result_words op ds x y)
   result_low = operator_range op (W.left_words ds x y) (W.right_words ds x y) (left_low ds) (right_low ds)
 
+  size_small : (ds : Operands) → W.result_size ds x y < 2 ^ 64
+  size_small Scalars = omega arith
+  size_small ArrayAndScalar = h.left.small
+  size_small ScalarAndArray = h.right.small
+  size_small Arrays = h.left.small
+
+  result_small : W.are_alike ds x y ≡ true → length (W.result_words op ds x y) < 2 ^ 64
+  result_small alike =
+      let left = left_size ds h.left_single in
+      let right = right_size ds h.right_single alike in
+      subst (λ n. n < 2 ^ 64) (sym (two_lengths (W.meaning op) (W.left_words ds x y) (W.right_words ds x y) (left ∙ sym right) ∙ left)) (size_small ds)
+
   left_one : is_scalar_left ds ≡ true → length x.words ≡ 1
   left_one e = h.left_single (go ds e)
     where
@@ -117,7 +129,7 @@ module _ (op : BinaryOperator) (ds : Operands) (x y : Value) (h : OperandsSuit o
     tell_right : Tell both (facts_of y)
     tell_right = record { from = λ r k. second_stand r (facts_of x) (facts_of y) k }
 
-    private_suits : has_gates op ≡ true → W.are_alike ds x y ≡ true → Suits w d both none_of (private_result w op ds x y) none_of facts_of HasRange
+    private_suits : has_gates op ≡ true → W.are_alike ds x y ≡ true → Suits w d both none_of (private_result w op ds x y) none_of facts_of IsProper
     private_suits gates alike =
         let ring = ring_for taken in
         let owed = drawn_by (words_of_operator op n) in
@@ -136,7 +148,7 @@ module _ (op : BinaryOperator) (ds : Operands) (x y : Value) (h : OperandsSuit o
         suits_bind w d
         (operator_suits w d (fact v ring vs ∷ (fact u ring us ∷ (fact k ring y.words ∷ (fact j ring x.words ∷ both)))) n u v us vs (left_size ds h.left_single)
         (right_size ds h.right_single alike) op gates (record { from = λ r k. (k.1.0, (k.0, tt)) }) (left_low ds) (right_low ds)) (λ r _.
-        given_as w d _ (element_made op) (result_shape op ds) (W.result_words op ds x y) r (made_element op ds) (tell_first _ _) result_low))))))
+        given_as w d _ (element_made op) (result_shape op ds) (W.result_words op ds x y) r (made_element op ds) (tell_first _ _) result_low (result_small alike)))))))
 
 -- ---- a private operand and public words
 
@@ -188,9 +200,9 @@ module _ (w : World) (d : Dealt) (op : BinaryOperator) (ds : Operands) where
   product_suits :
       (fs : List Fact) (scalar : Bool) (x : Value) (known us words : List ℕ) → is_product op ≡ true → Tell fs (facts_of x) → HasRange x
       → x.shape.element ≡ element_taken op → (scalar ≡ true → length x.words ≡ 1) → stretched_words scalar (length known) x.words ≡ us → length us ≡ length known
-      → each_two (ring_of (ring_for (element_taken op))).mul us known ≡ words → InRange (element_made op) words
-      → Suits w d fs none_of (product_with op ds scalar x known words) none_of facts_of HasRange
-  product_suits fs scalar x known us words product t range e single stretch same mean low =
+      → each_two (ring_of (ring_for (element_taken op))).mul us known ≡ words → InRange (element_made op) words → length words < 2 ^ 64
+      → Suits w d fs none_of (product_with op ds scalar x known words) none_of facts_of IsProper
+  product_suits fs scalar x known us words product t range e single stretch same mean low small =
       let ring = ring_for x.shape.element in
       let made = made_element op ds ∙ product_element op product ∙ sym e in
       suits_bind w d (number_suits w d fs none_of x t range) (λ j _.
@@ -200,43 +212,43 @@ module _ (w : World) (d : Dealt) (op : BinaryOperator) (ds : Operands) where
       (gate_suits w d (fact u ring us ∷ (fact j ring x.words ∷ fs)) none_of none_of none_of (MulPub ring u known) ring (each_two (ring_of ring).mul us known) (λ m. refl) refl
       (λ r good facts. mulpub_gain r good u ring us facts.0 known same))) (λ r _.
       given_as w d _ x.shape.element (result_shape op ds) words r made (tell_first _ _)
-      (subst (λ z. InRange z words) (product_element op product ∙ sym e) low))))
+      (subst (λ z. InRange z words) (product_element op product ∙ sym e) low) small)))
 
 module _ (w : World) (d : Dealt) (op : BinaryOperator) (ds : Operands) (x y : Value) (h : OperandsSuit op ds x y) (alike : W.are_alike ds x y ≡ true) where
   abbrev all : List Fact
   all = facts_of x ++ facts_of y
 
   left_product : is_product op ≡ true
-      → Suits w d all none_of (product_with op ds (is_scalar_left ds) x (W.right_words ds x y) (W.result_words op ds x y)) none_of facts_of HasRange
+      → Suits w d all none_of (product_with op ds (is_scalar_left ds) x (W.right_words ds x y) (W.result_words op ds x y)) none_of facts_of IsProper
   left_product product =
       let us = W.left_words ds x y in
       let vs = W.right_words ds x y in
       let size = right_size op ds x y h ds h.right_single alike in
-      product_suits w d op ds all (is_scalar_left ds) x vs us (W.result_words op ds x y) product (tell_left op ds x y h w d) h.left_range h.left_element
+      product_suits w d op ds all (is_scalar_left ds) x vs us (W.result_words op ds x y) product (tell_left op ds x y h w d) h.left.range h.left_element
       (left_one op ds x y h) (ap (λ n. stretched_words (is_scalar_left ds) n x.words) size ∙ left_stretch op ds x y h ds)
       (left_size op ds x y h ds h.left_single ∙ sym size)
       (two_same (bound (element_taken op)) (ring_of (ring_for (element_taken op))).mul (W.meaning op) us vs (product_meaning op product)
       (left_low op ds x y h ds) (right_low op ds x y h ds))
-      (result_low op ds x y h)
+      (result_low op ds x y h) (result_small op ds x y h alike)
 
   right_product : is_product op ≡ true
-      → Suits w d all none_of (product_with op ds (is_scalar_right ds) y (W.left_words ds x y) (W.result_words op ds x y)) none_of facts_of HasRange
+      → Suits w d all none_of (product_with op ds (is_scalar_right ds) y (W.left_words ds x y) (W.result_words op ds x y)) none_of facts_of IsProper
   right_product product =
       let us = W.left_words ds x y in
       let vs = W.right_words ds x y in
       let mul = (ring_of (ring_for (element_taken op))).mul in
       let size = left_size op ds x y h ds h.left_single in
-      product_suits w d op ds all (is_scalar_right ds) y us vs (W.result_words op ds x y) product (tell_right op ds x y h w d) h.right_range h.right_element
+      product_suits w d op ds all (is_scalar_right ds) y us vs (W.result_words op ds x y) product (tell_right op ds x y h w d) h.right.range h.right_element
       (right_one op ds x y h) (ap (λ n. stretched_words (is_scalar_right ds) n y.words) size ∙ right_stretch op ds x y h ds)
       (right_size op ds x y h ds h.right_single alike ∙ sym size)
       (two_swapped mul us vs ∙ two_ext (λ x y. mul y x) mul us vs (λ x y. product_swaps (element_taken op) y x)
       ∙ two_same (bound (element_taken op)) mul (W.meaning op) us vs (product_meaning op product) (left_low op ds x y h ds) (right_low op ds x y h ds))
-      (result_low op ds x y h)
+      (result_low op ds x y h) (result_small op ds x y h alike)
 
-  combined_suits : (a b : Secrecy) → secrecy_suits op (is_secret a) (is_secret b) → Suits w d all none_of (combined_from a b w op ds x y) none_of facts_of HasRange
+  combined_suits : (a b : Secrecy) → secrecy_suits op (is_secret a) (is_secret b) → Suits w d all none_of (combined_from a b w op ds x y) none_of facts_of IsProper
   combined_suits Plain Plain s =
       shown_suits w d all (result_shape op ds) (W.result_words op ds x y)
-      (subst (λ z. InRange z (W.result_words op ds x y)) (sym (made_element op ds)) (result_low op ds x y h))
+      (subst (λ z. InRange z (W.result_words op ds x y)) (sym (made_element op ds)) (result_low op ds x y h)) (result_small op ds x y h alike)
   combined_suits (Private j) (Private k) s = private_suits op ds x y h w d s alike
   combined_suits (Private j) Plain s = left_product s
   combined_suits Plain (Private k) s = right_product s
@@ -244,7 +256,7 @@ module _ (w : World) (d : Dealt) (op : BinaryOperator) (ds : Operands) (x y : Va
 -- ---- the row
 
 pub operated_suits : (w : World) (d : Dealt) (line : ℕ) (op : BinaryOperator) (ds : Operands) (x y : Value) → OperandsSuit op ds x y
-    → Suits w d (facts_of x ++ facts_of y) none_of (operated w line op ds x y) none_of facts_of HasRange
+    → Suits w d (facts_of x ++ facts_of y) none_of (operated w line op ds x y) none_of facts_of IsProper
 operated_suits w d line op ds x y h =
     let fs = facts_of x ++ facts_of y in
     suits_bind w d

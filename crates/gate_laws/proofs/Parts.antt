@@ -13,7 +13,7 @@ use Rattle.typed_tree.specs.declared.kinds.Shape.{Shape}
 use Rattle.language_model.specs.Effects.{World, Effect, ◌>>=◌, done, charge, gate}
 use Rattle.language_model.specs.Values.{Secrecy, Plain, Private, Value, plain, hidden, size, ring_for}
 use Rattle.language_model.specs.Operations.{charged, no_traps, number_from, number_of, stretched, made_private, classified_from, classified}
-use Rattle.gate_laws.specs.Facts.{bound, InRange, HasRange, none_of, Fact, AllStand, fact_from, facts_of, Dealt, Suits}
+use Rattle.gate_laws.specs.Facts.{bound, InRange, HasRange, IsProper, none_of, Fact, AllStand, fact_from, facts_of, Dealt, Suits}
 use Rattle.gate_laws.proofs.Effects.{Tell, Any, NoFacts, suits_bind, suits_with, suits_done, charge_suits}
 use Rattle.gate_laws.proofs.Gains.{fact, gate_suits}
 use Rattle.gate_laws.proofs.Singles.{const_gain, rep_gain}
@@ -79,28 +79,32 @@ module _ (w : World) (d : Dealt) where
 
   -- the value of a number
   pub given_suits : (fs : List Fact) (shape : Shape) (words : List ℕ) (k : ℕ) → Tell fs (fact k (ring_for shape.element) words ∷ []) → InRange shape.element words
-      → Suits w d fs none_of (made_private shape words k) none_of facts_of HasRange
-  given_suits fs shape words k t range = suits_done w d t range
+      → length words < 2 ^ 64 → Suits w d fs none_of (made_private shape words k) none_of facts_of IsProper
+  given_suits fs shape words k t range small = suits_done w d t (record { range = range; small = small })
 
   pub given_as : (fs : List Fact) (e : DataType) (shape : Shape) (words : List ℕ) (k : ℕ) → shape.element ≡ e → Tell fs (fact k (ring_for e) words ∷ []) → InRange e words
-      → Suits w d fs none_of (made_private shape words k) none_of facts_of HasRange
-  given_as fs e shape words k same t range =
-      given_suits fs shape words k (subst (λ z. Tell fs (fact k (ring_for z) words ∷ [])) (sym same) t) (subst (λ z. InRange z words) (sym same) range)
+      → length words < 2 ^ 64 → Suits w d fs none_of (made_private shape words k) none_of facts_of IsProper
+  given_as fs e shape words k same t range small =
+      given_suits fs shape words k (subst (λ z. Tell fs (fact k (ring_for z) words ∷ [])) (sym same) t) (subst (λ z. InRange z words) (sym same) range) small
 
   -- a public value
-  pub shown_suits : (fs : List Fact) (shape : Shape) (words : List ℕ) → InRange shape.element words
-      → Suits w d fs none_of (done (plain shape words)) none_of facts_of HasRange
-  shown_suits fs shape words range = suits_done w d (tell_none fs) range
+  pub shown_suits : (fs : List Fact) (shape : Shape) (words : List ℕ) → InRange shape.element words → length words < 2 ^ 64
+      → Suits w d fs none_of (done (plain shape words)) none_of facts_of IsProper
+  shown_suits fs shape words range small = suits_done w d (tell_none fs) (record { range = range; small = small })
+
+  -- a value that is there
+  pub itself_suits : (fs : List Fact) (v : Value) → Tell fs (facts_of v) → IsProper v → Suits w d fs none_of (done v) none_of facts_of IsProper
+  itself_suits fs v t proper = suits_done w d t proper
 
   -- ---- classification
 
-  classified_from_suits : (a : Secrecy) (v : Value) → v.secrecy ≡ a → HasRange v → Suits w d (facts_of v) none_of (classified_from a v) none_of facts_of HasRange
-  classified_from_suits (Private k) v e range = suits_done w d (tell_same (facts_of v)) range
-  classified_from_suits Plain v e range =
+  classified_from_suits : (a : Secrecy) (v : Value) → IsProper v → Suits w d (facts_of v) none_of (classified_from a v) none_of facts_of IsProper
+  classified_from_suits (Private k) v proper = itself_suits (facts_of v) v (tell_same (facts_of v)) proper
+  classified_from_suits Plain v proper =
       let fs = facts_of v in
       suits_bind w d (plain_charge fs (size v)) (λ _ _.
-      suits_bind w d (const_suits fs none_of (ring_for v.shape.element) v.words (range_words v.shape.element v.words range)) (λ k _.
-      given_suits (fact k (ring_for v.shape.element) v.words ∷ fs) v.shape v.words k (tell_first (fact k (ring_for v.shape.element) v.words) fs) range))
+      suits_bind w d (const_suits fs none_of (ring_for v.shape.element) v.words (range_words v.shape.element v.words proper.range)) (λ k _.
+      given_suits (fact k (ring_for v.shape.element) v.words ∷ fs) v.shape v.words k (tell_first (fact k (ring_for v.shape.element) v.words) fs) proper.range proper.small))
 
-  pub classified_suits : (v : Value) → HasRange v → Suits w d (facts_of v) none_of (classified v) none_of facts_of HasRange
-  classified_suits v range = classified_from_suits v.secrecy v refl range
+  pub classified_suits : (v : Value) → IsProper v → Suits w d (facts_of v) none_of (classified v) none_of facts_of IsProper
+  classified_suits v proper = classified_from_suits v.secrecy v proper

@@ -9,7 +9,7 @@ use Rattle.gates.specs.declared.ring_kind.RingKind.TheVariants.{Arithmetic, Bool
 use Rattle.gates.specs.declared.gate.Gate.{Gate}
 use Rattle.gates.specs.declared.gate.Gate.TheVariants as gates
 use Rattle.gates.specs.Clear.{Values, value, ring_of, each_two, first_word, bits_of, Makes, FitFrom}
-use Rattle.gates.specs.Counts.{Miner, size_of, made_by, words_of}
+use Rattle.gates.specs.Counts.{Miner, size_of, made_by, words_of, words_of_conversion}
 use Rattle.gates.proofs.Sizes.{size_of-value}
 use Rattle.shared_gates.specs.Shares.{Kind, Shared, kind_at}
 use Rattle.shared_gates.specs.Kinds.{AllShared, Kinded}
@@ -123,6 +123,15 @@ module _ (r : GateRun) (good : IsWellFormed r) where
       one_gain (gates.Spread u) none_of Boolean (flat_map bits_of us) refl tt (stays_shared u Boolean us h Boolean, (new_kind Boolean, tt))
       (stands_inside u Boolean us h) (λ values miner same. refl)
       (λ values before m. m ∙ ap (λ z. Some (flat_map bits_of z)) (h.words values before))
+
+  -- truth values as numbers
+  pub conv_gain : (u : ℕ) (us : List ℕ) → Stands r (fact u Boolean us)
+      → Gain r (gates.Conv u ∷ []) (Shared Arithmetic ∷ []) (λ m. words_of_conversion m (length us)) 0 Arithmetic (map (λ x. x % 2) us)
+  conv_gain u us h =
+      one_gain (gates.Conv u) (λ m. words_of_conversion m (length us)) Arithmetic (map (λ x. x % 2) us) refl tt
+      ((stays_shared u Boolean us h Arithmetic, tt), (new_kind Arithmetic, tt))
+      (stands_inside u Boolean us h) (λ values miner same. ap (words_of_conversion miner) (operand_size u Boolean us h values same))
+      (λ values before m. m ∙ ap (λ z. Some (map (λ x. x % 2) z)) (h.words values before))
 
   -- ---- two operands
 

@@ -1,5 +1,5 @@
 -- What is known at a stage of a run: its gates as a run of gates on shares, and the values of numbers that they make.
-use Rattle.std.specs.Prelude.{◌≡◌, ℕ, ◌+◌, ◌<◌, ◌^◌, List, [], ◌∷◌, ◌++◌, Some, None, Ok, Err}
+use Rattle.std.specs.Prelude.{◌≡◌, ℕ, ◌+◌, ◌<◌, ◌^◌, List, [], ◌∷◌, ◌++◌, length, Some, None, Ok, Err}
 use Rattle.secrec_ast.specs.declared.expression.DataType.{DataType}
 use Rattle.secrec_ast.specs.declared.expression.DataType.TheVariants.{Uint64}
 use Rattle.secrec_ast.specs.declared.expression.DataType.TheVariants as datatype
@@ -28,6 +28,11 @@ InRange e words = (k : ℕ) → at words k < bound e
 
 abbrev pub HasRange : Value → Type 0
 HasRange v = InRange v.shape.element v.words
+
+-- its words are in range, and their number is a word
+pub record IsProper (v : Value) : Type 0 where
+  pub range : HasRange v
+  pub small : length v.words < 2 ^ 64
 
 abbrev pub drawn_by : Words → Miner → ℕ
 drawn_by d Miner1 = d.first

@@ -11,7 +11,7 @@ use Rattle.typed_tree.specs.declared.operators.Operands.{Operands}
 use Rattle.typed_tree.specs.declared.operators.Operands.TheVariants.{Scalars, ArrayAndScalar, ScalarAndArray, Arrays}
 use Rattle.language_model.specs.Values.{Value, is_secret}
 use Rattle.language_model.specs.Operations.{is_product}
-use Rattle.gate_laws.specs.Facts.{HasRange}
+use Rattle.gate_laws.specs.Facts.{IsProper}
 
 abbrev pub element_taken : BinaryOperator → DataType
 element_taken (Words op) = Uint64
@@ -44,8 +44,8 @@ is_right_scalar ArrayAndScalar = true
 is_right_scalar ds = false
 
 pub record OperandsSuit (op : BinaryOperator) (ds : Operands) (x y : Value) : Type 0 where
-  pub left_range : HasRange x
-  pub right_range : HasRange y
+  pub left : IsProper x
+  pub right : IsProper y
   pub left_element : x.shape.element ≡ element_taken op
   pub right_element : y.shape.element ≡ element_taken op
   pub left_single : is_left_scalar ds ≡ true → length x.words ≡ 1
