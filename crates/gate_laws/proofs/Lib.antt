@@ -7,3 +7,4 @@ pub mod Plans
 pub mod Meanings
 pub mod Operators
 pub mod Binary
+pub mod Unary

@@ -9,6 +9,8 @@ use Rattle.typed_tree.specs.declared.operators.BinaryOperator.{BinaryOperator}
 use Rattle.typed_tree.specs.declared.operators.BinaryOperator.TheVariants.{Words, Bools}
 use Rattle.typed_tree.specs.declared.operators.Operands.{Operands}
 use Rattle.typed_tree.specs.declared.operators.Operands.TheVariants.{Scalars, ArrayAndScalar, ScalarAndArray, Arrays}
+use Rattle.typed_tree.specs.declared.operators.Cast.{Cast}
+use Rattle.typed_tree.specs.declared.operators.Cast.TheVariants.{WordToWord, WordToBool, BoolToWord, BoolToBool}
 use Rattle.language_model.specs.Values.{Value, is_secret}
 use Rattle.language_model.specs.Operations.{is_product}
 use Rattle.gate_laws.specs.Facts.{IsProper}
@@ -51,3 +53,14 @@ pub record OperandsSuit (op : BinaryOperator) (ds : Operands) (x y : Value) : Ty
   pub left_single : is_left_scalar ds ≡ true → length x.words ≡ 1
   pub right_single : is_right_scalar ds ≡ true → length y.words ≡ 1
   pub secrecy : secrecy_suits op (is_secret x.secrecy) (is_secret y.secrecy)
+
+abbrev pub cast_taken : Cast → DataType
+cast_taken WordToWord = Uint64
+cast_taken WordToBool = Uint64
+cast_taken BoolToWord = datatype.Bool
+cast_taken BoolToBool = datatype.Bool
+
+-- a value of these elements
+pub record IsOfElements (e : DataType) (v : Value) : Type 0 where
+  pub proper : IsProper v
+  pub element : v.shape.element ≡ e
