@@ -8,3 +8,4 @@ pub mod Meanings
 pub mod Operators
 pub mod Binary
 pub mod Unary
+pub mod Arrays
