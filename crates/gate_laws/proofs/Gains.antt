@@ -117,16 +117,17 @@ module _ (w : World) (d : Dealt) where
             };
       }
 
-  -- one gate
-  pub gate_suits :
+  -- one gate, from any stage
+  pub gate_from :
       (fs : List Fact) (before taken after : Miner → ℕ) (g : Gate) (ring : RingKind) (ws : List ℕ)
       → ((m : Miner) → before m ≡ taken m + after m) → made_by g ≡ 1
-      → ((r : GateRun) → IsWellFormed r → AllStand r fs → Gain r (g ∷ []) (Shared ring ∷ []) taken 0 ring ws)
+      → ((kinds : List Kind) (s : Stage) → IsWellFormed (run_at w d kinds s) → AllStand (run_at w d kinds s) fs
+      → Gain (run_at w d kinds s) (g ∷ []) (Shared ring ∷ []) taken 0 ring ws)
       → Suits w d fs before (gate g) after (λ k. fact k ring ws ∷ []) (Any {A = ℕ})
-  gate_suits fs before taken after g ring ws owed one h =
+  gate_from fs before taken after g ring ws owed one h =
       record {
         from = λ kinds s at facts.
-            let c = gained kinds s (g ∷ []) (Shared ring ∷ []) before taken after 0 ring ws at (h (run_at w d kinds s) at.formed facts) owed in
+            let c = gained kinds s (g ∷ []) (Shared ring ∷ []) before taken after 0 ring ws at (h kinds s at.formed facts) owed in
             let e : s.made + 0 ≡ s.made = omega arith in
             record {
               later = c.later;
@@ -148,3 +149,11 @@ module _ (w : World) (d : Dealt) where
               sure = tt;
             };
       }
+
+  -- one gate, from the facts alone
+  pub gate_suits :
+      (fs : List Fact) (before taken after : Miner → ℕ) (g : Gate) (ring : RingKind) (ws : List ℕ)
+      → ((m : Miner) → before m ≡ taken m + after m) → made_by g ≡ 1
+      → ((r : GateRun) → IsWellFormed r → AllStand r fs → Gain r (g ∷ []) (Shared ring ∷ []) taken 0 ring ws)
+      → Suits w d fs before (gate g) after (λ k. fact k ring ws ∷ []) (Any {A = ℕ})
+  gate_suits fs before taken after g ring ws owed one h = gate_from fs before taken after g ring ws owed one (λ kinds s. h (run_at w d kinds s))

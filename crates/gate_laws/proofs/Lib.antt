@@ -9,3 +9,4 @@ pub mod Operators
 pub mod Binary
 pub mod Unary
 pub mod Arrays
+pub mod Openings

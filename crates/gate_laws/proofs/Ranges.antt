@@ -86,3 +86,18 @@ below_more a b xs le h = λ k. let low : at xs k < a = h k in omega arith
 pub first_below : (b : ℕ) (xs : List ℕ) → 0 < b → Below b xs → first_word xs < b
 first_below b [] some h = some
 first_below b (x ∷ xs) some h = below_head b x xs h
+
+pub take_below : (b n : ℕ) (xs : List ℕ) → Below b xs → Below b (take n xs)
+take_below b zero xs h = λ k. let first : at xs 0 < b = h 0 in omega (arith, first)
+take_below b (suc n) [] h = h
+take_below b (suc n) (x ∷ xs) h = below_cons b x (take n xs) (below_head b x xs h) (take_below b n xs (below_tail b x xs h))
+
+pub drop_below : (b n : ℕ) (xs : List ℕ) → Below b xs → Below b (drop n xs)
+drop_below b zero xs h = h
+drop_below b (suc n) [] h = h
+drop_below b (suc n) (x ∷ xs) h = drop_below b n xs (below_tail b x xs h)
+
+pub take_length : (n : ℕ) (xs : List ℕ) → length (take n xs) ≤ n
+take_length zero xs = omega arith
+take_length (suc n) [] = omega arith
+take_length (suc n) (x ∷ xs) = let e = take_length n xs in omega (arith, e)

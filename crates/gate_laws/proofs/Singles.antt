@@ -2,6 +2,7 @@
 use Rattle.std.proofs.Common.{◌≡◌, ℕ, ◌+◌, ◌*◌, ◌<◌, ◌≤◌, Some, List, [], ◌∷◌, ◌++◌, length, map, take, drop, refl, sym, ap, ◌∙◌, subst, arith}
 use Rattle.std.specs.Prelude.{slice_get, set, sum, replicate, ◌^◌, ◌%◌}
 use Rattle.std.specs.List.{flat_map}
+use Rattle.std.proofs.lemmas.List.{length-map}
 use Rattle.proto_core.specs.Lists.{AreWords}
 use Rattle.share_ring.specs.Rings.{add_ring, xor_ring}
 use Rattle.gates.specs.declared.ring_kind.RingKind.{RingKind}
@@ -74,6 +75,12 @@ module _ (r : GateRun) (good : IsWellFormed r) where
   pub const_gain : (ring : RingKind) (ws : List ℕ) → AreWords ws → Gain r (gates.Const ws ∷ []) (Shared ring ∷ []) none_of 0 ring ws
   const_gain ring ws words =
       one_gain (gates.Const ws) none_of ring ws refl tt (words, (ring, (new_kind ring, tt))) tt (λ values miner same. refl) (λ values before m. m)
+
+  pub input_gain : (k : ℕ) (ring : RingKind) (ws : List ℕ) → k < length r.inputs → value r.inputs k ≡ ws → kind_at r.dealt_kinds k ≡ Shared ring
+      → Gain r (gates.Input k ∷ []) (Shared ring ∷ []) none_of 0 ring ws
+  input_gain k ring ws there words kind =
+      one_gain (gates.Input k) none_of ring ws refl tt (new_kind ring ∙ sym kind) (subst (λ n. k < n) (sym (length-map r.inputs length)) there)
+      (λ values miner same. refl) (λ values before m. m ∙ ap (λ z. Some z) words)
 
   -- ---- one operand
 
