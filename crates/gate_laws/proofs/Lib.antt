@@ -10,3 +10,4 @@ pub mod Binary
 pub mod Unary
 pub mod Arrays
 pub mod Openings
+pub mod Told

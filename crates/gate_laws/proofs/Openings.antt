@@ -30,10 +30,11 @@ use Rattle.language_model.specs.Effects.{World, Source, Clear, Answers, Stage, S
 use Rattle.language_model.specs.Values.{Secrecy, Plain, Private, Value, plain, size, ring_for, elements_of}
 use Rattle.language_model.specs.Operations.{read_answer, revealed, opened_from, declassified}
 use Rattle.gate_laws.specs.Facts.{InRange, IsProper, drawn_by, none_of, Fact, Stands, AllStand, facts_of, Dealt, run_at, IsAt, Grows, Comes, ComesAt, Suits}
-use Rattle.gate_laws.proofs.Effects.{Tell, Any, NoFacts, suits_bind, draw_suits}
+use Rattle.gate_laws.proofs.Effects.{Tell, Any, NoFacts, suits_bind, suits_owed, draw_suits}
 use Rattle.gate_laws.proofs.Gains.{fact, made_split, opened_split}
 use Rattle.gate_laws.proofs.Singles.{stands_inside, stands_size}
 use Rattle.gate_laws.proofs.Parts.{tell_same, tell_first, range_words, plain_charge, number_suits, itself_suits}
+use Rattle.gate_laws.proofs.Operators.{same_each}
 use Rattle.gate_laws.proofs.Ranges.{Below, below_cons, take_below, drop_below, take_length, map_itself}
 
 -- ---- the gate
@@ -203,3 +204,14 @@ module _ (w : World) (d : Dealt) (v : Value) (p : IsProper v) (u : ℕ) where
 
   pub opening_suits : (fs : List Fact) → Tell fs (fact u ring v.words ∷ []) → Suits w d fs (λ m. size v) (gate (Open ring u) >>= λ _. revealed w v) none_of facts_of IsProper
   opening_suits fs t = record { from = λ kinds s at facts. revealed_comes kinds s at (t.from (run_at w d kinds s) facts).0 w.source refl }
+
+module _ (w : World) (d : Dealt) (v : Value) (p : IsProper v) where
+  opened_suits : (a : Secrecy) → Suits w d (facts_of v) none_of (opened_from w a v) none_of facts_of IsProper
+  opened_suits Plain = itself_suits w d (facts_of v) v (tell_same (facts_of v)) p
+  opened_suits (Private k) =
+      suits_bind w d (draw_suits w d (facts_of v) (words_each (size v))) (λ _ _.
+      suits_bind w d (number_suits w d (facts_of v) (drawn_by (words_each (size v))) v (tell_same (facts_of v)) p.range) (λ u _.
+      suits_owed w d (same_each (size v)) (opening_suits w d v p u (fact u (ring_for v.shape.element) v.words ∷ facts_of v) (tell_first _ _))))
+
+  pub declassified_suits : Suits w d (facts_of v) none_of (declassified w v) none_of facts_of IsProper
+  declassified_suits = suits_bind w d (plain_charge w d (facts_of v) (size v)) (λ _ _. opened_suits v.secrecy)
