@@ -21,8 +21,9 @@ use Rattle.language_model.specs.Effects.{World, test}
 use Rattle.language_model.specs.Values.{Secrecy, Plain, Private, Value, is_secret, size, seen, ring_for}
 use Rattle.language_model.specs.Words as W
 use Rattle.language_model.specs.Operations.{words_of_operator, is_scalar_left, is_scalar_right, is_product, result_shape, private_result, product_with, combined_from, operator_traps, operated}
+use Rattle.code_model.specs.Kinded.{left_array, right_array}
 use Rattle.gate_laws.specs.Facts.{bound, InRange, HasRange, IsProper, drawn_by, none_of, Fact, facts_of, Dealt, Suits}
-use Rattle.gate_laws.specs.Rows.{element_taken, has_gates, secrecy_suits, is_left_scalar, is_right_scalar, OperandsSuit}
+use Rattle.gate_laws.specs.Rows.{element_taken, has_gates, secrecy_suits, OperandsSuit}
 use Rattle.gate_laws.proofs.Effects.{Tell, Any, NoFacts, suits_bind, suits_with, suits_done, suits_from, test_suits, draw_suits, first_stand, second_stand}
 use Rattle.gate_laws.proofs.Gains.{fact, gate_suits}
 use Rattle.gate_laws.proofs.Singles.{mulpub_gain}
@@ -62,13 +63,13 @@ module _ (op : BinaryOperator) (ds : Operands) (x y : Value) (h : OperandsSuit o
   right_stretch ScalarAndArray = refl
   right_stretch Arrays = refl
 
-  left_size : (ds : Operands) → (is_left_scalar ds ≡ true → length x.words ≡ 1) → length (W.left_words ds x y) ≡ W.result_size ds x y
+  left_size : (ds : Operands) → (left_array ds ≡ false → length x.words ≡ 1) → length (W.left_words ds x y) ≡ W.result_size ds x y
   left_size Scalars s = s refl
   left_size ArrayAndScalar s = refl
   left_size ScalarAndArray s = length_replicated (size y) (first_word x.words)
   left_size Arrays s = refl
 
-  right_size : (ds : Operands) → (is_right_scalar ds ≡ true → length y.words ≡ 1) → W.are_alike ds x y ≡ true → length (W.right_words ds x y) ≡ W.result_size ds x y
+  right_size : (ds : Operands) → (right_array ds ≡ false → length y.words ≡ 1) → W.are_alike ds x y ≡ true → length (W.right_words ds x y) ≡ W.result_size ds x y
   right_size Scalars s a = s refl
   right_size ArrayAndScalar s a = length_replicated (size x) (first_word y.words)
   right_size ScalarAndArray s a = refl
@@ -104,20 +105,20 @@ module _ (op : BinaryOperator) (ds : Operands) (x y : Value) (h : OperandsSuit o
   left_one : is_scalar_left ds ≡ true → length x.words ≡ 1
   left_one e = h.left_single (go ds e)
     where
-      go : (ds : Operands) → is_scalar_left ds ≡ true → is_left_scalar ds ≡ true
+      go : (ds : Operands) → is_scalar_left ds ≡ true → left_array ds ≡ false
       go Scalars e = refl
-      go ArrayAndScalar e = e
+      go ArrayAndScalar e = sym e
       go ScalarAndArray e = refl
-      go Arrays e = e
+      go Arrays e = sym e
 
   right_one : is_scalar_right ds ≡ true → length y.words ≡ 1
   right_one e = h.right_single (go ds e)
     where
-      go : (ds : Operands) → is_scalar_right ds ≡ true → is_right_scalar ds ≡ true
+      go : (ds : Operands) → is_scalar_right ds ≡ true → right_array ds ≡ false
       go Scalars e = refl
       go ArrayAndScalar e = refl
-      go ScalarAndArray e = e
-      go Arrays e = e
+      go ScalarAndArray e = sym e
+      go Arrays e = sym e
 
   module _ (w : World) (d : Dealt) where
     abbrev both : List Fact

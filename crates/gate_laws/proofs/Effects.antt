@@ -57,7 +57,7 @@ module _ (w : World) (d : Dealt) where
   all_still s u kinds later [] g h = tt
   all_still s u kinds later (f ∷ fs) g h = (still_stands s u kinds later f g h.0, all_still s u kinds later fs g h.1)
 
-  grows_then : (s t u : Stage) (kinds more later : List Kind) → Grows w d s t kinds more → Grows w d t u more later → Grows w d s u kinds later
+  pub grows_then : (s t u : Stage) (kinds more later : List Kind) → Grows w d s t kinds more → Grows w d t u more later → Grows w d s u kinds later
   grows_then s t u kinds more later g h =
       record {
         gates = g.gates ++ h.gates;
@@ -66,7 +66,7 @@ module _ (w : World) (d : Dealt) where
         more_kinds = h.more_kinds ∙ ap (λ z. z ++ h.own) g.more_kinds ∙ append_assoc kinds g.own h.own;
       }
 
-  stays : (s u : Stage) (kinds : List Kind) → u.gates ≡ s.gates → Grows w d s u kinds kinds
+  pub stays : (s u : Stage) (kinds : List Kind) → u.gates ≡ s.gates → Grows w d s u kinds kinds
   stays s u kinds e = record { gates = []; own = []; more_gates = e ∙ sym (append-nil s.gates); more_kinds = sym (append-nil kinds) }
 
   -- ---- one effect after another

@@ -11,3 +11,4 @@ pub mod Unary
 pub mod Arrays
 pub mod Openings
 pub mod Told
+pub mod Steps

@@ -23,6 +23,11 @@ use Rattle.gate_laws.proofs.Parts.{tell_same, tell_none, tell_first, charged_sui
 use Rattle.gate_laws.proofs.Ranges.{one_below}
 use Rattle.gate_laws.proofs.Operators.{same_each}
 
+-- ---- literals
+
+pub literal_proper : (e : DataType) (n : ℕ) → n < bound e → IsProper (plain (shape_of e false) (n ∷ []))
+literal_proper e n lt = record { range = one_below (bound e) n lt; small = omega arith }
+
 module _ (w : World) (d : Dealt) where
   -- ---- what goes to the client
 
@@ -52,11 +57,6 @@ module _ (w : World) (d : Dealt) where
   pub asserted_suits : (fs : List Fact) (line : ℕ) (v : Value) → Suits w d fs none_of (asserted line v) none_of (NoFacts {A = Unit {0}}) (Any {A = Unit {0}})
   asserted_suits fs line v =
       suits_bind w d (charge_suits w d fs 1) (λ _ _. suits_with w d (test_suits w d fs (is_true v) trap.Assert line) (λ _ _. tell_same []) (λ _ _. tt))
-
-  -- ---- literals
-
-  pub literal_proper : (e : DataType) (n : ℕ) → n < bound e → IsProper (plain (shape_of e false) (n ∷ []))
-  literal_proper e n lt = record { range = one_below (bound e) n lt; small = omega arith }
 
   -- ---- inputs
 

@@ -31,7 +31,8 @@ use Rattle.language_model.specs.Words.{flipped, cast_word, truth_word}
 use Rattle.language_model.specs.Operations.{negated_from, negated, words_for_equality, words_for_conversion, words_for_bits, words_of_cast, cast_shape, changed, cast_from, cast_to, size_told}
 use Rattle.language_model.specs.Operations.{summed_from, summed, bits_from, bits_extracted, largest, not_too_large, flip}
 use Rattle.gate_laws.specs.Facts.{InRange, IsProper, drawn_by, none_of, Fact, facts_of, Dealt, Suits}
-use Rattle.gate_laws.specs.Rows.{cast_taken, IsOfElements}
+use Rattle.code_model.specs.Kinded.{cast_source}
+use Rattle.gate_laws.specs.Rows.{IsOfElements}
 use Rattle.gate_laws.proofs.Effects.{Tell, Any, NoFacts, suits_bind, suits_with, suits_done, charge_suits, test_suits, draw_suits}
 use Rattle.gate_laws.proofs.Gains.{fact, gate_suits, planned_suits}
 use Rattle.gate_laws.proofs.Singles.{sum_gain, spread_gain, conv_gain}
@@ -128,7 +129,7 @@ module _ (w : World) (d : Dealt) (v : Value) where
   to_word_low : IsOfElements datatype.Bool v → Below (2 ^ 64) (map (cast_word BoolToWord) v.words)
   to_word_low h = map_below 2 (2 ^ 64) (cast_word BoolToWord) v.words (omega arith) (λ x lt. omega (arith, lt)) (range_of datatype.Bool h)
 
-  cast_from_suits : (a : Secrecy) (c : Cast) → IsOfElements (cast_taken c) v → Suits w d fs none_of (cast_from w a c v) none_of facts_of IsProper
+  cast_from_suits : (a : Secrecy) (c : Cast) → IsOfElements (cast_source c) v → Suits w d fs none_of (cast_from w a c v) none_of facts_of IsProper
   cast_from_suits a WordToWord h = itself_suits w d fs v (tell_same fs) h.proper
   cast_from_suits a BoolToBool h = itself_suits w d fs v (tell_same fs) h.proper
   cast_from_suits Plain WordToBool h =
@@ -160,7 +161,7 @@ module _ (w : World) (d : Dealt) (v : Value) where
       given_suits w d _ (shape_of Uint64 v.shape.array) (map (cast_word BoolToWord) v.words) r (tell_first _ _) (to_word_low h)
       (mapped_small (cast_word BoolToWord) v.words h.proper.small))))
 
-  pub cast_suits : (c : Cast) → IsOfElements (cast_taken c) v → Suits w d fs none_of (cast_to w c v) none_of facts_of IsProper
+  pub cast_suits : (c : Cast) → IsOfElements (cast_source c) v → Suits w d fs none_of (cast_to w c v) none_of facts_of IsProper
   cast_suits c h = suits_bind w d (plain_charge w d fs (size v)) (λ _ _. cast_from_suits v.secrecy c h)
 
   -- ---- sizes and sums

@@ -8,11 +8,9 @@ use Rattle.typed_tree.specs.declared.operators.WordOperator.TheVariants as word
 use Rattle.typed_tree.specs.declared.operators.BinaryOperator.{BinaryOperator}
 use Rattle.typed_tree.specs.declared.operators.BinaryOperator.TheVariants.{Words, Bools}
 use Rattle.typed_tree.specs.declared.operators.Operands.{Operands}
-use Rattle.typed_tree.specs.declared.operators.Operands.TheVariants.{Scalars, ArrayAndScalar, ScalarAndArray, Arrays}
-use Rattle.typed_tree.specs.declared.operators.Cast.{Cast}
-use Rattle.typed_tree.specs.declared.operators.Cast.TheVariants.{WordToWord, WordToBool, BoolToWord, BoolToBool}
 use Rattle.language_model.specs.Values.{Value, is_secret}
 use Rattle.language_model.specs.Operations.{is_product}
+use Rattle.code_model.specs.Kinded.{left_array, right_array}
 use Rattle.gate_laws.specs.Facts.{IsProper}
 
 abbrev pub element_taken : BinaryOperator → DataType
@@ -35,30 +33,14 @@ secrecy_suits op true false = is_product op ≡ true
 secrecy_suits op false true = is_product op ≡ true
 secrecy_suits op false false = Unit {0}
 
-abbrev pub is_left_scalar : Operands → Bool
-is_left_scalar Scalars = true
-is_left_scalar ScalarAndArray = true
-is_left_scalar ds = false
-
-abbrev pub is_right_scalar : Operands → Bool
-is_right_scalar Scalars = true
-is_right_scalar ArrayAndScalar = true
-is_right_scalar ds = false
-
 pub record OperandsSuit (op : BinaryOperator) (ds : Operands) (x y : Value) : Type 0 where
   pub left : IsProper x
   pub right : IsProper y
   pub left_element : x.shape.element ≡ element_taken op
   pub right_element : y.shape.element ≡ element_taken op
-  pub left_single : is_left_scalar ds ≡ true → length x.words ≡ 1
-  pub right_single : is_right_scalar ds ≡ true → length y.words ≡ 1
+  pub left_single : left_array ds ≡ false → length x.words ≡ 1
+  pub right_single : right_array ds ≡ false → length y.words ≡ 1
   pub secrecy : secrecy_suits op (is_secret x.secrecy) (is_secret y.secrecy)
-
-abbrev pub cast_taken : Cast → DataType
-cast_taken WordToWord = Uint64
-cast_taken WordToBool = Uint64
-cast_taken BoolToWord = datatype.Bool
-cast_taken BoolToBool = datatype.Bool
 
 -- a value of these elements
 pub record IsOfElements (e : DataType) (v : Value) : Type 0 where
