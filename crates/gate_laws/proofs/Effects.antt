@@ -114,14 +114,16 @@ module _ (w : World) (d : Dealt) where
       {A : Type 0} {fs : List Fact} {before other after : Miner → ℕ} {c : Effect A} {F : A → List Fact} {R : A → Type 0} → ((m : Miner) → before m ≡ other m)
       → Suits w d fs other c after F R → Suits w d fs before c after F R
   suits_owed e h =
-      record { from = λ kinds s at stands. h.from kinds s
-      (record {
-        formed = at.formed;
-        made = at.made;
-        drawn = λ i. at.drawn i ∙ ap (λ k. words_drawn (run_at w d kinds s) i + k) (e (miner_of i));
-        answers = at.answers;
-        opened = at.opened;
-      }) stands }
+      record {
+        from = λ kinds s at stands. h.from kinds s
+            (record {
+              formed = at.formed;
+              made = at.made;
+              drawn = λ i. at.drawn i ∙ ap (λ k. words_drawn (run_at w d kinds s) i + k) (e (miner_of i));
+              answers = at.answers;
+              opened = at.opened;
+            }) stands;
+      }
 
   pub suits_end : {A : Type 0} {fs : List Fact} {after : Miner → ℕ} {F : A → List Fact} {R : A → Type 0} (e : Ending) → Suits w d fs none_of (end {A = A} e) after F R
   suits_end e = record { from = λ kinds s at stands. record { later = kinds; grown = stays s s kinds refl; stage = at; facts = tt; sure = tt } }

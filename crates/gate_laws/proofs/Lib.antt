@@ -12,3 +12,4 @@ pub mod Arrays
 pub mod Openings
 pub mod Told
 pub mod Steps
+pub mod Walks

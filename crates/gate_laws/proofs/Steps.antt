@@ -88,8 +88,8 @@ module _ (w : World) (d : Dealt) where
   -- ---- ONE EFFECT, AND THEN
 
   -- from where this machine and these facts stand
-  record Leads (m : Machine) (fs : List Fact) (c : Effect Machine) : Type 0 where
-    from : (kinds : List shares.Kind) (s : Stage) → IsAt w d kinds none_of s → MachineStands (run_at w d kinds s) m → AllStand (run_at w d kinds s) fs → ArrivesAt w d s kinds (c s)
+  pub record Leads (m : Machine) (fs : List Fact) (c : Effect Machine) : Type 0 where
+    pub from : (kinds : List shares.Kind) (s : Stage) → IsAt w d kinds none_of s → MachineStands (run_at w d kinds s) m → AllStand (run_at w d kinds s) fs → ArrivesAt w d s kinds (c s)
 
   leads_bind :
       {A : Type 0} {m : Machine} {fs gs : List Fact} {c : Effect A} {f : A → Effect Machine} {F : A → List Fact} {R : A → Type 0} → Suits w d gs none_of c none_of F R
@@ -163,7 +163,7 @@ module _ (w : World) (d : Dealt) where
     moving : (pc : ℕ) (fs : List Fact) → Leads m fs (done (at pc m))
     moving pc fs = leads_done (λ run st facts. moved_stands m pc run st)
 
-    act : (i : Step) → StepTakes h.own.kinds i → Leads m [] (step w p (Some i) m)
+    pub act : (i : Step) → StepTakes h.own.kinds i → Leads m [] (step w p (Some i) m)
     act (Literal to e n) t = leads_done (λ run st facts. set_stands m to (plain (shape_of e false) (n ∷ [])) run st (tt, literal_proper e n t))
     act (Move to r) t = leads_done (λ run st facts. set_stands m to (m.registers r) run st (st.registers r))
     act (Store to r) t =

@@ -2,3 +2,4 @@ pub mod Facts
 pub mod Rows
 pub mod Offers
 pub mod Machines
+pub mod Laws
