@@ -13,3 +13,4 @@ pub mod Openings
 pub mod Told
 pub mod Steps
 pub mod Walks
+pub mod Samples
