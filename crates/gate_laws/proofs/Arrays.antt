@@ -1,5 +1,5 @@
 -- Rows of arrays: joined, element by element, filled.
-use Rattle.std.proofs.Common.{◌≡◌, ℕ, zero, suc, ◌+◌, ◌*◌, ◌-◌, ◌<◌, ◌≤◌, ◌^◌, List, [], ◌∷◌, ◌++◌, length, Bool, true, false, refl, sym, ap, ◌∙◌, subst, arith, length-append}
+use Rattle.std.proofs.Common.{◌≡◌, ℕ, zero, suc, ◌+◌, ◌<◌, ◌≤◌, ◌^◌, List, [], ◌∷◌, ◌++◌, length, true, false, refl, sym, ap, subst, arith, length-append}
 use Rattle.std.specs.Prelude.{nat_le, nat_lt, replicate, set, take, drop}
 use Rattle.std.proofs.lemmas.Bool.{leb-true, ltb-true}
 use Rattle.sc_text.specs.declared.end.TrapKind.TheVariants as trap
@@ -8,12 +8,12 @@ use Rattle.gates.specs.declared.ring_kind.RingKind.{RingKind}
 use Rattle.gates.specs.declared.gate.Gate.TheVariants as gates
 use Rattle.gates.specs.Clear.{first_word}
 use Rattle.typed_tree.specs.Shapes.{shape_of}
-use Rattle.language_model.specs.Effects.{World, ◌>>=◌, charge, test, gate}
+use Rattle.language_model.specs.Effects.{World, ◌>>=◌, test, gate}
 use Rattle.language_model.specs.Values.{Secrecy, Plain, Private, Value, size, seen, seen_of, ring_for}
 use Rattle.language_model.specs.Operations.{charged, largest, not_too_large, number_of, made_private, joined_from, joined, position, element_at, element_from, element_of_array}
 use Rattle.language_model.specs.Operations.{with_element_from, with_element, filled_from, filled}
-use Rattle.gate_laws.specs.Facts.{bound, InRange, HasRange, IsProper, none_of, Fact, facts_of, Dealt, Suits}
-use Rattle.gate_laws.proofs.Effects.{Tell, Any, NoFacts, suits_bind, suits_done, charge_suits, test_suits, first_stand, second_stand}
+use Rattle.gate_laws.specs.Facts.{bound, InRange, IsProper, none_of, Fact, facts_of, Dealt, Suits}
+use Rattle.gate_laws.proofs.Effects.{NoFacts, suits_bind, charge_suits, test_suits, first_stand, second_stand}
 use Rattle.gate_laws.proofs.Gains.{fact, gate_suits}
 use Rattle.gate_laws.proofs.Singles.{rep_gain, part_gain, cat_gain, put_gain}
 use Rattle.gate_laws.proofs.Parts.{tell_same, tell_first, charged_suits, number_as, number_suits, given_suits, shown_suits}

@@ -1,12 +1,10 @@
 -- Rows with two operands.
-use Rattle.std.proofs.Common.{◌≡◌, ℕ, ◌+◌, ◌*◌, ◌-◌, ◌<◌, ◌^◌, List, [], ◌∷◌, ◌++◌, length, map, Bool, true, false, not, refl, sym, ap, ◌∙◌, subst, arith}
-use Rattle.std.specs.Prelude.{nat_eq, replicate, bit_and}
+use Rattle.std.proofs.Common.{◌≡◌, ℕ, ◌<◌, ◌^◌, List, [], ◌∷◌, ◌++◌, length, Bool, true, false, refl, sym, ap, ◌∙◌, subst, arith}
 use Rattle.std.proofs.lemmas.Bool.{eqb-true}
 use Rattle.sc_text.specs.declared.end.TrapKind.TheVariants as trap
 use Rattle.secrec_ast.specs.declared.expression.DataType.{DataType}
 use Rattle.secrec_ast.specs.declared.expression.DataType.TheVariants.{Uint64}
 use Rattle.secrec_ast.specs.declared.expression.DataType.TheVariants as datatype
-use Rattle.share_ring.specs.Rings.{add_ring, xor_ring}
 use Rattle.share_ring.specs.RingsKeepLaws.{add_ring_laws, xor_ring_laws}
 use Rattle.gates.specs.declared.gate.Gate.TheVariants.{MulPub}
 use Rattle.gates.specs.Clear.{each_two, first_word, ring_of}
@@ -17,18 +15,18 @@ use Rattle.typed_tree.specs.declared.operators.BinaryOperator.TheVariants.{Words
 use Rattle.typed_tree.specs.declared.operators.Operands.{Operands}
 use Rattle.typed_tree.specs.declared.operators.Operands.TheVariants.{Scalars, ArrayAndScalar, ScalarAndArray, Arrays}
 use Rattle.typed_tree.specs.Operators.{element_made}
-use Rattle.language_model.specs.Effects.{World, test}
+use Rattle.language_model.specs.Effects.{World}
 use Rattle.language_model.specs.Values.{Secrecy, Plain, Private, Value, is_secret, size, seen, ring_for}
 use Rattle.language_model.specs.Words as W
 use Rattle.language_model.specs.Operations.{words_of_operator, is_scalar_left, is_scalar_right, is_product, result_shape, private_result, product_with, combined_from, operator_traps, operated}
 use Rattle.code_model.specs.Kinded.{left_array, right_array}
 use Rattle.gate_laws.specs.Facts.{bound, InRange, HasRange, IsProper, drawn_by, none_of, Fact, facts_of, Dealt, Suits}
 use Rattle.gate_laws.specs.Rows.{element_taken, has_gates, secrecy_suits, OperandsSuit}
-use Rattle.gate_laws.proofs.Effects.{Tell, Any, NoFacts, suits_bind, suits_with, suits_done, suits_from, test_suits, draw_suits, first_stand, second_stand}
+use Rattle.gate_laws.proofs.Effects.{Tell, suits_bind, suits_with, test_suits, draw_suits, first_stand, second_stand}
 use Rattle.gate_laws.proofs.Gains.{fact, gate_suits}
 use Rattle.gate_laws.proofs.Singles.{mulpub_gain}
 use Rattle.gate_laws.proofs.Parts.{tell_same, tell_first, stretched_words, charged_suits, number_as, number_suits, stretched_suits, given_as, shown_suits}
-use Rattle.gate_laws.proofs.Ranges.{Below, two_same, two_lengths, replicate_below, length_replicated, first_below}
+use Rattle.gate_laws.proofs.Ranges.{two_same, two_lengths, replicate_below, length_replicated, first_below}
 use Rattle.gate_laws.proofs.Meanings.{two_ext, two_swapped, and_bits, operator_range, some_bound}
 use Rattle.gate_laws.proofs.Operators.{in_terms, operator_suits}
 

@@ -2,7 +2,7 @@
 use Rattle.std.proofs.Common.{◌≡◌, ℕ, ◌+◌, ◌-◌, List, [], ◌∷◌, ◌++◌, Ok, Err, Bool, true, false, cond, refl, sym, ap, ◌∙◌, subst, arith, append_assoc, append-nil}
 use Rattle.std.specs.Prelude.{nat_le}
 use Rattle.sc_text.specs.declared.end.Ending.{Ending}
-use Rattle.sc_text.specs.declared.end.Ending.TheVariants.{Trap, Budget, Tape}
+use Rattle.sc_text.specs.declared.end.Ending.TheVariants.{Budget, Tape}
 use Rattle.sc_text.specs.declared.end.TrapKind.{TrapKind}
 use Rattle.sc_text.specs.declared.end.TapeOwner.{TapeOwner}
 use Rattle.sc_text.specs.declared.end.TapeOwner.TheVariants as owner

@@ -1,7 +1,6 @@
 -- Gates that an effect adds behind a run, and the fact of the value that they end with.
-use Rattle.std.proofs.Common.{◌≡◌, ℕ, ◌+◌, ◌-◌, ◌<◌, Some, List, [], ◌∷◌, ◌++◌, length, map, refl, sym, ap, ◌∙◌, subst, arith, append_assoc, append-nil}
+use Rattle.std.proofs.Common.{◌≡◌, ℕ, ◌+◌, ◌-◌, Some, List, [], ◌∷◌, ◌++◌, length, refl, sym, ap, ◌∙◌, subst, arith, append_assoc, append-nil}
 use Rattle.std.specs.Prelude.{slice_get}
-use Rattle.proto_core.specs.declared.party.Number.{Number}
 use Rattle.gates.specs.declared.ring_kind.RingKind.{RingKind}
 use Rattle.gates.specs.declared.gate.Gate.{Gate}
 use Rattle.gates.specs.declared.gate.Gate.TheVariants.{Open}
@@ -12,12 +11,12 @@ use Rattle.gates.proofs.Columns.{stands}
 use Rattle.shared_gates.specs.Shares.{Kind, Shared, kind_at}
 use Rattle.shared_gates.specs.Model.{miner_of}
 use Rattle.shared_gates.specs.Computed.{opened_by_gate, opened_values}
-use Rattle.shared_plans.specs.GateRuns.{GateRun, IsWellFormed, value_count, words_drawn}
+use Rattle.shared_plans.specs.GateRuns.{GateRun, IsWellFormed, value_count}
 use Rattle.shared_plans.specs.Outcomes.{OpensNone, Follows}
 use Rattle.shared_plans.proofs.KindedPlans.{kind-behind}
 use Rattle.shared_plans.proofs.PlanRuns.{longer-formed, words-then}
 use Rattle.language_model.specs.Effects.{World, Stage, gate, planned}
-use Rattle.gate_laws.specs.Facts.{drawn_by, Fact, Stands, AllStand, Dealt, run_at, IsAt, Grows, Comes, Suits}
+use Rattle.gate_laws.specs.Facts.{Fact, Stands, AllStand, Dealt, run_at, IsAt, Comes, Suits}
 use Rattle.gate_laws.proofs.Effects.{Any}
 
 pub made_split : (xs ys : List Gate) → made_by_all (xs ++ ys) ≡ made_by_all xs + made_by_all ys

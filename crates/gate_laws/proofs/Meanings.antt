@@ -1,6 +1,6 @@
 -- What gates make of words is what operators mean on them.
-use Rattle.std.proofs.Common.{◌≡◌, ℕ, zero, suc, ◌+◌, ◌*◌, ◌<◌, ◌≤◌, ◌^◌, ◌%◌, List, [], ◌∷◌, length, map, Bool, true, false, not, refl, sym, ap, ◌∙◌, subst, arith, inl, inr}
-use Rattle.std.specs.Prelude.{nat_eq, nat_lt, nat_le, ◌==◌, ◌/◌, replicate, bit_and, bit_or, bit_xor, if◌then◌else◌}
+use Rattle.std.proofs.Common.{◌≡◌, ℕ, zero, suc, ◌<◌, ◌^◌, ◌%◌, List, [], ◌∷◌, length, map, Bool, true, false, not, refl, ap, ◌∙◌, arith, inl, inr}
+use Rattle.std.specs.Prelude.{nat_eq, nat_lt, nat_le, ◌==◌, replicate, bit_and, bit_or, bit_xor, if◌then◌else◌}
 use Rattle.std.proofs.lemmas.Bool.{cases_lt}
 use Rattle.std.proofs.lemmas.Bool.Decides.{nat_tests}
 use Rattle.share_ring.specs.Rings.{add_ring, xor_ring}
@@ -23,7 +23,7 @@ use Rattle.typed_tree.specs.declared.operators.BinaryOperator.TheVariants.{Words
 use Rattle.typed_tree.specs.Operators.{element_made}
 use Rattle.gate_laws.specs.Facts.{bound}
 use Rattle.gate_laws.specs.Rows.{element_taken}
-use Rattle.gate_laws.proofs.Ranges.{Below, below_head, below_tail, two_same, two_below, truth_below}
+use Rattle.gate_laws.proofs.Ranges.{Below, below_head, below_tail, two_below, truth_below}
 
 -- ---- lists of words
 

@@ -1,5 +1,5 @@
 -- An opening: behind it all know the words.
-use Rattle.std.proofs.Common.{◌≡◌, ℕ, ◌+◌, ◌-◌, ◌<◌, ◌≤◌, ◌^◌, ◌%◌, List, [], ◌∷◌, ◌++◌, length, map, take, drop, Ok, Err, Bool, true, false, cond, refl, sym, ap, ◌∙◌, subst, arith, append-nil, length-append}
+use Rattle.std.proofs.Common.{◌≡◌, ℕ, ◌+◌, ◌<◌, ◌≤◌, ◌^◌, ◌%◌, List, [], ◌∷◌, ◌++◌, length, map, take, drop, Ok, Err, Bool, true, false, cond, refl, sym, ap, ◌∙◌, subst, arith, append-nil, length-append}
 use Rattle.std.specs.Prelude.{nat_le}
 use Rattle.std.proofs.lemmas.List.{length-map, get_or_append_left}
 use Rattle.std.proofs.lemmas.Nat.{mod_below}
@@ -13,10 +13,10 @@ use Rattle.protocol_model.specs.Gates.{needed}
 use Rattle.gates.specs.declared.ring_kind.RingKind.{RingKind}
 use Rattle.gates.specs.declared.gate.Gate.{Gate}
 use Rattle.gates.specs.declared.gate.Gate.TheVariants.{Open}
-use Rattle.gates.specs.Clear.{Values, value, FitFrom}
-use Rattle.gates.specs.Counts.{Miner, size_of, made_by_all, words_of_all}
+use Rattle.gates.specs.Clear.{value}
+use Rattle.gates.specs.Counts.{size_of, made_by_all, words_of_all}
 use Rattle.gates.proofs.Sizes.{FitFrom-append}
-use Rattle.shared_gates.specs.Shares.{Kind, Shared, Known, kind_at}
+use Rattle.shared_gates.specs.Shares.{Kind, Known, kind_at}
 use Rattle.shared_gates.specs.Kinds.{AllKinded}
 use Rattle.shared_gates.specs.Model.{run_gates, sizes_made, miner_of}
 use Rattle.shared_gates.specs.Computed.{opened_values}
@@ -29,8 +29,8 @@ use Rattle.shared_plans.proofs.GateRunLaws.{run-needs}
 use Rattle.language_model.specs.Effects.{World, Source, Clear, Answers, Stage, Short, Effect, ◌>>=◌, carry, done, gate, emit, answer, show, words_each}
 use Rattle.language_model.specs.Values.{Secrecy, Plain, Private, Value, plain, size, ring_for, elements_of}
 use Rattle.language_model.specs.Operations.{read_answer, revealed, opened_from, declassified}
-use Rattle.gate_laws.specs.Facts.{InRange, IsProper, drawn_by, none_of, Fact, Stands, AllStand, facts_of, Dealt, run_at, IsAt, Grows, Comes, ComesAt, Suits}
-use Rattle.gate_laws.proofs.Effects.{Tell, Any, NoFacts, suits_bind, suits_owed, draw_suits}
+use Rattle.gate_laws.specs.Facts.{InRange, IsProper, drawn_by, none_of, Fact, Stands, facts_of, Dealt, run_at, IsAt, Grows, Comes, ComesAt, Suits}
+use Rattle.gate_laws.proofs.Effects.{Tell, suits_bind, suits_owed, draw_suits}
 use Rattle.gate_laws.proofs.Gains.{fact, made_split, opened_split}
 use Rattle.gate_laws.proofs.Singles.{stands_inside, stands_size}
 use Rattle.gate_laws.proofs.Parts.{tell_same, tell_first, range_words, plain_charge, number_suits, itself_suits}

@@ -1,9 +1,6 @@
 -- The gates of operators between private operands.
-use Rattle.std.proofs.Common.{◌≡◌, ℕ, ◌+◌, ◌*◌, ◌<◌, ◌^◌, List, [], ◌∷◌, ◌++◌, length, map, Bool, true, false, not, refl, sym, ap, ◌∙◌, subst, arith}
-use Rattle.std.specs.Prelude.{nat_eq, nat_lt, nat_le, replicate, bit_and, bit_or, bit_xor}
-use Rattle.secrec_ast.specs.declared.expression.DataType.{DataType}
-use Rattle.secrec_ast.specs.declared.expression.DataType.TheVariants.{Uint64}
-use Rattle.secrec_ast.specs.declared.expression.DataType.TheVariants as datatype
+use Rattle.std.proofs.Common.{◌≡◌, ℕ, ◌*◌, ◌<◌, ◌^◌, List, [], ◌∷◌, length, map, true, false, refl, sym, ap, ◌∙◌, subst, arith}
+use Rattle.std.specs.Prelude.{nat_eq, nat_lt, replicate}
 use Rattle.share_ring.specs.Rings.{add_ring, xor_ring}
 use Rattle.gates.specs.declared.ring_kind.RingKind.{RingKind}
 use Rattle.gates.specs.declared.ring_kind.RingKind.TheVariants.{Arithmetic, Boolean}
@@ -23,18 +20,18 @@ use Rattle.typed_tree.specs.declared.operators.BoolOperator.TheVariants as truth
 use Rattle.typed_tree.specs.declared.operators.BinaryOperator.{BinaryOperator}
 use Rattle.typed_tree.specs.declared.operators.BinaryOperator.TheVariants.{Words, Bools}
 use Rattle.typed_tree.specs.Operators.{element_made}
-use Rattle.language_model.specs.Effects.{World, Effect, ◌>>=◌, gate, planned, words_each}
+use Rattle.language_model.specs.Effects.{World, Effect, ◌>>=◌, gate, words_each}
 use Rattle.language_model.specs.Values.{ring_for}
-use Rattle.language_model.specs.Words.{truth_word, flipped, word_meaning, truth_meaning, meaning}
+use Rattle.language_model.specs.Words.{flipped, word_meaning, truth_meaning, meaning}
 use Rattle.language_model.specs.Operations.{flip, words_for_equality, words_for_order, words_of_word_operator, words_of_bool_operator, words_of_operator}
 use Rattle.language_model.specs.Operations.{equal_gates, less_gates, word_gates, or_gates, bool_gates, operator_gates}
 use Rattle.gate_laws.specs.Facts.{InRange, drawn_by, none_of, Fact, Dealt, Suits}
 use Rattle.gate_laws.specs.Rows.{element_taken, has_gates}
-use Rattle.gate_laws.proofs.Effects.{Tell, Any, suits_bind, suits_with}
+use Rattle.gate_laws.proofs.Effects.{Tell, Any, suits_bind}
 use Rattle.gate_laws.proofs.Gains.{fact, gate_suits, planned_suits}
 use Rattle.gate_laws.proofs.Singles.{add_gain, sub_gain, mul_gain, xor_gain, and_gain}
 use Rattle.gate_laws.proofs.Plans.{zero_gain, less_gain}
-use Rattle.gate_laws.proofs.Parts.{tell_same, tell_first, tell_later, const_suits}
+use Rattle.gate_laws.proofs.Parts.{tell_first, const_suits}
 use Rattle.gate_laws.proofs.Ranges.{Below, two_same, two_lengths, two_below, replicate_below, length_replicated, below_more, truth_below}
 use Rattle.gate_laws.proofs.Meanings.{map_two, two_of_two, two_ext, two_swapped, equal_word, less_word, flipped_truth, at_most_word, flips, xor_bits, and_bits, or_bits}
 use Rattle.gate_laws.proofs.Meanings.{differ_bits, equal_bits, xor_low}

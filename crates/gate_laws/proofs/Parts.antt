@@ -1,5 +1,5 @@
 -- The parts of a row: charges, numbers of values, scalars beside arrays, and the value that is given.
-use Rattle.std.proofs.Common.{◌≡◌, ℕ, ◌+◌, ◌-◌, ◌<◌, ◌^◌, List, [], ◌∷◌, ◌++◌, length, Option, Some, None, Bool, true, false, refl, sym, ap, ◌∙◌, subst, arith}
+use Rattle.std.proofs.Common.{◌≡◌, ℕ, ◌-◌, ◌<◌, ◌^◌, List, [], ◌∷◌, length, Some, None, Bool, true, false, refl, sym, subst, arith}
 use Rattle.std.specs.Prelude.{replicate}
 use Rattle.secrec_ast.specs.declared.expression.DataType.{DataType}
 use Rattle.secrec_ast.specs.declared.expression.DataType.TheVariants.{Uint64}
@@ -10,10 +10,10 @@ use Rattle.gates.specs.declared.gate.Gate.TheVariants.{Const, Rep}
 use Rattle.gates.specs.Clear.{first_word}
 use Rattle.gates.specs.Counts.{Miner}
 use Rattle.typed_tree.specs.declared.kinds.Shape.{Shape}
-use Rattle.language_model.specs.Effects.{World, Effect, ◌>>=◌, done, charge, gate}
-use Rattle.language_model.specs.Values.{Secrecy, Plain, Private, Value, plain, hidden, size, ring_for}
+use Rattle.language_model.specs.Effects.{World, Effect, done, gate}
+use Rattle.language_model.specs.Values.{Secrecy, Plain, Private, Value, plain, size, ring_for}
 use Rattle.language_model.specs.Operations.{charged, no_traps, number_from, number_of, stretched, made_private, classified_from, classified}
-use Rattle.gate_laws.specs.Facts.{bound, InRange, HasRange, IsProper, none_of, Fact, AllStand, fact_from, facts_of, Dealt, Suits}
+use Rattle.gate_laws.specs.Facts.{InRange, HasRange, IsProper, none_of, Fact, fact_from, facts_of, Dealt, Suits}
 use Rattle.gate_laws.proofs.Effects.{Tell, Any, NoFacts, suits_bind, suits_with, suits_done, charge_suits}
 use Rattle.gate_laws.proofs.Gains.{fact, gate_suits}
 use Rattle.gate_laws.proofs.Singles.{const_gain, rep_gain}

@@ -1,7 +1,7 @@
 -- What plans gain whose operands stand.
-use Rattle.std.proofs.Common.{◌≡◌, ℕ, ◌+◌, Some, List, length, map, refl, ap, ◌∙◌}
+use Rattle.std.proofs.Common.{◌≡◌, ℕ, Some, List, length, map, refl, ap, ◌∙◌}
 use Rattle.gates.specs.declared.ring_kind.RingKind.TheVariants.{Arithmetic, Boolean}
-use Rattle.gates.specs.Clear.{Values, value, each_two}
+use Rattle.gates.specs.Clear.{value, each_two}
 use Rattle.gates.specs.WordTests.{zero_test, less_test}
 use Rattle.equality.specs.Plan.{eq_plan}
 use Rattle.equality.specs.Law as equality

@@ -1,9 +1,9 @@
 -- The ranges of words, and words that are the same within them.
-use Rattle.std.proofs.Common.{◌≡◌, ℕ, zero, suc, ◌+◌, ◌*◌, ◌<◌, ◌≤◌, ◌^◌, ◌%◌, List, [], ◌∷◌, ◌++◌, length, map, Bool, true, false, not, refl, sym, ap, ◌∙◌, subst, arith}
-use Rattle.std.specs.Prelude.{nat_eq, nat_lt, nat_le, ◌==◌, replicate, set, take, drop, bit_and, bit_or, bit_xor}
+use Rattle.std.proofs.Common.{◌≡◌, ℕ, zero, suc, ◌<◌, ◌≤◌, List, [], ◌∷◌, ◌++◌, length, map, Bool, true, false, refl, ap, ◌∙◌, arith}
+use Rattle.std.specs.Prelude.{replicate, set, take, drop}
 use Rattle.proto_core.specs.Lists.{at}
 use Rattle.gates.specs.Clear.{each_two, first_word}
-use Rattle.language_model.specs.Words.{truth_word, flipped}
+use Rattle.language_model.specs.Words.{truth_word}
 
 -- each word is below
 abbrev pub Below : ℕ → List ℕ → Type 0

@@ -1,5 +1,5 @@
 -- Code for which all that the law asks is there: a private input is doubled, opened and published.
-use Rattle.std.proofs.Common.{◌≡◌, ℕ, zero, suc, ◌+◌, ◌<◌, ◌^◌, List, [], ◌∷◌, length, Option, Some, None, Bool, true, false, refl, sym, ap, subst, arith, inl, inr}
+use Rattle.std.proofs.Common.{◌≡◌, ℕ, zero, suc, ◌+◌, ◌<◌, ◌^◌, List, [], ◌∷◌, length, Option, Some, None, true, false, refl, sym, ap, subst, arith, inl, inr}
 use Rattle.std.specs.Prelude.{slice_get}
 use Rattle.secrec_ast.specs.declared.expression.DataType.TheVariants.{Uint64}
 use Rattle.share_ring.specs.Rings.{add_ring}
@@ -8,7 +8,7 @@ use Rattle.proto_core.specs.declared.party.Number.TheVariants.{One, Two, Three}
 use Rattle.proto_core.specs.Lists.{at, AreWords}
 use Rattle.protocol_model.specs.Gates.{sizes_of}
 use Rattle.gates.specs.declared.ring_kind.RingKind.TheVariants.{Arithmetic}
-use Rattle.gates.specs.Clear.{Values, value}
+use Rattle.gates.specs.Clear.{Values}
 use Rattle.shared_gates.specs.Shares.{AreShares, Shared, sum_of, share_at, AllHeld}
 use Rattle.typed_tree.specs.declared.operators.BinaryOperator.TheVariants.{Words}
 use Rattle.typed_tree.specs.declared.operators.WordOperator.TheVariants as word
@@ -121,11 +121,14 @@ may_run source =
       fitting = is_main (IsFitting code) main_fits;
       taking = is_main (λ f. (place : ℕ) (i : Step) → slice_get f.steps place ≡ Some i → StepTakes f.kinds i) main_takes;
       singles = single;
-      offered = (record {
-        range = one_below (2 ^ 64) 5 (omega arith);
-        small = omega arith;
-        dealt = λ e. record { there = omega arith; words = refl; kind = refl };
-      }, tt);
+      offered = (
+        record {
+          range = one_below (2 ^ 64) 5 (omega arith);
+          small = omega arith;
+          dealt = λ e. record { there = omega arith; words = refl; kind = refl };
+        },
+        tt,
+      );
     }
   where
     single : AreSingle (input ∷ [])

@@ -1,5 +1,5 @@
 -- Steps of code keep a machine standing.
-use Rattle.std.proofs.Common.{◌≡◌, ℕ, zero, suc, ◌+◌, ◌<◌, List, [], ◌∷◌, ◌++◌, length, Option, Some, None, Ok, Err, Bool, true, false, refl, sym, ap, ◌∙◌, subst, arith}
+use Rattle.std.proofs.Common.{◌≡◌, ℕ, zero, suc, ◌+◌, List, [], ◌∷◌, ◌++◌, length, Option, Some, None, Ok, Err, Bool, true, false, refl, sym, ap, ◌∙◌, subst, arith}
 use Rattle.std.specs.Prelude.{slice_get, map, sum, nat_lt}
 use Rattle.sc_text.specs.declared.end.Ending.{Ending}
 use Rattle.sc_text.specs.declared.end.Ending.TheVariants as ending
@@ -9,7 +9,7 @@ use Rattle.secrec_ast.specs.declared.expression.DataType.TheVariants.{Uint64}
 use Rattle.secrec_ast.specs.declared.expression.DataType.TheVariants as datatype
 use Rattle.shared_gates.specs.Shares as shares
 use Rattle.shared_plans.specs.GateRuns.{GateRun}
-use Rattle.language_model.specs.Effects.{World, Stage, Run, Effect, ◌>>=◌, carry, done, end, charge, test}
+use Rattle.language_model.specs.Effects.{World, Stage, Run, Effect, ◌>>=◌, carry, done, end}
 use Rattle.language_model.specs.Values.{Value, is_secret, plain, size, never_stored}
 use Rattle.language_model.specs.Operations as row
 use Rattle.language_model.specs.Evaluation.{Frame, put, nothing, array_elements, either, asked_for, input_named}
@@ -19,15 +19,15 @@ use Rattle.typed_tree.specs.Shapes.{shape_of}
 use Rattle.bytecode.specs.declared.kind.Kind.{Kind}
 use Rattle.verified_code.specs.Steps.{kind_shape, Step, Literal, Move, Store, Binary, Not, Cast, Classify, Fill, At, Put, Size, Cat, Sum, Bits, Declassify}
 use Rattle.verified_code.specs.Steps.{Argument, Publish, Assert, Branch, Jump, Call, Return, ReturnNone, Function}
-use Rattle.code_model.specs.Machine.{Caller, Machine, at, next, values_at, begun, behind_first, filled_with, kinds_of, steps_of, entering, limit, received, resume}
-use Rattle.code_model.specs.Machine.{same_bool, step, begin_at, start}
-use Rattle.code_model.specs.Kinded.{IsOf, IsIn, IsWithin, HasKind, RegistersFit, cast_source}
+use Rattle.code_model.specs.Machine.{Caller, Machine, at, next, values_at, begun, behind_first, filled_with, kinds_of, limit, received, resume}
+use Rattle.code_model.specs.Machine.{same_bool, step, begin_at}
+use Rattle.code_model.specs.Kinded.{IsWithin, HasKind, cast_source}
 use Rattle.code_model.proofs.Places.{put_all}
-use Rattle.gate_laws.specs.Facts.{bound, IsProper, none_of, Fact, AllStand, facts_of, Dealt, run_at, IsAt, Grows, Comes, ComesAt, Suits}
-use Rattle.gate_laws.specs.Rows.{element_taken, secrecy_suits, OperandsSuit, IsOfElements}
+use Rattle.gate_laws.specs.Facts.{bound, IsProper, none_of, Fact, AllStand, facts_of, Dealt, run_at, IsAt, Grows, ComesAt, Suits}
+use Rattle.gate_laws.specs.Rows.{secrecy_suits, OperandsSuit, IsOfElements}
 use Rattle.gate_laws.specs.Offers.{AreOffered}
-use Rattle.gate_laws.specs.Machines.{ValueStands, FrameStands, CallersStand, MachineStands, Arrives, ArrivesAt, HasElement, StepTakes, AreTaking}
-use Rattle.gate_laws.proofs.Effects.{Tell, Any, NoFacts, all_still, grows_then, stays, both_stand, charge_suits, test_suits}
+use Rattle.gate_laws.specs.Machines.{ValueStands, FrameStands, CallersStand, MachineStands, ArrivesAt, HasElement, StepTakes}
+use Rattle.gate_laws.proofs.Effects.{all_still, grows_then, stays, both_stand, charge_suits, test_suits}
 use Rattle.gate_laws.proofs.Parts.{plain_charge, classified_suits}
 use Rattle.gate_laws.proofs.Ranges.{below_none, one_below}
 use Rattle.gate_laws.proofs.Meanings.{some_bound}

@@ -1,5 +1,5 @@
 -- Rows that give nothing to later steps: what goes to the client, and tests; and rows that begin: literals and inputs.
-use Rattle.std.proofs.Common.{◌≡◌, ℕ, zero, suc, ◌+◌, ◌-◌, ◌<◌, ◌^◌, List, [], ◌∷◌, ◌++◌, length, Option, Some, None, Bool, true, false, ◌&&◌, refl, sym, ap, ◌∙◌, subst, arith}
+use Rattle.std.proofs.Common.{◌≡◌, ℕ, ◌<◌, List, [], ◌∷◌, length, Option, Some, None, Bool, true, false, refl, subst, arith}
 use Rattle.std.specs.Prelude.{bytes_eq, if◌then◌else◌}
 use Rattle.std.proofs.lemmas.Bool.{and_parts}
 use Rattle.sc_text.specs.declared.end.Ending.TheVariants as ending
@@ -7,16 +7,15 @@ use Rattle.sc_text.specs.declared.end.TrapKind.TheVariants as trap
 use Rattle.sc_text.specs.declared.event.Event.TheVariants as event
 use Rattle.secrec_ast.specs.declared.expression.DataType.{DataType}
 use Rattle.gates.specs.declared.gate.Gate.TheVariants as gates
-use Rattle.gates.specs.Counts.{Miner}
 use Rattle.typed_tree.specs.declared.kinds.Shape.{Shape}
 use Rattle.typed_tree.specs.Shapes.{shape_of}
-use Rattle.language_model.specs.Effects.{World, Given, ◌>>=◌, done, test, charge, gate, emit, words_each}
+use Rattle.language_model.specs.Effects.{World, Given, test, words_each}
 use Rattle.language_model.specs.Values.{Secrecy, Plain, Private, Value, plain, size, ring_for, elements_of, is_true}
-use Rattle.language_model.specs.Operations.{charged, handed_over, published, tested, asserted}
+use Rattle.language_model.specs.Operations.{handed_over, published, tested, asserted}
 use Rattle.language_model.specs.Evaluation.{same_truth, same_shape, is_as_declared, behind, input_from, input_named, given_value, asked_for}
-use Rattle.gate_laws.specs.Facts.{bound, InRange, IsProper, drawn_by, none_of, Fact, facts_of, Dealt, Suits}
-use Rattle.gate_laws.specs.Offers.{IsDealt, IsOffered, AreOffered}
-use Rattle.gate_laws.proofs.Effects.{Tell, Any, NoFacts, suits_bind, suits_with, suits_done, suits_end, charge_suits, test_suits, emit_suits, draw_suits}
+use Rattle.gate_laws.specs.Facts.{bound, IsProper, drawn_by, none_of, Fact, facts_of, Dealt, Suits}
+use Rattle.gate_laws.specs.Offers.{IsOffered, AreOffered}
+use Rattle.gate_laws.proofs.Effects.{Any, NoFacts, suits_bind, suits_with, suits_done, suits_end, charge_suits, test_suits, emit_suits, draw_suits}
 use Rattle.gate_laws.proofs.Gains.{fact, gate_suits, gate_from}
 use Rattle.gate_laws.proofs.Singles.{result_gain, input_gain}
 use Rattle.gate_laws.proofs.Parts.{tell_same, tell_none, tell_first, charged_suits, plain_charge, number_suits, given_suits, shown_suits}

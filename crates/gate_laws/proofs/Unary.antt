@@ -1,5 +1,5 @@
 -- Rows with one operand.
-use Rattle.std.proofs.Common.{◌≡◌, ℕ, ◌+◌, ◌*◌, ◌-◌, ◌<◌, ◌≤◌, ◌^◌, ◌%◌, List, [], ◌∷◌, ◌++◌, length, map, Bool, true, false, not, refl, sym, ap, ◌∙◌, subst, arith, length-append}
+use Rattle.std.proofs.Common.{◌≡◌, ℕ, ◌*◌, ◌<◌, ◌≤◌, ◌^◌, ◌%◌, List, [], ◌∷◌, length, map, Bool, true, false, not, refl, sym, ap, ◌∙◌, subst, arith, length-append}
 use Rattle.std.specs.Prelude.{sum, ◌==◌, nat_le, if◌then◌else◌}
 use Rattle.std.specs.List.{flat_map, range_with_len}
 use Rattle.std.specs.Int.{bit_at}
@@ -21,24 +21,23 @@ use Rattle.equality.specs.Law as equality
 use Rattle.bit_extract.specs.Plan.{bits_plan}
 use Rattle.bit_extract.specs.Law as bits
 use Rattle.shared_plans.specs.Plans.{zero_test_kinds, bits_kinds}
-use Rattle.typed_tree.specs.declared.kinds.Shape.{Shape}
 use Rattle.typed_tree.specs.declared.operators.Cast.{Cast}
 use Rattle.typed_tree.specs.declared.operators.Cast.TheVariants.{WordToWord, WordToBool, BoolToWord, BoolToBool}
 use Rattle.typed_tree.specs.Shapes.{shape_of}
-use Rattle.language_model.specs.Effects.{World, charge, gate, planned, ◌>>=◌}
-use Rattle.language_model.specs.Values.{Secrecy, Plain, Private, Value, size, ring_for}
-use Rattle.language_model.specs.Words.{flipped, cast_word, truth_word}
-use Rattle.language_model.specs.Operations.{negated_from, negated, words_for_equality, words_for_conversion, words_for_bits, words_of_cast, cast_shape, changed, cast_from, cast_to, size_told}
-use Rattle.language_model.specs.Operations.{summed_from, summed, bits_from, bits_extracted, largest, not_too_large, flip}
+use Rattle.language_model.specs.Effects.{World}
+use Rattle.language_model.specs.Values.{Secrecy, Plain, Private, Value, size}
+use Rattle.language_model.specs.Words.{flipped, cast_word}
+use Rattle.language_model.specs.Operations.{negated_from, negated, words_for_equality, words_for_conversion, words_for_bits, cast_from, cast_to, size_told}
+use Rattle.language_model.specs.Operations.{summed_from, summed, bits_from, bits_extracted, largest, not_too_large}
 use Rattle.gate_laws.specs.Facts.{InRange, IsProper, drawn_by, none_of, Fact, facts_of, Dealt, Suits}
 use Rattle.code_model.specs.Kinded.{cast_source}
 use Rattle.gate_laws.specs.Rows.{IsOfElements}
-use Rattle.gate_laws.proofs.Effects.{Tell, Any, NoFacts, suits_bind, suits_with, suits_done, charge_suits, test_suits, draw_suits}
+use Rattle.gate_laws.proofs.Effects.{suits_bind, charge_suits, test_suits, draw_suits}
 use Rattle.gate_laws.proofs.Gains.{fact, gate_suits, planned_suits}
 use Rattle.gate_laws.proofs.Singles.{sum_gain, spread_gain, conv_gain}
 use Rattle.gate_laws.proofs.Plans.{zero_gain, bits_gain}
 use Rattle.gate_laws.proofs.Parts.{tell_same, tell_first, charged_suits, plain_charge, number_as, given_as, given_suits, shown_suits, itself_suits}
-use Rattle.gate_laws.proofs.Ranges.{Below, map_below, map_same, map_itself, below_cons, append_below, one_below, truth_below}
+use Rattle.gate_laws.proofs.Ranges.{Below, map_below, map_same, below_cons, append_below, one_below, truth_below}
 use Rattle.gate_laws.proofs.Meanings.{conversion_bits, zero_flipped}
 use Rattle.gate_laws.proofs.Operators.{in_terms, flip_suits, equality_words}
 

@@ -1,5 +1,5 @@
 -- Runs of code, step by step.
-use Rattle.std.proofs.Common.{◌≡◌, ℕ, zero, suc, ◌+◌, List, [], Option, Some, None, Ok, Err, Bool, true, false, refl, sym, ap, ◌∙◌, subst, arith}
+use Rattle.std.proofs.Common.{◌≡◌, ℕ, zero, suc, List, [], Option, Some, None, Ok, Err, Bool, true, false, refl, sym, ap, ◌∙◌, subst, arith}
 use Rattle.std.specs.Prelude.{slice_get, nat_le, if◌then◌else◌}
 use Rattle.sc_text.specs.declared.end.Ending.TheVariants as ending
 use Rattle.proto_core.specs.declared.party.Number.{Number}
@@ -7,11 +7,10 @@ use Rattle.proto_core.specs.declared.party.Number.TheVariants.{One, Two, Three}
 use Rattle.proto_core.specs.Lists.{AreWords}
 use Rattle.shared_gates.specs.Shares.{Kind}
 use Rattle.shared_gates.specs.Model.{miner_of}
-use Rattle.shared_plans.specs.GateRuns.{words_drawn}
 use Rattle.language_model.specs.Effects.{World, Stage, Stop, Ended, Run, words_each}
 use Rattle.language_model.specs.Reports.{beginning, reported, dealing, not_dealt}
 use Rattle.verified_code.specs.Steps.{Function}
-use Rattle.code_model.specs.Machine.{Machine, step, exec, further, start, begin_at}
+use Rattle.code_model.specs.Machine.{Machine, step, exec, further, start}
 use Rattle.code_model.specs.Meaning.{fuel, stopped_or, report_at, mean_in}
 use Rattle.code_model.specs.Kinded.{IsWithin}
 use Rattle.code_model.specs.Laws.{StaysAt}
@@ -19,7 +18,7 @@ use Rattle.code_model.proofs.Within.{next_there}
 use Rattle.code_model.proofs.Kept.{keeps, begins}
 use Rattle.gate_laws.specs.Facts.{drawn_by, none_of, Dealt, run_at, IsAt}
 use Rattle.gate_laws.specs.Machines.{MachineStands, ArrivesAt}
-use Rattle.gate_laws.specs.Laws.{MayRun, IsDealing, StepsKeepStanding, run_of, GatesSuit, RunsMakeSuitedGates}
+use Rattle.gate_laws.specs.Laws.{MayRun, IsDealing, StepsKeepStanding, GatesSuit, RunsMakeSuitedGates}
 use Rattle.gate_laws.proofs.Steps.{act, start_stands}
 
 none_some : {A : Type 0} {a : A} → ◌≡◌ {A = Option A} None (Some a) → ⊥

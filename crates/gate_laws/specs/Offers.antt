@@ -1,5 +1,5 @@
 -- What is dealt for the inputs of a run.
-use Rattle.std.specs.Prelude.{◌≡◌, ℕ, ◌<◌, ◌^◌, Bool, true, false, List, [], ◌∷◌, length}
+use Rattle.std.specs.Prelude.{◌≡◌, ℕ, ◌<◌, ◌^◌, true, List, [], ◌∷◌, length}
 use Rattle.gates.specs.Clear.{value}
 use Rattle.shared_gates.specs.Shares.{Shared, kind_at}
 use Rattle.language_model.specs.Effects.{Given}

@@ -1,9 +1,8 @@
 -- What is asked of the operands of a row, so that its gates suit the run.
-use Rattle.std.specs.Prelude.{◌≡◌, ℕ, Bool, true, false, ◌&&◌, ◌||◌, not, List, length}
+use Rattle.std.specs.Prelude.{◌≡◌, Bool, true, false, length}
 use Rattle.secrec_ast.specs.declared.expression.DataType.{DataType}
 use Rattle.secrec_ast.specs.declared.expression.DataType.TheVariants.{Uint64}
 use Rattle.secrec_ast.specs.declared.expression.DataType.TheVariants as datatype
-use Rattle.typed_tree.specs.declared.operators.WordOperator.{WordOperator}
 use Rattle.typed_tree.specs.declared.operators.WordOperator.TheVariants as word
 use Rattle.typed_tree.specs.declared.operators.BinaryOperator.{BinaryOperator}
 use Rattle.typed_tree.specs.declared.operators.BinaryOperator.TheVariants.{Words, Bools}
