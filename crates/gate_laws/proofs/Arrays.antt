@@ -10,7 +10,8 @@ use Rattle.gates.specs.Clear.{first_word}
 use Rattle.typed_tree.specs.Shapes.{shape_of}
 use Rattle.language_model.specs.Effects.{World, ◌>>=◌, test, gate}
 use Rattle.language_model.specs.Values.{Secrecy, Plain, Private, Value, size, seen, seen_of, ring_for}
-use Rattle.language_model.specs.Operations.{charged, largest, not_too_large, number_of, made_private, joined_from, joined, position, element_at, element_from, element_of_array}
+use Rattle.language_model.specs.Operations.{charged, largest, not_too_large, number_of, made_private, joined_from, joined, position, element_at}
+use Rattle.language_model.specs.Operations.{element_from, element_of_array}
 use Rattle.language_model.specs.Operations.{with_element_from, with_element, filled_from, filled}
 use Rattle.gate_laws.specs.Facts.{bound, InRange, IsProper, none_of, Fact, facts_of, Dealt, Suits}
 use Rattle.gate_laws.proofs.Effects.{NoFacts, suits_bind, charge_suits, test_suits, first_stand, second_stand}
@@ -42,10 +43,12 @@ few_words n h = omega (arith, h)
 
 module _ (w : World) (d : Dealt) where
   -- the test that an array is not too large
-  large_suits : (fs : List Fact) (line n : ℕ) → Suits w d fs none_of (charged (not_too_large line n) n) none_of (NoFacts {A = Unit {0}}) (λ u. nat_le n largest ≡ true)
+  large_suits : (fs : List Fact) (line n : ℕ) → Suits w d fs none_of (charged (not_too_large line n) n) none_of (NoFacts {A = Unit {0}})
+      (λ u. nat_le n largest ≡ true)
   large_suits fs line n = charged_suits w d fs (not_too_large line n) n (nat_le n largest ≡ true) (test_suits w d fs (nat_le n largest) trap.Large line)
 
-  inside_suits : (fs : List Fact) (line i n : ℕ) → Suits w d fs none_of (test (nat_lt i n) trap.Index line) none_of (NoFacts {A = Unit {0}}) (λ u. nat_lt i n ≡ true)
+  inside_suits : (fs : List Fact) (line i n : ℕ) → Suits w d fs none_of (test (nat_lt i n) trap.Index line) none_of (NoFacts {A = Unit {0}})
+      (λ u. nat_lt i n ≡ true)
   inside_suits fs line i n = test_suits w d fs (nat_lt i n) trap.Index line
 
   -- ---- one behind another
@@ -67,12 +70,14 @@ module _ (w : World) (d : Dealt) where
     joined_small few = subst (λ n. n < 2 ^ 64) (sym (length-append x.words y.words)) (few_words (size x + size y) few)
 
     cat_suits : size x + size y ≤ largest
-        → Suits w d both none_of (number_of x >>= λ u. number_of y >>= λ v. gate (gates.Cat u v) >>= λ r. made_private x.shape (x.words ++ y.words) r) none_of facts_of IsProper
+        → Suits w d both none_of (number_of x >>= λ u. number_of y >>= λ v. gate (gates.Cat u v) >>= λ r. made_private x.shape (x.words ++ y.words) r)
+        none_of facts_of IsProper
     cat_suits few =
         let ring = ring_for element in
         suits_bind w d (number_suits w d both none_of x (record { from = λ r k. first_stand r (facts_of x) (facts_of y) k }) p.range) (λ u _.
         suits_bind w d
-        (number_as w d (fact u ring x.words ∷ both) none_of element y same (record { from = λ r k. second_stand r (facts_of x) (facts_of y) k.1 }) right_range) (λ v _.
+        (number_as w d (fact u ring x.words ∷ both) none_of element y same (record { from = λ r k. second_stand r (facts_of x) (facts_of y) k.1 })
+        right_range) (λ v _.
         suits_bind w d
         (gate_suits w d (fact v ring y.words ∷ (fact u ring x.words ∷ both)) none_of none_of none_of (gates.Cat u v) ring (x.words ++ y.words) (λ m. refl) refl
         (λ r good facts. cat_gain r good u v ring x.words y.words facts.1.0 facts.0)) (λ r _.
@@ -119,7 +124,8 @@ module _ (w : World) (d : Dealt) where
     -- ---- equal elements
 
     filled_range : (n : ℕ) → InRange v.shape.element (replicate n (first_word v.words))
-    filled_range n = replicate_below (bound v.shape.element) n (first_word v.words) (first_below (bound v.shape.element) v.words (some_bound v.shape.element) p.range)
+    filled_range n = replicate_below (bound v.shape.element) n (first_word v.words)
+        (first_below (bound v.shape.element) v.words (some_bound v.shape.element) p.range)
 
     filled_small : (n : ℕ) → n ≤ largest → length (replicate n (first_word v.words)) < 2 ^ 64
     filled_small n few = subst (λ k. k < 2 ^ 64) (sym (length_replicated n (first_word v.words))) (few_words n few)
@@ -154,7 +160,8 @@ module _ (w : World) (d : Dealt) where
     seen_low Plain = first_below bound_here x.words (some_bound v.shape.element) value_range
     seen_low (Private k) = some_bound v.shape.element
 
-    with_element_from_suits : (a : Secrecy) (i : ℕ) → i < size v → Suits w d (facts_of v ++ facts_of x) none_of (with_element_from a v i x) none_of facts_of IsProper
+    with_element_from_suits : (a : Secrecy) (i : ℕ) → i < size v → Suits w d (facts_of v ++ facts_of x) none_of
+        (with_element_from a v i x) none_of facts_of IsProper
     with_element_from_suits Plain i inside =
         shown_suits w d (facts_of v ++ facts_of x) v.shape (set v.words i (first_word (seen x)))
         (set_below bound_here i (first_word (seen x)) v.words (seen_low x.secrecy) p.range) (set_small i (first_word (seen x)))
@@ -164,7 +171,8 @@ module _ (w : World) (d : Dealt) where
         let words = set v.words i (first_word x.words) in
         suits_bind w d (number_suits w d all none_of v (record { from = λ r k. first_stand r (facts_of v) (facts_of x) k }) p.range) (λ u _.
         suits_bind w d
-        (number_as w d (fact u ring v.words ∷ all) none_of v.shape.element x same (record { from = λ r k. second_stand r (facts_of v) (facts_of x) k.1 }) value_range) (λ e _.
+        (number_as w d (fact u ring v.words ∷ all) none_of v.shape.element x same (record { from = λ r k. second_stand r (facts_of v) (facts_of x) k.1 })
+        value_range) (λ e _.
         suits_bind w d
         (gate_suits w d (fact e ring x.words ∷ (fact u ring v.words ∷ all)) none_of none_of none_of (gates.Put u i e) ring words (λ m. refl) refl
         (λ r good facts. put_gain r good u e ring v.words x.words facts.1.0 facts.0 i inside single)) (λ r _.

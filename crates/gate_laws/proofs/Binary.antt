@@ -18,7 +18,8 @@ use Rattle.typed_tree.specs.Operators.{element_made}
 use Rattle.language_model.specs.Effects.{World}
 use Rattle.language_model.specs.Values.{Secrecy, Plain, Private, Value, is_secret, size, seen, ring_for}
 use Rattle.language_model.specs.Words as W
-use Rattle.language_model.specs.Operations.{words_of_operator, is_scalar_left, is_scalar_right, is_product, result_shape, private_result, product_with, combined_from, operator_traps, operated}
+use Rattle.language_model.specs.Operations.{words_of_operator, is_scalar_left, is_scalar_right, is_product, result_shape, private_result, product_with}
+use Rattle.language_model.specs.Operations.{combined_from, operator_traps, operated}
 use Rattle.code_model.specs.Kinded.{left_array, right_array}
 use Rattle.gate_laws.specs.Facts.{bound, InRange, HasRange, IsProper, drawn_by, none_of, Fact, facts_of, Dealt, Suits}
 use Rattle.gate_laws.specs.Rows.{element_taken, has_gates, secrecy_suits, OperandsSuit}
@@ -67,7 +68,8 @@ module _ (op : BinaryOperator) (ds : Operands) (x y : Value) (h : OperandsSuit o
   left_size ScalarAndArray s = length_replicated (size y) (first_word x.words)
   left_size Arrays s = refl
 
-  right_size : (ds : Operands) → (right_array ds ≡ false → length y.words ≡ 1) → W.are_alike ds x y ≡ true → length (W.right_words ds x y) ≡ W.result_size ds x y
+  right_size : (ds : Operands) → (right_array ds ≡ false → length y.words ≡ 1) → W.are_alike ds x y ≡ true
+      → length (W.right_words ds x y) ≡ W.result_size ds x y
   right_size Scalars s a = s refl
   right_size ArrayAndScalar s a = length_replicated (size x) (first_word y.words)
   right_size ScalarAndArray s a = refl
@@ -136,18 +138,22 @@ module _ (op : BinaryOperator) (ds : Operands) (x y : Value) (h : OperandsSuit o
         let vs = W.right_words ds x y in
         suits_bind w d (draw_suits w d both (words_of_operator op n)) (λ _ _.
         suits_bind w d (number_as w d both owed taken x h.left_element tell_left left_in) (λ j _.
-        suits_bind w d (number_as w d (fact j ring x.words ∷ both) owed taken y h.right_element (record { from = λ r k. tell_right.from r k.1 }) right_in) (λ k _.
+        suits_bind w d (number_as w d (fact j ring x.words ∷ both) owed taken y h.right_element (record { from = λ r k. tell_right.from r k.1 }) right_in)
+        (λ k _.
         suits_bind w d
         (in_terms w d (left_stretch ds)
-        (stretched_suits w d (fact k ring y.words ∷ (fact j ring x.words ∷ both)) owed (is_scalar_left ds) n j ring x.words (record { from = λ r k. (k.1.0, tt) }) left_one)) (λ u _.
+        (stretched_suits w d (fact k ring y.words ∷ (fact j ring x.words ∷ both)) owed (is_scalar_left ds) n j ring x.words
+        (record { from = λ r k. (k.1.0, tt) }) left_one)) (λ u _.
         suits_bind w d
         (in_terms w d (right_stretch ds)
-        (stretched_suits w d (fact u ring us ∷ (fact k ring y.words ∷ (fact j ring x.words ∷ both))) owed (is_scalar_right ds) n k ring y.words (record { from = λ r k. (k.1.0, tt) })
+        (stretched_suits w d (fact u ring us ∷ (fact k ring y.words ∷ (fact j ring x.words ∷ both))) owed (is_scalar_right ds) n k ring y.words
+        (record { from = λ r k. (k.1.0, tt) })
         right_one)) (λ v _.
         suits_bind w d
         (operator_suits w d (fact v ring vs ∷ (fact u ring us ∷ (fact k ring y.words ∷ (fact j ring x.words ∷ both)))) n u v us vs (left_size ds h.left_single)
         (right_size ds h.right_single alike) op gates (record { from = λ r k. (k.1.0, (k.0, tt)) }) (left_low ds) (right_low ds)) (λ r _.
-        given_as w d _ (element_made op) (result_shape op ds) (W.result_words op ds x y) r (made_element op ds) (tell_first _ _) result_low (result_small alike)))))))
+        given_as w d _ (element_made op) (result_shape op ds) (W.result_words op ds x y) r (made_element op ds) (tell_first _ _) result_low
+        (result_small alike)))))))
 
 -- ---- a private operand and public words
 
@@ -198,17 +204,20 @@ product_swaps datatype.Bool x y = xor_ring_laws.mul_comm x y
 module _ (w : World) (d : Dealt) (op : BinaryOperator) (ds : Operands) where
   product_suits :
       (fs : List Fact) (scalar : Bool) (x : Value) (known us words : List ℕ) → is_product op ≡ true → Tell fs (facts_of x) → HasRange x
-      → x.shape.element ≡ element_taken op → (scalar ≡ true → length x.words ≡ 1) → stretched_words scalar (length known) x.words ≡ us → length us ≡ length known
+      → x.shape.element ≡ element_taken op → (scalar ≡ true → length x.words ≡ 1) → stretched_words scalar (length known) x.words ≡ us
+      → length us ≡ length known
       → each_two (ring_of (ring_for (element_taken op))).mul us known ≡ words → InRange (element_made op) words → length words < 2 ^ 64
       → Suits w d fs none_of (product_with op ds scalar x known words) none_of facts_of IsProper
   product_suits fs scalar x known us words product t range e single stretch same mean low small =
       let ring = ring_for x.shape.element in
       let made = made_element op ds ∙ product_element op product ∙ sym e in
       suits_bind w d (number_suits w d fs none_of x t range) (λ j _.
-      suits_bind w d (in_terms w d stretch (stretched_suits w d (fact j ring x.words ∷ fs) none_of scalar (length known) j ring x.words (tell_first _ _) single)) (λ u _.
+      suits_bind w d (in_terms w d stretch (stretched_suits w d (fact j ring x.words ∷ fs) none_of scalar (length known) j ring x.words
+      (tell_first _ _) single)) (λ u _.
       suits_bind w d
       (in_terms w d (subst (λ z. each_two (ring_of (ring_for z)).mul us known ≡ words) (sym e) mean)
-      (gate_suits w d (fact u ring us ∷ (fact j ring x.words ∷ fs)) none_of none_of none_of (MulPub ring u known) ring (each_two (ring_of ring).mul us known) (λ m. refl) refl
+      (gate_suits w d (fact u ring us ∷ (fact j ring x.words ∷ fs)) none_of none_of none_of (MulPub ring u known) ring
+      (each_two (ring_of ring).mul us known) (λ m. refl) refl
       (λ r good facts. mulpub_gain r good u ring us facts.0 known same))) (λ r _.
       given_as w d _ x.shape.element (result_shape op ds) words r made (tell_first _ _)
       (subst (λ z. InRange z words) (product_element op product ∙ sym e) low) small)))
@@ -244,7 +253,8 @@ module _ (w : World) (d : Dealt) (op : BinaryOperator) (ds : Operands) (x y : Va
       ∙ two_same (bound (element_taken op)) mul (W.meaning op) us vs (product_meaning op product) (left_low op ds x y h ds) (right_low op ds x y h ds))
       (result_low op ds x y h) (result_small op ds x y h alike)
 
-  combined_suits : (a b : Secrecy) → secrecy_suits op (is_secret a) (is_secret b) → Suits w d all none_of (combined_from a b w op ds x y) none_of facts_of IsProper
+  combined_suits : (a b : Secrecy) → secrecy_suits op (is_secret a) (is_secret b)
+      → Suits w d all none_of (combined_from a b w op ds x y) none_of facts_of IsProper
   combined_suits Plain Plain s =
       shown_suits w d all (result_shape op ds) (W.result_words op ds x y)
       (subst (λ z. InRange z (W.result_words op ds x y)) (sym (made_element op ds)) (result_low op ds x y h)) (result_small op ds x y h alike)

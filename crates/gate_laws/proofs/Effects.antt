@@ -1,5 +1,6 @@
 -- Effects one after another, and those that make no gates.
-use Rattle.std.proofs.Common.{◌≡◌, ℕ, ◌+◌, ◌-◌, List, [], ◌∷◌, ◌++◌, Ok, Err, Bool, true, false, cond, refl, sym, ap, ◌∙◌, subst, arith, append_assoc, append-nil}
+use Rattle.std.proofs.Common.{◌≡◌, ℕ, ◌+◌, ◌-◌, List, [], ◌∷◌, ◌++◌, Ok, Err, Bool, true, false, cond, refl, sym, ap, ◌∙◌, subst, arith, append_assoc}
+use Rattle.std.proofs.Common.{append-nil}
 use Rattle.std.specs.Prelude.{nat_le}
 use Rattle.sc_text.specs.declared.end.Ending.{Ending}
 use Rattle.sc_text.specs.declared.end.Ending.TheVariants.{Budget, Tape}
@@ -16,7 +17,8 @@ use Rattle.shared_gates.specs.Shares.{Kind, Shared, kind_at}
 use Rattle.shared_gates.specs.Model.{miner_of}
 use Rattle.shared_plans.specs.GateRuns.{GateRun, words_drawn}
 use Rattle.shared_plans.proofs.KindedPlans.{shared-grown}
-use Rattle.language_model.specs.Effects.{Words, World, Stage, Ended, Run, Effect, ◌>>=◌, carry, done, end, charge, test, with_more, fits, drawn_yet, take_words, draw, emit}
+use Rattle.language_model.specs.Effects.{Words, World, Stage, Ended, Run, Effect, ◌>>=◌, carry, done, end, charge, test, with_more, fits, drawn_yet}
+use Rattle.language_model.specs.Effects.{take_words, draw, emit}
 use Rattle.gate_laws.specs.Facts.{drawn_by, none_of, Fact, Stands, AllStand, Dealt, run_at, IsAt, Grows, Comes, ComesAt, Suits}
 
 -- ---- facts
@@ -53,7 +55,8 @@ module _ (w : World) (d : Dealt) where
         words = λ values fit. h.words values (FitFrom-append d.inputs values 0 s.gates g.gates (subst (λ gs. FitFrom d.inputs values 0 gs) g.more_gates fit)).0;
       }
 
-  pub all_still : (s u : Stage) (kinds later : List Kind) (fs : List Fact) → Grows w d s u kinds later → AllStand (run_at w d kinds s) fs → AllStand (run_at w d later u) fs
+  pub all_still : (s u : Stage) (kinds later : List Kind) (fs : List Fact) → Grows w d s u kinds later → AllStand (run_at w d kinds s) fs
+      → AllStand (run_at w d later u) fs
   all_still s u kinds later [] g h = tt
   all_still s u kinds later (f ∷ fs) g h = (still_stands s u kinds later f g h.0, all_still s u kinds later fs g h.1)
 
@@ -78,23 +81,36 @@ module _ (w : World) (d : Dealt) where
   suits_bind {A = A} {B = B} {fs = fs} {before = before} {middle = middle} {after = after} {c = c} {f = f} {P = P} {R = R} {F = F} {S = S} h k =
       record { from = λ kinds s at stands. go kinds s stands (c s) (h.from kinds s at stands) }
     where
-      behind : (kinds more : List Kind) (s t : Stage) → Grows w d s t kinds more → (r : Run B) → ComesAt w d t more r after F S → ComesAt w d s kinds r after F S
+      behind : (kinds more : List Kind) (s t : Stage) → Grows w d s t kinds more → (r : Run B) → ComesAt w d t more r after F S
+          → ComesAt w d s kinds r after F S
       behind kinds more s t g (Ok y) n =
           record { later = n.later; grown = grows_then s t y.1 kinds more n.later g n.grown; stage = n.stage; facts = n.facts; sure = n.sure }
       behind kinds more s t g (Err e) n =
           record { later = n.later; grown = grows_then s t e.1 kinds more n.later g n.grown; stage = n.stage; facts = n.facts; sure = n.sure }
 
-      go : (kinds : List Kind) (s : Stage) → AllStand (run_at w d kinds s) fs → (r : Run A) → ComesAt w d s kinds r middle P R → ComesAt w d s kinds (carry r f) after F S
+      go : (kinds : List Kind) (s : Stage) → AllStand (run_at w d kinds s) fs → (r : Run A) → ComesAt w d s kinds r middle P R
+          → ComesAt w d s kinds (carry r f) after F S
       go kinds s stands (Ok x) m =
           behind kinds m.later s x.1 m.grown (f x.0 x.1)
           ((k x.0 m.sure).from m.later x.1 m.stage (both_stand (run_at w d m.later x.1) (P x.0) fs m.facts (all_still s x.1 kinds m.later fs m.grown stands)))
       go kinds s stands (Err e) m = m
 
-  pub suits_done : {A : Type 0} {fs : List Fact} {owed : Miner → ℕ} {a : A} {F : A → List Fact} {R : A → Type 0} → Tell fs (F a) → R a → Suits w d fs owed (done a) owed F R
-  suits_done t sure = record { from = λ kinds s at stands. record { later = kinds; grown = stays s s kinds refl; stage = at; facts = t.from (run_at w d kinds s) stands; sure = sure } }
+  pub suits_done : {A : Type 0} {fs : List Fact} {owed : Miner → ℕ} {a : A} {F : A → List Fact} {R : A → Type 0} → Tell fs (F a) → R a
+      → Suits w d fs owed (done a) owed F R
+  suits_done t sure = record {
+    from = λ kinds s at stands. record {
+      later = kinds;
+      grown = stays s s kinds refl;
+      stage = at;
+      facts = t.from
+          (run_at w d kinds s) stands;
+      sure = sure;
+    };
+  }
 
   -- fewer facts are needed, or more are known
-  pub suits_from : {A : Type 0} {fs gs : List Fact} {before after : Miner → ℕ} {c : Effect A} {F : A → List Fact} {R : A → Type 0} → Tell fs gs → Suits w d gs before c after F R
+  pub suits_from : {A : Type 0} {fs gs : List Fact} {before after : Miner → ℕ} {c : Effect A} {F : A → List Fact} {R : A → Type 0} → Tell fs gs
+      → Suits w d gs before c after F R
       → Suits w d fs before c after F R
   suits_from t h = record { from = λ kinds s at stands. h.from kinds s at (t.from (run_at w d kinds s) stands) }
 
@@ -102,7 +118,8 @@ module _ (w : World) (d : Dealt) where
   pub suits_with :
       {A : Type 0} {fs : List Fact} {before after : Miner → ℕ} {c : Effect A} {F G : A → List Fact} {R S : A → Type 0} → Suits w d fs before c after F R
       → ((a : A) → R a → Tell (F a) (G a)) → ((a : A) → R a → S a) → Suits w d fs before c after G S
-  suits_with {A = A} {after = after} {c = c} {F = F} {G = G} {R = R} {S = S} h t k = record { from = λ kinds s at stands. go kinds s (c s) (h.from kinds s at stands) }
+  suits_with {A = A} {after = after} {c = c} {F = F} {G = G} {R = R} {S = S} h t k = record
+      { from = λ kinds s at stands. go kinds s (c s) (h.from kinds s at stands) }
     where
       go : (kinds : List Kind) (s : Stage) → (r : Run A) → ComesAt w d s kinds r after F R → ComesAt w d s kinds r after G S
       go kinds s (Ok x) m =
@@ -125,7 +142,8 @@ module _ (w : World) (d : Dealt) where
             }) stands;
       }
 
-  pub suits_end : {A : Type 0} {fs : List Fact} {after : Miner → ℕ} {F : A → List Fact} {R : A → Type 0} (e : Ending) → Suits w d fs none_of (end {A = A} e) after F R
+  pub suits_end : {A : Type 0} {fs : List Fact} {after : Miner → ℕ} {F : A → List Fact} {R : A → Type 0} (e : Ending)
+      → Suits w d fs none_of (end {A = A} e) after F R
   suits_end e = record { from = λ kinds s at stands. record { later = kinds; grown = stays s s kinds refl; stage = at; facts = tt; sure = tt } }
 
   -- ---- what makes no gate
@@ -137,14 +155,19 @@ module _ (w : World) (d : Dealt) where
   charge_suits fs n = record { from = λ kinds s at stands. go kinds s at (nat_le n s.left) }
     where
       go : (kinds : List Kind) (s : Stage) → IsAt w d kinds none_of s → (b : Bool)
-          → ComesAt w d s kinds (cond b (Ok (tt {0}, record s { left = s.left - n })) (Err (Ended Budget, s))) none_of (NoFacts {A = Unit {0}}) (Any {A = Unit {0}})
+          → ComesAt w d s kinds (cond b (Ok (tt {0}, record s { left = s.left - n })) (Err (Ended Budget, s))) none_of (NoFacts {A = Unit {0}})
+          (Any {A = Unit {0}})
       go kinds s at true =
           same_stage s (record s { left = s.left - n }) kinds none_of refl
           (record { formed = at.formed; made = at.made; drawn = at.drawn; answers = at.answers; opened = at.opened })
       go kinds s at false = same_stage s s kinds none_of refl at
 
-  pub test_suits : (fs : List Fact) (b : Bool) (kind : TrapKind) (line : ℕ) → Suits w d fs none_of (test b kind line) none_of (NoFacts {A = Unit {0}}) (λ u. b ≡ true)
-  test_suits fs true kind line = record { from = λ kinds s at stands. record { later = kinds; grown = stays s s kinds refl; stage = at; facts = tt; sure = refl } }
+  pub test_suits : (fs : List Fact) (b : Bool) (kind : TrapKind) (line : ℕ) → Suits w d fs none_of (test b kind line) none_of (NoFacts {A = Unit {0}})
+      (λ u. b ≡ true)
+  test_suits fs true kind line = record {
+    from = λ kinds s at stands. record
+        { later = kinds; grown = stays s s kinds refl; stage = at; facts = tt; sure = refl };
+  }
   test_suits fs false kind line = record { from = λ kinds s at stands. same_stage s s kinds none_of refl at }
 
   pub emit_suits : (fs : List Fact) (owed : Miner → ℕ) (e : Event) → Suits w d fs owed (emit e) owed (NoFacts {A = Unit {0}}) (Any {A = Unit {0}})
@@ -172,7 +195,8 @@ module _ (w : World) (d : Dealt) where
           go kinds s at true = same_stage s s kinds none_of refl at
           go kinds s at false = same_stage s s kinds none_of refl at
 
-      more : (a : Words) (i : Number) (k : ℕ) → drawn_by a (miner_of i) ≡ k + none_of (miner_of i) → drawn_by (with_more a n) (miner_of i) ≡ k + drawn_by n (miner_of i)
+      more : (a : Words) (i : Number) (k : ℕ) → drawn_by a (miner_of i) ≡ k + none_of (miner_of i)
+          → drawn_by (with_more a n) (miner_of i) ≡ k + drawn_by n (miner_of i)
       more a One k e = omega (arith, e)
       more a Two k e = omega (arith, e)
       more a Three k e = omega (arith, e)

@@ -26,7 +26,8 @@ made_split (g ∷ xs) ys = let h = made_split xs ys in omega arith
 pub opened_split : (values : Values) (xs ys : List Gate) → opened_values values (xs ++ ys) ≡ opened_values values xs ++ opened_values values ys
 opened_split values [] ys = refl
 opened_split values (g ∷ xs) ys =
-    ap (λ z. opened_by_gate values g ++ z) (opened_split values xs ys) ∙ sym (append_assoc (opened_by_gate values g) (opened_values values xs) (opened_values values ys))
+    ap (λ z. opened_by_gate values g ++ z) (opened_split values xs ys) ∙ sym
+    (append_assoc (opened_by_gate values g) (opened_values values xs) (opened_values values ys))
 
 none_opened : (values : Values) (gs : List Gate) → OpensNone gs → opened_values values gs ≡ []
 none_opened values [] none = refl
@@ -37,7 +38,8 @@ none_opened values (g ∷ gs) none = none_opened values gs none
 pub record Gain (r : GateRun) (gs : List Gate) (own : List Kind) (taken : Miner → ℕ) (j : ℕ) (ring : RingKind) (ws : List ℕ) : Type 0 where
   pub follows : Follows r gs own taken
   pub kind : kind_at own j ≡ Shared ring
-  pub makes : (values : Values) → FitFrom r.inputs values 0 r.gates → FitFrom r.inputs values (value_count r) gs → slice_get values (value_count r + j) ≡ Some ws
+  pub makes : (values : Values) → FitFrom r.inputs values 0 r.gates → FitFrom r.inputs values (value_count r) gs
+      → slice_get values (value_count r + j) ≡ Some ws
 
 abbrev pub fact : ℕ → RingKind → List ℕ → Fact
 fact k ring ws = record { number = k; ring = ring; words = ws }

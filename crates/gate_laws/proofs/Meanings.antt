@@ -138,7 +138,8 @@ conversion_bits = of_bit (λ x. x % 2 ≡ x) refl refl
 -- ---- what is made is in range
 
 pub xor_low : (x y : ℕ) → x < 2 → y < 2 → xor_ring.add x y < 2
-xor_low x y h k = of_bit (λ x. xor_ring.add x y < 2) (of_bit (λ y. xor_ring.add 0 y < 2) (omega arith) (omega arith) y k) (of_bit (λ y. xor_ring.add 1 y < 2) (omega arith) (omega arith) y k) x h
+xor_low x y h k = of_bit (λ x. xor_ring.add x y < 2) (of_bit (λ y. xor_ring.add 0 y < 2) (omega arith) (omega arith) y k)
+    (of_bit (λ y. xor_ring.add 1 y < 2) (omega arith) (omega arith) y k) x h
 
 bits_low : (f : ℕ → ℕ → ℕ) → f 0 0 < 2 → f 0 1 < 2 → f 1 0 < 2 → f 1 1 < 2 → (x y : ℕ) → x < 2 → y < 2 → f x y < 2
 bits_low f a b c e x y h k = of_bit (λ x. f x y < 2) (of_bit (λ y. f 0 y < 2) a b y k) (of_bit (λ y. f 1 y < 2) c e y k) x h
@@ -173,6 +174,8 @@ truth_range truth.And x y h k = bits_low bit_and (omega arith) (omega arith) (om
 truth_range truth.Or x y h k = bits_low bit_or (omega arith) (omega arith) (omega arith) (omega arith) x y h k
 truth_range truth.Xor x y h k = bits_low bit_xor (omega arith) (omega arith) (omega arith) (omega arith) x y h k
 
-pub operator_range : (op : BinaryOperator) (us vs : List ℕ) → Below (bound (element_taken op)) us → Below (bound (element_taken op)) vs → Below (bound (element_made op)) (each_two (meaning op) us vs)
-operator_range (Words op) us vs p q = two_below (2 ^ 64) (bound (element_made (Words op))) (word_meaning op) us vs (some_bound (element_made (Words op))) (word_range op) p q
+pub operator_range : (op : BinaryOperator) (us vs : List ℕ) → Below (bound (element_taken op)) us → Below (bound (element_taken op)) vs
+    → Below (bound (element_made op)) (each_two (meaning op) us vs)
+operator_range (Words op) us vs p q = two_below (2 ^ 64) (bound (element_made (Words op))) (word_meaning op) us vs (some_bound (element_made (Words op)))
+    (word_range op) p q
 operator_range (Bools op) us vs p q = two_below 2 2 (truth_meaning op) us vs (omega arith) (truth_range op) p q

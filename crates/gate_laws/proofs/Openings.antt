@@ -1,5 +1,6 @@
 -- An opening: behind it all know the words.
-use Rattle.std.proofs.Common.{◌≡◌, ℕ, ◌+◌, ◌<◌, ◌≤◌, ◌^◌, ◌%◌, List, [], ◌∷◌, ◌++◌, length, map, take, drop, Ok, Err, Bool, true, false, cond, refl, sym, ap, ◌∙◌, subst, arith, append-nil, length-append}
+use Rattle.std.proofs.Common.{◌≡◌, ℕ, ◌+◌, ◌<◌, ◌≤◌, ◌^◌, ◌%◌, List, [], ◌∷◌, ◌++◌, length, map, take, drop, Ok, Err, Bool, true, false, cond, refl, sym}
+use Rattle.std.proofs.Common.{ap, ◌∙◌, subst, arith, append-nil, length-append}
 use Rattle.std.specs.Prelude.{nat_le}
 use Rattle.std.proofs.lemmas.List.{length-map, get_or_append_left}
 use Rattle.std.proofs.lemmas.Nat.{mod_below}
@@ -139,7 +140,8 @@ module _ (w : World) (d : Dealt) (v : Value) (p : IsProper v) (u : ℕ) where
     drawn_all i = let e = opening_words run at.formed u ring v.words h i in omega (arith, at.drawn i)
 
     -- in the clear
-    clear_told : w.source ≡ Clear → Comes w d s (told (read_answer element v.words) (behind s)) kinds none_of [] (IsProper (plain v.shape (read_answer element v.words)))
+    clear_told : w.source ≡ Clear → Comes w d s (told (read_answer element v.words) (behind s)) kinds none_of []
+        (IsProper (plain v.shape (read_answer element v.words)))
     clear_told clear =
         record {
           later = kinds ++ Known ∷ [];
@@ -152,7 +154,8 @@ module _ (w : World) (d : Dealt) (v : Value) (p : IsProper v) (u : ℕ) where
             opened = λ c values fit.
                 let before = (FitFrom-append d.inputs values 0 s.gates (Open ring u ∷ []) fit).0 in
                 ap (λ z. z ++ read_answer element v.words) (at.opened c values before)
-                ∙ ap (λ z. opened_values values s.gates ++ z) (read_same element v.words p.range ∙ sym (h.words values before) ∙ sym (append-nil (value values u)))
+                ∙ ap (λ z. opened_values values s.gates ++ z) (read_same element v.words p.range ∙ sym (h.words values before)
+                ∙ sym (append-nil (value values u)))
                 ∙ sym (opened_split values s.gates (Open ring u ∷ []));
           };
           facts = tt;
@@ -164,7 +167,8 @@ module _ (w : World) (d : Dealt) (v : Value) (p : IsProper v) (u : ℕ) where
 
     -- by answers: the next ones, or there are too few
     answers_told : w.source ≡ Answers → (b : Bool)
-        → ComesAt w d s kinds (carry (cond b (Ok (take (size v) s.answers, record (behind s) { answers = drop (size v) s.answers })) (Err (Short, behind s))) telling) none_of facts_of IsProper
+        → ComesAt w d s kinds (carry (cond b (Ok (take (size v) s.answers, record (behind s) { answers = drop (size v) s.answers }))
+        (Err (Short, behind s))) telling) none_of facts_of IsProper
     answers_told source true =
         let words = take (size v) s.answers in
         record {
@@ -202,7 +206,8 @@ module _ (w : World) (d : Dealt) (v : Value) (p : IsProper v) (u : ℕ) where
     revealed_comes Clear e = clear_told e
     revealed_comes Answers e = answers_told e (nat_le (size v) (length s.answers))
 
-  pub opening_suits : (fs : List Fact) → Tell fs (fact u ring v.words ∷ []) → Suits w d fs (λ m. size v) (gate (Open ring u) >>= λ _. revealed w v) none_of facts_of IsProper
+  pub opening_suits : (fs : List Fact) → Tell fs (fact u ring v.words ∷ [])
+      → Suits w d fs (λ m. size v) (gate (Open ring u) >>= λ _. revealed w v) none_of facts_of IsProper
   opening_suits fs t = record { from = λ kinds s at facts. revealed_comes kinds s at (t.from (run_at w d kinds s) facts).0 w.source refl }
 
 module _ (w : World) (d : Dealt) (v : Value) (p : IsProper v) where

@@ -33,7 +33,8 @@ use Rattle.gate_laws.proofs.Singles.{add_gain, sub_gain, mul_gain, xor_gain, and
 use Rattle.gate_laws.proofs.Plans.{zero_gain, less_gain}
 use Rattle.gate_laws.proofs.Parts.{tell_first, const_suits}
 use Rattle.gate_laws.proofs.Ranges.{Below, two_same, two_lengths, two_below, replicate_below, length_replicated, below_more, truth_below}
-use Rattle.gate_laws.proofs.Meanings.{map_two, two_of_two, two_ext, two_swapped, equal_word, less_word, flipped_truth, at_most_word, flips, xor_bits, and_bits, or_bits}
+use Rattle.gate_laws.proofs.Meanings.{map_two, two_of_two, two_ext, two_swapped, equal_word, less_word, flipped_truth, at_most_word, flips, xor_bits}
+use Rattle.gate_laws.proofs.Meanings.{and_bits, or_bits}
 use Rattle.gate_laws.proofs.Meanings.{differ_bits, equal_bits, xor_low}
 
 false_true : false ≡ true → ⊥
@@ -63,7 +64,8 @@ order_words n Miner3 = refl
 
 module _ (w : World) (d : Dealt) where
   -- the same words in other terms
-  pub in_terms : {fs : List Fact} {before after : Miner → ℕ} {c : Effect ℕ} {ring : RingKind} {xs ys : List ℕ} → xs ≡ ys → Suits w d fs before c after (Numbered ring xs) (Any {A = ℕ})
+  pub in_terms : {fs : List Fact} {before after : Miner → ℕ} {c : Effect ℕ} {ring : RingKind} {xs ys : List ℕ} → xs ≡ ys
+      → Suits w d fs before c after (Numbered ring xs) (Any {A = ℕ})
       → Suits w d fs before c after (Numbered ring ys) (Any {A = ℕ})
   in_terms {fs = fs} {before = before} {after = after} {c = c} {ring = ring} e h = subst (λ z. Suits w d fs before c after (Numbered ring z) (Any {A = ℕ})) e h
 
@@ -83,26 +85,32 @@ module _ (w : World) (d : Dealt) where
     -- ---- numbers
 
     module _ (t : Both fs u v Arithmetic us vs) (p : Below (2 ^ 64) us) (q : Below (2 ^ 64) vs) where
-      equal_suits : Suits w d fs (drawn_by (words_for_equality n)) (equal_gates u v) none_of (Numbered Boolean (each_two (word_meaning word.Equal) us vs)) (Any {A = ℕ})
+      equal_suits : Suits w d fs (drawn_by (words_for_equality n)) (equal_gates u v) none_of (Numbered Boolean (each_two (word_meaning word.Equal) us vs))
+          (Any {A = ℕ})
       equal_suits =
           let ds = each_two add_ring.sub us vs in
           let size : length ds ≡ n = two_lengths add_ring.sub us vs same ∙ left in
           suits_bind w d
-          (gate_suits w d fs (drawn_by (words_for_equality n)) (λ m. 0 * length us) (drawn_by (words_for_equality n)) (gates.Sub u v) Arithmetic ds (λ m. omega arith) refl
+          (gate_suits w d fs (drawn_by (words_for_equality n)) (λ m. 0 * length us) (drawn_by (words_for_equality n)) (gates.Sub u v) Arithmetic ds
+          (λ m. omega arith) refl
           (λ r good facts. sub_gain r good u v us vs same (t.from r facts).0 (t.from r facts).1.0)) (λ k _.
-          in_terms (map_two zero_test add_ring.sub us vs ∙ two_same (2 ^ 64) (λ x y. zero_test (add_ring.sub x y)) (word_meaning word.Equal) us vs equal_word p q)
-          (planned_suits w d (fact k Arithmetic ds ∷ fs) (drawn_by (words_for_equality n)) (λ m. equality.words_taken m (length ds)) none_of (λ first. eq_plan first k) zero_test_kinds
+          in_terms (map_two zero_test add_ring.sub us vs ∙ two_same (2 ^ 64) (λ x y. zero_test (add_ring.sub x y))
+          (word_meaning word.Equal) us vs equal_word p q)
+          (planned_suits w d (fact k Arithmetic ds ∷ fs) (drawn_by (words_for_equality n)) (λ m. equality.words_taken m (length ds)) none_of
+          (λ first. eq_plan first k) zero_test_kinds
           16 Boolean (map zero_test ds) (λ m. let e = equality_words n m ∙ ap (equality.words_taken m) (sym size) in omega (arith, e)) (λ first. refl)
           (λ r good facts. zero_gain r good k ds facts.0)))
 
-      less_suits : Suits w d fs (drawn_by (words_for_order n)) (less_gates n u v) none_of (Numbered Boolean (each_two (word_meaning word.Less) us vs)) (Any {A = ℕ})
+      less_suits : Suits w d fs (drawn_by (words_for_order n)) (less_gates n u v) none_of (Numbered Boolean (each_two (word_meaning word.Less) us vs))
+          (Any {A = ℕ})
       less_suits =
           in_terms (two_ext less_test (word_meaning word.Less) us vs less_word)
           (planned_suits w d fs (drawn_by (words_for_order n)) (λ m. compare.words_taken m n) none_of (λ first. less_plan first u v n) comparison_kinds
           109 Boolean (each_two less_test us vs) (λ m. let e = order_words n m in omega (arith, e)) (λ first. refl)
           (λ r good facts. less_gain r good n u v us vs (t.from r facts).0 (t.from r facts).1.0 left right))
 
-      greater_suits : Suits w d fs (drawn_by (words_for_order n)) (less_gates n v u) none_of (Numbered Boolean (each_two (word_meaning word.Greater) us vs)) (Any {A = ℕ})
+      greater_suits : Suits w d fs (drawn_by (words_for_order n)) (less_gates n v u) none_of
+          (Numbered Boolean (each_two (word_meaning word.Greater) us vs)) (Any {A = ℕ})
       greater_suits =
           in_terms (two_ext less_test (word_meaning word.Less) vs us less_word ∙ two_swapped (word_meaning word.Less) us vs)
           (planned_suits w d fs (drawn_by (words_for_order n)) (λ m. compare.words_taken m n) none_of (λ first. less_plan first v u n) comparison_kinds
@@ -111,15 +119,18 @@ module _ (w : World) (d : Dealt) where
 
       -- turned behind
       turned_suits : (before : Miner → ℕ) (c : Effect ℕ) (f g : ℕ → ℕ → ℕ) → Suits w d fs before c none_of (Numbered Boolean (each_two f us vs)) (Any {A = ℕ})
-          → ((x y : ℕ) → f x y < 2) → ((x y : ℕ) → flipped (f x y) ≡ g x y) → Suits w d fs before (c >>= flip n) none_of (Numbered Boolean (each_two g us vs)) (Any {A = ℕ})
+          → ((x y : ℕ) → f x y < 2) → ((x y : ℕ) → flipped (f x y) ≡ g x y)
+          → Suits w d fs before (c >>= flip n) none_of (Numbered Boolean (each_two g us vs)) (Any {A = ℕ})
       turned_suits before c f g h low e =
           suits_bind w d h (λ k _.
           in_terms (map_two flipped f us vs ∙ two_ext (λ x y. flipped (f x y)) g us vs e)
-          (flip_suits (fact k Boolean (each_two f us vs) ∷ fs) none_of n k (each_two f us vs) (tell_first (fact k Boolean (each_two f us vs)) fs) (two_lengths f us vs same ∙ left)
+          (flip_suits (fact k Boolean (each_two f us vs) ∷ fs) none_of n k (each_two f us vs) (tell_first (fact k Boolean (each_two f us vs)) fs)
+          (two_lengths f us vs same ∙ left)
           (two_below (2 ^ 64) 2 f us vs (omega arith) (λ x y a b. low x y) p q)))
 
       word_suits : (op : WordOperator) → has_gates (Words op) ≡ true
-          → Suits w d fs (drawn_by (words_of_word_operator op n)) (word_gates op n u v) none_of (Numbered (ring_for (element_made (Words op))) (each_two (word_meaning op) us vs)) (Any {A = ℕ})
+          → Suits w d fs (drawn_by (words_of_word_operator op n)) (word_gates op n u v) none_of
+          (Numbered (ring_for (element_made (Words op))) (each_two (word_meaning op) us vs)) (Any {A = ℕ})
       word_suits word.Add h =
           gate_suits w d fs (drawn_by (words_each 0)) (λ m. 0 * length us) none_of (gates.Add u v) Arithmetic (each_two add_ring.add us vs)
           (λ m. let e = same_each 0 m in omega (arith, e)) refl (λ r good facts. add_gain r good u v us vs same (t.from r facts).0 (t.from r facts).1.0)
@@ -128,7 +139,8 @@ module _ (w : World) (d : Dealt) where
           (λ m. let e = same_each 0 m in omega (arith, e)) refl (λ r good facts. sub_gain r good u v us vs same (t.from r facts).0 (t.from r facts).1.0)
       word_suits word.Multiply h =
           gate_suits w d fs (drawn_by (words_each (3 * n))) (λ m. 3 * length us) none_of (gates.Mul u v) Arithmetic (each_two add_ring.mul us vs)
-          (λ m. let e = same_each (3 * n) m in omega (arith, e, left)) refl (λ r good facts. mul_gain r good u v us vs same (t.from r facts).0 (t.from r facts).1.0)
+          (λ m. let e = same_each (3 * n) m in omega (arith, e, left)) refl
+          (λ r good facts. mul_gain r good u v us vs same (t.from r facts).0 (t.from r facts).1.0)
       word_suits word.Equal h = equal_suits
       word_suits word.NotEqual h =
           turned_suits (drawn_by (words_for_equality n)) (equal_gates u v) (word_meaning word.Equal) (word_meaning word.NotEqual) equal_suits
@@ -159,7 +171,8 @@ module _ (w : World) (d : Dealt) where
       and_suits : Suits w d fs (drawn_by (words_each (3 * n))) (gate (gates.And u v)) none_of (Numbered Boolean (each_two xor_ring.mul us vs)) (Any {A = ℕ})
       and_suits =
           gate_suits w d fs (drawn_by (words_each (3 * n))) (λ m. 3 * length us) none_of (gates.And u v) Boolean (each_two xor_ring.mul us vs)
-          (λ m. let e = same_each (3 * n) m in omega (arith, e, left)) refl (λ r good facts. and_gain r good u v us vs same (t.from r facts).0 (t.from r facts).1.0)
+          (λ m. let e = same_each (3 * n) m in omega (arith, e, left)) refl
+          (λ r good facts. and_gain r good u v us vs same (t.from r facts).0 (t.from r facts).1.0)
 
       -- one of them is true, or both are
       or_suits : Suits w d fs (drawn_by (words_each (3 * n))) (or_gates u v) none_of (Numbered Boolean (each_two (truth_meaning truth.Or) us vs)) (Any {A = ℕ})
@@ -170,16 +183,20 @@ module _ (w : World) (d : Dealt) where
           suits_bind w d (xor_suits (fact both Boolean both_words ∷ fs) none_of none_of (record { from = λ r facts. t.from r facts.1 }) (λ m. refl)) (λ one _.
           in_terms (two_of_two xor_ring.add xor_ring.add xor_ring.mul us vs
           ∙ two_same 2 (λ x y. xor_ring.add (xor_ring.add x y) (xor_ring.mul x y)) (truth_meaning truth.Or) us vs or_bits p q)
-          (gate_suits w d (fact one Boolean one_words ∷ (fact both Boolean both_words ∷ fs)) none_of (λ m. 0 * length one_words) none_of (gates.Xor one both) Boolean
+          (gate_suits w d (fact one Boolean one_words ∷ (fact both Boolean both_words ∷ fs)) none_of (λ m. 0 * length one_words) none_of
+          (gates.Xor one both) Boolean
           (each_two xor_ring.add one_words both_words) (λ m. omega arith) refl
-          (λ r good facts. xor_gain r good one both one_words both_words (two_lengths xor_ring.add us vs same ∙ sym (two_lengths xor_ring.mul us vs same)) facts.0 facts.1.0))))
+          (λ r good facts. xor_gain r good one both one_words both_words (two_lengths xor_ring.add us vs same ∙ sym (two_lengths xor_ring.mul us vs same))
+          facts.0 facts.1.0))))
 
       none_each : (m : Miner) → drawn_by (words_each 0) m ≡ none_of m
       none_each m = same_each 0 m
 
       bool_suits : (op : BoolOperator)
-          → Suits w d fs (drawn_by (words_of_bool_operator op n)) (bool_gates op n u v) none_of (Numbered Boolean (each_two (truth_meaning op) us vs)) (Any {A = ℕ})
-      bool_suits truth.Xor = in_terms (two_same 2 xor_ring.add (truth_meaning truth.Xor) us vs xor_bits p q) (xor_suits fs (drawn_by (words_each 0)) none_of t none_each)
+          → Suits w d fs (drawn_by (words_of_bool_operator op n)) (bool_gates op n u v) none_of (Numbered Boolean (each_two (truth_meaning op) us vs))
+          (Any {A = ℕ})
+      bool_suits truth.Xor = in_terms (two_same 2 xor_ring.add (truth_meaning truth.Xor) us vs xor_bits p q)
+          (xor_suits fs (drawn_by (words_each 0)) none_of t none_each)
       bool_suits truth.NotEqual =
           in_terms (two_same 2 xor_ring.add (truth_meaning truth.NotEqual) us vs differ_bits p q) (xor_suits fs (drawn_by (words_each 0)) none_of t none_each)
       bool_suits truth.And = in_terms (two_same 2 xor_ring.mul (truth_meaning truth.And) us vs and_bits p q) and_suits
@@ -193,7 +210,9 @@ module _ (w : World) (d : Dealt) where
 
     -- ---- all of them
 
-    pub operator_suits : (op : BinaryOperator) → has_gates op ≡ true → Both fs u v (ring_for (element_taken op)) us vs → InRange (element_taken op) us → InRange (element_taken op) vs
-        → Suits w d fs (drawn_by (words_of_operator op n)) (operator_gates op n u v) none_of (Numbered (ring_for (element_made op)) (each_two (meaning op) us vs)) (Any {A = ℕ})
+    pub operator_suits : (op : BinaryOperator) → has_gates op ≡ true → Both fs u v (ring_for (element_taken op)) us vs → InRange (element_taken op) us
+        → InRange (element_taken op) vs
+        → Suits w d fs (drawn_by (words_of_operator op n)) (operator_gates op n u v) none_of
+        (Numbered (ring_for (element_made op)) (each_two (meaning op) us vs)) (Any {A = ℕ})
     operator_suits (Words op) h t p q = word_suits t p q op h
     operator_suits (Bools op) h t p q = bool_suits t p q op

@@ -50,7 +50,8 @@ module _ (w : World) (d : Dealt) where
 
   module _ (fs : List Fact) (owed : Miner → ℕ) where
     -- a constant, however it is shared
-    pub const_suits : (ring : RingKind) (words : List ℕ) → AreWords words → Suits w d fs owed (gate (Const words)) owed (λ k. fact k ring words ∷ []) (Any {A = ℕ})
+    pub const_suits : (ring : RingKind) (words : List ℕ) → AreWords words → Suits w d fs owed (gate (Const words)) owed (λ k. fact k ring words ∷ [])
+        (Any {A = ℕ})
     const_suits ring words ok =
         gate_suits w d fs owed none_of owed (Const words) ring words (λ m. omega arith) refl (λ r good facts. const_gain r good ring words ok)
 
@@ -78,11 +79,13 @@ module _ (w : World) (d : Dealt) where
     stretched_suits false n u ring us t single = suits_done w d t tt
 
   -- the value of a number
-  pub given_suits : (fs : List Fact) (shape : Shape) (words : List ℕ) (k : ℕ) → Tell fs (fact k (ring_for shape.element) words ∷ []) → InRange shape.element words
+  pub given_suits : (fs : List Fact) (shape : Shape) (words : List ℕ) (k : ℕ) → Tell fs (fact k (ring_for shape.element) words ∷ [])
+      → InRange shape.element words
       → length words < 2 ^ 64 → Suits w d fs none_of (made_private shape words k) none_of facts_of IsProper
   given_suits fs shape words k t range small = suits_done w d t (record { range = range; small = small })
 
-  pub given_as : (fs : List Fact) (e : DataType) (shape : Shape) (words : List ℕ) (k : ℕ) → shape.element ≡ e → Tell fs (fact k (ring_for e) words ∷ []) → InRange e words
+  pub given_as : (fs : List Fact) (e : DataType) (shape : Shape) (words : List ℕ) (k : ℕ) → shape.element ≡ e → Tell fs (fact k (ring_for e) words ∷ [])
+      → InRange e words
       → length words < 2 ^ 64 → Suits w d fs none_of (made_private shape words k) none_of facts_of IsProper
   given_as fs e shape words k same t range small =
       given_suits fs shape words k (subst (λ z. Tell fs (fact k (ring_for z) words ∷ [])) (sym same) t) (subst (λ z. InRange z words) (sym same) range) small
@@ -104,7 +107,8 @@ module _ (w : World) (d : Dealt) where
       let fs = facts_of v in
       suits_bind w d (plain_charge fs (size v)) (λ _ _.
       suits_bind w d (const_suits fs none_of (ring_for v.shape.element) v.words (range_words v.shape.element v.words proper.range)) (λ k _.
-      given_suits (fact k (ring_for v.shape.element) v.words ∷ fs) v.shape v.words k (tell_first (fact k (ring_for v.shape.element) v.words) fs) proper.range proper.small))
+      given_suits (fact k (ring_for v.shape.element) v.words ∷ fs) v.shape v.words k (tell_first (fact k (ring_for v.shape.element) v.words) fs)
+      proper.range proper.small))
 
   pub classified_suits : (v : Value) → IsProper v → Suits w d (facts_of v) none_of (classified v) none_of facts_of IsProper
   classified_suits v proper = classified_from_suits v.secrecy v proper

@@ -42,7 +42,8 @@ module _ (r : GateRun) (good : IsWellFormed r) where
         follows = bits-follow r good (length us) u (is_number u us h);
         kind = refl;
         makes = λ values before fit.
-            bits_laws.gives_bits (value_count r) u (length us) r.inputs values (ap length (h.words values before)) fit ∙ ap (λ z. Some z) (h.words values before);
+            bits_laws.gives_bits (value_count r) u (length us) r.inputs values (ap length (h.words values before)) fit
+            ∙ ap (λ z. Some z) (h.words values before);
       }
 
   pub less_gain : (n u v : ℕ) (us vs : List ℕ) → Stands r (fact u Arithmetic us) → Stands r (fact v Arithmetic vs) → length us ≡ n → length vs ≡ n
@@ -51,7 +52,8 @@ module _ (r : GateRun) (good : IsWellFormed r) where
   less_gain n u v us vs h k e f =
       record {
         follows = comparison-follows r good n u v
-            (record { kind = h.kind; size = stands_size r good u Arithmetic us h ∙ e }) (record { kind = k.kind; size = stands_size r good v Arithmetic vs k ∙ f });
+            (record { kind = h.kind; size = stands_size r good u Arithmetic us h ∙ e })
+            (record { kind = k.kind; size = stands_size r good v Arithmetic vs k ∙ f });
         kind = refl;
         makes = λ values before fit.
             compare_laws.tells_less (value_count r) u v n r.inputs values (ap length (h.words values before) ∙ e) (ap length (k.words values before) ∙ f) fit

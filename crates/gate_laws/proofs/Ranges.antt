@@ -22,14 +22,16 @@ below_cons b x xs h t (suc k) = t k
 pub below_none : (b : ℕ) → 0 < b → Below b []
 below_none b h = λ k. h
 
-pub two_below : (a b : ℕ) (f : ℕ → ℕ → ℕ) (xs ys : List ℕ) → 0 < b → ((x y : ℕ) → x < a → y < a → f x y < b) → Below a xs → Below a ys → Below b (each_two f xs ys)
+pub two_below : (a b : ℕ) (f : ℕ → ℕ → ℕ) (xs ys : List ℕ) → 0 < b → ((x y : ℕ) → x < a → y < a → f x y < b) → Below a xs → Below a ys
+    → Below b (each_two f xs ys)
 two_below a b f [] ys some h p q = below_none b some
 two_below a b f (x ∷ xs) [] some h p q = below_none b some
 two_below a b f (x ∷ xs) (y ∷ ys) some h p q =
     below_cons b (f x y) (each_two f xs ys) (h x y (below_head a x xs p) (below_head a y ys q))
     (two_below a b f xs ys some h (below_tail a x xs p) (below_tail a y ys q))
 
-pub two_same : (a : ℕ) (f g : ℕ → ℕ → ℕ) (xs ys : List ℕ) → ((x y : ℕ) → x < a → y < a → f x y ≡ g x y) → Below a xs → Below a ys → each_two f xs ys ≡ each_two g xs ys
+pub two_same : (a : ℕ) (f g : ℕ → ℕ → ℕ) (xs ys : List ℕ) → ((x y : ℕ) → x < a → y < a → f x y ≡ g x y) → Below a xs → Below a ys
+    → each_two f xs ys ≡ each_two g xs ys
 two_same a f g [] ys h p q = refl
 two_same a f g (x ∷ xs) [] h p q = refl
 two_same a f g (x ∷ xs) (y ∷ ys) h p q =

@@ -169,4 +169,5 @@ is_dealing = record { held = held; sized = sized }
 -- so its gates suit, in the clear and by answers
 sample : (source : Source) (budget : ℕ) → GatesSuit (world source) dealt (mean_in (world source) code budget (10 ∷ []))
 unfolding code
-sample source budget = make_suited_gates (world source) dealt code budget (10 ∷ []) (may_run source) is_dealing main_function refl (one_below (2 ^ 64) 10 (omega arith))
+sample source budget = make_suited_gates (world source) dealt code budget (10 ∷ []) (may_run source) is_dealing main_function refl
+    (one_below (2 ^ 64) 10 (omega arith))

@@ -88,7 +88,8 @@ module _ (r : GateRun) (good : IsWellFormed r) where
     stays_shared : (own : RingKind) → kind_at (with_one own) u ≡ Shared ring
     stays_shared own = shared-grown r.kinds (Shared own ∷ []) u ring h.kind
 
-    operand_size : (values : Values) → ((k : ℕ) → k < value_count r → length (value values k) ≡ size_of (value_sizes r) k) → size_of (map length values) u ≡ length us
+    operand_size : (values : Values) → ((k : ℕ) → k < value_count r → length (value values k) ≡ size_of (value_sizes r) k)
+        → size_of (map length values) u ≡ length us
     operand_size values same = size_of-value values u ∙ same u (stands_below u ring us h) ∙ stands_size u ring us h
 
     pub rep_gain : (n : ℕ) → length us ≡ 1 → Gain r (gates.Rep u n ∷ []) (Shared ring ∷ []) none_of 0 ring (replicate n (first_word us))

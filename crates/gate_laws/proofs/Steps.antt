@@ -1,5 +1,6 @@
 -- Steps of code keep a machine standing.
-use Rattle.std.proofs.Common.{◌≡◌, ℕ, zero, suc, ◌+◌, List, [], ◌∷◌, ◌++◌, length, Option, Some, None, Ok, Err, Bool, true, false, refl, sym, ap, ◌∙◌, subst, arith}
+use Rattle.std.proofs.Common.{◌≡◌, ℕ, zero, suc, ◌+◌, List, [], ◌∷◌, ◌++◌, length, Option, Some, None, Ok, Err, Bool, true, false, refl, sym, ap, ◌∙◌}
+use Rattle.std.proofs.Common.{subst, arith}
 use Rattle.std.specs.Prelude.{slice_get, map, sum, nat_lt}
 use Rattle.sc_text.specs.declared.end.Ending.{Ending}
 use Rattle.sc_text.specs.declared.end.Ending.TheVariants as ending
@@ -89,25 +90,43 @@ module _ (w : World) (d : Dealt) where
 
   -- from where this machine and these facts stand
   pub record Leads (m : Machine) (fs : List Fact) (c : Effect Machine) : Type 0 where
-    pub from : (kinds : List shares.Kind) (s : Stage) → IsAt w d kinds none_of s → MachineStands (run_at w d kinds s) m → AllStand (run_at w d kinds s) fs → ArrivesAt w d s kinds (c s)
+    pub from : (kinds : List shares.Kind) (s : Stage) → IsAt w d kinds none_of s → MachineStands (run_at w d kinds s) m → AllStand (run_at w d kinds s) fs
+        → ArrivesAt w d s kinds (c s)
 
   leads_bind :
-      {A : Type 0} {m : Machine} {fs gs : List Fact} {c : Effect A} {f : A → Effect Machine} {F : A → List Fact} {R : A → Type 0} → Suits w d gs none_of c none_of F R
+      {A : Type 0} {m : Machine} {fs gs : List Fact} {c : Effect A} {f : A → Effect Machine} {F : A → List Fact} {R : A → Type 0}
+      → Suits w d gs none_of c none_of F R
       → ((r : GateRun) → MachineStands r m → AllStand r gs) → ((a : A) → R a → Leads m (F a) (f a)) → Leads m fs (c >>= f)
-  leads_bind {A = A} {m = m} {c = c} {f = f} {F = F} {R = R} h t k = record { from = λ kinds s at stands facts. go kinds s stands (c s) (h.from kinds s at (t (run_at w d kinds s) stands)) }
+  leads_bind {A = A} {m = m} {c = c} {f = f} {F = F} {R = R} h t k = record
+      { from = λ kinds s at stands facts. go kinds s stands (c s) (h.from kinds s at (t (run_at w d kinds s) stands)) }
     where
       behind : (kinds more : List shares.Kind) (s t : Stage) → Grows w d s t kinds more → (r : Run Machine) → ArrivesAt w d t more r → ArrivesAt w d s kinds r
-      behind kinds more s t g (Ok y) n = record { later = n.later; grown = grows_then w d s t y.1 kinds more n.later g n.grown; stage = n.stage; stands = n.stands }
+      behind kinds more s t g (Ok y) n = record {
+        later = n.later;
+        grown = grows_then w d s t y.1 kinds more n.later g n.grown;
+        stage = n.stage;
+        stands =
+            n.stands;
+      }
       behind kinds more s t g (Err e) n =
           record { later = n.later; grown = grows_then w d s t e.1 kinds more n.later g n.grown; stage = n.stage; facts = n.facts; sure = n.sure }
 
-      go : (kinds : List shares.Kind) (s : Stage) → MachineStands (run_at w d kinds s) m → (r : Run A) → ComesAt w d s kinds r none_of F R → ArrivesAt w d s kinds (carry r f)
+      go : (kinds : List shares.Kind) (s : Stage) → MachineStands (run_at w d kinds s) m → (r : Run A) → ComesAt w d s kinds r none_of F R
+          → ArrivesAt w d s kinds (carry r f)
       go kinds s stands (Ok x) n =
           behind kinds n.later s x.1 n.grown (f x.0 x.1) ((k x.0 n.sure).from n.later x.1 n.stage (machine_still s x.1 kinds n.later n.grown m stands) n.facts)
       go kinds s stands (Err e) n = n
 
   leads_done : {m m' : Machine} {fs : List Fact} → ((r : GateRun) → MachineStands r m → AllStand r fs → MachineStands r m') → Leads m fs (done m')
-  leads_done h = record { from = λ kinds s at stands facts. record { later = kinds; grown = stays w d s s kinds refl; stage = at; stands = h (run_at w d kinds s) stands facts } }
+  leads_done h = record {
+    from = λ kinds s at stands facts. record {
+      later = kinds;
+      grown = stays w d s s kinds refl;
+      stage = at;
+      stands = h
+          (run_at w d kinds s) stands facts;
+    };
+  }
 
   leads_end : {m : Machine} {fs : List Fact} (e : Ending) → Leads m fs (end {A = Machine} e)
   leads_end e = record { from = λ kinds s at stands facts. record { later = kinds; grown = stays w d s s kinds refl; stage = at; facts = tt; sure = tt } }
@@ -116,14 +135,16 @@ module _ (w : World) (d : Dealt) where
   set_stands m to v r h q = record { registers = put_stands r to v m.registers q h.registers; callers = h.callers }
 
   -- the value that a row gives goes to a register
-  leads_set : (m : Machine) (to : ℕ) (gs : List Fact) (c : Effect Value) → Suits w d gs none_of c none_of facts_of IsProper → ((r : GateRun) → MachineStands r m → AllStand r gs)
+  leads_set : (m : Machine) (to : ℕ) (gs : List Fact) (c : Effect Value) → Suits w d gs none_of c none_of facts_of IsProper
+      → ((r : GateRun) → MachineStands r m → AllStand r gs)
       → Leads m [] (c >>= λ v. done (next to v m))
   leads_set m to gs c h t = leads_bind h t (λ v proper. leads_done (λ r stands facts. set_stands m to v r stands (facts, proper)))
 
   moved_stands : (m : Machine) (pc : ℕ) (r : GateRun) → MachineStands r m → MachineStands r (at pc m)
   moved_stands m pc r h = record { registers = h.registers; callers = h.callers }
 
-  resumed : (m : Machine) (stack : List Caller) (v : Value) → ((r : GateRun) → MachineStands r m → CallersStand r stack × ValueStands r v) → Leads m [] (resume stack v)
+  resumed : (m : Machine) (stack : List Caller) (v : Value) → ((r : GateRun) → MachineStands r m → CallersStand r stack × ValueStands r v)
+      → Leads m [] (resume stack v)
   resumed m [] v h = leads_end ending.Done
   resumed m (c ∷ cs) v h = leads_done (λ r stands facts. let x = h r stands in record { registers = go c.result r x.0.0 x.1; callers = x.0.1 })
     where
@@ -146,7 +167,8 @@ module _ (w : World) (d : Dealt) where
     of_element : (r : ℕ) (e : DataType) → HasElement h.own.kinds r e → IsOfElements e (m.registers r)
     of_element r e x = record { proper = proper r; element = element_is r x.0 x.1 ∙ x.2 }
 
-    operands : (line : ℕ) (op : BinaryOperator) (ds : Operands) (to a b : ℕ) → StepTakes h.own.kinds (Binary line op ds to a b) → OperandsSuit op ds (m.registers a) (m.registers b)
+    operands : (line : ℕ) (op : BinaryOperator) (ds : Operands) (to a b : ℕ) → StepTakes h.own.kinds (Binary line op ds to a b)
+        → OperandsSuit op ds (m.registers a) (m.registers b)
     operands line op ds to a b t =
         let x = h.registers a t.0 t.2 in
         let y = h.registers b t.1 t.3 in
@@ -157,7 +179,8 @@ module _ (w : World) (d : Dealt) where
           right_element = element_is b t.1 t.3 ∙ t.5;
           left_single = λ e. x.single (t.6 ∙ e);
           right_single = λ e. y.single (t.7 ∙ e);
-          secrecy = subst (λ z. secrecy_suits op z (is_secret (m.registers b).secrecy)) (sym x.secret) (subst (λ z. secrecy_suits op t.0.secret z) (sym y.secret) t.8);
+          secrecy = subst (λ z. secrecy_suits op z (is_secret (m.registers b).secrecy)) (sym x.secret)
+              (subst (λ z. secrecy_suits op t.0.secret z) (sym y.secret) t.8);
         }
 
     moving : (pc : ℕ) (fs : List Fact) → Leads m fs (done (at pc m))
@@ -167,7 +190,8 @@ module _ (w : World) (d : Dealt) where
     act (Literal to e n) t = leads_done (λ run st facts. set_stands m to (plain (shape_of e false) (n ∷ [])) run st (tt, literal_proper e n t))
     act (Move to r) t = leads_done (λ run st facts. set_stands m to (m.registers r) run st (st.registers r))
     act (Store to r) t =
-        leads_bind (plain_charge w d [] (size (m.registers r))) (λ run st. tt) (λ _ _. leads_done (λ run st facts. set_stands m to (m.registers r) run st (st.registers r)))
+        leads_bind (plain_charge w d [] (size (m.registers r))) (λ run st. tt)
+        (λ _ _. leads_done (λ run st facts. set_stands m to (m.registers r) run st (st.registers r)))
     act (Binary line op ds to a b) t =
         leads_set m to (facts_of (m.registers a) ++ facts_of (m.registers b)) (row.operated w line op ds (m.registers a) (m.registers b))
         (operated_suits w d line op ds (m.registers a) (m.registers b) (operands line op ds to a b t)) (two a b)
@@ -192,17 +216,20 @@ module _ (w : World) (d : Dealt) where
         (joined_suits w d (m.registers a) (m.registers b) (proper a) (proper b) (element_is b t.1 t.3 ∙ t.4 ∙ sym (element_is a t.0 t.2)) line) (two a b)
     act (Sum to r) t = leads_set m to (facts_of (m.registers r)) (row.summed (m.registers r)) (summed_suits w d (m.registers r) (of_element r Uint64 t)) (own r)
     act (Bits line to r) t =
-        leads_set m to (facts_of (m.registers r)) (row.bits_extracted w line (m.registers r)) (bits_suits w d (m.registers r) line (of_element r Uint64 t)) (own r)
+        leads_set m to (facts_of (m.registers r)) (row.bits_extracted w line (m.registers r)) (bits_suits w d (m.registers r) line (of_element r Uint64 t))
+        (own r)
     act (Declassify to r) t =
         leads_set m to (facts_of (m.registers r)) (row.declassified w (m.registers r)) (declassified_suits w d (m.registers r) (proper r)) (own r)
     act (Argument line k text to) t =
-        leads_set m to [] (asked_for k.secret (kind_shape k) line (input_named w text)) (asked_suits w d k.secret (kind_shape k) line text offered) (λ run st. tt)
+        leads_set m to [] (asked_for k.secret (kind_shape k) line (input_named w text)) (asked_suits w d k.secret (kind_shape k) line text offered)
+        (λ run st. tt)
     act (Publish text r) t = leads_bind (published_suits w d (m.registers r) (proper r) text) (own r) (λ _ _. moving (m.pc + 1) [])
     act (Assert line r) t = leads_bind (asserted_suits w d [] line (m.registers r)) (λ run st. tt) (λ _ _. moving (m.pc + 1) [])
     act (Branch r b target) t = leads_bind (tested_suits w d [] (m.registers r)) (λ run st. tt) (λ o _. moving (either (same_bool o b) target (m.pc + 1)) [])
     act (Jump target) t = moving target []
     act (Call line g to args) t =
-        leads_bind (charge_suits w d [] 1) (λ run st. tt) (λ _ _. leads_bind (test_suits w d [] (nat_lt (length m.stack) limit) trap.Depth line) (λ run st. tt) (λ _ _.
+        leads_bind (charge_suits w d [] 1) (λ run st. tt) (λ _ _. leads_bind (test_suits w d [] (nat_lt (length m.stack) limit) trap.Depth line)
+        (λ run st. tt) (λ _ _.
         leads_bind (charge_suits w d [] (sum (map array_elements (values_at m.registers args)))) (λ run st. tt) (λ _ _.
         leads_done (λ run st facts. record {
           registers = filled_stands run (kinds_of (slice_get p g)) (values_at m.registers args) (values_stand run m.registers args st.registers);

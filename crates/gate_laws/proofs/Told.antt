@@ -59,7 +59,8 @@ module _ (w : World) (d : Dealt) where
 
   -- ---- inputs
 
-  given_suits_of : (secret : Bool) (x : Given) (k : ℕ) → IsOffered d x k → x.secret ≡ secret → Suits w d [] none_of (given_value secret x k) none_of facts_of IsProper
+  given_suits_of : (secret : Bool) (x : Given) (k : ℕ) → IsOffered d x k → x.secret ≡ secret
+      → Suits w d [] none_of (given_value secret x k) none_of facts_of IsProper
   given_suits_of false x k o e = shown_suits w d [] x.shape x.words o.range o.small
   given_suits_of true x k o e =
       let ring = ring_for x.shape.element in
@@ -82,7 +83,8 @@ module _ (w : World) (d : Dealt) where
       suits_bind w d
       (charged_suits w d [] (test (is_as_declared secret shape x.0) trap.Argument line) (length x.0.words) (is_as_declared secret shape x.0 ≡ true)
       (test_suits w d [] (is_as_declared secret shape x.0) trap.Argument line)) (λ _ declared.
-      given_suits_of secret x.0 x.1 (h x refl) (truths_same x.0.secret secret (and_parts (same_truth x.0.secret secret) (same_shape x.0.shape shape) declared).0))
+      given_suits_of secret x.0 x.1 (h x refl) (truths_same x.0.secret secret
+      (and_parts (same_truth x.0.secret secret) (same_shape x.0.shape shape) declared).0))
 
   offered_there : (k : ℕ) (text : List ℕ) (xs : List Given) (x : Given × ℕ) → AreOffered d k xs → input_from k text xs ≡ Some x → IsOffered d x.0 x.1
   offered_there k text [] x h e = absurd (none_some x e)
@@ -98,7 +100,8 @@ module _ (w : World) (d : Dealt) where
           Holds None = Unit {0}
           Holds (Some z) = IsOffered d z.0 z.1
 
-      go : (b : Bool) → (if b then Some (y, k) else input_from (behind y k) text ys) ≡ Some x → (input_from (behind y k) text ys ≡ Some x → IsOffered d x.0 x.1) → IsOffered d x.0 x.1
+      go : (b : Bool) → (if b then Some (y, k) else input_from (behind y k) text ys) ≡ Some x
+          → (input_from (behind y k) text ys ≡ Some x → IsOffered d x.0 x.1) → IsOffered d x.0 x.1
       go true e rest = found (y, k) x h.0 e
       go false e rest = rest e
 

@@ -1,5 +1,6 @@
 -- Rows with one operand.
-use Rattle.std.proofs.Common.{◌≡◌, ℕ, ◌*◌, ◌<◌, ◌≤◌, ◌^◌, ◌%◌, List, [], ◌∷◌, length, map, Bool, true, false, not, refl, sym, ap, ◌∙◌, subst, arith, length-append}
+use Rattle.std.proofs.Common.{◌≡◌, ℕ, ◌*◌, ◌<◌, ◌≤◌, ◌^◌, ◌%◌, List, [], ◌∷◌, length, map, Bool, true, false, not, refl, sym, ap, ◌∙◌, subst, arith}
+use Rattle.std.proofs.Common.{length-append}
 use Rattle.std.specs.Prelude.{sum, ◌==◌, nat_le, if◌then◌else◌}
 use Rattle.std.specs.List.{flat_map, range_with_len}
 use Rattle.std.specs.Int.{bit_at}
@@ -132,9 +133,11 @@ module _ (w : World) (d : Dealt) (v : Value) where
   cast_from_suits a WordToWord h = itself_suits w d fs v (tell_same fs) h.proper
   cast_from_suits a BoolToBool h = itself_suits w d fs v (tell_same fs) h.proper
   cast_from_suits Plain WordToBool h =
-      shown_suits w d fs (shape_of datatype.Bool v.shape.array) (map (cast_word WordToBool) v.words) to_bool_low (mapped_small (cast_word WordToBool) v.words h.proper.small)
+      shown_suits w d fs (shape_of datatype.Bool v.shape.array) (map (cast_word WordToBool) v.words) to_bool_low
+      (mapped_small (cast_word WordToBool) v.words h.proper.small)
   cast_from_suits Plain BoolToWord h =
-      shown_suits w d fs (shape_of Uint64 v.shape.array) (map (cast_word BoolToWord) v.words) (to_word_low h) (mapped_small (cast_word BoolToWord) v.words h.proper.small)
+      shown_suits w d fs (shape_of Uint64 v.shape.array) (map (cast_word BoolToWord) v.words) (to_word_low h)
+      (mapped_small (cast_word BoolToWord) v.words h.proper.small)
   cast_from_suits (Private k) WordToBool h =
       let owed = drawn_by (words_for_equality (size v)) in
       let zeros = map zero_test v.words in
@@ -143,7 +146,8 @@ module _ (w : World) (d : Dealt) (v : Value) where
       suits_bind w d
       (suits_bind w d
       (planned_suits w d (fact u Arithmetic v.words ∷ fs) owed (λ m. equality.words_taken m (size v)) none_of (λ first. eq_plan first u) zero_test_kinds
-      16 Boolean zeros (λ m. let e = equality_words (size v) m in omega (arith, e)) (λ first. refl) (λ r good facts. zero_gain r good u v.words facts.0)) (λ z _.
+      16 Boolean zeros (λ m. let e = equality_words (size v) m in omega (arith, e)) (λ first. refl) (λ r good facts. zero_gain r good u v.words facts.0))
+      (λ z _.
       in_terms w d (mapped_twice flipped zero_test v.words ∙ mapped_alike (λ x. flipped (zero_test x)) (cast_word WordToBool) v.words zero_flipped)
       (flip_suits w d (fact z Boolean zeros ∷ (fact u Arithmetic v.words ∷ fs)) none_of (size v) z zeros (tell_first _ _) (length-map v.words zero_test)
       (mapped_low zero_test v.words zero_low)))) (λ r _.
@@ -166,7 +170,8 @@ module _ (w : World) (d : Dealt) (v : Value) where
   -- ---- sizes and sums
 
   pub size_suits : IsProper v → Suits w d fs none_of (size_told v) none_of facts_of IsProper
-  size_suits h = suits_bind w d (charge_suits w d fs 1) (λ _ _. shown_suits w d fs (shape_of Uint64 false) (size v ∷ []) (one_below (2 ^ 64) (size v) h.small) (omega arith))
+  size_suits h = suits_bind w d (charge_suits w d fs 1) (λ _ _. shown_suits w d fs (shape_of Uint64 false) (size v ∷ [])
+      (one_below (2 ^ 64) (size v) h.small) (omega arith))
 
   total_low : Below (2 ^ 64) (sum v.words % 2 ^ 64 ∷ [])
   total_low = one_below (2 ^ 64) (sum v.words % 2 ^ 64) (mod_below (sum v.words) (2 ^ 64) (omega arith))
@@ -196,7 +201,8 @@ module _ (w : World) (d : Dealt) (v : Value) where
       (planned_suits w d (fact u Arithmetic v.words ∷ fs) owed (λ m. bits.words_taken m (size v)) none_of (λ first. bits_plan first u (size v)) bits_kinds
       53 Boolean v.words (λ m. let e = bits_words (size v) m in omega (arith, e)) (λ first. refl) (λ r good facts. bits_gain r good u v.words facts.0)) (λ b _.
       suits_bind w d
-      (gate_suits w d (fact b Boolean v.words ∷ (fact u Arithmetic v.words ∷ fs)) none_of none_of none_of (gates.Spread b) Boolean (flat_map bits_of v.words) (λ m. refl) refl
+      (gate_suits w d (fact b Boolean v.words ∷ (fact u Arithmetic v.words ∷ fs)) none_of none_of none_of (gates.Spread b) Boolean
+      (flat_map bits_of v.words) (λ m. refl) refl
       (λ r good facts. spread_gain r good b v.words facts.0)) (λ r _.
       given_suits w d _ (shape_of datatype.Bool true) (flat_map bits_of v.words) r (tell_first _ _) (all_bits_low v.words) (all_bits_small v.words few)))))
 

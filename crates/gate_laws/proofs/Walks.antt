@@ -43,7 +43,8 @@ module _ (w : World) (d : Dealt) (c : List Function) (may : MayRun w d c) where
   Ends None = Unit {0}
   Ends (Some x) = (kinds : List Kind) × IsAt w d kinds none_of x.1
 
-  walk : (k : ℕ) (m : Machine) (s : Stage) (kinds : List Kind) → IsWithin c m → IsAt w d kinds none_of s → MachineStands (run_at w d kinds s) m → Ends (exec w c k m s)
+  walk : (k : ℕ) (m : Machine) (s : Stage) (kinds : List Kind) → IsWithin c m → IsAt w d kinds none_of s → MachineStands (run_at w d kinds s) m
+      → Ends (exec w c k m s)
   unfolding exec
   walk zero m s kinds within at stands = tt
   walk (suc k) m s kinds within at stands =
@@ -51,7 +52,8 @@ module _ (w : World) (d : Dealt) (c : List Function) (may : MayRun w d c) where
       (λ m s kinds within at stands. walk k m s kinds within at stands)
     where
       go : (r : Run Machine) → StaysAt c r → ArrivesAt w d s kinds r
-          → ((m : Machine) (s : Stage) (kinds : List Kind) → IsWithin c m → IsAt w d kinds none_of s → MachineStands (run_at w d kinds s) m → Ends (exec w c k m s))
+          → ((m : Machine) (s : Stage) (kinds : List Kind) → IsWithin c m → IsAt w d kinds none_of s → MachineStands (run_at w d kinds s) m
+          → Ends (exec w c k m s))
           → Ends (further r (exec w c k))
       go (Ok x) within arrives rest = rest x.0 x.1 arrives.later within arrives.stage arrives.stands
       go (Err e) within arrives rest = (arrives.later, arrives.stage)
@@ -80,7 +82,8 @@ module _ (w : World) (d : Dealt) (c : List Function) (may : MayRun w d c) where
         opened = at.opened;
       }
 
-  pub suited : IsDealing d → (budget : ℕ) (answers : List ℕ) (main : Function) → slice_get c 0 ≡ Some main → AreWords answers → GatesSuit w d (mean_in w c budget answers)
+  pub suited : IsDealing d → (budget : ℕ) (answers : List ℕ) (main : Function) → slice_get c 0 ≡ Some main → AreWords answers
+      → GatesSuit w d (mean_in w c budget answers)
   suited dealt budget answers main e words = either (nat_le (dealing w) w.dealer)
     where
       begun : Stage
