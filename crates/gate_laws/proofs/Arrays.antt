@@ -1,0 +1,187 @@
+-- Rows of arrays: joined, element by element, filled.
+use Rattle.std.proofs.Common.{◌≡◌, ℕ, zero, suc, ◌+◌, ◌<◌, ◌≤◌, ◌^◌, List, [], ◌∷◌, ◌++◌, length, true, false, refl, sym, ap, subst, arith, length-append}
+use Rattle.std.specs.Prelude.{nat_le, nat_lt, replicate, set, take, drop}
+use Rattle.std.proofs.lemmas.Bool.{leb-true, ltb-true}
+use Rattle.sc_text.specs.declared.end.TrapKind.TheVariants as trap
+use Rattle.secrec_ast.specs.declared.expression.DataType.{DataType}
+use Rattle.gates.specs.declared.ring_kind.RingKind.{RingKind}
+use Rattle.gates.specs.declared.gate.Gate.TheVariants as gates
+use Rattle.gates.specs.Clear.{first_word}
+use Rattle.typed_tree.specs.Shapes.{shape_of}
+use Rattle.language_model.specs.Effects.{World, ◌>>=◌, test, gate}
+use Rattle.language_model.specs.Values.{Secrecy, Plain, Private, Value, size, seen, seen_of, ring_for}
+use Rattle.language_model.specs.Operations.{charged, largest, not_too_large, number_of, made_private, joined_from, joined, position, element_at}
+use Rattle.language_model.specs.Operations.{element_from, element_of_array}
+use Rattle.language_model.specs.Operations.{with_element_from, with_element, filled_from, filled}
+use Rattle.gate_laws.specs.Facts.{bound, InRange, IsProper, none_of, Fact, facts_of, Dealt, Suits}
+use Rattle.gate_laws.proofs.Effects.{NoFacts, suits_bind, charge_suits, test_suits, first_stand, second_stand}
+use Rattle.gate_laws.proofs.Gains.{fact, gate_suits}
+use Rattle.gate_laws.proofs.Singles.{rep_gain, part_gain, cat_gain, put_gain}
+use Rattle.gate_laws.proofs.Parts.{tell_same, tell_first, charged_suits, number_as, number_suits, given_suits, shown_suits}
+use Rattle.gate_laws.proofs.Ranges.{Below, below_head, below_tail, one_below, append_below, set_below, replicate_below, first_below, length_replicated}
+use Rattle.gate_laws.proofs.Meanings.{some_bound}
+use Rattle.gate_laws.proofs.Operators.{in_terms}
+
+-- the element at an index as a part
+part_of_one : (xs : List ℕ) (i : ℕ) → i < length xs → take 1 (drop i xs) ≡ element_at xs i ∷ []
+part_of_one [] i h = absurd (omega (arith, h))
+part_of_one (x ∷ xs) zero h = refl
+part_of_one (x ∷ xs) (suc i) h = part_of_one xs i (omega (arith, h))
+
+element_below : (b i : ℕ) (xs : List ℕ) → 0 < b → Below b xs → element_at xs i < b
+element_below b i [] some h = some
+element_below b zero (x ∷ xs) some h = below_head b x xs h
+element_below b (suc i) (x ∷ xs) some h = element_below b i xs some (below_tail b x xs h)
+
+set_length : (xs : List ℕ) (i y : ℕ) → length (set xs i y) ≡ length xs
+set_length [] i y = refl
+set_length (x ∷ xs) zero y = refl
+set_length (x ∷ xs) (suc i) y = ap suc (set_length xs i y)
+
+few_words : (n : ℕ) → n ≤ largest → n < 2 ^ 64
+few_words n h = omega (arith, h)
+
+module _ (w : World) (d : Dealt) where
+  -- the test that an array is not too large
+  large_suits : (fs : List Fact) (line n : ℕ) → Suits w d fs none_of (charged (not_too_large line n) n) none_of (NoFacts {A = Unit {0}})
+      (λ u. nat_le n largest ≡ true)
+  large_suits fs line n = charged_suits w d fs (not_too_large line n) n (nat_le n largest ≡ true) (test_suits w d fs (nat_le n largest) trap.Large line)
+
+  inside_suits : (fs : List Fact) (line i n : ℕ) → Suits w d fs none_of (test (nat_lt i n) trap.Index line) none_of (NoFacts {A = Unit {0}})
+      (λ u. nat_lt i n ≡ true)
+  inside_suits fs line i n = test_suits w d fs (nat_lt i n) trap.Index line
+
+  -- ---- one behind another
+
+  module _ (x y : Value) (p : IsProper x) (q : IsProper y) (same : y.shape.element ≡ x.shape.element) where
+    abbrev both : List Fact
+    both = facts_of x ++ facts_of y
+
+    abbrev element : DataType
+    element = x.shape.element
+
+    right_range : InRange element y.words
+    right_range = subst (λ e. InRange e y.words) same q.range
+
+    joined_range : InRange element (x.words ++ y.words)
+    joined_range = append_below (bound element) x.words y.words p.range right_range
+
+    joined_small : size x + size y ≤ largest → length (x.words ++ y.words) < 2 ^ 64
+    joined_small few = subst (λ n. n < 2 ^ 64) (sym (length-append x.words y.words)) (few_words (size x + size y) few)
+
+    cat_suits : size x + size y ≤ largest
+        → Suits w d both none_of (number_of x >>= λ u. number_of y >>= λ v. gate (gates.Cat u v) >>= λ r. made_private x.shape (x.words ++ y.words) r)
+        none_of facts_of IsProper
+    cat_suits few =
+        let ring = ring_for element in
+        suits_bind w d (number_suits w d both none_of x (record { from = λ r k. first_stand r (facts_of x) (facts_of y) k }) p.range) (λ u _.
+        suits_bind w d
+        (number_as w d (fact u ring x.words ∷ both) none_of element y same (record { from = λ r k. second_stand r (facts_of x) (facts_of y) k.1 })
+        right_range) (λ v _.
+        suits_bind w d
+        (gate_suits w d (fact v ring y.words ∷ (fact u ring x.words ∷ both)) none_of none_of none_of (gates.Cat u v) ring (x.words ++ y.words) (λ m. refl) refl
+        (λ r good facts. cat_gain r good u v ring x.words y.words facts.1.0 facts.0)) (λ r _.
+        given_suits w d _ x.shape (x.words ++ y.words) r (tell_first _ _) joined_range (joined_small few))))
+
+    joined_from_suits : (a b : Secrecy) → size x + size y ≤ largest → Suits w d both none_of (joined_from a b x y) none_of facts_of IsProper
+    joined_from_suits Plain Plain few = shown_suits w d both x.shape (x.words ++ y.words) joined_range (joined_small few)
+    joined_from_suits Plain (Private k) few = cat_suits few
+    joined_from_suits (Private j) Plain few = cat_suits few
+    joined_from_suits (Private j) (Private k) few = cat_suits few
+
+    pub joined_suits : (line : ℕ) → Suits w d both none_of (joined line x y) none_of facts_of IsProper
+    joined_suits line =
+        suits_bind w d (large_suits both line (size x + size y)) (λ _ few. joined_from_suits x.secrecy y.secrecy (leb-true (size x + size y) largest few))
+
+  -- ---- an element
+
+  module _ (v : Value) (p : IsProper v) where
+    abbrev fs : List Fact
+    fs = facts_of v
+
+    abbrev ring : RingKind
+    ring = ring_for v.shape.element
+
+    element_range : (i : ℕ) → InRange v.shape.element (element_at v.words i ∷ [])
+    element_range i =
+        one_below (bound v.shape.element) (element_at v.words i) (element_below (bound v.shape.element) i v.words (some_bound v.shape.element) p.range)
+
+    element_from_suits : (a : Secrecy) (i : ℕ) → i < size v → Suits w d fs none_of (element_from a v i) none_of facts_of IsProper
+    element_from_suits Plain i inside = shown_suits w d fs (shape_of v.shape.element false) (element_at v.words i ∷ []) (element_range i) (omega arith)
+    element_from_suits (Private k) i inside =
+        suits_bind w d (number_suits w d fs none_of v (tell_same fs) p.range) (λ u _.
+        suits_bind w d
+        (in_terms w d (part_of_one v.words i inside)
+        (gate_suits w d (fact u ring v.words ∷ fs) none_of none_of none_of (gates.Part u i 1) ring (take 1 (drop i v.words)) (λ m. refl) refl
+        (λ r good facts. part_gain r good u ring v.words facts.0 i 1 (omega (arith, inside))))) (λ r _.
+        given_suits w d _ (shape_of v.shape.element false) (element_at v.words i ∷ []) r (tell_first _ _) (element_range i) (omega arith)))
+
+    pub element_suits : (line : ℕ) (i : Value) → Suits w d fs none_of (element_of_array line v i) none_of facts_of IsProper
+    element_suits line i =
+        suits_bind w d (charge_suits w d fs 1) (λ _ _. suits_bind w d (inside_suits fs line (position i) (size v)) (λ _ inside.
+        element_from_suits v.secrecy (position i) (ltb-true (position i) (size v) inside)))
+
+    -- ---- equal elements
+
+    filled_range : (n : ℕ) → InRange v.shape.element (replicate n (first_word v.words))
+    filled_range n = replicate_below (bound v.shape.element) n (first_word v.words)
+        (first_below (bound v.shape.element) v.words (some_bound v.shape.element) p.range)
+
+    filled_small : (n : ℕ) → n ≤ largest → length (replicate n (first_word v.words)) < 2 ^ 64
+    filled_small n few = subst (λ k. k < 2 ^ 64) (sym (length_replicated n (first_word v.words))) (few_words n few)
+
+    filled_from_suits : (a : Secrecy) (n : ℕ) → length v.words ≡ 1 → n ≤ largest → Suits w d fs none_of (filled_from a n v) none_of facts_of IsProper
+    filled_from_suits Plain n single few =
+        shown_suits w d fs (shape_of v.shape.element true) (replicate n (first_word v.words)) (filled_range n) (filled_small n few)
+    filled_from_suits (Private k) n single few =
+        suits_bind w d (number_suits w d fs none_of v (tell_same fs) p.range) (λ u _.
+        suits_bind w d
+        (gate_suits w d (fact u ring v.words ∷ fs) none_of none_of none_of (gates.Rep u n) ring (replicate n (first_word v.words)) (λ m. refl) refl
+        (λ r good facts. rep_gain r good u ring v.words facts.0 n single)) (λ r _.
+        given_suits w d _ (shape_of v.shape.element true) (replicate n (first_word v.words)) r (tell_first _ _) (filled_range n) (filled_small n few)))
+
+    pub filled_suits : (line : ℕ) (n : Value) → length v.words ≡ 1 → Suits w d fs none_of (filled line n v) none_of facts_of IsProper
+    filled_suits line n single =
+        suits_bind w d (large_suits fs line (position n)) (λ _ few. filled_from_suits v.secrecy (position n) single (leb-true (position n) largest few))
+
+  -- ---- an element changed
+
+  module _ (v x : Value) (p : IsProper v) (q : IsProper x) (same : x.shape.element ≡ v.shape.element) (single : length x.words ≡ 1) where
+    abbrev bound_here : ℕ
+    bound_here = bound v.shape.element
+
+    value_range : InRange v.shape.element x.words
+    value_range = subst (λ e. InRange e x.words) same q.range
+
+    set_small : (i y : ℕ) → length (set v.words i y) < 2 ^ 64
+    set_small i y = subst (λ n. n < 2 ^ 64) (sym (set_length v.words i y)) p.small
+
+    seen_low : (a : Secrecy) → first_word (seen_of a x.words) < bound_here
+    seen_low Plain = first_below bound_here x.words (some_bound v.shape.element) value_range
+    seen_low (Private k) = some_bound v.shape.element
+
+    with_element_from_suits : (a : Secrecy) (i : ℕ) → i < size v → Suits w d (facts_of v ++ facts_of x) none_of
+        (with_element_from a v i x) none_of facts_of IsProper
+    with_element_from_suits Plain i inside =
+        shown_suits w d (facts_of v ++ facts_of x) v.shape (set v.words i (first_word (seen x)))
+        (set_below bound_here i (first_word (seen x)) v.words (seen_low x.secrecy) p.range) (set_small i (first_word (seen x)))
+    with_element_from_suits (Private k) i inside =
+        let ring = ring_for v.shape.element in
+        let all = facts_of v ++ facts_of x in
+        let words = set v.words i (first_word x.words) in
+        suits_bind w d (number_suits w d all none_of v (record { from = λ r k. first_stand r (facts_of v) (facts_of x) k }) p.range) (λ u _.
+        suits_bind w d
+        (number_as w d (fact u ring v.words ∷ all) none_of v.shape.element x same (record { from = λ r k. second_stand r (facts_of v) (facts_of x) k.1 })
+        value_range) (λ e _.
+        suits_bind w d
+        (gate_suits w d (fact e ring x.words ∷ (fact u ring v.words ∷ all)) none_of none_of none_of (gates.Put u i e) ring words (λ m. refl) refl
+        (λ r good facts. put_gain r good u e ring v.words x.words facts.1.0 facts.0 i inside single)) (λ r _.
+        given_suits w d _ v.shape words r (tell_first _ _)
+        (set_below bound_here i (first_word x.words) v.words (first_below bound_here x.words (some_bound v.shape.element) value_range) p.range)
+        (set_small i (first_word x.words)))))
+
+    pub with_element_suits : (line : ℕ) (i : Value) → Suits w d (facts_of v ++ facts_of x) none_of (with_element line v i x) none_of facts_of IsProper
+    with_element_suits line i =
+        let all = facts_of v ++ facts_of x in
+        suits_bind w d (charge_suits w d all 1) (λ _ _. suits_bind w d (inside_suits all line (position i) (size v)) (λ _ inside.
+        with_element_from_suits v.secrecy (position i) (ltb-true (position i) (size v) inside)))

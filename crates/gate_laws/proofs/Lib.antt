@@ -1,0 +1,16 @@
+pub mod Effects
+pub mod Gains
+pub mod Singles
+pub mod Parts
+pub mod Ranges
+pub mod Plans
+pub mod Meanings
+pub mod Operators
+pub mod Binary
+pub mod Unary
+pub mod Arrays
+pub mod Openings
+pub mod Told
+pub mod Steps
+pub mod Walks
+pub mod Samples

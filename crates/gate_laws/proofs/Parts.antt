@@ -1,0 +1,114 @@
+-- The parts of a row: charges, numbers of values, scalars beside arrays, and the value that is given.
+use Rattle.std.proofs.Common.{◌≡◌, ℕ, ◌-◌, ◌<◌, ◌^◌, List, [], ◌∷◌, length, Some, None, Bool, true, false, refl, sym, subst, arith}
+use Rattle.std.specs.Prelude.{replicate}
+use Rattle.secrec_ast.specs.declared.expression.DataType.{DataType}
+use Rattle.secrec_ast.specs.declared.expression.DataType.TheVariants.{Uint64}
+use Rattle.secrec_ast.specs.declared.expression.DataType.TheVariants as datatype
+use Rattle.proto_core.specs.Lists.{at, AreWords}
+use Rattle.gates.specs.declared.ring_kind.RingKind.{RingKind}
+use Rattle.gates.specs.declared.gate.Gate.TheVariants.{Const, Rep}
+use Rattle.gates.specs.Clear.{first_word}
+use Rattle.gates.specs.Counts.{Miner}
+use Rattle.typed_tree.specs.declared.kinds.Shape.{Shape}
+use Rattle.language_model.specs.Effects.{World, Effect, done, gate}
+use Rattle.language_model.specs.Values.{Secrecy, Plain, Private, Value, plain, size, ring_for}
+use Rattle.language_model.specs.Operations.{charged, no_traps, number_from, number_of, stretched, made_private, classified_from, classified}
+use Rattle.gate_laws.specs.Facts.{InRange, HasRange, IsProper, none_of, Fact, fact_from, facts_of, Dealt, Suits}
+use Rattle.gate_laws.proofs.Effects.{Tell, Any, NoFacts, suits_bind, suits_with, suits_done, charge_suits}
+use Rattle.gate_laws.proofs.Gains.{fact, gate_suits}
+use Rattle.gate_laws.proofs.Singles.{const_gain, rep_gain}
+
+pub range_words : (e : DataType) (words : List ℕ) → InRange e words → AreWords words
+range_words Uint64 words h = h
+range_words datatype.Bool words h = λ k. let low : at words k < 2 = h k in omega arith
+
+pub tell_same : (fs : List Fact) → Tell fs fs
+tell_same fs = record { from = λ r h. h }
+
+pub tell_none : (fs : List Fact) → Tell fs []
+tell_none fs = record { from = λ r h. tt }
+
+pub tell_later : (f : Fact) (fs gs : List Fact) → Tell fs gs → Tell (f ∷ fs) gs
+tell_later f fs gs t = record { from = λ r h. t.from r h.1 }
+
+pub tell_first : (f : Fact) (fs : List Fact) → Tell (f ∷ fs) (f ∷ [])
+tell_first f fs = record { from = λ r h. (h.0, tt) }
+
+-- a scalar beside an array
+abbrev pub stretched_words : Bool → ℕ → List ℕ → List ℕ
+stretched_words true n us = replicate n (first_word us)
+stretched_words false n us = us
+
+module _ (w : World) (d : Dealt) where
+  pub charged_suits : (fs : List Fact) (t : Effect (Unit {0})) (n : ℕ) (R : Type 0) → Suits w d fs none_of t none_of (NoFacts {A = Unit {0}}) (λ u. R)
+      → Suits w d fs none_of (charged t n) none_of (NoFacts {A = Unit {0}}) (λ u. R)
+  charged_suits fs t n R h =
+      suits_bind w d (charge_suits w d fs 1) (λ _ _. suits_bind w d h (λ _ r. suits_with w d (charge_suits w d fs (n - 1)) (λ _ _. tell_same []) (λ _ _. r)))
+
+  pub plain_charge : (fs : List Fact) (n : ℕ) → Suits w d fs none_of (charged no_traps n) none_of (NoFacts {A = Unit {0}}) (Any {A = Unit {0}})
+  plain_charge fs n = charged_suits fs no_traps n (Unit {0}) (suits_done w d (tell_none fs) tt)
+
+  module _ (fs : List Fact) (owed : Miner → ℕ) where
+    -- a constant, however it is shared
+    pub const_suits : (ring : RingKind) (words : List ℕ) → AreWords words → Suits w d fs owed (gate (Const words)) owed (λ k. fact k ring words ∷ [])
+        (Any {A = ℕ})
+    const_suits ring words ok =
+        gate_suits w d fs owed none_of owed (Const words) ring words (λ m. omega arith) refl (λ r good facts. const_gain r good ring words ok)
+
+    number_from_suits : (a : Secrecy) (e : DataType) (words : List ℕ) → Tell fs (fact_from a e words) → InRange e words
+        → Suits w d fs owed (number_from a words) owed (λ k. fact k (ring_for e) words ∷ []) (Any {A = ℕ})
+    number_from_suits (Private (Some k)) e words t range = suits_done w d t tt
+    number_from_suits (Private None) e words t range = const_suits (ring_for e) words (range_words e words range)
+    number_from_suits Plain e words t range = const_suits (ring_for e) words (range_words e words range)
+
+    -- the number of a value of these elements, whose words it has
+    pub number_as : (e : DataType) (v : Value) → v.shape.element ≡ e → Tell fs (facts_of v) → InRange e v.words
+        → Suits w d fs owed (number_of v) owed (λ k. fact k (ring_for e) v.words ∷ []) (Any {A = ℕ})
+    number_as e v same t range = number_from_suits v.secrecy e v.words (subst (λ z. Tell fs (fact_from v.secrecy z v.words)) same t) range
+
+    -- the number of a value, whose words it has
+    pub number_suits : (v : Value) → Tell fs (facts_of v) → HasRange v
+        → Suits w d fs owed (number_of v) owed (λ k. fact k (ring_for v.shape.element) v.words ∷ []) (Any {A = ℕ})
+    number_suits v t range = number_from_suits v.secrecy v.shape.element v.words t range
+
+    pub stretched_suits : (scalar : Bool) (n u : ℕ) (ring : RingKind) (us : List ℕ) → Tell fs (fact u ring us ∷ []) → (scalar ≡ true → length us ≡ 1)
+        → Suits w d fs owed (stretched scalar n u) owed (λ k. fact k ring (stretched_words scalar n us) ∷ []) (Any {A = ℕ})
+    stretched_suits true n u ring us t single =
+        gate_suits w d fs owed none_of owed (Rep u n) ring (replicate n (first_word us)) (λ m. omega arith) refl
+        (λ r good facts. rep_gain r good u ring us (t.from r facts).0 n (single refl))
+    stretched_suits false n u ring us t single = suits_done w d t tt
+
+  -- the value of a number
+  pub given_suits : (fs : List Fact) (shape : Shape) (words : List ℕ) (k : ℕ) → Tell fs (fact k (ring_for shape.element) words ∷ [])
+      → InRange shape.element words
+      → length words < 2 ^ 64 → Suits w d fs none_of (made_private shape words k) none_of facts_of IsProper
+  given_suits fs shape words k t range small = suits_done w d t (record { range = range; small = small })
+
+  pub given_as : (fs : List Fact) (e : DataType) (shape : Shape) (words : List ℕ) (k : ℕ) → shape.element ≡ e → Tell fs (fact k (ring_for e) words ∷ [])
+      → InRange e words
+      → length words < 2 ^ 64 → Suits w d fs none_of (made_private shape words k) none_of facts_of IsProper
+  given_as fs e shape words k same t range small =
+      given_suits fs shape words k (subst (λ z. Tell fs (fact k (ring_for z) words ∷ [])) (sym same) t) (subst (λ z. InRange z words) (sym same) range) small
+
+  -- a public value
+  pub shown_suits : (fs : List Fact) (shape : Shape) (words : List ℕ) → InRange shape.element words → length words < 2 ^ 64
+      → Suits w d fs none_of (done (plain shape words)) none_of facts_of IsProper
+  shown_suits fs shape words range small = suits_done w d (tell_none fs) (record { range = range; small = small })
+
+  -- a value that is there
+  pub itself_suits : (fs : List Fact) (v : Value) → Tell fs (facts_of v) → IsProper v → Suits w d fs none_of (done v) none_of facts_of IsProper
+  itself_suits fs v t proper = suits_done w d t proper
+
+  -- ---- classification
+
+  classified_from_suits : (a : Secrecy) (v : Value) → IsProper v → Suits w d (facts_of v) none_of (classified_from a v) none_of facts_of IsProper
+  classified_from_suits (Private k) v proper = itself_suits (facts_of v) v (tell_same (facts_of v)) proper
+  classified_from_suits Plain v proper =
+      let fs = facts_of v in
+      suits_bind w d (plain_charge fs (size v)) (λ _ _.
+      suits_bind w d (const_suits fs none_of (ring_for v.shape.element) v.words (range_words v.shape.element v.words proper.range)) (λ k _.
+      given_suits (fact k (ring_for v.shape.element) v.words ∷ fs) v.shape v.words k (tell_first (fact k (ring_for v.shape.element) v.words) fs)
+      proper.range proper.small))
+
+  pub classified_suits : (v : Value) → IsProper v → Suits w d (facts_of v) none_of (classified v) none_of facts_of IsProper
+  classified_suits v proper = classified_from_suits v.secrecy v proper

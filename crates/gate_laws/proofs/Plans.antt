@@ -1,0 +1,61 @@
+-- What plans gain whose operands stand.
+use Rattle.std.proofs.Common.{◌≡◌, ℕ, Some, List, length, map, refl, ap, ◌∙◌}
+use Rattle.gates.specs.declared.ring_kind.RingKind.TheVariants.{Arithmetic, Boolean}
+use Rattle.gates.specs.Clear.{value, each_two}
+use Rattle.gates.specs.WordTests.{zero_test, less_test}
+use Rattle.equality.specs.Plan.{eq_plan}
+use Rattle.equality.specs.Law as equality
+use Rattle.equality.proofs.Laws as equality_laws
+use Rattle.bit_extract.specs.Plan.{bits_plan}
+use Rattle.bit_extract.specs.Law as bits
+use Rattle.bit_extract.proofs.Laws as bits_laws
+use Rattle.compare.specs.Plan.{less_plan}
+use Rattle.compare.specs.Law as compare
+use Rattle.compare.proofs.Laws as compare_laws
+use Rattle.shared_plans.specs.GateRuns.{GateRun, IsWellFormed, value_count, IsNumber}
+use Rattle.shared_plans.specs.Plans.{zero_test_kinds, bits_kinds, comparison_kinds}
+use Rattle.shared_plans.proofs.PlansOnShares.{zero-test-follows, bits-follow, comparison-follows}
+use Rattle.gate_laws.specs.Facts.{Stands}
+use Rattle.gate_laws.proofs.Gains.{Gain, fact}
+use Rattle.gate_laws.proofs.Singles.{stands_size}
+
+module _ (r : GateRun) (good : IsWellFormed r) where
+  is_number : (u : ℕ) (us : List ℕ) → Stands r (fact u Arithmetic us) → IsNumber r (length us) u
+  is_number u us h = record { kind = h.kind; size = stands_size r good u Arithmetic us h }
+
+  pub zero_gain : (u : ℕ) (us : List ℕ) → Stands r (fact u Arithmetic us)
+      → Gain r (eq_plan (value_count r) u) zero_test_kinds (λ m. equality.words_taken m (length us)) 16 Boolean (map zero_test us)
+  unfolding zero_test_kinds
+  zero_gain u us h =
+      record {
+        follows = zero-test-follows r good (length us) u (is_number u us h);
+        kind = refl;
+        makes = λ values before fit.
+            equality_laws.tests_for_zero (value_count r) u r.inputs values fit ∙ ap (λ z. Some (map zero_test z)) (h.words values before);
+      }
+
+  pub bits_gain : (u : ℕ) (us : List ℕ) → Stands r (fact u Arithmetic us)
+      → Gain r (bits_plan (value_count r) u (length us)) bits_kinds (λ m. bits.words_taken m (length us)) 53 Boolean us
+  unfolding bits_kinds
+  bits_gain u us h =
+      record {
+        follows = bits-follow r good (length us) u (is_number u us h);
+        kind = refl;
+        makes = λ values before fit.
+            bits_laws.gives_bits (value_count r) u (length us) r.inputs values (ap length (h.words values before)) fit
+            ∙ ap (λ z. Some z) (h.words values before);
+      }
+
+  pub less_gain : (n u v : ℕ) (us vs : List ℕ) → Stands r (fact u Arithmetic us) → Stands r (fact v Arithmetic vs) → length us ≡ n → length vs ≡ n
+      → Gain r (less_plan (value_count r) u v n) comparison_kinds (λ m. compare.words_taken m n) 109 Boolean (each_two less_test us vs)
+  unfolding comparison_kinds
+  less_gain n u v us vs h k e f =
+      record {
+        follows = comparison-follows r good n u v
+            (record { kind = h.kind; size = stands_size r good u Arithmetic us h ∙ e })
+            (record { kind = k.kind; size = stands_size r good v Arithmetic vs k ∙ f });
+        kind = refl;
+        makes = λ values before fit.
+            compare_laws.tells_less (value_count r) u v n r.inputs values (ap length (h.words values before) ∙ e) (ap length (k.words values before) ∙ f) fit
+            ∙ ap (λ z. Some (each_two less_test z (value values v))) (h.words values before) ∙ ap (λ z. Some (each_two less_test us z)) (k.words values before);
+      }

@@ -1,0 +1,110 @@
+-- Rows that give nothing to later steps: what goes to the client, and tests; and rows that begin: literals and inputs.
+use Rattle.std.proofs.Common.{◌≡◌, ℕ, ◌<◌, List, [], ◌∷◌, length, Option, Some, None, Bool, true, false, refl, subst, arith}
+use Rattle.std.specs.Prelude.{bytes_eq, if◌then◌else◌}
+use Rattle.std.proofs.lemmas.Bool.{and_parts}
+use Rattle.sc_text.specs.declared.end.Ending.TheVariants as ending
+use Rattle.sc_text.specs.declared.end.TrapKind.TheVariants as trap
+use Rattle.sc_text.specs.declared.event.Event.TheVariants as event
+use Rattle.secrec_ast.specs.declared.expression.DataType.{DataType}
+use Rattle.gates.specs.declared.gate.Gate.TheVariants as gates
+use Rattle.typed_tree.specs.declared.kinds.Shape.{Shape}
+use Rattle.typed_tree.specs.Shapes.{shape_of}
+use Rattle.language_model.specs.Effects.{World, Given, test, words_each}
+use Rattle.language_model.specs.Values.{Secrecy, Plain, Private, Value, plain, size, ring_for, elements_of, is_true}
+use Rattle.language_model.specs.Operations.{handed_over, published, tested, asserted}
+use Rattle.language_model.specs.Evaluation.{same_truth, same_shape, is_as_declared, behind, input_from, input_named, given_value, asked_for}
+use Rattle.gate_laws.specs.Facts.{bound, IsProper, drawn_by, none_of, Fact, facts_of, Dealt, Suits}
+use Rattle.gate_laws.specs.Offers.{IsOffered, AreOffered}
+use Rattle.gate_laws.proofs.Effects.{Any, NoFacts, suits_bind, suits_with, suits_done, suits_end, charge_suits, test_suits, emit_suits, draw_suits}
+use Rattle.gate_laws.proofs.Gains.{fact, gate_suits, gate_from}
+use Rattle.gate_laws.proofs.Singles.{result_gain, input_gain}
+use Rattle.gate_laws.proofs.Parts.{tell_same, tell_none, tell_first, charged_suits, plain_charge, number_suits, given_suits, shown_suits}
+use Rattle.gate_laws.proofs.Ranges.{one_below}
+use Rattle.gate_laws.proofs.Operators.{same_each}
+
+-- ---- literals
+
+pub literal_proper : (e : DataType) (n : ℕ) → n < bound e → IsProper (plain (shape_of e false) (n ∷ []))
+literal_proper e n lt = record { range = one_below (bound e) n lt; small = omega arith }
+
+module _ (w : World) (d : Dealt) where
+  -- ---- what goes to the client
+
+  module _ (v : Value) (p : IsProper v) where
+    handed_suits : (a : Secrecy) → Suits w d (facts_of v) none_of (handed_over w a v) none_of (NoFacts {A = Unit {0}}) (Any {A = Unit {0}})
+    handed_suits Plain = suits_done w d (tell_none (facts_of v)) tt
+    handed_suits (Private k) =
+        let ring = ring_for v.shape.element in
+        let owed = drawn_by (words_each (size v)) in
+        suits_bind w d (draw_suits w d (facts_of v) (words_each (size v))) (λ _ _.
+        suits_bind w d (number_suits w d (facts_of v) owed v (tell_same (facts_of v)) p.range) (λ u _.
+        suits_bind w d
+        (gate_suits w d (fact u ring v.words ∷ facts_of v) owed (λ m. size v) none_of (gates.Result ring u) ring v.words
+        (λ m. let e = same_each (size v) m in omega (arith, e)) refl (λ r good facts. result_gain r good u ring v.words facts.0)) (λ r _.
+        suits_done w d (tell_none _) tt)))
+
+    pub published_suits : (text : List ℕ) → Suits w d (facts_of v) none_of (published w text v) none_of (NoFacts {A = Unit {0}}) (Any {A = Unit {0}})
+    published_suits text =
+        suits_bind w d (plain_charge w d (facts_of v) (size v)) (λ _ _. suits_bind w d (handed_suits v.secrecy) (λ _ _.
+        emit_suits w d (facts_of v) none_of (event.Publish text (elements_of v))))
+
+  -- ---- tests
+
+  pub tested_suits : (fs : List Fact) (v : Value) → Suits w d fs none_of (tested v) none_of (NoFacts {A = Bool}) (Any {A = Bool})
+  tested_suits fs v = suits_bind w d (charge_suits w d fs 1) (λ _ _. suits_done w d (tell_none fs) tt)
+
+  pub asserted_suits : (fs : List Fact) (line : ℕ) (v : Value) → Suits w d fs none_of (asserted line v) none_of (NoFacts {A = Unit {0}}) (Any {A = Unit {0}})
+  asserted_suits fs line v =
+      suits_bind w d (charge_suits w d fs 1) (λ _ _. suits_with w d (test_suits w d fs (is_true v) trap.Assert line) (λ _ _. tell_same []) (λ _ _. tt))
+
+  -- ---- inputs
+
+  given_suits_of : (secret : Bool) (x : Given) (k : ℕ) → IsOffered d x k → x.secret ≡ secret
+      → Suits w d [] none_of (given_value secret x k) none_of facts_of IsProper
+  given_suits_of false x k o e = shown_suits w d [] x.shape x.words o.range o.small
+  given_suits_of true x k o e =
+      let ring = ring_for x.shape.element in
+      let dealt = o.dealt e in
+      suits_bind w d
+      (gate_from w d [] none_of none_of none_of (gates.Input k) ring x.words (λ m. refl) refl
+      (λ kinds s good facts. input_gain _ good k ring x.words dealt.there dealt.words dealt.kind)) (λ r _.
+      given_suits w d _ x.shape x.words r (tell_first _ _) o.range o.small)
+
+  truths_same : (a b : Bool) → same_truth a b ≡ true → a ≡ b
+  truths_same true true h = refl
+  truths_same true false h = cc
+  truths_same false true h = cc
+  truths_same false false h = refl
+
+  asked_suits_of : (secret : Bool) (shape : Shape) (line : ℕ) (o : Option (Given × ℕ)) → ((x : Given × ℕ) → o ≡ Some x → IsOffered d x.0 x.1)
+      → Suits w d [] none_of (asked_for secret shape line o) none_of facts_of IsProper
+  asked_suits_of secret shape line None h = suits_bind w d (charge_suits w d [] 1) (λ _ _. suits_end w d (ending.Trap trap.Argument line))
+  asked_suits_of secret shape line (Some x) h =
+      suits_bind w d
+      (charged_suits w d [] (test (is_as_declared secret shape x.0) trap.Argument line) (length x.0.words) (is_as_declared secret shape x.0 ≡ true)
+      (test_suits w d [] (is_as_declared secret shape x.0) trap.Argument line)) (λ _ declared.
+      given_suits_of secret x.0 x.1 (h x refl) (truths_same x.0.secret secret
+      (and_parts (same_truth x.0.secret secret) (same_shape x.0.shape shape) declared).0))
+
+  offered_there : (k : ℕ) (text : List ℕ) (xs : List Given) (x : Given × ℕ) → AreOffered d k xs → input_from k text xs ≡ Some x → IsOffered d x.0 x.1
+  offered_there k text [] x h e = absurd (none_some x e)
+    where
+      none_some : (x : Given × ℕ) → ◌≡◌ {A = Option (Given × ℕ)} None (Some x) → ⊥
+      none_some x e = cc
+  offered_there k text (y ∷ ys) x h e = go (bytes_eq text y.text) e (offered_there (behind y k) text ys x h.1)
+    where
+      found : (a b : Given × ℕ) → IsOffered d a.0 a.1 → ◌≡◌ {A = Option (Given × ℕ)} (Some a) (Some b) → IsOffered d b.0 b.1
+      found a b h e = subst Holds e h
+        where
+          Holds : Option (Given × ℕ) → Type 0
+          Holds None = Unit {0}
+          Holds (Some z) = IsOffered d z.0 z.1
+
+      go : (b : Bool) → (if b then Some (y, k) else input_from (behind y k) text ys) ≡ Some x
+          → (input_from (behind y k) text ys ≡ Some x → IsOffered d x.0 x.1) → IsOffered d x.0 x.1
+      go true e rest = found (y, k) x h.0 e
+      go false e rest = rest e
+
+  pub asked_suits : (secret : Bool) (shape : Shape) (line : ℕ) (text : List ℕ) → AreOffered d 0 w.inputs
+      → Suits w d [] none_of (asked_for secret shape line (input_named w text)) none_of facts_of IsProper
+  asked_suits secret shape line text h = asked_suits_of secret shape line (input_named w text) (λ x e. offered_there 0 text w.inputs x h e)

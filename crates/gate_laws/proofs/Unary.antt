@@ -1,0 +1,214 @@
+-- Rows with one operand.
+use Rattle.std.proofs.Common.{◌≡◌, ℕ, ◌*◌, ◌<◌, ◌≤◌, ◌^◌, ◌%◌, List, [], ◌∷◌, length, map, Bool, true, false, not, refl, sym, ap, ◌∙◌, subst, arith}
+use Rattle.std.proofs.Common.{length-append}
+use Rattle.std.specs.Prelude.{sum, ◌==◌, nat_le, if◌then◌else◌}
+use Rattle.std.specs.List.{flat_map, range_with_len}
+use Rattle.std.specs.Int.{bit_at}
+use Rattle.std.proofs.lemmas.Nat.Bits.{bit_at-lt}
+use Rattle.std.proofs.lemmas.Bool.{leb-true}
+use Rattle.std.proofs.lemmas.List.{length-map}
+use Rattle.std.proofs.lemmas.Nat.{mod_below}
+use Rattle.sc_text.specs.declared.end.TrapKind.TheVariants as trap
+use Rattle.secrec_ast.specs.declared.expression.DataType.{DataType}
+use Rattle.secrec_ast.specs.declared.expression.DataType.TheVariants.{Uint64}
+use Rattle.secrec_ast.specs.declared.expression.DataType.TheVariants as datatype
+use Rattle.gates.specs.declared.ring_kind.RingKind.TheVariants.{Arithmetic, Boolean}
+use Rattle.gates.specs.declared.gate.Gate.TheVariants as gates
+use Rattle.gates.specs.Clear.{bits_of}
+use Rattle.gates.specs.Counts.{Miner, Miner1, Miner2, Miner3, words_of_conversion}
+use Rattle.gates.specs.WordTests.{zero_test}
+use Rattle.equality.specs.Plan.{eq_plan}
+use Rattle.equality.specs.Law as equality
+use Rattle.bit_extract.specs.Plan.{bits_plan}
+use Rattle.bit_extract.specs.Law as bits
+use Rattle.shared_plans.specs.Plans.{zero_test_kinds, bits_kinds}
+use Rattle.typed_tree.specs.declared.operators.Cast.{Cast}
+use Rattle.typed_tree.specs.declared.operators.Cast.TheVariants.{WordToWord, WordToBool, BoolToWord, BoolToBool}
+use Rattle.typed_tree.specs.Shapes.{shape_of}
+use Rattle.language_model.specs.Effects.{World}
+use Rattle.language_model.specs.Values.{Secrecy, Plain, Private, Value, size}
+use Rattle.language_model.specs.Words.{flipped, cast_word}
+use Rattle.language_model.specs.Operations.{negated_from, negated, words_for_equality, words_for_conversion, words_for_bits, cast_from, cast_to, size_told}
+use Rattle.language_model.specs.Operations.{summed_from, summed, bits_from, bits_extracted, largest, not_too_large}
+use Rattle.gate_laws.specs.Facts.{InRange, IsProper, drawn_by, none_of, Fact, facts_of, Dealt, Suits}
+use Rattle.code_model.specs.Kinded.{cast_source}
+use Rattle.gate_laws.specs.Rows.{IsOfElements}
+use Rattle.gate_laws.proofs.Effects.{suits_bind, charge_suits, test_suits, draw_suits}
+use Rattle.gate_laws.proofs.Gains.{fact, gate_suits, planned_suits}
+use Rattle.gate_laws.proofs.Singles.{sum_gain, spread_gain, conv_gain}
+use Rattle.gate_laws.proofs.Plans.{zero_gain, bits_gain}
+use Rattle.gate_laws.proofs.Parts.{tell_same, tell_first, charged_suits, plain_charge, number_as, given_as, given_suits, shown_suits, itself_suits}
+use Rattle.gate_laws.proofs.Ranges.{Below, map_below, map_same, below_cons, append_below, one_below, truth_below}
+use Rattle.gate_laws.proofs.Meanings.{conversion_bits, zero_flipped}
+use Rattle.gate_laws.proofs.Operators.{in_terms, flip_suits, equality_words}
+
+mapped_twice : (f g : ℕ → ℕ) (xs : List ℕ) → map f (map g xs) ≡ map (λ x. f (g x)) xs
+mapped_twice f g [] = refl
+mapped_twice f g (x ∷ xs) = ap (λ z. f (g x) ∷ z) (mapped_twice f g xs)
+
+mapped_alike : (f g : ℕ → ℕ) (xs : List ℕ) → ((x : ℕ) → f x ≡ g x) → map f xs ≡ map g xs
+mapped_alike f g [] h = refl
+mapped_alike f g (x ∷ xs) h = ap (λ z. z ∷ map f xs) (h x) ∙ ap (λ z. g x ∷ z) (mapped_alike f g xs h)
+
+mapped_small : (f : ℕ → ℕ) (xs : List ℕ) → length xs < 2 ^ 64 → length (map f xs) < 2 ^ 64
+mapped_small f xs h = subst (λ n. n < 2 ^ 64) (sym (length-map xs f)) h
+
+mapped_low : (f : ℕ → ℕ) (xs : List ℕ) → ((x : ℕ) → f x < 2) → Below 2 (map f xs)
+mapped_low f [] h = λ k. omega arith
+mapped_low f (x ∷ xs) h = below_cons 2 (f x) (map f xs) (h x) (mapped_low f xs h)
+
+conversion_words : (n : ℕ) (m : Miner) → drawn_by (words_for_conversion n) m ≡ words_of_conversion m n
+conversion_words n Miner1 = refl
+conversion_words n Miner2 = refl
+conversion_words n Miner3 = refl
+
+bits_words : (n : ℕ) (m : Miner) → drawn_by (words_for_bits n) m ≡ bits.words_taken m n
+bits_words n Miner1 = refl
+bits_words n Miner2 = refl
+bits_words n Miner3 = refl
+
+zero_low : (x : ℕ) → zero_test x < 2
+zero_low x = go (x == 0)
+  where
+    go : (b : Bool) → (if b then 1 else 0) < 2
+    go true = omega arith
+    go false = omega arith
+
+-- ---- bits
+
+bits_low : (x : ℕ) → Below 2 (bits_of x)
+unfolding bits_of
+bits_low x = mapped_low (bit_at x) (range_with_len 0 64) (λ k. bit_at-lt x k)
+
+all_bits_low : (xs : List ℕ) → Below 2 (flat_map bits_of xs)
+all_bits_low [] = λ k. omega arith
+all_bits_low (x ∷ xs) = append_below 2 (bits_of x) (flat_map bits_of xs) (bits_low x) (all_bits_low xs)
+
+bits_length : (x : ℕ) → length (bits_of x) ≡ 64
+unfolding bits_of
+bits_length x = refl
+
+all_bits_length : (xs : List ℕ) → length (flat_map bits_of xs) ≡ 64 * length xs
+all_bits_length [] = refl
+all_bits_length (x ∷ xs) = let e = all_bits_length xs in omega (arith, e, bits_length x, length-append (bits_of x) (flat_map bits_of xs))
+
+all_bits_small : (xs : List ℕ) → 64 * length xs ≤ largest → length (flat_map bits_of xs) < 2 ^ 64
+all_bits_small xs few = let e = all_bits_length xs in omega (arith, e, few)
+
+module _ (w : World) (d : Dealt) (v : Value) where
+  abbrev fs : List Fact
+  fs = facts_of v
+
+  range_of : (e : DataType) → IsOfElements e v → InRange e v.words
+  range_of e h = subst (λ z. InRange z v.words) h.element h.proper.range
+
+  -- ---- truth values turned
+
+  turned : IsOfElements datatype.Bool v → InRange v.shape.element (map flipped v.words)
+  turned h = subst (λ z. InRange z (map flipped v.words)) (sym h.element) (mapped_low flipped v.words (λ x. truth_below (x == 0)))
+
+  negated_from_suits : (a : Secrecy) → IsOfElements datatype.Bool v → Suits w d fs none_of (negated_from a v) none_of facts_of IsProper
+  negated_from_suits Plain h = shown_suits w d fs v.shape (map flipped v.words) (turned h) (mapped_small flipped v.words h.proper.small)
+  negated_from_suits (Private k) h =
+      suits_bind w d (number_as w d fs none_of datatype.Bool v h.element (tell_same fs) (range_of datatype.Bool h)) (λ u _.
+      suits_bind w d (flip_suits w d (fact u Boolean v.words ∷ fs) none_of (size v) u v.words (tell_first _ _) refl (range_of datatype.Bool h)) (λ r _.
+      given_as w d _ datatype.Bool v.shape (map flipped v.words) r h.element (tell_first _ _)
+      (mapped_low flipped v.words (λ x. truth_below (x == 0))) (mapped_small flipped v.words h.proper.small)))
+
+  pub negated_suits : IsOfElements datatype.Bool v → Suits w d fs none_of (negated v) none_of facts_of IsProper
+  negated_suits h = suits_bind w d (plain_charge w d fs (size v)) (λ _ _. negated_from_suits v.secrecy h)
+
+  -- ---- casts
+
+  to_bool_low : Below 2 (map (cast_word WordToBool) v.words)
+  to_bool_low = mapped_low (cast_word WordToBool) v.words (λ x. truth_below (not (x == 0)))
+
+  to_word_same : IsOfElements datatype.Bool v → map (λ x. x % 2) v.words ≡ map (cast_word BoolToWord) v.words
+  to_word_same h = map_same 2 (λ x. x % 2) (cast_word BoolToWord) v.words conversion_bits (range_of datatype.Bool h)
+
+  to_word_low : IsOfElements datatype.Bool v → Below (2 ^ 64) (map (cast_word BoolToWord) v.words)
+  to_word_low h = map_below 2 (2 ^ 64) (cast_word BoolToWord) v.words (omega arith) (λ x lt. omega (arith, lt)) (range_of datatype.Bool h)
+
+  cast_from_suits : (a : Secrecy) (c : Cast) → IsOfElements (cast_source c) v → Suits w d fs none_of (cast_from w a c v) none_of facts_of IsProper
+  cast_from_suits a WordToWord h = itself_suits w d fs v (tell_same fs) h.proper
+  cast_from_suits a BoolToBool h = itself_suits w d fs v (tell_same fs) h.proper
+  cast_from_suits Plain WordToBool h =
+      shown_suits w d fs (shape_of datatype.Bool v.shape.array) (map (cast_word WordToBool) v.words) to_bool_low
+      (mapped_small (cast_word WordToBool) v.words h.proper.small)
+  cast_from_suits Plain BoolToWord h =
+      shown_suits w d fs (shape_of Uint64 v.shape.array) (map (cast_word BoolToWord) v.words) (to_word_low h)
+      (mapped_small (cast_word BoolToWord) v.words h.proper.small)
+  cast_from_suits (Private k) WordToBool h =
+      let owed = drawn_by (words_for_equality (size v)) in
+      let zeros = map zero_test v.words in
+      suits_bind w d (draw_suits w d fs (words_for_equality (size v))) (λ _ _.
+      suits_bind w d (number_as w d fs owed Uint64 v h.element (tell_same fs) (range_of Uint64 h)) (λ u _.
+      suits_bind w d
+      (suits_bind w d
+      (planned_suits w d (fact u Arithmetic v.words ∷ fs) owed (λ m. equality.words_taken m (size v)) none_of (λ first. eq_plan first u) zero_test_kinds
+      16 Boolean zeros (λ m. let e = equality_words (size v) m in omega (arith, e)) (λ first. refl) (λ r good facts. zero_gain r good u v.words facts.0))
+      (λ z _.
+      in_terms w d (mapped_twice flipped zero_test v.words ∙ mapped_alike (λ x. flipped (zero_test x)) (cast_word WordToBool) v.words zero_flipped)
+      (flip_suits w d (fact z Boolean zeros ∷ (fact u Arithmetic v.words ∷ fs)) none_of (size v) z zeros (tell_first _ _) (length-map v.words zero_test)
+      (mapped_low zero_test v.words zero_low)))) (λ r _.
+      given_suits w d _ (shape_of datatype.Bool v.shape.array) (map (cast_word WordToBool) v.words) r (tell_first _ _) to_bool_low
+      (mapped_small (cast_word WordToBool) v.words h.proper.small))))
+  cast_from_suits (Private k) BoolToWord h =
+      let owed = drawn_by (words_for_conversion (size v)) in
+      suits_bind w d (draw_suits w d fs (words_for_conversion (size v))) (λ _ _.
+      suits_bind w d (number_as w d fs owed datatype.Bool v h.element (tell_same fs) (range_of datatype.Bool h)) (λ u _.
+      suits_bind w d
+      (in_terms w d (to_word_same h)
+      (gate_suits w d (fact u Boolean v.words ∷ fs) owed (λ m. words_of_conversion m (size v)) none_of (gates.Conv u) Arithmetic (map (λ x. x % 2) v.words)
+      (λ m. let e = conversion_words (size v) m in omega (arith, e)) refl (λ r good facts. conv_gain r good u v.words facts.0))) (λ r _.
+      given_suits w d _ (shape_of Uint64 v.shape.array) (map (cast_word BoolToWord) v.words) r (tell_first _ _) (to_word_low h)
+      (mapped_small (cast_word BoolToWord) v.words h.proper.small))))
+
+  pub cast_suits : (c : Cast) → IsOfElements (cast_source c) v → Suits w d fs none_of (cast_to w c v) none_of facts_of IsProper
+  cast_suits c h = suits_bind w d (plain_charge w d fs (size v)) (λ _ _. cast_from_suits v.secrecy c h)
+
+  -- ---- sizes and sums
+
+  pub size_suits : IsProper v → Suits w d fs none_of (size_told v) none_of facts_of IsProper
+  size_suits h = suits_bind w d (charge_suits w d fs 1) (λ _ _. shown_suits w d fs (shape_of Uint64 false) (size v ∷ [])
+      (one_below (2 ^ 64) (size v) h.small) (omega arith))
+
+  total_low : Below (2 ^ 64) (sum v.words % 2 ^ 64 ∷ [])
+  total_low = one_below (2 ^ 64) (sum v.words % 2 ^ 64) (mod_below (sum v.words) (2 ^ 64) (omega arith))
+
+  summed_from_suits : (a : Secrecy) → IsOfElements Uint64 v → Suits w d fs none_of (summed_from a v) none_of facts_of IsProper
+  summed_from_suits Plain h = shown_suits w d fs (shape_of Uint64 false) (sum v.words % 2 ^ 64 ∷ []) total_low (omega arith)
+  summed_from_suits (Private k) h =
+      suits_bind w d (number_as w d fs none_of Uint64 v h.element (tell_same fs) (range_of Uint64 h)) (λ u _.
+      suits_bind w d
+      (gate_suits w d (fact u Arithmetic v.words ∷ fs) none_of none_of none_of (gates.Sum u) Arithmetic (sum v.words % 2 ^ 64 ∷ []) (λ m. refl) refl
+      (λ r good facts. sum_gain r good u v.words facts.0)) (λ r _.
+      given_suits w d _ (shape_of Uint64 false) (sum v.words % 2 ^ 64 ∷ []) r (tell_first _ _) total_low (omega arith)))
+
+  pub summed_suits : IsOfElements Uint64 v → Suits w d fs none_of (summed v) none_of facts_of IsProper
+  summed_suits h = suits_bind w d (charge_suits w d fs 1) (λ _ _. summed_from_suits v.secrecy h)
+
+  -- ---- bits
+
+  bits_from_suits : (a : Secrecy) → IsOfElements Uint64 v → 64 * size v ≤ largest → Suits w d fs none_of (bits_from w a v) none_of facts_of IsProper
+  bits_from_suits Plain h few =
+      shown_suits w d fs (shape_of datatype.Bool true) (flat_map bits_of v.words) (all_bits_low v.words) (all_bits_small v.words few)
+  bits_from_suits (Private k) h few =
+      let owed = drawn_by (words_for_bits (size v)) in
+      suits_bind w d (draw_suits w d fs (words_for_bits (size v))) (λ _ _.
+      suits_bind w d (number_as w d fs owed Uint64 v h.element (tell_same fs) (range_of Uint64 h)) (λ u _.
+      suits_bind w d
+      (planned_suits w d (fact u Arithmetic v.words ∷ fs) owed (λ m. bits.words_taken m (size v)) none_of (λ first. bits_plan first u (size v)) bits_kinds
+      53 Boolean v.words (λ m. let e = bits_words (size v) m in omega (arith, e)) (λ first. refl) (λ r good facts. bits_gain r good u v.words facts.0)) (λ b _.
+      suits_bind w d
+      (gate_suits w d (fact b Boolean v.words ∷ (fact u Arithmetic v.words ∷ fs)) none_of none_of none_of (gates.Spread b) Boolean
+      (flat_map bits_of v.words) (λ m. refl) refl
+      (λ r good facts. spread_gain r good b v.words facts.0)) (λ r _.
+      given_suits w d _ (shape_of datatype.Bool true) (flat_map bits_of v.words) r (tell_first _ _) (all_bits_low v.words) (all_bits_small v.words few)))))
+
+  pub bits_suits : (line : ℕ) → IsOfElements Uint64 v → Suits w d fs none_of (bits_extracted w line v) none_of facts_of IsProper
+  bits_suits line h =
+      suits_bind w d
+      (charged_suits w d fs (not_too_large line (64 * size v)) (64 * size v) (nat_le (64 * size v) largest ≡ true)
+      (test_suits w d fs (nat_le (64 * size v) largest) trap.Large line)) (λ _ few.
+      bits_from_suits v.secrecy h (leb-true (64 * size v) largest few))

@@ -1,0 +1,54 @@
+-- What is promised of the gates that steps and runs of code make.
+use Rattle.std.specs.Prelude.{◌≡◌, ℕ, List, Some}
+use Rattle.std.specs.List.{slice_get}
+use Rattle.proto_core.specs.declared.party.Number.{Number}
+use Rattle.proto_core.specs.Lists.{AreWords}
+use Rattle.protocol_model.specs.Gates.{sizes_of}
+use Rattle.gates.specs.Clear.{Values, FitFrom}
+use Rattle.shared_gates.specs.Shares.{Kind, AllHeld}
+use Rattle.shared_gates.specs.Model.{miner_of}
+use Rattle.shared_gates.specs.Computed.{opened_values}
+use Rattle.shared_plans.specs.GateRuns.{GateRun, IsWellFormed, words_drawn}
+use Rattle.language_model.specs.Effects.{World, Clear, Stage}
+use Rattle.language_model.specs.Reports.{Report}
+use Rattle.verified_code.specs.Steps.{Function}
+use Rattle.code_model.specs.Machine.{Machine, step}
+use Rattle.code_model.specs.Meaning.{mean_in}
+use Rattle.code_model.specs.Kinded.{AreSingle, IsWithin}
+use Rattle.code_model.specs.Laws.{AreFitting}
+use Rattle.gate_laws.specs.Facts.{drawn_by, none_of, Dealt, run_at, IsAt}
+use Rattle.gate_laws.specs.Offers.{AreOffered}
+use Rattle.gate_laws.specs.Machines.{MachineStands, ArrivesAt, AreTaking}
+
+-- code whose steps fit and take values that have gates, and inputs that are dealt
+pub record MayRun (w : World) (d : Dealt) (c : List Function) : Type 0 where
+  pub fitting : AreFitting c
+  pub taking : AreTaking c
+  pub singles : AreSingle w.inputs
+  pub offered : AreOffered d 0 w.inputs
+
+-- the miners have shares of what is dealt
+pub record IsDealing (d : Dealt) : Type 0 where
+  pub held : AllHeld d.kinds d.inputs d.shares
+  pub sized : (i : Number) → sizes_of (d.shares i) ≡ sizes_of d.inputs
+
+-- a step from where a machine stands leads to where it stands
+abbrev pub StepsKeepStanding : World → Dealt → List Function → Type 0
+StepsKeepStanding w d c =
+    MayRun w d c → (m : Machine) → IsWithin c m → (kinds : List Kind) (s : Stage) → IsAt w d kinds none_of s → MachineStands (run_at w d kinds s) m
+    → ArrivesAt w d s kinds (step w c (slice_get m.steps m.pc) m s)
+
+abbrev pub run_of : Dealt → Report → List Kind → GateRun
+run_of d r kinds = record { inputs = d.inputs; dealt_kinds = d.kinds; dealt = d.shares; gates = r.gates; kinds = kinds }
+
+-- the gates of a report are a run on shares that is well formed: each gate suits the values before it in kinds and sizes. It draws the
+-- words that the report counts. In the clear, whatever values fit the gates, the opened words are those of the values that are opened
+pub record GatesSuit (w : World) (d : Dealt) (r : Report) : Type 0 where
+  pub kinds : List Kind
+  pub formed : IsWellFormed (run_of d r kinds)
+  pub drawn : (i : Number) → drawn_by r.drawn (miner_of i) ≡ words_drawn (run_of d r kinds) i
+  pub opened : w.source ≡ Clear → (values : Values) → FitFrom d.inputs values 0 r.gates → r.opened ≡ opened_values values r.gates
+
+abbrev pub RunsMakeSuitedGates : World → Dealt → List Function → (budget : ℕ) → (answers : List ℕ) → Type 0
+RunsMakeSuitedGates w d c budget answers =
+    MayRun w d c → IsDealing d → (main : Function) → slice_get c 0 ≡ Some main → AreWords answers → GatesSuit w d (mean_in w c budget answers)

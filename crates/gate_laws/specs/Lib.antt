@@ -1,0 +1,5 @@
+pub mod Facts
+pub mod Rows
+pub mod Offers
+pub mod Machines
+pub mod Laws
