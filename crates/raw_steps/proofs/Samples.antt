@@ -1,0 +1,2 @@
+-- A sample, by computation.
+use Rattle.std.proofs.Common.{◌≡◌, ℕ, List, [], ◌∷◌, refl}
