@@ -1,1 +1,6 @@
 pub mod Fits
+pub mod Standing
+pub mod Shapes
+pub mod Rows
+pub mod Calling
+pub mod Expressions
