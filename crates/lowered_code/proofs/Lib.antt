@@ -4,3 +4,5 @@ pub mod Shapes
 pub mod Rows
 pub mod Calling
 pub mod Expressions
+pub mod Control
+pub mod Commands

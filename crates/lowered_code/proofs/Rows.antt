@@ -44,7 +44,7 @@ pub within_right : (count pc p : ℕ) (a b : List Step) → p ≡ pc + length a 
 within_right count pc p a b e l = let n = length-append a b in omega (arith, e, l, n)
 
 module _ (c : List Function) (ks : List Kind) (gives : Option Kind) (count : ℕ) where
-  abbrev Right : List Step → Type 0
+  abbrev pub Right : List Step → Type 0
   Right = AllRight c ks gives count
 
   -- code at a place, and code that may stand anywhere, are right if they end within the function
