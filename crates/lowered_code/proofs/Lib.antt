@@ -6,3 +6,4 @@ pub mod Calling
 pub mod Expressions
 pub mod Control
 pub mod Commands
+pub mod Verified

@@ -22,7 +22,7 @@ none_some e = cc
 pub same_some : {A : Type 0} (a b : A) → ◌≡◌ {A = Option A} (Some a) (Some b) → a ≡ b
 same_some a b e = cc
 
-front : {A : Type 0} (a b : List A) (k : ℕ) (x : A) → slice_get a k ≡ Some x → slice_get (a ++ b) k ≡ Some x
+pub front : {A : Type 0} (a b : List A) (k : ℕ) (x : A) → slice_get a k ≡ Some x → slice_get (a ++ b) k ≡ Some x
 front [] b k x e = absurd (none_some e)
 front (y ∷ a) b zero x e = e
 front (y ∷ a) b (suc k) x e = front a b k x e
