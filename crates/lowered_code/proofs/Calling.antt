@@ -1,10 +1,8 @@
 -- The instruction of a call is right.
-use Rattle.std.proofs.Common.{◌≡◌, ℕ, zero, suc, ◌+◌, ◌<◌, ◌≤◌, List, [], ◌∷◌, ◌++◌, length, take, map, Option, Some, None, Bool, true, false, refl, sym, ap, ◌∙◌, subst}
+use Rattle.std.proofs.Common.{◌≡◌, ℕ, ◌≤◌, List, ◌++◌, length, take, map, Option, Some, None, refl, ◌∙◌}
 use Rattle.std.proofs.Common.{arith}
-use Rattle.std.specs.Prelude.{slice_get}
 use Rattle.std.proofs.lemmas.List.{length-map, take-append-le, take-map}
 use Rattle.typed_tree.specs.declared.kinds.Shape.{Shape}
-use Rattle.typed_tree.specs.declared.kinds.Slot.{Slot}
 use Rattle.typed_tree.specs.declared.function.Given.{Given}
 use Rattle.typed_tree.specs.declared.function.Given.TheVariants.{Nothing, Value}
 use Rattle.typed_tree.specs.Programs.{TypedFunctionTree}
@@ -12,7 +10,6 @@ use Rattle.reached_instances.specs.declared.instance.BoundDomain.{BoundDomain}
 use Rattle.reached_instances.specs.Domains.{given_domain, call_domain}
 use Rattle.language_model.specs.Evaluation.{is_private, bound_at, slots_of, place_in}
 use Rattle.bytecode.specs.declared.kind.Kind.{Kind}
-use Rattle.verified_code.specs.Steps.{Function}
 use Rattle.code_model.specs.Kinds.{kind_of, slot_kind, returned_shape, called_shape}
 use Rattle.code_model.specs.Kinded.{HasKind, ResultFits}
 use Rattle.code_model.specs.Commands.{defaults_behind, commands_kinds}

@@ -1,5 +1,5 @@
 -- All steps of the code of a well-typed statement are right.
-use Rattle.std.proofs.Common.{◌≡◌, ℕ, zero, suc, ◌+◌, ◌<◌, ◌≤◌, List, [], ◌∷◌, ◌++◌, length, Option, Some, None, Bool, true, false, refl, sym, ap, ◌∙◌, subst}
+use Rattle.std.proofs.Common.{◌≡◌, ℕ, ◌+◌, ◌<◌, List, [], ◌∷◌, ◌++◌, length, Option, Some, None, Bool, true, false, refl, sym, ap, ◌∙◌, subst}
 use Rattle.std.proofs.Common.{arith, length-append}
 use Rattle.std.specs.Prelude.{slice_get}
 use Rattle.std.proofs.lemmas.Option.{slice_get_within}
@@ -24,19 +24,19 @@ use Rattle.code_model.specs.Fit.{MayStand, IsFit, IsFitCommand, AreFitCommands}
 use Rattle.code_model.specs.Kinds.{width, kind_of, slot_kind, private_kind_in, expression_kinds}
 use Rattle.code_model.specs.Kinded.{HasKind, public_scalar}
 use Rattle.code_model.specs.Expressions.{Numbers, picked, lacks, expression_code}
-use Rattle.code_model.specs.Commands.{shape_number, command_width, commands_width, command_kinds, commands_kinds, command_code, commands_code, behind_classifying}
+use Rattle.code_model.specs.Commands.{shape_number, command_width, command_kinds, commands_kinds, command_code, commands_code, behind_classifying}
 use Rattle.code_model.specs.Programs.{given_kind}
 use Rattle.code_model.proofs.Lengths.{expression_length, command_length}
 use Rattle.code_model.proofs.Widths.{expression_registers, commands_registers}
 use Rattle.raw_steps.specs.Right.{kind, IsRight}
 use Rattle.well_typed.specs.Kinds.{scalar, GoesTo}
 use Rattle.well_typed.specs.Expressions.{Gives}
-use Rattle.well_typed.specs.Commands.{IsPublicScalar, FitsInto, IsReturned, IsWellTypedCommand, AreWellTypedCommands}
+use Rattle.well_typed.specs.Commands.{IsPublicScalar, IsReturned, IsWellTypedCommand, AreWellTypedCommands}
 use Rattle.lowered_code.proofs.Standing.{clash, Stands, stands_first, stands_rest, stands_left, stands_right, AllRight, both_right, picked_kind}
-use Rattle.lowered_code.proofs.Shapes.{shape_is, value_stands, value_at, goes_may}
-use Rattle.lowered_code.proofs.Rows.{within_left, within_right, RightAt, RightAnywhere}
+use Rattle.lowered_code.proofs.Shapes.{shape_is, value_at, goes_may}
+use Rattle.lowered_code.proofs.Rows.{within_left, within_right, RightAt}
 use Rattle.lowered_code.proofs.Expressions.{IsCallee, SlotsStand, ExpressionRight, expression_right, unread_right}
-use Rattle.lowered_code.proofs.Control.{IsCondition, if_right, loop_right, do_right, behind_right}
+use Rattle.lowered_code.proofs.Control.{if_right, loop_right, do_right, behind_right}
 
 command_registers : (here : Setting) (x : Command) → length (command_kinds here x) ≡ command_width x
 command_registers here x =

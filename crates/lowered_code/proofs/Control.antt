@@ -1,5 +1,5 @@
 -- The code of branches and loops is right where that of their parts is.
-use Rattle.std.proofs.Common.{◌≡◌, ℕ, zero, suc, ◌+◌, ◌<◌, List, [], ◌∷◌, ◌++◌, length, Option, Some, None, Bool, true, false, refl, sym, ap, ◌∙◌, subst}
+use Rattle.std.proofs.Common.{ℕ, ◌+◌, ◌<◌, List, [], ◌∷◌, ◌++◌, length, Option, Bool, true, false}
 use Rattle.std.proofs.Common.{arith, length-append}
 use Rattle.secrec_ast.specs.declared.expression.DataType.TheVariants as datatype
 use Rattle.typed_tree.specs.declared.kinds.Shape.{Shape}
@@ -10,7 +10,7 @@ use Rattle.code_model.specs.Kinded.{HasKind, public_scalar}
 use Rattle.code_model.specs.Expressions.{classifying, picked, lacks}
 use Rattle.code_model.specs.Commands.{if_code, loop_code, do_code, behind_classifying}
 use Rattle.raw_steps.specs.Right.{IsRight}
-use Rattle.lowered_code.proofs.Standing.{AllRight, both_right, lacking_right}
+use Rattle.lowered_code.proofs.Standing.{both_right, lacking_right}
 use Rattle.lowered_code.proofs.Rows.{Right, RightAt, RightAnywhere}
 
 module _ (c : List Function) (ks : List Kind) (gives : Option Kind) (count : ℕ) where

@@ -1,8 +1,7 @@
 -- All steps of the code of a well-typed expression are right.
-use Rattle.std.proofs.Common.{◌≡◌, ℕ, zero, suc, ◌+◌, ◌<◌, ◌≤◌, List, [], ◌∷◌, ◌++◌, length, take, map, Option, Some, None, Bool, true, false, refl, sym, ap, ◌∙◌, subst}
-use Rattle.std.proofs.Common.{arith, length-append}
+use Rattle.std.proofs.Common.{◌≡◌, ℕ, zero, suc, ◌+◌, ◌<◌, ◌≤◌, List, [], ◌∷◌, ◌++◌, length, take, map, Option, Some, Bool, true, false, refl, sym, ap, ◌∙◌, subst}
+use Rattle.std.proofs.Common.{arith}
 use Rattle.std.specs.Prelude.{slice_get}
-use Rattle.secrec_ast.specs.declared.expression.DataType.{DataType}
 use Rattle.secrec_ast.specs.declared.expression.DataType.TheVariants.{Uint64}
 use Rattle.secrec_ast.specs.declared.expression.DataType.TheVariants as datatype
 use Rattle.typed_tree.specs.declared.kinds.Shape.{Shape}
@@ -22,19 +21,19 @@ use Rattle.reached_instances.specs.declared.instance.BoundDomain.TheVariants.{Pu
 use Rattle.reached_instances.specs.Domains.{Setting, domain, domains, domain_under, slot_domain, joined}
 use Rattle.language_model.specs.Operations.{cast_shape}
 use Rattle.language_model.specs.Words.{truth_word}
-use Rattle.language_model.specs.Evaluation.{is_private, gives_private, slots_of, bound_at, next_is_private, connective, shape_at, either}
+use Rattle.language_model.specs.Evaluation.{is_private, gives_private, slots_of, bound_at, connective, shape_at, either}
 use Rattle.bytecode.specs.declared.kind.Kind.{Kind}
-use Rattle.verified_code.specs.Steps.{Step, Function, Literal, Move, Not, Cast, Size, Sum, Bits, Declassify, Call}
+use Rattle.verified_code.specs.Steps.{Step, Function, Not, Cast, Size, Sum, Bits, Declassify, Call}
 use Rattle.code_model.specs.Fit.{IsFit, AreFit}
-use Rattle.code_model.specs.Kinds.{width, widths, kind_of, slot_kind, shape_in, kind_in, private_kind_in, expression_kinds, arguments_kinds}
-use Rattle.code_model.specs.Kinded.{HasKind, ResultFits, left_array, right_array, cast_source, cast_target, public_scalar}
+use Rattle.code_model.specs.Kinds.{width, kind_of, slot_kind, shape_in, private_kind_in, expression_kinds, arguments_kinds}
+use Rattle.code_model.specs.Kinded.{HasKind, ResultFits, left_array, right_array}
 use Rattle.code_model.specs.Expressions.{Numbers, result_at, classifying, lacks, binary_code, cut_code, expression_code, arguments_code, arguments_places, unread_code}
 use Rattle.code_model.specs.Programs.{code_of_found}
 use Rattle.code_model.proofs.Widths.{expression_registers}
 use Rattle.raw_steps.specs.Right.{kind, operand_element, AreOf, IsRight}
-use Rattle.well_typed.specs.Kinds.{scalar, array, operand_of, left_is_array, right_is_array, cast_from}
+use Rattle.well_typed.specs.Kinds.{scalar, operand_of, left_is_array, right_is_array}
 use Rattle.well_typed.specs.Expressions.{Gives, AreTaken}
-use Rattle.lowered_code.proofs.Standing.{clash, none_some, same_some, Stands, stands_first, stands_rest, stands_left, stands_right}
+use Rattle.lowered_code.proofs.Standing.{clash, Stands, stands_first, stands_rest, stands_left, stands_right}
 use Rattle.lowered_code.proofs.Standing.{AllRight, both_right, either_right, lacking_right, picked_kind}
 use Rattle.lowered_code.proofs.Shapes.{shape_is, value_stands, value_at, goes_may, left_may, right_may, operand_is, left_is, right_is, source_is, cast_kind}
 use Rattle.lowered_code.proofs.Rows.{within_left, within_right, RightAt, binary_right, cat_right, element_right, cut_right}

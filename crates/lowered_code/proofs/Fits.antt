@@ -1,8 +1,7 @@
 -- Well-typed programs fit what their code asks of them.
-use Rattle.std.proofs.Common.{◌≡◌, ℕ, zero, suc, ◌<◌, List, [], ◌∷◌, length, take, Option, Some, None, Bool, true, false, ◌&&◌, ◌||◌, refl, sym, ap, ap₂, ◌∙◌, subst}
+use Rattle.std.proofs.Common.{◌≡◌, ℕ, zero, suc, List, [], ◌∷◌, take, Option, Some, None, Bool, true, false, ◌&&◌, ◌||◌, refl, sym, ap, ap₂, ◌∙◌, subst}
 use Rattle.std.specs.List.{slice_get}
 use Rattle.std.proofs.lemmas.Option.{slice_get_within}
-use Rattle.sc_text.specs.Lists.{Among}
 use Rattle.typed_tree.specs.declared.kinds.Shape.{Shape}
 use Rattle.typed_tree.specs.declared.kinds.Slot.{Slot}
 use Rattle.typed_tree.specs.declared.function.Given.{Given}
@@ -14,7 +13,7 @@ use Rattle.typed_tree.specs.Commands.{Command, Commands, empty_command, block_co
 use Rattle.typed_tree.specs.Commands.{return_command, assert_command, store_command, default_command, fill_command, input_command, element_command}
 use Rattle.typed_tree.specs.Commands.{publish_command, evaluate_command}
 use Rattle.typed_tree.specs.Commands as Commands'
-use Rattle.typed_tree.specs.Programs.{TypedFunctionTree, TypedProgramTree}
+use Rattle.typed_tree.specs.Programs.{TypedProgramTree}
 use Rattle.secrec_ast.specs.Programs.{ProgramTree}
 use Rattle.domain_types.specs.Typing.{IsTypedProgram}
 use Rattle.name_resolution.specs.Functions.{typed_of}
@@ -24,8 +23,7 @@ use Rattle.reached_instances.specs.Domains.{Setting, domain, domains, domain_und
 use Rattle.reached_instances.specs.Instances.{Instance}
 use Rattle.reached_instances.specs.Calls.{called, main_of}
 use Rattle.reached_instances.specs.Reached.{IsReachedList}
-use Rattle.language_model.specs.Evaluation.{Place, is_private, place_in, bound_at, slots_of}
-use Rattle.language_model.specs.Effects.{World}
+use Rattle.language_model.specs.Evaluation.{Place, is_private, bound_at, slots_of}
 use Rattle.code_model.specs.Fit as fit
 use Rattle.code_model.specs.Fit.{MayStand, IsFit, AreFit, FitsSlot, IsFitCommand, AreFitCommands, IsThere, IsFitAlone, IsFitProgram, the_main, gives_value}
 use Rattle.code_model.proofs.Means.{means}

@@ -7,3 +7,4 @@ pub mod Expressions
 pub mod Control
 pub mod Commands
 pub mod Verified
+pub mod Samples

@@ -1,7 +1,5 @@
 -- The kind of the value of a well-typed expression.
-use Rattle.std.proofs.Common.{◌≡◌, ℕ, List, [], ◌∷◌, Option, Some, None, Bool, true, false, not, ◌&&◌, ◌||◌, refl, sym, ap, ◌∙◌, subst}
-use Rattle.std.specs.Prelude.{slice_get}
-use Rattle.secrec_ast.specs.declared.expression.DataType.{DataType}
+use Rattle.std.proofs.Common.{◌≡◌, ℕ, List, Some, Bool, true, false, not, ◌&&◌, ◌||◌, refl, sym, ap, ◌∙◌, subst}
 use Rattle.typed_tree.specs.declared.kinds.Shape.{Shape}
 use Rattle.typed_tree.specs.declared.operators.Cast.{Cast}
 use Rattle.typed_tree.specs.declared.operators.Cast.TheVariants.{WordToWord, WordToBool, BoolToWord, BoolToBool}
@@ -15,7 +13,7 @@ use Rattle.typed_tree.specs.declared.function.Given.{Given}
 use Rattle.typed_tree.specs.declared.function.Given.TheVariants.{Nothing, Value}
 use Rattle.typed_tree.specs.Operators.{element_made}
 use Rattle.typed_tree.specs.Shapes.{shape_of}
-use Rattle.typed_tree.specs.Tree.{TypedTree, TypedTrees, word_node, truth_node, slot_node, call_node, size_node, cat_node, sum_node, bits_node, element_node}
+use Rattle.typed_tree.specs.Tree.{TypedTree, word_node, truth_node, slot_node, call_node, size_node, cat_node, sum_node, bits_node, element_node}
 use Rattle.typed_tree.specs.Tree.{not_node, cast_node, binary_node, cut_node, declassify_node}
 use Rattle.reached_instances.specs.declared.instance.BoundDomain.{BoundDomain}
 use Rattle.reached_instances.specs.declared.instance.BoundDomain.TheVariants.{Public, Private}
@@ -29,7 +27,7 @@ use Rattle.code_model.specs.Kinds.{kind_of, returned_shape, called_shape, shape_
 use Rattle.code_model.specs.Kinded.{HasKind, left_array, right_array, cast_source, cast_target}
 use Rattle.code_model.specs.Expressions.{lacks, mixes}
 use Rattle.raw_steps.specs.Right.{operand_element}
-use Rattle.well_typed.specs.Kinds.{GoesTo, Meet, operand_of, MayOperate, left_is_array, right_is_array, cast_from, cast_to}
+use Rattle.well_typed.specs.Kinds.{GoesTo, operand_of, MayOperate, left_is_array, right_is_array, cast_from, cast_to}
 use Rattle.well_typed.specs.Expressions.{Gives, shape_given}
 use Rattle.lowered_code.proofs.Standing.{clash, none_some, same_some, Stands, stands_first}
 

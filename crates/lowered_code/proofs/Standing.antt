@@ -1,12 +1,12 @@
 -- Kinds that stand in the list of a function's kinds from a register on, and code all of whose steps are right.
-use Rattle.std.proofs.Common.{◌≡◌, ℕ, zero, suc, ◌+◌, ◌<◌, List, [], ◌∷◌, ◌++◌, length, Option, Some, None, Bool, true, false, not, ◌&&◌, refl, sym, ap, ◌∙◌, subst}
+use Rattle.std.proofs.Common.{◌≡◌, ℕ, zero, suc, ◌+◌, List, [], ◌∷◌, ◌++◌, length, Option, Some, None, Bool, true, false, refl, ap, ◌∙◌, subst}
 use Rattle.std.proofs.Common.{arith}
 use Rattle.std.specs.Prelude.{slice_get}
 use Rattle.secrec_ast.specs.declared.expression.DataType.{DataType}
 use Rattle.typed_tree.specs.declared.kinds.Shape.{Shape}
 use Rattle.language_model.specs.Evaluation.{either}
 use Rattle.bytecode.specs.declared.kind.Kind.{Kind}
-use Rattle.verified_code.specs.Steps.{Step, Function, Classify}
+use Rattle.verified_code.specs.Steps.{Step, Function}
 use Rattle.code_model.specs.Fit.{MayStand}
 use Rattle.code_model.specs.Kinds.{kind_of}
 use Rattle.code_model.specs.Kinded.{HasKind}

@@ -1,5 +1,5 @@
 -- The code of a well-typed program is right.
-use Rattle.std.proofs.Common.{◌≡◌, ℕ, zero, suc, ◌+◌, ◌<◌, ◌≤◌, List, [], ◌∷◌, ◌++◌, length, map, Option, Some, None, Bool, true, false, cond, refl, sym, ap, ◌∙◌, subst}
+use Rattle.std.proofs.Common.{◌≡◌, ℕ, zero, suc, ◌+◌, ◌<◌, ◌≤◌, List, [], ◌∷◌, ◌++◌, length, map, Some, None, Bool, true, false, cond, refl, sym, ap, ◌∙◌, subst}
 use Rattle.std.proofs.Common.{arith, length-append, ◌⊎◌, inl, inr}
 use Rattle.std.specs.Prelude.{slice_get}
 use Rattle.std.proofs.lemmas.List.{length-map}
@@ -42,7 +42,7 @@ use Rattle.well_typed.specs.Programs.{IsWellTypedInstance, IsWellTyped}
 use Rattle.lowered_code.specs.Laws.{HasNumberedRegisters, IsVerifiedWhereWellTyped, RunsWhereAccepted}
 use Rattle.lowered_code.proofs.Fits.{well_typed_fits, accepted_means}
 use Rattle.lowered_code.proofs.Standing.{clash, none_some, same_some, front, Stands, stands_itself, stands_left, stands_right, stands_first}
-use Rattle.lowered_code.proofs.Standing.{AllRight, both_right, right_at}
+use Rattle.lowered_code.proofs.Standing.{both_right, right_at}
 use Rattle.lowered_code.proofs.Calling.{parameters_of}
 use Rattle.lowered_code.proofs.Expressions.{IsCallee}
 use Rattle.lowered_code.proofs.Commands.{commands_right}

@@ -1,7 +1,7 @@
 -- The instruction of a step that is right passes all that is asked of it.
-use Rattle.std.proofs.Common.{◌≡◌, ℕ, zero, suc, ◌+◌, ◌<◌, ◌≤◌, ◌==◌, List, [], ◌∷◌, length, map, take, Option, Some, None, Bool, true, false, ◌&&◌, ◌||◌, refl, sym, ap, ap₂, ◌∙◌}
-use Rattle.std.proofs.Common.{arith, inl, subst}
-use Rattle.std.specs.Prelude.{slice_get, nat_lt, nat_le}
+use Rattle.std.proofs.Common.{◌≡◌, ℕ, zero, suc, ◌+◌, ◌<◌, ◌≤◌, ◌==◌, List, [], ◌∷◌, length, map, take, Option, Some, None, Bool, true, false, ◌||◌, refl, ap, ◌∙◌}
+use Rattle.std.proofs.Common.{inl}
+use Rattle.std.specs.Prelude.{slice_get, nat_lt}
 use Rattle.std.specs.List.{list_all}
 use Rattle.std.proofs.lemmas.Bool.{lt-ltb, le-leb}
 use Rattle.std.proofs.lemmas.Bool.Decides.{Decides-eqb}
@@ -12,17 +12,13 @@ use Rattle.secrec_ast.specs.declared.expression.DataType.{DataType}
 use Rattle.secrec_ast.specs.declared.expression.DataType.TheVariants.{Uint64}
 use Rattle.secrec_ast.specs.declared.expression.DataType.TheVariants as datatype
 use Rattle.bytecode.specs.declared.kind.Kind.{Kind}
-use Rattle.bytecode.specs.Raw.{Raw, RawFunction, RawCode}
 use Rattle.verified_code.specs.Fitting as fitting
-use Rattle.verified_code.specs.Sound.{passes}
 use Rattle.verified_code.specs.Verified.{here}
 use Rattle.verified_code.specs.Steps.{Step, Function, Literal, Move, Store, Binary, Not, Cast, Classify, Fill, At, Put, Size, Cat, Sum, Bits, Declassify}
 use Rattle.verified_code.specs.Steps.{Argument, Publish, Assert, Branch, Jump, Call, Return, ReturnNone}
-use Rattle.code_model.specs.Kinds.{kind_of}
-use Rattle.code_model.specs.Kinded.{HasKind, ResultFits, left_array, right_array, cast_source, cast_target, public_scalar, is_return}
-use Rattle.language_model.specs.Operations.{result_shape}
-use Rattle.raw_steps.specs.Instructions.{nowhere, operator_number, register_or_nowhere, place_among, step_names, instruction, raw_function, names_of, raw_code_of}
-use Rattle.raw_steps.specs.Right.{kind, operand_element, AreOf, IsRight, IsRightFunction}
+use Rattle.code_model.specs.Kinded.{HasKind, ResultFits, cast_source, cast_target, public_scalar, is_return}
+use Rattle.raw_steps.specs.Instructions.{operator_number, register_or_nowhere, place_among, step_names, instruction, raw_function, names_of, raw_code_of}
+use Rattle.raw_steps.specs.Right.{kind, AreOf, IsRight}
 use Rattle.raw_steps.proofs.KindTests.{both, all_three, all_four, kind_self, its_kind, there, one_of, two_of, three_of, operator_fits}
 use Rattle.raw_steps.proofs.Names.{name_found}
 

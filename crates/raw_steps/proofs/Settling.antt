@@ -1,6 +1,5 @@
 -- The instruction of a step that is right settles to it again.
-use Rattle.std.proofs.Common.{◌≡◌, ℕ, ◌+◌, ◌<◌, ◌≤◌, ◌==◌, List, [], ◌∷◌, length, map, Option, Some, None, Bool, true, false, cond, refl, sym, ap, ap₂, ◌∙◌, arith, inl}
-use Rattle.std.specs.Prelude.{slice_get}
+use Rattle.std.proofs.Common.{◌≡◌, ℕ, ◌<◌, ◌≤◌, List, length, Option, Some, None, cond, refl, ap, ap₂, ◌∙◌, arith, inl}
 use Rattle.std.proofs.lemmas.Bool.{ne_eqb}
 use Rattle.std.proofs.lemmas.Option.{slice_get_within}
 use Rattle.sc_text.specs.Lists.{Among}
@@ -10,8 +9,8 @@ use Rattle.verified_code.specs.Fitting.{kind_at}
 use Rattle.verified_code.specs.Settled.{name_or, result_at, binary_step, settle}
 use Rattle.verified_code.specs.Steps.{Step, Function, Literal, Move, Store, Binary, Not, Cast, Classify, Fill, At, Put, Size, Cat, Sum, Bits, Declassify}
 use Rattle.verified_code.specs.Steps.{Argument, Publish, Assert, Branch, Jump, Call, Return, ReturnNone}
-use Rattle.code_model.specs.Kinded.{HasKind, ResultFits, left_array, right_array}
-use Rattle.raw_steps.specs.Instructions.{nowhere, operator_number, register_or_nowhere, place_among, step_names, instruction}
+use Rattle.code_model.specs.Kinded.{ResultFits, left_array, right_array}
+use Rattle.raw_steps.specs.Instructions.{nowhere, operator_number, register_or_nowhere, step_names, instruction}
 use Rattle.raw_steps.specs.Right.{kind, operand_element, IsRight}
 use Rattle.raw_steps.proofs.KindTests.{its_kind, operator_back, operands_back, cast_back, bit_back}
 use Rattle.raw_steps.proofs.Names.{name_found}

@@ -1,23 +1,22 @@
 -- Raw code whose steps are right is verified, and settles to them.
-use Rattle.std.proofs.Common.{◌≡◌, ℕ, zero, suc, ◌+◌, ◌<◌, ◌≤◌, ◌==◌, List, [], ◌∷◌, length, map, Option, Some, None, Bool, true, false, not, ◌&&◌, ◌||◌, refl, sym, ap}
-use Rattle.std.proofs.Common.{ap₂, ◌∙◌, subst, arith, inl}
+use Rattle.std.proofs.Common.{◌≡◌, ℕ, suc, ◌==◌, List, [], ◌∷◌, length, map, Some, Bool, true, false, not, ◌&&◌, ◌||◌, refl, sym, ap}
+use Rattle.std.proofs.Common.{ap₂, ◌∙◌, subst, arith}
 use Rattle.std.specs.Prelude.{slice_get}
 use Rattle.std.proofs.lemmas.Bool.{le-leb}
 use Rattle.std.proofs.lemmas.Bool.Decides.{Decides-eqb}
 use Rattle.std.proofs.lemmas.List.{length-map}
 use Rattle.std.proofs.lemmas.Option.{slice_get_within}
-use Rattle.bytecode.specs.Raw.{Raw, RawFunction, RawCode}
 use Rattle.verified_code.specs.Fitting as fitting
 use Rattle.verified_code.specs.Settled.{settle, settled_function, settled}
 use Rattle.verified_code.specs.Sound.{passes, IsSoundFunction, IsSound}
-use Rattle.verified_code.specs.Steps.{Step, Function, Jump}
+use Rattle.verified_code.specs.Steps.{Step, Function}
 use Rattle.verified_code.specs.Verified.{head_fits, is_main_head, here, IsVerified}
 use Rattle.verified_code.proofs.Sound.{sound_is_verified}
 use Rattle.raw_steps.specs.Instructions.{instruction, raw_function, names_of, raw_code_of}
 use Rattle.raw_steps.specs.Right.{IsRightFunction, AreRight}
 use Rattle.raw_steps.proofs.KindTests.{all_four}
 use Rattle.raw_steps.proofs.Names.{named}
-use Rattle.raw_steps.proofs.Passing.{mapped, unmapped, all_names, all_operands, target_there, on}
+use Rattle.raw_steps.proofs.Passing.{unmapped, all_names, all_operands, target_there, on}
 use Rattle.raw_steps.proofs.Settling.{settles}
 
 -- a list that is mapped, each element to itself

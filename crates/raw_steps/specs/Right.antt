@@ -12,7 +12,7 @@ use Rattle.verified_code.specs.Fitting.{secrecy_fits}
 use Rattle.verified_code.specs.Steps.{Step, Function, Literal, Move, Store, Binary, Not, Cast, Classify, Fill, At, Put, Size, Cat, Sum, Bits, Declassify}
 use Rattle.verified_code.specs.Steps.{Argument, Publish, Assert, Branch, Jump, Call, Return, ReturnNone}
 use Rattle.code_model.specs.Kinds.{kind_of}
-use Rattle.code_model.specs.Kinded.{public_scalar, with_secret, with_array, cast_source, cast_target, left_array, right_array, HasKind, ResultFits}
+use Rattle.code_model.specs.Kinded.{public_scalar, cast_source, cast_target, left_array, right_array, HasKind, ResultFits}
 use Rattle.code_model.specs.Kinded.{is_return, IsIn}
 use Rattle.raw_steps.specs.Instructions.{nowhere}
 
