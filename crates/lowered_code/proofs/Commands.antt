@@ -1,0 +1,277 @@
+-- All steps of the code of a well-typed statement are right.
+use Rattle.std.proofs.Common.{◌≡◌, ℕ, ◌+◌, ◌<◌, List, [], ◌∷◌, ◌++◌, length, Option, Some, None, Bool, true, false, refl, sym, ap, ◌∙◌, subst}
+use Rattle.std.proofs.Common.{arith, length-append}
+use Rattle.std.specs.Prelude.{slice_get}
+use Rattle.std.proofs.lemmas.Option.{slice_get_within}
+use Rattle.secrec_ast.specs.declared.expression.DataType.{DataType}
+use Rattle.secrec_ast.specs.declared.expression.DataType.TheVariants.{Uint64}
+use Rattle.secrec_ast.specs.declared.expression.DataType.TheVariants as datatype
+use Rattle.typed_tree.specs.declared.kinds.Shape.{Shape}
+use Rattle.typed_tree.specs.declared.kinds.Slot.{Slot}
+use Rattle.typed_tree.specs.declared.function.Given.{Given}
+use Rattle.typed_tree.specs.declared.function.Given.TheVariants.{Nothing, Value}
+use Rattle.typed_tree.specs.Tree.{TypedTree}
+use Rattle.typed_tree.specs.Commands.{Command, Commands, empty_command, block_command, if_command, loop_command, do_command, break_command, continue_command}
+use Rattle.typed_tree.specs.Commands.{return_command, assert_command, store_command, default_command, fill_command, input_command, element_command}
+use Rattle.typed_tree.specs.Commands.{publish_command, evaluate_command}
+use Rattle.typed_tree.specs.Commands as Commands'
+use Rattle.reached_instances.specs.declared.instance.BoundDomain.{BoundDomain}
+use Rattle.reached_instances.specs.Domains.{Setting, domain, domain_under, slot_domain, given_domain}
+use Rattle.language_model.specs.Evaluation.{Place, is_private, gives_private, slot_is_private, slot_shape, shape_at}
+use Rattle.bytecode.specs.declared.kind.Kind.{Kind}
+use Rattle.verified_code.specs.Steps.{Step, Function, Store, Fill, Put, Publish, Assert, Branch, Return}
+use Rattle.code_model.specs.Fit.{MayStand, IsFit, IsFitCommand, AreFitCommands}
+use Rattle.code_model.specs.Kinds.{width, kind_of, slot_kind, private_kind_in, expression_kinds}
+use Rattle.code_model.specs.Kinded.{HasKind, public_scalar}
+use Rattle.code_model.specs.Expressions.{Numbers, picked, lacks, expression_code}
+use Rattle.code_model.specs.Commands.{shape_number, command_width, command_kinds, commands_kinds, command_code, commands_code, behind_classifying}
+use Rattle.code_model.specs.Programs.{given_kind}
+use Rattle.code_model.proofs.Lengths.{expression_length, command_length}
+use Rattle.code_model.proofs.Widths.{expression_registers, commands_registers}
+use Rattle.raw_steps.specs.Right.{kind, IsRight}
+use Rattle.well_typed.specs.Kinds.{scalar, GoesTo}
+use Rattle.well_typed.specs.Expressions.{Gives}
+use Rattle.well_typed.specs.Commands.{IsPublicScalar, IsReturned, IsWellTypedCommand, AreWellTypedCommands}
+use Rattle.lowered_code.proofs.Standing.{clash, Stands, stands_first, stands_rest, stands_left, stands_right, AllRight, both_right, picked_kind}
+use Rattle.lowered_code.proofs.Shapes.{shape_is, value_at, goes_may}
+use Rattle.lowered_code.proofs.Rows.{within_left, within_right, RightAt}
+use Rattle.lowered_code.proofs.Expressions.{IsCallee, SlotsStand, ExpressionRight, expression_right, unread_right}
+use Rattle.lowered_code.proofs.Control.{if_right, loop_right, do_right, behind_right}
+
+command_registers : (here : Setting) (x : Command) → length (command_kinds here x) ≡ command_width x
+command_registers here x =
+    let e = commands_registers here (Commands'.also x Commands'.none) in
+    let n = length-append (command_kinds here x) [] in
+    omega (arith, e, n)
+
+module _ (number : Numbers) (c : List Function) (ks : List Kind) (count : ℕ) (here : Setting) where
+  -- behind the slots, one register of each shape
+  abbrev pub DefaultsStand : Type 0
+  DefaultsStand = (s : Shape) → 0 < length here.slots → HasKind ks (length here.slots + shape_number s) (kind_of false s)
+
+  abbrev given_here : Given → Option Kind
+  given_here g = given_kind here.binding g
+
+  -- in a function that gives this back
+  abbrev pub at : Given → Place
+  at g = record { here = here; secret_result = is_private (given_domain here.binding g) }
+
+  module _ (Known : ℕ → List BoundDomain → Type 0) (slots : SlotsStand number c ks None count here) (defaults : DefaultsStand)
+      (known : (k : ℕ) (b : List BoundDomain) → Known k b → IsCallee number c ks None count here k b) where
+    abbrev Right : Given → List Step → Type 0
+    Right g = AllRight c ks (given_here g) count
+
+    abbrev Ends : Given → ℕ → List Step → Type 0
+    Ends g = RightAt c ks (given_here g) count
+
+    both : (g : Given) (a b : List Step) → Right g a → Right g b → Right g (a ++ b)
+    both g a b h k = both_right c ks (given_here g) count a b h k
+
+    expression : (g : Given) (e : TypedTree) (s : Shape) → Gives here e (Some s) → IsFit Known here e
+        → ExpressionRight number c ks (given_here g) count here Known known slots e
+    expression g e s h f = expression_right number c ks (given_here g) count here Known known slots e s h f
+
+    -- ---- CONDITIONS AND SLOTS
+
+    public_at : (t : ℕ) (e : TypedTree) (x : DataType) → IsPublicScalar here x e → Stands ks t (expression_kinds here e) → HasKind ks t (public_scalar x)
+    public_at t e x h stands = subst (λ d. HasKind ks t (kind_of (is_private d) (scalar x))) h.1 (value_at here t e _ h.0 stands)
+
+    slot_at : (k : ℕ) (s : Slot) → slice_get here.slots k ≡ Some s → HasKind ks k (kind_of (slot_is_private here k) (slot_shape here k))
+    slot_at k s there = slots k s there ∙ ap (λ o. Some (kind_of (is_private (slot_domain here.binding o)) (shape_at o))) (sym there)
+
+    slot_of : (k : ℕ) (s : Slot) → slice_get here.slots k ≡ Some s → HasKind ks k (kind_of (slot_is_private here k) s.shape)
+    slot_of k s there = slot_at k s there ∙ ap (λ o. Some (kind_of (slot_is_private here k) (shape_at o))) there
+
+    array_of : (k : ℕ) (s : Slot) → slice_get here.slots k ≡ Some s → s.shape.array ≡ true → HasKind ks k
+        (kind (slot_is_private here k) s.shape.element true)
+    array_of k s there a = slot_of k s there ∙ ap (λ b. Some (kind (slot_is_private here k) s.shape.element b)) a
+
+    slot_may : (k : ℕ) (s : Slot) (e : TypedTree) → slice_get here.slots k ≡ Some s → GoesTo (domain here e) (domain_under here.binding s.domain)
+        → MayStand (gives_private here e) (slot_is_private here k)
+    slot_may k s e there h =
+        subst (λ o. MayStand (gives_private here e) (is_private (slot_domain here.binding o))) (sym there)
+        (goes_may (domain here e) (domain_under here.binding s.domain) h)
+
+    private_at : (t : ℕ) (e : TypedTree) (s : Shape) → Gives here e (Some s) → HasKind ks t (private_kind_in here e) → HasKind ks t (kind_of true s)
+    private_at t e s h k = subst (λ z. HasKind ks t (kind_of true z)) (shape_is here e s h) k
+
+    -- ---- VALUES THAT ARE STORED OR GIVEN BACK
+
+    -- one expression, the classification of its value, and the step that reads it
+    stored : (g : Given) (t pc : ℕ) (w : Bool) (e : TypedTree) (s : Shape) (last : ℕ → Step) → Gives here e (Some s) → IsFit Known here e
+        → MayStand (gives_private here e) w → Stands ks t (private_kind_in here e ∷ expression_kinds here e)
+        → ((r : ℕ) → HasKind ks r (kind_of w s) → IsRight c ks (given_here g) count (last r))
+        → Ends g pc (expression_code number here (t + 1) pc e ++ behind_classifying w (gives_private here e) t (t + 1) last)
+    stored g t pc w e s last h f m stands i l =
+        let own = stands_rest (t + 1) refl stands in
+        let ce = expression_code number here (t + 1) pc e in
+        let v = value_at here (t + 1) e s h own in
+        let p = private_at t e s h (stands_first stands) in
+        both g ce _ (expression g e s h f (t + 1) pc own (within_left count pc ce (behind_classifying w (gives_private here e) t (t + 1) last) l))
+        (behind_right c ks (given_here g) count w (gives_private here e) s t (t + 1) last v p
+        (i (picked (lacks w (gives_private here e)) t (t + 1)) (picked_kind c ks (given_here g) count w (gives_private here e) s t (t + 1) m v p)))
+
+    -- a size or an index before it
+    indexed : (g : Given) (t pc : ℕ) (w : Bool) (n e : TypedTree) (s : Shape) (last : ℕ → Step) → IsPublicScalar here Uint64 n → IsFit Known here n
+        → Gives here e (Some s) → IsFit Known here e → MayStand (gives_private here e) w
+        → Stands ks t (private_kind_in here e ∷ (expression_kinds here n ++ expression_kinds here e))
+        → ((r : ℕ) → HasKind ks (t + 1) (public_scalar Uint64) → HasKind ks r (kind_of w s) → IsRight c ks (given_here g) count (last r))
+        → Ends g pc (expression_code number here (t + 1) pc n
+        ++ (expression_code number here (t + 1 + width n) (pc + length (expression_code number here (t + 1) pc n)) e
+        ++ behind_classifying w (gives_private here e) t (t + 1 + width n) last))
+    indexed g t pc w n e s last hn fn h f m stands i l =
+        let u = t + 1 + width n in
+        let rest = stands_rest (t + 1) refl stands in
+        let first = stands_left (expression_kinds here n) (expression_kinds here e) rest in
+        let many = expression_registers here n in
+        let place : u ≡ t + 1 + length (expression_kinds here n) = omega (arith, many) in
+        let own = stands_right u (expression_kinds here n) place rest in
+        let cn = expression_code number here (t + 1) pc n in
+        let q = pc + length cn in
+        let ce = expression_code number here u q e in
+        let end = behind_classifying w (gives_private here e) t u last in
+        let v = value_at here u e s h own in
+        let p = private_at t e s h (stands_first stands) in
+        both g cn _ (expression g n _ hn.0 fn (t + 1) pc first (within_left count pc cn (ce ++ end) l))
+        (both g ce end (expression g e s h f u q own (within_left count q ce end (within_right count pc q cn (ce ++ end) refl l)))
+        (behind_right c ks (given_here g) count w (gives_private here e) s t u last v p
+        (i (picked (lacks w (gives_private here e)) t u) (public_at (t + 1) n Uint64 hn first)
+        (picked_kind c ks (given_here g) count w (gives_private here e) s t u m v p))))
+
+    returned : (g : Given) (o : Option TypedTree) (inside : Bool) → IsReturned here g o → IsFitCommand Known (at g) inside (return_command o) → (t x y pc : ℕ)
+        → Stands ks t (command_kinds here (return_command o)) → Ends g pc (command_code number (at g) t x y pc (return_command o))
+    returned Nothing None inside h f t x y pc stands l = (refl, tt)
+    returned Nothing (Some e) inside h f t x y pc stands l = absurd h
+    returned (Value s) None inside h f t x y pc stands l = absurd h
+    returned (Value s) (Some e) inside h f t x y pc stands l =
+        stored (Value s) t pc (is_private (domain_under here.binding s.domain)) e s.shape Return h.0 f.0
+        (goes_may (domain here e) (domain_under here.binding s.domain) h.1) stands (λ r k. (slot_kind here.binding s, refl, k)) l
+
+    -- ---- STATEMENTS
+
+    behind_one : (g : Given) (e : TypedTree) (s : Shape) (i : Step) → Gives here e (Some s) → IsFit Known here e → (t pc : ℕ)
+        → Stands ks t (expression_kinds here e) → IsRight c ks (given_here g) count i → Ends g pc (expression_code number here t pc e ++ i ∷ [])
+    behind_one g e s i h f t pc stands k l =
+        let ce = expression_code number here t pc e in
+        both g ce (i ∷ []) (expression g e s h f t pc stands (within_left count pc ce (i ∷ []) l)) (k, tt)
+
+    -- the condition of a loop stands behind its body and its step
+    second_part : (t u : ℕ) (a b : List Kind) (n : ℕ) → length a ≡ n → u ≡ t + n → Stands ks t (a ++ b) → Stands ks u b
+    second_part t u a b n e p stands = let place : u ≡ t + length a = omega (arith, e, p) in stands_right u a place stands
+
+    mutual
+      pub command_right : (g : Given) (inside : Bool) (x : Command) → IsWellTypedCommand here g inside x → IsFitCommand Known (at g) inside x
+          → (t out over pc : ℕ) → out < count → over < count → Stands ks t (command_kinds here x) → Ends g pc (command_code number (at g) t out over pc x)
+      command_right g inside empty_command h f t out over pc o v stands l = tt
+      command_right g inside (block_command cs) h f t out over pc o v stands l = commands_right g inside cs h f t out over pc o v stands l
+      command_right g inside (if_command e a b) h f t out over pc o v stands l =
+          let ta = t + width e in
+          let tb = ta + command_width a in
+          let ke = expression_kinds here e in
+          let ka = command_kinds here a in
+          let kb = command_kinds here b in
+          let se = stands_left ke (ka ++ kb) stands in
+          let rest = second_part t ta ke (ka ++ kb) (width e) (expression_registers here e) refl stands in
+          let sb = second_part ta tb ka kb (command_width a) (command_registers here a) refl rest in
+          if_right c ks (given_here g) count pc t (expression_code number here t pc e) (λ p. command_code number (at g) ta out over p a)
+          (λ p. command_code number (at g) tb out over p b) (public_at t e datatype.Bool h.0 se) (expression g e _ h.0.0 f.0 t pc se)
+          (λ p. command_right g inside a h.1 f.1 ta out over p o v (stands_left ka kb rest)) (λ p. command_right g inside b h.2 f.2 tb out over p o v sb) l
+      command_right g inside (loop_command e step body) h f t out over pc o v stands l =
+          let ts = t + command_width body in
+          let te = ts + command_width step in
+          let py = pc + 1 + length (command_code number (at g) t 0 0 0 body) in
+          let pt = py + length (command_code number (at g) ts 0 0 0 step) in
+          let px = pt + length (expression_code number here te 0 e) + 1 in
+          let kb = command_kinds here body in
+          let kt = command_kinds here step in
+          let ke = expression_kinds here e in
+          let rest = second_part t ts kb (kt ++ ke) (command_width body) (command_registers here body) refl stands in
+          let se = second_part ts te kt ke (command_width step) (command_registers here step) refl rest in
+          let cb = command_code number (at g) t px py (pc + 1) body in
+          let p2 = pc + 1 + length cb in
+          let ct = command_code number (at g) ts px pt p2 step in
+          let p3 = p2 + length ct in
+          let ce = expression_code number here te p3 e in
+          let n1 = length-append cb (ct ++ (ce ++ Branch te true (pc + 1) ∷ [])) in
+          let n2 = length-append ct (ce ++ Branch te true (pc + 1) ∷ []) in
+          let n3 = length-append ce (Branch te true (pc + 1) ∷ []) in
+          let m1 = command_length number (at g) body t px py (pc + 1) 0 0 0 in
+          let m2 = command_length number (at g) step ts px pt p2 0 0 0 in
+          let m3 = expression_length number here e te p3 0 in
+          let ends : px < count = omega (arith, l, n1, n2, n3, m1, m2, m3) in
+          let tests : pt < count = omega (arith, ends) in
+          let steps : py < count = omega (arith, ends) in
+          loop_right c ks (given_here g) count pc te (λ p. expression_code number here te p e) (λ p. command_code number (at g) t px py p body)
+          (λ p. command_code number (at g) ts px pt p step) (public_at te e datatype.Bool h.0 se) (λ p. expression g e _ h.0.0 f.0 te p se)
+          (λ p. command_right g true body h.2 f.2 t px py p ends steps (stands_left kb (kt ++ ke) stands))
+          (λ p. command_right g false step h.1 f.1 ts px pt p ends tests (stands_left kt ke rest)) l
+      command_right g inside (do_command body e) h f t out over pc o v stands l =
+          let te = t + command_width body in
+          let pt = pc + length (command_code number (at g) t 0 0 0 body) in
+          let px = pt + length (expression_code number here te 0 e) + 1 in
+          let kb = command_kinds here body in
+          let ke = expression_kinds here e in
+          let se = second_part t te kb ke (command_width body) (command_registers here body) refl stands in
+          let cb = command_code number (at g) t px pt pc body in
+          let p2 = pc + length cb in
+          let ce = expression_code number here te p2 e in
+          let n1 = length-append cb (ce ++ Branch te true pc ∷ []) in
+          let n2 = length-append ce (Branch te true pc ∷ []) in
+          let m1 = command_length number (at g) body t px pt pc 0 0 0 in
+          let m2 = expression_length number here e te p2 0 in
+          let tests : pt < count = omega (arith, l, n1, n2, m1, m2) in
+          let behind : px ≡ pc + length (cb ++ (ce ++ Branch te true pc ∷ [])) = omega (arith, n1, n2, m1, m2) in
+          let ends : px < count = omega (arith, behind, l) in
+          do_right c ks (given_here g) count pc te (λ p. expression_code number here te p e) (λ p. command_code number (at g) t px pt p body)
+          (public_at te e datatype.Bool h.1 se) (λ p. expression g e _ h.1.0 f.1 te p se)
+          (λ p. command_right g true body h.0 f.0 t px pt p ends tests (stands_left kb ke stands)) l
+      command_right g inside break_command h f t out over pc o v stands l = (o, tt)
+      command_right g inside continue_command h f t out over pc o v stands l = (v, tt)
+      command_right g inside (return_command e) h f t out over pc o v stands l = returned g e inside h f t out over pc stands l
+      command_right g inside (assert_command line e) h f t out over pc o v stands l =
+          behind_one g e _ (Assert line t) h.0 f t pc stands (public_at t e datatype.Bool h stands) l
+      command_right g inside (store_command k e) h f t out over pc o v stands l =
+          let s = h.0 in
+          stored g t pc (slot_is_private here k) e s.shape (Store k) h.2.0 f.1 (slot_may k s e h.1 h.2.1) stands
+          (λ r q. (kind_of (slot_is_private here k) s.shape, q, slot_of k s h.1)) l
+      command_right g inside (default_command k) h f t out over pc o v stands l =
+          let w = slot_is_private here k in
+          let s = slot_shape here k in
+          let u = length here.slots + shape_number s in
+          let inside = slice_get_within here.slots k h.0 h.1 in
+          let some : 0 < length here.slots = omega (arith, inside) in
+          let d = defaults s some in
+          let p = stands_first stands in
+          behind_right c ks (given_here g) count w false s t u (Store k) d p
+          (kind_of w s, picked_kind c ks (given_here g) count w false s t u (λ e. absurd (clash e)) d p, slot_at k h.0 h.1)
+      command_right g inside (fill_command line k n e) h f t out over pc o v stands l =
+          let s = h.0 in
+          let w = slot_is_private here k in
+          indexed g t pc w n e (scalar s.shape.element) (Fill line k (t + 1)) h.2 f.0 h.3.0 f.1.1 (slot_may k s e h.1.0 h.3.1) stands
+          (λ r i q. (w, s.shape.element, i, q, array_of k s h.1.0 h.1.1)) l
+      command_right g inside (input_command line k text) h f t out over pc o v stands l =
+          (stands_first stands, ((kind_of (slot_is_private here k) (slot_shape here k), stands_first stands, slot_at k h.0 h.1), tt))
+      command_right g inside (element_command line k i e) h f t out over pc o v stands l =
+          let s = h.0 in
+          let w = slot_is_private here k in
+          indexed g t pc w i e (scalar s.shape.element) (Put line k (t + 1)) h.2 f.0 h.3.0 f.1.1 (slot_may k s e h.1.0 h.3.1) stands
+          (λ r j q. (w, s.shape.element, array_of k s h.1.0 h.1.1, j, q)) l
+      command_right g inside (publish_command text e) h f t out over pc o v stands l =
+          behind_one g e h.0 (Publish text t) h.1 f t pc stands (kind_of (gives_private here e) h.0, value_at here t e h.0 h.1 stands) l
+      command_right g inside (evaluate_command e) h f t out over pc o v stands l =
+          unread_right number c ks (given_here g) count here Known known slots e h.0 h.1 f t pc stands l
+
+      pub commands_right : (g : Given) (inside : Bool) (cs : Commands) → AreWellTypedCommands here g inside cs → AreFitCommands Known (at g) inside cs
+          → (t out over pc : ℕ) → out < count → over < count → Stands ks t (commands_kinds here cs) → Ends g pc (commands_code number (at g) t out over pc cs)
+      commands_right g inside Commands'.none h f t out over pc o v stands l = tt
+      commands_right g inside (Commands'.also x cs) h f t out over pc o v stands l =
+          let cx = command_code number (at g) t out over pc x in
+          let q = pc + length cx in
+          let tr = t + command_width x in
+          let rest = commands_code number (at g) tr out over q cs in
+          let kx = command_kinds here x in
+          let kr = commands_kinds here cs in
+          both g cx rest
+          (command_right g inside x h.0 f.0 t out over pc o v (stands_left kx kr stands) (within_left count pc cx rest l))
+          (commands_right g inside cs h.1 f.1 tr out over q o v (second_part t tr kx kr (command_width x) (command_registers here x) refl stands)
+          (within_right count pc q cx rest refl l))

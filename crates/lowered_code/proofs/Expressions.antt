@@ -1,0 +1,287 @@
+-- All steps of the code of a well-typed expression are right.
+use Rattle.std.proofs.Common.{◌≡◌, ℕ, zero, suc, ◌+◌, ◌<◌, ◌≤◌, List, [], ◌∷◌, ◌++◌, length, take, map, Option, Some, Bool, true, false, refl, sym, ap, ◌∙◌, subst}
+use Rattle.std.proofs.Common.{arith}
+use Rattle.std.specs.Prelude.{slice_get}
+use Rattle.secrec_ast.specs.declared.expression.DataType.TheVariants.{Uint64}
+use Rattle.secrec_ast.specs.declared.expression.DataType.TheVariants as datatype
+use Rattle.typed_tree.specs.declared.kinds.Shape.{Shape}
+use Rattle.typed_tree.specs.declared.kinds.Slot.{Slot}
+use Rattle.typed_tree.specs.declared.operators.BinaryOperator.{BinaryOperator}
+use Rattle.typed_tree.specs.declared.operators.BinaryOperator.TheVariants as binary
+use Rattle.typed_tree.specs.declared.operators.Operands.{Operands}
+use Rattle.typed_tree.specs.declared.operators.Operands.TheVariants.{Scalars}
+use Rattle.typed_tree.specs.declared.operators.Connective.{Connective}
+use Rattle.typed_tree.specs.Shapes.{shape_of}
+use Rattle.typed_tree.specs.Tree.{TypedTree, TypedTrees, word_node, truth_node, slot_node, call_node, size_node, cat_node, sum_node, bits_node, element_node}
+use Rattle.typed_tree.specs.Tree.{not_node, cast_node, binary_node, cut_node, declassify_node}
+use Rattle.typed_tree.specs.Tree as Tree'
+use Rattle.typed_tree.specs.Programs.{TypedFunctionTree}
+use Rattle.reached_instances.specs.declared.instance.BoundDomain.{BoundDomain}
+use Rattle.reached_instances.specs.declared.instance.BoundDomain.TheVariants.{Public, Private}
+use Rattle.reached_instances.specs.Domains.{Setting, domain, domains, domain_under, slot_domain, joined}
+use Rattle.language_model.specs.Operations.{cast_shape}
+use Rattle.language_model.specs.Words.{truth_word}
+use Rattle.language_model.specs.Evaluation.{is_private, gives_private, slots_of, bound_at, connective, shape_at, either}
+use Rattle.bytecode.specs.declared.kind.Kind.{Kind}
+use Rattle.verified_code.specs.Steps.{Step, Function, Not, Cast, Size, Sum, Bits, Declassify, Call}
+use Rattle.code_model.specs.Fit.{IsFit, AreFit}
+use Rattle.code_model.specs.Kinds.{width, kind_of, slot_kind, shape_in, private_kind_in, expression_kinds, arguments_kinds}
+use Rattle.code_model.specs.Kinded.{HasKind, ResultFits, left_array, right_array}
+use Rattle.code_model.specs.Expressions.{Numbers, result_at, classifying, lacks, binary_code, cut_code, expression_code, arguments_code, arguments_places, unread_code}
+use Rattle.code_model.specs.Programs.{code_of_found}
+use Rattle.code_model.proofs.Widths.{expression_registers}
+use Rattle.raw_steps.specs.Right.{kind, operand_element, AreOf, IsRight}
+use Rattle.well_typed.specs.Kinds.{scalar, operand_of, left_is_array, right_is_array}
+use Rattle.well_typed.specs.Expressions.{Gives, AreTaken}
+use Rattle.lowered_code.proofs.Standing.{clash, Stands, stands_first, stands_rest, stands_left, stands_right}
+use Rattle.lowered_code.proofs.Standing.{AllRight, both_right, either_right, lacking_right, picked_kind}
+use Rattle.lowered_code.proofs.Shapes.{shape_is, value_stands, value_at, goes_may, left_may, right_may, operand_is, left_is, right_is, source_is, cast_kind}
+use Rattle.lowered_code.proofs.Rows.{within_left, within_right, RightAt, binary_right, cat_right, element_right, cut_right}
+use Rattle.lowered_code.proofs.Calling.{parameters_of, first_kinds, result_fits, unread_fits}
+
+module _ (number : Numbers) (c : List Function) (ks : List Kind) (gives : Option Kind) (count : ℕ) (here : Setting) where
+  abbrev pub Right : List Step → Type 0
+  Right = AllRight c ks gives count
+
+  -- the code of a called instance is there, and has registers for its parameters
+  abbrev pub IsCallee : ℕ → List BoundDomain → Type 0
+  IsCallee k b =
+      (parameters_of (slice_get here.functions k) ≤ length (slots_of (slice_get here.functions k)))
+      × (slice_get c (number k b) ≡ Some (code_of_found number here.functions b (slice_get here.functions k)))
+
+  -- the slots are the first registers
+  abbrev pub SlotsStand : Type 0
+  SlotsStand = (k : ℕ) (s : Slot) → slice_get here.slots k ≡ Some s → HasKind ks k (slot_kind here.binding s)
+
+  module _ (Known : ℕ → List BoundDomain → Type 0) (known : (k : ℕ) (b : List BoundDomain) → Known k b → IsCallee k b) (slots : SlotsStand) where
+    -- behind the register of a node
+    one : {t : ℕ} {q : Kind} (e : TypedTree) → Stands ks t (q ∷ expression_kinds here e) → Stands ks (t + 1) (expression_kinds here e)
+    one e h = stands_rest _ refl h
+
+    left_of : {t : ℕ} {q p r : Kind} (a b : TypedTree) → Stands ks t (q ∷ p ∷ r ∷ (expression_kinds here a ++ expression_kinds here b))
+        → Stands ks (t + 3) (expression_kinds here a)
+    left_of {t = t} a b h =
+        let two : t + 2 ≡ t + 1 + 1 = omega arith in
+        let three : t + 3 ≡ t + 2 + 1 = omega arith in
+        stands_left (expression_kinds here a) (expression_kinds here b) (stands_rest (t + 3) three (stands_rest (t + 2) two (stands_rest (t + 1) refl h)))
+
+    right_of : {t : ℕ} {q p r : Kind} (a b : TypedTree) → Stands ks t (q ∷ p ∷ r ∷ (expression_kinds here a ++ expression_kinds here b))
+        → Stands ks (t + 3 + width a) (expression_kinds here b)
+    right_of {t = t} a b h =
+        let two : t + 2 ≡ t + 1 + 1 = omega arith in
+        let three : t + 3 ≡ t + 2 + 1 = omega arith in
+        let many = expression_registers here a in
+        let u : t + 3 + width a ≡ t + 3 + length (expression_kinds here a) = omega (arith, many) in
+        stands_right (t + 3 + width a) (expression_kinds here a) u (stands_rest (t + 3) three (stands_rest (t + 2) two (stands_rest (t + 1) refl h)))
+
+    first_of : {t : ℕ} {q p r : Kind} {more : List Kind} → Stands ks t (q ∷ p ∷ r ∷ more) → HasKind ks (t + 1) p
+    first_of h = stands_first (stands_rest _ refl h)
+
+    second_of : {t : ℕ} {q p r : Kind} {more : List Kind} → Stands ks t (q ∷ p ∷ r ∷ more) → HasKind ks (t + 2) r
+    second_of {t = t} h = let two : t + 2 ≡ t + 1 + 1 = omega arith in stands_first (stands_rest (t + 2) two (stands_rest (t + 1) refl h))
+
+    -- the register of its classification
+    private_at : (t : ℕ) (e : TypedTree) (s : Shape) → Gives here e (Some s) → HasKind ks t (private_kind_in here e) → HasKind ks t (kind_of true s)
+    private_at t e s h k = subst (λ z. HasKind ks t (kind_of true z)) (shape_is here e s h) k
+
+    as_left : (r : ℕ) (g : Bool) (op : BinaryOperator) (ds : Operands) → HasKind ks r (kind_of g (shape_of (operand_of op) (left_is_array ds)))
+        → HasKind ks r (kind g (operand_element op) (left_array ds))
+    as_left r g op ds h =
+        subst (λ e. HasKind ks r (kind g e (left_array ds))) (operand_is op) (subst (λ a. HasKind ks r (kind g (operand_of op) a)) (left_is ds) h)
+
+    as_right : (r : ℕ) (g : Bool) (op : BinaryOperator) (ds : Operands) → HasKind ks r (kind_of g (shape_of (operand_of op) (right_is_array ds)))
+        → HasKind ks r (kind g (operand_element op) (right_array ds))
+    as_right r g op ds h =
+        subst (λ e. HasKind ks r (kind g e (right_array ds))) (operand_is op) (subst (λ a. HasKind ks r (kind g (operand_of op) a)) (right_is ds) h)
+
+    -- its code is right wherever it ends within the function, from the register where its kinds stand
+    abbrev pub ExpressionRight : TypedTree → Type 0
+    ExpressionRight e = (t pc : ℕ) → Stands ks t (expression_kinds here e) → RightAt c ks gives count pc (expression_code number here t pc e)
+
+    behind_one : (t pc : ℕ) (e : TypedTree) (i : Step) → RightAt c ks gives count pc (expression_code number here t pc e) → IsRight c ks gives count i
+        → RightAt c ks gives count pc (expression_code number here t pc e ++ i ∷ [])
+    behind_one t pc e i h k l =
+        let ce = expression_code number here t pc e in
+        both_right c ks gives count ce (i ∷ []) (h (within_left count pc ce (i ∷ []) l)) (k, tt)
+
+    public_joined : (da db : BoundDomain) → is_private da ≡ false → is_private (joined da db) ≡ is_private db
+    public_joined Public db e = refl
+    public_joined (Private k) db e = absurd (clash (sym e))
+
+    cut_operands : (t pc : ℕ) (a b : TypedTree) (x : Connective) → Gives here a (Some (scalar datatype.Bool)) → Gives here b (Some (scalar datatype.Bool))
+        → ExpressionRight a → ExpressionRight b → Stands ks t (expression_kinds here (cut_node x a b))
+        → RightAt c ks gives count pc (expression_code number here t pc (cut_node x a b))
+    cut_operands t pc a b x ga gb ra rb h l =
+        let u = t + 3 + width a in
+        let ca = expression_code number here (t + 3) pc a in
+        let cb = λ (p : ℕ). expression_code number here u p b in
+        let pa = gives_private here a in
+        let pb = gives_private here b in
+        let first = binary_code t u pc 0 (binary.Bools (connective x)) Scalars pa pb ca cb in
+        let other = cut_code t u pc x pb ca cb in
+        let va = value_at here (t + 3) a _ ga (left_of a b h) in
+        let vb = value_at here u b _ gb (right_of a b h) in
+        either_right c ks gives count pa first other
+        (λ e. binary_right c ks gives count t u pc 0 (binary.Bools (connective x)) Scalars (domain here a) (domain here b) ca cb tt
+        (ra (t + 3) pc (left_of a b h)) (λ p. rb u p (right_of a b h)) va vb
+        (subst (λ g. HasKind ks (t + 1) (kind g datatype.Bool false)) e (first_of h)) (second_of h) (stands_first h)
+        (subst (λ g. pc + length (either g first other) < count) e l))
+        (λ e. cut_right c ks gives count t u pc x pb ca cb (ra (t + 3) pc (left_of a b h)) (λ p. rb u p (right_of a b h))
+        (subst (λ g. HasKind ks (t + 3) (kind g datatype.Bool false)) e va) vb (subst (λ g. HasKind ks (t + 1) (kind g datatype.Bool false)) e (first_of h))
+        (subst (λ g. HasKind ks t (kind g datatype.Bool false)) (public_joined (domain here a) (domain here b) e) (stands_first h))
+        (subst (λ g. pc + length (either g first other) < count) e l))
+
+    call_right : (t pc line k : ℕ) (es : TypedTrees) (o : Option TypedFunctionTree) (d : Option ℕ)
+        → parameters_of o ≤ length (slots_of o)
+        → slice_get c (number k (bound_at o (domains here es))) ≡ Some (code_of_found number here.functions (bound_at o (domains here es)) o)
+        → ResultFits ks d (code_of_found number here.functions (bound_at o (domains here es)) o).gives
+        → AreOf ks (arguments_places number here (bound_at o (domains here es)) (slots_of o) (t + 1) es)
+        (map (slot_kind (bound_at o (domains here es))) (take (parameters_of o) (slots_of o)))
+        → RightAt c ks gives count pc (arguments_code number here (bound_at o (domains here es)) (slots_of o) (t + 1) pc es)
+        → RightAt c ks gives count pc (arguments_code number here (bound_at o (domains here es)) (slots_of o) (t + 1) pc es
+        ++ Call line (number k (bound_at o (domains here es))) d (arguments_places number here (bound_at o (domains here es)) (slots_of o) (t + 1) es) ∷ [])
+    call_right t pc line k es o d few there result places h l =
+        let b = bound_at o (domains here es) in
+        let ca = arguments_code number here b (slots_of o) (t + 1) pc es in
+        let is = Call line (number k b) d (arguments_places number here b (slots_of o) (t + 1) es) ∷ [] in
+        both_right c ks gives count ca is (h (within_left count pc ca is l))
+        ((code_of_found number here.functions b o, there, subst (AreOf ks _) (sym (first_kinds number here.functions b o few)) places, result), tt)
+
+    -- the arguments of a call, with the registers where they stand
+    abbrev ArgumentsRight : (b : List BoundDomain) (ss : List Slot) (n t pc : ℕ) → TypedTrees → Type 0
+    ArgumentsRight b ss n t pc es =
+        RightAt c ks gives count pc (arguments_code number here b ss t pc es)
+        × AreOf ks (arguments_places number here b ss t es) (map (slot_kind b) (take n ss))
+
+    mutual
+      pub expression_right : (e : TypedTree) (s : Shape) → Gives here e (Some s) → IsFit Known here e → ExpressionRight e
+      expression_right (word_node n) s h f t pc stands l = ((stands_first stands, λ e. cc), tt)
+      expression_right (truth_node b) s h f t pc stands l = ((stands_first stands, λ e. truth_below b), tt)
+        where
+          truth_below : (b : Bool) → truth_word b < 2
+          truth_below true = omega arith
+          truth_below false = omega arith
+      expression_right (slot_node k) s h f t pc stands l =
+          let own = ap (λ o. Some (kind_of (is_private (slot_domain here.binding o)) (shape_at o))) h.1 in
+          ((slot_kind here.binding h.0, slots k h.0 h.1, stands_first stands ∙ own), tt)
+      expression_right (call_node line k es) s h f t pc stands l =
+          let o = slice_get here.functions k in
+          let ds = domains here es in
+          let callee = known k (bound_at o ds) f.0 in
+          let taken = subst (λ o. AreTaken here (bound_at o ds) (take (parameters_of o) (slots_of o)) es) (sym h.1) h.2 in
+          let all = arguments_right (bound_at o ds) (slots_of o) (parameters_of o) es taken f.1 (t + 1) pc (stands_rest (t + 1) refl stands) in
+          call_right t pc line k es o (Some t) callee.0 callee.1
+          (result_fits number here.functions ks t o ds h.0 s h.1 (sym h.3) (stands_first stands)) all.1 all.0 l
+      expression_right (size_node e) s h f t pc stands l =
+          behind_one (t + 1) pc e (Size t (t + 1)) (expression_right e _ h.1 f (t + 1) pc (one e stands))
+          (gives_private here e, h.0, value_at here (t + 1) e _ h.1 (one e stands), stands_first stands) l
+      expression_right (cat_node line a b) s h f t pc stands l =
+          let g = is_private (joined (domain here a) (domain here b)) in
+          cat_right c ks gives count t (t + 3 + width a) pc line g (gives_private here a) (gives_private here b) h.0 (expression_code number here (t + 3) pc a)
+          (λ p. expression_code number here (t + 3 + width a) p b) (left_may (domain here a) (domain here b)) (right_may (domain here a) (domain here b))
+          (expression_right a _ h.1 f.0 (t + 3) pc (left_of a b stands)) (λ p. expression_right b _ h.2 f.1 (t + 3 + width a) p (right_of a b stands))
+          (value_at here (t + 3) a _ h.1 (left_of a b stands)) (value_at here (t + 3 + width a) b _ h.2 (right_of a b stands))
+          (private_at (t + 1) a _ h.1 (first_of stands)) (private_at (t + 2) b _ h.2 (second_of stands))
+          (subst (λ z. HasKind ks t (kind_of g z)) (shape_is here a _ h.1) (stands_first stands)) l
+      expression_right (sum_node e) s h f t pc stands l =
+          behind_one (t + 1) pc e (Sum t (t + 1)) (expression_right e _ h.0 f (t + 1) pc (one e stands))
+          (gives_private here e, value_at here (t + 1) e _ h.0 (one e stands), stands_first stands) l
+      expression_right (bits_node line e) s h f t pc stands l =
+          behind_one (t + 1) pc e (Bits line t (t + 1)) (expression_right e _ h.1 f (t + 1) pc (one e stands))
+          (gives_private here e, h.0, value_at here (t + 1) e _ h.1 (one e stands), stands_first stands) l
+      expression_right (element_node line a i) s h f t pc stands l =
+          let rest = stands_rest (t + 1) refl stands in
+          let first = stands_left (expression_kinds here a) (expression_kinds here i) rest in
+          let many = expression_registers here a in
+          let u : t + 1 + width a ≡ t + 1 + length (expression_kinds here a) = omega (arith, many) in
+          let second = stands_right (t + 1 + width a) (expression_kinds here a) u rest in
+          element_right c ks gives count t (t + 1 + width a) pc line (gives_private here a) h.0 (expression_code number here (t + 1) pc a)
+          (λ p. expression_code number here (t + 1 + width a) p i) (expression_right a _ h.1 f.0 (t + 1) pc first)
+          (λ p. expression_right i _ h.2 f.1 (t + 1 + width a) p second) (value_at here (t + 1) a _ h.1 first)
+          (subst (λ d. HasKind ks (t + 1 + width a) (kind_of (is_private d) (scalar Uint64))) h.3 (value_at here (t + 1 + width a) i _ h.2 second))
+          (subst (λ (z : Shape). HasKind ks t (kind (gives_private here a) z.element false)) (shape_is here a _ h.1) (stands_first stands)) l
+      expression_right (not_node e) s h f t pc stands l =
+          behind_one (t + 1) pc e (Not t (t + 1)) (expression_right e _ h.1 f (t + 1) pc (one e stands)) (
+            gives_private here e,
+            h.0,
+            value_at here (t + 1) e _ h.1 (one e stands),
+            subst (λ z. HasKind ks t (kind_of (gives_private here e) z)) (shape_is here e _ h.1) (stands_first stands),
+          ) l
+      expression_right (cast_node x e) s h f t pc stands l =
+          let g = gives_private here e in
+          behind_one (t + 1) pc e (Cast x t (t + 1)) (expression_right e _ h.1 f (t + 1) pc (one e stands)) (
+            g,
+            h.0,
+            subst (λ z. HasKind ks (t + 1) (kind g z h.0)) (source_is x) (value_at here (t + 1) e _ h.1 (one e stands)),
+            subst (λ (z : Shape). HasKind ks t (kind_of g (cast_shape x z.array))) (shape_is here e _ h.1) (stands_first stands) ∙ ap Some (cast_kind x g h.0),
+          ) l
+      expression_right (binary_node line op ds a b) s h f t pc stands l =
+          binary_right c ks gives count t (t + 3 + width a) pc line op ds (domain here a) (domain here b) (expression_code number here (t + 3) pc a)
+          (λ p. expression_code number here (t + 3 + width a) p b) h.3
+          (expression_right a _ h.0 f.0 (t + 3) pc (left_of a b stands)) (λ p. expression_right b _ h.1 f.1 (t + 3 + width a) p (right_of a b stands))
+          (as_left (t + 3) (gives_private here a) op ds (value_at here (t + 3) a _ h.0 (left_of a b stands)))
+          (as_right (t + 3 + width a) (gives_private here b) op ds (value_at here (t + 3 + width a) b _ h.1 (right_of a b stands)))
+          (as_left (t + 1) true op ds (private_at (t + 1) a _ h.0 (first_of stands))) (as_right (t + 2) true op ds (private_at (t + 2) b _ h.1 (second_of stands)))
+          (stands_first stands) l
+      expression_right (cut_node x a b) s h f t pc stands l =
+          cut_operands t pc a b x h.0 h.1 (expression_right a _ h.0 f.0) (expression_right b _ h.1 f.1) stands l
+      expression_right (declassify_node e) s h f t pc stands l =
+          behind_one (t + 1) pc e (Declassify t (t + 1)) (expression_right e _ h.1 f (t + 1) pc (one e stands))
+          (gives_private here e, (shape_in here e).element, (shape_in here e).array, value_stands here (t + 1) e (one e stands), stands_first stands) l
+
+      arguments_right : (b : List BoundDomain) (ss : List Slot) (n : ℕ) (es : TypedTrees) → AreTaken here b (take n ss) es → AreFit Known here b ss es
+          → (t pc : ℕ) → Stands ks t (arguments_kinds here es) → ArgumentsRight b ss n t pc es
+      arguments_right b [] zero Tree'.none h f t pc stands = ((λ l. tt), tt)
+      arguments_right b [] (suc n) Tree'.none h f t pc stands = ((λ l. tt), tt)
+      arguments_right b (s ∷ ss) zero Tree'.none h f t pc stands = ((λ l. tt), tt)
+      arguments_right b (s ∷ ss) (suc n) Tree'.none h f t pc stands = absurd h
+      arguments_right b [] zero (Tree'.also e es) h f t pc stands = absurd h
+      arguments_right b [] (suc n) (Tree'.also e es) h f t pc stands = absurd h
+      arguments_right b (s ∷ ss) zero (Tree'.also e es) h f t pc stands = absurd h
+      arguments_right b (s ∷ ss) (suc n) (Tree'.also e es) h f t pc stands =
+          let g = gives_private here e in
+          let w = is_private (domain_under b s.domain) in
+          let rest = stands_rest (t + 1) refl stands in
+          let own = stands_left (expression_kinds here e) (arguments_kinds here es) rest in
+          let many = expression_registers here e in
+          let u : t + 1 + width e ≡ t + 1 + length (expression_kinds here e) = omega (arith, many) in
+          let behind = stands_right (t + 1 + width e) (expression_kinds here e) u rest in
+          let ce = expression_code number here (t + 1) pc e in
+          let cl = classifying (lacks w g) t (t + 1) in
+          let p = pc + length ce in
+          let q = p + length cl in
+          let cs = arguments_code number here b ss (t + 1 + width e) q es in
+          let v = value_at here (t + 1) e _ h.0 own in
+          let k = private_at t e _ h.0 (stands_first stands) in
+          let others = arguments_right b ss n es h.2 f.2 (t + 1 + width e) q behind in (
+            λ l.
+                let after = within_right count pc p ce (cl ++ cs) refl l in
+                both_right c ks gives count ce _ (expression_right e _ h.0 f.0 (t + 1) pc own (within_left count pc ce (cl ++ cs) l))
+                (both_right c ks gives count cl cs (lacking_right c ks gives count w g s.shape t (t + 1) v k) (others.0 (within_right count p q cl cs refl after))),
+            (picked_kind c ks gives count w g s.shape t (t + 1) (goes_may (domain here e) (domain_under b s.domain) h.1) v k, others.1),
+          )
+
+    -- where nobody reads what a call gives
+    pub unread_right : (e : TypedTree) (o : Option Shape) → Gives here e o → IsFit Known here e → (t pc : ℕ) → Stands ks t (expression_kinds here e)
+        → RightAt c ks gives count pc (unread_code number here t pc e)
+    unread_right (call_node line k es) s h f t pc stands l =
+        let o = slice_get here.functions k in
+        let ds = domains here es in
+        let callee = known k (bound_at o ds) f.0 in
+        let taken = subst (λ o. AreTaken here (bound_at o ds) (take (parameters_of o) (slots_of o)) es) (sym h.1) h.2 in
+        let all = arguments_right (bound_at o ds) (slots_of o) (parameters_of o) es taken f.1 (t + 1) pc (stands_rest (t + 1) refl stands) in
+        call_right t pc line k es o (result_at o t) callee.0 callee.1 (unread_fits number here.functions ks t o ds (stands_first stands)) all.1 all.0 l
+    unread_right (word_node n) o h f t pc stands l = expression_right (word_node n) _ (h.0, refl) f t pc stands l
+    unread_right (truth_node b) o h f t pc stands l = expression_right (truth_node b) _ refl f t pc stands l
+    unread_right (slot_node k) o h f t pc stands l = expression_right (slot_node k) _ (h.0, h.1, refl) f t pc stands l
+    unread_right (size_node e) o h f t pc stands l = expression_right (size_node e) _ (h.0, h.1, refl) f t pc stands l
+    unread_right (cat_node line a b) o h f t pc stands l = expression_right (cat_node line a b) _ (h.0, h.1, h.2, h.3, refl) f t pc stands l
+    unread_right (sum_node e) o h f t pc stands l = expression_right (sum_node e) _ (h.0, refl) f t pc stands l
+    unread_right (bits_node line e) o h f t pc stands l = expression_right (bits_node line e) _ (h.0, h.1, refl) f t pc stands l
+    unread_right (element_node line a i) o h f t pc stands l = expression_right (element_node line a i) _ (h.0, h.1, h.2, h.3, refl) f t pc stands l
+    unread_right (not_node e) o h f t pc stands l = expression_right (not_node e) _ (h.0, h.1, refl) f t pc stands l
+    unread_right (cast_node x e) o h f t pc stands l = expression_right (cast_node x e) _ (h.0, h.1, refl) f t pc stands l
+    unread_right (binary_node line op ds a b) o h f t pc stands l =
+        expression_right (binary_node line op ds a b) _ (h.0, h.1, h.2, h.3, refl) f t pc stands l
+    unread_right (cut_node x a b) o h f t pc stands l = expression_right (cut_node x a b) _ (h.0, h.1, h.2, refl) f t pc stands l
+    unread_right (declassify_node e) o h f t pc stands l = expression_right (declassify_node e) _ (h.0, h.1, refl) f t pc stands l

@@ -1,0 +1,10 @@
+pub mod Fits
+pub mod Standing
+pub mod Shapes
+pub mod Rows
+pub mod Calling
+pub mod Expressions
+pub mod Control
+pub mod Commands
+pub mod Verified
+pub mod Samples

@@ -1,0 +1,100 @@
+-- Kinds that stand in the list of a function's kinds from a register on, and code all of whose steps are right.
+use Rattle.std.proofs.Common.{◌≡◌, ℕ, zero, suc, ◌+◌, List, [], ◌∷◌, ◌++◌, length, Option, Some, None, Bool, true, false, refl, ap, ◌∙◌, subst}
+use Rattle.std.proofs.Common.{arith}
+use Rattle.std.specs.Prelude.{slice_get}
+use Rattle.secrec_ast.specs.declared.expression.DataType.{DataType}
+use Rattle.typed_tree.specs.declared.kinds.Shape.{Shape}
+use Rattle.language_model.specs.Evaluation.{either}
+use Rattle.bytecode.specs.declared.kind.Kind.{Kind}
+use Rattle.verified_code.specs.Steps.{Step, Function}
+use Rattle.code_model.specs.Fit.{MayStand}
+use Rattle.code_model.specs.Kinds.{kind_of}
+use Rattle.code_model.specs.Kinded.{HasKind}
+use Rattle.code_model.specs.Expressions.{classifying, picked, lacks}
+use Rattle.raw_steps.specs.Right.{IsRight}
+
+pub clash : false ≡ true → ⊥
+clash h = cc
+
+pub none_some : {A : Type 0} {a : A} → ◌≡◌ {A = Option A} None (Some a) → ⊥
+none_some e = cc
+
+pub same_some : {A : Type 0} (a b : A) → ◌≡◌ {A = Option A} (Some a) (Some b) → a ≡ b
+same_some a b e = cc
+
+pub front : {A : Type 0} (a b : List A) (k : ℕ) (x : A) → slice_get a k ≡ Some x → slice_get (a ++ b) k ≡ Some x
+front [] b k x e = absurd (none_some e)
+front (y ∷ a) b zero x e = e
+front (y ∷ a) b (suc k) x e = front a b k x e
+
+behind : {A : Type 0} (a b : List A) (k : ℕ) (x : A) → slice_get b k ≡ Some x → slice_get (a ++ b) (length a + k) ≡ Some x
+behind [] b k x e = let n : 0 + k ≡ k = omega arith in ap (slice_get b) n ∙ e
+behind (y ∷ a) b k x e =
+    let n : length (y ∷ a) + k ≡ suc (length a + k) = omega arith in ap (slice_get (y ∷ (a ++ b))) n ∙ behind a b k x e
+
+-- ---- KINDS
+
+pub record Stands (ks : List Kind) (t : ℕ) (qs : List Kind) : Type 0 where
+  pub at : (k : ℕ) (x : Kind) → slice_get qs k ≡ Some x → HasKind ks (t + k) x
+
+module _ {ks : List Kind} where
+  pub stands_first : {t : ℕ} {q : Kind} {qs : List Kind} → Stands ks t (q ∷ qs) → HasKind ks t q
+  stands_first {t = t} {q = q} h = let n : t ≡ t + 0 = omega arith in ap (slice_get ks) n ∙ h.at 0 q refl
+
+  pub stands_rest : {t : ℕ} {q : Kind} {qs : List Kind} (u : ℕ) → u ≡ t + 1 → Stands ks t (q ∷ qs) → Stands ks u qs
+  stands_rest {t = t} u e h =
+      record { at = λ k x there. let n : u + k ≡ t + suc k = omega (arith, e) in ap (slice_get ks) n ∙ h.at (suc k) x there }
+
+  pub stands_left : {t : ℕ} (a b : List Kind) → Stands ks t (a ++ b) → Stands ks t a
+  stands_left a b h = record { at = λ k x there. h.at k x (front a b k x there) }
+
+  pub stands_right : {t : ℕ} {b : List Kind} (u : ℕ) (a : List Kind) → u ≡ t + length a → Stands ks t (a ++ b) → Stands ks u b
+  stands_right {t = t} {b = b} u a e h = record {
+    at = λ k x there.
+        let n : u + k ≡ t + (length a + k) = omega (arith, e) in ap (slice_get ks) n ∙ h.at (length a + k) x (behind a b k x there);
+  }
+
+-- a whole list stands in itself
+pub stands_itself : (ks : List Kind) → Stands ks 0 ks
+stands_itself ks = record { at = λ k x there. let n : 0 + k ≡ k = omega arith in ap (slice_get ks) n ∙ there }
+
+-- ---- STEPS
+
+module _ (c : List Function) (ks : List Kind) (gives : Option Kind) (count : ℕ) where
+  abbrev pub AllRight : List Step → Type 0
+  AllRight [] = Unit {0}
+  AllRight (i ∷ is) = IsRight c ks gives count i × AllRight is
+
+  pub both_right : (a b : List Step) → AllRight a → AllRight b → AllRight (a ++ b)
+  both_right [] b h k = k
+  both_right (i ∷ a) b h k = (h.0, both_right a b h.1 k)
+
+  pub either_right : (g : Bool) (a b : List Step) → (g ≡ true → AllRight a) → (g ≡ false → AllRight b) → AllRight (either g a b)
+  either_right true a b h k = h refl
+  either_right false a b h k = k refl
+
+  pub right_at : (code : List Step) → AllRight code → (k : ℕ) (i : Step) → slice_get code k ≡ Some i → IsRight c ks gives count i
+  right_at [] h k i e = absurd (none_some e)
+  right_at (j ∷ code) h zero i e = subst (IsRight c ks gives count) (same_some j i e) h.0
+  right_at (j ∷ code) h (suc k) i e = right_at code h.1 k i e
+
+  -- ---- CLASSIFICATION
+
+  pub classifying_right : (l : Bool) (e : DataType) (a : Bool) (t r : ℕ) → (l ≡ true → HasKind ks r (record { secret = false; element = e; array = a }))
+      → (l ≡ true → HasKind ks t (record { secret = true; element = e; array = a })) → AllRight (classifying l t r)
+  classifying_right true e a t r h k = ((e, a, h refl, k refl), tt)
+  classifying_right false e a t r h k = tt
+
+  -- a value that is classified where it lacks that
+  pub lacking_right : (w g : Bool) (s : Shape) (t r : ℕ) → HasKind ks r (kind_of g s) → HasKind ks t (kind_of true s) → AllRight (classifying (lacks w g) t r)
+  lacking_right true true s t r h k = tt
+  lacking_right true false s t r h k = ((s.element, s.array, h, k), tt)
+  lacking_right false true s t r h k = tt
+  lacking_right false false s t r h k = tt
+
+  pub picked_kind : (w g : Bool) (s : Shape) (t r : ℕ) → MayStand g w → HasKind ks r (kind_of g s) → HasKind ks t (kind_of true s) → HasKind ks
+      (picked (lacks w g) t r) (kind_of w s)
+  picked_kind true true s t r m h k = h
+  picked_kind true false s t r m h k = k
+  picked_kind false true s t r m h k = absurd (clash (m refl))
+  picked_kind false false s t r m h k = h

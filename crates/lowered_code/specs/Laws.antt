@@ -1,0 +1,58 @@
+-- What is promised of the code of accepted programs.
+use Rattle.std.specs.Prelude.{◌≡◌, ◌≤◌, ℕ, List, length, Some}
+use Rattle.secrec_ast.specs.Programs.{ProgramTree}
+use Rattle.domain_types.specs.Typing.{IsTypedProgram}
+use Rattle.typed_tree.specs.Programs.{TypedProgramTree}
+use Rattle.name_resolution.specs.Functions.{typed_of}
+use Rattle.reached_instances.specs.Instances.{Instance}
+use Rattle.reached_instances.specs.Reached.{IsReachedList}
+use Rattle.language_model.specs.Effects.{World}
+use Rattle.language_model.specs.Reports.{evaluated}
+use Rattle.bytecode.specs.Raw.{RawCode}
+use Rattle.verified_code.specs.Settled.{settled}
+use Rattle.verified_code.specs.Steps.{Function}
+use Rattle.verified_code.specs.Verified.{IsVerified}
+use Rattle.code_model.specs.Fit.{IsFitProgram}
+use Rattle.code_model.specs.Kinded.{IsIn}
+use Rattle.code_model.specs.Meaning.{mean_in}
+use Rattle.code_model.specs.Programs.{code_of}
+use Rattle.raw_steps.specs.Instructions.{nowhere, raw_code_of}
+use Rattle.well_typed.specs.Programs.{IsWellTyped}
+use Rattle.well_typed.specs.Sources.{IsWellWritten}
+
+-- a well-typed program fits what its code asks of it
+abbrev pub FitsWhereWellTyped : TypedProgramTree → List Instance → Type 0
+FitsWhereWellTyped p is = IsWellTyped p → IsReachedList p is → IsFitProgram p is
+
+-- in each world, clear or blind, with each budget and whatever the answers
+abbrev pub MeansAlways : TypedProgramTree → List Instance → Type 0
+MeansAlways p is = (w : World) (budget : ℕ) (answers : List ℕ) → mean_in w (code_of p is) budget answers ≡ evaluated w p budget answers
+
+abbrev pub MeansWhereAccepted : ProgramTree → Type 0
+MeansWhereAccepted source =
+    IsTypedProgram source → IsWellWritten source → (p : TypedProgramTree) → typed_of source ≡ Some p → (is : List Instance) → IsReachedList p is
+    → MeansAlways p is
+
+-- ---- RAW CODE
+
+-- a function with more registers has none whose number is that for no register
+abbrev pub HasNumberedRegisters : List Function → Type 0
+HasNumberedRegisters c = (f : Function) → IsIn c f → length f.kinds ≤ nowhere
+
+-- instructions with the numbers that the bytes say
+abbrev pub raw_code_of_program : TypedProgramTree → List Instance → RawCode
+raw_code_of_program p is = raw_code_of (code_of p is)
+
+-- it is verified, and settles to the code
+abbrev pub IsVerifiedWhereWellTyped : TypedProgramTree → List Instance → Type 0
+IsVerifiedWhereWellTyped p is =
+    IsWellTyped p → IsReachedList p is → HasNumberedRegisters (code_of p is)
+    → IsVerified (raw_code_of_program p is) × (settled (raw_code_of_program p is) ≡ code_of p is)
+
+-- what is settled of the raw code of an accepted program does what the program does
+abbrev pub RunsWhereAccepted : ProgramTree → Type 0
+RunsWhereAccepted source =
+    IsTypedProgram source → IsWellWritten source → (p : TypedProgramTree) → typed_of source ≡ Some p → (is : List Instance) → IsReachedList p is
+    → HasNumberedRegisters (code_of p is)
+    → IsVerified (raw_code_of_program p is)
+    × ((w : World) (budget : ℕ) (answers : List ℕ) → mean_in w (settled (raw_code_of_program p is)) budget answers ≡ evaluated w p budget answers)
