@@ -1,0 +1,69 @@
+-- The text of a view: its lines, each of words with a space between them, and a newline behind each line.
+use Rattle.std.specs.Prelude.{ℕ, List, [], ◌∷◌, ◌++◌, map, codes}
+use Rattle.std.specs.Fmt.{decimal}
+use Rattle.sc_text.specs.declared.elements.Element.{Element}
+use Rattle.sc_text.specs.declared.end.Ending.{Ending}
+use Rattle.sc_text.specs.declared.end.Ending.TheVariants as endings
+use Rattle.sc_text.specs.declared.end.End.{End}
+use Rattle.sc_text.specs.Elements.{element_text}
+use Rattle.sc_text.specs.End.{trap_word, owner_digit}
+use Rattle.proto_core.specs.declared.party.Number.{Number}
+use Rattle.proto_core.specs.declared.party.Number.TheVariants.{One, Two, Three}
+use Rattle.proto_core.specs.declared.link.Link.{Link}
+use Rattle.proto_core.specs.declared.link.Link.TheVariants.{Link12, Link13, Link21, Link23, Link31, Link32}
+use Rattle.view_text.specs.View.{InputShare, Received, View}
+
+pub data Line : Type 0 where
+  Heading : Number → Line
+  Input : InputShare → Line
+  Drew : List ℕ → Line
+  Got : Received → Line
+  Opened : List Element → Line
+  Ended : End → Line
+
+unfoldable pub miner_digit : Number → List ℕ
+miner_digit One = codes "1"
+miner_digit Two = codes "2"
+miner_digit Three = codes "3"
+
+unfoldable pub link_digits : Link → List ℕ
+link_digits Link12 = codes "12"
+link_digits Link13 = codes "13"
+link_digits Link21 = codes "21"
+link_digits Link23 = codes "23"
+link_digits Link31 = codes "31"
+link_digits Link32 = codes "32"
+
+abbrev pub cost_words : ℕ → List (List ℕ)
+cost_words cost = codes "cost" ∷ decimal cost ∷ []
+
+abbrev pub ending_words : Ending → ℕ → List (List ℕ)
+ending_words endings.Done cost = codes "done" ∷ cost_words cost
+ending_words (endings.Trap kind line) cost = codes "trap" ∷ trap_word kind ∷ codes "line" ∷ decimal line ∷ cost_words cost
+ending_words endings.Budget cost = codes "budget" ∷ cost_words cost
+ending_words (endings.Tape owner need have) cost =
+    codes "tape" ∷ owner_digit owner ∷ codes "need" ∷ decimal need ∷ codes "have" ∷ decimal have ∷ cost_words cost
+
+abbrev pub line_words : Line → List (List ℕ)
+line_words (Heading i) = codes "view" ∷ miner_digit i ∷ []
+line_words (Input s) = codes "in" ∷ s.name ∷ map decimal s.words
+line_words (Drew ws) = codes "drew" ∷ map decimal ws
+line_words (Got r) = codes "got" ∷ link_digits r.link ∷ map decimal r.message
+line_words (Opened es) = codes "open" ∷ map element_text es
+line_words (Ended e) = codes "end" ∷ ending_words e.how e.cost
+
+-- words with a space between them
+abbrev pub spaced : List (List ℕ) → List ℕ
+spaced [] = []
+spaced (w ∷ []) = w
+spaced (w ∷ v ∷ vs) = w ++ 32 ∷ spaced (v ∷ vs)
+
+abbrev pub lines_bytes : List Line → List ℕ
+lines_bytes [] = []
+lines_bytes (l ∷ ls) = spaced (line_words l) ++ 10 ∷ lines_bytes ls
+
+abbrev pub lines_of : View → List Line
+lines_of v = Heading v.miner ∷ (map Input v.inputs ++ Drew v.drew ∷ (map Got v.got ++ (map Opened v.opened ++ Ended v.end ∷ [])))
+
+unfoldable pub view_bytes : View → List ℕ
+view_bytes v = lines_bytes (lines_of v)

@@ -1,0 +1,12 @@
+//! The text of a miner's view, and its reader.
+#![tactic(auto)]
+
+mod laws;
+mod numbers;
+mod parts;
+mod writing;
+
+pub use laws::{equal_texts_are_equal_views, views_are_read_again};
+pub use numbers::{word_in, words_in};
+pub use parts::words_of;
+pub use writing::push_line;
