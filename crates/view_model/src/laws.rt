@@ -1,0 +1,58 @@
+ghost use Rattle.std.specs.Prelude.{◌≡◌, ◌≤◌, ℕ, List, length, map};
+ghost use Rattle.proto_core.specs.declared.party.Number.{Number};
+ghost use Rattle.proto_core.specs.Net.{nothing};
+ghost use Rattle.gates.specs.declared.gate.Gate.{Gate as GateValue};
+ghost use Rattle.protocol_model.specs.Arrivals.{arrived};
+ghost use Rattle.protocol_model.specs.Gates.{gates_script};
+ghost use Rattle.protocol_model.specs.Network.{Accepted, Delivery, net, order_of};
+ghost use Rattle.protocol_model.specs.Runs.{nodes_of};
+ghost use Rattle.value_file.specs.declared.inputs.Entry.{Entry};
+ghost use Rattle.value_file.specs.Public.{part_of};
+ghost use Rattle.input_share.specs.Dealing.{need_of};
+ghost use Rattle.tape_file.specs.Tapes.{FourTapes};
+ghost use Rattle.view_model.specs.TapeMaps.{AreTapes, CanRun, Reaches, Correspond, miners_of, no_values, gates_dealt, to_simulated, twin};
+ghost use Rattle.view_model.specs.Seen.{Seen, seen_by, made_for, opened_by_all};
+ghost use Rattle.view_model.specs.Counting.{IsRunOn, AllGive, Alike, IsTwin, AreDistinct, AsMany};
+
+/// Law: the tapes of a whole run, the dealer's with them, correspond one to one with those that a miner's view is made of;
+/// each keeps its length, and the miner's own tape its words.
+pub fn whole_tapes_correspond()
+    ensures { (i : Number) (entries : List Entry) (gates : List GateValue) (t : FourTapes) →
+        AreTapes t → CanRun entries gates t → Correspond i entries gates t }
+{}
+
+/// Law: the messages of a miner's view are those that come to it in the net of the three miners, where the delivery is
+/// accepted.
+pub fn views_hold_what_comes()
+    ensures { (i : Number) (entries : List Entry) (gates : List GateValue) (t : FourTapes) (delivery : Delivery) →
+        AreTapes t → need_of entries ≤ length t.dealer → Reaches entries gates t →
+        net (λ k. gates_script k (gates_dealt entries t.dealer gates)) delivery ≡ Accepted →
+        arrived (nodes_of (gates_dealt entries t.dealer gates) no_values (miners_of t)) i nothing
+        (order_of (λ k. gates_script k (gates_dealt entries t.dealer gates)) delivery)
+        ≡ (seen_by i entries gates t delivery).got }
+{}
+
+/// Law: what a miner sees of a run is what the simulator makes of the public part of the inputs, the opened words and the
+/// corresponding tapes, whatever the delivery.
+pub fn views_are_simulated()
+    ensures { (i : Number) (entries : List Entry) (gates : List GateValue) (t : FourTapes) (delivery : Delivery) →
+        AreTapes t → need_of entries ≤ length t.dealer → Reaches entries gates t →
+        seen_by i entries gates t delivery
+        ≡ made_for i (part_of entries) gates (opened_by_all entries gates t) (to_simulated i entries gates t) delivery }
+{}
+
+/// Law: of two inputs that are alike, each tape has a twin with which the second inputs give the same view, and twinned back
+/// that is the first tape.
+pub fn twins_give_the_same_view()
+    ensures { (i : Number) (first second : List Entry) (gates : List GateValue) (opened : List ℕ) (t : FourTapes) →
+        Alike first second gates opened → IsRunOn first gates t → IsTwin i first second gates t (twin i first second gates t) }
+{}
+
+/// Law: of two inputs that are alike, as many tapes give a view with the one as with the other: twins of distinct tapes are
+/// distinct, and each gives the second inputs this view.
+pub fn twins_are_as_many()
+    ensures { (i : Number) (first second : List Entry) (gates : List GateValue) (opened : List ℕ) (delivery : Delivery) (view : Seen)
+        (ts : List FourTapes) →
+        Alike first second gates opened → AllGive i first gates delivery view ts → AreDistinct ts →
+        AsMany i second gates delivery view ts (map (twin i first second gates) ts) }
+{}
