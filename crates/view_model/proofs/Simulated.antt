@@ -6,8 +6,8 @@ use Rattle.proto_core.specs.Parties.{receiver_of}
 use Rattle.proto_core.specs.Strand.{Mail}
 use Rattle.protocol_model.specs.Gates as model
 use Rattle.protocol_model.specs.Gates.{needed, gates_script}
-use Rattle.protocol_model.specs.Runs.{run_messages}
-use Rattle.protocol_model.specs.Views.{to_view, made_messages}
+use Rattle.protocol_model.specs.Runs.{run_messages, run_values}
+use Rattle.protocol_model.specs.Views.{to_view, made_messages, made_values}
 use Rattle.protocol_model.specs.Network.{Delivery, order_of}
 use Rattle.protocol_model.specs.Arrivals.{Arrival, arrivals}
 use Rattle.protocol_model.proofs.GateViews.{run-made}
@@ -74,6 +74,13 @@ module _
         (ready_real i es gates t are enough reaches)).messages l h
         ∙ same.messages [] opened (to_view i real no_values (miners_of t)) l
         ∙ sym (ap (λ v. made_messages i made [] opened v l) (miners_mapped i es gates t are enough reaches))
+
+    pub shares_made : run_values real no_values (miners_of t) i ≡ made_values i made [] opened (miners_of s)
+    shares_made =
+        (run-made i real no_values (miners_of t) (sound es t.dealer gates) (private es t.dealer gates)
+        (ready_real i es gates t are enough reaches)).shares
+        ∙ same.values [] opened (to_view i real no_values (miners_of t))
+        ∙ sym (ap (made_values i made [] opened) (miners_mapped i es gates t are enough reaches))
 
     -- the delivered links, by either gates' scripts
     abbrev real_order : Delivery → List Link

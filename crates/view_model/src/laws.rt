@@ -1,17 +1,18 @@
-ghost use Rattle.std.specs.Prelude.{◌≡◌, ◌≤◌, ℕ, List, length, map};
+ghost use Rattle.std.specs.Prelude.{◌≡◌, ◌≤◌, ℕ, List, [], length, map};
 ghost use Rattle.proto_core.specs.declared.party.Number.{Number};
 ghost use Rattle.proto_core.specs.Net.{nothing};
 ghost use Rattle.gates.specs.declared.gate.Gate.{Gate as GateValue};
 ghost use Rattle.protocol_model.specs.Arrivals.{arrived};
 ghost use Rattle.protocol_model.specs.Gates.{gates_script};
 ghost use Rattle.protocol_model.specs.Network.{Accepted, Delivery, net, order_of};
-ghost use Rattle.protocol_model.specs.Runs.{nodes_of};
+ghost use Rattle.protocol_model.specs.Runs.{nodes_of, run_values};
+ghost use Rattle.protocol_model.specs.Views.{made_values};
 ghost use Rattle.value_file.specs.declared.inputs.Entry.{Entry};
 ghost use Rattle.value_file.specs.Public.{part_of};
 ghost use Rattle.input_share.specs.Dealing.{need_of};
 ghost use Rattle.tape_file.specs.Tapes.{FourTapes};
 ghost use Rattle.view_model.specs.TapeMaps.{AreTapes, CanRun, Reaches, Correspond, miners_of, no_values, gates_dealt, to_simulated, twin};
-ghost use Rattle.view_model.specs.Seen.{Seen, seen_by, made_for, opened_by_all};
+ghost use Rattle.view_model.specs.Seen.{Seen, seen_by, gates_made, made_for, opened_by_all};
 ghost use Rattle.view_model.specs.Counting.{IsRunOn, AllGive, Alike, IsTwin, AreDistinct, AsMany};
 
 /// Law: the tapes of a whole run, the dealer's with them, correspond one to one with those that a miner's view is made of;
@@ -39,6 +40,15 @@ pub fn views_are_simulated()
         AreTapes t → need_of entries ≤ length t.dealer → Reaches entries gates t →
         seen_by i entries gates t delivery
         ≡ made_for i (part_of entries) gates (opened_by_all entries gates t) (to_simulated i entries gates t) delivery }
+{}
+
+/// Law: the shares that a miner has of all values are those that the simulator makes.
+pub fn shares_are_simulated()
+    ensures { (i : Number) (entries : List Entry) (gates : List GateValue) (t : FourTapes) →
+        AreTapes t → need_of entries ≤ length t.dealer → Reaches entries gates t →
+        run_values (gates_dealt entries t.dealer gates) no_values (miners_of t) i
+        ≡ made_values i (gates_made i (part_of entries) (to_simulated i entries gates t).dealer gates) []
+        (opened_by_all entries gates t) (miners_of (to_simulated i entries gates t)) }
 {}
 
 /// Law: of two inputs that are alike, each tape has a twin with which the second inputs give the same view, and twinned back

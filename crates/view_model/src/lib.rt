@@ -6,6 +6,6 @@
 mod laws;
 
 pub use laws::{
-    twins_are_as_many, twins_give_the_same_view, views_are_simulated, views_hold_what_comes,
-    whole_tapes_correspond,
+    shares_are_simulated, twins_are_as_many, twins_give_the_same_view, views_are_simulated,
+    views_hold_what_comes, whole_tapes_correspond,
 };
