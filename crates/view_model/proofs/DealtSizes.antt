@@ -29,7 +29,7 @@ sizes_hidden (e ∷ es) = by_domain e.domain (sizes_hidden es)
     by_domain domain.Public rest = rest
     by_domain domain.Private rest = ap (λ n. n ∷ hidden_sizes (public.part_of es)) (size_of_shape_of e.value) ∙ ap (λ ns. count_of e.value ∷ ns) rest
 
-length_share : (i : Number) (r : Ring) (xs words : List ℕ) → 2 * length xs ≤ length words → length (share_of i r xs words) ≡ length xs
+pub length_share : (i : Number) (r : Ring) (xs words : List ℕ) → 2 * length xs ≤ length words → length (share_of i r xs words) ≡ length xs
 length_share One r xs words h = length-take-le (length xs) words (omega arith)
 length_share Two r xs words h =
     let behind : length (drop (length xs) words) ≡ length words - length xs = length-drop (length xs) words in

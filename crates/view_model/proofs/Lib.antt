@@ -5,4 +5,5 @@ pub mod Arriving
 pub mod Corresponding
 pub mod Coming
 pub mod Simulated
+pub mod Holding
 pub mod Twins

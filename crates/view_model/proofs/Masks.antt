@@ -27,7 +27,7 @@ length_left_of r (x ∷ xs) (d ∷ ds) [] h g = absurd (omega arith)
 length_left_of r (x ∷ xs) (d ∷ ds) (e ∷ es) h g = ap suc (length_left_of r xs ds es (omega arith) (omega arith))
 
 module _ {r : Ring} (laws : RingLaws r) where
-  left_of_words : (xs ds es : List ℕ) → AreWords (left_of r xs ds es)
+  pub left_of_words : (xs ds es : List ℕ) → AreWords (left_of r xs ds es)
   left_of_words [] ds es k = past_end k
   left_of_words (x ∷ xs) [] es k = past_end k
   left_of_words (x ∷ xs) (d ∷ ds) [] k = past_end k

@@ -1,4 +1,4 @@
-ghost use Rattle.std.specs.Prelude.{◌≡◌, ◌≤◌, ℕ, List, [], length, map};
+ghost use Rattle.std.specs.Prelude.{◌≡◌, ◌≤◌, ℕ, List, [], All, length, map};
 ghost use Rattle.proto_core.specs.declared.party.Number.{Number};
 ghost use Rattle.proto_core.specs.Net.{nothing};
 ghost use Rattle.gates.specs.declared.gate.Gate.{Gate as GateValue};
@@ -11,6 +11,13 @@ ghost use Rattle.value_file.specs.declared.inputs.Entry.{Entry};
 ghost use Rattle.value_file.specs.Public.{part_of};
 ghost use Rattle.input_share.specs.Dealing.{need_of};
 ghost use Rattle.tape_file.specs.Tapes.{FourTapes};
+ghost use Rattle.input_share.specs.AddUp.{HasWords};
+ghost use Rattle.proto_core.specs.Lists.{AreWords};
+ghost use Rattle.shared_gates.specs.Computed.{Computed};
+ghost use Rattle.shared_gates.specs.Kinds.{AllKinded};
+ghost use Rattle.shared_gates.specs.Shares.{AllHeld, Kind};
+ghost use Rattle.view_model.specs.Dealing.{dealt_to};
+ghost use Rattle.view_model.specs.Held.{private_kinds, private_values};
 ghost use Rattle.view_model.specs.TapeMaps.{AreTapes, CanRun, Reaches, Correspond, miners_of, no_values, gates_dealt, to_simulated, twin};
 ghost use Rattle.view_model.specs.Seen.{Seen, seen_by, gates_made, made_for, opened_by_all};
 ghost use Rattle.view_model.specs.Counting.{IsRunOn, AllGive, Alike, IsTwin, AreDistinct, AsMany};
@@ -65,4 +72,17 @@ pub fn twins_are_as_many()
         (ts : List FourTapes) →
         Alike first second gates opened → AllGive i first gates delivery view ts → AreDistinct ts →
         AsMany i second gates delivery view ts (map (twin i first second gates) ts) }
+{}
+
+/// Law: what the three miners are dealt of the private inputs are shares of these, numbers modulo 2^64 and truth values under
+/// xor; so behind a run they hold values that fit the gates over these inputs, and open those that are opened.
+pub fn dealt_runs_compute_values()
+    ensures dealt { (entries : List Entry) (dealer : List ℕ) →
+        All HasWords entries → AreWords dealer → need_of entries ≤ length dealer →
+        AllHeld (private_kinds entries) (private_values entries) (dealt_to entries dealer) }
+    ensures computed { (entries : List Entry) (gates : List GateValue) (t : FourTapes) (kinds : List Kind) →
+        AreTapes t → All HasWords entries → need_of entries ≤ length t.dealer → Reaches entries gates t →
+        AllKinded (private_kinds entries) kinds 0 gates →
+        Computed kinds (private_values entries) [] gates
+        (run_values (gates_dealt entries t.dealer gates) no_values (miners_of t)) (opened_by_all entries gates t) }
 {}

@@ -6,6 +6,6 @@
 mod laws;
 
 pub use laws::{
-    shares_are_simulated, twins_are_as_many, twins_give_the_same_view, views_are_simulated,
-    views_hold_what_comes, whole_tapes_correspond,
+    dealt_runs_compute_values, shares_are_simulated, twins_are_as_many, twins_give_the_same_view,
+    views_are_simulated, views_hold_what_comes, whole_tapes_correspond,
 };
