@@ -21,16 +21,19 @@ use Rattle.verified_code.specs.Fitting.{Here, is_word, same_element, same_truth,
 use Rattle.verified_code.specs.Fitting.{kind_at, is_there, is_none, operator_at, may_be_private, secrecy_fits, result_kind, gives_fits, gives_none}
 use Rattle.verified_code.specs.Fitting.{arguments_fit, call_fits, names_there, operands_fit, target_fits, goes_on}
 use Rattle.verified_code.specs.Fitting as fitting
-use Rattle.verified_code.specs.Verified.{IsVerified, here}
-use Rattle.verified_code.specs.Settled.{settle, settled_function, settled, result_at, name_at}
-use Rattle.verified_code.specs.Sound.{passes, IsSoundFunction, IsSound}
+use Rattle.verified_code.specs.Verified.{here}
+use Rattle.verified_code.specs.Settled.{settle, settled_function, settled, result_at}
+use Rattle.verified_code.specs.Sound.{IsSound}
+use Rattle.verified_code.proofs.Sound.{verified_is_sound}
 use Rattle.verified_code.specs.Steps.{Step, Function}
 use Rattle.code_model.specs.Kinds.{kind_of}
-use Rattle.code_model.specs.Kinded.{HasKind, ArgumentsHave, ResultFits, StepFits, is_return, IsFitting, IsIn, left_array, right_array, cast_source, cast_target}
+use Rattle.code_model.specs.Kinded.{HasKind, ArgumentsHave, ResultFits, StepFits, is_return, IsFitting, left_array, right_array, cast_source, cast_target}
 use Rattle.gate_laws.specs.Facts.{bound}
 use Rattle.gate_laws.specs.Rows.{element_taken, has_gates, secrecy_suits}
 use Rattle.gate_laws.specs.Machines.{StepTakes}
-use Rattle.gate_laws.specs.Laws.{LiteralIsWord}
+use Rattle.code_model.specs.Laws.{AreFitting}
+use Rattle.gate_laws.specs.Machines.{AreTaking}
+use Rattle.gate_laws.specs.Laws.{LiteralIsWord, LiteralsAreWords, VerifiedSuits}
 
 -- ---- tests
 
@@ -161,7 +164,8 @@ literal_low datatype.Bool x h t = ltb-true x 2 t
 
 -- ---- calls
 
-arguments_have : (kinds : List Kind) (rs : List ℕ) (n : ℕ) (ks : List Kind) → list_all (is_there kinds) rs ≡ true → arguments_fit kinds rs (take n ks) ≡ true → ArgumentsHave kinds rs ks
+arguments_have : (kinds : List Kind) (rs : List ℕ) (n : ℕ) (ks : List Kind) → list_all (is_there kinds) rs ≡ true
+    → arguments_fit kinds rs (take n ks) ≡ true → ArgumentsHave kinds rs ks
 arguments_have kinds [] n ks t h = tt
 arguments_have kinds (r ∷ rs) zero ks t h = cc
 arguments_have kinds (r ∷ rs) (suc n) [] t h = cc
@@ -178,7 +182,8 @@ given_none : (given : Option Kind) → gives_none given ≡ true → given ≡ N
 given_none None h = refl
 given_none (Some k) h = cc
 
-result_fits : (kinds : List Kind) (d : ℕ) (given : Option Kind) → (is_none d || is_there kinds d) ≡ true → (is_none d || gives_fits given (kind_at kinds d)) ≡ true
+result_fits : (kinds : List Kind) (d : ℕ) (given : Option Kind) → (is_none d || is_there kinds d) ≡ true
+    → (is_none d || gives_fits given (kind_at kinds d)) ≡ true
     → ResultFits kinds (result_at d) given
 result_fits kinds d given t h = go (is_none d) t h
   where
@@ -245,25 +250,38 @@ module _ (code : RawCode) (f : RawFunction) (place : ℕ) where
       let left = left_same (of a).array (of b).array in
       let right = right_same (of a).array (of b).array in
       let taken = taken_same (of a).element o in
-      let result = subst (HasKind kinds d) (made_same ((of a).secret || (of b).secret) op (of a).array (of b).array) (there_as d (result_kind op (of a) (of b)) names.0 fit.3) in
-      (
+      let result = subst (HasKind kinds d) (made_same ((of a).secret || (of b).secret) op (of a).array (of b).array)
+      (there_as d (result_kind op (of a) (of b)) names.0 fit.3) in (
         (of a, of b, x, y, left, right, result),
-        (of a, of b, x, y, taken, sym (elements_same (of a).element (of b).element fit.0) ∙ taken, left, right, secrecy_same op (of a).secret (of b).secret fit.2),
+        (
+          of a,
+          of b,
+          x,
+          y,
+          taken,
+          sym (elements_same (of a).element (of b).element fit.0)
+              ∙ taken,
+          left,
+          right,
+          secrecy_same op (of a).secret (of b).secret fit.2,
+        ),
       )
 
-  cast_suited : (d r : ℕ) → is_there kinds d ≡ true → is_there kinds r ≡ true → fitting.cast_fits (of d) (of r) ≡ true → Suited (settle code.names kinds (raw.Cast d r))
+  cast_suited : (d r : ℕ) → is_there kinds d ≡ true → is_there kinds r ≡ true → fitting.cast_fits (of d) (of r) ≡ true
+      → Suited (settle code.names kinds (raw.Cast d r))
   cast_suited d r to from h =
       let fit = both (same_truth (of d).secret (of r).secret) (same_truth (of d).array (of r).array) h in
       let source = source_same (of r).element (of d).element in
-      let target = target_same (of r).element (of d).element in
-      (
+      let target = target_same (of r).element (of d).element in (
         (
           (of r).secret,
           (of r).array,
           subst (λ e. HasKind kinds r (record { secret = (of r).secret; element = e; array = (of r).array })) source (there r from),
           subst (λ e. HasKind kinds d (record { secret = (of r).secret; element = e; array = (of r).array })) target
-          (subst (λ s. HasKind kinds d (record { secret = s; element = (of d).element; array = (of r).array })) (truths_same (of d).secret (of r).secret fit.0)
-          (subst (λ a. HasKind kinds d (record { secret = (of d).secret; element = (of d).element; array = a })) (truths_same (of d).array (of r).array fit.1) (there d to))),
+              (subst (λ s. HasKind kinds d (record { secret = s; element = (of d).element; array = (of r).array }))
+              (truths_same (of d).secret (of r).secret fit.0)
+              (subst (λ a. HasKind kinds d (record { secret = (of d).secret; element = (of d).element; array = a }))
+              (truths_same (of d).array (of r).array fit.1) (there d to))),
         ),
         (of r, there r from, source),
       )
@@ -277,8 +295,7 @@ module _ (code : RawCode) (f : RawFunction) (place : ℕ) where
       go (Some c) e h =
           let fit = four (nat_le c.parameters (length c.registers)) (length rs == c.parameters) (arguments_fit kinds rs (take c.parameters c.registers))
           (is_none d || gives_fits c.gives (of d)) h in
-          let names = three (is_there code.functions g) (is_none d || is_there kinds d) (list_all (is_there kinds) rs) n in
-          (
+          let names = three (is_there code.functions g) (is_none d || is_there kinds d) (list_all (is_there kinds) rs) n in (
             (
               settled_function code.names c,
               settled_there code.names code.functions g c e,
@@ -317,8 +334,7 @@ module _ (code : RawCode) (f : RawFunction) (place : ℕ) where
   suited (raw.Put a i x line) l n o t =
       let names = three (is_there kinds a) (is_there kinds i) (is_there kinds x) n in
       let fit = three (of a).array (same_kind (of i) (public_scalar Uint64)) (same_kind (of x) (element_of (of a))) o in
-      let same = kinds_same (of x) (element_of (of a)) fit.2 in
-      (
+      let same = kinds_same (of x) (element_of (of a)) fit.2 in (
         (of a, there a names.0, fit.0),
         (of a, of x, there a names.0, there x names.2, ap (λ z. z.element) same, ap (λ z. z.array) same),
       )
@@ -330,17 +346,20 @@ module _ (code : RawCode) (f : RawFunction) (place : ℕ) where
       let names = three (is_there kinds d) (is_there kinds a) (is_there kinds b) n in
       let fit = three (of d).array (same_kind (of a) (of d)) (same_kind (of b) (of d)) o in
       let left = kinds_same (of a) (of d) fit.1 in
-      let right = kinds_same (of b) (of d) fit.2 in
-      (
+      let right = kinds_same (of b) (of d) fit.2 in (
         (of d, there_as a (of d) names.1 fit.1, there_as b (of d) names.2 fit.2, fit.0, there d names.0),
         (of a, of b, there a names.1, there b names.2, ap (λ z. z.element) (right ∙ sym left)),
       )
   suited (raw.Sum d r) l n o t =
       let names = both (is_there kinds d) (is_there kinds r) n in
       let fit = three (of r).array (is_word (of r).element) (same_kind (of d) (element_of (of r))) o in
-      let word = are_words (of r).element fit.1 in
-      (
-        (of r, there r names.1, subst (λ e. HasKind kinds d (record { secret = (of r).secret; element = e; array = false })) word (there_as d (element_of (of r)) names.0 fit.2)),
+      let word = are_words (of r).element fit.1 in (
+        (
+          of r,
+          there r names.1,
+          subst (λ e. HasKind kinds d (record { secret = (of r).secret; element = e; array = false })) word
+              (there_as d (element_of (of r)) names.0 fit.2),
+        ),
         (of r, there r names.1, word),
       )
   suited (raw.Bits d r line) l n o t =
@@ -358,3 +377,94 @@ module _ (code : RawCode) (f : RawFunction) (place : ℕ) where
   suited (raw.Call g d rs line) l n o t = call_suited g d rs line n o
   suited (raw.Return r) l n o t = ((of r, given_kind f.gives (of r) o, there r n), tt)
   suited raw.ReturnNone l n o t = (given_none f.gives o, tt)
+
+-- ---- functions
+
+mapped_found : {A B : Type 0} (g : A → B) (xs : List A) (k : ℕ) (y : B) → slice_get (map g xs) k ≡ Some y → (x : A) × (slice_get xs k ≡ Some x) × (y ≡ g x)
+mapped_found g [] k y e = cc
+mapped_found {B = B} g (x ∷ xs) zero y e = (x, refl, same y (g x) e)
+  where
+    same : (y z : B) → ◌≡◌ {A = Option B} (Some z) (Some y) → y ≡ z
+    same y z e = sym (ap or_this e)
+      where
+        or_this : Option B → B
+        or_this None = z
+        or_this (Some v) = v
+mapped_found g (x ∷ xs) (suc k) y e = mapped_found g xs k y e
+
+return_same : (names : List (List ℕ)) (ks : List Kind) (i : Raw) → is_return (settle names ks i) ≡ fitting.is_return i
+return_same names ks (raw.Return r) = refl
+return_same names ks raw.ReturnNone = refl
+return_same names ks (raw.Literal d x) = refl
+return_same names ks (raw.Move d r) = refl
+return_same names ks (raw.Store d r) = refl
+return_same names ks (raw.Binary o d a b line) = refl
+return_same names ks (raw.Not d r) = refl
+return_same names ks (raw.Cast d r) = refl
+return_same names ks (raw.Classify d r) = refl
+return_same names ks (raw.Fill d n x line) = refl
+return_same names ks (raw.At d a i line) = refl
+return_same names ks (raw.Put a i x line) = refl
+return_same names ks (raw.Size d r) = refl
+return_same names ks (raw.Cat d a b line) = refl
+return_same names ks (raw.Sum d r) = refl
+return_same names ks (raw.Bits d r line) = refl
+return_same names ks (raw.Declassify d r) = refl
+return_same names ks (raw.Argument d name line) = refl
+return_same names ks (raw.Publish name r) = refl
+return_same names ks (raw.Assert r line) = refl
+return_same names ks (raw.Branch r v target) = refl
+return_same names ks (raw.Jump target) = refl
+return_same names ks (raw.Call g d rs line) = refl
+
+other : (a b : Bool) → (a || b) ≡ true → a ≡ false → b ≡ true
+other true b h e = cc
+other false b h e = h
+
+-- what an instruction that passes comes to
+record Passed (code : RawCode) (f : RawFunction) (place : ℕ) (s : Step) : Type 0 where
+  fits : StepFits (settled code) (settled_function code.names f) s
+  takes : StepTakes f.registers s
+  goes_on : is_return s ≡ false → place + 1 < length (map (settle code.names f.registers) f.body)
+
+module _ (code : RawCode) (sound : IsSound code) (literals : LiteralsAreWords code) (n : ℕ) (f : RawFunction) (e : slice_get code.functions n ≡ Some f) where
+  passed : (place : ℕ) (s : Step) → slice_get (map (settle code.names f.registers) f.body) place ≡ Some s → Passed code f place s
+  passed place s at =
+      let x = mapped_found (settle code.names f.registers) f.body place s at in
+      let h = here code f place in
+      let all = four (names_there h x.0) (operands_fit h x.0) (target_fits h x.0) (goes_on h x.0) ((sound.functions n f e).instructions place x.0 x.1) in
+      let two = suited code f place x.0 (literals n f e place x.0 x.1) all.0 all.1 all.2 in
+      subst (Passed code f place) (sym x.2) (record {
+        fits = two.0;
+        takes = two.1;
+        goes_on = λ r. subst (λ n. place + 1 < n) (sym (length-map f.body (settle code.names f.registers)))
+            (ltb-true (place + 1) (length f.body)
+            (other (fitting.is_return x.0) (nat_lt (place + 1) (length f.body)) all.3 (sym (return_same code.names f.registers x.0) ∙ r)));
+      })
+
+  fitting_function : IsFitting (settled code) (settled_function code.names f)
+  fitting_function =
+      record {
+        some = subst (λ n. 0 < n) (sym (length-map f.body (settle code.names f.registers))) (sound.functions n f e).some_instruction;
+        fits = λ place i at. (passed place i at).fits;
+        goes_on = λ place i at. (passed place i at).goes_on;
+      }
+
+-- ---- the code
+
+pub verified_suits : (code : RawCode) → VerifiedSuits code
+verified_suits code verified literals = (fits, takes)
+  where
+    sound : IsSound code
+    sound = verified_is_sound code verified
+
+    fits : AreFitting (settled code)
+    fits g x =
+        let found = mapped_found (settled_function code.names) code.functions x.0 g x.1 in
+        subst (IsFitting (settled code)) (sym found.2) (fitting_function code sound literals x.0 found.0 found.1)
+
+    takes : AreTaking (settled code)
+    takes g x =
+        let found = mapped_found (settled_function code.names) code.functions x.0 g x.1 in
+        subst (λ h. (place : ℕ) (i : Step) → slice_get h.steps place ≡ Some i → StepTakes h.kinds i) (sym found.2)
+        (λ place i at. (passed code sound literals x.0 found.0 found.1 place i at).takes)

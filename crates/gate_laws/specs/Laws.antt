@@ -1,5 +1,5 @@
 -- What is promised of the gates that steps and runs of code make.
-use Rattle.std.specs.Prelude.{◌≡◌, ◌<◌, ◌^◌, ℕ, List, [], Some}
+use Rattle.std.specs.Prelude.{◌≡◌, ◌<◌, ◌^◌, ℕ, List, Some}
 use Rattle.std.specs.List.{slice_get}
 use Rattle.proto_core.specs.declared.party.Number.{Number}
 use Rattle.proto_core.specs.Lists.{AreWords}
@@ -62,7 +62,7 @@ abbrev pub LiteralIsWord : Raw → Type 0
 LiteralIsWord (Literal d x) = x < 2 ^ 64
 LiteralIsWord i = Unit {0}
 
--- as they are in each code that is read from bytes
+-- of numbers, and so of truth values
 abbrev pub LiteralsAreWords : RawCode → Type 0
 LiteralsAreWords code =
     (n : ℕ) (f : RawFunction) → slice_get code.functions n ≡ Some f → (k : ℕ) (i : Raw) → slice_get f.body k ≡ Some i → LiteralIsWord i
