@@ -14,3 +14,4 @@ pub mod Told
 pub mod Steps
 pub mod Walks
 pub mod Samples
+pub mod Verified

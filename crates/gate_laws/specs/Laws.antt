@@ -1,5 +1,5 @@
 -- What is promised of the gates that steps and runs of code make.
-use Rattle.std.specs.Prelude.{◌≡◌, ℕ, List, Some}
+use Rattle.std.specs.Prelude.{◌≡◌, ◌<◌, ◌^◌, ℕ, List, Some}
 use Rattle.std.specs.List.{slice_get}
 use Rattle.proto_core.specs.declared.party.Number.{Number}
 use Rattle.proto_core.specs.Lists.{AreWords}
@@ -11,7 +11,10 @@ use Rattle.shared_gates.specs.Computed.{opened_values}
 use Rattle.shared_plans.specs.GateRuns.{GateRun, IsWellFormed, words_drawn}
 use Rattle.language_model.specs.Effects.{World, Clear, Stage}
 use Rattle.language_model.specs.Reports.{Report}
+use Rattle.bytecode.specs.Raw.{Raw, Literal, RawFunction, RawCode}
 use Rattle.verified_code.specs.Steps.{Function}
+use Rattle.verified_code.specs.Settled.{settled}
+use Rattle.verified_code.specs.Verified.{IsVerified}
 use Rattle.code_model.specs.Machine.{Machine, step}
 use Rattle.code_model.specs.Meaning.{mean_in}
 use Rattle.code_model.specs.Kinded.{AreSingle, IsWithin}
@@ -52,3 +55,18 @@ pub record GatesSuit (w : World) (d : Dealt) (r : Report) : Type 0 where
 abbrev pub RunsMakeSuitedGates : World → Dealt → List Function → (budget : ℕ) → (answers : List ℕ) → Type 0
 RunsMakeSuitedGates w d c budget answers =
     MayRun w d c → IsDealing d → (main : Function) → slice_get c 0 ≡ Some main → AreWords answers → GatesSuit w d (mean_in w c budget answers)
+
+-- ---- VERIFIED CODE
+
+abbrev pub LiteralIsWord : Raw → Type 0
+LiteralIsWord (Literal d x) = x < 2 ^ 64
+LiteralIsWord i = Unit {0}
+
+-- of numbers, and so of truth values
+abbrev pub LiteralsAreWords : RawCode → Type 0
+LiteralsAreWords code =
+    (n : ℕ) (f : RawFunction) → slice_get code.functions n ≡ Some f → (k : ℕ) (i : Raw) → slice_get f.body k ≡ Some i → LiteralIsWord i
+
+-- the steps of verified code fit, and take values that have gates
+abbrev pub VerifiedSuits : RawCode → Type 0
+VerifiedSuits code = IsVerified code → LiteralsAreWords code → AreFitting (settled code) × AreTaking (settled code)

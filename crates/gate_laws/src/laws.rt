@@ -1,9 +1,10 @@
 // What is true of the gates that code makes.
 ghost use Rattle.std.specs.Prelude.{ℕ, List};
 ghost use Rattle.language_model.specs.Effects.{World};
+ghost use Rattle.bytecode.specs.Raw.{RawCode};
 ghost use Rattle.verified_code.specs.Steps.{Function};
 ghost use Rattle.gate_laws.specs.Facts.{Dealt};
-ghost use Rattle.gate_laws.specs.Laws.{StepsKeepStanding, RunsMakeSuitedGates};
+ghost use Rattle.gate_laws.specs.Laws.{StepsKeepStanding, RunsMakeSuitedGates, VerifiedSuits};
 
 /// Law: a step of code from a stage whose gates suit leads to one, in the clear and blind, also where the run ends. The gates that it
 /// adds suit the values before them, in sizes and in how they are shared; the random words that it draws are those that its gates take;
@@ -16,4 +17,9 @@ pub fn steps_make_suited_gates()
 /// Law: so the gates of each whole run of code suit, are counted by the report's random words, and open the report's words.
 pub fn runs_make_suited_gates()
     ensures { (w : World) (d : Dealt) (c : List Function) (budget : ℕ) (answers : List ℕ) → RunsMakeSuitedGates w d c budget answers }
+{}
+
+/// Law: the steps of verified code fit, and take values that have gates, where its literals are words.
+pub fn verified_code_may_run()
+    ensures { (code : RawCode) → VerifiedSuits code }
 {}

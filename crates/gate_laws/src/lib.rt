@@ -5,4 +5,4 @@
 
 mod laws;
 
-pub use laws::{runs_make_suited_gates, steps_make_suited_gates};
+pub use laws::{runs_make_suited_gates, steps_make_suited_gates, verified_code_may_run};
