@@ -8,3 +8,4 @@ pub mod Control
 pub mod Commands
 pub mod Verified
 pub mod Samples
+pub mod Registers
