@@ -9,3 +9,4 @@ pub mod Commands
 pub mod Verified
 pub mod Samples
 pub mod Registers
+pub mod RegistersOfBodies
