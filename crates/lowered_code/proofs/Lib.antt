@@ -10,3 +10,4 @@ pub mod Verified
 pub mod Samples
 pub mod Registers
 pub mod RegistersOfBodies
+pub mod RegistersOfPrograms

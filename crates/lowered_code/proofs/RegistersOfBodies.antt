@@ -1,5 +1,5 @@
 -- A statement and the slots that it declares have at most twice as many registers as its tree has nodes.
-use Rattle.std.proofs.Common.{◌≡◌, ℕ, ◌+◌, ◌≤◌, List, [], ◌∷◌, ◌++◌, length, Option, Some, None, refl, sym, ap, ◌∙◌, subst, arith, length-append}
+use Rattle.std.proofs.Common.{◌≡◌, ℕ, ◌+◌, ◌≤◌, List, [], ◌∷◌, length, Option, Some, None, refl, ap, subst, arith, length-append}
 use Rattle.std.specs.Prelude.{option_map}
 use Rattle.secrec_ast.specs.declared.expression.DataType.{DataType}
 use Rattle.secrec_ast.specs.declared.expression.DataType.TheVariants.{Uint64}
@@ -13,7 +13,7 @@ use Rattle.secrec_ast.specs.Statements.{do_loop, for_loop, breaks, continues, re
 use Rattle.secrec_ast.specs.Statements as Statements'
 use Rattle.domain_types.specs.Declarations.{Declared, callee}
 use Rattle.typed_tree.specs.Tree.{TypedTree, truth_node}
-use Rattle.typed_tree.specs.Commands.{Command, Commands, none, also, empty_command, block_command, if_command, loop_command, do_command, break_command, continue_command}
+use Rattle.typed_tree.specs.Commands.{Command, none, also, empty_command, block_command, if_command, loop_command, do_command, break_command, continue_command}
 use Rattle.typed_tree.specs.Commands.{return_command, assert_command, store_command, default_command, fill_command, input_command, element_command}
 use Rattle.typed_tree.specs.Commands.{publish_command, evaluate_command}
 use Rattle.name_resolution.specs.Scopes.{Place, declaring, entering, behind_block}
@@ -27,7 +27,7 @@ use Rattle.name_resolution.specs.Bodies.{condition_of, returned, looped, resolve
 use Rattle.name_resolution.proofs.SoundValues.{mapped, both_there}
 use Rattle.code_model.specs.Kinds.{width}
 use Rattle.code_model.specs.Commands.{command_width, commands_width}
-use Rattle.lowered_code.proofs.Registers.{all_widths, called_width, value_width, values_width}
+use Rattle.lowered_code.proofs.Registers.{called_width, value_width, values_width}
 
 -- what is made and the slots that are declared, together, are at most n more
 pub record Takes {A : Type 0} (measure : A → ℕ) (n : ℕ) (m : Resolving A) : Type 0 where
