@@ -8,3 +8,6 @@ pub mod Control
 pub mod Commands
 pub mod Verified
 pub mod Samples
+pub mod Registers
+pub mod RegistersOfBodies
+pub mod RegistersOfPrograms

@@ -1,7 +1,9 @@
 -- Kinds that stand in the list of a function's kinds from a register on, and code all of whose steps are right.
 use Rattle.std.proofs.Common.{◌≡◌, ℕ, zero, suc, ◌+◌, List, [], ◌∷◌, ◌++◌, length, Option, Some, None, Bool, true, false, refl, ap, ◌∙◌, subst}
 use Rattle.std.proofs.Common.{arith}
+use Rattle.std.proofs.Common.{sym, inl, inr}
 use Rattle.std.specs.Prelude.{slice_get}
+use Rattle.sc_text.specs.Lists.{Among}
 use Rattle.secrec_ast.specs.declared.expression.DataType.{DataType}
 use Rattle.typed_tree.specs.declared.kinds.Shape.{Shape}
 use Rattle.language_model.specs.Evaluation.{either}
@@ -31,6 +33,11 @@ behind : {A : Type 0} (a b : List A) (k : ℕ) (x : A) → slice_get b k ≡ Som
 behind [] b k x e = let n : 0 + k ≡ k = omega arith in ap (slice_get b) n ∙ e
 behind (y ∷ a) b k x e =
     let n : length (y ∷ a) + k ≡ suc (length a + k) = omega arith in ap (slice_get (y ∷ (a ++ b))) n ∙ behind a b k x e
+
+pub found_among : {A : Type 0} (xs : List A) (k : ℕ) (x : A) → slice_get xs k ≡ Some x → Among x xs
+found_among [] k x e = absurd (none_some e)
+found_among (y ∷ ys) zero x e = inl (sym (same_some y x e))
+found_among (y ∷ ys) (suc k) x e = inr (found_among ys k x e)
 
 -- ---- KINDS
 

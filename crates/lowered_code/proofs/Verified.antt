@@ -41,18 +41,14 @@ use Rattle.well_typed.specs.Commands.{AreWellTypedCommands}
 use Rattle.well_typed.specs.Programs.{IsWellTypedInstance, IsWellTyped}
 use Rattle.lowered_code.specs.Laws.{HasNumberedRegisters, IsVerifiedWhereWellTyped, RunsWhereAccepted}
 use Rattle.lowered_code.proofs.Fits.{well_typed_fits, accepted_means}
-use Rattle.lowered_code.proofs.Standing.{clash, none_some, same_some, front, Stands, stands_itself, stands_left, stands_right, stands_first}
+use Rattle.lowered_code.proofs.Standing.{clash, none_some, same_some, front, found_among, Stands, stands_itself, stands_left, stands_right, stands_first}
 use Rattle.lowered_code.proofs.Standing.{both_right, right_at}
 use Rattle.lowered_code.proofs.Calling.{parameters_of}
+use Rattle.lowered_code.proofs.RegistersOfPrograms.{small_numbered}
 use Rattle.lowered_code.proofs.Expressions.{IsCallee}
 use Rattle.lowered_code.proofs.Commands.{commands_right}
 
 -- ---- LISTS
-
-found_among : {A : Type 0} (xs : List A) (k : ℕ) (x : A) → slice_get xs k ≡ Some x → Among x xs
-found_among [] k x e = absurd (none_some e)
-found_among (y ∷ ys) zero x e = inl (sym (same_some y x e))
-found_among (y ∷ ys) (suc k) x e = inr (found_among ys k x e)
 
 truths_apart : {b : Bool} → b ≡ true → b ≡ false → ⊥
 truths_apart {b = true} e f = cc
@@ -220,7 +216,8 @@ pub well_typed_verified : (p : TypedProgramTree) (is : List Instance) → IsVeri
 well_typed_verified p is typed reached few = let right = code_right p is typed reached few in (verified (code_of p is) right, settles_again (code_of p is) right)
 
 pub accepted_runs : (source : ProgramTree) → RunsWhereAccepted source
-accepted_runs source accepted written p resolved is reached few =
+accepted_runs source accepted written p resolved is reached small =
+    let few = small_numbered source p resolved is small in
     let both = well_typed_verified p is (accepted_well_typed source accepted written p resolved) reached few in (
       both.0,
       λ w budget answers.

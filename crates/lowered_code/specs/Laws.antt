@@ -2,7 +2,9 @@
 use Rattle.std.specs.Prelude.{◌≡◌, ◌≤◌, ℕ, List, length, Some}
 use Rattle.secrec_ast.specs.Programs.{ProgramTree}
 use Rattle.domain_types.specs.Typing.{IsTypedProgram}
-use Rattle.typed_tree.specs.Programs.{TypedProgramTree}
+use Rattle.std.specs.List.{slice_get}
+use Rattle.sc_text.specs.Lists.{Among}
+use Rattle.typed_tree.specs.Programs.{TypedFunctionTree, TypedProgramTree}
 use Rattle.name_resolution.specs.Functions.{typed_of}
 use Rattle.reached_instances.specs.Instances.{Instance}
 use Rattle.reached_instances.specs.Reached.{IsReachedList}
@@ -39,6 +41,15 @@ MeansWhereAccepted source =
 abbrev pub HasNumberedRegisters : List Function → Type 0
 HasNumberedRegisters c = (f : Function) → IsIn c f → length f.kinds ≤ nowhere
 
+-- no function of these instances is too large
+abbrev pub AreSmall : TypedProgramTree → List Instance → Type 0
+AreSmall p is = (i : Instance) → Among i is → (f : TypedFunctionTree) → slice_get p.functions i.function ≡ Some f → f.size ≤ 4095
+
+-- what is typed of a program's tree has few registers for its size
+abbrev pub HasNumbersWhereSmall : ProgramTree → Type 0
+HasNumbersWhereSmall source =
+    (p : TypedProgramTree) → typed_of source ≡ Some p → (is : List Instance) → AreSmall p is → HasNumberedRegisters (code_of p is)
+
 -- instructions with the numbers that the bytes say
 abbrev pub raw_code_of_program : TypedProgramTree → List Instance → RawCode
 raw_code_of_program p is = raw_code_of (code_of p is)
@@ -49,10 +60,10 @@ IsVerifiedWhereWellTyped p is =
     IsWellTyped p → IsReachedList p is → HasNumberedRegisters (code_of p is)
     → IsVerified (raw_code_of_program p is) × (settled (raw_code_of_program p is) ≡ code_of p is)
 
--- what is settled of the raw code of an accepted program does what the program does
+-- what is settled of the raw code of an accepted program that is not too large does what the program does
 abbrev pub RunsWhereAccepted : ProgramTree → Type 0
 RunsWhereAccepted source =
     IsTypedProgram source → IsWellWritten source → (p : TypedProgramTree) → typed_of source ≡ Some p → (is : List Instance) → IsReachedList p is
-    → HasNumberedRegisters (code_of p is)
+    → AreSmall p is
     → IsVerified (raw_code_of_program p is)
     × ((w : World) (budget : ℕ) (answers : List ℕ) → mean_in w (settled (raw_code_of_program p is)) budget answers ≡ evaluated w p budget answers)
