@@ -16,7 +16,8 @@ use Rattle.sc_text.specs.Name.{is_name}
 use Rattle.sc_text.specs.End.{trap_word, owner_digit}
 use Rattle.proto_core.specs.declared.link.Link.{Link}
 use Rattle.view_text.specs.View.{Words, IsElement, AreElements, IsEnding}
-use Rattle.view_text.specs.Text.{Line, Heading, Input, Drew, Got, Opened, Ended, miner_digit, link_digits, cost_words, ending_words, line_words}
+use Rattle.proto_core.specs.Parties.{number_text, link_text}
+use Rattle.view_text.specs.Text.{Line, Heading, Input, Drew, Got, Opened, Ended, cost_words, ending_words, line_words}
 use Rattle.view_text.specs.Reading.{miners, links, traps, owners_of_tapes, miner_in, link_in, trap_in}
 use Rattle.view_text.specs.Reading.{owner_in, one_of, element_in, all_in, both, word_in, number_in, name_in}
 use Rattle.view_text.specs.Reading.{fixed, cost_in, trap_end_in, tape_end_in, end_in, heading_in, input_in, got_in, line_in}
@@ -226,7 +227,7 @@ heading_read : (ws : List (List ℕ)) (l : Line) → heading_in ws ≡ Some l �
 heading_read [] l h = nothing_found l h
 heading_read (w ∷ []) l h =
     map_found (LineRead (codes "view" ∷ w ∷ [])) Heading (miner_in w) l h
-    (λ i is. (ap (λ v. codes "view" ∷ v ∷ []) (one_read miner_digit miners w i is), tt))
+    (λ i is. (ap (λ v. codes "view" ∷ v ∷ []) (one_read number_text miners w i is), tt))
 heading_read (w ∷ v ∷ vs) l h = nothing_found l h
 
 input_read : (ws : List (List ℕ)) (l : Line) → input_in ws ≡ Some l → LineRead (codes "in" ∷ ws) l
@@ -251,15 +252,15 @@ got_read (w ∷ ws) l h =
     next_found (λ link. option_and_then (made link) (all_in word_in ws)) (link_in w) l h
     (λ link first rest. next_found (made link) (all_in word_in ws) l rest
     (λ ns second is. subst (LineRead (codes "got" ∷ w ∷ ws)) (same_found _ l is)
-    (together link ns (one_read link_digits links w link first) (words_read ws ns second))))
+    (together link ns (one_read link_text links w link first) (words_read ws ns second))))
   where
     made : Link → List ℕ → Option Line
     made link message = Some (Got (record { link = link; message = message }))
 
-    together : (link : Link) (ns : List ℕ) → w ≡ link_digits link → WordsRead ws ns →
+    together : (link : Link) (ns : List ℕ) → w ≡ link_text link → WordsRead ws ns →
         LineRead (codes "got" ∷ w ∷ ws) (Got (record { link = link; message = ns }))
     together link ns same read =
-        (ap (λ v. codes "got" ∷ v ∷ ws) same ∙ ap (λ vs. codes "got" ∷ link_digits link ∷ vs) read.0, read.1)
+        (ap (λ v. codes "got" ∷ v ∷ ws) same ∙ ap (λ vs. codes "got" ∷ link_text link ∷ vs) read.0, read.1)
 
 -- the first word is the line's
 named : (name w : List ℕ) (ws : List (List ℕ)) (l : Line) → bytes_eq name w ≡ true → LineRead (name ∷ ws) l → LineRead (w ∷ ws) l

@@ -20,7 +20,8 @@ use Rattle.proto_core.specs.declared.party.Number.TheVariants.{One, Two, Three}
 use Rattle.proto_core.specs.declared.link.Link.{Link}
 use Rattle.proto_core.specs.declared.link.Link.TheVariants.{Link12, Link13, Link21, Link23, Link31, Link32}
 use Rattle.view_text.specs.View.{InputShare, Received, View}
-use Rattle.view_text.specs.Text.{Line, Heading, Input, Drew, Got, Opened, Ended, miner_digit, link_digits}
+use Rattle.proto_core.specs.Parties.{number_text, link_text}
+use Rattle.view_text.specs.Text.{Line, Heading, Input, Drew, Got, Opened, Ended}
 
 -- ---- words
 
@@ -42,13 +43,13 @@ abbrev pub miners : List Number
 miners = One ∷ Two ∷ Three ∷ []
 
 abbrev pub miner_in : List ℕ → Option Number
-miner_in word = one_of miner_digit miners word
+miner_in word = one_of number_text miners word
 
 abbrev pub links : List Link
 links = Link12 ∷ Link13 ∷ Link21 ∷ Link23 ∷ Link31 ∷ Link32 ∷ []
 
 abbrev pub link_in : List ℕ → Option Link
-link_in word = one_of link_digits links word
+link_in word = one_of link_text links word
 
 abbrev pub traps : List TrapKind
 traps = kinds.Length ∷ kinds.Div ∷ kinds.Index ∷ kinds.Argument ∷ kinds.Depth ∷ kinds.Assert ∷ kinds.Large ∷ []
