@@ -3,10 +3,8 @@ use Rattle.std.proofs.Common.{◌≡◌, ℕ, ◌<◌, List, [], ◌∷◌, ◌+
 use Rattle.std.specs.Prelude.{Option, Some, None, get_or}
 use Rattle.std.specs.Borrow.{Bor}
 use Rattle.std.proofs.lemmas.List.{take_more, drop_more, take-append-drop, map-append}
+use Rattle.view_text.proofs.Found.{nothing_found}
 use Rattle.view_text.specs.Reading.{both, all_in, word_in}
-
-some_none : {P A : Type 0} (x : A) → None ≡ Some x → P
-some_none x e = cc
 
 module _ {A : Type 0} (one : List ℕ → Option A) where
   pub all_more : (ws : List (List ℕ)) (xs : List A) (w : List ℕ) (x : A) → all_in one ws ≡ Some xs → one w ≡ Some x →
@@ -18,8 +16,8 @@ module _ {A : Type 0} (one : List ℕ → Option A) where
       by_first : (a : Option A) (b : Option (List A)) → both (one v) (all_in one vs) ≡ Some xs → one v ≡ a → all_in one vs ≡ b →
           ((ys : List A) → all_in one vs ≡ Some ys → all_in one (vs ++ w ∷ []) ≡ Some (ys ++ x ∷ [])) →
           both (one v) (all_in one (vs ++ w ∷ [])) ≡ Some (xs ++ x ∷ [])
-      by_first None b h p q more = some_none xs (sym (ap (λ z. both z (all_in one vs)) p) ∙ h)
-      by_first (Some y) None h p q more = some_none xs (sym (ap (λ z. both z (all_in one vs)) p ∙ ap (both (Some y)) q) ∙ h)
+      by_first None b h p q more = nothing_found xs (sym (ap (λ z. both z (all_in one vs)) p) ∙ h)
+      by_first (Some y) None h p q more = nothing_found xs (sym (ap (λ z. both z (all_in one vs)) p ∙ ap (both (Some y)) q) ∙ h)
       by_first (Some y) (Some ys) h p q more =
           let is : Some (y ∷ ys) ≡ Some xs = sym (ap (λ z. both z (all_in one vs)) p ∙ ap (both (Some y)) q) ∙ h in
           ap (λ z. both z (all_in one (vs ++ w ∷ []))) p

@@ -20,7 +20,8 @@ use Rattle.proto_core.specs.declared.party.Number.TheVariants.{One, Two, Three}
 use Rattle.proto_core.specs.declared.link.Link.{Link}
 use Rattle.proto_core.specs.declared.link.Link.TheVariants.{Link12, Link13, Link21, Link23, Link31, Link32}
 use Rattle.view_text.specs.View.{Words, IsElement, AreElements, IsEnding}
-use Rattle.view_text.specs.Text.{Line, Heading, Input, Drew, Got, Opened, Ended, miner_digit, link_digits, line_words}
+use Rattle.proto_core.specs.Parties.{number_text, link_text}
+use Rattle.view_text.specs.Text.{Line, Heading, Input, Drew, Got, Opened, Ended, line_words}
 use Rattle.view_text.specs.Reading.{miner_in, link_in, trap_in, owner_in, element_in, all_in, both, word_in, number_in, line_in}
 use Rattle.view_text.proofs.Bytes.{Free, AllFree}
 use Rattle.view_text.proofs.Decimals.{AreDigits, number_back, decimal_digits, decimal_free, name_free}
@@ -86,14 +87,12 @@ elements_in : (es : List Element) → AreElements es → all_in element_in (map 
 elements_in [] h = refl
 elements_in (e ∷ es) h = ap (λ x. both x (all_in element_in (map element_text es))) (element_back e h.0) ∙ ap (both (Some e)) (elements_in es h.1)
 
-miner_back : (i : Number) → miner_in (miner_digit i) ≡ Some i
-unfolding miner_digit
+miner_back : (i : Number) → miner_in (number_text i) ≡ Some i
 miner_back One = refl
 miner_back Two = refl
 miner_back Three = refl
 
-link_back : (l : Link) → link_in (link_digits l) ≡ Some l
-unfolding link_digits
+link_back : (l : Link) → link_in (link_text l) ≡ Some l
 link_back Link12 = refl
 link_back Link13 = refl
 link_back Link21 = refl
@@ -203,20 +202,18 @@ elements_plain : (es : List Element) → AreElements es → NoGaps (map element_
 elements_plain [] h = tt
 elements_plain (e ∷ es) h = (element_plain e h.0, elements_plain es h.1)
 
-miner_plain : (i : Number) → NoGap (miner_digit i)
-unfolding miner_digit
-miner_plain One = plain (miner_digit One) refl
-miner_plain Two = plain (miner_digit Two) refl
-miner_plain Three = plain (miner_digit Three) refl
+miner_plain : (i : Number) → NoGap (number_text i)
+miner_plain One = plain (number_text One) refl
+miner_plain Two = plain (number_text Two) refl
+miner_plain Three = plain (number_text Three) refl
 
-link_plain : (l : Link) → NoGap (link_digits l)
-unfolding link_digits
-link_plain Link12 = plain (link_digits Link12) refl
-link_plain Link13 = plain (link_digits Link13) refl
-link_plain Link21 = plain (link_digits Link21) refl
-link_plain Link23 = plain (link_digits Link23) refl
-link_plain Link31 = plain (link_digits Link31) refl
-link_plain Link32 = plain (link_digits Link32) refl
+link_plain : (l : Link) → NoGap (link_text l)
+link_plain Link12 = plain (link_text Link12) refl
+link_plain Link13 = plain (link_text Link13) refl
+link_plain Link21 = plain (link_text Link21) refl
+link_plain Link23 = plain (link_text Link23) refl
+link_plain Link31 = plain (link_text Link31) refl
+link_plain Link32 = plain (link_text Link32) refl
 
 trap_plain : (k : TrapKind) → NoGap (trap_word k)
 unfolding trap_word

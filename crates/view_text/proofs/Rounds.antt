@@ -11,6 +11,7 @@ use Rattle.view_text.specs.Text.{Line, Heading, Input, Drew, Got, Opened, Ended,
 use Rattle.view_text.specs.Reading.{Stage, AtHeading, AtInputs, AtMessages, AtOpenings, Whole, next_stage, line_in}
 use Rattle.view_text.specs.Reading.{words_in_line, lines_in, or_fault, read_from, read_view_of}
 use Rattle.view_text.proofs.Bytes.{split_at, words_back, spaced_free}
+use Rattle.view_text.proofs.Found.{nothing_found, same_found}
 use Rattle.view_text.proofs.Lines.{IsLine, line_back, line_plain, no_spaces, no_newlines}
 
 abbrev pub AreLines : List Line → Type 0
@@ -28,7 +29,7 @@ cut (l ∷ ls) h =
     ∙ ap (λ p. spaced (line_words l) ∷ p) (cut ls h.1)
 
 -- each line has a first word
-line_is_cut : (l : Line) → IsLine l → words_in_line (spaced (line_words l)) ≡ line_words l
+pub line_is_cut : (l : Line) → IsLine l → words_in_line (spaced (line_words l)) ≡ line_words l
 line_is_cut (Heading i) h = words_back _ _ (no_spaces (line_words (Heading i)) (line_plain (Heading i) h))
 line_is_cut (Input s) h = words_back _ _ (no_spaces (line_words (Input s)) (line_plain (Input s) h))
 line_is_cut (Drew ws) h = words_back _ _ (no_spaces (line_words (Drew ws)) (line_plain (Drew ws) h))
@@ -42,19 +43,13 @@ abbrev pub through : Stage → List Line → Option Stage
 through stage [] = Some stage
 through stage (l ∷ ls) = option_and_then (λ s. through s ls) (next_stage stage l)
 
-none_some : {P : Type 0} (s : Stage) → None ≡ Some s → P
-none_some s e = cc
-
-some_is : (s t : Stage) → Some s ≡ Some t → s ≡ t
-some_is s t e = cc
-
 texts_more : (k : ℕ) (stage : Stage) (l : List ℕ) (ls : List Line) →
     read_from k stage (l ∷ texts ls) ≡ or_fault k (option_and_then (next_stage stage) (line_in (words_in_line l))) (λ next. read_from (k + 1) next (texts ls))
 texts_more k stage l [] = refl
 texts_more k stage l (m ∷ ms) = refl
 
 read_lines : (ls : List Line) (k : ℕ) (stage : Stage) (v : View) → AreLines ls → through stage ls ≡ Some (Whole v) → read_from k stage (texts ls) ≡ Ok v
-read_lines [] k stage v h e = ap (λ s. read_from k s ([] ∷ [])) (some_is stage (Whole v) e)
+read_lines [] k stage v h e = ap (λ s. read_from k s ([] ∷ [])) (same_found stage (Whole v) e)
 read_lines (l ∷ ls) k stage v h e =
     texts_more k stage (spaced (line_words l)) ls
     ∙ ap (λ ws. or_fault k (option_and_then (next_stage stage) (line_in ws)) (λ next. read_from (k + 1) next (texts ls))) (line_is_cut l h.0)
@@ -64,7 +59,7 @@ read_lines (l ∷ ls) k stage v h e =
     by_stage : (x : Option Stage) → option_and_then (λ s. through s ls) x ≡ Some (Whole v) →
         ((next : Stage) → through next ls ≡ Some (Whole v) → read_from (k + 1) next (texts ls) ≡ Ok v) →
         or_fault k x (λ next. read_from (k + 1) next (texts ls)) ≡ Ok v
-    by_stage None e more = none_some (Whole v) e
+    by_stage None e more = nothing_found (Whole v) e
     by_stage (Some next) e more = more next e
 
 -- ---- the lines of a view
@@ -100,7 +95,7 @@ through_view v =
 
 -- ---- all lines are good
 
-good_append : (xs ys : List Line) → AreLines xs → AreLines ys → AreLines (xs ++ ys)
+pub good_append : (xs ys : List Line) → AreLines xs → AreLines ys → AreLines (xs ++ ys)
 good_append [] ys h g = g
 good_append (x ∷ xs) ys h g = (h.0, good_append xs ys h.1 g)
 

@@ -20,7 +20,8 @@ use Rattle.proto_core.specs.declared.party.Number.TheVariants.{One, Two, Three}
 use Rattle.proto_core.specs.declared.link.Link.{Link}
 use Rattle.proto_core.specs.declared.link.Link.TheVariants.{Link12, Link13, Link21, Link23, Link31, Link32}
 use Rattle.view_text.specs.View.{InputShare, Received, View}
-use Rattle.view_text.specs.Text.{Line, Heading, Input, Drew, Got, Opened, Ended, miner_digit, link_digits}
+use Rattle.proto_core.specs.Parties.{number_text, link_text}
+use Rattle.view_text.specs.Text.{Line, Heading, Input, Drew, Got, Opened, Ended}
 
 -- ---- words
 
@@ -38,17 +39,29 @@ abbrev pub one_of : {A : Type 0} → (A → List ℕ) → List A → List ℕ �
 one_of text [] word = None
 one_of text (x ∷ xs) word = if bytes_eq (text x) word then Some x else one_of text xs word
 
+abbrev pub miners : List Number
+miners = One ∷ Two ∷ Three ∷ []
+
 abbrev pub miner_in : List ℕ → Option Number
-miner_in word = one_of miner_digit (One ∷ Two ∷ Three ∷ []) word
+miner_in word = one_of number_text miners word
+
+abbrev pub links : List Link
+links = Link12 ∷ Link13 ∷ Link21 ∷ Link23 ∷ Link31 ∷ Link32 ∷ []
 
 abbrev pub link_in : List ℕ → Option Link
-link_in word = one_of link_digits (Link12 ∷ Link13 ∷ Link21 ∷ Link23 ∷ Link31 ∷ Link32 ∷ []) word
+link_in word = one_of link_text links word
+
+abbrev pub traps : List TrapKind
+traps = kinds.Length ∷ kinds.Div ∷ kinds.Index ∷ kinds.Argument ∷ kinds.Depth ∷ kinds.Assert ∷ kinds.Large ∷ []
 
 abbrev pub trap_in : List ℕ → Option TrapKind
-trap_in word = one_of trap_word (kinds.Length ∷ kinds.Div ∷ kinds.Index ∷ kinds.Argument ∷ kinds.Depth ∷ kinds.Assert ∷ kinds.Large ∷ []) word
+trap_in word = one_of trap_word traps word
+
+abbrev pub owners_of_tapes : List TapeOwner
+owners_of_tapes = owners.Dealer ∷ owners.Miner1 ∷ owners.Miner2 ∷ owners.Miner3 ∷ []
 
 abbrev pub owner_in : List ℕ → Option TapeOwner
-owner_in word = one_of owner_digit (owners.Dealer ∷ owners.Miner1 ∷ owners.Miner2 ∷ owners.Miner3 ∷ []) word
+owner_in word = one_of owner_digit owners_of_tapes word
 
 abbrev pub element_in : List ℕ → Option Element
 element_in word =

@@ -8,9 +8,7 @@ use Rattle.sc_text.specs.declared.end.End.{End}
 use Rattle.sc_text.specs.Elements.{element_text}
 use Rattle.sc_text.specs.End.{trap_word, owner_digit}
 use Rattle.proto_core.specs.declared.party.Number.{Number}
-use Rattle.proto_core.specs.declared.party.Number.TheVariants.{One, Two, Three}
-use Rattle.proto_core.specs.declared.link.Link.{Link}
-use Rattle.proto_core.specs.declared.link.Link.TheVariants.{Link12, Link13, Link21, Link23, Link31, Link32}
+use Rattle.proto_core.specs.Parties.{number_text, link_text}
 use Rattle.view_text.specs.View.{InputShare, Received, View}
 
 pub data Line : Type 0 where
@@ -20,19 +18,6 @@ pub data Line : Type 0 where
   Got : Received → Line
   Opened : List Element → Line
   Ended : End → Line
-
-unfoldable pub miner_digit : Number → List ℕ
-miner_digit One = codes "1"
-miner_digit Two = codes "2"
-miner_digit Three = codes "3"
-
-unfoldable pub link_digits : Link → List ℕ
-link_digits Link12 = codes "12"
-link_digits Link13 = codes "13"
-link_digits Link21 = codes "21"
-link_digits Link23 = codes "23"
-link_digits Link31 = codes "31"
-link_digits Link32 = codes "32"
 
 abbrev pub cost_words : ℕ → List (List ℕ)
 cost_words cost = codes "cost" ∷ decimal cost ∷ []
@@ -45,10 +30,10 @@ ending_words (endings.Tape owner need have) cost =
     codes "tape" ∷ owner_digit owner ∷ codes "need" ∷ decimal need ∷ codes "have" ∷ decimal have ∷ cost_words cost
 
 abbrev pub line_words : Line → List (List ℕ)
-line_words (Heading i) = codes "view" ∷ miner_digit i ∷ []
+line_words (Heading i) = codes "view" ∷ number_text i ∷ []
 line_words (Input s) = codes "in" ∷ s.name ∷ map decimal s.words
 line_words (Drew ws) = codes "drew" ∷ map decimal ws
-line_words (Got r) = codes "got" ∷ link_digits r.link ∷ map decimal r.message
+line_words (Got r) = codes "got" ∷ link_text r.link ∷ map decimal r.message
 line_words (Opened es) = codes "open" ∷ map element_text es
 line_words (Ended e) = codes "end" ∷ ending_words e.how e.cost
 
