@@ -7,3 +7,4 @@ pub mod Coming
 pub mod Simulated
 pub mod Holding
 pub mod Twins
+pub mod Samples

@@ -17,13 +17,13 @@ use Rattle.tape_file.specs.Tapes.{FourTapes}
 use Rattle.view_model.specs.TapeMaps.{to_simulated, from_simulated, twin, gates_dealt}
 use Rattle.view_model.specs.Seen.{seen_by}
 
-pair : ℕ → ℕ → List Entry
+unfoldable pub pair : ℕ → ℕ → List Entry
 pair a b =
     record { name = codes "a"; domain = Private; value = Number a }
     ∷ record { name = codes "b"; domain = Private; value = Number b }
     ∷ []
 
-product : List Gate
+unfoldable pub product : List Gate
 product = Input 0 ∷ Input 1 ∷ Mul 0 1 ∷ Open Arithmetic 2 ∷ []
 
 sum : List Gate
