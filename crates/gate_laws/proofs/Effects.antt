@@ -132,7 +132,8 @@ module _ (w : World) (d : Dealt) where
       → Suits w d fs before (c >>= λ x. f x >>= g) after F R → Suits w d fs before ((c >>= f) >>= g) after F R
   suits_again {A = A} {after = after} {F = F} {R = R} c f g h = record { from = λ kinds s at stands. go kinds s (c s) (h.from kinds s at stands) }
     where
-      go : (kinds : List Kind) (s : Stage) (r : Run A) → ComesAt w d s kinds (carry r (λ x. f x >>= g)) after F R → ComesAt w d s kinds (carry (carry r f) g) after F R
+      go : (kinds : List Kind) (s : Stage) (r : Run A) → ComesAt w d s kinds (carry r (λ x. f x >>= g)) after F R
+          → ComesAt w d s kinds (carry (carry r f) g) after F R
       go kinds s (Ok x) m = m
       go kinds s (Err e) m = m
 
@@ -185,7 +186,15 @@ module _ (w : World) (d : Dealt) where
   emit_suits fs owed e =
       record {
         from = λ kinds s at stands. same_stage s (record s { events = s.events ++ e ∷ [] }) kinds owed refl
-            (record { formed = at.formed; made = at.made; drawn = at.drawn; answers = at.answers; handed = λ values fit. and_told e (at.handed values fit); opened = at.opened });
+            (record {
+              formed = at.formed;
+              made = at.made;
+              drawn = at.drawn;
+              answers = at.answers;
+              handed = λ values fit. and_told e
+                  (at.handed values fit);
+              opened = at.opened;
+            });
       }
 
   -- words that are drawn are owed
@@ -222,6 +231,6 @@ module _ (w : World) (d : Dealt) where
                   drawn = λ i. more s.drawn i (words_drawn (run_at w d kinds s) i) (at.drawn i);
                   answers = at.answers;
                   handed = at.handed;
-              opened = at.opened;
+                  opened = at.opened;
                 });
           }

@@ -66,7 +66,8 @@ module _ (w : World) (d : Dealt) where
         let start : 0 + made_by_all s.gates ≡ value_count run = omega arith in
         (both.0, subst (λ n. FitFrom d.inputs values n gs) start both.1)
 
-    added_at : IsAt w d kinds before s → Follows run gs own taken → ((values : Values) → handed_values values gs ≡ []) → ((m : Miner) → before m ≡ taken m + after m)
+    added_at : IsAt w d kinds before s → Follows run gs own taken → ((values : Values) → handed_values values gs ≡ [])
+        → ((m : Miner) → before m ≡ taken m + after m)
         → IsAt w d (kinds ++ own) after (added gs s)
     added_at at follows none owed =
         record {

@@ -30,7 +30,8 @@ use Rattle.shared_plans.proofs.GateRunLaws.{run-needs}
 use Rattle.language_model.specs.Effects.{World, Source, Clear, Answers, Stage, Short, Effect, ◌>>=◌, carry, done, gate, emit, answer, show, words_each}
 use Rattle.language_model.specs.Values.{Secrecy, Plain, Private, Value, plain, size, ring_for, elements_of}
 use Rattle.language_model.specs.Operations.{read_answer, revealed, opened_from, declassified}
-use Rattle.gate_laws.specs.Facts.{handed_values, Handed, and_told, InRange, IsProper, drawn_by, none_of, Fact, Stands, facts_of, Dealt, run_at, IsAt, Grows, Comes, ComesAt, Suits}
+use Rattle.gate_laws.specs.Facts.{handed_values, Handed, and_told, InRange, IsProper, drawn_by, none_of, Fact, Stands, facts_of, Dealt, run_at, IsAt}
+use Rattle.gate_laws.specs.Facts.{Grows, Comes, ComesAt, Suits}
 use Rattle.gate_laws.proofs.Effects.{Tell, suits_bind, suits_owed, draw_suits}
 use Rattle.gate_laws.proofs.Gains.{fact, made_split, opened_split, handed_split}
 use Rattle.gate_laws.proofs.Singles.{stands_inside, stands_size}
@@ -139,7 +140,8 @@ module _ (w : World) (d : Dealt) (v : Value) (p : IsProper v) (u : ℕ) where
     none_handed : (values : Values) → handed_values values s.gates ≡ handed_values values (s.gates ++ Open ring u ∷ [])
     none_handed values = sym (append-nil (handed_values values s.gates)) ∙ sym (handed_split values s.gates (Open ring u ∷ []))
 
-    handed_yet : (values : Values) → FitFrom d.inputs values 0 (s.gates ++ Open ring u ∷ []) → Handed s.events (handed_values values (s.gates ++ Open ring u ∷ []))
+    handed_yet : (values : Values) → FitFrom d.inputs values 0 (s.gates ++ Open ring u ∷ [])
+        → Handed s.events (handed_values values (s.gates ++ Open ring u ∷ []))
     handed_yet values fit =
         subst (Handed s.events) (none_handed values) (at.handed values (FitFrom-append d.inputs values 0 s.gates (Open ring u ∷ []) fit).0)
 

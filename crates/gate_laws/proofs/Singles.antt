@@ -84,7 +84,8 @@ module _ (r : GateRun) (good : IsWellFormed r) where
 
   pub const_gain : (ring : RingKind) (ws : List ℕ) → AreWords ws → Gain r (gates.Const ws ∷ []) (Shared ring ∷ []) none_of 0 ring ws
   const_gain ring ws words =
-      one_gain (gates.Const ws) none_of ring ws refl tt (λ values. refl) (words, (ring, (new_kind ring, tt))) tt (λ values miner same. refl) (λ values before m. m)
+      one_gain (gates.Const ws) none_of ring ws refl tt (λ values. refl) (words, (ring, (new_kind ring, tt))) tt (λ values miner same. refl)
+      (λ values before m. m)
 
   pub input_gain : (k : ℕ) (ring : RingKind) (ws : List ℕ) → k < length r.inputs → value r.inputs k ≡ ws → kind_at r.dealt_kinds k ≡ Shared ring
       → Gain r (gates.Input k ∷ []) (Shared ring ∷ []) none_of 0 ring ws
@@ -130,7 +131,8 @@ module _ (r : GateRun) (good : IsWellFormed r) where
   pub sum_gain : (u : ℕ) (us : List ℕ) → Stands r (fact u Arithmetic us)
       → Gain r (gates.Sum u ∷ []) (Shared Arithmetic ∷ []) none_of 0 Arithmetic (sum us % 2 ^ 64 ∷ [])
   sum_gain u us h =
-      one_gain (gates.Sum u) none_of Arithmetic (sum us % 2 ^ 64 ∷ []) refl tt (λ values. refl) (stays_shared u Arithmetic us h Arithmetic, (new_kind Arithmetic, tt))
+      one_gain (gates.Sum u) none_of Arithmetic (sum us % 2 ^ 64 ∷ []) refl tt (λ values. refl)
+      (stays_shared u Arithmetic us h Arithmetic, (new_kind Arithmetic, tt))
       (stands_inside u Arithmetic us h) (λ values miner same. refl)
       (λ values before m. m ∙ ap (λ z. Some (sum z % 2 ^ 64 ∷ [])) (h.words values before))
 
@@ -195,17 +197,22 @@ module _ (r : GateRun) (good : IsWellFormed r) where
   module _ (u v : ℕ) (us vs : List ℕ) (same : length us ≡ length vs) where
     module _ (h : Stands r (fact u Arithmetic us)) (k : Stands r (fact v Arithmetic vs)) where
       pub add_gain : Gain r (gates.Add u v ∷ []) (Shared Arithmetic ∷ []) (λ m. 0 * length us) 0 Arithmetic (each_two add_ring.add us vs)
-      add_gain = two_gain u v Arithmetic us vs h k (gates.Add u v) add_ring.add 0 same refl tt (λ values. refl) (λ q. q) (λ q. q) (λ sizes miner. omega arith) (λ values m. m)
+      add_gain = two_gain u v Arithmetic us vs h k (gates.Add u v) add_ring.add 0 same refl tt (λ values. refl) (λ q. q) (λ q. q)
+          (λ sizes miner. omega arith) (λ values m. m)
 
       pub sub_gain : Gain r (gates.Sub u v ∷ []) (Shared Arithmetic ∷ []) (λ m. 0 * length us) 0 Arithmetic (each_two add_ring.sub us vs)
-      sub_gain = two_gain u v Arithmetic us vs h k (gates.Sub u v) add_ring.sub 0 same refl tt (λ values. refl) (λ q. q) (λ q. q) (λ sizes miner. omega arith) (λ values m. m)
+      sub_gain = two_gain u v Arithmetic us vs h k (gates.Sub u v) add_ring.sub 0 same refl tt (λ values. refl) (λ q. q) (λ q. q)
+          (λ sizes miner. omega arith) (λ values m. m)
 
       pub mul_gain : Gain r (gates.Mul u v ∷ []) (Shared Arithmetic ∷ []) (λ m. 3 * length us) 0 Arithmetic (each_two add_ring.mul us vs)
-      mul_gain = two_gain u v Arithmetic us vs h k (gates.Mul u v) add_ring.mul 3 same refl tt (λ values. refl) (λ q. q) (λ q. q) (λ sizes miner. refl) (λ values m. m)
+      mul_gain = two_gain u v Arithmetic us vs h k (gates.Mul u v) add_ring.mul 3 same refl tt (λ values. refl) (λ q. q) (λ q. q) (λ sizes miner. refl)
+          (λ values m. m)
 
     module _ (h : Stands r (fact u Boolean us)) (k : Stands r (fact v Boolean vs)) where
       pub xor_gain : Gain r (gates.Xor u v ∷ []) (Shared Boolean ∷ []) (λ m. 0 * length us) 0 Boolean (each_two xor_ring.add us vs)
-      xor_gain = two_gain u v Boolean us vs h k (gates.Xor u v) xor_ring.add 0 same refl tt (λ values. refl) (λ q. q) (λ q. q) (λ sizes miner. omega arith) (λ values m. m)
+      xor_gain = two_gain u v Boolean us vs h k (gates.Xor u v) xor_ring.add 0 same refl tt (λ values. refl) (λ q. q) (λ q. q) (λ sizes miner. omega arith)
+          (λ values m. m)
 
       pub and_gain : Gain r (gates.And u v ∷ []) (Shared Boolean ∷ []) (λ m. 3 * length us) 0 Boolean (each_two xor_ring.mul us vs)
-      and_gain = two_gain u v Boolean us vs h k (gates.And u v) xor_ring.mul 3 same refl tt (λ values. refl) (λ q. q) (λ q. q) (λ sizes miner. refl) (λ values m. m)
+      and_gain = two_gain u v Boolean us vs h k (gates.And u v) xor_ring.mul 3 same refl tt (λ values. refl) (λ q. q) (λ q. q) (λ sizes miner. refl)
+          (λ values m. m)

@@ -24,7 +24,8 @@ use Rattle.shared_gates.specs.Computed.{opened_values}
 use Rattle.shared_plans.proofs.PlanRuns.{longer-formed, words-then}
 use Rattle.gate_laws.specs.Facts.{bound, IsProper, handed_values, Handed, and_handed, drawn_by, none_of, Fact, facts_of, Dealt, run_at, Suits}
 use Rattle.gate_laws.specs.Offers.{IsOffered, AreOffered}
-use Rattle.gate_laws.proofs.Effects.{Tell, Any, NoFacts, suits_bind, suits_again, suits_with, suits_done, suits_end, charge_suits, test_suits, emit_suits, draw_suits}
+use Rattle.gate_laws.proofs.Effects.{Tell, Any, NoFacts, suits_bind, suits_again, suits_with, suits_done, suits_end, charge_suits, test_suits, emit_suits}
+use Rattle.gate_laws.proofs.Effects.{draw_suits}
 use Rattle.gate_laws.proofs.Gains.{fact, gate_from, made_split, opened_split, handed_split}
 use Rattle.gate_laws.proofs.Singles.{result_follows, input_gain}
 use Rattle.gate_laws.proofs.Parts.{tell_same, tell_none, tell_first, charged_suits, plain_charge, number_suits, given_suits, shown_suits}
@@ -48,37 +49,40 @@ module _ (w : World) (d : Dealt) where
 
     -- the gate, and then the event
     handing_suits : (fs : List Fact) (text : List ℕ) (u : ℕ) → Tell fs (fact u ring v.words ∷ [])
-        → Suits w d fs (drawn_by (words_each (size v))) ((gate (gates.Result ring u) >>= λ _. done tt) >>= telling text) none_of (NoFacts {A = Unit {0}}) (Any {A = Unit {0}})
+        → Suits w d fs (drawn_by (words_each (size v))) ((gate (gates.Result ring u) >>= λ _. done tt) >>= telling text) none_of (NoFacts {A = Unit {0}})
+        (Any {A = Unit {0}})
     handing_suits fs text u t =
-        record { from = λ kinds s at facts.
-            let run = run_at w d kinds s in
-            let gs : List Gate = gates.Result ring u ∷ [] in
-            let own : List Kind = Shared ring ∷ [] in
-            let h = (t.from run facts).0 in
-            let follows = result_follows run at.formed u ring v.words h in
-            let taken = λ (m : Miner). size v in
-            let before = λ (values : Values) (fit : FitFrom d.inputs values 0 (s.gates ++ gs)). (FitFrom-append d.inputs values 0 s.gates gs fit).0 in
-            record {
-              later = kinds ++ own;
-              grown = record { gates = gs; own = own; more_gates = refl; more_kinds = refl };
-              stage = record {
-                formed = longer-formed run gs own taken at.formed follows;
-                made = let e = made_split s.gates gs in omega (arith, at.made);
-                drawn = λ i.
-                    let more = words-then run gs own taken at.formed follows i in
-                    let owed = same_each (size v) (miner_of i) in
-                    omega (arith, at.drawn i, owed);
-                answers = at.answers;
-                handed = λ values fit.
-                    subst (Handed (s.events ++ event.Publish text (elements_of v) ∷ []))
-                    (ap (λ z. handed_values values s.gates ++ z ∷ []) (sym (h.words values (before values fit))) ∙ sym (handed_split values s.gates gs))
-                    (and_handed text v.shape.element v.words (at.handed values (before values fit)));
-                opened = λ clear values fit.
-                    at.opened clear values (before values fit) ∙ sym (append-nil (opened_values values s.gates)) ∙ sym (opened_split values s.gates gs);
+        record {
+          from = λ kinds s at facts.
+              let run = run_at w d kinds s in
+              let gs : List Gate = gates.Result ring u ∷ [] in
+              let own : List Kind = Shared ring ∷ [] in
+              let h = (t.from run facts).0 in
+              let follows = result_follows run at.formed u ring v.words h in
+              let taken = λ (m : Miner). size v in
+              let before = λ (values : Values) (fit : FitFrom d.inputs values 0 (s.gates ++ gs)). (FitFrom-append d.inputs values 0 s.gates gs fit).0 in
+              record {
+                later = kinds ++ own;
+                grown = record { gates = gs; own = own; more_gates = refl; more_kinds = refl };
+                stage = record {
+                  formed = longer-formed run gs own taken at.formed follows;
+                  made = let e = made_split s.gates gs in omega (arith, at.made);
+                  drawn = λ i.
+                      let more = words-then run gs own taken at.formed follows i in
+                      let owed = same_each (size v) (miner_of i) in
+                      omega (arith, at.drawn i, owed);
+                  answers = at.answers;
+                  handed = λ values fit.
+                      subst (Handed (s.events ++ event.Publish text (elements_of v) ∷ []))
+                      (ap (λ z. handed_values values s.gates ++ z ∷ []) (sym (h.words values (before values fit))) ∙ sym (handed_split values s.gates gs))
+                      (and_handed text v.shape.element v.words (at.handed values (before values fit)));
+                  opened = λ clear values fit.
+                      at.opened clear values (before values fit) ∙ sym (append-nil (opened_values values s.gates)) ∙ sym (opened_split values s.gates gs);
+                };
+                facts = tt;
+                sure = tt;
               };
-              facts = tt;
-              sure = tt;
-            } }
+        }
 
     handed_suits : (text : List ℕ) (a : Secrecy)
         → Suits w d (facts_of v) none_of (handed_over w a v >>= telling text) none_of (NoFacts {A = Unit {0}}) (Any {A = Unit {0}})

@@ -103,7 +103,14 @@ module _ (w : World) (d : Dealt) (c : List Function) (may : MayRun w d c) where
           ended (exec w c (fuel c budget) (start c) begun)
           (walk (fuel c budget) (start c) begun [] (begins c may.fitting main e) start_at (start_stands (run_at w d [] begun) (slice_get c 0)))
       either false =
-          record { kinds = []; formed = start_at.formed; drawn = λ i. let e = start_at.drawn i in omega (arith, e); handed = start_at.handed; opened = start_at.opened }
+          record {
+            kinds = [];
+            formed = start_at.formed;
+            drawn = λ i. let e = start_at.drawn i in omega
+                (arith, e);
+            handed = start_at.handed;
+            opened = start_at.opened;
+          }
 
 pub make_suited_gates : (w : World) (d : Dealt) (c : List Function) (budget : ℕ) (answers : List ℕ) → RunsMakeSuitedGates w d c budget answers
 make_suited_gates w d c budget answers may dealt main e words = suited w d c may dealt budget answers main e words
