@@ -19,7 +19,7 @@ use Rattle.shared_plans.specs.GateRuns.{GateRun, words_drawn}
 use Rattle.shared_plans.proofs.KindedPlans.{shared-grown}
 use Rattle.language_model.specs.Effects.{Words, World, Stage, Ended, Run, Effect, ◌>>=◌, carry, done, end, charge, test, with_more, fits, drawn_yet}
 use Rattle.language_model.specs.Effects.{take_words, draw, emit}
-use Rattle.gate_laws.specs.Facts.{drawn_by, none_of, Fact, Stands, AllStand, Dealt, run_at, IsAt, Grows, Comes, ComesAt, Suits}
+use Rattle.gate_laws.specs.Facts.{and_told, drawn_by, none_of, Fact, Stands, AllStand, Dealt, run_at, IsAt, Grows, Comes, ComesAt, Suits}
 
 -- ---- facts
 
@@ -126,6 +126,17 @@ module _ (w : World) (d : Dealt) where
           record { later = m.later; grown = m.grown; stage = m.stage; facts = (t x.0 m.sure).from (run_at w d m.later x.1) m.facts; sure = k x.0 m.sure }
       go kinds s (Err e) m = m
 
+  -- an effect of two parts, and then a third
+  pub suits_again :
+      {A B C : Type 0} {fs : List Fact} {before after : Miner → ℕ} {F : C → List Fact} {R : C → Type 0} (c : Effect A) (f : A → Effect B) (g : B → Effect C)
+      → Suits w d fs before (c >>= λ x. f x >>= g) after F R → Suits w d fs before ((c >>= f) >>= g) after F R
+  suits_again {A = A} {after = after} {F = F} {R = R} c f g h = record { from = λ kinds s at stands. go kinds s (c s) (h.from kinds s at stands) }
+    where
+      go : (kinds : List Kind) (s : Stage) (r : Run A) → ComesAt w d s kinds (carry r (λ x. f x >>= g)) after F R
+          → ComesAt w d s kinds (carry (carry r f) g) after F R
+      go kinds s (Ok x) m = m
+      go kinds s (Err e) m = m
+
   -- as many words are owed
   pub suits_owed :
       {A : Type 0} {fs : List Fact} {before other after : Miner → ℕ} {c : Effect A} {F : A → List Fact} {R : A → Type 0} → ((m : Miner) → before m ≡ other m)
@@ -138,6 +149,7 @@ module _ (w : World) (d : Dealt) where
               made = at.made;
               drawn = λ i. at.drawn i ∙ ap (λ k. words_drawn (run_at w d kinds s) i + k) (e (miner_of i));
               answers = at.answers;
+              handed = at.handed;
               opened = at.opened;
             }) stands;
       }
@@ -159,7 +171,7 @@ module _ (w : World) (d : Dealt) where
           (Any {A = Unit {0}})
       go kinds s at true =
           same_stage s (record s { left = s.left - n }) kinds none_of refl
-          (record { formed = at.formed; made = at.made; drawn = at.drawn; answers = at.answers; opened = at.opened })
+          (record { formed = at.formed; made = at.made; drawn = at.drawn; answers = at.answers; handed = at.handed; opened = at.opened })
       go kinds s at false = same_stage s s kinds none_of refl at
 
   pub test_suits : (fs : List Fact) (b : Bool) (kind : TrapKind) (line : ℕ) → Suits w d fs none_of (test b kind line) none_of (NoFacts {A = Unit {0}})
@@ -174,7 +186,15 @@ module _ (w : World) (d : Dealt) where
   emit_suits fs owed e =
       record {
         from = λ kinds s at stands. same_stage s (record s { events = s.events ++ e ∷ [] }) kinds owed refl
-            (record { formed = at.formed; made = at.made; drawn = at.drawn; answers = at.answers; opened = at.opened });
+            (record {
+              formed = at.formed;
+              made = at.made;
+              drawn = at.drawn;
+              answers = at.answers;
+              handed = λ values fit. and_told e
+                  (at.handed values fit);
+              opened = at.opened;
+            });
       }
 
   -- words that are drawn are owed
@@ -210,6 +230,7 @@ module _ (w : World) (d : Dealt) where
                   made = at.made;
                   drawn = λ i. more s.drawn i (words_drawn (run_at w d kinds s) i) (at.drawn i);
                   answers = at.answers;
+                  handed = at.handed;
                   opened = at.opened;
                 });
           }

@@ -16,7 +16,7 @@ use Rattle.shared_plans.specs.Outcomes.{OpensNone, Follows}
 use Rattle.shared_plans.proofs.KindedPlans.{kind-behind}
 use Rattle.shared_plans.proofs.PlanRuns.{longer-formed, words-then}
 use Rattle.language_model.specs.Effects.{World, Stage, gate, planned}
-use Rattle.gate_laws.specs.Facts.{Fact, Stands, AllStand, Dealt, run_at, IsAt, Comes, Suits}
+use Rattle.gate_laws.specs.Facts.{handed_by_gate, handed_values, Handed, Fact, Stands, AllStand, Dealt, run_at, IsAt, Comes, Suits}
 use Rattle.gate_laws.proofs.Effects.{Any}
 
 pub made_split : (xs ys : List Gate) → made_by_all (xs ++ ys) ≡ made_by_all xs + made_by_all ys
@@ -34,9 +34,16 @@ none_opened values [] none = refl
 none_opened values (Open ring u ∷ gs) none = absurd none
 none_opened values (g ∷ gs) none = none_opened values gs none
 
--- gates that suit a run and draw so many words; value number j of those that they make is shared in this ring, and has these words
+pub handed_split : (values : Values) (xs ys : List Gate) → handed_values values (xs ++ ys) ≡ handed_values values xs ++ handed_values values ys
+handed_split values [] ys = refl
+handed_split values (g ∷ xs) ys =
+    ap (λ z. handed_by_gate values g ++ z) (handed_split values xs ys)
+    ∙ sym (append_assoc (handed_by_gate values g) (handed_values values xs) (handed_values values ys))
+
+-- gates that suit a run, hand no value over and draw so many words; value number j of those that they make is shared in this ring, and has these words
 pub record Gain (r : GateRun) (gs : List Gate) (own : List Kind) (taken : Miner → ℕ) (j : ℕ) (ring : RingKind) (ws : List ℕ) : Type 0 where
   pub follows : Follows r gs own taken
+  pub none_handed : (values : Values) → handed_values values gs ≡ []
   pub kind : kind_at own j ≡ Shared ring
   pub makes : (values : Values) → FitFrom r.inputs values 0 r.gates → FitFrom r.inputs values (value_count r) gs
       → slice_get values (value_count r + j) ≡ Some ws
@@ -59,13 +66,19 @@ module _ (w : World) (d : Dealt) where
         let start : 0 + made_by_all s.gates ≡ value_count run = omega arith in
         (both.0, subst (λ n. FitFrom d.inputs values n gs) start both.1)
 
-    added_at : IsAt w d kinds before s → Follows run gs own taken → ((m : Miner) → before m ≡ taken m + after m) → IsAt w d (kinds ++ own) after (added gs s)
-    added_at at follows owed =
+    added_at : IsAt w d kinds before s → Follows run gs own taken → ((values : Values) → handed_values values gs ≡ [])
+        → ((m : Miner) → before m ≡ taken m + after m)
+        → IsAt w d (kinds ++ own) after (added gs s)
+    added_at at follows none owed =
         record {
           formed = longer-formed run gs own taken at.formed follows;
           made = let e = made_split s.gates gs in omega (arith, at.made);
           drawn = λ i. let more = words-then run gs own taken at.formed follows i in omega (arith, at.drawn i, owed (miner_of i));
           answers = at.answers;
+          handed = λ values fit.
+              subst (Handed s.events)
+              (sym (append-nil (handed_values values s.gates)) ∙ ap (λ z. handed_values values s.gates ++ z) (sym (none values))
+              ∙ sym (handed_split values s.gates gs)) (at.handed values (late_fit values fit).0);
           opened = λ clear values fit.
               at.opened clear values (late_fit values fit).0 ∙ sym (append-nil (opened_values values s.gates))
               ∙ ap (λ z. opened_values values s.gates ++ z) (sym (none_opened values gs follows.opens_none)) ∙ sym (opened_split values s.gates gs);
@@ -91,7 +104,7 @@ module _ (w : World) (d : Dealt) where
         record {
           later = kinds ++ own;
           grown = record { gates = gs; own = own; more_gates = refl; more_kinds = refl };
-          stage = added_at at g.follows owed;
+          stage = added_at at g.follows g.none_handed owed;
           facts = (new_stands at g, tt);
           sure = tt;
         }
@@ -138,6 +151,7 @@ module _ (w : World) (d : Dealt) where
                 made = let m = c.stage.made in omega (arith, m, one);
                 drawn = c.stage.drawn;
                 answers = c.stage.answers;
+                handed = c.stage.handed;
                 opened = c.stage.opened;
               };
               facts = (

@@ -14,7 +14,7 @@ use Rattle.protocol_model.specs.Gates.{needed}
 use Rattle.gates.specs.declared.ring_kind.RingKind.{RingKind}
 use Rattle.gates.specs.declared.gate.Gate.{Gate}
 use Rattle.gates.specs.declared.gate.Gate.TheVariants.{Open}
-use Rattle.gates.specs.Clear.{value}
+use Rattle.gates.specs.Clear.{Values, FitFrom, value}
 use Rattle.gates.specs.Counts.{size_of, made_by_all, words_of_all}
 use Rattle.gates.proofs.Sizes.{FitFrom-append}
 use Rattle.shared_gates.specs.Shares.{Kind, Known, kind_at}
@@ -30,9 +30,10 @@ use Rattle.shared_plans.proofs.GateRunLaws.{run-needs}
 use Rattle.language_model.specs.Effects.{World, Source, Clear, Answers, Stage, Short, Effect, ◌>>=◌, carry, done, gate, emit, answer, show, words_each}
 use Rattle.language_model.specs.Values.{Secrecy, Plain, Private, Value, plain, size, ring_for, elements_of}
 use Rattle.language_model.specs.Operations.{read_answer, revealed, opened_from, declassified}
-use Rattle.gate_laws.specs.Facts.{InRange, IsProper, drawn_by, none_of, Fact, Stands, facts_of, Dealt, run_at, IsAt, Grows, Comes, ComesAt, Suits}
+use Rattle.gate_laws.specs.Facts.{handed_values, Handed, and_told, InRange, IsProper, drawn_by, none_of, Fact, Stands, facts_of, Dealt, run_at, IsAt}
+use Rattle.gate_laws.specs.Facts.{Grows, Comes, ComesAt, Suits}
 use Rattle.gate_laws.proofs.Effects.{Tell, suits_bind, suits_owed, draw_suits}
-use Rattle.gate_laws.proofs.Gains.{fact, made_split, opened_split}
+use Rattle.gate_laws.proofs.Gains.{fact, made_split, opened_split, handed_split}
 use Rattle.gate_laws.proofs.Singles.{stands_inside, stands_size}
 use Rattle.gate_laws.proofs.Parts.{tell_same, tell_first, range_words, plain_charge, number_suits, itself_suits}
 use Rattle.gate_laws.proofs.Operators.{same_each}
@@ -136,6 +137,14 @@ module _ (w : World) (d : Dealt) (v : Value) (p : IsProper v) (u : ℕ) where
     made_one : s.made + 1 ≡ made_by_all (s.gates ++ Open ring u ∷ [])
     made_one = let e = made_split s.gates (Open ring u ∷ []) in omega (arith, at.made)
 
+    none_handed : (values : Values) → handed_values values s.gates ≡ handed_values values (s.gates ++ Open ring u ∷ [])
+    none_handed values = sym (append-nil (handed_values values s.gates)) ∙ sym (handed_split values s.gates (Open ring u ∷ []))
+
+    handed_yet : (values : Values) → FitFrom d.inputs values 0 (s.gates ++ Open ring u ∷ [])
+        → Handed s.events (handed_values values (s.gates ++ Open ring u ∷ []))
+    handed_yet values fit =
+        subst (Handed s.events) (none_handed values) (at.handed values (FitFrom-append d.inputs values 0 s.gates (Open ring u ∷ []) fit).0)
+
     drawn_all : (i : Number) → drawn_by s.drawn (miner_of i) ≡ words_drawn (then_gates run (Open ring u ∷ []) (Known ∷ [])) i + none_of (miner_of i)
     drawn_all i = let e = opening_words run at.formed u ring v.words h i in omega (arith, at.drawn i)
 
@@ -151,6 +160,7 @@ module _ (w : World) (d : Dealt) (v : Value) (p : IsProper v) (u : ℕ) where
             made = made_one;
             drawn = drawn_all;
             answers = at.answers;
+            handed = λ values fit. and_told (event.Open (elements_of (plain v.shape (read_answer element v.words)))) (handed_yet values fit);
             opened = λ c values fit.
                 let before = (FitFrom-append d.inputs values 0 s.gates (Open ring u ∷ []) fit).0 in
                 ap (λ z. z ++ read_answer element v.words) (at.opened c values before)
@@ -179,6 +189,7 @@ module _ (w : World) (d : Dealt) (v : Value) (p : IsProper v) (u : ℕ) where
             made = made_one;
             drawn = drawn_all;
             answers = drop_below (2 ^ 64) (size v) s.answers at.answers;
+            handed = λ values fit. and_told (event.Open (elements_of (plain v.shape (read_answer element words)))) (handed_yet values fit);
             opened = λ c values fit. absurd (no_answers (sym source ∙ c));
           };
           facts = tt;
@@ -196,6 +207,7 @@ module _ (w : World) (d : Dealt) (v : Value) (p : IsProper v) (u : ℕ) where
             made = made_one;
             drawn = drawn_all;
             answers = at.answers;
+            handed = handed_yet;
             opened = λ c values fit. absurd (no_answers (sym source ∙ c));
           };
           facts = tt;

@@ -29,6 +29,7 @@ module _ (r : GateRun) (good : IsWellFormed r) where
   zero_gain u us h =
       record {
         follows = zero-test-follows r good (length us) u (is_number u us h);
+        none_handed = λ values. refl;
         kind = refl;
         makes = λ values before fit.
             equality_laws.tests_for_zero (value_count r) u r.inputs values fit ∙ ap (λ z. Some (map zero_test z)) (h.words values before);
@@ -40,6 +41,7 @@ module _ (r : GateRun) (good : IsWellFormed r) where
   bits_gain u us h =
       record {
         follows = bits-follow r good (length us) u (is_number u us h);
+        none_handed = λ values. refl;
         kind = refl;
         makes = λ values before fit.
             bits_laws.gives_bits (value_count r) u (length us) r.inputs values (ap length (h.words values before)) fit
@@ -54,6 +56,7 @@ module _ (r : GateRun) (good : IsWellFormed r) where
         follows = comparison-follows r good n u v
             (record { kind = h.kind; size = stands_size r good u Arithmetic us h ∙ e })
             (record { kind = k.kind; size = stands_size r good v Arithmetic vs k ∙ f });
+        none_handed = λ values. refl;
         kind = refl;
         makes = λ values before fit.
             compare_laws.tells_less (value_count r) u v n r.inputs values (ap length (h.words values before) ∙ e) (ap length (k.words values before) ∙ f) fit

@@ -16,10 +16,10 @@ use Rattle.shared_gates.specs.Shares.{Kind, Shared, kind_at}
 use Rattle.shared_gates.specs.Kinds.{AllShared, Kinded}
 use Rattle.shared_gates.specs.Model.{PairOf, SizesSuit}
 use Rattle.shared_plans.specs.GateRuns.{GateRun, IsWellFormed, dealt_sizes, value_count, value_sizes}
-use Rattle.shared_plans.specs.Outcomes.{OpensNone}
+use Rattle.shared_plans.specs.Outcomes.{OpensNone, Follows}
 use Rattle.shared_plans.proofs.KindedPlans.{shared-grown, shared-below, kind-behind}
 use Rattle.shared_plans.proofs.GateRunLaws.{run-computes, computed-sizes, sizes-count, zero_tapes, zeros-go}
-use Rattle.gate_laws.specs.Facts.{none_of, Stands}
+use Rattle.gate_laws.specs.Facts.{handed_by_gate, none_of, Stands}
 use Rattle.gate_laws.proofs.Gains.{Gain, fact}
 
 module _ (r : GateRun) (good : IsWellFormed r) where
@@ -51,35 +51,46 @@ module _ (r : GateRun) (good : IsWellFormed r) where
       let e : length r.kinds + 0 ≡ value_count r = omega arith in
       subst (λ n. kind_at (with_one ring) n ≡ Shared ring) e (kind-behind r.kinds (Shared ring ∷ []) 0)
 
+  pub one_follows :
+      (g : Gate) (taken : Miner → ℕ) (ring : RingKind) → made_by g ≡ 1 → OpensNone (g ∷ [])
+      → Kinded r.dealt_kinds (with_one ring) (value_count r) g → SizesSuit (dealt_sizes r) (value_sizes r) g
+      → ((values : Values) (miner : Miner) → ((u : ℕ) → u < value_count r → length (value values u) ≡ size_of (value_sizes r) u)
+      → words_of (map length values) miner g ≡ taken miner)
+      → Follows r (g ∷ []) (Shared ring ∷ []) taken
+  one_follows g taken ring one none kinded suits takes =
+      record {
+        kinded = (kinded, tt);
+        suits = (suits, tt);
+        counted = omega (arith, one);
+        opens_none = none;
+        takes = λ inputs values miner same fit. let t = takes values miner same in omega arith;
+      }
+
   pub one_gain :
-      (g : Gate) (taken : Miner → ℕ) (ring : RingKind) (ws : List ℕ) → made_by g ≡ 1 → OpensNone (g ∷ [])
+      (g : Gate) (taken : Miner → ℕ) (ring : RingKind) (ws : List ℕ) → made_by g ≡ 1 → OpensNone (g ∷ []) → ((values : Values) → handed_by_gate values g ≡ [])
       → Kinded r.dealt_kinds (with_one ring) (value_count r) g → SizesSuit (dealt_sizes r) (value_sizes r) g
       → ((values : Values) (miner : Miner) → ((u : ℕ) → u < value_count r → length (value values u) ≡ size_of (value_sizes r) u)
       → words_of (map length values) miner g ≡ taken miner)
       → ((values : Values) → FitFrom r.inputs values 0 r.gates → Makes r.inputs values (value_count r) g → slice_get values (value_count r) ≡ Some ws)
       → Gain r (g ∷ []) (Shared ring ∷ []) taken 0 ring ws
-  one_gain g taken ring ws one none kinded suits takes makes =
+  one_gain g taken ring ws one none unhanded kinded suits takes makes =
       let e : value_count r + 0 ≡ value_count r = omega arith in
       record {
-        follows = record {
-          kinded = (kinded, tt);
-          suits = (suits, tt);
-          counted = omega (arith, one);
-          opens_none = none;
-          takes = λ inputs values miner same fit. let t = takes values miner same in omega arith;
-        };
+        follows = one_follows g taken ring one none kinded suits takes;
+        none_handed = λ values. ap (λ z. z ++ []) (unhanded values);
         kind = refl;
         makes = λ values before fit. subst (λ n. slice_get values n ≡ Some ws) (sym e) (makes values before fit.1);
       }
 
   pub const_gain : (ring : RingKind) (ws : List ℕ) → AreWords ws → Gain r (gates.Const ws ∷ []) (Shared ring ∷ []) none_of 0 ring ws
   const_gain ring ws words =
-      one_gain (gates.Const ws) none_of ring ws refl tt (words, (ring, (new_kind ring, tt))) tt (λ values miner same. refl) (λ values before m. m)
+      one_gain (gates.Const ws) none_of ring ws refl tt (λ values. refl) (words, (ring, (new_kind ring, tt))) tt (λ values miner same. refl)
+      (λ values before m. m)
 
   pub input_gain : (k : ℕ) (ring : RingKind) (ws : List ℕ) → k < length r.inputs → value r.inputs k ≡ ws → kind_at r.dealt_kinds k ≡ Shared ring
       → Gain r (gates.Input k ∷ []) (Shared ring ∷ []) none_of 0 ring ws
   input_gain k ring ws there words kind =
-      one_gain (gates.Input k) none_of ring ws refl tt (new_kind ring ∙ sym kind) (subst (λ n. k < n) (sym (length-map r.inputs length)) there)
+      one_gain (gates.Input k) none_of ring ws refl tt (λ values. refl) (new_kind ring ∙ sym kind) (subst (λ n. k < n) (sym (length-map r.inputs length)) there)
       (λ values miner same. refl) (λ values before m. m ∙ ap (λ z. Some z) words)
 
   -- ---- one operand
@@ -94,41 +105,41 @@ module _ (r : GateRun) (good : IsWellFormed r) where
 
     pub rep_gain : (n : ℕ) → length us ≡ 1 → Gain r (gates.Rep u n ∷ []) (Shared ring ∷ []) none_of 0 ring (replicate n (first_word us))
     rep_gain n single =
-        one_gain (gates.Rep u n) none_of ring (replicate n (first_word us)) refl tt (ring, (stays_shared ring, (new_kind ring, tt)))
+        one_gain (gates.Rep u n) none_of ring (replicate n (first_word us)) refl tt (λ values. refl) (ring, (stays_shared ring, (new_kind ring, tt)))
         (stands_inside u ring us h, stands_size u ring us h ∙ single) (λ values miner same. refl)
         (λ values before m. m ∙ ap (λ z. Some (replicate n (first_word z))) (h.words values before))
 
     pub part_gain : (from n : ℕ) → from + n ≤ length us → Gain r (gates.Part u from n ∷ []) (Shared ring ∷ []) none_of 0 ring (take n (drop from us))
     part_gain from n inside =
-        one_gain (gates.Part u from n) none_of ring (take n (drop from us)) refl tt (ring, (stays_shared ring, (new_kind ring, tt)))
+        one_gain (gates.Part u from n) none_of ring (take n (drop from us)) refl tt (λ values. refl) (ring, (stays_shared ring, (new_kind ring, tt)))
         (stands_inside u ring us h, subst (λ z. from + n ≤ z) (sym (stands_size u ring us h)) inside) (λ values miner same. refl)
         (λ values before m. m ∙ ap (λ z. Some (take n (drop from z))) (h.words values before))
 
     pub mulpub_gain : (list : List ℕ) → length us ≡ length list
         → Gain r (gates.MulPub ring u list ∷ []) (Shared ring ∷ []) none_of 0 ring (each_two (ring_of ring).mul us list)
     mulpub_gain list same =
-        one_gain (gates.MulPub ring u list) none_of ring (each_two (ring_of ring).mul us list) refl tt (stays_shared ring, (new_kind ring, tt))
+        one_gain (gates.MulPub ring u list) none_of ring (each_two (ring_of ring).mul us list) refl tt (λ values. refl) (stays_shared ring, (new_kind ring, tt))
         (stands_inside u ring us h, stands_size u ring us h ∙ same) (λ values miner same. refl)
         (λ values before m. m ∙ ap (λ z. Some (each_two (ring_of ring).mul z list)) (h.words values before))
 
     -- each miner's share is made anew
-    pub result_gain : Gain r (gates.Result ring u ∷ []) (Shared ring ∷ []) (λ m. length us) 0 ring us
-    result_gain =
-        one_gain (gates.Result ring u) (λ m. length us) ring us refl tt (stays_shared ring, (new_kind ring, tt))
+    pub result_follows : Follows r (gates.Result ring u ∷ []) (Shared ring ∷ []) (λ m. length us)
+    result_follows =
+        one_follows (gates.Result ring u) (λ m. length us) ring refl tt (stays_shared ring, (new_kind ring, tt))
         (stands_inside u ring us h) (λ values miner same. operand_size values same)
-        (λ values before m. m ∙ ap (λ z. Some z) (h.words values before))
 
   pub sum_gain : (u : ℕ) (us : List ℕ) → Stands r (fact u Arithmetic us)
       → Gain r (gates.Sum u ∷ []) (Shared Arithmetic ∷ []) none_of 0 Arithmetic (sum us % 2 ^ 64 ∷ [])
   sum_gain u us h =
-      one_gain (gates.Sum u) none_of Arithmetic (sum us % 2 ^ 64 ∷ []) refl tt (stays_shared u Arithmetic us h Arithmetic, (new_kind Arithmetic, tt))
+      one_gain (gates.Sum u) none_of Arithmetic (sum us % 2 ^ 64 ∷ []) refl tt (λ values. refl)
+      (stays_shared u Arithmetic us h Arithmetic, (new_kind Arithmetic, tt))
       (stands_inside u Arithmetic us h) (λ values miner same. refl)
       (λ values before m. m ∙ ap (λ z. Some (sum z % 2 ^ 64 ∷ [])) (h.words values before))
 
   pub spread_gain : (u : ℕ) (us : List ℕ) → Stands r (fact u Boolean us)
       → Gain r (gates.Spread u ∷ []) (Shared Boolean ∷ []) none_of 0 Boolean (flat_map bits_of us)
   spread_gain u us h =
-      one_gain (gates.Spread u) none_of Boolean (flat_map bits_of us) refl tt (stays_shared u Boolean us h Boolean, (new_kind Boolean, tt))
+      one_gain (gates.Spread u) none_of Boolean (flat_map bits_of us) refl tt (λ values. refl) (stays_shared u Boolean us h Boolean, (new_kind Boolean, tt))
       (stands_inside u Boolean us h) (λ values miner same. refl)
       (λ values before m. m ∙ ap (λ z. Some (flat_map bits_of z)) (h.words values before))
 
@@ -136,7 +147,7 @@ module _ (r : GateRun) (good : IsWellFormed r) where
   pub conv_gain : (u : ℕ) (us : List ℕ) → Stands r (fact u Boolean us)
       → Gain r (gates.Conv u ∷ []) (Shared Arithmetic ∷ []) (λ m. words_of_conversion m (length us)) 0 Arithmetic (map (λ x. x % 2) us)
   conv_gain u us h =
-      one_gain (gates.Conv u) (λ m. words_of_conversion m (length us)) Arithmetic (map (λ x. x % 2) us) refl tt
+      one_gain (gates.Conv u) (λ m. words_of_conversion m (length us)) Arithmetic (map (λ x. x % 2) us) refl tt (λ values. refl)
       ((stays_shared u Boolean us h Arithmetic, tt), (new_kind Arithmetic, tt))
       (stands_inside u Boolean us h) (λ values miner same. ap (words_of_conversion miner) (operand_size u Boolean us h values same))
       (λ values before m. m ∙ ap (λ z. Some (map (λ x. x % 2) z)) (h.words values before))
@@ -157,13 +168,13 @@ module _ (r : GateRun) (good : IsWellFormed r) where
 
     pub cat_gain : Gain r (gates.Cat u v ∷ []) (Shared ring ∷ []) none_of 0 ring (us ++ vs)
     cat_gain =
-        one_gain (gates.Cat u v) none_of ring (us ++ vs) refl tt (ring, shared_three)
+        one_gain (gates.Cat u v) none_of ring (us ++ vs) refl tt (λ values. refl) (ring, shared_three)
         (stands_inside u ring us h, stands_inside v ring vs k) (λ values miner same. refl)
         (λ values before m. m ∙ ap (λ z. Some (z ++ value values v)) (h.words values before) ∙ ap (λ z. Some (us ++ z)) (k.words values before))
 
     pub put_gain : (i : ℕ) → i < length us → length vs ≡ 1 → Gain r (gates.Put u i v ∷ []) (Shared ring ∷ []) none_of 0 ring (set us i (first_word vs))
     put_gain i inside single =
-        one_gain (gates.Put u i v) none_of ring (set us i (first_word vs)) refl tt (ring, shared_three)
+        one_gain (gates.Put u i v) none_of ring (set us i (first_word vs)) refl tt (λ values. refl) (ring, shared_three)
         (stands_inside u ring us h, stands_inside v ring vs k, subst (λ n. i < n) (sym (stands_size u ring us h)) inside, stands_size v ring vs k ∙ single)
         (λ values miner same. refl)
         (λ values before m. m ∙ ap (λ z. Some (set z i (first_word (value values v)))) (h.words values before)
@@ -171,14 +182,14 @@ module _ (r : GateRun) (good : IsWellFormed r) where
 
     -- f of each two words, with t random words of each miner for each of them
     two_gain :
-        (g : Gate) (f : ℕ → ℕ → ℕ) (t : ℕ) → length us ≡ length vs → made_by g ≡ 1 → OpensNone (g ∷ [])
+        (g : Gate) (f : ℕ → ℕ → ℕ) (t : ℕ) → length us ≡ length vs → made_by g ≡ 1 → OpensNone (g ∷ []) → ((values : Values) → handed_by_gate values g ≡ [])
         → (AllShared ring (with_one ring) (u ∷ v ∷ value_count r ∷ []) → Kinded r.dealt_kinds (with_one ring) (value_count r) g)
         → (PairOf (value_sizes r) u v → SizesSuit (dealt_sizes r) (value_sizes r) g)
         → ((sizes : List ℕ) (miner : Miner) → words_of sizes miner g ≡ t * size_of sizes u)
         → ((values : Values) → Makes r.inputs values (value_count r) g → slice_get values (value_count r) ≡ Some (each_two f (value values u) (value values v)))
         → Gain r (g ∷ []) (Shared ring ∷ []) (λ m. t * length us) 0 ring (each_two f us vs)
-    two_gain g f t same one none kinded suits takes makes =
-        one_gain g (λ m. t * length us) ring (each_two f us vs) one none (kinded shared_three) (suits (pair_of same))
+    two_gain g f t same one none unhanded kinded suits takes makes =
+        one_gain g (λ m. t * length us) ring (each_two f us vs) one none unhanded (kinded shared_three) (suits (pair_of same))
         (λ values miner sizes. takes (map length values) miner ∙ ap (λ n. t * n) (operand_size u ring us h values sizes))
         (λ values before m. makes values m ∙ ap (λ z. Some (each_two f z (value values v))) (h.words values before)
         ∙ ap (λ z. Some (each_two f us z)) (k.words values before))
@@ -186,17 +197,22 @@ module _ (r : GateRun) (good : IsWellFormed r) where
   module _ (u v : ℕ) (us vs : List ℕ) (same : length us ≡ length vs) where
     module _ (h : Stands r (fact u Arithmetic us)) (k : Stands r (fact v Arithmetic vs)) where
       pub add_gain : Gain r (gates.Add u v ∷ []) (Shared Arithmetic ∷ []) (λ m. 0 * length us) 0 Arithmetic (each_two add_ring.add us vs)
-      add_gain = two_gain u v Arithmetic us vs h k (gates.Add u v) add_ring.add 0 same refl tt (λ q. q) (λ q. q) (λ sizes miner. omega arith) (λ values m. m)
+      add_gain = two_gain u v Arithmetic us vs h k (gates.Add u v) add_ring.add 0 same refl tt (λ values. refl) (λ q. q) (λ q. q)
+          (λ sizes miner. omega arith) (λ values m. m)
 
       pub sub_gain : Gain r (gates.Sub u v ∷ []) (Shared Arithmetic ∷ []) (λ m. 0 * length us) 0 Arithmetic (each_two add_ring.sub us vs)
-      sub_gain = two_gain u v Arithmetic us vs h k (gates.Sub u v) add_ring.sub 0 same refl tt (λ q. q) (λ q. q) (λ sizes miner. omega arith) (λ values m. m)
+      sub_gain = two_gain u v Arithmetic us vs h k (gates.Sub u v) add_ring.sub 0 same refl tt (λ values. refl) (λ q. q) (λ q. q)
+          (λ sizes miner. omega arith) (λ values m. m)
 
       pub mul_gain : Gain r (gates.Mul u v ∷ []) (Shared Arithmetic ∷ []) (λ m. 3 * length us) 0 Arithmetic (each_two add_ring.mul us vs)
-      mul_gain = two_gain u v Arithmetic us vs h k (gates.Mul u v) add_ring.mul 3 same refl tt (λ q. q) (λ q. q) (λ sizes miner. refl) (λ values m. m)
+      mul_gain = two_gain u v Arithmetic us vs h k (gates.Mul u v) add_ring.mul 3 same refl tt (λ values. refl) (λ q. q) (λ q. q) (λ sizes miner. refl)
+          (λ values m. m)
 
     module _ (h : Stands r (fact u Boolean us)) (k : Stands r (fact v Boolean vs)) where
       pub xor_gain : Gain r (gates.Xor u v ∷ []) (Shared Boolean ∷ []) (λ m. 0 * length us) 0 Boolean (each_two xor_ring.add us vs)
-      xor_gain = two_gain u v Boolean us vs h k (gates.Xor u v) xor_ring.add 0 same refl tt (λ q. q) (λ q. q) (λ sizes miner. omega arith) (λ values m. m)
+      xor_gain = two_gain u v Boolean us vs h k (gates.Xor u v) xor_ring.add 0 same refl tt (λ values. refl) (λ q. q) (λ q. q) (λ sizes miner. omega arith)
+          (λ values m. m)
 
       pub and_gain : Gain r (gates.And u v ∷ []) (Shared Boolean ∷ []) (λ m. 3 * length us) 0 Boolean (each_two xor_ring.mul us vs)
-      and_gain = two_gain u v Boolean us vs h k (gates.And u v) xor_ring.mul 3 same refl tt (λ q. q) (λ q. q) (λ sizes miner. refl) (λ values m. m)
+      and_gain = two_gain u v Boolean us vs h k (gates.And u v) xor_ring.mul 3 same refl tt (λ values. refl) (λ q. q) (λ q. q) (λ sizes miner. refl)
+          (λ values m. m)

@@ -1,5 +1,5 @@
 -- Rows that give nothing to later steps: what goes to the client, and tests; and rows that begin: literals and inputs.
-use Rattle.std.proofs.Common.{◌≡◌, ℕ, ◌<◌, List, [], ◌∷◌, length, Option, Some, None, Bool, true, false, refl, subst, arith}
+use Rattle.std.proofs.Common.{◌≡◌, ℕ, ◌<◌, List, [], ◌∷◌, length, Option, Some, None, Bool, true, false, refl, subst, arith, append-nil, ◌++◌, ap, sym, ◌∙◌}
 use Rattle.std.specs.Prelude.{bytes_eq, if◌then◌else◌}
 use Rattle.std.proofs.lemmas.Bool.{and_parts}
 use Rattle.sc_text.specs.declared.end.Ending.TheVariants as ending
@@ -9,15 +9,25 @@ use Rattle.secrec_ast.specs.declared.expression.DataType.{DataType}
 use Rattle.gates.specs.declared.gate.Gate.TheVariants as gates
 use Rattle.typed_tree.specs.declared.kinds.Shape.{Shape}
 use Rattle.typed_tree.specs.Shapes.{shape_of}
-use Rattle.language_model.specs.Effects.{World, Given, test, words_each}
+use Rattle.language_model.specs.Effects.{World, Given, Effect, ◌>>=◌, done, draw, test, gate, emit, words_each}
 use Rattle.language_model.specs.Values.{Secrecy, Plain, Private, Value, plain, size, ring_for, elements_of, is_true}
-use Rattle.language_model.specs.Operations.{handed_over, published, tested, asserted}
+use Rattle.language_model.specs.Operations.{number_of, handed_over, published, tested, asserted}
 use Rattle.language_model.specs.Evaluation.{same_truth, same_shape, is_as_declared, behind, input_from, input_named, given_value, asked_for}
-use Rattle.gate_laws.specs.Facts.{bound, IsProper, drawn_by, none_of, Fact, facts_of, Dealt, Suits}
+use Rattle.gates.specs.declared.ring_kind.RingKind.{RingKind}
+use Rattle.gates.specs.declared.gate.Gate.{Gate}
+use Rattle.gates.specs.Clear.{Values, FitFrom}
+use Rattle.gates.specs.Counts.{Miner}
+use Rattle.gates.proofs.Sizes.{FitFrom-append}
+use Rattle.shared_gates.specs.Shares.{Kind, Shared}
+use Rattle.shared_gates.specs.Model.{miner_of}
+use Rattle.shared_gates.specs.Computed.{opened_values}
+use Rattle.shared_plans.proofs.PlanRuns.{longer-formed, words-then}
+use Rattle.gate_laws.specs.Facts.{bound, IsProper, handed_values, Handed, and_handed, drawn_by, none_of, Fact, facts_of, Dealt, run_at, Suits}
 use Rattle.gate_laws.specs.Offers.{IsOffered, AreOffered}
-use Rattle.gate_laws.proofs.Effects.{Any, NoFacts, suits_bind, suits_with, suits_done, suits_end, charge_suits, test_suits, emit_suits, draw_suits}
-use Rattle.gate_laws.proofs.Gains.{fact, gate_suits, gate_from}
-use Rattle.gate_laws.proofs.Singles.{result_gain, input_gain}
+use Rattle.gate_laws.proofs.Effects.{Tell, Any, NoFacts, suits_bind, suits_again, suits_with, suits_done, suits_end, charge_suits, test_suits, emit_suits}
+use Rattle.gate_laws.proofs.Effects.{draw_suits}
+use Rattle.gate_laws.proofs.Gains.{fact, gate_from, made_split, opened_split, handed_split}
+use Rattle.gate_laws.proofs.Singles.{result_follows, input_gain}
 use Rattle.gate_laws.proofs.Parts.{tell_same, tell_none, tell_first, charged_suits, plain_charge, number_suits, given_suits, shown_suits}
 use Rattle.gate_laws.proofs.Ranges.{one_below}
 use Rattle.gate_laws.proofs.Operators.{same_each}
@@ -31,22 +41,64 @@ module _ (w : World) (d : Dealt) where
   -- ---- what goes to the client
 
   module _ (v : Value) (p : IsProper v) where
-    handed_suits : (a : Secrecy) → Suits w d (facts_of v) none_of (handed_over w a v) none_of (NoFacts {A = Unit {0}}) (Any {A = Unit {0}})
-    handed_suits Plain = suits_done w d (tell_none (facts_of v)) tt
-    handed_suits (Private k) =
-        let ring = ring_for v.shape.element in
+    abbrev ring : RingKind
+    ring = ring_for v.shape.element
+
+    abbrev telling : List ℕ → Unit {0} → Effect (Unit {0})
+    telling text = λ _. emit (event.Publish text (elements_of v))
+
+    -- the gate, and then the event
+    handing_suits : (fs : List Fact) (text : List ℕ) (u : ℕ) → Tell fs (fact u ring v.words ∷ [])
+        → Suits w d fs (drawn_by (words_each (size v))) ((gate (gates.Result ring u) >>= λ _. done tt) >>= telling text) none_of (NoFacts {A = Unit {0}})
+        (Any {A = Unit {0}})
+    handing_suits fs text u t =
+        record {
+          from = λ kinds s at facts.
+              let run = run_at w d kinds s in
+              let gs : List Gate = gates.Result ring u ∷ [] in
+              let own : List Kind = Shared ring ∷ [] in
+              let h = (t.from run facts).0 in
+              let follows = result_follows run at.formed u ring v.words h in
+              let taken = λ (m : Miner). size v in
+              let before = λ (values : Values) (fit : FitFrom d.inputs values 0 (s.gates ++ gs)). (FitFrom-append d.inputs values 0 s.gates gs fit).0 in
+              record {
+                later = kinds ++ own;
+                grown = record { gates = gs; own = own; more_gates = refl; more_kinds = refl };
+                stage = record {
+                  formed = longer-formed run gs own taken at.formed follows;
+                  made = let e = made_split s.gates gs in omega (arith, at.made);
+                  drawn = λ i.
+                      let more = words-then run gs own taken at.formed follows i in
+                      let owed = same_each (size v) (miner_of i) in
+                      omega (arith, at.drawn i, owed);
+                  answers = at.answers;
+                  handed = λ values fit.
+                      subst (Handed (s.events ++ event.Publish text (elements_of v) ∷ []))
+                      (ap (λ z. handed_values values s.gates ++ z ∷ []) (sym (h.words values (before values fit))) ∙ sym (handed_split values s.gates gs))
+                      (and_handed text v.shape.element v.words (at.handed values (before values fit)));
+                  opened = λ clear values fit.
+                      at.opened clear values (before values fit) ∙ sym (append-nil (opened_values values s.gates)) ∙ sym (opened_split values s.gates gs);
+                };
+                facts = tt;
+                sure = tt;
+              };
+        }
+
+    handed_suits : (text : List ℕ) (a : Secrecy)
+        → Suits w d (facts_of v) none_of (handed_over w a v >>= telling text) none_of (NoFacts {A = Unit {0}}) (Any {A = Unit {0}})
+    handed_suits text Plain =
+        suits_bind w d (suits_done w d {F = NoFacts {A = Unit {0}}} {R = Any {A = Unit {0}}} (tell_none (facts_of v)) tt)
+        (λ _ _. emit_suits w d (facts_of v) none_of (event.Publish text (elements_of v)))
+    handed_suits text (Private k) =
         let owed = drawn_by (words_each (size v)) in
-        suits_bind w d (draw_suits w d (facts_of v) (words_each (size v))) (λ _ _.
-        suits_bind w d (number_suits w d (facts_of v) owed v (tell_same (facts_of v)) p.range) (λ u _.
-        suits_bind w d
-        (gate_suits w d (fact u ring v.words ∷ facts_of v) owed (λ m. size v) none_of (gates.Result ring u) ring v.words
-        (λ m. let e = same_each (size v) m in omega (arith, e)) refl (λ r good facts. result_gain r good u ring v.words facts.0)) (λ r _.
-        suits_done w d (tell_none _) tt)))
+        suits_again w d (draw w (words_each (size v))) (λ _. number_of v >>= λ u. gate (gates.Result ring u) >>= λ _. done tt) (telling text)
+        (suits_bind w d (draw_suits w d (facts_of v) (words_each (size v))) (λ _ _.
+        suits_again w d (number_of v) (λ u. gate (gates.Result ring u) >>= λ _. done tt) (telling text)
+        (suits_bind w d (number_suits w d (facts_of v) owed v (tell_same (facts_of v)) p.range) (λ u _.
+        handing_suits (fact u ring v.words ∷ facts_of v) text u (tell_first _ _)))))
 
     pub published_suits : (text : List ℕ) → Suits w d (facts_of v) none_of (published w text v) none_of (NoFacts {A = Unit {0}}) (Any {A = Unit {0}})
-    published_suits text =
-        suits_bind w d (plain_charge w d (facts_of v) (size v)) (λ _ _. suits_bind w d (handed_suits v.secrecy) (λ _ _.
-        emit_suits w d (facts_of v) none_of (event.Publish text (elements_of v))))
+    published_suits text = suits_bind w d (plain_charge w d (facts_of v) (size v)) (λ _ _. handed_suits text v.secrecy)
 
   -- ---- tests
 

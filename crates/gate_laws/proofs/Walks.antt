@@ -16,7 +16,7 @@ use Rattle.code_model.specs.Kinded.{IsWithin}
 use Rattle.code_model.specs.Laws.{StaysAt}
 use Rattle.code_model.proofs.Within.{next_there}
 use Rattle.code_model.proofs.Kept.{keeps, begins}
-use Rattle.gate_laws.specs.Facts.{drawn_by, none_of, Dealt, run_at, IsAt}
+use Rattle.gate_laws.specs.Facts.{nothing_handed, drawn_by, none_of, Dealt, run_at, IsAt}
 use Rattle.gate_laws.specs.Machines.{MachineStands, ArrivesAt}
 use Rattle.gate_laws.specs.Laws.{MayRun, IsDealing, StepsKeepStanding, GatesSuit, RunsMakeSuitedGates}
 use Rattle.gate_laws.proofs.Steps.{act, start_stands}
@@ -65,6 +65,7 @@ module _ (w : World) (d : Dealt) (c : List Function) (may : MayRun w d c) where
         made = refl;
         drawn = nothing_drawn;
         answers = words;
+        handed = λ values fit. nothing_handed;
         opened = λ clear values fit. refl;
       }
     where
@@ -79,6 +80,7 @@ module _ (w : World) (d : Dealt) (c : List Function) (may : MayRun w d c) where
         kinds = kinds;
         formed = at.formed;
         drawn = λ i. let e = at.drawn i in omega (arith, e);
+        handed = at.handed;
         opened = at.opened;
       }
 
@@ -101,7 +103,14 @@ module _ (w : World) (d : Dealt) (c : List Function) (may : MayRun w d c) where
           ended (exec w c (fuel c budget) (start c) begun)
           (walk (fuel c budget) (start c) begun [] (begins c may.fitting main e) start_at (start_stands (run_at w d [] begun) (slice_get c 0)))
       either false =
-          record { kinds = []; formed = start_at.formed; drawn = λ i. let e = start_at.drawn i in omega (arith, e); opened = start_at.opened }
+          record {
+            kinds = [];
+            formed = start_at.formed;
+            drawn = λ i. let e = start_at.drawn i in omega
+                (arith, e);
+            handed = start_at.handed;
+            opened = start_at.opened;
+          }
 
 pub make_suited_gates : (w : World) (d : Dealt) (c : List Function) (budget : ℕ) (answers : List ℕ) → RunsMakeSuitedGates w d c budget answers
 make_suited_gates w d c budget answers may dealt main e words = suited w d c may dealt budget answers main e words

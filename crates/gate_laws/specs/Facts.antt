@@ -1,5 +1,5 @@
 -- What is known at a stage of a run: its gates as a run of gates on shares, and the values of numbers that they make.
-use Rattle.std.specs.Prelude.{◌≡◌, ℕ, ◌+◌, ◌<◌, ◌^◌, List, [], ◌∷◌, ◌++◌, length, Some, None, Ok, Err}
+use Rattle.std.specs.Prelude.{◌≡◌, ℕ, ◌+◌, ◌<◌, ◌^◌, List, [], ◌∷◌, ◌++◌, length, map, Some, None, Ok, Err}
 use Rattle.secrec_ast.specs.declared.expression.DataType.{DataType}
 use Rattle.secrec_ast.specs.declared.expression.DataType.TheVariants.{Uint64}
 use Rattle.secrec_ast.specs.declared.expression.DataType.TheVariants as datatype
@@ -7,6 +7,9 @@ use Rattle.proto_core.specs.declared.party.Number.{Number}
 use Rattle.proto_core.specs.Lists.{at, AreWords}
 use Rattle.gates.specs.declared.ring_kind.RingKind.{RingKind}
 use Rattle.gates.specs.declared.gate.Gate.{Gate}
+use Rattle.gates.specs.declared.gate.Gate.TheVariants.{Result}
+use Rattle.sc_text.specs.declared.event.Event.{Event}
+use Rattle.sc_text.specs.declared.event.Event.TheVariants.{Publish}
 use Rattle.gates.specs.Clear.{Values, value, FitFrom}
 use Rattle.gates.specs.Counts.{Miner, Miner1, Miner2, Miner3}
 use Rattle.shared_gates.specs.Shares.{Kind, Shared, kind_at}
@@ -14,7 +17,7 @@ use Rattle.shared_gates.specs.Model.{miner_of}
 use Rattle.shared_gates.specs.Computed.{opened_values}
 use Rattle.shared_plans.specs.GateRuns.{GateRun, IsWellFormed, value_count, words_drawn}
 use Rattle.language_model.specs.Effects.{Words, World, Clear, Stage, Run, Effect}
-use Rattle.language_model.specs.Values.{Secrecy, Plain, Private, Value, ring_for}
+use Rattle.language_model.specs.Values.{Secrecy, Plain, Private, Value, ring_for, element_of}
 
 -- ---- WORDS
 
@@ -69,6 +72,25 @@ fact_from (Private (Some k)) e words = record { number = k; ring = ring_for e; w
 abbrev pub facts_of : Value → List Fact
 facts_of v = fact_from v.secrecy v.shape.element v.words
 
+-- ---- WHAT IS HANDED OVER
+
+-- the value of which each miner's share is made anew for the client
+abbrev pub handed_by_gate : Values → Gate → List (List ℕ)
+handed_by_gate values (Result ring u) = value values u ∷ []
+handed_by_gate values g = []
+
+abbrev pub handed_values : Values → List Gate → List (List ℕ)
+handed_values values [] = []
+handed_values values (g ∷ gs) = handed_by_gate values g ++ handed_values values gs
+
+-- these are the words of events that publish, in their order; there may be other events between them
+pub data Handed : List Event → List (List ℕ) → Type 0 where
+  nothing_handed : Handed [] []
+  and_told : {es : List Event} {vs : List (List ℕ)} (e : Event) → Handed es vs → Handed (es ++ e ∷ []) vs
+  and_handed :
+      {es : List Event} {vs : List (List ℕ)} (text : List ℕ) (e : DataType) (words : List ℕ) → Handed es vs
+      → Handed (es ++ Publish text (map (element_of e) words) ∷ []) (vs ++ words ∷ [])
+
 -- ---- STAGES
 
 -- what is dealt: the private inputs, in which ring each is shared, and each miner's shares of them
@@ -83,12 +105,14 @@ module _ (w : World) (d : Dealt) where
   run_at kinds s = record { inputs = d.inputs; dealt_kinds = d.kinds; dealt = d.shares; gates = s.gates; kinds = kinds }
 
   -- each gate suits the values before it, in sizes and kinds; the words that the gates draw have been drawn, and so many more for
-  -- gates to come; and where values fit the gates, the words that were opened in the clear are those of the values that are opened
+  -- gates to come. Where values fit the gates, those that are handed over are published, and the words that were opened in the clear
+  -- are those of the values that are opened
   pub record IsAt (kinds : List Kind) (owed : Miner → ℕ) (s : Stage) : Type 0 where
     pub formed : IsWellFormed (run_at kinds s)
     pub made : s.made ≡ value_count (run_at kinds s)
     pub drawn : (i : Number) → drawn_by s.drawn (miner_of i) ≡ words_drawn (run_at kinds s) i + owed (miner_of i)
     pub answers : AreWords s.answers
+    pub handed : (values : Values) → FitFrom d.inputs values 0 s.gates → Handed s.events (handed_values values s.gates)
     pub opened : w.source ≡ Clear → (values : Values) → FitFrom d.inputs values 0 s.gates → s.opened ≡ opened_values values s.gates
 
   -- a later stage has these gates more, whose values are shared like this

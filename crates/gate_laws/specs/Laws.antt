@@ -19,7 +19,7 @@ use Rattle.code_model.specs.Machine.{Machine, step}
 use Rattle.code_model.specs.Meaning.{mean_in}
 use Rattle.code_model.specs.Kinded.{AreSingle, IsWithin}
 use Rattle.code_model.specs.Laws.{AreFitting}
-use Rattle.gate_laws.specs.Facts.{drawn_by, none_of, Dealt, run_at, IsAt}
+use Rattle.gate_laws.specs.Facts.{handed_values, Handed, drawn_by, none_of, Dealt, run_at, IsAt}
 use Rattle.gate_laws.specs.Offers.{AreOffered}
 use Rattle.gate_laws.specs.Machines.{MachineStands, ArrivesAt, AreTaking}
 
@@ -45,11 +45,13 @@ abbrev pub run_of : Dealt → Report → List Kind → GateRun
 run_of d r kinds = record { inputs = d.inputs; dealt_kinds = d.kinds; dealt = d.shares; gates = r.gates; kinds = kinds }
 
 -- the gates of a report are a run on shares that is well formed: each gate suits the values before it in kinds and sizes. It draws the
--- words that the report counts. In the clear, whatever values fit the gates, the opened words are those of the values that are opened
+-- words that the report counts. Whatever values fit the gates, those that are handed over are published, and in the clear the opened
+-- words are those of the values that are opened
 pub record GatesSuit (w : World) (d : Dealt) (r : Report) : Type 0 where
   pub kinds : List Kind
   pub formed : IsWellFormed (run_of d r kinds)
   pub drawn : (i : Number) → drawn_by r.drawn (miner_of i) ≡ words_drawn (run_of d r kinds) i
+  pub handed : (values : Values) → FitFrom d.inputs values 0 r.gates → Handed r.events (handed_values values r.gates)
   pub opened : w.source ≡ Clear → (values : Values) → FitFrom d.inputs values 0 r.gates → r.opened ≡ opened_values values r.gates
 
 abbrev pub RunsMakeSuitedGates : World → Dealt → List Function → (budget : ℕ) → (answers : List ℕ) → Type 0
