@@ -11,3 +11,4 @@ pub mod Samples
 pub mod Registers
 pub mod RegistersOfBodies
 pub mod RegistersOfPrograms
+pub mod Limits

@@ -44,6 +44,7 @@ use Rattle.lowered_code.proofs.Fits.{well_typed_fits, accepted_means}
 use Rattle.lowered_code.proofs.Standing.{clash, none_some, same_some, front, found_among, Stands, stands_itself, stands_left, stands_right, stands_first}
 use Rattle.lowered_code.proofs.Standing.{both_right, right_at}
 use Rattle.lowered_code.proofs.Calling.{parameters_of}
+use Rattle.lowered_code.proofs.Limits.{within_small}
 use Rattle.lowered_code.proofs.RegistersOfPrograms.{small_numbered}
 use Rattle.lowered_code.proofs.Expressions.{IsCallee}
 use Rattle.lowered_code.proofs.Commands.{commands_right}
@@ -216,8 +217,8 @@ pub well_typed_verified : (p : TypedProgramTree) (is : List Instance) → IsVeri
 well_typed_verified p is typed reached few = let right = code_right p is typed reached few in (verified (code_of p is) right, settles_again (code_of p is) right)
 
 pub accepted_runs : (source : ProgramTree) → RunsWhereAccepted source
-accepted_runs source accepted written p resolved is reached small =
-    let few = small_numbered source p resolved is small in
+accepted_runs source accepted written p resolved is reached within =
+    let few = small_numbered source p resolved is (within_small p is within reached) in
     let both = well_typed_verified p is (accepted_well_typed source accepted written p resolved) reached few in (
       both.0,
       λ w budget answers.

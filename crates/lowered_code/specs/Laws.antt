@@ -8,6 +8,7 @@ use Rattle.typed_tree.specs.Programs.{TypedFunctionTree, TypedProgramTree}
 use Rattle.name_resolution.specs.Functions.{typed_of}
 use Rattle.reached_instances.specs.Instances.{Instance}
 use Rattle.reached_instances.specs.Reached.{IsReachedList}
+use Rattle.program_limits.specs.Limits.{IsWithinLimits}
 use Rattle.language_model.specs.Effects.{World}
 use Rattle.language_model.specs.Reports.{evaluated}
 use Rattle.bytecode.specs.Raw.{RawCode}
@@ -60,10 +61,14 @@ IsVerifiedWhereWellTyped p is =
     IsWellTyped p → IsReachedList p is → HasNumberedRegisters (code_of p is)
     → IsVerified (raw_code_of_program p is) × (settled (raw_code_of_program p is) ≡ code_of p is)
 
--- what is settled of the raw code of an accepted program that is not too large does what the program does
+-- no function of a program that is not refused for its size is too large
+abbrev pub IsSmallWithinLimits : TypedProgramTree → List Instance → Type 0
+IsSmallWithinLimits p is = IsWithinLimits p → IsReachedList p is → AreSmall p is
+
+-- what is settled of the raw code of an accepted program that is not refused for its size does what the program does
 abbrev pub RunsWhereAccepted : ProgramTree → Type 0
 RunsWhereAccepted source =
     IsTypedProgram source → IsWellWritten source → (p : TypedProgramTree) → typed_of source ≡ Some p → (is : List Instance) → IsReachedList p is
-    → AreSmall p is
+    → IsWithinLimits p
     → IsVerified (raw_code_of_program p is)
     × ((w : World) (budget : ℕ) (answers : List ℕ) → mean_in w (settled (raw_code_of_program p is)) budget answers ≡ evaluated w p budget answers)
