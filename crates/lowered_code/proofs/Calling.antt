@@ -35,7 +35,8 @@ module _ (number : Numbers) (fs : List TypedFunctionTree) where
       ∙ take-map (slot_kind b) f.parameters f.slots
 
   module _ (ks : List Kind) (t : ℕ) where
-    value_given : (b : List BoundDomain) (g : Given) (s : Shape) → shape_given g ≡ Some s → HasKind ks t (kind_of (is_private (given_domain b g)) (returned_shape g))
+    value_given : (b : List BoundDomain) (g : Given) (s : Shape) → shape_given g ≡ Some s
+        → HasKind ks t (kind_of (is_private (given_domain b g)) (returned_shape g))
         → ResultFits ks (Some t) (given_kind b g)
     value_given b Nothing s e h = absurd (none_some e)
     value_given b (Value v) s e h = (slot_kind b v, refl, h)

@@ -1,5 +1,6 @@
 -- All steps of the code of a well-typed expression are right.
-use Rattle.std.proofs.Common.{◌≡◌, ℕ, zero, suc, ◌+◌, ◌<◌, ◌≤◌, List, [], ◌∷◌, ◌++◌, length, take, map, Option, Some, Bool, true, false, refl, sym, ap, ◌∙◌, subst}
+use Rattle.std.proofs.Common.{◌≡◌, ℕ, zero, suc, ◌+◌, ◌<◌, ◌≤◌, List, [], ◌∷◌, ◌++◌, length, take, map}
+use Rattle.std.proofs.Common.{Option, Some, Bool, true, false, refl, sym, ap, ◌∙◌, subst}
 use Rattle.std.proofs.Common.{arith}
 use Rattle.std.specs.Prelude.{slice_get}
 use Rattle.secrec_ast.specs.declared.expression.DataType.TheVariants.{Uint64}
@@ -27,7 +28,8 @@ use Rattle.verified_code.specs.Steps.{Step, Function, Not, Cast, Size, Sum, Bits
 use Rattle.code_model.specs.Fit.{IsFit, AreFit}
 use Rattle.code_model.specs.Kinds.{width, kind_of, slot_kind, shape_in, private_kind_in, expression_kinds, arguments_kinds}
 use Rattle.code_model.specs.Kinded.{HasKind, ResultFits, left_array, right_array}
-use Rattle.code_model.specs.Expressions.{Numbers, result_at, classifying, lacks, binary_code, cut_code, expression_code, arguments_code, arguments_places, unread_code}
+use Rattle.code_model.specs.Expressions.{Numbers, result_at, classifying, lacks, binary_code, cut_code, expression_code}
+use Rattle.code_model.specs.Expressions.{arguments_code, arguments_places, unread_code}
 use Rattle.code_model.specs.Programs.{code_of_found}
 use Rattle.code_model.proofs.Widths.{expression_registers}
 use Rattle.raw_steps.specs.Right.{kind, operand_element, AreOf, IsRight}
@@ -221,7 +223,8 @@ module _ (number : Numbers) (c : List Function) (ks : List Kind) (gives : Option
           (expression_right a _ h.0 f.0 (t + 3) pc (left_of a b stands)) (λ p. expression_right b _ h.1 f.1 (t + 3 + width a) p (right_of a b stands))
           (as_left (t + 3) (gives_private here a) op ds (value_at here (t + 3) a _ h.0 (left_of a b stands)))
           (as_right (t + 3 + width a) (gives_private here b) op ds (value_at here (t + 3 + width a) b _ h.1 (right_of a b stands)))
-          (as_left (t + 1) true op ds (private_at (t + 1) a _ h.0 (first_of stands))) (as_right (t + 2) true op ds (private_at (t + 2) b _ h.1 (second_of stands)))
+          (as_left (t + 1) true op ds (private_at (t + 1) a _ h.0 (first_of stands)))
+          (as_right (t + 2) true op ds (private_at (t + 2) b _ h.1 (second_of stands)))
           (stands_first stands) l
       expression_right (cut_node x a b) s h f t pc stands l =
           cut_operands t pc a b x h.0 h.1 (expression_right a _ h.0 f.0) (expression_right b _ h.1 f.1) stands l
@@ -257,7 +260,8 @@ module _ (number : Numbers) (c : List Function) (ks : List Kind) (gives : Option
             λ l.
                 let after = within_right count pc p ce (cl ++ cs) refl l in
                 both_right c ks gives count ce _ (expression_right e _ h.0 f.0 (t + 1) pc own (within_left count pc ce (cl ++ cs) l))
-                (both_right c ks gives count cl cs (lacking_right c ks gives count w g s.shape t (t + 1) v k) (others.0 (within_right count p q cl cs refl after))),
+                (both_right c ks gives count cl cs (lacking_right c ks gives count w g s.shape t (t + 1) v k)
+                (others.0 (within_right count p q cl cs refl after))),
             (picked_kind c ks gives count w g s.shape t (t + 1) (goes_may (domain here e) (domain_under b s.domain) h.1) v k, others.1),
           )
 

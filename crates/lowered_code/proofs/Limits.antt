@@ -32,6 +32,7 @@ each_small p (j ∷ js) e i m = go (is_too_large (size_of p j)) refl e m (each_s
 pub within_small : (p : TypedProgramTree) (is : List Instance) → IsWithinLimits p → IsReachedList p is → AreSmall p is
 within_small p is within reached i m f there =
     let same : is ≡ within.list = is_the_only_list p is within.list reached within.reached in
-    let fine = third (nat_lt 1024 (templates p within.list)) (nat_lt 65535 (sum (sizes p within.list))) _ _ _ (find is_too_large (sizes p within.list)) within.is in
+    let fine = third (nat_lt 1024 (templates p within.list)) (nat_lt 65535 (sum (sizes p within.list))) _ _ _
+    (find is_too_large (sizes p within.list)) within.is in
     let small = ltb-false 4095 (size_of p i) (each_small p within.list fine i (subst (Among i) same m)) in
     subst (λ o. size_in o ≤ 4095) there small

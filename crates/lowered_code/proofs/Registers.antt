@@ -109,7 +109,8 @@ mutual
       let one = value_width d s a m.left m.left_there in
       let two = value_width d s c m.right m.right_there in
       let wide = operation_width p.line o.part m.left m.right x in
-      let fine : width (operation_node p.line o.part m.left m.right x) + 1 ≤ 1 + (nodes a + nodes c) + (1 + (nodes a + nodes c)) = omega (arith, wide, one, two) in
+      let fine : width (operation_node p.line o.part m.left m.right x) + 1 ≤ 1 + (nodes a + nodes c) + (1 + (nodes a + nodes c))
+      = omega (arith, wide, one, two) in
       subst (Narrow (1 + (nodes a + nodes c))) o.is fine
   value_width d s (declassify p e) v h =
       let m = mapped declassified_value (value d s e) v h in

@@ -7,7 +7,8 @@ use Rattle.secrec_ast.specs.declared.expression.DataType.TheVariants as datatype
 use Rattle.secrec_ast.specs.declared.statement.Identifier.{Identifier}
 use Rattle.secrec_ast.specs.declared.statement.DeclaredType.{DeclaredType}
 use Rattle.secrec_ast.specs.Tree.{Tree, Trees, number, truth, variable, call, index, parentheses, negation, cast, binary, declassify, argument, publish}
-use Rattle.secrec_ast.specs.Statements.{DeclarationTree, AssignmentTree, StartTree, starts_with_nothing, starts_with_declaration, starts_with_assignment, StepTree}
+use Rattle.secrec_ast.specs.Statements.{DeclarationTree, AssignmentTree, StartTree, starts_with_nothing, starts_with_declaration}
+use Rattle.secrec_ast.specs.Statements.{starts_with_assignment, StepTree}
 use Rattle.secrec_ast.specs.Statements.{steps_by_nothing, steps_by_assignment, steps_by_expression, StatementTree, block, empty, branch, choice, while_loop}
 use Rattle.secrec_ast.specs.Statements.{do_loop, for_loop, breaks, continues, returns, assertion, declaration, assignment, evaluation, StatementTrees}
 use Rattle.secrec_ast.specs.Statements as Statements'
@@ -47,7 +48,10 @@ takes_as measure n a b p q e h =
 
 takes_done : {A : Type 0} (measure : A → ℕ) (n : ℕ) (a : A) → measure a ≤ n → Takes measure n (done a)
 takes_done measure n a h =
-    record { from = λ s b q e. takes_as measure (n + length s.slots) a b s q e (let k : measure a + length s.slots ≤ n + length s.slots = omega (arith, h) in k) }
+    record {
+      from = λ s b q e. takes_as measure (n + length s.slots) a b s q e
+          (let k : measure a + length s.slots ≤ n + length s.slots = omega (arith, h) in k);
+    }
 
 takes_less : {A : Type 0} (measure : A → ℕ) (n k : ℕ) (m : Resolving A) → n ≤ k → Takes measure n m → Takes measure k m
 takes_less measure n k m l h = record { from = λ s a q e. let x = h.from s a q e in omega (arith, l, x) }
@@ -67,7 +71,8 @@ takes_reading : {A : Type 0} (measure : A → ℕ) (n : ℕ) (f : Place → Opti
     (reading f)
 takes_reading {A = A} measure n f h = record { from = λ s b q e. go s b q (f s) refl e }
   where
-    go : (s : Place) (b : A) (q : Place) (o : Option A) → f s ≡ o → option_map (λ a. pair_of a s) o ≡ Some (b, q) → measure b + length q.slots ≤ n + length s.slots
+    go : (s : Place) (b : A) (q : Place) (o : Option A) → f s ≡ o → option_map (λ a. pair_of a s) o ≡ Some (b, q)
+        → measure b + length q.slots ≤ n + length s.slots
     go s b q None t e = cc
     go s b q (Some a) t e =
         let l = h s a t in
@@ -77,7 +82,8 @@ takes_reading {A = A} measure n f h = record { from = λ s b q e. go s b q (f s)
 takes_block : {A : Type 0} (measure : A → ℕ) (n : ℕ) (m : Resolving A) → Takes measure n m → Takes measure n (in_block m)
 takes_block {A = A} measure n m h = record { from = λ s b q e. go s b q (m (entering s)) refl e }
   where
-    go : (s : Place) (b : A) (q : Place) (o : Option (A × Place)) → m (entering s) ≡ o → closed s o ≡ Some (b, q) → measure b + length q.slots ≤ n + length s.slots
+    go : (s : Place) (b : A) (q : Place) (o : Option (A × Place)) → m (entering s) ≡ o → closed s o ≡ Some (b, q)
+        → measure b + length q.slots ≤ n + length s.slots
     go s b q None t e = cc
     go s b q (Some r) t e = takes_as measure (n + length s.slots) r.0 b (behind_block s r.1) q e (h.from (entering s) r.0 r.1 t)
 
@@ -216,7 +222,8 @@ assigned_to_takes d line k None e =
     (one_takes d e command_width 0 (store_command k) (λ t. omega arith))
 assigned_to_takes d line k (Some i) e =
     takes_less command_width (nodes i + nodes i + (nodes e + nodes e + 0)) (twice (1 + (1 + nodes i + nodes e))) _ (omega arith)
-    (takes_bind behind command_width (nodes i + nodes i) (nodes e + nodes e + 0) (expression d i) (λ j. expression d e >>= λ v. done (element_command line k j v))
+    (takes_bind behind command_width (nodes i + nodes i) (nodes e + nodes e + 0) (expression d i)
+    (λ j. expression d e >>= λ v. done (element_command line k j v))
     (expression_takes d i) (λ j. takes_less command_width (nodes e + nodes e + behind j) (nodes e + nodes e + 0 + behind j) _ (omega arith)
     (one_takes d e command_width (behind j) (λ v. element_command line k j v) (λ t. omega arith))))
 
@@ -279,7 +286,8 @@ mutual
       takes_less command_width (nodes e + nodes e + (n + 0)) (twice (1 + (nodes e + statement_nodes body))) _ (omega arith)
       (takes_bind behind command_width (nodes e + nodes e) (n + 0) (expression d e) _ (expression_takes d e) (λ v.
       takes_less command_width (n + behind v) (n + 0 + behind v) _ (omega arith)
-      (takes_bind command_width command_width n (behind v) (in_block (resolved d body)) _ (takes_block command_width n (resolved d body) (statement_takes d body))
+      (takes_bind command_width command_width n (behind v) (in_block (resolved d body)) _
+      (takes_block command_width n (resolved d body) (statement_takes d body))
       (λ c. takes_done command_width (behind v + command_width c) (if_command v c empty_command) (omega arith)))))
   statement_takes d (choice p e body otherwise) =
       let n = twice (statement_nodes body) in
@@ -287,7 +295,8 @@ mutual
       takes_less command_width (nodes e + nodes e + (n + (k + 0))) (twice (1 + (nodes e + (statement_nodes body + statement_nodes otherwise)))) _ (omega arith)
       (takes_bind behind command_width (nodes e + nodes e) (n + (k + 0)) (expression d e) _ (expression_takes d e) (λ v.
       takes_less command_width (n + (k + behind v)) (n + (k + 0) + behind v) _ (omega arith)
-      (takes_bind command_width command_width n (k + behind v) (in_block (resolved d body)) _ (takes_block command_width n (resolved d body) (statement_takes d body))
+      (takes_bind command_width command_width n (k + behind v) (in_block (resolved d body)) _
+      (takes_block command_width n (resolved d body) (statement_takes d body))
       (λ b. takes_less command_width (k + (behind v + command_width b)) (k + behind v + command_width b) _ (omega arith)
       (takes_bind command_width command_width k (behind v + command_width b) (in_block (resolved d otherwise)) _
       (takes_block command_width k (resolved d otherwise) (statement_takes d otherwise))
@@ -297,7 +306,8 @@ mutual
       takes_less command_width (nodes e + nodes e + (n + 0)) (twice (1 + (nodes e + statement_nodes body))) _ (omega arith)
       (takes_bind behind command_width (nodes e + nodes e) (n + 0) (expression d e) _ (expression_takes d e) (λ v.
       takes_less command_width (n + behind v) (n + 0 + behind v) _ (omega arith)
-      (takes_bind command_width command_width n (behind v) (in_block (resolved d body)) _ (takes_block command_width n (resolved d body) (statement_takes d body))
+      (takes_bind command_width command_width n (behind v) (in_block (resolved d body)) _
+      (takes_block command_width n (resolved d body) (statement_takes d body))
       (λ c. takes_done command_width (behind v + command_width c) (loop_command v empty_command c) (omega arith)))))
   statement_takes d (do_loop p body e) =
       let n = twice (statement_nodes body) in

@@ -41,7 +41,8 @@ main_function =
       parameters = 0;
       slots = record { domain = slot.Private 0; shape = shape_of Uint64 false } ∷ [];
       given = Nothing;
-      body = commands_of (input_command 1 0 (codes "a") ∷ publish_command (codes "c") (declassify_node (call_node 1 1 (typed_trees_of (slot_node 0 ∷ [])))) ∷ []);
+      body = commands_of (input_command 1 0 (codes "a")
+          ∷ publish_command (codes "c") (declassify_node (call_node 1 1 (typed_trees_of (slot_node 0 ∷ [])))) ∷ []);
       size = 9;
     }
 

@@ -1,5 +1,6 @@
 -- The code of a well-typed program is right.
-use Rattle.std.proofs.Common.{◌≡◌, ℕ, zero, suc, ◌+◌, ◌<◌, ◌≤◌, List, [], ◌∷◌, ◌++◌, length, map, Some, None, Bool, true, false, cond, refl, sym, ap, ◌∙◌, subst}
+use Rattle.std.proofs.Common.{◌≡◌, ℕ, zero, suc, ◌+◌, ◌<◌, ◌≤◌, List, [], ◌∷◌, ◌++◌, length, map, Some}
+use Rattle.std.proofs.Common.{None, Bool, true, false, cond, refl, sym, ap, ◌∙◌, subst}
 use Rattle.std.proofs.Common.{arith, length-append, ◌⊎◌, inl, inr}
 use Rattle.std.specs.Prelude.{slice_get}
 use Rattle.std.proofs.lemmas.List.{length-map}
@@ -66,7 +67,8 @@ place_found {A = A} f i (j ∷ js) h = go (same_instance i j) refl h (place_foun
     go false e (inr m) rest = let n : place_of i js + 1 ≡ suc (place_of i js) = omega arith in ap (slice_get (f j ∷ map f js)) n ∙ rest m
 
 -- behind all but the last step there is one
-last_returns : (code : List Step) (last : Step) → is_return last ≡ true → (place : ℕ) (i : Step) → slice_get (code ++ last ∷ []) place ≡ Some i → is_return i ≡ false
+last_returns : (code : List Step) (last : Step) → is_return last ≡ true → (place : ℕ) (i : Step) → slice_get (code ++ last ∷ []) place ≡ Some i
+    → is_return i ≡ false
     → place + 1 < length (code ++ last ∷ [])
 last_returns [] last r zero i e f = absurd (clash (sym f ∙ sym (ap is_return (same_some last i e)) ∙ r))
 last_returns [] last r (suc k) i e f = absurd (none_some e)
@@ -125,7 +127,8 @@ module _ (number : Numbers) (c : List Function) (fs : List TypedFunctionTree) (f
   slots_stand : (k : ℕ) (s : Slot) → slice_get f.slots k ≡ Some s → HasKind own.kinds k (slot_kind b s)
   slots_stand k s there = front (map (slot_kind b) f.slots) behind_slots k (slot_kind b s) (mapped (slot_kind b) f.slots k s there)
 
-  last_right : (g : Given) → Stands own.kinds last_register (last_kinds b g) → IsRight c own.kinds (given_kind b g) (length own.steps) (last_step g last_register)
+  last_right : (g : Given) → Stands own.kinds last_register (last_kinds b g)
+      → IsRight c own.kinds (given_kind b g) (length own.steps) (last_step g last_register)
   last_right Nothing h = refl
   last_right (Value s) h = (slot_kind b s, refl, stands_first h)
 
@@ -184,7 +187,8 @@ module _ (p : TypedProgramTree) (is : List Instance) (typed : IsWellTyped p) (re
       let w = well i m in
       (subst (λ o. parameters_of o ≤ length (slots_of o)) (sym w.there) w.parameters, place_found (instance_code fs number) i is m)
 
-  instance_right : HasNumberedRegisters code → (i : Instance) → Among i is → IsIn code (instance_code fs number i) → IsRightFunction code (instance_code fs number i)
+  instance_right : HasNumberedRegisters code → (i : Instance) → Among i is → IsIn code (instance_code fs number i)
+      → IsRightFunction code (instance_code fs number i)
   instance_right few i m there =
       let w = well i m in
       let f = w.called in
@@ -214,7 +218,8 @@ module _ (p : TypedProgramTree) (is : List Instance) (typed : IsWellTyped p) (re
 -- ---- RAW CODE
 
 pub well_typed_verified : (p : TypedProgramTree) (is : List Instance) → IsVerifiedWhereWellTyped p is
-well_typed_verified p is typed reached few = let right = code_right p is typed reached few in (verified (code_of p is) right, settles_again (code_of p is) right)
+well_typed_verified p is typed reached few =
+    let right = code_right p is typed reached few in (verified (code_of p is) right, settles_again (code_of p is) right)
 
 pub accepted_runs : (source : ProgramTree) → RunsWhereAccepted source
 accepted_runs source accepted written p resolved is reached within =

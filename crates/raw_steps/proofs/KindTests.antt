@@ -16,7 +16,8 @@ use Rattle.typed_tree.specs.declared.operators.BinaryOperator.TheVariants.{Words
 use Rattle.typed_tree.specs.Operators.{operands_of, cast_between}
 use Rattle.language_model.specs.Operations.{result_shape}
 use Rattle.bytecode.specs.declared.kind.Kind.{Kind}
-use Rattle.verified_code.specs.Fitting.{same_truth, same_element, same_kind, kind_at, kind_or, is_there, operator_at, operator_exists, secrecy_fits, result_kind, binary_fits}
+use Rattle.verified_code.specs.Fitting.{same_truth, same_element, same_kind, kind_at, kind_or, is_there, operator_at}
+use Rattle.verified_code.specs.Fitting.{operator_exists, secrecy_fits, result_kind, binary_fits}
 use Rattle.code_model.specs.Kinds.{kind_of}
 use Rattle.code_model.specs.Kinded.{HasKind, left_array, right_array, cast_source, cast_target}
 use Rattle.raw_steps.specs.Instructions.{operator_number, bit}

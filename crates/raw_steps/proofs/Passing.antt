@@ -1,5 +1,6 @@
 -- The instruction of a step that is right passes all that is asked of it.
-use Rattle.std.proofs.Common.{◌≡◌, ℕ, zero, suc, ◌+◌, ◌<◌, ◌≤◌, ◌==◌, List, [], ◌∷◌, length, map, take, Option, Some, None, Bool, true, false, ◌||◌, refl, ap, ◌∙◌}
+use Rattle.std.proofs.Common.{◌≡◌, ℕ, zero, suc, ◌+◌, ◌<◌, ◌≤◌, ◌==◌, List, [], ◌∷◌, length, map, take}
+use Rattle.std.proofs.Common.{Option, Some, None, Bool, true, false, ◌||◌, refl, ap, ◌∙◌}
 use Rattle.std.proofs.Common.{inl}
 use Rattle.std.specs.Prelude.{slice_get, nat_lt}
 use Rattle.std.specs.List.{list_all}
@@ -144,7 +145,8 @@ module _ (c : List Function) (f : Function) (place : ℕ) where
   call_fits g h d arguments few e fit result =
       ap (λ o. fitting.call_fits ks o (register_or_nowhere d) arguments) (mapped (raw_function names) c g h e)
       ∙ all_four (le-leb h.parameters (length h.kinds) few)
-      (ap (λ n. n == h.parameters) (as_many ks arguments (take h.parameters h.kinds) fit ∙ length-take-le h.parameters h.kinds few) ∙ (Decides-eqb h.parameters h.parameters).1 refl)
+      (ap (λ n. n == h.parameters) (as_many ks arguments (take h.parameters h.kinds) fit ∙ length-take-le h.parameters h.kinds few)
+      ∙ (Decides-eqb h.parameters h.parameters).1 refl)
       (all_fit ks arguments (take h.parameters h.kinds) fit) (result_given ks d h.gives result)
 
   module _ (others : (g : ℕ) (h : Function) → slice_get c g ≡ Some h → h.parameters ≤ length h.kinds) where

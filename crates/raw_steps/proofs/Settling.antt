@@ -23,7 +23,8 @@ result_back ks (Some d) g few h =
     ap (λ b. cond b None (Some d)) (ne_eqb d nowhere (λ e. omega (arith, e, below)))
 
 module _ (names : List (List ℕ)) (c : List Function) (ks : List Kind) (gives : Option Kind) (count : ℕ) (few : length ks ≤ nowhere) where
-  pub settles : (i : Step) → IsRight c ks gives count i → ((text : List ℕ) → Among text (step_names i) → Among text names) → settle names ks (instruction names i) ≡ i
+  pub settles : (i : Step) → IsRight c ks gives count i → ((text : List ℕ) → Among text (step_names i) → Among text names)
+      → settle names ks (instruction names i) ≡ i
   settles (Literal d e n) h m = ap (λ k. Literal d k.element n) (its_kind ks d _ h.0)
   settles (Move d r) h m = refl
   settles (Store d r) h m = refl
