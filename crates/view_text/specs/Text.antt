@@ -1,5 +1,6 @@
 -- The text of a view: its lines, each of words with a space between them, and a newline behind each line.
 use Rattle.std.specs.Prelude.{ℕ, List, [], ◌∷◌, ◌++◌, map, codes}
+use Rattle.std.specs.List.{flat_map}
 use Rattle.std.specs.Fmt.{decimal}
 use Rattle.sc_text.specs.declared.elements.Element.{Element}
 use Rattle.sc_text.specs.declared.end.Ending.{Ending}
@@ -42,6 +43,10 @@ abbrev pub spaced : List (List ℕ) → List ℕ
 spaced [] = []
 spaced (w ∷ []) = w
 spaced (w ∷ v ∷ vs) = w ++ 32 ∷ spaced (v ∷ vs)
+
+-- a space and the number, for each
+abbrev pub words_behind : List ℕ → List ℕ
+words_behind words = flat_map (λ word. 32 ∷ decimal word) words
 
 abbrev pub lines_bytes : List Line → List ℕ
 lines_bytes [] = []

@@ -4,12 +4,14 @@
 mod laws;
 mod numbers;
 mod parts;
+mod view;
 mod writing;
 
 pub use laws::{
     equal_texts_are_equal_views, first_wrong_line_is_named, views_are_read_again,
-    what_is_read_was_written,
+    views_end_as_runs_do, what_is_read_was_written,
 };
 pub use numbers::{word_in, words_in};
 pub use parts::words_of;
-pub use writing::push_line;
+pub use view::{InputShare, Received, View};
+pub use writing::write;
