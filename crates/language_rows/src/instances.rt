@@ -66,7 +66,7 @@ void main() { uint64[[1]] b (1); p uint64[[1]] a (2); g(cat(b, a)); g(cat(b, b))
     (
         "template <domain D> D uint64 f(D uint64 x) { return x; }
 void main() { p uint64 a; r uint64 b; for (; f(1) < 2; a = f(a)) { b = f(b); } }",
-        "0;1 public;1 0;1 1;",
+        "0;1 1;1 0;1 public;",
         3,
     ),
     (
