@@ -25,5 +25,7 @@ mod words;
 pub use blind_run::{BlindError, blind};
 pub use dealer::dealing;
 pub use laws::public_parts_are_public;
+pub use public_offering::parts_given;
+pub use ran::world_of;
 pub use report::{Needs, Report};
 pub use running::eval;
