@@ -1,0 +1,10 @@
+pub mod Quiet
+pub mod QuietRows
+pub mod QuietSteps
+pub mod Asks
+pub mod AlikeSteps
+pub mod AlikeMachines
+pub mod Again
+pub mod Joins
+pub mod Turns
+pub mod Samples

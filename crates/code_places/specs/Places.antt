@@ -1,0 +1,97 @@
+-- Code as turns of a run: where one who is told the opened words stands, what a step of the code comes to for him, and what a miner
+-- tells of it.
+use Rattle.std.specs.Prelude.{ℕ, List, [], ◌∷◌, Option, Some, None, Ok, Err}
+use Rattle.std.specs.List.{slice_get}
+use Rattle.secrec_ast.specs.declared.expression.DataType.{DataType}
+use Rattle.secrec_ast.specs.declared.expression.DataType.TheVariants.{Uint64}
+use Rattle.secrec_ast.specs.declared.expression.DataType.TheVariants as datatype
+use Rattle.sc_text.specs.declared.end.Ending.{Ending}
+use Rattle.sc_text.specs.declared.event.Event.{Event}
+use Rattle.proto_core.specs.Strand.{Field, Words, Bits, Form, Notice, Shown, Published, Handed}
+use Rattle.protocol_model.specs.Gates.{sizes_of}
+use Rattle.gates.specs.declared.gate.Gate.{Gate}
+use Rattle.shared_gates.specs.Model.{run_gates, sizes_after}
+use Rattle.gate_laws.specs.Facts.{Dealt}
+use Rattle.language_model.specs.Effects.{World, Stage, Stop, Ended, Short, Run}
+use Rattle.language_model.specs.Values.{Secrecy, Plain, Private}
+use Rattle.language_model.specs.Reports.{beginning}
+use Rattle.typed_tree.specs.declared.kinds.Shape.{Shape}
+use Rattle.verified_code.specs.Steps.{Step, Publish, Declassify, Function}
+use Rattle.code_model.specs.Machine.{Machine, step, start}
+use Rattle.driven_nodes.specs.Steps.{Went, On, Over, Wants, Steps, ToRun, gained, last_of}
+use Rattle.driven_nodes.specs.Twins.{Course}
+
+-- ---- PLACES
+
+-- the machine, how far the run has come, with no answer left, and why it is over, where it is
+pub record Place : Type 0 where
+  pub machine : Machine
+  pub stage : Stage
+  pub ended : Option Ending
+
+abbrev pub telling_stage : List ℕ → Stage → Stage
+telling_stage answers s = record s { answers = answers }
+
+abbrev pub place : Option Ending → Machine → Stage → Place
+place ended m s = record { machine = m; stage = telling_stage [] s; ended = ended }
+
+abbrev pub stopped : Machine → Stage → Stop → Went Place
+stopped m s (Ended e) = Over (place (Some e) m s)
+stopped m s Short = Wants (place None m s)
+
+abbrev pub went : Machine → Run Machine → Went Place
+went m (Ok x) = On (place None x.0 x.1)
+went m (Err e) = stopped m e.1 e.0
+
+abbrev pub next_step : Machine → Option Step
+next_step m = slice_get m.steps m.pc
+
+-- the next step, told these words
+abbrev pub step_told : World → List Function → Place → (told : List ℕ) → Went Place
+step_told w c p told = went p.machine (step w c (next_step p.machine) p.machine (telling_stage told p.stage))
+
+abbrev pub first_place : List Function → (budget : ℕ) → Place
+first_place c budget = place None (start c) (beginning budget [])
+
+-- ---- WHAT A MINER TELLS
+
+abbrev pub field_of : DataType → Field
+field_of Uint64 = Words
+field_of datatype.Bool = Bits
+
+abbrev pub form_of : Shape → Form
+form_of shape = record { element = field_of shape.element; array = shape.array }
+
+-- a public value, or its own share of a private one, which it has made last
+abbrev pub publishing : Secrecy → (text : List ℕ) → Form → (words last : List ℕ) → Notice
+publishing Plain text form words last = Published text form words
+publishing (Private k) text form words last = Handed text form last
+
+abbrev pub told_by : Option Step → Machine → (opened last : List ℕ) → List Notice
+told_by (Some (Declassify d r)) m opened last = Shown (form_of (m.registers r).shape) opened ∷ []
+told_by (Some (Publish text r)) m opened last =
+    publishing (m.registers r).secrecy text (form_of (m.registers r).shape) (m.registers r).words last ∷ []
+told_by step m opened last = []
+
+-- a step that makes no event tells nothing
+abbrev pub where_made : List Event → List Notice → List Notice
+where_made [] notices = []
+where_made (e ∷ es) notices = notices
+
+abbrev pub notices_between : (p q : Place) → (values : List (List ℕ)) → List Notice
+notices_between p q values =
+    where_made (gained p.stage.events q.stage.events)
+    (told_by (next_step p.machine) p.machine (gained p.stage.opened q.stage.opened) (last_of values))
+
+-- ---- RUNS
+
+abbrev pub code_steps : World → List Function → Steps Place Gate
+code_steps w c = record { step = step_told w c; gates = λ p. p.stage.gates; notices = notices_between }
+
+-- in the clear nothing has to be told
+abbrev pub code_course : World → List Function → Course Place Gate
+code_course w c = record { step = λ p. step_told w c p []; gates = λ p. p.stage.gates; opened = λ p. p.stage.opened }
+
+-- gates behind others, on what is dealt
+abbrev pub run_dealt : Dealt → ToRun Gate
+run_dealt d before more = run_gates d.shares (sizes_of d.inputs) (sizes_after (sizes_of d.inputs) [] before) more
