@@ -1,0 +1,9 @@
+pub mod Told
+pub mod Onwards
+pub mod Stays
+pub mod Values
+pub mod Shown
+pub mod Ends
+pub mod Notices
+pub mod Tellings
+pub mod Miners

@@ -1,0 +1,234 @@
+-- What the miners tell at each step is what the run in the clear tells.
+use Rattle.std.proofs.Common.{◌≡◌, ℕ, zero, suc, ◌+◌, ◌-◌, ◌<◌, ◌≤◌, List, [], ◌∷◌, ◌++◌, length, map, drop, Option, Some, None, Ok, Err, refl, sym, ap, ◌∙◌, subst}
+use Rattle.std.proofs.Common.{arith, append_assoc, append-nil, length-append, length-drop, zero-add}
+use Rattle.std.proofs.Math.ListN.{drop_of_length-le}
+use Rattle.std.proofs.lemmas.List.Elements.{length_all_zip}
+use Rattle.std.specs.List.{slice_get}
+use Rattle.secrec_ast.specs.declared.expression.DataType.{DataType}
+use Rattle.secrec_ast.specs.declared.expression.DataType.TheVariants.{Uint64}
+use Rattle.secrec_ast.specs.declared.expression.DataType.TheVariants as datatype
+use Rattle.sc_text.specs.declared.event.Event.{Event}
+use Rattle.sc_text.specs.declared.event.Event.TheVariants as event
+use Rattle.proto_core.specs.declared.party.Number.{Number}
+use Rattle.proto_core.specs.Lists.{AreWords}
+use Rattle.proto_core.specs.Strand.{Form, Notice, Shown, Published, Handed}
+use Rattle.protocol_model.specs.Runs.{Tapes}
+use Rattle.gates.specs.declared.gate.Gate.{Gate}
+use Rattle.gates.specs.declared.gate.Gate.TheVariants.{Const, Result}
+use Rattle.gates.specs.Clear.{Values, value, ring_of, FitFrom}
+use Rattle.gates.specs.Counts.{made_by_all}
+use Rattle.gates.proofs.Sizes.{FitFrom-append}
+use Rattle.gates.proofs.Columns.{stands}
+use Rattle.shared_gates.specs.Shares.{AreShares, Shared, Holds, share_at}
+use Rattle.shared_gates.specs.Model.{miner_of}
+use Rattle.shared_plans.specs.GateRuns.{end_shares}
+use Rattle.language_model.specs.Effects.{World, Clear, Stage}
+use Rattle.language_model.specs.Reports.{Offered, world_of}
+use Rattle.language_model.specs.Values.{Secrecy, Plain, Private, Value, plain, ring_for, element_of, elements_of}
+use Rattle.blind_evaluation.specs.Courses.{LikeEvent}
+use Rattle.typed_tree.specs.declared.kinds.Shape.{Shape}
+use Rattle.verified_code.specs.Steps.{Step, Declassify, Publish, Function}
+use Rattle.code_model.specs.Machine.{Machine}
+use Rattle.gate_laws.specs.Facts.{none_of, drawn_by, Stands, AllStand, fact_from, Dealt, run_at, IsAt}
+use Rattle.gate_laws.specs.Machines.{MachineStands}
+use Rattle.driven_nodes.specs.Steps.{gained, last_of}
+use Rattle.code_places.specs.Places.{Place, next_step, field_of, form_of, publishing, told_by, where_made, notices_between, run_dealt}
+use Rattle.code_places.specs.Twins.{LikeValue, LikeWords, LikeStage, LikeMachine}
+use Rattle.code_runs.specs.Telling.{type_of, elements_told, ring_told, Tells}
+use Rattle.code_runs.specs.Telling as tells
+use Rattle.code_runs.proofs.Told.{TellsNothing, Opening, was_open, opens, NumberFor, Numbered, Publishing, ToldBy}
+use Rattle.code_runs.proofs.Stays.{Stays, Along, Final}
+use Rattle.code_runs.proofs.Values.{computed, last_value, last_held, last_kinded, last_made}
+use Rattle.code_runs.proofs.Shown.{behind, gained_more}
+
+-- ---- FORMS
+
+type_same : (e : DataType) → type_of (field_of e) ≡ e
+type_same Uint64 = refl
+type_same datatype.Bool = refl
+
+told_same : (shape : Shape) (words : List ℕ) → elements_told (form_of shape) words ≡ map (element_of shape.element) words
+told_same shape words = ap (λ e. map (element_of e) words) (type_same shape.element)
+
+pub retold : {events : List Event} {ns ms : Number → List Notice} → ((i : Number) → ns i ≡ ms i) → Tells events ns → Tells events ms
+retold {events = events} h t = subst (Tells events) (λ e. λ i. h i e) t
+
+-- ---- WHERE AN EVENT IS MADE
+
+where_some : (made : List Event) (notices : List Notice) → 0 < length made → where_made made notices ≡ notices
+where_some [] notices h = absurd (omega arith)
+where_some (e ∷ made) notices h = refl
+
+module _ (s u t v : Stage) (before : LikeStage s t) (after : LikeStage u v) where
+  lengths : length s.events ≡ length t.events
+  lengths = length_all_zip LikeEvent s.events t.events before.events
+
+  lengths_after : length u.events ≡ length v.events
+  lengths_after = length_all_zip LikeEvent u.events v.events after.events
+
+  pub none_made : u.events ≡ s.events → (notices : List Notice) → where_made (gained t.events v.events) notices ≡ []
+  none_made e notices =
+      let l = lengths in
+      let k = lengths_after in
+      let same = ap length e in
+      ap (λ z. where_made z notices) (drop_of_length-le v.events (omega (arith, l, k, same)))
+
+  one_made : (e : Event) → u.events ≡ s.events ++ e ∷ [] → (notices : List Notice) → where_made (gained t.events v.events) notices ≡ notices
+  one_made e f notices =
+      let l = lengths in
+      let k = lengths_after in
+      let more : length u.events ≡ length s.events + 1 = ap length f ∙ length-append s.events (e ∷ []) in
+      let rest = length-drop (length t.events) v.events in
+      where_some (gained t.events v.events) notices (omega (arith, l, k, more, rest))
+
+  same_gained : gained t.opened v.opened ≡ gained s.opened u.opened
+  same_gained = ap (λ z. gained z.opened v.opened) before.same ∙ ap (λ z. gained s.opened z.opened) after.same
+
+-- ---- THE SHARES OF A VALUE THAT IS HANDED OVER
+
+module _ (o : Offered) (d : Dealt) (c : List Function) (tapes : Tapes) (words : (i : Number) → AreWords (tapes i))
+    (long : (i : Number) → length (tapes i) ≡ drawn_by o.lengths (miner_of i)) (p q : Place) (st : Stays o d c p) (along : Along o d c p q) where
+  abbrev values : Values
+  values = (computed o d tapes words long along.stays.kinds q.stage along.stays.stage along.stays.tapes).more
+
+  module _ (r : ℕ) where
+    abbrev v : Value
+    v = p.machine.registers r
+
+    module _ (before : List Gate) (number : ℕ) (gates : q.stage.gates ≡ p.stage.gates ++ (before ++ Result (ring_for v.shape.element) number ∷ [])) where
+      abbrev new : List Gate
+      new = before ++ Result (ring_for v.shape.element) number ∷ []
+
+      whole_fit : FitFrom d.inputs values 0 p.stage.gates × FitFrom d.inputs values (0 + made_by_all p.stage.gates) new
+      whole_fit =
+          FitFrom-append d.inputs values 0 p.stage.gates new
+          (subst (FitFrom d.inputs values 0) gates (computed o d tapes words long along.stays.kinds q.stage along.stays.stage along.stays.tapes).fit)
+
+      named_words : (k : ℕ) → v.secrecy ≡ Private (Some k) → value values k ≡ v.words
+      named_words k e =
+          let facts = subst (λ z. AllStand (run_at (world_of Clear o) d st.kinds p.stage) (fact_from z v.shape.element v.words)) e (st.stands.registers r).0 in
+          facts.0.words values (whole_fit).0
+
+      number_words : (j : Option ℕ) → v.secrecy ≡ Private j → NumberFor j v.words p.stage before number → value values number ≡ v.words
+      number_words (Some k) e h = ap (value values) h.1 ∙ named_words k e
+      number_words None e h =
+          let here : number ≡ 0 + made_by_all p.stage.gates = h.1 ∙ st.stage.made ∙ sym (zero-add (made_by_all p.stage.gates)) in
+          let first = subst (λ z. FitFrom d.inputs values (0 + made_by_all p.stage.gates) (z ++ Result (ring_for v.shape.element) number ∷ [])) h.0 (whole_fit).1 in
+          ap (value values) here ∙ stands values (0 + made_by_all p.stage.gates) first.1
+
+      abbrev front : List Gate
+      front = p.stage.gates ++ before
+
+      in_front : q.stage.gates ≡ front ++ Result (ring_for v.shape.element) number ∷ []
+      in_front = gates ∙ sym (append_assoc p.stage.gates before (Result (ring_for v.shape.element) number ∷ []))
+
+      handed_shares :
+          (j : Option ℕ) → v.secrecy ≡ Private j → NumberFor j v.words p.stage before number
+          → AreShares (ring_of (ring_for v.shape.element)) v.words (λ i. last_of (behind d tapes q.stage.gates i))
+      handed_shares j e h =
+          let ring = ring_for v.shape.element in
+          let g = Result ring number in
+          let k = along.stays.kinds in
+          let at = along.stays.stage in
+          let fit = along.stays.tapes in
+          let shares = end_shares (run_at (world_of Clear o) d k q.stage) tapes in
+          let kind = (last_kinded o d tapes words long k q.stage at fit front g refl in_front).1.0 in
+          let made = stands values (made_by_all front) (last_made o d tapes words long k q.stage at fit front g refl in_front) in
+          let held = last_held o d tapes words long k q.stage at fit front g refl in_front in
+          let last = last_value o d tapes words long k q.stage at fit front g refl in_front in
+          subst (λ s. AreShares (ring_of ring) v.words s) (λ z. λ i. sym (last i) z)
+          (subst (λ xs. AreShares (ring_of ring) xs (share_at shares (made_by_all front))) (made ∙ number_words j e h)
+          (subst (λ z. Holds z (value values (made_by_all front)) (share_at shares (made_by_all front))) kind held))
+
+  -- ---- ONE STEP
+
+  module _ (b a : Place) (machines : LikeMachine p.machine b.machine) (stages : LikeStage p.stage b.stage) (later : LikeStage q.stage a.stage) where
+    -- what a miner tells between the places beside these
+    abbrev pub telling : Number → List Notice
+    telling i = notices_between b a (behind d tapes q.stage.gates i)
+
+    pub record StepTells : Type 0 where
+      pub events : List Event
+      pub gained : q.stage.events ≡ p.stage.events ++ events
+      pub told : (rest : List Event) (notices : Number → List Notice) → Tells rest notices → Tells (events ++ rest) (λ i. telling i ++ notices i)
+
+    same_next : next_step b.machine ≡ next_step p.machine
+    same_next = ap (λ z. slice_get z b.machine.pc) (sym machines.steps) ∙ ap (slice_get p.machine.steps) (sym machines.pc)
+
+    quiet : TellsNothing p.stage q.stage → StepTells
+    quiet h =
+        record {
+          events = [];
+          gained = h.events ∙ sym (append-nil p.stage.events);
+          told = λ rest notices t. retold (λ i. ap (λ z. z ++ notices i) (sym (none_made p.stage q.stage b.stage a.stage stages later h.events _))) t;
+        }
+
+    -- one event, and one notice beside it
+    one :
+        (e : Event) (notice : Number → Notice) → q.stage.events ≡ p.stage.events ++ e ∷ []
+        → ((i : Number)
+        → told_by (next_step b.machine) b.machine (gained b.stage.opened a.stage.opened) (last_of (behind d tapes q.stage.gates i)) ≡ notice i ∷ [])
+        → ((rest : List Event) (notices : Number → List Notice) → Tells rest notices → Tells (e ∷ rest) (λ i. notice i ∷ notices i)) → StepTells
+    one e notice made tells then =
+        record {
+          events = e ∷ [];
+          gained = made;
+          told = λ rest notices t.
+              retold (λ i. ap (λ z. z ++ notices i) (sym (one_made p.stage q.stage b.stage a.stage stages later e made _ ∙ tells i))) (then rest notices t);
+        }
+
+    shows : (to r : ℕ) → next_step p.machine ≡ Some (Declassify to r) → Opening (p.machine.registers r) p.stage q.stage → StepTells
+    shows to r n (was_open h) = quiet h
+    shows to r n (opens words before ring k opened events answers gates none) =
+        let v = p.machine.registers r in
+        one (event.Open (elements_of (plain v.shape words))) (λ i. Shown (form_of v.shape) words) events
+        (λ i.
+        ap (λ z. told_by z b.machine (gained b.stage.opened a.stage.opened) (last_of (behind d tapes q.stage.gates i))) (same_next ∙ n)
+        ∙ ap (λ z. Shown (form_of z) (gained b.stage.opened a.stage.opened) ∷ []) (sym (machines.registers r).shape)
+        ∙ ap (λ z. Shown (form_of v.shape) z ∷ [])
+        (same_gained p.stage q.stage b.stage a.stage stages later ∙ gained_more p.stage.opened words q.stage.opened opened))
+        (λ rest notices t.
+        subst (λ z. Tells (event.Open z ∷ rest) (λ i. Shown (form_of v.shape) words ∷ notices i)) (told_same v.shape words)
+        (tells.opened (form_of v.shape) words t))
+
+    shared_words : (r : ℕ) (x : Secrecy) → (p.machine.registers r).secrecy ≡ x → LikeWords x (p.machine.registers r).words (b.machine.registers r).words
+    shared_words r x e = subst (λ z. LikeWords z (p.machine.registers r).words (b.machine.registers r).words) e (machines.registers r).words
+
+    hands : (text : List ℕ) (r : ℕ) → next_step p.machine ≡ Some (Publish text r) → Publishing text (p.machine.registers r) p.stage q.stage
+        → (x : Secrecy) → (p.machine.registers r).secrecy ≡ x → StepTells
+    hands text r n h Plain e =
+        let v = p.machine.registers r in
+        one (event.Publish text (elements_of v)) (λ i. Published text (form_of v.shape) v.words) h.events
+        (λ i.
+        ap (λ z. told_by z b.machine (gained b.stage.opened a.stage.opened) (last_of (behind d tapes q.stage.gates i))) (same_next ∙ n)
+        ∙ ap
+        (λ z. publishing z text (form_of (b.machine.registers r).shape) (b.machine.registers r).words (last_of (behind d tapes q.stage.gates i)) ∷ [])
+        (sym (machines.registers r).secrecy ∙ e)
+        ∙ ap (λ z. Published text (form_of z) (b.machine.registers r).words ∷ []) (sym (machines.registers r).shape)
+        ∙ ap (λ z. Published text (form_of v.shape) z ∷ []) (sym (shared_words r Plain e)))
+        (λ rest notices t.
+        subst (λ z. Tells (event.Publish text z ∷ rest) (λ i. Published text (form_of v.shape) v.words ∷ notices i)) (told_same v.shape v.words)
+        (tells.published text (form_of v.shape) v.words t))
+    hands text r n h (Private j) e =
+        let v = p.machine.registers r in
+        let made = h.handed j e in
+        let shares : Number → List ℕ = λ i. last_of (behind d tapes q.stage.gates i) in
+        let held = handed_shares r made.before made.number made.gates j e made.number_for in
+        one (event.Publish text (elements_of v)) (λ i. Handed text (form_of v.shape) (shares i)) h.events
+        (λ i.
+        ap (λ z. told_by z b.machine (gained b.stage.opened a.stage.opened) (shares i)) (same_next ∙ n)
+        ∙ ap (λ z. publishing z text (form_of (b.machine.registers r).shape) (b.machine.registers r).words (shares i) ∷ [])
+        (sym (machines.registers r).secrecy ∙ e)
+        ∙ ap (λ z. Handed text (form_of z) (shares i) ∷ []) (sym (machines.registers r).shape))
+        (λ rest notices t.
+        subst (λ z. Tells (event.Publish text z ∷ rest) (λ i. Handed text (form_of v.shape) (shares i) ∷ notices i)) (told_same v.shape v.words)
+        (tells.handed text (form_of v.shape) v.words shares
+        (subst (λ z. AreShares (ring_of (ring_for z)) v.words shares) (sym (type_same v.shape.element)) held) t))
+
+    by_step : (n : Option Step) → next_step p.machine ≡ n → ToldBy n p.machine p.stage q.stage → StepTells
+    by_step (Some (Declassify to r)) e h = shows to r e h
+    by_step (Some (Publish text r)) e h = hands text r e h (p.machine.registers r).secrecy refl
+    by_step n e h = quiet h
+
+    pub step_told : StepTells
+    step_told = by_step (next_step p.machine) refl along.told

@@ -1,0 +1,3 @@
+-- What is promised of three miners that run code.
+pub mod Telling
+pub mod Runs

@@ -1,0 +1,93 @@
+-- Three miners that run code, beside its run in the clear.
+use Rattle.std.specs.Prelude.{◌≡◌, ℕ, ◌-◌, nat_le, true, List, [], length, Some}
+use Rattle.std.specs.List.{slice_get}
+use Rattle.sc_text.specs.declared.end.Ending.{Ending}
+use Rattle.proto_core.specs.declared.party.Number.{Number}
+use Rattle.proto_core.specs.declared.link.Link.{Link}
+use Rattle.proto_core.specs.Lists.{AreWords}
+use Rattle.proto_core.specs.Strand.{Mail, Strand, told_in}
+use Rattle.proto_core.specs.Script.{Move}
+use Rattle.proto_core.specs.Net.{nothing, run_of, opened_by, Finishes}
+use Rattle.protocol_model.specs.Gates.{gates_script}
+use Rattle.protocol_model.specs.Gates as model
+use Rattle.protocol_model.specs.Runs.{Shares, Tapes, run_messages, run_values}
+use Rattle.protocol_model.specs.Network.{Accepted, Default, Delivery, Shuffled, net, order_of, walked}
+use Rattle.protocol_model.specs.Schedules.{AnyOrder}
+use Rattle.gates.specs.declared.gate.Gate.{Gate}
+use Rattle.shared_gates.specs.Model.{miner_of}
+use Rattle.language_model.specs.Effects.{Clear, Ended}
+use Rattle.language_model.specs.Reports.{Report, Offered, world_of, dealing}
+use Rattle.blind_evaluation.specs.Courses.{LikeEvents}
+use Rattle.verified_code.specs.Steps.{Function}
+use Rattle.code_model.specs.Meaning.{fuel, mean, AreForward}
+use Rattle.gate_laws.specs.Facts.{Dealt, drawn_by}
+use Rattle.gate_laws.specs.Laws.{MayRun, IsDealing}
+use Rattle.driven_nodes.specs.Driven.{driven_nodes}
+use Rattle.driven_nodes.specs.Steps.{Stand, Running, Stopped, next_turn}
+use Rattle.code_places.specs.Places.{Place, first_place, run_dealt}
+use Rattle.code_places.specs.Laws.{when_told}
+use Rattle.code_runs.specs.Telling.{Tells}
+
+-- ---- THE MINERS
+
+-- each takes the steps of the code without a private input, told what is opened by its own shares
+abbrev pub miners : Offered → Dealt → List Function → (budget : ℕ) → Tapes → Number → Strand (Stand Place × List (List ℕ))
+miners o d c budget tapes =
+    driven_nodes (next_turn (when_told o c) (run_dealt d)) (fuel c budget) (Running (first_place c budget)) (λ i. []) tapes
+
+-- ---- THE GATES OF A REPORT, ON WHAT IS DEALT
+
+abbrev pub gates_to_run : Dealt → Report → List model.Gate
+gates_to_run d r = run_dealt d [] r.gates
+
+abbrev pub messages : Dealt → Report → Tapes → Mail
+messages d r tapes = run_messages (gates_to_run d r) (λ i. []) tapes
+
+abbrev pub shares : Dealt → Report → Tapes → Shares
+shares d r tapes = run_values (gates_to_run d r) (λ i. []) tapes
+
+abbrev pub scripts : Dealt → Report → Number → List Move
+scripts d r i = gates_script i (gates_to_run d r)
+
+-- ---- WHAT THEY COME TO
+
+-- code that may run in the clear and whose jumps go forward, inputs that are dealt, and tapes of words, as long as they are offered
+pub record MayRunShared (o : Offered) (d : Dealt) (c : List Function) (tapes : Tapes) : Type 0 where
+  pub code : MayRun (world_of Clear o) d c
+  pub main : Function
+  pub first : slice_get c 0 ≡ Some main
+  pub forward : AreForward c
+  pub dealt : IsDealing d
+  pub dealer : nat_le (dealing (world_of Clear o)) o.dealer ≡ true
+  pub words : (i : Number) → AreWords (tapes i)
+  pub long : (i : Number) → length (tapes i) ≡ drawn_by o.lengths (miner_of i)
+
+-- where they stop, beside the report of the run in the clear: only what is published may differ
+pub record StopsAs (r : Report) (budget : ℕ) (last : Place) : Type 0 where
+  pub ending : Ending
+  pub stop : r.stop ≡ Ended ending
+  pub ended : last.ended ≡ Some ending
+  pub cost : budget - last.stage.left ≡ r.cost
+  pub drawn : last.stage.drawn ≡ r.drawn
+  pub gates : last.stage.gates ≡ r.gates
+  pub opened : last.stage.opened ≡ r.opened
+  pub events : LikeEvents r.events last.stage.events
+
+module _ (o : Offered) (d : Dealt) (c : List Function) (budget : ℕ) (tapes : Tapes) where
+  -- they send the messages of the report's gates, and stop with their shares of all values where the report says; they open its words
+  -- and tell its events; and this under every schedule
+  pub record RunAsReported (r : Report) : Type 0 where
+    pub last : Place
+    pub finishes : Finishes (miners o d c budget tapes) (messages d r tapes) (λ i. (Stopped last, shares d r tapes i))
+    pub stops : StopsAs r budget last
+    pub opened : (i : Number) → opened_by (miners o d c budget tapes) (messages d r tapes) i ≡ r.opened
+    pub told : Tells r.events (λ i. told_in (run_of (miners o d c budget tapes) (messages d r tapes) i).acts)
+    pub counted :
+        (delivery : Delivery)
+        → walked (miners o d c budget tapes) 0 nothing (order_of (scripts d r) delivery) ≡ net (scripts d r) delivery
+    pub in_order : walked (miners o d c budget tapes) 0 nothing (order_of (scripts d r) Default) ≡ Accepted
+    pub shuffled : (words : ℕ → ℕ) → walked (miners o d c budget tapes) 0 nothing (order_of (scripts d r) (Shuffled words)) ≡ Accepted
+    pub any_order : (order : List Link) → AnyOrder (miners o d c budget tapes) (messages d r tapes) order
+
+  abbrev pub MinersRunTheCode : Type 0
+  MinersRunTheCode = MayRunShared o d c tapes → RunAsReported (mean c o budget)

@@ -1,0 +1,39 @@
+-- What three miners tell beside the events of the run in the clear.
+use Rattle.std.specs.Prelude.{ℕ, List, [], ◌∷◌, map}
+use Rattle.secrec_ast.specs.declared.expression.DataType.{DataType}
+use Rattle.secrec_ast.specs.declared.expression.DataType.TheVariants.{Uint64}
+use Rattle.secrec_ast.specs.declared.expression.DataType.TheVariants as datatype
+use Rattle.sc_text.specs.declared.elements.Element.{Element}
+use Rattle.sc_text.specs.declared.event.Event.{Event}
+use Rattle.sc_text.specs.declared.event.Event.TheVariants.{Open, Publish}
+use Rattle.share_ring.specs.Ring.{Ring}
+use Rattle.proto_core.specs.declared.party.Number.{Number}
+use Rattle.proto_core.specs.Strand.{Field, Words, Bits, Form, Notice, Shown, Published, Handed}
+use Rattle.gates.specs.Clear.{ring_of}
+use Rattle.shared_gates.specs.Shares.{AreShares}
+use Rattle.language_model.specs.Values.{ring_for, element_of}
+
+abbrev pub type_of : Field → DataType
+type_of Words = Uint64
+type_of Bits = datatype.Bool
+
+-- words of a form as they are printed, and the ring in which they are shared
+abbrev pub elements_told : Form → List ℕ → List Element
+elements_told form words = map (element_of (type_of form.element)) words
+
+abbrev pub ring_told : Form → Ring
+ring_told form = ring_of (ring_for (type_of form.element))
+
+-- one event after another: all three tell the same words, or each its share of them
+pub data Tells : List Event → (Number → List Notice) → Type 0 where
+  nothing : Tells [] (λ i. [])
+  opened :
+      {events : List Event} {notices : Number → List Notice} (form : Form) (words : List ℕ) → Tells events notices
+      → Tells (Open (elements_told form words) ∷ events) (λ i. Shown form words ∷ notices i)
+  published :
+      {events : List Event} {notices : Number → List Notice} (text : List ℕ) (form : Form) (words : List ℕ) → Tells events notices
+      → Tells (Publish text (elements_told form words) ∷ events) (λ i. Published text form words ∷ notices i)
+  handed :
+      {events : List Event} {notices : Number → List Notice} (text : List ℕ) (form : Form) (words : List ℕ) (shares : Number → List ℕ)
+      → AreShares (ring_told form) words shares → Tells events notices
+      → Tells (Publish text (elements_told form words) ∷ events) (λ i. Handed text form (shares i) ∷ notices i)
