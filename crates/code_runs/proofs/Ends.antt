@@ -1,8 +1,6 @@
 -- The run in the clear, step by step, is the run that its meaning reports.
-use Rattle.std.proofs.Common.{◌≡◌, ℕ, zero, suc, List, [], ◌∷◌, ◌++◌, Option, Some, None, Ok, Err, refl, sym, ap, ◌∙◌, subst, append_assoc}
-use Rattle.std.specs.List.{slice_get}
+use Rattle.std.proofs.Common.{◌≡◌, ℕ, zero, suc, List, [], ◌++◌, Option, Some, None, Ok, Err, refl, sym, ap, ◌∙◌, subst, append_assoc}
 use Rattle.sc_text.specs.declared.end.Ending.{Ending}
-use Rattle.gates.specs.declared.gate.Gate.{Gate}
 use Rattle.shared_gates.specs.Shares.{Kind}
 use Rattle.language_model.specs.Effects.{World, Clear, Stage, Stop, Ended, Short, Run}
 use Rattle.language_model.specs.Reports.{Offered, world_of}
@@ -12,12 +10,12 @@ use Rattle.verified_code.specs.Steps.{Function}
 use Rattle.code_model.specs.Machine.{Machine, step, further, exec}
 use Rattle.gate_laws.specs.Facts.{none_of, Dealt, IsAt}
 use Rattle.gate_laws.specs.Laws.{MayRun}
-use Rattle.driven_nodes.specs.Steps.{Went, On, Over, Wants, Stand, Stopped, gained}
+use Rattle.driven_nodes.specs.Steps.{Stopped}
 use Rattle.driven_nodes.specs.Twins.{gates_by, gates_of, stand_by, stand_after, TwinBy}
 use Rattle.code_places.specs.Places.{Place, place, stopped, went, next_step}
 use Rattle.code_places.specs.Twins.{GoAlike, EndAlike}
 use Rattle.code_places.specs.Laws.{in_the_clear, when_told, CodeHasTwins}
-use Rattle.code_runs.proofs.Stays.{untold, Stays, Along, Final, After, none_left, same_step, after_step}
+use Rattle.code_runs.proofs.Stays.{untold, Stays, After, none_left, same_step, after_step}
 use Rattle.code_runs.proofs.Shown.{gained_more}
 
 pub none_some : {A : Type 0} {a : A} → ◌≡◌ {A = Option A} None (Some a) → ⊥

@@ -7,3 +7,4 @@ pub mod Ends
 pub mod Notices
 pub mod Tellings
 pub mod Miners
+pub mod Samples

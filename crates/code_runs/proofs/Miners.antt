@@ -1,11 +1,10 @@
 -- Three miners that run code do what its run in the clear reports.
-use Rattle.std.proofs.Common.{◌≡◌, ℕ, ◌-◌, List, [], ◌∷◌, ◌++◌, length, Option, Some, None, Bool, true, false, refl, sym, ap, ◌∙◌, subst, arith}
-use Rattle.std.specs.Prelude.{nat_le, if◌then◌else◌}
+use Rattle.std.proofs.Common.{◌≡◌, ℕ, ◌-◌, List, [], Option, Some, refl, sym, ap, ◌∙◌, subst, arith}
+use Rattle.std.specs.Prelude.{if◌then◌else◌}
 use Rattle.std.specs.List.{slice_get}
 use Rattle.proto_core.specs.declared.party.Number.{Number}
 use Rattle.proto_core.specs.declared.party.Number.TheVariants.{One, Two, Three}
 use Rattle.proto_core.specs.declared.link.Link.{Link}
-use Rattle.proto_core.specs.Lists.{AreWords}
 use Rattle.proto_core.specs.Strand.{Strand, told_in}
 use Rattle.proto_core.specs.Net.{nothing, run_of, opened_by, Finishes}
 use Rattle.protocol_model.specs.Network.{Accepted, Default, Delivery, Shuffled, net, order_of, walked}
@@ -14,13 +13,12 @@ use Rattle.protocol_model.specs.Gates.{sizes_of, AreSound, AreSilent, gates_scri
 use Rattle.protocol_model.specs.Gates as model
 use Rattle.protocol_model.specs.Runs.{Tapes, Ready, run_messages, run_values, run_opened}
 use Rattle.protocol_model.specs.Schedules.{AnyOrder}
-use Rattle.gates.specs.declared.gate.Gate.{Gate}
 use Rattle.shared_gates.specs.Model.{miner_of}
 use Rattle.shared_gates.proofs.Models.{gates-sound}
 use Rattle.shared_gates.proofs.Silence.{gates-silent}
 use Rattle.blind_evaluation.specs.Courses.{LikeEvents}
-use Rattle.language_model.specs.Effects.{World, Clear, Stage, Stop, Ended, words_each}
-use Rattle.language_model.specs.Reports.{Report, Offered, world_of, beginning, reported, dealing, not_dealt}
+use Rattle.language_model.specs.Effects.{World, Clear, Stage, Stop, words_each}
+use Rattle.language_model.specs.Reports.{Report, Offered, world_of, beginning, reported, not_dealt}
 use Rattle.code_model.specs.Machine.{start, exec}
 use Rattle.code_model.specs.Meaning.{fuel, stopped_or, report_at, mean}
 use Rattle.code_model.proofs.Ends.{starts}
@@ -140,8 +138,8 @@ module _ (o : Offered) (d : Dealt) (c : List Function) (budget : ℕ) (tapes : T
 
   pub same : SameRunAs (in_the_clear o c) (when_told o c) (run_dealt d) GoAlike EndAlike (fuel c budget) first first (λ i. []) tapes
   same =
-      nodes_run_the_gates (in_the_clear o c) (when_told o c) (run_dealt d) GoAlike EndAlike (run_dealt_joins d) twins (fuel c budget) first first (λ i. []) tapes
-      alike read
+      nodes_run_the_gates (in_the_clear o c) (when_told o c) (run_dealt d) GoAlike EndAlike (run_dealt_joins d) twins (fuel c budget) first first (λ i. [])
+      tapes alike read
 
   stopped_beside :
       (last : Place) (stand : Stand Place) → StandAlike (in_the_clear o c) (when_told o c) GoAlike EndAlike (Stopped last) stand
@@ -237,25 +235,33 @@ module _ (o : Offered) (d : Dealt) (c : List Function) (budget : ℕ) (tapes : T
   path_silent : AreSilent (path next (fuel c budget) (Running first) (λ i. []) tapes)
   path_silent = subst AreSilent (sym whole_path) (gates-silent d.shares (sizes_of d.inputs) [] (report).gates)
 
-  pub notices_are : (i : Number) → told_in (run_of nodes (run_messages gates (λ i. []) tapes) i).acts ≡ notices next (fuel c budget) i (Running first) (λ i. []) tapes
+  pub notices_are :
+      (i : Number)
+      → told_in (run_of nodes (run_messages gates (λ i. []) tapes) i).acts ≡ notices next (fuel c budget) i (Running first) (λ i. []) tapes
   notices_are i =
       subst (λ g. told_in (run_of nodes (run_messages g (λ i. []) tapes) i).acts ≡ notices next (fuel c budget) i (Running first) (λ i. []) tapes) whole_path
       (driven_notices next (fuel c budget) (Running first) (λ i. []) tapes path_sound path_ready (same).led path_silent i)
 
-  pub tellings_of : Tells (report).events (λ i. told_in (run_of nodes (run_messages gates (λ i. []) tapes) i).acts)
-  tellings_of =
-      let whole = tellings o d c tapes may.words may.long may.code twins (fuel c budget) first first stays_first alike (λ i. []) tapes refl refl end (stopped).1 in
-      subst (λ es. Tells es (λ i. told_in (run_of nodes (run_messages gates (λ i. []) tapes) i).acts)) (sym whole.all)
-      (retold (λ i. sym (notices_are i)) whole.told)
+  pub tell_the_events : Tells (report).events (λ i. notices next (fuel c budget) i (Running first) (λ i. []) tapes)
+  tell_the_events =
+      let whole =
+      tellings o d c tapes may.words may.long may.code twins (fuel c budget) first first stays_first alike (λ i. []) tapes refl refl end (stopped).1 in
+      subst (λ es. Tells es (λ i. notices next (fuel c budget) i (Running first) (λ i. []) tapes)) (sym whole.all) whole.told
 
-  as_reported : RunAsReported o d c budget tapes report
+  pub as_reported : RunAsReported o d c budget tapes report
   as_reported =
       record {
-        last = (beside).0;
+        turns = record {
+          gates = whole_path;
+          ready = ready_gates;
+          last = (beside).0;
+          end = (beside).1;
+          stops = stops;
+          told = tell_the_events;
+        };
         finishes = finish;
-        stops = stops;
         opened = open_the_words;
-        told = tellings_of;
+        told = retold (λ i. sym (notices_are i)) tell_the_events;
         counted = deliveries_are_counted;
         in_order = default_is_accepted;
         shuffled = shuffles_are_accepted;

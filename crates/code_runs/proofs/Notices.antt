@@ -1,5 +1,5 @@
 -- What the miners tell at each step is what the run in the clear tells.
-use Rattle.std.proofs.Common.{◌≡◌, ℕ, zero, suc, ◌+◌, ◌-◌, ◌<◌, ◌≤◌, List, [], ◌∷◌, ◌++◌, length, map, drop, Option, Some, None, Ok, Err, refl, sym, ap, ◌∙◌, subst}
+use Rattle.std.proofs.Common.{◌≡◌, ℕ, ◌+◌, ◌<◌, ◌%◌, List, [], ◌∷◌, ◌++◌, length, map, Option, Some, None, refl, sym, ap, ◌∙◌, subst}
 use Rattle.std.proofs.Common.{arith, append_assoc, append-nil, length-append, length-drop, zero-add}
 use Rattle.std.proofs.Math.ListN.{drop_of_length-le}
 use Rattle.std.proofs.lemmas.List.Elements.{length_all_zip}
@@ -11,33 +11,33 @@ use Rattle.sc_text.specs.declared.event.Event.{Event}
 use Rattle.sc_text.specs.declared.event.Event.TheVariants as event
 use Rattle.proto_core.specs.declared.party.Number.{Number}
 use Rattle.proto_core.specs.Lists.{AreWords}
-use Rattle.proto_core.specs.Strand.{Form, Notice, Shown, Published, Handed}
+use Rattle.proto_core.specs.Strand.{Notice, Shown, Published, Handed}
 use Rattle.protocol_model.specs.Runs.{Tapes}
 use Rattle.gates.specs.declared.gate.Gate.{Gate}
-use Rattle.gates.specs.declared.gate.Gate.TheVariants.{Const, Result}
+use Rattle.gates.specs.declared.gate.Gate.TheVariants.{Result}
 use Rattle.gates.specs.Clear.{Values, value, ring_of, FitFrom}
 use Rattle.gates.specs.Counts.{made_by_all}
 use Rattle.gates.proofs.Sizes.{FitFrom-append}
 use Rattle.gates.proofs.Columns.{stands}
-use Rattle.shared_gates.specs.Shares.{AreShares, Shared, Holds, share_at}
+use Rattle.shared_gates.specs.Shares.{AreShares, Holds, share_at}
 use Rattle.shared_gates.specs.Model.{miner_of}
 use Rattle.shared_plans.specs.GateRuns.{end_shares}
-use Rattle.language_model.specs.Effects.{World, Clear, Stage}
+use Rattle.language_model.specs.Effects.{Clear, Stage}
 use Rattle.language_model.specs.Reports.{Offered, world_of}
 use Rattle.language_model.specs.Values.{Secrecy, Plain, Private, Value, plain, ring_for, element_of, elements_of}
 use Rattle.blind_evaluation.specs.Courses.{LikeEvent}
 use Rattle.typed_tree.specs.declared.kinds.Shape.{Shape}
 use Rattle.verified_code.specs.Steps.{Step, Declassify, Publish, Function}
-use Rattle.code_model.specs.Machine.{Machine}
-use Rattle.gate_laws.specs.Facts.{none_of, drawn_by, Stands, AllStand, fact_from, Dealt, run_at, IsAt}
-use Rattle.gate_laws.specs.Machines.{MachineStands}
+use Rattle.language_model.specs.Operations.{read_answer}
+use Rattle.gate_laws.proofs.Ranges.{map_itself}
+use Rattle.gate_laws.specs.Facts.{InRange, drawn_by, AllStand, fact_from, Dealt, run_at}
 use Rattle.driven_nodes.specs.Steps.{gained, last_of}
-use Rattle.code_places.specs.Places.{Place, next_step, field_of, form_of, publishing, told_by, where_made, notices_between, run_dealt}
-use Rattle.code_places.specs.Twins.{LikeValue, LikeWords, LikeStage, LikeMachine}
-use Rattle.code_runs.specs.Telling.{type_of, elements_told, ring_told, Tells}
+use Rattle.code_places.specs.Places.{Place, next_step, field_of, form_of, publishing, told_by, where_made, notices_between}
+use Rattle.code_places.specs.Twins.{LikeWords, LikeStage, LikeMachine}
+use Rattle.code_runs.specs.Telling.{type_of, elements_told, ring_told, AreOf, Tells}
 use Rattle.code_runs.specs.Telling as tells
-use Rattle.code_runs.proofs.Told.{TellsNothing, Opening, was_open, opens, NumberFor, Numbered, Publishing, ToldBy}
-use Rattle.code_runs.proofs.Stays.{Stays, Along, Final}
+use Rattle.code_runs.proofs.Told.{TellsNothing, Opening, was_open, opens, NumberFor, Publishing, ToldBy}
+use Rattle.code_runs.proofs.Stays.{Stays, Along}
 use Rattle.code_runs.proofs.Values.{computed, last_value, last_held, last_kinded, last_made}
 use Rattle.code_runs.proofs.Shown.{behind, gained_more}
 
@@ -49,6 +49,14 @@ type_same datatype.Bool = refl
 
 told_same : (shape : Shape) (words : List ℕ) → elements_told (form_of shape) words ≡ map (element_of shape.element) words
 told_same shape words = ap (λ e. map (element_of e) words) (type_same shape.element)
+
+of_form : (shape : Shape) (words : List ℕ) → InRange shape.element words → AreOf (form_of shape) words
+of_form shape words h = subst (λ e. InRange e words) (sym (type_same shape.element)) h
+
+-- a truth value that is opened is read as it is
+read_same : (e : DataType) (words : List ℕ) → InRange e words → read_answer e words ≡ words
+read_same Uint64 words h = refl
+read_same datatype.Bool words h = map_itself 2 (λ x. x % 2) words (λ x lt. omega (arith, lt)) h
 
 pub retold : {events : List Event} {ns ms : Number → List Notice} → ((i : Number) → ns i ≡ ms i) → Tells events ns → Tells events ms
 retold {events = events} h t = subst (Tells events) (λ e. λ i. h i e) t
@@ -113,7 +121,8 @@ module _ (o : Offered) (d : Dealt) (c : List Function) (tapes : Tapes) (words : 
       number_words (Some k) e h = ap (value values) h.1 ∙ named_words k e
       number_words None e h =
           let here : number ≡ 0 + made_by_all p.stage.gates = h.1 ∙ st.stage.made ∙ sym (zero-add (made_by_all p.stage.gates)) in
-          let first = subst (λ z. FitFrom d.inputs values (0 + made_by_all p.stage.gates) (z ++ Result (ring_for v.shape.element) number ∷ [])) h.0 (whole_fit).1 in
+          let start = 0 + made_by_all p.stage.gates in
+          let first = subst (λ z. FitFrom d.inputs values start (z ++ Result (ring_for v.shape.element) number ∷ [])) h.0 (whole_fit).1 in
           ap (value values) here ∙ stands values (0 + made_by_all p.stage.gates) first.1
 
       abbrev front : List Gate
@@ -179,8 +188,10 @@ module _ (o : Offered) (d : Dealt) (c : List Function) (tapes : Tapes) (words : 
 
     shows : (to r : ℕ) → next_step p.machine ≡ Some (Declassify to r) → Opening (p.machine.registers r) p.stage q.stage → StepTells
     shows to r n (was_open h) = quiet h
-    shows to r n (opens words before ring k opened events answers gates none) =
+    shows to r n (opens words before ring k read opened events answers gates none) =
         let v = p.machine.registers r in
+        let range = (st.stands.registers r).1.range in
+        let whole : words ≡ v.words = read ∙ read_same v.shape.element v.words range in
         one (event.Open (elements_of (plain v.shape words))) (λ i. Shown (form_of v.shape) words) events
         (λ i.
         ap (λ z. told_by z b.machine (gained b.stage.opened a.stage.opened) (last_of (behind d tapes q.stage.gates i))) (same_next ∙ n)
@@ -189,7 +200,7 @@ module _ (o : Offered) (d : Dealt) (c : List Function) (tapes : Tapes) (words : 
         (same_gained p.stage q.stage b.stage a.stage stages later ∙ gained_more p.stage.opened words q.stage.opened opened))
         (λ rest notices t.
         subst (λ z. Tells (event.Open z ∷ rest) (λ i. Shown (form_of v.shape) words ∷ notices i)) (told_same v.shape words)
-        (tells.opened (form_of v.shape) words t))
+        (tells.opened (form_of v.shape) words (of_form v.shape words (subst (InRange v.shape.element) (sym whole) range)) t))
 
     shared_words : (r : ℕ) (x : Secrecy) → (p.machine.registers r).secrecy ≡ x → LikeWords x (p.machine.registers r).words (b.machine.registers r).words
     shared_words r x e = subst (λ z. LikeWords z (p.machine.registers r).words (b.machine.registers r).words) e (machines.registers r).words
@@ -208,7 +219,7 @@ module _ (o : Offered) (d : Dealt) (c : List Function) (tapes : Tapes) (words : 
         ∙ ap (λ z. Published text (form_of v.shape) z ∷ []) (sym (shared_words r Plain e)))
         (λ rest notices t.
         subst (λ z. Tells (event.Publish text z ∷ rest) (λ i. Published text (form_of v.shape) v.words ∷ notices i)) (told_same v.shape v.words)
-        (tells.published text (form_of v.shape) v.words t))
+        (tells.published text (form_of v.shape) v.words (of_form v.shape v.words (st.stands.registers r).1.range) t))
     hands text r n h (Private j) e =
         let v = p.machine.registers r in
         let made = h.handed j e in
@@ -222,7 +233,7 @@ module _ (o : Offered) (d : Dealt) (c : List Function) (tapes : Tapes) (words : 
         ∙ ap (λ z. Handed text (form_of z) (shares i) ∷ []) (sym (machines.registers r).shape))
         (λ rest notices t.
         subst (λ z. Tells (event.Publish text z ∷ rest) (λ i. Handed text (form_of v.shape) (shares i) ∷ notices i)) (told_same v.shape v.words)
-        (tells.handed text (form_of v.shape) v.words shares
+        (tells.handed text (form_of v.shape) v.words shares (of_form v.shape v.words (st.stands.registers r).1.range)
         (subst (λ z. AreShares (ring_of (ring_for z)) v.words shares) (sym (type_same v.shape.element)) held) t))
 
     by_step : (n : Option Step) → next_step p.machine ≡ n → ToldBy n p.machine p.stage q.stage → StepTells

@@ -1,9 +1,9 @@
 -- No step draws more words than the tapes have.
-use Rattle.std.proofs.Common.{◌≡◌, ℕ, List, [], ◌∷◌, Option, Some, None}
+use Rattle.std.proofs.Common.{List, [], ◌∷◌, Option, Some, None}
 use Rattle.std.specs.Prelude.{length, map, sum, nat_lt}
 use Rattle.sc_text.specs.declared.end.Ending.TheVariants as ending
 use Rattle.sc_text.specs.declared.end.TrapKind.TheVariants as trap
-use Rattle.language_model.specs.Effects.{World, ◌>>=◌}
+use Rattle.language_model.specs.Effects.{World}
 use Rattle.language_model.specs.Values.{Value, size}
 use Rattle.language_model.specs.Evaluation.{nothing, array_elements, input_named}
 use Rattle.language_model.proofs.Walk as walk

@@ -1,5 +1,5 @@
 -- At each step of the run in the clear that opens words, the three miners have them as their last value.
-use Rattle.std.proofs.Common.{◌≡◌, ◌≢◌, ℕ, zero, suc, ◌+◌, List, [], ◌∷◌, ◌++◌, length, drop, Option, Some, None, refl, sym, ap, ◌∙◌, subst, append_assoc, ◌⊎◌, inl, inr}
+use Rattle.std.proofs.Common.{◌≡◌, ◌≢◌, ℕ, zero, suc, List, [], ◌∷◌, ◌++◌, length, drop, Option, Some, refl, sym, ap, ◌∙◌, subst, append_assoc, ◌⊎◌, inl, inr}
 use Rattle.std.proofs.Common.{append-nil}
 use Rattle.std.proofs.lemmas.List.{drop-drop, append_cancel_left}
 use Rattle.std.proofs.Math.Seq.{drop-append_seam, drop-length}
@@ -12,11 +12,11 @@ use Rattle.gates.specs.declared.gate.Gate.{Gate}
 use Rattle.gates.specs.declared.gate.Gate.TheVariants.{Open}
 use Rattle.gates.specs.Clear.{Values, value, FitFrom}
 use Rattle.gates.proofs.Sizes.{FitFrom-append}
-use Rattle.shared_gates.specs.Model.{miner_of, run_gates, sizes_after}
+use Rattle.shared_gates.specs.Model.{miner_of}
 use Rattle.shared_gates.specs.Computed.{opened_values}
-use Rattle.shared_plans.proofs.GateLists.{gates-then, sizes-then}
+use Rattle.shared_plans.proofs.GateLists.{gates-then}
 use Rattle.shared_plans.proofs.RunLists.{needed-then}
-use Rattle.language_model.specs.Effects.{World, Clear, Stage}
+use Rattle.language_model.specs.Effects.{Clear, Stage}
 use Rattle.language_model.specs.Reports.{Offered, world_of}
 use Rattle.verified_code.specs.Steps.{Step, Declassify, Publish, Function}
 use Rattle.code_model.specs.Machine.{Machine}
@@ -72,7 +72,7 @@ record Last (s u : Stage) : Type 0 where
 -- a step that opens words does so by its last gate
 opens_last : (i : Option Step) (m : Machine) (s u : Stage) → ToldBy i m s u → (u.opened ≡ s.opened) ⊎ Last s u
 opens_last (Some (Declassify d r)) m s u (was_open h) = inl h.opened
-opens_last (Some (Declassify d r)) m s u (opens words before ring k o e a g none) =
+opens_last (Some (Declassify d r)) m s u (opens words before ring k read o e a g none) =
     inr (record { words = words; before = before; ring = ring; number = k; opened = o; gates = g; none = none })
 opens_last (Some (Publish text r)) m s u h = inl h.opened
 opens_last i m s u h = inl h.opened

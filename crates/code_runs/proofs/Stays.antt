@@ -1,10 +1,8 @@
 -- Where the run in the clear stands, from step to step.
-use Rattle.std.proofs.Common.{◌≡◌, ℕ, List, [], ◌∷◌, ◌++◌, Option, Some, None, Ok, Err, refl, sym, ap, ◌∙◌, subst}
-use Rattle.std.specs.List.{slice_get}
+use Rattle.std.proofs.Common.{◌≡◌, List, [], ◌++◌, Option, Some, Ok, Err, refl, sym, ap, ◌∙◌, subst}
 use Rattle.proto_core.specs.Lists.{AreWords}
 use Rattle.protocol_model.proofs.Sizes.{past_end}
 use Rattle.gates.specs.declared.gate.Gate.{Gate}
-use Rattle.gates.specs.Counts.{Miner}
 use Rattle.shared_gates.specs.Shares.{Kind}
 use Rattle.language_model.specs.Effects.{World, Clear, Stage, Stop, Ended, Short, Run}
 use Rattle.language_model.specs.Reports.{Offered, world_of}
@@ -21,7 +19,7 @@ use Rattle.gate_laws.specs.Machines.{MachineStands, ArrivesAt}
 use Rattle.gate_laws.specs.Laws.{MayRun}
 use Rattle.gate_laws.proofs.Walks.{keep_standing}
 use Rattle.driven_nodes.specs.Steps.{Went, On, Over, Wants}
-use Rattle.code_places.specs.Places.{Place, telling_stage, place, stopped, went, next_step}
+use Rattle.code_places.specs.Places.{Place, telling_stage, stopped, went, next_step}
 use Rattle.code_places.specs.Laws.{in_the_clear}
 use Rattle.code_runs.proofs.Told.{TellsNothing, was_open, opens, EndsWith, ToldBy, told_at}
 use Rattle.code_runs.proofs.Onwards.{step_onward}
@@ -35,7 +33,7 @@ untold s e = ap (λ a. record s { answers = a }) (sym e)
 
 answers_same : (i : Option Step) (m : Machine) (s u : Stage) → ToldBy i m s u → u.answers ≡ s.answers
 answers_same (Some (Declassify d r)) m s u (was_open h) = h.answers
-answers_same (Some (Declassify d r)) m s u (opens words before ring k o e a g none) = a
+answers_same (Some (Declassify d r)) m s u (opens words before ring k read o e a g none) = a
 answers_same (Some (Publish text r)) m s u h = h.answers
 answers_same i m s u h = h.answers
 

@@ -1,5 +1,5 @@
 -- The notices of a run, turn by turn, tell the events of the run in the clear.
-use Rattle.std.proofs.Common.{◌≡◌, ◌≢◌, ℕ, zero, suc, List, [], ◌∷◌, ◌++◌, length, drop, Option, Some, None, Ok, Err, refl, sym, ap, ◌∙◌, subst, append_assoc, append-nil}
+use Rattle.std.proofs.Common.{◌≡◌, ℕ, zero, suc, List, [], ◌++◌, length, drop, Option, Some, None, Ok, Err, refl, sym, ap, ◌∙◌, subst, append_assoc, append-nil}
 use Rattle.sc_text.specs.declared.event.Event.{Event}
 use Rattle.proto_core.specs.declared.party.Number.{Number}
 use Rattle.proto_core.specs.declared.party.Number.TheVariants.{One}
@@ -8,7 +8,6 @@ use Rattle.proto_core.specs.Strand.{Notice}
 use Rattle.protocol_model.specs.Gates.{needed}
 use Rattle.protocol_model.specs.Gates as model
 use Rattle.protocol_model.specs.Runs.{Shares, Tapes, run_values}
-use Rattle.gates.specs.declared.gate.Gate.{Gate}
 use Rattle.shared_gates.specs.Model.{miner_of}
 use Rattle.language_model.specs.Effects.{World, Clear, Stage, Stop, Ended, Run}
 use Rattle.language_model.specs.Effects as effects
@@ -18,9 +17,9 @@ use Rattle.verified_code.specs.Steps.{Function}
 use Rattle.code_model.specs.Machine.{Machine, step, further, exec}
 use Rattle.gate_laws.specs.Facts.{drawn_by, Dealt}
 use Rattle.gate_laws.specs.Laws.{MayRun}
-use Rattle.driven_nodes.specs.Driven.{Turn, of_turn, shares_behind, tapes_behind, place_behind, notices}
-use Rattle.driven_nodes.specs.Steps.{Went, On, Over, Wants, place_of, Stand, Running, Stopped, gained, last_of, stand_of, turn_of, next_turn}
-use Rattle.driven_nodes.specs.Twins.{shown, Follows, untold, told, TwinBy, Twins}
+use Rattle.driven_nodes.specs.Driven.{Turn, shares_behind, tapes_behind, place_behind, notices}
+use Rattle.driven_nodes.specs.Steps.{On, Over, place_of, Stand, Running, Stopped, gained, last_of, stand_of, turn_of, next_turn}
+use Rattle.driven_nodes.specs.Twins.{shown, Follows, untold, told, TwinBy}
 use Rattle.code_places.specs.Places.{Place, place, stopped, went, next_step, notices_between, run_dealt}
 use Rattle.code_places.specs.Twins.{GoAlike, EndAlike}
 use Rattle.code_places.specs.Laws.{in_the_clear, when_told, CodeHasTwins}
@@ -65,8 +64,8 @@ module _ (o : Offered) (d : Dealt) (c : List Function) (tapes : Tapes) (words : 
 
   -- ---- A STEP THAT GOES ON
 
-  module _ (fuel : ℕ) (p b q a : Place) (st : Stays o d c p) (alike : GoAlike p b) (along : Along o d c p q) (later : GoAlike q a) (values : Shares) (ts : Tapes)
-      (e : values ≡ behind d tapes p.stage.gates) (f : ts ≡ left_behind d tapes p.stage.gates) where
+  module _ (fuel : ℕ) (p b q a : Place) (st : Stays o d c p) (alike : GoAlike p b) (along : Along o d c p q) (later : GoAlike q a) (values : Shares)
+      (ts : Tapes) (e : values ≡ behind d tapes p.stage.gates) (f : ts ≡ left_behind d tapes p.stage.gates) where
     abbrev g : List model.Gate
     g = run_dealt d p.stage.gates (gained p.stage.gates q.stage.gates)
 
@@ -129,8 +128,9 @@ module _ (o : Offered) (d : Dealt) (c : List Function) (tapes : Tapes) (words : 
       nothing_told : (q a : Place) → Final o d c p q → EndAlike q a → (when_told o c).step b [] ≡ Over a
           → (i : Number) → [] ≡ notices next (suc fuel) i (Running b) values ts
       nothing_told q a final ended s i =
+          let last = turn_of (when_told o c) (run_dealt d) b (Over a) in
           sym (ap (λ z. by_turn fuel values ts (turn_of (when_told o c) (run_dealt d) b z) i) s
-          ∙ ap (λ z. z ++ notices next fuel i (Stopped a) (shares_behind (turn_of (when_told o c) (run_dealt d) b (Over a)) values ts) (tapes_behind (turn_of (when_told o c) (run_dealt d) b (Over a)) ts))
+          ∙ ap (λ z. z ++ notices next fuel i (Stopped a) (shares_behind last values ts) (tapes_behind last ts))
           (none_made p.stage q.stage b.stage a.stage alike.stage ended.stage final.told.events _)
           ∙ stopped_notices fuel i a _ _)
 
@@ -154,6 +154,7 @@ module _ (o : Offered) (d : Dealt) (c : List Function) (tapes : Tapes) (words : 
       by_run (Ok y) none along twin h later =
           let q = place None y.0 y.1 in
           let a = twin.0 in
+          let between = run_dealt d p.stage.gates (gained p.stage.gates q.stage.gates) in
           let now = values_behind o d c tapes words long p q along values ts e f in
           let left = tapes_left o d c tapes words long p q along values ts e f in
           let rest = later q a along.stays twin.1 _ _ now left x (ap (exec w c fuel y.0) (untold_same y.1 none) ∙ h) in
@@ -166,7 +167,7 @@ module _ (o : Offered) (d : Dealt) (c : List Function) (tapes : Tapes) (words : 
                 ap
                 (λ v.
                 notices_between b a (v i)
-                ++ notices next fuel i (Running a) (run_values (run_dealt d p.stage.gates (gained p.stage.gates q.stage.gates)) values ts) (λ j. drop (needed (run_dealt d p.stage.gates (gained p.stage.gates q.stage.gates)) j) (ts j)))
+                ++ notices next fuel i (Running a) (run_values between values ts) (λ j. drop (needed between j) (ts j)))
                 (sym now)
                 ∙ sym (turned fuel values ts _ _ _ _ (follows fuel p b q a st alike along twin.1 values ts e f twin.3) i))
                 (here.told rest.events _ rest.told);

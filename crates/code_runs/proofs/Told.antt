@@ -2,7 +2,6 @@
 use Rattle.std.proofs.Common.{◌≡◌, ℕ, ◌+◌, List, [], ◌∷◌, ◌++◌, Option, Some, None, Ok, Err, Bool, true, false, cond, refl, sym, ap, ◌∙◌, subst}
 use Rattle.std.proofs.Common.{append_assoc}
 use Rattle.std.specs.Prelude.{◌-◌, length, map, sum, nat_le, nat_lt}
-use Rattle.std.specs.List.{slice_get}
 use Rattle.sc_text.specs.declared.end.Ending.TheVariants.{Budget, Tape}
 use Rattle.sc_text.specs.declared.end.Ending.TheVariants as ending
 use Rattle.sc_text.specs.declared.end.TrapKind.TheVariants as trap
@@ -14,7 +13,8 @@ use Rattle.gates.specs.declared.gate.Gate.{Gate}
 use Rattle.gates.specs.declared.gate.Gate.TheVariants.{Const, Open, Result}
 use Rattle.gates.specs.Clear.{Values}
 use Rattle.shared_gates.specs.Computed.{opened_values}
-use Rattle.language_model.specs.Effects.{Words, World, Clear, Stage, Stop, Ended, Run, Effect, ◌>>=◌, carry, done, charge, fits, drawn_yet, take_words, draw, gate, emit}
+use Rattle.language_model.specs.Effects.{Words, World, Clear, Stage, Stop, Ended, Run, Effect, ◌>>=◌, carry, done, charge, fits, drawn_yet, take_words, draw}
+use Rattle.language_model.specs.Effects.{gate, emit}
 use Rattle.language_model.specs.Effects.{words_each, with_more}
 use Rattle.language_model.specs.Values.{Secrecy, Plain, Private, Value, plain, size, ring_for, elements_of}
 use Rattle.language_model.specs.Operations.{charged, no_traps, number_from, read_answer, revealed, opened_from, declassified, handed_over, published}
@@ -42,7 +42,7 @@ same_told s u o e a = record { opened = o; events = e; answers = a }
 pub data Opening (v : Value) (s u : Stage) : Type 0 where
   was_open : TellsNothing s u → Opening v s u
   opens :
-      (words : List ℕ) (before : List Gate) (ring : RingKind) (k : ℕ) → u.opened ≡ s.opened ++ words
+      (words : List ℕ) (before : List Gate) (ring : RingKind) (k : ℕ) → words ≡ read_answer v.shape.element v.words → u.opened ≡ s.opened ++ words
       → u.events ≡ s.events ++ event.Open (elements_of (plain v.shape words)) ∷ [] → u.answers ≡ s.answers
       → u.gates ≡ s.gates ++ (before ++ Open ring k ∷ []) → ((values : Values) → opened_values values before ≡ [])
       → Opening v s u
@@ -163,13 +163,18 @@ module _ (o : Offered) (v : Value) (s : Stage) where
 
   module _ (l : ℕ) (n : Words) where
     revealed_tells : (a : Secrecy) → EndsWith (Opening v s) s ((number_from a v.words >>= λ u. gate (Open ring u) >>= λ _. revealed w v) (paid l n s))
-    revealed_tells (Private (Some k)) = opens (read_answer v.shape.element v.words) [] ring k refl refl refl refl (λ values. refl)
+    revealed_tells (Private (Some k)) = opens (read_answer v.shape.element v.words) [] ring k refl refl refl refl refl (λ values. refl)
     revealed_tells (Private None) =
-        opens (read_answer v.shape.element v.words) (Const v.words ∷ []) ring s.made refl refl refl
+        opens (read_answer v.shape.element v.words) (Const v.words ∷ []) ring s.made refl refl refl refl
         (append_assoc s.gates (Const v.words ∷ []) (Open ring s.made ∷ [])) (λ values. refl)
     revealed_tells Plain =
-        opens (read_answer v.shape.element v.words) (Const v.words ∷ []) ring s.made refl refl refl
+        opens (read_answer v.shape.element v.words) (Const v.words ∷ []) ring s.made refl refl refl refl
         (append_assoc s.gates (Const v.words ∷ []) (Open ring s.made ∷ [])) (λ values. refl)
+
+    -- with these gates, and the event told
+    abbrev behind : List ℕ → ℕ → List Gate → Stage
+    behind text made gates =
+        record s { left = l; drawn = n; made = made; gates = gates; events = s.events ++ event.Publish text (elements_of v) ∷ [] }
 
     handed_tells :
         (text : List ℕ) (a : Secrecy) → v.secrecy ≡ a
@@ -181,7 +186,7 @@ module _ (o : Offered) (v : Value) (s : Stage) where
           answers = refl;
           events = refl;
           handed = λ j f.
-              subst (λ z. Numbered v z s (record s { left = l; drawn = n; made = s.made + 1; gates = s.gates ++ Result ring k ∷ []; events = s.events ++ event.Publish text (elements_of v) ∷ [] }))
+              subst (λ z. Numbered v z s (behind text (s.made + 1) (s.gates ++ Result ring k ∷ [])))
               (same_private (Some k) j (sym e ∙ f))
               (record { before = []; number = k; number_for = (refl, refl); gates = refl });
         }
@@ -191,7 +196,7 @@ module _ (o : Offered) (v : Value) (s : Stage) where
           answers = refl;
           events = refl;
           handed = λ j f.
-              subst (λ z. Numbered v z s (record s { left = l; drawn = n; made = s.made + 1 + 1; gates = (s.gates ++ Const v.words ∷ []) ++ Result ring s.made ∷ []; events = s.events ++ event.Publish text (elements_of v) ∷ [] }))
+              subst (λ z. Numbered v z s (behind text (s.made + 1 + 1) ((s.gates ++ Const v.words ∷ []) ++ Result ring s.made ∷ [])))
               (same_private None j (sym e ∙ f))
               (record {
                 before = Const v.words ∷ [];
@@ -241,32 +246,37 @@ module _ (o : Offered) (c : List Function) (m : Machine) (s : Stage) where
   back_quiet [] v = quiet_end false ending.Done
   back_quiet (x ∷ xs) v = quiet_done false _
 
+  then_done : {A B : Type 0} {e : Effect A} (to : A → B) → Quiet false e → Quiet false (e >>= λ a. done (to a))
+  then_done to h = quiet_bind false h (λ a. quiet_done false (to a))
+
   step_tells : (i : Step) → EndsWith (ToldBy (Some i) m s) s (step (world_of Clear o) c (Some i) m s)
   step_tells (Literal d e n) = quietly (Some (Literal d e n)) (quiet_done false _)
   step_tells (Move d r) = quietly (Some (Move d r)) (quiet_done false _)
-  step_tells (Store d r) = quietly (Some (Store d r)) (quiet_bind false (untrapped_quiet false (size (m.registers r))) (λ _. quiet_done false _))
+  step_tells (Store d r) = quietly (Some (Store d r)) (then_done _ (untrapped_quiet false (size (m.registers r))))
   step_tells (Binary line op ds d a b) =
-      quietly (Some (Binary line op ds d a b)) (quiet_bind false (operated_quiet false (world_of Clear o) line op ds (m.registers a) (m.registers b)) (λ _. quiet_done false _))
-  step_tells (Not d r) = quietly (Some (Not d r)) (quiet_bind false (negated_quiet false (m.registers r)) (λ _. quiet_done false _))
-  step_tells (Cast k d r) = quietly (Some (Cast k d r)) (quiet_bind false (cast_quiet false (world_of Clear o) k (m.registers r)) (λ _. quiet_done false _))
-  step_tells (Classify d r) = quietly (Some (Classify d r)) (quiet_bind false (classified_quiet false (m.registers r)) (λ _. quiet_done false _))
-  step_tells (Fill line d n x) = quietly (Some (Fill line d n x)) (quiet_bind false (filled_quiet false line (m.registers n) (m.registers x)) (λ _. quiet_done false _))
-  step_tells (At line d a i) = quietly (Some (At line d a i)) (quiet_bind false (element_quiet false line (m.registers a) (m.registers i)) (λ _. quiet_done false _))
-  step_tells (Put line a i x) = quietly (Some (Put line a i x)) (quiet_bind false (with_element_quiet false line (m.registers a) (m.registers i) (m.registers x)) (λ _. quiet_done false _))
-  step_tells (Size d r) = quietly (Some (Size d r)) (quiet_bind false (size_quiet false (m.registers r)) (λ _. quiet_done false _))
-  step_tells (Cat line d a b) = quietly (Some (Cat line d a b)) (quiet_bind false (joined_quiet false line (m.registers a) (m.registers b)) (λ _. quiet_done false _))
-  step_tells (Sum d r) = quietly (Some (Sum d r)) (quiet_bind false (summed_quiet false (m.registers r)) (λ _. quiet_done false _))
-  step_tells (Bits line d r) = quietly (Some (Bits line d r)) (quiet_bind false (bits_quiet false (world_of Clear o) line (m.registers r)) (λ _. quiet_done false _))
-  step_tells (Declassify d r) = ends_then (Opening (m.registers r) s) s _ (declassified (world_of Clear o) (m.registers r) s) (declassified_tells o (m.registers r) s)
+      quietly (Some (Binary line op ds d a b)) (then_done _ (operated_quiet false (world_of Clear o) line op ds (m.registers a) (m.registers b)))
+  step_tells (Not d r) = quietly (Some (Not d r)) (then_done _ (negated_quiet false (m.registers r)))
+  step_tells (Cast k d r) = quietly (Some (Cast k d r)) (then_done _ (cast_quiet false (world_of Clear o) k (m.registers r)))
+  step_tells (Classify d r) = quietly (Some (Classify d r)) (then_done _ (classified_quiet false (m.registers r)))
+  step_tells (Fill line d n x) = quietly (Some (Fill line d n x)) (then_done _ (filled_quiet false line (m.registers n) (m.registers x)))
+  step_tells (At line d a i) = quietly (Some (At line d a i)) (then_done _ (element_quiet false line (m.registers a) (m.registers i)))
+  step_tells (Put line a i x) = quietly (Some (Put line a i x)) (then_done _ (with_element_quiet false line (m.registers a) (m.registers i) (m.registers x)))
+  step_tells (Size d r) = quietly (Some (Size d r)) (then_done _ (size_quiet false (m.registers r)))
+  step_tells (Cat line d a b) = quietly (Some (Cat line d a b)) (then_done _ (joined_quiet false line (m.registers a) (m.registers b)))
+  step_tells (Sum d r) = quietly (Some (Sum d r)) (then_done _ (summed_quiet false (m.registers r)))
+  step_tells (Bits line d r) = quietly (Some (Bits line d r)) (then_done _ (bits_quiet false (world_of Clear o) line (m.registers r)))
+  step_tells (Declassify d r) =
+      ends_then (Opening (m.registers r) s) s _ (declassified (world_of Clear o) (m.registers r) s) (declassified_tells o (m.registers r) s)
   step_tells (Argument line k text d) =
-      quietly (Some (Argument line k text d)) (quiet_bind false (asked_quiet false k.secret (kind_shape k) line (input_named (world_of Clear o) text)) (λ _. quiet_done false _))
+      quietly (Some (Argument line k text d)) (then_done _ (asked_quiet false k.secret (kind_shape k) line (input_named (world_of Clear o) text)))
   step_tells (Publish text r) =
       ends_then (Publishing text (m.registers r) s) s _ (published (world_of Clear o) text (m.registers r) s) (published_tells o (m.registers r) s text)
-  step_tells (Assert line r) = quietly (Some (Assert line r)) (quiet_bind false (asserted_quiet false line (m.registers r)) (λ _. quiet_done false _))
-  step_tells (Branch r b target) = quietly (Some (Branch r b target)) (quiet_bind false (tested_quiet false (m.registers r)) (λ _. quiet_done false _))
+  step_tells (Assert line r) = quietly (Some (Assert line r)) (then_done _ (asserted_quiet false line (m.registers r)))
+  step_tells (Branch r b target) = quietly (Some (Branch r b target)) (then_done _ (tested_quiet false (m.registers r)))
   step_tells (Jump target) = quietly (Some (Jump target)) (quiet_done false _)
   step_tells (Call line g d args) =
-      quietly (Some (Call line g d args)) (quiet_bind false (quiet_charge false 1) (λ _. quiet_bind false (quiet_test false (nat_lt (length m.stack) limit) trap.Depth line) (λ _.
+      quietly (Some (Call line g d args)) (quiet_bind false (quiet_charge false 1) (λ _.
+      quiet_bind false (quiet_test false (nat_lt (length m.stack) limit) trap.Depth line) (λ _.
       quiet_bind false (quiet_charge false (sum (map array_elements (values_at m.registers args)))) (λ _. quiet_done false _))))
   step_tells (Return r) = quietly (Some (Return r)) (back_quiet m.stack (m.registers r))
   step_tells ReturnNone = quietly (Some ReturnNone) (back_quiet m.stack nothing)

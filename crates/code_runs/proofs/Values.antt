@@ -1,5 +1,5 @@
 -- What the three miners hold at a stage of the run in the clear: behind an opening, as their last value, the opened words.
-use Rattle.std.proofs.Common.{◌≡◌, ℕ, ◌+◌, ◌-◌, ◌<◌, ◌≤◌, List, [], ◌∷◌, ◌++◌, length, Some, refl, sym, ap, ◌∙◌, subst, arith, zero-add}
+use Rattle.std.proofs.Common.{◌≡◌, ℕ, ◌+◌, ◌-◌, ◌≤◌, List, [], ◌∷◌, ◌++◌, length, refl, sym, ap, ◌∙◌, subst, arith, zero-add}
 use Rattle.proto_core.specs.declared.party.Number.{Number}
 use Rattle.proto_core.specs.declared.party.Number.TheVariants.{One, Two, Three}
 use Rattle.proto_core.specs.Lists.{AreWords}
@@ -12,28 +12,31 @@ use Rattle.gates.specs.Clear.{Values, value, FitFrom, Makes}
 use Rattle.gates.specs.Counts.{made_by, made_by_all}
 use Rattle.gates.proofs.Sizes.{FitFrom-append}
 use Rattle.gates.proofs.Columns.{stands}
-use Rattle.shared_gates.specs.Shares.{Kind, Known, Holds, kind_at, share_at}
+use Rattle.shared_gates.specs.Shares.{Kind, Holds, kind_at, share_at}
 use Rattle.shared_gates.specs.Kinds.{Kinded, AllKinded}
 use Rattle.shared_gates.specs.Model.{miner_of}
-use Rattle.shared_gates.specs.Computed.{opened_values, Computed}
+use Rattle.shared_gates.specs.Computed.{Computed}
 use Rattle.shared_gates.proofs.Models.{value_at-value}
-use Rattle.shared_plans.specs.GateRuns.{GateRun, value_count, model_gates, end_shares, opened_words, words_drawn}
+use Rattle.shared_plans.specs.GateRuns.{GateRun, model_gates, end_shares, opened_words, words_drawn}
 use Rattle.shared_plans.proofs.GateRunLaws.{run-goes, run-computes, run-count}
-use Rattle.language_model.specs.Effects.{World, Clear, Stage}
+use Rattle.language_model.specs.Effects.{Clear, Stage}
 use Rattle.language_model.specs.Reports.{Offered, world_of}
 use Rattle.language_model.specs.Tapes.{AtMost}
 use Rattle.gate_laws.specs.Facts.{drawn_by, none_of, Dealt, run_at, IsAt}
-use Rattle.gate_laws.proofs.Gains.{made_split, opened_split}
+use Rattle.gate_laws.proofs.Gains.{made_split}
 use Rattle.driven_nodes.specs.Steps.{last_of}
 
-kinded_behind : (dealt kinds : List Kind) (next : ℕ) (xs ys : List Gate) → AllKinded dealt kinds next (xs ++ ys) → AllKinded dealt kinds (next + made_by_all xs) ys
+kinded_behind :
+    (dealt kinds : List Kind) (next : ℕ) (xs ys : List Gate) → AllKinded dealt kinds next (xs ++ ys)
+    → AllKinded dealt kinds (next + made_by_all xs) ys
 kinded_behind dealt kinds next [] ys h = let e : next ≡ next + 0 = omega arith in subst (λ n. AllKinded dealt kinds n ys) e h
 kinded_behind dealt kinds next (g ∷ xs) ys h =
     let e : next + made_by g + made_by_all xs ≡ next + (made_by g + made_by_all xs) = omega arith in
     subst (λ n. AllKinded dealt kinds n ys) e (kinded_behind dealt kinds (next + made_by g) xs ys h.1)
 
-module _ (o : Offered) (d : Dealt) (tapes : Tapes) (words : (i : Number) → AreWords (tapes i)) (long : (i : Number) → length (tapes i) ≡ drawn_by o.lengths (miner_of i))
-    (kinds : List Kind) (s : Stage) (at : IsAt (world_of Clear o) d kinds none_of s) (fit : AtMost s.drawn o.lengths) where
+module _ (o : Offered) (d : Dealt) (tapes : Tapes) (words : (i : Number) → AreWords (tapes i))
+    (long : (i : Number) → length (tapes i) ≡ drawn_by o.lengths (miner_of i)) (kinds : List Kind) (s : Stage)
+    (at : IsAt (world_of Clear o) d kinds none_of s) (fit : AtMost s.drawn o.lengths) where
   abbrev run : GateRun
   run = run_at (world_of Clear o) d kinds s
 

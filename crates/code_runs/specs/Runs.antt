@@ -1,5 +1,5 @@
 -- Three miners that run code, beside its run in the clear.
-use Rattle.std.specs.Prelude.{◌≡◌, ℕ, ◌-◌, nat_le, true, List, [], length, Some}
+use Rattle.std.specs.Prelude.{◌≡◌, ℕ, ◌-◌, nat_le, true, List, [], length, Option, Some}
 use Rattle.std.specs.List.{slice_get}
 use Rattle.sc_text.specs.declared.end.Ending.{Ending}
 use Rattle.proto_core.specs.declared.party.Number.{Number}
@@ -10,10 +10,9 @@ use Rattle.proto_core.specs.Script.{Move}
 use Rattle.proto_core.specs.Net.{nothing, run_of, opened_by, Finishes}
 use Rattle.protocol_model.specs.Gates.{gates_script}
 use Rattle.protocol_model.specs.Gates as model
-use Rattle.protocol_model.specs.Runs.{Shares, Tapes, run_messages, run_values}
+use Rattle.protocol_model.specs.Runs.{Shares, Tapes, Ready, run_messages, run_values}
 use Rattle.protocol_model.specs.Network.{Accepted, Default, Delivery, Shuffled, net, order_of, walked}
 use Rattle.protocol_model.specs.Schedules.{AnyOrder}
-use Rattle.gates.specs.declared.gate.Gate.{Gate}
 use Rattle.shared_gates.specs.Model.{miner_of}
 use Rattle.language_model.specs.Effects.{Clear, Ended}
 use Rattle.language_model.specs.Reports.{Report, Offered, world_of, dealing}
@@ -22,7 +21,7 @@ use Rattle.verified_code.specs.Steps.{Function}
 use Rattle.code_model.specs.Meaning.{fuel, mean, AreForward}
 use Rattle.gate_laws.specs.Facts.{Dealt, drawn_by}
 use Rattle.gate_laws.specs.Laws.{MayRun, IsDealing}
-use Rattle.driven_nodes.specs.Driven.{driven_nodes}
+use Rattle.driven_nodes.specs.Driven.{Turn, path, stop, notices, driven_nodes}
 use Rattle.driven_nodes.specs.Steps.{Stand, Running, Stopped, next_turn}
 use Rattle.code_places.specs.Places.{Place, first_place, run_dealt}
 use Rattle.code_places.specs.Laws.{when_told}
@@ -30,10 +29,16 @@ use Rattle.code_runs.specs.Telling.{Tells}
 
 -- ---- THE MINERS
 
--- each takes the steps of the code without a private input, told what is opened by its own shares
+-- the code's next turn for one who has no private input, and is told what is opened by its own last value
+abbrev pub next : Offered → Dealt → List Function → Stand Place → Option (Turn (Stand Place))
+next o d c = next_turn (when_told o c) (run_dealt d)
+
+abbrev pub start : List Function → (budget : ℕ) → Stand Place
+start c budget = Running (first_place c budget)
+
+-- each takes the turns with its own tape
 abbrev pub miners : Offered → Dealt → List Function → (budget : ℕ) → Tapes → Number → Strand (Stand Place × List (List ℕ))
-miners o d c budget tapes =
-    driven_nodes (next_turn (when_told o c) (run_dealt d)) (fuel c budget) (Running (first_place c budget)) (λ i. []) tapes
+miners o d c budget tapes = driven_nodes (next o d c) (fuel c budget) (start c budget) (λ i. []) tapes
 
 -- ---- THE GATES OF A REPORT, ON WHAT IS DEALT
 
@@ -74,12 +79,20 @@ pub record StopsAs (r : Report) (budget : ℕ) (last : Place) : Type 0 where
   pub events : LikeEvents r.events last.stage.events
 
 module _ (o : Offered) (d : Dealt) (c : List Function) (budget : ℕ) (tapes : Tapes) where
-  -- they send the messages of the report's gates, and stop with their shares of all values where the report says; they open its words
-  -- and tell its events; and this under every schedule
-  pub record RunAsReported (r : Report) : Type 0 where
+  -- turn by turn they run the report's gates, for which the tapes reach, and come to where it says; they tell its events
+  pub record TurnsComeTo (r : Report) : Type 0 where
+    pub gates : path (next o d c) (fuel c budget) (start c budget) (λ i. []) tapes ≡ gates_to_run d r
+    pub ready : Ready (gates_to_run d r) (λ i. []) tapes
     pub last : Place
-    pub finishes : Finishes (miners o d c budget tapes) (messages d r tapes) (λ i. (Stopped last, shares d r tapes i))
+    pub end : stop (next o d c) (fuel c budget) (start c budget) (λ i. []) tapes ≡ Stopped last
     pub stops : StopsAs r budget last
+    pub told : Tells r.events (λ i. notices (next o d c) (fuel c budget) i (start c budget) (λ i. []) tapes)
+
+  -- they send the messages of the report's gates, and end there with their shares of all values; they open its words and tell its events;
+  -- and this under every schedule
+  pub record RunAsReported (r : Report) : Type 0 where
+    pub turns : TurnsComeTo r
+    pub finishes : Finishes (miners o d c budget tapes) (messages d r tapes) (λ i. (Stopped turns.last, shares d r tapes i))
     pub opened : (i : Number) → opened_by (miners o d c budget tapes) (messages d r tapes) i ≡ r.opened
     pub told : Tells r.events (λ i. told_in (run_of (miners o d c budget tapes) (messages d r tapes) i).acts)
     pub counted :

@@ -12,6 +12,7 @@ use Rattle.proto_core.specs.Strand.{Field, Words, Bits, Form, Notice, Shown, Pub
 use Rattle.gates.specs.Clear.{ring_of}
 use Rattle.shared_gates.specs.Shares.{AreShares}
 use Rattle.language_model.specs.Values.{ring_for, element_of}
+use Rattle.gate_laws.specs.Facts.{InRange}
 
 abbrev pub type_of : Field → DataType
 type_of Words = Uint64
@@ -24,16 +25,20 @@ elements_told form words = map (element_of (type_of form.element)) words
 abbrev pub ring_told : Form → Ring
 ring_told form = ring_of (ring_for (type_of form.element))
 
+-- numbers are words, truth values 0 or 1
+abbrev pub AreOf : Form → List ℕ → Type 0
+AreOf form words = InRange (type_of form.element) words
+
 -- one event after another: all three tell the same words, or each its share of them
 pub data Tells : List Event → (Number → List Notice) → Type 0 where
   nothing : Tells [] (λ i. [])
   opened :
-      {events : List Event} {notices : Number → List Notice} (form : Form) (words : List ℕ) → Tells events notices
+      {events : List Event} {notices : Number → List Notice} (form : Form) (words : List ℕ) → AreOf form words → Tells events notices
       → Tells (Open (elements_told form words) ∷ events) (λ i. Shown form words ∷ notices i)
   published :
-      {events : List Event} {notices : Number → List Notice} (text : List ℕ) (form : Form) (words : List ℕ) → Tells events notices
+      {events : List Event} {notices : Number → List Notice} (text : List ℕ) (form : Form) (words : List ℕ) → AreOf form words → Tells events notices
       → Tells (Publish text (elements_told form words) ∷ events) (λ i. Published text form words ∷ notices i)
   handed :
       {events : List Event} {notices : Number → List Notice} (text : List ℕ) (form : Form) (words : List ℕ) (shares : Number → List ℕ)
-      → AreShares (ring_told form) words shares → Tells events notices
+      → AreOf form words → AreShares (ring_told form) words shares → Tells events notices
       → Tells (Publish text (elements_told form words) ∷ events) (λ i. Handed text form (shares i) ∷ notices i)
