@@ -23,6 +23,10 @@ use Rattle.code_model.specs.Machine.{start, exec}
 use Rattle.code_model.specs.Meaning.{fuel, stopped_or, report_at, mean}
 use Rattle.code_model.proofs.Ends.{starts}
 use Rattle.code_model.proofs.Kept.{begins}
+use Rattle.typed_tree.specs.Programs.{TypedProgramTree}
+use Rattle.reached_instances.specs.Instances.{Instance}
+use Rattle.code_model.specs.Programs.{code_of}
+use Rattle.code_model.proofs.Means.{means}
 use Rattle.verified_code.specs.Steps.{Function}
 use Rattle.gate_laws.specs.Facts.{nothing_handed, drawn_by, none_of, Dealt, run_at, IsAt}
 use Rattle.gate_laws.proofs.Steps.{start_stands}
@@ -38,7 +42,7 @@ use Rattle.code_places.specs.Laws.{in_the_clear, when_told}
 use Rattle.code_places.proofs.Joins.{run_dealt_joins}
 use Rattle.code_places.proofs.Turns.{code_has_twins, begins_alike}
 use Rattle.code_runs.specs.Telling.{Tells}
-use Rattle.code_runs.specs.Runs.{miners, MayRunShared, StopsAs, RunAsReported, MinersRunTheCode}
+use Rattle.code_runs.specs.Runs.{miners, MayRunShared, StopsAs, RunAsReported, MinersRunTheCode, MinersRunTheProgram}
 use Rattle.code_runs.proofs.Stays.{Stays}
 use Rattle.code_runs.proofs.Values.{ready, same_opened}
 use Rattle.code_runs.proofs.Shown.{reads}
@@ -271,3 +275,9 @@ module _ (o : Offered) (d : Dealt) (c : List Function) (budget : ℕ) (tapes : T
 pub miners_run_the_code : (o : Offered) (d : Dealt) (c : List Function) (budget : ℕ) (tapes : Tapes) → MinersRunTheCode o d c budget tapes
 miners_run_the_code o d c budget tapes may =
     subst (RunAsReported o d c budget tapes) (same_report o d c budget tapes may) (as_reported o d c budget tapes may)
+
+pub miners_run_the_program :
+    (o : Offered) (d : Dealt) (p : TypedProgramTree) (is : List Instance) (budget : ℕ) (tapes : Tapes) → MinersRunTheProgram o d p is budget tapes
+miners_run_the_program o d p is budget tapes fit may =
+    subst (RunAsReported o d (code_of p is) budget tapes) (means p is fit (world_of Clear o) budget [])
+    (miners_run_the_code o d (code_of p is) budget tapes may)

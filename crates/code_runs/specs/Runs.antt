@@ -15,10 +15,14 @@ use Rattle.protocol_model.specs.Network.{Accepted, Default, Delivery, Shuffled, 
 use Rattle.protocol_model.specs.Schedules.{AnyOrder}
 use Rattle.shared_gates.specs.Model.{miner_of}
 use Rattle.language_model.specs.Effects.{Clear, Ended}
-use Rattle.language_model.specs.Reports.{Report, Offered, world_of, dealing}
+use Rattle.language_model.specs.Reports.{Report, Offered, world_of, dealing, eval}
 use Rattle.blind_evaluation.specs.Courses.{LikeEvents}
+use Rattle.typed_tree.specs.Programs.{TypedProgramTree}
+use Rattle.reached_instances.specs.Instances.{Instance}
 use Rattle.verified_code.specs.Steps.{Function}
 use Rattle.code_model.specs.Meaning.{fuel, mean, AreForward}
+use Rattle.code_model.specs.Programs.{code_of}
+use Rattle.code_model.specs.Fit.{IsFitProgram}
 use Rattle.gate_laws.specs.Facts.{Dealt, drawn_by}
 use Rattle.gate_laws.specs.Laws.{MayRun, IsDealing}
 use Rattle.driven_nodes.specs.Driven.{Turn, path, stop, notices, driven_nodes}
@@ -104,3 +108,8 @@ module _ (o : Offered) (d : Dealt) (c : List Function) (budget : ℕ) (tapes : T
 
   abbrev pub MinersRunTheCode : Type 0
   MinersRunTheCode = MayRunShared o d c tapes → RunAsReported (mean c o budget)
+
+-- where the code is that of a program, the report is that of its evaluation
+abbrev pub MinersRunTheProgram : Offered → Dealt → TypedProgramTree → List Instance → (budget : ℕ) → Tapes → Type 0
+MinersRunTheProgram o d p is budget tapes =
+    IsFitProgram p is → MayRunShared o d (code_of p is) tapes → RunAsReported o d (code_of p is) budget tapes (eval p o budget)
