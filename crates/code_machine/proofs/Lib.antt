@@ -1,0 +1,7 @@
+pub mod Frames
+pub mod Functions
+pub mod There
+pub mod Does
+pub mod Callers
+pub mod Budgets
+pub mod Turns

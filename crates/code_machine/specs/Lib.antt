@@ -1,0 +1,6 @@
+pub mod Views
+pub mod Standing
+pub mod Parts
+pub mod Changes
+pub mod Marks
+pub mod Runs

@@ -1,0 +1,29 @@
+// The words that the dealer needs.
+ghost use Rattle.std.specs.Prelude.{◌≡◌, ◌≤◌, map, sum};
+ghost use Rattle.language_model.specs.Reports.{words_dealt};
+ghost use Rattle.value_steps.specs.Views.{given_seen};
+
+use value_steps::Given;
+
+/// The words that the dealer needs for an input: two for each element of a private one.
+fn words_dealt(given: &Given) -> u128
+    ensures exact { result ≡ words_dealt (given_seen given.now) }
+    ensures few { result ≤ 2097152 }
+{
+    if given.private {
+        2 * given.words.len() as u128
+    } else {
+        0
+    }
+}
+
+/// The words that the dealer needs for all these inputs together.
+pub(crate) fn dealing(inputs: &[Given]) -> u128
+    ensures { result ≡ sum (map words_dealt (map given_seen inputs.now)) }
+{
+    let mut need = 0;
+    for given in inputs {
+        need += words_dealt(given);
+    }
+    need
+}
