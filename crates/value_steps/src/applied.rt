@@ -8,11 +8,11 @@ use typed_tree::{BinaryOperator, BoolOperator, Operands, Shape, WordOperator};
 
 /// An operator between two values.
 #[derive(Clone, Copy)]
-pub(crate) struct Applied<'v> {
-    pub(crate) operator: BinaryOperator,
-    pub(crate) operands: Operands,
-    pub(crate) left: &'v Value,
-    pub(crate) right: &'v Value,
+pub struct Applied<'v> {
+    pub operator: BinaryOperator,
+    pub operands: Operands,
+    pub left: &'v Value,
+    pub right: &'v Value,
 }
 
 impl Applied<'_> {

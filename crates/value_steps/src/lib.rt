@@ -24,6 +24,7 @@ mod telling;
 mod value;
 mod world;
 
+pub use applied::Applied;
 pub use arrays::{element_of_array, filled, joined, with_element};
 pub use classification::wanted;
 pub use conditions::{asserted, tested};
@@ -31,7 +32,7 @@ pub use halt::Halt;
 pub use inputs::asked_for;
 pub use one_operand::{bits_extracted, cast_to, negated, size_told, summed};
 pub use opening::declassified;
-pub use operators::operation;
+pub use operators::{operated, operation};
 pub use publishing::published;
 pub use stage::{Drawn, Stage};
 pub use steps::{charge, charged, test, test_at};

@@ -108,7 +108,7 @@ fn combined(
 }
 
 /// An operator between operands that are classified as they are wanted.
-fn operated(
+pub fn operated(
     alloc: Global,
     world: &World<'_>,
     stage: &mut Stage<'_>,

@@ -1,0 +1,5 @@
+pub mod Frames
+pub mod Functions
+pub mod There
+pub mod Does
+pub mod Callers

@@ -1,0 +1,5 @@
+pub mod Views
+pub mod Standing
+pub mod Parts
+pub mod Changes
+pub mod Marks

@@ -1,0 +1,45 @@
+-- What the parts of a step do to a run.
+use Rattle.std.specs.Prelude.{ℕ, ◌+◌, Bool, List, map, sum, nat_lt}
+use Rattle.sc_text.specs.declared.end.TrapKind.TheVariants as trap
+use Rattle.language_model.specs.Effects.{Effect, ◌>>=◌, done, charge, test}
+use Rattle.language_model.specs.Values.{Value, size}
+use Rattle.language_model.specs.Operations as row
+use Rattle.language_model.specs.Evaluation.{array_elements, either}
+use Rattle.code_model.specs.Machine.{Machine, at, next, limit, same_bool}
+
+-- a value is stored in a variable
+abbrev pub stored : Value → Effect Value
+stored v = do
+  _ ← row.charged row.no_traps (size v)
+  done v
+
+-- the place that an index means in an array
+abbrev pub place_in : (line : ℕ) → (array index : Value) → Effect ℕ
+place_in line v i = do
+  _ ← charge 1
+  _ ← test (nat_lt (row.position i) (size v)) trap.Index line
+  done (row.position i)
+
+-- a call, where so many calls stand in one another
+abbrev pub call_charged : (depth line : ℕ) → (arguments : List Value) → Effect (Unit {0})
+call_charged depth line xs = do
+  _ ← charge 1
+  _ ← test (nat_lt depth limit) trap.Depth line
+  charge (sum (map array_elements xs))
+
+-- a value that is made goes to a register
+abbrev pub into : ℕ → Machine → Effect Value → Effect Machine
+into d m made = do
+  v ← made
+  done (next d v m)
+
+-- all goes well, and a place comes
+abbrev pub onto : ℕ → Machine → Effect (Unit {0}) → Effect Machine
+onto place m e = do
+  _ ← e
+  done (at place m)
+
+abbrev pub branched : (condition : Value) → Bool → (target : ℕ) → Machine → Effect Machine
+branched v b target m = do
+  t ← row.tested v
+  done (at (either (same_bool t b) target (m.pc + 1)) m)

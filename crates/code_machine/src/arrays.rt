@@ -1,0 +1,75 @@
+// How an element of an array is written.
+ghost use Rattle.std.specs.Prelude.{◌≡◌, ◌<◌, IfOk, length};
+ghost use Rattle.gates.specs.Clear.{first_word};
+ghost use Rattle.language_model.specs.Operations as row;
+ghost use Rattle.language_model.specs.Values.{seen, size};
+ghost use Rattle.bytecode.specs.Raw.{RawCode};
+ghost use Rattle.value_steps.specs.Steps.{Does, itself};
+ghost use Rattle.value_steps.specs.Views.{stage_seen, value_seen};
+ghost use Rattle.code_machine.specs.Changes.{HasEnough, IsSafe, changed};
+ghost use Rattle.code_machine.specs.Parts.{into};
+ghost use Rattle.code_machine.specs.Parts as Parts;
+ghost use Rattle.code_machine.specs.Views.{machine_seen, registers_seen};
+
+use crate::change::{Change, into_register};
+use crate::machine::Machine;
+use crate::operands::array_with;
+use bytecode::Register;
+use sc_text::TrapKind;
+use std::alloc::Global;
+use value_steps::{Halt, Secrecy, Stage, Value, charge, test_at};
+
+/// The first word of a public value. A private one isn't looked at: it gives 0.
+fn seen_word(value: &Value) -> u64
+    ensures { result ≡ first_word (seen (value_seen value.now)) }
+{
+    match value.secrecy {
+        Secrecy::Plain => vector_ops::first_word(&value.words),
+        Secrecy::Private(_) => 0,
+    }
+}
+
+/// The place that an index means in an array; one beyond the array is a trap.
+fn place_in(stage: &mut Stage<'_>, line: u32, array: &Value, index: &Value) -> Result<u64, Halt>
+    ensures step { Does itself (Parts.place_in line (value_seen array.now) (value_seen index.now)) (stage_seen stage.old) result (stage_seen stage.new) }
+    ensures within { IfOk result (λ place. place < size (value_seen array.now)) }
+{
+    charge(stage, 1)?;
+    let place = seen_word(index);
+    test_at(stage, place < array.size(), TrapKind::Index, line)?;
+    Ok(place)
+}
+
+/// An element of an array is written: that of a public array in place; a private one is copied, as its gate makes all of it anew.
+pub(crate) fn put(
+    alloc: Global,
+    machine: &Machine,
+    stage: &mut Stage<'_>,
+    line: u32,
+    array: Register,
+    index: Register,
+    value: Register,
+) -> Result<Change, Halt>
+    requires array_there { array.0 < length machine.now.registers.items }
+    requires index_there { index.0 < length machine.now.registers.items }
+    requires value_there { value.0 < length machine.now.registers.items }
+    ensures step { (code : RawCode) → Does (changed code (machine_seen code machine.now))
+        (into array.0 (machine_seen code machine.now) (row.with_element line (registers_seen machine.now.registers.items array.0)
+        (registers_seen machine.now.registers.items index.0) (registers_seen machine.now.registers.items value.0)))
+        (stage_seen stage.old) result (stage_seen stage.new) }
+    ensures safe { IfOk result (IsSafe machine.now) }
+    ensures enough { (code : RawCode) → IfOk result (HasEnough code) }
+{
+    let old = machine.register(array);
+    match old.secrecy {
+        Secrecy::Plain => {
+            let place = place_in(stage, line, old, machine.register(index))?;
+            let word = seen_word(machine.register(value));
+            Ok(Change::Element(array, place, word))
+        }
+        Secrecy::Private(_) => {
+            let made = array_with(alloc, machine, stage, line, array, index, value);
+            into_register(array, made)
+        }
+    }
+}

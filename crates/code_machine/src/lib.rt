@@ -1,0 +1,25 @@
+//! A machine that runs verified code, step by step, in the clear or blind.
+//!
+//! Each step does exactly what the step of `code_model` does, unless memory ran out. A step that stops, whatever the reason, leaves the
+//! machine as it was; what it did to the stage can be taken back by a mark.
+#![tactic(auto)]
+
+mod apply;
+mod arrays;
+mod begin;
+mod calls;
+mod change;
+mod machine;
+mod marks;
+mod operands;
+mod places;
+mod plan;
+mod registers;
+mod stepping;
+mod texts;
+mod values;
+
+pub use begin::start;
+pub use machine::{Caller, Machine};
+pub use marks::{Mark, marked, rewind};
+pub use stepping::step;

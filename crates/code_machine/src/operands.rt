@@ -1,0 +1,141 @@
+// The values that steps with several operands make, and those that may trap. Operands are read in the machine where they stand.
+ghost use Rattle.std.specs.Prelude.{◌<◌, length};
+ghost use Rattle.language_model.specs.Operations as row;
+ghost use Rattle.value_steps.specs.Steps.{Does};
+ghost use Rattle.value_steps.specs.Views.{stage_seen, value_seen, world_seen};
+ghost use Rattle.code_machine.specs.Views.{registers_seen};
+
+use crate::machine::Machine;
+use bytecode::Register;
+use std::alloc::Global;
+use typed_tree::{BinaryOperator, Operands};
+use value_steps::{
+    Applied, Halt, Stage, Value, World, bits_extracted, element_of_array, filled, joined, operated,
+    with_element,
+};
+
+/// An operator between two registers.
+pub(crate) fn combined(
+    alloc: Global,
+    world: &World<'_>,
+    machine: &Machine,
+    stage: &mut Stage<'_>,
+    line: u32,
+    operator: BinaryOperator,
+    operands: Operands,
+    left: Register,
+    right: Register,
+) -> Result<Value, Halt>
+    requires left_there { left.0 < length machine.now.registers.items }
+    requires right_there { right.0 < length machine.now.registers.items }
+    ensures { Does value_seen (row.operated (world_seen world.now) line operator operands (registers_seen machine.now.registers.items left.0) (registers_seen machine.now.registers.items right.0)) (stage_seen stage.old) result (stage_seen stage.new) }
+{
+    let applied = Applied {
+        operator,
+        operands,
+        left: machine.register(left),
+        right: machine.register(right),
+    };
+    operated(alloc, world, stage, line, &applied)
+}
+
+/// An array of equal elements.
+pub(crate) fn repeated(
+    alloc: Global,
+    machine: &Machine,
+    stage: &mut Stage<'_>,
+    line: u32,
+    size: Register,
+    value: Register,
+) -> Result<Value, Halt>
+    requires size_there { size.0 < length machine.now.registers.items }
+    requires value_there { value.0 < length machine.now.registers.items }
+    ensures { Does value_seen (row.filled line (registers_seen machine.now.registers.items size.0) (registers_seen machine.now.registers.items value.0)) (stage_seen stage.old) result (stage_seen stage.new) }
+{
+    filled(
+        alloc,
+        stage,
+        line,
+        machine.register(size),
+        machine.register(value),
+    )
+}
+
+/// An element of an array. Nothing but the element is copied.
+pub(crate) fn element(
+    alloc: Global,
+    machine: &Machine,
+    stage: &mut Stage<'_>,
+    line: u32,
+    array: Register,
+    index: Register,
+) -> Result<Value, Halt>
+    requires array_there { array.0 < length machine.now.registers.items }
+    requires index_there { index.0 < length machine.now.registers.items }
+    ensures { Does value_seen (row.element_of_array line (registers_seen machine.now.registers.items array.0) (registers_seen machine.now.registers.items index.0)) (stage_seen stage.old) result (stage_seen stage.new) }
+{
+    element_of_array(
+        alloc,
+        stage,
+        line,
+        machine.register(array),
+        machine.register(index),
+    )
+}
+
+/// An array and another behind it.
+pub(crate) fn concatenated(
+    alloc: Global,
+    machine: &Machine,
+    stage: &mut Stage<'_>,
+    line: u32,
+    left: Register,
+    right: Register,
+) -> Result<Value, Halt>
+    requires left_there { left.0 < length machine.now.registers.items }
+    requires right_there { right.0 < length machine.now.registers.items }
+    ensures { Does value_seen (row.joined line (registers_seen machine.now.registers.items left.0) (registers_seen machine.now.registers.items right.0)) (stage_seen stage.old) result (stage_seen stage.new) }
+{
+    let first = machine.copied(alloc, left)?;
+    joined(alloc, stage, line, first, machine.register(right))
+}
+
+/// The bits of numbers.
+pub(crate) fn bits(
+    alloc: Global,
+    world: &World<'_>,
+    machine: &Machine,
+    stage: &mut Stage<'_>,
+    line: u32,
+    source: Register,
+) -> Result<Value, Halt>
+    requires { source.0 < length machine.now.registers.items }
+    ensures { Does value_seen (row.bits_extracted (world_seen world.now) line (registers_seen machine.now.registers.items source.0)) (stage_seen stage.old) result (stage_seen stage.new) }
+{
+    bits_extracted(alloc, world, stage, line, machine.register(source))
+}
+
+/// An array with one element changed: a copy, as the gate of a private array makes it anew too.
+pub(crate) fn array_with(
+    alloc: Global,
+    machine: &Machine,
+    stage: &mut Stage<'_>,
+    line: u32,
+    array: Register,
+    index: Register,
+    value: Register,
+) -> Result<Value, Halt>
+    requires array_there { array.0 < length machine.now.registers.items }
+    requires index_there { index.0 < length machine.now.registers.items }
+    requires value_there { value.0 < length machine.now.registers.items }
+    ensures { Does value_seen (row.with_element line (registers_seen machine.now.registers.items array.0) (registers_seen machine.now.registers.items index.0) (registers_seen machine.now.registers.items value.0)) (stage_seen stage.old) result (stage_seen stage.new) }
+{
+    let old = machine.copied(alloc, array)?;
+    with_element(
+        stage,
+        line,
+        old,
+        machine.register(index),
+        machine.register(value),
+    )
+}

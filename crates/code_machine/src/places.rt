@@ -1,0 +1,67 @@
+// Steps that only lead to another place.
+ghost use Rattle.std.specs.Prelude.{◌≡◌, ◌+◌, ◌<◌, ◌^◌, IfOk, length};
+ghost use Rattle.language_model.specs.Operations as row;
+ghost use Rattle.bytecode.specs.Raw.{RawCode};
+ghost use Rattle.code_model.specs.Machine.{same_bool};
+ghost use Rattle.value_steps.specs.Steps.{Does, itself};
+ghost use Rattle.value_steps.specs.Views.{stage_seen};
+ghost use Rattle.code_machine.specs.Changes.{HasEnough, IsSafe, changed, goes_on_at};
+ghost use Rattle.code_machine.specs.Parts.{branched};
+ghost use Rattle.code_machine.specs.Views.{machine_seen, registers_seen};
+
+use crate::change::Change;
+use crate::machine::Machine;
+use bytecode::{Register, Target};
+use value_steps::{Halt, Stage, asserted, tested};
+
+/// The change to a place, where what came before it went well.
+pub(crate) fn into_place(place: usize, done: Result<(), Halt>) -> Result<Change, Halt>
+    ensures { result ≡ goes_on_at place done }
+{
+    match done {
+        Ok(()) => Ok(Change::Place(place)),
+        Err(halt) => Err(halt),
+    }
+}
+
+/// An assertion that fails is a trap.
+pub(crate) fn assert_at(
+    machine: &Machine,
+    stage: &mut Stage<'_>,
+    line: u32,
+    condition: Register,
+) -> Result<(), Halt>
+    requires { condition.0 < length machine.now.registers.items }
+    ensures { Does itself (row.asserted line (registers_seen machine.now.registers.items condition.0)) (stage_seen stage.old) result (stage_seen stage.new) }
+{
+    asserted(stage, line, machine.register(condition))
+}
+
+fn same(left: bool, right: bool) -> bool
+    ensures { result ≡ same_bool left right }
+{
+    left == right
+}
+
+/// A branch leads to its target where the condition is the value, and otherwise to the next place.
+pub(crate) fn branch(
+    machine: &Machine,
+    stage: &mut Stage<'_>,
+    condition: Register,
+    value: bool,
+    target: Target,
+) -> Result<Change, Halt>
+    requires there { condition.0 < length machine.now.registers.items }
+    requires room { machine.now.place + 1 < 2 ^ 64 }
+    ensures step { (code : RawCode) → Does (changed code (machine_seen code machine.now)) (branched (registers_seen machine.now.registers.items condition.0) value target.0 (machine_seen code machine.now))
+        (stage_seen stage.old) result (stage_seen stage.new) }
+    ensures safe { IfOk result (IsSafe machine.now) }
+    ensures enough { (code : RawCode) → IfOk result (HasEnough code) }
+{
+    let holds = tested(stage, machine.register(condition))?;
+    if same(holds, value) {
+        Ok(Change::Place(target.0 as usize))
+    } else {
+        Ok(Change::Place(machine.place + 1))
+    }
+}

@@ -1,0 +1,179 @@
+// The change that each step makes.
+ghost use Rattle.std.specs.Prelude.{◌≡◌, ◌+◌, ◌<◌, ◌^◌, IfOk, Some, length, map};
+ghost use Rattle.language_model.specs.Effects.{Stage as Reached, World as Around};
+ghost use Rattle.bytecode.specs.Raw.{RawCode};
+ghost use Rattle.verified_code.specs.InMemory.{place_of, step_in};
+ghost use Rattle.verified_code.specs.Settled.{settled};
+ghost use Rattle.verified_code.specs.Steps as steps;
+ghost use Rattle.code_model.specs.Machine.{step};
+ghost use Rattle.value_steps.specs.Steps.{Does};
+ghost use Rattle.value_steps.specs.Views.{stage_seen, world_seen};
+ghost use Rattle.code_machine.specs.Changes.{HasEnough, IsSafe, changed, left};
+ghost use Rattle.code_machine.specs.Standing.{AreBelow, AreThere, HasAny};
+ghost use Rattle.code_machine.specs.Views.{machine_seen};
+
+use crate::arrays::put;
+use crate::calls::{charge_call, registers_for};
+use crate::change::{Change, into_register};
+use crate::machine::Machine;
+use crate::operands::{bits, combined, concatenated, element, repeated};
+use crate::places::{assert_at, branch, into_place};
+use crate::texts::{argument, publish};
+use crate::values::{
+    cast_value, classified, literal, moved, negation, opened, size_of, stored, sum_of,
+};
+use bytecode::{FunctionPlace, Register};
+use sc_text::Ending;
+use secrec_ast::DataType;
+use std::alloc::Global;
+use typed_tree::Shape;
+use value_steps::{Halt, Stage, Value, World};
+use verified_code::{Step, Verified};
+
+/// A call: it is charged, and the called function begins.
+fn enter(
+    alloc: Global,
+    code: &Verified,
+    machine: &Machine,
+    stage: &mut Stage<'_>,
+    line: u32,
+    function: FunctionPlace,
+    to: Option<Register>,
+    arguments: &[Register],
+) -> Result<Change, Halt>
+    requires to_there { HasAny (length machine.now.registers.items) (place_of to) }
+    requires arguments_there { AreBelow (length machine.now.registers.items) (map (λ r. r.0) arguments.now) }
+    ensures step { (w : Around) → Does (changed code.now (machine_seen code.now machine.now))
+        (step w (settled code.now) (Some (steps.Call line function.0 (place_of to) (map (λ r. r.0) arguments.now))) (machine_seen code.now machine.now))
+        (stage_seen stage.old) result (stage_seen stage.new) }
+    ensures safe { IfOk result (IsSafe machine.now) }
+    ensures enough { IfOk result (HasEnough code.now) }
+{
+    charge_call(machine, stage, line, arguments)?;
+    let registers = registers_for(alloc, code, machine, function, arguments)?;
+    Ok(Change::Enter(function, to, registers))
+}
+
+/// A return: the last caller goes on, with the value of a register or one that nobody reads. Where `main` is left the run is done.
+fn leave(alloc: Global, machine: &Machine, source: Option<Register>) -> Result<Change, Halt>
+    requires { HasAny (length machine.now.registers.items) (place_of source) }
+    ensures step { (code : RawCode) (s : Reached) → Does (changed code (machine_seen code machine.now)) (left (place_of source) (machine_seen code machine.now)) s result s }
+    ensures safe { IfOk result (IsSafe machine.now) }
+    ensures enough { (code : RawCode) → IfOk result (HasEnough code) }
+{
+    if machine.callers.is_empty() {
+        return Err(Halt::Ended(Ending::Done));
+    }
+    let words = vec![in alloc; 0]?;
+    let shape = Shape {
+        element: DataType::Uint64,
+        array: false,
+    };
+    Ok(Change::Leave(source, Value::plain(shape, words)))
+}
+
+/// The change that a step makes.
+pub(crate) fn change_of(
+    alloc: Global,
+    world: &World<'_>,
+    code: &Verified,
+    machine: &Machine,
+    stage: &mut Stage<'_>,
+    coming: Step<'_>,
+) -> Result<Change, Halt>
+    requires there { AreThere (length machine.now.registers.items) (step_in coming) }
+    requires room { machine.now.place + 1 < 2 ^ 64 }
+    ensures step { Does (changed code.now (machine_seen code.now machine.now))
+        (step (world_seen world.now) (settled code.now) (Some (step_in coming.entry)) (machine_seen code.now machine.now)) (stage_seen stage.old) result (stage_seen stage.new) }
+    ensures safe { IfOk result (IsSafe machine.now) }
+    ensures enough { IfOk result (HasEnough code.now) }
+{
+    match coming {
+        Step::Literal { to, element, word } => {
+            into_register(to, literal(alloc, stage, element, word))
+        }
+        Step::Move { to, source } => into_register(to, moved(alloc, machine, stage, source)),
+        Step::Store { to, source } => into_register(to, stored(alloc, machine, stage, source)),
+        Step::Binary {
+            line,
+            operator,
+            operands,
+            to,
+            left,
+            right,
+        } => into_register(
+            to,
+            combined(
+                alloc, world, machine, stage, line, operator, operands, left, right,
+            ),
+        ),
+        Step::Not { to, source } => into_register(to, negation(alloc, machine, stage, source)),
+        Step::Cast { cast, to, source } => into_register(
+            to,
+            cast_value(alloc, world, machine, stage, cast, source),
+        ),
+        Step::Classify { to, source } => {
+            into_register(to, classified(alloc, machine, stage, source))
+        }
+        Step::Fill {
+            line,
+            to,
+            size,
+            value,
+        } => into_register(to, repeated(alloc, machine, stage, line, size, value)),
+        Step::At {
+            line,
+            to,
+            array,
+            index,
+        } => into_register(to, element(alloc, machine, stage, line, array, index)),
+        Step::Put {
+            line,
+            array,
+            index,
+            value,
+        } => put(alloc, machine, stage, line, array, index, value),
+        Step::Size { to, source } => into_register(to, size_of(alloc, machine, stage, source)),
+        Step::Cat {
+            line,
+            to,
+            left,
+            right,
+        } => into_register(to, concatenated(alloc, machine, stage, line, left, right)),
+        Step::Sum { to, source } => into_register(to, sum_of(alloc, machine, stage, source)),
+        Step::Bits { line, to, source } => {
+            into_register(to, bits(alloc, world, machine, stage, line, source))
+        }
+        Step::Declassify { to, source } => {
+            into_register(to, opened(alloc, world, machine, stage, source))
+        }
+        Step::Argument {
+            line,
+            kind,
+            text,
+            to,
+        } => into_register(to, argument(alloc, world, stage, line, kind, text)),
+        Step::Publish { text, source } => into_place(
+            machine.place + 1,
+            publish(alloc, world, machine, stage, text, source),
+        ),
+        Step::Assert { line, condition } => into_place(
+            machine.place + 1,
+            assert_at(machine, stage, line, condition),
+        ),
+        Step::Branch {
+            condition,
+            value,
+            target,
+        } => branch(machine, stage, condition, value, target),
+        Step::Jump { target } => Ok(Change::Place(target.0 as usize)),
+        Step::Call {
+            line,
+            function,
+            to,
+            arguments,
+        } => enter(alloc, code, machine, stage, line, function, to, arguments),
+        Step::Return { source } => leave(alloc, machine, Some(source)),
+        Step::ReturnNone => leave(alloc, machine, None),
+    }
+}
