@@ -17,6 +17,7 @@ mod operands;
 mod places;
 mod plan;
 mod ran;
+mod reading;
 mod registers;
 mod running;
 mod stepping;
