@@ -1,0 +1,47 @@
+-- The code of a connective that is cut short.
+use Rattle.std.proofs.Common.{◌≡◌, ℕ, ◌+◌, Bool, List, [], ◌∷◌, ◌++◌, length, refl, sym, ap, ap₂, ◌∙◌, arith, append_assoc, length-append}
+use Rattle.std.specs.Prelude.{map, slice_set}
+use Rattle.std.proofs.lemmas.List.{map-append, length-map, length_push, set_at}
+use Rattle.typed_tree.specs.declared.operators.Connective.{Connective}
+use Rattle.bytecode.specs.declared.kind.Kind.{Kind}
+use Rattle.verified_code.specs.Steps.{Step, Branch}
+use Rattle.code_model.specs.Expressions.{deciding}
+use Rattle.lowered_expressions.specs.Built.{Piece, whole, Built, with_step, with_code}
+use Rattle.lowered_expressions.specs.Parts.{cut_end, cut_closed, cut_rest}
+use Rattle.lowered_expressions.proofs.Building.{body_of}
+
+-- a piece that was held is set, once what stands behind it is known
+pub set_behind : (ps : List Piece) (x y : Piece) (m e : List Piece) → slice_set (((ps ++ x ∷ []) ++ m) ++ e) (length ps) y ≡ ps ++ y ∷ (m ++ e)
+set_behind ps x y m e =
+    let flat : ((ps ++ x ∷ []) ++ m) ++ e ≡ ps ++ x ∷ (m ++ e) = simp append_assoc in
+    ap (λ (z : List Piece). slice_set z (length ps) y) flat ∙ set_at ps x (m ++ e) y (length ps) refl
+
+pub cut_made : (b d f g : Built) (held : Step) (kb : List Kind) (cb : (t pc : ℕ) → List Step) (c : Connective) (secret : Bool) (to value branch : ℕ)
+    → d ≡ with_step b held → f ≡ with_code d kb (cb (length d.kinds) (length d.pieces)) → g ≡ cut_closed f c secret to value branch
+    → value ≡ length d.kinds → branch ≡ length b.pieces
+    → g ≡ with_code b kb (cut_rest to (length b.kinds) (length b.pieces) c secret (cb (length b.kinds)))
+cut_made b d f g held kb cb c secret to value branch e h i v at =
+    let u = length b.kinds in
+    let p = length b.pieces in
+    let n : length d.kinds ≡ u = ap (λ (z : Built). length z.kinds) e in
+    let k : length d.pieces ≡ p + 1 = ap (λ (z : Built). length z.pieces) e ∙ length_push b.pieces (whole held) in
+    let code = cb u (p + 1) in
+    let q : f ≡ with_code (with_step b held) kb code =
+    h ∙ ap₂ (λ (x y : ℕ). with_code d kb (cb x y)) n k ∙ ap (λ (z : Built). with_code z kb code) e in
+    let m : length f.pieces ≡ p + 1 + length code =
+    ap (λ (z : Built). length z.pieces) q ∙ length-append (b.pieces ++ whole held ∷ []) (map whole code)
+    ∙ ap₂ (λ (x y : ℕ). x + y) (length_push b.pieces (whole held)) (length-map code whole) in
+    let pd = p + 1 + length code + 2 in
+    let over : length f.pieces + 4 ≡ pd + 2 = omega (arith, m) in
+    let there : length f.pieces + 2 ≡ pd = omega (arith, m) in
+    let value_is : value ≡ u = v ∙ n in
+    let tail = cut_end c secret to u (pd + 2) in
+    let end : cut_end c secret to value (length f.pieces + 4) ≡ tail = ap₂ (λ (x y : ℕ). cut_end c secret to x y) value_is over in
+    let set = whole (Branch (to + 3) (deciding c) pd) in
+    i
+    ∙ ap (λ (z : List Step). body_of f.kinds (slice_set (f.pieces ++ map whole z) branch (whole (Branch (to + 3) (deciding c) (length f.pieces + 2))))) end
+    ∙ ap (λ (z : ℕ). body_of f.kinds (slice_set (f.pieces ++ map whole tail) branch (whole (Branch (to + 3) (deciding c) z)))) there
+    ∙ ap (λ (z : ℕ). body_of f.kinds (slice_set (f.pieces ++ map whole tail) z set)) at
+    ∙ ap (λ (z : Built). body_of z.kinds (slice_set (z.pieces ++ map whole tail) p set)) q
+    ∙ ap (body_of (b.kinds ++ kb)) (set_behind b.pieces (whole held) set (map whole code) (map whole tail))
+    ∙ ap (λ (z : List Piece). body_of (b.kinds ++ kb) (b.pieces ++ set ∷ z)) (sym (map-append whole code tail))

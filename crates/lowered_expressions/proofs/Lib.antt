@@ -1,0 +1,5 @@
+pub mod Numbers
+pub mod Building
+pub mod Nodes
+pub mod Cuts
+pub mod Arguments

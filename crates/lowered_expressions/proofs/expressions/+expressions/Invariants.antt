@@ -1,0 +1,57 @@
+use Rattle.std.proofs.Common.{◌≡◌, ◌+◌, ◌*◌, length, take}
+use Rattle.std.specs.Prelude.{map}
+use Rattle.typed_tree.specs.Tree.{typed_tree, typed_trees_of}
+use Rattle.code_model.specs.Kinds.{width, widths, arguments_kinds}
+use Rattle.code_model.specs.Expressions.{arguments_code, arguments_places}
+use Rattle.lowered_expressions.specs.Built.{with_code}
+use Rattle.lowered_expressions.specs.Views.{built, here_of, numbers_of}
+use Rattle.lowered_expressions.proofs.expressions.+expressions.Given as goal
+
+abbrev pub decreases-expression : goal.decreases-expression
+decreases-expression l = 3 * width (typed_tree l.e.now)
+
+abbrev pub decreases-operand : goal.decreases-operand
+decreases-operand l = 3 * width (typed_tree l.e.now) + 1
+
+abbrev pub decreases-one : goal.decreases-one
+decreases-one l = 3 * width (typed_tree l.x.now) + 1
+
+abbrev pub decreases-element : goal.decreases-element
+decreases-element l = 3 * (width (typed_tree l.array.now) + width (typed_tree l.index.now)) + 1
+
+abbrev pub decreases-cat : goal.decreases-cat
+decreases-cat l = 3 * (width (typed_tree l.a.now) + width (typed_tree l.b.now)) + 2
+
+abbrev pub decreases-binary : goal.decreases-binary
+decreases-binary l = 3 * (width (typed_tree l.a.now) + width (typed_tree l.b.now)) + 2
+
+abbrev pub decreases-both : goal.decreases-both
+decreases-both l = 3 * width (typed_tree l.b.now) + 1
+
+abbrev pub decreases-cut : goal.decreases-cut
+decreases-cut l = 3 * (width (typed_tree l.a.now) + width (typed_tree l.b.now)) + 2
+
+abbrev pub decreases-cut_short : goal.decreases-cut_short
+decreases-cut_short l = 3 * width (typed_tree l.b.now) + 1
+
+abbrev pub decreases-read_call : goal.decreases-read_call
+decreases-read_call l = 3 * widths (typed_trees_of (map typed_tree l.list.now.items)) + 2
+
+abbrev pub decreases-call : goal.decreases-call
+decreases-call l = 3 * widths (typed_trees_of (map typed_tree l.list.now.items)) + 1
+
+abbrev pub decreases-arguments : goal.decreases-arguments
+decreases-arguments l = 3 * widths (typed_trees_of (map typed_tree l.list.now.items))
+
+abbrev pub decreases-argument : goal.decreases-argument
+decreases-argument l = 3 * width (typed_tree l.e.now) + 2
+
+abbrev pub invariant-arguments-loop-e : goal.invariant-arguments-loop-e
+invariant-arguments-loop-e l = record {
+  count : length l.registers.items ≡ l.e-index;
+  code : built l.body ≡ with_code (built l.initial.body) (arguments_kinds (here_of l.around) (typed_trees_of (map typed_tree (take l.e-index l.e-items))))
+      (arguments_code (numbers_of l.around) (here_of l.around) l.binding l.slots (length (built l.initial.body).kinds) (length (built l.initial.body).pieces)
+      (typed_trees_of (map typed_tree (take l.e-index l.e-items))));
+  places : l.registers.items ≡ arguments_places (numbers_of l.around) (here_of l.around) l.binding l.slots (length (built l.initial.body).kinds)
+      (typed_trees_of (map typed_tree (take l.e-index l.e-items)));
+}

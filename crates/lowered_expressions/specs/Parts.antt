@@ -1,0 +1,88 @@
+-- Parts of the code of expressions.
+use Rattle.std.specs.Prelude.{ℕ, ◌+◌, Bool, Option, List, [], ◌∷◌, ◌++◌, length}
+use Rattle.secrec_ast.specs.declared.expression.DataType.TheVariants as datatype
+use Rattle.typed_tree.specs.declared.operators.BinaryOperator.{BinaryOperator}
+use Rattle.typed_tree.specs.declared.operators.Operands.{Operands}
+use Rattle.typed_tree.specs.declared.operators.Connective.{Connective}
+use Rattle.typed_tree.specs.Tree.{TypedTree, TypedTrees, size_node, sum_node, bits_node, not_node, cast_node, declassify_node}
+use Rattle.std.specs.List.{slice_get}
+use Rattle.reached_instances.specs.declared.instance.BoundDomain.{BoundDomain}
+use Rattle.reached_instances.specs.Domains.{Setting, domains}
+use Rattle.language_model.specs.Words.{truth_word}
+use Rattle.language_model.specs.Evaluation.{gives_private, bound_at, slots_of}
+use Rattle.verified_code.specs.Steps.{Step, Literal, Move, Binary, Not, Cast, Size, Sum, Bits, Declassify, Branch, Jump, Call, Cat, At}
+use Rattle.code_model.specs.Kinds.{width, expression_kinds, arguments_kinds, operand_kinds, cut_kinds}
+use Rattle.code_model.specs.Expressions.{Numbers, classifying, picked, lacks, mixes, settling, deciding, expression_code, arguments_code, arguments_places}
+use Rattle.lowered_expressions.specs.declared.closing.One.{One}
+use Rattle.lowered_expressions.specs.declared.closing.One.TheVariants as ones
+use Rattle.lowered_expressions.specs.Built.{Built, with_code, with_steps, with_step_at}
+
+-- ---- ONE OPERAND
+
+abbrev pub one_node : One → TypedTree → TypedTree
+one_node ones.Size e = size_node e
+one_node ones.Sum e = sum_node e
+one_node (ones.Bits line) e = bits_node line e
+one_node ones.Not e = not_node e
+one_node (ones.Cast c) e = cast_node c e
+one_node ones.Declassify e = declassify_node e
+
+abbrev pub one_step : One → (to source : ℕ) → Step
+one_step ones.Size d r = Size d r
+one_step ones.Sum d r = Sum d r
+one_step (ones.Bits line) d r = Bits line d r
+one_step ones.Not d r = Not d r
+one_step (ones.Cast c) d r = Cast c d r
+one_step ones.Declassify d r = Declassify d r
+
+-- ---- TWO OPERANDS, BEHIND THE CODE OF THE LEFT ONE
+
+-- the right one at its place p, u its register
+abbrev pub binary_rest : (t u p line : ℕ) → BinaryOperator → Operands → (left right : Bool) → (ℕ → List Step) → List Step
+binary_rest t u p line op ds ga gb cb =
+    let l = mixes op ga gb in
+    let r = mixes op gb ga in
+    cb p ++ (classifying l (t + 1) (t + 3) ++ (classifying r (t + 2) u ++ Binary line op ds t (picked l (t + 1) (t + 3)) (picked r (t + 2) u) ∷ []))
+
+-- what stands behind the right operand, and ends at a place
+abbrev pub cut_end : Connective → (secret : Bool) → (t u end : ℕ) → List Step
+cut_end c secret t u end =
+    Move t u ∷ Jump end ∷ Literal (t + 1) datatype.Bool (truth_word (deciding c)) ∷ settling secret t (t + 1) ∷ []
+
+abbrev pub cut_closed : Built → Connective → (secret : Bool) → (t u branch : ℕ) → Built
+cut_closed b c secret t u branch =
+    with_step_at (with_steps b (cut_end c secret t u (length b.pieces + 4))) branch (Branch (t + 3) (deciding c) (length b.pieces + 2))
+
+-- the branch at p, the right operand behind it
+abbrev pub cut_rest : (t u p : ℕ) → Connective → (secret : Bool) → (ℕ → List Step) → List Step
+cut_rest t u p c secret cb =
+    let pb = p + 1 in
+    let pd = pb + length (cb pb) + 2 in
+    Branch (t + 3) (deciding c) pd ∷ (cb pb ++ cut_end c secret t u (pd + 2))
+
+-- ---- CODE BEHIND A BODY
+
+module _ (number : Numbers) (here : Setting) (b : Built) where
+  -- an expression's
+  abbrev pub with_expression : TypedTree → Built
+  with_expression e = with_code b (expression_kinds here e) (expression_code number here (length b.kinds) (length b.pieces) e)
+
+  -- an operand's, classified into a register where it is wanted private and isn't
+  abbrev pub with_operand : (wanted : Bool) → (classified : ℕ) → TypedTree → Built
+  with_operand wanted r e =
+      with_code b (expression_kinds here e)
+      (expression_code number here (length b.kinds) (length b.pieces) e ++ classifying (lacks wanted (gives_private here e)) r (length b.kinds))
+
+  -- the operand of an operation, and its step
+  abbrev pub with_one : One → (to : ℕ) → TypedTree → Built
+  with_one one to e =
+      with_code b (expression_kinds here e) (expression_code number here (to + 1) (length b.pieces) e ++ one_step one to (to + 1) ∷ [])
+
+  -- a call's, with the register of what it gives
+  abbrev pub with_call : (line function : ℕ) → (to : Option ℕ) → TypedTrees → Built
+  with_call line k to es =
+      let bound = bound_at (slice_get here.functions k) (domains here es) in
+      let ss = slots_of (slice_get here.functions k) in
+      with_code b (arguments_kinds here es)
+      (arguments_code number here bound ss (length b.kinds) (length b.pieces) es
+      ++ Call line (number k bound) to (arguments_places number here bound ss (length b.kinds) es) ∷ [])

@@ -1,0 +1,80 @@
+// What a call names.
+ghost use Rattle.std.specs.Prelude.{◌≡◌, IfOk, drop, map};
+ghost use Rattle.std.specs.List.{slice_get};
+ghost use Rattle.typed_tree.specs.Tree.{typed_tree, typed_trees_of};
+ghost use Rattle.reached_instances.specs.Domains.{domains};
+ghost use Rattle.reached_instances.specs.Views.{setting};
+ghost use Rattle.language_model.specs.Evaluation.{bound_at, next_is_private, slot_is_private, slots_of};
+ghost use Rattle.code_model.specs.Expressions.{result_at};
+ghost use Rattle.lowered_expressions.specs.Views.{numbers_of};
+
+use crate::around::Around;
+use crate::operands::is_private;
+use reached_instances::{BoundDomain, Instance, Setting, binding_of, domain_under, domains, slot_domain};
+use std::alloc::{AllocError, Global};
+use typed_tree::{Given, Slot, TypedExpression};
+
+/// What a call of a function with these arguments binds its domain variables to.
+pub fn bound_at(
+    alloc: Global,
+    here: &Setting<'_>,
+    function: usize,
+    list: &Vec<TypedExpression>,
+) -> Result<Vec<BoundDomain>, AllocError>
+    ensures { IfOk result (λ b. b.items ≡ bound_at (slice_get (setting here.now).functions function)
+        (domains (setting here.now) (typed_trees_of (map typed_tree list.now.items)))) }
+{
+    let Some(callee) = here.functions.get(function) else {
+        return Ok(Vec::new(alloc));
+    };
+    let domains = domains(alloc, here, list)?;
+    binding_of(alloc, callee, &domains)
+}
+
+/// The slots of a function.
+pub fn slots_of<'a>(here: &Setting<'a>, function: usize) -> &'a [Slot]
+    ensures { result.now ≡ slots_of (slice_get (setting here.now).functions function) }
+{
+    match here.functions.get(function) {
+        None => &[],
+        Some(callee) => &callee.slots,
+    }
+}
+
+/// Whether the parameter of this number is private, where a function with these slots is called under this binding.
+pub fn next_is_private(binding: &[BoundDomain], slots: &[Slot], number: usize) -> bool
+    ensures { result ≡ next_is_private binding.now (drop number slots.now) }
+{
+    match slots.get(number) {
+        None => false,
+        Some(slot) => is_private(domain_under(binding, slot.domain)),
+    }
+}
+
+/// Whether what stands in a slot is private.
+pub fn slot_is_private(here: &Setting<'_>, slot: usize) -> bool
+    ensures { result ≡ slot_is_private (setting here.now) slot }
+{
+    is_private(slot_domain(here, slot))
+}
+
+/// The register of what a call gives, where the function gives something.
+pub fn given_to(here: &Setting<'_>, function: usize, to: usize) -> Option<usize>
+    ensures { result ≡ result_at (slice_get (setting here.now).functions function) to }
+{
+    match here.functions.get(function)?.given {
+        Given::Nothing => None,
+        Given::Value(_) => Some(to),
+    }
+}
+
+/// The number of the instance that a function is under a binding; how many there are where it is none of them.
+pub fn number_of(around: &Around<'_>, function: usize, binding: Vec<BoundDomain>) -> usize
+    ensures { result ≡ numbers_of around.now function binding.items }
+{
+    let instance = Instance { function, binding };
+    match around.instances.number(&instance) {
+        Some(number) => number,
+        None => around.instances.as_slice().len(),
+    }
+}

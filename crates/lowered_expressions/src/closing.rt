@@ -1,0 +1,119 @@
+// The steps behind the code of a node's operands.
+ghost use Rattle.std.specs.Prelude.{◌≡◌, ◌+◌, ◌<◌, ◌≤◌, [], ◌∷◌, ◌++◌, OnOk, length};
+ghost use Rattle.verified_code.specs.Steps as S;
+ghost use Rattle.code_model.specs.Expressions.{classifying, picked, settling};
+ghost use Rattle.lowered_expressions.specs.Built.{with_steps};
+ghost use Rattle.lowered_expressions.specs.Parts.{one_step, cut_closed};
+ghost use Rattle.lowered_expressions.specs.Views.{built, step_seen};
+
+use crate::body::Body;
+use crate::operands::{Operand, wanted};
+use crate::step::Step;
+use crate::words::{deciding, truth_word};
+use secrec_ast::DataType;
+use std::alloc::AllocError;
+use typed_tree::{BinaryOperator, Cast, Connective, Operands};
+
+/// An operation on one operand.
+#[derive(Clone, Copy)]
+pub enum One {
+    Size,
+    Sum,
+    Bits(u32),
+    Not,
+    Cast(Cast),
+    Declassify,
+}
+
+/// An operation on two operands, with the line of its construct.
+#[derive(Clone, Copy)]
+pub struct Operation {
+    pub line: u32,
+    pub operator: BinaryOperator,
+    pub operands: Operands,
+}
+
+/// The step of an operation on one operand.
+pub fn one_step<'p>(one: One, to: usize, source: usize) -> Step<'p>
+    ensures { step_seen result ≡ one_step one to source }
+{
+    match one {
+        One::Size => Step::Size { to, source },
+        One::Sum => Step::Sum { to, source },
+        One::Bits(line) => Step::Bits { line, to, source },
+        One::Not => Step::Not { to, source },
+        One::Cast(cast) => Step::Cast { cast, to, source },
+        One::Declassify => Step::Declassify { to, source },
+    }
+}
+
+/// The end of an operation on two operands: each is classified where it lacks that.
+pub fn close_binary(
+    body: &mut Body<'_>,
+    operation: Operation,
+    to: usize,
+    left: Operand,
+    right: Operand,
+) -> Result<(), AllocError>
+    ensures { OnOk result (built body.new ≡ with_steps (built body.old)
+        (classifying left.lacks left.classified left.value ++ (classifying right.lacks right.classified right.value
+        ++ S.Binary operation.line operation.operator operation.operands to (picked left.lacks left.classified left.value)
+        (picked right.lacks right.classified right.value) ∷ []))) }
+{
+    let left = wanted(body, left)?;
+    let right = wanted(body, right)?;
+    body.push(Step::Binary {
+        line: operation.line,
+        operator: operation.operator,
+        operands: operation.operands,
+        to,
+        left,
+        right,
+    })
+}
+
+// A classified value, or the same one.
+fn settling<'p>(secret: bool, to: usize, source: usize) -> Step<'p>
+    ensures { step_seen result ≡ settling secret to source }
+{
+    if secret {
+        Step::Classify { to, source }
+    } else {
+        Step::Move { to, source }
+    }
+}
+
+/// The end of a connective that is cut short: what the right operand gives, or what stands in its place. The branch at its place
+/// leads there.
+pub fn close_cut(
+    body: &mut Body<'_>,
+    connective: Connective,
+    secret: bool,
+    to: usize,
+    value: usize,
+    branch: usize,
+) -> Result<(), AllocError>
+    requires branch { branch < length (built body.old).pieces }
+    requires registers { to + 3 ≤ value }
+    ensures { OnOk result (built body.new ≡ cut_closed (built body.old) connective secret to value branch) }
+{
+    let end = body.next_place() + 4;
+    body.push(Step::Move { to, source: value })?;
+    body.push(Step::Jump { target: end })?;
+    let decided = body.next_place();
+    body.push(Step::Literal {
+        to: to + 1,
+        element: DataType::Bool,
+        word: truth_word(deciding(connective)),
+    })?;
+    body.push(settling(secret, to, to + 1))?;
+    body.set(
+        branch,
+        Step::Branch {
+            condition: to + 3,
+            value: deciding(connective),
+            target: decided,
+        },
+    );
+    Ok(())
+}

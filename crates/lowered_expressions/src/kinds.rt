@@ -1,0 +1,108 @@
+// The kinds of registers.
+ghost use Rattle.std.specs.Prelude.{◌≡◌, IfOk, map};
+ghost use Rattle.std.specs.List.{slice_get};
+ghost use Rattle.typed_tree.specs.Tree.{typed_tree};
+ghost use Rattle.typed_tree.specs.Programs.{typed_function_tree};
+ghost use Rattle.reached_instances.specs.Views.{setting};
+ghost use Rattle.language_model.specs.Evaluation.{gives_private, slot_shape};
+ghost use Rattle.code_model.specs.Kinds.{called_shape, kind_in, kind_of, private_kind_in, returned_shape, shape_in};
+
+use crate::operands::is_private;
+use crate::words::{cast_shape, result_shape, scalar};
+use bytecode::Kind;
+use reached_instances::{Setting, domain};
+use secrec_ast::DataType;
+use std::alloc::{AllocError, Global};
+use typed_tree::{Given, Shape, TypedExpression, TypedFunction};
+
+// The shape of what a function gives back; where it gives nothing, that of a number.
+fn returned_shape(given: Given) -> Shape
+    ensures { result ≡ returned_shape given }
+{
+    match given {
+        Given::Nothing => scalar(DataType::Uint64),
+        Given::Value(slot) => slot.shape,
+    }
+}
+
+// The shape of what a call gives.
+fn called_shape(functions: &[TypedFunction], function: usize) -> Shape
+    ensures { result ≡ called_shape (slice_get (map typed_function_tree functions.now) function) }
+{
+    match functions.get(function) {
+        None => scalar(DataType::Uint64),
+        Some(callee) => returned_shape(callee.given),
+    }
+}
+
+/// The shape of what stands in a slot.
+pub fn slot_shape(here: &Setting<'_>, slot: usize) -> Shape
+    ensures { result ≡ slot_shape (setting here.now) slot }
+{
+    match here.slots.get(slot) {
+        None => scalar(DataType::Uint64),
+        Some(slot) => slot.shape,
+    }
+}
+
+// The shape of what an expression gives.
+fn shape(here: &Setting<'_>, e: &TypedExpression) -> Shape
+    ensures { result ≡ shape_in (setting here.now) (typed_tree e.now) }
+{
+    match e {
+        TypedExpression::Word(_) | TypedExpression::Size(_) | TypedExpression::Sum(_) => {
+            scalar(DataType::Uint64)
+        }
+        TypedExpression::Truth(_) | TypedExpression::CutShort(_, _, _) => scalar(DataType::Bool),
+        TypedExpression::Variable(slot) => slot_shape(here, *slot),
+        TypedExpression::Call(_, function, _) => called_shape(here.functions, *function),
+        TypedExpression::BitExtract(_, _) => Shape {
+            element: DataType::Bool,
+            array: true,
+        },
+        TypedExpression::Element(_, array, _) => scalar(shape(here, array).element),
+        TypedExpression::Cast(cast, operand) => cast_shape(*cast, shape(here, operand).array),
+        TypedExpression::Binary(_, operator, operands, _, _) => result_shape(*operator, *operands),
+        TypedExpression::Cat(_, operand, _)
+        | TypedExpression::Not(operand)
+        | TypedExpression::Declassify(operand) => shape(here, operand),
+    }
+}
+
+/// The kind of private or public values of a shape.
+pub fn kind_of(secret: bool, shape: Shape) -> Kind
+    ensures { result ≡ kind_of secret shape }
+{
+    Kind {
+        secret,
+        element: shape.element,
+        array: shape.array,
+    }
+}
+
+/// Whether an expression gives a private value. An error comes where memory runs short.
+pub fn gives_private(
+    alloc: Global,
+    here: &Setting<'_>,
+    e: &TypedExpression,
+) -> Result<bool, AllocError>
+    ensures { IfOk result (λ p. p ≡ gives_private (setting here.now) (typed_tree e.now)) }
+{
+    let domain = domain(alloc, here, e)?;
+    Ok(is_private(domain))
+}
+
+/// The kind of what an expression gives. An error comes where memory runs short.
+pub fn kind(alloc: Global, here: &Setting<'_>, e: &TypedExpression) -> Result<Kind, AllocError>
+    ensures { IfOk result (λ k. k ≡ kind_in (setting here.now) (typed_tree e.now)) }
+{
+    let secret = gives_private(alloc, here, e)?;
+    Ok(kind_of(secret, shape(here, e)))
+}
+
+/// The kind of what an expression gives, once it is classified.
+pub fn private_kind(here: &Setting<'_>, e: &TypedExpression) -> Kind
+    ensures { result ≡ private_kind_in (setting here.now) (typed_tree e.now) }
+{
+    kind_of(true, shape(here, e))
+}

@@ -1,0 +1,21 @@
+//! The code of expressions, from typed trees: steps with numbers as large as they come, and the kinds of their registers.
+#![tactic(auto)]
+
+mod around;
+mod body;
+mod calling;
+mod closing;
+mod expressions;
+mod kinds;
+mod operands;
+mod step;
+mod words;
+
+pub use around::Around;
+pub use body::Body;
+pub use calling::{given_to, slot_is_private};
+pub use expressions::{argument, call, expression, operand};
+pub use kinds::{kind, kind_of, private_kind, slot_shape};
+pub use operands::{Operand, is_private, wanted};
+pub use step::{Piece, Step};
+pub use words::lacks;

@@ -1,0 +1,213 @@
+// The code of statements without others in them.
+ghost use Rattle.std.specs.Prelude.{◌≡◌, ◌<◌, OnOk};
+ghost use Rattle.typed_tree.specs.Tree.{typed_tree};
+ghost use Rattle.typed_tree.specs.Commands.{assert_command, default_command, evaluate_command, input_command, optional_tree, publish_command, return_command, store_command};
+ghost use Rattle.code_model.specs.Commands.{shape_number};
+ghost use Rattle.lowered_expressions.specs.Views.{built, here_of, numbers_of, step_seen};
+ghost use Rattle.lowering.specs.Leaves.{pair_command, pair_step, with_leaf};
+ghost use Rattle.lowering.specs.Pieces.{with_command};
+ghost use Rattle.lowering.specs.Views.{numbers_at, place_seen};
+
+use crate::place::Place;
+use lowered_expressions::{
+    Around, Body, Operand, Step, argument, call, expression, given_to, kind, kind_of, lacks, operand,
+    private_kind, slot_is_private, slot_shape, wanted,
+};
+use sc_text::Name;
+use secrec_ast::DataType;
+use std::alloc::{AllocError, Global};
+use typed_tree::{Shape, TypedExpression};
+
+/// `return`, with a value or without. An error comes where memory runs short, here as in what follows.
+pub fn returning(
+    alloc: Global,
+    body: &mut Body<'_>,
+    at: &Place<'_>,
+    e: &Option<TypedExpression>,
+) -> Result<(), AllocError>
+    ensures { OnOk result (built body.new ≡
+        with_command (numbers_at at.now) (place_seen at.now) (built body.old) (return_command (optional_tree e.now))) }
+{
+    let Some(e) = e else {
+        return body.push(Step::ReturnNone);
+    };
+    let source = argument(alloc, body, &at.around, at.secret_result, e)?;
+    body.push(Step::Return { source })
+}
+
+/// An assertion.
+pub fn assertion(
+    alloc: Global,
+    body: &mut Body<'_>,
+    around: &Around<'_>,
+    line: u32,
+    e: &TypedExpression,
+) -> Result<(), AllocError>
+    ensures { OnOk result (built body.new ≡
+        with_leaf (numbers_of around.now) (here_of around.now) (built body.old) (assert_command line (typed_tree e.now))) }
+{
+    let condition = body.next_register();
+    expression(alloc, body, around, e)?;
+    body.push(Step::Assert { line, condition })
+}
+
+/// A value that is given to the client, under a name.
+pub fn publishing<'p>(
+    alloc: Global,
+    body: &mut Body<'p>,
+    around: &Around<'_>,
+    text: &'p Name,
+    e: &TypedExpression,
+) -> Result<(), AllocError>
+    ensures { OnOk result (built body.new ≡
+        with_leaf (numbers_of around.now) (here_of around.now) (built body.old) (publish_command text.now (typed_tree e.now))) }
+{
+    let source = body.next_register();
+    expression(alloc, body, around, e)?;
+    body.push(Step::Publish { text, source })
+}
+
+/// A value that is stored in a slot.
+pub fn store(
+    alloc: Global,
+    body: &mut Body<'_>,
+    around: &Around<'_>,
+    slot: usize,
+    e: &TypedExpression,
+) -> Result<(), AllocError>
+    ensures { OnOk result (built body.new ≡
+        with_leaf (numbers_of around.now) (here_of around.now) (built body.old) (store_command slot (typed_tree e.now))) }
+{
+    let private = slot_is_private(&around.here, slot);
+    let source = argument(alloc, body, around, private, e)?;
+    body.push(Step::Store { to: slot, source })
+}
+
+// The number of a shape among those of the registers that nothing writes.
+fn shape_number(shape: Shape) -> usize
+    ensures number { result ≡ shape_number shape }
+    ensures few { result < 4 }
+{
+    let element = match shape.element {
+        DataType::Uint64 => 0,
+        DataType::Bool => 2,
+    };
+    if shape.array { element + 1 } else { element }
+}
+
+/// What a declaration without a value stores: 0, false or the empty array, of a register that nothing writes.
+pub fn default_store(
+    body: &mut Body<'_>,
+    around: &Around<'_>,
+    slot: usize,
+) -> Result<(), AllocError>
+    ensures { OnOk result (built body.new ≡
+        with_leaf (numbers_of around.now) (here_of around.now) (built body.old) (default_command slot)) }
+{
+    let here = &around.here;
+    let shape = slot_shape(here, slot);
+    let classified = body.fresh(kind_of(true, shape))?;
+    let source = wanted(
+        body,
+        Operand {
+            lacks: lacks(slot_is_private(here, slot), false),
+            classified,
+            value: here.slots.len() + shape_number(shape),
+        },
+    )?;
+    body.push(Step::Store { to: slot, source })
+}
+
+/// The input of a name, stored in a slot.
+pub fn input<'p>(
+    body: &mut Body<'p>,
+    around: &Around<'_>,
+    line: u32,
+    slot: usize,
+    text: &'p Name,
+) -> Result<(), AllocError>
+    ensures { OnOk result (built body.new ≡
+        with_leaf (numbers_of around.now) (here_of around.now) (built body.old) (input_command line slot text.now)) }
+{
+    let here = &around.here;
+    let kind = kind_of(slot_is_private(here, slot), slot_shape(here, slot));
+    let to = body.fresh(kind)?;
+    body.push(Step::Argument {
+        line,
+        kind,
+        text,
+        to,
+    })?;
+    body.push(Step::Store {
+        to: slot,
+        source: to,
+    })
+}
+
+/// What is done with a number and a value.
+#[derive(Clone, Copy)]
+pub enum Pair {
+    /// An array of so many elements, each the value.
+    Fill,
+    /// The value at this place of an array.
+    Put,
+}
+
+fn pair_step<'p>(pair: Pair, line: u32, slot: usize, number: usize, value: usize) -> Step<'p>
+    ensures { step_seen result ≡ pair_step pair line slot number value }
+{
+    match pair {
+        Pair::Fill => Step::Fill {
+            line,
+            to: slot,
+            size: number,
+            value,
+        },
+        Pair::Put => Step::Put {
+            line,
+            array: slot,
+            index: number,
+            value,
+        },
+    }
+}
+
+/// A number and a value with which an array in a slot is filled, or one of its elements is written.
+pub fn pair_store(
+    alloc: Global,
+    body: &mut Body<'_>,
+    around: &Around<'_>,
+    pair: Pair,
+    line: u32,
+    slot: usize,
+    number: &TypedExpression,
+    e: &TypedExpression,
+) -> Result<(), AllocError>
+    ensures { OnOk result (built body.new ≡ with_leaf (numbers_of around.now) (here_of around.now) (built body.old)
+        (pair_command pair line slot (typed_tree number.now) (typed_tree e.now))) }
+{
+    let private = slot_is_private(&around.here, slot);
+    let classified = body.fresh(private_kind(&around.here, e))?;
+    let first = body.next_register();
+    expression(alloc, body, around, number)?;
+    let second = operand(alloc, body, around, private, classified, e)?;
+    body.push(pair_step(pair, line, slot, first, second))
+}
+
+/// An expression that is evaluated for what it does: a call has a register for what it gives only if it gives something.
+pub fn unread(
+    alloc: Global,
+    body: &mut Body<'_>,
+    around: &Around<'_>,
+    e: &TypedExpression,
+) -> Result<(), AllocError>
+    ensures { OnOk result (built body.new ≡
+        with_leaf (numbers_of around.now) (here_of around.now) (built body.old) (evaluate_command (typed_tree e.now))) }
+{
+    let TypedExpression::Call(line, function, list) = e else {
+        return expression(alloc, body, around, e);
+    };
+    let own = body.fresh(kind(alloc, &around.here, e)?)?;
+    let to = given_to(&around.here, *function, own);
+    call(alloc, body, around, *line, *function, to, list)
+}

@@ -1,0 +1,181 @@
+// The code of functions.
+ghost use Rattle.std.specs.Prelude.{◌≡◌, ◌++◌, IfOk, OnOk, false, map};
+ghost use Rattle.typed_tree.specs.Programs.{typed_function_tree};
+ghost use Rattle.code_model.specs.Commands.{default_kinds, defaults_behind};
+ghost use Rattle.code_model.specs.Kinds.{kind_of, slot_kind};
+ghost use Rattle.typed_tree.specs.Shapes.{shape_of};
+ghost use Rattle.code_model.specs.Programs.{function_code, given_kind, nothing_code};
+ghost use Rattle.lowered_expressions.specs.Views.{built, here_of, numbers_of, piece_seen, step_seen};
+ghost use Rattle.lowering.specs.Pieces.{placed, with_last};
+ghost use Rattle.lowering.specs.Views.{function_seen};
+
+use crate::place::Place;
+use crate::statements::statements;
+use bytecode::Kind;
+use lowered_expressions::{Around, Body, Piece, Step, is_private, kind_of};
+use reached_instances::{BoundDomain, domain_under, given_domain};
+use secrec_ast::DataType;
+use std::alloc::{AllocError, Global};
+use typed_tree::{Given, Shape, Slot, TypedFunction};
+
+/// The code of a function, with numbers as large as they come.
+#[derive(Drop)]
+pub struct FunctionSteps<'p> {
+    pub parameters: usize,
+    pub gives: Option<Kind>,
+    pub registers: Vec<Kind>,
+    pub steps: Vec<Step<'p>>,
+}
+
+// The kind of what stands in a slot.
+fn slot_kind(binding: &[BoundDomain], slot: Slot) -> Kind
+    ensures { result ≡ slot_kind binding.now slot }
+{
+    kind_of(is_private(domain_under(binding, slot.domain)), slot.shape)
+}
+
+// The kind of what a function gives back, if anything.
+fn given_kind(binding: &[BoundDomain], given: Given) -> Option<Kind>
+    ensures { result ≡ given_kind binding.now given }
+{
+    match given {
+        Given::Nothing => None,
+        Given::Value(slot) => Some(slot_kind(binding, slot)),
+    }
+}
+
+fn public_kind(element: DataType, array: bool) -> Kind
+    ensures { result ≡ kind_of false (shape_of element array) }
+{
+    kind_of(false, Shape { element, array })
+}
+
+// A register of each shape behind the slots, which nothing writes.
+fn push_defaults(registers: &mut Vec<Kind>) -> Result<(), AllocError>
+    ensures { OnOk result (registers.new.items ≡ registers.old.items ++ default_kinds) }
+{
+    registers.extend_from_slice(&[
+        public_kind(DataType::Uint64, false),
+        public_kind(DataType::Uint64, true),
+        public_kind(DataType::Bool, false),
+        public_kind(DataType::Bool, true),
+    ])
+}
+
+// The kinds of the slots.
+fn slot_kinds(
+    alloc: Global,
+    binding: &[BoundDomain],
+    slots: &[Slot],
+) -> Result<Vec<Kind>, AllocError>
+    ensures { IfOk result (λ kinds. kinds.items ≡ map (slot_kind binding.now) slots.now) }
+{
+    let mut kinds = Vec::new(alloc);
+    for slot in slots {
+        kinds.push(slot_kind(binding, *slot))?;
+    }
+    Ok(kinds)
+}
+
+// The registers in front of those of the body: the slots, and behind them those of the defaults, if there is a slot.
+fn first_registers(
+    alloc: Global,
+    binding: &[BoundDomain],
+    slots: &[Slot],
+) -> Result<Vec<Kind>, AllocError>
+    ensures { IfOk result (λ kinds. kinds.items ≡ map (slot_kind binding.now) slots.now ++ defaults_behind slots.now) }
+{
+    let mut registers = slot_kinds(alloc, binding, slots)?;
+    if !slots.is_empty() {
+        push_defaults(&mut registers)?;
+    }
+    Ok(registers)
+}
+
+// The last step: nothing is given back, or a register that nothing writes.
+fn push_last(
+    body: &mut Body<'_>,
+    binding: &[BoundDomain],
+    given: Given,
+) -> Result<(), AllocError>
+    ensures { OnOk result (built body.new ≡ with_last (built body.old) binding.now given) }
+{
+    match given {
+        Given::Nothing => body.push(Step::ReturnNone),
+        Given::Value(slot) => {
+            let source = body.fresh(slot_kind(binding, slot))?;
+            body.push(Step::Return { source })
+        }
+    }
+}
+
+// The step of a piece, where breaks and continues lead to a place.
+fn placed<'p>(piece: Piece<'p>, end: usize) -> Step<'p>
+    ensures { step_seen result ≡ placed end end (piece_seen piece.entry) }
+{
+    match piece {
+        Piece::Whole(step) => step,
+        Piece::Break | Piece::Continue => Step::Jump { target: end },
+    }
+}
+
+// The steps of pieces.
+fn all_placed<'p>(
+    alloc: Global,
+    pieces: Vec<Piece<'p>>,
+    end: usize,
+) -> Result<Vec<Step<'p>>, AllocError>
+    ensures { IfOk result (λ steps. map step_seen steps.items ≡ map (placed end end) (map piece_seen pieces.entry.items)) }
+{
+    let mut steps = Vec::with_capacity(alloc, pieces.len())?;
+    for piece in pieces {
+        steps.push(placed(piece, end))?;
+    }
+    Ok(steps)
+}
+
+/// The code of a function under a binding: its slots are the first registers; a break outside of a loop would lead behind the body. An
+/// error comes where memory runs short.
+pub fn function_steps<'p>(
+    alloc: Global,
+    around: &Around<'_>,
+    function: &'p TypedFunction,
+) -> Result<FunctionSteps<'p>, AllocError>
+    requires { around.now.here.slots.now ≡ function.now.slots.items }
+    ensures { IfOk result (λ f. function_seen f ≡ function_code (numbers_of around.now) (here_of around.now).functions
+        (typed_function_tree function.now) (here_of around.now).binding) }
+{
+    let binding = around.here.binding;
+    let at = Place {
+        around: *around,
+        secret_result: is_private(given_domain(binding, function.given)),
+    };
+    let registers = first_registers(alloc, binding, &function.slots)?;
+    let mut body = Body {
+        registers,
+        pieces: Vec::new(alloc),
+    };
+    statements(alloc, &mut body, &at, &function.body)?;
+    let end = body.next_place();
+    push_last(&mut body, binding, function.given)?;
+    let Body { registers, pieces } = body;
+    let steps = all_placed(alloc, pieces, end)?;
+    Ok(FunctionSteps {
+        parameters: function.parameters,
+        gives: given_kind(binding, function.given),
+        registers,
+        steps,
+    })
+}
+
+/// The code of an instance whose function isn't there.
+pub fn nothing_steps<'p>(alloc: Global) -> FunctionSteps<'p>
+    ensures { function_seen result ≡ nothing_code }
+{
+    FunctionSteps {
+        parameters: 0,
+        gives: None,
+        registers: Vec::new(alloc),
+        steps: Vec::new(alloc),
+    }
+}

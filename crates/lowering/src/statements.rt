@@ -1,0 +1,165 @@
+// The code of statements with others in them. They call one another, so they stand together.
+ghost use Rattle.std.specs.Prelude.{◌≡◌, OnOk, map};
+ghost use Rattle.typed_tree.specs.Tree.{typed_tree};
+ghost use Rattle.typed_tree.specs.Commands.{command, commands_of, do_command, if_command, loop_command};
+ghost use Rattle.lowered_expressions.specs.Views.{built};
+ghost use Rattle.lowering.specs.Pieces.{with_command, with_commands};
+ghost use Rattle.lowering.specs.Views.{numbers_at, place_seen};
+
+use crate::commands::{
+    Pair, assertion, default_store, input, pair_store, publishing, returning, store, unread,
+};
+use crate::place::Place;
+use crate::settling::{push, settle};
+use lowered_expressions::{Body, Piece, Step, expression};
+use std::alloc::{AllocError, Global};
+use typed_tree::{TypedExpression, TypedStatement};
+
+/// Puts the registers and the code of a statement behind a body. An error comes where memory runs short.
+#[cycle(statements)]
+fn statement<'p>(
+    alloc: Global,
+    body: &mut Body<'p>,
+    at: &Place<'_>,
+    s: &'p TypedStatement,
+) -> Result<(), AllocError>
+    ensures { OnOk result (built body.new ≡ with_command (numbers_at at.now) (place_seen at.now) (built body.old) (command s.now)) }
+{
+    match s {
+        TypedStatement::Empty => Ok(()),
+        TypedStatement::Block(list) => statements(alloc, body, at, list),
+        TypedStatement::If(e, first, second) => choice(alloc, body, at, e, first, second),
+        TypedStatement::Loop(e, step, repeated) => turns(alloc, body, at, e, step, repeated),
+        TypedStatement::DoWhile(repeated, e) => repeats(alloc, body, at, repeated, e),
+        TypedStatement::Break => push(body, Piece::Break),
+        TypedStatement::Continue => push(body, Piece::Continue),
+        TypedStatement::Return(e) => returning(alloc, body, at, e),
+        TypedStatement::Assert(line, e) => assertion(alloc, body, &at.around, *line, e),
+        TypedStatement::Store(slot, e) => store(alloc, body, &at.around, *slot, e),
+        TypedStatement::StoreDefault(slot) => default_store(body, &at.around, *slot),
+        TypedStatement::Fill(line, slot, size, e) => {
+            pair_store(alloc, body, &at.around, Pair::Fill, *line, *slot, size, e)
+        }
+        TypedStatement::Input(line, slot, text) => {
+            input(body, &at.around, *line, *slot, text)
+        }
+        TypedStatement::StoreElement(line, slot, position, e) => {
+            pair_store(alloc, body, &at.around, Pair::Put, *line, *slot, position, e)
+        }
+        TypedStatement::Publish(text, e) => publishing(alloc, body, &at.around, text, e),
+        TypedStatement::Evaluate(e) => unread(alloc, body, &at.around, e),
+    }
+}
+
+/// Likewise for statements one after another.
+#[cycle(statements)]
+pub fn statements<'p>(
+    alloc: Global,
+    body: &mut Body<'p>,
+    at: &Place<'_>,
+    list: &'p Vec<TypedStatement>,
+) -> Result<(), AllocError>
+    ensures { OnOk result (built body.new ≡
+        with_commands (numbers_at at.now) (place_seen at.now) (built body.old) (commands_of (map command list.now.items))) }
+{
+    for each in list {
+        statement(alloc, body, at, each)?;
+    }
+    Ok(())
+}
+
+// The one statement or the other.
+#[cycle(statements)]
+fn choice<'p>(
+    alloc: Global,
+    body: &mut Body<'p>,
+    at: &Place<'_>,
+    e: &TypedExpression,
+    first: &'p TypedStatement,
+    second: &'p TypedStatement,
+) -> Result<(), AllocError>
+    ensures { OnOk result (built body.new ≡ with_command (numbers_at at.now) (place_seen at.now) (built body.old)
+        (if_command (typed_tree e.now) (command first.now) (command second.now))) }
+{
+    let condition = body.next_register();
+    expression(alloc, body, &at.around, e)?;
+    let branch = body.next_place();
+    body.push(Step::ReturnNone)?;
+    statement(alloc, body, at, first)?;
+    let jump = body.next_place();
+    body.push(Step::ReturnNone)?;
+    let target = body.next_place();
+    statement(alloc, body, at, second)?;
+    let end = body.next_place();
+    body.set(
+        branch,
+        Step::Branch {
+            condition,
+            value: false,
+            target,
+        },
+    );
+    body.set(jump, Step::Jump { target: end });
+    Ok(())
+}
+
+// A loop: its test stands behind the body and the step.
+#[cycle(statements)]
+fn turns<'p>(
+    alloc: Global,
+    body: &mut Body<'p>,
+    at: &Place<'_>,
+    e: &TypedExpression,
+    step: &'p TypedStatement,
+    repeated: &'p TypedStatement,
+) -> Result<(), AllocError>
+    ensures { OnOk result (built body.new ≡ with_command (numbers_at at.now) (place_seen at.now) (built body.old)
+        (loop_command (typed_tree e.now) (command step.now) (command repeated.now))) }
+{
+    let jump = body.next_place();
+    body.push(Step::ReturnNone)?;
+    let start = body.next_place();
+    statement(alloc, body, at, repeated)?;
+    let onward = body.next_place();
+    statement(alloc, body, at, step)?;
+    let test = body.next_place();
+    let condition = body.next_register();
+    expression(alloc, body, &at.around, e)?;
+    body.push(Step::Branch {
+        condition,
+        value: true,
+        target: start,
+    })?;
+    let end = body.next_place();
+    body.set(jump, Step::Jump { target: test });
+    settle(body, start, onward, end, onward);
+    settle(body, onward, test, end, test);
+    Ok(())
+}
+
+// A loop whose test stands behind each turn.
+#[cycle(statements)]
+fn repeats<'p>(
+    alloc: Global,
+    body: &mut Body<'p>,
+    at: &Place<'_>,
+    repeated: &'p TypedStatement,
+    e: &TypedExpression,
+) -> Result<(), AllocError>
+    ensures { OnOk result (built body.new ≡ with_command (numbers_at at.now) (place_seen at.now) (built body.old)
+        (do_command (command repeated.now) (typed_tree e.now))) }
+{
+    let start = body.next_place();
+    statement(alloc, body, at, repeated)?;
+    let test = body.next_place();
+    let condition = body.next_register();
+    expression(alloc, body, &at.around, e)?;
+    body.push(Step::Branch {
+        condition,
+        value: true,
+        target: start,
+    })?;
+    let end = body.next_place();
+    settle(body, start, test, end, test);
+    Ok(())
+}
