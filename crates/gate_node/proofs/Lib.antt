@@ -1,0 +1,5 @@
+pub mod Always
+pub mod Suiting
+pub mod OwnGates
+pub mod Shares
+pub mod Tapes

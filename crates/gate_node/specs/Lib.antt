@@ -1,0 +1,4 @@
+pub mod Suiting
+pub mod OwnGates
+pub mod Laws
+pub mod Shares
