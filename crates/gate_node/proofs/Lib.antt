@@ -3,3 +3,5 @@ pub mod Suiting
 pub mod OwnGates
 pub mod Shares
 pub mod Tapes
+pub mod Blocks
+pub mod Turns

@@ -2,3 +2,4 @@ pub mod Suiting
 pub mod OwnGates
 pub mod Laws
 pub mod Shares
+pub mod Nodes
