@@ -1,5 +1,5 @@
 -- What a strand ends with, whatever messages come, also ones that it would not take.
-use Rattle.std.proofs.Common.{◌≡◌, ℕ, ◌+◌, Bool, List, [], ◌∷◌, ◌++◌, length, map, take, drop, refl, sym, ◌∙◌, ap, subst}
+use Rattle.std.proofs.Common.{◌≡◌, ℕ, ◌+◌, Bool, List, [], ◌∷◌, length, map, take, drop, refl, sym, ◌∙◌, ap, subst}
 use Rattle.share_ring.specs.Rings.{add_ring, xor_ring}
 use Rattle.proto_core.specs.declared.party.Number.{Number}
 use Rattle.proto_core.specs.declared.party.Number.TheVariants.{One, Two, Three}

@@ -1,11 +1,10 @@
 -- A gate at work, block by block, is the gate.
-use Rattle.std.proofs.Common.{◌≡◌, ℕ, zero, suc, ◌+◌, ◌-◌, ◌*◌, ◌<◌, ◌≤◌, min, Bool, true, false, ◌&&◌, nat_le, if◌then◌else◌, List, [], ◌∷◌, ◌++◌, length, map, take, drop, refl, sym, ◌∙◌, ap, subst, arith, length-drop, Some, None, IsTrue, ◌↔◌, get_or, drop-cons, add-one}
+use Rattle.std.proofs.Common.{◌≡◌, ℕ, suc, ◌+◌, ◌-◌, ◌<◌, ◌≤◌, min, Bool, true, false, ◌&&◌, nat_le, if◌then◌else◌, List, [], ◌∷◌, ◌++◌, length, take, drop, refl, sym, ◌∙◌, ap, subst, arith, Some, None, IsTrue, ◌↔◌, get_or, drop-cons, add-one}
 use Rattle.std.specs.Prelude.{Option}
 use Rattle.std.proofs.lemmas.Bool.{le-leb, lt-leb, leb-true, and_parts}
 use Rattle.std.proofs.lemmas.List.{drop-drop, drop-take, length-take-le, length-map}
 use Rattle.std.proofs.Math.Seq.{take-add}
 use Rattle.proto_core.specs.declared.party.Number.{Number}
-use Rattle.proto_core.specs.declared.party.Number.TheVariants.{One, Two, Three}
 use Rattle.proto_core.specs.Protocol.{Protocol}
 use Rattle.proto_core.specs.Strand.{Strand, Ends, then_do}
 use Rattle.proto_core.proofs.MessageFields.{take-front}
@@ -16,9 +15,9 @@ use Rattle.gates.specs.declared.gate.Gate.{Gate}
 use Rattle.gates.specs.declared.gate.Gate.TheVariants.{Mul, And, Split, Conv, Open, Result}
 use Rattle.gates.specs.Counts.{size_of}
 use Rattle.gates.specs.Clear.{Values, value}
-use Rattle.blocked_protocol.specs.Blocked.{joined, emptied, no_elements, blocked, blocks_strand, Blockable}
+use Rattle.blocked_protocol.specs.Blocked.{joined, emptied, no_elements, blocks_strand, Blockable}
 use Rattle.shared_gates.specs.LocalGates.{local_share, IsLocal}
-use Rattle.shared_gates.specs.Model.{SizesSuit, run_gate}
+use Rattle.shared_gates.specs.Model.{SizesSuit}
 use Rattle.shared_gates.proofs.Models.{value_at-value, size-value}
 use Rattle.joint_run.specs.declared.exchange.Exchange.{Exchange}
 use Rattle.joint_run.specs.declared.exchange.Exchange.TheVariants.{Product, Splitting, Conversion, Opening, Resharing}
@@ -28,7 +27,6 @@ use Rattle.joint_run.specs.Steps.{IsExchanged, second_value}
 use Rattle.joint_run.proofs.Blockwise.{blockable-of, first-block, joined-assoc}
 use Rattle.joint_run.proofs.GateSteps.{local-gate, exchanged-gate, local-draws}
 use Rattle.gate_node.specs.OwnGates.{Halted, Stuck, own_gate, own_draws, can_run, own_gates}
-use Rattle.gate_node.specs.Suiting.{suits}
 use Rattle.gate_node.specs.Nodes.{blocks_then}
 use Rattle.gate_node.proofs.Suiting.{test-is}
 use Rattle.gate_node.proofs.Always.{HaveSizes, then-same, then-all, then-assoc, gate-sized}

@@ -1,5 +1,5 @@
 -- Shares that are joined block by block.
-use Rattle.std.proofs.Common.{◌≡◌, ℕ, Bool, true, false, ◌&&◌, List, [], ◌∷◌, ◌++◌, refl, sym, ◌∙◌, ap, Some, None}
+use Rattle.std.proofs.Common.{◌≡◌, ℕ, Bool, true, false, ◌&&◌, List, [], ◌∷◌, ◌++◌, refl, ◌∙◌, ap, Some, None}
 use Rattle.proto_core.proofs.Beginnings.{append-none}
 use Rattle.blocked_protocol.specs.Blocked.{joined, no_elements}
 use Rattle.joint_run.specs.declared.exchange.Exchange.{Exchange}

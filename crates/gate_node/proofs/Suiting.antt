@@ -1,5 +1,5 @@
 -- The test of what a gate asks of its operands is right.
-use Rattle.std.proofs.Common.{◌≡◌, ℕ, ◌+◌, ◌<◌, ◌≤◌, Bool, true, false, ◌==◌, ◌&&◌, nat_lt, nat_le, IsTrue, ◌↔◌, List, length, refl, sym, ◌∙◌, ap, arith}
+use Rattle.std.proofs.Common.{◌≡◌, ℕ, ◌+◌, ◌<◌, ◌≤◌, Bool, true, false, ◌==◌, ◌&&◌, nat_lt, nat_le, IsTrue, ◌↔◌, List, length, refl}
 use Rattle.std.proofs.lemmas.Bool.{lt-ltb, ltb-true, le-leb, leb-true, eqb-true, eq-eqb}
 use Rattle.gates.specs.declared.gate.Gate.{Gate}
 use Rattle.gates.specs.declared.gate.Gate.TheVariants.{Input, Const, Add, Sub, MulPub, Mul, Xor, And, Not, Shl, Shr, Low, Cat, Part, Put, Rep, Spread, Sum, Split, Conv, Open, Result}
@@ -30,8 +30,7 @@ same m n = (eqb-true m n, eq-eqb m n)
 pair : (sizes : List ℕ) (u v : ℕ) → IsTrue (are_pair sizes u v) ↔ PairOf sizes u v
 pair sizes u v =
     let parts = both (is_there sizes u) (is_there sizes v && (size_of sizes u == size_of sizes v)) (less u (length sizes))
-    (both (is_there sizes v) (size_of sizes u == size_of sizes v) (less v (length sizes)) (same (size_of sizes u) (size_of sizes v))) in
-    (
+    (both (is_there sizes v) (size_of sizes u == size_of sizes v) (less v (length sizes)) (same (size_of sizes u) (size_of sizes v))) in (
       λ h. let k = parts.0 h in record { first = k.0; second = k.1.0; same_size = k.1.1 },
       λ h. parts.1 (h.first, (h.second, h.same_size)),
     )
@@ -44,8 +43,7 @@ put :
     IsTrue (is_there sizes u && (is_there sizes v && (nat_lt index (size_of sizes u) && (size_of sizes v == 1))))
     ↔ ((u < length sizes) × (v < length sizes) × (index < size_of sizes u) × (size_of sizes v ≡ 1))
 put sizes u index v =
-    let parts = both _ _ (there sizes u) (both _ _ (there sizes v) (both _ _ (less index (size_of sizes u)) (same (size_of sizes v) 1))) in
-    (
+    let parts = both _ _ (there sizes u) (both _ _ (there sizes v) (both _ _ (less index (size_of sizes u)) (same (size_of sizes v) 1))) in (
       λ h. let k = parts.0 h in (k.0, k.1.0, k.1.1.0, k.1.1.1),
       λ h. parts.1 (h.0, (h.1, (h.2, h.3))),
     )

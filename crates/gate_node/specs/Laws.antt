@@ -15,7 +15,8 @@ abbrev pub SuitsWhereTested : Type 0
 SuitsWhereTested = (dealt sizes : List ℕ) (gate : Gate) → IsTrue (suits dealt sizes gate) ↔ SizesSuit dealt sizes gate
 
 -- where gates suit and the tape reaches, a miner's gates are its part in the run of them, whatever the others were dealt
-abbrev pub AreItsPartOfTheRun : Number → Values → (Number → Values) → List Gate → (values : Values) → (tape : List ℕ) → (run : List model.Gate) → Type 0
+abbrev pub AreItsPartOfTheRun :
+    Number → (dealt : Values) → (all_dealt : Number → Values) → List Gate → (values : Values) → (tape : List ℕ) → (run : List model.Gate) → Type 0
 AreItsPartOfTheRun i dealt all_dealt gates values tape run =
     all_dealt i ≡ dealt → AllSizesSuit (sizes_of dealt) (sizes_of values) gates →
     run ≡ run_gates all_dealt (sizes_of dealt) (sizes_of values) gates → needed run i ≤ length tape →

@@ -1,5 +1,5 @@
 -- One miner runs gates, one after another, by what it was dealt and its own values.
-use Rattle.std.specs.Prelude.{ℕ, Bool, ◌&&◌, nat_le, if◌then◌else◌, List, [], ◌∷◌, ◌++◌, length, drop}
+use Rattle.std.specs.Prelude.{ℕ, Bool, ◌&&◌, nat_le, if◌then◌else◌, List, [], ◌∷◌, length, drop}
 use Rattle.proto_core.specs.declared.party.Number.{Number}
 use Rattle.proto_core.specs.Strand.{Strand, Ends, then_do}
 use Rattle.protocol_model.specs.Gates.{sizes_of, needed, gates_strand}

@@ -159,7 +159,13 @@ impl<P: Party> Engine<P> {
         }
         let gate = &self.gates[self.begun];
         self.begun += 1;
-        match begins(P::number(), &self.dealt, &self.values, self.tape.left(), gate) {
+        match begins(
+            P::number(),
+            &self.dealt,
+            &self.values,
+            self.tape.left(),
+            gate,
+        ) {
             Beginning::Unfit => self.work = Work::Halt,
             Beginning::Alone => {
                 let share = local_share(self.alloc, P::number(), &self.dealt, &self.values, gate)?;

@@ -14,8 +14,6 @@ mod running;
 mod stand;
 mod tape;
 
-pub use laws::{
-    gates_are_its_part_of_the_run, later_gates_are_run_behind, the_test_is_right,
-};
+pub use laws::{gates_are_its_part_of_the_run, later_gates_are_run_behind, the_test_is_right};
 pub use node::GateNode;
 pub use stand::Stand;

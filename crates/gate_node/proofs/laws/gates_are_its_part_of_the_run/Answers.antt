@@ -1,6 +1,6 @@
 use Rattle.std.proofs.Common.{◌≡◌, ◌≤◌, length, drop, sym, subst}
 use Rattle.proto_core.specs.Strand.{Ends, then_do}
-use Rattle.protocol_model.specs.Gates.{sizes_of, needed, gates_strand}
+use Rattle.protocol_model.specs.Gates.{needed, gates_strand}
 use Rattle.gate_node.specs.OwnGates.{Whole, own_gates}
 use Rattle.gate_node.proofs.OwnGates.{its-part}
 use Rattle.gate_node.proofs.laws.gates_are_its_part_of_the_run.Goals as goal

@@ -1,4 +1,4 @@
-use Rattle.std.proofs.Common.{◌≡◌, ℕ, length}
+use Rattle.std.proofs.Common.{◌≡◌, length}
 use Rattle.gate_node.specs.Nodes.{gates_left, engine_outcome, IsSound, Keeps}
 use Rattle.gate_node.proofs.engine.Engine.advance.Given as goal
 

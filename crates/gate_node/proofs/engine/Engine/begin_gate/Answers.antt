@@ -1,13 +1,12 @@
-use Rattle.std.proofs.Common.{◌≡◌, ◌≤◌, ◌<◌, ◌+◌, ◌-◌, List, [], ◌∷◌, ◌++◌, length, drop, true, refl, sym, ◌∙◌, ap, subst, arith}
+use Rattle.std.proofs.Common.{◌≡◌, ◌≤◌, ◌<◌, ◌+◌, ◌-◌, ◌++◌, length, drop, true, sym, ◌∙◌, ap, subst, arith}
 use Rattle.std.proofs.lemmas.List.{drop_all}
-use Rattle.proto_core.specs.Strand.{Ends}
 use Rattle.protocol_model.specs.Gates.{sizes_of}
 use Rattle.gates.specs.Clear.{value}
 use Rattle.joint_run.specs.Exchanges.{protocol_of}
 use Rattle.joint_run.specs.Steps.{second_value}
 use Rattle.block_steps.specs.Outcomes.{outcome_of}
 use Rattle.gate_node.specs.OwnGates.{can_run, own_gates}
-use Rattle.gate_node.specs.Nodes.{blocks_then, gates_left, gates_then, work_left}
+use Rattle.gate_node.specs.Nodes.{blocks_then, work_left}
 use Rattle.gate_node.proofs.Blocks.{drop-front, gate-begins, can-suits, can-reach, second-sized, draws-are}
 use Rattle.gate_node.proofs.engine.Engine.begin_gate.Goals as goal
 

@@ -1,4 +1,4 @@
-use Rattle.std.proofs.Common.{◌≡◌, ℕ}
+use Rattle.std.proofs.Common.{◌≡◌}
 use Rattle.gate_node.specs.Nodes.{engine_outcome, IsSound, KeepsGates, measure}
 use Rattle.gate_node.proofs.engine.Engine.finish.Given as goal
 

@@ -1,5 +1,5 @@
-use Rattle.std.proofs.Common.{◌≡◌, ℕ, List, [], ◌∷◌, ◌++◌, ap, sym, subst, ◌∙◌}
-use Rattle.proto_core.specs.Strand.{Ends, then_do}
+use Rattle.std.proofs.Common.{◌≡◌, ap, subst, ◌∙◌}
+use Rattle.proto_core.specs.Strand.{Ends}
 use Rattle.blocked_protocol.specs.Blocked.{joined}
 use Rattle.block_steps.specs.Outcomes.{outcome_of}
 use Rattle.block_steps.specs.Pendings.{pending_left, progress_left, StandsThen}
@@ -32,8 +32,7 @@ returns-in-Stands-clause-stands g c =
     let e = c.args.self.now in
     let r = c.args.running in
     let b = c.step.new.links in
-    let s = pending_left i c.in-Stands.block in
-    (
+    let s = pending_left i c.in-Stands.block in (
       stands-behind i b s (λ here. running_left i e r (joined r.made here)) (subst (StandsThen (pending_left i) i b) c.in-Stands.is c.in_ok-block.ensures.stands),
       awaits-behind c.awaits-link.result s (λ here. running_left i e r (joined r.made here)) c.awaits-link.ensures,
     )

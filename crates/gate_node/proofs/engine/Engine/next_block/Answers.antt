@@ -1,4 +1,4 @@
-use Rattle.std.proofs.Common.{◌≡◌, ◌≤◌, ◌+◌, ◌-◌, ℕ, List, [], ◌∷◌, ◌++◌, min, length, drop, sym, ◌∙◌, ap, subst, arith, length-drop}
+use Rattle.std.proofs.Common.{◌≡◌, ◌+◌, ◌-◌, length, sym, ◌∙◌, ap, arith, length-drop}
 use Rattle.proto_core.specs.Strand.{Ends}
 use Rattle.gates.specs.Clear.{value}
 use Rattle.joint_run.specs.Exchanges.{protocol_of}
