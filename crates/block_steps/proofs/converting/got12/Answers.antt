@@ -1,0 +1,15 @@
+use Rattle.block_steps.proofs.Deals.{turn12, refused12}
+use Rattle.block_steps.proofs.converting.got12.Goals as goal
+
+pub returns-in_ok-push-in-Ok-clause-same : goal.returns-in_ok-push-in-Ok-clause-same
+returns-in_ok-push-in-Ok-clause-same g c =
+    let l = c.args.links.now in
+    turn12 g.P.Party.me c.args.state c.in-Ok.state c.in-Some.msg c.in-Ok.reply
+    l.from_previous.1 c.take.new.self.1 l.from_next.1 l.to_next c.push.new.self l.to_previous l.opened.items
+    c.requires.second c.in-Some.ensures c.take.ensures.left c.in-Ok.ensures.ok c.in_ok-push-in-Ok.ensures.ok
+
+pub returns-in-Err-clause-stands : goal.returns-in-Err-clause-stands
+returns-in-Err-clause-stands g c =
+    let l = c.args.links.now in
+    refused12 g.P.Party.me c.args.state c.in-Err.refused.state c.in-Some.msg l.from_previous.1 l.from_next.1
+    c.requires.second c.in-Some.ensures c.in-Err.ensures.err.state c.in-Err.ensures.taken.1

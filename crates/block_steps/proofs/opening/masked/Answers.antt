@@ -1,0 +1,9 @@
+use Rattle.block_steps.proofs.Rings.{mask-turn}
+use Rattle.block_steps.proofs.opening.masked.Goals as goal
+
+pub returns-in_ok-push-in-Ok-2-clause-same : goal.returns-in_ok-push-in-Ok-2-clause-same
+returns-in_ok-push-in-Ok-2-clause-same g c =
+    let l = c.args.links.now in
+    mask-turn g.R.ShareRing.ring g.P.Party.me c.args.state c.in-Ok.state c.in-Some.msg c.in-Ok.next c.in-Ok.previous
+    l.from_previous.1 c.take.new.self.1 l.from_next.1 l.to_next c.push.new.self l.to_previous c.push-in-Ok.new.self l.opened.items
+    c.in-Some.ensures c.take.ensures.left c.in-Ok.ensures.ok c.in_ok-push-in-Ok.ensures.ok c.in_ok-push-in-Ok-2.ensures.ok

@@ -1,0 +1,4 @@
+pub mod Inboxes
+pub mod Outcomes
+pub mod Dealt
+pub mod Pendings

@@ -1,0 +1,81 @@
+ghost use Rattle.std.specs.Prelude.{◌≡◌, ◌≤◌, List, [], ◌∷◌, ◌++◌, length, drop, OnOk, OnErr};
+ghost use Rattle.proto_core.specs.Strand.{rest_of};
+ghost use Rattle.block_steps.specs.Inboxes.{FrontIs};
+
+use proto_core::{Messages, Msg};
+use std::alloc::{AllocError, Global};
+use std::marker::Model;
+
+/// The messages that came on a link, oldest first, and how many of them were taken.
+///
+/// Contracts see all messages, and beside them those that were not taken.
+#[derive(Drop)]
+pub struct Inbox {
+    messages: Messages,
+    taken: usize,
+}
+
+impl Model for Inbox {
+    ghost use Rattle.std.specs.Prelude.{◌≡◌, ◌≤◌, ℕ, List, length, drop};
+
+    ghost Value = { List (List ℕ) × List (List ℕ) };
+
+    ghost view = { λ b. (b.messages, drop b.taken b.messages) };
+
+    ghost invariant = { λ b. b.taken ≤ length b.messages };
+}
+
+impl Inbox {
+    /// No message came.
+    pub fn new(alloc: Global) -> Self
+        ensures { result ≡ ([], []) }
+    {
+        Inbox {
+            messages: Messages::new(alloc),
+            taken: 0,
+        }
+    }
+
+    /// A message comes; with no memory left the inbox is as before.
+    #[tactic(auto, using(crate::proofs::Inboxes::inbox_steps))]
+    pub fn push(&mut self, msg: &Msg) -> Result<(), AllocError>
+        ensures ok { OnOk result ((self.new.0 ≡ self.old.0 ++ msg.now ∷ []) × (self.new.1 ≡ self.old.1 ++ msg.now ∷ [])) }
+        ensures err { OnErr result (self.new ≡ self.old) }
+    {
+        self.messages.push(msg)
+    }
+
+    /// A copy of the oldest message that was not taken; `None` where all were.
+    #[tactic(auto, using(crate::proofs::Inboxes::inbox_steps))]
+    pub fn front(&self) -> Option<Msg>
+        ensures { FrontIs result self.now.1 }
+    {
+        self.messages.get(self.taken)
+    }
+
+    /// Takes the oldest message that was not taken, if there is one.
+    #[tactic(auto, using(crate::proofs::Inboxes::inbox_steps))]
+    pub fn take(&mut self)
+        ensures all { self.new.0 ≡ self.old.0 }
+        ensures left { self.new.1 ≡ rest_of self.old.1 }
+    {
+        if self.taken < self.messages.len() {
+            self.taken += 1;
+        }
+    }
+
+    /// All messages that came, taken or not.
+    pub fn messages(&self) -> &Messages
+        ensures { result.now ≡ self.now.0 }
+    {
+        &self.messages
+    }
+
+    /// How many messages were not taken.
+    #[tactic(auto, using(crate::proofs::Inboxes::inbox_steps))]
+    pub fn unread(&self) -> usize
+        ensures { result ≡ length self.now.1 }
+    {
+        self.messages.len() - self.taken
+    }
+}

@@ -1,0 +1,86 @@
+ghost use Rattle.std.specs.Prelude.{◌≡◌, List, [], ◌∷◌, ◌++◌, OnOk, OnErr};
+ghost use Rattle.block_steps.specs.Outcomes.{came_from_previous, came_from_next};
+
+use crate::inbox::Inbox;
+use proto_core::{Messages, Msg};
+use std::alloc::{AllocError, Global};
+
+/// What came on a miner's two links, what it has sent on the two others, and the words that it has opened.
+#[derive(Drop)]
+pub struct Links {
+    pub(crate) from_previous: Inbox,
+    pub(crate) from_next: Inbox,
+    pub(crate) to_next: Messages,
+    pub(crate) to_previous: Messages,
+    pub(crate) opened: Vec<u64>,
+}
+
+impl Links {
+    /// Nothing came, nothing was sent, and nothing opened.
+    pub fn new(alloc: Global) -> Self
+        ensures from_previous { result.from_previous ≡ ([], []) }
+        ensures from_next { result.from_next ≡ ([], []) }
+        ensures to_next { result.to_next ≡ [] }
+        ensures to_previous { result.to_previous ≡ [] }
+        ensures opened { result.opened.items ≡ [] }
+    {
+        Links {
+            from_previous: Inbox::new(alloc),
+            from_next: Inbox::new(alloc),
+            to_next: Messages::new(alloc),
+            to_previous: Messages::new(alloc),
+            opened: Vec::new(alloc),
+        }
+    }
+
+    /// A message comes from the previous miner; with no memory left all is as before.
+    pub fn receive_from_previous(&mut self, msg: &Msg) -> Result<(), AllocError>
+        ensures ok { OnOk result (self.new ≡ came_from_previous self.old msg.now) }
+        ensures err { OnErr result (self.new ≡ self.old) }
+    {
+        self.from_previous.push(msg)
+    }
+
+    /// A message comes from the next miner; with no memory left all is as before.
+    pub fn receive_from_next(&mut self, msg: &Msg) -> Result<(), AllocError>
+        ensures ok { OnOk result (self.new ≡ came_from_next self.old msg.now) }
+        ensures err { OnErr result (self.new ≡ self.old) }
+    {
+        self.from_next.push(msg)
+    }
+
+    /// What came from the previous miner.
+    pub fn from_previous(&self) -> &Inbox
+        ensures { result.now ≡ self.now.from_previous }
+    {
+        &self.from_previous
+    }
+
+    /// What came from the next miner.
+    pub fn from_next(&self) -> &Inbox
+        ensures { result.now ≡ self.now.from_next }
+    {
+        &self.from_next
+    }
+
+    /// The messages that went to the next miner, oldest first.
+    pub fn to_next(&self) -> &Messages
+        ensures { result.now ≡ self.now.to_next }
+    {
+        &self.to_next
+    }
+
+    /// The messages that went to the previous miner, oldest first.
+    pub fn to_previous(&self) -> &Messages
+        ensures { result.now ≡ self.now.to_previous }
+    {
+        &self.to_previous
+    }
+
+    /// The words that were opened, one block after another.
+    pub fn opened(&self) -> &[u64]
+        ensures { result.now ≡ self.now.opened.items }
+    {
+        &self.opened
+    }
+}

@@ -1,0 +1,180 @@
+// Numbers split into two words each, block by block.
+ghost use Rattle.std.specs.Prelude.{◌≡◌, ◌≤◌, length, OnOk, IfOk};
+ghost use Rattle.proto_core.specs.declared.party.Number.TheVariants as number;
+ghost use Rattle.split_share.specs.Splitting.{split_draws};
+ghost use Rattle.split_share.specs.SplitStrand.{split_strand, awaits12, awaits13};
+ghost use Rattle.block_steps.specs.Dealt.{splitting_left};
+ghost use Rattle.block_steps.specs.Outcomes.{outcome_of, AwaitsOn, Holds, IsBeside};
+ghost use Rattle.block_steps.specs.Pendings.{progress_left, StandsThen, Shorter, HasBegun};
+
+use crate::links::Links;
+use crate::progress::{Progress, untold};
+use proto_core::{Block, Link, Number, P1, P2, P3, Party};
+use split_share::{Sent, Split, Waiting};
+use std::alloc::AllocError;
+use std::marker::{Model, PhantomData};
+
+/// A miner's part in a block that is split, by miner. The first one deals, and awaits no message.
+#[derive(Drop)]
+pub enum Splitting {
+    /// The second miner awaits what the first one deals.
+    Two(Split<P2, Waiting>),
+    /// The third miner awaits what the first one deals.
+    Three(Split<P3, Waiting>),
+}
+
+/// The part of the miner `P` in a block that is split.
+#[derive(Drop)]
+pub struct Splits<P: Party> {
+    state: Splitting,
+    of: PhantomData<P>,
+}
+
+impl<P: Party> Model for Splits<P> {
+    ghost use Rattle.std.specs.Prelude.{◌≡◌};
+    ghost use Rattle.block_steps.specs.Dealt.{splits_at};
+    ghost use Rattle.block_steps.specs.declared.splitting.Splitting.{Splitting};
+
+    ghost Value = { Splitting };
+
+    ghost view = { λ c. c.state };
+
+    ghost invariant = { λ c. P.me ≡ splits_at c.state };
+}
+
+impl<P: Party> Splits<P> {
+    /// As far as the oldest message leads. Fails where memory is wanting.
+    pub fn step(self, links: &mut Links) -> Result<Progress<Splits<P>, P>, AllocError>
+        ensures same { IfOk result (λ to. outcome_of P.me links.new (progress_left splitting_left to)
+            ≡ outcome_of P.me links.old (splitting_left self)) }
+        ensures stands { IfOk result (λ to. StandsThen splitting_left P.me links.new to) }
+        ensures falls { IfOk result (λ to. Shorter links.old links.new to) }
+        ensures kept { OnOk result (Holds links.old links.new) }
+    {
+        match self.state {
+            Splitting::Two(state) => Ok(got12(state, links)),
+            Splitting::Three(state) => Ok(got13(state, links)),
+        }
+    }
+
+    /// The link on which a message is awaited.
+    pub fn awaits(&self) -> Link
+        ensures { AwaitsOn result (splitting_left self.now) }
+    {
+        match &self.state {
+            Splitting::Two(_) => Link::Link12,
+            Splitting::Three(_) => Link::Link13,
+        }
+    }
+}
+
+/// Begins a block: the first miner deals to both others, and is through.
+pub fn begin<P: Party>(
+    negated: bool,
+    u: &[u64],
+    words: &[u64],
+    links: &mut Links,
+) -> Result<Progress<Splits<P>, P>, AllocError>
+    requires short { length u.now ≤ 512 }
+    requires drawn { length words.now ≡ split_draws (length u.now) P.me }
+    ensures same { IfOk result (λ to. outcome_of P.me links.new (progress_left splitting_left to)
+        ≡ outcome_of P.me links.old (split_strand negated (length u.now) P.me u.now words.now)) }
+    ensures begins { IfOk result HasBegun }
+    ensures unread { OnOk result (IsBeside links.old links.new) }
+{
+    match P::number() {
+        Number::One => deal(negated, u, words, links),
+        Number::Two => Ok(Progress::Goes(Splits {
+            state: Splitting::Two(Split::<P2, Waiting>::start(&Block::from_words(u), negated)),
+            of: PhantomData,
+        })),
+        Number::Three => Ok(Progress::Goes(Splits {
+            state: Splitting::Three(Split::<P3, Waiting>::start(&Block::from_words(u), negated)),
+            of: PhantomData,
+        })),
+    }
+}
+
+/// The first miner's part.
+fn deal<P: Party>(
+    negated: bool,
+    u: &[u64],
+    words: &[u64],
+    links: &mut Links,
+) -> Result<Progress<Splits<P>, P>, AllocError>
+    requires first { P.me ≡ number.One }
+    requires short { length u.now ≤ 512 }
+    requires drawn { length words.now ≡ length u.now }
+    ensures same { IfOk result (λ to. outcome_of P.me links.new (progress_left splitting_left to)
+        ≡ outcome_of P.me links.old (split_strand negated (length u.now) number.One u.now words.now)) }
+    ensures begins { IfOk result HasBegun }
+    ensures unread { OnOk result (IsBeside links.old links.new) }
+{
+    let (to_two, to_three, x, y) = Split::<P1, Sent>::start(&Block::from_words(u), negated, words);
+    links.to_next.push(&to_two)?;
+    links.to_previous.push(&to_three)?;
+    Ok(Progress::Made {
+        first: untold(&x),
+        second: Some(untold(&y)),
+    })
+}
+
+/// The second miner takes its words.
+fn got12<P: Party>(state: Split<P2, Waiting>, links: &mut Links) -> Progress<Splits<P>, P>
+    requires second { P.me ≡ number.Two }
+    ensures same { outcome_of P.me links.new (progress_left splitting_left result)
+        ≡ outcome_of P.me links.old (awaits12 (length state.share) state) }
+    ensures stands { StandsThen splitting_left P.me links.new result }
+    ensures falls { Shorter links.old links.new result }
+    ensures kept { Holds links.old links.new }
+{
+    let Some(msg) = links.from_previous.front() else {
+        return Progress::Stands(Splits {
+            state: Splitting::Two(state),
+            of: PhantomData,
+        });
+    };
+    match state.got12(&msg) {
+        Ok((x, y)) => {
+            links.from_previous.take();
+            Progress::Made {
+                first: untold(&x),
+                second: Some(untold(&y)),
+            }
+        }
+        Err(refused) => Progress::Stands(Splits {
+            state: Splitting::Two(refused.state),
+            of: PhantomData,
+        }),
+    }
+}
+
+/// The third miner takes its words.
+fn got13<P: Party>(state: Split<P3, Waiting>, links: &mut Links) -> Progress<Splits<P>, P>
+    requires third { P.me ≡ number.Three }
+    ensures same { outcome_of P.me links.new (progress_left splitting_left result)
+        ≡ outcome_of P.me links.old (awaits13 (length state.share) state) }
+    ensures stands { StandsThen splitting_left P.me links.new result }
+    ensures falls { Shorter links.old links.new result }
+    ensures kept { Holds links.old links.new }
+{
+    let Some(msg) = links.from_next.front() else {
+        return Progress::Stands(Splits {
+            state: Splitting::Three(state),
+            of: PhantomData,
+        });
+    };
+    match state.got13(&msg) {
+        Ok((x, y)) => {
+            links.from_next.take();
+            Progress::Made {
+                first: untold(&x),
+                second: Some(untold(&y)),
+            }
+        }
+        Err(refused) => Progress::Stands(Splits {
+            state: Splitting::Three(refused.state),
+            of: PhantomData,
+        }),
+    }
+}
