@@ -1,0 +1,50 @@
+use Rattle.std.proofs.Common.{◌≡◌, ap, subst, ◌∙◌}
+use Rattle.proto_core.specs.Strand.{Ends}
+use Rattle.blocked_protocol.specs.Blocked.{joined}
+use Rattle.block_steps.specs.Outcomes.{outcome_of}
+use Rattle.block_steps.specs.Pendings.{pending_left, progress_left, StandsThen}
+use Rattle.gate_node.specs.Shares.{shares_of}
+use Rattle.gate_node.specs.Nodes.{running_left}
+use Rattle.gate_node.proofs.Turns.{outcome-behind, stands-behind, awaits-behind, of-made}
+use Rattle.gate_node.proofs.engine.Engine.go_on.Goals as goal
+
+pub returns-in-Stands-clause-same : goal.returns-in-Stands-clause-same
+returns-in-Stands-clause-same g c =
+    let i = g.P.Party.me in
+    let e = c.args.self.now in
+    let r = c.args.running in
+    let b = c.step.new.links in
+    outcome-behind i (λ here. running_left i e r (joined r.made here)) b e.links (pending_left i c.in-Stands.block) (pending_left i c.args.block)
+    (subst (λ v. outcome_of i b (progress_left (pending_left i) v) ≡ outcome_of i e.links (pending_left i c.args.block)) c.in-Stands.is c.in_ok-block.ensures.same)
+
+pub returns-in-Goes-clause-same : goal.returns-in-Goes-clause-same
+returns-in-Goes-clause-same g c =
+    let i = g.P.Party.me in
+    let e = c.args.self.now in
+    let r = c.args.running in
+    let b = c.step.new.links in
+    outcome-behind i (λ here. running_left i e r (joined r.made here)) b e.links (pending_left i c.in-Goes.block) (pending_left i c.args.block)
+    (subst (λ v. outcome_of i b (progress_left (pending_left i) v) ≡ outcome_of i e.links (pending_left i c.args.block)) c.in-Goes.is c.in_ok-block.ensures.same)
+
+pub returns-in-Stands-clause-stands : goal.returns-in-Stands-clause-stands
+returns-in-Stands-clause-stands g c =
+    let i = g.P.Party.me in
+    let e = c.args.self.now in
+    let r = c.args.running in
+    let b = c.step.new.links in
+    let s = pending_left i c.in-Stands.block in (
+      stands-behind i b s (λ here. running_left i e r (joined r.made here)) (subst (StandsThen (pending_left i) i b) c.in-Stands.is c.in_ok-block.ensures.stands),
+      awaits-behind c.awaits-link.result s (λ here. running_left i e r (joined r.made here)) c.awaits-link.ensures,
+    )
+
+pub returns-in_ok-through-in-Made-clause-same : goal.returns-in_ok-through-in-Made-clause-same
+returns-in_ok-through-in-Made-clause-same g c =
+    let i = g.P.Party.me in
+    let e = c.args.self.now in
+    let r = c.args.running in
+    let b = c.step.new.links in
+    let shares = shares_of c.in-Made.first c.in-Made.second in
+    ap (λ q. outcome_of i b (running_left i e q q.made)) c.in_ok-through-in-Made.ensures
+    ∙ outcome-behind i (λ here. running_left i e r (joined r.made here)) b e.links (Ends shares) (pending_left i c.args.block)
+    (subst (λ w. outcome_of i b w ≡ outcome_of i e.links (pending_left i c.args.block))
+    (of-made (pending_left i) c.in_ok-block.field-0 c.in-Made.first c.in-Made.second c.in-Made.is) c.in_ok-block.ensures.same)

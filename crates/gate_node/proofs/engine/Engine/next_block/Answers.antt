@@ -1,0 +1,71 @@
+use Rattle.std.proofs.Common.{◌≡◌, ◌+◌, ◌-◌, length, sym, ◌∙◌, ap, arith, length-drop}
+use Rattle.proto_core.specs.Strand.{Ends}
+use Rattle.gates.specs.Clear.{value}
+use Rattle.joint_run.specs.Exchanges.{protocol_of}
+use Rattle.joint_run.specs.Steps.{second_value}
+use Rattle.block_steps.specs.Outcomes.{outcome_of}
+use Rattle.block_steps.specs.Pendings.{pending_left}
+use Rattle.gate_node.specs.Shares.{shares_of}
+use Rattle.gate_node.specs.Nodes.{blocks_then, protocol_at, gates_then}
+use Rattle.gate_node.proofs.Blocks.{draws-apart}
+use Rattle.gate_node.proofs.Turns.{next-turn, begun-left, of-made}
+use Rattle.gate_node.proofs.engine.Engine.next_block.Goals as goal
+
+pub returns-in-Stands-clause-same : goal.returns-in-Stands-clause-same
+returns-in-Stands-clause-same g c =
+    let i = g.P.Party.me in
+    let e = c.args.self.now in
+    let r = c.args.running in
+    let x = r.gate.exchange in
+    let b = c.begin.new.links in
+    next-turn i x r.begun c.min-size.result (value e.values r.gate.u) (second_value e.values r.gate.v) e.tape.1 r.made (gates_then i e)
+    e.links b (pending_left i c.in-Stands.block) c.draw.new.self.1 c.value-u.result.now c.second_value.result.now c.left.result.now
+    c.second-from.result c.second.result c.draws-count.result
+    c.value-u.ensures c.second_value.ensures c.left.ensures c.second-from.ensures c.second.ensures
+    (c.draws-count.ensures ∙ ap (λ k. (protocol_of x).draws c.min-size.result k) c.number.ensures)
+    c.draw.ensures.left c.if-begun-u.false c.min-size.ensures c.requires.sound.reach
+    (ap (outcome_of i b) (sym (begun-left (pending_left i) c.in_ok-progress.progress c.in-Stands.block c.in-Stands.is)) ∙ c.in_ok-progress.ensures.same)
+
+pub returns-in-Stands-clause-sound : goal.returns-in-Stands-clause-sound
+returns-in-Stands-clause-sound g c =
+    let i = g.P.Party.me in
+    let e = c.args.self.now in
+    let r = c.args.running in
+    let x = r.gate.exchange in
+    let u = value e.values r.gate.u in
+    let size = c.min-size.result in
+    let w : length c.value-u.result.now ≡ length u = ap length c.value-u.ensures in
+    let k = length u - r.begun in
+    let rest = length u - (r.begun + size) in
+    let is = c.min-size.ensures in
+    let some = c.if-begun-u.false in
+    let apart : size + rest ≡ k = omega (arith, w, is, some) in
+    let draws = draws-apart x i size rest k apart in
+    let count : c.draws-count.result ≡ (protocol_of x).draws size i = c.draws-count.ensures ∙ ap (λ k. (protocol_of x).draws size k) c.number.ensures in
+    let left : length c.draw.new.self.1 ≡ length e.tape.1 - c.draws-count.result = ap length c.draw.ensures.left ∙ length-drop c.draws-count.result e.tape.1 in
+    record {
+      gates = c.requires.gates;
+      work =
+          record {
+            within = omega (arith, w, is, some);
+            second = c.requires.sound.second;
+            reach = omega (arith, draws, count, left, c.requires.sound.reach);
+          };
+    }
+
+pub returns-in_ok-through-in-Made-clause-same : goal.returns-in_ok-through-in-Made-clause-same
+returns-in_ok-through-in-Made-clause-same g c =
+    let i = g.P.Party.me in
+    let e = c.args.self.now in
+    let r = c.args.running in
+    let x = r.gate.exchange in
+    let b = c.begin.new.links in
+    ap (λ q. outcome_of i b (blocks_then (protocol_at q) i q.begun (value e.values q.gate.u) (second_value e.values q.gate.v) c.draw.new.self.1 q.made (gates_then i e)))
+    c.in_ok-through-in-Made.ensures
+    ∙ next-turn i x r.begun c.min-size.result (value e.values r.gate.u) (second_value e.values r.gate.v) e.tape.1 r.made (gates_then i e)
+    e.links b (Ends (shares_of c.in-Made.first c.in-Made.second)) c.draw.new.self.1 c.value-u.result.now c.second_value.result.now c.left.result.now
+    c.second-from.result c.second.result c.draws-count.result
+    c.value-u.ensures c.second_value.ensures c.left.ensures c.second-from.ensures c.second.ensures
+    (c.draws-count.ensures ∙ ap (λ k. (protocol_of x).draws c.min-size.result k) c.number.ensures)
+    c.draw.ensures.left c.if-begun-u.false c.min-size.ensures c.requires.sound.reach
+    (ap (outcome_of i b) (sym (of-made (pending_left i) c.in_ok-progress.progress c.in-Made.first c.in-Made.second c.in-Made.is)) ∙ c.in_ok-progress.ensures.same)

@@ -1,0 +1,5 @@
+pub mod Suiting
+pub mod OwnGates
+pub mod Laws
+pub mod Shares
+pub mod Nodes

@@ -1,0 +1,137 @@
+-- What a miner has that runs gates, and what is left for it to do.
+use Rattle.std.specs.Prelude.{◌≡◌, ℕ, ◌+◌, ◌-◌, ◌*◌, ◌≤◌, true, false, List, ◌++◌, length, take, drop}
+use Rattle.proto_core.specs.declared.party.Number.{Number}
+use Rattle.proto_core.specs.Protocol.{Protocol}
+use Rattle.proto_core.specs.Strand.{Strand, Ends, then_do}
+use Rattle.gates.specs.Blocks.{block_sizes}
+use Rattle.gates.specs.declared.gate.Gate.{Gate}
+use Rattle.gates.specs.Clear.{Values, value}
+use Rattle.blocked_protocol.specs.Blocked.{joined, blocks_strand}
+use Rattle.shared_gates.specs.LocalGates.{IsLocal}
+use Rattle.joint_run.specs.Exchanges.{protocol_of}
+use Rattle.joint_run.specs.Steps.{IsExchanged, second_value}
+use Rattle.block_steps.specs.Outcomes.{Outcome, outcome_of, waiting, Holds, StandsAt, AwaitsOn}
+use Rattle.block_steps.specs.Pendings.{pending_left}
+use Rattle.block_steps.specs.declared.links.Links.{Links}
+use Rattle.gate_node.specs.declared.beginning.Beginning.{Beginning}
+use Rattle.gate_node.specs.declared.beginning.Beginning.TheVariants as beginning
+use Rattle.gate_node.specs.declared.running.Running.{Running}
+use Rattle.gate_node.specs.declared.engine.Work.{Work}
+use Rattle.gate_node.specs.declared.engine.Work.TheVariants as work
+use Rattle.gate_node.specs.declared.engine.Engine.{Engine}
+use Rattle.gate_node.specs.declared.stand.Stand.{Stand}
+use Rattle.gate_node.specs.declared.stand.Stand.TheVariants as stand
+use Rattle.gate_node.specs.OwnGates.{Halted, Whole, Stuck, can_run, own_gates}
+
+-- ---- how a gate begins
+
+abbrev pub BeginsAs : Number → (dealt values : Values) → (tape : List ℕ) → Gate → Beginning → Type 0
+BeginsAs i dealt values tape gate beginning.Unfit = can_run i dealt values tape gate ≡ false
+BeginsAs i dealt values tape gate beginning.Alone = (can_run i dealt values tape gate ≡ true) × IsLocal gate
+BeginsAs i dealt values tape gate (beginning.Together x) = (can_run i dealt values tape gate ≡ true) × IsExchanged gate x
+
+-- ---- a gate block by block
+
+-- from an element on: the blocks that have not begun, and then what is done with all shares and with the tape behind
+abbrev pub blocks_then :
+    Protocol → Number → (from : ℕ) → (u v tape : List ℕ) → (made : List (List ℕ)) → (List (List ℕ) → List ℕ → Strand Halted) → Strand Halted
+blocks_then p i from u v tape made go =
+    then_do (blocks_strand p (block_sizes (length u - from)) i (drop from u) (drop (p.second from) v) (take (p.draws (length u - from) i) tape))
+    (λ later. go (joined made later) (drop (p.draws (length u - from) i) tape))
+
+abbrev pub protocol_at : Running → Protocol
+protocol_at r = protocol_of r.gate.exchange
+
+abbrev pub size_at : Values → Running → ℕ
+size_at values r = length (value values r.gate.u)
+
+-- where a miner stands with these links and values, this tape left and this left to do
+abbrev pub StandsAs : Number → Stand → Links → Values → (tape : List ℕ) → (left : Strand Halted) → Type 0
+StandsAs i stand.Through links values tape left = left ≡ Ends (Whole values tape)
+StandsAs i (stand.Waits link) links values tape left = StandsAt i links left × AwaitsOn link left
+StandsAs i stand.Stuck links values tape left = left ≡ Ends Stuck
+
+module _ {P : Type 0} (i : Number) where
+  -- ---- what is left
+
+  abbrev pub gates_left : Engine P → List Gate
+  gates_left e = drop e.begun e.gates.items
+
+  -- the gates that have not begun, where the one at work has made these shares
+  abbrev pub gates_then : Engine P → (made : List (List ℕ)) → (tape : List ℕ) → Strand Halted
+  gates_then e made tape = own_gates i e.dealt (gates_left e) (e.values ++ made) tape
+
+  abbrev pub running_left : Engine P → Running → (made : List (List ℕ)) → Strand Halted
+  running_left e r made =
+      blocks_then (protocol_at r) i r.begun (value e.values r.gate.u) (second_value e.values r.gate.v) e.tape.1 made (gates_then e)
+
+  abbrev pub work_left : Engine P → Work P → Strand Halted
+  work_left e work.Idle = own_gates i e.dealt (gates_left e) e.values e.tape.1
+  work_left e (work.Between r) = running_left e r r.made
+  work_left e (work.Within r block) = then_do (pending_left i block) (λ here. running_left e r (joined r.made here))
+  work_left e work.Halt = Ends Stuck
+
+  abbrev pub engine_left : Engine P → Strand Halted
+  engine_left e = work_left e e.work
+
+  -- what it has done, and what it does with the messages that it has
+  abbrev pub engine_outcome : Engine P → Outcome Halted
+  engine_outcome e = outcome_of i e.links (engine_left e)
+
+  -- ---- what holds of it
+
+  -- the second operand is as long as the exchange takes it, and the tape reaches to the end of the gate
+  pub record IsSoundRun (e : Engine P) (r : Running) : Type 0 where
+    pub within : r.begun ≤ size_at e.values r
+    pub second : length (second_value e.values r.gate.v) ≡ (protocol_at r).second (size_at e.values r)
+    pub reach : (protocol_at r).draws (size_at e.values r - r.begun) i ≤ length e.tape.1
+
+  abbrev pub IsSoundWork : Engine P → Work P → Type 0
+  IsSoundWork e work.Idle = Unit {0}
+  IsSoundWork e (work.Between r) = IsSoundRun e r
+  IsSoundWork e (work.Within r block) = IsSoundRun e r
+  IsSoundWork e work.Halt = Unit {0}
+
+  pub record IsSound (e : Engine P) : Type 0 where
+    pub gates : e.begun ≤ length e.gates.items
+    pub work : IsSoundWork e e.work
+
+  -- where the gate at work is through, no gate is at work
+  abbrev pub RunStands : Stand → Engine P → Type 0
+  RunStands stand.Through e = e.work ≡ work.Idle
+  RunStands s e = StandsAs i s e.links e.values e.tape.1 (engine_left e)
+
+  abbrev pub EngineStands : Stand → Engine P → Type 0
+  EngineStands s e = StandsAs i s e.links e.values e.tape.1 (engine_left e)
+
+-- what came stays, and so does what it was made with
+pub record Keeps {P : Type 0} (before after : Engine P) : Type 0 where
+  pub links : Holds before.links after.links
+  pub dealt : after.dealt ≡ before.dealt
+  pub tape : after.tape.0 ≡ before.tape.0
+
+-- no gate begins
+pub record KeepsGates {P : Type 0} (before after : Engine P) : Type 0 where
+  pub kept : Keeps before after
+  pub gates : after.gates.items ≡ before.gates.items
+  pub begun : after.begun ≡ before.begun
+
+-- all is as before but the gates
+pub record IsSameButGates {P : Type 0} (before after : Engine P) : Type 0 where
+  pub links : after.links ≡ before.links
+  pub dealt : after.dealt ≡ before.dealt
+  pub values : after.values ≡ before.values
+  pub tape : after.tape ≡ before.tape
+
+abbrev pub with_links : {P : Type 0} → Engine P → Links → Engine P
+with_links e links = record e { links = links }
+
+-- how much can still be done of the gate at work before a further message comes
+abbrev pub run_measure : {P : Type 0} → Engine P → Running → ℕ
+run_measure e r = 2 * (size_at e.values r - r.begun) + 2 * waiting e.links
+
+abbrev pub measure : {P : Type 0} → Engine P → Work P → ℕ
+measure e work.Idle = 0
+measure e (work.Between r) = run_measure e r + 1
+measure e (work.Within r block) = run_measure e r
+measure e work.Halt = 0

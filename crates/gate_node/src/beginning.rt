@@ -1,0 +1,44 @@
+// How a miner begins a gate.
+ghost use Rattle.std.specs.Prelude.{◌≡◌, length};
+ghost use Rattle.gate_node.specs.Nodes.{BeginsAs};
+
+use gates::{Gate, Values};
+use joint_run::{Exchanged, as_exchanged, suits};
+use proto_core::Number;
+
+/// How a gate begins.
+#[derive(Clone, Copy, Drop)]
+pub(crate) enum Beginning {
+    /// It doesn't suit the values before it, or the tape is too short for it.
+    Unfit,
+    /// By the miner's own shares alone.
+    Alone,
+    /// With messages.
+    Together(Exchanged),
+}
+
+/// How a miner begins a gate, by what it was dealt, its values, and how many words are left on its tape.
+pub(crate) fn begins(
+    miner: Number,
+    dealt: &Values,
+    values: &Values,
+    tape: &[u64],
+    gate: &Gate,
+) -> Beginning
+    ensures { BeginsAs miner dealt.now values.now tape.now gate.now result }
+{
+    if !suits(gate, dealt, values) {
+        return Beginning::Unfit;
+    }
+    match as_exchanged(gate) {
+        None => Beginning::Alone,
+        Some(exchanged) => {
+            let size = values.value(exchanged.u).len();
+            if exchanged.exchange.draws(size, miner) > tape.len() as u128 {
+                Beginning::Unfit
+            } else {
+                Beginning::Together(exchanged)
+            }
+        }
+    }
+}

@@ -1,0 +1,205 @@
+// A miner's gates, block by block.
+ghost use Rattle.std.specs.Prelude.{◌≡◌, ◌≤◌, ◌<◌, length, true, false, None, IfSome, IfOk, OnOk};
+ghost use Rattle.block_steps.specs.Outcomes.{outcome_of};
+ghost use Rattle.joint_run.specs.Steps.{second_value};
+ghost use Rattle.gate_node.specs.Nodes.{gates_left, work_left, engine_outcome, IsSoundRun, IsSound, EngineStands, RunStands, Keeps, KeepsGates, measure};
+
+use crate::beginning::{Beginning, begins};
+use crate::made::Made;
+use crate::running::Running;
+use crate::stand::Stand;
+use crate::tape::Tape;
+use block_steps::{Links, Pending, Progress, begin};
+use gates::{BLOCK_LEN, Gate, Values};
+use joint_run::local_share;
+use proto_core::{Link, Party};
+use std::alloc::{AllocError, Global};
+use std::mem;
+
+/// What a miner is at.
+#[derive(Drop)]
+pub(crate) enum Work<P: Party> {
+    /// No gate is at work.
+    Idle,
+    /// No block of the gate is at work.
+    Between(Running),
+    /// A block of the gate is at work.
+    Within(Running, Pending<P>),
+    /// A gate couldn't begin.
+    Halt,
+}
+
+/// A miner's shares, its tape, its gates, of which so many have begun, what it is at, and its links.
+#[derive(Drop)]
+pub(crate) struct Engine<P: Party> {
+    pub alloc: Global,
+    pub dealt: Values,
+    pub values: Values,
+    pub tape: Tape,
+    pub gates: Vec<Gate>,
+    pub begun: usize,
+    pub work: Work<P>,
+    pub links: Links,
+}
+
+/// The words of the second operand, none where there is no such operand.
+fn second_value(values: &Values, number: Option<u64>) -> &[u64]
+    ensures { result.now ≡ second_value values.now number }
+{
+    match number {
+        Some(number) => values.value(number),
+        None => &[],
+    }
+}
+
+impl<P: Party> Engine<P> {
+    /// The next block of the gate at work begins; behind the last, the gate's shares become values.
+    fn next_block(&mut self, running: Running) -> Result<(), AllocError>
+        requires idle { self.old.work ≡ Work.Idle }
+        requires gates { self.old.begun ≤ length self.old.gates.items }
+        requires sound { IsSoundRun P.me self.old running }
+        ensures same { OnOk result (engine_outcome P.me self.new ≡ outcome_of P.me self.old.links (work_left P.me self.old (Work.Between running))) }
+        ensures falls { OnOk result (measure self.new self.new.work < measure self.old (Work.Between running)) }
+        ensures sound { IsSound P.me self.new }
+        ensures kept { OnOk result (KeepsGates self.old self.new) }
+    {
+        let Running { gate, begun, made } = running;
+        let exchange = gate.exchange;
+        let u = self.values.value(gate.u);
+        if begun >= u.len() {
+            return made.keep(exchange, &mut self.values);
+        }
+        let size = (u.len() - begun).min(BLOCK_LEN as usize);
+        let u = &u[begun..begun + size];
+        let from = exchange.second(begun);
+        let v = &second_value(&self.values, gate.v)[from..from + exchange.second(size)];
+        let count = exchange.draws(size, P::number()) as usize;
+        let words = &self.tape.left()[..count];
+        let progress = begin::<P>(exchange, u, v, words, &mut self.links)?;
+        self.tape.draw(count);
+        let begun = begun + size;
+        let running = Running { gate, begun, made };
+        match progress {
+            Progress::Stands(block) | Progress::Goes(block) => {
+                self.work = Work::Within(running, block);
+                Ok(())
+            }
+            Progress::Made { first, second } => {
+                self.work = Work::Between(running.through(&first, &second)?);
+                Ok(())
+            }
+        }
+    }
+
+    /// The block at work, as far as the oldest message leads; the link on which it waits, where none is there that fits.
+    fn go_on(&mut self, running: Running, block: Pending<P>) -> Result<Option<Link>, AllocError>
+        requires idle { self.old.work ≡ Work.Idle }
+        requires gates { self.old.begun ≤ length self.old.gates.items }
+        requires sound { IsSoundRun P.me self.old running }
+        ensures same { OnOk result (engine_outcome P.me self.new ≡ outcome_of P.me self.old.links (work_left P.me self.old (Work.Within running block))) }
+        ensures stands { IfOk result (λ link. IfSome link (λ link. EngineStands P.me (Stand.Waits link) self.new)) }
+        ensures falls { IfOk result (λ link. link ≡ None → measure self.new self.new.work < measure self.old (Work.Within running block)) }
+        ensures sound { IsSound P.me self.new }
+        ensures kept { OnOk result (KeepsGates self.old self.new) }
+    {
+        match block.step(&mut self.links)? {
+            Progress::Stands(block) => {
+                let link = block.awaits();
+                self.work = Work::Within(running, block);
+                Ok(Some(link))
+            }
+            Progress::Goes(block) => {
+                self.work = Work::Within(running, block);
+                Ok(None)
+            }
+            Progress::Made { first, second } => {
+                self.work = Work::Between(running.through(&first, &second)?);
+                Ok(None)
+            }
+        }
+    }
+
+    /// The gate at work, as far as the messages lead: to its end, to a wait, or not at all where it couldn't begin.
+    fn finish(&mut self) -> Result<Stand, AllocError>
+        requires sound { IsSound P.me self.old }
+        ensures same { OnOk result (engine_outcome P.me self.new ≡ engine_outcome P.me self.old) }
+        ensures stands { IfOk result (λ stand. RunStands P.me stand self.new) }
+        ensures sound { IsSound P.me self.new }
+        ensures kept { OnOk result (KeepsGates self.old self.new) }
+    {
+        loop {
+            match mem::replace(&mut self.work, Work::Idle) {
+                Work::Idle => return Ok(Stand::Through),
+                Work::Between(running) => self.next_block(running)?,
+                Work::Within(running, block) => {
+                    if let Some(link) = self.go_on(running, block)? {
+                        return Ok(Stand::Waits(link));
+                    }
+                }
+                Work::Halt => {
+                    self.work = Work::Halt;
+                    return Ok(Stand::Stuck);
+                }
+            }
+        }
+    }
+
+    /// The oldest gate begins that hasn't; false where there is none. A gate that sends nothing is through at once.
+    fn begin_gate(&mut self) -> Result<bool, AllocError>
+        requires idle { self.old.work ≡ Work.Idle }
+        requires sound { IsSound P.me self.old }
+        ensures same { OnOk result (engine_outcome P.me self.new ≡ engine_outcome P.me self.old) }
+        ensures through { IfOk result (λ more. more ≡ false → EngineStands P.me Stand.Through self.new) }
+        ensures falls { IfOk result (λ more. more ≡ true → length (gates_left P.me self.new) < length (gates_left P.me self.old)) }
+        ensures sound { IsSound P.me self.new }
+        ensures kept { OnOk result (Keeps self.old self.new) }
+    {
+        if self.begun >= self.gates.len() {
+            return Ok(false);
+        }
+        let gate = &self.gates[self.begun];
+        self.begun += 1;
+        match begins(
+            P::number(),
+            &self.dealt,
+            &self.values,
+            self.tape.left(),
+            gate,
+        ) {
+            Beginning::Unfit => self.work = Work::Halt,
+            Beginning::Alone => {
+                let share = local_share(self.alloc, P::number(), &self.dealt, &self.values, gate)?;
+                self.values.push(share)?;
+            }
+            Beginning::Together(gate) => {
+                let made = Made::new(self.alloc, gate.exchange);
+                self.work = Work::Between(Running {
+                    gate,
+                    begun: 0,
+                    made,
+                });
+            }
+        }
+        Ok(true)
+    }
+
+    /// All gates, as far as the messages lead.
+    pub fn advance(&mut self) -> Result<Stand, AllocError>
+        requires sound { IsSound P.me self.old }
+        ensures same { OnOk result (engine_outcome P.me self.new ≡ engine_outcome P.me self.old) }
+        ensures stands { IfOk result (λ stand. EngineStands P.me stand self.new) }
+        ensures sound { IsSound P.me self.new }
+        ensures kept { OnOk result (Keeps self.old self.new) }
+    {
+        loop {
+            let stand = self.finish()?;
+            match stand {
+                Stand::Through => {}
+                Stand::Waits(_) | Stand::Stuck => return Ok(stand),
+            }
+            if !self.begin_gate()? {
+                return Ok(Stand::Through);
+            }
+        }
+    }
+}

@@ -1,0 +1,127 @@
+ghost use Rattle.std.specs.Prelude.{◌≡◌, ◌-◌, [], length, IfOk, OnOk, OnErr};
+ghost use Rattle.proto_core.specs.Strand.{Ends, then_do};
+ghost use Rattle.block_steps.specs.Outcomes.{came_from_previous, came_from_next};
+ghost use Rattle.gate_node.specs.OwnGates.{Whole, then_gates};
+ghost use Rattle.gate_node.specs.Nodes.{engine_left, engine_outcome, EngineStands, Keeps, IsSameButGates, with_links};
+
+use crate::engine::{Engine, Work};
+use crate::stand::Stand;
+use crate::tape::Tape;
+use block_steps::Links;
+use gates::{Gate, Values};
+use proto_core::{Msg, Party};
+use std::alloc::{AllocError, Global};
+use std::marker::Model;
+
+/// A miner that runs gates on its own shares. Contracts see what it has, and by `engine_left` what is left for it to do.
+///
+/// After an error, which comes only where memory is wanting, it is of no further use, where nothing else is said: no more is
+/// known of it.
+#[derive(Drop)]
+pub struct GateNode<P: Party> {
+    engine: Engine<P>,
+}
+
+impl<P: Party> Model for GateNode<P> {
+    ghost use Rattle.gate_node.specs.declared.engine.Engine.{Engine as EngineValue};
+    ghost use Rattle.gate_node.specs.Nodes.{IsSound};
+
+    ghost Value = { EngineValue P };
+
+    ghost view = { λ n. n.engine };
+
+    ghost invariant = { λ n. IsSound P.me n.engine };
+}
+
+impl<P: Party> GateNode<P> {
+    /// A miner with its shares of what was dealt, and its tape; there is no gate, and no message came.
+    pub fn new(alloc: Global, dealt: Values, tape: Vec<u64>) -> Self
+        ensures dealt { result.dealt ≡ dealt }
+        ensures values { result.values ≡ [] }
+        ensures tape { result.tape ≡ (tape.items, tape.items) }
+        ensures left { engine_left P.me result ≡ Ends (Whole [] tape.items) }
+        ensures from_previous { result.links.from_previous ≡ ([], []) }
+        ensures from_next { result.links.from_next ≡ ([], []) }
+        ensures to_next { result.links.to_next ≡ [] }
+        ensures to_previous { result.links.to_previous ≡ [] }
+        ensures opened { result.links.opened.items ≡ [] }
+    {
+        GateNode {
+            engine: Engine {
+                alloc,
+                dealt,
+                values: Values::new(alloc),
+                tape: Tape::new(tape),
+                gates: Vec::new(alloc),
+                begun: 0,
+                work: Work::Idle,
+                links: Links::new(alloc),
+            },
+        }
+    }
+
+    /// Further gates, behind those before; with no memory left all is as before.
+    pub fn add(&mut self, gates: Vec<Gate>) -> Result<(), AllocError>
+        ensures left { OnOk result (engine_left P.me self.new ≡ then_do (engine_left P.me self.old) (then_gates P.me self.old.dealt gates.items)) }
+        ensures err { OnErr result (engine_left P.me self.new ≡ engine_left P.me self.old) }
+        ensures kept { IsSameButGates self.old self.new }
+    {
+        let mut gates = gates;
+        self.engine.gates.append(&mut gates)?;
+        Ok(())
+    }
+
+    /// A message comes from the previous miner; with no memory left all is as before.
+    pub fn receive_from_previous(&mut self, message: &Msg) -> Result<(), AllocError>
+        ensures ok { OnOk result (self.new ≡ with_links self.old (came_from_previous self.old.links message.now)) }
+        ensures err { OnErr result (self.new ≡ self.old) }
+    {
+        self.engine.links.receive_from_previous(message)
+    }
+
+    /// A message comes from the next miner; with no memory left all is as before.
+    pub fn receive_from_next(&mut self, message: &Msg) -> Result<(), AllocError>
+        ensures ok { OnOk result (self.new ≡ with_links self.old (came_from_next self.old.links message.now)) }
+        ensures err { OnErr result (self.new ≡ self.old) }
+    {
+        self.engine.links.receive_from_next(message)
+    }
+
+    /// Does all that the messages lead to, and answers where it then stands. What it has done, and does with the messages that
+    /// are there, is the same before and behind.
+    pub fn advance(&mut self) -> Result<Stand, AllocError>
+        ensures same { OnOk result (engine_outcome P.me self.new ≡ engine_outcome P.me self.old) }
+        ensures stands { IfOk result (λ stand. EngineStands P.me stand self.new) }
+        ensures kept { OnOk result (Keeps self.old self.new) }
+    {
+        self.engine.advance()
+    }
+
+    /// Its shares of what was dealt.
+    pub fn dealt(&self) -> &Values
+        ensures { result.now ≡ self.now.dealt }
+    {
+        &self.engine.dealt
+    }
+
+    /// Its shares of the values that gates have made.
+    pub fn values(&self) -> &Values
+        ensures { result.now ≡ self.now.values }
+    {
+        &self.engine.values
+    }
+
+    /// What came, what was sent, and the words that were opened.
+    pub fn links(&self) -> &Links
+        ensures { result.now ≡ self.now.links }
+    {
+        &self.engine.links
+    }
+
+    /// How many words of its tape were drawn.
+    pub fn drawn(&self) -> usize
+        ensures { result ≡ length self.now.tape.0 - length self.now.tape.1 }
+    {
+        self.engine.tape.drawn()
+    }
+}

@@ -1,0 +1,55 @@
+// A miner's random words.
+ghost use Rattle.std.specs.Prelude.{◌≡◌, ◌-◌, ◌≤◌, length, drop};
+
+use std::marker::Model;
+
+/// A miner's tape, and how many of its words were drawn. Contracts see all words, and beside them those that were not drawn.
+#[derive(Drop)]
+pub(crate) struct Tape {
+    words: Vec<u64>,
+    drawn: usize,
+}
+
+impl Model for Tape {
+    ghost use Rattle.std.specs.Prelude.{◌≤◌, ℕ, List, length, drop};
+
+    ghost Value = { List ℕ × List ℕ };
+
+    ghost view = { λ t. (t.words.items, drop t.drawn t.words.items) };
+
+    ghost invariant = { λ t. t.drawn ≤ length t.words.items };
+}
+
+impl Tape {
+    /// No word was drawn.
+    pub fn new(words: Vec<u64>) -> Self
+        ensures { result ≡ (words.items, words.items) }
+    {
+        Tape { words, drawn: 0 }
+    }
+
+    /// The words that were not drawn.
+    pub fn left(&self) -> &[u64]
+        ensures { result.now ≡ self.now.1 }
+    {
+        &self.words.as_slice()[self.drawn..]
+    }
+
+    /// How many words were drawn.
+    #[tactic(auto, using(crate::proofs::Tapes::tape_steps))]
+    pub fn drawn(&self) -> usize
+        ensures { result ≡ length self.now.0 - length self.now.1 }
+    {
+        self.drawn
+    }
+
+    /// Draws words.
+    #[tactic(auto, using(crate::proofs::Tapes::tape_steps))]
+    pub fn draw(&mut self, count: usize)
+        requires { count ≤ length self.old.1 }
+        ensures all { self.new.0 ≡ self.old.0 }
+        ensures left { self.new.1 ≡ drop count self.old.1 }
+    {
+        self.drawn += count;
+    }
+}
