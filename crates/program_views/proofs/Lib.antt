@@ -1,0 +1,9 @@
+pub mod Given
+pub mod Dealt
+pub mod Undealt
+pub mod Blind
+pub mod Simulated
+pub mod Corresponding
+pub mod Nets
+pub mod Twins
+mod Samples

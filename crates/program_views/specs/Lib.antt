@@ -1,0 +1,4 @@
+pub mod Views
+pub mod TapeMaps
+pub mod Laws
+pub mod Vectors
