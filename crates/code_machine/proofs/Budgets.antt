@@ -1,5 +1,5 @@
 -- How many steps the longest function has, and what a budget is worth.
-use Rattle.std.proofs.Common.{◌≡◌, ℕ, zero, suc, ◌+◌, ◌*◌, ◌<◌, ◌≤◌, List, [], ◌∷◌, length, get_or, drop, refl, sym, ap, ◌∙◌, arith}
+use Rattle.std.proofs.Common.{◌≡◌, ℕ, zero, suc, ◌+◌, ◌*◌, ◌<◌, ◌≤◌, List, [], ◌∷◌, length, get_or, drop, refl, ap, ◌∙◌, arith}
 use Rattle.std.specs.Prelude.{map, max}
 use Rattle.std.proofs.lemmas.List.{length-map}
 use Rattle.std.proofs.Math.Seq.{drop-nil}

@@ -1,5 +1,5 @@
 -- What a call did, carried over to the change that it makes.
-use Rattle.std.proofs.Common.{◌≡◌, ℕ, ◌<◌, List, length, Bool, true, false, Result, Ok, Err, refl, sym, ap, ◌∙◌, subst}
+use Rattle.std.proofs.Common.{◌≡◌, ℕ, ◌<◌, List, length, Result, Ok, Err, refl, sym, ap, ◌∙◌, subst}
 use Rattle.std.specs.Prelude.{map, nat_lt, sum}
 use Rattle.std.specs.Result.{IfOk, IsErrAnd}
 use Rattle.sc_text.specs.declared.end.TrapKind.TheVariants as trap
@@ -15,7 +15,6 @@ use Rattle.value_steps.specs.declared.halt.Halt.TheVariants as halt
 use Rattle.value_steps.specs.declared.value.Value as held
 use Rattle.value_steps.specs.Steps.{Does, itself}
 use Rattle.value_steps.specs.Views.{value_seen}
-use Rattle.code_machine.specs.declared.change.Change.{Change}
 use Rattle.code_machine.specs.declared.machine.Machine as running
 use Rattle.code_machine.specs.Changes.{changed, goes_to, goes_on_at, HasEnough, IsSafe}
 use Rattle.code_machine.specs.Parts.{call_charged, into, onto, stored}

@@ -1,5 +1,5 @@
 -- Functions of code in memory.
-use Rattle.std.proofs.Common.{◌≡◌, ℕ, List, [], ◌∷◌, Option, Some, None, length, refl, sym, ap, ◌∙◌}
+use Rattle.std.proofs.Common.{◌≡◌, ℕ, [], Option, Some, None, length, refl, ap, ◌∙◌}
 use Rattle.std.specs.Prelude.{map, option_map}
 use Rattle.std.specs.List.{slice_get}
 use Rattle.std.proofs.lemmas.Option.{slice_get-map}
@@ -7,7 +7,7 @@ use Rattle.std.proofs.lemmas.List.{length-map}
 use Rattle.bytecode.specs.declared.code.Code.{Code}
 use Rattle.bytecode.specs.declared.code.Function as memory
 use Rattle.bytecode.specs.InMemory.{raw_code, raw_function, raw_instruction}
-use Rattle.verified_code.specs.Steps.{Function, Step}
+use Rattle.verified_code.specs.Steps.{Function}
 use Rattle.verified_code.specs.Settled.{settle, settled, settled_function}
 use Rattle.verified_code.specs.InMemory as in_memory
 use Rattle.code_model.specs.Machine as model

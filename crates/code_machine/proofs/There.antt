@@ -1,16 +1,15 @@
 -- The registers that verified code names are among those that a function has.
-use Rattle.std.proofs.Common.{◌≡◌, ℕ, zero, suc, ◌<◌, ◌≤◌, List, [], ◌∷◌, length, get_or, Option, Some, None, Bool, true, false, ◌&&◌, ◌||◌, refl, sym, ap, ◌∙◌, subst, arith}
+use Rattle.std.proofs.Common.{◌≡◌, ℕ, zero, suc, ◌<◌, ◌≤◌, List, [], ◌∷◌, length, get_or, Option, Some, None, Bool, true, false, ◌&&◌, ◌||◌, refl, sym, ap, subst, arith}
 use Rattle.std.specs.Prelude.{map, if◌then◌else◌}
 use Rattle.std.specs.List.{list_all, slice_get}
 use Rattle.std.proofs.lemmas.Bool.{ltb-true, and_parts}
-use Rattle.bytecode.specs.declared.kind.Kind.{Kind}
 use Rattle.bytecode.specs.declared.instruction.Register.{Register}
 use Rattle.bytecode.specs.Raw.{Raw, RawFunction, RawCode}
 use Rattle.bytecode.specs.Raw as raw
 use Rattle.verified_code.specs.Fitting.{Here, is_none, is_there, names_there, operands_fit, target_fits, goes_on}
 use Rattle.verified_code.specs.InMemory.{steps_of, step_at}
 use Rattle.verified_code.specs.Settled.{result_at, settle, settled, settled_function}
-use Rattle.verified_code.specs.Sound.{IsSound, passes}
+use Rattle.verified_code.specs.Sound.{passes}
 use Rattle.verified_code.specs.Steps.{Function, Step}
 use Rattle.verified_code.specs.Verified.{IsVerified, here}
 use Rattle.verified_code.proofs.Sound.{verified_is_sound}

@@ -1,6 +1,6 @@
 use Rattle.std.proofs.Common.{◌≡◌, [], ◌∷◌, ◌++◌, length, sym, ap, ◌∙◌, get_or, arith}
-use Rattle.std.proofs.Common.{inl, inr, Some}
-use Rattle.std.specs.Prelude.{map, slice_get}
+use Rattle.std.proofs.Common.{inl, inr}
+use Rattle.std.specs.Prelude.{map}
 use Rattle.std.proofs.lemmas.Bool.{cases_lt}
 use Rattle.std.proofs.lemmas.List.{length-append, length-map, map-append, get_or_past, get_or_append_left}
 use Rattle.std.proofs.lemmas.Option.{slice_get_past, slice_get-get_or}

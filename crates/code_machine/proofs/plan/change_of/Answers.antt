@@ -1,4 +1,4 @@
-use Rattle.std.proofs.Common.{◌≡◌, Some, sym, subst}
+use Rattle.std.proofs.Common.{Some, sym, subst}
 use Rattle.verified_code.specs.InMemory.{step_in}
 use Rattle.verified_code.specs.Settled.{settled}
 use Rattle.code_model.specs.Machine.{step}

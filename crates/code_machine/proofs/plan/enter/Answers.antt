@@ -1,4 +1,4 @@
-use Rattle.std.proofs.Common.{◌≡◌, Some, length, ap, sym, ◌∙◌}
+use Rattle.std.proofs.Common.{Some, length, ap, ◌∙◌}
 use Rattle.std.specs.Prelude.{map, slice_get}
 use Rattle.language_model.specs.Effects.{carry, done}
 use Rattle.verified_code.specs.InMemory.{place_of}

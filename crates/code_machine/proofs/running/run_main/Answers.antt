@@ -1,6 +1,6 @@
 use Rattle.std.proofs.Common.{◌≡◌, Option, Some, None, ap, sym, ◌∙◌}
 use Rattle.bytecode.specs.Raw.{RawCode}
-use Rattle.language_model.specs.Effects.{Stage, Stop, World}
+use Rattle.language_model.specs.Effects.{Stage, World}
 use Rattle.verified_code.specs.Settled.{settled}
 use Rattle.verified_code.specs.Verified.{IsVerified}
 use Rattle.verified_code.proofs.Sound.{verified_is_sound}
