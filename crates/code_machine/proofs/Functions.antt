@@ -42,8 +42,3 @@ count-some code g f e =
 
 pub count-none : (code : Code) (g : ℕ) → slice_get code.functions.items g ≡ None → length (in_memory.steps_of (slice_get (settled (raw_code code)) g)) ≡ 0
 count-none code g e = ap (λ o. length (in_memory.steps_of o)) (function-of code g ∙ ap (option_map (runs_as code)) e)
-
--- the steps of a function that may not be there
-pub same-steps : (o : Option Function) → in_memory.steps_of o ≡ model.steps_of o
-same-steps None = refl
-same-steps (Some f) = refl

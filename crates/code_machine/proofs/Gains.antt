@@ -53,7 +53,8 @@ module _ (w : World) (p : List Function) (m : Machine) where
   act (Some (Assert line r)) = goes _ _ (walk.asserted_holds w w (is_onward w) law line (m.registers r))
   act (Some (Branch r b target)) = goes _ (λ t. at (either (same_bool t b) target (m.pc + 1)) m) (walk.tested_holds w w (is_onward w) law (m.registers r))
   act (Some (Jump target)) = law.on_done _
-  act (Some (Call line g d args)) = law.bind (law.on_charge 1) (λ u. law.bind (law.on_test _ trap.Depth line) (λ u. law.bind (law.on_charge _) (λ u. law.on_done _)))
+  act (Some (Call line g d args)) = law.bind (law.on_charge 1)
+      (λ u. law.bind (law.on_test _ trap.Depth line) (λ u. law.bind (law.on_charge _) (λ u. law.on_done _)))
   act (Some (Return r)) = back m.stack (m.registers r)
   act (Some ReturnNone) = back m.stack nothing
 
