@@ -1,5 +1,5 @@
 -- How many steps the longest function has, and what a budget is worth.
-use Rattle.std.proofs.Common.{◌≡◌, ℕ, zero, suc, ◌+◌, ◌*◌, ◌<◌, ◌≤◌, List, [], ◌∷◌, length, get_or, drop, refl, sym, ap, ◌∙◌, arith}
+use Rattle.std.proofs.Common.{◌≡◌, ℕ, zero, suc, ◌+◌, ◌*◌, ◌<◌, ◌≤◌, List, [], ◌∷◌, length, get_or, drop, refl, ap, ◌∙◌, arith}
 use Rattle.std.specs.Prelude.{map, max}
 use Rattle.std.proofs.lemmas.List.{length-map}
 use Rattle.std.proofs.Math.Seq.{drop-nil}
@@ -29,7 +29,8 @@ pub longest-drop : (fs : List memory.Function) (i : ℕ) (d : memory.Function) �
     → longest_of (drop i fs) ≡ max (length (get_or fs i d).body.items) (longest_of (drop (i + 1) fs))
 longest-drop [] i d h = absurd (omega (arith, h))
 longest-drop (f ∷ fs) zero d h = refl
-longest-drop (f ∷ fs) (suc i) d h = let next : suc (i + 1) ≡ suc i + 1 = omega arith in longest-drop fs i d (omega (arith, h)) ∙ ap (λ n. max (length (get_or fs i d).body.items) (longest_of (drop n (f ∷ fs)))) next
+longest-drop (f ∷ fs) (suc i) d h = let next : suc (i + 1) ≡ suc i + 1 = omega arith in longest-drop fs i d (omega (arith, h))
+    ∙ ap (λ n. max (length (get_or fs i d).body.items) (longest_of (drop n (f ∷ fs)))) next
 
 worth-times : (l n : ℕ) → worth l n ≡ n * (l + 1)
 worth-times l zero = omega arith

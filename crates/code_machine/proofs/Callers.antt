@@ -1,7 +1,7 @@
 -- Callers, the last one first.
-use Rattle.std.proofs.Common.{◌≡◌, ℕ, ◌<◌, List, [], ◌∷◌, ◌++◌, length, Ok, refl, sym, ap, ◌∙◌, subst, arith}
-use Rattle.std.specs.Prelude.{map, reverse}
-use Rattle.std.proofs.lemmas.List.{length-map, length-reverse, map-append, reverse-append}
+use Rattle.std.proofs.Common.{◌≡◌, ◌<◌, List, [], ◌∷◌, ◌++◌, length, Ok, refl, ◌∙◌, arith}
+use Rattle.std.specs.Prelude.{map}
+use Rattle.std.proofs.lemmas.List.{length-map, length-reverse}
 use Rattle.language_model.specs.Effects.{Stage}
 use Rattle.language_model.specs.Values.{Value}
 use Rattle.bytecode.specs.Raw.{RawCode}
@@ -10,12 +10,6 @@ use Rattle.code_machine.specs.declared.machine.Caller as waiting
 use Rattle.code_machine.specs.Changes.{back_to}
 use Rattle.code_machine.specs.Standing.{CanAllGoOn, CanGoOn}
 use Rattle.code_machine.specs.Views.{caller_seen, callers_seen}
-
--- one more caller comes first
-pub callers-push : (code : RawCode) (cs : List waiting.Caller) (c : waiting.Caller) → callers_seen code (cs ++ c ∷ []) ≡ caller_seen code c ∷ callers_seen code cs
-callers-push code cs c =
-    ap reverse (map-append (caller_seen code) cs (c ∷ []))
-    ∙ reverse-append (map (caller_seen code) cs) (caller_seen code c ∷ [])
 
 pub callers-count : (code : RawCode) (cs : List waiting.Caller) → length (callers_seen code cs) ≡ length cs
 callers-count code cs = length-reverse (map (caller_seen code) cs) ∙ length-map cs (caller_seen code)

@@ -1,5 +1,5 @@
 -- Functions of code in memory.
-use Rattle.std.proofs.Common.{◌≡◌, ℕ, List, [], ◌∷◌, Option, Some, None, length, refl, sym, ap, ◌∙◌}
+use Rattle.std.proofs.Common.{◌≡◌, ℕ, [], Option, Some, None, length, refl, ap, ◌∙◌}
 use Rattle.std.specs.Prelude.{map, option_map}
 use Rattle.std.specs.List.{slice_get}
 use Rattle.std.proofs.lemmas.Option.{slice_get-map}
@@ -7,7 +7,7 @@ use Rattle.std.proofs.lemmas.List.{length-map}
 use Rattle.bytecode.specs.declared.code.Code.{Code}
 use Rattle.bytecode.specs.declared.code.Function as memory
 use Rattle.bytecode.specs.InMemory.{raw_code, raw_function, raw_instruction}
-use Rattle.verified_code.specs.Steps.{Function, Step}
+use Rattle.verified_code.specs.Steps.{Function}
 use Rattle.verified_code.specs.Settled.{settle, settled, settled_function}
 use Rattle.verified_code.specs.InMemory as in_memory
 use Rattle.code_model.specs.Machine as model
@@ -42,8 +42,3 @@ count-some code g f e =
 
 pub count-none : (code : Code) (g : ℕ) → slice_get code.functions.items g ≡ None → length (in_memory.steps_of (slice_get (settled (raw_code code)) g)) ≡ 0
 count-none code g e = ap (λ o. length (in_memory.steps_of o)) (function-of code g ∙ ap (option_map (runs_as code)) e)
-
--- the steps of a function that may not be there
-pub same-steps : (o : Option Function) → in_memory.steps_of o ≡ model.steps_of o
-same-steps None = refl
-same-steps (Some f) = refl

@@ -5,3 +5,4 @@ pub mod Does
 pub mod Callers
 pub mod Budgets
 pub mod Turns
+pub mod Gains

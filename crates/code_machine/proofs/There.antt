@@ -1,16 +1,16 @@
 -- The registers that verified code names are among those that a function has.
-use Rattle.std.proofs.Common.{◌≡◌, ℕ, zero, suc, ◌<◌, ◌≤◌, List, [], ◌∷◌, length, get_or, Option, Some, None, Bool, true, false, ◌&&◌, ◌||◌, refl, sym, ap, ◌∙◌, subst, arith}
+use Rattle.std.proofs.Common.{◌≡◌, ℕ, zero, suc, ◌<◌, ◌≤◌, List, [], ◌∷◌, length, get_or, Option}
+use Rattle.std.proofs.Common.{Some, None, Bool, true, false, ◌&&◌, ◌||◌, refl, sym, ap, subst, arith}
 use Rattle.std.specs.Prelude.{map, if◌then◌else◌}
 use Rattle.std.specs.List.{list_all, slice_get}
 use Rattle.std.proofs.lemmas.Bool.{ltb-true, and_parts}
-use Rattle.bytecode.specs.declared.kind.Kind.{Kind}
 use Rattle.bytecode.specs.declared.instruction.Register.{Register}
 use Rattle.bytecode.specs.Raw.{Raw, RawFunction, RawCode}
 use Rattle.bytecode.specs.Raw as raw
 use Rattle.verified_code.specs.Fitting.{Here, is_none, is_there, names_there, operands_fit, target_fits, goes_on}
 use Rattle.verified_code.specs.InMemory.{steps_of, step_at}
 use Rattle.verified_code.specs.Settled.{result_at, settle, settled, settled_function}
-use Rattle.verified_code.specs.Sound.{IsSound, passes}
+use Rattle.verified_code.specs.Sound.{passes}
 use Rattle.verified_code.specs.Steps.{Function, Step}
 use Rattle.verified_code.specs.Verified.{IsVerified, here}
 use Rattle.verified_code.proofs.Sound.{verified_is_sound}
@@ -91,7 +91,8 @@ named-first h i t =
     (and_parts (names_there h i) (operands_fit h i) b.0).0
 
 -- the step of a place names registers that are there, where there is one for each kind of the function
-pub step-there : (code : RawCode) → IsVerified code → (function place n : ℕ) → length (kinds_at code function) ≤ n → (i : Step) → step_at code function place ≡ Some i
+pub step-there : (code : RawCode) → IsVerified code → (function place n : ℕ) → length (kinds_at code function) ≤ n → (i : Step)
+    → step_at code function place ≡ Some i
     → AreThere n i
 step-there code v function place n = go (slice_get (settled code) function) refl
   where
@@ -102,7 +103,8 @@ step-there code v function place n = go (slice_get (settled code) function) refl
         let t = ((verified_is_sound code v).functions function f e).instructions place u.0 u.1 in
         subst (AreThere n) u.2 (named (here code f place) n l u.0 (named-first (here code f place) u.0 t))
 
-    go : (o : Option Function) → slice_get (settled code) function ≡ o → length (kinds_of o) ≤ n → (i : Step) → slice_get (steps_of o) place ≡ Some i → AreThere n i
+    go : (o : Option Function) → slice_get (settled code) function ≡ o → length (kinds_of o) ≤ n → (i : Step) → slice_get (steps_of o) place
+        ≡ Some i → AreThere n i
     go None e l i s = absurd (none_some s)
     go (Some g) e l i s =
         let u = unmapped (settled_function code.names) code.functions function g e in

@@ -1,6 +1,5 @@
 -- A run, step by step.
 use Rattle.std.proofs.Common.{◌≡◌, ℕ, zero, suc, ◌-◌, ◌<◌, Option, Some, None, Result, Ok, Err, refl, sym, ap, ◌∙◌, subst, arith}
-use Rattle.std.specs.List.{slice_get}
 use Rattle.std.specs.Result.{IfOk}
 use Rattle.std.specs.declared.alloc.AllocError.{AllocError}
 use Rattle.language_model.specs.Effects.{World, Stage, Stop, Ended, Short}
@@ -34,7 +33,8 @@ turn-none w code zero m s e = refl
 turn-none w code (suc k) m s e = absurd (omega (arith, e))
 
 -- a step stopped, and so did the run
-pub turn-stops : {A : Type 0} (seen : A → Machine) (w : World) (code : RawCode) (k : ℕ) (m : Machine) (s s' : Stage) (h : Halt) (r : Result (Option halted.Stop) AllocError)
+pub turn-stops : {A : Type 0} (seen : A → Machine) (w : World) (code : RawCode) (k : ℕ) (m : Machine) (s s' : Stage) (h : Halt)
+    (r : Result (Option halted.Stop) AllocError)
     → IsStopOf h r → 0 < k → Does seen (stepped w code m) s (Err h) s' → IfOk r (λ o. exec w (settled code) k m s ≡ stopped_at o s')
 turn-stops seen w code k m s s' halt.Memory (Ok o) i l d = absurd i
 turn-stops seen w code k m s s' halt.Memory (Err e) i l d = tt

@@ -1,10 +1,12 @@
 -- Marks of a stage, and the stage that is there again when it is rewound.
-use Rattle.std.specs.Prelude.{◌≡◌, ℕ, List, ◌++◌, length, take}
-use Rattle.sc_text.specs.declared.event.Event.{Event}
-use Rattle.gates.specs.declared.gate.Gate.{Gate}
-use Rattle.language_model.specs.Effects.{Stage}
+use Rattle.std.specs.Prelude.{◌≡◌, ℕ, List, length, take, Ok, Err}
+use Rattle.language_model.specs.Beginnings.{Begins}
+use Rattle.language_model.specs.Effects.{Run, Stage, World}
+use Rattle.bytecode.specs.Raw.{RawCode}
+use Rattle.code_model.specs.Machine.{Machine}
 use Rattle.value_steps.specs.Views.{drawn_seen}
 use Rattle.code_machine.specs.declared.marks.Mark.{Mark}
+use Rattle.code_machine.specs.Views.{stepped}
 
 -- the mark of a stage: what is left, what was drawn and made, and how much was told
 pub record IsMarkOf (mark : Mark) (s : Stage) : Type 0 where
@@ -17,12 +19,9 @@ pub record IsMarkOf (mark : Mark) (s : Stage) : Type 0 where
 
 -- only more gates, events and opened words stand behind those of a stage
 pub record HasGained (s later : Stage) : Type 0 where
-  pub more_gates : List Gate
-  pub gates : later.gates ≡ s.gates ++ more_gates
-  pub more_events : List Event
-  pub events : later.events ≡ s.events ++ more_events
-  pub more_opened : List ℕ
-  pub opened : later.opened ≡ s.opened ++ more_opened
+  pub gates : Begins s.gates later.gates
+  pub events : Begins s.events later.events
+  pub opened : Begins s.opened later.opened
 
 -- the marked stage, of one that is further; answers that were taken stay taken
 abbrev pub rewound : Mark → Stage → Stage
@@ -40,3 +39,11 @@ rewound mark s =
 -- a stage with these answers left
 abbrev pub again_at : Stage → (answers : List ℕ) → Stage
 again_at s answers = record s { answers = answers }
+
+-- where a run came to, or stopped
+abbrev pub reached : {A : Type 0} → Run A → Stage
+reached (Ok x) = x.1
+reached (Err e) = e.1
+
+abbrev pub OnlyGains : World → RawCode → Machine → Stage → Type 0
+OnlyGains w code m s = HasGained s (reached (stepped w code m s))

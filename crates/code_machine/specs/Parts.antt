@@ -33,12 +33,6 @@ into d m made = do
   v ← made
   done (next d v m)
 
--- all goes well, and a place comes
-abbrev pub onto : ℕ → Machine → Effect (Unit {0}) → Effect Machine
-onto place m e = do
-  _ ← e
-  done (at place m)
-
 abbrev pub branched : (condition : Value) → Bool → (target : ℕ) → Machine → Effect Machine
 branched v b target m = do
   t ← row.tested v

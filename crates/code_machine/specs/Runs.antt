@@ -1,11 +1,8 @@
 -- What a run of code gave, as it stands in memory.
-use Rattle.std.specs.Prelude.{◌≡◌, ℕ, List, Option, Some, None, option_map, Result, Ok, Err}
+use Rattle.std.specs.Prelude.{◌≡◌, Option, Some, None, Result, Ok, Err}
 use Rattle.std.specs.declared.alloc.AllocError.{AllocError}
-use Rattle.language_model.specs.Effects.{World, Stage, Stop, Ended, Short}
+use Rattle.language_model.specs.Effects.{Stage, Stop, Ended, Short}
 use Rattle.language_model.specs.Reports.{Report}
-use Rattle.bytecode.specs.Raw.{RawCode}
-use Rattle.verified_code.specs.Settled.{settled}
-use Rattle.code_model.specs.Machine.{Machine, exec}
 use Rattle.value_steps.specs.declared.halt.Halt.{Halt}
 use Rattle.value_steps.specs.declared.halt.Halt.TheVariants as halt
 use Rattle.value_steps.specs.Views as seen

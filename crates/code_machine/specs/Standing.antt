@@ -1,11 +1,13 @@
 -- Machines that have the registers which their code names.
-use Rattle.std.specs.Prelude.{ℕ, ◌<◌, ◌≤◌, List, [], ◌∷◌, length, Option, Some, None}
+use Rattle.std.specs.Prelude.{ℕ, ◌<◌, ◌≤◌, List, [], ◌∷◌, length, map, Option, Some, None}
 use Rattle.std.specs.List.{slice_get}
 use Rattle.bytecode.specs.declared.kind.Kind.{Kind}
+use Rattle.bytecode.specs.declared.instruction.Register.{Register}
 use Rattle.bytecode.specs.Raw.{RawCode}
 use Rattle.verified_code.specs.InMemory.{place_of}
 use Rattle.verified_code.specs.Settled.{settled}
-use Rattle.verified_code.specs.Steps.{Step, Literal, Move, Store, Binary, Not, Cast, Classify, Fill, At, Put, Size, Cat, Sum, Bits, Declassify, Argument, Publish, Assert, Branch, Jump, Call, Return, ReturnNone}
+use Rattle.verified_code.specs.Steps.{Step, Literal, Move, Store, Binary, Not, Cast, Classify, Fill, At, Put, Size, Cat, Sum, Bits, Declassify}
+use Rattle.verified_code.specs.Steps.{Argument, Publish, Assert, Branch, Jump, Call, Return, ReturnNone}
 use Rattle.code_model.specs.Machine.{kinds_of}
 use Rattle.code_machine.specs.declared.machine.Caller as waiting
 use Rattle.code_machine.specs.declared.machine.Machine as running
@@ -47,6 +49,16 @@ AreThere n (Jump target) = Unit {0}
 AreThere n (Call line g d args) = HasAny n d × AreBelow n args
 AreThere n (Return r) = r < n
 AreThere n ReturnNone = Unit {0}
+
+-- the registers that an instruction in memory names, and a machine has
+abbrev pub IsThere : running.Machine → Register → Type 0
+IsThere m r = r.0 < length m.registers.items
+
+abbrev pub IsThereIfAny : running.Machine → Option Register → Type 0
+IsThereIfAny m r = HasAny (length m.registers.items) (place_of r)
+
+abbrev pub AreAllThere : running.Machine → List Register → Type 0
+AreAllThere m rs = AreBelow (length m.registers.items) (map (λ r. r.0) rs)
 
 -- a caller has a register for each kind of its function, and one for the result that it waits for
 pub record CanGoOn (code : RawCode) (c : waiting.Caller) : Type 0 where

@@ -46,7 +46,8 @@ impl Machine {
     ) -> Result<(), AllocError>
         requires safe { HasAny (length self.old.registers.items) (place_of to) }
         requires room { self.old.place + 1 < 2 ^ 64 }
-        ensures changed { IfOk result (λ _. (code : RawCode) → machine_seen code self.new ≡ changed code (machine_seen code self.old) (change.Enter function to registers)) }
+        ensures changed { IfOk result (λ _. (code : RawCode) → machine_seen code self.new
+            ≡ changed code (machine_seen code self.old) (change.Enter function to registers)) }
         ensures kept { IfErr result (λ _. (code : RawCode) → machine_seen code self.new ≡ machine_seen code self.old) }
         ensures stands { (code : RawCode) → Stands code self.old → HasEnough code (change.Enter function to registers) → Stands code self.new }
     {

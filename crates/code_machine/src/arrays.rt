@@ -1,5 +1,5 @@
 // How an element of an array is written.
-ghost use Rattle.std.specs.Prelude.{◌≡◌, ◌<◌, IfOk, length};
+ghost use Rattle.std.specs.Prelude.{◌≡◌, ◌<◌, IfOk};
 ghost use Rattle.gates.specs.Clear.{first_word};
 ghost use Rattle.language_model.specs.Operations as row;
 ghost use Rattle.language_model.specs.Values.{seen, size};
@@ -9,7 +9,8 @@ ghost use Rattle.value_steps.specs.Views.{stage_seen, value_seen};
 ghost use Rattle.code_machine.specs.Changes.{HasEnough, IsSafe, changed};
 ghost use Rattle.code_machine.specs.Parts.{into};
 ghost use Rattle.code_machine.specs.Parts as Parts;
-ghost use Rattle.code_machine.specs.Views.{machine_seen, registers_seen};
+ghost use Rattle.code_machine.specs.Views.{kept, machine_seen};
+ghost use Rattle.code_machine.specs.Standing.{IsThere};
 
 use crate::change::{Change, into_register};
 use crate::machine::Machine;
@@ -50,12 +51,12 @@ pub(crate) fn put(
     index: Register,
     value: Register,
 ) -> Result<Change, Halt>
-    requires array_there { array.0 < length machine.now.registers.items }
-    requires index_there { index.0 < length machine.now.registers.items }
-    requires value_there { value.0 < length machine.now.registers.items }
+    requires array_there { IsThere machine.now array }
+    requires index_there { IsThere machine.now index }
+    requires value_there { IsThere machine.now value }
     ensures step { (code : RawCode) → Does (changed code (machine_seen code machine.now))
-        (into array.0 (machine_seen code machine.now) (row.with_element line (registers_seen machine.now.registers.items array.0)
-        (registers_seen machine.now.registers.items index.0) (registers_seen machine.now.registers.items value.0)))
+        (into array.0 (machine_seen code machine.now) (row.with_element line (kept machine.now array)
+        (kept machine.now index) (kept machine.now value)))
         (stage_seen stage.old) result (stage_seen stage.new) }
     ensures safe { IfOk result (IsSafe machine.now) }
     ensures enough { (code : RawCode) → IfOk result (HasEnough code) }

@@ -1,13 +1,13 @@
 // How a function is called.
-ghost use Rattle.std.specs.Prelude.{◌≡◌, ◌≤◌, ◌<◌, IfOk, length, map, sum};
+ghost use Rattle.std.specs.Prelude.{◌≡◌, ◌≤◌, IfOk, length, map, sum};
 ghost use Rattle.language_model.specs.Effects.{charge};
 ghost use Rattle.language_model.specs.Evaluation.{array_elements};
 ghost use Rattle.code_model.specs.Machine.{filled_with, values_at};
 ghost use Rattle.value_steps.specs.Steps.{Does, itself};
 ghost use Rattle.value_steps.specs.Views.{stage_seen, value_seen};
 ghost use Rattle.code_machine.specs.Parts.{call_charged};
-ghost use Rattle.code_machine.specs.Standing.{AreBelow, kinds_at};
-ghost use Rattle.code_machine.specs.Views.{registers_seen};
+ghost use Rattle.code_machine.specs.Standing.{AreAllThere, kinds_at};
+ghost use Rattle.code_machine.specs.Views.{all_kept, registers_seen};
 
 use crate::begin::{filled, kinds_at};
 use crate::machine::Machine;
@@ -30,8 +30,8 @@ fn elements(value: &Value) -> u64
 
 /// How many elements the arrays among these registers have together.
 fn array_elements(machine: &Machine, arguments: &[Register]) -> u128
-    requires { AreBelow (length machine.now.registers.items) (map (λ r. r.0) arguments.now) }
-    ensures { result ≡ sum (map array_elements (values_at (registers_seen machine.now.registers.items) (map (λ r. r.0) arguments.now))) }
+    requires { AreAllThere machine.now arguments.now }
+    ensures { result ≡ sum (map array_elements (all_kept machine.now arguments.now)) }
 {
     let mut count = 0;
     for argument in arguments {
@@ -58,8 +58,8 @@ pub(crate) fn charge_call(
     line: u32,
     arguments: &[Register],
 ) -> Result<(), Halt>
-    requires { AreBelow (length machine.now.registers.items) (map (λ r. r.0) arguments.now) }
-    ensures { Does itself (call_charged (length machine.now.callers.items) line (values_at (registers_seen machine.now.registers.items) (map (λ r. r.0) arguments.now)))
+    requires { AreAllThere machine.now arguments.now }
+    ensures { Does itself (call_charged (length machine.now.callers.items) line (all_kept machine.now arguments.now))
         (stage_seen stage.old) result (stage_seen stage.new) }
 {
     charge(stage, 1)?;
@@ -73,8 +73,8 @@ fn values_at(
     machine: &Machine,
     arguments: &[Register],
 ) -> Result<Vec<Value>, AllocError>
-    requires { AreBelow (length machine.now.registers.items) (map (λ r. r.0) arguments.now) }
-    ensures { IfOk result (λ vs. map value_seen vs.items ≡ values_at (registers_seen machine.now.registers.items) (map (λ r. r.0) arguments.now)) }
+    requires { AreAllThere machine.now arguments.now }
+    ensures { IfOk result (λ vs. map value_seen vs.items ≡ all_kept machine.now arguments.now) }
 {
     let mut values = Vec::new(alloc);
     for argument in arguments {
@@ -91,9 +91,9 @@ pub(crate) fn registers_for(
     function: FunctionPlace,
     arguments: &[Register],
 ) -> Result<Vec<Value>, AllocError>
-    requires { AreBelow (length machine.now.registers.items) (map (λ r. r.0) arguments.now) }
+    requires { AreAllThere machine.now arguments.now }
     ensures registers { IfOk result (λ vs. registers_seen vs.items
-        ≡ filled_with (kinds_at code.now function.0) (values_at (registers_seen machine.now.registers.items) (map (λ r. r.0) arguments.now))) }
+        ≡ filled_with (kinds_at code.now function.0) (all_kept machine.now arguments.now)) }
     ensures enough { IfOk result (λ vs. length (kinds_at code.now function.0) ≤ length vs.items) }
 {
     let values = values_at(alloc, machine, arguments)?;

@@ -11,6 +11,7 @@ mod calls;
 mod change;
 mod dealer;
 mod fuel;
+mod laws;
 mod machine;
 mod marks;
 mod operands;
@@ -25,6 +26,7 @@ mod texts;
 mod values;
 
 pub use begin::start;
+pub use laws::steps_only_gain;
 pub use machine::{Caller, Machine};
 pub use marks::{Mark, marked, rewind};
 pub use ran::{Ran, Stop};

@@ -39,7 +39,8 @@ impl Caller {
     /// A caller goes on with a result.
     pub(crate) fn go_on(self, machine: &mut Machine, value: Value)
         requires { HasAny (length self.registers.items) (place_of self.result) }
-        ensures changed { (code : RawCode) → machine_seen code machine.new ≡ resumed (caller_seen code self) (value_seen value) (machine_seen code machine.old).stack }
+        ensures changed { (code : RawCode) → machine_seen code machine.new
+            ≡ resumed (caller_seen code self) (value_seen value) (machine_seen code machine.old).stack }
         ensures function { machine.new.function ≡ self.function }
         ensures count { length machine.new.registers.items ≡ length self.registers.items }
         ensures callers { machine.new.callers.items ≡ machine.old.callers.items }
@@ -83,22 +84,23 @@ impl Drop for Machine {
 }
 
 impl Machine {
-    ghost use Rattle.std.specs.Prelude.{◌≡◌, ◌<◌, length, IfOk};
+    ghost use Rattle.std.specs.Prelude.{◌≡◌, IfOk};
     ghost use Rattle.value_steps.specs.Views.{value_seen};
-    ghost use Rattle.code_machine.specs.Views.{registers_seen};
+    ghost use Rattle.code_machine.specs.Standing.{IsThere};
+    ghost use Rattle.code_machine.specs.Views.{kept};
 
     /// The value in a register.
     pub(crate) fn register(&self, register: Register) -> &Value
-        requires { register.0 < length self.now.registers.items }
-        ensures { value_seen result.now ≡ registers_seen self.now.registers.items register.0 }
+        requires { IsThere self.now register }
+        ensures { value_seen result.now ≡ kept self.now register }
     {
         &self.registers[register.0 as usize]
     }
 
     /// The value of a register in memory of its own.
     pub(crate) fn copied(&self, alloc: Global, register: Register) -> Result<Value, AllocError>
-        requires { register.0 < length self.now.registers.items }
-        ensures { IfOk result (λ v. value_seen v ≡ registers_seen self.now.registers.items register.0) }
+        requires { IsThere self.now register }
+        ensures { IfOk result (λ v. value_seen v ≡ kept self.now register) }
     {
         self.register(register).copy(alloc)
     }

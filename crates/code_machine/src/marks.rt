@@ -36,7 +36,8 @@ pub fn marked(stage: &Stage<'_>) -> Mark
 /// stay taken.
 pub fn rewind(stage: &mut Stage<'_>, mark: &Mark)
     ensures exactly { stage_seen stage.new ≡ rewound mark.now (stage_seen stage.old) }
-    ensures again { (s : Reached) → IsMarkOf mark.now s → HasGained s (stage_seen stage.old) → stage_seen stage.new ≡ again_at s (stage_seen stage.old).answers }
+    ensures again { (s : Reached) → IsMarkOf mark.now s → HasGained s (stage_seen stage.old) →
+        stage_seen stage.new ≡ again_at s (stage_seen stage.old).answers }
 {
     stage.left = mark.left;
     stage.drawn = mark.drawn;

@@ -1,9 +1,9 @@
 // The values that steps with several operands make, and those that may trap. Operands are read in the machine where they stand.
-ghost use Rattle.std.specs.Prelude.{◌<◌, length};
 ghost use Rattle.language_model.specs.Operations as row;
 ghost use Rattle.value_steps.specs.Steps.{Does};
 ghost use Rattle.value_steps.specs.Views.{stage_seen, value_seen, world_seen};
-ghost use Rattle.code_machine.specs.Views.{registers_seen};
+ghost use Rattle.code_machine.specs.Views.{kept};
+ghost use Rattle.code_machine.specs.Standing.{IsThere};
 
 use crate::machine::Machine;
 use bytecode::Register;
@@ -26,9 +26,10 @@ pub(crate) fn combined(
     left: Register,
     right: Register,
 ) -> Result<Value, Halt>
-    requires left_there { left.0 < length machine.now.registers.items }
-    requires right_there { right.0 < length machine.now.registers.items }
-    ensures { Does value_seen (row.operated (world_seen world.now) line operator operands (registers_seen machine.now.registers.items left.0) (registers_seen machine.now.registers.items right.0)) (stage_seen stage.old) result (stage_seen stage.new) }
+    requires left_there { IsThere machine.now left }
+    requires right_there { IsThere machine.now right }
+    ensures { Does value_seen (row.operated (world_seen world.now) line operator operands (kept machine.now left) (kept machine.now right))
+        (stage_seen stage.old) result (stage_seen stage.new) }
 {
     let applied = Applied {
         operator,
@@ -48,9 +49,9 @@ pub(crate) fn repeated(
     size: Register,
     value: Register,
 ) -> Result<Value, Halt>
-    requires size_there { size.0 < length machine.now.registers.items }
-    requires value_there { value.0 < length machine.now.registers.items }
-    ensures { Does value_seen (row.filled line (registers_seen machine.now.registers.items size.0) (registers_seen machine.now.registers.items value.0)) (stage_seen stage.old) result (stage_seen stage.new) }
+    requires size_there { IsThere machine.now size }
+    requires value_there { IsThere machine.now value }
+    ensures { Does value_seen (row.filled line (kept machine.now size) (kept machine.now value)) (stage_seen stage.old) result (stage_seen stage.new) }
 {
     filled(
         alloc,
@@ -70,9 +71,10 @@ pub(crate) fn element(
     array: Register,
     index: Register,
 ) -> Result<Value, Halt>
-    requires array_there { array.0 < length machine.now.registers.items }
-    requires index_there { index.0 < length machine.now.registers.items }
-    ensures { Does value_seen (row.element_of_array line (registers_seen machine.now.registers.items array.0) (registers_seen machine.now.registers.items index.0)) (stage_seen stage.old) result (stage_seen stage.new) }
+    requires array_there { IsThere machine.now array }
+    requires index_there { IsThere machine.now index }
+    ensures { Does value_seen (row.element_of_array line (kept machine.now array) (kept machine.now index))
+        (stage_seen stage.old) result (stage_seen stage.new) }
 {
     element_of_array(
         alloc,
@@ -92,9 +94,9 @@ pub(crate) fn concatenated(
     left: Register,
     right: Register,
 ) -> Result<Value, Halt>
-    requires left_there { left.0 < length machine.now.registers.items }
-    requires right_there { right.0 < length machine.now.registers.items }
-    ensures { Does value_seen (row.joined line (registers_seen machine.now.registers.items left.0) (registers_seen machine.now.registers.items right.0)) (stage_seen stage.old) result (stage_seen stage.new) }
+    requires left_there { IsThere machine.now left }
+    requires right_there { IsThere machine.now right }
+    ensures { Does value_seen (row.joined line (kept machine.now left) (kept machine.now right)) (stage_seen stage.old) result (stage_seen stage.new) }
 {
     let first = machine.copied(alloc, left)?;
     joined(alloc, stage, line, first, machine.register(right))
@@ -109,8 +111,8 @@ pub(crate) fn bits(
     line: u32,
     source: Register,
 ) -> Result<Value, Halt>
-    requires { source.0 < length machine.now.registers.items }
-    ensures { Does value_seen (row.bits_extracted (world_seen world.now) line (registers_seen machine.now.registers.items source.0)) (stage_seen stage.old) result (stage_seen stage.new) }
+    requires { IsThere machine.now source }
+    ensures { Does value_seen (row.bits_extracted (world_seen world.now) line (kept machine.now source)) (stage_seen stage.old) result (stage_seen stage.new) }
 {
     bits_extracted(alloc, world, stage, line, machine.register(source))
 }
@@ -125,10 +127,11 @@ pub(crate) fn array_with(
     index: Register,
     value: Register,
 ) -> Result<Value, Halt>
-    requires array_there { array.0 < length machine.now.registers.items }
-    requires index_there { index.0 < length machine.now.registers.items }
-    requires value_there { value.0 < length machine.now.registers.items }
-    ensures { Does value_seen (row.with_element line (registers_seen machine.now.registers.items array.0) (registers_seen machine.now.registers.items index.0) (registers_seen machine.now.registers.items value.0)) (stage_seen stage.old) result (stage_seen stage.new) }
+    requires array_there { IsThere machine.now array }
+    requires index_there { IsThere machine.now index }
+    requires value_there { IsThere machine.now value }
+    ensures { Does value_seen (row.with_element line (kept machine.now array) (kept machine.now index) (kept machine.now value))
+        (stage_seen stage.old) result (stage_seen stage.new) }
 {
     let old = machine.copied(alloc, array)?;
     with_element(

@@ -1,5 +1,5 @@
 // Steps that only lead to another place.
-ghost use Rattle.std.specs.Prelude.{◌≡◌, ◌+◌, ◌<◌, ◌^◌, IfOk, length};
+ghost use Rattle.std.specs.Prelude.{◌≡◌, ◌+◌, ◌<◌, ◌^◌, IfOk};
 ghost use Rattle.language_model.specs.Operations as row;
 ghost use Rattle.bytecode.specs.Raw.{RawCode};
 ghost use Rattle.code_model.specs.Machine.{same_bool};
@@ -7,7 +7,8 @@ ghost use Rattle.value_steps.specs.Steps.{Does, itself};
 ghost use Rattle.value_steps.specs.Views.{stage_seen};
 ghost use Rattle.code_machine.specs.Changes.{HasEnough, IsSafe, changed, goes_on_at};
 ghost use Rattle.code_machine.specs.Parts.{branched};
-ghost use Rattle.code_machine.specs.Views.{machine_seen, registers_seen};
+ghost use Rattle.code_machine.specs.Views.{kept, machine_seen};
+ghost use Rattle.code_machine.specs.Standing.{IsThere};
 
 use crate::change::Change;
 use crate::machine::Machine;
@@ -31,8 +32,8 @@ pub(crate) fn assert_at(
     line: u32,
     condition: Register,
 ) -> Result<(), Halt>
-    requires { condition.0 < length machine.now.registers.items }
-    ensures { Does itself (row.asserted line (registers_seen machine.now.registers.items condition.0)) (stage_seen stage.old) result (stage_seen stage.new) }
+    requires { IsThere machine.now condition }
+    ensures { Does itself (row.asserted line (kept machine.now condition)) (stage_seen stage.old) result (stage_seen stage.new) }
 {
     asserted(stage, line, machine.register(condition))
 }
@@ -51,9 +52,10 @@ pub(crate) fn branch(
     value: bool,
     target: Target,
 ) -> Result<Change, Halt>
-    requires there { condition.0 < length machine.now.registers.items }
+    requires there { IsThere machine.now condition }
     requires room { machine.now.place + 1 < 2 ^ 64 }
-    ensures step { (code : RawCode) → Does (changed code (machine_seen code machine.now)) (branched (registers_seen machine.now.registers.items condition.0) value target.0 (machine_seen code machine.now))
+    ensures step { (code : RawCode) → Does (changed code (machine_seen code machine.now))
+        (branched (kept machine.now condition) value target.0 (machine_seen code machine.now))
         (stage_seen stage.old) result (stage_seen stage.new) }
     ensures safe { IfOk result (IsSafe machine.now) }
     ensures enough { (code : RawCode) → IfOk result (HasEnough code) }

@@ -1,5 +1,5 @@
 // The change that each step makes.
-ghost use Rattle.std.specs.Prelude.{◌≡◌, ◌+◌, ◌<◌, ◌^◌, IfOk, Some, length, map};
+ghost use Rattle.std.specs.Prelude.{◌+◌, ◌<◌, ◌^◌, IfOk, Some, length, map};
 ghost use Rattle.language_model.specs.Effects.{Stage as Reached, World as Around};
 ghost use Rattle.bytecode.specs.Raw.{RawCode};
 ghost use Rattle.verified_code.specs.InMemory.{place_of, step_in};
@@ -9,7 +9,7 @@ ghost use Rattle.code_model.specs.Machine.{step};
 ghost use Rattle.value_steps.specs.Steps.{Does};
 ghost use Rattle.value_steps.specs.Views.{stage_seen, world_seen};
 ghost use Rattle.code_machine.specs.Changes.{HasEnough, IsSafe, changed, left};
-ghost use Rattle.code_machine.specs.Standing.{AreBelow, AreThere, HasAny};
+ghost use Rattle.code_machine.specs.Standing.{AreAllThere, AreThere, IsThereIfAny};
 ghost use Rattle.code_machine.specs.Views.{machine_seen};
 
 use crate::arrays::put;
@@ -41,8 +41,8 @@ fn enter(
     to: Option<Register>,
     arguments: &[Register],
 ) -> Result<Change, Halt>
-    requires to_there { HasAny (length machine.now.registers.items) (place_of to) }
-    requires arguments_there { AreBelow (length machine.now.registers.items) (map (λ r. r.0) arguments.now) }
+    requires to_there { IsThereIfAny machine.now to }
+    requires arguments_there { AreAllThere machine.now arguments.now }
     ensures step { (w : Around) → Does (changed code.now (machine_seen code.now machine.now))
         (step w (settled code.now) (Some (steps.Call line function.0 (place_of to) (map (λ r. r.0) arguments.now))) (machine_seen code.now machine.now))
         (stage_seen stage.old) result (stage_seen stage.new) }
@@ -56,8 +56,9 @@ fn enter(
 
 /// A return: the last caller goes on, with the value of a register or one that nobody reads. Where `main` is left the run is done.
 fn leave(alloc: Global, machine: &Machine, source: Option<Register>) -> Result<Change, Halt>
-    requires { HasAny (length machine.now.registers.items) (place_of source) }
-    ensures step { (code : RawCode) (s : Reached) → Does (changed code (machine_seen code machine.now)) (left (place_of source) (machine_seen code machine.now)) s result s }
+    requires { IsThereIfAny machine.now source }
+    ensures step { (code : RawCode) (s : Reached) → Does (changed code (machine_seen code machine.now))
+        (left (place_of source) (machine_seen code machine.now)) s result s }
     ensures safe { IfOk result (IsSafe machine.now) }
     ensures enough { (code : RawCode) → IfOk result (HasEnough code) }
 {
@@ -84,7 +85,8 @@ pub(crate) fn change_of(
     requires there { AreThere (length machine.now.registers.items) (step_in coming) }
     requires room { machine.now.place + 1 < 2 ^ 64 }
     ensures step { Does (changed code.now (machine_seen code.now machine.now))
-        (step (world_seen world.now) (settled code.now) (Some (step_in coming.entry)) (machine_seen code.now machine.now)) (stage_seen stage.old) result (stage_seen stage.new) }
+        (step (world_seen world.now) (settled code.now) (Some (step_in coming.entry)) (machine_seen code.now machine.now))
+        (stage_seen stage.old) result (stage_seen stage.new) }
     ensures safe { IfOk result (IsSafe machine.now) }
     ensures enough { IfOk result (HasEnough code.now) }
 {

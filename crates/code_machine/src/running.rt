@@ -69,7 +69,8 @@ fn run_main(
     code: &Verified,
     stage: &mut Stage<'_>,
 ) -> Result<Stop, AllocError>
-    ensures { IfOk result (λ stop. exec (world_seen world.now) (settled code.now) (fuel (settled code.now) stage.old.left) (start (settled code.now)) (stage_seen stage.old)
+    ensures { IfOk result (λ stop. exec (world_seen world.now) (settled code.now)
+        (fuel (settled code.now) stage.old.left) (start (settled code.now)) (stage_seen stage.old)
         ≡ Some (stop_seen stop, stage_seen stage.new)) }
 {
     let machine = start(alloc, code)?;

@@ -1,11 +1,12 @@
 // Inputs that are asked for by a name, and values that are published under one.
-ghost use Rattle.std.specs.Prelude.{◌≡◌, ◌<◌, IfOk, length};
+ghost use Rattle.std.specs.Prelude.{◌≡◌, IfOk};
 ghost use Rattle.language_model.specs.Operations as row;
 ghost use Rattle.language_model.specs.Evaluation.{asked_for, input_named};
 ghost use Rattle.verified_code.specs.Steps.{kind_shape};
 ghost use Rattle.value_steps.specs.Steps.{Does, itself};
 ghost use Rattle.value_steps.specs.Views.{stage_seen, value_seen, world_seen};
-ghost use Rattle.code_machine.specs.Views.{registers_seen};
+ghost use Rattle.code_machine.specs.Views.{kept};
+ghost use Rattle.code_machine.specs.Standing.{IsThere};
 
 use crate::machine::Machine;
 use bytecode::{Kind, Register};
@@ -33,7 +34,8 @@ pub(crate) fn argument(
     kind: Kind,
     text: &str,
 ) -> Result<Value, Halt>
-    ensures { Does value_seen (asked_for kind.secret (kind_shape kind) line (input_named (world_seen world.now) text.now)) (stage_seen stage.old) result (stage_seen stage.new) }
+    ensures { Does value_seen (asked_for kind.secret (kind_shape kind) line (input_named (world_seen world.now) text.now))
+        (stage_seen stage.old) result (stage_seen stage.new) }
 {
     let name = name_in(alloc, text)?;
     let shape = Shape {
@@ -52,8 +54,8 @@ pub(crate) fn publish(
     text: &str,
     source: Register,
 ) -> Result<(), Halt>
-    requires { source.0 < length machine.now.registers.items }
-    ensures { Does itself (row.published (world_seen world.now) text.now (registers_seen machine.now.registers.items source.0)) (stage_seen stage.old) result (stage_seen stage.new) }
+    requires { IsThere machine.now source }
+    ensures { Does itself (row.published (world_seen world.now) text.now (kept machine.now source)) (stage_seen stage.old) result (stage_seen stage.new) }
 {
     let name = name_in(alloc, text)?;
     published(alloc, world, stage, &name, machine.register(source))

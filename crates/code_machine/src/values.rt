@@ -1,5 +1,5 @@
 // The values that steps make which have no line: what each reads is in the machine, and copied where an operation takes it.
-ghost use Rattle.std.specs.Prelude.{◌<◌, ◌≡◌, [], ◌∷◌, false, length};
+ghost use Rattle.std.specs.Prelude.{[], ◌∷◌, false};
 ghost use Rattle.typed_tree.specs.Shapes.{shape_of};
 ghost use Rattle.language_model.specs.Effects.{done};
 ghost use Rattle.language_model.specs.Operations as row;
@@ -7,7 +7,8 @@ ghost use Rattle.language_model.specs.Values.{plain};
 ghost use Rattle.value_steps.specs.Steps.{Does};
 ghost use Rattle.value_steps.specs.Views.{stage_seen, value_seen, world_seen};
 ghost use Rattle.code_machine.specs.Parts as Parts;
-ghost use Rattle.code_machine.specs.Views.{registers_seen};
+ghost use Rattle.code_machine.specs.Views.{kept};
+ghost use Rattle.code_machine.specs.Standing.{IsThere};
 
 use crate::machine::Machine;
 use bytecode::Register;
@@ -42,8 +43,8 @@ pub(crate) fn moved(
     stage: &mut Stage<'_>,
     source: Register,
 ) -> Result<Value, Halt>
-    requires { source.0 < length machine.now.registers.items }
-    ensures { Does value_seen (done (registers_seen machine.now.registers.items source.0)) (stage_seen stage.old) result (stage_seen stage.new) }
+    requires { IsThere machine.now source }
+    ensures { Does value_seen (done (kept machine.now source)) (stage_seen stage.old) result (stage_seen stage.new) }
 {
     let value = machine.copied(alloc, source)?;
     Ok(value)
@@ -56,8 +57,8 @@ pub(crate) fn stored(
     stage: &mut Stage<'_>,
     source: Register,
 ) -> Result<Value, Halt>
-    requires { source.0 < length machine.now.registers.items }
-    ensures { Does value_seen (Parts.stored (registers_seen machine.now.registers.items source.0)) (stage_seen stage.old) result (stage_seen stage.new) }
+    requires { IsThere machine.now source }
+    ensures { Does value_seen (Parts.stored (kept machine.now source)) (stage_seen stage.old) result (stage_seen stage.new) }
 {
     charged(stage, machine.register(source).size())?;
     let value = machine.copied(alloc, source)?;
@@ -71,8 +72,8 @@ pub(crate) fn negation(
     stage: &mut Stage<'_>,
     source: Register,
 ) -> Result<Value, Halt>
-    requires { source.0 < length machine.now.registers.items }
-    ensures { Does value_seen (row.negated (registers_seen machine.now.registers.items source.0)) (stage_seen stage.old) result (stage_seen stage.new) }
+    requires { IsThere machine.now source }
+    ensures { Does value_seen (row.negated (kept machine.now source)) (stage_seen stage.old) result (stage_seen stage.new) }
 {
     let value = machine.copied(alloc, source)?;
     negated(alloc, stage, value)
@@ -87,8 +88,8 @@ pub(crate) fn cast_value(
     cast: Cast,
     source: Register,
 ) -> Result<Value, Halt>
-    requires { source.0 < length machine.now.registers.items }
-    ensures { Does value_seen (row.cast_to (world_seen world.now) cast (registers_seen machine.now.registers.items source.0)) (stage_seen stage.old) result (stage_seen stage.new) }
+    requires { IsThere machine.now source }
+    ensures { Does value_seen (row.cast_to (world_seen world.now) cast (kept machine.now source)) (stage_seen stage.old) result (stage_seen stage.new) }
 {
     let value = machine.copied(alloc, source)?;
     cast_to(alloc, world, stage, cast, value)
@@ -101,8 +102,8 @@ pub(crate) fn classified(
     stage: &mut Stage<'_>,
     source: Register,
 ) -> Result<Value, Halt>
-    requires { source.0 < length machine.now.registers.items }
-    ensures { Does value_seen (row.classified (registers_seen machine.now.registers.items source.0)) (stage_seen stage.old) result (stage_seen stage.new) }
+    requires { IsThere machine.now source }
+    ensures { Does value_seen (row.classified (kept machine.now source)) (stage_seen stage.old) result (stage_seen stage.new) }
 {
     let value = machine.copied(alloc, source)?;
     wanted(alloc, stage, true, value)
@@ -115,8 +116,8 @@ pub(crate) fn size_of(
     stage: &mut Stage<'_>,
     source: Register,
 ) -> Result<Value, Halt>
-    requires { source.0 < length machine.now.registers.items }
-    ensures { Does value_seen (row.size_told (registers_seen machine.now.registers.items source.0)) (stage_seen stage.old) result (stage_seen stage.new) }
+    requires { IsThere machine.now source }
+    ensures { Does value_seen (row.size_told (kept machine.now source)) (stage_seen stage.old) result (stage_seen stage.new) }
 {
     size_told(alloc, stage, machine.register(source))
 }
@@ -128,8 +129,8 @@ pub(crate) fn sum_of(
     stage: &mut Stage<'_>,
     source: Register,
 ) -> Result<Value, Halt>
-    requires { source.0 < length machine.now.registers.items }
-    ensures { Does value_seen (row.summed (registers_seen machine.now.registers.items source.0)) (stage_seen stage.old) result (stage_seen stage.new) }
+    requires { IsThere machine.now source }
+    ensures { Does value_seen (row.summed (kept machine.now source)) (stage_seen stage.old) result (stage_seen stage.new) }
 {
     summed(alloc, stage, machine.register(source))
 }
@@ -142,8 +143,8 @@ pub(crate) fn opened(
     stage: &mut Stage<'_>,
     source: Register,
 ) -> Result<Value, Halt>
-    requires { source.0 < length machine.now.registers.items }
-    ensures { Does value_seen (row.declassified (world_seen world.now) (registers_seen machine.now.registers.items source.0)) (stage_seen stage.old) result (stage_seen stage.new) }
+    requires { IsThere machine.now source }
+    ensures { Does value_seen (row.declassified (world_seen world.now) (kept machine.now source)) (stage_seen stage.old) result (stage_seen stage.new) }
 {
     let value = machine.copied(alloc, source)?;
     declassified(alloc, world, stage, value)

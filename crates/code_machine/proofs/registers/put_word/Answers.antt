@@ -1,4 +1,4 @@
-use Rattle.std.proofs.Common.{◌≡◌, ap, arith, length, sym, ◌∙◌}
+use Rattle.std.proofs.Common.{◌≡◌, ap, arith, sym, ◌∙◌}
 use Rattle.language_model.specs.Evaluation.{put}
 use Rattle.language_model.specs.Values.{size}
 use Rattle.value_steps.specs.Views.{value_seen}

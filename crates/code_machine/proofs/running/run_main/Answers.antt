@@ -1,6 +1,6 @@
 use Rattle.std.proofs.Common.{◌≡◌, Option, Some, None, ap, sym, ◌∙◌}
 use Rattle.bytecode.specs.Raw.{RawCode}
-use Rattle.language_model.specs.Effects.{Stage, Stop, World}
+use Rattle.language_model.specs.Effects.{Stage, World}
 use Rattle.verified_code.specs.Settled.{settled}
 use Rattle.verified_code.specs.Verified.{IsVerified}
 use Rattle.verified_code.proofs.Sound.{verified_is_sound}
@@ -16,7 +16,8 @@ none_some : {A : Type 0} {a : A} → ◌≡◌ {A = Option A} None (Some a) → 
 none_some e = cc
 
 -- runs of verified code end within their fuel
-always-ends : (w : World) (code : RawCode) (s : Stage) → IsVerified code → exec w (settled code) (fuel (settled code) s.left) (start (settled code)) s ≡ None → ⊥
+always-ends : (w : World) (code : RawCode) (s : Stage) → IsVerified code
+    → exec w (settled code) (fuel (settled code) s.left) (start (settled code)) s ≡ None → ⊥
 always-ends w code s v e =
     let f = starts w (settled code) (sound_forward code (verified_is_sound code v)) s in
     none_some (sym e ∙ f.1)

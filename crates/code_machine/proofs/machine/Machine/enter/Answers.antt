@@ -1,7 +1,7 @@
-use Rattle.std.proofs.Common.{◌≡◌, ◌+◌, ◌≤◌, [], ◌∷◌, ◌++◌, length, ap, sym, subst, ◌∙◌}
+use Rattle.std.proofs.Common.{◌+◌, ◌≤◌, [], ◌∷◌, ◌++◌, length, ap, sym, subst, ◌∙◌}
 use Rattle.verified_code.specs.InMemory.{place_of}
 use Rattle.code_machine.specs.declared.machine.Caller.{Caller}
-use Rattle.code_machine.specs.Standing.{CanAllGoOn, CanGoOn, HasAny, kinds_at}
+use Rattle.code_machine.specs.Standing.{CanAllGoOn, HasAny, kinds_at}
 use Rattle.code_machine.proofs.Callers.{all-push}
 use Rattle.code_machine.proofs.machine.Machine.enter.Goals as goal
 

@@ -1,4 +1,4 @@
-use Rattle.std.proofs.Common.{◌≡◌, ◌≤◌, length, sym, subst, arith}
+use Rattle.std.proofs.Common.{◌≤◌, length, sym, subst, arith}
 use Rattle.code_machine.specs.Standing.{CanAllGoOn, kinds_at}
 use Rattle.code_machine.proofs.Callers.{all-pop}
 use Rattle.code_machine.proofs.machine.Machine.leave.Goals as goal
