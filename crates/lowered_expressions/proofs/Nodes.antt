@@ -1,5 +1,5 @@
 -- The code of an element, and of an array behind another.
-use Rattle.std.proofs.Common.{◌≡◌, ℕ, ◌+◌, Bool, List, [], ◌∷◌, ◌++◌, length, refl, sym, ap, ap₂, ◌∙◌, arith, append_assoc, length-append}
+use Rattle.std.proofs.Common.{◌≡◌, ℕ, ◌+◌, Bool, List, [], ◌∷◌, ◌++◌, length, ap, ap₂, ◌∙◌, arith, append_assoc, length-append}
 use Rattle.typed_tree.specs.declared.operators.BinaryOperator.TheVariants as binary
 use Rattle.typed_tree.specs.declared.operators.Operands.TheVariants.{Scalars}
 use Rattle.typed_tree.specs.declared.operators.Connective.{Connective}
@@ -10,7 +10,7 @@ use Rattle.bytecode.specs.declared.kind.Kind.{Kind}
 use Rattle.verified_code.specs.Steps.{Step, At, Cat}
 use Rattle.code_model.specs.Kinds.{width}
 use Rattle.code_model.specs.Expressions.{Numbers, classifying, picked, lacks, element_code, cat_code, binary_code, cut_code, expression_code}
-use Rattle.lowered_expressions.specs.Built.{Built, with_kind, with_step, with_steps, with_code}
+use Rattle.lowered_expressions.specs.Built.{Built, with_kind, with_step, with_code}
 use Rattle.lowered_expressions.proofs.Building.{Begun, begun_one, two_parts, stepped}
 
 pub element_made : (b d f g h : Built) (k : Kind) (ka kb : List Kind) (ca cb : (t pc : ℕ) → List Step) (line to from at w : ℕ) → d ≡ with_kind b k

@@ -6,12 +6,11 @@ use Rattle.typed_tree.specs.declared.operators.Operands.{Operands}
 use Rattle.typed_tree.specs.declared.operators.Connective.{Connective}
 use Rattle.typed_tree.specs.Tree.{TypedTree, TypedTrees, size_node, sum_node, bits_node, not_node, cast_node, declassify_node}
 use Rattle.std.specs.List.{slice_get}
-use Rattle.reached_instances.specs.declared.instance.BoundDomain.{BoundDomain}
 use Rattle.reached_instances.specs.Domains.{Setting, domains}
 use Rattle.language_model.specs.Words.{truth_word}
 use Rattle.language_model.specs.Evaluation.{gives_private, bound_at, slots_of}
-use Rattle.verified_code.specs.Steps.{Step, Literal, Move, Binary, Not, Cast, Size, Sum, Bits, Declassify, Branch, Jump, Call, Cat, At}
-use Rattle.code_model.specs.Kinds.{width, expression_kinds, arguments_kinds, operand_kinds, cut_kinds}
+use Rattle.verified_code.specs.Steps.{Step, Literal, Move, Binary, Not, Cast, Size, Sum, Bits, Declassify, Branch, Jump, Call}
+use Rattle.code_model.specs.Kinds.{expression_kinds, arguments_kinds}
 use Rattle.code_model.specs.Expressions.{Numbers, classifying, picked, lacks, mixes, settling, deciding, expression_code, arguments_code, arguments_places}
 use Rattle.lowered_expressions.specs.declared.closing.One.{One}
 use Rattle.lowered_expressions.specs.declared.closing.One.TheVariants as ones

@@ -10,7 +10,9 @@ ghost use Rattle.lowered_expressions.specs.Views.{numbers_of};
 
 use crate::around::Around;
 use crate::operands::is_private;
-use reached_instances::{BoundDomain, Instance, Setting, binding_of, domain_under, domains, slot_domain};
+use reached_instances::{
+    BoundDomain, Instance, Setting, binding_of, domain_under, domains, slot_domain,
+};
 use std::alloc::{AllocError, Global};
 use typed_tree::{Given, Slot, TypedExpression};
 

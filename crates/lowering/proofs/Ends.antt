@@ -1,6 +1,5 @@
 -- The last steps of statements without others in them.
-use Rattle.std.proofs.Common.{◌≡◌, ℕ, ◌+◌, Bool, List, [], ◌∷◌, ◌++◌, length, refl, sym, ap, ap₂, ◌∙◌, arith, append_assoc}
-use Rattle.std.specs.Prelude.{map}
+use Rattle.std.proofs.Common.{◌≡◌, ℕ, ◌+◌, Bool, List, [], ◌∷◌, ◌++◌, length, refl, ap, ◌∙◌, arith, append_assoc}
 use Rattle.bytecode.specs.declared.kind.Kind.{Kind}
 use Rattle.verified_code.specs.Steps.{Step}
 use Rattle.typed_tree.specs.Tree.{TypedTree}
@@ -8,7 +7,7 @@ use Rattle.reached_instances.specs.Domains.{Setting}
 use Rattle.language_model.specs.Evaluation.{gives_private, slot_is_private}
 use Rattle.code_model.specs.Kinds.{width, expression_kinds, private_kind_in}
 use Rattle.code_model.specs.Expressions.{Numbers, classifying, lacks, picked, expression_code}
-use Rattle.lowered_expressions.specs.Built.{Built, with_kind, with_step, with_steps, with_code}
+use Rattle.lowered_expressions.specs.Built.{Built, with_kind, with_step, with_code}
 use Rattle.lowered_expressions.proofs.Building.{begun_one, two_parts, stepped}
 use Rattle.lowering.specs.declared.commands.Pair.{Pair}
 use Rattle.lowering.specs.declared.commands.Pair.TheVariants as pairs

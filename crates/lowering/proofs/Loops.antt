@@ -1,5 +1,5 @@
 -- The pieces of loops.
-use Rattle.std.proofs.Common.{◌≡◌, ℕ, ◌+◌, ◌-◌, Bool, true, List, [], ◌∷◌, ◌++◌, length, refl, sym, ap, ap₂, ◌∙◌, arith, append_assoc, length-append}
+use Rattle.std.proofs.Common.{◌≡◌, ℕ, ◌+◌, ◌-◌, true, List, [], ◌∷◌, ◌++◌, length, sym, ap, ap₂, ◌∙◌, arith, append_assoc, length-append}
 use Rattle.std.specs.Prelude.{map, slice_set}
 use Rattle.std.proofs.lemmas.List.{length-map, map-append, set_at}
 use Rattle.typed_tree.specs.Tree.{TypedTree}
@@ -13,7 +13,7 @@ use Rattle.code_model.specs.Expressions.{Numbers, expression_code}
 use Rattle.code_model.specs.Commands.{command_width, command_kinds, command_code}
 use Rattle.code_model.proofs.Lengths.{expression_length, command_length}
 use Rattle.code_model.proofs.Widths.{commands_registers}
-use Rattle.lowered_expressions.specs.Built.{Piece, whole, Built, with_step, with_step_at, with_code}
+use Rattle.lowered_expressions.specs.Built.{Piece, whole, Built, with_step, with_step_at}
 use Rattle.lowered_expressions.specs.Parts.{with_expression}
 use Rattle.lowered_expressions.proofs.Building.{body_of}
 use Rattle.lowering.specs.Pieces.{placed, settled, settled_part, command_pieces, with_pieces, with_settled, with_command}

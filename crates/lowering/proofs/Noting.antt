@@ -1,9 +1,9 @@
 -- Names as they are noted, and where they stand.
-use Rattle.std.proofs.Common.{◌≡◌, ℕ, ◌+◌, ◌<◌, ◌≤◌, List, [], ◌∷◌, ◌++◌, length, Some, None, Bool, true, false, cond, refl, sym, ap, ap₂, ◌∙◌, arith}
-use Rattle.std.specs.Prelude.{map, nat_lt, not, ◌||◌, if◌then◌else◌}
-use Rattle.std.specs.List.{flat_map, list_any, position, position_or_len}
+use Rattle.std.proofs.Common.{◌≡◌, ℕ, ◌+◌, ◌≤◌, List, [], ◌∷◌, ◌++◌, length, Some, None, Bool, true, false, cond, refl, sym, ap, ap₂, ◌∙◌, arith}
+use Rattle.std.specs.Prelude.{map, nat_lt, not, ◌||◌}
+use Rattle.std.specs.List.{list_any, position, position_or_len}
 use Rattle.std.specs.Str.{bytes_eq}
-use Rattle.std.proofs.lemmas.List.{length-map, map_push}
+use Rattle.std.proofs.lemmas.List.{map_push}
 use Rattle.std.proofs.lemmas.List.Recursion.{is_position_or_len}
 use Rattle.std.proofs.lemmas.List.Sums.{prefix_len-le-length}
 use Rattle.std.proofs.lemmas.Bool.Decides.{nat_tests}
@@ -69,9 +69,10 @@ noted_new f ks ks2 k new text list list2 name added keys is_new same copied more
     let now : map f ks2 ≡ map f ks ++ text ∷ [] =
     ap (map f) (keys ∙ ap (λ (b : Bool). cond b ks (ks ++ k ∷ [])) fresh) ∙ map_push f ks k ∙ ap (λ (z : List ℕ). map f ks ++ z ∷ []) same in
     let none : list_any (bytes_eq text) (map f ks) ≡ false =
-    ap (λ (z : List ℕ). list_any (bytes_eq z) (map f ks)) (sym same) ∙ any_map (bytes_eq (f k)) f ks ∙ fresh in
-    (now ∙ sym (naming_new (map f ks) text none),
-    more ∙ ap₂ (λ (l : List (List ℕ)) (z : List ℕ). l ++ z ∷ []) before copied ∙ sym now)
+    ap (λ (z : List ℕ). list_any (bytes_eq z) (map f ks)) (sym same) ∙ any_map (bytes_eq (f k)) f ks ∙ fresh in (
+      now ∙ sym (naming_new (map f ks) text none),
+      more ∙ ap₂ (λ (l : List (List ℕ)) (z : List ℕ). l ++ z ∷ []) before copied ∙ sym now,
+    )
 
 pub noted_old : {X : Type 0} (f : X → List ℕ) (ks ks2 : List X) (k : X) (new : Bool) (text : List ℕ) (list : List (List ℕ))
     → new ≡ not (list_any (λ x. bytes_eq (f k) (f x)) ks) → ks2 ≡ cond (list_any (λ x. bytes_eq (f k) (f x)) ks) ks (ks ++ k ∷ []) → new ≡ false

@@ -1,5 +1,5 @@
 -- The pieces of statements, one more at a time.
-use Rattle.std.proofs.Common.{◌≡◌, ℕ, ◌+◌, List, [], ◌∷◌, ◌++◌, length, refl, sym, ap, ap₂, ◌∙◌, arith, append_assoc, append-nil, length-append}
+use Rattle.std.proofs.Common.{◌≡◌, ℕ, ◌+◌, List, [], ◌∷◌, ◌++◌, length, sym, ap, ap₂, ◌∙◌, arith, append_assoc, append-nil, length-append}
 use Rattle.typed_tree.specs.Commands.{Command, commands_of}
 use Rattle.reached_instances.specs.Domains.{Setting}
 use Rattle.language_model.specs.Evaluation.{Place}

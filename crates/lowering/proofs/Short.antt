@@ -1,12 +1,12 @@
 -- Instructions whose numbers are small enough are what they are with each number cut to its field, and the others can't be written.
-use Rattle.std.proofs.Common.{◌≡◌, ℕ, ◌+◌, ◌<◌, ◌≤◌, ◌^◌, min, List, [], ◌∷◌, ◌++◌, length, get_or, zero, suc, Bool, true, false, refl, sym, ap, ap₂, ◌∙◌, subst, arith}
-use Rattle.std.specs.Prelude.{map, nat_lt, ◌&&◌, Result, Err, IfErr}
+use Rattle.std.proofs.Common.{◌≡◌, ℕ, ◌<◌, List, [], ◌∷◌, ◌++◌, length, get_or, zero, suc, Bool, true, false, refl, sym, ap, ap₂, ◌∙◌, subst, arith}
+use Rattle.std.specs.Prelude.{map, ◌&&◌, Result, Err, IfErr}
 use Rattle.std.specs.List.{flat_map, list_all, AllByRecursion as Each}
 use Rattle.std.proofs.lemmas.List.{length-map, get_or-map}
-use Rattle.std.proofs.lemmas.Bool.{and_parts, ltb-true, lt-ltb, both_ways}
+use Rattle.std.proofs.lemmas.Bool.{and_parts, ltb-true, lt-ltb}
 use Rattle.bytecode.specs.Raw.{Raw, Literal, Move, Store, Binary, Not, Cast, Classify, Fill, At, Put, Size, Cat, Sum, Bits, Declassify, Argument, Publish}
 use Rattle.bytecode.specs.Raw.{Assert, Branch, Jump, Call, Return, ReturnNone, RawFunction, RawCode}
-use Rattle.bytecode.specs.Writable.{Fits, IsWritable}
+use Rattle.bytecode.specs.Writable.{Fits}
 use Rattle.bytecode.specs.Written.{Number, short, source_line, instruction_numbers, head_numbers, body_numbers, name_numbers, opening_numbers, code_numbers}
 use Rattle.lowering.specs.declared.errors.LowerErr.{LowerErr}
 use Rattle.lowering.specs.declared.errors.LowerErr.TheVariants.{Memory, TooLarge}

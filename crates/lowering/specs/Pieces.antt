@@ -1,5 +1,5 @@
 -- The code of a statement before it is known where the breaks and continues of the loop around it lead.
-use Rattle.std.specs.Prelude.{ℕ, zero, suc, ◌+◌, Bool, true, false, List, [], ◌∷◌, ◌++◌, length, map, Some, None}
+use Rattle.std.specs.Prelude.{ℕ, zero, suc, ◌+◌, false, List, [], ◌∷◌, ◌++◌, length, map}
 use Rattle.typed_tree.specs.Commands.{Command, Commands, empty_command, block_command, if_command, loop_command, do_command, break_command, continue_command}
 use Rattle.typed_tree.specs.Commands.{return_command, assert_command, store_command, default_command, fill_command, input_command, element_command}
 use Rattle.typed_tree.specs.Commands.{publish_command, evaluate_command}

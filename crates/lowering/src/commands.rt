@@ -10,8 +10,8 @@ ghost use Rattle.lowering.specs.Views.{numbers_at, place_seen};
 
 use crate::place::Place;
 use lowered_expressions::{
-    Around, Body, Operand, Step, argument, call, expression, given_to, kind, kind_of, lacks, operand,
-    private_kind, slot_is_private, slot_shape, wanted,
+    Around, Body, Operand, Step, argument, call, expression, given_to, kind, kind_of, lacks,
+    operand, private_kind, slot_is_private, slot_shape, wanted,
 };
 use sc_text::Name;
 use secrec_ast::DataType;

@@ -93,11 +93,7 @@ fn first_registers(
 }
 
 // The last step: nothing is given back, or a register that nothing writes.
-fn push_last(
-    body: &mut Body<'_>,
-    binding: &[BoundDomain],
-    given: Given,
-) -> Result<(), AllocError>
+fn push_last(body: &mut Body<'_>, binding: &[BoundDomain], given: Given) -> Result<(), AllocError>
     ensures { OnOk result (built body.new ≡ with_last (built body.old) binding.now given) }
 {
     match given {

@@ -150,16 +150,28 @@ fn are_short(names: &Names<'_>, step: &Step<'_>) -> bool
         | Step::Bits { to, source, .. }
         | Step::Declassify { to, source } => is_short(*to) && is_short(*source),
         Step::Binary {
-            to, left, right, ..
+            to,
+            left,
+            right,
+            ..
         }
         | Step::Cat {
-            to, left, right, ..
+            to,
+            left,
+            right,
+            ..
         } => is_short(*to) && (is_short(*left) && is_short(*right)),
         Step::Fill {
-            to, size, value, ..
+            to,
+            size,
+            value,
+            ..
         } => is_short(*to) && (is_short(*size) && is_short(*value)),
         Step::At {
-            to, array, index, ..
+            to,
+            array,
+            index,
+            ..
         } => is_short(*to) && (is_short(*array) && is_short(*index)),
         Step::Put {
             array,
@@ -170,7 +182,9 @@ fn are_short(names: &Names<'_>, step: &Step<'_>) -> bool
         Step::Argument { text, to, .. } => is_short(*to) && is_short(place_among(names, text)),
         Step::Publish { text, source } => is_short(place_among(names, text)) && is_short(*source),
         Step::Branch {
-            condition, target, ..
+            condition,
+            target,
+            ..
         } => is_short(*condition) && is_short(*target),
         Step::Call {
             function,
@@ -190,25 +204,124 @@ fn capped_instruction(
     ensures { IfOk result (λ i. raw_instruction i ≡ capped_instruction (instruction (texts names.now) (step_seen step.now))) }
 {
     match step {
-        Step::Literal { to, word, .. } => Ok(Instruction::Literal { to: register(*to), word: *word }),
-        Step::Move { to, source } => Ok(Instruction::Move { to: register(*to), source: register(*source) }),
-        Step::Store { to, source } => Ok(Instruction::Store { to: register(*to), source: register(*source) }),
-        Step::Binary { operator, to, left, right, line, .. } => Ok(Instruction::Binary { operator: binary_operator(*operator), to: register(*to), left: register(*left), right: register(*right), line: *line }),
-        Step::Not { to, source } => Ok(Instruction::Not { to: register(*to), source: register(*source) }),
-        Step::Cast { to, source, .. } => Ok(Instruction::Cast { to: register(*to), source: register(*source) }),
-        Step::Classify { to, source } => Ok(Instruction::Classify { to: register(*to), source: register(*source) }),
-        Step::Fill { to, size, value, line } => Ok(Instruction::Fill { to: register(*to), size: register(*size), value: register(*value), line: *line }),
-        Step::At { to, array, index, line } => Ok(Instruction::At { to: register(*to), array: register(*array), index: register(*index), line: *line }),
-        Step::Put { array, index, value, line } => Ok(Instruction::Put { array: register(*array), index: register(*index), value: register(*value), line: *line }),
-        Step::Size { to, source } => Ok(Instruction::Size { to: register(*to), source: register(*source) }),
-        Step::Cat { to, left, right, line } => Ok(Instruction::Cat { to: register(*to), left: register(*left), right: register(*right), line: *line }),
-        Step::Sum { to, source } => Ok(Instruction::Sum { to: register(*to), source: register(*source) }),
-        Step::Bits { to, source, line } => Ok(Instruction::Bits { to: register(*to), source: register(*source), line: *line }),
-        Step::Declassify { to, source } => Ok(Instruction::Declassify { to: register(*to), source: register(*source) }),
-        Step::Assert { condition, line } => Ok(Instruction::Assert { condition: register(*condition), line: *line }),
-        Step::Branch { condition, value, target } => Ok(Instruction::Branch { condition: register(*condition), value: *value, target: place_target(*target) }),
-        Step::Jump { target } => Ok(Instruction::Jump { target: place_target(*target) }),
-        Step::Return { source } => Ok(Instruction::Return { source: register(*source) }),
+        Step::Literal { to, word, .. } => Ok(Instruction::Literal {
+            to: register(*to),
+            word: *word,
+        }),
+        Step::Move { to, source } => Ok(Instruction::Move {
+            to: register(*to),
+            source: register(*source),
+        }),
+        Step::Store { to, source } => Ok(Instruction::Store {
+            to: register(*to),
+            source: register(*source),
+        }),
+        Step::Binary {
+            operator,
+            to,
+            left,
+            right,
+            line,
+            ..
+        } => Ok(Instruction::Binary {
+            operator: binary_operator(*operator),
+            to: register(*to),
+            left: register(*left),
+            right: register(*right),
+            line: *line,
+        }),
+        Step::Not { to, source } => Ok(Instruction::Not {
+            to: register(*to),
+            source: register(*source),
+        }),
+        Step::Cast { to, source, .. } => Ok(Instruction::Cast {
+            to: register(*to),
+            source: register(*source),
+        }),
+        Step::Classify { to, source } => Ok(Instruction::Classify {
+            to: register(*to),
+            source: register(*source),
+        }),
+        Step::Fill {
+            to,
+            size,
+            value,
+            line,
+        } => Ok(Instruction::Fill {
+            to: register(*to),
+            size: register(*size),
+            value: register(*value),
+            line: *line,
+        }),
+        Step::At {
+            to,
+            array,
+            index,
+            line,
+        } => Ok(Instruction::At {
+            to: register(*to),
+            array: register(*array),
+            index: register(*index),
+            line: *line,
+        }),
+        Step::Put {
+            array,
+            index,
+            value,
+            line,
+        } => Ok(Instruction::Put {
+            array: register(*array),
+            index: register(*index),
+            value: register(*value),
+            line: *line,
+        }),
+        Step::Size { to, source } => Ok(Instruction::Size {
+            to: register(*to),
+            source: register(*source),
+        }),
+        Step::Cat {
+            to,
+            left,
+            right,
+            line,
+        } => Ok(Instruction::Cat {
+            to: register(*to),
+            left: register(*left),
+            right: register(*right),
+            line: *line,
+        }),
+        Step::Sum { to, source } => Ok(Instruction::Sum {
+            to: register(*to),
+            source: register(*source),
+        }),
+        Step::Bits { to, source, line } => Ok(Instruction::Bits {
+            to: register(*to),
+            source: register(*source),
+            line: *line,
+        }),
+        Step::Declassify { to, source } => Ok(Instruction::Declassify {
+            to: register(*to),
+            source: register(*source),
+        }),
+        Step::Assert { condition, line } => Ok(Instruction::Assert {
+            condition: register(*condition),
+            line: *line,
+        }),
+        Step::Branch {
+            condition,
+            value,
+            target,
+        } => Ok(Instruction::Branch {
+            condition: register(*condition),
+            value: *value,
+            target: place_target(*target),
+        }),
+        Step::Jump { target } => Ok(Instruction::Jump {
+            target: place_target(*target),
+        }),
+        Step::Return { source } => Ok(Instruction::Return {
+            source: register(*source),
+        }),
         Step::Argument { line, text, to, .. } => Ok(Instruction::Argument {
             to: register(*to),
             name: name_place(place_among(names, text)),
@@ -237,11 +350,7 @@ fn capped_instruction(
 }
 
 // The instruction of a step.
-fn instruction(
-    alloc: Global,
-    names: &Names<'_>,
-    step: &Step<'_>,
-) -> Result<Instruction, LowerErr>
+fn instruction(alloc: Global, names: &Names<'_>, step: &Step<'_>) -> Result<Instruction, LowerErr>
     ensures code { IfOk result (λ i. raw_instruction i ≡ instruction (texts names.now) (step_seen step.now)) }
     ensures refused { IfErr result (λ e. IsJust e (instruction_numbers (instruction (texts names.now) (step_seen step.now)))) }
 {

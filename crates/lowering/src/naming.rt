@@ -43,11 +43,7 @@ fn note<'p>(alloc: Global, names: &mut Names<'p>, text: &'p Name) -> Result<(), 
 }
 
 // The names of a step.
-fn note_step<'p>(
-    alloc: Global,
-    names: &mut Names<'p>,
-    step: &Step<'p>,
-) -> Result<(), AllocError>
+fn note_step<'p>(alloc: Global, names: &mut Names<'p>, step: &Step<'p>) -> Result<(), AllocError>
     ensures { OnOk result (AreSame names.old →
         (texts names.new ≡ naming_all (texts names.old) (step_names (step_seen step.now))) × AreSame names.new) }
 {
@@ -73,10 +69,7 @@ fn note_steps<'p>(
 }
 
 /// The names of functions. An error comes where memory runs short.
-pub fn names_of<'p>(
-    alloc: Global,
-    functions: &[FunctionSteps<'p>],
-) -> Result<Names<'p>, AllocError>
+pub fn names_of<'p>(alloc: Global, functions: &[FunctionSteps<'p>]) -> Result<Names<'p>, AllocError>
     ensures { IfOk result (λ names. (texts names ≡ names_of (map function_seen functions.now)) × AreSame names) }
 {
     let mut names = Names {

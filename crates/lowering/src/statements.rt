@@ -40,11 +40,18 @@ fn statement<'p>(
         TypedStatement::Fill(line, slot, size, e) => {
             pair_store(alloc, body, &at.around, Pair::Fill, *line, *slot, size, e)
         }
-        TypedStatement::Input(line, slot, text) => {
-            input(body, &at.around, *line, *slot, text)
-        }
+        TypedStatement::Input(line, slot, text) => { input(body, &at.around, *line, *slot, text) }
         TypedStatement::StoreElement(line, slot, position, e) => {
-            pair_store(alloc, body, &at.around, Pair::Put, *line, *slot, position, e)
+            pair_store(
+                alloc,
+                body,
+                &at.around,
+                Pair::Put,
+                *line,
+                *slot,
+                position,
+                e,
+            )
         }
         TypedStatement::Publish(text, e) => publishing(alloc, body, &at.around, text, e),
         TypedStatement::Evaluate(e) => unread(alloc, body, &at.around, e),

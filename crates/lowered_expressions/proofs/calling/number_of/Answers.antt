@@ -1,4 +1,4 @@
-use Rattle.std.proofs.Common.{length, ◌≡◌, sym, ap, ◌∙◌}
+use Rattle.std.proofs.Common.{length, sym, ap, ◌∙◌}
 use Rattle.std.proofs.lemmas.List.{length-map}
 use Rattle.reached_instances.specs.Instances.{instance_seen}
 use Rattle.lowered_expressions.proofs.Numbers.{number_found, number_missing}

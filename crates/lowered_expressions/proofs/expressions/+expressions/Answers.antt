@@ -1,18 +1,16 @@
-use Rattle.std.proofs.Common.{◌≡◌, ℕ, ◌+◌, ◌*◌, ◌<◌, ◌≤◌, Bool, true, false, [], ◌∷◌, ◌++◌, length, take, drop, get_or, refl, sym, ap, ap₂, ◌∙◌, subst, arith, rules, Ok}
+use Rattle.std.proofs.Common.{◌≡◌, ℕ, ◌+◌, ◌*◌, ◌<◌, ◌≤◌, Bool, true, false, [], ◌∷◌, ◌++◌, length, take, drop, get_or, sym, ap, ap₂, ◌∙◌, subst, arith, rules}
 use Rattle.std.specs.Prelude.{map}
-use Rattle.std.proofs.lemmas.List.{take_more, map-append, length-map, length_push}
+use Rattle.std.proofs.lemmas.List.{take_more, map-append, length_push}
 use Rattle.std.proofs.lemmas.Result.{on_ok_weaker}
-use Rattle.secrec_ast.specs.declared.expression.DataType.TheVariants as datatype
-use Rattle.typed_tree.specs.Shapes.{shape_of}
 use Rattle.typed_tree.specs.declared.expression.TypedExpression.{TypedExpression}
 use Rattle.typed_tree.specs.declared.operators.BinaryOperator.TheVariants as binary
 use Rattle.typed_tree.specs.declared.operators.BoolOperator.{BoolOperator}
 use Rattle.typed_tree.specs.declared.operators.Operands.TheVariants.{Scalars}
-use Rattle.typed_tree.specs.Tree.{TypedTree, binary_node, cat_node, cut_node, element_node, typed_tree, typed_trees_of}
-use Rattle.language_model.specs.Evaluation.{gives_private, connective, either, next_is_private}
-use Rattle.verified_code.specs.Steps.{Step, ReturnNone}
-use Rattle.code_model.specs.Kinds.{width, widths, kind_of, kind_in, private_kind_in, truth_kind, expression_kinds, arguments_kinds, cut_kinds}
-use Rattle.code_model.specs.Expressions.{binary_code, cut_code, expression_code, arguments_code, arguments_places, lacks, picked, classifying}
+use Rattle.typed_tree.specs.Tree.{binary_node, cat_node, cut_node, element_node, typed_tree, typed_trees_of}
+use Rattle.language_model.specs.Evaluation.{gives_private, connective, next_is_private}
+use Rattle.verified_code.specs.Steps.{ReturnNone}
+use Rattle.code_model.specs.Kinds.{width, widths, kind_of, kind_in, private_kind_in, truth_kind, expression_kinds, arguments_kinds}
+use Rattle.code_model.specs.Expressions.{expression_code, arguments_code, arguments_places, lacks, picked}
 use Rattle.code_model.proofs.Widths.{expression_registers}
 use Rattle.bytecode.specs.declared.kind.Kind.{Kind}
 use Rattle.lowered_expressions.specs.Built.{Built, with_kind, with_code}

@@ -1,13 +1,13 @@
-use Rattle.std.proofs.Common.{ℕ, ◌+◌, ◌∷◌, ◌++◌, length, Bool, ap, ◌∙◌}
+use Rattle.std.proofs.Common.{◌∷◌, ◌++◌, Bool, ap, ◌∙◌}
 use Rattle.std.proofs.lemmas.Result.{on_ok_weaker}
 use Rattle.typed_tree.specs.Tree.{typed_tree}
-use Rattle.language_model.specs.Evaluation.{gives_private, slot_is_private}
+use Rattle.language_model.specs.Evaluation.{gives_private}
 use Rattle.code_model.specs.Kinds.{width, expression_kinds, private_kind_in}
 use Rattle.code_model.specs.Expressions.{expression_code, lacks}
 use Rattle.code_model.proofs.Widths.{expression_registers}
 use Rattle.lowered_expressions.specs.Built.{with_code, with_kind, with_step}
 use Rattle.lowered_expressions.specs.Views.{built, here_of, numbers_of}
-use Rattle.lowering.specs.Leaves.{pair_step, pair_command, with_leaf}
+use Rattle.lowering.specs.Leaves.{pair_step}
 use Rattle.lowering.proofs.Ends.{pair_made, pair_code, pair_is}
 use Rattle.lowering.proofs.commands.pair_store.Goals as goal
 

@@ -1,4 +1,4 @@
-use Rattle.std.proofs.Common.{Bool, true, false, not, sym, ap, ◌∙◌}
+use Rattle.std.proofs.Common.{sym, ◌∙◌}
 use Rattle.raw_steps.specs.Instructions.{instruction}
 use Rattle.lowered_expressions.specs.Views.{step_seen}
 use Rattle.lowering.specs.Naming.{texts}

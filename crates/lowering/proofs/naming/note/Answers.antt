@@ -1,4 +1,3 @@
-use Rattle.std.proofs.Common.{sym, ap, ◌∙◌}
 use Rattle.lowering.proofs.Noting.{noted_new, noted_old}
 use Rattle.lowering.proofs.naming.note.Goals as goal
 

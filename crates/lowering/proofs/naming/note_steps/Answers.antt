@@ -17,9 +17,10 @@ loop-step-preserved c = λ same.
     let first = texts c.args.names.now in
     let more : map step_seen (take (i + 1) xs) ≡ is ++ step_seen x ∷ [] = ap (map step_seen) (take_more xs i x c.loop-step-test.true) ∙ map-append step_seen (take i xs) (get_or xs i x ∷ []) ∙ ap (λ z. is ++ step_seen z ∷ []) (sym c.step-item.is) in
     let before = c.loop-step.invariant same in
-    let now = c.in_ok-note_step.ensures before.1 in
-    (now.0
-    ∙ ap (λ names. naming_all names (step_names (step_seen x))) before.0
-    ∙ sym (naming_both first (flat_map step_names is) (step_names (step_seen x)))
-    ∙ ap (naming_all first) (flat_map_more step_names [] is (step_seen x) ∙ ap (flat_map step_names) (sym more)),
-    now.1)
+    let now = c.in_ok-note_step.ensures before.1 in (
+      now.0
+          ∙ ap (λ names. naming_all names (step_names (step_seen x))) before.0
+          ∙ sym (naming_both first (flat_map step_names is) (step_names (step_seen x)))
+          ∙ ap (naming_all first) (flat_map_more step_names [] is (step_seen x) ∙ ap (flat_map step_names) (sym more)),
+      now.1,
+    )

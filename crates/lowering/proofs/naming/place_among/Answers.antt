@@ -1,4 +1,4 @@
-use Rattle.std.proofs.Common.{length, map, sym, ap, ◌∙◌}
+use Rattle.std.proofs.Common.{sym, ap, ◌∙◌}
 use Rattle.raw_steps.specs.Instructions.{place_among}
 use Rattle.lowering.specs.Naming.{texts}
 use Rattle.lowering.proofs.Noting.{place_found, place_missing}

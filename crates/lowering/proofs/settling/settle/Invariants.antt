@@ -1,4 +1,4 @@
-use Rattle.std.proofs.Common.{◌≡◌, ◌-◌, ◌≤◌, length}
+use Rattle.std.proofs.Common.{◌≡◌, ◌-◌, length}
 use Rattle.lowered_expressions.specs.Views.{built}
 use Rattle.lowering.specs.Pieces.{with_settled}
 use Rattle.lowering.proofs.settling.settle.Given as goal
