@@ -1,0 +1,4 @@
+pub mod Literals
+pub mod Offering
+pub mod Running
+pub mod Samples

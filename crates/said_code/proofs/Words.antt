@@ -1,0 +1,90 @@
+-- The words that stand in a well-typed tree are below 2^64.
+use Rattle.std.proofs.Common.{◌≡◌, ◌^◌, List, [], ◌∷◌, Option, Some, None, Bool, refl, sym, ◌∙◌, subst}
+use Rattle.std.proofs.lemmas.Bool.{lt-ltb}
+use Rattle.typed_tree.specs.declared.kinds.Shape.{Shape}
+use Rattle.typed_tree.specs.declared.kinds.Slot.{Slot}
+use Rattle.typed_tree.specs.declared.function.Given.{Given}
+use Rattle.typed_tree.specs.declared.function.Given.TheVariants.{Nothing, Value}
+use Rattle.typed_tree.specs.Tree.{TypedTree, TypedTrees, word_node, truth_node, slot_node, call_node, size_node, cat_node, sum_node, bits_node, element_node}
+use Rattle.typed_tree.specs.Tree.{not_node, cast_node, binary_node, cut_node, declassify_node}
+use Rattle.typed_tree.specs.Tree as Tree'
+use Rattle.typed_tree.specs.Commands.{Command, Commands, empty_command, block_command, if_command, loop_command, do_command, break_command, continue_command}
+use Rattle.typed_tree.specs.Commands.{return_command, assert_command, store_command, default_command, fill_command, input_command, element_command}
+use Rattle.typed_tree.specs.Commands.{publish_command, evaluate_command}
+use Rattle.typed_tree.specs.Commands as Commands'
+use Rattle.typed_tree.specs.Programs.{TypedFunctionTree, TypedProgramTree}
+use Rattle.reached_instances.specs.declared.instance.BoundDomain.{BoundDomain}
+use Rattle.reached_instances.specs.Domains.{Setting}
+use Rattle.reached_instances.specs.Instances.{Instance}
+use Rattle.well_typed.specs.Expressions.{Gives, AreTaken}
+use Rattle.well_typed.specs.Commands.{IsReturned, IsWellTypedCommand, AreWellTypedCommands}
+use Rattle.well_typed.specs.Programs.{setting_of}
+use Rattle.said_code.specs.Says.{TreeSays, TreesSay, OptionSays, CommandSays, CommandsSay}
+use Rattle.said_code.specs.Laws.{is_word, any_number, any_text, WellTypedSaysWords}
+
+module _ (here : Setting) where
+  abbrev Says : TypedTree → Type 0
+  Says = TreeSays is_word any_number any_text
+
+  abbrev Does : Command → Type 0
+  Does = CommandSays is_word any_number any_text
+
+  mutual
+    tree_says : (e : TypedTree) (g : Option Shape) → Gives here e g → Says e
+    tree_says (word_node n) g h = lt-ltb n (2 ^ 64) h.0
+    tree_says (truth_node b) g h = tt
+    tree_says (slot_node k) g h = tt
+    tree_says (call_node line k es) g h = (refl, trees_say _ _ es h.2)
+    tree_says (size_node e) g h = tree_says e _ h.1
+    tree_says (cat_node line a b) g h = (refl, tree_says a _ h.1, tree_says b _ h.2)
+    tree_says (sum_node e) g h = tree_says e _ h.0
+    tree_says (bits_node line e) g h = (refl, tree_says e _ h.1)
+    tree_says (element_node line a i) g h = (refl, tree_says a _ h.1, tree_says i _ h.2)
+    tree_says (not_node e) g h = tree_says e _ h.1
+    tree_says (cast_node c e) g h = tree_says e _ h.1
+    tree_says (binary_node line op ds a b) g h = (refl, tree_says a _ h.0, tree_says b _ h.1)
+    tree_says (cut_node c a b) g h = (tree_says a _ h.0, tree_says b _ h.1)
+    tree_says (declassify_node e) g h = tree_says e _ h.1
+
+    trees_say : (b : List BoundDomain) (ss : List Slot) (es : TypedTrees) → AreTaken here b ss es → TreesSay is_word any_number any_text es
+    trees_say b [] Tree'.none h = tt
+    trees_say b [] (Tree'.also e es) h = absurd h
+    trees_say b (s ∷ ss) Tree'.none h = tt
+    trees_say b (s ∷ ss) (Tree'.also e es) h = (tree_says e _ h.0, trees_say b ss es h.2)
+
+  returned_says : (g : Given) (o : Option TypedTree) → IsReturned here g o → OptionSays is_word any_number any_text o
+  returned_says g None h = tt
+  returned_says Nothing (Some e) h = absurd h
+  returned_says (Value s) (Some e) h = tree_says e _ h.0
+
+  mutual
+    command_says : (g : Given) (inside : Bool) (c : Command) → IsWellTypedCommand here g inside c → Does c
+    command_says g inside empty_command h = tt
+    command_says g inside (block_command cs) h = commands_say g inside cs h
+    command_says g inside (if_command e a b) h = (tree_says e _ h.0.0, command_says g inside a h.1, command_says g inside b h.2)
+    command_says g inside (loop_command e step body) h = (tree_says e _ h.0.0, command_says g _ step h.1, command_says g _ body h.2)
+    command_says g inside (do_command body e) h = (command_says g _ body h.0, tree_says e _ h.1.0)
+    command_says g inside break_command h = tt
+    command_says g inside continue_command h = tt
+    command_says g inside (return_command o) h = returned_says g o h
+    command_says g inside (assert_command line e) h = (refl, tree_says e _ h.0)
+    command_says g inside (store_command k e) h = tree_says e _ h.2.0
+    command_says g inside (default_command k) h = tt
+    command_says g inside (fill_command line k n e) h = (refl, tree_says n _ h.2.0, tree_says e _ h.3.0)
+    command_says g inside (input_command line k text) h = (refl, refl)
+    command_says g inside (element_command line k i e) h = (refl, tree_says i _ h.2.0, tree_says e _ h.3.0)
+    command_says g inside (publish_command text e) h = (refl, tree_says e _ h.1)
+    command_says g inside (evaluate_command e) h = tree_says e _ h.1
+
+    pub commands_say : (g : Given) (inside : Bool) (cs : Commands) → AreWellTypedCommands here g inside cs → CommandsSay is_word any_number any_text cs
+    commands_say g inside Commands'.none h = tt
+    commands_say g inside (Commands'.also c cs) h = (command_says g inside c h.0, commands_say g inside cs h.1)
+
+same_some : {A : Type 0} (a b : A) → ◌≡◌ {A = Option A} (Some a) (Some b) → a ≡ b
+same_some a b e = cc
+
+pub well_typed_words : (p : TypedProgramTree) (is : List Instance) → WellTypedSaysWords p is
+well_typed_words p is typed reached i m f there =
+    let w = typed.instances i (reached.reached i m) in
+    subst (λ (z : TypedFunctionTree). CommandsSay is_word any_number any_text z.body) (same_some w.called f (sym w.there ∙ there))
+    (commands_say (setting_of p i w.called) w.called.given _ w.called.body w.body)

@@ -1,0 +1,95 @@
+-- What stands written in typed trees and in steps: words of literals, lines of constructs, names of inputs and results.
+use Rattle.std.specs.Prelude.{◌≡◌, ℕ, Bool, IsTrue, List, Option, Some, None}
+use Rattle.std.specs.List.{slice_get}
+use Rattle.sc_text.specs.Lists.{Among}
+use Rattle.typed_tree.specs.Tree.{TypedTree, TypedTrees, word_node, truth_node, slot_node, call_node, size_node, cat_node, sum_node, bits_node, element_node}
+use Rattle.typed_tree.specs.Tree.{not_node, cast_node, binary_node, cut_node, declassify_node}
+use Rattle.typed_tree.specs.Tree as Tree'
+use Rattle.typed_tree.specs.Commands.{Command, Commands, empty_command, block_command, if_command, loop_command, do_command, break_command, continue_command}
+use Rattle.typed_tree.specs.Commands.{return_command, assert_command, store_command, default_command, fill_command, input_command, element_command}
+use Rattle.typed_tree.specs.Commands.{publish_command, evaluate_command}
+use Rattle.typed_tree.specs.Commands as Commands'
+use Rattle.typed_tree.specs.Programs.{TypedFunctionTree, TypedProgramTree}
+use Rattle.reached_instances.specs.Instances.{Instance}
+use Rattle.verified_code.specs.Steps.{Step, Literal, Move, Store, Binary, Not, Cast, Classify, Fill, At, Put, Size, Cat, Sum, Bits, Declassify}
+use Rattle.verified_code.specs.Steps.{Argument, Publish, Assert, Branch, Jump, Call, Return, ReturnNone}
+
+-- each of them passes
+module _ (is_word is_line : ℕ → Bool) (is_text : List ℕ → Bool) where
+  abbrev mutual
+    pub TreeSays : TypedTree → Type 0
+    TreeSays (word_node n) = IsTrue (is_word n)
+    TreeSays (truth_node b) = Unit {0}
+    TreeSays (slot_node k) = Unit {0}
+    TreeSays (call_node line k es) = IsTrue (is_line line) × TreesSay es
+    TreeSays (size_node e) = TreeSays e
+    TreeSays (cat_node line a b) = IsTrue (is_line line) × TreeSays a × TreeSays b
+    TreeSays (sum_node e) = TreeSays e
+    TreeSays (bits_node line e) = IsTrue (is_line line) × TreeSays e
+    TreeSays (element_node line a i) = IsTrue (is_line line) × TreeSays a × TreeSays i
+    TreeSays (not_node e) = TreeSays e
+    TreeSays (cast_node c e) = TreeSays e
+    TreeSays (binary_node line op ds a b) = IsTrue (is_line line) × TreeSays a × TreeSays b
+    TreeSays (cut_node c a b) = TreeSays a × TreeSays b
+    TreeSays (declassify_node e) = TreeSays e
+
+    pub TreesSay : TypedTrees → Type 0
+    TreesSay Tree'.none = Unit {0}
+    TreesSay (Tree'.also e es) = TreeSays e × TreesSay es
+
+  abbrev pub OptionSays : Option TypedTree → Type 0
+  OptionSays None = Unit {0}
+  OptionSays (Some e) = TreeSays e
+
+  abbrev mutual
+    pub CommandSays : Command → Type 0
+    CommandSays empty_command = Unit {0}
+    CommandSays (block_command cs) = CommandsSay cs
+    CommandSays (if_command e a b) = TreeSays e × CommandSays a × CommandSays b
+    CommandSays (loop_command e step body) = TreeSays e × CommandSays step × CommandSays body
+    CommandSays (do_command body e) = CommandSays body × TreeSays e
+    CommandSays break_command = Unit {0}
+    CommandSays continue_command = Unit {0}
+    CommandSays (return_command e) = OptionSays e
+    CommandSays (assert_command line e) = IsTrue (is_line line) × TreeSays e
+    CommandSays (store_command k e) = TreeSays e
+    CommandSays (default_command k) = Unit {0}
+    CommandSays (fill_command line k n e) = IsTrue (is_line line) × TreeSays n × TreeSays e
+    CommandSays (input_command line k text) = IsTrue (is_line line) × IsTrue (is_text text)
+    CommandSays (element_command line k i e) = IsTrue (is_line line) × TreeSays i × TreeSays e
+    CommandSays (publish_command text e) = IsTrue (is_text text) × TreeSays e
+    CommandSays (evaluate_command e) = TreeSays e
+
+    pub CommandsSay : Commands → Type 0
+    CommandsSay Commands'.none = Unit {0}
+    CommandsSay (Commands'.also c cs) = CommandSays c × CommandsSay cs
+
+  -- the trees of these instances
+  abbrev pub InstancesSay : TypedProgramTree → List Instance → Type 0
+  InstancesSay p is =
+      (i : Instance) → Among i is → (f : TypedFunctionTree) → slice_get p.functions i.function ≡ Some f → CommandsSay f.body
+
+  abbrev pub StepSays : Step → Type 0
+  StepSays (Literal d e n) = IsTrue (is_word n)
+  StepSays (Move d r) = Unit {0}
+  StepSays (Store d r) = Unit {0}
+  StepSays (Binary line op ds d a b) = IsTrue (is_line line)
+  StepSays (Not d r) = Unit {0}
+  StepSays (Cast c d r) = Unit {0}
+  StepSays (Classify d r) = Unit {0}
+  StepSays (Fill line d n x) = IsTrue (is_line line)
+  StepSays (At line d a i) = IsTrue (is_line line)
+  StepSays (Put line a i x) = IsTrue (is_line line)
+  StepSays (Size d r) = Unit {0}
+  StepSays (Cat line d a b) = IsTrue (is_line line)
+  StepSays (Sum d r) = Unit {0}
+  StepSays (Bits line d r) = IsTrue (is_line line)
+  StepSays (Declassify d r) = Unit {0}
+  StepSays (Argument line k text d) = IsTrue (is_line line) × IsTrue (is_text text)
+  StepSays (Publish text r) = IsTrue (is_text text)
+  StepSays (Assert line r) = IsTrue (is_line line)
+  StepSays (Branch r b target) = Unit {0}
+  StepSays (Jump target) = Unit {0}
+  StepSays (Call line g d arguments) = IsTrue (is_line line)
+  StepSays (Return r) = Unit {0}
+  StepSays ReturnNone = Unit {0}
