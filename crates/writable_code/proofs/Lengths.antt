@@ -1,0 +1,327 @@
+-- How many steps the code of a function has, and how many names: at most twice its registers and its commands, and its commands.
+use Rattle.std.proofs.Common.{◌≡◌, ℕ, ◌+◌, ◌≤◌, List, [], ◌∷◌, ◌++◌, length, Some, None, Bool, true, false, arith, length-append}
+use Rattle.std.specs.Prelude.{slice_get}
+use Rattle.std.specs.List.{flat_map}
+use Rattle.secrec_ast.specs.declared.expression.DataType.TheVariants.{Uint64}
+use Rattle.secrec_ast.specs.declared.expression.DataType.TheVariants as datatype
+use Rattle.typed_tree.specs.declared.kinds.Slot.{Slot}
+use Rattle.typed_tree.specs.declared.operators.BinaryOperator.{BinaryOperator}
+use Rattle.typed_tree.specs.declared.operators.BinaryOperator.TheVariants as binary
+use Rattle.typed_tree.specs.declared.operators.Operands.{Operands}
+use Rattle.typed_tree.specs.declared.operators.Operands.TheVariants.{Scalars}
+use Rattle.typed_tree.specs.declared.operators.Connective.{Connective}
+use Rattle.typed_tree.specs.declared.function.Given.{Given}
+use Rattle.typed_tree.specs.declared.function.Given.TheVariants.{Nothing, Value}
+use Rattle.typed_tree.specs.Tree.{TypedTree, TypedTrees, word_node, truth_node, slot_node, call_node, size_node, cat_node, sum_node, bits_node, element_node}
+use Rattle.typed_tree.specs.Tree.{not_node, cast_node, binary_node, cut_node, declassify_node}
+use Rattle.typed_tree.specs.Tree as Tree'
+use Rattle.typed_tree.specs.Commands.{Command, Commands, empty_command, block_command, if_command, loop_command, do_command, break_command, continue_command}
+use Rattle.typed_tree.specs.Commands.{return_command, assert_command, store_command, default_command, fill_command, input_command, element_command}
+use Rattle.typed_tree.specs.Commands.{publish_command, evaluate_command}
+use Rattle.typed_tree.specs.Commands as Commands'
+use Rattle.typed_tree.specs.Programs.{TypedFunctionTree}
+use Rattle.reached_instances.specs.declared.instance.BoundDomain.{BoundDomain}
+use Rattle.reached_instances.specs.Domains.{Setting, domains}
+use Rattle.language_model.specs.Words.{truth_word}
+use Rattle.language_model.specs.Evaluation.{Place, place_in, gives_private, slot_is_private, slot_shape, bound_at, slots_of, next_is_private, behind_next}
+use Rattle.language_model.specs.Evaluation.{connective, either}
+use Rattle.verified_code.specs.Steps.{Step, Literal, Move, Store, Binary, Not, Cast, Classify, Fill, At, Put, Size, Cat, Sum, Bits, Declassify}
+use Rattle.verified_code.specs.Steps.{Argument, Publish, Assert, Branch, Jump, Call, Return, ReturnNone}
+use Rattle.code_model.specs.Kinds.{width, widths, kind_of}
+use Rattle.code_model.specs.Expressions.{Numbers, result_at, classifying, picked, lacks, mixes, binary_code, cat_code, deciding, settling, cut_code}
+use Rattle.code_model.specs.Expressions.{expression_code, arguments_code, arguments_places, unread_code}
+use Rattle.code_model.specs.Commands.{shape_number, first_free, command_width, commands_width, if_code, loop_code, do_code, behind_classifying}
+use Rattle.code_model.specs.Commands.{command_code, commands_code}
+use Rattle.code_model.specs.Programs.{last_step, body_end, function_code}
+use Rattle.raw_steps.specs.Instructions.{step_names}
+use Rattle.writable_code.proofs.Counts.{count, counts}
+
+abbrev pub names_in : List Step → ℕ
+names_in code = length (flat_map step_names code)
+
+-- at most so many steps, and so many names in them
+pub record IsShort (n k : ℕ) (code : List Step) : Type 0 where
+  pub steps : length code ≤ n
+  pub names : names_in code ≤ k
+
+fewer : {n k : ℕ} (m l : ℕ) {code : List Step} → n ≤ m → k ≤ l → IsShort n k code → IsShort m l code
+fewer m l a b h = let s = h.steps in let t = h.names in record { steps = omega (arith, a, s); names = omega (arith, b, t) }
+
+nothing : IsShort 0 0 []
+nothing = record { steps = omega arith; names = omega arith }
+
+names_joined : (a b : List Step) → names_in (a ++ b) ≡ names_in a + names_in b
+names_joined [] b = omega arith
+names_joined (i ∷ a) b =
+    let rest = names_joined a b in
+    let one = length-append (step_names i) (flat_map step_names (a ++ b)) in
+    let two = length-append (step_names i) (flat_map step_names a) in
+    omega (arith, rest, one, two)
+
+both : {n k m l : ℕ} {a b : List Step} → IsShort n k a → IsShort m l b → IsShort (n + m) (k + l) (a ++ b)
+both {a = a} {b = b} h g =
+    let hs = h.steps in
+    let hn = h.names in
+    let gs = g.steps in
+    let gn = g.names in
+    let whole = length-append a b in
+    let named = names_joined a b in
+    record { steps = omega (arith, hs, gs, whole); names = omega (arith, hn, gn, named) }
+
+-- a step with so many names
+step : (k : ℕ) (i : Step) {n l : ℕ} {is : List Step} → length (step_names i) ≤ k → IsShort n l is → IsShort (1 + n) (k + l) (i ∷ is)
+step k i {is = is} few h =
+    let hs = h.steps in
+    let hn = h.names in
+    let named = length-append (step_names i) (flat_map step_names is) in
+    record { steps = omega (arith, hs); names = omega (arith, hn, few, named) }
+
+-- one without names
+plain : (i : Step) {n l : ℕ} {is : List Step} → length (step_names i) ≤ 0 → IsShort n l is → IsShort (1 + n) l (i ∷ is)
+plain i {n = n} {l = l} few h = fewer (1 + n) l (omega arith) (omega arith) (step 0 i few h)
+
+one : (i : Step) → length (step_names i) ≤ 0 → IsShort 1 0 (i ∷ [])
+one i few = plain i few nothing
+
+either_short : (g : Bool) {n k : ℕ} {a b : List Step} → IsShort n k a → IsShort n k b → IsShort n k (either g a b)
+either_short true h k = h
+either_short false h k = k
+
+classifying_short : (g : Bool) (c r : ℕ) → IsShort 1 0 (classifying g c r)
+classifying_short true c r = one (Classify c r) (omega arith)
+classifying_short false c r = fewer 1 0 (omega arith) (omega arith) nothing
+
+settling_plain : (g : Bool) (t r : ℕ) → length (step_names (settling g t r)) ≤ 0
+settling_plain true t r = omega arith
+settling_plain false t r = omega arith
+
+behind_short : (wanted given : Bool) (t u : ℕ) (last : ℕ → Step) → ((r : ℕ) → length (step_names (last r)) ≤ 0)
+    → IsShort 2 0 (behind_classifying wanted given t u last)
+behind_short wanted given t u last h =
+    both (classifying_short (lacks wanted given) t u) (one (last (picked (lacks wanted given) t u)) (h (picked (lacks wanted given) t u)))
+
+-- ---- EXPRESSIONS
+
+binary_short : (n m t u pc line : ℕ) (op : BinaryOperator) (ds : Operands) (ga gb : Bool) (ca : List Step) (cb : ℕ → List Step) → IsShort n 0 ca
+    → ((p : ℕ) → IsShort m 0 (cb p))
+    → IsShort (n + (m + 3)) 0 (binary_code t u pc line op ds ga gb ca cb)
+binary_short n m t u pc line op ds ga gb ca cb a b =
+    both a (both (b (pc + length ca)) (both (classifying_short (mixes op ga gb) (t + 1) (t + 3)) (both (classifying_short (mixes op gb ga) (t + 2) u)
+    (one (Binary line op ds t (picked (mixes op ga gb) (t + 1) (t + 3)) (picked (mixes op gb ga) (t + 2) u)) (omega arith)))))
+
+cat_short : (n m t u pc line : ℕ) (l r : Bool) (ca : List Step) (cb : ℕ → List Step) → IsShort n 0 ca → ((p : ℕ) → IsShort m 0 (cb p))
+    → IsShort (n + (1 + (m + 2))) 0 (cat_code t u pc line l r ca cb)
+cat_short n m t u pc line l r ca cb a b =
+    both a (both (classifying_short l (t + 1) (t + 3)) (both (b (pc + length ca + length (classifying l (t + 1) (t + 3))))
+    (both (classifying_short r (t + 2) u) (one (Cat line t (picked l (t + 1) (t + 3)) (picked r (t + 2) u)) (omega arith)))))
+
+cut_short : (n m t u pc : ℕ) (c : Connective) (secret : Bool) (ca : List Step) (cb : ℕ → List Step) → IsShort n 0 ca → ((p : ℕ) → IsShort m 0 (cb p))
+    → IsShort (n + (1 + (m + 4))) 0 (cut_code t u pc c secret ca cb)
+cut_short n m t u pc c secret ca cb a b =
+    let pb = pc + length ca + 1 in
+    let pd = pb + length (cb pb) + 2 in
+    both a (plain (Branch (t + 3) (deciding c) pd) (omega arith) (both (b pb) (plain (Move t u) (omega arith) (plain (Jump (pd + 2)) (omega arith)
+    (plain (Literal (t + 1) datatype.Bool (truth_word (deciding c))) (omega arith) (one (settling secret t (t + 1)) (settling_plain secret t (t + 1))))))))
+
+-- twice
+abbrev pub two : ℕ → ℕ
+two n = n + n
+
+module _ (number : Numbers) (here : Setting) where
+  abbrev bound_of : ℕ → TypedTrees → List BoundDomain
+  bound_of k es = bound_at (slice_get here.functions k) (domains here es)
+
+  abbrev slots_at : ℕ → List Slot
+  slots_at k = slots_of (slice_get here.functions k)
+
+  abbrev Short : TypedTree → List Step → Type 0
+  Short e code = IsShort (two (width e)) 0 code
+
+  -- the node behind one operand
+  behind_one : (e : TypedTree) (i : Step) {code : List Step} → length (step_names i) ≤ 0 → Short e code → IsShort (two (1 + width e)) 0 (code ++ i ∷ [])
+  behind_one e i few h = fewer (two (1 + width e)) 0 (omega arith) (omega arith) (both h (one i few))
+
+  mutual
+    pub expression_short : (e : TypedTree) (t pc : ℕ) → Short e (expression_code number here t pc e)
+    expression_short (word_node n) t pc = fewer 2 0 (omega arith) (omega arith) (one (Literal t Uint64 n) (omega arith))
+    expression_short (truth_node b) t pc = fewer 2 0 (omega arith) (omega arith) (one (Literal t datatype.Bool (truth_word b)) (omega arith))
+    expression_short (slot_node k) t pc = fewer 2 0 (omega arith) (omega arith) (one (Move t k) (omega arith))
+    expression_short (call_node line k es) t pc =
+        fewer (two (1 + widths es)) 0 (omega arith) (omega arith) (both (arguments_short (bound_of k es) (slots_at k) es (t + 1) pc)
+        (one (Call line (number k (bound_of k es)) (Some t) (arguments_places number here (bound_of k es) (slots_at k) (t + 1) es)) (omega arith)))
+    expression_short (size_node e) t pc = behind_one e (Size t (t + 1)) (omega arith) (expression_short e (t + 1) pc)
+    expression_short (cat_node line a b) t pc =
+        let g = gives_private here (cat_node line a b) in
+        let u = t + 3 + width a in
+        fewer (two (3 + width a + width b)) 0 (omega arith) (omega arith)
+        (cat_short (two (width a)) (two (width b)) t u pc line (lacks g (gives_private here a)) (lacks g (gives_private here b))
+        (expression_code number here (t + 3) pc a) (λ p. expression_code number here u p b) (expression_short a (t + 3) pc) (λ p. expression_short b u p))
+    expression_short (sum_node e) t pc = behind_one e (Sum t (t + 1)) (omega arith) (expression_short e (t + 1) pc)
+    expression_short (bits_node line e) t pc = behind_one e (Bits line t (t + 1)) (omega arith) (expression_short e (t + 1) pc)
+    expression_short (element_node line a i) t pc =
+        let u = t + 1 + width a in
+        let ca = expression_code number here (t + 1) pc a in
+        fewer (two (1 + width a + width i)) 0 (omega arith) (omega arith)
+        (both (expression_short a (t + 1) pc) (both (expression_short i u (pc + length ca)) (one (At line t (t + 1) u) (omega arith))))
+    expression_short (not_node e) t pc = behind_one e (Not t (t + 1)) (omega arith) (expression_short e (t + 1) pc)
+    expression_short (cast_node c e) t pc = behind_one e (Cast c t (t + 1)) (omega arith) (expression_short e (t + 1) pc)
+    expression_short (binary_node line op ds a b) t pc =
+        let u = t + 3 + width a in
+        fewer (two (3 + width a + width b)) 0 (omega arith) (omega arith)
+        (binary_short (two (width a)) (two (width b)) t u pc line op ds (gives_private here a) (gives_private here b)
+        (expression_code number here (t + 3) pc a) (λ p. expression_code number here u p b) (expression_short a (t + 3) pc) (λ p. expression_short b u p))
+    expression_short (cut_node c a b) t pc =
+        let u = t + 3 + width a in
+        let ca = expression_code number here (t + 3) pc a in
+        let cb = λ (p : ℕ). expression_code number here u p b in
+        let sa = expression_short a (t + 3) pc in
+        either_short (gives_private here a)
+        (fewer (two (3 + width a + width b)) 0 (omega arith) (omega arith)
+        (binary_short (two (width a)) (two (width b)) t u pc 0 (binary.Bools (connective c)) Scalars (gives_private here a) (gives_private here b) ca cb sa
+        (λ p. expression_short b u p)))
+        (fewer (two (3 + width a + width b)) 0 (omega arith) (omega arith)
+        (cut_short (two (width a)) (two (width b)) t u pc c (gives_private here b) ca cb sa (λ p. expression_short b u p)))
+    expression_short (declassify_node e) t pc = behind_one e (Declassify t (t + 1)) (omega arith) (expression_short e (t + 1) pc)
+
+    arguments_short : (b : List BoundDomain) (ss : List Slot) (es : TypedTrees) (t pc : ℕ) → IsShort (two (widths es)) 0 (arguments_code number here b ss t pc es)
+    arguments_short b ss Tree'.none t pc = nothing
+    arguments_short b ss (Tree'.also e es) t pc =
+        let ce = expression_code number here (t + 1) pc e in
+        let w = lacks (next_is_private b ss) (gives_private here e) in
+        let cl = classifying w t (t + 1) in
+        fewer (two (1 + width e + widths es)) 0 (omega arith) (omega arith) (both (expression_short e (t + 1) pc) (both (classifying_short w t (t + 1))
+        (arguments_short b (behind_next ss) es (t + 1 + width e) (pc + length ce + length cl))))
+
+  unread_short : (e : TypedTree) (t pc : ℕ) → Short e (unread_code number here t pc e)
+  unread_short (word_node n) t pc = expression_short (word_node n) t pc
+  unread_short (truth_node b) t pc = expression_short (truth_node b) t pc
+  unread_short (slot_node k) t pc = expression_short (slot_node k) t pc
+  unread_short (call_node line k es) t pc =
+      fewer (two (1 + widths es)) 0 (omega arith) (omega arith) (both (arguments_short (bound_of k es) (slots_at k) es (t + 1) pc)
+      (one (Call line (number k (bound_of k es)) (result_at (slice_get here.functions k) t)
+      (arguments_places number here (bound_of k es) (slots_at k) (t + 1) es)) (omega arith)))
+  unread_short (size_node e) t pc = expression_short (size_node e) t pc
+  unread_short (cat_node line a b) t pc = expression_short (cat_node line a b) t pc
+  unread_short (sum_node e) t pc = expression_short (sum_node e) t pc
+  unread_short (bits_node line e) t pc = expression_short (bits_node line e) t pc
+  unread_short (element_node line a i) t pc = expression_short (element_node line a i) t pc
+  unread_short (not_node e) t pc = expression_short (not_node e) t pc
+  unread_short (cast_node c e) t pc = expression_short (cast_node c e) t pc
+  unread_short (binary_node line op ds a b) t pc = expression_short (binary_node line op ds a b) t pc
+  unread_short (cut_node c a b) t pc = expression_short (cut_node c a b) t pc
+  unread_short (declassify_node e) t pc = expression_short (declassify_node e) t pc
+
+-- ---- STATEMENTS
+
+if_short : (n m k i j pc t : ℕ) (test : List Step) (a b : ℕ → List Step) → IsShort n 0 test → ((p : ℕ) → IsShort m i (a p)) → ((p : ℕ) → IsShort k j (b p))
+    → IsShort (n + (1 + (m + (1 + k)))) (i + j) (if_code pc t test a b)
+if_short n m k i j pc t test a b h ha hb =
+    let pa = pc + length test + 1 in
+    let pb = pa + length (a pa) + 1 in
+    fewer (n + (1 + (m + (1 + k)))) (i + j) (omega arith) (omega arith)
+    (both h (plain (Branch t false pb) (omega arith) (both (ha pa) (plain (Jump (pb + length (b pb))) (omega arith) (hb pb)))))
+
+loop_short : (n m k i j pc t : ℕ) (test body next : ℕ → List Step) → ((p : ℕ) → IsShort n 0 (test p)) → ((p : ℕ) → IsShort m i (body p))
+    → ((p : ℕ) → IsShort k j (next p))
+    → IsShort (1 + (m + (k + (n + 1)))) (i + j) (loop_code pc t test body next)
+loop_short n m k i j pc t test body next ht hb hs =
+    let py = pc + 1 + length (body (pc + 1)) in
+    let pt = py + length (next py) in
+    fewer (1 + (m + (k + (n + 1)))) (i + j) (omega arith) (omega arith)
+    (plain (Jump pt) (omega arith) (both (hb (pc + 1)) (both (hs py) (both (ht pt) (one (Branch t true (pc + 1)) (omega arith))))))
+
+do_short : (n m i pc t : ℕ) (test body : ℕ → List Step) → ((p : ℕ) → IsShort n 0 (test p)) → ((p : ℕ) → IsShort m i (body p))
+    → IsShort (m + (n + 1)) i (do_code pc t test body)
+do_short n m i pc t test body ht hb =
+    let pt = pc + length (body pc) in
+    fewer (m + (n + 1)) i (omega arith) (omega arith) (both (hb pc) (both (ht pt) (one (Branch t true pc) (omega arith))))
+
+abbrev pub steps_of : Command → ℕ
+steps_of c = two (command_width c) + two (count c)
+
+module _ (number : Numbers) (at : Place) where
+  abbrev code_of_tree : (t pc : ℕ) → TypedTree → List Step
+  code_of_tree t pc e = expression_code number at.here t pc e
+
+  tree : (e : TypedTree) (t pc : ℕ) → IsShort (two (width e)) 0 (code_of_tree t pc e)
+  tree e t pc = expression_short number at.here e t pc
+
+  mutual
+    command_short : (c : Command) (t x y pc : ℕ) → IsShort (steps_of c) (count c) (command_code number at t x y pc c)
+    command_short empty_command t x y pc = nothing
+    command_short (block_command cs) t x y pc = commands_short cs t x y pc
+    command_short (if_command e a b) t x y pc =
+        let ta = t + width e in
+        fewer (steps_of (if_command e a b)) (count (if_command e a b)) (omega arith) (omega arith)
+        (if_short (two (width e)) (steps_of a) (steps_of b) (count a) (count b) pc t (code_of_tree t pc e) (λ p. command_code number at ta x y p a)
+        (λ p. command_code number at (ta + command_width a) x y p b) (tree e t pc) (λ p. command_short a ta x y p)
+        (λ p. command_short b (ta + command_width a) x y p))
+    command_short (loop_command e next body) t x y pc =
+        let ts = t + command_width body in
+        let te = ts + command_width next in
+        let py = pc + 1 + length (command_code number at t 0 0 0 body) in
+        let pt = py + length (command_code number at ts 0 0 0 next) in
+        let px = pt + length (code_of_tree te 0 e) + 1 in
+        fewer (steps_of (loop_command e next body)) (count (loop_command e next body)) (omega arith) (omega arith)
+        (loop_short (two (width e)) (steps_of body) (steps_of next) (count body) (count next) pc te (λ p. code_of_tree te p e)
+        (λ p. command_code number at t px py p body) (λ p. command_code number at ts px pt p next) (λ p. tree e te p)
+        (λ p. command_short body t px py p) (λ p. command_short next ts px pt p))
+    command_short (do_command body e) t x y pc =
+        let te = t + command_width body in
+        let pt = pc + length (command_code number at t 0 0 0 body) in
+        let px = pt + length (code_of_tree te 0 e) + 1 in
+        fewer (steps_of (do_command body e)) (count (do_command body e)) (omega arith) (omega arith)
+        (do_short (two (width e)) (steps_of body) (count body) pc te (λ p. code_of_tree te p e) (λ p. command_code number at t px pt p body)
+        (λ p. tree e te p) (λ p. command_short body t px pt p))
+    command_short break_command t x y pc = fewer 2 1 (omega arith) (omega arith) (one (Jump x) (omega arith))
+    command_short continue_command t x y pc = fewer 2 1 (omega arith) (omega arith) (one (Jump y) (omega arith))
+    command_short (return_command None) t x y pc = fewer 2 1 (omega arith) (omega arith) (one ReturnNone (omega arith))
+    command_short (return_command (Some e)) t x y pc =
+        fewer (steps_of (return_command (Some e))) 1 (omega arith) (omega arith)
+        (both (tree e (t + 1) pc) (behind_short at.secret_result (gives_private at.here e) t (t + 1) Return (λ r. omega arith)))
+    command_short (assert_command line e) t x y pc =
+        fewer (steps_of (assert_command line e)) 1 (omega arith) (omega arith) (both (tree e t pc) (one (Assert line t) (omega arith)))
+    command_short (store_command k e) t x y pc =
+        fewer (steps_of (store_command k e)) 1 (omega arith) (omega arith)
+        (both (tree e (t + 1) pc) (behind_short (slot_is_private at.here k) (gives_private at.here e) t (t + 1) (Store k) (λ r. omega arith)))
+    command_short (default_command k) t x y pc =
+        fewer (steps_of (default_command k)) 1 (omega arith) (omega arith)
+        (behind_short (slot_is_private at.here k) false t (length at.here.slots + shape_number (slot_shape at.here k)) (Store k) (λ r. omega arith))
+    command_short (fill_command line k n e) t x y pc =
+        let u = t + 1 + width n in
+        let cn = code_of_tree (t + 1) pc n in
+        fewer (steps_of (fill_command line k n e)) 1 (omega arith) (omega arith) (both (tree n (t + 1) pc) (both (tree e u (pc + length cn))
+        (behind_short (slot_is_private at.here k) (gives_private at.here e) t u (Fill line k (t + 1)) (λ r. omega arith))))
+    command_short (input_command line k text) t x y pc =
+        fewer (steps_of (input_command line k text)) 1 (omega arith) (omega arith)
+        (step 1 (Argument line (kind_of (slot_is_private at.here k) (slot_shape at.here k)) text t) (omega arith) (one (Store k t) (omega arith)))
+    command_short (element_command line k i e) t x y pc =
+        let u = t + 1 + width i in
+        let ci = code_of_tree (t + 1) pc i in
+        fewer (steps_of (element_command line k i e)) 1 (omega arith) (omega arith) (both (tree i (t + 1) pc) (both (tree e u (pc + length ci))
+        (behind_short (slot_is_private at.here k) (gives_private at.here e) t u (Put line k (t + 1)) (λ r. omega arith))))
+    command_short (publish_command text e) t x y pc =
+        fewer (steps_of (publish_command text e)) 1 (omega arith) (omega arith) (both (tree e t pc) (step 1 (Publish text t) (omega arith) nothing))
+    command_short (evaluate_command e) t x y pc =
+        fewer (steps_of (evaluate_command e)) 1 (omega arith) (omega arith) (unread_short number at.here e t pc)
+
+    pub commands_short : (cs : Commands) (t x y pc : ℕ) → IsShort (two (commands_width cs) + two (counts cs)) (counts cs) (commands_code number at t x y pc cs)
+    commands_short Commands'.none t x y pc = nothing
+    commands_short (Commands'.also c cs) t x y pc =
+        let code = command_code number at t x y pc c in
+        fewer (two (commands_width (Commands'.also c cs)) + two (counts (Commands'.also c cs))) (counts (Commands'.also c cs)) (omega arith) (omega arith)
+        (both (command_short c t x y pc) (commands_short cs (t + command_width c) x y (pc + length code)))
+
+-- ---- FUNCTIONS
+
+last_plain : (g : Given) (r : ℕ) → length (step_names (last_step g r)) ≤ 0
+last_plain Nothing r = omega arith
+last_plain (Value s) r = omega arith
+
+pub function_short : (number : Numbers) (fs : List TypedFunctionTree) (f : TypedFunctionTree) (b : List BoundDomain)
+    → IsShort (two (commands_width f.body) + two (counts f.body) + 1) (counts f.body) (function_code number fs f b).steps
+function_short number fs f b =
+    let end = body_end number fs f b in
+    let r = first_free f.slots + commands_width f.body in
+    fewer (two (commands_width f.body) + two (counts f.body) + 1) (counts f.body) (omega arith) (omega arith)
+    (both (commands_short number (place_in fs f b) f.body (first_free f.slots) end end 0) (one (last_step f.given r) (last_plain f.given r)))

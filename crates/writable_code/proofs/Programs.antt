@@ -1,0 +1,238 @@
+-- The code of an accepted program within the limits of size has room in its bytes.
+use Rattle.std.proofs.Common.{◌≡◌, ℕ, zero, suc, ◌+◌, ◌<◌, ◌≤◌, ◌^◌, List, [], ◌∷◌, ◌++◌, length, map, Option, Some, None, Bool, true, false, cond}
+use Rattle.std.proofs.Common.{refl, sym, ap, ◌∙◌, subst, arith, length-append, inl, inr}
+use Rattle.std.specs.Prelude.{slice_get, nat_le, nat_lt, sum}
+use Rattle.std.specs.List.{flat_map}
+use Rattle.std.proofs.lemmas.Bool.{leb-true, leb-false, ltb-false}
+use Rattle.std.proofs.lemmas.List.{length-map}
+use Rattle.std.proofs.lemmas.List.Sums.{sum_by-cons}
+use Rattle.std.proofs.Math.Nat.{min-eq_left, min-eq_right}
+use Rattle.sc_text.specs.Lists.{Among}
+use Rattle.sc_text.specs.Name.{is_name}
+use Rattle.secrec_ast.specs.Programs.{FunctionTree, ProgramTree}
+use Rattle.domain_types.specs.Declarations.{Declared, declared_by, functions_of}
+use Rattle.domain_types.specs.Typing.{IsTypedProgram}
+use Rattle.typed_tree.specs.Programs.{TypedFunctionTree, TypedProgramTree}
+use Rattle.name_resolution.specs.Functions.{slots_written, given_back, with_parameters, function_made, function_from, function_behind, typed_function}
+use Rattle.name_resolution.specs.Functions.{typed_functions, program_of, typed_of}
+use Rattle.name_resolution.specs.Order.{reached}
+use Rattle.name_resolution.specs.Bodies.{resolved_all}
+use Rattle.name_resolution.specs.Scopes.{no_place}
+use Rattle.name_resolution.specs.Sizes.{function_nodes, counted}
+use Rattle.name_resolution.proofs.SoundValues.{mapped, both_there, then_there, some_is}
+use Rattle.reached_instances.specs.Instances.{Instance}
+use Rattle.reached_instances.specs.Reached.{IsReachedList}
+use Rattle.reached_instances.proofs.ReachedLists.{is_the_only_list}
+use Rattle.program_limits.specs.Limits as limits
+use Rattle.program_limits.specs.Limits.{size_in, sizes, templates, is_too_large, IsWithinLimits}
+use Rattle.verified_code.specs.Steps.{Step, Function, Literal, Move, Store, Binary, Not, Cast, Classify, Fill, At, Put, Size, Cat, Sum, Bits, Declassify}
+use Rattle.verified_code.specs.Steps.{Argument, Publish, Assert, Branch, Jump, Call, Return, ReturnNone}
+use Rattle.code_model.specs.Commands.{commands_width}
+use Rattle.code_model.specs.Programs.{numbers_in, code_of_found, instance_code, code_of}
+use Rattle.raw_steps.specs.Instructions.{function_names}
+use Rattle.raw_steps.proofs.Passing.{unmapped}
+use Rattle.well_typed.specs.Sources.{IsWellWritten}
+use Rattle.well_typed.proofs.Calling.{known_in}
+use Rattle.well_typed.proofs.Bindings.{declared_type}
+use Rattle.well_typed.proofs.Heads.{parameter_slots, function_at}
+use Rattle.well_typed.proofs.Reaching.{accepted_well_typed, reached_checked}
+use Rattle.bytecode.specs.Writable.{IsWritable}
+use Rattle.lowered_code.specs.Laws.{raw_code_of_program}
+use Rattle.lowered_code.proofs.Limits.{within_small}
+use Rattle.lowered_code.proofs.RegistersOfBodies.{statements_take}
+use Rattle.lowered_code.proofs.RegistersOfPrograms.{small_numbered}
+use Rattle.lowered_code.proofs.Standing.{found_among}
+use Rattle.lowered_code.proofs.Verified.{code_right}
+use Rattle.said_code.specs.Says.{CommandsSay, InstancesSay, StepSays}
+use Rattle.said_code.specs.Laws.{is_word, any_number, any_text}
+use Rattle.said_code.proofs.Saying.{says_what_trees_say}
+use Rattle.said_code.proofs.Words.{well_typed_words}
+use Rattle.writable_code.specs.Sources.{is_line, StandPlaced, AreAllPlaced, IsPlacedProgram}
+use Rattle.writable_code.specs.Laws.{HasRoom, IsWritableWhereAccepted}
+use Rattle.writable_code.proofs.Counts.{counts}
+use Rattle.writable_code.proofs.Fields.{writable}
+use Rattle.writable_code.proofs.Lengths.{two, function_short}
+use Rattle.writable_code.proofs.Resolving.{statements_made}
+
+-- ---- FUNCTIONS
+
+-- so many registers and commands for its size, and lines and names that are told
+pub record IsModest (t : TypedFunctionTree) : Type 0 where
+  pub width : commands_width t.body ≤ two t.size
+  pub commands : counts t.body + 2 ≤ t.size
+  pub say : CommandsSay any_number is_line is_name t.body
+
+uncounted : (n : ℕ) → counted n ≤ 4095 → counted n ≡ n
+uncounted n h = go (nat_le n 4294967295) refl
+  where
+    go : (b : Bool) → nat_le n 4294967295 ≡ b → counted n ≡ n
+    go true e = min-eq_left (leb-true n 4294967295 e)
+    go false e = absurd (let l = leb-false n 4294967295 e in large l)
+      where
+        large : 4294967296 ≤ n → ⊥
+        large l = let same = min-eq_right (let k : 4294967295 ≤ n = omega (arith, l) in k) in omega (arith, same, h)
+
+function_modest : (d : Declared) (f : FunctionTree) (t : TypedFunctionTree) → typed_function d f ≡ Some t → StandPlaced f.body.statements → t.size ≤ 4095
+    → IsModest t
+function_modest d f t e placed small =
+    let start = with_parameters f.parameters no_place in
+    let r = then_there (function_behind d f) (resolved_all d f.body.statements start) t e in
+    let m = both_there (function_from f r.part.0) (slots_written d f.variables r.part.1.slots) (given_back d f.variables f.returned) t r.is in
+    let same = some_is (function_made f r.part.0 m.left m.right) t m.is in
+    let takes = (statements_take d f.body.statements).from start r.part.0 r.part.1 r.there in
+    let made = (statements_made d f.body.statements placed).from start r.part.0 r.part.1 r.there in
+    let many = made.many in
+    let slots = ap length (parameter_slots f.parameters no_place) ∙ length-map f.parameters declared_type in
+    let size : counted (function_nodes f) ≤ 4095 = subst (λ (z : TypedFunctionTree). z.size ≤ 4095) (sym same) small in
+    let own = uncounted (function_nodes f) size in
+    subst IsModest same (record { width = omega (arith, takes, own, slots); commands = omega (arith, many, own); say = made.say })
+
+placed_at : (fs : List FunctionTree) (n : ℕ) (f : FunctionTree) → AreAllPlaced fs → slice_get fs n ≡ Some f → StandPlaced f.body.statements
+placed_at [] n f h e = cc
+placed_at (g ∷ gs) zero f h e = subst (λ (x : FunctionTree). StandPlaced x.body.statements) (some_is g f e) h.0
+placed_at (g ∷ gs) (suc n) f h e = placed_at gs n f h.1 e
+
+-- ---- SUMS OVER INSTANCES
+
+few_sizes : {B : Type 0} (a b : Bool) (x y : B) (o : Option B) → cond a (Some x) (cond b (Some y) o) ≡ None → b ≡ false
+few_sizes true b x y o e = cc
+few_sizes false true x y o e = cc
+few_sizes false false x y o e = refl
+
+sizes_within : (p : TypedProgramTree) (is : List Instance) → IsWithinLimits p → IsReachedList p is → sum (sizes p is) ≤ 65535
+sizes_within p is within reached =
+    let same = is_the_only_list p is within.list reached within.reached in
+    let fine = few_sizes (nat_lt 1024 (templates p within.list)) (nat_lt 65535 (sum (sizes p within.list))) _ _ _ within.is in
+    subst (λ js. sum (sizes p js) ≤ 65535) (sym same) (ltb-false 65535 (sum (sizes p within.list)) fine)
+
+sizes_first : (p : TypedProgramTree) (i : Instance) (is : List Instance) → sum (sizes p (i ∷ is)) ≡ limits.size_of p i + sum (sizes p is)
+sizes_first p i is = sum_by-cons (λ n. n) (limits.size_of p i) (sizes p is)
+
+-- what is at most the size of each instance is at most the sum of the sizes in all
+all_within : {A : Type 0} (p : TypedProgramTree) (g : Instance → List A) (is : List Instance)
+    → ((i : Instance) → Among i is → length (g i) ≤ limits.size_of p i) → length (flat_map g is) ≤ sum (sizes p is)
+all_within p g [] h = omega arith
+all_within p g (i ∷ is) h =
+    let one = h i (inl refl) in
+    let rest = all_within p g is (λ j m. h j (inr m)) in
+    let both = length-append (g i) (flat_map g is) in
+    let whole = sizes_first p i is in
+    omega (arith, one, rest, both, whole)
+
+each_counts : (p : TypedProgramTree) (is : List Instance) → ((i : Instance) → Among i is → 1 ≤ limits.size_of p i) → length is ≤ sum (sizes p is)
+each_counts p [] h = omega arith
+each_counts p (i ∷ is) h =
+    let one = h i (inl refl) in
+    let rest = each_counts p is (λ j m. h j (inr m)) in
+    let whole = sizes_first p i is in
+    omega (arith, one, rest, whole)
+
+map_names : (g : Instance → Function) (is : List Instance) → flat_map function_names (map g is) ≡ flat_map (λ i. function_names (g i)) is
+map_names g [] = refl
+map_names g (i ∷ is) = ap (λ z. function_names (g i) ++ z) (map_names g is)
+
+-- ---- STEPS
+
+both_say : (i : Step) → StepSays is_word any_number any_text i → StepSays any_number is_line is_name i → StepSays is_word is_line is_name i
+both_say (Literal d e n) w s = w
+both_say (Move d r) w s = tt
+both_say (Store d r) w s = tt
+both_say (Binary line op ds d a b) w s = s
+both_say (Not d r) w s = tt
+both_say (Cast c d r) w s = tt
+both_say (Classify d r) w s = tt
+both_say (Fill line d n x) w s = s
+both_say (At line d a i) w s = s
+both_say (Put line a i x) w s = s
+both_say (Size d r) w s = tt
+both_say (Cat line d a b) w s = s
+both_say (Sum d r) w s = tt
+both_say (Bits line d r) w s = s
+both_say (Declassify d r) w s = tt
+both_say (Argument line k text d) w s = s
+both_say (Publish text r) w s = s
+both_say (Assert line r) w s = s
+both_say (Branch r b target) w s = tt
+both_say (Jump target) w s = tt
+both_say (Call line g d arguments) w s = s
+both_say (Return r) w s = tt
+both_say ReturnNone w s = tt
+
+-- ---- PROGRAMS
+
+module _ (source : ProgramTree) (accepted : IsTypedProgram source) (written : IsWellWritten source) (placed : IsPlacedProgram source)
+    (p : TypedProgramTree) (resolved : typed_of source ≡ Some p) (is : List Instance) (reached_list : IsReachedList p is) (within : IsWithinLimits p) where
+  abbrev own_code : Instance → Function
+  own_code = instance_code p.functions (numbers_in is)
+
+  -- the function of an instance, typed of one that is written
+  pub record IsTyped (i : Instance) : Type 0 where
+    pub called : TypedFunctionTree
+    pub there : slice_get p.functions i.function ≡ Some called
+    pub modest : IsModest called
+    pub small : called.size ≤ 4095
+
+  typed_at : (i : Instance) → Among i is → IsTyped i
+  typed_at i m =
+      let x = reached_checked source accepted written p resolved i (reached_list.reached i m) in
+      let z = mapped program_of (typed_functions (known_in source) (reached (declared_by source))) p resolved in
+      let u = function_at (known_in source) (reached (declared_by source)) z.part i.function x.function z.there x.named in
+      let there = subst (λ (y : TypedProgramTree). slice_get y.functions i.function ≡ Some u.0) z.is u.1 in
+      let small = within_small p is within reached_list i m u.0 there in
+      record {
+        called = u.0;
+        there = there;
+        modest = function_modest (known_in source) x.function u.0 u.2 (placed_at (functions_of source.items) x.number x.function placed x.there) small;
+        small = small;
+      }
+
+  size_there : (i : Instance) (m : Among i is) → limits.size_of p i ≡ (typed_at i m).called.size
+  size_there i m = ap size_in (typed_at i m).there
+
+  -- its code has few steps and few names
+  instance_short : (i : Instance) → Among i is → (length (own_code i).steps < 2 ^ 16) × (length (function_names (own_code i)) ≤ limits.size_of p i)
+  instance_short i m =
+      let t = typed_at i m in
+      let short = function_short (numbers_in is) p.functions t.called i.binding in
+      let steps = short.steps in
+      let names = short.names in
+      let width = t.modest.width in
+      let commands = t.modest.commands in
+      let small = t.small in
+      let size = size_there i m in
+      let is_code = ap (code_of_found (numbers_in is) p.functions i.binding) t.there in
+      subst (λ (f : Function). (length f.steps < 2 ^ 16) × (length (function_names f) ≤ limits.size_of p i)) (sym is_code)
+      (omega (arith, steps, width, commands, small), omega (arith, names, commands, size))
+
+  instances_say : InstancesSay any_number is_line is_name p is
+  instances_say i m f there =
+      let t = typed_at i m in
+      subst (λ (z : TypedFunctionTree). CommandsSay any_number is_line is_name z.body) (some_is t.called f (sym t.there ∙ there)) t.modest.say
+
+  has_room : HasRoom (code_of p is)
+  has_room =
+      let all = sizes_within p is within reached_list in
+      let many = each_counts p is (λ i m. let size = size_there i m in let some = (typed_at i m).modest.commands in omega (arith, size, some)) in
+      let codes = length-map is own_code in
+      let names = all_within p (λ i. function_names (own_code i)) is (λ i m. (instance_short i m).1) in
+      let mapped_names = ap length (map_names own_code is) in
+      let words = well_typed_words p is (accepted_well_typed source accepted written p resolved) reached_list in
+      record {
+        functions = omega (arith, all, many, codes);
+        steps = λ f there.
+            let x = unmapped own_code is there.0 f there.1 in
+            subst (λ (g : Function). length g.steps < 2 ^ 16) x.2 (instance_short x.0 (found_among is there.0 x.0 x.1)).0;
+        names = omega (arith, all, names, mapped_names);
+        says = λ f there place i e.
+            both_say i (says_what_trees_say is_word any_number any_text p is refl refl refl words f there place i e)
+            (says_what_trees_say any_number is_line is_name p is refl refl refl instances_say f there place i e);
+      }
+
+  accepted_writable_here : IsWritable (raw_code_of_program p is)
+  accepted_writable_here =
+      let few = small_numbered source p resolved is (within_small p is within reached_list) in
+      writable (code_of p is) (code_right p is (accepted_well_typed source accepted written p resolved) reached_list few) has_room
+
+pub accepted_writable : (source : ProgramTree) → IsWritableWhereAccepted source
+accepted_writable source accepted written placed p resolved is reached_list within =
+    accepted_writable_here source accepted written placed p resolved is reached_list within

@@ -1,0 +1,378 @@
+-- What is typed of a statement has at most as many commands as the statement has nodes, and says lines and names of the text.
+use Rattle.std.proofs.Common.{◌≡◌, ℕ, ◌+◌, ◌≤◌, List, [], ◌∷◌, length, map, Option, Some, None, Bool, true, false, cond, refl, ap, subst, arith}
+use Rattle.std.specs.Prelude.{option_map, nat_eq}
+use Rattle.sc_text.specs.Name.{is_name}
+use Rattle.secrec_ast.specs.declared.expression.DataType.{DataType}
+use Rattle.secrec_ast.specs.declared.expression.DataType.TheVariants.{Uint64}
+use Rattle.secrec_ast.specs.declared.expression.DataType.TheVariants as datatype
+use Rattle.secrec_ast.specs.Tree.{Tree, Trees, number, truth, variable, call, index, parentheses, negation, cast, binary, declassify, argument, publish}
+use Rattle.secrec_ast.specs.Tree as Tree'
+use Rattle.secrec_ast.specs.Statements.{DeclarationTree, AssignmentTree, StartTree, starts_with_nothing, starts_with_declaration}
+use Rattle.secrec_ast.specs.Statements.{starts_with_assignment, StepTree}
+use Rattle.secrec_ast.specs.Statements.{steps_by_nothing, steps_by_assignment, steps_by_expression, StatementTree, block, empty, branch, choice, while_loop}
+use Rattle.secrec_ast.specs.Statements.{do_loop, for_loop, breaks, continues, returns, assertion, declaration, assignment, evaluation, StatementTrees}
+use Rattle.secrec_ast.specs.Statements as Statements'
+use Rattle.domain_types.specs.declared.value_type.BuiltIn.{BuiltIn}
+use Rattle.domain_types.specs.declared.value_type.BuiltIn.TheVariants.{Size, Cat, Sum, BitExtract}
+use Rattle.domain_types.specs.Declarations.{Declared, Callee, built_in, defined, callee}
+use Rattle.typed_tree.specs.declared.operators.BinaryOperator.{BinaryOperator}
+use Rattle.typed_tree.specs.declared.operators.Connective.{Connective}
+use Rattle.typed_tree.specs.Tree.{TypedTree, call_node, typed_trees_of, truth_node}
+use Rattle.typed_tree.specs.Operators.{operator_on, operands_of, may_cut_short}
+use Rattle.typed_tree.specs.Commands.{Command, Commands, none, also, empty_command, block_command, if_command, loop_command, do_command, break_command}
+use Rattle.typed_tree.specs.Commands.{continue_command, return_command, assert_command, store_command, default_command, fill_command, input_command}
+use Rattle.typed_tree.specs.Commands.{element_command, publish_command, evaluate_command}
+use Rattle.name_resolution.specs.Scopes.{Place, Scope, variable_named, entering, behind_block}
+use Rattle.name_resolution.specs.Sizes.{nodes, nodes_all, optional_nodes, declaration_nodes, assignment_nodes, start_nodes, step_nodes, statement_nodes}
+use Rattle.name_resolution.specs.Sizes.{statements_nodes}
+use Rattle.name_resolution.specs.Values.{TypedValue, TypedCall, of_both, variable_value, element_value, negated, cast_value, declassified_value, operation_node}
+use Rattle.name_resolution.specs.Values.{operation_made, operation, gives_value, with_shape, value_given, shape_returned, tree_of_value, built_in_value, called}
+use Rattle.name_resolution.specs.Values.{and_values, value, values, call_made}
+use Rattle.name_resolution.specs.Resolving.{Resolving, ◌>>=◌, carry, done, reading, next_slot, declare, closed, in_block, tree_in, value_at, expression}
+use Rattle.name_resolution.specs.Resolving.{named}
+use Rattle.name_resolution.specs.Bodies.{tree_in_call, calling, evaluated, default_of, from_value, initial, declared, assigned_to, assigned, started, stepped}
+use Rattle.name_resolution.specs.Bodies.{condition_of, returned, looped, resolved, resolved_all}
+use Rattle.name_resolution.proofs.SoundValues.{mapped, both_there, then_there, some_is}
+use Rattle.said_code.specs.Laws.{any_number}
+use Rattle.said_code.specs.Says.{TreeSays, TreesSay, CommandSays, CommandsSay}
+use Rattle.writable_code.specs.Sources.{is_line, IsLine, IsPlaced, ArePlaced, IsPlacedIf, DeclaresPlaced, AssignsPlaced, StartsPlaced, StepsPlaced, StandsPlaced}
+use Rattle.writable_code.specs.Sources.{StandPlaced}
+use Rattle.writable_code.proofs.Counts.{count, counts}
+
+abbrev pub Said : TypedTree → Type 0
+Said = TreeSays any_number is_line is_name
+
+-- ---- VALUES
+
+abbrev ValueSaid : TypedValue → Type 0
+ValueSaid v = Said v.tree
+
+abbrev CallSaid : TypedCall → Type 0
+CallSaid c = Said c.tree
+
+abbrev AllSaid : List TypedValue → Type 0
+AllSaid [] = Unit {0}
+AllSaid (v ∷ vs) = Said v.tree × AllSaid vs
+
+trees_said : (vs : List TypedValue) → AllSaid vs → TreesSay any_number is_line is_name (typed_trees_of (map tree_of_value vs))
+trees_said [] h = tt
+trees_said (v ∷ vs) h = (h.0, trees_said vs h.1)
+
+built_in_said : (line : ℕ) (b : BuiltIn) (vs : List TypedValue) (v : TypedValue) → IsLine line → AllSaid vs → built_in_value line b vs ≡ Some v → Said v.tree
+built_in_said line Size [] v l h e = cc
+built_in_said line Size (a ∷ []) v l h e = subst ValueSaid (some_is _ v e) h.0
+built_in_said line Size (a ∷ b ∷ vs) v l h e = cc
+built_in_said line Cat [] v l h e = cc
+built_in_said line Cat (a ∷ []) v l h e = cc
+built_in_said line Cat (a ∷ b ∷ []) v l h e = subst ValueSaid (some_is _ v e) (l, h.0, h.1.0)
+built_in_said line Cat (a ∷ b ∷ c ∷ vs) v l h e = cc
+built_in_said line Sum [] v l h e = cc
+built_in_said line Sum (a ∷ []) v l h e = subst ValueSaid (some_is _ v e) h.0
+built_in_said line Sum (a ∷ b ∷ vs) v l h e = cc
+built_in_said line BitExtract [] v l h e = cc
+built_in_said line BitExtract (a ∷ []) v l h e = subst ValueSaid (some_is _ v e) (l, h.0)
+built_in_said line BitExtract (a ∷ b ∷ vs) v l h e = cc
+
+called_said : (line : ℕ) (k : Callee) (vs : List TypedValue) (c : TypedCall) → IsLine line → AllSaid vs → called line k vs ≡ Some c → Said c.tree
+called_said line (built_in b) vs c l h e =
+    let m = mapped gives_value (built_in_value line b vs) c e in
+    subst CallSaid m.is (built_in_said line b vs m.part l h m.there)
+called_said line (defined k f) vs c l h e = go (nat_eq (length f.parameters) (length vs)) e
+  where
+    made : TypedCall
+    made = record { tree = call_node line k (typed_trees_of (map tree_of_value vs)); gives = shape_returned f.returned }
+
+    go : (b : Bool) → cond b (Some made) None ≡ Some c → Said c.tree
+    go false g = cc
+    go true g = subst CallSaid (some_is made c g) (l, trees_said vs h)
+
+operation_said : (line : ℕ) (op : BinaryOperator) (a b : TypedValue) (c : Option Connective) → IsLine line → Said a.tree → Said b.tree
+    → Said (operation_node line op a b c)
+operation_said line op a b None l h k = (l, h, k)
+operation_said line op a b (Some c) l h k = (h, k)
+
+mutual
+  value_said : (d : Declared) (s : Scope) (e : Tree) (v : TypedValue) → IsPlaced e → value d s e ≡ Some v → Said v.tree
+  value_said d s (number p w) v p' h = subst ValueSaid (some_is _ v h) refl
+  value_said d s (truth p w) v p' h = subst ValueSaid (some_is _ v h) tt
+  value_said d s (variable p x) v p' h = let m = mapped variable_value (variable_named s x) v h in subst ValueSaid m.is tt
+  value_said d s (call p x es) v p' h =
+      let t = then_there value_given (of_both (called p.line) (callee d x) (values d s es)) v h in
+      let m = both_there (called p.line) (callee d x) (values d s es) t.part t.there in
+      let g = mapped (with_shape t.part.tree) t.part.gives v t.is in
+      subst ValueSaid g.is (called_said p.line m.left m.right t.part p'.0 (values_said d s es m.right p'.1 m.right_there) m.is)
+  value_said d s (index p a i) v p' h =
+      let m = both_there (element_value p.line) (value d s a) (value d s i) v h in
+      subst ValueSaid (some_is _ v m.is) (p'.0, value_said d s a m.left p'.1 m.left_there, value_said d s i m.right p'.2 m.right_there)
+  value_said d s (parentheses p e) v p' h = value_said d s e v p'.1 h
+  value_said d s (negation p e) v p' h = let m = mapped negated (value d s e) v h in subst ValueSaid m.is (value_said d s e m.part p'.1 m.there)
+  value_said d s (cast p t e) v p' h = let m = mapped (cast_value t) (value d s e) v h in subst ValueSaid m.is (value_said d s e m.part p'.1 m.there)
+  value_said d s (binary p op a c) v p' h =
+      let m = both_there (operation p.line op) (value d s a) (value d s c) v h in
+      let o = mapped (operation_made p.line op m.left m.right) (operator_on op m.left.shape.element m.right.shape.element) v m.is in
+      let x = may_cut_short op (operands_of m.left.shape.array m.right.shape.array) in
+      subst ValueSaid o.is (operation_said p.line o.part m.left m.right x p'.0 (value_said d s a m.left p'.1 m.left_there)
+      (value_said d s c m.right p'.2 m.right_there))
+  value_said d s (declassify p e) v p' h =
+      let m = mapped declassified_value (value d s e) v h in subst ValueSaid m.is (value_said d s e m.part p'.1 m.there)
+  value_said d s (argument p x) v p' h = cc
+  value_said d s (publish p x e) v p' h = cc
+
+  values_said : (d : Declared) (s : Scope) (es : Trees) (vs : List TypedValue) → ArePlaced es → values d s es ≡ Some vs → AllSaid vs
+  values_said d s Tree'.none vs p h = subst AllSaid (some_is [] vs h) tt
+  values_said d s (Tree'.also e es) vs p h =
+      let m = both_there and_values (value d s e) (values d s es) vs h in
+      subst AllSaid (some_is _ vs m.is) (value_said d s e m.left p.0 m.left_there, values_said d s es m.right p.1 m.right_there)
+
+-- ---- WHAT IS MADE AT A PLACE
+
+pub record Makes {A : Type 0} (P : A → Type 0) (m : Resolving A) : Type 0 where
+  pub from : (s : Place) (a : A) (q : Place) → m s ≡ Some (a, q) → P a
+
+abbrev pair_of : {A : Type 0} → A → Place → A × Place
+pair_of a p = (a, p)
+
+made_as : {A : Type 0} (P : A → Type 0) (a b : A) (p q : Place) → Some (pair_of a p) ≡ Some (pair_of b q) → P a → P b
+made_as P a b p q e h =
+    let same : pair_of a p ≡ pair_of b q = cc in
+    subst P (ap (λ z. z.0) same) h
+
+makes_done : {A : Type 0} (P : A → Type 0) (a : A) → P a → Makes P (done a)
+makes_done P a h = record { from = λ s b q e. made_as P a b s q e h }
+
+makes_bind : {A B : Type 0} (P : A → Type 0) (Q : B → Type 0) (m : Resolving A) (f : A → Resolving B) → Makes P m → ((a : A) → P a → Makes Q (f a))
+    → Makes Q (m >>= f)
+makes_bind {A = A} {B = B} P Q m f h g = record { from = λ s b q e. go s b q (m s) refl e }
+  where
+    go : (s : Place) (b : B) (q : Place) (o : Option (A × Place)) → m s ≡ o → carry o f ≡ Some (b, q) → Q b
+    go s b q None t e = cc
+    go s b q (Some r) t e = (g r.0 (h.from s r.0 r.1 t)).from r.1 b q e
+
+makes_reading : {A : Type 0} (P : A → Type 0) (f : Place → Option A) → ((s : Place) (a : A) → f s ≡ Some a → P a) → Makes P (reading f)
+makes_reading {A = A} P f h = record { from = λ s b q e. go s b q (f s) refl e }
+  where
+    go : (s : Place) (b : A) (q : Place) (o : Option A) → f s ≡ o → option_map (λ a. pair_of a s) o ≡ Some (b, q) → P b
+    go s b q None t e = cc
+    go s b q (Some a) t e = made_as P a b s q e (h s a t)
+
+makes_block : {A : Type 0} (P : A → Type 0) (m : Resolving A) → Makes P m → Makes P (in_block m)
+makes_block {A = A} P m h = record { from = λ s b q e. go s b q (m (entering s)) refl e }
+  where
+    go : (s : Place) (b : A) (q : Place) (o : Option (A × Place)) → m (entering s) ≡ o → closed s o ≡ Some (b, q) → P b
+    go s b q None t e = cc
+    go s b q (Some r) t e = made_as P r.0 b (behind_block s r.1) q e (h.from (entering s) r.0 r.1 t)
+
+-- ---- EXPRESSIONS
+
+expression_made : (d : Declared) (e : Tree) → IsPlaced e → Makes Said (expression d e)
+expression_made d e p = makes_reading Said (value_at d e) read
+  where
+    read : (s : Place) (t : TypedTree) → value_at d e s ≡ Some t → Said t
+    read s t h =
+        let m = mapped tree_in (value d s.scope e) t h in
+        subst Said m.is (value_said d s.scope e m.part p m.there)
+
+calling_made : (d : Declared) (line : ℕ) (x : List ℕ) (es : Trees) → IsLine line → ArePlaced es → Makes Said (reading (calling d line x es))
+calling_made d line x es l p = makes_reading Said (calling d line x es) read
+  where
+    read : (s : Place) (t : TypedTree) → calling d line x es s ≡ Some t → Said t
+    read s t h =
+        let m = mapped tree_in_call (call_made d s.scope line x es) t h in
+        let b = both_there (called line) (callee d x) (values d s.scope es) m.part m.there in
+        subst Said m.is (called_said line b.left b.right m.part l (values_said d s.scope es b.right p b.right_there) b.is)
+
+-- ---- COMMANDS
+
+pub record Made (n : ℕ) (c : Command) : Type 0 where
+  pub many : count c ≤ n
+  pub says : CommandSays any_number is_line is_name c
+
+pub record AreMade (n : ℕ) (cs : Commands) : Type 0 where
+  pub many : counts cs ≤ n
+  pub say : CommandsSay any_number is_line is_name cs
+
+-- a command made of one expression
+one_made : (d : Declared) (e : Tree) (n : ℕ) (make : TypedTree → Command) → IsPlaced e → ((t : TypedTree) → Said t → Made n (make t))
+    → Makes (Made n) (expression d e >>= λ v. done (make v))
+one_made d e n make p h =
+    makes_bind Said (Made n) (expression d e) (λ v. done (make v)) (expression_made d e p) (λ v s. makes_done (Made n) (make v) (h v s))
+
+evaluate_made : (d : Declared) (e : Tree) → IsPlaced e → 1 ≤ nodes e → Makes (Made (nodes e)) (expression d e >>= λ v. done (evaluate_command v))
+evaluate_made d e p some = one_made d e (nodes e) evaluate_command p (λ t s. record { many = some; says = s })
+
+evaluated_made : (d : Declared) (e : Tree) → IsPlaced e → Makes (Made (nodes e)) (evaluated d e)
+evaluated_made d (number p w) h = evaluate_made d (number p w) h (omega arith)
+evaluated_made d (truth p w) h = evaluate_made d (truth p w) h (omega arith)
+evaluated_made d (variable p x) h = evaluate_made d (variable p x) h (omega arith)
+evaluated_made d (call p x es) h =
+    makes_bind Said (Made (1 + nodes_all es)) (reading (calling d p.line x es)) (λ v. done (evaluate_command v)) (calling_made d p.line x es h.0 h.1)
+    (λ v s. makes_done (Made (1 + nodes_all es)) (evaluate_command v) (record { many = omega arith; says = s }))
+evaluated_made d (index p a i) h = evaluate_made d (index p a i) h (omega arith)
+evaluated_made d (parentheses p e) h = evaluate_made d (parentheses p e) h (omega arith)
+evaluated_made d (negation p e) h = evaluate_made d (negation p e) h (omega arith)
+evaluated_made d (cast p t e) h = evaluate_made d (cast p t e) h (omega arith)
+evaluated_made d (binary p op a b) h = evaluate_made d (binary p op a b) h (omega arith)
+evaluated_made d (declassify p e) h = evaluate_made d (declassify p e) h (omega arith)
+evaluated_made d (argument p x) h = evaluate_made d (argument p x) h (omega arith)
+evaluated_made d (publish p x e) h =
+    one_made d e (1 + nodes e) (publish_command x) h.2 (λ t s. record { many = omega arith; says = (h.1, s) })
+
+-- ---- DECLARATIONS
+
+store_made : (d : Declared) (k : ℕ) (e : Tree) → IsPlaced e → Makes (Made 1) (expression d e >>= λ v. done (store_command k v))
+store_made d k e p = one_made d e 1 (store_command k) p (λ t s. record { many = omega arith; says = s })
+
+from_value_made : (d : Declared) (k : ℕ) (e : Tree) → IsPlaced e → Makes (Made 1) (from_value d k e)
+from_value_made d k (number p w) h = store_made d k (number p w) h
+from_value_made d k (truth p w) h = store_made d k (truth p w) h
+from_value_made d k (variable p x) h = store_made d k (variable p x) h
+from_value_made d k (call p x es) h = store_made d k (call p x es) h
+from_value_made d k (index p a i) h = store_made d k (index p a i) h
+from_value_made d k (parentheses p e) h = store_made d k (parentheses p e) h
+from_value_made d k (negation p e) h = store_made d k (negation p e) h
+from_value_made d k (cast p t e) h = store_made d k (cast p t e) h
+from_value_made d k (binary p op a b) h = store_made d k (binary p op a b) h
+from_value_made d k (declassify p e) h = store_made d k (declassify p e) h
+from_value_made d k (argument p x) h = makes_done (Made 1) (input_command p.line k x) (record { many = omega arith; says = (h.0, h.1) })
+from_value_made d k (publish p x e) h = store_made d k (publish p x e) h
+
+default_said : (element : DataType) → Said (default_of element)
+default_said Uint64 = refl
+default_said datatype.Bool = tt
+
+initial_made : (d : Declared) (line k : ℕ) (element : DataType) (size value : Option Tree) → IsLine line → IsPlacedIf size → IsPlacedIf value
+    → Makes (Made 1) (initial d line k element size value)
+initial_made d line k element None None l h v = makes_done (Made 1) (default_command k) (record { many = omega arith; says = tt })
+initial_made d line k element None (Some e) l h v = from_value_made d k e v
+initial_made d line k element (Some n) None l h v =
+    one_made d n 1 (λ m. fill_command line k m (default_of element)) h (λ t s. record { many = omega arith; says = (l, s, default_said element) })
+initial_made d line k element (Some n) (Some e) l h v =
+    makes_bind Said (Made 1) (expression d n) (λ m. expression d e >>= λ v. done (fill_command line k m v)) (expression_made d n h)
+    (λ m s. one_made d e 1 (λ v. fill_command line k m v) v (λ t z. record { many = omega arith; says = (l, s, z) }))
+
+abbrev Anything : {A : Type 0} → A → Type 0
+Anything a = Unit {0}
+
+anything : {A : Type 0} (m : Resolving A) → Makes Anything m
+anything m = record { from = λ s a q e. tt }
+
+declared_made : (d : Declared) (t : DeclarationTree) → DeclaresPlaced t → Makes (Made (declaration_nodes t)) (declared d t)
+declared_made d t h =
+    let n = declaration_nodes t in
+    makes_bind Anything (Made n) next_slot _ (anything next_slot) (λ k u.
+    makes_bind (Made 1) (Made n) (initial d t.declared.place.line k t.declared.element t.size t.value) _
+    (initial_made d t.declared.place.line k t.declared.element t.size t.value h.0 h.1 h.2) (λ c m.
+    makes_bind Anything (Made n) (declare t.variable t.declared) _ (anything (declare t.variable t.declared)) (λ x z.
+    makes_done (Made n) c (let many = m.many in record { many = omega (arith, many); says = m.says }))))
+
+-- ---- ASSIGNMENTS
+
+assigned_to_made : (d : Declared) (line k : ℕ) (i : Option Tree) (e : Tree) → IsLine line → IsPlacedIf i → IsPlaced e → Makes (Made 1) (assigned_to d line k i e)
+assigned_to_made d line k None e l h p = store_made d k e p
+assigned_to_made d line k (Some i) e l h p =
+    makes_bind Said (Made 1) (expression d i) (λ j. expression d e >>= λ v. done (element_command line k j v)) (expression_made d i h)
+    (λ j s. one_made d e 1 (λ v. element_command line k j v) p (λ t z. record { many = omega arith; says = (l, s, z) }))
+
+wider : (n k : ℕ) (m : Resolving Command) → n ≤ k → Makes (Made n) m → Makes (Made k) m
+wider n k m l h =
+    record { from = λ s a q e. let x = h.from s a q e in let many = x.many in record { many = omega (arith, l, many); says = x.says } }
+
+assigned_made : (d : Declared) (a : AssignmentTree) → AssignsPlaced a → Makes (Made (assignment_nodes a)) (assigned d a)
+assigned_made d a h =
+    let n = assignment_nodes a in
+    makes_bind Anything (Made n) (named a.target.variable.text) _ (anything (named a.target.variable.text)) (λ x u.
+    wider 1 n _ (omega arith) (assigned_to_made d a.target.variable.place.line x.slot a.target.index a.value h.0 h.1 h.2))
+
+-- ---- STATEMENTS
+
+empty_made : Makes (Made 0) (done empty_command)
+empty_made = makes_done (Made 0) empty_command (record { many = omega arith; says = tt })
+
+started_made : (d : Declared) (a : StartTree) → StartsPlaced a → Makes (Made (start_nodes a)) (started d a)
+started_made d starts_with_nothing h = empty_made
+started_made d (starts_with_declaration t) h = declared_made d t h
+started_made d (starts_with_assignment a) h = assigned_made d a h
+
+stepped_made : (d : Declared) (b : StepTree) → StepsPlaced b → Makes (Made (step_nodes b)) (stepped d b)
+stepped_made d steps_by_nothing h = empty_made
+stepped_made d (steps_by_assignment a) h = assigned_made d a h
+stepped_made d (steps_by_expression e) h = evaluated_made d e h
+
+condition_made : (d : Declared) (e : Option Tree) → IsPlacedIf e → Makes Said (condition_of d e)
+condition_made d None h = makes_done Said (truth_node _) tt
+condition_made d (Some e) h = expression_made d e h
+
+returned_made : (d : Declared) (e : Option Tree) → IsPlacedIf e → Makes (Made 1) (returned d e)
+returned_made d None h = makes_done (Made 1) (return_command None) (record { many = omega arith; says = tt })
+returned_made d (Some e) h = one_made d e 1 (λ v. return_command (Some v)) h (λ t s. record { many = omega arith; says = s })
+
+looped_made : (d : Declared) (a : StartTree) (e : Option Tree) (b : StepTree) (n : ℕ) (body : Resolving Command) → StartsPlaced a → IsPlacedIf e
+    → StepsPlaced b → Makes (Made n) body
+    → Makes (Made (1 + (start_nodes a + (optional_nodes e + (step_nodes b + n))))) (looped d a e b body)
+looped_made d a e b n body ha he hb h =
+    let all = 1 + (start_nodes a + (optional_nodes e + (step_nodes b + n))) in
+    makes_bind (Made (start_nodes a)) (Made all) (started d a) _ (started_made d a ha) (λ x sx.
+    makes_bind Said (Made all) (condition_of d e) _ (condition_made d e he) (λ v sv.
+    makes_bind (Made (step_nodes b)) (Made all) (stepped d b) _ (stepped_made d b hb) (λ c sc.
+    makes_bind (Made n) (Made all) (in_block body) _ (makes_block (Made n) body h) (λ y sy.
+    makes_done (Made all) (block_command (also x (also (loop_command v c y) none)))
+    (let one = sx.many in let two = sc.many in let three = sy.many in
+    record { many = omega (arith, one, two, three); says = (sx.says, ((sv, sc.says, sy.says), tt)) })))))
+
+mutual
+  statement_made : (d : Declared) (t : StatementTree) → StandsPlaced t → Makes (Made (statement_nodes t)) (resolved d t)
+  statement_made d (block p ss) h =
+      let all = 1 + statements_nodes ss in
+      makes_bind (AreMade (statements_nodes ss)) (Made all) (in_block (resolved_all d ss)) _
+      (makes_block (AreMade (statements_nodes ss)) (resolved_all d ss) (statements_made d ss h))
+      (λ cs s. makes_done (Made all) (block_command cs) (let many = s.many in record { many = omega (arith, many); says = s.say }))
+  statement_made d (empty p) h = wider 0 1 _ (omega arith) empty_made
+  statement_made d (branch p e body) h =
+      let n = statement_nodes body in
+      let all = 1 + (nodes e + n) in
+      makes_bind Said (Made all) (expression d e) _ (expression_made d e h.0) (λ v sv.
+      makes_bind (Made n) (Made all) (in_block (resolved d body)) _ (makes_block (Made n) (resolved d body) (statement_made d body h.1)) (λ c s.
+      makes_done (Made all) (if_command v c empty_command) (let many = s.many in record { many = omega (arith, many); says = (sv, s.says, tt) })))
+  statement_made d (choice p e body otherwise) h =
+      let n = statement_nodes body in
+      let k = statement_nodes otherwise in
+      let all = 1 + (nodes e + (n + k)) in
+      makes_bind Said (Made all) (expression d e) _ (expression_made d e h.0) (λ v sv.
+      makes_bind (Made n) (Made all) (in_block (resolved d body)) _ (makes_block (Made n) (resolved d body) (statement_made d body h.1)) (λ b sb.
+      makes_bind (Made k) (Made all) (in_block (resolved d otherwise)) _ (makes_block (Made k) (resolved d otherwise) (statement_made d otherwise h.2)) (λ c sc.
+      makes_done (Made all) (if_command v b c)
+      (let one = sb.many in let two = sc.many in record { many = omega (arith, one, two); says = (sv, sb.says, sc.says) }))))
+  statement_made d (while_loop p e body) h =
+      let n = statement_nodes body in
+      let all = 1 + (nodes e + n) in
+      makes_bind Said (Made all) (expression d e) _ (expression_made d e h.0) (λ v sv.
+      makes_bind (Made n) (Made all) (in_block (resolved d body)) _ (makes_block (Made n) (resolved d body) (statement_made d body h.1)) (λ c s.
+      makes_done (Made all) (loop_command v empty_command c) (let many = s.many in record { many = omega (arith, many); says = (sv, tt, s.says) })))
+  statement_made d (do_loop p body e) h =
+      let n = statement_nodes body in
+      let all = 1 + (n + nodes e) in
+      makes_bind (Made n) (Made all) (in_block (resolved d body)) _ (makes_block (Made n) (resolved d body) (statement_made d body h.0)) (λ c s.
+      makes_bind Said (Made all) (expression d e) _ (expression_made d e h.1) (λ v sv.
+      makes_done (Made all) (do_command c v) (let many = s.many in record { many = omega (arith, many); says = (s.says, sv) })))
+  statement_made d (for_loop p a e b body) h =
+      let all = 1 + (start_nodes a + (optional_nodes e + (step_nodes b + statement_nodes body))) in
+      makes_block (Made all) (looped d a e b (resolved d body))
+      (looped_made d a e b (statement_nodes body) (resolved d body) h.0 h.1 h.2 (statement_made d body h.3))
+  statement_made d (breaks p) h = makes_done (Made 1) break_command (record { many = omega arith; says = tt })
+  statement_made d (continues p) h = makes_done (Made 1) continue_command (record { many = omega arith; says = tt })
+  statement_made d (returns p e) h = wider 1 (1 + optional_nodes e) _ (omega arith) (returned_made d e h)
+  statement_made d (assertion p e) h =
+      one_made d e (1 + nodes e) (assert_command p.line) h.1 (λ t s. record { many = omega arith; says = (h.0, s) })
+  statement_made d (declaration t) h = declared_made d t h
+  statement_made d (assignment a) h = assigned_made d a h
+  statement_made d (evaluation e) h = wider (nodes e) (1 + nodes e) _ (omega arith) (evaluated_made d e h)
+
+  pub statements_made : (d : Declared) (ts : StatementTrees) → StandPlaced ts → Makes (AreMade (statements_nodes ts)) (resolved_all d ts)
+  statements_made d Statements'.none h = makes_done (AreMade 0) none (record { many = omega arith; say = tt })
+  statements_made d (Statements'.also t ts) h =
+      let n = statement_nodes t in
+      let k = statements_nodes ts in
+      makes_bind (Made n) (AreMade (n + k)) (resolved d t) _ (statement_made d t h.0) (λ c s.
+      makes_bind (AreMade k) (AreMade (n + k)) (resolved_all d ts) _ (statements_made d ts h.1) (λ cs ss.
+      makes_done (AreMade (n + k)) (also c cs)
+      (let one = s.many in let two = ss.many in record { many = omega (arith, one, two); say = (s.says, ss.say) })))

@@ -1,0 +1,45 @@
+-- What is promised of raw code: that it can be written.
+use Rattle.std.specs.Prelude.{◌≡◌, ◌<◌, ◌^◌, ℕ, List, length, Some}
+use Rattle.std.specs.List.{slice_get, flat_map}
+use Rattle.sc_text.specs.Name.{is_name}
+use Rattle.secrec_ast.specs.Programs.{ProgramTree}
+use Rattle.domain_types.specs.Typing.{IsTypedProgram}
+use Rattle.typed_tree.specs.Programs.{TypedProgramTree}
+use Rattle.name_resolution.specs.Functions.{typed_of}
+use Rattle.reached_instances.specs.Instances.{Instance}
+use Rattle.reached_instances.specs.Reached.{IsReachedList}
+use Rattle.program_limits.specs.Limits.{IsWithinLimits}
+use Rattle.bytecode.specs.Writable.{IsWritable}
+use Rattle.verified_code.specs.Steps.{Step, Function}
+use Rattle.code_model.specs.Kinded.{IsIn}
+use Rattle.raw_steps.specs.Instructions.{function_names, raw_code_of}
+use Rattle.raw_steps.specs.Right.{AreRight}
+use Rattle.well_typed.specs.Sources.{IsWellWritten}
+use Rattle.lowered_code.specs.Laws.{raw_code_of_program}
+use Rattle.said_code.specs.Says.{StepSays}
+use Rattle.said_code.specs.Laws.{is_word}
+use Rattle.writable_code.specs.Sources.{is_line, IsPlacedProgram}
+
+-- ---- RAW CODE
+
+-- counts and places have two bytes
+abbrev pub IsFew : ℕ → Type 0
+IsFew n = n < 2 ^ 16
+
+-- there are so few functions, steps of each, and names in all steps; and each step's word, line and name can be written
+pub record HasRoom (c : List Function) : Type 0 where
+  pub functions : IsFew (length c)
+  pub steps : (f : Function) → IsIn c f → IsFew (length f.steps)
+  pub names : IsFew (length (flat_map function_names c))
+  pub says : (f : Function) → IsIn c f → (place : ℕ) (i : Step) → slice_get f.steps place ≡ Some i → StepSays is_word is_line is_name i
+
+abbrev pub IsWritableWhereRight : List Function → Type 0
+IsWritableWhereRight c = AreRight c → HasRoom c → IsWritable (raw_code_of c)
+
+-- ---- PROGRAMS
+
+-- the code of an accepted program within the limits of size, whose lines and names are those of a text
+abbrev pub IsWritableWhereAccepted : ProgramTree → Type 0
+IsWritableWhereAccepted source =
+    IsTypedProgram source → IsWellWritten source → IsPlacedProgram source → (p : TypedProgramTree) → typed_of source ≡ Some p → (is : List Instance)
+    → IsReachedList p is → IsWithinLimits p → IsWritable (raw_code_of_program p is)

@@ -1,0 +1,17 @@
+// What is true of the raw code of an accepted program: it can be written.
+ghost use Rattle.std.specs.Prelude.{List};
+ghost use Rattle.secrec_ast.specs.Programs.{ProgramTree};
+ghost use Rattle.verified_code.specs.Steps.{Function};
+ghost use Rattle.writable_code.specs.Laws.{IsWritableWhereRight, IsWritableWhereAccepted};
+
+/// Law: the raw code of steps that are right is writable, where it has few functions, few steps in each and few names, and where its
+/// literals are words, its lines have 32 bits and its names are names.
+pub fn right_code_is_writable()
+    ensures { (c : List Function) → IsWritableWhereRight c }
+{}
+
+/// Law: so the raw code is writable of each program that the checker accepts, that the grammar allows, whose lines have 32 bits and whose
+/// inputs and results have names, and that is within the limits of size.
+pub fn accepted_code_is_writable()
+    ensures { (p : ProgramTree) → IsWritableWhereAccepted p }
+{}

@@ -1,0 +1,8 @@
+//! That the raw code of each accepted program can be written, so that it is read again.
+//!
+//! There is nothing to run here: definitions in `specs/`, and the laws that follow from them.
+#![tactic(auto)]
+
+mod laws;
+
+pub use laws::{accepted_code_is_writable, right_code_is_writable};
