@@ -14,6 +14,7 @@ mod marks;
 mod operands;
 mod places;
 mod plan;
+mod reading;
 mod registers;
 mod stepping;
 mod texts;

@@ -10,13 +10,8 @@ use Rattle.shared_gates.specs.Model.{SizesSuit, sizes_made, run_gate, run_gates}
 use Rattle.joint_run.specs.declared.joint_err.JointErr.{JointErr}
 use Rattle.joint_run.specs.RunState.{RunState, begun, behind}
 use Rattle.joint_run.specs.JointRuns.{dealt_sizes, IsEven, words_for, sizes_behind, words_for_next, IsRun, IsAt, EarlierReach, IsUnsuited, EndsTape, Refuses}
-use Rattle.joint_run.specs.GateByGate.{HaveSizes, own_sizes, draws_for, left_of, RunsGate, DoesNotSuit, Ends, RefusesGate}
+use Rattle.joint_run.specs.GateByGate.{HaveSizes, own_sizes, Through, draws_for, left_of, RunsGate, DoesNotSuit, Ends, RefusesGate}
 use Rattle.joint_run.proofs.InSteps.{same_state, both-behind, both-needed, both-gates, both-sizes, both-suit}
-
--- the gates so far are run, and all miners have shares of the sizes that they make
-pub record Through (dealt : Number → Values) (gates : List Gate) (tapes : Tapes) (s : RunState) : Type 0 where
-  pub run : IsRun dealt gates tapes s
-  pub sizes : HaveSizes (sizes_behind dealt gates) s
 
 module _ (dealt : Number → Values) (tapes : Tapes) where
   pub none-through : IsEven dealt → (s : RunState) → s ≡ begun tapes → Through dealt [] tapes s

@@ -3,13 +3,14 @@ use Rattle.std.specs.Prelude.{◌≡◌, ℕ, ◌<◌, ◌≤◌, List, [], ◌�
 use Rattle.proto_core.specs.declared.party.Number.{Number}
 use Rattle.proto_core.specs.declared.party.Number.TheVariants.{One, Two, Three}
 use Rattle.protocol_model.specs.Gates.{sizes_of, needed}
+use Rattle.protocol_model.specs.Runs.{Tapes}
 use Rattle.gates.specs.declared.gate.Gate.{Gate}
 use Rattle.gates.specs.Clear.{Values}
 use Rattle.shared_gates.specs.Model.{SizesSuit, sizes_made, run_gate}
 use Rattle.joint_run.specs.declared.joint_err.JointErr.{JointErr}
 use Rattle.joint_run.specs.declared.joint_err.JointErr.TheVariants.{Memory, Unsuited, TapeEnds}
 use Rattle.joint_run.specs.RunState.{RunState, behind}
-use Rattle.joint_run.specs.JointRuns.{dealt_sizes, EarlierReach}
+use Rattle.joint_run.specs.JointRuns.{dealt_sizes, sizes_behind, EarlierReach, IsRun}
 
 -- all three miners' shares have these sizes
 abbrev pub HaveSizes : List ℕ → RunState → Type 0
@@ -17,6 +18,11 @@ HaveSizes sizes s = (i : Number) → sizes_of (s.shares i) ≡ sizes
 
 abbrev pub own_sizes : RunState → List ℕ
 own_sizes s = sizes_of (s.shares One)
+
+-- the gates so far are run, and all miners have shares of the sizes that they make
+pub record Through (dealt : Number → Values) (gates : List Gate) (tapes : Tapes) (s : RunState) : Type 0 where
+  pub run : IsRun dealt gates tapes s
+  pub sizes : HaveSizes (sizes_behind dealt gates) s
 
 -- how many words a miner draws for the gate
 abbrev pub draws_for : (Number → Values) → RunState → Gate → Number → ℕ

@@ -14,7 +14,7 @@ use gates::Gate;
 use std::alloc::Global;
 
 /// Whether the three miners' shares have the same sizes.
-fn are_even(dealt: &SharedValues) -> bool
+pub fn are_even(dealt: &SharedValues) -> bool
     ensures { IsTrue result ↔ IsEven (values_of dealt.now) }
 {
     let second = same_sizes(&dealt.second, &dealt.first);

@@ -3,7 +3,8 @@ use Rattle.std.proofs.lemmas.List.{length-take-le, take_more, take_all, take-app
 use Rattle.joint_run.specs.Three.{each_of, values_of}
 use Rattle.joint_run.specs.States.{state_of}
 use Rattle.joint_run.specs.JointRuns.{IsRun}
-use Rattle.joint_run.proofs.GateLists.{Through, same-sizes, next-through, next-refused}
+use Rattle.joint_run.specs.GateByGate.{Through}
+use Rattle.joint_run.proofs.GateLists.{same-sizes, next-through, next-refused}
 use Rattle.joint_run.proofs.joint.joint_run.Goals as goal
 
 pub run_gate-requires-clause-own : goal.run_gate-requires-clause-own

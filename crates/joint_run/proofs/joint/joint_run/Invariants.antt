@@ -1,7 +1,7 @@
 use Rattle.std.proofs.Common.{take}
 use Rattle.joint_run.specs.Three.{each_of, values_of}
 use Rattle.joint_run.specs.States.{state_of}
-use Rattle.joint_run.proofs.GateLists.{Through}
+use Rattle.joint_run.specs.GateByGate.{Through}
 use Rattle.joint_run.proofs.joint.joint_run.Given as goal
 
 abbrev pub invariant-loop-place : goal.invariant-loop-place

@@ -1,0 +1,53 @@
+// What can be read of a machine.
+ghost use Rattle.std.specs.Prelude.{◌≡◌, IfOk, option_map, slice_get};
+ghost use Rattle.verified_code.specs.InMemory.{step_in};
+ghost use Rattle.value_steps.specs.Views.{value_seen};
+ghost use Rattle.code_machine.specs.Views.{machine_seen, registers_seen};
+
+use crate::machine::Machine;
+use bytecode::Register;
+use secrec_ast::DataType;
+use std::alloc::{AllocError, Global};
+use typed_tree::Shape;
+use value_steps::Value;
+use verified_code::{Step, Verified};
+
+impl Machine {
+    /// The step that comes next, if it is there.
+    pub fn next_step<'c>(&self, code: &'c Verified) -> Option<Step<'c>>
+        ensures { option_map step_in result ≡ slice_get (machine_seen code.now self.now).steps (machine_seen code.now self.now).pc }
+    {
+        code.step(self.function, self.place)
+    }
+
+    /// The shape of the value in a register; where there is no such register, that of the value that nobody reads.
+    #[tactic(auto, unfolding(crate::specs::Views::registers_seen))]
+    pub fn shape_in(&self, register: Register) -> Shape
+        ensures { result ≡ (registers_seen self.now.registers.items register.0).shape }
+    {
+        match self.registers.get(register.0 as usize) {
+            Some(value) => value.shape,
+            None => Shape {
+                element: DataType::Uint64,
+                array: false,
+            },
+        }
+    }
+
+    /// The value in a register, in memory of its own; where there is no such register, the value that nobody reads.
+    #[tactic(auto, unfolding(crate::specs::Views::registers_seen))]
+    pub fn value_in(&self, alloc: Global, register: Register) -> Result<Value, AllocError>
+        ensures { IfOk result (λ v. value_seen v ≡ registers_seen self.now.registers.items register.0) }
+    {
+        match self.registers.get(register.0 as usize) {
+            Some(value) => value.copy(alloc),
+            None => {
+                let shape = Shape {
+                    element: DataType::Uint64,
+                    array: false,
+                };
+                Ok(Value::plain(shape, vec![in alloc; 0]?))
+            }
+        }
+    }
+}

@@ -1,0 +1,5 @@
+pub mod Telling
+pub mod Courses
+pub mod Views
+pub mod Turns
+pub mod Answers
