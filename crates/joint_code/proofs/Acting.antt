@@ -27,7 +27,7 @@ use Rattle.joint_code.specs.declared.progress.Turned.{Turned}
 use Rattle.joint_code.specs.declared.progress.Turned.TheVariants as turned
 use Rattle.joint_code.specs.Courses.{dealt_of}
 use Rattle.joint_code.specs.Views.{step_in, went_as, went_to, refusal_of}
-use Rattle.joint_code.specs.Turns.{HasRun, IsThroughOn, gates_between, led_by, Acts, IsTurnErr}
+use Rattle.joint_code.specs.Turns.{AreRun, IsThroughOn, gates_between, led_by, Acts, IsTurnErr}
 use Rattle.joint_code.proofs.Places.{gates_grow, wants_keep, wants_tell_none, told_gates}
 use Rattle.joint_code.proofs.GateRuns.{begins_taken, begins_longer, run_behind}
 
@@ -49,28 +49,28 @@ module _ (x : Scene) (p : Place) where
     pub gates_longer : length p.stage.gates ≤ length s.gates
     gates_longer = begins_longer p.stage.gates s.gates grown
 
-    pub gates_first : (r : RunState) → HasRun x p.stage.gates r → HasRun x (take (length p.stage.gates) s.gates) r
-    gates_first r h = subst (λ (gates : List Gate). HasRun x gates r) (sym (begins_taken p.stage.gates s.gates grown)) h
+    pub gates_first : (r : RunState) → AreRun x p.stage.gates r → AreRun x (take (length p.stage.gates) s.gates) r
+    gates_first r h = subst (λ (gates : List Gate). AreRun x gates r) (sym (begins_taken p.stage.gates s.gates grown)) h
 
     pub gates_refused : (e : JointErr) → Refuses (values_of x.dealt.now) s.gates (each_of x.tapes) e
         → Refuses (values_of x.dealt.now) (place_of (step_in x p [])).stage.gates (each_of x.tapes) e
     gates_refused e h = subst (λ (gates : List Gate). Refuses (values_of x.dealt.now) gates (each_of x.tapes) e) (sym gates_behind) h
 
     -- and its gates
-    module _ (r later : RunState) (here : HasRun x p.stage.gates r) (there : HasRun x s.gates later) where
+    module _ (r later : RunState) (here : AreRun x p.stage.gates r) (there : AreRun x s.gates later) where
       gates_run : later ≡ behind (gates_between x p (place_of (step_in x p []))) r
       gates_run =
           run_behind (values_of x.dealt.now) (each_of x.tapes) p.stage.gates s.gates r later grown here there
           ∙ ap (λ (gates : List Gate). behind (run_dealt (dealt_of x.dealt.now) p.stage.gates (gained p.stage.gates gates)) r) (sym gates_behind)
 
-  module _ (m : Machine) (s : Stage) (r later : RunState) (there : HasRun x s.gates later) where
+  module _ (m : Machine) (s : Stage) (r later : RunState) (there : AreRun x s.gates later) where
     pub through_again : step_in x p [] ≡ went_as turned.Short m s → (told : List ℕ) (n : Machine) (u : Stage) →
-        step_in x p told ≡ went_as turned.On n u → HasRun x u.gates later
+        step_in x p told ≡ went_as turned.On n u → AreRun x u.gates later
     through_again step told n u again =
-        subst (λ (gates : List Gate). HasRun x gates later)
+        subst (λ (gates : List Gate). AreRun x gates later)
         (sym (told_gates (world_seen x.world) (settled x.code.now) p told (place None m s) (place None n u) step again)) there
 
-  module _ (m : Machine) (s : Stage) (r later : RunState) (here : HasRun x p.stage.gates r) (there : HasRun x s.gates later) where
+  module _ (m : Machine) (s : Stage) (r later : RunState) (here : AreRun x p.stage.gates r) (there : AreRun x s.gates later) where
     pub acts_on : step_in x p [] ≡ went_as turned.On m s → Acts x p r later (went_as turned.On m s)
     acts_on step =
         record { run = gates_run turned.On m s step r later here there; led = ap (led_by x p (later.shares One)) step }
@@ -130,7 +130,7 @@ turn_err x p (joint.TapeEnds place miner need have) h = (not_ended place need ha
 
 pub through_on :
     (x : Scene) (p : Place) (m : Machine) (s : Stage) (at : Progress) (t : Turned) (told : List ℕ) → step_in x p [] ≡ went_as turned.Short m s →
-    step_in x p told ≡ went_to x.code.now t at.machine at.stage → HasRun x s.gates (state_of at.run) → IsThroughOn x at t
+    step_in x p told ≡ went_to x.code.now t at.machine at.stage → AreRun x s.gates (state_of at.run) → IsThroughOn x at t
 through_on x p m s at turned.On told step again there =
     through_again x p m s (state_of at.run) (state_of at.run) there step told (machine_seen x.code.now at.machine) (stage_seen at.stage) again
 through_on x p m s at (turned.Over e) told step again there = tt

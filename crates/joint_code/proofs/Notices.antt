@@ -1,5 +1,5 @@
 -- What is told together, turn by turn.
-use Rattle.std.proofs.Common.{◌≡◌, ◌<◌, ℕ, List, [], ◌∷◌, ◌++◌, length, Option, Some, None, refl, sym, ◌∙◌, ap, arith}
+use Rattle.std.proofs.Common.{◌≡◌, ◌<◌, ℕ, List, [], ◌∷◌, ◌++◌, length, Option, Some, refl, sym, ap, arith}
 use Rattle.sc_text.specs.declared.event.Event.{Event}
 use Rattle.secrec_ast.specs.declared.expression.DataType.{DataType}
 use Rattle.secrec_ast.specs.declared.expression.DataType.TheVariants.{Uint64}
@@ -7,11 +7,11 @@ use Rattle.secrec_ast.specs.declared.expression.DataType.TheVariants as datatype
 use Rattle.proto_core.specs.declared.party.Number.{Number}
 use Rattle.proto_core.specs.declared.party.Number.TheVariants.{One, Two, Three}
 use Rattle.proto_core.specs.Strand.{Form, Notice}
-use Rattle.language_model.specs.Values.{Secrecy, Plain, Private}
+use Rattle.language_model.specs.Values.{Secrecy}
 use Rattle.verified_code.specs.Steps.{Step, Declassify, Publish}
 use Rattle.code_model.specs.Machine.{Machine}
-use Rattle.code_places.specs.Places.{Place, next_step, form_of, field_of, publishing, told_by, where_made, notices_between}
-use Rattle.joint_code.specs.Telling.{type_of, first_words, behind_first, told_by_three, told_beside, told_together}
+use Rattle.code_places.specs.Places.{Place, next_step, field_of, publishing, told_by, where_made, notices_between}
+use Rattle.joint_code.specs.Telling.{type_of, first_words, told_by_three, told_beside, told_together}
 
 pub same_type : (t : DataType) → type_of (field_of t) ≡ t
 same_type Uint64 = refl

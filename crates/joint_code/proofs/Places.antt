@@ -1,9 +1,10 @@
 -- Where steps lead: they only add to what was made and told, one that wants words leaves the machine, and told them makes the same gates.
-use Rattle.std.proofs.Common.{◌≡◌, ℕ, List, [], ◌∷◌, Some, None, Ok, Err, Result, refl, sym, ◌∙◌, ap, subst}
+use Rattle.std.proofs.Common.{◌≡◌, ℕ, List, [], ◌∷◌, None, Ok, Err, Result, refl, sym, ◌∙◌, ap, subst}
 use Rattle.std.specs.Prelude.{IfErr, IfOk}
 use Rattle.std.specs.declared.alloc.AllocError.{AllocError}
 use Rattle.sc_text.specs.declared.event.Event.{Event}
 use Rattle.sc_text.specs.declared.event.Event.TheVariants.{Open, Publish}
+use Rattle.gates.specs.declared.gate.Gate.{Gate}
 use Rattle.language_model.specs.Beginnings.{Begins}
 use Rattle.language_model.specs.Effects.{World, Stage, Stop, Ended, Short, Run}
 use Rattle.language_model.proofs.Onward.{stage_of}
@@ -49,6 +50,9 @@ no_on_over p q e = cc
 
 no_on_wants : (p q : Place) → turns.Wants p ≡ On q → ⊥
 no_on_wants p q e = cc
+
+abbrev gates_of : Went Place → List Gate
+gates_of z = (place_of z).stage.gates
 
 module _ (w : World) (c : List Function) (p : Place) where
   abbrev run_told : List ℕ → Run Machine
@@ -101,7 +105,7 @@ module _ (w : World) (c : List Function) (p : Place) where
   same_end : (z : Stop) (u : Stage) (r : Run Machine) → FollowsEnd z u r → (q q' : Place) → stopped p.machine u z ≡ Wants q →
       went p.machine r ≡ On q' → q'.stage.gates ≡ q.stage.gates
   same_end (Ended z) u r f q q' e e' = absurd (no_wants_over _ q e)
-  same_end Short u (Ok y) f q q' e e' = sym (ap (λ (z : Went Place). (place_of z).stage.gates) e') ∙ f ∙ ap (λ (z : Went Place). (place_of z).stage.gates) e
+  same_end Short u (Ok y) f q q' e e' = sym (ap gates_of e') ∙ f ∙ ap gates_of e
   same_end Short u (Err y) f q q' e e' = absurd (no_stop_on y.0 y.1 q' e')
 
   same_gates : (r r' : Run Machine) → Follows r r' → (q q' : Place) → went p.machine r ≡ Wants q → went p.machine r' ≡ On q' →

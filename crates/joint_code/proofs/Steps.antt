@@ -1,5 +1,5 @@
 -- Told words, a step that goes on has made the gates that it makes untold before it wants them.
-use Rattle.std.proofs.Common.{◌≡◌, ◌⊎◌, ℕ, List, [], ◌∷◌, ◌++◌, Bool, true, false, cond, Option, Some, None, Ok, Err, inl, inr, refl, sym, ◌∙◌, subst}
+use Rattle.std.proofs.Common.{◌≡◌, ◌⊎◌, ℕ, List, [], ◌++◌, Bool, true, false, cond, Option, Some, None, Ok, Err, inl, inr, refl, sym, ◌∙◌, subst}
 use Rattle.std.proofs.Common.{append-nil}
 use Rattle.std.specs.Prelude.{length, nat_le, take, drop}
 use Rattle.std.proofs.lemmas.List.{append_cancel_left}
@@ -108,13 +108,17 @@ module _ (w : World) (c : List Function) where
   revealed_makes_none : (v : Value) (s : Stage) → (stage_of (revealed w v s)).gates ≡ s.gates
   revealed_makes_none v s = by_source w.source
     where
-      enough : (b : Bool) (front : List ℕ) (t : Stage) → t.gates ≡ s.gates → (stage_of (carry (cond b (Ok (front, t)) (Err (Short, s))) (telling_of v))).gates ≡ s.gates
+      enough :
+          (b : Bool) (front : List ℕ) (t : Stage) → t.gates ≡ s.gates →
+          (stage_of (carry (cond b (Ok (front, t)) (Err (Short, s))) (telling_of v))).gates ≡ s.gates
       enough true front t e = e
       enough false front t e = refl
 
       by_source : (o : Source) → (stage_of (carry (answer o v.words s) (telling_of v))).gates ≡ s.gates
       by_source Clear = refl
-      by_source Answers = enough (nat_le (length v.words) (length s.answers)) (take (length v.words) s.answers) (record s { answers = drop (length v.words) s.answers }) refl
+      by_source Answers =
+          let n = length v.words in
+          enough (nat_le n (length s.answers)) (take n s.answers) (record s { answers = drop n s.answers }) refl
 
   revealed_follows : (v : Value) → GatesFollow (revealed w v) (revealed w v)
   revealed_follows v =

@@ -6,7 +6,6 @@ use Rattle.sc_text.specs.declared.event.Event.{Event}
 use Rattle.proto_core.specs.declared.party.Number.{Number}
 use Rattle.proto_core.specs.declared.party.Number.TheVariants.{One}
 use Rattle.proto_core.specs.Strand.{Notice}
-use Rattle.protocol_model.specs.Gates as model
 use Rattle.verified_code.specs.Settled.{settled}
 use Rattle.verified_code.specs.Steps.{Function}
 use Rattle.language_model.specs.Effects.{World, Stage}
@@ -14,7 +13,7 @@ use Rattle.value_steps.specs.Views.{world_seen}
 use Rattle.protocol_model.specs.Runs.{Tapes}
 use Rattle.joint_run.specs.declared.shares.SharedValues.{SharedValues}
 use Rattle.joint_run.specs.RunState.{RunState, behind}
-use Rattle.driven_nodes.specs.Driven.{Turn, LeadsTogether, stop, notices, Led}
+use Rattle.driven_nodes.specs.Driven.{Turn, LeadsTogether, notices}
 use Rattle.driven_nodes.specs.Steps.{Went, On, Over, Wants, Stand, Running, Stopped, Short, place_of, stand_of, last_of, turn_of, gained}
 use Rattle.code_places.specs.Places.{Place, telling_stage, next_step, told_by, where_made, notices_between, code_steps, run_dealt}
 use Rattle.joint_code.specs.declared.scene.Scene.{Scene}

@@ -1,5 +1,5 @@
 -- The course of three miners' run of code on shares, from a place on.
-use Rattle.std.specs.Prelude.{◌≡◌, ℕ, List, [], Option}
+use Rattle.std.specs.Prelude.{ℕ, List, [], Option}
 use Rattle.sc_text.specs.declared.event.Event.{Event}
 use Rattle.proto_core.specs.declared.party.Number.TheVariants.{One}
 use Rattle.verified_code.specs.Steps.{Function}

@@ -19,7 +19,7 @@ use Rattle.joint_run.specs.RunState.{RunState, behind}
 use Rattle.joint_run.specs.States.{state_of}
 use Rattle.joint_run.specs.JointRuns.{Refuses}
 use Rattle.joint_run.specs.GateByGate.{Through}
-use Rattle.driven_nodes.specs.Driven.{LeadsTogether, shares_behind}
+use Rattle.driven_nodes.specs.Driven.{LeadsTogether}
 use Rattle.driven_nodes.specs.Steps.{Went, On, Over, Wants, Stand, Running, Stopped, Short, place_of, stand_of, gained, last_of}
 use Rattle.code_places.specs.Places.{Place, place, step_told, run_dealt}
 use Rattle.joint_code.specs.declared.scene.Scene.{Scene}
@@ -35,12 +35,12 @@ use Rattle.joint_code.specs.Views.{place_in, step_in, turn_in}
 -- ---- THE JOINT RUN
 
 -- these gates have been run
-abbrev pub HasRun : Scene → List Gate → RunState → Type 0
-HasRun x gates s = Through (values_of x.dealt.now) gates (each_of x.tapes) s
+abbrev pub AreRun : Scene → List Gate → RunState → Type 0
+AreRun x gates s = Through (values_of x.dealt.now) gates (each_of x.tapes) s
 
 -- all gates that were made have been run
 abbrev pub IsThrough : Scene → Progress → Type 0
-IsThrough x at = HasRun x at.stage.gates.items (state_of at.run)
+IsThrough x at = AreRun x at.stage.gates.items (state_of at.run)
 
 -- where the run goes on
 abbrev pub IsThroughOn : Scene → Progress → Turned → Type 0

@@ -14,7 +14,6 @@ use Rattle.value_steps.specs.declared.halt.Halt.{Halt}
 use Rattle.value_steps.specs.declared.halt.Halt.TheVariants as halt
 use Rattle.value_steps.specs.declared.stage.Stage as reached
 use Rattle.value_steps.specs.declared.value.Value as held
-use Rattle.value_steps.specs.declared.value.Secrecy.TheVariants as secrecy
 use Rattle.value_steps.specs.Views.{stage_seen, value_seen, world_seen}
 use Rattle.code_model.specs.Machine.{Machine}
 use Rattle.code_machine.specs.declared.machine.Machine as running

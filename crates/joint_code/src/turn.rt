@@ -68,8 +68,8 @@ pub(crate) fn turn(
 ) -> Result<Turned, RunErr>
     requires stands { Stands scene.now.code.now at.old.machine }
     requires through { IsThrough scene.now at.old }
-    ensures turns { IfOk result (λ turned. Turns scene.now (place_in scene.now.code.now at.old.machine at.old.stage) (state_of at.old.run) (state_of at.new.run)
-        (went_to scene.now.code.now turned at.new.machine at.new.stage) at.old.events.items at.new.events.items) }
+    ensures turns { IfOk result (λ turned. Turns scene.now (place_in scene.now.code.now at.old.machine at.old.stage)
+        (state_of at.old.run) (state_of at.new.run) (went_to scene.now.code.now turned at.new.machine at.new.stage) at.old.events.items at.new.events.items) }
     ensures stands { IfOk result (λ turned. Stands scene.now.code.now at.new.machine) }
     ensures through { IfOk result (IsThroughOn scene.now at.new) }
     ensures refused { IfErr result (IsTurnErr scene.now (place_in scene.now.code.now at.old.machine at.old.stage)) }

@@ -1,4 +1,4 @@
-use Rattle.std.proofs.Common.{◌++◌, drop, sym, ◌∙◌, ap, append-nil, arith}
+use Rattle.std.proofs.Common.{◌++◌, sym, ◌∙◌, ap, append-nil, arith}
 use Rattle.code_places.specs.Places.{field_of}
 use Rattle.joint_code.proofs.Sums.{none_left}
 use Rattle.joint_code.proofs.adding.all_added_up.Goals as goal

@@ -1,8 +1,7 @@
-use Rattle.std.proofs.Common.{rules, IfErr, ◌≡◌, ◌+◌, ◌≤◌, sym, ◌∙◌, ap, subst, arith}
+use Rattle.std.proofs.Common.{rules, IfErr, ◌≡◌, ◌+◌, sym, subst, arith}
 use Rattle.joint_run.specs.States.{state_of}
 use Rattle.driven_nodes.specs.Steps.{Running, stand_of}
 use Rattle.joint_code.specs.declared.progress.Turned.{Turned}
-use Rattle.joint_code.specs.declared.progress.Turned.TheVariants as turned
 use Rattle.joint_code.specs.Views.{place_in, went_to}
 use Rattle.joint_code.specs.Turns.{IsThroughOn, IsTurnErr, stands_in}
 use Rattle.joint_code.proofs.Turning.{comes, Reaches, reaches_none, reaches_next, reaches_end, reaches_short, reaches_running, course_errs}

@@ -1,8 +1,7 @@
-use Rattle.std.proofs.Common.{◌≡◌, ◌+◌, ◌<◌, List, ℕ, [], ◌++◌, Some, false, true, refl, sym, ◌∙◌, ap, subst, arith}
+use Rattle.std.proofs.Common.{◌≡◌, List, ◌++◌, Some, false, true, refl, sym, ◌∙◌, ap, subst, arith}
 use Rattle.sc_text.specs.declared.end.End.{End}
 use Rattle.sc_text.specs.declared.event.Event.{Event}
 use Rattle.gates.specs.declared.gate.Gate.{Gate}
-use Rattle.value_steps.specs.declared.stage.Drawn.{Drawn}
 use Rattle.value_steps.specs.Views.{stage_seen, drawn_seen, world_seen}
 use Rattle.bytecode.specs.Raw.{RawCode}
 use Rattle.verified_code.specs.Settled.{settled}
@@ -11,7 +10,7 @@ use Rattle.code_places.specs.Places.{Place, place, first_place}
 use Rattle.code_machine.specs.Views.{machine_seen}
 use Rattle.joint_run.specs.Three.{each_of, values_of}
 use Rattle.joint_run.specs.States.{state_of}
-use Rattle.joint_run.specs.RunState.{RunState, begun}
+use Rattle.joint_run.specs.RunState.{begun}
 use Rattle.joint_run.specs.GateByGate.{Through}
 use Rattle.joint_run.proofs.GateLists.{none-through}
 use Rattle.driven_nodes.specs.Steps.{Stand, Running, Stopped}
@@ -54,14 +53,17 @@ returns-in-Ok c =
     let w = world_seen c.args.world.now in
     let code = c.args.code.now in
     let d = c.args.dealt.now in
-    let tapes = each_of c.args.tapes in
+    let steps = settled code in
+    let turns = fuel steps c.args.budget in
+    let first = Running (first_place steps c.args.budget) in
+    let s = begun (each_of c.args.tapes) in
     let begins = c.in_ok-at.ensures in
     let at = c.in_ok-at.at in
     let now = c.run_turns.new.at in
     let last = place (Some c.in-Ok.how) (machine_seen code now.machine) (stage_seen now.stage) in
-    let ends : Ends w (settled code) d (fuel (settled code) c.args.budget) (Running (first_place (settled code) c.args.budget)) (begun tapes) (Stopped last) at.events.items now.events.items =
-    ends_so w (settled code) d c.fuel.result (fuel (settled code) c.args.budget) (stands_at code at) (Running (first_place (settled code) c.args.budget)) (state_of at.run) (begun tapes)
-    c.fuel.ensures (ap Running begins.place) begins.run (Stopped last) at.events.items now.events.items c.in-Ok.ensures.ends in
+    let ends : Ends w steps d turns first s (Stopped last) at.events.items now.events.items =
+    ends_so w steps d c.fuel.result turns (stands_at code at) first (state_of at.run) s c.fuel.ensures (ap Running begins.place) begins.run
+    (Stopped last) at.events.items now.events.items c.in-Ok.ensures.ends in
     record {
       last = last;
       stops = ends.stops;
@@ -69,7 +71,7 @@ returns-in-Ok c =
       cost = ap (λ (e : End). e.cost) c.ran.ensures.end;
       drawn = ap drawn_seen c.ran.ensures.drawn;
       opened = c.ran.ensures.opened;
-      told = λ led. c.ran.ensures.events ∙ ends.told led ∙ ap (λ (es : List Event). es ++ told_from w (settled code) d (fuel (settled code) c.args.budget) (Running (first_place (settled code) c.args.budget)) (begun tapes)) begins.events;
+      told = λ led. c.ran.ensures.events ∙ ends.told led ∙ ap (λ (es : List Event). es ++ told_from w steps d turns first s) begins.events;
     }
 
 pub returns-in-Err : goal.returns-in-Err
@@ -77,10 +79,11 @@ returns-in-Err c =
     let w = world_seen c.args.world.now in
     let code = c.args.code.now in
     let d = c.args.dealt.now in
+    let steps = settled code in
     let tapes = each_of c.args.tapes in
     let begins = c.in_ok-at.ensures in
     let at = c.in_ok-at.at in
-    unended_so w (settled code) d c.fuel.result (fuel (settled code) c.args.budget) (stands_at code at) (Running (first_place (settled code) c.args.budget)) (state_of at.run) (begun tapes)
-    c.fuel.ensures (ap Running begins.place) begins.run tapes c.in-Err.refused
-    (subst (λ t. IsUnended w (settled code) d c.fuel.result (stands_at code at) (state_of at.run) (each_of t) c.in-Err.refused) c.tapes.view_is
-    c.in-Err.ensures.refused)
+    let e = c.in-Err.refused in
+    unended_so w steps d c.fuel.result (fuel steps c.args.budget) (stands_at code at) (Running (first_place steps c.args.budget))
+    (state_of at.run) (begun tapes) c.fuel.ensures (ap Running begins.place) begins.run tapes e
+    (subst (λ t. IsUnended w steps d c.fuel.result (stands_at code at) (state_of at.run) (each_of t) e) c.tapes.view_is c.in-Err.ensures.refused)

@@ -1,4 +1,4 @@
-use Rattle.std.proofs.Common.{◌≡◌, ◌<◌, ◌++◌, length, drop, sym, ◌∙◌, ap, arith, length-drop}
+use Rattle.std.proofs.Common.{◌<◌, ◌++◌, length, drop, sym, ◌∙◌, ap, arith, length-drop}
 use Rattle.joint_run.specs.Three.{values_of}
 use Rattle.driven_nodes.specs.Steps.{last_of}
 use Rattle.joint_code.specs.Views.{speech_seen, if_any}

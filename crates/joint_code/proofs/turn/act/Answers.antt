@@ -1,4 +1,4 @@
-use Rattle.std.proofs.Common.{◌≡◌, List, ℕ, [], sym, ◌∙◌, ap}
+use Rattle.std.proofs.Common.{◌≡◌, [], sym, ◌∙◌, ap}
 use Rattle.proto_core.specs.declared.party.Number.TheVariants.{One}
 use Rattle.value_steps.specs.Views.{stage_seen}
 use Rattle.code_machine.specs.Views.{machine_seen}

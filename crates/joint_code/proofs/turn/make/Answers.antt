@@ -6,7 +6,7 @@ use Rattle.joint_run.specs.States.{state_of}
 use Rattle.joint_run.specs.JointRuns.{Refuses}
 use Rattle.joint_run.specs.Three.{each_of, values_of}
 use Rattle.joint_code.specs.Views.{place_in}
-use Rattle.joint_code.specs.Turns.{HasRun, IsTurnErr}
+use Rattle.joint_code.specs.Turns.{AreRun, IsTurnErr}
 use Rattle.joint_code.proofs.Acting.{gates_longer, gates_first, gates_refused, turn_err}
 use Rattle.joint_code.proofs.turn.make.Goals as goal
 
@@ -29,14 +29,14 @@ run_gates-requires-clause-through c =
     let r = state_of at.run in
     let from : c.len-from.result ≡ length at.stage.gates.items = search rules in
     let there : c.deref.result.now ≡ u.gates = c.deref.ensures.value in
-    subst (λ n. HasRun x (take n c.deref.result.now) r) (sym from)
-    (subst (λ (gates : List Gate). HasRun x (take (length at.stage.gates.items) gates) r) (sym there)
+    subst (λ n. AreRun x (take n c.deref.result.now) r) (sym from)
+    (subst (λ (gates : List Gate). AreRun x (take (length at.stage.gates.items) gates) r) (sym there)
     (gates_first x (place_in x.code.now at.machine at.stage) c.in_ok-first.first (machine_seen x.code.now c.step_told.new.machine) u
     c.in_ok-first.ensures.step r c.requires.through))
 
 pub returns-in-Ok-clause-through : goal.returns-in-Ok-clause-through
 returns-in-Ok-clause-through c =
-    subst (λ (gates : List Gate). HasRun c.args.scene.now gates (state_of c.run_gates.new.run)) c.deref.ensures.value c.in-Ok.ensures.run
+    subst (λ (gates : List Gate). AreRun c.args.scene.now gates (state_of c.run_gates.new.run)) c.deref.ensures.value c.in-Ok.ensures.run
 
 pub returns-in-Err-clause-refused : goal.returns-in-Err-clause-refused
 returns-in-Err-clause-refused c =
