@@ -30,7 +30,7 @@ loop-number-preserved c =
     let count : length xs ≡ length c.args.arguments.items = simp length-map in
     let seen : length (map value_seen old) ≡ n = simp length-map c.loop-number.invariant.count in
     let items : map value_seen c.push.new.self.items ≡ map value_seen old ++ value_seen v ∷ [] = ap (map value_seen) c.in_ok-push.ensures.items
-        ∙ map-append value_seen old (v ∷ []) in
+    ∙ map-append value_seen old (v ∷ []) in
     let last : get_or (map value_seen old ++ value_seen v ∷ []) n nothing ≡ filled_with ks xs n =
     ap (λ j. get_or (map value_seen old ++ value_seen v ∷ []) j nothing) (sym seen)
     ∙ get_or-append_seam (map value_seen old) (value_seen v) [] nothing
@@ -38,8 +38,13 @@ loop-number-preserved c =
     ∙ ap begun (sym (slice_get-get_or ks n _ c.loop-number-test.true))
     ∙ sym (filled-behind ks xs n (omega (arith, count, c.len-number.ensures, c.args.arguments.ok.0, c.loop-number.auto.number))) in
     record {
-      count = omega (arith, ap length c.in_ok-push.ensures.items, c.loop-number.invariant.count, simp (length-append) at
-          (ap length c.in_ok-push.ensures.items));
+      count = omega (
+        arith,
+        ap length c.in_ok-push.ensures.items,
+        c.loop-number.invariant.count,
+        simp (length-append) at
+            (ap length c.in_ok-push.ensures.items),
+      );
       values = λ k h.
           ap (λ l. get_or l k nothing) items
           ∙ elim (cases_lt k n) [

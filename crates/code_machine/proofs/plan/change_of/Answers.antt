@@ -15,7 +15,7 @@ returns-in-Put-clause-step c =
     let m = machine_seen code c.args.machine.now in
     let s = stage_seen c.args.stage.now in
     subst (λ i. Does (changed code m) (step w (settled code) (Some (step_in i)) m) s c.put.result (stage_seen c.put.new.stage)) (sym c.in-Put.is)
-        (c.put.ensures.step code)
+    (c.put.ensures.step code)
 
 pub returns-in-Put-clause-enough : goal.returns-in-Put-clause-enough
 returns-in-Put-clause-enough c = c.put.ensures.enough c.args.code.now
@@ -27,7 +27,7 @@ returns-in-Branch-clause-step c =
     let m = machine_seen code c.args.machine.now in
     let s = stage_seen c.args.stage.now in
     subst (λ i. Does (changed code m) (step w (settled code) (Some (step_in i)) m) s c.branch-machine.result (stage_seen c.branch-machine.new.stage))
-        (sym c.in-Branch.is) (c.branch-machine.ensures.step code)
+    (sym c.in-Branch.is) (c.branch-machine.ensures.step code)
 
 pub returns-in-Branch-clause-enough : goal.returns-in-Branch-clause-enough
 returns-in-Branch-clause-enough c = c.branch-machine.ensures.enough c.args.code.now
@@ -39,7 +39,7 @@ returns-in-Call-clause-step c =
     let m = machine_seen code c.args.machine.now in
     let s = stage_seen c.args.stage.now in
     subst (λ i. Does (changed code m) (step w (settled code) (Some (step_in i)) m) s c.enter.result (stage_seen c.enter.new.stage))
-        (sym c.in-Call.is) (c.enter.ensures.step w)
+    (sym c.in-Call.is) (c.enter.ensures.step w)
 
 pub returns-in-Return-clause-step : goal.returns-in-Return-clause-step
 returns-in-Return-clause-step c =
@@ -48,7 +48,7 @@ returns-in-Return-clause-step c =
     let m = machine_seen code c.args.machine.now in
     let s = stage_seen c.args.stage.now in
     subst (λ i. Does (changed code m) (step w (settled code) (Some (step_in i)) m) s c.leave.result (stage_seen c.args.stage.now))
-        (sym c.in-Return.is) (c.leave.ensures.step code s)
+    (sym c.in-Return.is) (c.leave.ensures.step code s)
 
 pub returns-in-Return-clause-enough : goal.returns-in-Return-clause-enough
 returns-in-Return-clause-enough c = c.leave.ensures.enough c.args.code.now
@@ -60,7 +60,7 @@ returns-in-ReturnNone-clause-step c =
     let m = machine_seen code c.args.machine.now in
     let s = stage_seen c.args.stage.now in
     subst (λ i. Does (changed code m) (step w (settled code) (Some (step_in i)) m) s c.leave-in-ReturnNone.result (stage_seen c.args.stage.now))
-        (sym c.in-ReturnNone.is) (c.leave-in-ReturnNone.ensures.step code s)
+    (sym c.in-ReturnNone.is) (c.leave-in-ReturnNone.ensures.step code s)
 
 pub returns-in-ReturnNone-clause-enough : goal.returns-in-ReturnNone-clause-enough
 returns-in-ReturnNone-clause-enough c = c.leave-in-ReturnNone.ensures.enough c.args.code.now

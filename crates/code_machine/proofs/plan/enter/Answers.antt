@@ -25,7 +25,7 @@ returns-in_err-charge_call-clause-step c = λ w.
     let s = stage_seen c.args.stage.now in
     let i = steps.Call c.args.line c.args.function.0 (place_of c.args.to) rs in
     stop-run itself (changed code m) (step w (settled code) (Some i) m) s (call_charged (length own.callers.items) c.args.line xs) s
-        (stage_seen c.charge_call.new.stage) (λ u. done to)
+    (stage_seen c.charge_call.new.stage) (λ u. done to)
     c.in_err-charge_call.field-0.0 c.from_residual.result
     (call-run (length m.stack) c.args.line xs to s ∙ ap (λ n. carry (call_charged n c.args.line xs s) (λ u. done to)) (callers-count code own.callers.items))
     c.in_err-charge_call.ensures c.from_residual.ensures.1

@@ -16,7 +16,7 @@ returns-in-Err c =
     let s' = stage_seen c.step.new.stage in
     subst (λ x. IfOk c.stop_of.result (λ o. x ≡ stopped_at o s')) (sym l.invariant.goes)
     (turn-stops {A = Unit {0}} (λ u. machine_seen code c.step.new.machine) w code (c.args.steps - l._turn) (machine_seen code l.machine)
-        (stage_seen l.stage) s' c.in-Err.halt c.stop_of.result
+    (stage_seen l.stage) s' c.in-Err.halt c.stop_of.result
     c.stop_of.ensures (omega (arith, c.loop-turn-test.true)) c.in-Err.ensures.step)
 
 pub loop-turn-preserved : goal.loop-turn-preserved
@@ -31,7 +31,7 @@ loop-turn-preserved c =
       stands = c.step.ensures.stands;
       goes = l.invariant.goes
           ∙ turn-on w code (c.args.steps - l._turn) (machine_seen code l.machine) m' (stage_seen l.stage) s'
-              (omega (arith, c.loop-turn-test.true)) c.in-Ok.ensures.step
+          (omega (arith, c.loop-turn-test.true)) c.in-Ok.ensures.step
           ∙ ap (λ n. exec w (settled code) n m' s') left;
     }
 
