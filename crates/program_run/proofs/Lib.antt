@@ -1,0 +1,5 @@
+pub mod Bits
+pub mod Offering
+pub mod ShareWords
+pub mod Shared
+pub mod Told

@@ -1,0 +1,17 @@
+-- The typed tree of an accepted program that is small enough to be run.
+use Rattle.std.specs.Prelude.{◌≡◌, Some}
+use Rattle.secrec_ast.specs.Programs.{ProgramTree}
+use Rattle.domain_types.specs.Typing.{IsTypedProgram}
+use Rattle.well_typed.specs.Sources.{IsWellWritten}
+use Rattle.writable_code.specs.Sources.{IsPlacedProgram}
+use Rattle.typed_tree.specs.Programs.{TypedProgramTree}
+use Rattle.name_resolution.specs.Functions.{typed_of}
+use Rattle.program_limits.specs.Limits.{IsWithinLimits}
+
+pub record IsAccepted (p : TypedProgramTree) : Type 0 where
+  pub source : ProgramTree
+  pub typed : IsTypedProgram source
+  pub written : IsWellWritten source
+  pub placed : IsPlacedProgram source
+  pub of : typed_of source ≡ Some p
+  pub within : IsWithinLimits p

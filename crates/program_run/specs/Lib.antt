@@ -1,0 +1,5 @@
+pub mod Accepted
+pub mod Codes
+pub mod Miners
+pub mod Reports
+pub mod Shares
