@@ -97,12 +97,9 @@ module _ (x : Scene) (m n : Machine) (s reached : Stage) (step : step_in x (plac
       let events = begins_none s.events reached.events none.0 in
       let opened = begins_none s.opened reached.opened none.1 in
       record {
-        more_gates = grown.0;
-        gates = grown.1;
-        more_events = events.0;
-        events = events.1;
-        more_opened = opened.0;
-        opened = opened.1;
+        gates = grown;
+        events = events;
+        opened = opened;
       }
 
   pub place_again : (rewound : Stage) → (HasGained s reached → rewound ≡ again_at s reached.answers) → place None n rewound ≡ place None m s
