@@ -19,6 +19,11 @@ mod step;
 mod telling;
 mod turn;
 
+pub use fuel::fuel as most_steps;
+pub use progress::Turned;
 pub use ran::Ran;
-pub use run::run_on_shares;
+pub use run::{beginning, run_on_shares};
 pub use run_err::RunErr;
+pub use speech::{Speech, next_speech};
+pub use step::{given_back, lent, turned};
+pub use telling::{Told, last_words, told_yet, words_behind};

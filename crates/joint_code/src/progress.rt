@@ -7,7 +7,7 @@ use value_steps::Stage;
 
 /// Where a turn leads.
 #[derive(Clone, Copy)]
-pub(crate) enum Turned {
+pub enum Turned {
     /// On.
     On,
     /// The run has ended so.

@@ -19,7 +19,7 @@ use value_steps::{Drawn, Stage, World};
 use verified_code::Verified;
 
 /// The stage where a run begins, with all of its budget.
-fn beginning(alloc: Global, budget: u64) -> Stage<'static>
+pub fn beginning(alloc: Global, budget: u64) -> Stage<'static>
     ensures { stage_seen result ≡ beginning budget [] }
 {
     Stage {

@@ -12,7 +12,8 @@ use value_steps::Value;
 use verified_code::{Step, Verified};
 
 /// What a step tells the client, where it makes an event.
-pub(crate) enum Speech {
+pub enum Speech {
+    /// It tells nothing.
     Nothing,
     /// The words that it has opened, of a value of this shape.
     Opens(Shape),
@@ -40,11 +41,7 @@ fn name_in(alloc: Global, text: &str) -> Result<Name, AllocError>
 }
 
 /// What the next step of a machine tells.
-pub(crate) fn next_speech(
-    alloc: Global,
-    code: &Verified,
-    machine: &Machine,
-) -> Result<Speech, AllocError>
+pub fn next_speech(alloc: Global, code: &Verified, machine: &Machine) -> Result<Speech, AllocError>
     ensures { IfOk result (λ speech. (opened last : List ℕ) → speech_seen speech opened last
         ≡ told_by (next_step (machine_seen code.now machine.now)) (machine_seen code.now machine.now) opened last) }
 {

@@ -13,7 +13,7 @@ use std::mem;
 use value_steps::{Halt, Stage};
 
 /// Where a step has led. An error comes where memory ran short.
-fn turned(stepped: Result<(), Halt>) -> Result<Turned, AllocError>
+pub fn turned(stepped: Result<(), Halt>) -> Result<Turned, AllocError>
     ensures { IsTurned stepped result }
 {
     match stepped {
@@ -25,7 +25,7 @@ fn turned(stepped: Result<(), Halt>) -> Result<Turned, AllocError>
 }
 
 /// A stage with these words as answers, and all that the other one has.
-fn lent<'t>(alloc: Global, stage: &mut Stage<'_>, told: &'t [u64]) -> Stage<'t>
+pub fn lent<'t>(alloc: Global, stage: &mut Stage<'_>, told: &'t [u64]) -> Stage<'t>
     ensures { stage_seen result ≡ telling_stage told.now (stage_seen stage.old) }
 {
     Stage {
@@ -40,7 +40,7 @@ fn lent<'t>(alloc: Global, stage: &mut Stage<'_>, told: &'t [u64]) -> Stage<'t>
 }
 
 /// A stage without its answers.
-fn given_back<'s>(stage: Stage<'_>) -> Stage<'s>
+pub fn given_back<'s>(stage: Stage<'_>) -> Stage<'s>
     ensures { stage_seen result ≡ telling_stage [] (stage_seen stage.entry) }
 {
     let Stage {

@@ -16,7 +16,7 @@ use value_steps::{Secrecy, Stage, Value};
 use vector_ops::elements;
 
 /// The words of the value that was made last; none where there is no value.
-pub(crate) fn last_words(values: &Values) -> &[u64]
+pub fn last_words(values: &Values) -> &[u64]
     ensures { result.now ≡ last_of values.now }
 {
     values.value(values.len().saturating_sub(1) as u64)
@@ -63,7 +63,7 @@ fn event_of(
 }
 
 /// The words behind so many.
-fn words_behind(words: &[u64], count: usize) -> &[u64]
+pub fn words_behind(words: &[u64], count: usize) -> &[u64]
     ensures { result.now ≡ drop count words.now }
 {
     if count <= words.len() {
@@ -75,13 +75,13 @@ fn words_behind(words: &[u64], count: usize) -> &[u64]
 
 /// How much a stage has told.
 #[derive(Clone, Copy)]
-pub(crate) struct Told {
+pub struct Told {
     pub events: usize,
     pub opened: usize,
 }
 
 /// How much a stage has told.
-pub(crate) fn told_yet(stage: &Stage<'_>) -> Told
+pub fn told_yet(stage: &Stage<'_>) -> Told
     ensures events { result.events ≡ length stage.now.events.items }
     ensures opened { result.opened ≡ length stage.now.opened.items }
 {

@@ -1,0 +1,6 @@
+pub mod Quiet
+pub mod Turns
+pub mod Begins
+pub mod Gates
+pub mod Notices
+pub mod Stories

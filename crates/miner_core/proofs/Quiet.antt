@@ -1,0 +1,126 @@
+-- A miner's gates tell nothing, whatever comes.
+use Rattle.std.proofs.Common.{◌≡◌, ℕ, Bool, true, false, if◌then◌else◌, List, [], ◌∷◌, ◌++◌, take, drop, refl, sym, ◌∙◌, ap, subst, append_assoc}
+use Rattle.proto_core.specs.declared.party.Number.{Number}
+use Rattle.proto_core.specs.Strand.{Sent, Opened, Told, accepts, Mail, Strand, Ends, Acts, Waits, taken, run, then_do, told_in}
+use Rattle.proto_core.specs.Script.{IsSilent}
+use Rattle.proto_core.specs.Net.{added, nothing}
+use Rattle.proto_core.proofs.Beginnings.{append-none}
+use Rattle.proto_core.proofs.Strands.{run-none, run-took, run-refused, run-added, run-then_do, told-append}
+use Rattle.protocol_model.specs.Gates.{Joined, Local, AreSilent, value_at, operand, sizes_of, gates_strand}
+use Rattle.protocol_model.specs.Gates as model
+use Rattle.protocol_model.proofs.Scripts.{silent_then}
+use Rattle.gates.specs.declared.gate.Gate.{Gate}
+use Rattle.gates.specs.Clear.{Values}
+use Rattle.shared_gates.proofs.Silence.{gates-silent}
+use Rattle.block_steps.specs.declared.links.Links.{Links}
+use Rattle.block_steps.specs.Outcomes.{outcome_of, mail_left, IsStill}
+use Rattle.block_steps.proofs.Behind.{still-is}
+use Rattle.gate_node.specs.OwnGates.{Stuck, own_gate, own_draws, can_run, own_gates}
+use Rattle.gate_node.specs.Nodes as node
+use Rattle.gate_node.specs.declared.engine.Engine as gates
+use Rattle.gate_node.specs.declared.stand.Stand.{Stand}
+use Rattle.gate_node.specs.declared.stand.Stand.TheVariants.{Through, Waits as AtWait, Stuck as AtStuck}
+use Rattle.miner_core.specs.Engines.{IsQuiet}
+
+-- ---- own gates
+
+silent_gates : (i : Number) (gates : List model.Gate) (values : Values) (tape : List ℕ) → AreSilent gates → IsSilent (gates_strand i gates values tape)
+silent_gates i [] values tape h = tt
+silent_gates i (Local n f ∷ gates) values tape h = silent_gates i gates (values ++ f i values ∷ []) tape h
+silent_gates i (Joined p n u v ∷ gates) values tape h =
+    silent_then (p.strand n i (value_at values u) (operand values v) (take (p.draws n i) tape)) _ (h.0 i _ _ _)
+    (λ made. silent_gates i gates (values ++ made) (drop (p.draws n i) tape) h.1)
+
+pub silent_own : (i : Number) (dealt : Values) (gates : List Gate) (values : Values) (tape : List ℕ) → IsSilent (own_gates i dealt gates values tape)
+silent_own i dealt [] values tape = tt
+silent_own i dealt (gate ∷ gates) values tape =
+    by_test (can_run i dealt values tape gate) (λ all. silent_own i dealt gates all (drop (own_draws i dealt values gate) tape))
+  where
+    first : Strand Values
+    first = gates_strand i (own_gate i dealt values gate ∷ []) values tape
+
+    rest : List ℕ
+    rest = drop (own_draws i dealt values gate) tape
+
+    by_test :
+        (b : Bool) → ((all : Values) → IsSilent (own_gates i dealt gates all rest)) →
+        IsSilent (if b then then_do first (λ all. own_gates i dealt gates all rest) else Ends Stuck)
+    by_test true more =
+        silent_then first _
+        (silent_gates i (own_gate i dealt values gate ∷ []) values tape (gates-silent (λ k. dealt) (sizes_of dealt) (sizes_of values) (gate ∷ []))) more
+    by_test false more = tt
+
+silent_run : {A : Type 0} (s : Strand A) (x : Mail) → IsSilent s → told_in (run s x).acts ≡ []
+silent_run (Ends a) x h = refl
+silent_run (Acts (Sent l m) s) x h = silent_run s x h
+silent_run (Acts (Opened w) s) x h = silent_run s x h
+silent_run (Acts (Told t) s) x h = absurd h
+silent_run (Waits l n k) x h = by_mail (x l) refl (λ m. silent_run (k m) (taken l x) (h m))
+  where
+    by_mail : (xs : List (List ℕ)) → x l ≡ xs → ((m : List ℕ) → told_in (run (k m) (taken l x)).acts ≡ []) → told_in (run (Waits l n k) x).acts ≡ []
+    by_mail [] e more = ap (λ r. told_in r.acts) (run-none l n k x e)
+    by_mail (m ∷ ms) e more = by_shape (accepts n m) refl
+      where
+        by_shape : (b : Bool) → accepts n m ≡ b → told_in (run (Waits l n k) x).acts ≡ []
+        by_shape true o = ap (λ r. told_in r.acts) (run-took l n k x m ms e o) ∙ more m
+        by_shape false o = ap (λ r. told_in r.acts) (run-refused l n k x m ms e o)
+
+-- ---- with these messages, and more
+
+added_nothing : (x : Mail) → added x nothing ≡ x
+added_nothing x = λ d. λ l. append-none (x l) d
+
+added_added : (x y z : Mail) → added (added x y) z ≡ added x (added y z)
+added_added x y z = λ d. λ l. append_assoc (x l) (y l) (z l) d
+
+abbrev pub QuietAt : {A : Type 0} → Strand A → Mail → Type 0
+QuietAt s x = (more : Mail) → told_in (run s (added x more)).acts ≡ []
+
+pub quiet_own : (i : Number) (dealt : Values) (gates : List Gate) (values : Values) (tape : List ℕ) (x : Mail) → QuietAt (own_gates i dealt gates values tape) x
+quiet_own i dealt gates values tape x = λ more. silent_run (own_gates i dealt gates values tape) (added x more) (silent_own i dealt gates values tape)
+
+quiet_now : {A : Type 0} (s : Strand A) (x : Mail) → QuietAt s x → told_in (run s x).acts ≡ []
+quiet_now s x h = subst (λ v. told_in (run s v).acts ≡ []) (added_nothing x) (h nothing)
+
+pub quiet_come : {A : Type 0} (s : Strand A) (x y : Mail) → QuietAt s x → QuietAt s (added x y)
+quiet_come s x y h = λ more. subst (λ v. told_in (run s v).acts ≡ []) (sym (added_added x y more)) (h (added y more))
+
+quiet_left : {A : Type 0} (s : Strand A) (x : Mail) → QuietAt s x → QuietAt (run s x).left (run s x).unread
+quiet_left s x h =
+    λ more.
+    let later = run (run s x).left (added (run s x).unread more) in
+    sym (ap (λ r. told_in r.acts) (run-added s x more) ∙ told-append (run s x).acts later.acts ∙ ap (λ v. v ++ told_in later.acts) (quiet_now s x h))
+    ∙ h more
+
+quiet_kept :
+    {A : Type 0} (i : Number) (l l2 : Links) (s s2 : Strand A) → outcome_of i l2 s2 ≡ outcome_of i l s → IsStill i l2 s2 → QuietAt s (mail_left i l) →
+    QuietAt s2 (mail_left i l2)
+quiet_kept i l l2 s s2 same still h =
+    subst (λ r. QuietAt r.left r.unread) still (subst (λ o. QuietAt o.left o.unread) (sym same) (quiet_left s (mail_left i l) h))
+
+-- behind a call that goes as far as the messages lead
+pub node_quiet :
+    {P : Type 0} (i : Number) (n n2 : gates.Engine P) (at : Stand) → node.engine_outcome i n2 ≡ node.engine_outcome i n → node.EngineStands i at n2 →
+    IsQuiet i n → IsQuiet i n2
+node_quiet i n n2 Through same h quiet = subst (λ s. QuietAt s (mail_left i n2.links)) (sym h) (λ more. refl)
+node_quiet i n n2 AtStuck same h quiet = subst (λ s. QuietAt s (mail_left i n2.links)) (sym h) (λ more. refl)
+node_quiet i n n2 (AtWait link) same h quiet =
+    quiet_kept i n.links n2.links (node.engine_left i n) (node.engine_left i n2) same (still-is i n2.links (node.engine_left i n2) h.0) quiet
+
+-- what stands behind tells all
+then_told :
+    {A B : Type 0} (s : Strand A) (f : A → Strand B) (x : Mail) → QuietAt s x →
+    told_in (run (then_do s f) x).acts ≡ told_in (run (then_do (run s x).left f) (run s x).unread).acts
+then_told s f x h =
+    ap (λ r. told_in r.acts) (run-then_do s f x)
+    ∙ told-append (run s x).acts (run (then_do (run s x).left f) (run s x).unread).acts
+    ∙ ap (λ v. v ++ told_in (run (then_do (run s x).left f) (run s x).unread).acts) (quiet_now s x h)
+
+pub told_then :
+    {A B : Type 0} (i : Number) (l l2 : Links) (s s2 : Strand A) (f : A → Strand B) → outcome_of i l2 s2 ≡ outcome_of i l s → QuietAt s (mail_left i l) →
+    QuietAt s2 (mail_left i l2) →
+    told_in (run (then_do s2 f) (mail_left i l2)).acts ≡ told_in (run (then_do s f) (mail_left i l)).acts
+told_then i l l2 s s2 f same h h2 =
+    then_told s2 f (mail_left i l2) h2
+    ∙ ap (λ o. told_in (run (then_do o.left f) o.unread).acts) same
+    ∙ sym (then_told s f (mail_left i l) h)

@@ -1,0 +1,54 @@
+use Rattle.std.proofs.Common.{rules, ◌≡◌, ◌∙◌, ◌-◌, suc, length, drop, ap, arith}
+use Rattle.miner_core.proofs.Begins.{gates_quiet, begins_acts, begins_again}
+use Rattle.miner_core.proofs.engine.Engine.begin.Goals as goal
+
+pub returns-then-wants_words-clause-left : goal.returns-then-wants_words-clause-left
+returns-then-wants_words-clause-left g c =
+    let e = c.args.self.now in
+    let fuel : e.fuel ≡ suc (e.fuel - 1) = omega (arith, c.requires.fuel) in
+    let from : c.len-from.result ≡ length e.stage.gates.items = search rules in
+    let made = c.in_ok-gates.ensures ∙ ap (λ gates. drop c.len-from.result gates) c.deref.ensures.value
+    ∙ ap (λ n. drop n c.step_told.new.stage.gates.items) from in
+    begins_again g.P.Party.me e c.step_told.new.machine c.step_told.new.stage (e.fuel - 1) c.add.new.self c.in_ok-turned.turned c.in_ok-gates.gates.items
+    c.requires.ready c.requires.through c.in_ok-add.ensures.left c.add.ensures.kept.dealt fuel c.in_ok-turned.ensures.step made
+    c.rewind.new.stage (c.wants_words.ensures.wants c.if-wants_words.true) (λ gained. c.rewind.ensures.again _ c.marked-mark.ensures gained)
+
+pub returns-clause-left : goal.returns-clause-left
+returns-clause-left g c =
+    let e = c.args.self.now in
+    let fuel : e.fuel ≡ suc (e.fuel - 1) = omega (arith, c.requires.fuel) in
+    let from : c.len-from.result ≡ length e.stage.gates.items = search rules in
+    let made = c.in_ok-gates.ensures ∙ ap (λ gates. drop c.len-from.result gates) c.deref.ensures.value
+    ∙ ap (λ n. drop n c.step_told.new.stage.gates.items) from in
+    begins_acts g.P.Party.me e c.step_told.new.machine c.step_told.new.stage (e.fuel - 1) c.add.new.self c.in_ok-turned.turned c.in_ok-gates.gates.items
+    c.requires.ready c.requires.through c.in_ok-add.ensures.left c.add.ensures.kept.dealt fuel c.in_ok-turned.ensures.step made
+    c.in_ok-speech.speech c.told_yet-before.result (c.wants_words.ensures.goes_on c.if-wants_words.false) c.told_yet-before.ensures.events
+    c.told_yet-before.ensures.opened c.in_ok-speech.ensures
+
+pub returns-then-wants_words-clause-sound : goal.returns-then-wants_words-clause-sound
+returns-then-wants_words-clause-sound g c =
+    let e = c.args.self.now in
+    let fuel : e.fuel ≡ suc (e.fuel - 1) = omega (arith, c.requires.fuel) in
+    let from : c.len-from.result ≡ length e.stage.gates.items = search rules in
+    let made = c.in_ok-gates.ensures ∙ ap (λ gates. drop c.len-from.result gates) c.deref.ensures.value
+    ∙ ap (λ n. drop n c.step_told.new.stage.gates.items) from in
+    record {
+      stands = c.in_ok-turned.ensures.stands;
+      quiet =
+          gates_quiet g.P.Party.me e c.step_told.new.machine c.step_told.new.stage (e.fuel - 1) c.add.new.self c.in_ok-turned.turned c.in_ok-gates.gates.items
+          c.requires.ready c.requires.through c.in_ok-add.ensures.left c.add.ensures.kept.dealt fuel c.in_ok-turned.ensures.step made;
+    }
+
+pub returns-clause-sound : goal.returns-clause-sound
+returns-clause-sound g c =
+    let e = c.args.self.now in
+    let fuel : e.fuel ≡ suc (e.fuel - 1) = omega (arith, c.requires.fuel) in
+    let from : c.len-from.result ≡ length e.stage.gates.items = search rules in
+    let made = c.in_ok-gates.ensures ∙ ap (λ gates. drop c.len-from.result gates) c.deref.ensures.value
+    ∙ ap (λ n. drop n c.step_told.new.stage.gates.items) from in
+    record {
+      stands = c.in_ok-turned.ensures.stands;
+      quiet =
+          gates_quiet g.P.Party.me e c.step_told.new.machine c.step_told.new.stage (e.fuel - 1) c.add.new.self c.in_ok-turned.turned c.in_ok-gates.gates.items
+          c.requires.ready c.requires.through c.in_ok-add.ensures.left c.add.ensures.kept.dealt fuel c.in_ok-turned.ensures.step made;
+    }

@@ -1,0 +1,21 @@
+use Rattle.std.proofs.Common.{refl}
+use Rattle.miner_core.specs.declared.engine.At.TheVariants.{Ready}
+use Rattle.miner_core.proofs.Stories.{starts}
+use Rattle.miner_core.proofs.engine.Engine.new.Goals as goal
+
+pub returns-clause-leads : goal.returns-clause-leads
+returns-clause-leads g c =
+    let n = c.new.ensures in
+    starts g.P.Party.me
+    (record {
+      alloc = c.args.alloc;
+      task = c.args.task;
+      machine = c.in_ok-machine.machine;
+      stage = c.beginning.result;
+      fuel = c.fuel-fuel.result;
+      at = Ready;
+      node = c.new.result;
+      notices = c.new-2.result;
+    })
+    c.args.dealt c.args.tape.items c.args.budget refl c.fuel-fuel.ensures c.in_ok-machine.ensures.begins c.beginning.ensures n.dealt n.left
+    n.from_previous n.from_next n.to_next n.to_previous n.opened c.new-2.ensures.items c.in_ok-machine.ensures.stands

@@ -1,0 +1,35 @@
+use Rattle.std.proofs.Common.{◌≡◌, ◌≢◌, sym, subst, arith}
+use Rattle.proto_core.specs.Parties.{from_previous}
+use Rattle.miner_core.specs.Story.{Leads, received}
+use Rattle.miner_core.proofs.Stories.{comes_from_previous, comes_from_next, story_from_previous, story_from_next}
+use Rattle.miner_core.proofs.engine.Engine.receive.Goals as goal
+
+pub returns-then-eq-clause-leads : goal.returns-then-eq-clause-leads
+returns-then-eq-clause-leads g c =
+    let i = g.P.Party.me in
+    let e = c.args.self.now in
+    let is : c.args.link ≡ from_previous i = grind arith in
+    λ s f.
+    subst (λ n. Leads i (record e { node = n }) (received i s c.args.link c.args.message.now)) (sym c.in_ok-receive_from_previous.ensures.ok)
+    (comes_from_previous i e s c.args.link c.args.message.now is f)
+
+pub returns-clause-leads : goal.returns-clause-leads
+returns-clause-leads g c =
+    let i = g.P.Party.me in
+    let e = c.args.self.now in
+    let apart : c.args.link ≢ from_previous i = grind arith in
+    λ s f.
+    subst (λ n. Leads i (record e { node = n }) (received i s c.args.link c.args.message.now)) (sym c.in_ok-receive_from_next.ensures.ok)
+    (comes_from_next i e s c.args.link c.args.message.now apart f)
+
+pub returns-then-eq-clause-story : goal.returns-then-eq-clause-story
+returns-then-eq-clause-story g c =
+    let i = g.P.Party.me in
+    let is : c.args.link ≡ from_previous i = grind arith in
+    λ budget. story_from_previous i c.args.self.now c.receive_from_previous.new.self c.args.link c.args.message.now budget is c.in_ok-receive_from_previous.ensures.ok
+
+pub returns-clause-story : goal.returns-clause-story
+returns-clause-story g c =
+    let i = g.P.Party.me in
+    let apart : c.args.link ≢ from_previous i = grind arith in
+    λ budget. story_from_next i c.args.self.now c.receive_from_next.new.self c.args.link c.args.message.now budget apart c.in_ok-receive_from_next.ensures.ok

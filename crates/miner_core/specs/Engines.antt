@@ -1,0 +1,131 @@
+-- What a miner has that runs code, and what is left for it to do.
+use Rattle.std.specs.Prelude.{◌≡◌, ℕ, ◌+◌, ◌*◌, List, [], ◌++◌, map, Some}
+use Rattle.proto_core.specs.declared.party.Number.{Number}
+use Rattle.proto_core.specs.Strand.{Notice, Mail, Strand, Ends, run, then_do, told_in}
+use Rattle.proto_core.specs.Net.{added}
+use Rattle.gates.specs.Clear.{Values}
+use Rattle.code_machine.specs.Standing.{Stands}
+use Rattle.code_machine.specs.Views.{machine_seen}
+use Rattle.value_steps.specs.Views.{stage_seen}
+use Rattle.driven_nodes.specs.Driven.{telling}
+use Rattle.driven_nodes.specs.Steps.{Stopped, Short, stand_of, last_of}
+use Rattle.code_places.specs.Places.{Place, place, step_told}
+use Rattle.block_steps.specs.Outcomes.{Outcome, outcome_of, mail_left, Holds}
+use Rattle.gate_node.specs.OwnGates.{Halted, Whole, Stuck}
+use Rattle.gate_node.specs.Nodes as node
+use Rattle.gate_node.specs.declared.engine.Engine as gates
+use Rattle.gate_node.specs.declared.stand.Stand as at_gates
+use Rattle.gate_node.specs.declared.stand.Stand.TheVariants as stand
+use Rattle.joint_code.specs.Views.{place_in, went_to}
+use Rattle.joint_code.specs.declared.progress.Turned.{Turned}
+use Rattle.joint_code.specs.declared.progress.Turned.TheVariants as turned
+use Rattle.joint_code.specs.declared.speech.Speech.{Speech}
+use Rattle.joint_code.specs.declared.telling.Told.{Told}
+use Rattle.miner_core.specs.declared.engine.At.{At}
+use Rattle.miner_core.specs.declared.engine.At.TheVariants as at
+use Rattle.miner_core.specs.declared.engine.Engine.{Engine}
+use Rattle.miner_core.specs.OwnCode.{Ended, Reached, Unfit, From, go_on, tell_and_go_on, own_code}
+use Rattle.miner_core.specs.Views.{task_world, task_code, notice_seen, told_since}
+
+module _ {P : Type 0} (i : Number) where
+  abbrev pub place_at : Engine P → Place
+  place_at e = place_in e.task.code e.machine e.stage
+
+  abbrev pub code_from : Engine P → From Place
+  code_from e = own_code (task_world e.task) (task_code e.task) i e.node.dealt e.fuel
+
+  -- what it does behind its gates, by what it is at
+  abbrev pub goes_on_at : Engine P → At → (values : Values) → (tape : List ℕ) → Strand Ended
+  goes_on_at e at.Ready values tape = code_from e (place_at e) values tape
+  goes_on_at e at.Again values tape =
+      tell_and_go_on (code_from e) (place_at e) (step_told (task_world e.task) (task_code e.task) (place_at e) (last_of values)) values tape
+  goes_on_at e (at.Acts t speech before) values tape =
+      telling (told_since speech before e.stage (last_of values))
+      (go_on (code_from e) (stand_of (went_to e.task.code t e.machine e.stage)) values tape)
+  goes_on_at e (at.Over ending) values tape =
+      Ends (Reached (Stopped (place (Some ending) (machine_seen e.task.code e.machine) (stage_seen e.stage))) values)
+  goes_on_at e at.Short values tape = Ends (Reached (Short (place_at e)) values)
+
+  abbrev pub behind_node : Engine P → At → Halted → Strand Ended
+  behind_node e a (Whole values tape) = goes_on_at e a values tape
+  behind_node e a Stuck = Ends Unfit
+
+  -- all that is left to do
+  abbrev pub engine_left : Engine P → Strand Ended
+  engine_left e = then_do (node.engine_left i e.node) (behind_node e e.at)
+
+  -- what it has done, and what it does with the messages that it has; and so what it tells
+  abbrev pub engine_outcome : Engine P → Outcome Ended
+  engine_outcome e = outcome_of i e.node.links (engine_left e)
+
+  abbrev pub engine_told : Engine P → List Notice
+  engine_told e = map notice_seen e.notices.items ++ told_in (run (engine_left e) (mail_left i e.node.links)).acts
+
+  -- whatever comes, its gates tell nothing
+  abbrev pub IsQuiet : gates.Engine P → Type 0
+  IsQuiet n = (more : Mail) → told_in (run (node.engine_left i n) (added (mail_left i n.links) more)).acts ≡ []
+
+  -- ---- what holds of it
+
+  pub record IsSound (e : Engine P) : Type 0 where
+    pub stands : Stands e.task.code e.machine
+    pub quiet : IsQuiet e.node
+
+  -- all gates that were made are through
+  abbrev pub IsThrough : gates.Engine P → Type 0
+  IsThrough n = node.engine_left i n ≡ Ends (Whole n.values n.tape.1)
+
+  -- no step is to be taken
+  abbrev pub IsOver : Engine P → At → Type 0
+  IsOver e at.Ready = e.fuel ≡ 0
+  IsOver e at.Again = ⊥
+  IsOver e (at.Acts t speech before) = ⊥
+  IsOver e (at.Over ending) = Unit {0}
+  IsOver e at.Short = Unit {0}
+
+  -- where it stands when it can do no more
+  pub record Rests (s : at_gates.Stand) (e : Engine P) : Type 0 where
+    pub node : node.EngineStands i s e.node
+    pub over : s ≡ stand.Through → IsOver e e.at
+
+-- what came stays, and so does what it was made with
+pub record Keeps {P : Type 0} (before after : Engine P) : Type 0 where
+  pub links : Holds before.node.links after.node.links
+  pub task : after.task ≡ before.task
+  pub dealt : after.node.dealt ≡ before.node.dealt
+  pub tape : after.node.tape.0 ≡ before.node.tape.0
+
+-- no message is taken or sent, and nothing told
+pub record KeepsLinks {P : Type 0} (before after : Engine P) : Type 0 where
+  pub links : after.node.links ≡ before.node.links
+  pub notices : after.notices ≡ before.notices
+  pub task : after.task ≡ before.task
+  pub dealt : after.node.dealt ≡ before.node.dealt
+  pub tape : after.node.tape ≡ before.node.tape
+
+-- the gates of a step run that has led so far
+abbrev pub acting : {P : Type 0} → Engine P → Turned → Speech → Told → Engine P
+acting e t speech before = record e { at = at.Acts t speech before }
+
+-- it wants no words
+abbrev pub GoesOn : Turned → Type 0
+GoesOn turned.On = Unit {0}
+GoesOn (turned.Over ending) = Unit {0}
+GoesOn turned.Short = ⊥
+
+-- what it is at where a step has led so far, with its gates through
+abbrev pub led_to : Turned → At
+led_to turned.On = at.Ready
+led_to (turned.Over ending) = at.Over ending
+led_to turned.Short = at.Short
+
+-- how many steps of its own it can still take
+abbrev pub rank : At → ℕ
+rank at.Ready = 0
+rank at.Again = 2
+rank (at.Acts t speech before) = 1
+rank (at.Over ending) = 0
+rank at.Short = 0
+
+abbrev pub measure : {P : Type 0} → Engine P → ℕ
+measure e = 3 * e.fuel + rank e.at

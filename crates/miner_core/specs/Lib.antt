@@ -1,0 +1,4 @@
+pub mod OwnCode
+pub mod Views
+pub mod Engines
+pub mod Story

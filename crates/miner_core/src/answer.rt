@@ -1,0 +1,35 @@
+use proto_core::Link;
+use sc_text::Ending;
+
+/// How a miner's run of code ends.
+#[derive(Clone, Copy, Drop)]
+pub enum End {
+    /// As the code ends.
+    Over(Ending),
+    /// A step was told all that was opened, and wants more words.
+    Short,
+    /// The code goes on for more steps than code can have whose jumps go forward.
+    Endless,
+    /// A gate doesn't suit the values before it, or the tape is too short for it.
+    Unfit,
+}
+
+/// Where a miner stands when it has done all that it can.
+#[derive(Clone, Copy, Drop)]
+pub enum Step {
+    /// For the next message of this link.
+    Waits(Link),
+    /// At its end.
+    Ended(End),
+}
+
+/// Why a message leads nowhere.
+#[derive(Clone, Copy, Drop)]
+pub enum MinerErr {
+    /// The miner has ended.
+    NotAwaited { link: Link },
+    /// The oldest message of this link, which is awaited, hasn't the length that is wanted, or a word that has to be a bit and is none.
+    BadMessage { link: Link },
+    /// There is no memory left.
+    Memory,
+}

@@ -1,0 +1,127 @@
+// An engine at its start, a message that comes, and where it stands.
+ghost use Rattle.std.specs.Prelude.{◌≡◌, ◌≢◌, ℕ, length, true, false, IfOk, OnOk};
+ghost use Rattle.proto_core.specs.Standing.{AtItsEnd, standing_with};
+ghost use Rattle.gate_node.specs.declared.stand.Stand.TheVariants.{Through};
+ghost use Rattle.block_steps.specs.Outcomes.{mail_left};
+ghost use Rattle.miner_core.specs.Engines.{engine_left, Rests};
+ghost use Rattle.miner_core.specs.Story.{Story, Follows, Leads, story_of, received, start_of, HasEnded, IsAnswerOf};
+
+use crate::answer::{End, MinerErr, Step};
+use crate::engine::{At, Engine};
+use crate::task::Task;
+use code_machine::start;
+use gate_node::{GateNode, Stand};
+use gates::Values;
+use joint_code::{beginning, most_steps};
+use proto_core::{Link, Msg, Party};
+use std::alloc::{AllocError, Global};
+
+impl<P: Party> Engine<P> {
+    /// Before the first step.
+    pub fn new(
+        alloc: Global,
+        task: Task,
+        dealt: Values,
+        tape: Vec<u64>,
+        budget: u64,
+    ) -> Result<Self, AllocError>
+        ensures story { IfOk result (λ e. story_of e budget ≡ start_of task dealt tape.items budget) }
+        ensures leads { IfOk result (λ e. Leads P.me e (start_of task dealt tape.items budget)) }
+    {
+        let fuel = most_steps(&task.code, budget);
+        let machine = start(alloc, &task.code)?;
+        Ok(Engine {
+            alloc,
+            task,
+            machine,
+            stage: beginning(alloc, budget),
+            fuel,
+            at: At::Ready,
+            node: GateNode::new(alloc, dealt, tape),
+            notices: Vec::new(alloc),
+        })
+    }
+
+    /// A message comes from one of the two others.
+    fn receive(&mut self, link: Link, message: &Msg) -> Result<(), AllocError>
+        ensures leads { OnOk result ((s : Story) → Follows P.me self.old s → Leads P.me self.new (received P.me s link message.now)) }
+        ensures story { OnOk result ((budget : ℕ) → story_of self.new budget ≡ received P.me (story_of self.old budget) link message.now) }
+    {
+        if link == P::number().previous().link_to_next() {
+            self.node.receive_from_previous(message)?;
+            return Ok(());
+        }
+        self.node.receive_from_next(message)?;
+        Ok(())
+    }
+
+    /// A message comes, and all is done that the messages lead to; where it then stands.
+    pub fn deliver(&mut self, link: Link, message: &Msg) -> Result<Stand, AllocError>
+        requires follows { (s : Story) × Follows P.me self.old s }
+        ensures follows { OnOk result ((s : Story) → Follows P.me self.old s → Follows P.me self.new (received P.me s link message.now)) }
+        ensures story { OnOk result ((budget : ℕ) → story_of self.new budget ≡ received P.me (story_of self.old budget) link message.now) }
+        ensures stands { IfOk result (λ stand. Rests P.me stand self.new) }
+    {
+        self.receive(link, message)?;
+        let stand = self.advance()?;
+        Ok(stand)
+    }
+
+    /// Whether it has ended, where it stands so.
+    pub fn is_ended(&self, stand: Stand) -> bool
+        requires { Rests P.me stand self.now }
+        ensures ended { result ≡ true → standing_with (engine_left P.me self.now) (mail_left P.me self.now.node.links) ≡ AtItsEnd }
+        ensures going { result ≡ false → standing_with (engine_left P.me self.now) (mail_left P.me self.now.node.links) ≢ AtItsEnd }
+    {
+        match stand {
+            Stand::Waits(_) => false,
+            Stand::Through => true,
+            Stand::Stuck => true,
+        }
+    }
+
+    /// How many messages of a link were not taken.
+    fn unread(&self, link: Link) -> usize
+        ensures { result ≡ length (mail_left P.me self.now.node.links link) }
+    {
+        if link == P::number().previous().link_to_next() {
+            return self.node.links().from_previous().unread();
+        }
+        if link == P::number().next().link_to_previous() {
+            return self.node.links().from_next().unread();
+        }
+        0
+    }
+
+    /// How the run has ended, where all gates are through.
+    fn end(&self) -> End
+        requires { Rests P.me Through self.now }
+        ensures { HasEnded (engine_left P.me self.now) result }
+    {
+        match &self.at {
+            At::Over(ending) => End::Over(*ending),
+            At::Short => End::Short,
+            At::Ready | At::Again | At::Acts { .. } => End::Endless,
+        }
+    }
+
+    /// What is answered, where it stands so.
+    pub fn answer(&self, stand: Stand) -> Result<Step, MinerErr>
+        requires { Rests P.me stand self.now }
+        ensures { IsAnswerOf (engine_left P.me self.now) (mail_left P.me self.now.node.links) result }
+    {
+        match stand {
+            Stand::Through => {
+                let end = self.end();
+                Ok(Step::Ended(end))
+            }
+            Stand::Stuck => Ok(Step::Ended(End::Unfit)),
+            Stand::Waits(link) => {
+                if self.unread(link) == 0 {
+                    return Ok(Step::Waits(link));
+                }
+                Err(MinerErr::BadMessage { link })
+            }
+        }
+    }
+}

@@ -1,0 +1,260 @@
+ghost use Rattle.std.specs.Prelude.{◌≡◌, ◌<◌, true, false, IfOk, OnOk, Ok};
+ghost use Rattle.gate_node.specs.Nodes as node;
+ghost use Rattle.joint_code.specs.declared.progress.Turned.TheVariants.{Short};
+ghost use Rattle.miner_core.specs.declared.engine.At.TheVariants.{Ready, Again};
+ghost use Rattle.miner_core.specs.Engines.{engine_left, engine_outcome, engine_told, IsSound, IsThrough, IsOver, Rests, Keeps, KeepsLinks, GoesOn, acting, led_to, measure};
+
+use crate::notice::{Notice, tell};
+use crate::stepping::{gates_from, step_told};
+use crate::task::Task;
+use code_machine::{Machine, marked, rewind};
+use gate_node::{GateNode, Stand};
+use joint_code::{Speech, Told, Turned, last_words, next_speech, told_yet};
+use proto_core::Party;
+use sc_text::Ending;
+use std::alloc::{AllocError, Global};
+use std::mem;
+use value_steps::Stage;
+
+/// What a miner is at.
+#[derive(Drop)]
+pub(crate) enum At {
+    /// The next step is to be taken.
+    Ready,
+    /// The gates run of a step that wants words, with which it is done again.
+    Again,
+    /// The gates run of a step that has led so far, and tells this of all that came since.
+    Acts {
+        turned: Turned,
+        speech: Speech,
+        before: Told,
+    },
+    /// The run has ended.
+    Over(Ending),
+    /// A step was told all that was opened, and wants more.
+    Short,
+}
+
+/// What a miner is at where a step has led so far, with its gates through.
+fn led_to(turned: Turned) -> At
+    ensures { result ≡ led_to turned }
+{
+    match turned {
+        Turned::On => At::Ready,
+        Turned::Over(ending) => At::Over(ending),
+        Turned::Short => At::Short,
+    }
+}
+
+/// Whether a step wants words.
+fn wants_words(turned: Turned) -> bool
+    ensures wants { result ≡ true → turned ≡ Short }
+    ensures goes_on { result ≡ false → GoesOn turned }
+{
+    match turned {
+        Turned::Short => true,
+        Turned::On | Turned::Over(_) => false,
+    }
+}
+
+/// A miner that runs code: what it runs, the machine and its stage, for how many steps fuel lasts, what it is at, its gates and links, and
+/// what it has told.
+#[derive(Drop)]
+pub(crate) struct Engine<P: Party> {
+    pub alloc: Global,
+    pub task: Task,
+    pub machine: Machine,
+    pub stage: Stage<'static>,
+    pub fuel: u128,
+    pub at: At,
+    pub node: GateNode<P>,
+    pub notices: Vec<Notice>,
+}
+
+impl<P: Party> Engine<P> {
+    /// The next step, whose gates begin.
+    fn begin(&mut self) -> Result<(), AllocError>
+        requires ready { self.old.at ≡ Ready }
+        requires fuel { 0 < self.old.fuel }
+        requires through { IsThrough P.me self.old.node }
+        requires sound { IsSound P.me self.old }
+        ensures left { OnOk result (engine_left P.me self.new ≡ engine_left P.me self.old) }
+        ensures kept { OnOk result (KeepsLinks self.old self.new) }
+        ensures sound { OnOk result (IsSound P.me self.new) }
+        ensures falls { OnOk result (measure self.new < measure self.old) }
+    {
+        let from = self.stage.gates.len();
+        let before = told_yet(&self.stage);
+        let mark = marked(&self.stage);
+        let speech = next_speech(self.alloc, &self.task.code, &self.machine)?;
+        let turned = step_told(
+            self.alloc,
+            &self.task,
+            &mut self.machine,
+            &mut self.stage,
+            &[],
+        )?;
+        let gates = gates_from(self.alloc, &self.stage.gates, from)?;
+        self.node.add(gates)?;
+        self.fuel -= 1;
+        if wants_words(turned) {
+            rewind(&mut self.stage, &mark);
+            self.at = At::Again;
+            return Ok(());
+        }
+        self.at = At::Acts {
+            turned,
+            speech,
+            before,
+        };
+        Ok(())
+    }
+
+    /// The same step once more, told the value that was made last.
+    fn again(&mut self) -> Result<(), AllocError>
+        requires again { self.old.at ≡ Again }
+        requires through { IsThrough P.me self.old.node }
+        requires sound { IsSound P.me self.old }
+        ensures left { OnOk result (engine_left P.me self.new ≡ engine_left P.me self.old) }
+        ensures kept { OnOk result (KeepsLinks self.old self.new) }
+        ensures sound { OnOk result (IsSound P.me self.new) }
+        ensures falls { OnOk result (measure self.new < measure self.old) }
+    {
+        let before = told_yet(&self.stage);
+        let speech = next_speech(self.alloc, &self.task.code, &self.machine)?;
+        let turned = step_told(
+            self.alloc,
+            &self.task,
+            &mut self.machine,
+            &mut self.stage,
+            last_words(self.node.values()),
+        )?;
+        self.at = At::Acts {
+            turned,
+            speech,
+            before,
+        };
+        Ok(())
+    }
+
+    /// A step is through with its gates: it is told, and the run goes on.
+    fn goes_on(&mut self, turned: Turned, speech: &Speech, before: Told) -> Result<(), AllocError>
+        requires through { IsThrough P.me self.old.node }
+        requires sound { IsSound P.me self.old }
+        ensures same { OnOk result (engine_outcome P.me self.new ≡ engine_outcome P.me (acting self.old turned speech.now before)) }
+        ensures told { OnOk result (engine_told P.me self.new ≡ engine_told P.me (acting self.old turned speech.now before)) }
+        ensures kept { OnOk result (Keeps self.old self.new) }
+        ensures node { OnOk result (self.new.node ≡ self.old.node) }
+        ensures sound { OnOk result (IsSound P.me self.new) }
+        ensures falls { OnOk result (measure self.new < measure (acting self.old turned speech.now before)) }
+    {
+        let last = last_words(self.node.values());
+        tell(
+            self.alloc,
+            speech,
+            before,
+            &self.stage,
+            last,
+            &mut self.notices,
+        )?;
+        self.at = led_to(turned);
+        Ok(())
+    }
+
+    /// The next step, if fuel is left.
+    fn ready(&mut self) -> Result<bool, AllocError>
+        requires ready { self.old.at ≡ Ready }
+        requires through { IsThrough P.me self.old.node }
+        requires sound { IsSound P.me self.old }
+        ensures same { OnOk result (engine_outcome P.me self.new ≡ engine_outcome P.me self.old) }
+        ensures told { OnOk result (engine_told P.me self.new ≡ engine_told P.me self.old) }
+        ensures kept { OnOk result (Keeps self.old self.new) }
+        ensures sound { OnOk result (IsSound P.me self.new) }
+        ensures falls { IfOk result (λ more. more ≡ true → measure self.new < measure self.old) }
+        ensures over { IfOk result (λ more. more ≡ false → IsOver P.me self.new self.new.at × IsThrough P.me self.new.node) }
+    {
+        if self.fuel == 0 {
+            return Ok(false);
+        }
+        self.begin()?;
+        Ok(true)
+    }
+
+    /// What comes next where all gates are through; false where nothing does.
+    fn turn(&mut self) -> Result<bool, AllocError>
+        requires through { IsThrough P.me self.old.node }
+        requires sound { IsSound P.me self.old }
+        ensures same { OnOk result (engine_outcome P.me self.new ≡ engine_outcome P.me self.old) }
+        ensures told { OnOk result (engine_told P.me self.new ≡ engine_told P.me self.old) }
+        ensures kept { OnOk result (Keeps self.old self.new) }
+        ensures sound { OnOk result (IsSound P.me self.new) }
+        ensures falls { IfOk result (λ more. more ≡ true → measure self.new < measure self.old) }
+        ensures over { IfOk result (λ more. more ≡ false → IsOver P.me self.new self.new.at × IsThrough P.me self.new.node) }
+    {
+        match mem::replace(&mut self.at, At::Ready) {
+            At::Ready => {
+                let more = self.ready()?;
+                Ok(more)
+            }
+            At::Again => {
+                self.at = At::Again;
+                self.again()?;
+                Ok(true)
+            }
+            At::Acts {
+                turned,
+                speech,
+                before,
+            } => {
+                self.goes_on(turned, &speech, before)?;
+                Ok(true)
+            }
+            At::Over(ending) => {
+                self.at = At::Over(ending);
+                Ok(false)
+            }
+            At::Short => {
+                self.at = At::Short;
+                Ok(false)
+            }
+        }
+    }
+
+    /// Does all that the messages lead to, and answers where it then stands. What it has done, tells, and does with the messages that
+    /// are there, is the same before and behind.
+    pub fn advance(&mut self) -> Result<Stand, AllocError>
+        requires sound { IsSound P.me self.old }
+        ensures same { OnOk result (engine_outcome P.me self.new ≡ engine_outcome P.me self.old) }
+        ensures told { OnOk result (engine_told P.me self.new ≡ engine_told P.me self.old) }
+        ensures stands { IfOk result (λ s. Rests P.me s self.new) }
+        ensures sound { OnOk result (IsSound P.me self.new) }
+        ensures kept { OnOk result (Keeps self.old self.new) }
+    {
+        loop {
+            let stand = self.gates()?;
+            match stand {
+                Stand::Through => {}
+                Stand::Waits(_) => return Ok(stand),
+                Stand::Stuck => return Ok(stand),
+            }
+            let more = self.turn()?;
+            if !more {
+                return Ok(stand);
+            }
+        }
+    }
+
+    /// The gates that have begun, as far as the messages lead.
+    fn gates(&mut self) -> Result<Stand, AllocError>
+        requires sound { IsSound P.me self.old }
+        ensures same { OnOk result (engine_outcome P.me self.new ≡ engine_outcome P.me self.old) }
+        ensures told { OnOk result (engine_told P.me self.new ≡ engine_told P.me self.old) }
+        ensures stands { IfOk result (λ s. node.EngineStands P.me s self.new.node) }
+        ensures sound { OnOk result (IsSound P.me self.new) }
+        ensures kept { OnOk result (Keeps self.old self.new) }
+        ensures beside { measure self.new ≡ measure self.old }
+    {
+        let stand = self.node.advance()?;
+        Ok(stand)
+    }
+}

@@ -1,0 +1,139 @@
+ghost use Rattle.std.specs.Prelude.{◌≡◌, [], map, true, false, IfOk, Err};
+ghost use Rattle.proto_core.specs.Parties.{receiver_of};
+ghost use Rattle.proto_core.specs.Standing.{AtItsEnd};
+ghost use Rattle.miner_core.specs.Story.{sent_to_next, sent_to_previous, has_opened, has_told, stands_at, IsAnswer, DeliverAnswers};
+ghost use Rattle.miner_core.specs.Views.{task_world, task_code, notice_seen};
+ghost use Rattle.miner_core.specs.declared.answer.MinerErr.TheVariants.{Memory, NotAwaited};
+
+use crate::answer::{MinerErr, Step};
+use crate::engine::Engine;
+use crate::notice::Notice;
+use crate::task::Task;
+use gate_node::Stand;
+use gates::Values;
+use proto_core::{Link, Messages, Msg, Party};
+use std::alloc::{AllocError, Global};
+use std::marker::Model;
+
+/// A miner at work on verified code. Contracts see its story: what it was made with, and the messages that came, in order on each of its
+/// two links. All that it has sent, opened and told, and where it stands, is a function of these.
+///
+/// Once memory was wanting, it is of no further use: each delivery answers so.
+#[derive(Drop)]
+pub struct Miner<P: Party> {
+    engine: Engine<P>,
+    stand: Stand,
+    budget: u64,
+    lost: bool,
+}
+
+impl<P: Party> Model for Miner<P> {
+    ghost use Rattle.std.specs.Prelude.{◌≡◌, false};
+    ghost use Rattle.miner_core.specs.Story.{Story, Follows, story_of};
+    ghost use Rattle.miner_core.specs.Engines.{Rests};
+
+    ghost Value = { Story };
+
+    ghost view = { λ m. record (story_of m.engine m.budget) { lost = m.lost } };
+
+    ghost invariant = { λ m. m.lost ≡ false → Follows P.me m.engine (story_of m.engine m.budget) × Rests P.me m.stand m.engine };
+}
+
+impl<P: Party> Miner<P> {
+    /// A miner at its first wait, with what it is to run, its shares of what was dealt, its tape, and the budget of the run.
+    pub fn new(
+        alloc: Global,
+        task: Task,
+        dealt: Values,
+        tape: Vec<u64>,
+        budget: u64,
+    ) -> Result<Miner<P>, AllocError>
+        ensures { IfOk result (λ m. m ≡ record {
+          world = task_world task;
+          code = task_code task;
+          dealt = dealt;
+          tape = tape.items;
+          budget = budget;
+          from_previous = [];
+          from_next = [];
+          lost = false;
+        }) }
+    {
+        let mut engine = Engine::new(alloc, task, dealt, tape, budget)?;
+        let stand = engine.advance()?;
+        Ok(Miner {
+            engine,
+            stand,
+            budget,
+            lost: false,
+        })
+    }
+
+    /// The oldest message of a link comes, which ends at this miner. It is kept, and all is done that the messages lead to; the answer
+    /// says where the miner then stands.
+    ///
+    /// `NotAwaited` comes exactly where the miner has ended, and it is as before; `BadMessage` exactly where the oldest message of the
+    /// awaited link isn't accepted: it stays the oldest, so each later delivery answers the same, and nothing more is sent.
+    pub fn deliver(&mut self, link: Link, message: &Msg) -> Result<Step, MinerErr>
+        requires { receiver_of link ≡ P.me }
+        ensures answers { DeliverAnswers P.me self.old self.new link message.now result }
+        ensures ended { self.old.lost ≡ false → stands_at P.me self.old ≡ AtItsEnd → result ≡ Err (NotAwaited link) }
+        ensures lost { self.old.lost ≡ true → (result ≡ Err Memory) × (self.new ≡ self.old) }
+    {
+        if self.lost {
+            return Err(MinerErr::Memory);
+        }
+        if self.engine.is_ended(self.stand) {
+            return Err(MinerErr::NotAwaited { link });
+        }
+        match self.engine.deliver(link, message) {
+            Ok(stand) => {
+                self.stand = stand;
+                self.engine.answer(stand)
+            }
+            Err(_) => {
+                self.lost = true;
+                Err(MinerErr::Memory)
+            }
+        }
+    }
+
+    /// Where it stands, as the last delivery has answered.
+    pub fn stands(&self) -> Result<Step, MinerErr>
+        ensures stands { self.now.lost ≡ false → IsAnswer P.me self.now result }
+        ensures lost { self.now.lost ≡ true → result ≡ Err Memory }
+    {
+        if self.lost {
+            return Err(MinerErr::Memory);
+        }
+        self.engine.answer(self.stand)
+    }
+
+    /// The messages that went to the next miner, oldest first.
+    pub fn sent_to_next(&self) -> &Messages
+        ensures { self.now.lost ≡ false → result.now ≡ sent_to_next P.me self.now }
+    {
+        self.engine.node.links().to_next()
+    }
+
+    /// The messages that went to the previous miner, oldest first.
+    pub fn sent_to_previous(&self) -> &Messages
+        ensures { self.now.lost ≡ false → result.now ≡ sent_to_previous P.me self.now }
+    {
+        self.engine.node.links().to_previous()
+    }
+
+    /// The words that were opened, one after another.
+    pub fn opened(&self) -> &[u64]
+        ensures { self.now.lost ≡ false → result.now ≡ has_opened P.me self.now }
+    {
+        self.engine.node.links().opened()
+    }
+
+    /// What it has told, in order.
+    pub fn notices(&self) -> &[Notice]
+        ensures { self.now.lost ≡ false → map notice_seen result.now ≡ has_told P.me self.now }
+    {
+        &self.engine.notices
+    }
+}

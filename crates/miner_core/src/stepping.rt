@@ -1,0 +1,49 @@
+// One step of the code, and the gates that it makes.
+ghost use Rattle.std.specs.Prelude.{◌≡◌, ◌≤◌, [], IfOk, drop, length};
+ghost use Rattle.code_machine.specs.Standing.{Stands};
+ghost use Rattle.code_places.specs.Places.{step_told};
+ghost use Rattle.joint_code.specs.Views.{place_in, went_to};
+ghost use Rattle.miner_core.specs.Views.{task_world, task_code};
+
+use crate::task::Task;
+use code_machine::{Machine, step};
+use gates::Gate;
+use joint_code::{Turned, given_back, lent, turned};
+use std::alloc::{AllocError, Global};
+use value_steps::Stage;
+
+/// The next step, told these words. Words that it doesn't take are let go. A step that doesn't go on leaves the machine as it was; with no
+/// memory left the stage may be anything.
+pub(crate) fn step_told(
+    alloc: Global,
+    task: &Task,
+    machine: &mut Machine,
+    stage: &mut Stage<'_>,
+    told: &[u64],
+) -> Result<Turned, AllocError>
+    requires { Stands task.now.code machine.old }
+    ensures step { IfOk result (λ turned. step_told (task_world task.now) (task_code task.now) (place_in task.now.code machine.old stage.old) told.now
+        ≡ went_to task.now.code turned machine.new stage.new) }
+    ensures stands { Stands task.now.code machine.new }
+{
+    let world = task.world();
+    let mut own = lent(alloc, stage, told);
+    let stepped = step(alloc, &world, &task.code, machine, &mut own);
+    *stage = given_back(own);
+    turned(stepped)
+}
+
+/// The gates from this place of a list on, in memory of their own.
+pub(crate) fn gates_from(
+    alloc: Global,
+    gates: &[Gate],
+    from: usize,
+) -> Result<Vec<Gate>, AllocError>
+    ensures { IfOk result (λ own. own.items ≡ drop from gates.now) }
+{
+    let mut own = Vec::new(alloc);
+    for place in from..gates.len() {
+        own.push(gates[place].copy(alloc)?)?;
+    }
+    Ok(own)
+}
