@@ -7,7 +7,7 @@ _secrec_words() {
 # Offers folders and the files that match a pattern; all files where none does.
 _secrec_files() {
   compopt -o filenames 2>/dev/null
-  mapfile -t COMPREPLY < <(compgen -f -X "!$1" -- "$current"; compgen -d -- "$current")
+  mapfile -t COMPREPLY < <({ compgen -f -X "!$1" -- "$current"; compgen -d -- "$current"; } | sort -u)
   [ "${#COMPREPLY[@]}" -gt 0 ] || mapfile -t COMPREPLY < <(compgen -f -- "$current")
 }
 # Whether one of these options is there already.
@@ -20,11 +20,12 @@ _secrec() {
   local current=${COMP_WORDS[COMP_CWORD]} before=$((COMP_CWORD - 1)) options used=' ' left='' option program='' k
   COMPREPLY=()
   if [ "$COMP_CWORD" -eq 1 ]; then
-    _secrec_words 'check eval need run deal'
+    _secrec_words 'check compile eval need run deal'
     return
   fi
   case ${COMP_WORDS[1]} in
     check) options='' ;;
+    compile) options='--code' ;;
     eval | need) options='--input --budget' ;;
     run) options='--input --tape --seed --words --budget' ;;
     deal) options='--input --tape --to' program=none ;;
@@ -34,7 +35,7 @@ _secrec() {
   if [ "$current" = '=' ]; then current=''; elif [ "${COMP_WORDS[before]}" = '=' ]; then before=$((before - 1)); fi
   case ${COMP_WORDS[before]} in
     --input) _secrec_files '*.json'; return ;;
-    --tape | --to) _secrec_files '*'; return ;;
+    --code | --tape | --to) _secrec_files '*'; return ;;
     --seed | --words | --budget) return ;;
   esac
   for ((k = 2; k < COMP_CWORD; k++)); do

@@ -10,7 +10,8 @@ use Rattle.command_words.specs.Shapes.{secrec_app}
 use Rattle.command_words.specs.Vectors.{words_on_literals}
 
 abbrev pub IsKnown : Text → Type 0
-IsKnown name = (name ≡ codes "run") ⊎ ((name ≡ codes "deal") ⊎ ((name ≡ codes "check") ⊎ ((name ≡ codes "eval") ⊎ (name ≡ codes "need"))))
+IsKnown name =
+    (name ≡ codes "run") ⊎ ((name ≡ codes "deal") ⊎ ((name ≡ codes "check") ⊎ ((name ≡ codes "eval") ⊎ ((name ≡ codes "need") ⊎ (name ≡ codes "compile")))))
 
 abbrev pub HasKnownName : Option (Text × List Row) → Type 0
 HasKnownName None = ⊤
@@ -31,7 +32,22 @@ found_name q words (s ∷ subs) all = go (q s) all.0 (found_name q words subs al
 
 all_known : AllKnown (built secrec_app).subs
 unfolding words_on_literals
-all_known = (inl refl, (inr (inl refl), (inr (inr (inr (inl refl))), (inr (inr (inr (inr refl))), (inr (inr (inl refl)), tt)))))
+all_known = (
+  inl refl,
+  (
+    inr (inl refl),
+    (
+      inr (inr (inr (inl refl))),
+      (
+        inr (inr (inr (inr (inl refl)))),
+        (
+          inr (inr (inl refl)),
+          (inr (inr (inr (inr (inr refl)))), tt),
+        ),
+      ),
+    ),
+  ),
+)
 
 -- the subcommand that `clap` meets is one of the commands, so no words are refused for their command's name that `clap` takes
 pub name_known : (words : List Text) → HasKnownName (subcommand_of secrec_app words)

@@ -24,6 +24,10 @@ pub record DealAsk : Type 0 where
 pub record CheckAsk : Type 0 where
   pub program : Text
 
+pub record CompileAsk : Type 0 where
+  pub program : Text
+  pub code : Text
+
 -- of `eval` and of `need`
 pub record EvalAsk : Type 0 where
   pub program : Text
@@ -35,6 +39,7 @@ pub data Ask : Type 0 where
   run : RunAsk → Ask
   deal : DealAsk → Ask
   check : CheckAsk → Ask
+  compile : CompileAsk → Ask
   eval : EvalAsk → Ask
   need : EvalAsk → Ask
 
@@ -94,6 +99,9 @@ deal_of rows = Some (record {
 unfoldable pub check_of : List Row → Option CheckAsk
 check_of rows = Some (record { program = required_of (codes "program") rows })
 
+unfoldable pub compile_of : List Row → Option CompileAsk
+compile_of rows = Some (record { program = required_of (codes "program") rows; code = required_of (codes "code") rows })
+
 unfoldable pub eval_of : List Row → Option EvalAsk
 eval_of rows = do
   budget ← number_or default_budget (first_of (codes "budget") rows)
@@ -109,6 +117,7 @@ named name rows =
     if bytes_eq name (codes "run") then option_map run (run_of rows)
     else if bytes_eq name (codes "deal") then option_map deal (deal_of rows)
     else if bytes_eq name (codes "check") then option_map check (check_of rows)
+    else if bytes_eq name (codes "compile") then option_map compile (compile_of rows)
     else if bytes_eq name (codes "eval") then option_map eval (eval_of rows)
     else if bytes_eq name (codes "need") then option_map need (eval_of rows)
     else None

@@ -37,6 +37,10 @@ deal_app = command_app (codes "deal") [] (codes "input" ∷ codes "tape" ∷ cod
 unfoldable pub check_app : App
 check_app = command_app (codes "check") (codes "program" ∷ []) [] []
 
+-- compile PROGRAM --code F
+unfoldable pub compile_app : App
+compile_app = command_app (codes "compile") (codes "program" ∷ []) (codes "code" ∷ []) []
+
 unfoldable pub eval_options : List Text
 eval_options = codes "budget" ∷ []
 
@@ -56,6 +60,10 @@ input_app = with_subcommand (with_subcommand bare_app run_app.top) deal_app.top
 unfoldable pub clear_app : App
 clear_app = with_subcommand (with_subcommand input_app (evaluation_app (codes "eval")).top) (evaluation_app (codes "need")).top
 
+-- and the one that checks a program
+unfoldable pub checking_app : App
+checking_app = with_subcommand clear_app check_app.top
+
 -- all commands
 unfoldable pub secrec_app : App
-secrec_app = with_subcommand clear_app check_app.top
+secrec_app = with_subcommand checking_app compile_app.top

@@ -4,13 +4,14 @@ use Rattle.std.specs.Bool.{⊤}
 use Rattle.clap.specs.Words.{Text}
 use Rattle.clap.proofs.OnLiterals.{clap_on_literals}
 use Rattle.hex.proofs.OnLiterals.{hex_on_literals}
-use Rattle.command_words.specs.Ask.{Ask, run, deal, check, eval, need, file, seeded, words_of, named_in, named, matched, run_of, deal_of, check_of, eval_of, source_of, seeded_source, number_or, required_of}
+use Rattle.command_words.specs.Ask.{Ask, run, deal, check, compile, eval, need, file, seeded, words_of, named_in, named, matched, run_of, deal_of, check_of, compile_of}
+use Rattle.command_words.specs.Ask.{eval_of, source_of, seeded_source, number_or, required_of}
 use Rattle.command_words.specs.Numbers.{number_of, seed_of}
-use Rattle.command_words.specs.Shapes.{secrec_app, clear_app, input_app, run_app, deal_app, check_app, evaluation_app, command_app, bare_app, run_options, eval_options, with_options, word_rule, option_rule}
+use Rattle.command_words.specs.Shapes.{secrec_app, checking_app, clear_app, input_app, run_app, deal_app, check_app, compile_app, evaluation_app, command_app, bare_app, run_options, eval_options, with_options, word_rule, option_rule}
 
 -- opens the definitions, so that they compute at words that are written out
 unfoldable pub words_on_literals : ⊤
-unfolding clap_on_literals hex_on_literals secrec_app clear_app input_app run_app deal_app check_app evaluation_app command_app bare_app run_options eval_options with_options word_rule option_rule words_of named_in named matched run_of deal_of check_of eval_of source_of seeded_source number_or required_of number_of seed_of
+unfolding clap_on_literals hex_on_literals secrec_app checking_app clear_app input_app run_app deal_app check_app compile_app evaluation_app command_app bare_app run_options eval_options with_options word_rule option_rule words_of named_in named matched run_of deal_of check_of compile_of eval_of source_of seeded_source number_or required_of number_of seed_of
 words_on_literals = tt
 
 -- run p.sc --input i, and then these words
@@ -123,6 +124,15 @@ check_without_program = refl
 check_with_option : words_of (codes "check" ∷ codes "p.sc" ∷ codes "--input" ∷ codes "i" ∷ []) ≡ None
 unfolding words_on_literals
 check_with_option = refl
+
+compile_words : words_of (codes "compile" ∷ codes "--code" ∷ codes "c" ∷ codes "p.sc" ∷ [])
+    ≡ Some (compile (record { program = codes "p.sc"; code = codes "c" }))
+unfolding words_on_literals
+compile_words = refl
+
+compile_without_code : words_of (codes "compile" ∷ codes "p.sc" ∷ []) ≡ None
+unfolding words_on_literals
+compile_without_code = refl
 
 eval_words : words_of (codes "eval" ∷ codes "p.sc" ∷ codes "--input" ∷ codes "i" ∷ [])
     ≡ Some (eval (record { program = codes "p.sc"; input = codes "i"; budget = 1000000 }))

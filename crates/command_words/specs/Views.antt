@@ -10,12 +10,13 @@ use Rattle.command_words.specs.declared.command.TapeSource.TheVariants as source
 use Rattle.command_words.specs.declared.command.RunWords.{RunWords}
 use Rattle.command_words.specs.declared.command.DealWords.{DealWords}
 use Rattle.command_words.specs.declared.command.CheckWords.{CheckWords}
+use Rattle.command_words.specs.declared.command.CompileWords.{CompileWords}
 use Rattle.command_words.specs.declared.command.EvalWords.{EvalWords}
 use Rattle.command_words.specs.declared.command.Command.{Command}
 use Rattle.command_words.specs.declared.command.Command.TheVariants as commands
 use Rattle.command_words.specs.declared.command.WordsErr.{WordsErr}
 use Rattle.command_words.specs.declared.command.WordsErr.TheVariants.{Usage, Memory}
-use Rattle.command_words.specs.Ask.{Ask, CheckAsk, DealAsk, EvalAsk, RunAsk, Source, check, deal, eval, file, need, run, seeded}
+use Rattle.command_words.specs.Ask.{Ask, CheckAsk, CompileAsk, DealAsk, EvalAsk, RunAsk, Source, check, compile, deal, eval, file, need, run, seeded}
 
 abbrev pub source_ask : TapeSource → Source
 source_ask (sources.File path) = file (string_bytes path)
@@ -35,6 +36,9 @@ deal_ask w = record { input = string_bytes w.input; tape = string_bytes w.tape; 
 abbrev pub check_ask : CheckWords → CheckAsk
 check_ask w = record { program = string_bytes w.program }
 
+abbrev pub compile_ask : CompileWords → CompileAsk
+compile_ask w = record { program = string_bytes w.program; code = string_bytes w.code }
+
 abbrev pub eval_ask : EvalWords → EvalAsk
 eval_ask w = record { program = string_bytes w.program; input = string_bytes w.input; budget = w.budget }
 
@@ -42,6 +46,7 @@ abbrev pub ask_of : Command → Ask
 ask_of (commands.Run w) = run (run_ask w)
 ask_of (commands.Deal w) = deal (deal_ask w)
 ask_of (commands.Check w) = check (check_ask w)
+ask_of (commands.Compile w) = compile (compile_ask w)
 ask_of (commands.Eval w) = eval (eval_ask w)
 ask_of (commands.Need w) = need (eval_ask w)
 

@@ -1,6 +1,6 @@
 //! The `clap` command that reads the words.
 ghost use Rattle.std.specs.Prelude.{◌≡◌, IfOk, map};
-ghost use Rattle.command_words.specs.Shapes.{word_rule, option_rule, run_options, run_app, deal_app, check_app, eval_options, evaluation_app, bare_app, input_app, clear_app, secrec_app};
+ghost use Rattle.command_words.specs.Shapes.{word_rule, option_rule, run_options, run_app, deal_app, check_app, compile_app, eval_options, evaluation_app, bare_app, input_app, clear_app, checking_app, secrec_app};
 ghost use Rattle.clap.specs.Words.{App, with_subcommand};
 ghost use Rattle.command_words.specs.Builds.{Builds, GetsOptions, IsLocal};
 
@@ -46,6 +46,8 @@ static RUN_OPTIONS: [&str; 4] = ["tape", "seed", "words", "budget"];
 
 static DEAL_REQUIRED: [&str; 3] = ["input", "tape", "to"];
 
+static COMPILE_REQUIRED: [&str; 1] = ["code"];
+
 static EVAL_REQUIRED: [&str; 1] = ["input"];
 
 static EVAL_OPTIONS: [&str; 1] = ["budget"];
@@ -84,6 +86,14 @@ fn check_command<'a>(alloc: Global) -> Result<Command<'a>, AllocError>
     ensures { IfOk result (λ c. Builds check_app c) }
 {
     Command::new(alloc, "check").arg(word(alloc, "program"))
+}
+
+#[tactic(auto, unfolding(crate::specs::Shapes::compile_app, crate::specs::Shapes::command_app, crate::specs::Shapes::with_options))]
+fn compile_command<'a>(alloc: Global) -> Result<Command<'a>, AllocError>
+    ensures { IfOk result (λ c. Builds compile_app c) }
+{
+    let command = Command::new(alloc, "compile").arg(word(alloc, "program"))?;
+    with_options(alloc, command, true, COMPILE_REQUIRED.as_slice())
 }
 
 // The options of `eval` and of `need` that may be left out.
@@ -142,9 +152,16 @@ fn clear_commands<'a>(alloc: Global) -> Result<Command<'a>, AllocError>
     with_command(eval, evaluation_command(alloc, "need"))
 }
 
+// Those, and the one that checks a program.
+fn checking_commands<'a>(alloc: Global) -> Result<Command<'a>, AllocError>
+    ensures { IfOk result (λ c. Builds checking_app c) }
+{
+    with_command(clear_commands(alloc), check_command(alloc))
+}
+
 /// The whole command.
 pub(crate) fn secrec_command<'a>(alloc: Global) -> Result<Command<'a>, AllocError>
     ensures { IfOk result (λ c. Builds secrec_app c) }
 {
-    with_command(clear_commands(alloc), check_command(alloc))
+    with_command(checking_commands(alloc), compile_command(alloc))
 }

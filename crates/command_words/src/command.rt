@@ -37,6 +37,13 @@ pub struct CheckWords {
     pub program: String,
 }
 
+/// The words of `compile`: the paths of the program, and of the code that is written.
+#[derive(Drop)]
+pub struct CompileWords {
+    pub program: String,
+    pub code: String,
+}
+
 /// The words of `eval` and of `need`: the paths of the program and the input file, and the most that the evaluation may cost.
 #[derive(Drop)]
 pub struct EvalWords {
@@ -49,6 +56,7 @@ pub struct EvalWords {
 #[derive(Drop)]
 pub enum Command {
     Check(CheckWords),
+    Compile(CompileWords),
     Eval(EvalWords),
     Need(EvalWords),
     Run(RunWords),

@@ -11,6 +11,8 @@ mod reading;
 mod tape_seed;
 mod values;
 
-pub use command::{CheckWords, Command, DealWords, EvalWords, RunWords, TapeSource, WordsErr};
+pub use command::{
+    CheckWords, Command, CompileWords, DealWords, EvalWords, RunWords, TapeSource, WordsErr,
+};
 pub use reading::read;
 pub use tape_seed::TapeSeed;

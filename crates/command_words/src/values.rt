@@ -1,10 +1,12 @@
 //! What a command's words give, once `clap` has matched them.
 ghost use Rattle.std.specs.Prelude.{◌≡◌, option_map, IfOk, string_bytes, codes};
 ghost use Rattle.clap.specs.Words.{found_of, first_of, rows_of};
-ghost use Rattle.command_words.specs.Ask.{required_of, default_budget, number_or, seeded_source, source_of, run_of, deal_of, check_of, eval_of, named};
-ghost use Rattle.command_words.specs.Views.{Reads, text_in, source_ask, run_ask, deal_ask, check_ask, eval_ask, ask_of};
+ghost use Rattle.command_words.specs.Ask.{required_of, default_budget, number_or, seeded_source, source_of, run_of, deal_of, check_of, compile_of, eval_of, named};
+ghost use Rattle.command_words.specs.Views.{Reads, text_in, source_ask, run_ask, deal_ask, check_ask, compile_ask, eval_ask, ask_of};
 
-use crate::command::{CheckWords, Command, DealWords, EvalWords, RunWords, TapeSource, WordsErr};
+use crate::command::{
+    CheckWords, Command, CompileWords, DealWords, EvalWords, RunWords, TapeSource, WordsErr,
+};
 use crate::numbers::{number, seed};
 use crate::tape_seed::TapeSeed;
 use clap::ArgMatches;
@@ -141,6 +143,17 @@ fn check_words(alloc: Global, matches: &ArgMatches) -> Result<CheckWords, WordsE
     })
 }
 
+// The words of `compile`.
+#[tactic(auto, unfolding(crate::specs::Ask::compile_of))]
+fn compile_words(alloc: Global, matches: &ArgMatches) -> Result<CompileWords, WordsErr>
+    ensures { Reads compile_ask (compile_of (rows_of (found_of matches.now))) result }
+{
+    Ok(CompileWords {
+        program: required(alloc, matches, "program")?,
+        code: required(alloc, matches, "code")?,
+    })
+}
+
 // The words of `eval` and of `need`.
 #[tactic(auto, unfolding(crate::specs::Ask::eval_of))]
 fn eval_words(alloc: Global, matches: &ArgMatches) -> Result<EvalWords, WordsErr>
@@ -170,6 +183,9 @@ pub(crate) fn named(alloc: Global, name: &str, matches: &ArgMatches) -> Result<C
     }
     if name == "check" {
         return Ok(Command::Check(check_words(alloc, matches)?));
+    }
+    if name == "compile" {
+        return Ok(Command::Compile(compile_words(alloc, matches)?));
     }
     if name == "eval" {
         return Ok(Command::Eval(eval_words(alloc, matches)?));

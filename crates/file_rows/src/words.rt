@@ -33,6 +33,9 @@ fn command_text(alloc: Global, command: &Command) -> Result<String, AllocError> 
             format!(in alloc; "deal {} {} {}", deal.input, deal.tape, deal.to)
         }
         Command::Check(check) => format!(in alloc; "check {}", check.program),
+        Command::Compile(compile) => {
+            format!(in alloc; "compile {} {}", compile.program, compile.code)
+        }
         Command::Eval(eval) => {
             format!(in alloc; "eval {} {} {}", eval.program, eval.input, eval.budget)
         }
@@ -52,7 +55,7 @@ fn answer(alloc: Global, line: &str) -> Result<String, AllocError> {
     }
 }
 
-const ROWS: [(&str, &str); 64] = [
+const ROWS: [(&str, &str); 68] = [
     ("run p --input i --tape t", "run p i file t 1000000"),
     ("run --tape=t --budget=007 --input=i p", "run p i file t 7"),
     (
@@ -75,6 +78,10 @@ const ROWS: [(&str, &str); 64] = [
     ("check p", "check p"),
     ("check -- --p", "check --p"),
     ("check ", "check "),
+    ("compile p --code c", "compile p c"),
+    ("compile --code=-c -- --p", "compile --p -c"),
+    ("compile p", "usage"),
+    ("compile p --code c --budget 1", "usage"),
     ("eval p --input i", "eval p i 1000000"),
     ("eval --budget 007 --input=-i p", "eval p -i 7"),
     (

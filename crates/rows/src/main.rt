@@ -7,9 +7,35 @@ mod calling;
 use crate::calling::call;
 use anyhow::{Result, bail};
 use row_files::{Refused, Row, Tally, Wrong, judge, read_rows};
+use std::alloc::Global;
 use std::process::ExitCode;
 use std::rt::Files;
 use std::{env, fs};
+
+// A seed of tapes, and how many words each of them has: enough for all rows that evaluate in the clear.
+const SEED: &str = "0000000000000000000000000000000000000000000000000000000000000000";
+
+const WORDS: &str = "262144";
+
+// The words of `run` in the place of those of `eval`: it prints what `eval` prints, where the tapes are long enough.
+fn on_shares(alloc: Global, words: &[String]) -> Result<Vec<String>> {
+    let mut run = Vec::new(alloc);
+    run.push(String::from_str(alloc, "run")?)?;
+    for word in words.iter().skip(1) {
+        run.push(word.clone()?)?;
+    }
+    for word in ["--seed", SEED, "--words", WORDS] {
+        run.push(String::from_str(alloc, word)?)?;
+    }
+    Ok(run)
+}
+
+fn evaluates(row: &Row) -> bool {
+    match row.words.first() {
+        Some(word) => word.as_str() == "eval",
+        None => false,
+    }
+}
 
 // Calls the program as a row says. Whether what comes out is what the row says; where it is not, it is printed how it differs.
 fn try_row(rt: &(impl Print + AllocGlobal), path: &str, row: &Row) -> Result<bool> {
@@ -23,16 +49,30 @@ fn try_row(rt: &(impl Print + AllocGlobal), path: &str, row: &Row) -> Result<boo
     Ok(agrees)
 }
 
-fn try_rows(rt: &(impl Print + AllocGlobal), path: &str, rows: &[Row]) -> Result<Tally> {
-    let mut tally = Tally {
+fn none_tried() -> Tally {
+    Tally {
         rows: 0,
         differing: 0,
-    };
-    for row in rows {
-        tally.count(try_row(rt, path, row)?);
     }
-    println!(rt; "{path}: {} rows, {} differ", tally.rows, tally.differing)?;
-    Ok(tally)
+}
+
+// Tries rows, and each that evaluates in the clear on shares too. Whether there are any, and none differs.
+fn try_rows(rt: &(impl Print + AllocGlobal), path: &str, rows: Vec<Row>) -> Result<bool> {
+    let mut tally = none_tried();
+    let mut shared = none_tried();
+    for row in rows {
+        tally.count(try_row(rt, path, &row)?);
+        if evaluates(&row) {
+            let mut row = row;
+            row.words = on_shares(rt.alloc(), &row.words)?;
+            shared.count(try_row(rt, path, &row)?);
+        }
+    }
+    println!(rt;
+        "{path}: {} rows, {} differ; {} on shares, {} differ",
+        tally.rows, tally.differing, shared.rows, shared.differing
+    )?;
+    Ok(tally.is_good() && shared.differing == 0)
 }
 
 // Says in which line a file cannot be read, and why.
@@ -48,7 +88,7 @@ fn refuse(rt: &impl Print, path: &str, refused: Refused) -> Result<bool> {
 fn try_file(rt: &(impl Print + Files + AllocGlobal), path: &str) -> Result<bool> {
     let bytes = fs::read(rt, path)?;
     match read_rows(rt.alloc(), &bytes) {
-        Ok(rows) => Ok(try_rows(rt, path, &rows)?.is_good()),
+        Ok(rows) => try_rows(rt, path, rows),
         Err(refused) => refuse(rt, path, refused),
     }
 }

@@ -14,7 +14,7 @@ use Rattle.tape_file.specs.Tapes.{FourTapes}
 use Rattle.value_file.specs.declared.inputs.Entry.{Entry}
 use Rattle.value_file.specs.Input.{read_of as inputs_read_of}
 use Rattle.run_engine.specs.Deal.{deal_effect, deal_of, dealing, short_tape}
-use Rattle.run_engine.specs.Run.{bad_input, bad_tape, inputs_at, tape_file_at}
+use Rattle.run_engine.specs.Reading.{bad_input, bad_tape, inputs_at, tape_file_at}
 use Rattle.run_engine.specs.Runs.{HoldsDeal, DealRefused, unreadable_entries, unreadable_tapes, too_few_words}
 use Rattle.run_engine.specs.Words.{answer_to, question_of, IsAnswer}
 use Rattle.run_engine.proofs.Judged.{found_nothing}

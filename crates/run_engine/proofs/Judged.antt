@@ -1,5 +1,5 @@
 -- What was read of a program's text is its judgement.
-use Rattle.std.proofs.Common.{◌≡◌, ℕ, List, true, Option, Some, None, Ok, Err, Result, refl, ap, subst, sym, ◌∙◌}
+use Rattle.std.proofs.Common.{◌≡◌, ℕ, List, [], true, Option, Some, None, Ok, Err, Result, refl, ap, subst, sym, ◌∙◌}
 use Rattle.std.specs.Option.{ok_or}
 use Rattle.std.specs.Result.{IsErrAnd}
 use Rattle.outside.specs.Files.{Contents, FilesState, file_at}
@@ -15,8 +15,8 @@ use Rattle.command_frame.specs.Answer.{Cause, bytes_at, missing}
 use Rattle.command_frame.specs.Reads.{Stops}
 use Rattle.command_frame.specs.Stops.{IsRefusalFor}
 use Rattle.program_limits.specs.declared.limit_error.LimitError.TheVariants.{Memory}
-use Rattle.run_engine.specs.Judging.{JudgedAt, HasJudgement, Sized, Finding, HasFinding, nothing, its_text, StopTells, Tells}
-use Rattle.run_engine.specs.Programs.{accepted, start, tree_at}
+use Rattle.run_engine.specs.Judging.{JudgedAt, HasJudgement, Sized, HasFinding, nothing, StopTells, Tells}
+use Rattle.run_engine.specs.Programs.{accepted, tree_at}
 
 -- the bytes that were read are those of the file
 found_there : (files : Contents) (path bytes : List ℕ) → bytes_at files path ≡ Ok bytes → file_at files path ≡ Some bytes
@@ -50,7 +50,7 @@ judgement_known files path bytes known is judged =
 
 -- any judgement, of no text
 abbrev pub some : Judged
-some = Err (record { fault = BadByte; place = start })
+some = Err (record { fault = BadByte; place = record { line = 1; column = 1 } })
 
 pub no_text : (files : Contents) (path : List ℕ) (c : Cause) → bytes_at files path ≡ Err c → JudgedAt (Some path) files some
 no_text files path c is = λ b there. absurd (wrong b there)
@@ -99,12 +99,5 @@ refusal_only bytes e fault is only j judged = subst (λ (x : ProgramErr). IsJust
 abbrev pub any_size : Sized
 any_size = Err Memory
 
--- of the text alone
-abbrev pub text_alone : Judged → Finding
-text_alone judged = record { judged = judged; sized = any_size }
-
-pub found_text : (files : Contents) (path : List ℕ) → HasJudgement (Some path) files → HasFinding (its_text path) files
-found_text files path (judged, at) = (text_alone judged, at)
-
 pub found_nothing : (files : Contents) → HasFinding nothing files
-found_nothing files = (text_alone some, tt)
+found_nothing files = (record { judged = some; sized = any_size; reached = [] }, tt)

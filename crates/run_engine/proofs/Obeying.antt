@@ -4,8 +4,7 @@ use Rattle.std.specs.Prelude.{IfErr}
 use Rattle.std.specs.Result.{IsErrAnd}
 use Rattle.outside.specs.Files.{FilesState}
 use Rattle.outside.specs.Sink.{SinkState}
-use Rattle.front_end.specs.Judgement.{Judged}
-use Rattle.command_words.specs.Ask.{Ask, CheckAsk, DealAsk, EvalAsk, RunAsk, check, deal, eval, need, run, words_of}
+use Rattle.command_words.specs.Ask.{Ask, CheckAsk, CompileAsk, DealAsk, EvalAsk, RunAsk, check, compile, deal, eval, need, run, words_of}
 use Rattle.command_frame.specs.declared.plan.Plan.{Plan}
 use Rattle.command_frame.specs.declared.status.Status.{Status}
 use Rattle.command_frame.specs.declared.stop.Stop.{Stop}
@@ -16,39 +15,53 @@ use Rattle.command_frame.specs.Reads.{Gives, KeepsTo, OnlyRead, StopsReading}
 use Rattle.command_frame.specs.Whole.{EndsAs, StopsAtFile}
 use Rattle.command_frame.proofs.Wholes.{acts_anyhow, acts_as, among_written, ends_anyhow, ends_as, nothing_written, only_written, read_only, reading_stops, same_sink, stops_anyhow, stops_as, stops_so, unchanged, writing_stops}
 use Rattle.run_engine.specs.Check.{check_of, check_paths}
+use Rattle.run_engine.specs.Compile.{compile_of, compile_paths, compiled_paths}
 use Rattle.run_engine.specs.Deal.{deal_of, deal_paths, written_paths}
 use Rattle.run_engine.specs.Eval.{eval_of, eval_paths, need_of}
-use Rattle.run_engine.specs.Judging.{Finding, FoundAt, HasFinding, HasJudgement, JudgedAt, Tells, its_size}
+use Rattle.run_engine.specs.Judging.{Finding, FoundAt, HasFinding, Tells, its_program}
 use Rattle.run_engine.specs.Obeying.{Acted, CommandAnswers, Obeyed, Planned}
 use Rattle.run_engine.specs.Run.{run_of, run_paths}
 use Rattle.run_engine.specs.Words.{answer_to, question_of, reads_of, read_by, writes_of, written_by, IsAnswer}
-use Rattle.run_engine.proofs.Judged.{found_nothing, found_text}
+use Rattle.run_engine.proofs.Judged.{found_nothing}
 use Rattle.run_engine.proofs.Runs.{answer_of_usage, command_answers, has_answer, reads_by, writes_by}
 use Rattle.run_engine.proofs.Tops.{is_named, printed_so}
 
 -- ---- each command's own part
 
 module _ (f f' : FilesState) (r : Result Plan Stop) (read : OnlyRead f f') (anyhow : IfErr r (StopsReading f f')) where
-  pub run_planned : (ask : RunAsk) → ((judged : Judged) → JudgedAt (Some ask.program) f.contents judged → Gives effect_of f f' r (run_of judged ask f.contents))
-      → (f.told ≡ true → Tells f r → HasJudgement (Some ask.program) f.contents) → KeepsTo (run_paths ask) [] r → Planned (run ask) f f' r
+  pub run_planned : (ask : RunAsk)
+      → ((found : Finding) → FoundAt (its_program ask.program) f.contents found → Gives effect_of f f' r (run_of found ask f.contents))
+      → (f.told ≡ true → Tells f r → HasFinding (its_program ask.program) f.contents) → KeepsTo (run_paths ask) [] r → Planned (run ask) f f' r
   unfolding answer_to question_of reads_of writes_of
-  run_planned ask answer judged keeps = record {
+  run_planned ask answer found keeps = record {
     files = read;
     anyhow = anyhow;
-    answer = λ found at. answer found.judged at;
-    found = λ t tells. found_text f.contents ask.program (judged t tells);
+    answer = answer;
+    found = found;
     keeps = keeps;
   }
 
   pub check_planned : (ask : CheckAsk)
-      → ((judged : Judged) → JudgedAt (Some ask.program) f.contents judged → Gives effect_of f f' r (check_of judged ask f.contents))
-      → (f.told ≡ true → Tells f r → HasJudgement (Some ask.program) f.contents) → KeepsTo (check_paths ask) [] r → Planned (check ask) f f' r
+      → ((found : Finding) → FoundAt (its_program ask.program) f.contents found → Gives effect_of f f' r (check_of found ask f.contents))
+      → (f.told ≡ true → Tells f r → HasFinding (its_program ask.program) f.contents) → KeepsTo (check_paths ask) [] r → Planned (check ask) f f' r
   unfolding answer_to question_of reads_of writes_of
-  check_planned ask answer judged keeps = record {
+  check_planned ask answer found keeps = record {
     files = read;
     anyhow = anyhow;
-    answer = λ found at. answer found.judged at;
-    found = λ t tells. found_text f.contents ask.program (judged t tells);
+    answer = answer;
+    found = found;
+    keeps = keeps;
+  }
+
+  pub compile_planned : (ask : CompileAsk)
+      → ((found : Finding) → FoundAt (its_program ask.program) f.contents found → Gives effect_of f f' r (compile_of found ask f.contents))
+      → (f.told ≡ true → Tells f r → HasFinding (its_program ask.program) f.contents) → KeepsTo (compile_paths ask) (compiled_paths ask) r → Planned (compile ask) f f' r
+  unfolding answer_to question_of reads_of writes_of
+  compile_planned ask answer found keeps = record {
+    files = read;
+    anyhow = anyhow;
+    answer = answer;
+    found = found;
     keeps = keeps;
   }
 
@@ -64,8 +77,8 @@ module _ (f f' : FilesState) (r : Result Plan Stop) (read : OnlyRead f f') (anyh
   }
 
   pub eval_planned : (ask : EvalAsk)
-      → ((found : Finding) → FoundAt (its_size ask.program) f.contents found → Gives effect_of f f' r (eval_of found ask f.contents))
-      → (f.told ≡ true → Tells f r → HasFinding (its_size ask.program) f.contents) → KeepsTo (eval_paths ask) [] r → Planned (eval ask) f f' r
+      → ((found : Finding) → FoundAt (its_program ask.program) f.contents found → Gives effect_of f f' r (eval_of found ask f.contents))
+      → (f.told ≡ true → Tells f r → HasFinding (its_program ask.program) f.contents) → KeepsTo (eval_paths ask) [] r → Planned (eval ask) f f' r
   unfolding answer_to question_of reads_of writes_of
   eval_planned ask answer found keeps = record {
     files = read;
@@ -76,8 +89,8 @@ module _ (f f' : FilesState) (r : Result Plan Stop) (read : OnlyRead f f') (anyh
   }
 
   pub need_planned : (ask : EvalAsk)
-      → ((found : Finding) → FoundAt (its_size ask.program) f.contents found → Gives effect_of f f' r (need_of found ask f.contents))
-      → (f.told ≡ true → Tells f r → HasFinding (its_size ask.program) f.contents) → KeepsTo (eval_paths ask) [] r → Planned (need ask) f f' r
+      → ((found : Finding) → FoundAt (its_program ask.program) f.contents found → Gives effect_of f f' r (need_of found ask f.contents))
+      → (f.told ≡ true → Tells f r → HasFinding (its_program ask.program) f.contents) → KeepsTo (eval_paths ask) [] r → Planned (need ask) f f' r
   unfolding answer_to question_of reads_of writes_of
   need_planned ask answer found keeps = record {
     files = read;

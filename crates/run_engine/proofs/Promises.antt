@@ -7,17 +7,19 @@ use Rattle.command_frame.specs.declared.status.Status.TheVariants as statuses
 use Rattle.command_frame.specs.Answer.{Answer, Effect}
 use Rattle.command_frame.specs.Status.{is_end, is_fault, is_refusal}
 use Rattle.command_frame.specs.Whole.{CarriedOut, IsAnswered}
-use Rattle.command_words.specs.Ask.{CheckAsk, DealAsk, EvalAsk, RunAsk, check, deal, eval, need, run, words_of}
+use Rattle.command_words.specs.Ask.{CheckAsk, CompileAsk, DealAsk, EvalAsk, RunAsk, check, compile, deal, eval, need, run, words_of}
 use Rattle.run_engine.specs.Eval.{end_of, eval_text, need_text, report_for}
-use Rattle.run_engine.specs.Outcome.{outcome_of}
-use Rattle.run_engine.specs.Promises.{AllSteady, CheckEffect, DealEffect, EvalEffect, RunEffect, Gives, Keeps, is_done}
-use Rattle.run_engine.specs.Runs.{CheckRefused, DealRefused, EvalRefused, RunRefused}
+use Rattle.run_engine.specs.Promises.{AllSteady, CheckEffect, CompileEffect, DealEffect, EvalEffect, RunEffect, Gives, Keeps, is_done}
+use Rattle.run_engine.specs.Run.{run_report}
+use Rattle.run_engine.specs.Runs.{DealRefused, EvalRefused, ProgramRefused, RunRefused}
 use Rattle.run_engine.specs.Words.{IsAnswer, HasAnswer}
 use Rattle.run_engine.proofs.Deals.{deal_answered_so, deal_refused_only}
 use Rattle.run_engine.proofs.Evals.{eval_answered, eval_answered_so, eval_refused_so, need_answered}
 use Rattle.run_engine.proofs.Judged.{found_nothing}
 use Rattle.run_engine.proofs.Refusals.{Refuses, end_is, status_in_answer}
-use Rattle.run_engine.proofs.Runs.{HasAnswerOf, carried_status, check_answered, check_answered_so, check_refused_so, deal_answered, no_fault_end, no_fault_refusal, refused_if, run_answered, run_answered_so, run_refused_only}
+use Rattle.run_engine.proofs.RunRefusals.{run_answered, run_answered_so, run_refused_only}
+use Rattle.run_engine.proofs.Runs.{HasAnswerOf, carried_status, deal_answered, no_fault_end, no_fault_refusal, refused_if}
+use Rattle.run_engine.proofs.Texts.{check_answered, check_answered_so, check_refused_so, compile_answered, compile_answered_so, compile_refused_so}
 use Rattle.run_engine.proofs.Tops.{no_file, no_memory}
 
 -- the effect is the answer to the words, and ends
@@ -58,10 +60,18 @@ module _ (words : List (List ℕ)) (f f' : FilesState) (o o' e e' : SinkState) (
       → Refuses (status_in_answer answer)
   refuses answer refusal unended = record { refusal = refusal; no_end = unended }
 
-  pub check_keeps : (ask : CheckAsk) → words_of words ≡ Some (check ask) → Keeps (CheckEffect ask f.contents) (CheckRefused ask f.contents) is_end f f' o o' s
-  check_keeps ask asks = keeps (CheckEffect ask f.contents) (CheckRefused ask f.contents) is_end
+  pub check_keeps : (ask : CheckAsk) → words_of words ≡ Some (check ask) → Keeps (CheckEffect ask f.contents) (ProgramRefused ask.program f.contents) is_end f f' o o' s
+  check_keeps ask asks = keeps (CheckEffect ask f.contents) (ProgramRefused ask.program f.contents) is_end
       (λ effect w. subst (IsEndingAnswer words f.contents) (sym w.2) (record { answer = check_answered words ask f.contents w.0 asks w.1; ends = refl }))
       (λ answer a r u. check_refused_so words ask f.contents asks answer a (refuses answer r u)) (λ status refused. check_answered_so words ask f.contents status asks refused)
+
+  pub compile_keeps : (ask : CompileAsk) → words_of words ≡ Some (compile ask)
+      → Keeps (CompileEffect ask f.contents) (ProgramRefused ask.program f.contents) is_end f f' o o' s
+  compile_keeps ask asks = keeps (CompileEffect ask f.contents) (ProgramRefused ask.program f.contents) is_end
+      (λ effect w. subst (IsEndingAnswer words f.contents) (sym w.4)
+      (record { answer = compile_answered words ask f.contents w.0 w.1 asks w.2 w.3; ends = refl }))
+      (λ answer a r u. compile_refused_so words ask f.contents asks answer a (refuses answer r u))
+      (λ status refused. compile_answered_so words ask f.contents status asks refused)
 
   pub eval_keeps : (ask : EvalAsk) → words_of words ≡ Some (eval ask) → Keeps (EvalEffect eval_text ask f.contents) (EvalRefused ask f.contents) is_end f f' o o' s
   eval_keeps ask asks = keeps (EvalEffect eval_text ask f.contents) (EvalRefused ask f.contents) is_end
@@ -78,7 +88,7 @@ module _ (words : List (List ℕ)) (f f' : FilesState) (o o' e e' : SinkState) (
   pub run_keeps : (ask : RunAsk) → words_of words ≡ Some (run ask) → Keeps (RunEffect ask f.contents) (RunRefused ask f.contents) is_end f f' o o' s
   run_keeps ask asks = keeps (RunEffect ask f.contents) (RunRefused ask f.contents) is_end
       (λ effect w. subst (IsEndingAnswer words f.contents) (sym w.4)
-      (record { answer = run_answered words ask f.contents w.0 w.1 w.2 asks w.3; ends = end_is (outcome_of w.0 w.1 w.2 ask.budget).end.how }))
+      (record { answer = run_answered words ask f.contents w.0 w.1 w.2 asks w.3; ends = end_is (end_of (run_report w.0 w.1 w.2 ask.budget)).how }))
       (λ answer a r u. run_refused_only words ask f.contents asks answer a (refuses answer r u)) (λ status refused. run_answered_so words ask f.contents status asks refused)
 
   pub deal_keeps : (ask : DealAsk) → words_of words ≡ Some (deal ask) → Keeps (DealEffect ask f.contents) (DealRefused ask f.contents) is_done f f' o o' s

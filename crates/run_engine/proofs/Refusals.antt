@@ -1,4 +1,4 @@
--- `check` and `run` are refused only for a file that is there and not as it must be.
+-- Why a command is refused: a file that it reads is missing, or is there and not as it must be.
 use Rattle.std.proofs.Common.{◌≡◌, ◌⊎◌, ℕ, List, true, false, Option, Some, None, Ok, Err, Result, refl, ap, subst, sym, ◌∙◌, inl, inr}
 use Rattle.std.specs.Option.{ok_or}
 use Rattle.outside.specs.Files.{Contents, file_at}
@@ -6,26 +6,20 @@ use Rattle.command_frame.specs.declared.status.Status.{Status}
 use Rattle.command_frame.specs.declared.status.Status.TheVariants as statuses
 use Rattle.command_frame.specs.Answer.{Answer, Cause, bytes_at, missing, ◌>>=◌}
 use Rattle.command_frame.specs.Status.{is_end, is_refusal}
-use Rattle.command_words.specs.Ask.{CheckAsk, RunAsk, Source, file, seeded}
+use Rattle.command_words.specs.Ask.{Source, file, seeded}
 use Rattle.secrec_ast.specs.Programs.{ProgramTree}
 use Rattle.front_end.specs.declared.program_fault.ProgramFault.{ProgramFault}
 use Rattle.front_end.specs.Judgement.{Judged, IsJudged}
 use Rattle.sc_text.specs.declared.end.Ending.{Ending}
 use Rattle.sc_text.specs.declared.end.Ending.TheVariants as endings
 use Rattle.tape_file.specs.Format.{read_of as tapes_read_of}
-use Rattle.tape_file.specs.Tapes.{FourTapes}
-use Rattle.value_file.specs.declared.inputs.Entry.{Entry}
 use Rattle.value_file.specs.declared.read_err.ReadErr.{ReadErr}
 use Rattle.value_file.specs.Input.{read_of as inputs_read_of}
-use Rattle.run_engine.specs.Outcome.{outcome_of, status_of}
-use Rattle.run_engine.specs.Check.{check_of, check_effect}
+use Rattle.run_engine.specs.Ends.{status_of}
 use Rattle.run_engine.specs.Judging.{JudgedAt}
-use Rattle.run_engine.specs.Programs.{accepted, bad_program, not_yet, sum_at, tree_at}
-use Rattle.run_engine.specs.Run.{bad_input, bad_tape, inputs_at, read_or, run_effect, run_of, tape_file_at, tapes_at}
-use Rattle.run_engine.specs.Runs.{HoldsProgram, HoldsBadProgram, HoldsSum, CheckRefused, RunRefused, cannot_run_yet, bad_program as program_refused, bad_input as input_refused, bad_tape as tape_refused}
-use Rattle.run_engine.specs.SumProgram.{SumProgram, IsSumProgram}
-use Rattle.run_engine.specs.SumReading.{sum_program_of}
-use Rattle.run_engine.proofs.SumTrees.{reading_is_tree}
+use Rattle.run_engine.specs.Programs.{accepted, bad_program, tree_at}
+use Rattle.run_engine.specs.Reading.{bad_input, bad_tape, inputs_at, read_or, tape_file_at, tapes_at}
+use Rattle.run_engine.specs.Runs.{HoldsProgram, HoldsBadProgram}
 
 -- of two steps the first is refused, or both are done
 abbrev pub Steps : {A B : Type 0} → Result A Cause → (A → Result B Cause) → Result B Cause → Type 0
@@ -134,10 +128,6 @@ pub bad_status : (fault : ProgramFault) → status_of_cause (bad_program fault) 
 unfolding bad_program
 bad_status fault = refl
 
-not_yet_status : status_of_cause not_yet ≡ statuses.Program
-unfolding not_yet
-not_yet_status = refl
-
 abbrev tree_refused : Cause → Result ProgramTree Cause
 tree_refused c = Err c
 
@@ -162,36 +152,6 @@ tree_cases judged files path h r is =
     at_bytes bytes (inl (b, there, same)) rest = tree_read files path b there judged (h b there) r rest
     at_bytes bytes (inr wrong) rest = absurd cc
 
--- an accepted program is there that can't be run yet
-abbrev HoldsOther : List ℕ → Contents → Type 0
-HoldsOther path files = (tree : ProgramTree) × HoldsProgram path files tree × ((sum : SumProgram) → IsSumProgram tree sum → ⊥)
-
--- a program that can be run was read, or why it wasn't
-abbrev SumRead : Contents → List ℕ → Result SumProgram Cause → Type 0
-SumRead files path (Ok sum) = HoldsSum path files sum
-SumRead files path (Err c) = (c ≡ missing path) ⊎ ((status_of_cause c ≡ statuses.Program) × (HoldsBadProgram path files ⊎ HoldsOther path files))
-
-no_sum : (tree : ProgramTree) → sum_program_of tree ≡ None → (sum : SumProgram) → IsSumProgram tree sum → ⊥
-no_sum tree none sum is = let both : None ≡ Some sum = sym none ∙ (reading_is_tree tree sum).1 is in absurd cc
-
-sum_read : (files : Contents) (path : List ℕ) (tree : ProgramTree) → HoldsProgram path files tree → (o : Option SumProgram) → sum_program_of tree ≡ o → (r : Result SumProgram Cause) → ok_or o not_yet ≡ r → SumRead files path r
-sum_read files path tree held (Some sum) opens r is =
-    subst (SumRead files path) is (record { tree = tree; held = held; is = (reading_is_tree tree sum).0 opens })
-sum_read files path tree held None none r is =
-    subst (SumRead files path) is (inr (not_yet_status, inr (tree, held, no_sum tree none)))
-
-sum_cases : (judged : Judged) (files : Contents) (path : List ℕ) → JudgedAt (Some path) files judged → (r : Result SumProgram Cause) → sum_at judged files path ≡ r → SumRead files path r
-unfolding sum_at
-sum_cases judged files path h r is =
-    elim (steps (tree_at judged files path) (λ tree. ok_or (sum_program_of tree) not_yet) r is) [
-      | inl (c, e, is_r) ↦ subst (SumRead files path) (sym is_r) (unread c (tree_cases judged files path h (Err c) e))
-      | inr (tree, e, rest) ↦ sum_read files path tree (tree_cases judged files path h (Ok tree) e) (sum_program_of tree) refl r rest
-    ]
-  where
-    unread : (c : Cause) → TreeRead files path (Err c) → SumRead files path (Err c)
-    unread c (inl missed) = inl missed
-    unread c (inr (status, bad)) = inr (status, inl bad)
-
 -- ---- the other files
 
 pub inputs_refused : (files : Contents) (path : List ℕ) (c : Cause) → inputs_at files path ≡ Err c → ReadRefused files path bad_input inputs_read_of c
@@ -202,7 +162,7 @@ pub tape_file_refused : (files : Contents) (path : List ℕ) (c : Cause) → tap
 unfolding tape_file_at
 tape_file_refused files path c is = read_refused files path bad_tape tapes_read_of c is
 
-tapes_refused : (files : Contents) (source : Source) (c : Cause) → tapes_at files source ≡ Err c → (path : List ℕ) × (source ≡ file path) × ReadRefused files path bad_tape tapes_read_of c
+pub tapes_refused : (files : Contents) (source : Source) (c : Cause) → tapes_at files source ≡ Err c → (path : List ℕ) × (source ≡ file path) × ReadRefused files path bad_tape tapes_read_of c
 unfolding tapes_at
 tapes_refused files (file path) c is = (path, refl, tape_file_refused files path c is)
 tapes_refused files (seeded seed words) c is = absurd cc
@@ -214,68 +174,3 @@ input_status err = refl
 pub tape_status : (place : ℕ) → status_of_cause (bad_tape place) ≡ statuses.TapeFile
 unfolding bad_tape
 tape_status place = refl
-
--- ---- `check`
-
-pub check_refused_only : (judged : Judged) (ask : CheckAsk) (files : Contents) (r : Answer) → JudgedAt (Some ask.program) files judged → Refuses (status_in_answer r)
-    → check_of judged ask files ≡ r → CheckRefused ask files (status_in_answer r)
-unfolding check_of
-check_refused_only judged ask files r h why is =
-    elim (steps (tree_at judged files ask.program) (λ tree. Ok check_effect) r is) [
-      | inl (c, e, is_r) ↦ at_refusal c is_r (tree_cases judged files ask.program h (Err c) e)
-      | inr (tree, e, done) ↦ no_ending (status_in_answer r) endings.Done why (ap status_in_answer (sym done))
-    ]
-  where
-    at_refusal : (c : Cause) → r ≡ Err c → TreeRead files ask.program (Err c) → CheckRefused ask files (status_in_answer r)
-    at_refusal c is_r (inl missed) = not_missing r c ask.program why.refusal is_r missed
-    at_refusal c is_r (inr (status, bad)) = record { status = refusing r c is_r ∙ status; program = bad }
-
--- ---- `run`
-
-module _ (judged : Judged) (ask : RunAsk) (files : Contents) (h : JudgedAt (Some ask.program) files judged) (r : Answer) (why : Refuses (status_in_answer r)) where
-  abbrev ran : SumProgram → List Entry → FourTapes → Answer
-  ran sum entries tapes = Ok (run_effect (outcome_of sum entries tapes ask.budget))
-
-  by_program : (c : Cause) → r ≡ Err c → SumRead files ask.program (Err c) → RunRefused ask files (status_in_answer r)
-  by_program c is (inl missed) = not_missing r c ask.program why.refusal is missed
-  by_program c is (inr (status, inl bad)) = program_refused (refusing r c is ∙ status) bad
-  by_program c is (inr (status, inr (tree, held, other))) = cannot_run_yet (refusing r c is ∙ status) tree held other
-
-  by_input : (sum : SumProgram) → HoldsSum ask.program files sum → (c : Cause) → r ≡ Err c → ReadRefused files ask.input bad_input inputs_read_of c → RunRefused ask files (status_in_answer r)
-  by_input sum p c is (inl missed) = not_missing r c ask.input why.refusal is missed
-  by_input sum p c is (inr (bytes, err, there, bad, e)) = input_refused (refusing r c is ∙ ap status_of_cause e ∙ input_status err) sum p bytes err there bad
-
-  by_tape : (sum : SumProgram) → HoldsSum ask.program files sum → (entries : List Entry) → inputs_at files ask.input ≡ Ok entries → (c : Cause) → r ≡ Err c
-      → (path : List ℕ) → ask.source ≡ file path → ReadRefused files path bad_tape tapes_read_of c → RunRefused ask files (status_in_answer r)
-  by_tape sum p entries inputs c is path source (inl missed) = not_missing r c path why.refusal is missed
-  by_tape sum p entries inputs c is path source (inr (bytes, place, there, bad, e)) =
-      tape_refused (refusing r c is ∙ ap status_of_cause e ∙ tape_status place) sum p entries inputs path bytes place source there bad
-
-  at_tapes : (sum : SumProgram) → HoldsSum ask.program files sum → (entries : List Entry) → inputs_at files ask.input ≡ Ok entries
-      → (tapes_at files ask.source >>= ran sum entries) ≡ r → RunRefused ask files (status_in_answer r)
-  at_tapes sum p entries inputs is =
-      elim (steps (tapes_at files ask.source) (ran sum entries) r is) [
-        | inl (c, e, is_r) ↦ let (path, source, refused) = tapes_refused files ask.source c e in by_tape sum p entries inputs c is_r path source refused
-        | inr (tapes, e, done) ↦ no_ending (status_in_answer r) _ why (ap status_in_answer (sym done))
-      ]
-
-  abbrev after_inputs : SumProgram → List Entry → Answer
-  after_inputs sum entries = tapes_at files ask.source >>= ran sum entries
-
-  at_inputs : (sum : SumProgram) → HoldsSum ask.program files sum → (inputs_at files ask.input >>= after_inputs sum) ≡ r → RunRefused ask files (status_in_answer r)
-  at_inputs sum p is =
-      elim (steps (inputs_at files ask.input) (after_inputs sum) r is) [
-        | inl (c, e, is_r) ↦ by_input sum p c is_r (inputs_refused files ask.input c e)
-        | inr (entries, e, rest) ↦ at_tapes sum p entries e rest
-      ]
-
-  abbrev after_program : SumProgram → Answer
-  after_program sum = inputs_at files ask.input >>= after_inputs sum
-
-  pub refused_only : run_of judged ask files ≡ r → RunRefused ask files (status_in_answer r)
-  unfolding run_of
-  refused_only is =
-      elim (steps (sum_at judged files ask.program) after_program r is) [
-        | inl (c, e, is_r) ↦ by_program c is_r (sum_cases judged files ask.program h (Err c) e)
-        | inr (sum, e, rest) ↦ at_inputs sum (sum_cases judged files ask.program h (Ok sum) e) rest
-      ]

@@ -1,6 +1,5 @@
--- What the answers of the commands are, for files that are as they must be, and for files that are refused. `eval` and `need` have
--- a file of their own.
-use Rattle.std.proofs.Common.{◌≡◌, ◌≤◌, ◌⊎◌, ℕ, List, length, true, false, Option, Some, None, Ok, Err, refl, ap, subst, sym, ◌∙◌, inl, inr, arith}
+-- The answers to words: what the words ask for of the files, the program's file among them.
+use Rattle.std.proofs.Common.{◌≡◌, ◌≤◌, ◌⊎◌, ℕ, List, length, true, false, Some, None, Ok, Err, refl, ap, subst, sym, ◌∙◌, inl, inr, arith}
 use Rattle.std.specs.Prelude.{nat_lt}
 use Rattle.std.proofs.lemmas.Bool.{false≢true}
 use Rattle.std.proofs.lemmas.Bool.Decides.{nat_tests}
@@ -11,26 +10,19 @@ use Rattle.command_frame.specs.declared.status.Status.TheVariants as statuses
 use Rattle.command_frame.specs.Answer.{Answer, bytes_at, usage}
 use Rattle.command_frame.specs.Status.{is_end, is_fault, is_refusal}
 use Rattle.command_frame.specs.Whole.{CarriedOut}
-use Rattle.command_words.specs.Ask.{Ask, CheckAsk, RunAsk, DealAsk, check, run, deal, words_of}
+use Rattle.command_words.specs.Ask.{Ask, DealAsk, deal, words_of}
 use Rattle.secrec_ast.specs.Programs.{ProgramTree}
 use Rattle.front_end.specs.Judgement.{Judged, IsJudged}
 use Rattle.input_share.specs.Dealing.{need_of}
 use Rattle.tape_file.specs.Tapes.{FourTapes}
 use Rattle.value_file.specs.declared.inputs.Entry.{Entry}
 use Rattle.run_engine.specs.Deal.{deal_of, deal_effect}
-use Rattle.run_engine.specs.Outcome.{Outcome, outcome_of}
-use Rattle.run_engine.specs.Check.{check_of, check_effect}
 use Rattle.run_engine.specs.Judging.{JudgedAt, Finding, FoundAt, HasFinding, Question, nothing}
-use Rattle.run_engine.specs.Programs.{bad_program, not_yet, sum_at, tree_at}
-use Rattle.run_engine.specs.Run.{bad_input, bad_tape, inputs_at, run_effect, run_of, tape_file_at, tapes_at}
-use Rattle.run_engine.specs.Runs.{HoldsProgram, HoldsBadProgram, HoldsSum, HoldsRun, HoldsDeal, CheckRefused, RunRefused, cannot_run_yet, bad_program as program_refused, bad_input as input_refused, bad_tape as tape_refused}
-use Rattle.run_engine.specs.SumProgram.{SumProgram, IsSumProgram}
-use Rattle.run_engine.specs.SumReading.{sum_program_of}
+use Rattle.run_engine.specs.Programs.{bad_program, tree_at}
+use Rattle.run_engine.specs.Runs.{HoldsProgram, HoldsBadProgram, HoldsDeal}
 use Rattle.run_engine.specs.Words.{answer_to, answer_of, question_of, question_in, reads_of, read_by, writes_of, written_by, IsAnswer, HasAnswer}
 use Rattle.run_engine.specs.Obeying.{CommandAnswers}
-use Rattle.run_engine.proofs.Judged.{text_alone}
-use Rattle.run_engine.proofs.Refusals.{Refuses, check_refused_only, refused_only, status_in_answer}
-use Rattle.run_engine.proofs.SumTrees.{reading_is_tree}
+use Rattle.run_engine.proofs.Refusals.{status_in_answer}
 
 -- ---- words and answers
 
@@ -111,51 +103,7 @@ pub bad_tree : (path : List ℕ) (files : Contents) (h : HoldsBadProgram path fi
 unfolding tree_at
 bad_tree path files h = rw (read_there files path h.bytes h.there) refl
 
-held_sum : (path : List ℕ) (files : Contents) (sum : SumProgram) (h : HoldsSum path files sum) → sum_at (Ok h.tree) files path ≡ Ok sum
-unfolding sum_at
-held_sum path files sum h = rw (held_tree path files h.tree h.held, (reading_is_tree h.tree sum).1 h.is) refl
-
-other_program : (tree : ProgramTree) → ((sum : SumProgram) → IsSumProgram tree sum → ⊥) → sum_program_of tree ≡ None
-other_program tree other = go (sum_program_of tree) refl
-  where
-    go : (o : Option SumProgram) → sum_program_of tree ≡ o → o ≡ None
-    go (Some sum) is = absurd (other sum ((reading_is_tree tree sum).0 is))
-    go None is = refl
-
-other_sum : (path : List ℕ) (files : Contents) (tree : ProgramTree) → HoldsProgram path files tree → ((sum : SumProgram) → IsSumProgram tree sum → ⊥) → sum_at (Ok tree) files path ≡ Err not_yet
-unfolding sum_at
-other_sum path files tree h other = rw (held_tree path files tree h, other_program tree other) refl
-
--- ---- files that are as they must be
-
-run_answer : (ask : RunAsk) (files : Contents) (sum : SumProgram) (entries : List Entry) (tapes : FourTapes) (h : HoldsRun ask files sum entries tapes)
-    → run_of (Ok h.program.tree) ask files ≡ Ok (run_effect (outcome_of sum entries tapes ask.budget))
-unfolding run_of
-run_answer ask files sum entries tapes h = rw (held_sum ask.program files sum h.program, h.inputs, h.tapes) refl
-
-abbrev effect : Outcome → Answer
-effect outcome = Ok (run_effect outcome)
-
-pub run_answered : (words : List (List ℕ)) (ask : RunAsk) (files : Contents) (sum : SumProgram) (entries : List Entry) (tapes : FourTapes)
-    → words_of words ≡ Some (run ask) → HoldsRun ask files sum entries tapes → IsAnswer words files (effect (outcome_of sum entries tapes ask.budget))
-unfolding answer_to question_of
-run_answered words ask files sum entries tapes asks h =
-    let found : Finding = text_alone (Ok h.program.tree) in
-    subst (IsAnswer words files) (run_answer ask files sum entries tapes h) (is_answer words (run ask) files found asks (held_judged ask.program files h.program.tree h.program.held))
-
-abbrev checked : Answer
-checked = Ok check_effect
-
-check_answer : (ask : CheckAsk) (files : Contents) (tree : ProgramTree) → HoldsProgram ask.program files tree → check_of (Ok tree) ask files ≡ checked
-unfolding check_of
-check_answer ask files tree h = rw (held_tree ask.program files tree h) refl
-
-pub check_answered : (words : List (List ℕ)) (ask : CheckAsk) (files : Contents) (tree : ProgramTree) → words_of words ≡ Some (check ask) → HoldsProgram ask.program files tree
-    → IsAnswer words files checked
-unfolding answer_to question_of
-check_answered words ask files tree asks h =
-    let found : Finding = text_alone (Ok tree) in
-    subst (IsAnswer words files) (check_answer ask files tree h) (is_answer words (check ask) files found asks (held_judged ask.program files tree h))
+-- ---- `deal`
 
 enough : (have need : ℕ) → need ≤ have → nat_lt have need ≡ false
 enough have need h = grind (arith, nat_tests)
@@ -188,29 +136,6 @@ fault_or_not s = elim (is_fault s) as (λ b. (b ≡ true) ⊎ (b ≡ false)) [ t
 abbrev pub HasAnswerOf : List (List ℕ) → Contents → Status → Type 0
 HasAnswerOf words files s = (answer : Answer) × IsAnswer words files answer × (status_in_answer answer ≡ s)
 
-run_refused : (ask : RunAsk) (files : Contents) (s : Status) → RunRefused ask files s → (judged : Judged) × JudgedAt (Some ask.program) files judged × (status_in_answer (run_of judged ask files) ≡ s)
-unfolding run_of inputs_at tapes_at tape_file_at not_yet bad_program bad_input bad_tape sum_at
-run_refused ask files s (program_refused is bad) =
-    (Err bad.fault, bad_judged ask.program files bad, rw (bad_tree ask.program files bad) (sym is))
-run_refused ask files s (cannot_run_yet is tree held other) =
-    (Ok tree, held_judged ask.program files tree held, rw (held_tree ask.program files tree held, other_program tree other) (sym is))
-run_refused ask files s (input_refused is sum p bytes err there bad) =
-    (Ok p.tree, held_judged ask.program files p.tree p.held, rw (held_tree ask.program files p.tree p.held, (reading_is_tree p.tree sum).1 p.is, read_there files ask.input bytes there, bad) (sym is))
-run_refused ask files s (tape_refused is sum p entries inputs path bytes place source there bad) =
-    (Ok p.tree, held_judged ask.program files p.tree p.held, rw (held_tree ask.program files p.tree p.held, (reading_is_tree p.tree sum).1 p.is, inputs, source, read_there files path bytes there, bad) (sym is))
-
-pub run_answered_so : (words : List (List ℕ)) (ask : RunAsk) (files : Contents) (s : Status) → words_of words ≡ Some (run ask) → RunRefused ask files s → HasAnswerOf words files s
-unfolding answer_to question_of
-run_answered_so words ask files s asks out =
-    let (judged, at, status) = run_refused ask files s out in
-    (run_of judged ask files, is_answer words (run ask) files (text_alone judged) asks at, status)
-
-pub check_answered_so : (words : List (List ℕ)) (ask : CheckAsk) (files : Contents) (s : Status) → words_of words ≡ Some (check ask) → CheckRefused ask files s → HasAnswerOf words files s
-unfolding answer_to question_of check_of bad_program
-check_answered_so words ask files s asks out =
-    let judged : Judged = Err out.program.fault in
-    (check_of judged ask files, is_answer words (check ask) files (text_alone judged) asks (bad_judged ask.program files out.program), rw (bad_tree ask.program files out.program) (sym out.status))
-
 pub refused_if : (answer : Answer) (why : Status) (f f' : FilesState) (o o' e e' : SinkState) (s : Status) → status_in_answer answer ≡ why
     → (is_fault s ≡ false → CarriedOut answer f f' o o' e e' s) → (s ≡ why) ⊎ (is_fault s ≡ true)
 refused_if answer why f f' o o' e e' s is carried =
@@ -218,22 +143,6 @@ refused_if answer why f f' o o' e e' s is carried =
       | inl fault ↦ inr fault
       | inr sound ↦ inl (sym (carried_status answer f f' o o' e e' s (carried sound)) ∙ is)
     ]
-
-pub run_refused_only : (words : List (List ℕ)) (ask : RunAsk) (files : Contents) → words_of words ≡ Some (run ask) → (answer : Answer)
-    → IsAnswer words files answer
-    → Refuses (status_in_answer answer) → RunRefused ask files (status_in_answer answer)
-unfolding answer_to question_of
-run_refused_only words ask files asks answer a why =
-    let (found, at, is) = command_answers words (run ask) files answer asks a in
-    refused_only found.judged ask files at answer why is
-
-pub check_refused_so : (words : List (List ℕ)) (ask : CheckAsk) (files : Contents) → words_of words ≡ Some (check ask) → (answer : Answer)
-    → IsAnswer words files answer
-    → Refuses (status_in_answer answer) → CheckRefused ask files (status_in_answer answer)
-unfolding answer_to question_of
-check_refused_so words ask files asks answer a why =
-    let (found, at, is) = command_answers words (check ask) files answer asks a in
-    check_refused_only found.judged ask files answer at why is
 
 pub no_fault_refusal : (s : Status) → is_refusal s ≡ true → is_fault s ≡ false
 no_fault_refusal statuses.Done r = refl

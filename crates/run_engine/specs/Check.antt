@@ -4,8 +4,8 @@ use Rattle.outside.specs.Files.{Contents}
 use Rattle.command_frame.specs.declared.status.Status.TheVariants.{Done}
 use Rattle.command_frame.specs.Answer.{Answer, Effect, ◌>>=◌}
 use Rattle.command_words.specs.Ask.{CheckAsk}
-use Rattle.front_end.specs.Judgement.{Judged}
-use Rattle.run_engine.specs.Programs.{tree_at}
+use Rattle.run_engine.specs.Judging.{Finding}
+use Rattle.run_engine.specs.Programs.{program_at}
 
 unfoldable pub check_text : List ℕ
 check_text = codes "ok\n"
@@ -13,10 +13,10 @@ check_text = codes "ok\n"
 abbrev pub check_effect : Effect
 check_effect = record { writes = []; text = check_text; status = Done }
 
--- the program is read and judged, and no more
-unfoldable pub check_of : Judged → CheckAsk → Contents → Answer
-check_of judged ask files = do
-  tree ← tree_at judged files ask.program
+-- the program is read and judged, its size too, and no more
+unfoldable pub check_of : Finding → CheckAsk → Contents → Answer
+check_of found ask files = do
+  program ← program_at found files ask.program
   Ok check_effect
 
 -- the path that `check` reads

@@ -13,7 +13,8 @@ use Rattle.sc_text.specs.Fault.{fault_line}
 use Rattle.tape_file.specs.Format.{own_bytes}
 use Rattle.tape_file.specs.Tapes.{FourTapes}
 use Rattle.value_file.specs.declared.inputs.Entry.{Entry}
-use Rattle.run_engine.specs.Run.{inputs_at, tape_file_at}
+use Rattle.program_run.specs.Reports.{lengths_of}
+use Rattle.run_engine.specs.Reading.{inputs_at, tape_file_at}
 
 -- the refusal of a dealer's tape that is too short
 unfoldable pub short_tape : ℕ → ℕ → Cause
@@ -22,10 +23,6 @@ short_tape need have = record { status = Tape; line = fault_line (ShortTape need
 -- a path behind the prefix
 unfoldable pub path_to : List ℕ → List ℕ → List ℕ
 path_to prefix suffix = prefix ++ suffix
-
--- the lengths of the tapes of the dealer and of miners 1, 2 and 3
-abbrev pub lengths_of : FourTapes → List ℕ
-lengths_of tapes = length tapes.dealer ∷ length tapes.one ∷ length tapes.two ∷ length tapes.three ∷ []
 
 -- a miner's share file
 abbrev pub share_of : Number → List Entry → FourTapes → List ℕ

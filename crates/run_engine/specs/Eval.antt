@@ -17,9 +17,9 @@ use Rattle.command_frame.specs.Answer.{Answer, Cause, Effect, ◌>>=◌}
 use Rattle.command_frame.specs.declared.status.Status.{Status}
 use Rattle.command_words.specs.Ask.{EvalAsk}
 use Rattle.run_engine.specs.Judging.{Finding}
-use Rattle.run_engine.specs.Outcome.{status_of}
+use Rattle.run_engine.specs.Ends.{status_of}
 use Rattle.run_engine.specs.Programs.{program_at}
-use Rattle.run_engine.specs.Run.{inputs_at}
+use Rattle.run_engine.specs.Reading.{inputs_at}
 
 -- the lengths of the four tapes: each has as many words as 64 bits can count
 abbrev pub longest : List ℕ

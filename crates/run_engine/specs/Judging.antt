@@ -5,6 +5,8 @@ use Rattle.typed_tree.specs.Programs.{TypedProgramTree}
 use Rattle.name_resolution.specs.Functions.{typed_of}
 use Rattle.program_limits.specs.declared.limit_error.LimitError.{LimitError}
 use Rattle.program_limits.specs.Limits.{IsVerdict, IsWithinLimits}
+use Rattle.reached_instances.specs.Instances.{Instance}
+use Rattle.reached_instances.specs.Reached.{IsReachedList}
 use Rattle.outside.specs.Files.{Contents, FilesState, file_at}
 use Rattle.command_frame.specs.declared.stop.Stop.{Stop}
 use Rattle.command_frame.specs.declared.stop.Stop.TheVariants as stops
@@ -31,21 +33,36 @@ abbrev pub IsSizedAs : Judged → Sized → Type 0
 IsSizedAs (Ok tree) sized = IsSized tree sized
 IsSizedAs (Err fault) sized = Unit {0}
 
--- what a command asks of a program: nothing; whether the text at a path is accepted; or also whether it is small enough to be run
+-- the instances that a program reaches which is small enough
+abbrev pub IsReachedBy : Sized → List Instance → Type 0
+IsReachedBy (Ok program) reached = IsReachedList program reached
+IsReachedBy (Err error) reached = Unit {0}
+
+abbrev pub IsReachedAs : Judged → Sized → List Instance → Type 0
+IsReachedAs (Ok tree) sized reached = IsReachedBy sized reached
+IsReachedAs (Err fault) sized reached = Unit {0}
+
+-- what a command asks of a program: nothing, or what the text at a path is
 pub data Question : Type 0 where
   nothing : Question
-  its_text : (path : List ℕ) → Question
-  its_size : (path : List ℕ) → Question
+  its_program : (path : List ℕ) → Question
 
+-- what is found of a program: whether its text is accepted, whether it is small enough to be run, and what it reaches then
 pub record Finding : Type 0 where
   pub judged : Judged
   pub sized : Sized
+  pub reached : List Instance
+
+-- of this text
+pub record IsFinding (judgement : Judged → Type 0) (found : Finding) : Type 0 where
+  pub judged : judgement found.judged
+  pub sized : IsSizedAs found.judged found.sized
+  pub reached : IsReachedAs found.judged found.sized found.reached
 
 -- the answer to the question
 abbrev pub FoundAt : Question → Contents → Finding → Type 0
 FoundAt nothing files found = Unit {0}
-FoundAt (its_text path) files found = JudgedAt (Some path) files found.judged
-FoundAt (its_size path) files found = JudgedAt (Some path) files found.judged × IsSizedAs found.judged found.sized
+FoundAt (its_program path) files found = IsFinding (JudgedAt (Some path) files) found
 
 abbrev pub HasFinding : Question → Contents → Type 0
 HasFinding question files = (found : Finding) × FoundAt question files found

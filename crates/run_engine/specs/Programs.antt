@@ -1,8 +1,6 @@
 -- The program at a path, as a command reads it. `judged` is the judgement of its text, and `found` also what it is run as.
 use Rattle.std.specs.Prelude.{ℕ, List, Result, Ok, Err}
-use Rattle.std.specs.Option.{ok_or}
 use Rattle.outside.specs.Files.{Contents}
-use Rattle.sc_text.specs.declared.span.Span.{Span}
 use Rattle.sc_text.specs.declared.fault.Fault.TheVariants as faults
 use Rattle.sc_text.specs.Fault.{fault_line}
 use Rattle.secrec_ast.specs.Programs.{ProgramTree}
@@ -14,8 +12,6 @@ use Rattle.typed_tree.specs.Programs.{TypedProgramTree}
 use Rattle.program_limits.specs.declared.limit_error.LimitError.{LimitError}
 use Rattle.program_limits.specs.Refusals.{fault_said}
 use Rattle.run_engine.specs.Judging.{Finding, Sized}
-use Rattle.run_engine.specs.SumProgram.{SumProgram}
-use Rattle.run_engine.specs.SumReading.{sum_program_of}
 
 -- the refusal of a text for its first fault
 unfoldable pub bad_program : ProgramFault → Cause
@@ -40,15 +36,3 @@ small_enough (Err error) = Err (too_large error)
 -- the typed tree of the accepted program, if it is small enough
 unfoldable pub program_at : Finding → Contents → List ℕ → Result TypedProgramTree Cause
 program_at found files path = tree_at found.judged files path >>= λ tree. small_enough found.sized
-
--- where every program begins
-abbrev pub start : Span
-start = record { line = 1; column = 1 }
-
--- the refusal of an accepted program that can't be run yet
-unfoldable pub not_yet : Cause
-not_yet = record { status = Program; line = fault_line (faults.NotYet start) }
-
--- the accepted program, if it can be run
-unfoldable pub sum_at : Judged → Contents → List ℕ → Result SumProgram Cause
-sum_at judged files path = tree_at judged files path >>= λ tree. ok_or (sum_program_of tree) not_yet

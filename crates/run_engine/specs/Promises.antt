@@ -2,25 +2,25 @@
 use Rattle.std.specs.Prelude.{◌≡◌, ◌⊎◌, ◌≤◌, ℕ, List, length, Bool, true, false}
 use Rattle.outside.specs.Files.{Contents, FilesState}
 use Rattle.outside.specs.Sink.{SinkState}
-use Rattle.secrec_ast.specs.Programs.{ProgramTree}
+use Rattle.reached_instances.specs.Instances.{Instance}
+use Rattle.reached_instances.specs.Reached.{IsReachedList}
 use Rattle.command_frame.specs.declared.status.Status.{Status}
 use Rattle.command_frame.specs.declared.status.Status.TheVariants.{Done, Memory}
 use Rattle.command_frame.specs.Answer.{Effect}
 use Rattle.command_frame.specs.Status.{is_fault, is_refusal}
 use Rattle.command_frame.specs.Whole.{IsDone}
-use Rattle.command_words.specs.Ask.{CheckAsk, DealAsk, EvalAsk, RunAsk}
+use Rattle.command_words.specs.Ask.{CheckAsk, CompileAsk, DealAsk, EvalAsk, RunAsk}
 use Rattle.input_share.specs.Dealing.{need_of}
 use Rattle.language_model.specs.Reports.{Report}
 use Rattle.tape_file.specs.Tapes.{FourTapes}
 use Rattle.typed_tree.specs.Programs.{TypedProgramTree}
 use Rattle.value_file.specs.declared.inputs.Entry.{Entry}
 use Rattle.run_engine.specs.Check.{check_effect}
+use Rattle.run_engine.specs.Compile.{compile_effect}
 use Rattle.run_engine.specs.Deal.{deal_effect}
-use Rattle.run_engine.specs.Eval.{report_effect, report_for}
-use Rattle.run_engine.specs.Outcome.{outcome_of}
-use Rattle.run_engine.specs.Run.{run_effect}
-use Rattle.run_engine.specs.Runs.{HoldsProgram, HoldsEvaluation, HoldsRun, HoldsDeal}
-use Rattle.run_engine.specs.SumProgram.{SumProgram}
+use Rattle.run_engine.specs.Eval.{eval_text, report_effect, report_for}
+use Rattle.run_engine.specs.Run.{run_report}
+use Rattle.run_engine.specs.Runs.{HoldsTyped, HoldsEvaluation, HoldsRun, HoldsDeal}
 
 -- files and output are steady
 abbrev pub AllSteady : FilesState → SinkState → Type 0
@@ -45,9 +45,14 @@ is_done _ = false
 
 -- ---- the effects
 
--- of `check`, over an accepted program
+-- of `check`, over an accepted program within the limits
 abbrev pub CheckEffect : CheckAsk → Contents → Effect → Type 0
-CheckEffect ask files effect = (tree : ProgramTree) × HoldsProgram ask.program files tree × (effect ≡ check_effect)
+CheckEffect ask files effect = (program : TypedProgramTree) × HoldsTyped ask.program files program × (effect ≡ check_effect)
+
+-- of `compile`, over an accepted program within the limits: its code, with a function for each instance that it reaches
+abbrev pub CompileEffect : CompileAsk → Contents → Effect → Type 0
+CompileEffect ask files effect = (program : TypedProgramTree) × (reached : List Instance) × HoldsTyped ask.program files program
+    × IsReachedList program reached × (effect ≡ compile_effect ask.code program reached)
 
 -- of `eval` and `need`, over an accepted program within the limits and a good input: a text of the evaluation in the clear, and its end
 abbrev pub EvalEffect : (Report → List ℕ) → EvalAsk → Contents → Effect → Type 0
@@ -56,8 +61,8 @@ EvalEffect text ask files effect = (program : TypedProgramTree) × (entries : Li
 
 -- of `run`, over files that are all as they must be: the text of the run, and its end
 abbrev pub RunEffect : RunAsk → Contents → Effect → Type 0
-RunEffect ask files effect = (sum : SumProgram) × (entries : List Entry) × (tapes : FourTapes) × HoldsRun ask files sum entries tapes
-    × (effect ≡ run_effect (outcome_of sum entries tapes ask.budget))
+RunEffect ask files effect = (program : TypedProgramTree) × (entries : List Entry) × (tapes : FourTapes) × HoldsRun ask files program entries tapes
+    × (effect ≡ report_effect eval_text (run_report program entries tapes ask.budget))
 
 -- of `deal`, over files that are as they must be and a dealer's tape that has words enough: its six files
 abbrev pub DealEffect : DealAsk → Contents → Effect → Type 0

@@ -1,106 +1,36 @@
--- The command `run`, for programs that open one sum.
-use Rattle.std.specs.Prelude.{ℕ, List, [], ◌∷◌, Option, Some, None, Result, Ok, Err}
+-- The command `run`: three miners run the program on shares, and what they open and publish is what evaluation in the clear does with
+-- tapes of these lengths.
+use Rattle.std.specs.Prelude.{ℕ, List, [], ◌∷◌, Ok}
 use Rattle.outside.specs.Files.{Contents}
-use Rattle.command_frame.specs.declared.status.Status.TheVariants.{Input, TapeFile}
-use Rattle.command_frame.specs.Answer.{Answer, Cause, Effect, ◌>>=◌, bytes_at}
-use Rattle.command_words.specs.Ask.{RunAsk, Source, file, seeded}
-use Rattle.front_end.specs.Judgement.{Judged}
-use Rattle.sc_text.specs.declared.fault.Fault.{Fault}
-use Rattle.sc_text.specs.declared.fault.Fault.TheVariants as faults
-use Rattle.sc_text.specs.declared.input_fault.EntryField.{EntryField}
-use Rattle.sc_text.specs.declared.input_fault.EntryField.TheVariants as entry_fields
-use Rattle.sc_text.specs.declared.input_fault.InputFault.{InputFault}
-use Rattle.sc_text.specs.declared.input_fault.InputFault.TheVariants as input_faults
+use Rattle.command_frame.specs.Answer.{Answer, Effect, ◌>>=◌}
 use Rattle.sc_text.specs.Event.{run_text}
-use Rattle.sc_text.specs.Fault.{fault_line}
-use Rattle.tape_file.specs.Format.{read_of as tapes_read_of}
-use Rattle.tape_file.specs.Seeds.{seed_tapes}
+use Rattle.program_run.specs.declared.running.RunReport.{RunReport}
+use Rattle.command_words.specs.Ask.{RunAsk}
 use Rattle.tape_file.specs.Tapes.{FourTapes}
 use Rattle.value_file.specs.declared.inputs.Entry.{Entry}
-use Rattle.value_file.specs.declared.read_err.Field.{Field}
-use Rattle.value_file.specs.declared.read_err.Field.TheVariants as fields
-use Rattle.value_file.specs.declared.read_err.ReadErr.{ReadErr}
-use Rattle.value_file.specs.declared.read_err.ReadErr.TheVariants as read_errs
-use Rattle.value_file.specs.Input.{read_of as inputs_read_of}
-use Rattle.run_engine.specs.Outcome.{Outcome, outcome_of, status_of}
-use Rattle.run_engine.specs.Programs.{sum_at}
+use Rattle.typed_tree.specs.Programs.{TypedProgramTree}
+use Rattle.language_model.specs.Reports.{Report}
+use Rattle.program_run.specs.Reports.{eval_with}
+use Rattle.run_engine.specs.Ends.{status_of}
+use Rattle.run_engine.specs.Eval.{eval_text, report_effect}
+use Rattle.run_engine.specs.Judging.{Finding}
+use Rattle.run_engine.specs.Programs.{program_at}
+use Rattle.run_engine.specs.Reading.{inputs_at, source_paths, tapes_at}
 
--- the refusal of a tape file, by the place of its first fault
-unfoldable pub bad_tape : ℕ → Cause
-bad_tape place = record { status = TapeFile; line = fault_line (faults.BadTape place) }
+unfoldable pub run_report : TypedProgramTree → List Entry → FourTapes → (budget : ℕ) → Report
+run_report program entries tapes budget = eval_with program entries tapes budget
 
--- a field of an entry; those at top are none
-abbrev pub entry_field : Field → Option EntryField
-entry_field fields.Inputs = None
-entry_field fields.Name = Some entry_fields.Name
-entry_field fields.Domain = Some entry_fields.Domain
-entry_field fields.Type = Some entry_fields.Type
-entry_field fields.Value = Some entry_fields.Value
-entry_field fields.Shape = Some entry_fields.Shape
-entry_field fields.Share = Some entry_fields.Share
-entry_field fields.Lens = None
-entry_field fields.Miner = None
+-- what is printed of a run, and its end
+abbrev pub told_effect : RunReport → Effect
+told_effect told = record { writes = []; text = run_text told.events.items told.end; status = status_of told.end.how }
 
--- the fault of a field at top
-abbrev pub top_fault : Field → InputFault
-top_fault fields.Lens = input_faults.BadLens
-top_fault fields.Miner = input_faults.BadMiner
-top_fault _ = input_faults.NoInputs
-
-abbrev pub fault_in : Option ℕ → Option EntryField → Field → InputFault
-fault_in (Some entry) (Some field) what = input_faults.BadField entry field
-fault_in (Some entry) None what = top_fault what
-fault_in None field what = top_fault what
-
-abbrev pub field_fault : Option ℕ → Field → InputFault
-field_fault entry what = fault_in entry (entry_field what) what
-
--- the fault that a reader of inputs finds; it decides nothing of want of memory
-abbrev pub input_fault : ReadErr → Fault
-input_fault read_errs.Syntax = faults.Input input_faults.NotJson
-input_fault (read_errs.BadField entry name) = faults.Input (field_fault entry name)
-input_fault (read_errs.TooLong entry) = faults.Input (input_faults.TooMany entry)
-input_fault read_errs.Memory = faults.Memory
-
--- the refusal of an input file
-unfoldable pub bad_input : ReadErr → Cause
-bad_input err = record { status = Input; line = fault_line (input_fault err) }
-
--- what a reader found, or its refusal as the user sees it
-abbrev pub read_or : {A E : Type 0} → (E → Cause) → Result A E → Result A Cause
-read_or cause (Ok x) = Ok x
-read_or cause (Err e) = Err (cause e)
-
-unfoldable pub inputs_at : Contents → List ℕ → Result (List Entry) Cause
-inputs_at files path = bytes_at files path >>= λ bytes. read_or bad_input (inputs_read_of bytes)
-
-unfoldable pub tape_file_at : Contents → List ℕ → Result FourTapes Cause
-tape_file_at files path = bytes_at files path >>= λ bytes. read_or bad_tape (tapes_read_of bytes)
-
--- the tapes of a file, or those that are drawn from a seed
-unfoldable pub tapes_at : Contents → Source → Result FourTapes Cause
-tapes_at files (file path) = tape_file_at files path
-tapes_at files (seeded seed words) = Ok (seed_tapes seed words)
-
--- the text of a run
-abbrev pub outcome_text : Outcome → List ℕ
-outcome_text outcome = run_text outcome.events outcome.end
-
-abbrev pub run_effect : Outcome → Effect
-run_effect outcome = record { writes = []; text = outcome_text outcome; status = status_of outcome.end.how }
-
--- Each file is read and then checked: the program, the input, the tapes; then the program is run. `judged` is the
--- judgement of the program's text.
-unfoldable pub run_of : Judged → RunAsk → Contents → Answer
-run_of judged ask files = do
-  program ← sum_at judged files ask.program
+-- Each file is read and then checked: the program and its size, the input, the tapes; then the program is run.
+unfoldable pub run_of : Finding → RunAsk → Contents → Answer
+run_of found ask files = do
+  program ← program_at found files ask.program
   entries ← inputs_at files ask.input
   tapes ← tapes_at files ask.source
-  Ok (run_effect (outcome_of program entries tapes ask.budget))
-
-abbrev pub source_paths : Source → List (List ℕ)
-source_paths (file path) = path ∷ []
-source_paths (seeded seed words) = []
+  Ok (report_effect eval_text (run_report program entries tapes ask.budget))
 
 -- the paths that `run` reads
 unfoldable pub run_paths : RunAsk → List (List ℕ)

@@ -6,7 +6,7 @@ use Rattle.front_end.specs.declared.program_fault.ProgramFault.{ProgramFault}
 use Rattle.front_end.specs.Judgement.{IsProgramText, IsRefusedText}
 use Rattle.command_frame.specs.declared.status.Status.{Status}
 use Rattle.command_frame.specs.declared.status.Status.TheVariants.{Input, Program, Tape, TapeFile}
-use Rattle.command_words.specs.Ask.{Ask, CheckAsk, EvalAsk, RunAsk, DealAsk, eval, need, file}
+use Rattle.command_words.specs.Ask.{Ask, EvalAsk, RunAsk, DealAsk, eval, need, file}
 use Rattle.typed_tree.specs.Programs.{TypedProgramTree}
 use Rattle.input_share.specs.Dealing.{need_of}
 use Rattle.name_resolution.specs.Functions.{typed_of}
@@ -17,8 +17,7 @@ use Rattle.tape_file.specs.Tapes.{FourTapes}
 use Rattle.value_file.specs.declared.inputs.Entry.{Entry}
 use Rattle.value_file.specs.declared.read_err.ReadErr.{ReadErr}
 use Rattle.value_file.specs.Input.{read_of as inputs_read_of}
-use Rattle.run_engine.specs.Run.{inputs_at, tapes_at, tape_file_at}
-use Rattle.run_engine.specs.SumProgram.{SumProgram, IsSumProgram}
+use Rattle.run_engine.specs.Reading.{inputs_at, tapes_at, tape_file_at}
 
 -- an accepted program of this tree is there
 pub record HoldsProgram (path : List ℕ) (files : Contents) (tree : ProgramTree) : Type 0 where
@@ -33,15 +32,9 @@ pub record HoldsTyped (path : List ℕ) (files : Contents) (program : TypedProgr
   pub typed : typed_of tree ≡ Some program
   pub within : IsWithinLimits program
 
--- and it opens this sum
-pub record HoldsSum (path : List ℕ) (files : Contents) (sum : SumProgram) : Type 0 where
-  pub tree : ProgramTree
-  pub held : HoldsProgram path files tree
-  pub is : IsSumProgram tree sum
-
--- the files that `run` reads are there: a program that opens this sum, these inputs and these tapes
-pub record HoldsRun (ask : RunAsk) (files : Contents) (sum : SumProgram) (entries : List Entry) (given : FourTapes) : Type 0 where
-  pub program : HoldsSum ask.program files sum
+-- the files that `run` reads are there: a program of this typed tree, these inputs and these tapes
+pub record HoldsRun (ask : RunAsk) (files : Contents) (typed : TypedProgramTree) (entries : List Entry) (given : FourTapes) : Type 0 where
+  pub program : HoldsTyped ask.program files typed
   pub inputs : inputs_at files ask.input ≡ Ok entries
   pub tapes : tapes_at files ask.source ≡ Ok given
 
@@ -74,27 +67,26 @@ pub record HoldsLarge (path : List ℕ) (files : Contents) (error : LimitError) 
 abbrev pub Evaluates : Option Ask → EvalAsk → Type 0
 Evaluates asked ask = (asked ≡ Some (eval ask)) ⊎ (asked ≡ Some (need ask))
 
+-- why a program is refused with this status, by each command that reads one: its text, or what there is too much of in it
+pub data ProgramRefused (path : List ℕ) (files : Contents) (status : Status) : Type 0 where
+  bad_text : status ≡ Program → HoldsBadProgram path files → ProgramRefused path files status
+  too_large : status ≡ Program → (error : LimitError) → HoldsLarge path files error → ProgramRefused path files status
+
 -- why `eval` or `need` is refused with this status: the first file that is there and not as it must be
 pub data EvalRefused (ask : EvalAsk) (files : Contents) (status : Status) : Type 0 where
-  bad_text : status ≡ Program → HoldsBadProgram ask.program files → EvalRefused ask files status
-  too_large : status ≡ Program → (error : LimitError) → HoldsLarge ask.program files error → EvalRefused ask files status
+  of_program : ProgramRefused ask.program files status → EvalRefused ask files status
   bad_entries : status ≡ Input → (program : TypedProgramTree) → HoldsTyped ask.program files program
       → (bytes : List ℕ) (err : ReadErr) → file_at files ask.input ≡ Some bytes → inputs_read_of bytes ≡ Err err → EvalRefused ask files status
 
--- why `check` is refused with this status
-pub record CheckRefused (ask : CheckAsk) (files : Contents) (given : Status) : Type 0 where
-  pub status : given ≡ Program
-  pub program : HoldsBadProgram ask.program files
-
 -- why `run` is refused with this status: the first file that is there and not as it must be
 pub data RunRefused (ask : RunAsk) (files : Contents) (status : Status) : Type 0 where
-  bad_program : status ≡ Program → HoldsBadProgram ask.program files → RunRefused ask files status
-  cannot_run_yet : status ≡ Program → (tree : ProgramTree) → HoldsProgram ask.program files tree
-      → ((sum : SumProgram) → IsSumProgram tree sum → ⊥) → RunRefused ask files status
-  bad_input : status ≡ Input → (sum : SumProgram) → HoldsSum ask.program files sum
+  bad_program : ProgramRefused ask.program files status → RunRefused ask files status
+  bad_input : status ≡ Input → (program : TypedProgramTree) → HoldsTyped ask.program files program
       → (bytes : List ℕ) (err : ReadErr) → file_at files ask.input ≡ Some bytes → inputs_read_of bytes ≡ Err err → RunRefused ask files status
-  bad_tape : status ≡ TapeFile → (sum : SumProgram) → HoldsSum ask.program files sum → (entries : List Entry) → inputs_at files ask.input ≡ Ok entries
-      → (path bytes : List ℕ) (place : ℕ) → ask.source ≡ file path → file_at files path ≡ Some bytes → tapes_read_of bytes ≡ Err place → RunRefused ask files status
+  bad_tape : status ≡ TapeFile → (program : TypedProgramTree) → HoldsTyped ask.program files program
+      → (entries : List Entry) → inputs_at files ask.input ≡ Ok entries
+      → (path bytes : List ℕ) (place : ℕ) → ask.source ≡ file path → file_at files path ≡ Some bytes → tapes_read_of bytes ≡ Err place
+      → RunRefused ask files status
 
 -- why `deal` is refused with this status: the first file that is there and not as it must be, or a dealer's tape with too few words
 pub data DealRefused (ask : DealAsk) (files : Contents) (status : Status) : Type 0 where

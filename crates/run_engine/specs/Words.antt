@@ -3,34 +3,38 @@ use Rattle.std.specs.Prelude.{◌≡◌, ℕ, List, [], Bool, false, Err}
 use Rattle.std.specs.Option.{option_map_or}
 use Rattle.outside.specs.Files.{Contents}
 use Rattle.command_frame.specs.Answer.{Answer, usage}
-use Rattle.command_words.specs.Ask.{Ask, run, deal, check, eval, need, words_of}
+use Rattle.command_words.specs.Ask.{Ask, run, deal, check, compile, eval, need, words_of}
 use Rattle.run_engine.specs.Check.{check_of, check_paths}
+use Rattle.run_engine.specs.Compile.{compile_of, compile_paths, compiled_paths}
 use Rattle.run_engine.specs.Deal.{deal_of, deal_paths, written_paths}
 use Rattle.run_engine.specs.Eval.{eval_of, need_of, eval_paths}
-use Rattle.run_engine.specs.Judging.{Finding, FoundAt, Question, nothing, its_text, its_size}
+use Rattle.run_engine.specs.Judging.{Finding, FoundAt, Question, nothing, its_program}
 use Rattle.run_engine.specs.Run.{run_of, run_paths}
 
 -- what a command decides of the files' contents, and of what is found of the program that it reads
 unfoldable pub answer_to : Finding → Ask → Contents → Answer
-answer_to found (run ask) files = run_of found.judged ask files
+answer_to found (run ask) files = run_of found ask files
 answer_to found (deal ask) files = deal_of ask files
-answer_to found (check ask) files = check_of found.judged ask files
+answer_to found (check ask) files = check_of found ask files
+answer_to found (compile ask) files = compile_of found ask files
 answer_to found (eval ask) files = eval_of found ask files
 answer_to found (need ask) files = need_of found ask files
 
 -- what it asks of a program
 unfoldable pub question_of : Ask → Question
-question_of (run ask) = its_text ask.program
+question_of (run ask) = its_program ask.program
 question_of (deal ask) = nothing
-question_of (check ask) = its_text ask.program
-question_of (eval ask) = its_size ask.program
-question_of (need ask) = its_size ask.program
+question_of (check ask) = its_program ask.program
+question_of (compile ask) = its_program ask.program
+question_of (eval ask) = its_program ask.program
+question_of (need ask) = its_program ask.program
 
 -- the paths that a command reads
 unfoldable pub reads_of : Ask → List (List ℕ)
 reads_of (run ask) = run_paths ask
 reads_of (deal ask) = deal_paths ask
 reads_of (check ask) = check_paths ask
+reads_of (compile ask) = compile_paths ask
 reads_of (eval ask) = eval_paths ask
 reads_of (need ask) = eval_paths ask
 
@@ -39,6 +43,7 @@ unfoldable pub writes_of : Ask → List (List ℕ)
 writes_of (run ask) = []
 writes_of (deal ask) = written_paths ask.to
 writes_of (check ask) = []
+writes_of (compile ask) = compiled_paths ask
 writes_of (eval ask) = []
 writes_of (need ask) = []
 
@@ -47,6 +52,7 @@ abbrev pub uses_links : Ask → Bool
 uses_links (run ask) = false
 uses_links (deal ask) = false
 uses_links (check ask) = false
+uses_links (compile ask) = false
 uses_links (eval ask) = false
 uses_links (need ask) = false
 
@@ -55,6 +61,7 @@ abbrev pub uses_children : Ask → Bool
 uses_children (run ask) = false
 uses_children (deal ask) = false
 uses_children (check ask) = false
+uses_children (compile ask) = false
 uses_children (eval ask) = false
 uses_children (need ask) = false
 

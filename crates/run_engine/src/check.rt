@@ -1,13 +1,12 @@
 // The command `check`.
-ghost use Rattle.std.specs.Prelude.{◌≡◌, [], true, Some, IfOk, IfErr};
-ghost use Rattle.front_end.specs.Judgement.{Judged};
+ghost use Rattle.std.specs.Prelude.{◌≡◌, [], true, IfOk, IfErr};
 ghost use Rattle.command_frame.specs.Answer.{effect_of};
 ghost use Rattle.command_frame.specs.Reads.{OnlyRead, Gives, KeepsTo, StopsReading};
 ghost use Rattle.command_words.specs.Views.{check_ask};
 ghost use Rattle.run_engine.specs.Check.{check_of, check_paths, check_text};
-ghost use Rattle.run_engine.specs.Judging.{JudgedAt, HasJudgement, Tells};
+ghost use Rattle.run_engine.specs.Judging.{Finding, FoundAt, HasFinding, its_program, Tells};
 
-use crate::programs::read_tree;
+use crate::programs::read_typed;
 use command_frame::{Plan, Status, Stop};
 use command_words::CheckWords;
 use outside::Files;
@@ -23,19 +22,19 @@ fn text(alloc: Global) -> Result<Vec<u8>, AllocError>
     Ok(text)
 }
 
-/// Reads and judges the program, and says what is to be printed.
+/// Reads and judges the program, its size too, and says what is to be printed.
 #[tactic(auto, unfolding(crate::specs::Check::check_of, crate::specs::Check::check_paths))]
 pub fn plan_check<F: Files>(alloc: Global, files: &mut F, words: &CheckWords) -> Result<Plan, Stop>
     ensures files { OnlyRead (F.state files.old) (F.state files.new) }
     ensures anyhow { IfErr result (StopsReading (F.state files.old) (F.state files.new)) }
-    ensures answer { (judged : Judged) → JudgedAt (Some (check_ask words.now).program) (F.state files.old).contents judged →
+    ensures answer { (found : Finding) → FoundAt (its_program (check_ask words.now).program) (F.state files.old).contents found →
         Gives effect_of (F.state files.old) (F.state files.new) result
-        (check_of judged (check_ask words.now) (F.state files.old).contents) }
-    ensures judged { (F.state files.old).told ≡ true → Tells (F.state files.old) result →
-        HasJudgement (Some (check_ask words.now).program) (F.state files.old).contents }
+        (check_of found (check_ask words.now) (F.state files.old).contents) }
+    ensures found { (F.state files.old).told ≡ true → Tells (F.state files.old) result →
+        HasFinding (its_program (check_ask words.now).program) (F.state files.old).contents }
     ensures names { KeepsTo (check_paths (check_ask words.now)) [] result }
 {
-    let _program = read_tree(alloc, files, &words.program)?;
+    let _program = read_typed(alloc, files, &words.program)?;
     Ok(Plan {
         writes: Vec::new(alloc),
         text: text(alloc)?,

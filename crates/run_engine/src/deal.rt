@@ -6,7 +6,8 @@ ghost use Rattle.command_frame.specs.Stops.{IsRefusalFor};
 ghost use Rattle.command_words.specs.Views.{deal_ask};
 ghost use Rattle.input_share.specs.Written.{file_bytes};
 ghost use Rattle.tape_file.specs.Format.{own_bytes};
-ghost use Rattle.run_engine.specs.Deal.{short_tape, path_to, lengths_of, file_of, deal_of, deal_paths, written_paths};
+ghost use Rattle.program_run.specs.Reports.{lengths_of};
+ghost use Rattle.run_engine.specs.Deal.{short_tape, path_to, file_of, deal_of, deal_paths, written_paths};
 
 use crate::readers::{read_inputs, read_tape_file, refusal_of};
 use command_frame::{Plan, PlannedWrite, Status, Stop};

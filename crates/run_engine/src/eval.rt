@@ -5,11 +5,11 @@ ghost use Rattle.command_frame.specs.Reads.{OnlyRead, Gives, KeepsTo, StopNames,
 ghost use Rattle.command_words.specs.Views.{eval_ask};
 ghost use Rattle.clear_eval.specs.Reports.{report_seen};
 ghost use Rattle.run_engine.specs.Eval.{report_at, eval_of, need_of, need_text, used, eval_paths};
-ghost use Rattle.run_engine.specs.Judging.{Finding, FoundAt, HasFinding, its_size, Tells};
+ghost use Rattle.run_engine.specs.Judging.{Finding, FoundAt, HasFinding, its_program, Tells};
 
+use crate::ends::status;
 use crate::programs::read_typed;
 use crate::readers::read_inputs;
-use crate::run::status;
 use clear_eval::{Report, eval};
 use command_frame::{Plan, Stop};
 use command_words::EvalWords;
@@ -22,11 +22,11 @@ use std::alloc::{AllocError, Global};
 fn read_report<F: Files>(alloc: Global, files: &mut F, words: &EvalWords) -> Result<Report, Stop>
     ensures files { OnlyRead (F.state files.old) (F.state files.new) }
     ensures anyhow { IfErr result (StopsReading (F.state files.old) (F.state files.new)) }
-    ensures answer { (found : Finding) → FoundAt (its_size (eval_ask words.now).program) (F.state files.old).contents found →
+    ensures answer { (found : Finding) → FoundAt (its_program (eval_ask words.now).program) (F.state files.old).contents found →
         Gives report_seen (F.state files.old) (F.state files.new) result
         (report_at found (eval_ask words.now) (F.state files.old).contents) }
     ensures found { (F.state files.old).told ≡ true → Tells (F.state files.old) result →
-        HasFinding (its_size (eval_ask words.now).program) (F.state files.old).contents }
+        HasFinding (its_program (eval_ask words.now).program) (F.state files.old).contents }
     ensures names { IfErr result (StopNames (eval_paths (eval_ask words.now))) }
 {
     let program = read_typed(alloc, files, &words.program)?;
@@ -39,11 +39,11 @@ fn read_report<F: Files>(alloc: Global, files: &mut F, words: &EvalWords) -> Res
 pub fn plan_eval<F: Files>(alloc: Global, files: &mut F, words: &EvalWords) -> Result<Plan, Stop>
     ensures files { OnlyRead (F.state files.old) (F.state files.new) }
     ensures anyhow { IfErr result (StopsReading (F.state files.old) (F.state files.new)) }
-    ensures answer { (found : Finding) → FoundAt (its_size (eval_ask words.now).program) (F.state files.old).contents found →
+    ensures answer { (found : Finding) → FoundAt (its_program (eval_ask words.now).program) (F.state files.old).contents found →
         Gives effect_of (F.state files.old) (F.state files.new) result
         (eval_of found (eval_ask words.now) (F.state files.old).contents) }
     ensures found { (F.state files.old).told ≡ true → Tells (F.state files.old) result →
-        HasFinding (its_size (eval_ask words.now).program) (F.state files.old).contents }
+        HasFinding (its_program (eval_ask words.now).program) (F.state files.old).contents }
     ensures names { KeepsTo (eval_paths (eval_ask words.now)) [] result }
 {
     let report = read_report(alloc, files, words)?;
@@ -80,11 +80,11 @@ fn need_line(alloc: Global, report: &Report) -> Result<String, AllocError>
 pub fn plan_need<F: Files>(alloc: Global, files: &mut F, words: &EvalWords) -> Result<Plan, Stop>
     ensures files { OnlyRead (F.state files.old) (F.state files.new) }
     ensures anyhow { IfErr result (StopsReading (F.state files.old) (F.state files.new)) }
-    ensures answer { (found : Finding) → FoundAt (its_size (eval_ask words.now).program) (F.state files.old).contents found →
+    ensures answer { (found : Finding) → FoundAt (its_program (eval_ask words.now).program) (F.state files.old).contents found →
         Gives effect_of (F.state files.old) (F.state files.new) result
         (need_of found (eval_ask words.now) (F.state files.old).contents) }
     ensures found { (F.state files.old).told ≡ true → Tells (F.state files.old) result →
-        HasFinding (its_size (eval_ask words.now).program) (F.state files.old).contents }
+        HasFinding (its_program (eval_ask words.now).program) (F.state files.old).contents }
     ensures names { KeepsTo (eval_paths (eval_ask words.now)) [] result }
 {
     let report = read_report(alloc, files, words)?;

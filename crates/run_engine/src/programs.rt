@@ -5,11 +5,14 @@ ghost use Rattle.domain_types.specs.Typing.{IsTypedProgram};
 ghost use Rattle.name_resolution.specs.Functions.{typed_of};
 ghost use Rattle.typed_tree.specs.Programs.{typed_program_tree};
 ghost use Rattle.typed_tree.specs.Sound.{IsSound};
+ghost use Rattle.well_typed.specs.Sources.{IsWellWritten};
+ghost use Rattle.writable_code.specs.Sources.{IsPlacedProgram};
+ghost use Rattle.program_run.specs.Accepted.{IsAccepted};
 ghost use Rattle.front_end.specs.Judgement.{Judged};
 ghost use Rattle.command_frame.specs.Reads.{OnlyRead, Gives, StopNames, StopsReading};
 ghost use Rattle.command_frame.specs.Stops.{IsRefusalFor};
-ghost use Rattle.run_engine.specs.Judging.{JudgedAt, HasJudgement, Finding, FoundAt, HasFinding, its_size, Tells};
-ghost use Rattle.run_engine.specs.Programs.{bad_program, not_yet, program_at, too_large, tree_at};
+ghost use Rattle.run_engine.specs.Judging.{JudgedAt, HasJudgement, Finding, FoundAt, HasFinding, its_program, Tells};
+ghost use Rattle.run_engine.specs.Programs.{bad_program, program_at, too_large, tree_at};
 
 use crate::readers::refusal_of;
 use command_frame::{Status, Stop, read_file};
@@ -17,7 +20,7 @@ use front_end::{ProgramErr, ProgramFault, read_program};
 use outside::Files;
 use program_limits::{LimitError, check_limits};
 use program_typing::checked_tree;
-use sc_text::{Fault, Span};
+use sc_text::Fault;
 use secrec_ast::Program;
 use std::alloc::Global;
 use typed_tree::TypedProgram;
@@ -46,15 +49,6 @@ fn size_stop(alloc: Global, error: LimitError) -> Stop
     }
 }
 
-/// That an accepted program can't be run yet.
-#[tactic(auto, unfolding(crate::specs::Programs::not_yet))]
-pub fn not_yet(alloc: Global) -> Stop
-    ensures { IsRefusalFor not_yet result }
-{
-    let place = Span { line: 1, column: 1 };
-    refusal_of(alloc, Status::Program, &Fault::NotYet { place })
-}
-
 /// The program at this path, if it is accepted.
 #[tactic(auto, unfolding(crate::specs::Programs::tree_at))]
 pub fn read_tree<F: Files>(alloc: Global, files: &mut F, path: &str) -> Result<Program, Stop>
@@ -66,6 +60,8 @@ pub fn read_tree<F: Files>(alloc: Global, files: &mut F, path: &str) -> Result<P
     ensures judged { (F.state files.old).told ≡ true → Tells (F.state files.old) result →
         HasJudgement (Some path.now) (F.state files.old).contents }
     ensures typed { IfOk result (λ program. IsTypedProgram (program_tree program)) }
+    ensures written { IfOk result (λ program. IsWellWritten (program_tree program)) }
+    ensures placed { IfOk result (λ program. IsPlacedProgram (program_tree program)) }
     ensures names { IfErr result (StopNames (path.now ∷ [])) }
 {
     let bytes = read_file(alloc, files, path)?;
@@ -81,12 +77,13 @@ pub fn read_tree<F: Files>(alloc: Global, files: &mut F, path: &str) -> Result<P
 pub fn read_typed<F: Files>(alloc: Global, files: &mut F, path: &str) -> Result<TypedProgram, Stop>
     ensures files { OnlyRead (F.state files.old) (F.state files.new) }
     ensures anyhow { IfErr result (StopsReading (F.state files.old) (F.state files.new)) }
-    ensures answer { (found : Finding) → FoundAt (its_size path.now) (F.state files.old).contents found →
+    ensures answer { (found : Finding) → FoundAt (its_program path.now) (F.state files.old).contents found →
         Gives typed_program_tree (F.state files.old) (F.state files.new) result
         (program_at found (F.state files.old).contents path.now) }
     ensures found { (F.state files.old).told ≡ true → Tells (F.state files.old) result →
-        HasFinding (its_size path.now) (F.state files.old).contents }
+        HasFinding (its_program path.now) (F.state files.old).contents }
     ensures sound { IfOk result (λ t. IsSound (typed_program_tree t)) }
+    ensures accepted { IfOk result (λ t. IsAccepted (typed_program_tree t)) }
     ensures names { IfErr result (StopNames (path.now ∷ [])) }
 {
     let program = read_tree(alloc, files, path)?;

@@ -7,7 +7,7 @@ ghost use Rattle.sc_text.specs.Fault.{fault_line};
 ghost use Rattle.command_frame.specs.declared.status.Status.TheVariants.{Input};
 ghost use Rattle.sc_text.specs.declared.fault.Fault.TheVariants.{Input as InputFile};
 ghost use Rattle.value_file.specs.Input.{AreInputs};
-ghost use Rattle.run_engine.specs.Run.{bad_tape, field_fault, top_fault, entry_field, inputs_at, tape_file_at};
+ghost use Rattle.run_engine.specs.Reading.{bad_tape, field_fault, top_fault, entry_field, inputs_at, tape_file_at};
 
 use command_frame::{Refusal, Status, Stop, read_file};
 use outside::Files;
@@ -70,7 +70,7 @@ fn input_stop(alloc: Global, fault: InputFault) -> Stop
 }
 
 /// The inputs of the file at this path.
-#[tactic(auto, unfolding(crate::specs::Run::inputs_at, crate::specs::Run::bad_input))]
+#[tactic(auto, unfolding(crate::specs::Reading::inputs_at, crate::specs::Reading::bad_input))]
 pub fn read_inputs<F: Files>(alloc: Global, files: &mut F, path: &str) -> Result<Inputs, Stop>
     ensures files { OnlyRead (F.state files.old) (F.state files.new) }
     ensures answer { Gives (λ inputs. inputs) (F.state files.old) (F.state files.new) result
@@ -93,7 +93,7 @@ pub fn read_inputs<F: Files>(alloc: Global, files: &mut F, path: &str) -> Result
 }
 
 // Why a tape file is refused.
-#[tactic(auto, unfolding(crate::specs::Run::bad_tape))]
+#[tactic(auto, unfolding(crate::specs::Reading::bad_tape))]
 fn tape_stop(alloc: Global, place: u64) -> Stop
     ensures { IsRefusalFor (bad_tape place) result }
 {
@@ -101,7 +101,7 @@ fn tape_stop(alloc: Global, place: u64) -> Stop
 }
 
 /// The tapes of the file at this path.
-#[tactic(auto, unfolding(crate::specs::Run::tape_file_at))]
+#[tactic(auto, unfolding(crate::specs::Reading::tape_file_at))]
 pub fn read_tape_file<F: Files>(alloc: Global, files: &mut F, path: &str) -> Result<Tapes, Stop>
     ensures files { OnlyRead (F.state files.old) (F.state files.new) }
     ensures answer { Gives (λ tapes. tapes) (F.state files.old) (F.state files.new) result

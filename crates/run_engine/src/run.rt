@@ -1,39 +1,25 @@
 // The command `run`.
-ghost use Rattle.std.specs.Prelude.{◌≡◌, [], true, Some, IfOk, IfErr};
-ghost use Rattle.front_end.specs.Judgement.{Judged};
+ghost use Rattle.std.specs.Prelude.{◌≡◌, [], true, IfOk, IfErr};
 ghost use Rattle.command_frame.specs.Answer.{effect_of};
-ghost use Rattle.command_frame.specs.Reads.{OnlyRead, Gives, KeepsTo, StopNames, StopsReading};
+ghost use Rattle.command_frame.specs.Reads.{OnlyRead, Gives, KeepsTo, PlanNames, StopNames, StopsReading};
 ghost use Rattle.command_words.specs.Views.{run_ask, source_ask};
-ghost use Rattle.run_engine.specs.Outcome.{status_of};
-ghost use Rattle.run_engine.specs.Judging.{JudgedAt, HasJudgement, Tells};
-ghost use Rattle.run_engine.specs.Run.{tapes_at, run_of, run_paths, source_paths};
+ghost use Rattle.run_engine.specs.Judging.{Finding, FoundAt, HasFinding, its_program, Tells};
+ghost use Rattle.run_engine.specs.Reading.{tapes_at, source_paths};
+ghost use Rattle.run_engine.specs.Run.{run_of, run_paths, told_effect};
 
-use crate::outcome::run_sum;
-use crate::programs::{not_yet, read_tree};
+use crate::ends::status;
+use crate::programs::read_typed;
 use crate::readers::{read_inputs, read_tape_file};
-use crate::sum_program::read_sum;
-use crate::text::text_of;
-use command_frame::{Plan, Status, Stop};
+use command_frame::{Plan, Stop};
 use command_words::{RunWords, TapeSource};
 use outside::Files;
-use sc_text::Ending;
-use std::alloc::Global;
+use program_run::{RunReport, run_program};
+use sc_text::run_text;
+use std::alloc::{AllocError, Global};
 use tape_file::{Tapes, from_seed};
 
-/// The exit status of a run's end.
-pub fn status(how: Ending) -> Status
-    ensures { result ≡ status_of how }
-{
-    match how {
-        Ending::Done => Status::Done,
-        Ending::Trap { .. } => Status::Trap,
-        Ending::Budget => Status::Budget,
-        Ending::Tape { .. } => Status::Tape,
-    }
-}
-
 // The tapes of a file, or those that are drawn from a seed.
-#[tactic(auto, unfolding(crate::specs::Run::tapes_at))]
+#[tactic(auto, unfolding(crate::specs::Reading::tapes_at))]
 fn read_tapes<F: Files>(alloc: Global, files: &mut F, source: &TapeSource) -> Result<Tapes, Stop>
     ensures files { OnlyRead (F.state files.old) (F.state files.new) }
     ensures answer { Gives (λ tapes. tapes) (F.state files.old) (F.state files.new) result
@@ -46,28 +32,35 @@ fn read_tapes<F: Files>(alloc: Global, files: &mut F, source: &TapeSource) -> Re
     }
 }
 
-/// Reads and checks the files, runs the three miners, and says what is to be printed.
-#[tactic(auto, unfolding(crate::specs::Run::run_of, crate::specs::Programs::sum_at, crate::specs::Run::run_paths), using(command_frame::proofs::Naming::names_first, command_frame::proofs::Naming::names_later))]
+// What is to be printed of a run: what the miners opened and published, and how they ended.
+fn told_plan(alloc: Global, told: &RunReport) -> Result<Plan, AllocError>
+    ensures effect { IfOk result (λ plan. effect_of plan ≡ told_effect told.now) }
+    ensures names { IfOk result (PlanNames []) }
+{
+    let text = run_text(alloc, &told.events, &told.end)?;
+    Ok(Plan {
+        writes: Vec::new(alloc),
+        text,
+        status: status(told.end.how),
+    })
+}
+
+/// Reads and checks the files, runs the three miners, and says what is to be printed: what they opened and published, and how they
+/// ended.
+#[tactic(auto, unfolding(crate::specs::Run::run_of, crate::specs::Run::run_report, crate::specs::Run::run_paths), using(command_frame::proofs::Naming::names_first, command_frame::proofs::Naming::names_later))]
 pub fn plan_run<F: Files>(alloc: Global, files: &mut F, words: &RunWords) -> Result<Plan, Stop>
     ensures files { OnlyRead (F.state files.old) (F.state files.new) }
     ensures anyhow { IfErr result (StopsReading (F.state files.old) (F.state files.new)) }
-    ensures answer { (judged : Judged) → JudgedAt (Some (run_ask words.now).program) (F.state files.old).contents judged →
+    ensures answer { (found : Finding) → FoundAt (its_program (run_ask words.now).program) (F.state files.old).contents found →
         Gives effect_of (F.state files.old) (F.state files.new) result
-        (run_of judged (run_ask words.now) (F.state files.old).contents) }
-    ensures judged { (F.state files.old).told ≡ true → Tells (F.state files.old) result →
-        HasJudgement (Some (run_ask words.now).program) (F.state files.old).contents }
+        (run_of found (run_ask words.now) (F.state files.old).contents) }
+    ensures found { (F.state files.old).told ≡ true → Tells (F.state files.old) result →
+        HasFinding (its_program (run_ask words.now).program) (F.state files.old).contents }
     ensures names { KeepsTo (run_paths (run_ask words.now)) [] result }
 {
-    let program = read_tree(alloc, files, &words.program)?;
-    let Some(sum) = read_sum(&program) else {
-        return Err(not_yet(alloc));
-    };
+    let program = read_typed(alloc, files, &words.program)?;
     let inputs = read_inputs(alloc, files, &words.input)?;
     let tapes = read_tapes(alloc, files, &words.source)?;
-    let outcome = run_sum(sum, inputs.entries(), &tapes, words.budget);
-    Ok(Plan {
-        writes: Vec::new(alloc),
-        text: text_of(alloc, sum.published, outcome.told, outcome.end)?,
-        status: status(outcome.end.how),
-    })
+    let told = run_program(alloc, &program, &inputs, &tapes, words.budget)?;
+    Ok(told_plan(alloc, &told)?)
 }

@@ -1,5 +1,5 @@
 // The top call.
-ghost use Rattle.std.specs.Prelude.{◌≡◌, ◌≢◌, ◌⊎◌, true, false, None, Some, IsOkAnd};
+ghost use Rattle.std.specs.Prelude.{◌≡◌, ◌≢◌, ◌⊎◌, true, false, List, None, Some, IsOkAnd};
 ghost use Rattle.outside.specs.Causes.{Rose};
 ghost use Rattle.outside.specs.Sink.{SameSink};
 ghost use Rattle.command_frame.specs.Answer.{Answer, usage};
@@ -8,18 +8,20 @@ ghost use Rattle.command_frame.specs.Status.{is_end, is_fault, is_refusal};
 ghost use Rattle.command_frame.specs.Stops.{write_line, memory_line};
 ghost use Rattle.command_frame.specs.Whole.{CarriedOut, FileTold, IsAnswered, IsCut, IsMissed, OnlyWritten, OutFaulted};
 ghost use Rattle.command_frame.specs.declared.status.Status.{Status};
-ghost use Rattle.command_words.specs.Ask.{CheckAsk, EvalAsk, RunAsk, DealAsk, check, eval, need, run, deal, words_of};
+ghost use Rattle.command_words.specs.Ask.{CheckAsk, CompileAsk, EvalAsk, RunAsk, DealAsk, check, compile, eval, need, run, deal, words_of};
 ghost use Rattle.command_words.specs.Views.{ask_of, texts};
 ghost use Rattle.tape_file.specs.Tapes.{FourTapes};
-ghost use Rattle.run_engine.specs.Arguments.{Argument};
+ghost use Rattle.typed_tree.specs.Programs.{TypedProgramTree};
+ghost use Rattle.value_file.specs.declared.inputs.Entry.{Entry};
+ghost use Rattle.program_run.specs.Miners.{CanBeDealt, RunsOnShares};
 ghost use Rattle.run_engine.specs.Eval.{eval_text, need_text};
 ghost use Rattle.run_engine.specs.Obeying.{Acted, Obeyed, Planned};
-ghost use Rattle.run_engine.specs.Promises.{AllSteady, CheckEffect, DealEffect, EvalEffect, RunEffect, Keeps, is_done};
-ghost use Rattle.run_engine.specs.Runs.{CheckRefused, DealRefused, EvalRefused, RunRefused};
-ghost use Rattle.run_engine.specs.Sum.{sum_of, MinersOpen};
+ghost use Rattle.run_engine.specs.Promises.{AllSteady, CheckEffect, CompileEffect, DealEffect, EvalEffect, RunEffect, Keeps, is_done};
+ghost use Rattle.run_engine.specs.Runs.{DealRefused, EvalRefused, HoldsRun, ProgramRefused, RunRefused};
 ghost use Rattle.run_engine.specs.Words.{read_by, written_by, reach_miners, start_programs, IsAnswer, HasAnswer};
 
 use crate::check::plan_check;
+use crate::compile::plan_compile;
 use crate::deal::plan_deal;
 use crate::eval::{plan_eval, plan_need};
 use crate::run::plan_run;
@@ -36,6 +38,7 @@ fn plan<F: Files>(alloc: Global, files: &mut F, command: &Command) -> Result<Pla
         Command::Run(words) => plan_run(alloc, files, words),
         Command::Deal(words) => plan_deal(alloc, files, words),
         Command::Check(words) => plan_check(alloc, files, words),
+        Command::Compile(words) => plan_compile(alloc, files, words),
         Command::Eval(words) => plan_eval(alloc, files, words),
         Command::Need(words) => plan_need(alloc, files, words),
     }
@@ -149,10 +152,13 @@ pub fn secrec<F: Files, O: Sink, E: Sink, L: Links, C: Spawner>(
         IsAnswered answer result ⊎ (result ≡ Status.Memory) }
 
     // What each command keeps. Over steady objects that hold files as they must be its effect is there whole, or memory ran
-    // out: `check` prints `ok`, `eval` the text of the evaluation in the clear and `need` the words that it used, `run` the text of
+    // out: `check` prints `ok`, `compile` writes the code of the program, `eval` prints the text of the evaluation in the clear and `need` the words that it used, `run` the text of
     // the run. Each is refused exactly for the first file that is there and not as it must be.
     ensures checks { (ask : CheckAsk) → words_of (texts words.now) ≡ Some (check ask) → (F.state files.old).told ≡ true →
-        Keeps (CheckEffect ask (F.state files.old).contents) (CheckRefused ask (F.state files.old).contents) is_end
+        Keeps (CheckEffect ask (F.state files.old).contents) (ProgramRefused ask.program (F.state files.old).contents) is_end
+        (F.state files.old) (F.state files.new) (O.state out.old) (O.state out.new) result }
+    ensures compiles { (ask : CompileAsk) → words_of (texts words.now) ≡ Some (compile ask) → (F.state files.old).told ≡ true →
+        Keeps (CompileEffect ask (F.state files.old).contents) (ProgramRefused ask.program (F.state files.old).contents) is_end
         (F.state files.old) (F.state files.new) (O.state out.old) (O.state out.new) result }
     ensures evaluates { (ask : EvalAsk) → words_of (texts words.now) ≡ Some (eval ask) → (F.state files.old).told ≡ true →
         Keeps (EvalEffect eval_text ask (F.state files.old).contents) (EvalRefused ask (F.state files.old).contents) is_end
@@ -164,10 +170,12 @@ pub fn secrec<F: Files, O: Sink, E: Sink, L: Links, C: Spawner>(
         Keeps (RunEffect ask (F.state files.old).contents) (RunRefused ask (F.state files.old).contents) is_end
         (F.state files.old) (F.state files.new) (O.state out.old) (O.state out.new) result }
 
-    // The sum that such a run opens: the three miners' parts, each of its own share and word alone, run together come to
-    // their end, and each of them opens it.
-    ensures sum_opened_by_miners { (tapes : FourTapes) (left right : Argument) →
-        MinersOpen tapes left right (sum_of left right) }
+    // What `run` prints is what three miners do, each with its shares of the inputs and its own tape alone: under every order of
+    // delivery they open and publish what that evaluation does, and end as it does. The inputs and tapes are of words, and the
+    // dealer's tape has enough of them.
+    ensures runs_on_shares { (ask : RunAsk) (program : TypedProgramTree) (entries : List Entry) (tapes : FourTapes) →
+        words_of (texts words.now) ≡ Some (run ask) → HoldsRun ask (F.state files.old).contents program entries tapes →
+        CanBeDealt entries tapes → RunsOnShares program entries tapes ask.budget }
 
     // `deal` writes its six files. A dealer's tape with too few words is a refusal of it.
     ensures deals { (ask : DealAsk) → words_of (texts words.now) ≡ Some (deal ask) → (F.state files.old).told ≡ true →

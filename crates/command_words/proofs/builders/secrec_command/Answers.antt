@@ -1,6 +1,6 @@
-use Rattle.command_words.specs.Shapes.{check_app, clear_app, secrec_app}
+use Rattle.command_words.specs.Shapes.{checking_app, compile_app, secrec_app}
 use Rattle.command_words.proofs.builders.secrec_command.Goals as goal
 
 pub returns : goal.returns
 unfolding secrec_app
-returns c = c.with_command.ensures clear_app check_app c.clear_commands.ensures c.check_command.ensures
+returns c = c.with_command.ensures checking_app compile_app c.checking_commands.ensures c.compile_command.ensures

@@ -1,6 +1,8 @@
 use Rattle.std.proofs.Common.{Ok, Err}
 use Rattle.secrec_ast.specs.Programs.{program_tree}
 use Rattle.run_engine.proofs.Judged.{as_lent, tree_known, judgement_known, refusal_known, refusal_only, refused_so, unread_on}
+use Rattle.placed_text.proofs.Spelled.{placed_where_spelled}
+use Rattle.well_written.proofs.Grammar.{well_written}
 use Rattle.run_engine.proofs.programs.read_tree.Goals as goal
 
 pub returns-in_err-bytes-clause-judged : goal.returns-in_err-bytes-clause-judged
@@ -13,6 +15,16 @@ returns-in-Ok-clause-answer g c = λ judged h t.
 
 pub returns-in-Ok-clause-typed : goal.returns-in-Ok-clause-typed
 returns-in-Ok-clause-typed g c = c.in-Ok.ensures.answer.typed
+
+pub returns-in-Ok-clause-written : goal.returns-in-Ok-clause-written
+returns-in-Ok-clause-written g c =
+    let spells = c.in-Ok.ensures.answer.spells in
+    well_written c.deref.result.now (program_tree c.in-Ok.program) spells.tokens spells.lexed spells.spelled
+
+pub returns-in-Ok-clause-placed : goal.returns-in-Ok-clause-placed
+returns-in-Ok-clause-placed g c =
+    let spells = c.in-Ok.ensures.answer.spells in
+    placed_where_spelled c.deref.result.now (program_tree c.in-Ok.program) spells.tokens spells.lexed spells.spelled
 
 pub returns-in-Ok-clause-judged : goal.returns-in-Ok-clause-judged
 returns-in-Ok-clause-judged g c = λ t tells.

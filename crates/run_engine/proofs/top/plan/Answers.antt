@@ -1,9 +1,9 @@
-use Rattle.run_engine.proofs.Obeying.{run_planned, deal_planned, check_planned, eval_planned, need_planned}
+use Rattle.run_engine.proofs.Obeying.{run_planned, deal_planned, check_planned, compile_planned, eval_planned, need_planned}
 use Rattle.run_engine.proofs.top.plan.Goals as goal
 
 pub returns-in-Run : goal.returns-in-Run
 returns-in-Run g c =
-    rw c.in-Run.is (run_planned _ _ _ c.plan_run.ensures.files c.plan_run.ensures.anyhow _ c.plan_run.ensures.answer c.plan_run.ensures.judged
+    rw c.in-Run.is (run_planned _ _ _ c.plan_run.ensures.files c.plan_run.ensures.anyhow _ c.plan_run.ensures.answer c.plan_run.ensures.found
     c.plan_run.ensures.names)
 
 pub returns-in-Deal : goal.returns-in-Deal
@@ -12,8 +12,13 @@ returns-in-Deal g c =
 
 pub returns-in-Check : goal.returns-in-Check
 returns-in-Check g c =
-    rw c.in-Check.is (check_planned _ _ _ c.plan_check.ensures.files c.plan_check.ensures.anyhow _ c.plan_check.ensures.answer c.plan_check.ensures.judged
+    rw c.in-Check.is (check_planned _ _ _ c.plan_check.ensures.files c.plan_check.ensures.anyhow _ c.plan_check.ensures.answer c.plan_check.ensures.found
     c.plan_check.ensures.names)
+
+pub returns-in-Compile : goal.returns-in-Compile
+returns-in-Compile g c =
+    rw c.in-Compile.is (compile_planned _ _ _ c.plan_compile.ensures.files c.plan_compile.ensures.anyhow _ c.plan_compile.ensures.answer
+    c.plan_compile.ensures.found c.plan_compile.ensures.names)
 
 pub returns-in-Eval : goal.returns-in-Eval
 returns-in-Eval g c =

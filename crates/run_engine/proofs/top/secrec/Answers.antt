@@ -1,7 +1,7 @@
 use Rattle.command_frame.proofs.Wholes.{complete, carried_out, end_says_nothing, file_counted, file_missed, file_told, memory_cuts, memory_said, refused_prints_nothing, usage_of_unnamed, usage_said, usage_unnamed, write_counted, write_cuts, write_said}
-use Rattle.run_engine.proofs.Promises.{check_keeps, deal_keeps, eval_keeps, need_keeps, run_keeps}
+use Rattle.run_engine.proofs.Miners.{miners_run}
+use Rattle.run_engine.proofs.Promises.{check_keeps, compile_keeps, deal_keeps, eval_keeps, need_keeps, run_keeps}
 use Rattle.run_engine.proofs.Runs.{no_command}
-use Rattle.run_engine.proofs.Sums.{miners_open}
 use Rattle.run_engine.proofs.Tops.{telling}
 use Rattle.run_engine.proofs.top.secrec.Goals as goal
 
@@ -74,6 +74,11 @@ returns-clause-checks g c = λ ask asks t.
     check_keeps _ _ _ _ _ _ _ _ (returns-clause-answered g c t) (λ answer a sound. returns-clause-answer_carried_out g c answer a sound t)
     (λ answer a steady. returns-clause-complete g c answer a steady t) ask asks
 
+pub returns-clause-compiles : goal.returns-clause-compiles
+returns-clause-compiles g c = λ ask asks t.
+    compile_keeps _ _ _ _ _ _ _ _ (returns-clause-answered g c t) (λ answer a sound. returns-clause-answer_carried_out g c answer a sound t)
+    (λ answer a steady. returns-clause-complete g c answer a steady t) ask asks
+
 pub returns-clause-evaluates : goal.returns-clause-evaluates
 returns-clause-evaluates g c = λ ask asks t.
     eval_keeps _ _ _ _ _ _ _ _ (returns-clause-answered g c t) (λ answer a sound. returns-clause-answer_carried_out g c answer a sound t)
@@ -89,8 +94,8 @@ returns-clause-runs g c = λ ask asks t.
     run_keeps _ _ _ _ _ _ _ _ (returns-clause-answered g c t) (λ answer a sound. returns-clause-answer_carried_out g c answer a sound t)
     (λ answer a steady. returns-clause-complete g c answer a steady t) ask asks
 
-pub returns-clause-sum_opened_by_miners : goal.returns-clause-sum_opened_by_miners
-returns-clause-sum_opened_by_miners g c = miners_open
+pub returns-clause-runs_on_shares : goal.returns-clause-runs_on_shares
+returns-clause-runs_on_shares g c = λ ask program entries tapes asks held can. miners_run ask _ program entries tapes held can
 
 pub returns-clause-deals : goal.returns-clause-deals
 returns-clause-deals g c = λ ask asks t.

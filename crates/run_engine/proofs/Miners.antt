@@ -1,0 +1,30 @@
+-- The programs that `run` reads are run by three miners on shares.
+use Rattle.std.proofs.Common.{◌≡◌, ℕ, List}
+use Rattle.outside.specs.Files.{Contents}
+use Rattle.command_words.specs.Ask.{RunAsk}
+use Rattle.tape_file.specs.Tapes.{FourTapes}
+use Rattle.typed_tree.specs.Programs.{TypedProgramTree}
+use Rattle.value_file.specs.declared.inputs.Entry.{Entry}
+use Rattle.well_written.proofs.Grammar.{well_written}
+use Rattle.placed_text.proofs.Spelled.{placed_where_spelled}
+use Rattle.program_run.specs.Accepted.{IsAccepted}
+use Rattle.program_run.specs.Miners.{CanBeDealt, RunsOnShares}
+use Rattle.program_run.proofs.Shared.{runs_where_accepted}
+use Rattle.run_engine.specs.Runs.{HoldsRun, HoldsTyped}
+
+accepted_so : (path : List ℕ) (files : Contents) (p : TypedProgramTree) → HoldsTyped path files p → IsAccepted p
+accepted_so path files p h =
+    let spells = h.held.accepted.spells in
+    record {
+      source = h.tree;
+      typed = h.held.accepted.typed;
+      written = well_written h.held.bytes h.tree spells.tokens spells.lexed spells.spelled;
+      placed = placed_where_spelled h.held.bytes h.tree spells.tokens spells.lexed spells.spelled;
+      of = h.typed;
+      within = h.within;
+    }
+
+pub miners_run : (ask : RunAsk) (files : Contents) (p : TypedProgramTree) (entries : List Entry) (tapes : FourTapes)
+    → HoldsRun ask files p entries tapes → CanBeDealt entries tapes → RunsOnShares p entries tapes ask.budget
+miners_run ask files p entries tapes h can =
+    runs_where_accepted p entries tapes ask.budget (accepted_so ask.program files p h.program) can

@@ -1,0 +1,120 @@
+-- What the answer of `run` is: for files that are as they must be, and that it is refused only for one that is there and is not.
+use Rattle.std.proofs.Common.{◌≡◌, ◌⊎◌, ℕ, List, Some, Ok, Err, Result, refl, ap, subst, sym, ◌∙◌, inl, inr}
+use Rattle.outside.specs.Files.{Contents}
+use Rattle.command_frame.specs.declared.status.Status.{Status}
+use Rattle.command_frame.specs.Answer.{Answer, Cause, ◌>>=◌}
+use Rattle.command_words.specs.Ask.{RunAsk, file, run, words_of}
+use Rattle.tape_file.specs.Format.{read_of as tapes_read_of}
+use Rattle.tape_file.specs.Tapes.{FourTapes}
+use Rattle.typed_tree.specs.Programs.{TypedProgramTree}
+use Rattle.value_file.specs.declared.inputs.Entry.{Entry}
+use Rattle.value_file.specs.Input.{read_of as inputs_read_of}
+use Rattle.run_engine.specs.Eval.{end_of, eval_text, report_effect}
+use Rattle.run_engine.specs.Judging.{Finding, FoundAt, its_program}
+use Rattle.run_engine.specs.Programs.{program_at}
+use Rattle.run_engine.specs.Reading.{bad_input, bad_tape, inputs_at, tape_file_at, tapes_at}
+use Rattle.run_engine.specs.Run.{run_of, run_report}
+use Rattle.run_engine.specs.Runs.{HoldsRun, HoldsTyped, RunRefused, bad_program, bad_input as input_refused, bad_tape as tape_refused}
+use Rattle.run_engine.specs.Words.{answer_to, question_of, IsAnswer}
+use Rattle.run_engine.proofs.Held.{found_of, found_there, no_program, program_there}
+use Rattle.run_engine.proofs.Accepting.{program_cases, refused_by_program}
+use Rattle.run_engine.proofs.Refusals.{Refuses, ReadRefused, input_status, inputs_refused, no_ending, not_missing, refusing, status_in_answer, status_of_cause, steps, tape_status, tapes_refused}
+use Rattle.run_engine.proofs.Runs.{HasAnswerOf, command_answers, is_answer, read_there}
+
+-- ---- files that are as they must be
+
+abbrev pub ran : RunAsk → TypedProgramTree → List Entry → FourTapes → Answer
+ran ask p entries tapes = Ok (report_effect eval_text (run_report p entries tapes ask.budget))
+
+run_there : (ask : RunAsk) (files : Contents) (p : TypedProgramTree) (entries : List Entry) (tapes : FourTapes) (h : HoldsRun ask files p entries tapes)
+    → run_of (found_of ask.program files p h.program) ask files ≡ ran ask p entries tapes
+unfolding run_of
+run_there ask files p entries tapes h = rw (program_there ask.program files p h.program h.program.within.list, h.inputs, h.tapes) refl
+
+pub run_answered : (words : List (List ℕ)) (ask : RunAsk) (files : Contents) (p : TypedProgramTree) (entries : List Entry) (tapes : FourTapes)
+    → words_of words ≡ Some (run ask) → HoldsRun ask files p entries tapes → IsAnswer words files (ran ask p entries tapes)
+unfolding answer_to question_of
+run_answered words ask files p entries tapes asks h =
+    subst (IsAnswer words files) (run_there ask files p entries tapes h)
+    (is_answer words (run ask) files (found_of ask.program files p h.program) asks (found_there ask.program files p h.program))
+
+-- ---- files that are refused
+
+-- the answer to what is found has this status
+abbrev IsRefusedAs : RunAsk → Contents → Status → Type 0
+IsRefusedAs ask files s = (found : Finding) × FoundAt (its_program ask.program) files found × (status_in_answer (run_of found ask files) ≡ s)
+
+run_refused : (ask : RunAsk) (files : Contents) (s : Status) → RunRefused ask files s → IsRefusedAs ask files s
+unfolding run_of inputs_at tapes_at tape_file_at bad_input bad_tape
+run_refused ask files s (bad_program refused) =
+    let no = no_program ask.program files s refused in
+    (no.found, no.at, rw no.none (sym no.status))
+run_refused ask files s (input_refused is p h bytes err there bad) = (
+  found_of ask.program files p h,
+  found_there ask.program files p h,
+  rw (program_there ask.program files p h h.within.list, read_there files ask.input bytes there, bad) (sym is),
+)
+run_refused ask files s (tape_refused is p h entries inputs path bytes place source there bad) = (
+  found_of ask.program files p h,
+  found_there ask.program files p h,
+  rw (program_there ask.program files p h h.within.list, inputs, source, read_there files path bytes there, bad) (sym is),
+)
+
+pub run_answered_so : (words : List (List ℕ)) (ask : RunAsk) (files : Contents) (s : Status) → words_of words ≡ Some (run ask)
+    → RunRefused ask files s → HasAnswerOf words files s
+unfolding answer_to question_of
+run_answered_so words ask files s asks out =
+    let (found, at, status) = run_refused ask files s out in
+    (run_of found ask files, is_answer words (run ask) files found asks at, status)
+
+-- ---- and only so
+
+module _ (found : Finding) (ask : RunAsk) (files : Contents) (h : FoundAt (its_program ask.program) files found) (r : Answer)
+    (why : Refuses (status_in_answer r)) where
+  by_input : (p : TypedProgramTree) → HoldsTyped ask.program files p → (c : Cause) → r ≡ Err c → ReadRefused files ask.input bad_input inputs_read_of c
+      → RunRefused ask files (status_in_answer r)
+  by_input p held c is (inl missed) = not_missing r c ask.input why.refusal is missed
+  by_input p held c is (inr (bytes, err, there, bad, e)) =
+      input_refused (refusing r c is ∙ ap status_of_cause e ∙ input_status err) p held bytes err there bad
+
+  by_tape : (p : TypedProgramTree) → HoldsTyped ask.program files p → (entries : List Entry) → inputs_at files ask.input ≡ Ok entries → (c : Cause)
+      → r ≡ Err c → (path : List ℕ) → ask.source ≡ file path → ReadRefused files path bad_tape tapes_read_of c → RunRefused ask files (status_in_answer r)
+  by_tape p held entries inputs c is path source (inl missed) = not_missing r c path why.refusal is missed
+  by_tape p held entries inputs c is path source (inr (bytes, place, there, bad, e)) =
+      tape_refused (refusing r c is ∙ ap status_of_cause e ∙ tape_status place) p held entries inputs path bytes place source there bad
+
+  at_tapes : (p : TypedProgramTree) → HoldsTyped ask.program files p → (entries : List Entry) → inputs_at files ask.input ≡ Ok entries
+      → (tapes_at files ask.source >>= ran ask p entries) ≡ r → RunRefused ask files (status_in_answer r)
+  at_tapes p held entries inputs is =
+      elim (steps (tapes_at files ask.source) (ran ask p entries) r is) [
+        | inl (c, e, is_r) ↦ let (path, source, refused) = tapes_refused files ask.source c e in by_tape p held entries inputs c is_r path source refused
+        | inr (tapes, e, done) ↦ no_ending (status_in_answer r) (end_of (run_report p entries tapes ask.budget)).how why (ap status_in_answer (sym done))
+      ]
+
+  abbrev after_inputs : TypedProgramTree → List Entry → Answer
+  after_inputs p entries = tapes_at files ask.source >>= ran ask p entries
+
+  at_inputs : (p : TypedProgramTree) → HoldsTyped ask.program files p → (inputs_at files ask.input >>= after_inputs p) ≡ r → RunRefused ask files (status_in_answer r)
+  at_inputs p held is =
+      elim (steps (inputs_at files ask.input) (after_inputs p) r is) [
+        | inl (c, e, is_r) ↦ by_input p held c is_r (inputs_refused files ask.input c e)
+        | inr (entries, e, rest) ↦ at_tapes p held entries e rest
+      ]
+
+  abbrev after_program : TypedProgramTree → Answer
+  after_program p = inputs_at files ask.input >>= after_inputs p
+
+  refused_only : run_of found ask files ≡ r → RunRefused ask files (status_in_answer r)
+  unfolding run_of
+  refused_only is =
+      elim (steps (program_at found files ask.program) after_program r is) [
+        | inl (c, e, is_r) ↦ bad_program (refused_by_program ask.program files r why c is_r (program_cases found files ask.program h (Err c) e))
+        | inr (p, e, rest) ↦ at_inputs p (program_cases found files ask.program h (Ok p) e) rest
+      ]
+
+pub run_refused_only : (words : List (List ℕ)) (ask : RunAsk) (files : Contents) → words_of words ≡ Some (run ask) → (answer : Answer)
+    → IsAnswer words files answer → Refuses (status_in_answer answer) → RunRefused ask files (status_in_answer answer)
+unfolding answer_to question_of
+run_refused_only words ask files asks answer a why =
+    let (found, at, is) = command_answers words (run ask) files answer asks a in
+    refused_only found ask files at answer why is

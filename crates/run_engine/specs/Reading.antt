@@ -1,0 +1,84 @@
+-- Input and tape files at their paths, as commands read them.
+use Rattle.std.specs.Prelude.{ℕ, List, [], ◌∷◌, Option, Some, None, Result, Ok, Err}
+use Rattle.outside.specs.Files.{Contents}
+use Rattle.command_frame.specs.declared.status.Status.TheVariants.{Input, TapeFile}
+use Rattle.command_frame.specs.Answer.{Cause, ◌>>=◌, bytes_at}
+use Rattle.command_words.specs.Ask.{Source, file, seeded}
+use Rattle.sc_text.specs.declared.fault.Fault.{Fault}
+use Rattle.sc_text.specs.declared.fault.Fault.TheVariants as faults
+use Rattle.sc_text.specs.declared.input_fault.EntryField.{EntryField}
+use Rattle.sc_text.specs.declared.input_fault.EntryField.TheVariants as entry_fields
+use Rattle.sc_text.specs.declared.input_fault.InputFault.{InputFault}
+use Rattle.sc_text.specs.declared.input_fault.InputFault.TheVariants as input_faults
+use Rattle.sc_text.specs.Fault.{fault_line}
+use Rattle.tape_file.specs.Format.{read_of as tapes_read_of}
+use Rattle.tape_file.specs.Seeds.{seed_tapes}
+use Rattle.tape_file.specs.Tapes.{FourTapes}
+use Rattle.value_file.specs.declared.inputs.Entry.{Entry}
+use Rattle.value_file.specs.declared.read_err.Field.{Field}
+use Rattle.value_file.specs.declared.read_err.Field.TheVariants as fields
+use Rattle.value_file.specs.declared.read_err.ReadErr.{ReadErr}
+use Rattle.value_file.specs.declared.read_err.ReadErr.TheVariants as read_errs
+use Rattle.value_file.specs.Input.{read_of as inputs_read_of}
+
+-- the refusal of a tape file, by the place of its first fault
+unfoldable pub bad_tape : ℕ → Cause
+bad_tape place = record { status = TapeFile; line = fault_line (faults.BadTape place) }
+
+-- a field of an entry; those at top are none
+abbrev pub entry_field : Field → Option EntryField
+entry_field fields.Inputs = None
+entry_field fields.Name = Some entry_fields.Name
+entry_field fields.Domain = Some entry_fields.Domain
+entry_field fields.Type = Some entry_fields.Type
+entry_field fields.Value = Some entry_fields.Value
+entry_field fields.Shape = Some entry_fields.Shape
+entry_field fields.Share = Some entry_fields.Share
+entry_field fields.Lens = None
+entry_field fields.Miner = None
+
+-- the fault of a field at top
+abbrev pub top_fault : Field → InputFault
+top_fault fields.Lens = input_faults.BadLens
+top_fault fields.Miner = input_faults.BadMiner
+top_fault _ = input_faults.NoInputs
+
+abbrev pub fault_in : Option ℕ → Option EntryField → Field → InputFault
+fault_in (Some entry) (Some field) what = input_faults.BadField entry field
+fault_in (Some entry) None what = top_fault what
+fault_in None field what = top_fault what
+
+abbrev pub field_fault : Option ℕ → Field → InputFault
+field_fault entry what = fault_in entry (entry_field what) what
+
+-- the fault that a reader of inputs finds; it decides nothing of want of memory
+abbrev pub input_fault : ReadErr → Fault
+input_fault read_errs.Syntax = faults.Input input_faults.NotJson
+input_fault (read_errs.BadField entry name) = faults.Input (field_fault entry name)
+input_fault (read_errs.TooLong entry) = faults.Input (input_faults.TooMany entry)
+input_fault read_errs.Memory = faults.Memory
+
+-- the refusal of an input file
+unfoldable pub bad_input : ReadErr → Cause
+bad_input err = record { status = Input; line = fault_line (input_fault err) }
+
+-- what a reader found, or its refusal as the user sees it
+abbrev pub read_or : {A E : Type 0} → (E → Cause) → Result A E → Result A Cause
+read_or cause (Ok x) = Ok x
+read_or cause (Err e) = Err (cause e)
+
+unfoldable pub inputs_at : Contents → List ℕ → Result (List Entry) Cause
+inputs_at files path = bytes_at files path >>= λ bytes. read_or bad_input (inputs_read_of bytes)
+
+unfoldable pub tape_file_at : Contents → List ℕ → Result FourTapes Cause
+tape_file_at files path = bytes_at files path >>= λ bytes. read_or bad_tape (tapes_read_of bytes)
+
+-- the tapes of a file, or those that are drawn from a seed
+unfoldable pub tapes_at : Contents → Source → Result FourTapes Cause
+tapes_at files (file path) = tape_file_at files path
+tapes_at files (seeded seed words) = Ok (seed_tapes seed words)
+
+-- the paths that are read for the tapes
+abbrev pub source_paths : Source → List (List ℕ)
+source_paths (file path) = path ∷ []
+source_paths (seeded seed words) = []

@@ -1,0 +1,18 @@
+// The exit status of a run's end.
+ghost use Rattle.std.specs.Prelude.{◌≡◌};
+ghost use Rattle.run_engine.specs.Ends.{status_of};
+
+use command_frame::Status;
+use sc_text::Ending;
+
+/// The exit status of a run's end.
+pub fn status(how: Ending) -> Status
+    ensures { result ≡ status_of how }
+{
+    match how {
+        Ending::Done => Status::Done,
+        Ending::Trap { .. } => Status::Trap,
+        Ending::Budget => Status::Budget,
+        Ending::Tape { .. } => Status::Tape,
+    }
+}
