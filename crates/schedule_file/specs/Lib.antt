@@ -1,0 +1,5 @@
+pub mod Answers
+pub mod FirstWrong
+pub mod Reading
+pub mod Text
+pub mod Vectors
