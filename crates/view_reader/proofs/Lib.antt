@@ -1,0 +1,8 @@
+mod Texts
+mod Gathered
+mod OpenedRead
+mod OpenedLaws
+mod Limits
+mod EndWords
+mod ViewRead
+mod WrongLine

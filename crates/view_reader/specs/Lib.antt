@@ -1,0 +1,6 @@
+pub mod Reads
+pub mod Opened
+pub mod FirstWrong
+pub mod Ends
+pub mod Places
+pub mod Vectors

@@ -1,0 +1,55 @@
+-- The file of opened values: a line for each opening, the word `open` and then the elements, each line with its newline.
+use Rattle.std.specs.Prelude.{ℕ, ◌+◌, true, false, if◌then◌else◌, List, [], ◌∷◌, map, codes, bytes_eq, Option, Some, None, Result, Ok, Err}
+use Rattle.std.specs.List.{flat_map}
+use Rattle.sc_text.specs.declared.elements.Element.{Element}
+use Rattle.sc_text.specs.declared.elements.Element.TheVariants.{Word, Truth}
+use Rattle.view_text.specs.Text.{Opened, lines_bytes}
+use Rattle.view_text.specs.Reading.{all_in, element_in, words_in_line, lines_in}
+
+-- the text of openings
+abbrev pub opened_bytes : List (List Element) → List ℕ
+opened_bytes openings = lines_bytes (map Opened openings)
+
+-- an element as a word
+abbrev pub element_word : Element → ℕ
+element_word (Word word) = word
+element_word (Truth true) = 1
+element_word (Truth false) = 0
+
+-- the words of openings, in order
+abbrev pub opened_words : List (List Element) → List ℕ
+opened_words openings = flat_map (map element_word) openings
+
+-- the opening whose line has these words
+abbrev pub opening_in : List (List ℕ) → Option (List Element)
+opening_in [] = None
+opening_in (w ∷ ws) = if bytes_eq (codes "open") w then all_in element_in ws else None
+
+-- a line in front of what is read of the lines behind it, or its number where it is wrong
+abbrev pub in_front : ℕ → Option (List Element) → Result (List (List Element)) ℕ → Result (List (List Element)) ℕ
+in_front k None more = Err k
+in_front k (Some opening) (Ok openings) = Ok (opening ∷ openings)
+in_front k (Some opening) (Err line) = Err line
+
+-- behind the last newline nothing may stand
+abbrev pub at_the_end : ℕ → List ℕ → Result (List (List Element)) ℕ
+at_the_end k [] = Ok []
+at_the_end k (x ∷ xs) = Err k
+
+-- the openings of the lines from number k on
+abbrev pub openings_from : ℕ → List (List ℕ) → Result (List (List Element)) ℕ
+openings_from k [] = Err k
+openings_from k (l ∷ []) = at_the_end k l
+openings_from k (l ∷ m ∷ ms) = in_front k (opening_in (words_in_line l)) (openings_from (k + 1) (m ∷ ms))
+
+-- the openings of a text, or the number of its first wrong line
+unfoldable pub openings_of : List ℕ → Result (List (List Element)) ℕ
+openings_of bytes = openings_from 1 (lines_in bytes)
+
+-- their words
+abbrev pub words_read : Result (List (List Element)) ℕ → Result (List ℕ) ℕ
+words_read (Ok openings) = Ok (opened_words openings)
+words_read (Err line) = Err line
+
+abbrev pub opened_of : List ℕ → Result (List ℕ) ℕ
+opened_of bytes = words_read (openings_of bytes)

@@ -1,0 +1,9 @@
+//! A program with inputs and tapes for trying out how large runs behave: any number names one, and the same number the same.
+#![tactic(auto)]
+
+mod inputs;
+mod laws;
+mod load;
+
+pub use laws::load_entries_are_inputs;
+pub use load::{Workload, make};
