@@ -1,0 +1,3 @@
+mod ShareWords
+mod DealerWords
+mod Whole

@@ -1,0 +1,136 @@
+-- The tapes of a whole run, by what was dealt.
+use Rattle.std.proofs.Common.{◌≡◌, ℕ, ◌<◌, ◌≤◌, Bool, true, false, if◌then◌else◌, List, [], length, sym, ◌∙◌, ap, subst, arith}
+use Rattle.std.specs.Prelude.{nat_le, Result, Ok, Err, Option, Some, None, IfOk, IfSome, IfNone}
+use Rattle.proto_core.specs.declared.party.Number.{Number}
+use Rattle.proto_core.specs.declared.party.Number.TheVariants.{One, Two, Three}
+use Rattle.protocol_model.specs.Gates.{needed, sizes_of}
+use Rattle.protocol_model.specs.Runs.{Tapes}
+use Rattle.gates.specs.declared.gate.Gate.{Gate}
+use Rattle.gates.specs.Clear.{Values}
+use Rattle.shared_gates.specs.Model.{AllSizesSuit, run_gates}
+use Rattle.shared_gates.proofs.Drawn.{drawn-counted}
+use Rattle.joint_run.specs.Three.{of_three}
+use Rattle.joint_run.specs.JointRuns.{dealt_sizes, IsEven}
+use Rattle.joint_run.specs.JointRuns as joint
+use Rattle.value_file.specs.declared.inputs.Entry.{Entry}
+use Rattle.input_share.specs.Dealing.{need_of}
+use Rattle.tape_file.specs.Tapes.{FourTapes}
+use Rattle.gate_maps.specs.declared.way.Way.{Way}
+use Rattle.gate_maps.specs.declared.way.Way.TheVariants.{ToView, FromView}
+use Rattle.gate_maps.specs.Maps.{gates_map, run_map}
+use Rattle.view_model.specs.Dealing.{dealt_to, private_sizes, seen_dealer}
+use Rattle.view_model.specs.TapeMaps.{miners_of, four_of, no_values, gates_dealt, to_simulated, from_simulated, Reaches, CanRun}
+use Rattle.view_model.proofs.Dealings.{seen_length}
+use Rattle.view_model.proofs.DealtSizes.{sizes_dealt}
+
+pub same_for : {A : Type 0} (f g : Number → A) → ((k : Number) → f k ≡ g k) → f ≡ g
+same_for f g h = λ d. λ k. h k d
+
+pub same_four : (dealer other : List ℕ) (ts us : Tapes) → dealer ≡ other → ((k : Number) → ts k ≡ us k) → four_of dealer ts ≡ four_of other us
+same_four dealer other ts us d h = ap (λ w. four_of w ts) d ∙ ap (four_of other) (same_for ts us h)
+
+pub if-ok : {A E : Type 0} (P Q : A → Type 0) → ((a : A) → P a → Q a) → (r : Result A E) → IfOk r P → IfOk r Q
+if-ok P Q h (Ok a) p = h a p
+if-ok P Q h (Err e) p = tt
+
+pub some-says : {A : Type 0} (P : A → Type 0) (o : Option A) (x : A) → o ≡ Some x → IfSome o P → P x
+some-says P o x is h = subst (λ o. IfSome o P) is h
+
+pub none-says : {A : Type 0} (P : Type 0) (o : Option A) → o ≡ None → IfNone o P → P
+none-says P o is h = subst (λ o. IfNone o P) is h
+
+pub own-tapes : (t : FourTapes) (a b d : List ℕ) → a ≡ t.one → b ≡ t.two → d ≡ t.three → miners_of t ≡ of_three a b d
+own-tapes t a b d first second third = same_for (miners_of t) (of_three a b d) at
+  where
+    at : (k : Number) → miners_of t k ≡ of_three a b d k
+    at One = sym first
+    at Two = sym second
+    at Three = sym third
+
+le_true : (a b : ℕ) → a ≤ b → nat_le a b ≡ true
+le_true a b h = grind arith
+
+lt_false : (a b : ℕ) → b < a → nat_le a b ≡ false
+lt_false a b h = grind arith
+
+-- ---- what was dealt
+
+module _
+    (es : List Entry) (dealer : List ℕ) (enough : need_of es ≤ length dealer) (shares : Number → Values)
+    (are : (k : Number) → shares k ≡ dealt_to es dealer k)
+  where
+    pub sizes-are : (k : Number) → sizes_of (shares k) ≡ private_sizes es
+    sizes-are k = ap sizes_of (are k) ∙ sizes_dealt k es dealer enough
+
+    pub even : IsEven shares
+    even k = sizes-are k ∙ sym (sizes-are One)
+
+    dealt-gates : (gates : List Gate) → run_gates shares (dealt_sizes shares) [] gates ≡ gates_dealt es dealer gates
+    dealt-gates gates =
+        ap (λ (ds : List ℕ). run_gates shares ds [] gates) (sizes-are One)
+        ∙ ap (λ (s : Number → Values). run_gates s (private_sizes es) [] gates) (same_for shares (dealt_to es dealer) are)
+
+    pub run-map-is :
+        (i : Number) (way : Way) (gates : List Gate) (tapes : Tapes) (k : Number) →
+        run_map (record { miner = i; way = way }) shares gates tapes k ≡ gates_map way i (gates_dealt es dealer gates) no_values tapes k
+    run-map-is i way gates tapes k = ap (λ gs. gates_map way i gs no_values tapes k) (dealt-gates gates)
+
+    pub can-run : (gates : List Gate) (t : FourTapes) → Reaches es gates t → joint.CanRun shares gates (miners_of t)
+    can-run gates t reaches =
+        let suit : AllSizesSuit (dealt_sizes shares) [] gates = subst (λ (ds : List ℕ). AllSizesSuit ds [] gates) (sym (sizes-are One)) reaches.suit in
+        record {
+          even = even;
+          suit = suit;
+          reach = λ k.
+              subst (λ (ds : List ℕ). needed (run_gates shares ds [] gates) k ≤ length (miners_of t k)) (sym (sizes-are One))
+              (subst (λ n. n ≤ length (miners_of t k)) (sym (drawn-counted shares (private_sizes es) [] gates k reaches.suit)) (reaches.reach k));
+        }
+
+-- ---- the two maps
+
+module _ (i : Number) (es : List Entry) (gates : List Gate) (t : FourTapes) where
+  abbrev mapped : FourTapes
+  mapped = four_of (seen_dealer i es t.dealer) (gates_map ToView i (gates_dealt es t.dealer gates) no_values (miners_of t))
+
+  abbrev unmapped : FourTapes
+  unmapped =
+      four_of (seen_dealer i es t.dealer) (gates_map FromView i (gates_dealt es (seen_dealer i es t.dealer) gates) no_values (miners_of t))
+
+  to-dealt : need_of es ≤ length t.dealer → mapped ≡ to_simulated i es gates t
+  unfolding to_simulated
+  to-dealt h = sym (ap (λ (b : Bool). if b then mapped else t) (le_true (need_of es) (length t.dealer) h))
+
+  from-dealt : need_of es ≤ length t.dealer → unmapped ≡ from_simulated i es gates t
+  unfolding from_simulated
+  from-dealt h = sym (ap (λ (b : Bool). if b then unmapped else t) (le_true (need_of es) (length t.dealer) h))
+
+  pub to-undealt : length t.dealer < need_of es → t ≡ to_simulated i es gates t
+  unfolding to_simulated
+  to-undealt h = sym (ap (λ (b : Bool). if b then mapped else t) (lt_false (need_of es) (length t.dealer) h))
+
+  pub from-undealt : length t.dealer < need_of es → t ≡ from_simulated i es gates t
+  unfolding from_simulated
+  from-undealt h = sym (ap (λ (b : Bool). if b then unmapped else t) (lt_false (need_of es) (length t.dealer) h))
+
+  pub to-is :
+      (shares : Number → Values) (dealer : List ℕ) → need_of es ≤ length t.dealer → ((k : Number) → shares k ≡ dealt_to es t.dealer k) →
+      dealer ≡ seen_dealer i es t.dealer →
+      four_of dealer (run_map (record { miner = i; way = ToView }) shares gates (miners_of t)) ≡ to_simulated i es gates t
+  to-is shares dealer enough are seen =
+      same_four _ _ _ _ seen (run-map-is es t.dealer enough shares are i ToView gates (miners_of t)) ∙ to-dealt enough
+
+  pub seen-enough : (dealer : List ℕ) → need_of es ≤ length t.dealer → dealer ≡ seen_dealer i es t.dealer → need_of es ≤ length dealer
+  seen-enough dealer enough seen =
+      let len : length dealer ≡ length t.dealer = ap length seen ∙ seen_length i es t.dealer enough in
+      omega arith
+
+  pub from-is :
+      (shares : Number → Values) (dealer : List ℕ) → need_of es ≤ length t.dealer → ((k : Number) → shares k ≡ dealt_to es dealer k) →
+      dealer ≡ seen_dealer i es t.dealer →
+      four_of dealer (run_map (record { miner = i; way = FromView }) shares gates (miners_of t)) ≡ from_simulated i es gates t
+  from-is shares dealer enough are seen =
+      same_four _ _ _ _ seen
+      (λ k.
+      run-map-is es dealer (seen-enough dealer enough seen) shares are i FromView gates (miners_of t) k
+      ∙ ap (λ (w : List ℕ). gates_map FromView i (gates_dealt es w gates) no_values (miners_of t) k) seen)
+      ∙ from-dealt enough

@@ -1,0 +1,3 @@
+pub mod Bits
+mod Differences
+mod Runs

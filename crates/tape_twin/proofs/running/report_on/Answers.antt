@@ -1,0 +1,28 @@
+use Rattle.std.proofs.Common.{◌≡◌, List, ℕ, All, ◌∙◌, ap, subst}
+use Rattle.proto_core.specs.Lists.{AreWords}
+use Rattle.typed_tree.specs.Programs.{typed_program_tree}
+use Rattle.value_file.specs.declared.inputs.Entry.{Entry}
+use Rattle.input_share.specs.AddUp.{HasWords}
+use Rattle.language_model.specs.Reports.{Report, eval}
+use Rattle.clear_eval.specs.Offers.{offered}
+use Rattle.clear_eval.specs.Reports.{report_seen}
+use Rattle.view_model.specs.TapeMaps.{AreTapes, CanRun}
+use Rattle.tape_twin.proofs.Runs.{if-ok, tapes-are, gates-run}
+use Rattle.tape_twin.proofs.running.report_on.Goals as goal
+
+pub returns-clause-can : goal.returns-clause-can
+returns-clause-can c =
+    let p = typed_program_tree c.args.program.now in
+    let es = c.args.inputs.now in
+    let t = c.args.tapes.now in
+    let words : All HasWords es = subst (λ (xs : List Entry). All HasWords xs) c.entries.ensures c.see_entries.ensures in
+    let are : AreTapes t =
+    tapes-are t (subst (λ (w : List ℕ). AreWords w) c.dealer.ensures c.see_words.ensures)
+    (subst (λ (w : List ℕ). AreWords w) c.miner1.ensures c.see_words-2.ensures)
+    (subst (λ (w : List ℕ). AreWords w) c.miner2.ensures c.see_words-3.ensures)
+    (subst (λ (w : List ℕ). AreWords w) c.miner3.ensures c.see_words-4.ensures) in
+    if-ok (λ report. report_seen report ≡ eval p (offered es c.lengths.result) c.args.budget) (λ report. CanRun es report.gates.items t)
+    (λ report same.
+    gates-run p es t c.args.budget report.gates.items c.requires.accepted c.requires.inputs words are
+    (ap (λ (r : Report). r.gates) (same ∙ ap (λ (ls : List ℕ). eval p (offered es ls) c.args.budget) c.lengths.ensures)))
+    c.eval.result c.eval.ensures

@@ -1,0 +1,16 @@
+//! The tapes that a miner's view of a program's run is made of, the way back, and the twins: tapes with which other private inputs give
+//! the same view.
+//!
+//! What the maps are, and what they keep, stands in `program_views`: the gates of the run in the clear say how the words are mapped.
+#![tactic(auto)]
+
+mod alike;
+mod maps;
+mod running;
+mod twin_err;
+mod twinning;
+mod words;
+
+pub use maps::{from_sim, to_sim};
+pub use twin_err::TwinErr;
+pub use twinning::{Both, twin};

@@ -1,0 +1,50 @@
+// A program's run in the clear.
+ghost use Rattle.std.specs.Prelude.{◌≡◌, IfOk};
+ghost use Rattle.typed_tree.specs.Programs.{typed_program_tree};
+ghost use Rattle.typed_tree.specs.Sound.{IsSound};
+ghost use Rattle.value_file.specs.Input.{AreInputs};
+ghost use Rattle.clear_eval.specs.Reports.{report_seen};
+ghost use Rattle.view_model.specs.TapeMaps.{CanRun};
+ghost use Rattle.program_views.specs.Views.{lengths_of, run_on};
+ghost use Rattle.tape_twin.specs.Accepted.{IsAcceptedProgram};
+
+use crate::words::{see_entries, see_words};
+use clear_eval::{Report, eval};
+use std::alloc::{AllocError, Global};
+use tape_file::Tapes;
+use typed_tree::TypedProgram;
+use value_file::Inputs;
+
+// The lengths of the tapes of the dealer and of miners 1, 2 and 3.
+fn lengths(tapes: &Tapes) -> [u64; 4]
+    ensures { result ≡ lengths_of tapes.now }
+{
+    [
+        tapes.dealer().len() as u64,
+        tapes.miner1().len() as u64,
+        tapes.miner2().len() as u64,
+        tapes.miner3().len() as u64,
+    ]
+}
+
+/// The run of an accepted program in the clear, with tapes as long as these. Its gates can run on them.
+pub(crate) fn report_on(
+    alloc: Global,
+    program: &TypedProgram,
+    inputs: &Inputs,
+    tapes: &Tapes,
+    budget: u64,
+) -> Result<Report, AllocError>
+    requires sound { IsSound (typed_program_tree program.now) }
+    requires accepted { IsAcceptedProgram (typed_program_tree program.now) }
+    requires inputs { AreInputs inputs.now }
+    ensures report { IfOk result (λ report. report_seen report ≡ run_on (typed_program_tree program.now) inputs.now (lengths_of tapes.now) budget) }
+    ensures can { IfOk result (λ report. CanRun inputs.now report.gates.items tapes.now) }
+{
+    see_entries(inputs.entries());
+    see_words(tapes.dealer());
+    see_words(tapes.miner1());
+    see_words(tapes.miner2());
+    see_words(tapes.miner3());
+    eval(alloc, program, inputs, budget, lengths(tapes))
+}
