@@ -1,0 +1,11 @@
+pub mod Pieces
+pub mod Taking
+pub mod Acceptance
+pub mod Turns
+pub mod WholeGates
+pub mod OneGate
+pub mod GateByGate
+pub mod BlockMails
+pub mod Receiving
+pub mod GateAdded
+pub mod RowMails

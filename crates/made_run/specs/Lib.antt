@@ -1,0 +1,4 @@
+pub mod Sources
+pub mod Standing
+pub mod Simulators
+pub mod Made
