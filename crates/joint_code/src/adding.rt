@@ -17,7 +17,7 @@ fn added_up(element: DataType, x: u64, y: u64, z: u64) -> u64
 }
 
 /// The words of which three miners have these shares.
-pub(crate) fn all_added_up(
+pub fn all_added_up(
     alloc: Global,
     element: DataType,
     first: &[u64],

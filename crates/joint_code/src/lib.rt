@@ -19,6 +19,7 @@ mod step;
 mod telling;
 mod turn;
 
+pub use adding::all_added_up;
 pub use fuel::fuel as most_steps;
 pub use progress::Turned;
 pub use ran::Ran;

@@ -4,3 +4,4 @@ pub mod Begins
 pub mod Gates
 pub mod Notices
 pub mod Stories
+pub mod Stops

@@ -1,5 +1,6 @@
 -- What a miner has that runs code, and what is left for it to do.
-use Rattle.std.specs.Prelude.{◌≡◌, ℕ, ◌+◌, ◌*◌, List, [], ◌++◌, map, Some}
+use Rattle.std.specs.Prelude.{◌≡◌, ℕ, ◌+◌, ◌*◌, List, [], ◌++◌, map, Option, Some, None}
+use Rattle.sc_text.specs.declared.end.Ending.{Ending}
 use Rattle.proto_core.specs.declared.party.Number.{Number}
 use Rattle.proto_core.specs.Strand.{Notice, Mail, Strand, Ends, run, then_do, told_in}
 use Rattle.proto_core.specs.Net.{added}
@@ -118,6 +119,14 @@ abbrev pub led_to : Turned → At
 led_to turned.On = at.Ready
 led_to (turned.Over ending) = at.Over ending
 led_to turned.Short = at.Short
+
+-- how the run has ended, if it has
+abbrev pub ended_by : At → Option Ending
+ended_by at.Ready = None
+ended_by at.Again = None
+ended_by (at.Acts t speech before) = None
+ended_by (at.Over ending) = Some ending
+ended_by at.Short = None
 
 -- how many steps of its own it can still take
 abbrev pub rank : At → ℕ

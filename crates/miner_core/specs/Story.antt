@@ -11,7 +11,7 @@ use Rattle.language_model.specs.Effects.{World}
 use Rattle.verified_code.specs.Steps.{Function}
 use Rattle.code_model.specs.Meaning.{fuel}
 use Rattle.driven_nodes.specs.Steps.{Running, Stopped, Short}
-use Rattle.code_places.specs.Places.{first_place}
+use Rattle.code_places.specs.Places.{Place, first_place}
 use Rattle.block_steps.specs.Outcomes.{Outcome, outcome, mail_left}
 use Rattle.miner_core.specs.declared.answer.End.{End}
 use Rattle.miner_core.specs.declared.answer.End.TheVariants as end
@@ -67,6 +67,10 @@ has_told i s = told_in (node i s).acts
 
 abbrev pub stands_at : Number → Story → Standing
 stands_at i s = standing_of (node i s)
+
+-- what holds of the place at which it has ended, where that is one of the run
+abbrev pub AtStop : Number → Story → (Place → Type 0) → Type 0
+AtStop i s Q = (p : Place) (values : Values) → (node i s).left ≡ Ends (Reached (Stopped p) values) → Q p
 
 -- ---- answers
 

@@ -3,7 +3,7 @@ ghost use Rattle.std.specs.Prelude.{◌≡◌, ◌≢◌, ℕ, length, true, fal
 ghost use Rattle.proto_core.specs.Standing.{AtItsEnd, standing_with};
 ghost use Rattle.gate_node.specs.declared.stand.Stand.TheVariants.{Through};
 ghost use Rattle.block_steps.specs.Outcomes.{mail_left};
-ghost use Rattle.miner_core.specs.Engines.{engine_left, Rests};
+ghost use Rattle.miner_core.specs.Engines.{engine_left, ended_by, Rests};
 ghost use Rattle.miner_core.specs.Story.{Story, Follows, Leads, story_of, received, start_of, HasEnded, IsAnswerOf};
 
 use crate::answer::{End, MinerErr, Step};
@@ -14,6 +14,7 @@ use gate_node::{GateNode, Stand};
 use gates::Values;
 use joint_code::{beginning, most_steps};
 use proto_core::{Link, Msg, Party};
+use sc_text::Ending;
 use std::alloc::{AllocError, Global};
 
 impl<P: Party> Engine<P> {
@@ -102,6 +103,16 @@ impl<P: Party> Engine<P> {
             At::Over(ending) => End::Over(*ending),
             At::Short => End::Short,
             At::Ready | At::Again | At::Acts { .. } => End::Endless,
+        }
+    }
+
+    /// How the run has ended, if it has.
+    pub fn ending(&self) -> Option<Ending>
+        ensures { result ≡ ended_by self.now.at }
+    {
+        match &self.at {
+            At::Over(ending) => Some(*ending),
+            At::Ready | At::Again | At::Acts { .. } | At::Short => None,
         }
     }
 

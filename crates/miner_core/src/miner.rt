@@ -1,7 +1,10 @@
-ghost use Rattle.std.specs.Prelude.{◌≡◌, [], map, true, false, IfOk, Err};
+ghost use Rattle.std.specs.Prelude.{◌≡◌, ◌-◌, [], map, true, false, IfOk, Err};
 ghost use Rattle.proto_core.specs.Parties.{receiver_of};
 ghost use Rattle.proto_core.specs.Standing.{AtItsEnd};
-ghost use Rattle.miner_core.specs.Story.{sent_to_next, sent_to_previous, has_opened, has_told, stands_at, IsAnswer, DeliverAnswers};
+ghost use Rattle.gate_laws.specs.Facts.{drawn_by};
+ghost use Rattle.value_steps.specs.Views.{drawn_seen};
+ghost use Rattle.shared_gates.specs.Model.{miner_of};
+ghost use Rattle.miner_core.specs.Story.{sent_to_next, sent_to_previous, has_opened, has_told, stands_at, AtStop, IsAnswer, DeliverAnswers};
 ghost use Rattle.miner_core.specs.Views.{task_world, task_code, notice_seen};
 ghost use Rattle.miner_core.specs.declared.answer.MinerErr.TheVariants.{Memory, NotAwaited};
 
@@ -11,9 +14,11 @@ use crate::notice::Notice;
 use crate::task::Task;
 use gate_node::Stand;
 use gates::Values;
-use proto_core::{Link, Messages, Msg, Party};
+use proto_core::{Link, Messages, Msg, Number, Party};
+use sc_text::Ending;
 use std::alloc::{AllocError, Global};
 use std::marker::Model;
+use value_steps::Drawn;
 
 /// A miner at work on verified code. Contracts see its story: what it was made with, and the messages that came, in order on each of its
 /// two links. All that it has sent, opened and told, and where it stands, is a function of these.
@@ -37,6 +42,17 @@ impl<P: Party> Model for Miner<P> {
     ghost view = { λ m. record (story_of m.engine m.budget) { lost = m.lost } };
 
     ghost invariant = { λ m. m.lost ≡ false → Follows P.me m.engine (story_of m.engine m.budget) × Rests P.me m.stand m.engine };
+}
+
+// How many of these words are this miner's.
+fn drawn_of(drawn: Drawn, miner: Number) -> u64
+    ensures { result ≡ drawn_by (drawn_seen drawn) (miner_of miner) }
+{
+    match miner {
+        Number::One => drawn.first,
+        Number::Two => drawn.second,
+        Number::Three => drawn.third,
+    }
 }
 
 impl<P: Party> Miner<P> {
@@ -107,6 +123,27 @@ impl<P: Party> Miner<P> {
             return Err(MinerErr::Memory);
         }
         self.engine.answer(self.stand)
+    }
+
+    /// How the run has ended, of a miner that has ended where the run does.
+    pub fn ending(&self) -> Option<Ending>
+        ensures { self.now.lost ≡ false → AtStop P.me self.now (λ p. result ≡ p.ended) }
+    {
+        self.engine.ending()
+    }
+
+    /// What the run has cost, of such a miner.
+    pub fn cost(&self) -> u64
+        ensures { self.now.lost ≡ false → AtStop P.me self.now (λ p. result ≡ self.now.budget - p.stage.left) }
+    {
+        self.budget.saturating_sub(self.engine.stage.left)
+    }
+
+    /// How many words of its tape the run has drawn, of such a miner.
+    pub fn drawn(&self) -> u64
+        ensures { self.now.lost ≡ false → AtStop P.me self.now (λ p. result ≡ drawn_by p.stage.drawn (miner_of P.me)) }
+    {
+        drawn_of(self.engine.stage.drawn, P::number())
     }
 
     /// The messages that went to the next miner, oldest first.

@@ -60,7 +60,7 @@ answered_so code entries t budget can w same shares dealt own one two three answ
 too_few : (need have : ℕ) → have < need → nat_le need have ≡ false
 too_few need have h = grind (arith, nat_tests)
 
-ended_so : (p : TypedProgramTree) (entries : List Entry) (t : FourTapes) (budget : ℕ) → length t.dealer < need_of entries
+pub ended_so : (p : TypedProgramTree) (entries : List Entry) (t : FourTapes) (budget : ℕ) → length t.dealer < need_of entries
     → eval_with p entries t budget ≡ not_dealt (world_of Clear (offered entries (lengths_of t)))
 ended_so p entries t budget few =
     rw (need_same entries (lengths_of t), too_few (need_of entries) (length t.dealer) few) refl

@@ -9,5 +9,7 @@ mod running;
 mod words;
 
 pub use compiling::compile_program;
+pub use dealt::own_shares;
 pub use laws::accepted_programs_run_on_shares;
-pub use running::{RunReport, run_program};
+pub use running::{RunReport, lengths, run_program, undealt};
+pub use words::{see_entries, see_words};

@@ -31,8 +31,8 @@ pub struct RunReport {
     pub end: End,
 }
 
-// The lengths of the tapes of the dealer and of miners 1, 2 and 3.
-fn lengths(tapes: &Tapes) -> [u64; 4]
+/// The lengths of the tapes of the dealer and of miners 1, 2 and 3.
+pub fn lengths(tapes: &Tapes) -> [u64; 4]
     ensures { result ≡ lengths_of tapes.now }
 {
     [
@@ -43,8 +43,8 @@ fn lengths(tapes: &Tapes) -> [u64; 4]
     ]
 }
 
-// The run that ends before it begins, since the dealer's tape has too few words.
-fn undealt(alloc: Global, need: u128, have: u64) -> RunReport
+/// The run that ends before it begins, since the dealer's tape has too few words.
+pub fn undealt(alloc: Global, need: u128, have: u64) -> RunReport
     ensures events { result.events.items ≡ [] }
     ensures end { result.end ≡ record { how = Tape Dealer need have; cost = 0 } }
 {

@@ -7,7 +7,7 @@ ghost use Rattle.input_share.specs.AddUp.{HasWords};
 use value_file::{Entry, Value};
 
 /// A tape has words of 64 bits.
-pub(crate) fn see_words(words: &[u64])
+pub fn see_words(words: &[u64])
     ensures { AreWords words.now }
 {
     let _seen = words.len();
@@ -36,7 +36,7 @@ fn see_value(value: &Value)
 }
 
 /// Inputs are of words of 64 bits.
-pub(crate) fn see_entries(entries: &[Entry])
+pub fn see_entries(entries: &[Entry])
     ensures { All HasWords entries.now }
 {
     for entry in entries {

@@ -1,0 +1,9 @@
+use Rattle.std.proofs.Common.{◌-◌, ◌^◌, length}
+use Rattle.link_schedule.proofs.Making.{Shuffling}
+use Rattle.link_schedule.proofs.net.Net3.shuffled.Given as goal
+
+abbrev pub invariant-loop-link : goal.invariant-loop-link
+invariant-loop-link l = Shuffling l.fn.seed l.words l.fn.self l.self
+
+abbrev pub decreases-loop-link : goal.decreases-loop-link
+decreases-loop-link l = 2 ^ 63 - length l.self.delivered

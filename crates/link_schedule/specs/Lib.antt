@@ -1,0 +1,4 @@
+pub mod Answers
+pub mod Net
+pub mod Orders
+pub mod Parts

@@ -1,0 +1,6 @@
+pub mod Deeds
+pub mod Sizes
+pub mod Turns
+pub mod OwnRuns
+pub mod Stories
+pub mod Programs
