@@ -18,12 +18,23 @@ use std::marker::Model;
 /// which messages were delivered, what each miner has done, and where it stands.
 ///
 /// Once memory was wanting, it is of no further use: each call that delivers answers so.
-#[derive(Drop)]
 pub struct Net3 {
     pub(crate) miners: Miners,
     pub(crate) given: Given,
     pub(crate) recorded: Vec<Link>,
     pub(crate) lost: bool,
+}
+
+// Written out, so that an early exit calls this once.
+impl Drop for Net3 {
+    fn drop(self) {
+        let Net3 {
+            miners: _,
+            given: _,
+            recorded: _,
+            lost: _,
+        } = self;
+    }
 }
 
 impl Model for Net3 {

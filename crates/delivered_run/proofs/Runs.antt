@@ -1,0 +1,165 @@
+-- Three miners in a net, whose messages are all delivered, have run as the report says.
+use Rattle.std.proofs.Common.{◌≡◌, ℕ, ◌-◌, false, List, [], ◌∷◌, Some, Ok, Err, refl, sym, ◌∙◌, ap, subst}
+use Rattle.sc_text.specs.declared.end.Ending.{Ending}
+use Rattle.sc_text.specs.declared.event.Event.{Event}
+use Rattle.proto_core.specs.declared.party.Number.{Number}
+use Rattle.proto_core.specs.declared.party.Number.TheVariants.{One, Two, Three}
+use Rattle.proto_core.specs.declared.link.Link.{Link}
+use Rattle.proto_core.specs.Strand.{Mail, Notice, Strand, Ends, told_in}
+use Rattle.proto_core.specs.Net.{nothing, run_of, all_delivered}
+use Rattle.protocol_model.specs.Network.{Accepted, Answer, Default, Delivery, EmptyLink, Listed, Shuffled, Stalled, order_of, walked}
+use Rattle.protocol_model.specs.Complete.{IsComplete}
+use Rattle.protocol_model.specs.Runs.{Tapes}
+use Rattle.gates.specs.Clear.{Values}
+use Rattle.language_model.specs.Effects.{Ended, Stop}
+use Rattle.language_model.specs.Reports.{Offered, Report}
+use Rattle.verified_code.specs.Steps.{Function}
+use Rattle.gate_laws.specs.Facts.{Dealt}
+use Rattle.driven_nodes.specs.Steps.{Stopped}
+use Rattle.code_places.specs.Places.{Place}
+use Rattle.code_runs.specs.Runs.{messages, scripts, shares}
+use Rattle.code_runs.proofs.Ends.{same_some}
+use Rattle.joint_code.specs.Telling.{told_together}
+use Rattle.joint_evaluation.proofs.Together.{told_together_are_the_events}
+use Rattle.miner_core.specs.OwnCode.{Ended as AtEnd, Reached}
+use Rattle.miner_runs.specs.OwnRuns.{OwnRunAsReported, own_end, own_nodes, public_world}
+use Rattle.link_schedule.specs.Answers.{net_walked}
+use Rattle.link_schedule.specs.Net.{NetState, Own, after, net_mail, net_node, nodes_in}
+use Rattle.link_schedule.specs.Orders.{IsMade, Makes}
+use Rattle.program_run.specs.Reports.{TellsAs}
+use Rattle.program_run.specs.declared.running.RunReport.{RunReport}
+use Rattle.delivered_run.specs.declared.delivery.DeliveryErr.{DeliveryErr}
+use Rattle.delivered_run.specs.declared.delivery.DeliveryErr.TheVariants as err
+use Rattle.delivered_run.specs.declared.running.DeliveredRun.{DeliveredRun}
+use Rattle.delivered_run.specs.Deliveries.{HasRun, IsRun, delivered_for, net_for}
+use Rattle.delivered_run.specs.Nets.{Delivers, HasStopped, HasTold, StopsAt, net_with}
+use Rattle.delivered_run.proofs.Made.{order_made}
+
+module _ (o : Offered) (d : Dealt) (c : List Function) (budget : ℕ) (tapes : Tapes) (r : Report) (run : OwnRunAsReported o d c budget tapes r) where
+  -- what a miner is made with
+  abbrev pub own_of : Number → Own
+  own_of i = record { dealt = d.shares i; tape = tapes i }
+
+  abbrev pub at_first : NetState
+  at_first = net_with (public_world o) c budget (own_of One) (own_of Two) (own_of Three)
+
+  abbrev own : Number → Strand AtEnd
+  own = own_nodes o d c budget tapes
+
+  same_nodes : nodes_in at_first ≡ own
+  same_nodes e i = each i e
+    where
+      each : (i : Number) → nodes_in at_first i ≡ own i
+      each One = refl
+      each Two = refl
+      each Three = refl
+
+  abbrev behind : List Link → Mail
+  behind links = all_delivered own nothing links
+
+  -- these were delivered, and nothing is to come
+  pub record Came (links : List Link) (then : NetState) : Type 0 where
+    pub comes : then ≡ after at_first links
+    pub taken : walked own 0 nothing links ≡ Accepted
+
+  -- ---- DELIVERIES
+
+  walked_so : (links : List Link) (answer : Answer) → net_walked at_first links ≡ answer → walked own 0 nothing links ≡ answer
+  unfolding net_mail
+  walked_so links answer is = sym (ap (λ (n : Number → Strand AtEnd). walked n 0 nothing links) same_nodes) ∙ is
+
+  made_so : (words : ℕ → ℕ) (then : NetState) (m : Makes words at_first then) → order_of (scripts d r) (Shuffled words) ≡ m.order
+  unfolding net_mail
+  made_so words then m =
+      order_made own (scripts d r) (messages d r tapes) (own_end d tapes r run.turns.last) run.finishes run.posted_count words m.order
+      (subst (λ (n : Number → Strand AtEnd). IsMade n words 0 nothing m.order) same_nodes m.made)
+
+  made_came : (words : ℕ → ℕ) (then : NetState) → Makes words at_first then → Came (order_of (scripts d r) (Shuffled words)) then
+  made_came words then m = record { comes = m.comes ∙ ap (after at_first) (sym (made_so words then m)); taken = run.shuffled words }
+
+  came : (given : Delivery) (then : NetState) → Delivers given at_first then (Ok tt) → Came (delivered_for d r given) then
+  came Default then m = record { comes = m.comes ∙ ap (after at_first) (sym (made_so (λ k. 0) then m)); taken = run.in_order }
+  came (Listed links) then h = record { comes = h.1; taken = walked_so links Accepted h.0 }
+  came (Shuffled words) then m = made_came words then m
+
+  accepted : (given : Delivery) (then : NetState) → Delivers given at_first then (Ok tt) → net_for d r given ≡ Accepted
+  accepted given then h = sym (run.counted given) ∙ (came given then h).taken
+
+  -- ---- WHERE NOTHING IS TO COME
+
+  module _ (links : List Link) (then : NetState) (all : Came links then) where
+    complete : IsComplete own (messages d r tapes) (own_end d tapes r run.turns.last) (behind links)
+    complete = run.complete links all.taken
+
+    node_so : (i : Number) → net_node then i ≡ run_of own (behind links) i
+    unfolding net_mail
+    node_so i =
+        ap (λ (n : NetState). net_node n i) all.comes
+        ∙ ap (λ (n : Number → Strand AtEnd). run_of n (all_delivered n nothing links) i) same_nodes
+
+    pub going : then.lost ≡ false
+    going = ap (λ (n : NetState). n.lost) all.comes
+
+    budget_so : then.budget ≡ budget
+    budget_so = ap (λ (n : NetState). n.budget) all.comes
+
+    pub delivered_so : then.delivered ≡ links
+    delivered_so = ap (λ (n : NetState). n.delivered) all.comes
+
+    stops_there : StopsAt then run.turns.last
+    stops_there = record {
+      values = shares d r tapes One;
+      left = ap (λ (q : _). q.left) (node_so One) ∙ complete.ended One;
+      ending = run.turns.stops.ending;
+      ended = run.turns.stops.ended;
+    }
+
+    pub stopped : HasStopped then
+    stopped = (run.turns.last, stops_there)
+
+    -- with all messages they do what they do with the run's
+    mail_so : behind links ≡ messages d r tapes
+    mail_so e l = complete.came l e
+
+    told_so : told_together (λ i. told_in (net_node then i).acts) ≡ r.events
+    told_so =
+        ap told_together (λ e. λ i. told_in (node_so i e).acts)
+        ∙ ap (λ (m : Mail). told_together (λ i. told_in (run_of own m i).acts)) mail_so
+        ∙ told_together_are_the_events r.events (λ i. told_in (run_of own (messages d r tapes) i).acts) run.told
+
+    pub tells : (told : RunReport) → HasTold then told → TellsAs r told
+    tells told h =
+        let stops = run.turns.stops in
+        record {
+          events = h.events ∙ told_so;
+          stop = stops.stop ∙ ap Ended (same_some (sym stops.ended ∙ h.how run.turns.last stops_there));
+          cost = h.cost run.turns.last stops_there ∙ ap (λ n. n - run.turns.last.stage.left) budget_so ∙ stops.cost;
+        }
+
+  -- ---- ANSWERS
+
+  pub going_on : (given : Delivery) (then : NetState) → Delivers given at_first then (Ok tt) → then.lost ≡ false
+  going_on given then h = going (delivered_for d r given) then (came given then h)
+
+  pub all_stopped : (given : Delivery) (then : NetState) → Delivers given at_first then (Ok tt) → HasStopped then
+  all_stopped given then h = stopped (delivered_for d r given) then (came given then h)
+
+  pub has_run : (given : Delivery) (then : NetState) (ran : DeliveredRun) → Delivers given at_first then (Ok tt) → HasTold then ran.report
+      → ran.delivered.items ≡ then.delivered → HasRun d r given ran
+  has_run given then ran h told delivered = record {
+    accepted = accepted given then h;
+    told = tells (delivered_for d r given) then (came given then h) ran.report told;
+    delivered = delivered ∙ delivered_so (delivered_for d r given) then (came given then h);
+  }
+
+  refused_listed : (links : List Link) (answer : Answer) → net_walked at_first links ≡ answer → net_for d r (Listed links) ≡ answer
+  refused_listed links answer is = sym (run.counted (Listed links)) ∙ walked_so links answer is
+
+  pub is_refused : (given : Delivery) (then : NetState) (e : DeliveryErr) → Delivers given at_first then (Err e) → IsRun d r given (Err e)
+  is_refused given then err.Memory h = tt
+  is_refused (Listed links) then (err.EmptyLink entry link sent) h = refused_listed links (EmptyLink entry link sent) h
+  is_refused (Listed links) then (err.Stalled miner link) h = refused_listed links (Stalled miner link) h
+  is_refused Default then (err.EmptyLink entry link sent) h = absurd h
+  is_refused Default then (err.Stalled miner link) h = absurd h
+  is_refused (Shuffled words) then (err.EmptyLink entry link sent) h = absurd h
+  is_refused (Shuffled words) then (err.Stalled miner link) h = absurd h

@@ -1,0 +1,63 @@
+-- The run of a program by three miners apart, whose messages are delivered in an order.
+use Rattle.std.specs.Prelude.{◌≡◌, ℕ, List, Result, Ok, Err}
+use Rattle.proto_core.specs.declared.link.Link.{Link}
+use Rattle.protocol_model.specs.Network as network
+use Rattle.protocol_model.specs.Network.{net, order_of}
+use Rattle.tape_file.specs.Seeds.{stream_word}
+use Rattle.tape_file.specs.Tapes.{FourTapes}
+use Rattle.typed_tree.specs.Programs.{TypedProgramTree}
+use Rattle.value_file.specs.declared.inputs.Entry.{Entry}
+use Rattle.language_model.specs.Reports.{Report}
+use Rattle.gate_laws.specs.Facts.{Dealt}
+use Rattle.code_inputs.specs.Inputs.{dealt_of}
+use Rattle.code_runs.specs.Runs.{scripts}
+use Rattle.program_run.specs.Reports.{TellsAs, eval_with}
+use Rattle.delivered_run.specs.declared.delivery.Delivery.{Delivery}
+use Rattle.delivered_run.specs.declared.delivery.Delivery.TheVariants as delivery
+use Rattle.delivered_run.specs.declared.delivery.DeliveryErr.{DeliveryErr}
+use Rattle.delivered_run.specs.declared.delivery.DeliveryErr.TheVariants as err
+use Rattle.delivered_run.specs.declared.running.DeliveredRun.{DeliveredRun}
+
+-- word k of stream 4 of a seed chooses at delivery k
+abbrev pub delivery_seen : Delivery → network.Delivery
+delivery_seen delivery.InTurn = network.Default
+delivery_seen (delivery.Scheduled links) = network.Listed links.items
+delivery_seen (delivery.Shuffled seed) = network.Shuffled (stream_word seed 4)
+
+-- ---- by what was dealt, and the report of the run in the clear
+
+module _ (d : Dealt) (r : Report) where
+  -- what a delivery comes to, and the links that it delivers, by the miners' moves, which hold counts and no words
+  abbrev pub net_for : network.Delivery → network.Answer
+  net_for given = net (scripts d r) given
+
+  abbrev pub delivered_for : network.Delivery → List Link
+  delivered_for given = order_of (scripts d r) given
+
+  -- a run of which all came that was to come: it tells what the report tells, and which links were delivered
+  pub record HasRun (given : network.Delivery) (ran : DeliveredRun) : Type 0 where
+    pub accepted : net_for given ≡ network.Accepted
+    pub told : TellsAs r ran.report
+    pub delivered : ran.delivered.items ≡ delivered_for given
+
+  -- so it is, or the schedule is refused as the net says
+  abbrev pub IsRun : network.Delivery → Result DeliveredRun DeliveryErr → Type 0
+  IsRun given (Ok ran) = HasRun given ran
+  IsRun given (Err (err.EmptyLink entry link sent)) = net_for given ≡ network.EmptyLink entry link sent
+  IsRun given (Err (err.Stalled miner link)) = net_for given ≡ network.Stalled miner link
+  IsRun given (Err err.Memory) = Unit {0}
+
+-- ---- of a program, with tapes of these lengths
+
+module _ (p : TypedProgramTree) (entries : List Entry) (t : FourTapes) (budget : ℕ) where
+  abbrev pub net_of : network.Delivery → network.Answer
+  net_of given = net_for (dealt_of entries t.dealer) (eval_with p entries t budget) given
+
+  abbrev pub delivered_of : network.Delivery → List Link
+  delivered_of given = delivered_for (dealt_of entries t.dealer) (eval_with p entries t budget) given
+
+  abbrev pub HasRunOf : network.Delivery → DeliveredRun → Type 0
+  HasRunOf given ran = HasRun (dealt_of entries t.dealer) (eval_with p entries t budget) given ran
+
+  abbrev pub IsRunOf : network.Delivery → Result DeliveredRun DeliveryErr → Type 0
+  IsRunOf given result = IsRun (dealt_of entries t.dealer) (eval_with p entries t budget) given result

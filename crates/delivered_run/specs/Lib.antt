@@ -1,0 +1,5 @@
+pub mod Client
+pub mod Deliveries
+pub mod Nets
+pub mod Undealt
+pub mod Laws

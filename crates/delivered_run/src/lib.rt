@@ -1,0 +1,13 @@
+//! The run of a program by three miners, each by itself, whose messages are delivered in any order: what they open and publish, and how
+//! they end, is what evaluation in the clear does.
+#![tactic(auto)]
+
+mod client;
+mod delivery;
+mod laws;
+mod net;
+mod running;
+
+pub use delivery::{Delivery, DeliveryErr};
+pub use laws::made_deliveries_are_taken;
+pub use running::{DeliveredRun, run_delivered};
