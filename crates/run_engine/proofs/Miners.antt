@@ -8,9 +8,13 @@ use Rattle.value_file.specs.declared.inputs.Entry.{Entry}
 use Rattle.well_written.proofs.Grammar.{well_written}
 use Rattle.placed_text.proofs.Spelled.{placed_where_spelled}
 use Rattle.program_run.specs.Accepted.{IsAccepted}
-use Rattle.program_run.specs.Miners.{CanBeDealt, RunsOnShares}
-use Rattle.program_run.proofs.Shared.{runs_where_accepted}
-use Rattle.run_engine.specs.Runs.{HoldsRun, HoldsTyped}
+use Rattle.protocol_model.specs.Network.{Accepted, Delivery}
+use Rattle.program_run.specs.Miners.{CanBeDealt}
+use Rattle.miner_runs.specs.Programs.{OwnRunsOnShares}
+use Rattle.miner_runs.proofs.Programs.{own_runs_where_accepted}
+use Rattle.delivered_run.specs.Laws.{HaveWords, IsMade}
+use Rattle.delivered_run.proofs.Taken.{made_deliveries_are_taken}
+use Rattle.run_engine.specs.Runs.{HoldsRun, HoldsTyped, net_for}
 
 accepted_so : (path : List ℕ) (files : Contents) (p : TypedProgramTree) → HoldsTyped path files p → IsAccepted p
 accepted_so path files p h =
@@ -24,7 +28,12 @@ accepted_so path files p h =
       within = h.within;
     }
 
-pub miners_run : (ask : RunAsk) (files : Contents) (p : TypedProgramTree) (entries : List Entry) (tapes : FourTapes)
-    → HoldsRun ask files p entries tapes → CanBeDealt entries tapes → RunsOnShares p entries tapes ask.budget
-miners_run ask files p entries tapes h can =
-    runs_where_accepted p entries tapes ask.budget (accepted_so ask.program files p h.program) can
+pub miners_run : (ask : RunAsk) (files : Contents) (p : TypedProgramTree) (entries : List Entry) (tapes : FourTapes) (delivery : Delivery)
+    → HoldsRun ask files p entries tapes delivery → CanBeDealt entries tapes → OwnRunsOnShares p entries tapes ask.budget
+miners_run ask files p entries tapes delivery h can =
+    own_runs_where_accepted p entries tapes ask.budget (accepted_so ask.program files p h.program) can
+
+pub made_taken : (ask : RunAsk) (files : Contents) (p : TypedProgramTree) (entries : List Entry) (tapes : FourTapes) (delivery : Delivery)
+    → HoldsRun ask files p entries tapes delivery → HaveWords entries tapes → IsMade delivery → net_for ask p entries tapes delivery ≡ Accepted
+made_taken ask files p entries tapes delivery h have made =
+    made_deliveries_are_taken p entries tapes ask.budget delivery (accepted_so ask.program files p h.program) have made

@@ -20,7 +20,7 @@ use Rattle.run_engine.specs.Deal.{deal_of, deal_paths, written_paths}
 use Rattle.run_engine.specs.Eval.{eval_of, eval_paths, need_of}
 use Rattle.run_engine.specs.Judging.{Finding, FoundAt, HasFinding, Tells, its_program}
 use Rattle.run_engine.specs.Obeying.{Acted, CommandAnswers, Obeyed, Planned}
-use Rattle.run_engine.specs.Run.{run_of, run_paths}
+use Rattle.run_engine.specs.Run.{ran_paths, run_of, run_paths}
 use Rattle.run_engine.specs.Words.{answer_to, question_of, reads_of, read_by, writes_of, written_by, IsAnswer}
 use Rattle.run_engine.proofs.Judged.{found_nothing}
 use Rattle.run_engine.proofs.Runs.{answer_of_usage, command_answers, has_answer, reads_by, writes_by}
@@ -31,7 +31,7 @@ use Rattle.run_engine.proofs.Tops.{is_named, printed_so}
 module _ (f f' : FilesState) (r : Result Plan Stop) (read : OnlyRead f f') (anyhow : IfErr r (StopsReading f f')) where
   pub run_planned : (ask : RunAsk)
       → ((found : Finding) → FoundAt (its_program ask.program) f.contents found → Gives effect_of f f' r (run_of found ask f.contents))
-      → (f.told ≡ true → Tells f r → HasFinding (its_program ask.program) f.contents) → KeepsTo (run_paths ask) [] r → Planned (run ask) f f' r
+      → (f.told ≡ true → Tells f r → HasFinding (its_program ask.program) f.contents) → KeepsTo (run_paths ask) (ran_paths ask) r → Planned (run ask) f f' r
   unfolding answer_to question_of reads_of writes_of
   run_planned ask answer found keeps = record {
     files = read;

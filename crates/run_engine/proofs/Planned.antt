@@ -1,9 +1,10 @@
 -- What `compile` and `run` plan is what is decided of the files.
-use Rattle.std.proofs.Common.{◌≡◌, ℕ, List, [], ◌∷◌, length, true, Ok, Err, Result, refl, sym, ◌∙◌, ap, subst, inl, inr}
+use Rattle.std.proofs.Common.{◌≡◌, ℕ, List, [], ◌∷◌, length, true, Option, Ok, Err, Result, refl, sym, ◌∙◌, ap, subst, inl, inr}
 use Rattle.std.proofs.lemmas.List.{length-map}
 use Rattle.outside.specs.Files.{Contents, FilesState}
 use Rattle.command_frame.specs.Answer.{Answer, Cause, Effect, ◌>>=◌}
-use Rattle.command_frame.specs.Reads.{OnlyRead}
+use Rattle.command_frame.specs.declared.stop.Stop.{Stop}
+use Rattle.command_frame.specs.Reads.{OnlyRead, Stops}
 use Rattle.command_words.specs.Ask.{CompileAsk, RunAsk}
 use Rattle.sc_text.specs.declared.end.End.{End}
 use Rattle.sc_text.specs.declared.event.Event.{Event}
@@ -21,13 +22,21 @@ use Rattle.language_model.specs.Reports.{Report}
 use Rattle.program_run.specs.Codes.{IsCodeOf}
 use Rattle.program_run.specs.Reports.{TellsAs, eval_with}
 use Rattle.program_run.specs.declared.running.RunReport.{RunReport}
+use Rattle.delivered_run.specs.Deliveries.{HasRunOf, IsRunOf, delivered_of, net_of}
+use Rattle.delivered_run.specs.declared.delivery.DeliveryErr.{DeliveryErr}
+use Rattle.delivered_run.specs.declared.delivery.DeliveryErr.TheVariants as refusal
+use Rattle.delivered_run.specs.declared.running.DeliveredRun.{DeliveredRun}
+use Rattle.proto_core.specs.declared.link.Link.{Link}
+use Rattle.proto_core.specs.declared.party.Number.{Number}
+use Rattle.protocol_model.specs.Network.{Delivery, EmptyLink, Stalled}
 use Rattle.run_engine.specs.Compile.{code_bytes, compile_of, written_effect}
 use Rattle.run_engine.specs.Ends.{status_of}
-use Rattle.run_engine.specs.Eval.{end_of, eval_text, ending_of, report_effect}
+use Rattle.run_engine.specs.Eval.{end_of, ending_of}
 use Rattle.run_engine.specs.Judging.{Finding, FoundAt, IsReachedAs, IsReachedBy, Sized, its_program}
 use Rattle.run_engine.specs.Programs.{program_at, small_enough, tree_at}
-use Rattle.run_engine.specs.Reading.{inputs_at, tapes_at}
-use Rattle.run_engine.specs.Run.{run_of, run_report, told_effect}
+use Rattle.run_engine.specs.Reading.{delivery_at, inputs_at, tapes_at}
+use Rattle.run_engine.specs.Run.{IsStopOf, by_net, empty_line, ran_effect, recorded_links, refused_with, run_effect, run_of, run_report, stalled_line}
+use Rattle.run_engine.proofs.Judged.{refused_so}
 use Rattle.run_engine.proofs.Refusals.{steps}
 use Rattle.run_engine.proofs.Sizes.{tree_judged}
 
@@ -83,30 +92,65 @@ compiled found ask files p raw h is of =
 told_end : (r : Report) (told : RunReport) → TellsAs r told → end_of r ≡ told.end
 told_end r told h = rw (ap ending_of h.stop, sym h.cost) refl
 
-abbrev text_and_end : List Event → End → Effect
-text_and_end events end = record { writes = []; text = run_text events end; status = status_of end.how }
+abbrev effect_with : Option (List ℕ) → List Event → End → List Link → Effect
+effect_with recorded events end links =
+    record { writes = recorded_links recorded links; text = run_text events end; status = status_of end.how }
 
-told_so : (r : Report) (told : RunReport) → TellsAs r told → report_effect eval_text r ≡ told_effect told
-told_so r told h = ap (λ events. text_and_end events (end_of r)) (sym h.events) ∙ ap (text_and_end told.events.items) (told_end r told h)
+told_so : (recorded : Option (List ℕ)) (r : Report) (links : List Link) (ran : DeliveredRun) → TellsAs r ran.report → ran.delivered.items ≡ links
+    → run_effect recorded r links ≡ ran_effect recorded ran
+told_so recorded r links ran h delivered =
+    ap (λ events. effect_with recorded events (end_of r) links) (sym h.events)
+    ∙ ap (λ end. effect_with recorded ran.report.events.items end links) (told_end r ran.report h)
+    ∙ ap (effect_with recorded ran.report.events.items ran.report.end) (sym delivered)
 
 -- files that were read one after another are those of the beginning
-module _ (f f1 f2 : FilesState) (first : OnlyRead f f1) (second : OnlyRead f1 f2) (t : f.told ≡ true) where
-  first_told : f1.told ≡ true
-  first_told = first.same.told ∙ t
+module _ (f f1 f2 f3 : FilesState) (first : OnlyRead f f1) (second : OnlyRead f1 f2) (third : OnlyRead f2 f3)
+    (found : Finding) (ask : RunAsk) (p : TypedProgramTree) (entries : List Entry) (tapes : FourTapes) (delivery : Delivery)
+    (program : f.told ≡ true → program_at found f.contents ask.program ≡ Ok p)
+    (input : List ℕ) (same : input ≡ ask.input) (inputs : f1.told ≡ true → inputs_at f1.contents input ≡ Ok entries)
+    (taped : f2.told ≡ true → tapes_at f2.contents ask.source ≡ Ok tapes)
+    (order : f3.told ≡ true → delivery_at f3.contents ask.order ≡ Ok delivery) where
+  first_told : f.told ≡ true → f1.told ≡ true
+  first_told t = first.same.told ∙ t
 
-  second_told : f2.told ≡ true
-  second_told = second.same.told ∙ first_told
+  second_told : f.told ≡ true → f2.told ≡ true
+  second_told t = second.same.told ∙ first_told t
+
+  there : f.told ≡ true → inputs_at f.contents ask.input ≡ Ok entries
+  there t = ap (inputs_at f.contents) (sym same) ∙ ap (λ c. inputs_at c input) (sym first.same.contents) ∙ inputs (first_told t)
+
+  second_contents : f2.contents ≡ f.contents
+  second_contents = second.same.contents ∙ first.same.contents
+
+  given : f.told ≡ true → tapes_at f.contents ask.source ≡ Ok tapes
+  given t = ap (λ c. tapes_at c ask.source) (sym second_contents) ∙ taped (second_told t)
+
+  ordered : f.told ≡ true → delivery_at f.contents ask.order ≡ Ok delivery
+  ordered t =
+      ap (λ c. delivery_at c ask.order) (sym (third.same.contents ∙ second_contents)) ∙ order (third.same.told ∙ second_told t)
 
   pub ran :
-      (found : Finding) (ask : RunAsk) (p : TypedProgramTree) (entries : List Entry) (tapes : FourTapes) (told : RunReport)
-      → program_at found f.contents ask.program ≡ Ok p
-      → (input : List ℕ) → input ≡ ask.input → (f1.told ≡ true → inputs_at f1.contents input ≡ Ok entries)
-      → (f2.told ≡ true → tapes_at f2.contents ask.source ≡ Ok tapes) → TellsAs (eval_with p entries tapes ask.budget) told
-      → run_of found ask f.contents ≡ Ok (told_effect told)
-  unfolding run_of run_report
-  ran found ask p entries tapes told program input same inputs taped h =
-      let there : inputs_at f.contents ask.input ≡ Ok entries =
-      ap (inputs_at f.contents) (sym same) ∙ ap (λ c. inputs_at c input) (sym first.same.contents) ∙ inputs first_told in
-      let given : tapes_at f.contents ask.source ≡ Ok tapes =
-      ap (λ c. tapes_at c ask.source) (sym (second.same.contents ∙ first.same.contents)) ∙ taped second_told in
-      rw (program, there, given) (ap Ok (told_so (eval_with p entries tapes ask.budget) told h))
+      (run : DeliveredRun) → HasRunOf p entries tapes ask.budget delivery run → f.told ≡ true
+      → run_of found ask f.contents ≡ Ok (ran_effect ask.recorded run)
+  unfolding run_of run_report by_net
+  ran run h t =
+      rw (program t, there t, given t, ordered t, h.accepted)
+      (ap Ok (told_so ask.recorded (eval_with p entries tapes ask.budget) (delivered_of p entries tapes ask.budget delivery) run h.told h.delivered))
+
+  emptied : (entry : ℕ) (link : Link) (sent : ℕ) → net_of p entries tapes ask.budget delivery ≡ EmptyLink entry link sent → f.told ≡ true
+      → run_of found ask f.contents ≡ Err (refused_with (empty_line entry link sent))
+  unfolding run_of by_net
+  emptied entry link sent is t = rw (program t, there t, given t, ordered t, is) refl
+
+  stalled : (miner : Number) (link : Link) → net_of p entries tapes ask.budget delivery ≡ Stalled miner link → f.told ≡ true
+      → run_of found ask f.contents ≡ Err (refused_with (stalled_line miner link))
+  unfolding run_of by_net
+  stalled miner link is t = rw (program t, there t, given t, ordered t, is) refl
+
+  -- a schedule that is refused stops the command
+  pub stops : (f4 : FilesState) (e : DeliveryErr) (stop : Stop) → IsRunOf p entries tapes ask.budget delivery (Err e) → IsStopOf e stop
+      → Stops f f4 stop (run_of found ask f.contents)
+  stops f4 (refusal.EmptyLink entry link sent) stop is of =
+      refused_so f f4 stop (run_of found ask f.contents) of (emptied entry link sent is)
+  stops f4 (refusal.Stalled miner link) stop is of = refused_so f f4 stop (run_of found ask f.contents) of (stalled miner link is)
+  stops f4 refusal.Memory stop is of = subst (λ (s : Stop). Stops f f4 s (run_of found ask f.contents)) (sym of) tt

@@ -87,8 +87,8 @@ module _ (words : List (List ℕ)) (f f' : FilesState) (o o' e e' : SinkState) (
 
   pub run_keeps : (ask : RunAsk) → words_of words ≡ Some (run ask) → Keeps (RunEffect ask f.contents) (RunRefused ask f.contents) is_end f f' o o' s
   run_keeps ask asks = keeps (RunEffect ask f.contents) (RunRefused ask f.contents) is_end
-      (λ effect w. subst (IsEndingAnswer words f.contents) (sym w.4)
-      (record { answer = run_answered words ask f.contents w.0 w.1 w.2 asks w.3; ends = end_is (end_of (run_report w.0 w.1 w.2 ask.budget)).how }))
+      (λ effect w. subst (IsEndingAnswer words f.contents) (sym w.6)
+      (record { answer = run_answered words ask f.contents w.0 w.1 w.2 w.3 asks w.4 w.5; ends = end_is (end_of (run_report w.0 w.1 w.2 ask.budget)).how }))
       (λ answer a r u. run_refused_only words ask f.contents asks answer a (refuses answer r u)) (λ status refused. run_answered_so words ask f.contents status asks refused)
 
   pub deal_keeps : (ask : DealAsk) → words_of words ≡ Some (deal ask) → Keeps (DealEffect ask f.contents) (DealRefused ask f.contents) is_done f f' o o' s

@@ -6,19 +6,21 @@ use Rattle.command_frame.specs.declared.status.Status.{Status}
 use Rattle.command_frame.specs.declared.status.Status.TheVariants as statuses
 use Rattle.command_frame.specs.Answer.{Answer, Cause, bytes_at, missing, ◌>>=◌}
 use Rattle.command_frame.specs.Status.{is_end, is_refusal}
-use Rattle.command_words.specs.Ask.{Source, file, seeded}
+use Rattle.command_words.specs.Ask.{Order, Source, file, in_turn, scheduled, seeded, shuffled}
 use Rattle.secrec_ast.specs.Programs.{ProgramTree}
 use Rattle.front_end.specs.declared.program_fault.ProgramFault.{ProgramFault}
 use Rattle.front_end.specs.Judgement.{Judged, IsJudged}
 use Rattle.sc_text.specs.declared.end.Ending.{Ending}
 use Rattle.sc_text.specs.declared.end.Ending.TheVariants as endings
+use Rattle.protocol_model.specs.Network.{Listed}
 use Rattle.tape_file.specs.Format.{read_of as tapes_read_of}
 use Rattle.value_file.specs.declared.read_err.ReadErr.{ReadErr}
 use Rattle.value_file.specs.Input.{read_of as inputs_read_of}
 use Rattle.run_engine.specs.Ends.{status_of}
 use Rattle.run_engine.specs.Judging.{JudgedAt}
 use Rattle.run_engine.specs.Programs.{accepted, bad_program, tree_at}
-use Rattle.run_engine.specs.Reading.{bad_input, bad_tape, inputs_at, read_or, tape_file_at, tapes_at}
+use Rattle.schedule_file.specs.Reading.{links_of}
+use Rattle.run_engine.specs.Reading.{bad_input, bad_schedule, bad_tape, delivery_at, inputs_at, read_or, schedule_file_at, tape_file_at, tapes_at}
 use Rattle.run_engine.specs.Runs.{HoldsProgram, HoldsBadProgram}
 
 -- of two steps the first is refused, or both are done
@@ -166,6 +168,25 @@ pub tapes_refused : (files : Contents) (source : Source) (c : Cause) → tapes_a
 unfolding tapes_at
 tapes_refused files (file path) c is = (path, refl, tape_file_refused files path c is)
 tapes_refused files (seeded seed words) c is = absurd cc
+
+pub schedule_file_refused : (files : Contents) (path : List ℕ) (c : Cause) → schedule_file_at files path ≡ Err c → ReadRefused files path bad_schedule links_of c
+unfolding schedule_file_at
+schedule_file_refused files path c is = read_refused files path bad_schedule links_of c is
+
+pub order_refused : (files : Contents) (order : Order) (c : Cause) → delivery_at files order ≡ Err c
+    → (path : List ℕ) × (order ≡ scheduled path) × ReadRefused files path bad_schedule links_of c
+unfolding delivery_at
+order_refused files in_turn c is = absurd cc
+order_refused files (scheduled path) c is =
+    elim (steps (schedule_file_at files path) (λ links. Ok (Listed links)) (Err c) is) [
+      | inl (c2, e, same) ↦ let here : c ≡ c2 = cc in (path, refl, subst (ReadRefused files path bad_schedule links_of) (sym here) (schedule_file_refused files path c2 e))
+      | inr (links, e, wrong) ↦ absurd cc
+    ]
+order_refused files (shuffled seed) c is = absurd cc
+
+pub schedule_status : (line : ℕ) → status_of_cause (bad_schedule line) ≡ statuses.Schedule
+unfolding bad_schedule
+schedule_status line = refl
 
 pub input_status : (err : ReadErr) → status_of_cause (bad_input err) ≡ statuses.Input
 unfolding bad_input

@@ -1,9 +1,12 @@
--- Input and tape files at their paths, as commands read them.
+-- Input, tape and schedule files at their paths, as commands read them.
 use Rattle.std.specs.Prelude.{ℕ, List, [], ◌∷◌, Option, Some, None, Result, Ok, Err}
 use Rattle.outside.specs.Files.{Contents}
-use Rattle.command_frame.specs.declared.status.Status.TheVariants.{Input, TapeFile}
+use Rattle.command_frame.specs.declared.status.Status.TheVariants.{Input, Schedule, TapeFile}
 use Rattle.command_frame.specs.Answer.{Cause, ◌>>=◌, bytes_at}
-use Rattle.command_words.specs.Ask.{Source, file, seeded}
+use Rattle.command_words.specs.Ask.{Order, Source, file, in_turn, scheduled, seeded, shuffled}
+use Rattle.proto_core.specs.declared.link.Link.{Link}
+use Rattle.protocol_model.specs.Network.{Delivery, Default, Listed, Shuffled}
+use Rattle.schedule_file.specs.Reading.{links_of}
 use Rattle.sc_text.specs.declared.fault.Fault.{Fault}
 use Rattle.sc_text.specs.declared.fault.Fault.TheVariants as faults
 use Rattle.sc_text.specs.declared.input_fault.EntryField.{EntryField}
@@ -12,7 +15,7 @@ use Rattle.sc_text.specs.declared.input_fault.InputFault.{InputFault}
 use Rattle.sc_text.specs.declared.input_fault.InputFault.TheVariants as input_faults
 use Rattle.sc_text.specs.Fault.{fault_line}
 use Rattle.tape_file.specs.Format.{read_of as tapes_read_of}
-use Rattle.tape_file.specs.Seeds.{seed_tapes}
+use Rattle.tape_file.specs.Seeds.{seed_tapes, stream_word}
 use Rattle.tape_file.specs.Tapes.{FourTapes}
 use Rattle.value_file.specs.declared.inputs.Entry.{Entry}
 use Rattle.value_file.specs.declared.read_err.Field.{Field}
@@ -77,6 +80,26 @@ tape_file_at files path = bytes_at files path >>= λ bytes. read_or bad_tape (ta
 unfoldable pub tapes_at : Contents → Source → Result FourTapes Cause
 tapes_at files (file path) = tape_file_at files path
 tapes_at files (seeded seed words) = Ok (seed_tapes seed words)
+
+-- the refusal of a schedule file, by the number of its first wrong line
+unfoldable pub bad_schedule : ℕ → Cause
+bad_schedule line = record { status = Schedule; line = fault_line (faults.BadSchedule line) }
+
+-- the links of a schedule file
+unfoldable pub schedule_file_at : Contents → List ℕ → Result (List Link) Cause
+schedule_file_at files path = bytes_at files path >>= λ bytes. read_or bad_schedule (links_of bytes)
+
+-- in which order messages are delivered; word k of stream 4 of a seed chooses at delivery k
+unfoldable pub delivery_at : Contents → Order → Result Delivery Cause
+delivery_at files in_turn = Ok Default
+delivery_at files (scheduled path) = schedule_file_at files path >>= λ links. Ok (Listed links)
+delivery_at files (shuffled seed) = Ok (Shuffled (stream_word seed 4))
+
+-- the paths that are read for the order
+abbrev pub order_paths : Order → List (List ℕ)
+order_paths in_turn = []
+order_paths (scheduled path) = path ∷ []
+order_paths (shuffled seed) = []
 
 -- the paths that are read for the tapes
 abbrev pub source_paths : Source → List (List ℕ)

@@ -1,37 +1,101 @@
--- The command `run`: three miners run the program on shares, and what they open and publish is what evaluation in the clear does with
--- tapes of these lengths.
-use Rattle.std.specs.Prelude.{ℕ, List, [], ◌∷◌, Ok}
+-- The command `run`: three miners run the program on shares, their messages delivered in an order that is asked for; what they open and
+-- publish is what evaluation in the clear does with tapes of these lengths.
+use Rattle.std.specs.Prelude.{◌≡◌, ℕ, List, [], ◌∷◌, ◌++◌, codes, Option, Some, None, Result, Ok, Err}
+use Rattle.std.specs.Fmt.{decimal}
 use Rattle.outside.specs.Files.{Contents}
-use Rattle.command_frame.specs.Answer.{Answer, Effect, ◌>>=◌}
-use Rattle.sc_text.specs.Event.{run_text}
-use Rattle.program_run.specs.declared.running.RunReport.{RunReport}
+use Rattle.command_frame.specs.declared.status.Status.TheVariants.{Schedule}
+use Rattle.command_frame.specs.Answer.{Answer, Cause, Effect, Written, ◌>>=◌}
+use Rattle.command_frame.specs.Stops.{IsRefusalFor}
+use Rattle.command_frame.specs.declared.stop.Stop.{Stop}
+use Rattle.command_frame.specs.declared.stop.Stop.TheVariants as stops
 use Rattle.command_words.specs.Ask.{RunAsk}
+use Rattle.sc_text.specs.Event.{run_text}
+use Rattle.proto_core.specs.declared.link.Link.{Link}
+use Rattle.proto_core.specs.declared.party.Number.{Number}
+use Rattle.proto_core.specs.Parties.{link_text, number_text}
+use Rattle.protocol_model.specs.Network as network
+use Rattle.protocol_model.specs.Network.{Delivery}
+use Rattle.schedule_file.specs.Text.{schedule_bytes}
 use Rattle.tape_file.specs.Tapes.{FourTapes}
 use Rattle.value_file.specs.declared.inputs.Entry.{Entry}
 use Rattle.typed_tree.specs.Programs.{TypedProgramTree}
 use Rattle.language_model.specs.Reports.{Report}
 use Rattle.program_run.specs.Reports.{eval_with}
+use Rattle.delivered_run.specs.Deliveries.{delivered_of, net_of}
+use Rattle.delivered_run.specs.declared.delivery.DeliveryErr.{DeliveryErr}
+use Rattle.delivered_run.specs.declared.delivery.DeliveryErr.TheVariants as refusal
+use Rattle.delivered_run.specs.declared.running.DeliveredRun.{DeliveredRun}
 use Rattle.run_engine.specs.Ends.{status_of}
-use Rattle.run_engine.specs.Eval.{eval_text, report_effect}
+use Rattle.run_engine.specs.Eval.{end_status, eval_text}
 use Rattle.run_engine.specs.Judging.{Finding}
 use Rattle.run_engine.specs.Programs.{program_at}
-use Rattle.run_engine.specs.Reading.{inputs_at, source_paths, tapes_at}
+use Rattle.run_engine.specs.Reading.{delivery_at, inputs_at, order_paths, source_paths, tapes_at}
 
 unfoldable pub run_report : TypedProgramTree → List Entry → FourTapes → (budget : ℕ) → Report
 run_report program entries tapes budget = eval_with program entries tapes budget
 
--- what is printed of a run, and its end
-abbrev pub told_effect : RunReport → Effect
-told_effect told = record { writes = []; text = run_text told.events.items told.end; status = status_of told.end.how }
+-- ---- a schedule that is refused
 
--- Each file is read and then checked: the program and its size, the input, the tapes; then the program is run.
+-- an entry whose link has no message under way
+unfoldable pub empty_line : (entry : ℕ) → Link → (sent : ℕ) → List ℕ
+empty_line entry link sent =
+    codes "error: S2 entry " ++ decimal entry ++ codes " link " ++ link_text link ++ codes " sent " ++ decimal sent ++ codes "\n"
+
+-- a miner that is left waiting
+unfoldable pub stalled_line : Number → Link → List ℕ
+stalled_line miner link = codes "error: S3 miner " ++ number_text miner ++ codes " link " ++ link_text link ++ codes "\n"
+
+abbrev pub refused_with : List ℕ → Cause
+refused_with line = record { status = Schedule; line = line }
+
+-- the net takes the deliveries, or refuses the schedule
+unfoldable pub by_net : network.Answer → Result network.Answer Cause
+by_net network.Accepted = Ok network.Accepted
+by_net (network.EmptyLink entry link sent) = Err (refused_with (empty_line entry link sent))
+by_net (network.Stalled miner link) = Err (refused_with (stalled_line miner link))
+
+-- ---- the run
+
+-- the links that were delivered, where they are asked for
+abbrev pub recorded_links : Option (List ℕ) → List Link → List Written
+recorded_links None links = []
+recorded_links (Some path) links = record { path = path; bytes = schedule_bytes links } ∷ []
+
+abbrev pub run_effect : Option (List ℕ) → Report → List Link → Effect
+run_effect recorded report links = record { writes = recorded_links recorded links; text = eval_text report; status = end_status report }
+
+-- the same of a run in memory
+abbrev pub ran_effect : Option (List ℕ) → DeliveredRun → Effect
+ran_effect recorded ran =
+    record {
+      writes = recorded_links recorded ran.delivered.items;
+      text = run_text ran.report.events.items ran.report.end;
+      status = status_of ran.report.end.how;
+    }
+
+-- the stop of a run whose schedule is refused
+abbrev pub IsStopOf : DeliveryErr → Stop → Type 0
+IsStopOf (refusal.EmptyLink entry link sent) stop = IsRefusalFor (refused_with (empty_line entry link sent)) stop
+IsStopOf (refusal.Stalled miner link) stop = IsRefusalFor (refused_with (stalled_line miner link)) stop
+IsStopOf refusal.Memory stop = stop ≡ stops.Memory
+
+-- Each file is read and then checked: the program and its size, the input, the tapes, the schedule; then the program is run.
 unfoldable pub run_of : Finding → RunAsk → Contents → Answer
 run_of found ask files = do
   program ← program_at found files ask.program
   entries ← inputs_at files ask.input
   tapes ← tapes_at files ask.source
-  Ok (report_effect eval_text (run_report program entries tapes ask.budget))
+  delivery ← delivery_at files ask.order
+  _ ← by_net (net_of program entries tapes ask.budget delivery)
+  Ok (run_effect ask.recorded (run_report program entries tapes ask.budget) (delivered_of program entries tapes ask.budget delivery))
 
--- the paths that `run` reads
+-- the paths that `run` reads, and that it writes
 unfoldable pub run_paths : RunAsk → List (List ℕ)
-run_paths ask = ask.program ∷ ask.input ∷ source_paths ask.source
+run_paths ask = ask.program ∷ ask.input ∷ (source_paths ask.source ++ order_paths ask.order)
+
+abbrev pub path_in : Option (List ℕ) → List (List ℕ)
+path_in None = []
+path_in (Some path) = path ∷ []
+
+unfoldable pub ran_paths : RunAsk → List (List ℕ)
+ran_paths ask = path_in ask.recorded

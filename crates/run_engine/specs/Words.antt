@@ -9,7 +9,7 @@ use Rattle.run_engine.specs.Compile.{compile_of, compile_paths, compiled_paths}
 use Rattle.run_engine.specs.Deal.{deal_of, deal_paths, written_paths}
 use Rattle.run_engine.specs.Eval.{eval_of, need_of, eval_paths}
 use Rattle.run_engine.specs.Judging.{Finding, FoundAt, Question, nothing, its_program}
-use Rattle.run_engine.specs.Run.{run_of, run_paths}
+use Rattle.run_engine.specs.Run.{ran_paths, run_of, run_paths}
 
 -- what a command decides of the files' contents, and of what is found of the program that it reads
 unfoldable pub answer_to : Finding → Ask → Contents → Answer
@@ -40,7 +40,7 @@ reads_of (need ask) = eval_paths ask
 
 -- the paths that it writes
 unfoldable pub writes_of : Ask → List (List ℕ)
-writes_of (run ask) = []
+writes_of (run ask) = ran_paths ask
 writes_of (deal ask) = written_paths ask.to
 writes_of (check ask) = []
 writes_of (compile ask) = compiled_paths ask

@@ -1,4 +1,4 @@
-// Input and tape files, read from their paths.
+// Input, tape and schedule files, read from their paths.
 ghost use Rattle.std.specs.Prelude.{◌≡◌, ◌∷◌, [], true, IfOk, IfErr};
 ghost use Rattle.command_frame.specs.Reads.{OnlyRead, Gives, StopNames};
 ghost use Rattle.command_frame.specs.Status.{is_refusal};
@@ -7,10 +7,11 @@ ghost use Rattle.sc_text.specs.Fault.{fault_line};
 ghost use Rattle.command_frame.specs.declared.status.Status.TheVariants.{Input};
 ghost use Rattle.sc_text.specs.declared.fault.Fault.TheVariants.{Input as InputFile};
 ghost use Rattle.value_file.specs.Input.{AreInputs};
-ghost use Rattle.run_engine.specs.Reading.{bad_tape, field_fault, top_fault, entry_field, inputs_at, tape_file_at};
+ghost use Rattle.run_engine.specs.Reading.{bad_tape, bad_schedule, field_fault, top_fault, entry_field, inputs_at, tape_file_at, schedule_file_at};
 
 use command_frame::{Refusal, Status, Stop, read_file};
 use outside::Files;
+use proto_core::Link;
 use sc_text::{EntryField, Fault, InputFault};
 use std::alloc::Global;
 use tape_file::Tapes;
@@ -113,5 +114,33 @@ pub fn read_tape_file<F: Files>(alloc: Global, files: &mut F, path: &str) -> Res
         Ok(tapes) => Ok(tapes),
         Err(tape_file::ReadErr::BadTape { place }) => Err(tape_stop(alloc, place)),
         Err(tape_file::ReadErr::Memory) => Err(Stop::Memory),
+    }
+}
+
+// Why a schedule file is refused.
+#[tactic(auto, unfolding(crate::specs::Reading::bad_schedule))]
+fn schedule_stop(alloc: Global, line: u64) -> Stop
+    ensures { IsRefusalFor (bad_schedule line) result }
+{
+    refusal_of(alloc, Status::Schedule, &Fault::BadSchedule { line })
+}
+
+/// The links of the schedule file at this path.
+#[tactic(auto, unfolding(crate::specs::Reading::schedule_file_at))]
+pub fn read_schedule_file<F: Files>(
+    alloc: Global,
+    files: &mut F,
+    path: &str,
+) -> Result<Vec<Link>, Stop>
+    ensures files { OnlyRead (F.state files.old) (F.state files.new) }
+    ensures answer { Gives (λ links. links.items) (F.state files.old) (F.state files.new) result
+        (schedule_file_at (F.state files.old).contents path.now) }
+    ensures names { IfErr result (StopNames (path.now ∷ [])) }
+{
+    let bytes = read_file(alloc, files, path)?;
+    match schedule_file::read(alloc, &bytes) {
+        Ok(links) => Ok(links),
+        Err(schedule_file::ReadErr::BadEntry { line }) => Err(schedule_stop(alloc, line)),
+        Err(schedule_file::ReadErr::Memory) => Err(Stop::Memory),
     }
 }

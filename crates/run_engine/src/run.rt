@@ -1,19 +1,23 @@
 // The command `run`.
-ghost use Rattle.std.specs.Prelude.{◌≡◌, [], true, IfOk, IfErr};
+ghost use Rattle.std.specs.Prelude.{◌≡◌, [], true, option_map, IfOk, IfErr, string_bytes};
 ghost use Rattle.command_frame.specs.Answer.{effect_of};
 ghost use Rattle.command_frame.specs.Reads.{OnlyRead, Gives, KeepsTo, PlanNames, StopNames, StopsReading};
-ghost use Rattle.command_words.specs.Views.{run_ask, source_ask};
+ghost use Rattle.command_frame.specs.Stops.{IsRefusalFor};
+ghost use Rattle.command_words.specs.Views.{run_ask, order_ask, source_ask};
+ghost use Rattle.delivered_run.specs.Deliveries.{delivery_seen};
+ghost use Rattle.delivered_run.specs.declared.delivery.DeliveryErr.TheVariants.{Memory as NoMemory};
 ghost use Rattle.run_engine.specs.Judging.{Finding, FoundAt, HasFinding, its_program, Tells};
-ghost use Rattle.run_engine.specs.Reading.{tapes_at, source_paths};
-ghost use Rattle.run_engine.specs.Run.{run_of, run_paths, told_effect};
+ghost use Rattle.run_engine.specs.Reading.{delivery_at, order_paths, tapes_at, source_paths};
+ghost use Rattle.run_engine.specs.Run.{path_in, ran_effect, ran_paths, refused_with, empty_line, stalled_line, run_of, run_paths, IsStopOf};
 
 use crate::ends::status;
 use crate::programs::read_typed;
-use crate::readers::{read_inputs, read_tape_file};
-use command_frame::{Plan, Stop};
-use command_words::{RunWords, TapeSource};
+use crate::readers::{read_inputs, read_schedule_file, read_tape_file};
+use command_frame::{Plan, PlannedWrite, Refusal, Status, Stop};
+use command_words::{DeliveryOrder, RunWords, TapeSource};
+use delivered_run::{DeliveredRun, Delivery, DeliveryErr, run_delivered};
 use outside::Files;
-use program_run::{RunReport, run_program};
+use proto_core::{Link, Number};
 use sc_text::run_text;
 use std::alloc::{AllocError, Global};
 use tape_file::{Tapes, from_seed};
@@ -32,22 +36,96 @@ fn read_tapes<F: Files>(alloc: Global, files: &mut F, source: &TapeSource) -> Re
     }
 }
 
-// What is to be printed of a run: what the miners opened and published, and how they ended.
-fn told_plan(alloc: Global, told: &RunReport) -> Result<Plan, AllocError>
-    ensures effect { IfOk result (λ plan. effect_of plan ≡ told_effect told.now) }
-    ensures names { IfOk result (PlanNames []) }
+// In which order messages are delivered.
+#[tactic(auto, unfolding(crate::specs::Reading::delivery_at))]
+fn read_delivery<F: Files>(
+    alloc: Global,
+    files: &mut F,
+    order: &DeliveryOrder,
+) -> Result<Delivery, Stop>
+    ensures files { OnlyRead (F.state files.old) (F.state files.new) }
+    ensures answer { Gives delivery_seen (F.state files.old) (F.state files.new) result
+        (delivery_at (F.state files.old).contents (order_ask order.now)) }
+    ensures names { IfErr result (StopNames (order_paths (order_ask order.now))) }
 {
-    let text = run_text(alloc, &told.events, &told.end)?;
+    match order {
+        DeliveryOrder::InTurn => Ok(Delivery::InTurn),
+        DeliveryOrder::Schedule(path) => {
+            let links = read_schedule_file(alloc, files, path)?;
+            Ok(Delivery::Scheduled(links))
+        }
+        DeliveryOrder::Shuffle(seed) => Ok(Delivery::Shuffled(*seed)),
+    }
+}
+
+// The stop of this line, if it could be made.
+fn refused(line: Result<String, AllocError>) -> Stop
+    ensures refusal { IfOk line (λ text. IsRefusalFor (refused_with (string_bytes text)) result) }
+    ensures memory { IfErr line (λ e. result ≡ Stop.Memory) }
+{
+    match line {
+        Ok(line) => Stop::Refused(Refusal {
+            status: Status::Schedule,
+            line,
+        }),
+        Err(_) => Stop::Memory,
+    }
+}
+
+// The line of an entry whose link has no message.
+fn empty_text(alloc: Global, entry: u64, link: Link, sent: u64) -> Result<String, AllocError>
+    ensures { IfOk result (λ text. string_bytes text ≡ empty_line entry link sent) }
+{
+    format!(in alloc; "error: S2 entry {entry} link {link} sent {sent}\n")
+}
+
+// The line of a miner that is left waiting.
+#[tactic(auto, unfolding(crate::specs::Run::stalled_line))]
+fn stalled_text(alloc: Global, miner: Number, link: Link) -> Result<String, AllocError>
+    ensures { IfOk result (λ text. string_bytes text ≡ stalled_line miner link) }
+{
+    format!(in alloc; "error: S3 miner {miner} link {link}\n")
+}
+
+// Why a schedule is refused by the run.
+fn delivery_stop(alloc: Global, refusal: DeliveryErr) -> Stop
+    ensures { IsStopOf refusal result }
+{
+    match refusal {
+        DeliveryErr::EmptyLink { entry, link, sent } => refused(empty_text(
+            alloc, entry, link, sent,
+        )),
+        DeliveryErr::Stalled { miner, link } => refused(stalled_text(alloc, miner, link)),
+        DeliveryErr::Memory => Stop::Memory,
+    }
+}
+
+// What is to be written and printed of a run: the links that were delivered, where they are asked for, and its text.
+fn ran_plan(
+    alloc: Global,
+    ran: &DeliveredRun,
+    recorded: &Option<String>,
+) -> Result<Plan, AllocError>
+    ensures effect { IfOk result (λ plan. effect_of plan ≡ ran_effect (option_map string_bytes recorded.now) ran.now) }
+    ensures names { IfOk result (PlanNames (path_in (option_map string_bytes recorded.now))) }
+{
+    let text = run_text(alloc, &ran.report.events, &ran.report.end)?;
+    let mut writes = Vec::new(alloc);
+    if let Some(path) = recorded {
+        let path = path.clone()?;
+        let bytes = schedule_file::write(alloc, &ran.delivered)?;
+        writes.push(PlannedWrite { path, bytes })?;
+    }
     Ok(Plan {
-        writes: Vec::new(alloc),
+        writes,
         text,
-        status: status(told.end.how),
+        status: status(ran.report.end.how),
     })
 }
 
-/// Reads and checks the files, runs the three miners, and says what is to be printed: what they opened and published, and how they
-/// ended.
-#[tactic(auto, unfolding(crate::specs::Run::run_of, crate::specs::Run::run_report, crate::specs::Run::run_paths), using(command_frame::proofs::Naming::names_first, command_frame::proofs::Naming::names_later))]
+/// Reads and checks the files, runs the three miners with their messages delivered in the order that is asked for, and says what is to be
+/// written and printed: the links that were delivered, what the miners opened and published, and how they ended.
+#[tactic(auto, unfolding(crate::specs::Run::run_of, crate::specs::Run::run_report, crate::specs::Run::run_paths, crate::specs::Run::ran_paths), using(command_frame::proofs::Naming::names_first, command_frame::proofs::Naming::names_later))]
 pub fn plan_run<F: Files>(alloc: Global, files: &mut F, words: &RunWords) -> Result<Plan, Stop>
     ensures files { OnlyRead (F.state files.old) (F.state files.new) }
     ensures anyhow { IfErr result (StopsReading (F.state files.old) (F.state files.new)) }
@@ -56,11 +134,14 @@ pub fn plan_run<F: Files>(alloc: Global, files: &mut F, words: &RunWords) -> Res
         (run_of found (run_ask words.now) (F.state files.old).contents) }
     ensures found { (F.state files.old).told ≡ true → Tells (F.state files.old) result →
         HasFinding (its_program (run_ask words.now).program) (F.state files.old).contents }
-    ensures names { KeepsTo (run_paths (run_ask words.now)) [] result }
+    ensures names { KeepsTo (run_paths (run_ask words.now)) (ran_paths (run_ask words.now)) result }
 {
     let program = read_typed(alloc, files, &words.program)?;
     let inputs = read_inputs(alloc, files, &words.input)?;
     let tapes = read_tapes(alloc, files, &words.source)?;
-    let told = run_program(alloc, &program, &inputs, &tapes, words.budget)?;
-    Ok(told_plan(alloc, &told)?)
+    let delivery = read_delivery(alloc, files, &words.order)?;
+    match run_delivered(alloc, &program, &inputs, &tapes, words.budget, &delivery) {
+        Ok(ran) => Ok(ran_plan(alloc, &ran, &words.recorded)?),
+        Err(refusal) => Err(delivery_stop(alloc, refusal)),
+    }
 }

@@ -13,11 +13,14 @@ ghost use Rattle.command_words.specs.Views.{ask_of, texts};
 ghost use Rattle.tape_file.specs.Tapes.{FourTapes};
 ghost use Rattle.typed_tree.specs.Programs.{TypedProgramTree};
 ghost use Rattle.value_file.specs.declared.inputs.Entry.{Entry};
-ghost use Rattle.program_run.specs.Miners.{CanBeDealt, RunsOnShares};
+ghost use Rattle.protocol_model.specs.Network.{Accepted, Delivery};
+ghost use Rattle.program_run.specs.Miners.{CanBeDealt};
+ghost use Rattle.miner_runs.specs.Programs.{OwnRunsOnShares};
+ghost use Rattle.delivered_run.specs.Laws.{HaveWords, IsMade};
 ghost use Rattle.run_engine.specs.Eval.{eval_text, need_text};
 ghost use Rattle.run_engine.specs.Obeying.{Acted, Obeyed, Planned};
 ghost use Rattle.run_engine.specs.Promises.{AllSteady, CheckEffect, CompileEffect, DealEffect, EvalEffect, RunEffect, Keeps, is_done};
-ghost use Rattle.run_engine.specs.Runs.{DealRefused, EvalRefused, HoldsRun, ProgramRefused, RunRefused};
+ghost use Rattle.run_engine.specs.Runs.{DealRefused, EvalRefused, HoldsRun, ProgramRefused, RunRefused, net_for};
 ghost use Rattle.run_engine.specs.Words.{read_by, written_by, reach_miners, start_programs, IsAnswer, HasAnswer};
 
 use crate::check::plan_check;
@@ -153,7 +156,8 @@ pub fn secrec<F: Files, O: Sink, E: Sink, L: Links, C: Spawner>(
 
     // What each command keeps. Over steady objects that hold files as they must be its effect is there whole, or memory ran
     // out: `check` prints `ok`, `compile` writes the code of the program, `eval` prints the text of the evaluation in the clear and `need` the words that it used, `run` the text of
-    // the run. Each is refused exactly for the first file that is there and not as it must be.
+    // the evaluation with tapes of these lengths, and writes the links on which messages were delivered. Each is refused exactly for the first
+    // file that is there and not as it must be; `run` also for a schedule with an entry that has no message, or that leaves a miner waiting.
     ensures checks { (ask : CheckAsk) → words_of (texts words.now) ≡ Some (check ask) → (F.state files.old).told ≡ true →
         Keeps (CheckEffect ask (F.state files.old).contents) (ProgramRefused ask.program (F.state files.old).contents) is_end
         (F.state files.old) (F.state files.new) (O.state out.old) (O.state out.new) result }
@@ -173,9 +177,14 @@ pub fn secrec<F: Files, O: Sink, E: Sink, L: Links, C: Spawner>(
     // What `run` prints is what three miners do, each with its shares of the inputs and its own tape alone: under every order of
     // delivery they open and publish what that evaluation does, and end as it does. The inputs and tapes are of words, and the
     // dealer's tape has enough of them.
-    ensures runs_on_shares { (ask : RunAsk) (program : TypedProgramTree) (entries : List Entry) (tapes : FourTapes) →
-        words_of (texts words.now) ≡ Some (run ask) → HoldsRun ask (F.state files.old).contents program entries tapes →
-        CanBeDealt entries tapes → RunsOnShares program entries tapes ask.budget }
+    ensures runs_on_shares { (ask : RunAsk) (program : TypedProgramTree) (entries : List Entry) (tapes : FourTapes) (delivery : Delivery) →
+        words_of (texts words.now) ≡ Some (run ask) → HoldsRun ask (F.state files.old).contents program entries tapes delivery →
+        CanBeDealt entries tapes → OwnRunsOnShares program entries tapes ask.budget }
+
+    // The delivery that takes always the first link, and each that words choose, leaves nothing to come.
+    ensures made_deliveries_are_complete { (ask : RunAsk) (program : TypedProgramTree) (entries : List Entry) (tapes : FourTapes) (delivery : Delivery) →
+        words_of (texts words.now) ≡ Some (run ask) → HoldsRun ask (F.state files.old).contents program entries tapes delivery →
+        HaveWords entries tapes → IsMade delivery → net_for ask program entries tapes delivery ≡ Accepted }
 
     // `deal` writes its six files. A dealer's tape with too few words is a refusal of it.
     ensures deals { (ask : DealAsk) → words_of (texts words.now) ≡ Some (deal ask) → (F.state files.old).told ≡ true →

@@ -1,5 +1,5 @@
 use Rattle.command_frame.proofs.Wholes.{complete, carried_out, end_says_nothing, file_counted, file_missed, file_told, memory_cuts, memory_said, refused_prints_nothing, usage_of_unnamed, usage_said, usage_unnamed, write_counted, write_cuts, write_said}
-use Rattle.run_engine.proofs.Miners.{miners_run}
+use Rattle.run_engine.proofs.Miners.{made_taken, miners_run}
 use Rattle.run_engine.proofs.Promises.{check_keeps, compile_keeps, deal_keeps, eval_keeps, need_keeps, run_keeps}
 use Rattle.run_engine.proofs.Runs.{no_command}
 use Rattle.run_engine.proofs.Tops.{telling}
@@ -95,7 +95,10 @@ returns-clause-runs g c = λ ask asks t.
     (λ answer a steady. returns-clause-complete g c answer a steady t) ask asks
 
 pub returns-clause-runs_on_shares : goal.returns-clause-runs_on_shares
-returns-clause-runs_on_shares g c = λ ask program entries tapes asks held can. miners_run ask _ program entries tapes held can
+returns-clause-runs_on_shares g c = λ ask program entries tapes delivery asks held can. miners_run ask _ program entries tapes delivery held can
+
+pub returns-clause-made_deliveries_are_complete : goal.returns-clause-made_deliveries_are_complete
+returns-clause-made_deliveries_are_complete g c = λ ask program entries tapes delivery asks held have made. made_taken ask _ program entries tapes delivery held have made
 
 pub returns-clause-deals : goal.returns-clause-deals
 returns-clause-deals g c = λ ask asks t.
