@@ -1,6 +1,6 @@
 // The command `run`.
-ghost use Rattle.std.specs.Prelude.{◌≡◌, [], true, option_map, IfOk, IfErr, string_bytes};
-ghost use Rattle.command_frame.specs.Answer.{effect_of};
+ghost use Rattle.std.specs.Prelude.{◌≡◌, ◌++◌, true, option_map, IfOk, IfErr, OnOk, string_bytes};
+ghost use Rattle.command_frame.specs.Answer.{effect_of, writes_of};
 ghost use Rattle.command_frame.specs.Reads.{OnlyRead, Gives, KeepsTo, PlanNames, StopNames, StopsReading};
 ghost use Rattle.command_frame.specs.Stops.{IsRefusalFor};
 ghost use Rattle.command_words.specs.Views.{run_ask, order_ask, source_ask};
@@ -8,19 +8,21 @@ ghost use Rattle.delivered_run.specs.Deliveries.{delivery_seen};
 ghost use Rattle.delivered_run.specs.declared.delivery.DeliveryErr.TheVariants.{Memory as NoMemory};
 ghost use Rattle.run_engine.specs.Judging.{Finding, FoundAt, HasFinding, its_program, Tells};
 ghost use Rattle.run_engine.specs.Reading.{delivery_at, order_paths, tapes_at, source_paths};
-ghost use Rattle.run_engine.specs.Run.{path_in, ran_effect, ran_paths, refused_with, empty_line, stalled_line, run_of, run_paths, IsStopOf};
+ghost use Rattle.run_engine.specs.Run.{ran_effect, ran_paths, recorded_links, refused_with, empty_line, stalled_line, run_of, run_paths, IsStopOf};
 
 use crate::ends::status;
 use crate::programs::read_typed;
 use crate::readers::{read_inputs, read_schedule_file, read_tape_file};
+use crate::views::view_writes;
 use command_frame::{Plan, PlannedWrite, Refusal, Status, Stop};
 use command_words::{DeliveryOrder, RunWords, TapeSource};
-use delivered_run::{DeliveredRun, Delivery, DeliveryErr, run_delivered};
+use delivered_run::{Delivery, DeliveryErr};
 use outside::Files;
 use proto_core::{Link, Number};
 use sc_text::run_text;
 use std::alloc::{AllocError, Global};
 use tape_file::{Tapes, from_seed};
+use viewed_run::{SeenRun, run_seen};
 
 // The tapes of a file, or those that are drawn from a seed.
 #[tactic(auto, unfolding(crate::specs::Reading::tapes_at))]
@@ -100,31 +102,41 @@ fn delivery_stop(alloc: Global, refusal: DeliveryErr) -> Stop
     }
 }
 
-// What is to be written and printed of a run: the links that were delivered, where they are asked for, and its text.
-fn ran_plan(
+// Adds the links that were delivered to what is to be written, where they are asked for.
+fn record_links(
     alloc: Global,
-    ran: &DeliveredRun,
+    writes: &mut Vec<PlannedWrite>,
+    links: &[Link],
     recorded: &Option<String>,
-) -> Result<Plan, AllocError>
-    ensures effect { IfOk result (λ plan. effect_of plan ≡ ran_effect (option_map string_bytes recorded.now) ran.now) }
-    ensures names { IfOk result (PlanNames (path_in (option_map string_bytes recorded.now))) }
+) -> Result<(), AllocError>
+    ensures { OnOk result (writes_of writes.new.items ≡ writes_of writes.old.items ++ recorded_links (option_map string_bytes recorded.now) links.now) }
 {
-    let text = run_text(alloc, &ran.report.events, &ran.report.end)?;
-    let mut writes = Vec::new(alloc);
     if let Some(path) = recorded {
         let path = path.clone()?;
-        let bytes = schedule_file::write(alloc, &ran.delivered)?;
+        let bytes = schedule_file::write(alloc, links)?;
         writes.push(PlannedWrite { path, bytes })?;
     }
+    Ok(())
+}
+
+// What is to be written and printed of a run: the miners' views and the links that were delivered, where they are asked for, and its text.
+fn ran_plan(alloc: Global, seen: &SeenRun, words: &RunWords) -> Result<Plan, AllocError>
+    ensures effect { IfOk result (λ plan. effect_of plan ≡ ran_effect (run_ask words.now) seen.now) }
+    ensures names { IfOk result (PlanNames (ran_paths (run_ask words.now))) }
+{
+    let run = &seen.run;
+    let text = run_text(alloc, &run.report.events, &run.report.end)?;
+    let mut writes = view_writes(alloc, &words.views, &seen.views)?;
+    record_links(alloc, &mut writes, &run.delivered, &words.recorded)?;
     Ok(Plan {
         writes,
         text,
-        status: status(ran.report.end.how),
+        status: status(run.report.end.how),
     })
 }
 
 /// Reads and checks the files, runs the three miners with their messages delivered in the order that is asked for, and says what is to be
-/// written and printed: the links that were delivered, what the miners opened and published, and how they ended.
+/// written and printed: what each miner saw, the links that were delivered, what the miners opened and published, and how they ended.
 #[tactic(auto, unfolding(crate::specs::Run::run_of, crate::specs::Run::run_report, crate::specs::Run::run_paths, crate::specs::Run::ran_paths), using(command_frame::proofs::Naming::names_first, command_frame::proofs::Naming::names_later))]
 pub fn plan_run<F: Files>(alloc: Global, files: &mut F, words: &RunWords) -> Result<Plan, Stop>
     ensures files { OnlyRead (F.state files.old) (F.state files.new) }
@@ -140,8 +152,8 @@ pub fn plan_run<F: Files>(alloc: Global, files: &mut F, words: &RunWords) -> Res
     let inputs = read_inputs(alloc, files, &words.input)?;
     let tapes = read_tapes(alloc, files, &words.source)?;
     let delivery = read_delivery(alloc, files, &words.order)?;
-    match run_delivered(alloc, &program, &inputs, &tapes, words.budget, &delivery) {
-        Ok(ran) => Ok(ran_plan(alloc, &ran, &words.recorded)?),
+    match run_seen(alloc, &program, &inputs, &tapes, words.budget, &delivery) {
+        Ok(seen) => Ok(ran_plan(alloc, &seen, words)?),
         Err(refusal) => Err(delivery_stop(alloc, refusal)),
     }
 }
