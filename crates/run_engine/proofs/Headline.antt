@@ -38,10 +38,10 @@ module _ (words : List (List ℕ)) (f f' : FilesState) (o o' : SinkState) (s : S
       (g.program, g.entries, g.tapes, g.delivery, given.held, taken, refl) steady
 
   pub prints : PrintsEvaluation g o o' s
-  prints = elim done [ | inl whole ↦ inl (whole.status, whole.text) | inr memory ↦ inr memory ]
+  prints = elim done [ inl whole ↦ inl (whole.status, whole.text) | inr memory ↦ inr memory ]
 
   pub writes : WritesViewsAndLinks g f.contents f'.contents s
-  writes = elim done [ | inl whole ↦ inl whole.files | inr memory ↦ inr memory ]
+  writes = elim done [ inl whole ↦ inl whole.files | inr memory ↦ inr memory ]
 
 -- ---- one that is refused
 

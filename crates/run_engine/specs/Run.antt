@@ -4,7 +4,7 @@ use Rattle.std.specs.Prelude.{◌≡◌, ℕ, List, [], ◌∷◌, ◌++◌, cod
 use Rattle.std.specs.Fmt.{decimal}
 use Rattle.outside.specs.Files.{Contents}
 use Rattle.command_frame.specs.declared.status.Status.TheVariants.{Schedule}
-use Rattle.command_frame.specs.Answer.{Answer, Cause, Effect, Written, ◌>>=◌}
+use Rattle.command_frame.specs.Answer.{Answer, Cause, Effect, Written, writes_of, ◌>>=◌}
 use Rattle.command_frame.specs.Stops.{IsRefusalFor}
 use Rattle.command_frame.specs.declared.stop.Stop.{Stop}
 use Rattle.command_frame.specs.declared.stop.Stop.TheVariants as stops
@@ -21,13 +21,12 @@ use Rattle.value_file.specs.declared.inputs.Entry.{Entry}
 use Rattle.typed_tree.specs.Programs.{TypedProgramTree}
 use Rattle.language_model.specs.Reports.{Report}
 use Rattle.program_run.specs.Reports.{eval_with}
-use Rattle.delivered_run.specs.Deliveries.{delivered_of, net_of}
+use Rattle.delivered_run.specs.Deliveries.{delivered_of, net_of, HasRunOf, IsRefusedOf}
 use Rattle.delivered_run.specs.declared.delivery.DeliveryErr.{DeliveryErr}
 use Rattle.delivered_run.specs.declared.delivery.DeliveryErr.TheVariants as refusal
 use Rattle.program_views.specs.Views.{view_of}
 use Rattle.view_text.specs.View.{View}
-use Rattle.viewed_run.specs.Seen.{view_in}
-use Rattle.viewed_run.specs.declared.seen.SeenRun.{SeenRun}
+use Rattle.run_engine.specs.declared.run.Ran.{Ran}
 use Rattle.run_engine.specs.Ends.{status_of}
 use Rattle.run_engine.specs.Eval.{end_status, eval_text}
 use Rattle.run_engine.specs.Judging.{Finding}
@@ -71,13 +70,24 @@ run_effect ask views report links =
     record { writes = view_files ask.views views ++ recorded_links ask.recorded links; text = eval_text report; status = end_status report }
 
 -- the same of a run in memory
-abbrev pub ran_effect : RunAsk → SeenRun → Effect
-ran_effect ask seen =
+abbrev pub ran_effect : RunAsk → Ran → Effect
+ran_effect ask ran =
     record {
-      writes = view_files ask.views (λ i. Some (view_in seen.views i)) ++ recorded_links ask.recorded seen.run.delivered.items;
-      text = run_text seen.run.report.events.items seen.run.report.end;
-      status = status_of seen.run.report.end.how;
+      writes = writes_of ran.files.items ++ recorded_links ask.recorded ran.run.delivered.items;
+      text = run_text ran.run.report.events.items ran.run.report.end;
+      status = status_of ran.run.report.end.how;
     }
+
+module _ (ask : RunAsk) (p : TypedProgramTree) (entries : List Entry) (tapes : FourTapes) (delivery : Delivery) where
+  -- it has run as its evaluation in the clear reports, and the files are those of the miners' views
+  pub record HasRan (ran : Ran) : Type 0 where
+    pub run : HasRunOf p entries tapes ask.budget delivery ran.run
+    pub files : writes_of ran.files.items ≡ view_files ask.views (λ i. view_of i p entries tapes ask.budget delivery)
+
+  -- so it is, or the schedule is refused
+  abbrev pub IsRan : Result Ran DeliveryErr → Type 0
+  IsRan (Ok ran) = HasRan ran
+  IsRan (Err e) = IsRefusedOf p entries tapes ask.budget delivery e
 
 -- the stop of a run whose schedule is refused
 abbrev pub IsStopOf : DeliveryErr → Stop → Type 0

@@ -1,5 +1,5 @@
 // The files of the miners' views.
-ghost use Rattle.std.specs.Prelude.{◌≡◌, Some, IfOk, option_map, string_bytes};
+ghost use Rattle.std.specs.Prelude.{◌≡◌, Some, IfOk, string_bytes};
 ghost use Rattle.command_frame.specs.Answer.{writes_of};
 ghost use Rattle.view_text.specs.Text.{view_bytes};
 ghost use Rattle.run_engine.specs.Paths.{path_to};
@@ -28,19 +28,17 @@ fn view_write(
     })
 }
 
-/// The files of the views of miners 1, 2 and 3, where they are asked for.
+/// The files of the views of miners 1, 2 and 3.
 pub fn view_writes(
     alloc: Global,
-    prefix: &Option<String>,
+    prefix: &str,
     views: &Views,
 ) -> Result<Vec<PlannedWrite>, AllocError>
-    ensures { IfOk result (λ writes. writes_of writes.items ≡ view_files (option_map string_bytes prefix.now) (λ i. Some (view_in views.now i))) }
+    ensures { IfOk result (λ writes. writes_of writes.items ≡ view_files (Some prefix.now) (λ i. Some (view_in views.now i))) }
 {
     let mut writes = Vec::new(alloc);
-    if let Some(prefix) = prefix {
-        writes.push(view_write(alloc, prefix, ".1", &views.one)?)?;
-        writes.push(view_write(alloc, prefix, ".2", &views.two)?)?;
-        writes.push(view_write(alloc, prefix, ".3", &views.three)?)?;
-    }
+    writes.push(view_write(alloc, prefix, ".1", &views.one)?)?;
+    writes.push(view_write(alloc, prefix, ".2", &views.two)?)?;
+    writes.push(view_write(alloc, prefix, ".3", &views.three)?)?;
     Ok(writes)
 }
