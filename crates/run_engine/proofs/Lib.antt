@@ -3,6 +3,7 @@ mod Deals
 pub mod Accepting
 pub mod EvalRefusals
 pub mod Evals
+pub mod Headline
 pub mod Held
 pub mod Judged
 pub mod Miners
@@ -15,3 +16,4 @@ pub mod Runs
 pub mod Sizes
 pub mod Texts
 pub mod Tops
+pub mod Written

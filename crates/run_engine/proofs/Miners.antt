@@ -14,6 +14,13 @@ use Rattle.miner_runs.specs.Programs.{OwnRunsOnShares}
 use Rattle.miner_runs.proofs.Programs.{own_runs_where_accepted}
 use Rattle.delivered_run.specs.Laws.{HaveWords, IsMade}
 use Rattle.delivered_run.proofs.Taken.{made_deliveries_are_taken}
+use Rattle.code_inputs.specs.Inputs.{AreSound}
+use Rattle.program_views.specs.Laws.{IsGivenTo, ViewIsSimulated}
+use Rattle.program_views.specs.TapeMaps.{MapsCorrespond}
+use Rattle.program_views.proofs.Corresponding.{tapes_corresponding}
+use Rattle.program_views.proofs.Simulated.{views_simulated}
+use Rattle.proto_core.specs.declared.party.Number.{Number}
+use Rattle.view_model.specs.TapeMaps.{AreTapes}
 use Rattle.run_engine.specs.Runs.{HoldsRun, HoldsTyped, net_for}
 
 accepted_so : (path : List ℕ) (files : Contents) (p : TypedProgramTree) → HoldsTyped path files p → IsAccepted p
@@ -37,3 +44,29 @@ pub made_taken : (ask : RunAsk) (files : Contents) (p : TypedProgramTree) (entri
     → HoldsRun ask files p entries tapes delivery → HaveWords entries tapes → IsMade delivery → net_for ask p entries tapes delivery ≡ Accepted
 made_taken ask files p entries tapes delivery h have made =
     made_deliveries_are_taken p entries tapes ask.budget delivery (accepted_so ask.program files p h.program) have made
+
+-- ---- views
+
+given_to : (path : List ℕ) (files : Contents) (p : TypedProgramTree) (entries : List Entry) (h : HoldsTyped path files p) → AreSound entries
+    → IsGivenTo h.tree p h.within.list entries
+given_to path files p entries h sound =
+    let a = accepted_so path files p h in
+    record {
+      program = record { typed = a.typed; written = a.written; resolved = h.typed; reached = h.within.reached; within = h.within };
+      inputs = sound;
+    }
+
+of_words : (entries : List Entry) (tapes : FourTapes) → HaveWords entries tapes → AreTapes tapes
+of_words entries tapes have = record { dealer = have.dealer; miners = have.words }
+
+pub views_made : (i : Number) (ask : RunAsk) (files : Contents) (p : TypedProgramTree) (entries : List Entry) (tapes : FourTapes) (delivery : Delivery)
+    → HoldsRun ask files p entries tapes delivery → HaveWords entries tapes → ViewIsSimulated i p entries tapes ask.budget delivery
+views_made i ask files p entries tapes delivery h have =
+    views_simulated i h.program.tree p entries tapes ask.budget delivery h.program.within.list
+    (given_to ask.program files p entries h.program have.sound) (of_words entries tapes have)
+
+pub maps_made : (i : Number) (ask : RunAsk) (files : Contents) (p : TypedProgramTree) (entries : List Entry) (tapes : FourTapes) (delivery : Delivery)
+    → HoldsRun ask files p entries tapes delivery → HaveWords entries tapes → MapsCorrespond i p entries tapes ask.budget
+maps_made i ask files p entries tapes delivery h have =
+    tapes_corresponding i h.program.tree p entries tapes ask.budget h.program.within.list
+    (given_to ask.program files p entries h.program have.sound) (of_words entries tapes have)

@@ -1,8 +1,8 @@
 -- What `compile` and `run` plan is what is decided of the files.
-use Rattle.std.proofs.Common.{◌≡◌, ℕ, List, [], ◌∷◌, length, true, Option, Ok, Err, Result, refl, sym, ◌∙◌, ap, subst, inl, inr}
+use Rattle.std.proofs.Common.{◌≡◌, ℕ, List, [], ◌∷◌, ◌++◌, length, true, Option, Ok, Err, Result, refl, sym, ◌∙◌, ap, subst, inl, inr}
 use Rattle.std.proofs.lemmas.List.{length-map}
 use Rattle.outside.specs.Files.{Contents, FilesState}
-use Rattle.command_frame.specs.Answer.{Answer, Cause, Effect, ◌>>=◌}
+use Rattle.command_frame.specs.Answer.{Answer, Cause, Effect, Written, writes_of, ◌>>=◌}
 use Rattle.command_frame.specs.declared.stop.Stop.{Stop}
 use Rattle.command_frame.specs.Reads.{OnlyRead, Stops}
 use Rattle.command_words.specs.Ask.{CompileAsk, RunAsk}
@@ -22,20 +22,23 @@ use Rattle.language_model.specs.Reports.{Report}
 use Rattle.program_run.specs.Codes.{IsCodeOf}
 use Rattle.program_run.specs.Reports.{TellsAs, eval_with}
 use Rattle.program_run.specs.declared.running.RunReport.{RunReport}
-use Rattle.delivered_run.specs.Deliveries.{HasRunOf, IsRunOf, delivered_of, net_of}
+use Rattle.delivered_run.specs.Deliveries.{delivered_of, net_of}
 use Rattle.delivered_run.specs.declared.delivery.DeliveryErr.{DeliveryErr}
 use Rattle.delivered_run.specs.declared.delivery.DeliveryErr.TheVariants as refusal
-use Rattle.delivered_run.specs.declared.running.DeliveredRun.{DeliveredRun}
+use Rattle.program_views.specs.Views.{view_of}
+use Rattle.view_text.specs.View.{View}
 use Rattle.proto_core.specs.declared.link.Link.{Link}
 use Rattle.proto_core.specs.declared.party.Number.{Number}
 use Rattle.protocol_model.specs.Network.{Delivery, EmptyLink, Stalled}
+use Rattle.run_engine.specs.declared.run.Ran.{Ran}
 use Rattle.run_engine.specs.Compile.{code_bytes, compile_of, written_effect}
 use Rattle.run_engine.specs.Ends.{status_of}
 use Rattle.run_engine.specs.Eval.{end_of, ending_of}
 use Rattle.run_engine.specs.Judging.{Finding, FoundAt, IsReachedAs, IsReachedBy, Sized, its_program}
 use Rattle.run_engine.specs.Programs.{program_at, small_enough, tree_at}
 use Rattle.run_engine.specs.Reading.{delivery_at, inputs_at, tapes_at}
-use Rattle.run_engine.specs.Run.{IsStopOf, by_net, empty_line, ran_effect, recorded_links, refused_with, run_effect, run_of, run_report, stalled_line}
+use Rattle.run_engine.specs.Run.{HasRan, IsRan, IsStopOf, by_net, empty_line, ran_effect, recorded_links, refused_with, run_effect, run_of, run_report, stalled_line}
+use Rattle.run_engine.specs.Views.{view_files}
 use Rattle.run_engine.proofs.Judged.{refused_so}
 use Rattle.run_engine.proofs.Refusals.{steps}
 use Rattle.run_engine.proofs.Sizes.{tree_judged}
@@ -92,16 +95,20 @@ compiled found ask files p raw h is of =
 told_end : (r : Report) (told : RunReport) → TellsAs r told → end_of r ≡ told.end
 told_end r told h = rw (ap ending_of h.stop, sym h.cost) refl
 
-abbrev effect_with : Option (List ℕ) → List Event → End → List Link → Effect
-effect_with recorded events end links =
-    record { writes = recorded_links recorded links; text = run_text events end; status = status_of end.how }
+abbrev effect_with : RunAsk → List Written → List Event → End → List Link → Effect
+effect_with ask files events end links =
+    record { writes = files ++ recorded_links ask.recorded links; text = run_text events end; status = status_of end.how }
 
-told_so : (recorded : Option (List ℕ)) (r : Report) (links : List Link) (ran : DeliveredRun) → TellsAs r ran.report → ran.delivered.items ≡ links
-    → run_effect recorded r links ≡ ran_effect recorded ran
-told_so recorded r links ran h delivered =
-    ap (λ events. effect_with recorded events (end_of r) links) (sym h.events)
-    ∙ ap (λ end. effect_with recorded ran.report.events.items end links) (told_end r ran.report h)
-    ∙ ap (effect_with recorded ran.report.events.items ran.report.end) (sym delivered)
+told_so : (ask : RunAsk) (views : Number → Option View) (r : Report) (links : List Link) (ran : Ran)
+    → writes_of ran.files.items ≡ view_files ask.views views → TellsAs r ran.run.report → ran.run.delivered.items ≡ links
+    → run_effect ask views r links ≡ ran_effect ask ran
+told_so ask views r links ran files h delivered =
+    let written = writes_of ran.files.items in
+    let told = ran.run.report in
+    ap (λ files. effect_with ask files r.events (end_of r) links) (sym files)
+    ∙ ap (λ events. effect_with ask written events (end_of r) links) (sym h.events)
+    ∙ ap (λ end. effect_with ask written told.events.items end links) (told_end r told h)
+    ∙ ap (effect_with ask written told.events.items told.end) (sym delivered)
 
 -- files that were read one after another are those of the beginning
 module _ (f f1 f2 f3 : FilesState) (first : OnlyRead f f1) (second : OnlyRead f1 f2) (third : OnlyRead f2 f3)
@@ -130,12 +137,12 @@ module _ (f f1 f2 f3 : FilesState) (first : OnlyRead f f1) (second : OnlyRead f1
       ap (λ c. delivery_at c ask.order) (sym (third.same.contents ∙ second_contents)) ∙ order (third.same.told ∙ second_told t)
 
   pub ran :
-      (run : DeliveredRun) → HasRunOf p entries tapes ask.budget delivery run → f.told ≡ true
-      → run_of found ask f.contents ≡ Ok (ran_effect ask.recorded run)
+      (run : Ran) → HasRan ask p entries tapes delivery run → f.told ≡ true → run_of found ask f.contents ≡ Ok (ran_effect ask run)
   unfolding run_of run_report by_net
   ran run h t =
-      rw (program t, there t, given t, ordered t, h.accepted)
-      (ap Ok (told_so ask.recorded (eval_with p entries tapes ask.budget) (delivered_of p entries tapes ask.budget delivery) run h.told h.delivered))
+      rw (program t, there t, given t, ordered t, h.run.accepted)
+      (ap Ok (told_so ask (λ i. view_of i p entries tapes ask.budget delivery) (eval_with p entries tapes ask.budget)
+      (delivered_of p entries tapes ask.budget delivery) run h.files h.run.told h.run.delivered))
 
   emptied : (entry : ℕ) (link : Link) (sent : ℕ) → net_of p entries tapes ask.budget delivery ≡ EmptyLink entry link sent → f.told ≡ true
       → run_of found ask f.contents ≡ Err (refused_with (empty_line entry link sent))
@@ -148,7 +155,7 @@ module _ (f f1 f2 f3 : FilesState) (first : OnlyRead f f1) (second : OnlyRead f1
   stalled miner link is t = rw (program t, there t, given t, ordered t, is) refl
 
   -- a schedule that is refused stops the command
-  pub stops : (f4 : FilesState) (e : DeliveryErr) (stop : Stop) → IsRunOf p entries tapes ask.budget delivery (Err e) → IsStopOf e stop
+  pub stops : (f4 : FilesState) (e : DeliveryErr) (stop : Stop) → IsRan ask p entries tapes delivery (Err e) → IsStopOf e stop
       → Stops f f4 stop (run_of found ask f.contents)
   stops f4 (refusal.EmptyLink entry link sent) stop is of =
       refused_so f f4 stop (run_of found ask f.contents) of (emptied entry link sent is)

@@ -5,7 +5,6 @@ use Rattle.command_frame.specs.declared.status.Status.{Status}
 use Rattle.command_frame.specs.declared.status.Status.TheVariants as statuses
 use Rattle.command_frame.specs.Answer.{Answer, Cause, ◌>>=◌}
 use Rattle.command_words.specs.Ask.{RunAsk, file, run, scheduled, words_of}
-use Rattle.delivered_run.specs.Deliveries.{delivered_of}
 use Rattle.protocol_model.specs.Network.{Accepted, Answer as NetAnswer, Delivery, EmptyLink, Stalled}
 use Rattle.schedule_file.specs.Reading.{links_of}
 use Rattle.tape_file.specs.Format.{read_of as tapes_read_of}
@@ -17,7 +16,8 @@ use Rattle.run_engine.specs.Eval.{end_of}
 use Rattle.run_engine.specs.Judging.{Finding, FoundAt, its_program}
 use Rattle.run_engine.specs.Programs.{program_at}
 use Rattle.run_engine.specs.Reading.{bad_input, bad_schedule, bad_tape, delivery_at, inputs_at, schedule_file_at, tape_file_at, tapes_at}
-use Rattle.run_engine.specs.Run.{by_net, run_effect, run_of, run_report}
+use Rattle.run_engine.specs.Headline.{refused_line}
+use Rattle.run_engine.specs.Run.{by_net, refused_with, run_of, run_report, run_told}
 use Rattle.run_engine.specs.Runs.{HoldsRun, HoldsTyped, IsNotTaken, RunRefused, net_for, not_taken}
 use Rattle.run_engine.specs.Runs.{bad_program, bad_input as input_refused, bad_schedule as schedule_refused, bad_tape as tape_refused}
 use Rattle.run_engine.specs.Words.{answer_to, question_of, IsAnswer}
@@ -29,8 +29,7 @@ use Rattle.run_engine.proofs.Runs.{HasAnswerOf, command_answers, is_answer, read
 -- ---- files that are as they must be
 
 abbrev pub ran : RunAsk → TypedProgramTree → List Entry → FourTapes → Delivery → Answer
-ran ask p entries tapes delivery =
-    Ok (run_effect ask.recorded (run_report p entries tapes ask.budget) (delivered_of p entries tapes ask.budget delivery))
+ran ask p entries tapes delivery = Ok (run_told ask p entries tapes delivery)
 
 -- where the net takes the delivery
 abbrev run_under : RunAsk → TypedProgramTree → List Entry → FourTapes → Delivery → Answer
@@ -66,6 +65,22 @@ unfolding by_net
 refused_by_net Accepted more refused = absurd refused
 refused_by_net (EmptyLink entry link sent) more refused = refl
 refused_by_net (Stalled miner link) more refused = refl
+
+refused_so : (answer : NetAnswer) (more : NetAnswer → Answer) → IsNotTaken answer → by_net answer >>= more ≡ Err (refused_with (refused_line answer))
+unfolding by_net
+refused_so Accepted more refused = absurd refused
+refused_so (EmptyLink entry link sent) more refused = refl
+refused_so (Stalled miner link) more refused = refl
+
+pub run_refused_by_net : (words : List (List ℕ)) (ask : RunAsk) (files : Contents) (p : TypedProgramTree) (entries : List Entry) (tapes : FourTapes)
+    (delivery : Delivery) → words_of words ≡ Some (run ask) → HoldsRun ask files p entries tapes delivery
+    → IsNotTaken (net_for ask p entries tapes delivery) → IsAnswer words files (Err (refused_with (refused_line (net_for ask p entries tapes delivery))))
+unfolding answer_to question_of
+run_refused_by_net words ask files p entries tapes delivery asks h refused =
+    subst (IsAnswer words files)
+    (run_there ask files p entries tapes delivery h
+    ∙ refused_so (net_for ask p entries tapes delivery) (λ taken. ran ask p entries tapes delivery) refused)
+    (is_answer words (run ask) files (found_of ask.program files p h.program) asks (found_there ask.program files p h.program))
 
 run_refused : (ask : RunAsk) (files : Contents) (s : Status) → RunRefused ask files s → IsRefusedAs ask files s
 unfolding run_of inputs_at tapes_at tape_file_at delivery_at schedule_file_at bad_input bad_tape bad_schedule

@@ -1,5 +1,5 @@
 -- The command `deal`: it splits the inputs into three share files, and a tape file into the miners' own.
-use Rattle.std.specs.Prelude.{ℕ, List, [], ◌∷◌, ◌++◌, length, nat_lt, if◌then◌else◌, Ok, Err, codes}
+use Rattle.std.specs.Prelude.{ℕ, List, [], ◌∷◌, length, nat_lt, if◌then◌else◌, Ok, Err, codes}
 use Rattle.outside.specs.Files.{Contents}
 use Rattle.command_frame.specs.declared.status.Status.TheVariants.{Done, Tape}
 use Rattle.command_frame.specs.Answer.{Answer, Cause, Effect, Written, ◌>>=◌}
@@ -14,22 +14,16 @@ use Rattle.tape_file.specs.Format.{own_bytes}
 use Rattle.tape_file.specs.Tapes.{FourTapes}
 use Rattle.value_file.specs.declared.inputs.Entry.{Entry}
 use Rattle.program_run.specs.Reports.{lengths_of}
+use Rattle.run_engine.specs.Paths.{file_of, path_to}
 use Rattle.run_engine.specs.Reading.{inputs_at, tape_file_at}
 
 -- the refusal of a dealer's tape that is too short
 unfoldable pub short_tape : ℕ → ℕ → Cause
 short_tape need have = record { status = Tape; line = fault_line (ShortTape need have) }
 
--- a path behind the prefix
-unfoldable pub path_to : List ℕ → List ℕ → List ℕ
-path_to prefix suffix = prefix ++ suffix
-
 -- a miner's share file
 abbrev pub share_of : Number → List Entry → FourTapes → List ℕ
 share_of miner entries tapes = file_bytes (dealt miner entries tapes.dealer (lengths_of tapes))
-
-abbrev pub file_of : List ℕ → List ℕ → List ℕ → Written
-file_of prefix suffix bytes = record { path = path_to prefix suffix; bytes = bytes }
 
 -- the share files of miners 1, 2 and 3, then their tape files
 abbrev pub deal_writes : List ℕ → List Entry → FourTapes → List Written

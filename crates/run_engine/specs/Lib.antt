@@ -3,12 +3,15 @@ pub mod Compile
 pub mod Deal
 pub mod Ends
 pub mod Eval
+pub mod Headline
 pub mod Judging
 pub mod Obeying
+pub mod Paths
 pub mod Programs
 pub mod Promises
 pub mod Reading
 pub mod Run
 pub mod Runs
 pub mod Vectors
+pub mod Views
 pub mod Words

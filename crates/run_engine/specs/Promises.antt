@@ -10,7 +10,6 @@ use Rattle.command_frame.specs.Answer.{Effect}
 use Rattle.command_frame.specs.Status.{is_fault, is_refusal}
 use Rattle.command_frame.specs.Whole.{IsDone}
 use Rattle.command_words.specs.Ask.{CheckAsk, CompileAsk, DealAsk, EvalAsk, RunAsk}
-use Rattle.delivered_run.specs.Deliveries.{delivered_of}
 use Rattle.protocol_model.specs.Network.{Accepted, Delivery}
 use Rattle.input_share.specs.Dealing.{need_of}
 use Rattle.language_model.specs.Reports.{Report}
@@ -21,7 +20,7 @@ use Rattle.run_engine.specs.Check.{check_effect}
 use Rattle.run_engine.specs.Compile.{compile_effect}
 use Rattle.run_engine.specs.Deal.{deal_effect}
 use Rattle.run_engine.specs.Eval.{report_effect, report_for}
-use Rattle.run_engine.specs.Run.{run_effect, run_report}
+use Rattle.run_engine.specs.Run.{run_told}
 use Rattle.run_engine.specs.Runs.{HoldsTyped, HoldsEvaluation, HoldsRun, HoldsDeal, net_for}
 
 -- files and output are steady
@@ -62,11 +61,11 @@ EvalEffect text ask files effect = (program : TypedProgramTree) × (entries : Li
     × (effect ≡ report_effect text (report_for program entries ask.budget))
 
 -- of `run`, over files that are all as they must be, and a delivery that leaves nothing to come: the text of the evaluation with tapes of
--- these lengths, its end, and the links that were delivered, where they are asked for
+-- these lengths, its end, and, where they are asked for, the miners' views and the links that were delivered
 abbrev pub RunEffect : RunAsk → Contents → Effect → Type 0
 RunEffect ask files effect = (program : TypedProgramTree) × (entries : List Entry) × (tapes : FourTapes) × (delivery : Delivery)
     × HoldsRun ask files program entries tapes delivery × (net_for ask program entries tapes delivery ≡ Accepted)
-    × (effect ≡ run_effect ask.recorded (run_report program entries tapes ask.budget) (delivered_of program entries tapes ask.budget delivery))
+    × (effect ≡ run_told ask program entries tapes delivery)
 
 -- of `deal`, over files that are as they must be and a dealer's tape that has words enough: its six files
 abbrev pub DealEffect : DealAsk → Contents → Effect → Type 0

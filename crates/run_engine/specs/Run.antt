@@ -4,7 +4,7 @@ use Rattle.std.specs.Prelude.{◌≡◌, ℕ, List, [], ◌∷◌, ◌++◌, cod
 use Rattle.std.specs.Fmt.{decimal}
 use Rattle.outside.specs.Files.{Contents}
 use Rattle.command_frame.specs.declared.status.Status.TheVariants.{Schedule}
-use Rattle.command_frame.specs.Answer.{Answer, Cause, Effect, Written, ◌>>=◌}
+use Rattle.command_frame.specs.Answer.{Answer, Cause, Effect, Written, writes_of, ◌>>=◌}
 use Rattle.command_frame.specs.Stops.{IsRefusalFor}
 use Rattle.command_frame.specs.declared.stop.Stop.{Stop}
 use Rattle.command_frame.specs.declared.stop.Stop.TheVariants as stops
@@ -21,15 +21,18 @@ use Rattle.value_file.specs.declared.inputs.Entry.{Entry}
 use Rattle.typed_tree.specs.Programs.{TypedProgramTree}
 use Rattle.language_model.specs.Reports.{Report}
 use Rattle.program_run.specs.Reports.{eval_with}
-use Rattle.delivered_run.specs.Deliveries.{delivered_of, net_of}
+use Rattle.delivered_run.specs.Deliveries.{delivered_of, net_of, HasRunOf, IsRefusedOf}
 use Rattle.delivered_run.specs.declared.delivery.DeliveryErr.{DeliveryErr}
 use Rattle.delivered_run.specs.declared.delivery.DeliveryErr.TheVariants as refusal
-use Rattle.delivered_run.specs.declared.running.DeliveredRun.{DeliveredRun}
+use Rattle.program_views.specs.Views.{view_of}
+use Rattle.view_text.specs.View.{View}
+use Rattle.run_engine.specs.declared.run.Ran.{Ran}
 use Rattle.run_engine.specs.Ends.{status_of}
 use Rattle.run_engine.specs.Eval.{end_status, eval_text}
 use Rattle.run_engine.specs.Judging.{Finding}
 use Rattle.run_engine.specs.Programs.{program_at}
 use Rattle.run_engine.specs.Reading.{delivery_at, inputs_at, order_paths, source_paths, tapes_at}
+use Rattle.run_engine.specs.Views.{view_files, view_paths}
 
 unfoldable pub run_report : TypedProgramTree → List Entry → FourTapes → (budget : ℕ) → Report
 run_report program entries tapes budget = eval_with program entries tapes budget
@@ -61,23 +64,42 @@ abbrev pub recorded_links : Option (List ℕ) → List Link → List Written
 recorded_links None links = []
 recorded_links (Some path) links = record { path = path; bytes = schedule_bytes links } ∷ []
 
-abbrev pub run_effect : Option (List ℕ) → Report → List Link → Effect
-run_effect recorded report links = record { writes = recorded_links recorded links; text = eval_text report; status = end_status report }
+-- the views come before the links
+abbrev pub run_effect : RunAsk → (Number → Option View) → Report → List Link → Effect
+run_effect ask views report links =
+    record { writes = view_files ask.views views ++ recorded_links ask.recorded links; text = eval_text report; status = end_status report }
 
 -- the same of a run in memory
-abbrev pub ran_effect : Option (List ℕ) → DeliveredRun → Effect
-ran_effect recorded ran =
+abbrev pub ran_effect : RunAsk → Ran → Effect
+ran_effect ask ran =
     record {
-      writes = recorded_links recorded ran.delivered.items;
-      text = run_text ran.report.events.items ran.report.end;
-      status = status_of ran.report.end.how;
+      writes = writes_of ran.files.items ++ recorded_links ask.recorded ran.run.delivered.items;
+      text = run_text ran.run.report.events.items ran.run.report.end;
+      status = status_of ran.run.report.end.how;
     }
+
+module _ (ask : RunAsk) (p : TypedProgramTree) (entries : List Entry) (tapes : FourTapes) (delivery : Delivery) where
+  -- it has run as its evaluation in the clear reports, and the files are those of the miners' views
+  pub record HasRan (ran : Ran) : Type 0 where
+    pub run : HasRunOf p entries tapes ask.budget delivery ran.run
+    pub files : writes_of ran.files.items ≡ view_files ask.views (λ i. view_of i p entries tapes ask.budget delivery)
+
+  -- so it is, or the schedule is refused
+  abbrev pub IsRan : Result Ran DeliveryErr → Type 0
+  IsRan (Ok ran) = HasRan ran
+  IsRan (Err e) = IsRefusedOf p entries tapes ask.budget delivery e
 
 -- the stop of a run whose schedule is refused
 abbrev pub IsStopOf : DeliveryErr → Stop → Type 0
 IsStopOf (refusal.EmptyLink entry link sent) stop = IsRefusalFor (refused_with (empty_line entry link sent)) stop
 IsStopOf (refusal.Stalled miner link) stop = IsRefusalFor (refused_with (stalled_line miner link)) stop
 IsStopOf refusal.Memory stop = stop ≡ stops.Memory
+
+-- what is written and printed of a run, whose views, text and links are those that the definitions say
+abbrev pub run_told : RunAsk → TypedProgramTree → List Entry → FourTapes → Delivery → Effect
+run_told ask program entries tapes delivery =
+    run_effect ask (λ i. view_of i program entries tapes ask.budget delivery) (run_report program entries tapes ask.budget)
+    (delivered_of program entries tapes ask.budget delivery)
 
 -- Each file is read and then checked: the program and its size, the input, the tapes, the schedule; then the program is run.
 unfoldable pub run_of : Finding → RunAsk → Contents → Answer
@@ -87,7 +109,7 @@ run_of found ask files = do
   tapes ← tapes_at files ask.source
   delivery ← delivery_at files ask.order
   _ ← by_net (net_of program entries tapes ask.budget delivery)
-  Ok (run_effect ask.recorded (run_report program entries tapes ask.budget) (delivered_of program entries tapes ask.budget delivery))
+  Ok (run_told ask program entries tapes delivery)
 
 -- the paths that `run` reads, and that it writes
 unfoldable pub run_paths : RunAsk → List (List ℕ)
@@ -98,4 +120,4 @@ path_in None = []
 path_in (Some path) = path ∷ []
 
 unfoldable pub ran_paths : RunAsk → List (List ℕ)
-ran_paths ask = path_in ask.recorded
+ran_paths ask = view_paths ask.views ++ path_in ask.recorded

@@ -7,8 +7,10 @@ ghost use Rattle.command_words.specs.Views.{deal_ask};
 ghost use Rattle.input_share.specs.Written.{file_bytes};
 ghost use Rattle.tape_file.specs.Format.{own_bytes};
 ghost use Rattle.program_run.specs.Reports.{lengths_of};
-ghost use Rattle.run_engine.specs.Deal.{short_tape, path_to, file_of, deal_of, deal_paths, written_paths};
+ghost use Rattle.run_engine.specs.Deal.{short_tape, deal_of, deal_paths, written_paths};
+ghost use Rattle.run_engine.specs.Paths.{file_of, path_to};
 
+use crate::paths::path_behind;
 use crate::readers::{read_inputs, read_tape_file, refusal_of};
 use command_frame::{Plan, PlannedWrite, Status, Stop};
 use command_words::DealWords;
@@ -26,13 +28,6 @@ fn short_stop(alloc: Global, need: u128, have: u64) -> Stop
     refusal_of(alloc, Status::Tape, &Fault::ShortTape { need, have })
 }
 
-#[tactic(auto, unfolding(crate::specs::Deal::path_to))]
-fn path(alloc: Global, prefix: &str, suffix: &str) -> Result<String, AllocError>
-    ensures { IfOk result (λ path. string_bytes path ≡ path_to prefix.now suffix.now) }
-{
-    format!(in alloc; "{prefix}{suffix}")
-}
-
 // A share file that is to be written.
 fn share_write(
     alloc: Global,
@@ -44,7 +39,7 @@ fn share_write(
     ensures bytes { IfOk result (λ write. write.bytes.items ≡ file_bytes file.now) }
 {
     Ok(PlannedWrite {
-        path: path(alloc, prefix, suffix)?,
+        path: path_behind(alloc, prefix, suffix)?,
         bytes: write_share(alloc, file)?,
     })
 }
@@ -60,7 +55,7 @@ fn tape_write(
     ensures bytes { IfOk result (λ write. write.bytes.items ≡ own_bytes words.now) }
 {
     Ok(PlannedWrite {
-        path: path(alloc, prefix, suffix)?,
+        path: path_behind(alloc, prefix, suffix)?,
         bytes: write_own(alloc, words)?,
     })
 }

@@ -6,9 +6,11 @@ mod compile;
 mod deal;
 mod ends;
 mod eval;
+mod paths;
 mod programs;
 mod readers;
 mod run;
 mod top;
+mod views;
 
 pub use top::secrec;

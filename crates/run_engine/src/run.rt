@@ -1,18 +1,23 @@
 // The command `run`.
-ghost use Rattle.std.specs.Prelude.{◌≡◌, [], true, option_map, IfOk, IfErr, string_bytes};
-ghost use Rattle.command_frame.specs.Answer.{effect_of};
+ghost use Rattle.std.specs.Prelude.{◌≡◌, ◌++◌, true, option_map, IfOk, IfErr, OnOk, string_bytes};
+ghost use Rattle.command_frame.specs.Answer.{effect_of, paths_in, writes_of};
 ghost use Rattle.command_frame.specs.Reads.{OnlyRead, Gives, KeepsTo, PlanNames, StopNames, StopsReading};
 ghost use Rattle.command_frame.specs.Stops.{IsRefusalFor};
 ghost use Rattle.command_words.specs.Views.{run_ask, order_ask, source_ask};
 ghost use Rattle.delivered_run.specs.Deliveries.{delivery_seen};
 ghost use Rattle.delivered_run.specs.declared.delivery.DeliveryErr.TheVariants.{Memory as NoMemory};
+ghost use Rattle.program_run.specs.Accepted.{IsAccepted};
+ghost use Rattle.typed_tree.specs.Programs.{typed_program_tree};
+ghost use Rattle.value_file.specs.Input.{AreInputs};
 ghost use Rattle.run_engine.specs.Judging.{Finding, FoundAt, HasFinding, its_program, Tells};
 ghost use Rattle.run_engine.specs.Reading.{delivery_at, order_paths, tapes_at, source_paths};
-ghost use Rattle.run_engine.specs.Run.{path_in, ran_effect, ran_paths, refused_with, empty_line, stalled_line, run_of, run_paths, IsStopOf};
+ghost use Rattle.run_engine.specs.Run.{ran_effect, ran_paths, recorded_links, refused_with, empty_line, stalled_line, run_of, run_paths, IsRan, IsStopOf};
+ghost use Rattle.run_engine.specs.Views.{view_paths};
 
 use crate::ends::status;
 use crate::programs::read_typed;
 use crate::readers::{read_inputs, read_schedule_file, read_tape_file};
+use crate::views::view_writes;
 use command_frame::{Plan, PlannedWrite, Refusal, Status, Stop};
 use command_words::{DeliveryOrder, RunWords, TapeSource};
 use delivered_run::{DeliveredRun, Delivery, DeliveryErr, run_delivered};
@@ -21,6 +26,22 @@ use proto_core::{Link, Number};
 use sc_text::run_text;
 use std::alloc::{AllocError, Global};
 use tape_file::{Tapes, from_seed};
+use typed_tree::TypedProgram;
+use value_file::Inputs;
+use viewed_run::{SeenRun, run_seen};
+
+/// A run, and the files of the miners' views that are asked for.
+pub struct Ran {
+    pub run: DeliveredRun,
+    pub files: Vec<PlannedWrite>,
+}
+
+// Written out, so that an early exit calls this once.
+impl Drop for Ran {
+    fn drop(self) {
+        let Ran { run: _, files: _ } = self;
+    }
+}
 
 // The tapes of a file, or those that are drawn from a seed.
 #[tactic(auto, unfolding(crate::specs::Reading::tapes_at))]
@@ -100,31 +121,74 @@ fn delivery_stop(alloc: Global, refusal: DeliveryErr) -> Stop
     }
 }
 
-// What is to be written and printed of a run: the links that were delivered, where they are asked for, and its text.
-fn ran_plan(
+// Adds the links that were delivered to what is to be written, where they are asked for.
+fn record_links(
     alloc: Global,
-    ran: &DeliveredRun,
+    writes: &mut Vec<PlannedWrite>,
+    links: &[Link],
     recorded: &Option<String>,
-) -> Result<Plan, AllocError>
-    ensures effect { IfOk result (λ plan. effect_of plan ≡ ran_effect (option_map string_bytes recorded.now) ran.now) }
-    ensures names { IfOk result (PlanNames (path_in (option_map string_bytes recorded.now))) }
+) -> Result<(), AllocError>
+    ensures { OnOk result (writes_of writes.new.items ≡ writes_of writes.old.items ++ recorded_links (option_map string_bytes recorded.now) links.now) }
 {
-    let text = run_text(alloc, &ran.report.events, &ran.report.end)?;
-    let mut writes = Vec::new(alloc);
     if let Some(path) = recorded {
         let path = path.clone()?;
-        let bytes = schedule_file::write(alloc, &ran.delivered)?;
+        let bytes = schedule_file::write(alloc, links)?;
         writes.push(PlannedWrite { path, bytes })?;
     }
+    Ok(())
+}
+
+// What is to be written and printed of a run: the miners' views and the links that were delivered, where they are asked for, and its text.
+fn ran_plan(alloc: Global, ran: Ran, words: &RunWords) -> Result<Plan, AllocError>
+    ensures effect { IfOk result (λ plan. effect_of plan ≡ ran_effect (run_ask words.now) ran) }
+{
+    let Ran { run, files } = ran;
+    let text = run_text(alloc, &run.report.events, &run.report.end)?;
+    let mut writes = files;
+    record_links(alloc, &mut writes, &run.delivered, &words.recorded)?;
     Ok(Plan {
         writes,
         text,
-        status: status(ran.report.end.how),
+        status: status(run.report.end.how),
     })
 }
 
+// What a run takes: the program, its inputs, the tapes, and the order of deliveries.
+#[derive(Drop)]
+struct Job<'a> {
+    program: &'a TypedProgram,
+    inputs: &'a Inputs,
+    tapes: &'a Tapes,
+    delivery: &'a Delivery,
+}
+
+// The run, and the files of the miners' views where they are asked for.
+fn run_job(alloc: Global, job: &Job<'_>, words: &RunWords) -> Result<Ran, DeliveryErr>
+    requires accepted { IsAccepted (typed_program_tree job.now.program.now) }
+    requires inputs { AreInputs job.now.inputs.now }
+    ensures ran { IsRan (run_ask words.now) (typed_program_tree job.now.program.now) job.now.inputs.now job.now.tapes.now
+        (delivery_seen job.now.delivery.now) result }
+    ensures names { IfOk result (λ ran. paths_in (writes_of ran.files.items) ≡ view_paths (option_map string_bytes words.now.views)) }
+{
+    let (program, inputs) = (job.program, job.inputs);
+    let (tapes, budget) = (job.tapes, words.budget);
+    match &words.views {
+        Some(prefix) => {
+            let seen = run_seen(alloc, program, inputs, tapes, budget, job.delivery)?;
+            let files = view_writes(alloc, prefix, &seen.views)?;
+            let SeenRun { run, views: _ } = seen;
+            Ok(Ran { run, files })
+        }
+        None => {
+            let run = run_delivered(alloc, program, inputs, tapes, budget, job.delivery)?;
+            let files = Vec::new(alloc);
+            Ok(Ran { run, files })
+        }
+    }
+}
+
 /// Reads and checks the files, runs the three miners with their messages delivered in the order that is asked for, and says what is to be
-/// written and printed: the links that were delivered, what the miners opened and published, and how they ended.
+/// written and printed: what each miner saw, the links that were delivered, what the miners opened and published, and how they ended.
 #[tactic(auto, unfolding(crate::specs::Run::run_of, crate::specs::Run::run_report, crate::specs::Run::run_paths, crate::specs::Run::ran_paths), using(command_frame::proofs::Naming::names_first, command_frame::proofs::Naming::names_later))]
 pub fn plan_run<F: Files>(alloc: Global, files: &mut F, words: &RunWords) -> Result<Plan, Stop>
     ensures files { OnlyRead (F.state files.old) (F.state files.new) }
@@ -140,8 +204,14 @@ pub fn plan_run<F: Files>(alloc: Global, files: &mut F, words: &RunWords) -> Res
     let inputs = read_inputs(alloc, files, &words.input)?;
     let tapes = read_tapes(alloc, files, &words.source)?;
     let delivery = read_delivery(alloc, files, &words.order)?;
-    match run_delivered(alloc, &program, &inputs, &tapes, words.budget, &delivery) {
-        Ok(ran) => Ok(ran_plan(alloc, &ran, &words.recorded)?),
+    let job = Job {
+        program: &program,
+        inputs: &inputs,
+        tapes: &tapes,
+        delivery: &delivery,
+    };
+    match run_job(alloc, &job, words) {
+        Ok(ran) => Ok(ran_plan(alloc, ran, words)?),
         Err(refusal) => Err(delivery_stop(alloc, refusal)),
     }
 }

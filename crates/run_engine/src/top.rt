@@ -10,17 +10,18 @@ ghost use Rattle.command_frame.specs.Whole.{CarriedOut, FileTold, IsAnswered, Is
 ghost use Rattle.command_frame.specs.declared.status.Status.{Status};
 ghost use Rattle.command_words.specs.Ask.{CheckAsk, CompileAsk, EvalAsk, RunAsk, DealAsk, check, compile, eval, need, run, deal, words_of};
 ghost use Rattle.command_words.specs.Views.{ask_of, texts};
-ghost use Rattle.tape_file.specs.Tapes.{FourTapes};
-ghost use Rattle.typed_tree.specs.Programs.{TypedProgramTree};
-ghost use Rattle.value_file.specs.declared.inputs.Entry.{Entry};
-ghost use Rattle.protocol_model.specs.Network.{Accepted, Delivery};
+ghost use Rattle.proto_core.specs.declared.party.Number.{Number};
+ghost use Rattle.protocol_model.specs.Network.{Accepted};
 ghost use Rattle.program_run.specs.Miners.{CanBeDealt};
 ghost use Rattle.miner_runs.specs.Programs.{OwnRunsOnShares};
-ghost use Rattle.delivered_run.specs.Laws.{HaveWords, IsMade};
+ghost use Rattle.delivered_run.specs.Laws.{IsMade};
+ghost use Rattle.program_views.specs.Laws.{ViewIsSimulated};
+ghost use Rattle.program_views.specs.TapeMaps.{MapsCorrespond};
 ghost use Rattle.run_engine.specs.Eval.{eval_text, need_text};
+ghost use Rattle.run_engine.specs.Headline.{EndsByBudgetAndTapes, Given, IsGiven, PrintsEvaluation, RefusesSchedule, ScheduleRefused, WritesViewsAndLinks, net_given};
 ghost use Rattle.run_engine.specs.Obeying.{Acted, Obeyed, Planned};
 ghost use Rattle.run_engine.specs.Promises.{AllSteady, CheckEffect, CompileEffect, DealEffect, EvalEffect, RunEffect, Keeps, is_done};
-ghost use Rattle.run_engine.specs.Runs.{DealRefused, EvalRefused, HoldsRun, ProgramRefused, RunRefused, net_for};
+ghost use Rattle.run_engine.specs.Runs.{DealRefused, EvalRefused, IsNotTaken, ProgramRefused, RunRefused};
 ghost use Rattle.run_engine.specs.Words.{read_by, written_by, reach_miners, start_programs, IsAnswer, HasAnswer};
 
 use crate::check::plan_check;
@@ -174,17 +175,47 @@ pub fn secrec<F: Files, O: Sink, E: Sink, L: Links, C: Spawner>(
         Keeps (RunEffect ask (F.state files.old).contents) (RunRefused ask (F.state files.old).contents) is_end
         (F.state files.old) (F.state files.new) (O.state out.old) (O.state out.new) result }
 
-    // What `run` prints is what three miners do, each with its shares of the inputs and its own tape alone: under every order of
-    // delivery they open and publish what that evaluation does, and end as it does. The inputs and tapes are of words, and the
-    // dealer's tape has enough of them.
-    ensures runs_on_shares { (ask : RunAsk) (program : TypedProgramTree) (entries : List Entry) (tapes : FourTapes) (delivery : Delivery) →
-        words_of (texts words.now) ≡ Some (run ask) → HoldsRun ask (F.state files.old).contents program entries tapes delivery →
-        CanBeDealt entries tapes → OwnRunsOnShares program entries tapes ask.budget }
+    // THE HEADLINE, of a call of `run`: over an accepted program, inputs, tapes and an order of delivery. Where that leaves nothing to come
+    // the three miners open and publish exactly what evaluation in the clear does with tapes of these lengths, and end as it ends; or memory
+    // ran out.
+    ensures run_prints_evaluation { (g : Given) → IsGiven (texts words.now) (F.state files.old).contents g → net_given g ≡ Accepted →
+        (F.state files.old).told ≡ true → AllSteady (F.state files.old) (O.state out.old) →
+        PrintsEvaluation g (O.state out.old) (O.state out.new) result }
 
-    // The delivery that takes always the first link, and each that words choose, leaves nothing to come.
-    ensures made_deliveries_are_complete { (ask : RunAsk) (program : TypedProgramTree) (entries : List Entry) (tapes : FourTapes) (delivery : Delivery) →
-        words_of (texts words.now) ≡ Some (run ask) → HoldsRun ask (F.state files.old).contents program entries tapes delivery →
-        HaveWords entries tapes → IsMade delivery → net_for ask program entries tapes delivery ≡ Accepted }
+    // The delivery that takes always the first link with a message, and each that words choose, leaves nothing to come.
+    ensures made_deliveries_are_complete { (g : Given) → IsGiven (texts words.now) (F.state files.old).contents g → IsMade g.delivery →
+        net_given g ≡ Accepted }
+
+    // It ends done, or with a trap, exactly where some budget and some tapes let evaluation end so, at a cost within the budget and with
+    // no more words than these tapes have.
+    ensures run_ends_by_budget_and_tapes { (g : Given) → IsGiven (texts words.now) (F.state files.old).contents g →
+        EndsByBudgetAndTapes g.program g.entries g.tapes g.ask.budget }
+
+    // What each miner saw is written, where it is asked for: its shares of the private inputs, the words that it drew, the messages that came
+    // to it, in order of arrival, what was opened, and the end; and behind the views the links that were delivered.
+    ensures run_writes_views_and_links { (g : Given) → IsGiven (texts words.now) (F.state files.old).contents g → net_given g ≡ Accepted →
+        (F.state files.old).told ≡ true → AllSteady (F.state files.old) (O.state out.old) →
+        WritesViewsAndLinks g (F.state files.old).contents (F.state files.new).contents result }
+
+    // Each such view is the simulator's output on the public part of the inputs, the opened words, the budget and the delivery alone, over
+    // tapes that correspond one to one with the real ones; each of these is as long as its own, and the miner's own is as it was.
+    ensures views_are_simulated { (g : Given) (i : Number) → IsGiven (texts words.now) (F.state files.old).contents g →
+        ViewIsSimulated i g.program g.entries g.tapes g.ask.budget g.delivery }
+    ensures tapes_correspond { (g : Given) (i : Number) → IsGiven (texts words.now) (F.state files.old).contents g →
+        MapsCorrespond i g.program g.entries g.tapes g.ask.budget }
+
+    // A delivery that leaves something to come is refused: the entry that has no message is named, or else the miner that is left waiting;
+    // or memory ran out. And `run` is refused so only then, or for a schedule file that is not of its form.
+    ensures schedule_refused_if { (g : Given) → IsGiven (texts words.now) (F.state files.old).contents g → IsNotTaken (net_given g) →
+        (F.state files.old).told ≡ true → AllSteady (F.state files.old) (O.state out.old) →
+        RefusesSchedule g (E.state err.old) (E.state err.new) result }
+    ensures schedule_refused_only { (ask : RunAsk) → words_of (texts words.now) ≡ Some (run ask) → (F.state files.old).told ≡ true →
+        result ≡ Status.Schedule → ScheduleRefused ask (F.state files.old).contents }
+
+    // And so it is because three miners run the program's code, each with its shares of the inputs and its own tape alone: under every order
+    // of delivery they open and publish what that evaluation does, and end as it does, where the dealer's tape has words enough.
+    ensures runs_on_shares { (g : Given) → IsGiven (texts words.now) (F.state files.old).contents g → CanBeDealt g.entries g.tapes →
+        OwnRunsOnShares g.program g.entries g.tapes g.ask.budget }
 
     // `deal` writes its six files. A dealer's tape with too few words is a refusal of it.
     ensures deals { (ask : DealAsk) → words_of (texts words.now) ≡ Some (deal ask) → (F.state files.old).told ≡ true →

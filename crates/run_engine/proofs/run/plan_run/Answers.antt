@@ -15,7 +15,7 @@ returns-in-Ok-clause-answer g c = λ found h t.
     (delivery_seen c.in_ok-delivery.delivery)
     (at_path c.deref.result.now ask.program c.deref.ensures f p c.in_ok-program.ensures.answer found h)
     c.deref-2.result.now c.deref-2.ensures c.in_ok-inputs.ensures.answer c.in_ok-tapes.ensures.answer c.in_ok-delivery.ensures.answer
-    c.in-Ok.ran c.in-Ok.ensures t
+    c.in-Ok.ran c.in-Ok.ensures.ran t
     ∙ ap done_with (sym c.in_ok-ran_plan-in-Ok.ensures.effect)
 
 pub returns-clause-answer : goal.returns-clause-answer

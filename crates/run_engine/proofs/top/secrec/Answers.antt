@@ -1,5 +1,6 @@
 use Rattle.command_frame.proofs.Wholes.{complete, carried_out, end_says_nothing, file_counted, file_missed, file_told, memory_cuts, memory_said, refused_prints_nothing, usage_of_unnamed, usage_said, usage_unnamed, write_counted, write_cuts, write_said}
-use Rattle.run_engine.proofs.Miners.{made_taken, miners_run}
+use Rattle.run_engine.proofs.Headline.{ends_by_budget_and_tapes, prints, refuses, schedule_refused, writes}
+use Rattle.run_engine.proofs.Miners.{made_taken, maps_made, miners_run, views_made}
 use Rattle.run_engine.proofs.Promises.{check_keeps, compile_keeps, deal_keeps, eval_keeps, need_keeps, run_keeps}
 use Rattle.run_engine.proofs.Runs.{no_command}
 use Rattle.run_engine.proofs.Tops.{telling}
@@ -94,11 +95,39 @@ returns-clause-runs g c = λ ask asks t.
     run_keeps _ _ _ _ _ _ _ _ (returns-clause-answered g c t) (λ answer a sound. returns-clause-answer_carried_out g c answer a sound t)
     (λ answer a steady. returns-clause-complete g c answer a steady t) ask asks
 
-pub returns-clause-runs_on_shares : goal.returns-clause-runs_on_shares
-returns-clause-runs_on_shares g c = λ ask program entries tapes delivery asks held can. miners_run ask _ program entries tapes delivery held can
+pub returns-clause-run_prints_evaluation : goal.returns-clause-run_prints_evaluation
+returns-clause-run_prints_evaluation g c = λ given is taken t steady.
+    prints _ _ _ _ _ _ (λ ask asks. (returns-clause-runs g c ask asks t).gives) given is taken steady
 
 pub returns-clause-made_deliveries_are_complete : goal.returns-clause-made_deliveries_are_complete
-returns-clause-made_deliveries_are_complete g c = λ ask program entries tapes delivery asks held have made. made_taken ask _ program entries tapes delivery held have made
+returns-clause-made_deliveries_are_complete g c = λ given is made.
+    made_taken given.ask _ given.program given.entries given.tapes given.delivery is.held is.words made
+
+pub returns-clause-run_ends_by_budget_and_tapes : goal.returns-clause-run_ends_by_budget_and_tapes
+returns-clause-run_ends_by_budget_and_tapes g c = λ given is. ends_by_budget_and_tapes given.program given.entries given.tapes given.ask.budget
+
+pub returns-clause-run_writes_views_and_links : goal.returns-clause-run_writes_views_and_links
+returns-clause-run_writes_views_and_links g c = λ given is taken t steady.
+    writes _ _ _ _ _ _ (λ ask asks. (returns-clause-runs g c ask asks t).gives) given is taken steady
+
+pub returns-clause-views_are_simulated : goal.returns-clause-views_are_simulated
+returns-clause-views_are_simulated g c = λ given i is.
+    views_made i given.ask _ given.program given.entries given.tapes given.delivery is.held is.words
+
+pub returns-clause-tapes_correspond : goal.returns-clause-tapes_correspond
+returns-clause-tapes_correspond g c = λ given i is. maps_made i given.ask _ given.program given.entries given.tapes given.delivery is.held is.words
+
+pub returns-clause-schedule_refused_if : goal.returns-clause-schedule_refused_if
+returns-clause-schedule_refused_if g c = λ given is refused t steady.
+    refuses _ _ _ _ _ _ _ _ (λ answer a sound. returns-clause-answer_carried_out g c answer a sound t)
+    (λ answer a all. returns-clause-complete g c answer a all t) given is refused steady
+
+pub returns-clause-schedule_refused_only : goal.returns-clause-schedule_refused_only
+returns-clause-schedule_refused_only g c = λ ask asks t is. schedule_refused ask _ _ _ _ _ is (returns-clause-runs g c ask asks t)
+
+pub returns-clause-runs_on_shares : goal.returns-clause-runs_on_shares
+returns-clause-runs_on_shares g c = λ given is can.
+    miners_run given.ask _ given.program given.entries given.tapes given.delivery is.held can
 
 pub returns-clause-deals : goal.returns-clause-deals
 returns-clause-deals g c = λ ask asks t.

@@ -1,0 +1,115 @@
+-- The sentences of the headline, from what `run` keeps and from the laws of evaluation and of views.
+use Rattle.std.proofs.Common.{◌≡◌, ◌≢◌, ◌≤◌, ◌⊎◌, ℕ, List, [], true, false, Some, Err, refl, ap, subst, sym, ◌∙◌, inl, inr}
+use Rattle.outside.specs.Files.{Contents, FilesState}
+use Rattle.outside.specs.Sink.{SinkState}
+use Rattle.command_frame.specs.declared.status.Status.{Status}
+use Rattle.command_frame.specs.declared.status.Status.TheVariants as statuses
+use Rattle.command_frame.specs.Answer.{Answer}
+use Rattle.command_frame.specs.Status.{is_end, is_fault, is_refusal}
+use Rattle.command_frame.specs.Whole.{CarriedOut, IsAnswered, IsDone}
+use Rattle.command_words.specs.Ask.{RunAsk, run, words_of}
+use Rattle.sc_text.specs.declared.end.Ending.TheVariants.{Done, Trap, Budget, Tape}
+use Rattle.clear_eval.specs.Offers.{offered}
+use Rattle.language_model.specs.Effects.{Clear, Stop, Ended, Short, World}
+use Rattle.language_model.specs.Reports.{Report, evaluated, world_of}
+use Rattle.language_model.specs.Tapes.{lacks_words}
+use Rattle.language_model.proofs.Budgets.{budgets_same}
+use Rattle.language_model.proofs.Kept.{cost_kept, words_kept}
+use Rattle.language_model.proofs.TapesDecide.{enough_words}
+use Rattle.program_run.specs.Reports.{eval_with, lengths_of}
+use Rattle.protocol_model.specs.Network.{Accepted}
+use Rattle.tape_file.specs.Tapes.{FourTapes}
+use Rattle.typed_tree.specs.Programs.{TypedProgramTree}
+use Rattle.value_file.specs.declared.inputs.Entry.{Entry}
+use Rattle.run_engine.specs.Headline.{EndsByBudgetAndTapes, EndsSomewhere, Given, IsGiven, PrintsEvaluation, RefusesSchedule, ScheduleRefused, WritesViewsAndLinks, is_whole, net_given, not_a_schedule, not_complete, refused_line}
+use Rattle.run_engine.specs.Promises.{AllSteady, Gives, Keeps, RunEffect}
+use Rattle.run_engine.specs.Run.{refused_with, run_told}
+use Rattle.run_engine.specs.Runs.{IsNotTaken, ProgramRefused, RunRefused, bad_program, bad_input, bad_tape, bad_schedule, not_taken, bad_text, too_large}
+use Rattle.run_engine.specs.Words.{IsAnswer}
+use Rattle.run_engine.proofs.RunRefusals.{run_refused_by_net}
+
+-- ---- a delivery that leaves nothing to come
+
+module _ (words : List (List ℕ)) (f f' : FilesState) (o o' : SinkState) (s : Status) (gives : (ask : RunAsk) → words_of words ≡ Some (run ask) → Gives (RunEffect ask f.contents) f f' o o' s)
+    (g : Given) (given : IsGiven words f.contents g) (taken : net_given g ≡ Accepted) (steady : AllSteady f o) where
+  done : IsDone (run_told g.ask g.program g.entries g.tapes g.delivery) f f' o o' s ⊎ (s ≡ statuses.Memory)
+  done =
+      gives g.ask given.asks (run_told g.ask g.program g.entries g.tapes g.delivery)
+      (g.program, g.entries, g.tapes, g.delivery, given.held, taken, refl) steady
+
+  pub prints : PrintsEvaluation g o o' s
+  prints = elim done [ inl whole ↦ inl (whole.status, whole.text) | inr memory ↦ inr memory ]
+
+  pub writes : WritesViewsAndLinks g f.contents f'.contents s
+  writes = elim done [ inl whole ↦ inl whole.files | inr memory ↦ inr memory ]
+
+-- ---- one that is refused
+
+module _ (words : List (List ℕ)) (f f' : FilesState) (o o' e e' : SinkState) (s : Status)
+    (carried : (answer : Answer) → IsAnswer words f.contents answer → is_fault s ≡ false → CarriedOut answer f f' o o' e e' s)
+    (complete : (answer : Answer) → IsAnswer words f.contents answer → AllSteady f o → IsAnswered answer s ⊎ (s ≡ statuses.Memory)) where
+  pub refuses : (g : Given) → IsGiven words f.contents g → IsNotTaken (net_given g) → AllSteady f o → RefusesSchedule g e e' s
+  refuses g given refused steady =
+      let answer : IsAnswer words f.contents (Err (refused_with (refused_line (net_given g)))) =
+      run_refused_by_net words g.ask f.contents g.program g.entries g.tapes g.delivery given.asks given.held refused in
+      elim (complete (Err (refused_with (refused_line (net_given g)))) answer steady) [
+        | inl is ↦ inl (is, (carried (Err (refused_with (refused_line (net_given g)))) answer (ap is_fault is)).1)
+        | inr memory ↦ inr memory
+      ]
+
+-- only so
+at_program : (path : List ℕ) (files : Contents) → ProgramRefused path files statuses.Schedule → ⊥
+at_program path files (bad_text is bad) = absurd cc
+at_program path files (too_large is error large) = absurd cc
+
+only_refused : (ask : RunAsk) (files : Contents) → RunRefused ask files statuses.Schedule → ScheduleRefused ask files
+only_refused ask files (bad_program refused) = absurd (at_program ask.program files refused)
+only_refused ask files (bad_input is p h bytes err there bad) = absurd cc
+only_refused ask files (bad_tape is p h entries inputs path bytes place source there bad) = absurd cc
+only_refused ask files (bad_schedule is p h entries inputs tapes taped path bytes line order there bad) = not_a_schedule path bytes line order there bad
+only_refused ask files (not_taken is p entries tapes delivery h refused) =
+    not_complete (record { ask = ask; program = p; entries = entries; tapes = tapes; delivery = delivery }) refl h refused
+
+pub schedule_refused : (ask : RunAsk) (f f' : FilesState) (o o' : SinkState) (s : Status) → s ≡ statuses.Schedule
+    → Keeps (RunEffect ask f.contents) (RunRefused ask f.contents) is_end f f' o o' s → ScheduleRefused ask f.contents
+schedule_refused ask f f' o o' s is keeps =
+    only_refused ask f.contents (subst (RunRefused ask f.contents) is (keeps.refused_only (ap is_refusal is) (ap is_end is)))
+
+-- ---- how a run ends
+
+not_lacking : (s : Stop) → is_whole s ≡ true → lacks_words s ≡ false
+not_lacking (Ended Done) whole = refl
+not_lacking (Ended (Trap kind line)) whole = refl
+not_lacking (Ended Budget) whole = refl
+not_lacking (Ended (Tape owner need have)) whole = absurd cc
+not_lacking Short whole = refl
+
+not_budget : (s : Stop) → is_whole s ≡ true → s ≢ Ended Budget
+not_budget s whole is = let wrong : is_whole (Ended Budget) ≡ true = subst (λ (x : Stop). is_whole x ≡ true) is whole in absurd cc
+
+module _ (p : TypedProgramTree) (entries : List Entry) (t : FourTapes) (budget : ℕ) where
+  abbrev here : World
+  here = world_of Clear (offered entries (lengths_of t))
+
+  ends_somewhere : is_whole (eval_with p entries t budget).stop ≡ true → EndsSomewhere p entries t budget
+  ends_somewhere whole = record {
+    budget_then = budget;
+    lengths_then = lengths_of t;
+    whole = whole;
+    cost = cost_kept here p budget [];
+    needs = words_kept here p budget [];
+  }
+
+  ends_here : EndsSomewhere p entries t budget → is_whole (eval_with p entries t budget).stop ≡ true
+  ends_here e =
+      let there = world_of Clear (offered entries e.lengths_then) in
+      let on_tapes : evaluated here p e.budget_then [] ≡ evaluated there p e.budget_then [] =
+      enough_words there here p e.budget_then [] refl refl (not_lacking (evaluated there p e.budget_then []).stop e.whole) e.needs in
+      let whole : is_whole (evaluated here p e.budget_then []).stop ≡ true = ap (λ (r : Report). is_whole r.stop) on_tapes ∙ e.whole in
+      let cost : (evaluated here p e.budget_then []).cost ≤ budget = subst (λ (r : Report). r.cost ≤ budget) (sym on_tapes) e.cost in
+      ap (λ (r : Report). is_whole r.stop)
+      (budgets_same here p e.budget_then budget [] (not_budget (evaluated here p e.budget_then []).stop whole) cost)
+      ∙ whole
+
+  pub ends_by_budget_and_tapes : EndsByBudgetAndTapes p entries t budget
+  ends_by_budget_and_tapes = (ends_somewhere, ends_here)

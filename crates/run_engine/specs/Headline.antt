@@ -1,0 +1,121 @@
+-- THE HEADLINE: what is promised of a call of `run`, sentence by sentence.
+use Rattle.std.specs.Prelude.{◌≡◌, ◌≤◌, ◌⊎◌, ◌↔◌, ◌++◌, ℕ, List, [], Bool, true, false, Option, Some, Err}
+use Rattle.outside.specs.Files.{Contents, file_at}
+use Rattle.outside.specs.Sink.{SinkState, Appends}
+use Rattle.command_frame.specs.declared.status.Status.{Status}
+use Rattle.command_frame.specs.declared.status.Status.TheVariants.{Memory, Schedule}
+use Rattle.command_frame.specs.Answer.{after_writes}
+use Rattle.command_frame.specs.Finish.{PutLine}
+use Rattle.command_words.specs.Ask.{RunAsk, run, scheduled, words_of}
+use Rattle.sc_text.specs.declared.end.Ending.TheVariants.{Done, Trap, Budget, Tape}
+use Rattle.proto_core.specs.declared.link.Link.{Link}
+use Rattle.proto_core.specs.declared.party.Number.{Number}
+use Rattle.protocol_model.specs.Network.{Accepted, Answer, Delivery, EmptyLink, Stalled}
+use Rattle.schedule_file.specs.Reading.{links_of}
+use Rattle.clear_eval.specs.Offers.{offered}
+use Rattle.language_model.specs.Effects.{Clear, Stop, Ended, Short}
+use Rattle.language_model.specs.Reports.{Report, eval, world_of}
+use Rattle.language_model.specs.Tapes.{HasWords}
+use Rattle.program_run.specs.Reports.{eval_with, lengths_of}
+use Rattle.delivered_run.specs.Deliveries.{delivered_of, net_of}
+use Rattle.delivered_run.specs.Laws.{HaveWords}
+use Rattle.program_views.specs.Views.{view_of}
+use Rattle.view_text.specs.View.{View}
+use Rattle.tape_file.specs.Tapes.{FourTapes}
+use Rattle.typed_tree.specs.Programs.{TypedProgramTree}
+use Rattle.value_file.specs.declared.inputs.Entry.{Entry}
+use Rattle.run_engine.specs.Eval.{end_status, eval_text}
+use Rattle.run_engine.specs.Run.{empty_line, recorded_links, stalled_line}
+use Rattle.run_engine.specs.Runs.{HoldsRun, IsNotTaken}
+use Rattle.run_engine.specs.Views.{view_files}
+
+-- ---- WHAT IS GIVEN
+
+-- what the words ask for, and what the files hold: an accepted program, inputs, four tapes and an order of delivery
+pub record Given : Type 0 where
+  pub ask : RunAsk
+  pub program : TypedProgramTree
+  pub entries : List Entry
+  pub tapes : FourTapes
+  pub delivery : Delivery
+
+-- the words ask for this, and the files hold it, as they must; inputs and tapes are of words
+pub record IsGiven (words : List (List ℕ)) (files : Contents) (g : Given) : Type 0 where
+  pub asks : words_of words ≡ Some (run g.ask)
+  pub held : HoldsRun g.ask files g.program g.entries g.tapes g.delivery
+  pub words : HaveWords g.entries g.tapes
+
+module _ (g : Given) where
+  -- evaluation in the clear, with tapes of these lengths
+  abbrev pub report_given : Report
+  report_given = eval_with g.program g.entries g.tapes g.ask.budget
+
+  -- what the delivery comes to, by the lengths of messages alone, and the links that are delivered
+  abbrev pub net_given : Answer
+  net_given = net_of g.program g.entries g.tapes g.ask.budget g.delivery
+
+  abbrev pub links_given : List Link
+  links_given = delivered_of g.program g.entries g.tapes g.ask.budget g.delivery
+
+  -- what miner i sees
+  abbrev pub view_given : Number → Option View
+  view_given i = view_of i g.program g.entries g.tapes g.ask.budget g.delivery
+
+  -- ---- WHAT IS DONE WHERE THE DELIVERY LEAVES NOTHING TO COME
+
+  -- the text and the end are those of the evaluation, or memory ran out
+  abbrev pub PrintsEvaluation : (before after : SinkState) → Status → Type 0
+  PrintsEvaluation before after given =
+      ((given ≡ end_status report_given) × Appends before after (eval_text report_given)) ⊎ (given ≡ Memory)
+
+  -- the views and the delivered links are written, where they are asked for, and nothing else
+  abbrev pub WritesViewsAndLinks : (before after : Contents) → Status → Type 0
+  WritesViewsAndLinks before after given =
+      (after ≡ after_writes (view_files g.ask.views view_given ++ recorded_links g.ask.recorded links_given) before) ⊎ (given ≡ Memory)
+
+-- ---- WHERE IT DOESN'T
+
+-- the entry that has no message, or the miner that is left waiting
+abbrev pub refused_line : Answer → List ℕ
+refused_line Accepted = []
+refused_line (EmptyLink entry link sent) = empty_line entry link sent
+refused_line (Stalled miner link) = stalled_line miner link
+
+-- it is named, or memory ran out
+abbrev pub RefusesSchedule : Given → (before after : SinkState) → Status → Type 0
+RefusesSchedule g before after given =
+    ((given ≡ Schedule) × PutLine (refused_line (net_given g)) before after) ⊎ (given ≡ Memory)
+
+-- why a call of `run` is refused for its schedule: the file is there and not of its form, or the delivery leaves something to come
+pub data ScheduleRefused (ask : RunAsk) (files : Contents) : Type 0 where
+  not_a_schedule : (path bytes : List ℕ) (line : ℕ) → ask.order ≡ scheduled path → file_at files path ≡ Some bytes → links_of bytes ≡ Err line
+      → ScheduleRefused ask files
+  not_complete : (g : Given) → g.ask ≡ ask → HoldsRun g.ask files g.program g.entries g.tapes g.delivery → IsNotTaken (net_given g)
+      → ScheduleRefused ask files
+
+-- ---- HOW IT ENDS
+
+-- the program came to its end or to a trap, and wanted neither budget nor words
+abbrev pub is_whole : Stop → Bool
+is_whole (Ended Done) = true
+is_whole (Ended (Trap kind line)) = true
+is_whole (Ended Budget) = false
+is_whole (Ended (Tape owner need have)) = false
+is_whole Short = false
+
+module _ (p : TypedProgramTree) (entries : List Entry) where
+  -- the program as it is evaluated with some budget and lengths of tapes
+  abbrev pub evaluated_with : (budget : ℕ) → (lengths : List ℕ) → Report
+  evaluated_with budget lengths = eval p (offered entries lengths) budget
+
+  -- with some budget and lengths it ends whole, at a cost within this budget, and needs no more words than these tapes have
+  pub record EndsSomewhere (t : FourTapes) (budget : ℕ) : Type 0 where
+    pub budget_then : ℕ
+    pub lengths_then : List ℕ
+    pub whole : is_whole (evaluated_with budget_then lengths_then).stop ≡ true
+    pub cost : (evaluated_with budget_then lengths_then).cost ≤ budget
+    pub needs : HasWords (world_of Clear (offered entries (lengths_of t))) (evaluated_with budget_then lengths_then)
+
+  -- it ends whole exactly where it does somewhere
+  abbrev pub EndsByBudgetAndTapes : FourTapes → (budget : ℕ) → Type 0
+  EndsByBudgetAndTapes t budget = (is_whole (eval_with p entries t budget).stop ≡ true) ↔ EndsSomewhere t budget
