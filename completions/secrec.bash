@@ -27,7 +27,7 @@ _secrec() {
     check) options='' ;;
     compile) options='--code' ;;
     eval | need) options='--input --budget' ;;
-    run) options='--input --tape --seed --words --budget' ;;
+    run) options='--input --tape --seed --words --schedule --shuffle --record --budget' ;;
     deal) options='--input --tape --to' program=none ;;
     *) return ;;
   esac
@@ -35,8 +35,8 @@ _secrec() {
   if [ "$current" = '=' ]; then current=''; elif [ "${COMP_WORDS[before]}" = '=' ]; then before=$((before - 1)); fi
   case ${COMP_WORDS[before]} in
     --input) _secrec_files '*.json'; return ;;
-    --code | --tape | --to) _secrec_files '*'; return ;;
-    --seed | --words | --budget) return ;;
+    --code | --tape | --to | --schedule | --record) _secrec_files '*'; return ;;
+    --seed | --words | --budget | --shuffle) return ;;
   esac
   for ((k = 2; k < COMP_CWORD; k++)); do
     case ${COMP_WORDS[k]} in
@@ -52,6 +52,7 @@ _secrec() {
     case $option in
       --tape) _secrec_used --tape --seed --words || left+="$option " ;;
       --seed | --words) _secrec_used "$option" --tape || left+="$option " ;;
+      --schedule | --shuffle) _secrec_used --schedule --shuffle || left+="$option " ;;
       *) _secrec_used "$option" || left+="$option " ;;
     esac
   done

@@ -12,5 +12,8 @@ complete -c secrec -n '__fish_seen_subcommand_from eval need run' -l budget -x -
 complete -c secrec -n '__fish_seen_subcommand_from run deal; and not __fish_contains_opt seed words' -l tape -r -F -d 'The tape file'
 complete -c secrec -n '__fish_seen_subcommand_from run; and not __fish_contains_opt tape' -l seed -x -d '64 lower-case hexadecimal digits'
 complete -c secrec -n '__fish_seen_subcommand_from run; and not __fish_contains_opt tape' -l words -x -d 'The words of each tape from a seed'
+complete -c secrec -n '__fish_seen_subcommand_from run; and not __fish_contains_opt shuffle' -l schedule -r -F -d 'The order of deliveries'
+complete -c secrec -n '__fish_seen_subcommand_from run; and not __fish_contains_opt schedule' -l shuffle -x -d '64 lower-case hexadecimal digits'
+complete -c secrec -n '__fish_seen_subcommand_from run' -l record -r -F -d 'Where the delivered links go'
 complete -c secrec -n '__fish_seen_subcommand_from deal' -l to -r -F -d 'What the paths of the files begin with'
 complete -c secrec -n '__fish_seen_subcommand_from compile' -l code -r -F -d 'Where the code goes'

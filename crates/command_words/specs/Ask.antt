@@ -10,11 +10,21 @@ pub data Source : Type 0 where
   file : Text → Source
   seeded : List ℕ → ℕ → Source
 
+-- in which order the miners' messages are delivered: always on the first link that has one, as the links of a schedule file say, or as the
+-- words from a seed choose
+pub data Order : Type 0 where
+  in_turn : Order
+  scheduled : Text → Order
+  shuffled : List ℕ → Order
+
 pub record RunAsk : Type 0 where
   pub program : Text
   pub input : Text
   pub source : Source
   pub budget : ℕ
+  pub order : Order
+  -- where the links that were delivered are written
+  pub recorded : Option Text
 
 pub record DealAsk : Type 0 where
   pub input : Text
@@ -78,15 +88,25 @@ source_of (Some tape) None None = Some (file tape)
 source_of None (Some seed) words = seeded_source seed words
 source_of _ _ _ = None
 
+-- of a schedule and a seed of shuffles: neither, or one of them
+unfoldable pub order_of : Option Text → Option Text → Option Order
+order_of None None = Some in_turn
+order_of (Some schedule) None = Some (scheduled schedule)
+order_of None (Some seed) = option_map shuffled (seed_of seed)
+order_of (Some schedule) (Some seed) = None
+
 unfoldable pub run_of : List Row → Option RunAsk
 run_of rows = do
   source ← source_of (first_of (codes "tape") rows) (first_of (codes "seed") rows) (first_of (codes "words") rows)
+  order ← order_of (first_of (codes "schedule") rows) (first_of (codes "shuffle") rows)
   budget ← number_or default_budget (first_of (codes "budget") rows)
   Some (record {
     program = required_of (codes "program") rows;
     input = required_of (codes "input") rows;
     source = source;
     budget = budget;
+    order = order;
+    recorded = first_of (codes "record") rows;
   })
 
 unfoldable pub deal_of : List Row → Option DealAsk

@@ -23,7 +23,8 @@ command_app name words required optional =
     with_options false (with_options true (fold (λ a id. with_rule a (word_rule id)) (new_app name) words) required) optional
 
 unfoldable pub run_options : List Text
-run_options = codes "tape" ∷ codes "seed" ∷ codes "words" ∷ codes "budget" ∷ []
+run_options =
+    codes "tape" ∷ codes "seed" ∷ codes "words" ∷ codes "schedule" ∷ codes "shuffle" ∷ codes "record" ∷ codes "budget" ∷ []
 
 -- run PROGRAM --input F, and the options
 unfoldable pub run_app : App

@@ -4,14 +4,14 @@ use Rattle.std.specs.Bool.{⊤}
 use Rattle.clap.specs.Words.{Text}
 use Rattle.clap.proofs.OnLiterals.{clap_on_literals}
 use Rattle.hex.proofs.OnLiterals.{hex_on_literals}
-use Rattle.command_words.specs.Ask.{Ask, run, deal, check, compile, eval, need, file, seeded, words_of, named_in, named, matched, run_of, deal_of, check_of, compile_of}
-use Rattle.command_words.specs.Ask.{eval_of, source_of, seeded_source, number_or, required_of}
+use Rattle.command_words.specs.Ask.{Ask, run, deal, check, compile, eval, need, file, seeded, in_turn, scheduled, shuffled, words_of, named_in, named, matched, run_of, deal_of, check_of, compile_of}
+use Rattle.command_words.specs.Ask.{eval_of, source_of, seeded_source, order_of, number_or, required_of}
 use Rattle.command_words.specs.Numbers.{number_of, seed_of}
 use Rattle.command_words.specs.Shapes.{secrec_app, checking_app, clear_app, input_app, run_app, deal_app, check_app, compile_app, evaluation_app, command_app, bare_app, run_options, eval_options, with_options, word_rule, option_rule}
 
 -- opens the definitions, so that they compute at words that are written out
 unfoldable pub words_on_literals : ⊤
-unfolding clap_on_literals hex_on_literals secrec_app checking_app clear_app input_app run_app deal_app check_app compile_app evaluation_app command_app bare_app run_options eval_options with_options word_rule option_rule words_of named_in named matched run_of deal_of check_of compile_of eval_of source_of seeded_source number_or required_of number_of seed_of
+unfolding clap_on_literals hex_on_literals secrec_app checking_app clear_app input_app run_app deal_app check_app compile_app evaluation_app command_app bare_app run_options eval_options with_options word_rule option_rule words_of named_in named matched run_of deal_of check_of compile_of eval_of source_of seeded_source order_of number_or required_of number_of seed_of
 words_on_literals = tt
 
 -- run p.sc --input i, and then these words
@@ -19,12 +19,12 @@ abbrev pub run_with : List Text → Option Ask
 run_with more = words_of (codes "run" ∷ codes "p.sc" ∷ codes "--input" ∷ codes "i" ∷ more)
 
 run_with_tape : run_with (codes "--tape" ∷ codes "t" ∷ [])
-    ≡ Some (run (record { program = codes "p.sc"; input = codes "i"; source = file (codes "t"); budget = 1000000 }))
+    ≡ Some (run (record { program = codes "p.sc"; input = codes "i"; source = file (codes "t"); budget = 1000000; order = in_turn; recorded = None }))
 unfolding words_on_literals
 run_with_tape = refl
 
 run_with_budget : run_with (codes "--budget=006" ∷ codes "--tape" ∷ codes "t" ∷ [])
-    ≡ Some (run (record { program = codes "p.sc"; input = codes "i"; source = file (codes "t"); budget = 6 }))
+    ≡ Some (run (record { program = codes "p.sc"; input = codes "i"; source = file (codes "t"); budget = 6; order = in_turn; recorded = None }))
 unfolding words_on_literals
 run_with_budget = refl
 
@@ -32,13 +32,13 @@ abbrev pub seed_bytes : List ℕ
 seed_bytes = 0 ∷ 1 ∷ 2 ∷ 3 ∷ 4 ∷ 5 ∷ 6 ∷ 7 ∷ 8 ∷ 9 ∷ 10 ∷ 11 ∷ 12 ∷ 13 ∷ 14 ∷ 15 ∷ 16 ∷ 17 ∷ 18 ∷ 19 ∷ 20 ∷ 21 ∷ 22 ∷ 23 ∷ 24 ∷ 25 ∷ 26 ∷ 27 ∷ 28 ∷ 29 ∷ 30 ∷ 31 ∷ []
 
 run_with_seed : run_with (codes "--seed" ∷ codes "000102030405060708090a0b0c0d0e0f101112131415161718191a1b1c1d1e1f" ∷ [])
-    ≡ Some (run (record { program = codes "p.sc"; input = codes "i"; source = seeded seed_bytes 65536; budget = 1000000 }))
+    ≡ Some (run (record { program = codes "p.sc"; input = codes "i"; source = seeded seed_bytes 65536; budget = 1000000; order = in_turn; recorded = None }))
 unfolding words_on_literals
 run_with_seed = refl
 
 -- 64 digits `7` are 32 bytes 119
 run_with_words : run_with (codes "--words" ∷ codes "16777216" ∷ codes "--seed" ∷ replicate 64 55 ∷ [])
-    ≡ Some (run (record { program = codes "p.sc"; input = codes "i"; source = seeded (replicate 32 119) 16777216; budget = 1000000 }))
+    ≡ Some (run (record { program = codes "p.sc"; input = codes "i"; source = seeded (replicate 32 119) 16777216; budget = 1000000; order = in_turn; recorded = None }))
 unfolding words_on_literals
 run_with_words = refl
 
@@ -53,6 +53,34 @@ words_without_seed = refl
 both_sources : run_with (codes "--tape" ∷ codes "t" ∷ codes "--seed" ∷ replicate 64 55 ∷ []) ≡ None
 unfolding words_on_literals
 both_sources = refl
+
+run_as_scheduled : run_with (codes "--tape" ∷ codes "t" ∷ codes "--schedule" ∷ codes "s" ∷ codes "--record" ∷ codes "r" ∷ [])
+    ≡ Some (run (record {
+      program = codes "p.sc";
+      input = codes "i";
+      source = file (codes "t");
+      budget = 1000000;
+      order = scheduled (codes "s");
+      recorded = Some (codes "r");
+    }))
+unfolding words_on_literals
+run_as_scheduled = refl
+
+run_as_shuffled : run_with (codes "--tape" ∷ codes "t" ∷ codes "--shuffle" ∷ replicate 64 55 ∷ [])
+    ≡ Some (run (record {
+      program = codes "p.sc";
+      input = codes "i";
+      source = file (codes "t");
+      budget = 1000000;
+      order = shuffled (replicate 32 119);
+      recorded = None;
+    }))
+unfolding words_on_literals
+run_as_shuffled = refl
+
+both_orders : run_with (codes "--tape" ∷ codes "t" ∷ codes "--schedule" ∷ codes "s" ∷ codes "--shuffle" ∷ replicate 64 55 ∷ []) ≡ None
+unfolding words_on_literals
+both_orders = refl
 
 no_source : run_with [] ≡ None
 unfolding words_on_literals
@@ -109,7 +137,7 @@ no_value = refl
 
 -- `--` ends the options
 after_dashes : words_of (codes "run" ∷ codes "--input=i" ∷ codes "--tape=t" ∷ codes "--" ∷ codes "--p" ∷ [])
-    ≡ Some (run (record { program = codes "--p"; input = codes "i"; source = file (codes "t"); budget = 1000000 }))
+    ≡ Some (run (record { program = codes "--p"; input = codes "i"; source = file (codes "t"); budget = 1000000; order = in_turn; recorded = None }))
 unfolding words_on_literals
 after_dashes = refl
 

@@ -7,6 +7,8 @@ use Rattle.clap.specs.declared.error.ErrorKind.{ErrorKind}
 use Rattle.clap.specs.declared.error.ErrorKind.TheVariants.{OutOfMemory}
 use Rattle.command_words.specs.declared.command.TapeSource.{TapeSource}
 use Rattle.command_words.specs.declared.command.TapeSource.TheVariants as sources
+use Rattle.command_words.specs.declared.command.DeliveryOrder.{DeliveryOrder}
+use Rattle.command_words.specs.declared.command.DeliveryOrder.TheVariants as orders
 use Rattle.command_words.specs.declared.command.RunWords.{RunWords}
 use Rattle.command_words.specs.declared.command.DealWords.{DealWords}
 use Rattle.command_words.specs.declared.command.CheckWords.{CheckWords}
@@ -16,11 +18,17 @@ use Rattle.command_words.specs.declared.command.Command.{Command}
 use Rattle.command_words.specs.declared.command.Command.TheVariants as commands
 use Rattle.command_words.specs.declared.command.WordsErr.{WordsErr}
 use Rattle.command_words.specs.declared.command.WordsErr.TheVariants.{Usage, Memory}
-use Rattle.command_words.specs.Ask.{Ask, CheckAsk, CompileAsk, DealAsk, EvalAsk, RunAsk, Source, check, compile, deal, eval, file, need, run, seeded}
+use Rattle.command_words.specs.Ask.{Ask, CheckAsk, CompileAsk, DealAsk, EvalAsk, Order, RunAsk, Source, check, compile, deal, eval, file, in_turn, need, run}
+use Rattle.command_words.specs.Ask.{scheduled, seeded, shuffled}
 
 abbrev pub source_ask : TapeSource → Source
 source_ask (sources.File path) = file (string_bytes path)
 source_ask (sources.Seed s) = seeded s.seed s.words
+
+abbrev pub order_ask : DeliveryOrder → Order
+order_ask orders.InTurn = in_turn
+order_ask (orders.Schedule path) = scheduled (string_bytes path)
+order_ask (orders.Shuffle seed) = shuffled seed
 
 abbrev pub run_ask : RunWords → RunAsk
 run_ask w = record {
@@ -28,6 +36,8 @@ run_ask w = record {
   input = string_bytes w.input;
   source = source_ask w.source;
   budget = w.budget;
+  order = order_ask w.order;
+  recorded = option_map string_bytes w.recorded;
 }
 
 abbrev pub deal_ask : DealWords → DealAsk

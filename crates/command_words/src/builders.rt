@@ -42,7 +42,9 @@ fn with_options<'a>(
 
 static RUN_REQUIRED: [&str; 1] = ["input"];
 
-static RUN_OPTIONS: [&str; 4] = ["tape", "seed", "words", "budget"];
+static RUN_OPTIONS: [&str; 7] = [
+    "tape", "seed", "words", "schedule", "shuffle", "record", "budget",
+];
 
 static DEAL_REQUIRED: [&str; 3] = ["input", "tape", "to"];
 

@@ -14,13 +14,27 @@ pub enum TapeSource {
     Seed(TapeSeed),
 }
 
-/// The words of `run`: the paths of the program and the input file, the tapes, and the most that the run may cost.
+/// In which order the messages of a run are delivered.
+#[derive(Drop)]
+pub enum DeliveryOrder {
+    /// Always on the first link, in the order 12, 13, 21, 23, 31, 32, that has one.
+    InTurn,
+    /// As the links of the schedule file at this path say.
+    Schedule(String),
+    /// As the words from this seed choose.
+    Shuffle([u8; 32]),
+}
+
+/// The words of `run`: the paths of the program and the input file, the tapes, the most that the run may cost, the order of deliveries,
+/// and the path to which the links that were delivered are written.
 #[derive(Drop)]
 pub struct RunWords {
     pub program: String,
     pub input: String,
     pub source: TapeSource,
     pub budget: u64,
+    pub order: DeliveryOrder,
+    pub recorded: Option<String>,
 }
 
 /// The words of `deal`: the paths of the input file and the tape file, and the start of the paths that are written.

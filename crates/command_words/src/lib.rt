@@ -12,7 +12,8 @@ mod tape_seed;
 mod values;
 
 pub use command::{
-    CheckWords, Command, CompileWords, DealWords, EvalWords, RunWords, TapeSource, WordsErr,
+    CheckWords, Command, CompileWords, DealWords, DeliveryOrder, EvalWords, RunWords, TapeSource,
+    WordsErr,
 };
 pub use reading::read;
 pub use tape_seed::TapeSeed;

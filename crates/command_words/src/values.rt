@@ -1,11 +1,12 @@
 //! What a command's words give, once `clap` has matched them.
 ghost use Rattle.std.specs.Prelude.{◌≡◌, option_map, IfOk, string_bytes, codes};
 ghost use Rattle.clap.specs.Words.{found_of, first_of, rows_of};
-ghost use Rattle.command_words.specs.Ask.{required_of, default_budget, number_or, seeded_source, source_of, run_of, deal_of, check_of, compile_of, eval_of, named};
-ghost use Rattle.command_words.specs.Views.{Reads, text_in, source_ask, run_ask, deal_ask, check_ask, compile_ask, eval_ask, ask_of};
+ghost use Rattle.command_words.specs.Ask.{required_of, default_budget, number_or, seeded_source, source_of, order_of, run_of, deal_of, check_of, compile_of, eval_of, named};
+ghost use Rattle.command_words.specs.Views.{Reads, text_in, source_ask, order_ask, run_ask, deal_ask, check_ask, compile_ask, eval_ask, ask_of};
 
 use crate::command::{
-    CheckWords, Command, CompileWords, DealWords, EvalWords, RunWords, TapeSource, WordsErr,
+    CheckWords, Command, CompileWords, DealWords, DeliveryOrder, EvalWords, RunWords, TapeSource,
+    WordsErr,
 };
 use crate::numbers::{number, seed};
 use crate::tape_seed::TapeSeed;
@@ -75,6 +76,36 @@ fn source(
     }
 }
 
+// In which order messages are delivered.
+#[tactic(auto, unfolding(crate::specs::Ask::order_of))]
+fn order(
+    alloc: Global,
+    schedule: Option<&str>,
+    shuffle: Option<&str>,
+) -> Result<DeliveryOrder, WordsErr>
+    ensures { Reads order_ask (order_of (text_in schedule.entry) (text_in shuffle.entry)) result }
+{
+    match (schedule, shuffle) {
+        (None, None) => Ok(DeliveryOrder::InTurn),
+        (Some(path), None) => Ok(DeliveryOrder::Schedule(String::from_str(alloc, path)?)),
+        (None, Some(text)) => match seed(text) {
+            Some(seed) => Ok(DeliveryOrder::Shuffle(seed)),
+            None => Err(WordsErr::Usage),
+        },
+        (Some(_), Some(_)) => Err(WordsErr::Usage),
+    }
+}
+
+// A text of its own, if there is one.
+fn own_text(alloc: Global, text: Option<&str>) -> Result<Option<String>, AllocError>
+    ensures { IfOk result (λ own. option_map string_bytes own ≡ text_in text.entry) }
+{
+    match text {
+        Some(text) => Ok(Some(String::from_str(alloc, text)?)),
+        None => Ok(None),
+    }
+}
+
 // The most that a run may cost.
 fn budget_in(matches: &ArgMatches) -> Option<u64>
     ensures { result ≡ number_or default_budget (first_of (codes "budget") (rows_of (found_of matches.now))) }
@@ -107,17 +138,22 @@ fn run_words(alloc: Global, matches: &ArgMatches) -> Result<RunWords, WordsErr>
     let Some(budget) = budget_in(matches) else {
         return Err(WordsErr::Usage);
     };
+    let source = source(
+        alloc,
+        value(matches, "tape"),
+        value(matches, "seed"),
+        value(matches, "words"),
+    )?;
+    let order = order(alloc, value(matches, "schedule"), value(matches, "shuffle"))?;
+    let recorded = own_text(alloc, value(matches, "record"))?;
     let paths = paths_of(alloc, matches)?;
     Ok(RunWords {
-        source: source(
-            alloc,
-            value(matches, "tape"),
-            value(matches, "seed"),
-            value(matches, "words"),
-        )?,
         program: paths.program,
         input: paths.input,
+        source,
         budget,
+        order,
+        recorded,
     })
 }
 
