@@ -17,26 +17,30 @@ _secrec_used() {
   return 1
 }
 _secrec() {
-  local current=${COMP_WORDS[COMP_CWORD]} before=$((COMP_CWORD - 1)) options used=' ' left='' option program='' k
+  local current=${COMP_WORDS[COMP_CWORD]} before=$((COMP_CWORD - 1)) options used=' ' left='' option program='' miner=none k
   COMPREPLY=()
   if [ "$COMP_CWORD" -eq 1 ]; then
-    _secrec_words 'check compile eval need run deal'
+    _secrec_words 'check compile eval need run deal map simulate twin load'
     return
   fi
   case ${COMP_WORDS[1]} in
     check) options='' ;;
     compile) options='--code' ;;
     eval | need) options='--input --budget' ;;
-    run) options='--input --tape --seed --words --schedule --shuffle --record --budget' ;;
+    run) options='--input --tape --seed --words --schedule --shuffle --record --budget --views' ;;
     deal) options='--input --tape --to' program=none ;;
+    map) options='--input --tape --sim --public --opened --budget' miner='' ;;
+    simulate) options='--public --opened --sim --view --schedule --shuffle --budget' miner='' ;;
+    twin) options='--input --second --tape --to --budget' miner='' ;;
+    load) options='--number' program=none ;;
     *) return ;;
   esac
   # (`--name=value` comes in three words)
   if [ "$current" = '=' ]; then current=''; elif [ "${COMP_WORDS[before]}" = '=' ]; then before=$((before - 1)); fi
   case ${COMP_WORDS[before]} in
-    --input) _secrec_files '*.json'; return ;;
-    --code | --tape | --to | --schedule | --record) _secrec_files '*'; return ;;
-    --seed | --words | --budget | --shuffle) return ;;
+    --input | --second | --public) _secrec_files '*.json'; return ;;
+    --code | --tape | --to | --schedule | --record | --views | --sim | --opened | --view) _secrec_files '*'; return ;;
+    --seed | --words | --budget | --shuffle | --number) return ;;
   esac
   for ((k = 2; k < COMP_CWORD; k++)); do
     case ${COMP_WORDS[k]} in
@@ -45,7 +49,7 @@ _secrec() {
         k=$((k + 1))
         [ "${COMP_WORDS[k]-}" != '=' ] || k=$((k + 1))
         ;;
-      *) program=${COMP_WORDS[k]} ;;
+      *) if [ -z "$miner" ]; then miner=${COMP_WORDS[k]}; else program=${COMP_WORDS[k]}; fi ;;
     esac
   done
   for option in $options; do
@@ -58,7 +62,12 @@ _secrec() {
   done
   case $current in
     -*) _secrec_words "$left" ;;
-    *) if [ -z "$program" ]; then _secrec_files '*.sc'; else _secrec_words "$left"; fi ;;
+    *)
+      if [ -z "$miner" ]; then _secrec_words '1 2 3'
+      elif [ -z "$program" ]; then _secrec_files '*.sc'
+      else _secrec_words "$left"
+      fi
+      ;;
   esac
 }
 complete -F _secrec secrec
