@@ -5,9 +5,13 @@ pub mod EvalRefusals
 pub mod Evals
 pub mod Held
 pub mod Judged
+pub mod Later
+pub mod MapPlanned
+pub mod MapRefusals
 pub mod Miners
 pub mod Obeying
 pub mod Planned
+pub mod OpenLines
 pub mod Promises
 pub mod Refusals
 pub mod RunRefusals
@@ -15,3 +19,7 @@ pub mod Runs
 pub mod Sizes
 pub mod Texts
 pub mod Tops
+pub mod TwinPlanned
+pub mod TwinRefusals
+pub mod ViewLaws
+pub mod ViewPromises

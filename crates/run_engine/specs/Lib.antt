@@ -4,11 +4,15 @@ pub mod Deal
 pub mod Ends
 pub mod Eval
 pub mod Judging
+pub mod Map
+pub mod MapPromises
 pub mod Obeying
 pub mod Programs
 pub mod Promises
 pub mod Reading
 pub mod Run
 pub mod Runs
+pub mod Twin
+pub mod TwinPromises
 pub mod Vectors
 pub mod Words

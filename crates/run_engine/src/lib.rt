@@ -6,9 +6,11 @@ mod compile;
 mod deal;
 mod ends;
 mod eval;
+mod map;
 mod programs;
 mod readers;
 mod run;
 mod top;
+mod twin;
 
 pub use top::secrec;
