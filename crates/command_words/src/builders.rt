@@ -1,6 +1,6 @@
 //! The `clap` command that reads the words.
 ghost use Rattle.std.specs.Prelude.{◌≡◌, IfOk, map};
-ghost use Rattle.command_words.specs.Shapes.{word_rule, option_rule, run_options, run_app, deal_app, check_app, compile_app, eval_options, evaluation_app, bare_app, input_app, clear_app, checking_app, secrec_app};
+ghost use Rattle.command_words.specs.Shapes.{word_rule, option_rule, run_options, run_app, deal_app, check_app, compile_app, eval_options, evaluation_app, view_app, map_app, twin_app, bare_app, input_app, clear_app, checking_app, program_app, viewing_app, secrec_app};
 ghost use Rattle.clap.specs.Words.{App, with_subcommand};
 ghost use Rattle.command_words.specs.Builds.{Builds, GetsOptions, IsLocal};
 
@@ -54,6 +54,10 @@ static EVAL_REQUIRED: [&str; 1] = ["input"];
 
 static EVAL_OPTIONS: [&str; 1] = ["budget"];
 
+static MAP_REQUIRED: [&str; 5] = ["input", "tape", "sim", "public", "opened"];
+
+static TWIN_REQUIRED: [&str; 4] = ["input", "second", "tape", "to"];
+
 // The options of `run` that may be left out.
 #[tactic(auto, unfolding(crate::specs::Shapes::run_options))]
 fn run_options() -> &'static [&'static str]
@@ -98,7 +102,7 @@ fn compile_command<'a>(alloc: Global) -> Result<Command<'a>, AllocError>
     with_options(alloc, command, true, COMPILE_REQUIRED.as_slice())
 }
 
-// The options of `eval` and of `need` that may be left out.
+// The options of `eval`, `need`, `map` and `twin` that may be left out.
 #[tactic(auto, unfolding(crate::specs::Shapes::eval_options))]
 fn eval_options() -> &'static [&'static str]
     ensures { map (λ s. s.now) result.now ≡ eval_options }
@@ -114,6 +118,36 @@ fn evaluation_command<'a>(alloc: Global, name: &'a str) -> Result<Command<'a>, A
     let command = Command::new(alloc, name).arg(word(alloc, "program"))?;
     let command = with_options(alloc, command, true, EVAL_REQUIRED.as_slice())?;
     with_options(alloc, command, false, eval_options())
+}
+
+// The command of this name about a miner's view of a program, with these options.
+#[tactic(auto, unfolding(crate::specs::Shapes::view_app, crate::specs::Shapes::command_app))]
+fn view_command<'a>(
+    alloc: Global,
+    name: &'a str,
+    required: &'static [&'static str],
+    optional: &'static [&'static str],
+) -> Result<Command<'a>, AllocError>
+    ensures { IfOk result (λ c. Builds (view_app name.entry.now (map (λ s. s.now) required.now) (map (λ s. s.now) optional.now)) c) }
+{
+    let command = Command::new(alloc, name).arg(word(alloc, "miner"))?;
+    let command = command.arg(word(alloc, "program"))?;
+    let command = with_options(alloc, command, true, required)?;
+    with_options(alloc, command, false, optional)
+}
+
+#[tactic(auto, unfolding(crate::specs::Shapes::map_app))]
+fn map_command<'a>(alloc: Global) -> Result<Command<'a>, AllocError>
+    ensures { IfOk result (λ c. Builds map_app c) }
+{
+    view_command(alloc, "map", MAP_REQUIRED.as_slice(), eval_options())
+}
+
+#[tactic(auto, unfolding(crate::specs::Shapes::twin_app))]
+fn twin_command<'a>(alloc: Global) -> Result<Command<'a>, AllocError>
+    ensures { IfOk result (λ c. Builds twin_app c) }
+{
+    view_command(alloc, "twin", TWIN_REQUIRED.as_slice(), eval_options())
 }
 
 // The command with one more command behind it; without memory for either there is none.
@@ -161,9 +195,23 @@ fn checking_commands<'a>(alloc: Global) -> Result<Command<'a>, AllocError>
     with_command(clear_commands(alloc), check_command(alloc))
 }
 
+// Those, and the one that compiles it.
+fn program_commands<'a>(alloc: Global) -> Result<Command<'a>, AllocError>
+    ensures { IfOk result (λ c. Builds program_app c) }
+{
+    with_command(checking_commands(alloc), compile_command(alloc))
+}
+
+// Those, and the commands about one miner's view.
+fn viewing_commands<'a>(alloc: Global) -> Result<Command<'a>, AllocError>
+    ensures { IfOk result (λ c. Builds viewing_app c) }
+{
+    with_command(program_commands(alloc), map_command(alloc))
+}
+
 /// The whole command.
 pub(crate) fn secrec_command<'a>(alloc: Global) -> Result<Command<'a>, AllocError>
     ensures { IfOk result (λ c. Builds secrec_app c) }
 {
-    with_command(checking_commands(alloc), compile_command(alloc))
+    with_command(viewing_commands(alloc), twin_command(alloc))
 }

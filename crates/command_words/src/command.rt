@@ -3,6 +3,7 @@ ghost use Rattle.std.specs.Prelude.{◌≡◌};
 ghost use Rattle.command_words.specs.declared.command.WordsErr.TheVariants.{Memory};
 
 use crate::tape_seed::TapeSeed;
+use proto_core::Number;
 use std::alloc::AllocError;
 
 /// Where the tapes of a run come from.
@@ -66,6 +67,33 @@ pub struct EvalWords {
     pub budget: u64,
 }
 
+/// The words of `map`: the miner, the paths of the program, the input file and the tape file, the most that the run may cost, and the
+/// paths to which the simulator's tape, the public part of the inputs and the opened lines are written.
+#[derive(Drop)]
+pub struct MapWords {
+    pub miner: Number,
+    pub program: String,
+    pub input: String,
+    pub tape: String,
+    pub sim: String,
+    pub public: String,
+    pub opened: String,
+    pub budget: u64,
+}
+
+/// The words of `twin`: the miner, the paths of the program, the two input files and the tape file, the most that the run may cost, and the
+/// path to which the tape of the second input is written.
+#[derive(Drop)]
+pub struct TwinWords {
+    pub miner: Number,
+    pub program: String,
+    pub input: String,
+    pub second: String,
+    pub tape: String,
+    pub to: String,
+    pub budget: u64,
+}
+
 /// A command, with its words.
 #[derive(Drop)]
 pub enum Command {
@@ -75,6 +103,8 @@ pub enum Command {
     Need(EvalWords),
     Run(RunWords),
     Deal(DealWords),
+    Map(MapWords),
+    Twin(TwinWords),
 }
 
 /// Why words aren't read as a command.
