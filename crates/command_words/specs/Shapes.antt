@@ -53,9 +53,12 @@ evaluation_app name = command_app name (codes "program" ∷ []) (codes "input" �
 unfoldable pub view_app : Text → List Text → List Text → App
 view_app name required optional = command_app name (codes "miner" ∷ codes "program" ∷ []) required optional
 
+unfoldable pub map_required : List Text
+map_required = codes "input" ∷ codes "tape" ∷ codes "sim" ∷ codes "public" ∷ codes "opened" ∷ []
+
 -- map I PROGRAM --input F --tape F --sim F --public F --opened F, and the budget
 unfoldable pub map_app : App
-map_app = view_app (codes "map") (codes "input" ∷ codes "tape" ∷ codes "sim" ∷ codes "public" ∷ codes "opened" ∷ []) eval_options
+map_app = view_app (codes "map") map_required eval_options
 
 -- twin I PROGRAM --input F --second F --tape F --to F, and the budget
 unfoldable pub twin_app : App

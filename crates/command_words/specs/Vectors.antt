@@ -9,11 +9,11 @@ use Rattle.command_words.specs.Ask.{run_of, deal_of, check_of, compile_of, eval_
 use Rattle.command_words.specs.Numbers.{number_of, miner_of, seed_of}
 use Rattle.proto_core.specs.declared.party.Number.TheVariants.{One, Two, Three}
 use Rattle.command_words.specs.Shapes.{secrec_app, viewing_app, program_app, checking_app, clear_app, input_app, run_app, deal_app, check_app, compile_app, evaluation_app, view_app, map_app, twin_app}
-use Rattle.command_words.specs.Shapes.{command_app, bare_app, run_options, eval_options, with_options, word_rule, option_rule}
+use Rattle.command_words.specs.Shapes.{command_app, bare_app, run_options, eval_options, map_required, with_options, word_rule, option_rule}
 
 -- opens the definitions, so that they compute at words that are written out
 unfoldable pub words_on_literals : ⊤
-unfolding clap_on_literals hex_on_literals secrec_app viewing_app program_app checking_app clear_app input_app run_app deal_app check_app compile_app evaluation_app view_app map_app twin_app command_app bare_app run_options eval_options with_options word_rule option_rule words_of named_in named matched run_of deal_of check_of compile_of eval_of map_of twin_of source_of seeded_source order_of number_or required_of number_of miner_of seed_of
+unfolding clap_on_literals hex_on_literals secrec_app viewing_app program_app checking_app clear_app input_app run_app deal_app check_app compile_app evaluation_app view_app map_app twin_app command_app bare_app run_options eval_options map_required simulate_options with_options word_rule option_rule words_of named_in named matched run_of deal_of check_of compile_of eval_of map_of twin_of source_of seeded_source order_of number_or required_of number_of miner_of seed_of
 words_on_literals = tt
 
 -- run p.sc --input i, and then these words
@@ -121,7 +121,7 @@ no_input : words_of (codes "run" ∷ codes "p.sc" ∷ codes "--tape" ∷ codes "
 unfolding words_on_literals
 no_input = refl
 
-unknown_option : run_with (codes "--tape" ∷ codes "t" ∷ codes "--views" ∷ codes "v" ∷ []) ≡ None
+unknown_option : run_with (codes "--tape" ∷ codes "t" ∷ codes "--view" ∷ codes "v" ∷ []) ≡ None
 unfolding words_on_literals
 unknown_option = refl
 

@@ -1,6 +1,6 @@
 //! The `clap` command that reads the words.
 ghost use Rattle.std.specs.Prelude.{◌≡◌, IfOk, map};
-ghost use Rattle.command_words.specs.Shapes.{word_rule, option_rule, run_options, run_app, deal_app, check_app, compile_app, eval_options, evaluation_app, view_app, map_app, twin_app, bare_app, input_app, clear_app, checking_app, program_app, viewing_app, secrec_app};
+ghost use Rattle.command_words.specs.Shapes.{word_rule, option_rule, run_options, run_app, deal_app, check_app, compile_app, eval_options, evaluation_app, view_app, map_required, map_app, twin_app, bare_app, input_app, clear_app, checking_app, program_app, viewing_app, secrec_app};
 ghost use Rattle.clap.specs.Words.{App, with_subcommand};
 ghost use Rattle.command_words.specs.Builds.{Builds, GetsOptions, IsLocal};
 
@@ -136,11 +136,19 @@ fn view_command<'a>(
     with_options(alloc, command, false, optional)
 }
 
+// The options of `map` that must be there.
+#[tactic(auto, unfolding(crate::specs::Shapes::map_required))]
+fn map_required() -> &'static [&'static str]
+    ensures { map (λ s. s.now) result.now ≡ map_required }
+{
+    MAP_REQUIRED.as_slice()
+}
+
 #[tactic(auto, unfolding(crate::specs::Shapes::map_app))]
 fn map_command<'a>(alloc: Global) -> Result<Command<'a>, AllocError>
     ensures { IfOk result (λ c. Builds map_app c) }
 {
-    view_command(alloc, "map", MAP_REQUIRED.as_slice(), eval_options())
+    view_command(alloc, "map", map_required(), eval_options())
 }
 
 #[tactic(auto, unfolding(crate::specs::Shapes::twin_app))]
