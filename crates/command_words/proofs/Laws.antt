@@ -1,5 +1,5 @@
 -- What the definitions say, beyond the functions.
-use Rattle.std.proofs.Common.{◌≡◌, ◌⊎◌, ◌==◌, ◌&&◌, ℕ, Bool, true, false, refl, inl, inr, List, [], ◌∷◌, length, map, Option, Some, None, option_map, cond, codes, find}
+use Rattle.std.proofs.Common.{◌≡◌, ◌⊎◌, subst, ◌==◌, ◌&&◌, ℕ, Bool, true, false, refl, inl, inr, List, [], ◌∷◌, length, map, Option, Some, None, option_map, cond, codes, find}
 use Rattle.std.specs.Bool.{⊤}
 use Rattle.std.specs.List.{list_all}
 use Rattle.clap.specs.Words.{Row, Shape, Text, built, subcommand_of}
@@ -28,11 +28,16 @@ later_too name names (Some met) k = inr k
 
 found_name : (q : Shape → Bool) (words : List Text) (subs : List Shape) → IsNamed (map (λ s. s.name) subs) (option_map (λ s. rows_at s words) (find q subs))
 found_name q words [] = tt
-found_name q words (s ∷ subs) = go (q s)
+found_name q words (s ∷ subs) = go (q s) (found_name q words subs)
   where
-    go : (b : Bool) → IsNamed (s.name ∷ map (λ s. s.name) subs) (option_map (λ s. rows_at s words) (cond b (Some s) (find q subs)))
-    go true = inl refl
-    go false = later_too s.name (map (λ s. s.name) subs) (option_map (λ s. rows_at s words) (find q subs)) (found_name q words subs)
+    go : (b : Bool) → IsNamed (map (λ s. s.name) subs) (option_map (λ s. rows_at s words) (find q subs))
+        → IsNamed (s.name ∷ map (λ s. s.name) subs) (option_map (λ s. rows_at s words) (cond b (Some s) (find q subs)))
+    go true rest = inl refl
+    go false rest = later_too s.name (map (λ s. s.name) subs) (option_map (λ s. rows_at s words) (find q subs)) rest
+
+entered_name : (stop : Option (Text × List Text)) → IsNamed (map (λ s. s.name) (built secrec_app).subs) (entered (built secrec_app) stop)
+entered_name None = tt
+entered_name (Some p) = found_name _ p.1 (built secrec_app).subs
 
 all_names : map (λ s. s.name) (built secrec_app).subs ≡ command_names
 unfolding words_on_literals
@@ -40,12 +45,9 @@ all_names = refl
 
 -- the subcommand that `clap` meets is one of the commands, so no words are refused for their command's name that `clap` takes
 pub name_known : (words : List Text) → IsNamed command_names (subcommand_of secrec_app words)
-name_known words = go command_names all_names (stop_after (built secrec_app).top.rules (names_of (built secrec_app)) (argument_words secrec_app words))
-  where
-    go : (names : List Text) → map (λ s. s.name) (built secrec_app).subs ≡ names → (stop : Option (Text × List Text))
-        → IsNamed names (entered (built secrec_app) stop)
-    go names is None = tt
-    go names is (Some p) = rw is at (found_name _ p.1 (built secrec_app).subs)
+name_known words =
+    subst (λ names. IsNamed names (subcommand_of secrec_app words)) all_names
+    (entered_name (stop_after (built secrec_app).top.rules (names_of (built secrec_app)) (argument_words secrec_app words)))
 
 -- another text is no seed
 pub no_seed : (text : List ℕ) → (length text == 64 && list_all is_lower_hex text) ≡ false → seed_of text ≡ None
