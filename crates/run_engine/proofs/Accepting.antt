@@ -1,15 +1,16 @@
 -- A program was read, or why it wasn't: every command that reads one is refused by it alike.
-use Rattle.std.proofs.Common.{◌≡◌, ◌⊎◌, ℕ, List, Ok, Err, Result, refl, subst, sym, ◌∙◌, inl, inr}
+use Rattle.std.proofs.Common.{◌≡◌, ◌⊎◌, ℕ, List, true, Ok, Err, Result, refl, subst, sym, ◌∙◌, inl, inr}
 use Rattle.outside.specs.Files.{Contents}
 use Rattle.command_frame.specs.declared.status.Status.TheVariants as statuses
 use Rattle.command_frame.specs.Answer.{Answer, Cause, missing}
+use Rattle.command_frame.specs.Status.{is_refusal}
 use Rattle.secrec_ast.specs.Programs.{ProgramTree}
 use Rattle.typed_tree.specs.Programs.{TypedProgramTree}
 use Rattle.program_limits.specs.declared.limit_error.LimitError.{LimitError}
 use Rattle.run_engine.specs.Judging.{Sized, IsSized, Finding, FoundAt, its_program}
 use Rattle.run_engine.specs.Programs.{program_at, small_enough, too_large, tree_at}
 use Rattle.run_engine.specs.Runs.{HoldsProgram, HoldsBadProgram, HoldsTyped, HoldsLarge, ProgramRefused, bad_text, too_large as size_refused}
-use Rattle.run_engine.proofs.Refusals.{Refuses, TreeRead, steps, not_missing, refusing, status_in_answer, status_of_cause, tree_cases}
+use Rattle.run_engine.proofs.Refusals.{TreeRead, steps, not_missing, refusing, status_in_answer, status_of_cause, tree_cases}
 use Rattle.run_engine.proofs.Sizes.{size_found}
 
 large_status : (error : LimitError) → status_of_cause (too_large error) ≡ statuses.Program
@@ -46,8 +47,8 @@ program_cases found files path h r is =
     unread c (inr (status, bad)) = inr (status, inl bad)
 
 -- a command is refused by the program
-pub refused_by_program : (path : List ℕ) (files : Contents) (r : Answer) → Refuses (status_in_answer r) → (c : Cause) → r ≡ Err c
+pub refused_by_program : (path : List ℕ) (files : Contents) (r : Answer) → is_refusal (status_in_answer r) ≡ true → (c : Cause) → r ≡ Err c
     → ProgramRead files path (Err c) → ProgramRefused path files (status_in_answer r)
-refused_by_program path files r why c is (inl missed) = not_missing r c path why.refusal is missed
-refused_by_program path files r why c is (inr (status, inl bad)) = bad_text (refusing r c is ∙ status) bad
-refused_by_program path files r why c is (inr (status, inr (error, large))) = size_refused (refusing r c is ∙ status) error large
+refused_by_program path files r refusal c is (inl missed) = not_missing r c path refusal is missed
+refused_by_program path files r refusal c is (inr (status, inl bad)) = bad_text (refusing r c is ∙ status) bad
+refused_by_program path files r refusal c is (inr (status, inr (error, large))) = size_refused (refusing r c is ∙ status) error large

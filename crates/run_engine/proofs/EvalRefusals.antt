@@ -38,7 +38,7 @@ module _ (found : Finding) (ask : EvalAsk) (files : Contents) (h : FoundAt (its_
   unfolding report_at
   at_report c is e =
       elim (steps (program_at found files ask.program) after_program (Err c) e) [
-        | inl (d, bad, same) ↦ let why_d : c ≡ d = cc in of_program (refused_by_program ask.program files r why c is (program_cases found files ask.program h (Err c) (rw why_d bad)))
+        | inl (d, bad, same) ↦ let why_d : c ≡ d = cc in of_program (refused_by_program ask.program files r why.refusal c is (program_cases found files ask.program h (Err c) (rw why_d bad)))
         | inr (p, there, rest) ↦ at_inputs c is p (program_cases found files ask.program h (Ok p) there) rest
       ]
 

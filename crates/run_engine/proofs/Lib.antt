@@ -6,9 +6,13 @@ pub mod Evals
 pub mod Headline
 pub mod Held
 pub mod Judged
+pub mod Later
+pub mod MapPlanned
+pub mod MapRefusals
 pub mod Miners
 pub mod Obeying
 pub mod Planned
+pub mod OpenLines
 pub mod Promises
 pub mod Refusals
 pub mod RunRefusals
@@ -16,4 +20,8 @@ pub mod Runs
 pub mod Sizes
 pub mod Texts
 pub mod Tops
+pub mod TwinPlanned
+pub mod TwinRefusals
+pub mod ViewLaws
+pub mod ViewPromises
 pub mod Written

@@ -47,7 +47,7 @@ made_taken ask files p entries tapes delivery h have made =
 
 -- ---- views
 
-given_to : (path : List ℕ) (files : Contents) (p : TypedProgramTree) (entries : List Entry) (h : HoldsTyped path files p) → AreSound entries
+pub given_to : (path : List ℕ) (files : Contents) (p : TypedProgramTree) (entries : List Entry) (h : HoldsTyped path files p) → AreSound entries
     → IsGivenTo h.tree p h.within.list entries
 given_to path files p entries h sound =
     let a = accepted_so path files p h in
@@ -56,7 +56,7 @@ given_to path files p entries h sound =
       inputs = sound;
     }
 
-of_words : (entries : List Entry) (tapes : FourTapes) → HaveWords entries tapes → AreTapes tapes
+pub of_words : (entries : List Entry) (tapes : FourTapes) → HaveWords entries tapes → AreTapes tapes
 of_words entries tapes have = record { dealer = have.dealer; miners = have.words }
 
 pub views_made : (i : Number) (ask : RunAsk) (files : Contents) (p : TypedProgramTree) (entries : List Entry) (tapes : FourTapes) (delivery : Delivery)

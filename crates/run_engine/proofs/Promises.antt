@@ -39,7 +39,7 @@ module _ (words : List (List ℕ)) (f f' : FilesState) (o o' e e' : SinkState) (
         | inr m ↦ inr m
       ]
 
-  keeps : (Wanted : Effect → Type 0) (Refused : Status → Type 0) (ends : Status → Bool)
+  pub keeps : (Wanted : Effect → Type 0) (Refused : Status → Type 0) (ends : Status → Bool)
       → ((effect : Effect) → Wanted effect → IsEndingAnswer words f.contents effect)
       → ((answer : Answer) → IsAnswer words f.contents answer → is_refusal (status_in_answer answer) ≡ true → ends (status_in_answer answer) ≡ false
       → Refused (status_in_answer answer))

@@ -119,6 +119,12 @@ no_ending s how why is =
     let no : is_end s ≡ false = why.no_end in
     absurd cc
 
+-- a command that is refused isn't done
+pub not_done : {X : Type 0} (r : Answer) → is_refusal (status_in_answer r) ≡ true → status_in_answer r ≡ statuses.Done → X
+not_done r refusal is =
+    let wrong : is_refusal statuses.Done ≡ true = subst (λ (x : Status). is_refusal x ≡ true) is refusal in
+    absurd cc
+
 -- ---- the program
 
 -- a program that was read, or why it wasn't

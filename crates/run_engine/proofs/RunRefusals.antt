@@ -197,7 +197,7 @@ module _ (found : Finding) (ask : RunAsk) (files : Contents) (h : FoundAt (its_p
   unfolding run_of
   refused_only is =
       elim (steps (program_at found files ask.program) after_program r is) [
-        | inl (c, e, is_r) ↦ bad_program (refused_by_program ask.program files r why c is_r (program_cases found files ask.program h (Err c) e))
+        | inl (c, e, is_r) ↦ bad_program (refused_by_program ask.program files r why.refusal c is_r (program_cases found files ask.program h (Err c) e))
         | inr (p, e, rest) ↦ at_inputs p (program_cases found files ask.program h (Ok p) e) rest
       ]
 

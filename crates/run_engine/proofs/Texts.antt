@@ -65,7 +65,7 @@ module _ (found : Finding) (path : List ℕ) (files : Contents) (h : FoundAt (it
   refused_only : (r : Answer) → Refuses (status_in_answer r) → (program_at found files path >>= effected) ≡ r → ProgramRefused path files (status_in_answer r)
   refused_only r why is =
       elim (steps (program_at found files path) effected r is) [
-        | inl (c, e, is_r) ↦ refused_by_program path files r why c is_r (program_cases found files path h (Err c) e)
+        | inl (c, e, is_r) ↦ refused_by_program path files r why.refusal c is_r (program_cases found files path h (Err c) e)
         | inr (p, e, done) ↦ no_ending (status_in_answer r) Done why (ap status_in_answer (sym done) ∙ ends p)
       ]
 

@@ -5,6 +5,8 @@ pub mod Ends
 pub mod Eval
 pub mod Headline
 pub mod Judging
+pub mod Map
+pub mod MapPromises
 pub mod Obeying
 pub mod Paths
 pub mod Programs
@@ -12,6 +14,8 @@ pub mod Promises
 pub mod Reading
 pub mod Run
 pub mod Runs
+pub mod Twin
+pub mod TwinPromises
 pub mod Vectors
 pub mod Views
 pub mod Words

@@ -3,13 +3,15 @@ use Rattle.std.specs.Prelude.{◌≡◌, ℕ, List, [], Bool, false, Err}
 use Rattle.std.specs.Option.{option_map_or}
 use Rattle.outside.specs.Files.{Contents}
 use Rattle.command_frame.specs.Answer.{Answer, usage}
-use Rattle.command_words.specs.Ask.{Ask, run, deal, check, compile, eval, need, words_of}
+use Rattle.command_words.specs.Ask.{Ask, run, deal, check, compile, eval, need, map_tape, twin, words_of}
 use Rattle.run_engine.specs.Check.{check_of, check_paths}
 use Rattle.run_engine.specs.Compile.{compile_of, compile_paths, compiled_paths}
 use Rattle.run_engine.specs.Deal.{deal_of, deal_paths, written_paths}
 use Rattle.run_engine.specs.Eval.{eval_of, need_of, eval_paths}
 use Rattle.run_engine.specs.Judging.{Finding, FoundAt, Question, nothing, its_program}
+use Rattle.run_engine.specs.Map.{map_of, map_paths, mapped_paths}
 use Rattle.run_engine.specs.Run.{ran_paths, run_of, run_paths}
+use Rattle.run_engine.specs.Twin.{twin_of, twin_paths, twinned_paths}
 
 -- what a command decides of the files' contents, and of what is found of the program that it reads
 unfoldable pub answer_to : Finding → Ask → Contents → Answer
@@ -19,6 +21,8 @@ answer_to found (check ask) files = check_of found ask files
 answer_to found (compile ask) files = compile_of found ask files
 answer_to found (eval ask) files = eval_of found ask files
 answer_to found (need ask) files = need_of found ask files
+answer_to found (map_tape ask) files = map_of found ask files
+answer_to found (twin ask) files = twin_of found ask files
 
 -- what it asks of a program
 unfoldable pub question_of : Ask → Question
@@ -28,6 +32,8 @@ question_of (check ask) = its_program ask.program
 question_of (compile ask) = its_program ask.program
 question_of (eval ask) = its_program ask.program
 question_of (need ask) = its_program ask.program
+question_of (map_tape ask) = its_program ask.program
+question_of (twin ask) = its_program ask.program
 
 -- the paths that a command reads
 unfoldable pub reads_of : Ask → List (List ℕ)
@@ -37,6 +43,8 @@ reads_of (check ask) = check_paths ask
 reads_of (compile ask) = compile_paths ask
 reads_of (eval ask) = eval_paths ask
 reads_of (need ask) = eval_paths ask
+reads_of (map_tape ask) = map_paths ask
+reads_of (twin ask) = twin_paths ask
 
 -- the paths that it writes
 unfoldable pub writes_of : Ask → List (List ℕ)
@@ -46,6 +54,8 @@ writes_of (check ask) = []
 writes_of (compile ask) = compiled_paths ask
 writes_of (eval ask) = []
 writes_of (need ask) = []
+writes_of (map_tape ask) = mapped_paths ask
+writes_of (twin ask) = twinned_paths ask.to
 
 -- whether it reaches other miners
 abbrev pub uses_links : Ask → Bool
@@ -55,6 +65,8 @@ uses_links (check ask) = false
 uses_links (compile ask) = false
 uses_links (eval ask) = false
 uses_links (need ask) = false
+uses_links (map_tape ask) = false
+uses_links (twin ask) = false
 
 -- whether it starts other programs
 abbrev pub uses_children : Ask → Bool
@@ -64,6 +76,8 @@ uses_children (check ask) = false
 uses_children (compile ask) = false
 uses_children (eval ask) = false
 uses_children (need ask) = false
+uses_children (map_tape ask) = false
+uses_children (twin ask) = false
 
 -- the same of words; those that ask for no command are refused as usage
 unfoldable pub answer_of : Finding → List (List ℕ) → Contents → Answer

@@ -6,11 +6,13 @@ mod compile;
 mod deal;
 mod ends;
 mod eval;
+mod map;
 mod paths;
 mod programs;
 mod readers;
 mod run;
 mod top;
+mod twin;
 mod views;
 
 pub use top::secrec;

@@ -8,27 +8,34 @@ ghost use Rattle.command_frame.specs.Status.{is_end, is_fault, is_refusal};
 ghost use Rattle.command_frame.specs.Stops.{write_line, memory_line};
 ghost use Rattle.command_frame.specs.Whole.{CarriedOut, FileTold, IsAnswered, IsCut, IsMissed, OnlyWritten, OutFaulted};
 ghost use Rattle.command_frame.specs.declared.status.Status.{Status};
-ghost use Rattle.command_words.specs.Ask.{CheckAsk, CompileAsk, EvalAsk, RunAsk, DealAsk, check, compile, eval, need, run, deal, words_of};
+ghost use Rattle.command_words.specs.Ask.{CheckAsk, CompileAsk, EvalAsk, RunAsk, DealAsk, MapAsk, TwinAsk, check, compile, eval, need, run, deal, map_tape, twin, words_of};
 ghost use Rattle.command_words.specs.Views.{ask_of, texts};
+ghost use Rattle.tape_file.specs.Tapes.{FourTapes};
+ghost use Rattle.typed_tree.specs.Programs.{TypedProgramTree};
+ghost use Rattle.value_file.specs.declared.inputs.Entry.{Entry};
 ghost use Rattle.proto_core.specs.declared.party.Number.{Number};
 ghost use Rattle.protocol_model.specs.Network.{Accepted};
 ghost use Rattle.program_run.specs.Miners.{CanBeDealt};
 ghost use Rattle.miner_runs.specs.Programs.{OwnRunsOnShares};
-ghost use Rattle.delivered_run.specs.Laws.{IsMade};
+ghost use Rattle.delivered_run.specs.Laws.{HaveWords, IsMade};
 ghost use Rattle.program_views.specs.Laws.{ViewIsSimulated};
-ghost use Rattle.program_views.specs.TapeMaps.{MapsCorrespond};
+ghost use Rattle.program_views.specs.TapeMaps.{IsTwin, MapsCorrespond, twinned};
 ghost use Rattle.run_engine.specs.Eval.{eval_text, need_text};
 ghost use Rattle.run_engine.specs.Headline.{EndsByBudgetAndTapes, Given, IsGiven, PrintsEvaluation, RefusesSchedule, ScheduleRefused, WritesViewsAndLinks, net_given};
+ghost use Rattle.run_engine.specs.MapPromises.{HoldsMap, MapEffect, MapRefused};
 ghost use Rattle.run_engine.specs.Obeying.{Acted, Obeyed, Planned};
 ghost use Rattle.run_engine.specs.Promises.{AllSteady, CheckEffect, CompileEffect, DealEffect, EvalEffect, RunEffect, Keeps, is_done};
 ghost use Rattle.run_engine.specs.Runs.{DealRefused, EvalRefused, IsNotTaken, ProgramRefused, RunRefused};
+ghost use Rattle.run_engine.specs.TwinPromises.{AreTaken, HoldsTwin, TwinEffect, TwinRefused};
 ghost use Rattle.run_engine.specs.Words.{read_by, written_by, reach_miners, start_programs, IsAnswer, HasAnswer};
 
 use crate::check::plan_check;
 use crate::compile::plan_compile;
 use crate::deal::plan_deal;
 use crate::eval::{plan_eval, plan_need};
+use crate::map::plan_map;
 use crate::run::plan_run;
+use crate::twin::plan_twin;
 use command_frame::{Plan, Status, Stop, ended_status, finish_plan, say};
 use command_words::{Command, WordsErr, read};
 use outside::{Files, Links, Sink, Spawner};
@@ -45,6 +52,8 @@ fn plan<F: Files>(alloc: Global, files: &mut F, command: &Command) -> Result<Pla
         Command::Compile(words) => plan_compile(alloc, files, words),
         Command::Eval(words) => plan_eval(alloc, files, words),
         Command::Need(words) => plan_need(alloc, files, words),
+        Command::Map(words) => plan_map(alloc, files, words),
+        Command::Twin(words) => plan_twin(alloc, files, words),
     }
 }
 
@@ -221,6 +230,29 @@ pub fn secrec<F: Files, O: Sink, E: Sink, L: Links, C: Spawner>(
     ensures deals { (ask : DealAsk) → words_of (texts words.now) ≡ Some (deal ask) → (F.state files.old).told ≡ true →
         Keeps (DealEffect ask (F.state files.old).contents) (DealRefused ask (F.state files.old).contents) is_done
         (F.state files.old) (F.state files.new) (O.state out.old) (O.state out.new) result }
+
+    // `map` writes the tapes that the miner's view of the run is made of, the public part of the inputs, and what is opened, however
+    // the run ends.
+    ensures maps { (ask : MapAsk) → words_of (texts words.now) ≡ Some (map_tape ask) → (F.state files.old).told ≡ true →
+        Keeps (MapEffect ask (F.state files.old).contents) (MapRefused ask (F.state files.old).contents) is_done
+        (F.state files.old) (F.state files.new) (O.state out.old) (O.state out.new) result }
+
+    // The tapes that `map` writes correspond one to one with those that it reads; each keeps its length, and the miner's own its words.
+    ensures mapped_tapes_correspond { (ask : MapAsk) (program : TypedProgramTree) (entries : List Entry) (tapes : FourTapes) →
+        words_of (texts words.now) ≡ Some (map_tape ask) → HoldsMap ask (F.state files.old).contents program entries tapes →
+        HaveWords entries tapes → MapsCorrespond ask.miner program entries tapes ask.budget }
+
+    // `twin` writes the tapes with which the second inputs give the miner the view of the first. Inputs that are not alike, in what
+    // everybody knows or in what is opened, are a refusal of it.
+    ensures twins { (ask : TwinAsk) → words_of (texts words.now) ≡ Some (twin ask) → (F.state files.old).told ≡ true →
+        Keeps (TwinEffect ask (F.state files.old).contents) (TwinRefused ask (F.state files.old).contents) is_done
+        (F.state files.old) (F.state files.new) (O.state out.old) (O.state out.new) result }
+
+    // Under every order of delivery they do so, and the twin of the twin is the first tape.
+    ensures twins_see_the_same { (ask : TwinAsk) (program : TypedProgramTree) (first second : List Entry) (tapes : FourTapes) →
+        words_of (texts words.now) ≡ Some (twin ask) → HoldsTwin ask (F.state files.old).contents program first second tapes →
+        HaveWords first tapes → HaveWords second tapes → AreTaken ask program first second tapes →
+        IsTwin ask.miner program first second tapes (twinned ask.miner program first second tapes ask.budget) ask.budget }
 {
     let ended = act(alloc, words, files, out);
     let _ = say(err, &ended);

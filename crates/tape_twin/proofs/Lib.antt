@@ -1,3 +1,4 @@
 pub mod Bits
 mod Differences
+pub mod FirstDifferences
 mod Runs

@@ -5,12 +5,14 @@
 #![tactic(auto)]
 
 mod alike;
+mod mapped_run;
 mod maps;
 mod running;
 mod twin_err;
 mod twinning;
 mod words;
 
+pub use mapped_run::{MappedRun, map_run};
 pub use maps::{from_sim, to_sim};
 pub use twin_err::TwinErr;
 pub use twinning::{Both, twin};

@@ -1,4 +1,6 @@
 use Rattle.run_engine.proofs.Obeying.{run_planned, deal_planned, check_planned, compile_planned, eval_planned, need_planned}
+use Rattle.run_engine.proofs.MapPlanned.{map_planned}
+use Rattle.run_engine.proofs.TwinPlanned.{twin_planned}
 use Rattle.run_engine.proofs.top.plan.Goals as goal
 
 pub returns-in-Run : goal.returns-in-Run
@@ -29,3 +31,13 @@ pub returns-in-Need : goal.returns-in-Need
 returns-in-Need g c =
     rw c.in-Need.is (need_planned _ _ _ c.plan_need.ensures.files c.plan_need.ensures.anyhow _ c.plan_need.ensures.answer c.plan_need.ensures.found
     c.plan_need.ensures.names)
+
+pub returns-in-Map : goal.returns-in-Map
+returns-in-Map g c =
+    rw c.in-Map.is (map_planned _ _ _ c.plan_map.ensures.files c.plan_map.ensures.anyhow _ c.plan_map.ensures.answer c.plan_map.ensures.found
+    c.plan_map.ensures.names)
+
+pub returns-in-Twin : goal.returns-in-Twin
+returns-in-Twin g c =
+    rw c.in-Twin.is (twin_planned _ _ _ c.plan_twin.ensures.files c.plan_twin.ensures.anyhow _ c.plan_twin.ensures.answer c.plan_twin.ensures.found
+    c.plan_twin.ensures.names)

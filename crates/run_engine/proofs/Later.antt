@@ -1,0 +1,32 @@
+-- What is read of files that were only read is what they held at the beginning; and which programs the crates above take.
+use Rattle.std.proofs.Common.{◌≡◌, ℕ, List, true, Ok, Result, sym, ◌∙◌, ap}
+use Rattle.outside.specs.Files.{Contents, FilesState}
+use Rattle.command_frame.specs.Answer.{Cause}
+use Rattle.command_frame.specs.Reads.{OnlyRead}
+use Rattle.typed_tree.specs.Programs.{TypedProgramTree}
+use Rattle.program_run.specs.Accepted.{IsAccepted}
+use Rattle.tape_twin.specs.Accepted.{IsAcceptedProgram}
+
+-- as at the beginning
+pub record IsStill (f g : FilesState) : Type 0 where
+  pub told : g.told ≡ f.told
+  pub contents : g.contents ≡ f.contents
+
+pub still : (f g : FilesState) → OnlyRead f g → IsStill f g
+still f g read = record { told = read.same.told; contents = read.same.contents }
+
+pub still_later : (f g h : FilesState) → IsStill f g → OnlyRead g h → IsStill f h
+still_later f g h first read = record { told = read.same.told ∙ first.told; contents = read.same.contents ∙ first.contents }
+
+pub read_still : {X : Type 0} (at : Contents → List ℕ → Result X Cause) (f g : FilesState) → IsStill f g → (path other : List ℕ) → path ≡ other → (x : X)
+    → (g.told ≡ true → at g.contents path ≡ Ok x) → f.told ≡ true → at f.contents other ≡ Ok x
+read_still at f g kept path other same x given t =
+    ap (at f.contents) (sym same) ∙ ap (λ (c : Contents). at c path) (sym kept.contents) ∙ given (kept.told ∙ t)
+
+-- an accepted program has instances
+pub has_instances : (p : TypedProgramTree) → IsAccepted p → IsAcceptedProgram p
+has_instances p a = record {
+  source = a.source;
+  instances = a.within.list;
+  accepted = record { typed = a.typed; written = a.written; resolved = a.of; reached = a.within.reached; within = a.within };
+}

@@ -1,0 +1,85 @@
+-- What `twin` plans is what is decided of the files.
+use Rattle.std.proofs.Common.{◌≡◌, ℕ, List, true, Some, None, Ok, Err, Result, refl, sym, ◌∙◌, ap, subst}
+use Rattle.std.specs.Prelude.{IfErr}
+use Rattle.outside.specs.Files.{FilesState}
+use Rattle.command_frame.specs.declared.plan.Plan.{Plan}
+use Rattle.command_frame.specs.declared.stop.Stop.{Stop}
+use Rattle.command_frame.specs.Answer.{Answer, Effect, effect_of}
+use Rattle.command_frame.specs.Reads.{Gives, KeepsTo, OnlyRead, Stops, StopsReading}
+use Rattle.command_words.specs.Ask.{TwinAsk, twin}
+use Rattle.typed_tree.specs.Programs.{TypedProgramTree}
+use Rattle.value_file.specs.declared.inputs.Entry.{Entry}
+use Rattle.tape_file.specs.Format.{tape_bytes}
+use Rattle.tape_file.specs.Tapes.{FourTapes}
+use Rattle.program_views.specs.TapeMaps.{AreAlike, twinned}
+use Rattle.program_views.specs.Views.{lengths_of}
+use Rattle.tape_twin.specs.Alike.{RefusesTwin}
+use Rattle.tape_twin.specs.FirstDifference.{Difference, at_entry, at_word, difference}
+use Rattle.tape_twin.specs.declared.twin_err.TwinErr.{TwinErr}
+use Rattle.tape_twin.specs.declared.twin_err.TwinErr.TheVariants as refusal
+use Rattle.tape_twin.proofs.FirstDifferences.{alike_have_none, told_at_entry, told_at_word}
+use Rattle.run_engine.specs.Judging.{Finding, FoundAt, HasFinding, Tells, its_program}
+use Rattle.run_engine.specs.Obeying.{Planned}
+use Rattle.run_engine.specs.Programs.{program_at}
+use Rattle.run_engine.specs.Reading.{inputs_at, tape_file_at}
+use Rattle.run_engine.specs.Twin.{IsStopOf, by_difference, entry_line, twin_bytes, twin_effect, twin_of, twin_paths, twinned_paths, unlike, word_line, writes_to, written_effect}
+use Rattle.run_engine.specs.Words.{answer_to, question_of, reads_of, writes_of}
+use Rattle.run_engine.proofs.Judged.{refused_so}
+
+written_so : (ask : TwinAsk) (p : TypedProgramTree) (first second : List Entry) (tapes made : FourTapes)
+    → made ≡ twinned ask.miner p first second tapes ask.budget → twin_effect ask p first second tapes ≡ written_effect ask.to made
+unfolding twin_bytes
+written_so ask p first second tapes made is = ap (λ (t : FourTapes). writes_to ask.to (tape_bytes t)) (sym is)
+
+-- what is decided of the files that were read
+module _ (found : Finding) (ask : TwinAsk) (f : FilesState) (p : TypedProgramTree) (first second : List Entry) (tapes : FourTapes)
+    (program : f.told ≡ true → program_at found f.contents ask.program ≡ Ok p)
+    (inputs : f.told ≡ true → inputs_at f.contents ask.input ≡ Ok first)
+    (others : f.told ≡ true → inputs_at f.contents ask.second ≡ Ok second)
+    (taped : f.told ≡ true → tape_file_at f.contents ask.tape ≡ Ok tapes) where
+  abbrev differ : List ℕ → Type 0
+  differ line = twin_of found ask f.contents ≡ Err (unlike line)
+
+  pub twinned_so : (made : FourTapes) → AreAlike p first second (lengths_of tapes) ask.budget
+      → made ≡ twinned ask.miner p first second tapes ask.budget → f.told ≡ true
+      → twin_of found ask f.contents ≡ Ok (written_effect ask.to made)
+  unfolding twin_of by_difference
+  twinned_so made alike is t =
+      rw (program t, inputs t, others t, taped t, alike_have_none p (lengths_of tapes) ask.budget first second alike)
+      (ap (λ (e : Effect). Ok e) (written_so ask p first second tapes made is))
+
+  at_some_entry : (name : List ℕ) → difference p first second (lengths_of tapes) ask.budget ≡ Some (at_entry name) → f.told ≡ true
+      → differ (entry_line name)
+  unfolding twin_of by_difference
+  at_some_entry name is t = rw (program t, inputs t, others t, taped t, is) refl
+
+  at_some_word : (place x y : ℕ) → difference p first second (lengths_of tapes) ask.budget ≡ Some (at_word place x y) → f.told ≡ true
+      → differ (word_line place x y)
+  unfolding twin_of by_difference
+  at_some_word place x y is t = rw (program t, inputs t, others t, taped t, is) refl
+
+  -- inputs that are not alike stop the command
+  pub stops : (f' : FilesState) (e : TwinErr) (stop : Stop) → RefusesTwin p first second (lengths_of tapes) ask.budget e → IsStopOf e stop
+      → Stops f f' stop (twin_of found ask f.contents)
+  stops f' (refusal.PublicDiffers name) stop h is =
+      refused_so f f' stop (twin_of found ask f.contents) is
+      (at_some_entry name (told_at_entry p (lengths_of tapes) ask.budget first second name h))
+  stops f' (refusal.OpenedDiffers place x y) stop h is =
+      refused_so f f' stop (twin_of found ask f.contents) is
+      (at_some_word place x y (told_at_word p (lengths_of tapes) ask.budget first second place x y h.0 h.1))
+  stops f' refusal.Memory stop h is = subst (λ (s : Stop). Stops f f' s (twin_of found ask f.contents)) (sym is) tt
+
+-- ---- the command's own part
+
+pub twin_planned : (f f' : FilesState) (r : Result Plan Stop) → OnlyRead f f' → IfErr r (StopsReading f f') → (ask : TwinAsk)
+    → ((found : Finding) → FoundAt (its_program ask.program) f.contents found → Gives effect_of f f' r (twin_of found ask f.contents))
+    → (f.told ≡ true → Tells f r → HasFinding (its_program ask.program) f.contents) → KeepsTo (twin_paths ask) (twinned_paths ask.to) r
+    → Planned (twin ask) f f' r
+unfolding answer_to question_of reads_of writes_of
+twin_planned f f' r read anyhow ask answer found keeps = record {
+  files = read;
+  anyhow = anyhow;
+  answer = answer;
+  found = found;
+  keeps = keeps;
+}

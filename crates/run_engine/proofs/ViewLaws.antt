@@ -1,0 +1,32 @@
+-- The tapes that `map` writes correspond to those that it reads, and a twin gives the same view.
+use Rattle.std.proofs.Common.{◌≡◌, ℕ, List}
+use Rattle.outside.specs.Files.{Contents}
+use Rattle.command_words.specs.Ask.{MapAsk, TwinAsk}
+use Rattle.tape_file.specs.Tapes.{FourTapes}
+use Rattle.typed_tree.specs.Programs.{TypedProgramTree}
+use Rattle.value_file.specs.declared.inputs.Entry.{Entry}
+use Rattle.delivered_run.specs.Laws.{HaveWords}
+use Rattle.program_views.specs.TapeMaps.{IsTwin, MapsCorrespond, twinned}
+use Rattle.program_views.proofs.Corresponding.{tapes_corresponding}
+use Rattle.program_views.proofs.Twins.{twins_see}
+use Rattle.run_engine.specs.MapPromises.{HoldsMap}
+use Rattle.run_engine.specs.TwinPromises.{AreTaken, HoldsTwin}
+use Rattle.run_engine.proofs.Miners.{given_to, of_words}
+
+pub maps_correspond : (ask : MapAsk) (files : Contents) (p : TypedProgramTree) (entries : List Entry) (tapes : FourTapes)
+    → HoldsMap ask files p entries tapes → HaveWords entries tapes → MapsCorrespond ask.miner p entries tapes ask.budget
+maps_correspond ask files p entries tapes h have =
+    tapes_corresponding ask.miner h.program.tree p entries tapes ask.budget h.program.within.list
+    (given_to ask.program files p entries h.program have.sound) (of_words entries tapes have)
+
+pub twins_see_it : (ask : TwinAsk) (files : Contents) (p : TypedProgramTree) (first second : List Entry) (tapes : FourTapes)
+    → HoldsTwin ask files p first second tapes → HaveWords first tapes → HaveWords second tapes → AreTaken ask p first second tapes
+    → IsTwin ask.miner p first second tapes (twinned ask.miner p first second tapes ask.budget) ask.budget
+twins_see_it ask files p first second tapes h have other alike =
+    twins_see ask.miner h.program.tree p first second tapes ask.budget h.program.within.list
+    (record {
+      one = given_to ask.program files p first h.program have.sound;
+      other = given_to ask.program files p second h.program other.sound;
+      alike = alike;
+    })
+    (of_words first tapes have)

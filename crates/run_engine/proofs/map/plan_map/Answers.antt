@@ -1,0 +1,28 @@
+use Rattle.std.proofs.Common.{sym, ◌∙◌, ap}
+use Rattle.command_words.specs.Views.{map_ask}
+use Rattle.typed_tree.specs.Programs.{typed_program_tree}
+use Rattle.run_engine.specs.Map.{made_effect}
+use Rattle.run_engine.specs.Reading.{inputs_at, tape_file_at}
+use Rattle.run_engine.proofs.Later.{has_instances, read_still, still, still_later}
+use Rattle.run_engine.proofs.MapPlanned.{effect_so, mapped_so}
+use Rattle.run_engine.proofs.Planned.{at_path, done_with}
+use Rattle.run_engine.proofs.map.plan_map.Goals as goal
+
+pub map_run-requires-clause-accepted : goal.map_run-requires-clause-accepted
+map_run-requires-clause-accepted g c = has_instances (typed_program_tree c.in_ok-program.program) c.in_ok-program.ensures.accepted
+
+pub returns-clause-answer : goal.returns-clause-answer
+returns-clause-answer g c = λ found h t.
+    let ask = map_ask c.args.words.now in
+    let p = typed_program_tree c.in_ok-program.program in
+    let f = g.F.Files.state c.args.files.now in
+    let f1 = g.F.Files.state c.read_typed.new.files in
+    let f2 = g.F.Files.state c.read_inputs.new.files in
+    let first = still f f1 c.in_ok-program.ensures.files in
+    let second = still_later f f1 f2 first c.in_ok-inputs.ensures.files in
+    mapped_so found ask f p c.in_ok-inputs.inputs c.in_ok-tapes.tapes (made_effect ask c.in_ok-inputs.inputs c.in_ok-run.run)
+    (at_path c.deref.result.now ask.program c.deref.ensures f p c.in_ok-program.ensures.answer found h t)
+    (read_still inputs_at f f1 first c.deref-2.result.now ask.input c.deref-2.ensures c.in_ok-inputs.inputs c.in_ok-inputs.ensures.answer t)
+    (read_still tape_file_at f f2 second c.deref-3.result.now ask.tape c.deref-3.ensures c.in_ok-tapes.tapes c.in_ok-tapes.ensures.answer t)
+    (effect_so ask p c.in_ok-inputs.inputs c.in_ok-tapes.tapes c.in_ok-run.run c.in_ok-run.ensures.report c.in_ok-run.ensures.tapes)
+    ∙ ap done_with (sym c.in_ok-map_plan.ensures.effect)

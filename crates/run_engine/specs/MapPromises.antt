@@ -1,0 +1,36 @@
+-- Files that can be mapped, what `map` then does, and files that are refused.
+use Rattle.std.specs.Prelude.{◌≡◌, ℕ, List, Some, Ok, Err}
+use Rattle.outside.specs.Files.{Contents, file_at}
+use Rattle.command_frame.specs.declared.status.Status.{Status}
+use Rattle.command_frame.specs.declared.status.Status.TheVariants.{Input, TapeFile}
+use Rattle.command_frame.specs.Answer.{Effect}
+use Rattle.command_words.specs.Ask.{MapAsk}
+use Rattle.typed_tree.specs.Programs.{TypedProgramTree}
+use Rattle.tape_file.specs.Format.{read_of as tapes_read_of}
+use Rattle.tape_file.specs.Tapes.{FourTapes}
+use Rattle.value_file.specs.declared.inputs.Entry.{Entry}
+use Rattle.value_file.specs.declared.read_err.ReadErr.{ReadErr}
+use Rattle.value_file.specs.Input.{read_of as inputs_read_of}
+use Rattle.run_engine.specs.Map.{map_effect}
+use Rattle.run_engine.specs.Reading.{inputs_at, tape_file_at}
+use Rattle.run_engine.specs.Runs.{HoldsTyped, ProgramRefused}
+
+-- the files that `map` reads are there: a program of this typed tree, these inputs and these tapes
+pub record HoldsMap (ask : MapAsk) (files : Contents) (typed : TypedProgramTree) (entries : List Entry) (given : FourTapes) : Type 0 where
+  pub program : HoldsTyped ask.program files typed
+  pub inputs : inputs_at files ask.input ≡ Ok entries
+  pub tapes : tape_file_at files ask.tape ≡ Ok given
+
+-- over such files: the tapes that the miner's view is made of, the public part of the inputs, and what is opened
+abbrev pub MapEffect : MapAsk → Contents → Effect → Type 0
+MapEffect ask files effect = (program : TypedProgramTree) × (entries : List Entry) × (tapes : FourTapes) × HoldsMap ask files program entries tapes
+    × (effect ≡ map_effect ask program entries tapes)
+
+-- why `map` is refused with this status: the first file that is there and not as it must be
+pub data MapRefused (ask : MapAsk) (files : Contents) (status : Status) : Type 0 where
+  for_program : ProgramRefused ask.program files status → MapRefused ask files status
+  for_input : status ≡ Input → (program : TypedProgramTree) → HoldsTyped ask.program files program
+      → (bytes : List ℕ) (err : ReadErr) → file_at files ask.input ≡ Some bytes → inputs_read_of bytes ≡ Err err → MapRefused ask files status
+  for_tape : status ≡ TapeFile → (program : TypedProgramTree) → HoldsTyped ask.program files program
+      → (entries : List Entry) → inputs_at files ask.input ≡ Ok entries
+      → (bytes : List ℕ) (place : ℕ) → file_at files ask.tape ≡ Some bytes → tapes_read_of bytes ≡ Err place → MapRefused ask files status

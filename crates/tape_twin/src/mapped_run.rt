@@ -1,0 +1,56 @@
+// A program's run, and the tapes that a miner's view of it is made of.
+ghost use Rattle.std.specs.Prelude.{◌≡◌, IfOk};
+ghost use Rattle.typed_tree.specs.Programs.{typed_program_tree};
+ghost use Rattle.typed_tree.specs.Sound.{IsSound};
+ghost use Rattle.value_file.specs.Input.{AreInputs};
+ghost use Rattle.clear_eval.specs.Reports.{report_seen};
+ghost use Rattle.program_views.specs.Views.{lengths_of, run_on};
+ghost use Rattle.program_views.specs.TapeMaps.{mapped};
+ghost use Rattle.tape_twin.specs.Accepted.{IsAcceptedProgram};
+
+use crate::running::report_on;
+use clear_eval::Report;
+use proto_core::Number;
+use std::alloc::{AllocError, Global};
+use tape_file::Tapes;
+use tape_maps::to_simulated;
+use typed_tree::TypedProgram;
+use value_file::Inputs;
+
+/// A program's run in the clear, and the tapes that a miner's view of it is made of.
+pub struct MappedRun {
+    pub report: Report,
+    pub tapes: Tapes,
+}
+
+// Written out, so that an early exit calls this once.
+impl Drop for MappedRun {
+    fn drop(self) {
+        let MappedRun {
+            report: _,
+            tapes: _,
+        } = self;
+    }
+}
+
+/// What an accepted program's run in the clear on these inputs and tapes gives, and with it what `to_sim` gives.
+///
+/// An error comes where memory runs short.
+pub fn map_run(
+    alloc: Global,
+    miner: Number,
+    program: &TypedProgram,
+    inputs: &Inputs,
+    tapes: &Tapes,
+    budget: u64,
+) -> Result<MappedRun, AllocError>
+    requires sound { IsSound (typed_program_tree program.now) }
+    requires accepted { IsAcceptedProgram (typed_program_tree program.now) }
+    requires inputs { AreInputs inputs.now }
+    ensures report { IfOk result (λ run. report_seen run.report ≡ run_on (typed_program_tree program.now) inputs.now (lengths_of tapes.now) budget) }
+    ensures tapes { IfOk result (λ run. run.tapes ≡ mapped miner (typed_program_tree program.now) inputs.now tapes.now budget) }
+{
+    let report = report_on(alloc, program, inputs, tapes, budget)?;
+    let tapes = to_simulated(alloc, miner, inputs, &report.gates, tapes)?;
+    Ok(MappedRun { report, tapes })
+}
