@@ -5,8 +5,10 @@ pub mod EvalRefusals
 pub mod Evals
 pub mod Held
 pub mod Judged
+pub mod Loads
 pub mod Miners
 pub mod Obeying
+pub mod OfTexts
 pub mod Planned
 pub mod Promises
 pub mod Refusals

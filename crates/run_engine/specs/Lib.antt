@@ -4,7 +4,9 @@ pub mod Deal
 pub mod Ends
 pub mod Eval
 pub mod Judging
+pub mod Load
 pub mod Obeying
+pub mod OfText
 pub mod Programs
 pub mod Promises
 pub mod Reading

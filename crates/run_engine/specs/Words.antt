@@ -3,12 +3,13 @@ use Rattle.std.specs.Prelude.{◌≡◌, ℕ, List, [], Bool, false, Err}
 use Rattle.std.specs.Option.{option_map_or}
 use Rattle.outside.specs.Files.{Contents}
 use Rattle.command_frame.specs.Answer.{Answer, usage}
-use Rattle.command_words.specs.Ask.{Ask, run, deal, check, compile, eval, need, words_of}
+use Rattle.command_words.specs.Ask.{Ask, run, deal, check, compile, eval, need, load, words_of}
 use Rattle.run_engine.specs.Check.{check_of, check_paths}
 use Rattle.run_engine.specs.Compile.{compile_of, compile_paths, compiled_paths}
 use Rattle.run_engine.specs.Deal.{deal_of, deal_paths, written_paths}
 use Rattle.run_engine.specs.Eval.{eval_of, need_of, eval_paths}
 use Rattle.run_engine.specs.Judging.{Finding, FoundAt, Question, nothing, its_program}
+use Rattle.run_engine.specs.Load.{load_of}
 use Rattle.run_engine.specs.Run.{ran_paths, run_of, run_paths}
 
 -- what a command decides of the files' contents, and of what is found of the program that it reads
@@ -19,8 +20,9 @@ answer_to found (check ask) files = check_of found ask files
 answer_to found (compile ask) files = compile_of found ask files
 answer_to found (eval ask) files = eval_of found ask files
 answer_to found (need ask) files = need_of found ask files
+answer_to found (load ask) files = load_of ask
 
--- what it asks of a program
+-- what it asks of a program; what that of a workload is doesn't hang on any file
 unfoldable pub question_of : Ask → Question
 question_of (run ask) = its_program ask.program
 question_of (deal ask) = nothing
@@ -28,6 +30,7 @@ question_of (check ask) = its_program ask.program
 question_of (compile ask) = its_program ask.program
 question_of (eval ask) = its_program ask.program
 question_of (need ask) = its_program ask.program
+question_of (load ask) = nothing
 
 -- the paths that a command reads
 unfoldable pub reads_of : Ask → List (List ℕ)
@@ -37,6 +40,7 @@ reads_of (check ask) = check_paths ask
 reads_of (compile ask) = compile_paths ask
 reads_of (eval ask) = eval_paths ask
 reads_of (need ask) = eval_paths ask
+reads_of (load ask) = []
 
 -- the paths that it writes
 unfoldable pub writes_of : Ask → List (List ℕ)
@@ -46,6 +50,7 @@ writes_of (check ask) = []
 writes_of (compile ask) = compiled_paths ask
 writes_of (eval ask) = []
 writes_of (need ask) = []
+writes_of (load ask) = []
 
 -- whether it reaches other miners
 abbrev pub uses_links : Ask → Bool
@@ -55,6 +60,7 @@ uses_links (check ask) = false
 uses_links (compile ask) = false
 uses_links (eval ask) = false
 uses_links (need ask) = false
+uses_links (load ask) = false
 
 -- whether it starts other programs
 abbrev pub uses_children : Ask → Bool
@@ -64,6 +70,7 @@ uses_children (check ask) = false
 uses_children (compile ask) = false
 uses_children (eval ask) = false
 uses_children (need ask) = false
+uses_children (load ask) = false
 
 -- the same of words; those that ask for no command are refused as usage
 unfoldable pub answer_of : Finding → List (List ℕ) → Contents → Answer

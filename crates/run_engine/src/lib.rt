@@ -6,6 +6,7 @@ mod compile;
 mod deal;
 mod ends;
 mod eval;
+mod load;
 mod programs;
 mod readers;
 mod run;

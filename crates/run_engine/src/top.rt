@@ -8,7 +8,7 @@ ghost use Rattle.command_frame.specs.Status.{is_end, is_fault, is_refusal};
 ghost use Rattle.command_frame.specs.Stops.{write_line, memory_line};
 ghost use Rattle.command_frame.specs.Whole.{CarriedOut, FileTold, IsAnswered, IsCut, IsMissed, OnlyWritten, OutFaulted};
 ghost use Rattle.command_frame.specs.declared.status.Status.{Status};
-ghost use Rattle.command_words.specs.Ask.{CheckAsk, CompileAsk, EvalAsk, RunAsk, DealAsk, check, compile, eval, need, run, deal, words_of};
+ghost use Rattle.command_words.specs.Ask.{CheckAsk, CompileAsk, EvalAsk, RunAsk, DealAsk, LoadAsk, check, compile, eval, need, run, deal, load, words_of};
 ghost use Rattle.command_words.specs.Views.{ask_of, texts};
 ghost use Rattle.tape_file.specs.Tapes.{FourTapes};
 ghost use Rattle.typed_tree.specs.Programs.{TypedProgramTree};
@@ -18,8 +18,9 @@ ghost use Rattle.program_run.specs.Miners.{CanBeDealt};
 ghost use Rattle.miner_runs.specs.Programs.{OwnRunsOnShares};
 ghost use Rattle.delivered_run.specs.Laws.{HaveWords, IsMade};
 ghost use Rattle.run_engine.specs.Eval.{eval_text, need_text};
+ghost use Rattle.run_engine.specs.Load.{IsNeverRefused};
 ghost use Rattle.run_engine.specs.Obeying.{Acted, Obeyed, Planned};
-ghost use Rattle.run_engine.specs.Promises.{AllSteady, CheckEffect, CompileEffect, DealEffect, EvalEffect, RunEffect, Keeps, is_done};
+ghost use Rattle.run_engine.specs.Promises.{AllSteady, CheckEffect, CompileEffect, DealEffect, EvalEffect, LoadEffect, RunEffect, Keeps, is_done};
 ghost use Rattle.run_engine.specs.Runs.{DealRefused, EvalRefused, HoldsRun, ProgramRefused, RunRefused, net_for};
 ghost use Rattle.run_engine.specs.Words.{read_by, written_by, reach_miners, start_programs, IsAnswer, HasAnswer};
 
@@ -27,6 +28,7 @@ use crate::check::plan_check;
 use crate::compile::plan_compile;
 use crate::deal::plan_deal;
 use crate::eval::{plan_eval, plan_need};
+use crate::load::plan_load;
 use crate::run::plan_run;
 use command_frame::{Plan, Status, Stop, ended_status, finish_plan, say};
 use command_words::{Command, WordsErr, read};
@@ -44,6 +46,7 @@ fn plan<F: Files>(alloc: Global, files: &mut F, command: &Command) -> Result<Pla
         Command::Compile(words) => plan_compile(alloc, files, words),
         Command::Eval(words) => plan_eval(alloc, files, words),
         Command::Need(words) => plan_need(alloc, files, words),
+        Command::Load(words) => plan_load(alloc, words),
     }
 }
 
@@ -189,6 +192,11 @@ pub fn secrec<F: Files, O: Sink, E: Sink, L: Links, C: Spawner>(
     // `deal` writes its six files. A dealer's tape with too few words is a refusal of it.
     ensures deals { (ask : DealAsk) → words_of (texts words.now) ≡ Some (deal ask) → (F.state files.old).told ≡ true →
         Keeps (DealEffect ask (F.state files.old).contents) (DealRefused ask (F.state files.old).contents) is_done
+        (F.state files.old) (F.state files.new) (O.state out.old) (O.state out.new) result }
+
+    // `load` prints the text of the evaluation of the workload of its number, and how many messages were delivered. It is never refused.
+    ensures loads { (ask : LoadAsk) → words_of (texts words.now) ≡ Some (load ask) → (F.state files.old).told ≡ true →
+        Keeps (LoadEffect ask) IsNeverRefused is_end
         (F.state files.old) (F.state files.new) (O.state out.old) (O.state out.new) result }
 {
     let ended = act(alloc, words, files, out);

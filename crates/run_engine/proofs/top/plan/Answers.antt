@@ -1,3 +1,4 @@
+use Rattle.run_engine.proofs.Loads.{load_planned}
 use Rattle.run_engine.proofs.Obeying.{run_planned, deal_planned, check_planned, compile_planned, eval_planned, need_planned}
 use Rattle.run_engine.proofs.top.plan.Goals as goal
 
@@ -29,3 +30,7 @@ pub returns-in-Need : goal.returns-in-Need
 returns-in-Need g c =
     rw c.in-Need.is (need_planned _ _ _ c.plan_need.ensures.files c.plan_need.ensures.anyhow _ c.plan_need.ensures.answer c.plan_need.ensures.found
     c.plan_need.ensures.names)
+
+pub returns-in-Load : goal.returns-in-Load
+returns-in-Load g c =
+    rw c.in-Load.is (load_planned _ (g.F.Files.state c.args.files.now) _ c.plan_load.ensures.effect c.plan_load.ensures.memory c.plan_load.ensures.names)
