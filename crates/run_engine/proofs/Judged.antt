@@ -1,7 +1,6 @@
--- What was read of a program's text is its judgement.
+-- The text that is read of a file, and the judgement of none.
 use Rattle.std.proofs.Common.{◌≡◌, ℕ, List, [], true, Option, Some, None, Ok, Err, Result, refl, ap, subst, sym, ◌∙◌}
 use Rattle.std.specs.Option.{ok_or}
-use Rattle.std.specs.Result.{IsErrAnd}
 use Rattle.outside.specs.Files.{Contents, FilesState, file_at}
 use Rattle.sc_text.specs.declared.code.PlacedFault.TheVariants.{BadByte}
 use Rattle.front_end.specs.declared.program_fault.ProgramFault.{ProgramFault}
@@ -15,11 +14,10 @@ use Rattle.command_frame.specs.Answer.{Cause, bytes_at, missing}
 use Rattle.command_frame.specs.Reads.{Stops}
 use Rattle.command_frame.specs.Stops.{IsRefusalFor}
 use Rattle.program_limits.specs.declared.limit_error.LimitError.TheVariants.{Memory}
-use Rattle.run_engine.specs.Judging.{JudgedAt, HasJudgement, Sized, HasFinding, nothing, StopTells, Tells}
-use Rattle.run_engine.specs.Programs.{accepted, tree_at}
+use Rattle.run_engine.specs.Judging.{JudgedAt, Sized, HasFinding, nothing}
 
 -- the bytes that were read are those of the file
-found_there : (files : Contents) (path bytes : List ℕ) → bytes_at files path ≡ Ok bytes → file_at files path ≡ Some bytes
+pub found_there : (files : Contents) (path bytes : List ℕ) → bytes_at files path ≡ Ok bytes → file_at files path ≡ Some bytes
 unfolding bytes_at
 found_there files path bytes is = go (file_at files path) is
   where
@@ -35,19 +33,6 @@ not_there files path c is = go (file_at files path) is
     go (Some b) is = absurd cc
     go None is = refl
 
--- where the text has one judgement and no other, the tree is what this judgement says
-pub tree_known : (files : Contents) (path bytes : List ℕ) (known judged : Judged) → bytes_at files path ≡ Ok bytes → ((j : Judged) → IsJudged bytes j → j ≡ known)
-    → JudgedAt (Some path) files judged → tree_at judged files path ≡ accepted known
-unfolding tree_at
-tree_known files path bytes known judged is only h = rw (is, only judged (h bytes (found_there files path bytes is))) refl
-
-pub judgement_known : (files : Contents) (path bytes : List ℕ) (known : Judged) → bytes_at files path ≡ Ok bytes → IsJudged bytes known → HasJudgement (Some path) files
-judgement_known files path bytes known is judged =
-    (known, λ b there. subst (λ (x : List ℕ). IsJudged x known) (same b there) judged)
-  where
-    same : (b : List ℕ) → file_at files path ≡ Some b → bytes ≡ b
-    same b there = let both : Some bytes ≡ Some b = sym (found_there files path bytes is) ∙ there in cc
-
 -- any judgement, of no text
 abbrev pub some : Judged
 some = Err (record { fault = BadByte; place = record { line = 1; column = 1 } })
@@ -57,23 +42,6 @@ no_text files path c is = λ b there. absurd (wrong b there)
   where
     wrong : (b : List ℕ) → file_at files path ≡ Some b → ⊥
     wrong b there = let both : None ≡ Some b = sym (not_there files path c is) ∙ there in cc
-
-pub judgement_of_none : (files : Contents) (path : List ℕ) (c : Cause) → bytes_at files path ≡ Err c → HasJudgement (Some path) files
-judgement_of_none files path c is = (some, no_text files path c is)
-
--- a file that could not be read, of a store that tells
-pub unread : (files : FilesState) (new : FilesState) (path : List ℕ) (stop : Stop) → Stops files new stop (bytes_at files.contents path)
-    → files.told ≡ true → StopTells files stop → HasJudgement (Some path) files.contents
-unread files new path stops.Memory s t tells = absurd tells
-unread files new path stops.Usage s t tells = absurd s
-unread files new path (stops.Refused r) s t tells = judgement_of_none files.contents path _ (s t)
-unread files new path (stops.File line) s t tells = judgement_of_none files.contents path _ (s.missing tells t)
-unread files new path stops.Out s t tells = absurd s
-
-pub unread_on : {X : Type 0} (files new : FilesState) (path : List ℕ) (stop : Stop) (r : Result X Stop) → IsErrAnd r (λ given. given ≡ stop) → Stops files new stop (bytes_at files.contents path)
-    → files.told ≡ true → Tells files r → HasJudgement (Some path) files.contents
-unread_on files new path stop (Ok x) is s t tells = absurd is
-unread_on files new path stop (Err given) is s t tells = unread files new path stop s t (subst (StopTells files) is tells)
 
 -- a refusal that is decided
 pub refused_so : {Y : Type 0} (old new : FilesState) (stop : Stop) (decided : Result Y Cause) {cause : Cause} → IsRefusalFor cause stop → (old.told ≡ true → decided ≡ Err cause) → Stops old new stop decided

@@ -9,8 +9,10 @@ pub mod Judged
 pub mod Later
 pub mod MapPlanned
 pub mod MapRefusals
+pub mod Loads
 pub mod Miners
 pub mod Obeying
+pub mod OfTexts
 pub mod Planned
 pub mod OpenLines
 pub mod Promises

@@ -92,7 +92,7 @@ compiled found ask files p raw h is of =
 
 -- ---- the run of a program that was read
 
-told_end : (r : Report) (told : RunReport) → TellsAs r told → end_of r ≡ told.end
+pub told_end : (r : Report) (told : RunReport) → TellsAs r told → end_of r ≡ told.end
 told_end r told h = rw (ap ending_of h.stop, sym h.cost) refl
 
 abbrev effect_with : RunAsk → List Written → List Event → End → List Link → Effect

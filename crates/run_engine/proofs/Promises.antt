@@ -7,15 +7,17 @@ use Rattle.command_frame.specs.declared.status.Status.TheVariants as statuses
 use Rattle.command_frame.specs.Answer.{Answer, Effect}
 use Rattle.command_frame.specs.Status.{is_end, is_fault, is_refusal}
 use Rattle.command_frame.specs.Whole.{CarriedOut, IsAnswered}
-use Rattle.command_words.specs.Ask.{CheckAsk, CompileAsk, DealAsk, EvalAsk, RunAsk, check, compile, deal, eval, need, run, words_of}
+use Rattle.command_words.specs.Ask.{CheckAsk, CompileAsk, DealAsk, EvalAsk, LoadAsk, RunAsk, check, compile, deal, eval, load, need, run, words_of}
 use Rattle.run_engine.specs.Eval.{end_of, eval_text, need_text, report_for}
-use Rattle.run_engine.specs.Promises.{AllSteady, CheckEffect, CompileEffect, DealEffect, EvalEffect, RunEffect, Gives, Keeps, is_done}
+use Rattle.run_engine.specs.Load.{IsNeverRefused, load_report}
+use Rattle.run_engine.specs.Promises.{AllSteady, CheckEffect, CompileEffect, DealEffect, EvalEffect, LoadEffect, RunEffect, Gives, Keeps, is_done}
 use Rattle.run_engine.specs.Run.{run_report}
 use Rattle.run_engine.specs.Runs.{DealRefused, EvalRefused, ProgramRefused, RunRefused}
 use Rattle.run_engine.specs.Words.{IsAnswer, HasAnswer}
 use Rattle.run_engine.proofs.Deals.{deal_answered_so, deal_refused_only}
 use Rattle.run_engine.proofs.Evals.{eval_answered, eval_answered_so, eval_refused_so, need_answered}
 use Rattle.run_engine.proofs.Judged.{found_nothing}
+use Rattle.run_engine.proofs.Loads.{load_answered, load_never_refused}
 use Rattle.run_engine.proofs.Refusals.{Refuses, end_is, status_in_answer}
 use Rattle.run_engine.proofs.RunRefusals.{run_answered, run_answered_so, run_refused_only}
 use Rattle.run_engine.proofs.Runs.{HasAnswerOf, carried_status, deal_answered, no_fault_end, no_fault_refusal, refused_if}
@@ -96,3 +98,9 @@ module _ (words : List (List ℕ)) (f f' : FilesState) (o o' e e' : SinkState) (
       (λ effect w. subst (IsEndingAnswer words f.contents) (sym w.4)
       (record { answer = deal_answered words ask w.0 w.1 f.contents asks w.2 w.3 (found_nothing f.contents); ends = refl }))
       (λ answer a r u. deal_refused_only words ask f.contents asks answer a r) (λ status refused. deal_answered_so words ask f.contents status asks refused)
+
+  pub load_keeps : (ask : LoadAsk) → words_of words ≡ Some (load ask) → Keeps (LoadEffect ask) IsNeverRefused is_end f f' o o' s
+  load_keeps ask asks = keeps (LoadEffect ask) IsNeverRefused is_end
+      (λ effect w. subst (IsEndingAnswer words f.contents) (sym w)
+      (record { answer = load_answered words ask f.contents asks (found_nothing f.contents); ends = end_is (end_of (load_report ask.number)).how }))
+      (λ answer a r u. load_never_refused words ask f.contents asks answer a (refuses answer r u)) (λ status refused. absurd refused)

@@ -17,9 +17,6 @@ abbrev pub JudgedAt : Option (List ℕ) → Contents → Judged → Type 0
 JudgedAt None files judged = Unit {0}
 JudgedAt (Some path) files judged = (bytes : List ℕ) → file_at files path ≡ Some bytes → IsJudged bytes judged
 
-abbrev pub HasJudgement : Option (List ℕ) → Contents → Type 0
-HasJudgement path files = (judged : Judged) × JudgedAt path files judged
-
 -- an accepted program as it is run: its typed tree, or what there is too much of in it
 abbrev pub Sized : Type 0
 Sized = Result TypedProgramTree LimitError

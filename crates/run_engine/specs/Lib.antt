@@ -9,6 +9,8 @@ pub mod Map
 pub mod MapPromises
 pub mod Obeying
 pub mod Paths
+pub mod Load
+pub mod OfText
 pub mod Programs
 pub mod Promises
 pub mod Reading

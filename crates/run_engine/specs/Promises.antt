@@ -9,7 +9,7 @@ use Rattle.command_frame.specs.declared.status.Status.TheVariants.{Done, Memory}
 use Rattle.command_frame.specs.Answer.{Effect}
 use Rattle.command_frame.specs.Status.{is_fault, is_refusal}
 use Rattle.command_frame.specs.Whole.{IsDone}
-use Rattle.command_words.specs.Ask.{CheckAsk, CompileAsk, DealAsk, EvalAsk, RunAsk}
+use Rattle.command_words.specs.Ask.{CheckAsk, CompileAsk, DealAsk, EvalAsk, RunAsk, LoadAsk}
 use Rattle.protocol_model.specs.Network.{Accepted, Delivery}
 use Rattle.input_share.specs.Dealing.{need_of}
 use Rattle.language_model.specs.Reports.{Report}
@@ -21,6 +21,7 @@ use Rattle.run_engine.specs.Compile.{compile_effect}
 use Rattle.run_engine.specs.Deal.{deal_effect}
 use Rattle.run_engine.specs.Eval.{report_effect, report_for}
 use Rattle.run_engine.specs.Run.{run_told}
+use Rattle.run_engine.specs.Load.{load_effect}
 use Rattle.run_engine.specs.Runs.{HoldsTyped, HoldsEvaluation, HoldsRun, HoldsDeal, net_for}
 
 -- files and output are steady
@@ -71,3 +72,7 @@ RunEffect ask files effect = (program : TypedProgramTree) × (entries : List Ent
 abbrev pub DealEffect : DealAsk → Contents → Effect → Type 0
 DealEffect ask files effect = (entries : List Entry) × (tapes : FourTapes) × HoldsDeal ask files entries tapes × (need_of entries ≤ length tapes.dealer)
     × (effect ≡ deal_effect ask.to entries tapes)
+
+-- of `load`, whatever the files: the text of the evaluation of the workload, its end, and how many messages were delivered
+abbrev pub LoadEffect : LoadAsk → Effect → Type 0
+LoadEffect ask effect = effect ≡ load_effect ask.number

@@ -3,13 +3,14 @@ use Rattle.std.specs.Prelude.{◌≡◌, ℕ, List, [], Bool, false, Err}
 use Rattle.std.specs.Option.{option_map_or}
 use Rattle.outside.specs.Files.{Contents}
 use Rattle.command_frame.specs.Answer.{Answer, usage}
-use Rattle.command_words.specs.Ask.{Ask, run, deal, check, compile, eval, need, map_tape, twin, words_of}
+use Rattle.command_words.specs.Ask.{Ask, run, deal, check, compile, eval, need, map_tape, twin, words_of, load}
 use Rattle.run_engine.specs.Check.{check_of, check_paths}
 use Rattle.run_engine.specs.Compile.{compile_of, compile_paths, compiled_paths}
 use Rattle.run_engine.specs.Deal.{deal_of, deal_paths, written_paths}
 use Rattle.run_engine.specs.Eval.{eval_of, need_of, eval_paths}
 use Rattle.run_engine.specs.Judging.{Finding, FoundAt, Question, nothing, its_program}
 use Rattle.run_engine.specs.Map.{map_of, map_paths, mapped_paths}
+use Rattle.run_engine.specs.Load.{load_of}
 use Rattle.run_engine.specs.Run.{ran_paths, run_of, run_paths}
 use Rattle.run_engine.specs.Twin.{twin_of, twin_paths, twinned_paths}
 
@@ -23,8 +24,9 @@ answer_to found (eval ask) files = eval_of found ask files
 answer_to found (need ask) files = need_of found ask files
 answer_to found (map_tape ask) files = map_of found ask files
 answer_to found (twin ask) files = twin_of found ask files
+answer_to found (load ask) files = load_of ask
 
--- what it asks of a program
+-- what it asks of a program; what that of a workload is doesn't hang on any file
 unfoldable pub question_of : Ask → Question
 question_of (run ask) = its_program ask.program
 question_of (deal ask) = nothing
@@ -34,6 +36,7 @@ question_of (eval ask) = its_program ask.program
 question_of (need ask) = its_program ask.program
 question_of (map_tape ask) = its_program ask.program
 question_of (twin ask) = its_program ask.program
+question_of (load ask) = nothing
 
 -- the paths that a command reads
 unfoldable pub reads_of : Ask → List (List ℕ)
@@ -45,6 +48,7 @@ reads_of (eval ask) = eval_paths ask
 reads_of (need ask) = eval_paths ask
 reads_of (map_tape ask) = map_paths ask
 reads_of (twin ask) = twin_paths ask
+reads_of (load ask) = []
 
 -- the paths that it writes
 unfoldable pub writes_of : Ask → List (List ℕ)
@@ -56,6 +60,7 @@ writes_of (eval ask) = []
 writes_of (need ask) = []
 writes_of (map_tape ask) = mapped_paths ask
 writes_of (twin ask) = twinned_paths ask.to
+writes_of (load ask) = []
 
 -- whether it reaches other miners
 abbrev pub uses_links : Ask → Bool
@@ -67,6 +72,7 @@ uses_links (eval ask) = false
 uses_links (need ask) = false
 uses_links (map_tape ask) = false
 uses_links (twin ask) = false
+uses_links (load ask) = false
 
 -- whether it starts other programs
 abbrev pub uses_children : Ask → Bool
@@ -78,6 +84,7 @@ uses_children (eval ask) = false
 uses_children (need ask) = false
 uses_children (map_tape ask) = false
 uses_children (twin ask) = false
+uses_children (load ask) = false
 
 -- the same of words; those that ask for no command are refused as usage
 unfoldable pub answer_of : Finding → List (List ℕ) → Contents → Answer

@@ -8,6 +8,7 @@ mod ends;
 mod eval;
 mod map;
 mod paths;
+mod load;
 mod programs;
 mod readers;
 mod run;

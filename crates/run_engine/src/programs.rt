@@ -1,5 +1,5 @@
-// The program at a path.
-ghost use Rattle.std.specs.Prelude.{◌≡◌, ◌∷◌, [], true, Some, IfOk, IfErr};
+// Programs, by their texts and by paths.
+ghost use Rattle.std.specs.Prelude.{◌≡◌, ◌∷◌, [], true, IfOk, IfErr};
 ghost use Rattle.secrec_ast.specs.Programs.{program_tree};
 ghost use Rattle.domain_types.specs.Typing.{IsTypedProgram};
 ghost use Rattle.name_resolution.specs.Functions.{typed_of};
@@ -8,11 +8,12 @@ ghost use Rattle.typed_tree.specs.Sound.{IsSound};
 ghost use Rattle.well_typed.specs.Sources.{IsWellWritten};
 ghost use Rattle.writable_code.specs.Sources.{IsPlacedProgram};
 ghost use Rattle.program_run.specs.Accepted.{IsAccepted};
-ghost use Rattle.front_end.specs.Judgement.{Judged};
+ghost use Rattle.front_end.specs.Judgement.{Judged, IsJudged};
 ghost use Rattle.command_frame.specs.Reads.{OnlyRead, Gives, StopNames, StopsReading};
 ghost use Rattle.command_frame.specs.Stops.{IsRefusalFor};
-ghost use Rattle.run_engine.specs.Judging.{JudgedAt, HasJudgement, Finding, FoundAt, HasFinding, its_program, Tells};
-ghost use Rattle.run_engine.specs.Programs.{bad_program, program_at, too_large, tree_at};
+ghost use Rattle.run_engine.specs.Judging.{Finding, FoundAt, HasFinding, its_program, Tells};
+ghost use Rattle.run_engine.specs.OfText.{Decides, HasDecided, IsFoundOf, IsFoundSo, IsJudgedSo, IsOwnStop, program_in};
+ghost use Rattle.run_engine.specs.Programs.{accepted, bad_program, program_at, too_large};
 
 use crate::readers::refusal_of;
 use command_frame::{Status, Stop, read_file};
@@ -49,26 +50,36 @@ fn size_stop(alloc: Global, error: LimitError) -> Stop
     }
 }
 
-/// The program at this path, if it is accepted.
-#[tactic(auto, unfolding(crate::specs::Programs::tree_at))]
-pub fn read_tree<F: Files>(alloc: Global, files: &mut F, path: &str) -> Result<Program, Stop>
-    ensures files { OnlyRead (F.state files.old) (F.state files.new) }
-    ensures anyhow { IfErr result (StopsReading (F.state files.old) (F.state files.new)) }
-    ensures answer { (judged : Judged) → JudgedAt (Some path.now) (F.state files.old).contents judged →
-        Gives program_tree (F.state files.old) (F.state files.new) result
-        (tree_at judged (F.state files.old).contents path.now) }
-    ensures judged { (F.state files.old).told ≡ true → Tells (F.state files.old) result →
-        HasJudgement (Some path.now) (F.state files.old).contents }
+// The program that a text is, if it is accepted.
+fn tree_of_text(alloc: Global, text: &[u8]) -> Result<Program, Stop>
+    ensures answer { (judged : Judged) → IsJudged text.now judged → Decides program_tree result (accepted judged) }
+    ensures judged { HasDecided result → IsJudgedSo text.now }
+    ensures own { IfErr result IsOwnStop }
     ensures typed { IfOk result (λ program. IsTypedProgram (program_tree program)) }
     ensures written { IfOk result (λ program. IsWellWritten (program_tree program)) }
     ensures placed { IfOk result (λ program. IsPlacedProgram (program_tree program)) }
-    ensures names { IfErr result (StopNames (path.now ∷ [])) }
 {
-    let bytes = read_file(alloc, files, path)?;
-    match read_program(alloc, &bytes) {
+    match read_program(alloc, text) {
         Ok(program) => Ok(program),
         Err(ProgramErr::Refused(fault)) => Err(program_stop(alloc, fault)),
         Err(ProgramErr::Memory) => Err(Stop::Memory),
+    }
+}
+
+/// The typed tree of the program that a text is, if it is accepted and small enough.
+#[tactic(auto, unfolding(crate::specs::OfText::program_in))]
+pub fn typed_of_text(alloc: Global, text: &[u8]) -> Result<TypedProgram, Stop>
+    ensures answer { (found : Finding) → IsFoundOf text.now found → Decides typed_program_tree result (program_in found) }
+    ensures found { HasDecided result → IsFoundSo text.now }
+    ensures own { IfErr result IsOwnStop }
+    ensures sound { IfOk result (λ t. IsSound (typed_program_tree t)) }
+    ensures accepted { IfOk result (λ t. IsAccepted (typed_program_tree t)) }
+{
+    let program = tree_of_text(alloc, text)?;
+    let typed = checked_tree(alloc, &program)?;
+    match check_limits(alloc, &typed) {
+        Ok(()) => Ok(typed),
+        Err(error) => Err(size_stop(alloc, error)),
     }
 }
 
@@ -86,10 +97,6 @@ pub fn read_typed<F: Files>(alloc: Global, files: &mut F, path: &str) -> Result<
     ensures accepted { IfOk result (λ t. IsAccepted (typed_program_tree t)) }
     ensures names { IfErr result (StopNames (path.now ∷ [])) }
 {
-    let program = read_tree(alloc, files, path)?;
-    let typed = checked_tree(alloc, &program)?;
-    match check_limits(alloc, &typed) {
-        Ok(()) => Ok(typed),
-        Err(error) => Err(size_stop(alloc, error)),
-    }
+    let bytes = read_file(alloc, files, path)?;
+    typed_of_text(alloc, &bytes)
 }

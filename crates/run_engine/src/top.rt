@@ -8,7 +8,7 @@ ghost use Rattle.command_frame.specs.Status.{is_end, is_fault, is_refusal};
 ghost use Rattle.command_frame.specs.Stops.{write_line, memory_line};
 ghost use Rattle.command_frame.specs.Whole.{CarriedOut, FileTold, IsAnswered, IsCut, IsMissed, OnlyWritten, OutFaulted};
 ghost use Rattle.command_frame.specs.declared.status.Status.{Status};
-ghost use Rattle.command_words.specs.Ask.{CheckAsk, CompileAsk, EvalAsk, RunAsk, DealAsk, MapAsk, TwinAsk, check, compile, eval, need, run, deal, map_tape, twin, words_of};
+ghost use Rattle.command_words.specs.Ask.{CheckAsk, CompileAsk, EvalAsk, RunAsk, DealAsk, MapAsk, TwinAsk, check, compile, eval, need, run, deal, map_tape, twin, words_of, LoadAsk, load};
 ghost use Rattle.command_words.specs.Views.{ask_of, texts};
 ghost use Rattle.tape_file.specs.Tapes.{FourTapes};
 ghost use Rattle.typed_tree.specs.Programs.{TypedProgramTree};
@@ -24,9 +24,10 @@ ghost use Rattle.run_engine.specs.Eval.{eval_text, need_text};
 ghost use Rattle.run_engine.specs.Headline.{EndsByBudgetAndTapes, Given, IsGiven, PrintsEvaluation, RefusesSchedule, ScheduleRefused, WritesViewsAndLinks, net_given};
 ghost use Rattle.run_engine.specs.MapPromises.{HoldsMap, MapEffect, MapRefused};
 ghost use Rattle.run_engine.specs.Obeying.{Acted, Obeyed, Planned};
-ghost use Rattle.run_engine.specs.Promises.{AllSteady, CheckEffect, CompileEffect, DealEffect, EvalEffect, RunEffect, Keeps, is_done};
-ghost use Rattle.run_engine.specs.Runs.{DealRefused, EvalRefused, IsNotTaken, ProgramRefused, RunRefused};
+ghost use Rattle.run_engine.specs.Promises.{AllSteady, CheckEffect, CompileEffect, DealEffect, EvalEffect, RunEffect, Keeps, is_done, LoadEffect};
+ghost use Rattle.run_engine.specs.Runs.{DealRefused, EvalRefused, IsNotTaken, ProgramRefused, RunRefused, HoldsRun, net_for};
 ghost use Rattle.run_engine.specs.TwinPromises.{AreTaken, HoldsTwin, TwinEffect, TwinRefused};
+ghost use Rattle.run_engine.specs.Load.{IsNeverRefused};
 ghost use Rattle.run_engine.specs.Words.{read_by, written_by, reach_miners, start_programs, IsAnswer, HasAnswer};
 
 use crate::check::plan_check;
@@ -34,6 +35,7 @@ use crate::compile::plan_compile;
 use crate::deal::plan_deal;
 use crate::eval::{plan_eval, plan_need};
 use crate::map::plan_map;
+use crate::load::plan_load;
 use crate::run::plan_run;
 use crate::twin::plan_twin;
 use command_frame::{Plan, Status, Stop, ended_status, finish_plan, say};
@@ -54,6 +56,7 @@ fn plan<F: Files>(alloc: Global, files: &mut F, command: &Command) -> Result<Pla
         Command::Need(words) => plan_need(alloc, files, words),
         Command::Map(words) => plan_map(alloc, files, words),
         Command::Twin(words) => plan_twin(alloc, files, words),
+        Command::Load(words) => plan_load(alloc, words),
     }
 }
 
@@ -253,6 +256,11 @@ pub fn secrec<F: Files, O: Sink, E: Sink, L: Links, C: Spawner>(
         words_of (texts words.now) ≡ Some (twin ask) → HoldsTwin ask (F.state files.old).contents program first second tapes →
         HaveWords first tapes → HaveWords second tapes → AreTaken ask program first second tapes →
         IsTwin ask.miner program first second tapes (twinned ask.miner program first second tapes ask.budget) ask.budget }
+
+    // `load` prints the text of the evaluation of the workload of its number, and how many messages were delivered. It is never refused.
+    ensures loads { (ask : LoadAsk) → words_of (texts words.now) ≡ Some (load ask) → (F.state files.old).told ≡ true →
+        Keeps (LoadEffect ask) IsNeverRefused is_end
+        (F.state files.old) (F.state files.new) (O.state out.old) (O.state out.new) result }
 {
     let ended = act(alloc, words, files, out);
     let _ = say(err, &ended);

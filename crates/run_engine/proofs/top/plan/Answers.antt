@@ -1,3 +1,4 @@
+use Rattle.run_engine.proofs.Loads.{load_planned}
 use Rattle.run_engine.proofs.Obeying.{run_planned, deal_planned, check_planned, compile_planned, eval_planned, need_planned}
 use Rattle.run_engine.proofs.MapPlanned.{map_planned}
 use Rattle.run_engine.proofs.TwinPlanned.{twin_planned}
@@ -41,3 +42,7 @@ pub returns-in-Twin : goal.returns-in-Twin
 returns-in-Twin g c =
     rw c.in-Twin.is (twin_planned _ _ _ c.plan_twin.ensures.files c.plan_twin.ensures.anyhow _ c.plan_twin.ensures.answer c.plan_twin.ensures.found
     c.plan_twin.ensures.names)
+
+pub returns-in-Load : goal.returns-in-Load
+returns-in-Load g c =
+    rw c.in-Load.is (load_planned _ (g.F.Files.state c.args.files.now) _ c.plan_load.ensures.effect c.plan_load.ensures.memory c.plan_load.ensures.names)

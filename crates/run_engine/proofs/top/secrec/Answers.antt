@@ -1,7 +1,7 @@
 use Rattle.command_frame.proofs.Wholes.{complete, carried_out, end_says_nothing, file_counted, file_missed, file_told, memory_cuts, memory_said, refused_prints_nothing, usage_of_unnamed, usage_said, usage_unnamed, write_counted, write_cuts, write_said}
 use Rattle.run_engine.proofs.Headline.{ends_by_budget_and_tapes, prints, refuses, schedule_refused, writes}
 use Rattle.run_engine.proofs.Miners.{made_taken, maps_made, miners_run, views_made}
-use Rattle.run_engine.proofs.Promises.{check_keeps, compile_keeps, deal_keeps, eval_keeps, need_keeps, run_keeps}
+use Rattle.run_engine.proofs.Promises.{check_keeps, compile_keeps, deal_keeps, eval_keeps, need_keeps, run_keeps, load_keeps}
 use Rattle.run_engine.proofs.Runs.{no_command}
 use Rattle.run_engine.proofs.Tops.{telling}
 use Rattle.run_engine.proofs.ViewLaws.{maps_correspond, twins_see_it}
@@ -152,3 +152,8 @@ returns-clause-twins g c = λ ask asks t.
 pub returns-clause-twins_see_the_same : goal.returns-clause-twins_see_the_same
 returns-clause-twins_see_the_same g c = λ ask program first second tapes asks held have other alike.
     twins_see_it ask _ program first second tapes held have other alike
+
+pub returns-clause-loads : goal.returns-clause-loads
+returns-clause-loads g c = λ ask asks t.
+    load_keeps _ _ _ _ _ _ _ _ (returns-clause-answered g c t) (λ answer a sound. returns-clause-answer_carried_out g c answer a sound t)
+    (λ answer a steady. returns-clause-complete g c answer a steady t) ask asks

@@ -1,0 +1,188 @@
+-- The run of a workload, and what `load` answers.
+use Rattle.std.proofs.Common.{◌≡◌, ℕ, List, [], ◌++◌, length, true, Some, Ok, Err, Result, refl, ap, subst, sym, ◌∙◌, All}
+use Rattle.std.specs.Prelude.{IfErr, IfOk}
+use Rattle.std.specs.Result.{IsErrAnd}
+use Rattle.outside.specs.Files.{Contents, FilesState}
+use Rattle.sc_text.specs.declared.end.End.{End}
+use Rattle.sc_text.specs.declared.event.Event.{Event}
+use Rattle.sc_text.specs.Event.{run_text}
+use Rattle.proto_core.specs.declared.link.Link.{Link}
+use Rattle.proto_core.specs.declared.party.Number.{Number}
+use Rattle.proto_core.specs.declared.party.Number.TheVariants.{One, Two, Three}
+use Rattle.proto_core.specs.Lists.{AreWords}
+use Rattle.protocol_model.specs.Network.{Accepted, Default, EmptyLink, Stalled}
+use Rattle.input_share.specs.AddUp.{HasWords}
+use Rattle.tape_file.specs.Tapes.{FourTapes}
+use Rattle.value_file.specs.declared.inputs.Entry.{Entry}
+use Rattle.value_file.specs.Input.{AreInputs}
+use Rattle.view_model.specs.TapeMaps.{miners_of}
+use Rattle.typed_tree.specs.Programs.{TypedProgramTree}
+use Rattle.language_model.specs.Reports.{Report}
+use Rattle.workload.specs.Load.{load_entries, load_program, load_seed}
+use Rattle.tape_file.specs.Seeds.{seed_tapes}
+use Rattle.workload_program.specs.LoadTree.{load_typed}
+use Rattle.workload_program.specs.Runnable.{IsRunnable}
+use Rattle.workload_program.proofs.Runnable.{load_is_runnable}
+use Rattle.program_run.specs.Accepted.{IsAccepted}
+use Rattle.program_run.specs.Reports.{TellsAs}
+use Rattle.program_run.specs.declared.running.RunReport.{RunReport}
+use Rattle.delivered_run.specs.Deliveries.{HasRunOf, IsRunOf, net_of}
+use Rattle.delivered_run.specs.Laws.{HaveWords}
+use Rattle.delivered_run.specs.declared.delivery.DeliveryErr.{DeliveryErr}
+use Rattle.delivered_run.specs.declared.delivery.DeliveryErr.TheVariants as refusal
+use Rattle.delivered_run.specs.declared.running.DeliveredRun.{DeliveredRun}
+use Rattle.delivered_run.proofs.Taken.{made_deliveries_are_taken}
+use Rattle.command_frame.specs.declared.plan.Plan.{Plan}
+use Rattle.command_frame.specs.declared.status.Status.{Status}
+use Rattle.command_frame.specs.declared.stop.Stop.{Stop}
+use Rattle.command_frame.specs.declared.stop.Stop.TheVariants as stops
+use Rattle.command_frame.specs.Answer.{Answer, Effect, effect_of}
+use Rattle.command_frame.specs.Reads.{Gives, KeepsTo, PlanNames, StopNames, StopsReading}
+use Rattle.command_frame.proofs.Wholes.{unchanged}
+use Rattle.command_words.specs.Ask.{LoadAsk, load, words_of}
+use Rattle.run_engine.specs.Ends.{status_of}
+use Rattle.run_engine.specs.Eval.{end_of}
+use Rattle.run_engine.specs.Judging.{Finding, HasFinding, nothing}
+use Rattle.run_engine.specs.Load.{load_budget, load_effect, load_links, load_of, load_report, load_tapes, loaded_effect, messages_text}
+use Rattle.run_engine.specs.Obeying.{Planned}
+use Rattle.run_engine.specs.OfText.{Decides, IsFoundOf, StopsSo, program_in}
+use Rattle.run_engine.specs.Run.{run_report}
+use Rattle.run_engine.specs.Words.{answer_to, question_of, reads_of, writes_of, IsAnswer}
+use Rattle.run_engine.proofs.Judged.{found_nothing}
+use Rattle.run_engine.proofs.OfTexts.{only_memory}
+use Rattle.run_engine.proofs.Planned.{told_end}
+use Rattle.run_engine.proofs.Refusals.{Refuses, no_ending, status_in_answer}
+use Rattle.run_engine.proofs.Runs.{command_answers, is_answer}
+
+-- ---- the program of a workload
+
+abbrev load_found : Finding
+load_found = record { judged = Ok load_is_runnable.tree; sized = Ok load_typed; reached = load_is_runnable.within.list }
+
+load_is_found : IsFoundOf load_program load_found
+load_is_found = record {
+  judged = load_is_runnable.accepted;
+  sized = (load_is_runnable.typed, load_is_runnable.within);
+  reached = load_is_runnable.within.reached;
+}
+
+load_in : program_in load_found ≡ Ok load_typed
+unfolding program_in
+load_in = refl
+
+-- of the text of a workload
+module _ {X : Type 0} (view : X → TypedProgramTree) (text : List ℕ) (is : text ≡ load_program) (r : Result X Stop)
+    (all : (found : Finding) → IsFoundOf text found → Decides view r (program_in found)) where
+  decided : Decides view r (program_in load_found)
+  decided = all load_found (subst (λ (x : List ℕ). IsFoundOf x load_found) (sym is) load_is_found)
+
+pub load_is_typed : {X : Type 0} (view : X → TypedProgramTree) (text : List ℕ) → text ≡ load_program → (x : X)
+    → ((found : Finding) → IsFoundOf text found → Decides view (Ok x) (program_in found)) → view x ≡ load_typed
+load_is_typed view text is x all = let same : Ok load_typed ≡ Ok (view x) = sym load_in ∙ decided view text is (Ok x) all in cc
+
+pub load_stops : {X : Type 0} (view : X → TypedProgramTree) (text : List ℕ) → text ≡ load_program → (stop : Stop)
+    → ((found : Finding) → IsFoundOf text found → Decides view (Err stop) (program_in found)) → stop ≡ stops.Memory
+load_stops view text is stop all = only_memory stop (program_in load_found) load_typed load_in (decided view text is (Err stop) all)
+
+pub load_stops_on : {X Y : Type 0} (view : X → TypedProgramTree) (text : List ℕ) → text ≡ load_program → (stop : Stop)
+    → ((found : Finding) → IsFoundOf text found → Decides view (Err stop) (program_in found)) → (r : Result Y Stop) → IsErrAnd r (λ given. given ≡ stop)
+    → IfErr r (λ given. given ≡ stops.Memory)
+load_stops_on view text is stop all (Ok y) same = tt
+load_stops_on view text is stop all (Err given) same = same ∙ load_stops view text is stop all
+
+-- ---- its run
+
+pub have_words : (entries : List Entry) (tapes : FourTapes) → AreInputs entries → All HasWords entries → AreWords tapes.dealer → AreWords tapes.one
+    → AreWords tapes.two → AreWords tapes.three → HaveWords entries tapes
+have_words entries tapes form words dealer one two three = record { sound = record { form = form; words = words }; dealer = dealer; words = each }
+  where
+    each : (i : Number) → AreWords (miners_of tapes i)
+    each One = one
+    each Two = two
+    each Three = three
+
+-- no schedule is refused
+module _ (p : TypedProgramTree) (entries : List Entry) (tapes : FourTapes) (accepted : IsAccepted p) (have : HaveWords entries tapes) where
+  taken : net_of p entries tapes load_budget Default ≡ Accepted
+  taken = made_deliveries_are_taken p entries tapes load_budget Default accepted have tt
+
+  pub never_refused : (e : DeliveryErr) → IsRunOf p entries tapes load_budget Default (Err e) → e ≡ refusal.Memory
+  never_refused (refusal.EmptyLink entry link sent) is = let wrong : Accepted ≡ EmptyLink entry link sent = sym taken ∙ is in absurd cc
+  never_refused (refusal.Stalled miner link) is = let wrong : Accepted ≡ Stalled miner link = sym taken ∙ is in absurd cc
+  never_refused refusal.Memory is = refl
+
+pub run_of_load : (p : TypedProgramTree) (entries : List Entry) (tapes : FourTapes) (ran : DeliveredRun) → p ≡ load_typed
+    → HasRunOf p entries tapes load_budget Default ran → HasRunOf load_typed entries tapes load_budget Default ran
+run_of_load p entries tapes ran is h = subst (λ (x : TypedProgramTree). HasRunOf x entries tapes load_budget Default ran) is h
+
+-- ---- what is printed of it
+
+abbrev effect_with : List Event → End → List Link → Effect
+effect_with events end links =
+    record { writes = []; text = run_text events end ++ messages_text (length links); status = status_of end.how }
+
+abbrev load_run : (number : ℕ) → DeliveredRun → Type 0
+load_run number ran = HasRunOf load_typed (load_entries number) (load_tapes number) load_budget Default ran
+
+loaded_so : (number : ℕ) (ran : DeliveredRun) → load_run number ran → loaded_effect ran ≡ load_effect number
+unfolding load_report load_links run_report
+loaded_so number ran h =
+    ap (effect_with ran.report.events.items ran.report.end) h.delivered
+    ∙ ap (λ end. effect_with ran.report.events.items end (load_links number)) (sym (told_end (load_report number) ran.report h.told))
+    ∙ ap (λ events. effect_with events (end_of (load_report number)) (load_links number)) h.told.events
+
+pub loaded : (number : ℕ) (entries : List Entry) (tapes : FourTapes) (ran : DeliveredRun) → entries ≡ load_entries number → tapes ≡ seed_tapes (load_seed number) 131072
+    → HasRunOf load_typed entries tapes load_budget Default ran → loaded_effect ran ≡ load_effect number
+unfolding load_tapes
+loaded number entries tapes ran same taped h =
+    loaded_so number ran
+    (subst (λ (t : FourTapes). HasRunOf load_typed (load_entries number) t load_budget Default ran) taped
+    (subst (λ (es : List Entry). HasRunOf load_typed es tapes load_budget Default ran) same h))
+
+-- ---- the command's own part
+
+module _ (ask : LoadAsk) (f : FilesState) where
+  gives : (r : Result Plan Stop) → IfOk r (λ plan. effect_of plan ≡ load_effect ask.number) → IfErr r (λ stop. stop ≡ stops.Memory)
+      → Gives effect_of f f r (load_of ask)
+  unfolding load_of
+  gives (Ok plan) is memory = λ t. ap (λ (e : Effect). Ok e) (sym is)
+  gives (Err stop) is memory = subst (λ (s : Stop). Gives effect_of f f (Err s) (load_of ask)) (sym memory) tt
+
+  reading : (r : Result Plan Stop) → IfErr r (λ stop. stop ≡ stops.Memory) → IfErr r (StopsReading f f)
+  reading (Ok plan) memory = tt
+  reading (Err stop) memory = subst (StopsReading f f) (sym memory) tt
+
+  no_file : (stop : Stop) → stop ≡ stops.Memory → StopNames [] stop
+  no_file stop memory = record { named = λ line is. let wrong : stops.Memory ≡ stops.File line = sym memory ∙ is in absurd cc }
+
+  keeping : (r : Result Plan Stop) → IfErr r (λ stop. stop ≡ stops.Memory) → IfOk r (PlanNames []) → KeepsTo [] [] r
+  keeping (Ok plan) memory names = names
+  keeping (Err stop) memory names = no_file stop memory
+
+  pub load_planned : (r : Result Plan Stop) → IfOk r (λ plan. effect_of plan ≡ load_effect ask.number) → IfErr r (λ stop. stop ≡ stops.Memory)
+      → IfOk r (PlanNames []) → Planned (load ask) f f r
+  unfolding answer_to question_of reads_of writes_of
+  load_planned r is memory names = record {
+    files = unchanged f;
+    anyhow = reading r memory;
+    answer = λ found at. gives r is memory;
+    found = λ t tells. found_nothing f.contents;
+    keeps = keeping r memory names;
+  }
+
+-- ---- what it answers
+
+abbrev loads : (number : ℕ) → Answer
+loads number = Ok (load_effect number)
+
+pub load_answered : (words : List (List ℕ)) (ask : LoadAsk) (files : Contents) → words_of words ≡ Some (load ask) → HasFinding nothing files
+    → IsAnswer words files (loads ask.number)
+unfolding answer_to question_of load_of
+load_answered words ask files asks (found, any) = is_answer words (load ask) files found asks any
+
+pub load_never_refused : (words : List (List ℕ)) (ask : LoadAsk) (files : Contents) → words_of words ≡ Some (load ask) → (answer : Answer)
+    → IsAnswer words files answer → Refuses (status_in_answer answer) → ⊥
+unfolding answer_to question_of load_of
+load_never_refused words ask files asks answer a why =
+    let (found, at, is) = command_answers words (load ask) files answer asks a in
+    no_ending (status_in_answer answer) (end_of (load_report ask.number)).how why (ap status_in_answer (sym is))

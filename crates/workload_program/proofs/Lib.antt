@@ -1,0 +1,3 @@
+mod Tokens
+mod Spelled
+pub mod Runnable

@@ -1,0 +1,2 @@
+pub mod LoadTree
+pub mod Runnable
