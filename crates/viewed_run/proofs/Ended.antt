@@ -7,8 +7,7 @@ use Rattle.sc_text.specs.declared.elements.Element.{Element}
 use Rattle.proto_core.specs.declared.party.Number.{Number}
 use Rattle.proto_core.specs.declared.link.Link.{Link}
 use Rattle.proto_core.specs.Parties.{sender_of}
-use Rattle.proto_core.specs.Strand.{Mail, on_link, told_in}
-use Rattle.proto_core.specs.Net.{run_of}
+use Rattle.proto_core.specs.Strand.{Mail, Ran, on_link, told_in}
 use Rattle.protocol_model.specs.Arrivals.{Arrival, arrivals}
 use Rattle.protocol_model.specs.Gates as model
 use Rattle.protocol_model.specs.Gates.{gates_script}
@@ -29,13 +28,14 @@ use Rattle.view_text.specs.View.{InputShare, Received, View}
 use Rattle.view_model.specs.TapeMaps.{AreTapes, gates_dealt, miners_of, no_values}
 use Rattle.view_model.specs.Seen.{Seen, seen_by}
 use Rattle.code_inputs.specs.Inputs.{dealt_of}
-use Rattle.code_runs.specs.Runs.{gates_to_run, messages, shares}
+use Rattle.code_runs.specs.Runs.{messages, shares}
 use Rattle.program_views.specs.Views.{input_shares, lengths_of, nothing_seen, openings, received, run_on, seen_of, view_at, view_of}
 use Rattle.program_views.specs.Laws.{IsGivenTo}
 use Rattle.program_views.proofs.Simulated.{drew_counted}
 use Rattle.code_views.specs.CodeViews.{shown_in}
 use Rattle.code_views.proofs.CodeViews.{shown_same}
 use Rattle.program_run.specs.Accepted.{IsAccepted}
+use Rattle.miner_core.specs.OwnCode.{Ended as Stopping}
 use Rattle.miner_runs.specs.OwnRuns.{OwnRunAsReported}
 use Rattle.link_schedule.specs.Net.{NetState, net_node, net_posted}
 use Rattle.delivered_run.specs.declared.running.NetRun.{NetRun}
@@ -88,7 +88,7 @@ module _ (p : TypedProgramTree) (entries : List Entry) (t : FourTapes) (budget :
   left_so i =
       record {
         values = shares d r (miners_of t) i;
-        at_end = ap (λ q. q.left) ((end).node i) ∙ (run).finishes.ended i;
+        at_end = ap (λ (q : Ran Stopping). q.left) ((end).node i) ∙ (run).finishes.ended i;
         ending = (run).turns.stops.ending;
         ended = (run).turns.stops.ended;
       }
@@ -101,10 +101,14 @@ module _ (p : TypedProgramTree) (entries : List Entry) (t : FourTapes) (budget :
   abbrev gates : List model.Gate
   gates = gates_dealt entries t.dealer (r).gates
 
+  sent_so : (l : Link) → net_posted net l ≡ messages d r (miners_of t) l
+  sent_so l = ap (λ (q : Ran Stopping). on_link l q.acts) ((end).node (sender_of l)) ∙ (run).finishes.sent l
+
+  all_sent : net_posted net ≡ messages d r (miners_of t)
+  all_sent e l = sent_so l e
+
   posted_so : net_posted net ≡ run_messages gates no_values (miners_of t)
-  posted_so =
-      (λ e. λ l. (ap (λ q. on_link l q.acts) ((end).node (sender_of l)) ∙ (run).finishes.sent l) e)
-      ∙ ap (λ gs. run_messages gs no_values (miners_of t)) (gates_same entries t r)
+  posted_so = all_sent ∙ ap (λ (gs : List model.Gate). run_messages gs no_values (miners_of t)) (gates_same entries t r)
 
   order_so : (net).delivered ≡ order_of (λ k. gates_script k gates) given
   order_so = (end).delivered ∙ ap (λ (gs : List model.Gate). order_of (λ k. gates_script k gs) given) (gates_same entries t r)
@@ -128,7 +132,7 @@ module _ (p : TypedProgramTree) (entries : List Entry) (t : FourTapes) (budget :
         ∙ ap (λ (links : List Link). map received (arrivals i (run_messages gates no_values (miners_of t)) links)) order_so
 
     opened_so : v.opened ≡ openings (r).events
-    opened_so = sees.opened ∙ ap (λ q. shown_in (told_in q.acts)) ((end).node i) ∙ sym (shown_same i (run).told)
+    opened_so = sees.opened ∙ ap (λ (q : Ran Stopping). shown_in (told_in q.acts)) ((end).node i) ∙ sym (shown_same i (run).told)
 
     given_to : IsGivenTo a.source p a.within.list entries
     given_to =

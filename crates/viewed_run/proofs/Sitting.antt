@@ -1,7 +1,8 @@
 -- What a miner saw by what its view is made of, it saw in its net.
-use Rattle.std.proofs.Common.{◌≡◌, ◌-◌, ℕ, List, Some, map, take, refl, sym, subst}
+use Rattle.std.proofs.Common.{◌≡◌, ◌-◌, ℕ, List, map, take, Option, Some, None, refl, sym, ◌∙◌, subst}
 use Rattle.sc_text.specs.declared.elements.Element.{Element}
 use Rattle.sc_text.specs.declared.end.End.{End}
+use Rattle.sc_text.specs.declared.end.Ending.{Ending}
 use Rattle.proto_core.specs.declared.party.Number.{Number}
 use Rattle.proto_core.specs.declared.link.Link.{Link}
 use Rattle.proto_core.specs.Parties.{from_previous, from_next}
@@ -36,10 +37,15 @@ module _ {P : Type 0} (i : Number) (net : NetState) (file : MinerFile) (tape : L
       subst (λ links. Saw net.budget file tape (told_in (net_node net i).acts) (net_node net i).left links v) sits.order
       (subst (λ (l : Strand Ended). Saw net.budget file tape (told_in (net_node net i).acts) l seat.order.now v) sits.at.left
       (subst (λ (a : List Act). Saw net.budget file tape (told_in a) left seat.order.now v) sits.at.acts
-      (subst (λ ws. Saw net.budget file ws told left seat.order.now v) sits.tape
-      (subst (λ f. Saw net.budget f seat.tape.now told left seat.order.now v) sits.file
+      (subst (λ ws. Saw net.budget file ws told left seat.order.now v) sits.words
+      (subst (λ f. Saw net.budget f seat.tape.now told left seat.order.now v) sits.dealt
       (subst (λ b. Saw b seat.file.now seat.tape.now told left seat.order.now v) sits.at.budget
       (sees (net_posted net) (sym sits.previous) (sym sits.next)))))))
+
+-- ---- how it has ended
+
+pub none_so : (x : Option Ending) (p : Place) (left : Strand Ended) → StopsAt left p → x ≡ p.ended → x ≡ None → ⊥
+none_so x p left s is none = let some : None ≡ Some s.ending = sym none ∙ is ∙ s.ended in cc
 
 -- ---- a view of what was found
 

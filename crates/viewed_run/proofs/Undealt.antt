@@ -1,9 +1,9 @@
 -- Of a run whose inputs can't be dealt a miner sees the end alone.
-use Rattle.std.proofs.Common.{◌≡◌, ◌<◌, ℕ, Bool, false, List, [], length, Some, sym, ◌∙◌, ap, ap₂, subst, arith}
+use Rattle.std.proofs.Common.{◌≡◌, ◌<◌, ℕ, Bool, false, List, [], length, Option, Some, sym, ◌∙◌, ap, ap₂, subst, arith}
 use Rattle.std.specs.Prelude.{if◌then◌else◌, nat_le}
 use Rattle.std.proofs.lemmas.Bool.Decides.{nat_tests}
 use Rattle.sc_text.specs.declared.end.Ending.{Ending}
-use Rattle.sc_text.specs.declared.event.Event.{Event}
+use Rattle.sc_text.specs.declared.elements.Element.{Element}
 use Rattle.proto_core.specs.declared.party.Number.{Number}
 use Rattle.protocol_model.specs.Network.{Delivery}
 use Rattle.tape_file.specs.Tapes.{FourTapes}
@@ -11,6 +11,7 @@ use Rattle.typed_tree.specs.Programs.{TypedProgramTree}
 use Rattle.value_file.specs.declared.inputs.Entry.{Entry}
 use Rattle.input_share.specs.Dealing.{need_of}
 use Rattle.language_model.specs.Reports.{Report}
+use Rattle.view_text.specs.View.{View}
 use Rattle.view_model.specs.Seen.{Seen, seen_by}
 use Rattle.program_views.specs.Views.{lengths_of, nothing_seen, openings, run_on, seen_of, view_at, view_of}
 use Rattle.program_run.proofs.Told.{ended_so}
@@ -20,6 +21,11 @@ use Rattle.viewed_run.specs.Seats.{nothing_but}
 
 too_few : (need have : ℕ) → have < need → nat_le need have ≡ false
 too_few need have h = grind (arith, nat_tests)
+
+-- a view of openings and an end alone
+abbrev only_opened : Number → Ending → List (List Element) → (cost : ℕ) → Option View
+only_opened i how opened cost =
+    Some (record { miner = i; inputs = []; drew = []; got = []; opened = opened; end = record { how = how; cost = cost } })
 
 module _ (p : TypedProgramTree) (entries : List Entry) (t : FourTapes) (budget : ℕ) (given : Delivery) (run : DeliveredRun)
     (h : IsUndealtRun p entries t budget given run) where
@@ -37,5 +43,4 @@ module _ (p : TypedProgramTree) (entries : List Entry) (t : FourTapes) (budget :
   sees_the_end i =
       ap (λ (s : Seen). view_at i s r (r).stop) (nothing_so i)
       ∙ ap (view_at i nothing_seen r) h.ran.told.stop
-      ∙ ap₂ (λ opened (cost : ℕ). Some (record (nothing_but i (record { how = run.report.end.how; cost = cost })) { opened = opened })) none_opened
-      (sym h.ran.told.cost)
+      ∙ ap₂ (only_opened i run.report.end.how) none_opened (sym h.ran.told.cost)

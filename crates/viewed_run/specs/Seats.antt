@@ -65,8 +65,8 @@ module _ {P : Type 0} (i : Number) where
   -- that of a net, with this file and this tape
   pub record Sits (net : NetState) (file : MinerFile) (tape : List ℕ) (seat : Seat P) : Type 0 where
     pub at : IsAt net i seat.miner.now
-    pub file : seat.file.now ≡ file
-    pub tape : seat.tape.now ≡ tape
+    pub dealt : seat.file.now ≡ file
+    pub words : seat.tape.now ≡ tape
     pub previous : seat.previous.now ≡ net_posted net (from_previous i)
     pub next : seat.next.now ≡ net_posted net (from_next i)
     pub order : seat.order.now ≡ net.delivered

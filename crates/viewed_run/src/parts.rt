@@ -7,7 +7,7 @@ ghost use Rattle.program_views.specs.Views.{input_shares, received};
 ghost use Rattle.code_views.specs.CodeViews.{shown_in};
 ghost use Rattle.miner_core.specs.Views.{notice_seen};
 
-use arrival_order::arrivals;
+use arrival_order::{Arrival, arrivals};
 use input_share::{Part, ShareEntry, ShareFile};
 use miner_core::Notice;
 use proto_core::{Link, Messages, Number};
@@ -36,10 +36,7 @@ fn push_share(
 }
 
 /// A miner's shares of the private inputs, by name, in their order.
-pub(crate) fn input_shares(
-    alloc: Global,
-    file: &ShareFile,
-) -> Result<Vec<InputShare>, AllocError>
+pub(crate) fn input_shares(alloc: Global, file: &ShareFile) -> Result<Vec<InputShare>, AllocError>
     ensures { IfOk result (λ shares. shares.items ≡ input_shares file.now.entries) }
 {
     let mut shares = Vec::new(alloc);
@@ -50,6 +47,7 @@ pub(crate) fn input_shares(
 }
 
 /// As many words from the front of a tape, or all.
+#[tactic(auto, using(std::proofs::lemmas::List::take_min))]
 pub(crate) fn front(alloc: Global, tape: &[u64], count: u64) -> Result<Vec<u64>, AllocError>
     ensures { IfOk result (λ words. words.items ≡ take count tape.now) }
 {
@@ -57,7 +55,17 @@ pub(crate) fn front(alloc: Global, tape: &[u64], count: u64) -> Result<Vec<u64>,
     Vec::from_slice(alloc, &tape[..count])
 }
 
-/// The messages that come to a miner from its previous miner and its next one by an order of deliveries.
+/// These messages, as a view has them.
+fn as_received(alloc: Global, messages: Vec<Arrival>) -> Result<Vec<Received>, AllocError>
+    ensures { IfOk result (λ got. got.items ≡ map received messages.items) }
+{
+    messages
+        .into_iter()
+        .map(|m| Received::new(m.link(), m.into_message()))
+        .collect(alloc)
+}
+
+/// The messages that come to a miner by an order of deliveries, of those that its previous miner and its next one have sent to it.
 pub(crate) fn received(
     alloc: Global,
     miner: Number,
@@ -69,13 +77,12 @@ pub(crate) fn received(
         → got.items ≡ map received (arrivals miner mail order.now)) }
 {
     let messages = arrivals(alloc, miner, previous, next, order)?;
-    messages
-        .into_iter()
-        .map(|m| Received::new(m.link(), m.into_message()))
-        .collect(alloc)
+    let got = as_received(alloc, messages)?;
+    Ok(got)
 }
 
 /// What a notice shows, if it tells of an opening, as one more.
+#[tactic(auto, using(crate::proofs::Pieces::told_type))]
 fn push_opening(
     alloc: Global,
     opened: &mut Vec<Elements>,

@@ -51,12 +51,7 @@ impl Drop for SeenRun {
 }
 
 // What the miners of a net saw, that have ended.
-fn views_in(
-    alloc: Global,
-    net: &Net3,
-    files: &Dealt,
-    tapes: &Tapes,
-) -> Result<Views, AllocError>
+fn views_in(alloc: Global, net: &Net3, files: &Dealt, tapes: &Tapes) -> Result<Views, AllocError>
     requires going { net.now.lost ≡ false }
     requires stopped { AllHaveStopped net.now }
     ensures { IfOk result (SeeIn net.now files.now tapes.now) }
@@ -82,7 +77,7 @@ fn nothing_but(alloc: Global, miner: Number, end: End) -> View
 }
 
 // What the miners saw of a run.
-fn views(alloc: Global, course: &Course, tapes: &Tapes) -> Result<Views, AllocError>
+fn all_views(alloc: Global, course: &Course, tapes: &Tapes) -> Result<Views, AllocError>
     requires { HaveEnded course.now }
     ensures { IfOk result (SeeOf course.now tapes.now) }
 {
@@ -112,7 +107,7 @@ pub fn run_seen(
     ensures { IsSeenRunOf (typed_program_tree program.now) inputs.now tapes.now budget (delivery_seen delivery.now) result }
 {
     let course = run_in_net(alloc, program, inputs, tapes, budget, delivery)?;
-    let views = views(alloc, &course, tapes)?;
+    let views = all_views(alloc, &course, tapes)?;
     Ok(SeenRun {
         run: course.into_run(),
         views,

@@ -1,5 +1,11 @@
 use Rattle.std.proofs.Common.{sym, ◌∙◌}
+use Rattle.viewed_run.proofs.Sitting.{none_so}
 use Rattle.viewed_run.proofs.seat.end.Goals as goal
+
+pub unreachable-requires : goal.unreachable-requires
+unreachable-requires g c =
+    let s = c.requires.stopped in
+    none_so c.ending.result s.0 _ s.1 (c.ending.ensures c.requires.going s.0 s.1.values s.1.at_end) c.in-None.is
 
 pub returns : goal.returns
 returns g c =

@@ -11,8 +11,8 @@ returns c =
     let next = c.miner3.ensures going in
     record {
       at = own;
-      file = refl;
-      tape = c.miner2-2.ensures;
+      dealt = refl;
+      words = c.miner2-2.ensures;
       previous = c.sent_to_next.ensures previous.going ∙ ap (on_link Link12) previous.acts;
       next = c.sent_to_previous.ensures next.going ∙ ap (on_link Link32) next.acts;
       order = c.recorded.ensures;

@@ -11,8 +11,8 @@ returns c =
     let next = c.miner1.ensures going in
     record {
       at = own;
-      file = refl;
-      tape = c.miner3-2.ensures;
+      dealt = refl;
+      words = c.miner3-2.ensures;
       previous = c.sent_to_next.ensures previous.going ∙ ap (on_link Link23) previous.acts;
       next = c.sent_to_previous.ensures next.going ∙ ap (on_link Link13) next.acts;
       order = c.recorded.ensures;

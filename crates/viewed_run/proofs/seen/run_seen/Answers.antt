@@ -3,8 +3,8 @@ use Rattle.delivered_run.specs.Deliveries.{delivery_seen}
 use Rattle.viewed_run.proofs.Viewed.{have_ended, refused_so, seen_so}
 use Rattle.viewed_run.proofs.seen.run_seen.Goals as goal
 
-pub views-requires : goal.views-requires
-views-requires c =
+pub all_views-requires : goal.all_views-requires
+all_views-requires c =
     have_ended (typed_program_tree c.args.program.now) c.args.inputs.now c.args.tapes.now c.args.budget (delivery_seen c.args.delivery.now)
     c.requires.accepted c.in_ok-course.course c.in_ok-course.ensures
 
