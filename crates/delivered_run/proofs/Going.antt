@@ -11,13 +11,15 @@ use Rattle.input_share.specs.Dealing.{dealt}
 use Rattle.input_share.specs.declared.dealing.Dealt as sharing
 use Rattle.typed_tree.specs.Programs.{TypedProgramTree}
 use Rattle.view_model.specs.TapeMaps.{miners_of}
-use Rattle.program_run.specs.Reports.{lengths_of}
+use Rattle.language_model.specs.Reports.{Report}
+use Rattle.code_inputs.specs.Inputs.{dealt_of}
+use Rattle.program_run.specs.Reports.{eval_with, lengths_of}
 use Rattle.delivered_run.specs.declared.course.Course.{Course}
 use Rattle.delivered_run.specs.declared.course.Course.TheVariants as course
 use Rattle.delivered_run.specs.declared.delivery.DeliveryErr.{DeliveryErr}
 use Rattle.delivered_run.specs.declared.running.DeliveredRun.{DeliveredRun}
 use Rattle.delivered_run.specs.Courses.{HasCourse, IsCourseOf, file_of, run_told}
-use Rattle.delivered_run.specs.Deliveries.{HasRunOf, IsRefusedOf, IsRunOf}
+use Rattle.delivered_run.specs.Deliveries.{HasRunOf, IsRefused, IsRefusedOf, IsRunOf}
 
 -- the files that are dealt with the dealer's tape
 pub files_so :
@@ -45,6 +47,12 @@ module _ (p : TypedProgramTree) (entries : List Entry) (t : FourTapes) (budget :
       → IsCourseOf p entries t budget given r
   course_refused e h (Ok went) is = absurd is
   course_refused e h (Err x) is = subst (IsRefusedOf p entries t budget given) (sym is) h
+
+  -- of code that means the program
+  pub code_refused :
+      (e : DeliveryErr) (r : Report) → r ≡ eval_with p entries t budget → IsRefused (dealt_of entries t.dealer) r given e
+      → (result : Result Course DeliveryErr) → IsErrAnd result (λ x. x ≡ e) → IsCourseOf p entries t budget given result
+  code_refused e r means h result is = course_refused e (subst (λ (x : Report). IsRefused (dealt_of entries t.dealer) x given e) means h) result is
 
   -- what was told
 

@@ -54,18 +54,19 @@ module _ {P : Type 0} (i : Number) (seat : Seat P) where
   here = node i seat.miner.now
 
   pub sees_from :
-      (inputs : List InputShare) (drew : List ℕ) (got : List Received) (opened : List (List Element)) (end : End) (v : View)
-      → v ≡ record { miner = i; inputs = inputs; drew = drew; got = got; opened = opened; end = end } → inputs ≡ input_shares seat.file.now.entries
+      (m : Number) (inputs : List InputShare) (drew : List ℕ) (got : List Received) (opened : List (List Element)) (end : End) (v : View)
+      → v ≡ record { miner = m; inputs = inputs; drew = drew; got = got; opened = opened; end = end } → m ≡ i
+      → inputs ≡ input_shares seat.file.now.entries
       → ((p : Place) → StopsAt (here).left p → drew ≡ take (drawn_by p.stage.drawn (miner_of i)) seat.tape.now)
       → ((mail : Mail) → mail (from_previous i) ≡ seat.previous.now → mail (from_next i) ≡ seat.next.now
       → got ≡ map received (arrivals i mail seat.order.now))
       → opened ≡ shown_in (told_in (here).acts) → ((p : Place) → StopsAt (here).left p → p.ended ≡ Some end.how)
       → ((p : Place) → StopsAt (here).left p → end.cost ≡ seat.miner.now.budget - p.stage.left) → SeesFrom i seat v
-  sees_from inputs drew got opened end v is as_dealt as_drawn as_came as_told how cost mail previous next =
+  sees_from m inputs drew got opened end v is same as_dealt as_drawn as_came as_told how cost mail previous next =
       subst
       (λ (x : View). Sees i seat.miner.now.budget seat.file.now seat.tape.now (told_in (here).acts) (here).left mail seat.order.now x) (sym is)
       (record {
-        miner = refl;
+        miner = same;
         inputs = as_dealt;
         drew = as_drawn;
         got = as_came mail previous next;

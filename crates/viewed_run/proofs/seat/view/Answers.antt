@@ -8,7 +8,7 @@ pub returns : goal.returns
 returns g c =
     let going = c.requires.going in
     let seat = c.args.seat.now in
-    sees_from g.P.Party.me seat _ _ _ _ c.end-end.result _ c.new.ensures c.in_ok-inputs.ensures
+    sees_from g.P.Party.me seat c.number-miner.result _ _ _ _ c.end-end.result _ c.new.ensures c.number-miner.ensures c.in_ok-inputs.ensures
     (λ p s. c.in_ok-drew.ensures ∙ ap (λ n. take n seat.tape.now) (c.drawn.ensures going p s.values s.at_end))
     c.in_ok-got.ensures
     (c.in_ok-opened.ensures ∙ ap shown_in (c.notices.ensures going))
