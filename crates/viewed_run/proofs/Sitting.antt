@@ -53,14 +53,17 @@ module _ {P : Type 0} (i : Number) (seat : Seat P) where
   abbrev here : Ran Ended
   here = node i seat.miner.now
 
+  abbrev CameTo : Number → List Received → Type 0
+  CameTo k got =
+      (mail : Mail) → mail (from_previous k) ≡ seat.previous.now → mail (from_next k) ≡ seat.next.now
+      → got ≡ map received (arrivals k mail seat.order.now)
+
   pub sees_from :
       (m : Number) (inputs : List InputShare) (drew : List ℕ) (got : List Received) (opened : List (List Element)) (end : End) (v : View)
       → v ≡ record { miner = m; inputs = inputs; drew = drew; got = got; opened = opened; end = end } → m ≡ i
       → inputs ≡ input_shares seat.file.now.entries
       → ((p : Place) → StopsAt (here).left p → drew ≡ take (drawn_by p.stage.drawn (miner_of i)) seat.tape.now)
-      → ((mail : Mail) → mail (from_previous i) ≡ seat.previous.now → mail (from_next i) ≡ seat.next.now
-      → got ≡ map received (arrivals i mail seat.order.now))
-      → opened ≡ shown_in (told_in (here).acts) → ((p : Place) → StopsAt (here).left p → p.ended ≡ Some end.how)
+      → CameTo m got → opened ≡ shown_in (told_in (here).acts) → ((p : Place) → StopsAt (here).left p → p.ended ≡ Some end.how)
       → ((p : Place) → StopsAt (here).left p → end.cost ≡ seat.miner.now.budget - p.stage.left) → SeesFrom i seat v
   sees_from m inputs drew got opened end v is same as_dealt as_drawn as_came as_told how cost mail previous next =
       subst
@@ -69,7 +72,7 @@ module _ {P : Type 0} (i : Number) (seat : Seat P) where
         miner = same;
         inputs = as_dealt;
         drew = as_drawn;
-        got = as_came mail previous next;
+        got = subst (λ k. CameTo k got) same as_came mail previous next;
         opened = as_told;
         how = how;
         cost = cost;

@@ -1,7 +1,6 @@
 -- A run, and what each miner saw of it.
 use Rattle.std.proofs.Common.{◌≡◌, ℕ, List, Some, Result, Ok, Err, sym, ◌∙◌, ap, subst}
 use Rattle.std.specs.Result.{IsErrAnd}
-use Rattle.sc_text.specs.declared.end.End.{End}
 use Rattle.proto_core.specs.declared.party.Number.{Number}
 use Rattle.proto_core.specs.declared.party.Number.TheVariants.{One, Two, Three}
 use Rattle.protocol_model.specs.Network.{Delivery}
@@ -17,14 +16,13 @@ use Rattle.link_schedule.specs.Net.{NetState}
 use Rattle.delivered_run.specs.declared.course.Course.{Course}
 use Rattle.delivered_run.specs.declared.course.Course.TheVariants as course
 use Rattle.delivered_run.specs.declared.delivery.DeliveryErr.{DeliveryErr}
-use Rattle.delivered_run.specs.declared.running.DeliveredRun.{DeliveredRun}
 use Rattle.delivered_run.specs.declared.running.NetRun.{NetRun}
 use Rattle.delivered_run.specs.Courses.{HasCourse, file_of, run_told}
 use Rattle.delivered_run.specs.Deliveries.{IsRefusedOf}
 use Rattle.delivered_run.proofs.Going.{run_so}
 use Rattle.viewed_run.specs.declared.seen.SeenRun.{SeenRun}
 use Rattle.viewed_run.specs.declared.seen.Views.{Views}
-use Rattle.viewed_run.specs.Seats.{SeesIn, nothing_but}
+use Rattle.viewed_run.specs.Seats.{SeesIn}
 use Rattle.viewed_run.specs.Seen.{HasSeenRun, HaveEnded, IsSeenRunOf, SeeIn, SeeOf, view_in}
 use Rattle.viewed_run.proofs.Ended.{all_stopped, is_its_view}
 use Rattle.viewed_run.proofs.Undealt.{sees_the_end}
@@ -41,26 +39,11 @@ see_in net files t views one two three = each
     each Two = two
     each Three = three
 
--- ---- of a run that was dealt, or wasn't
+-- ---- of a run that was dealt
 
 pub dealt_ended : (went : Course) (files : Dealt) (end : NetRun) → went ≡ course.Dealt files end → HaveEnded went
     → HaveEnded (course.Dealt files end)
 dealt_ended went files end is h = subst HaveEnded is h
-
-pub dealt_see : (went : Course) (files : Dealt) (end : NetRun) → went ≡ course.Dealt files end → (t : FourTapes) (views : Views)
-    → SeeIn end.net files t views → SeeOf went t views
-dealt_see went files end is t views see = subst (λ w. SeeOf w t views) (sym is) see
-
-see_nothing : (end : End) (views : Views) → views.one ≡ nothing_but One end → views.two ≡ nothing_but Two end → views.three ≡ nothing_but Three end
-    → (i : Number) → view_in views i ≡ nothing_but i end
-see_nothing end views one two three One = one
-see_nothing end views one two three Two = two
-see_nothing end views one two three Three = three
-
-pub undealt_see : (went : Course) (run : DeliveredRun) → went ≡ course.Undealt run → (t : FourTapes) (views : Views)
-    → views.one ≡ nothing_but One run.report.end → views.two ≡ nothing_but Two run.report.end → views.three ≡ nothing_but Three run.report.end
-    → SeeOf went t views
-undealt_see went run is t views one two three = subst (λ w. SeeOf w t views) (sym is) (see_nothing run.report.end views one two three)
 
 -- ---- of a program
 

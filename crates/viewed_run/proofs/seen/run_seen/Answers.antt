@@ -11,7 +11,7 @@ all_views-requires c =
 pub returns-in_err-course : goal.returns-in_err-course
 returns-in_err-course c =
     refused_so (typed_program_tree c.args.program.now) c.args.inputs.now c.args.tapes.now c.args.budget (delivery_seen c.args.delivery.now) _
-    c.in_err-course.ensures c.from_residual-in_err-course.result c.from_residual-in_err-course.ensures.1
+    c.in_err-course.ensures c.from_residual.result c.from_residual.ensures.1
 
 pub returns : goal.returns
 returns c =

@@ -10,18 +10,18 @@ pub view-requires-clause-stopped : goal.view-requires-clause-stopped
 view-requires-clause-stopped c =
     stopped_here One c.args.net.now c.args.files.now.first c.args.tapes.now.one c.first.result c.first.ensures (c.requires.stopped One)
 
-pub view-2-requires-clause-going : goal.view-2-requires-clause-going
-view-2-requires-clause-going c = c.second.ensures.at.going
+pub view-requires-2-clause-going : goal.view-requires-2-clause-going
+view-requires-2-clause-going c = c.second.ensures.at.going
 
-pub view-2-requires-clause-stopped : goal.view-2-requires-clause-stopped
-view-2-requires-clause-stopped c =
+pub view-requires-2-clause-stopped : goal.view-requires-2-clause-stopped
+view-requires-2-clause-stopped c =
     stopped_here Two c.args.net.now c.args.files.now.second c.args.tapes.now.two c.second.result c.second.ensures (c.requires.stopped Two)
 
-pub view-3-requires-clause-going : goal.view-3-requires-clause-going
-view-3-requires-clause-going c = c.third.ensures.at.going
+pub view-requires-3-clause-going : goal.view-requires-3-clause-going
+view-requires-3-clause-going c = c.third.ensures.at.going
 
-pub view-3-requires-clause-stopped : goal.view-3-requires-clause-stopped
-view-3-requires-clause-stopped c =
+pub view-requires-3-clause-stopped : goal.view-requires-3-clause-stopped
+view-requires-3-clause-stopped c =
     stopped_here Three c.args.net.now c.args.files.now.third c.args.tapes.now.three c.third.result c.third.ensures (c.requires.stopped Three)
 
 pub returns : goal.returns
