@@ -3,11 +3,13 @@
 #![tactic(auto)]
 
 mod client;
+mod course;
 mod delivery;
 mod laws;
 mod net;
 mod running;
 
+pub use course::{Course, run_delivered, run_in_net};
 pub use delivery::{Delivery, DeliveryErr};
 pub use laws::made_deliveries_are_taken;
-pub use running::{DeliveredRun, run_delivered};
+pub use running::{DeliveredRun, NetRun};
