@@ -16,7 +16,7 @@ use Rattle.code_inputs.specs.Inputs.{dealt_of}
 use Rattle.program_run.specs.Reports.{eval_with, lengths_of}
 use Rattle.delivered_run.specs.declared.course.Course.{Course}
 use Rattle.delivered_run.specs.declared.course.Course.TheVariants as course
-use Rattle.delivered_run.specs.declared.delivery.DeliveryErr.{DeliveryErr}
+use Rattle.counted_net.specs.declared.delivery.DeliveryErr.{DeliveryErr}
 use Rattle.delivered_run.specs.declared.running.DeliveredRun.{DeliveredRun}
 use Rattle.delivered_run.specs.Courses.{HasCourse, IsCourseOf, file_of, run_told}
 use Rattle.delivered_run.specs.Deliveries.{HasRunOf, IsRefused, IsRefusedOf, IsRunOf}

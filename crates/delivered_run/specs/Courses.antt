@@ -23,7 +23,7 @@ use Rattle.miner_runs.specs.OwnRuns.{OwnRunAsReported, own_nodes}
 use Rattle.link_schedule.specs.Net.{NetState, by_number, net_node}
 use Rattle.delivered_run.specs.declared.course.Course.{Course}
 use Rattle.delivered_run.specs.declared.course.Course.TheVariants as course
-use Rattle.delivered_run.specs.declared.delivery.DeliveryErr.{DeliveryErr}
+use Rattle.counted_net.specs.declared.delivery.DeliveryErr.{DeliveryErr}
 use Rattle.delivered_run.specs.declared.running.DeliveredRun.{DeliveredRun}
 use Rattle.delivered_run.specs.declared.running.NetRun.{NetRun}
 use Rattle.delivered_run.specs.Deliveries.{HasRun, HasRunOf, IsRefused, IsRefusedOf, delivered_for}

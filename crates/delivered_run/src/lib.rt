@@ -4,12 +4,11 @@
 
 mod client;
 mod course;
-mod delivery;
 mod laws;
 mod net;
 mod running;
 
+pub use counted_net::{Delivery, DeliveryErr};
 pub use course::{Course, run_delivered, run_in_net};
-pub use delivery::{Delivery, DeliveryErr};
 pub use laws::made_deliveries_are_taken;
 pub use running::{DeliveredRun, NetRun};

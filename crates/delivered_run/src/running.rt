@@ -13,8 +13,8 @@ ghost use Rattle.delivered_run.specs.Nets.{HasStopped, HasTold};
 ghost use Rattle.delivered_run.specs.Undealt.{IsFirstEntry, IsUndealt, IsUndealtBy};
 
 use crate::client::told_to_client;
-use crate::delivery::{Delivery, DeliveryErr};
 use crate::net::{Setting, deliver_all, net};
+use counted_net::{Delivery, DeliveryErr};
 use input_share::{DealErr, Dealt};
 use link_schedule::Net3;
 use program_run::{RunReport, lengths, undealt};

@@ -5,7 +5,7 @@ ghost use Rattle.command_frame.specs.Reads.{OnlyRead, Gives, KeepsTo, PlanNames,
 ghost use Rattle.command_frame.specs.Stops.{IsRefusalFor};
 ghost use Rattle.command_words.specs.Views.{run_ask, order_ask, source_ask};
 ghost use Rattle.delivered_run.specs.Deliveries.{delivery_seen};
-ghost use Rattle.delivered_run.specs.declared.delivery.DeliveryErr.TheVariants.{Memory as NoMemory};
+ghost use Rattle.counted_net.specs.declared.delivery.DeliveryErr.TheVariants.{Memory as NoMemory};
 ghost use Rattle.program_run.specs.Accepted.{IsAccepted};
 ghost use Rattle.typed_tree.specs.Programs.{typed_program_tree};
 ghost use Rattle.value_file.specs.Input.{AreInputs};

@@ -15,7 +15,7 @@ use Rattle.program_run.specs.Accepted.{IsAccepted}
 use Rattle.link_schedule.specs.Net.{NetState}
 use Rattle.delivered_run.specs.declared.course.Course.{Course}
 use Rattle.delivered_run.specs.declared.course.Course.TheVariants as course
-use Rattle.delivered_run.specs.declared.delivery.DeliveryErr.{DeliveryErr}
+use Rattle.counted_net.specs.declared.delivery.DeliveryErr.{DeliveryErr}
 use Rattle.delivered_run.specs.declared.running.NetRun.{NetRun}
 use Rattle.delivered_run.specs.Courses.{HasCourse, file_of, run_told}
 use Rattle.delivered_run.specs.Deliveries.{IsRefusedOf}

@@ -12,7 +12,7 @@ use Rattle.program_views.specs.Views.{view_of}
 use Rattle.link_schedule.specs.Net.{NetState, by_number}
 use Rattle.delivered_run.specs.declared.course.Course.{Course}
 use Rattle.delivered_run.specs.declared.course.Course.TheVariants as course
-use Rattle.delivered_run.specs.declared.delivery.DeliveryErr.{DeliveryErr}
+use Rattle.counted_net.specs.declared.delivery.DeliveryErr.{DeliveryErr}
 use Rattle.delivered_run.specs.Courses.{file_of}
 use Rattle.delivered_run.specs.Deliveries.{HasRunOf, IsRefusedOf}
 use Rattle.viewed_run.specs.declared.seen.SeenRun.{SeenRun}
