@@ -21,8 +21,8 @@ use Rattle.gates.specs.declared.gate.Gate.TheVariants.{Mul, And, Split, Conv, Op
 use Rattle.gates.specs.Clear.{Values, ring_of}
 use Rattle.gates.specs.Counts.{size_of}
 use Rattle.shared_gates.specs.Model.{run_gate}
-use Rattle.gate_scripts.specs.declared.moves.Move.{Move}
-use Rattle.gate_scripts.specs.Scripts.{link_move, links_in}
+use Rattle.counted_net.specs.declared.moves.Move.{Move}
+use Rattle.counted_net.specs.Scripts.{link_move, links_in}
 use Rattle.gate_scripts.specs.Blocks.{block_moves}
 use Rattle.gate_scripts.specs.Sizes.{exchanged}
 

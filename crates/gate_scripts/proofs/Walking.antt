@@ -8,8 +8,8 @@ use Rattle.gates.specs.Blocks.{block_sizes}
 use Rattle.gates.specs.declared.gate.Gate.{Gate}
 use Rattle.gates.specs.Clear.{Values}
 use Rattle.shared_gates.specs.Model.{sizes_made, run_gates}
-use Rattle.gate_scripts.specs.declared.moves.Move.{Move}
-use Rattle.gate_scripts.specs.Scripts.{links_in}
+use Rattle.counted_net.specs.declared.moves.Move.{Move}
+use Rattle.counted_net.specs.Scripts.{links_in}
 use Rattle.gate_scripts.specs.Blocks.{block_moves}
 use Rattle.gate_scripts.specs.Sizes.{exchanged, SizesFit, AreKept}
 use Rattle.gate_scripts.proofs.Links.{gate-links}

@@ -8,8 +8,8 @@ use Rattle.share_convert.specs.Converting.{conv_script}
 use Rattle.split_share.specs.Splitting.{split_script}
 use Rattle.gates.specs.declared.gate.Gate.{Gate}
 use Rattle.gates.specs.declared.gate.Gate.TheVariants.{Mul, And, Split, Conv, Open, Result}
-use Rattle.gate_scripts.specs.declared.moves.Move.{Move}
-use Rattle.gate_scripts.specs.Scripts.{links_in}
+use Rattle.counted_net.specs.declared.moves.Move.{Move}
+use Rattle.counted_net.specs.Scripts.{links_in}
 
 -- by a full block of its protocol; nothing where the gate sends no message
 abbrev pub block_moves : Gate → Number → List Move

@@ -5,10 +5,10 @@ ghost use Rattle.open_result.specs.Opening.{open_script};
 ghost use Rattle.reshare.specs.Resharing.{reshare_script};
 ghost use Rattle.share_convert.specs.Converting.{conv_script};
 ghost use Rattle.split_share.specs.Splitting.{split_script};
-ghost use Rattle.gate_scripts.specs.Scripts.{links_in};
+ghost use Rattle.counted_net.specs.Scripts.{links_in};
 ghost use Rattle.gate_scripts.specs.Blocks.{block_moves};
 
-use crate::moves::Move;
+use counted_net::Move;
 use gates::Gate;
 use proto_core::{Link, Number};
 

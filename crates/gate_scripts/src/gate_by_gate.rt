@@ -6,13 +6,13 @@ ghost use Rattle.protocol_model.specs.Gates.{gates_script};
 ghost use Rattle.gates.specs.Blocks.{block_sizes};
 ghost use Rattle.gates.specs.Clear.{Values};
 ghost use Rattle.shared_gates.specs.Model.{run_gates};
-ghost use Rattle.gate_scripts.specs.Scripts.{moves_of, AreScripts};
+ghost use Rattle.counted_net.specs.Scripts.{moves_of, AreScripts};
 ghost use Rattle.gate_scripts.specs.Blocks.{block_moves};
 ghost use Rattle.gate_scripts.specs.Sizes.{SizesFit};
 
 use crate::block::block_moves;
-use crate::moves::{Move, Scripts};
 use crate::sizes::{exchanged, push_sizes};
+use counted_net::{Move, Scripts};
 use gates::{Gate, blocks};
 use proto_core::Number;
 use std::alloc::{AllocError, Global};

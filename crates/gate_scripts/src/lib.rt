@@ -5,9 +5,7 @@
 mod block;
 mod gate_by_gate;
 mod laws;
-mod moves;
 mod sizes;
 
 pub use gate_by_gate::scripts;
 pub use laws::few_words_fit;
-pub use moves::{Move, Scripts};

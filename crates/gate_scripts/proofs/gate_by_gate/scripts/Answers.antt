@@ -3,7 +3,7 @@ use Rattle.std.proofs.lemmas.List.{drop_all}
 use Rattle.std.specs.List.{repeat}
 use Rattle.proto_core.specs.declared.party.Number.TheVariants.{One, Two, Three}
 use Rattle.gates.specs.Blocks.{block_sizes}
-use Rattle.gate_scripts.specs.Scripts.{moves_of}
+use Rattle.counted_net.specs.Scripts.{moves_of}
 use Rattle.gate_scripts.specs.Blocks.{block_moves}
 use Rattle.gate_scripts.specs.Sizes.{exchanged, AreKept}
 use Rattle.gate_scripts.proofs.Walking.{Walked, next-gate, begun, passed, ended}

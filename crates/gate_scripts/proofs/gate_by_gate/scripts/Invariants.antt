@@ -1,5 +1,5 @@
 use Rattle.std.proofs.Common.{drop}
-use Rattle.gate_scripts.specs.Scripts.{moves_of}
+use Rattle.counted_net.specs.Scripts.{moves_of}
 use Rattle.gate_scripts.proofs.Walking.{Walked}
 use Rattle.gate_scripts.proofs.gate_by_gate.scripts.Given as goal
 
