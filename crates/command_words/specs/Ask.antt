@@ -2,7 +2,8 @@
 use Rattle.std.specs.Prelude.{ℕ, List, [], ◌∷◌, codes, Option, Some, None, nat_le, if◌then◌else◌, unwrap_or, option_and_then, option_map}
 use Rattle.std.specs.Str.{bytes_eq}
 use Rattle.clap.specs.Words.{Kinds, Row, Text, fault_of, first_of, subcommand_of}
-use Rattle.command_words.specs.Numbers.{number_of, seed_of}
+use Rattle.proto_core.specs.declared.party.Number.{Number}
+use Rattle.command_words.specs.Numbers.{number_of, miner_of, seed_of}
 use Rattle.command_words.specs.Shapes.{secrec_app}
 
 -- where the tapes come from: a tape file, or a seed and how many words each tape has
@@ -25,6 +26,8 @@ pub record RunAsk : Type 0 where
   pub order : Order
   -- where the links that were delivered are written
   pub recorded : Option Text
+  -- what the paths begin with to which the three views are written
+  pub views : Option Text
 
 pub record DealAsk : Type 0 where
   pub input : Text
@@ -44,6 +47,41 @@ pub record EvalAsk : Type 0 where
   pub input : Text
   pub budget : ℕ
 
+pub record MapAsk : Type 0 where
+  pub miner : Number
+  pub program : Text
+  pub input : Text
+  pub tape : Text
+  -- where the simulator's tape, the public part and the opened lines are written
+  pub sim : Text
+  pub public : Text
+  pub opened : Text
+  pub budget : ℕ
+
+pub record SimulateAsk : Type 0 where
+  pub miner : Number
+  pub program : Text
+  pub public : Text
+  pub opened : Text
+  pub sim : Text
+  -- where the view is written
+  pub view : Text
+  pub order : Order
+  pub budget : ℕ
+
+pub record TwinAsk : Type 0 where
+  pub miner : Number
+  pub program : Text
+  pub input : Text
+  pub second : Text
+  pub tape : Text
+  -- where the tape of the second input is written
+  pub to : Text
+  pub budget : ℕ
+
+pub record LoadAsk : Type 0 where
+  pub number : ℕ
+
 -- a command, without where its words lie in memory
 pub data Ask : Type 0 where
   run : RunAsk → Ask
@@ -52,6 +90,10 @@ pub data Ask : Type 0 where
   compile : CompileAsk → Ask
   eval : EvalAsk → Ask
   need : EvalAsk → Ask
+  map_tape : MapAsk → Ask
+  simulate : SimulateAsk → Ask
+  twin : TwinAsk → Ask
+  load : LoadAsk → Ask
 
 infixl 10 ◌>>=◌
 abbrev pub ◌>>=◌ : {A B : Type 0} → Option A → (A → Option B) → Option B
@@ -107,6 +149,7 @@ run_of rows = do
     budget = budget;
     order = order;
     recorded = first_of (codes "record") rows;
+    views = first_of (codes "views") rows;
   })
 
 unfoldable pub deal_of : List Row → Option DealAsk
@@ -131,6 +174,56 @@ eval_of rows = do
     budget = budget;
   })
 
+unfoldable pub map_of : List Row → Option MapAsk
+map_of rows = do
+  miner ← miner_of (required_of (codes "miner") rows)
+  budget ← number_or default_budget (first_of (codes "budget") rows)
+  Some (record {
+    miner = miner;
+    program = required_of (codes "program") rows;
+    input = required_of (codes "input") rows;
+    tape = required_of (codes "tape") rows;
+    sim = required_of (codes "sim") rows;
+    public = required_of (codes "public") rows;
+    opened = required_of (codes "opened") rows;
+    budget = budget;
+  })
+
+unfoldable pub simulate_of : List Row → Option SimulateAsk
+simulate_of rows = do
+  miner ← miner_of (required_of (codes "miner") rows)
+  order ← order_of (first_of (codes "schedule") rows) (first_of (codes "shuffle") rows)
+  budget ← number_or default_budget (first_of (codes "budget") rows)
+  Some (record {
+    miner = miner;
+    program = required_of (codes "program") rows;
+    public = required_of (codes "public") rows;
+    opened = required_of (codes "opened") rows;
+    sim = required_of (codes "sim") rows;
+    view = required_of (codes "view") rows;
+    order = order;
+    budget = budget;
+  })
+
+unfoldable pub twin_of : List Row → Option TwinAsk
+twin_of rows = do
+  miner ← miner_of (required_of (codes "miner") rows)
+  budget ← number_or default_budget (first_of (codes "budget") rows)
+  Some (record {
+    miner = miner;
+    program = required_of (codes "program") rows;
+    input = required_of (codes "input") rows;
+    second = required_of (codes "second") rows;
+    tape = required_of (codes "tape") rows;
+    to = required_of (codes "to") rows;
+    budget = budget;
+  })
+
+unfoldable pub load_of : List Row → Option LoadAsk
+load_of rows = do
+  number ← number_of (required_of (codes "number") rows)
+  Some (record { number = number })
+
 -- the command of this name, with what `clap` matched behind its name
 unfoldable pub named : Text → List Row → Option Ask
 named name rows =
@@ -140,6 +233,10 @@ named name rows =
     else if bytes_eq name (codes "compile") then option_map compile (compile_of rows)
     else if bytes_eq name (codes "eval") then option_map eval (eval_of rows)
     else if bytes_eq name (codes "need") then option_map need (eval_of rows)
+    else if bytes_eq name (codes "map") then option_map map_tape (map_of rows)
+    else if bytes_eq name (codes "simulate") then option_map simulate (simulate_of rows)
+    else if bytes_eq name (codes "twin") then option_map twin (twin_of rows)
+    else if bytes_eq name (codes "load") then option_map load (load_of rows)
     else None
 
 -- this, where nothing refuses the words

@@ -24,7 +24,7 @@ command_app name words required optional =
 
 unfoldable pub run_options : List Text
 run_options =
-    codes "tape" ∷ codes "seed" ∷ codes "words" ∷ codes "schedule" ∷ codes "shuffle" ∷ codes "record" ∷ codes "budget" ∷ []
+    codes "tape" ∷ codes "seed" ∷ codes "words" ∷ codes "schedule" ∷ codes "shuffle" ∷ codes "record" ∷ codes "budget" ∷ codes "views" ∷ []
 
 -- run PROGRAM --input F, and the options
 unfoldable pub run_app : App
@@ -49,6 +49,32 @@ eval_options = codes "budget" ∷ []
 unfoldable pub evaluation_app : Text → App
 evaluation_app name = command_app name (codes "program" ∷ []) (codes "input" ∷ []) eval_options
 
+-- the command of this name about a miner's view: its number, the program, the options that must be there, and those that may be left out
+unfoldable pub view_app : Text → List Text → List Text → App
+view_app name required optional = command_app name (codes "miner" ∷ codes "program" ∷ []) required optional
+
+unfoldable pub map_required : List Text
+map_required = codes "input" ∷ codes "tape" ∷ codes "sim" ∷ codes "public" ∷ codes "opened" ∷ []
+
+-- map I PROGRAM --input F --tape F --sim F --public F --opened F, and the budget
+unfoldable pub map_app : App
+map_app = view_app (codes "map") map_required eval_options
+
+unfoldable pub simulate_options : List Text
+simulate_options = codes "schedule" ∷ codes "shuffle" ∷ codes "budget" ∷ []
+
+-- simulate I PROGRAM --public F --opened F --sim F --view F, and the options
+unfoldable pub simulate_app : App
+simulate_app = view_app (codes "simulate") (codes "public" ∷ codes "opened" ∷ codes "sim" ∷ codes "view" ∷ []) simulate_options
+
+-- twin I PROGRAM --input F --second F --tape F --to F, and the budget
+unfoldable pub twin_app : App
+twin_app = view_app (codes "twin") (codes "input" ∷ codes "second" ∷ codes "tape" ∷ codes "to" ∷ []) eval_options
+
+-- load --number K
+unfoldable pub load_app : App
+load_app = command_app (codes "load") [] (codes "number" ∷ []) []
+
 -- no command yet: the words begin after the program's name, and `help` is no command
 unfoldable pub bare_app : App
 bare_app = record (new_app (codes "secrec")) { top = record (new_app (codes "secrec")).top { no_binary_name = true; disable_help_subcommand = true } }
@@ -65,6 +91,14 @@ clear_app = with_subcommand (with_subcommand input_app (evaluation_app (codes "e
 unfoldable pub checking_app : App
 checking_app = with_subcommand clear_app check_app.top
 
+-- and the one that compiles it
+unfoldable pub program_app : App
+program_app = with_subcommand checking_app compile_app.top
+
+-- and those about one miner's view
+unfoldable pub viewing_app : App
+viewing_app = with_subcommand (with_subcommand (with_subcommand program_app map_app.top) simulate_app.top) twin_app.top
+
 -- all commands
 unfoldable pub secrec_app : App
-secrec_app = with_subcommand checking_app compile_app.top
+secrec_app = with_subcommand viewing_app load_app.top

@@ -4,27 +4,41 @@ use Rattle.std.specs.Bool.{⊤}
 use Rattle.clap.specs.Words.{Text}
 use Rattle.clap.proofs.OnLiterals.{clap_on_literals}
 use Rattle.hex.proofs.OnLiterals.{hex_on_literals}
-use Rattle.command_words.specs.Ask.{Ask, run, deal, check, compile, eval, need, file, seeded, in_turn, scheduled, shuffled, words_of, named_in, named, matched, run_of, deal_of, check_of, compile_of}
-use Rattle.command_words.specs.Ask.{eval_of, source_of, seeded_source, order_of, number_or, required_of}
-use Rattle.command_words.specs.Numbers.{number_of, seed_of}
-use Rattle.command_words.specs.Shapes.{secrec_app, checking_app, clear_app, input_app, run_app, deal_app, check_app, compile_app, evaluation_app, command_app, bare_app, run_options, eval_options, with_options, word_rule, option_rule}
+use Rattle.command_words.specs.Ask.{Ask, Source, run, deal, check, compile, eval, need, map_tape, simulate, twin, load, file, seeded, in_turn, scheduled, shuffled, words_of, named_in, named, matched}
+use Rattle.command_words.specs.Ask.{run_of, deal_of, check_of, compile_of, eval_of, map_of, simulate_of, twin_of, load_of, source_of, seeded_source, order_of, number_or, required_of}
+use Rattle.command_words.specs.Numbers.{number_of, miner_of, seed_of}
+use Rattle.proto_core.specs.declared.party.Number.TheVariants.{One, Two, Three}
+use Rattle.command_words.specs.Shapes.{secrec_app, viewing_app, program_app, checking_app, clear_app, input_app, run_app, deal_app, check_app, compile_app, evaluation_app, view_app, map_app, simulate_app, twin_app}
+use Rattle.command_words.specs.Shapes.{load_app, command_app, bare_app, run_options, eval_options, map_required, simulate_options, with_options, word_rule, option_rule}
 
 -- opens the definitions, so that they compute at words that are written out
 unfoldable pub words_on_literals : ⊤
-unfolding clap_on_literals hex_on_literals secrec_app checking_app clear_app input_app run_app deal_app check_app compile_app evaluation_app command_app bare_app run_options eval_options with_options word_rule option_rule words_of named_in named matched run_of deal_of check_of compile_of eval_of source_of seeded_source order_of number_or required_of number_of seed_of
+unfolding clap_on_literals hex_on_literals secrec_app viewing_app program_app checking_app clear_app input_app run_app deal_app check_app compile_app evaluation_app view_app map_app simulate_app twin_app load_app command_app bare_app run_options eval_options map_required simulate_options with_options word_rule option_rule words_of named_in named matched run_of deal_of check_of compile_of eval_of map_of simulate_of twin_of load_of source_of seeded_source order_of number_or required_of number_of miner_of seed_of
 words_on_literals = tt
 
 -- run p.sc --input i, and then these words
 abbrev pub run_with : List Text → Option Ask
 run_with more = words_of (codes "run" ∷ codes "p.sc" ∷ codes "--input" ∷ codes "i" ∷ more)
 
+-- what those ask for that name no order and no file to write
+abbrev pub in_turn_from : Source → ℕ → Option Ask
+in_turn_from source budget = Some (run (record {
+  program = codes "p.sc";
+  input = codes "i";
+  source = source;
+  budget = budget;
+  order = in_turn;
+  recorded = None;
+  views = None;
+}))
+
 run_with_tape : run_with (codes "--tape" ∷ codes "t" ∷ [])
-    ≡ Some (run (record { program = codes "p.sc"; input = codes "i"; source = file (codes "t"); budget = 1000000; order = in_turn; recorded = None }))
+    ≡ in_turn_from (file (codes "t")) 1000000
 unfolding words_on_literals
 run_with_tape = refl
 
 run_with_budget : run_with (codes "--budget=006" ∷ codes "--tape" ∷ codes "t" ∷ [])
-    ≡ Some (run (record { program = codes "p.sc"; input = codes "i"; source = file (codes "t"); budget = 6; order = in_turn; recorded = None }))
+    ≡ in_turn_from (file (codes "t")) 6
 unfolding words_on_literals
 run_with_budget = refl
 
@@ -32,13 +46,13 @@ abbrev pub seed_bytes : List ℕ
 seed_bytes = 0 ∷ 1 ∷ 2 ∷ 3 ∷ 4 ∷ 5 ∷ 6 ∷ 7 ∷ 8 ∷ 9 ∷ 10 ∷ 11 ∷ 12 ∷ 13 ∷ 14 ∷ 15 ∷ 16 ∷ 17 ∷ 18 ∷ 19 ∷ 20 ∷ 21 ∷ 22 ∷ 23 ∷ 24 ∷ 25 ∷ 26 ∷ 27 ∷ 28 ∷ 29 ∷ 30 ∷ 31 ∷ []
 
 run_with_seed : run_with (codes "--seed" ∷ codes "000102030405060708090a0b0c0d0e0f101112131415161718191a1b1c1d1e1f" ∷ [])
-    ≡ Some (run (record { program = codes "p.sc"; input = codes "i"; source = seeded seed_bytes 65536; budget = 1000000; order = in_turn; recorded = None }))
+    ≡ in_turn_from (seeded seed_bytes 65536) 1000000
 unfolding words_on_literals
 run_with_seed = refl
 
 -- 64 digits `7` are 32 bytes 119
 run_with_words : run_with (codes "--words" ∷ codes "16777216" ∷ codes "--seed" ∷ replicate 64 55 ∷ [])
-    ≡ Some (run (record { program = codes "p.sc"; input = codes "i"; source = seeded (replicate 32 119) 16777216; budget = 1000000; order = in_turn; recorded = None }))
+    ≡ in_turn_from (seeded (replicate 32 119) 16777216) 1000000
 unfolding words_on_literals
 run_with_words = refl
 
@@ -54,7 +68,7 @@ both_sources : run_with (codes "--tape" ∷ codes "t" ∷ codes "--seed" ∷ rep
 unfolding words_on_literals
 both_sources = refl
 
-run_as_scheduled : run_with (codes "--tape" ∷ codes "t" ∷ codes "--schedule" ∷ codes "s" ∷ codes "--record" ∷ codes "r" ∷ [])
+run_as_scheduled : run_with (codes "--tape" ∷ codes "t" ∷ codes "--schedule" ∷ codes "s" ∷ codes "--record" ∷ codes "r" ∷ codes "--views" ∷ codes "v" ∷ [])
     ≡ Some (run (record {
       program = codes "p.sc";
       input = codes "i";
@@ -62,6 +76,7 @@ run_as_scheduled : run_with (codes "--tape" ∷ codes "t" ∷ codes "--schedule"
       budget = 1000000;
       order = scheduled (codes "s");
       recorded = Some (codes "r");
+      views = Some (codes "v");
     }))
 unfolding words_on_literals
 run_as_scheduled = refl
@@ -74,6 +89,7 @@ run_as_shuffled : run_with (codes "--tape" ∷ codes "t" ∷ codes "--shuffle" �
       budget = 1000000;
       order = shuffled (replicate 32 119);
       recorded = None;
+      views = None;
     }))
 unfolding words_on_literals
 run_as_shuffled = refl
@@ -108,7 +124,7 @@ no_input : words_of (codes "run" ∷ codes "p.sc" ∷ codes "--tape" ∷ codes "
 unfolding words_on_literals
 no_input = refl
 
-unknown_option : run_with (codes "--tape" ∷ codes "t" ∷ codes "--views" ∷ codes "v" ∷ []) ≡ None
+unknown_option : run_with (codes "--tape" ∷ codes "t" ∷ codes "--view" ∷ codes "v" ∷ []) ≡ None
 unfolding words_on_literals
 unknown_option = refl
 
@@ -137,7 +153,15 @@ no_value = refl
 
 -- `--` ends the options
 after_dashes : words_of (codes "run" ∷ codes "--input=i" ∷ codes "--tape=t" ∷ codes "--" ∷ codes "--p" ∷ [])
-    ≡ Some (run (record { program = codes "--p"; input = codes "i"; source = file (codes "t"); budget = 1000000; order = in_turn; recorded = None }))
+    ≡ Some (run (record {
+      program = codes "--p";
+      input = codes "i";
+      source = file (codes "t");
+      budget = 1000000;
+      order = in_turn;
+      recorded = None;
+      views = None;
+    }))
 unfolding words_on_literals
 after_dashes = refl
 
@@ -180,6 +204,82 @@ eval_without_input = refl
 need_with_tape : words_of (codes "need" ∷ codes "p.sc" ∷ codes "--input=i" ∷ codes "--tape=t" ∷ []) ≡ None
 unfolding words_on_literals
 need_with_tape = refl
+
+-- map, the miner's number, p.sc, and all options that must be there
+abbrev pub map_with : Text → List Text → Option Ask
+map_with miner more =
+    words_of (codes "map" ∷ miner ∷ codes "p.sc" ∷ codes "--input=i" ∷ codes "--tape=t" ∷ codes "--sim=s" ∷ codes "--public=p" ∷ codes "--opened=o" ∷ more)
+
+map_words : map_with (codes "003") (codes "--budget=6" ∷ [])
+    ≡ Some (map_tape (record {
+      miner = Three;
+      program = codes "p.sc";
+      input = codes "i";
+      tape = codes "t";
+      sim = codes "s";
+      public = codes "p";
+      opened = codes "o";
+      budget = 6;
+    }))
+unfolding words_on_literals
+map_words = refl
+
+fourth_miner : map_with (codes "4") [] ≡ None
+unfolding words_on_literals
+fourth_miner = refl
+
+signed_miner : map_with (codes "+1") [] ≡ None
+unfolding words_on_literals
+signed_miner = refl
+
+-- simulate 1 p.sc, all options that must be there, and then these words
+abbrev pub simulate_with : List Text → Option Ask
+simulate_with more =
+    words_of (codes "simulate" ∷ codes "1" ∷ codes "p.sc" ∷ codes "--public=p" ∷ codes "--opened=o" ∷ codes "--sim=s" ∷ codes "--view=v" ∷ more)
+
+simulate_as_scheduled : simulate_with (codes "--schedule" ∷ codes "order" ∷ [])
+    ≡ Some (simulate (record {
+      miner = One;
+      program = codes "p.sc";
+      public = codes "p";
+      opened = codes "o";
+      sim = codes "s";
+      view = codes "v";
+      order = scheduled (codes "order");
+      budget = 1000000;
+    }))
+unfolding words_on_literals
+simulate_as_scheduled = refl
+
+simulate_with_both : simulate_with (codes "--schedule" ∷ codes "order" ∷ codes "--shuffle" ∷ replicate 64 55 ∷ []) ≡ None
+unfolding words_on_literals
+simulate_with_both = refl
+
+-- a simulator has no input file
+simulate_with_input : simulate_with (codes "--input=i" ∷ []) ≡ None
+unfolding words_on_literals
+simulate_with_input = refl
+
+twin_words : words_of (codes "twin" ∷ codes "2" ∷ codes "p.sc" ∷ codes "--input=i" ∷ codes "--second=j" ∷ codes "--tape=t" ∷ codes "--to=u" ∷ [])
+    ≡ Some (twin (record {
+      miner = Two;
+      program = codes "p.sc";
+      input = codes "i";
+      second = codes "j";
+      tape = codes "t";
+      to = codes "u";
+      budget = 1000000;
+    }))
+unfolding words_on_literals
+twin_words = refl
+
+load_words : words_of (codes "load" ∷ codes "--number" ∷ codes "18446744073709551615" ∷ []) ≡ Some (load (record { number = 18446744073709551615 }))
+unfolding words_on_literals
+load_words = refl
+
+load_of_large : words_of (codes "load" ∷ codes "--number" ∷ codes "18446744073709551616" ∷ []) ≡ None
+unfolding words_on_literals
+load_of_large = refl
 
 no_words : words_of [] ≡ None
 unfolding words_on_literals

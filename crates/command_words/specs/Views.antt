@@ -14,12 +14,16 @@ use Rattle.command_words.specs.declared.command.DealWords.{DealWords}
 use Rattle.command_words.specs.declared.command.CheckWords.{CheckWords}
 use Rattle.command_words.specs.declared.command.CompileWords.{CompileWords}
 use Rattle.command_words.specs.declared.command.EvalWords.{EvalWords}
+use Rattle.command_words.specs.declared.command.MapWords.{MapWords}
+use Rattle.command_words.specs.declared.command.SimulateWords.{SimulateWords}
+use Rattle.command_words.specs.declared.command.TwinWords.{TwinWords}
+use Rattle.command_words.specs.declared.command.LoadWords.{LoadWords}
 use Rattle.command_words.specs.declared.command.Command.{Command}
 use Rattle.command_words.specs.declared.command.Command.TheVariants as commands
 use Rattle.command_words.specs.declared.command.WordsErr.{WordsErr}
 use Rattle.command_words.specs.declared.command.WordsErr.TheVariants.{Usage, Memory}
 use Rattle.command_words.specs.Ask.{Ask, CheckAsk, CompileAsk, DealAsk, EvalAsk, Order, RunAsk, Source, check, compile, deal, eval, file, in_turn, need, run}
-use Rattle.command_words.specs.Ask.{scheduled, seeded, shuffled}
+use Rattle.command_words.specs.Ask.{LoadAsk, MapAsk, SimulateAsk, TwinAsk, load, map_tape, scheduled, seeded, shuffled, simulate, twin}
 
 abbrev pub source_ask : TapeSource → Source
 source_ask (sources.File path) = file (string_bytes path)
@@ -38,6 +42,7 @@ run_ask w = record {
   budget = w.budget;
   order = order_ask w.order;
   recorded = option_map string_bytes w.recorded;
+  views = option_map string_bytes w.views;
 }
 
 abbrev pub deal_ask : DealWords → DealAsk
@@ -52,6 +57,44 @@ compile_ask w = record { program = string_bytes w.program; code = string_bytes w
 abbrev pub eval_ask : EvalWords → EvalAsk
 eval_ask w = record { program = string_bytes w.program; input = string_bytes w.input; budget = w.budget }
 
+abbrev pub map_ask : MapWords → MapAsk
+map_ask w = record {
+  miner = w.miner;
+  program = string_bytes w.program;
+  input = string_bytes w.input;
+  tape = string_bytes w.tape;
+  sim = string_bytes w.sim;
+  public = string_bytes w.public;
+  opened = string_bytes w.opened;
+  budget = w.budget;
+}
+
+abbrev pub simulate_ask : SimulateWords → SimulateAsk
+simulate_ask w = record {
+  miner = w.miner;
+  program = string_bytes w.program;
+  public = string_bytes w.public;
+  opened = string_bytes w.opened;
+  sim = string_bytes w.sim;
+  view = string_bytes w.view;
+  order = order_ask w.order;
+  budget = w.budget;
+}
+
+abbrev pub twin_ask : TwinWords → TwinAsk
+twin_ask w = record {
+  miner = w.miner;
+  program = string_bytes w.program;
+  input = string_bytes w.input;
+  second = string_bytes w.second;
+  tape = string_bytes w.tape;
+  to = string_bytes w.to;
+  budget = w.budget;
+}
+
+abbrev pub load_ask : LoadWords → LoadAsk
+load_ask w = record { number = w.number }
+
 abbrev pub ask_of : Command → Ask
 ask_of (commands.Run w) = run (run_ask w)
 ask_of (commands.Deal w) = deal (deal_ask w)
@@ -59,6 +102,10 @@ ask_of (commands.Check w) = check (check_ask w)
 ask_of (commands.Compile w) = compile (compile_ask w)
 ask_of (commands.Eval w) = eval (eval_ask w)
 ask_of (commands.Need w) = need (eval_ask w)
+ask_of (commands.Map w) = map_tape (map_ask w)
+ask_of (commands.Simulate w) = simulate (simulate_ask w)
+ask_of (commands.Twin w) = twin (twin_ask w)
+ask_of (commands.Load w) = load (load_ask w)
 
 -- the answer, seen by `view`, is the value that is wanted; Usage says that there is none, and Memory says nothing
 abbrev pub Reads : {X Y : Type 0} → (X → Y) → Option Y → Result X WordsErr → Type 0

@@ -1,6 +1,6 @@
 //! The `clap` command that reads the words.
 ghost use Rattle.std.specs.Prelude.{◌≡◌, IfOk, map};
-ghost use Rattle.command_words.specs.Shapes.{word_rule, option_rule, run_options, run_app, deal_app, check_app, compile_app, eval_options, evaluation_app, bare_app, input_app, clear_app, checking_app, secrec_app};
+ghost use Rattle.command_words.specs.Shapes.{word_rule, option_rule, run_options, run_app, deal_app, check_app, compile_app, eval_options, evaluation_app, view_app, map_required, map_app, simulate_options, simulate_app, twin_app, load_app, bare_app, input_app, clear_app, checking_app, program_app, viewing_app, secrec_app};
 ghost use Rattle.clap.specs.Words.{App, with_subcommand};
 ghost use Rattle.command_words.specs.Builds.{Builds, GetsOptions, IsLocal};
 
@@ -42,8 +42,8 @@ fn with_options<'a>(
 
 static RUN_REQUIRED: [&str; 1] = ["input"];
 
-static RUN_OPTIONS: [&str; 7] = [
-    "tape", "seed", "words", "schedule", "shuffle", "record", "budget",
+static RUN_OPTIONS: [&str; 8] = [
+    "tape", "seed", "words", "schedule", "shuffle", "record", "budget", "views",
 ];
 
 static DEAL_REQUIRED: [&str; 3] = ["input", "tape", "to"];
@@ -53,6 +53,16 @@ static COMPILE_REQUIRED: [&str; 1] = ["code"];
 static EVAL_REQUIRED: [&str; 1] = ["input"];
 
 static EVAL_OPTIONS: [&str; 1] = ["budget"];
+
+static MAP_REQUIRED: [&str; 5] = ["input", "tape", "sim", "public", "opened"];
+
+static SIMULATE_REQUIRED: [&str; 4] = ["public", "opened", "sim", "view"];
+
+static SIMULATE_OPTIONS: [&str; 3] = ["schedule", "shuffle", "budget"];
+
+static TWIN_REQUIRED: [&str; 4] = ["input", "second", "tape", "to"];
+
+static LOAD_REQUIRED: [&str; 1] = ["number"];
 
 // The options of `run` that may be left out.
 #[tactic(auto, unfolding(crate::specs::Shapes::run_options))]
@@ -98,7 +108,7 @@ fn compile_command<'a>(alloc: Global) -> Result<Command<'a>, AllocError>
     with_options(alloc, command, true, COMPILE_REQUIRED.as_slice())
 }
 
-// The options of `eval` and of `need` that may be left out.
+// The options of `eval`, `need`, `map` and `twin` that may be left out.
 #[tactic(auto, unfolding(crate::specs::Shapes::eval_options))]
 fn eval_options() -> &'static [&'static str]
     ensures { map (λ s. s.now) result.now ≡ eval_options }
@@ -114,6 +124,76 @@ fn evaluation_command<'a>(alloc: Global, name: &'a str) -> Result<Command<'a>, A
     let command = Command::new(alloc, name).arg(word(alloc, "program"))?;
     let command = with_options(alloc, command, true, EVAL_REQUIRED.as_slice())?;
     with_options(alloc, command, false, eval_options())
+}
+
+// The command of this name about a miner's view of a program, with these options.
+#[tactic(auto, unfolding(crate::specs::Shapes::view_app, crate::specs::Shapes::command_app))]
+fn view_command<'a>(
+    alloc: Global,
+    name: &'a str,
+    required: &'static [&'static str],
+    optional: &'static [&'static str],
+) -> Result<Command<'a>, AllocError>
+    ensures { IfOk result (λ c. Builds (view_app name.entry.now (map (λ s. s.now) required.now) (map (λ s. s.now) optional.now)) c) }
+{
+    let command = Command::new(alloc, name).arg(word(alloc, "miner"))?;
+    let command = command.arg(word(alloc, "program"))?;
+    let command = with_options(alloc, command, true, required)?;
+    with_options(alloc, command, false, optional)
+}
+
+// The options of `map` that must be there.
+#[tactic(auto, unfolding(crate::specs::Shapes::map_required))]
+fn map_required() -> &'static [&'static str]
+    ensures { map (λ s. s.now) result.now ≡ map_required }
+{
+    MAP_REQUIRED.as_slice()
+}
+
+#[tactic(auto, unfolding(crate::specs::Shapes::map_app))]
+fn map_command<'a>(alloc: Global) -> Result<Command<'a>, AllocError>
+    ensures { IfOk result (λ c. Builds map_app c) }
+{
+    view_command(alloc, "map", map_required(), eval_options())
+}
+
+// The options of `simulate` that may be left out.
+#[tactic(auto, unfolding(crate::specs::Shapes::simulate_options))]
+fn simulate_options() -> &'static [&'static str]
+    ensures { map (λ s. s.now) result.now ≡ simulate_options }
+{
+    SIMULATE_OPTIONS.as_slice()
+}
+
+#[tactic(auto, unfolding(crate::specs::Shapes::simulate_app))]
+fn simulate_command<'a>(alloc: Global) -> Result<Command<'a>, AllocError>
+    ensures { IfOk result (λ c. Builds simulate_app c) }
+{
+    view_command(
+        alloc,
+        "simulate",
+        SIMULATE_REQUIRED.as_slice(),
+        simulate_options(),
+    )
+}
+
+#[tactic(auto, unfolding(crate::specs::Shapes::twin_app))]
+fn twin_command<'a>(alloc: Global) -> Result<Command<'a>, AllocError>
+    ensures { IfOk result (λ c. Builds twin_app c) }
+{
+    view_command(alloc, "twin", TWIN_REQUIRED.as_slice(), eval_options())
+}
+
+#[tactic(auto, unfolding(crate::specs::Shapes::load_app, crate::specs::Shapes::command_app, crate::specs::Shapes::with_options))]
+fn load_command<'a>(alloc: Global) -> Result<Command<'a>, AllocError>
+    ensures { IfOk result (λ c. Builds load_app c) }
+{
+    with_options(
+        alloc,
+        Command::new(alloc, "load"),
+        true,
+        LOAD_REQUIRED.as_slice(),
+    )
 }
 
 // The command with one more command behind it; without memory for either there is none.
@@ -161,9 +241,25 @@ fn checking_commands<'a>(alloc: Global) -> Result<Command<'a>, AllocError>
     with_command(clear_commands(alloc), check_command(alloc))
 }
 
+// Those, and the one that compiles it.
+fn program_commands<'a>(alloc: Global) -> Result<Command<'a>, AllocError>
+    ensures { IfOk result (λ c. Builds program_app c) }
+{
+    with_command(checking_commands(alloc), compile_command(alloc))
+}
+
+// Those, and the commands about one miner's view.
+fn viewing_commands<'a>(alloc: Global) -> Result<Command<'a>, AllocError>
+    ensures { IfOk result (λ c. Builds viewing_app c) }
+{
+    let mapped = with_command(program_commands(alloc), map_command(alloc));
+    let simulated = with_command(mapped, simulate_command(alloc));
+    with_command(simulated, twin_command(alloc))
+}
+
 /// The whole command.
 pub(crate) fn secrec_command<'a>(alloc: Global) -> Result<Command<'a>, AllocError>
     ensures { IfOk result (λ c. Builds secrec_app c) }
 {
-    with_command(checking_commands(alloc), compile_command(alloc))
+    with_command(viewing_commands(alloc), load_command(alloc))
 }

@@ -3,6 +3,7 @@ ghost use Rattle.std.specs.Prelude.{◌≡◌};
 ghost use Rattle.command_words.specs.declared.command.WordsErr.TheVariants.{Memory};
 
 use crate::tape_seed::TapeSeed;
+use proto_core::Number;
 use std::alloc::AllocError;
 
 /// Where the tapes of a run come from.
@@ -26,7 +27,7 @@ pub enum DeliveryOrder {
 }
 
 /// The words of `run`: the paths of the program and the input file, the tapes, the most that the run may cost, the order of deliveries,
-/// and the path to which the links that were delivered are written.
+/// the path to which the links that were delivered are written, and the start of the paths to which the three views are.
 #[derive(Drop)]
 pub struct RunWords {
     pub program: String,
@@ -35,6 +36,7 @@ pub struct RunWords {
     pub budget: u64,
     pub order: DeliveryOrder,
     pub recorded: Option<String>,
+    pub views: Option<String>,
 }
 
 /// The words of `deal`: the paths of the input file and the tape file, and the start of the paths that are written.
@@ -66,6 +68,53 @@ pub struct EvalWords {
     pub budget: u64,
 }
 
+/// The words of `map`: the miner, the paths of the program, the input file and the tape file, the most that the run may cost, and the
+/// paths to which the simulator's tape, the public part of the inputs and the opened lines are written.
+#[derive(Drop)]
+pub struct MapWords {
+    pub miner: Number,
+    pub program: String,
+    pub input: String,
+    pub tape: String,
+    pub sim: String,
+    pub public: String,
+    pub opened: String,
+    pub budget: u64,
+}
+
+/// The words of `simulate`: the miner, the paths of the program, the public part of the inputs, the opened lines and the simulator's tape,
+/// the most that the run may cost, the order of deliveries, and the path to which the view is written.
+#[derive(Drop)]
+pub struct SimulateWords {
+    pub miner: Number,
+    pub program: String,
+    pub public: String,
+    pub opened: String,
+    pub sim: String,
+    pub view: String,
+    pub order: DeliveryOrder,
+    pub budget: u64,
+}
+
+/// The words of `twin`: the miner, the paths of the program, the two input files and the tape file, the most that the run may cost, and the
+/// path to which the tape of the second input is written.
+#[derive(Drop)]
+pub struct TwinWords {
+    pub miner: Number,
+    pub program: String,
+    pub input: String,
+    pub second: String,
+    pub tape: String,
+    pub to: String,
+    pub budget: u64,
+}
+
+/// The word of `load`: the number from which the load is made.
+#[derive(Clone, Copy)]
+pub struct LoadWords {
+    pub number: u64,
+}
+
 /// A command, with its words.
 #[derive(Drop)]
 pub enum Command {
@@ -75,6 +124,10 @@ pub enum Command {
     Need(EvalWords),
     Run(RunWords),
     Deal(DealWords),
+    Map(MapWords),
+    Simulate(SimulateWords),
+    Twin(TwinWords),
+    Load(LoadWords),
 }
 
 /// Why words aren't read as a command.

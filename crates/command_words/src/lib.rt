@@ -1,7 +1,7 @@
 //! The words of the command line, read as a command.
 //!
 //! `clap` says which words have the form of a command. What else they have to meet (numbers, seeds, one source of the
-//! tapes) is tested here. Words that fail either are [`WordsErr::Usage`].
+//! tapes, one order of deliveries) is tested here. Words that fail either are [`WordsErr::Usage`].
 #![tactic(auto)]
 
 mod builders;
@@ -12,8 +12,8 @@ mod tape_seed;
 mod values;
 
 pub use command::{
-    CheckWords, Command, CompileWords, DealWords, DeliveryOrder, EvalWords, RunWords, TapeSource,
-    WordsErr,
+    CheckWords, Command, CompileWords, DealWords, DeliveryOrder, EvalWords, LoadWords, MapWords,
+    RunWords, SimulateWords, TapeSource, TwinWords, WordsErr,
 };
 pub use reading::read;
 pub use tape_seed::TapeSeed;

@@ -1,10 +1,11 @@
-//! Numbers and seeds as text.
+//! Numbers, miners and seeds as text.
 ghost use Rattle.std.specs.Prelude.{◌≡◌};
 ghost use Rattle.std.specs.List.{list_all};
 ghost use Rattle.std.specs.Char.{is_ascii_digit};
-ghost use Rattle.command_words.specs.Numbers.{number_of, seed_of, is_lower_hex};
+ghost use Rattle.command_words.specs.Numbers.{number_of, miner_of, seed_of, is_lower_hex};
 
 use hex::FromHex;
+use proto_core::Number;
 
 fn all_digits(bytes: &[u8]) -> bool
     ensures { result ≡ list_all is_ascii_digit bytes.now }
@@ -27,6 +28,19 @@ pub(crate) fn number(text: &str) -> Option<u64>
         return None;
     }
     text.parse::<u64>().ok()
+}
+
+/// The miner whose number decimal digits spell: 1, 2 or 3.
+#[tactic(auto, unfolding(crate::specs::Numbers::miner_of))]
+pub(crate) fn miner(text: &str) -> Option<Number>
+    ensures { result ≡ miner_of text.now }
+{
+    match number(text)? {
+        1 => Some(Number::One),
+        2 => Some(Number::Two),
+        3 => Some(Number::Three),
+        _ => None,
+    }
 }
 
 fn is_lower_hex_digit(c: u8) -> bool

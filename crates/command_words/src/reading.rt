@@ -35,9 +35,10 @@ fn matches_of<'a>(alloc: Global, words: &'a [String]) -> Result<ArgMatches<'a>, 
 /// The command that the words after the program's name ask for.
 ///
 /// `Usage` comes exactly where they ask for none: `clap` has no matches for them, no command is named, a number isn't
-/// decimal digits with a value below 2^64 (16,777,216 at most for `--words`), a seed isn't 64 lower-case hexadecimal
-/// digits, both or none of `--tape` and `--seed` are given, or `--words` comes without `--seed`. A request for help is
-/// `Usage`. `Memory` comes where memory ran out, whatever the words are.
+/// decimal digits with a value below 2^64 (16,777,216 at most for `--words`, 1 to 3 for a miner), a seed isn't 64
+/// lower-case hexadecimal digits, `run` has both or none of `--tape` and `--seed`, `--words` comes without `--seed`, or
+/// both `--schedule` and `--shuffle` are given. A request for help is `Usage`. `Memory` comes where memory ran out,
+/// whatever the words are.
 #[tactic(auto, unfolding(crate::specs::Ask::words_of, crate::specs::Ask::named_in))]
 pub fn read(alloc: Global, words: &[String]) -> Result<Command, WordsErr>
     ensures { Reads ask_of (words_of (texts words.now)) result }

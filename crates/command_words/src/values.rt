@@ -1,16 +1,18 @@
 //! What a command's words give, once `clap` has matched them.
 ghost use Rattle.std.specs.Prelude.{◌≡◌, option_map, IfOk, string_bytes, codes};
 ghost use Rattle.clap.specs.Words.{found_of, first_of, rows_of};
-ghost use Rattle.command_words.specs.Ask.{required_of, default_budget, number_or, seeded_source, source_of, order_of, run_of, deal_of, check_of, compile_of, eval_of, named};
-ghost use Rattle.command_words.specs.Views.{Reads, text_in, source_ask, order_ask, run_ask, deal_ask, check_ask, compile_ask, eval_ask, ask_of};
+ghost use Rattle.command_words.specs.Ask.{required_of, default_budget, number_or, seeded_source, source_of, order_of, run_of, deal_of, check_of, compile_of, eval_of, map_of, simulate_of, twin_of, load_of, named};
+ghost use Rattle.command_words.specs.Numbers.{miner_of};
+ghost use Rattle.command_words.specs.Views.{Reads, text_in, source_ask, order_ask, run_ask, deal_ask, check_ask, compile_ask, eval_ask, map_ask, simulate_ask, twin_ask, load_ask, ask_of};
 
 use crate::command::{
-    CheckWords, Command, CompileWords, DealWords, DeliveryOrder, EvalWords, RunWords, TapeSource,
-    WordsErr,
+    CheckWords, Command, CompileWords, DealWords, DeliveryOrder, EvalWords, LoadWords, MapWords,
+    RunWords, SimulateWords, TapeSource, TwinWords, WordsErr,
 };
-use crate::numbers::{number, seed};
+use crate::numbers::{miner, number, seed};
 use crate::tape_seed::TapeSeed;
 use clap::ArgMatches;
+use proto_core::Number;
 use std::alloc::{AllocError, Global};
 
 const DEFAULT_BUDGET: u64 = 1_000_000;
@@ -113,7 +115,15 @@ fn budget_in(matches: &ArgMatches) -> Option<u64>
     number_or(DEFAULT_BUDGET, value(matches, "budget"))
 }
 
-// The paths that `run`, `eval` and `need` have.
+// The miner whose number stands behind the command's name.
+#[tactic(auto, unfolding(crate::specs::Ask::required_of))]
+fn miner_in(matches: &ArgMatches) -> Option<Number>
+    ensures { result ≡ miner_of (required_of (codes "miner") (rows_of (found_of matches.now))) }
+{
+    miner(value(matches, "miner").unwrap_or(""))
+}
+
+// The paths that all commands have that evaluate or run a program on inputs.
 #[derive(Drop)]
 struct Paths {
     program: String,
@@ -146,6 +156,7 @@ fn run_words(alloc: Global, matches: &ArgMatches) -> Result<RunWords, WordsErr>
     )?;
     let order = order(alloc, value(matches, "schedule"), value(matches, "shuffle"))?;
     let recorded = own_text(alloc, value(matches, "record"))?;
+    let views = own_text(alloc, value(matches, "views"))?;
     let paths = paths_of(alloc, matches)?;
     Ok(RunWords {
         program: paths.program,
@@ -154,6 +165,7 @@ fn run_words(alloc: Global, matches: &ArgMatches) -> Result<RunWords, WordsErr>
         budget,
         order,
         recorded,
+        views,
     })
 }
 
@@ -206,6 +218,106 @@ fn eval_words(alloc: Global, matches: &ArgMatches) -> Result<EvalWords, WordsErr
     })
 }
 
+// The paths of what a simulator reads, which `map` writes.
+#[derive(Drop)]
+struct SimulatorPaths {
+    sim: String,
+    public: String,
+    opened: String,
+}
+
+fn simulator_paths_of(alloc: Global, matches: &ArgMatches) -> Result<SimulatorPaths, AllocError>
+    ensures sim { IfOk result (λ p. string_bytes p.sim ≡ required_of (codes "sim") (rows_of (found_of matches.now))) }
+    ensures public { IfOk result (λ p. string_bytes p.public ≡ required_of (codes "public") (rows_of (found_of matches.now))) }
+    ensures opened { IfOk result (λ p. string_bytes p.opened ≡ required_of (codes "opened") (rows_of (found_of matches.now))) }
+{
+    Ok(SimulatorPaths {
+        sim: required(alloc, matches, "sim")?,
+        public: required(alloc, matches, "public")?,
+        opened: required(alloc, matches, "opened")?,
+    })
+}
+
+// The words of `map`.
+#[tactic(auto, unfolding(crate::specs::Ask::map_of))]
+fn map_words(alloc: Global, matches: &ArgMatches) -> Result<MapWords, WordsErr>
+    ensures { Reads map_ask (map_of (rows_of (found_of matches.now))) result }
+{
+    let (Some(miner), Some(budget)) = (miner_in(matches), budget_in(matches)) else {
+        return Err(WordsErr::Usage);
+    };
+    let tape = required(alloc, matches, "tape")?;
+    let paths = paths_of(alloc, matches)?;
+    let written = simulator_paths_of(alloc, matches)?;
+    Ok(MapWords {
+        miner,
+        program: paths.program,
+        input: paths.input,
+        tape,
+        sim: written.sim,
+        public: written.public,
+        opened: written.opened,
+        budget,
+    })
+}
+
+// The words of `simulate`.
+#[tactic(auto, unfolding(crate::specs::Ask::simulate_of))]
+fn simulate_words(alloc: Global, matches: &ArgMatches) -> Result<SimulateWords, WordsErr>
+    ensures { Reads simulate_ask (simulate_of (rows_of (found_of matches.now))) result }
+{
+    let (Some(miner), Some(budget)) = (miner_in(matches), budget_in(matches)) else {
+        return Err(WordsErr::Usage);
+    };
+    let program = required(alloc, matches, "program")?;
+    let view = required(alloc, matches, "view")?;
+    let read = simulator_paths_of(alloc, matches)?;
+    Ok(SimulateWords {
+        miner,
+        order: order(alloc, value(matches, "schedule"), value(matches, "shuffle"))?,
+        program,
+        public: read.public,
+        opened: read.opened,
+        sim: read.sim,
+        view,
+        budget,
+    })
+}
+
+// The words of `twin`.
+#[tactic(auto, unfolding(crate::specs::Ask::twin_of))]
+fn twin_words(alloc: Global, matches: &ArgMatches) -> Result<TwinWords, WordsErr>
+    ensures { Reads twin_ask (twin_of (rows_of (found_of matches.now))) result }
+{
+    let (Some(miner), Some(budget)) = (miner_in(matches), budget_in(matches)) else {
+        return Err(WordsErr::Usage);
+    };
+    let second = required(alloc, matches, "second")?;
+    let tape = required(alloc, matches, "tape")?;
+    let to = required(alloc, matches, "to")?;
+    let paths = paths_of(alloc, matches)?;
+    Ok(TwinWords {
+        miner,
+        program: paths.program,
+        input: paths.input,
+        second,
+        tape,
+        to,
+        budget,
+    })
+}
+
+// The word of `load`.
+#[tactic(auto, unfolding(crate::specs::Ask::load_of, crate::specs::Ask::required_of))]
+fn load_words(matches: &ArgMatches) -> Result<LoadWords, WordsErr>
+    ensures { Reads load_ask (load_of (rows_of (found_of matches.now))) result }
+{
+    match number(value(matches, "number").unwrap_or("")) {
+        Some(number) => Ok(LoadWords { number }),
+        None => Err(WordsErr::Usage),
+    }
+}
+
 /// The command of this name, with what `clap` matched behind its name.
 #[tactic(auto, unfolding(crate::specs::Ask::named))]
 pub(crate) fn named(alloc: Global, name: &str, matches: &ArgMatches) -> Result<Command, WordsErr>
@@ -228,6 +340,18 @@ pub(crate) fn named(alloc: Global, name: &str, matches: &ArgMatches) -> Result<C
     }
     if name == "need" {
         return Ok(Command::Need(eval_words(alloc, matches)?));
+    }
+    if name == "map" {
+        return Ok(Command::Map(map_words(alloc, matches)?));
+    }
+    if name == "simulate" {
+        return Ok(Command::Simulate(simulate_words(alloc, matches)?));
+    }
+    if name == "twin" {
+        return Ok(Command::Twin(twin_words(alloc, matches)?));
+    }
+    if name == "load" {
+        return Ok(Command::Load(load_words(matches)?));
     }
     Err(WordsErr::Usage)
 }

@@ -1,5 +1,8 @@
 //! Words of a command line, parted by single blanks, and the command that is read from them.
-use command_words::{Command, TapeSource, WordsErr, read};
+use command_words::{
+    Command, DeliveryOrder, MapWords, RunWords, SimulateWords, TapeSource, TwinWords, WordsErr,
+    read,
+};
 use std::alloc::{AllocError, Global};
 use std::test::Fail;
 
@@ -23,12 +26,67 @@ fn source_text(alloc: Global, source: &TapeSource) -> Result<String, AllocError>
     }
 }
 
+// An order of deliveries, where it isn't always the first link; of a seed the first byte and the last byte.
+fn order_text(alloc: Global, order: &DeliveryOrder) -> Result<String, AllocError> {
+    match order {
+        DeliveryOrder::InTurn => String::from_str(alloc, ""),
+        DeliveryOrder::Schedule(path) => format!(in alloc; " schedule {path}"),
+        DeliveryOrder::Shuffle(seed) => { format!(in alloc; " shuffle {} {}", seed[0], seed[31]) }
+    }
+}
+
+// A path that may be left out, behind its name.
+fn path_text(alloc: Global, name: &str, path: &Option<String>) -> Result<String, AllocError> {
+    match path {
+        Some(path) => format!(in alloc; " {name} {path}"),
+        None => String::from_str(alloc, ""),
+    }
+}
+
+fn run_text(alloc: Global, run: &RunWords) -> Result<String, AllocError> {
+    let source = source_text(alloc, &run.source)?;
+    let order = order_text(alloc, &run.order)?;
+    let recorded = path_text(alloc, "record", &run.recorded)?;
+    let views = path_text(alloc, "views", &run.views)?;
+    format!(in alloc;
+        "run {} {} {source} {}{order}{recorded}{views}",
+        run.program, run.input, run.budget
+    )
+}
+
+fn map_text(alloc: Global, map: &MapWords) -> Result<String, AllocError> {
+    let miner = map.miner;
+    format!(in alloc;
+        "map {miner} {} {} {} {} {} {} {}",
+        map.program, map.input, map.tape, map.sim, map.public, map.opened, map.budget
+    )
+}
+
+fn simulate_text(alloc: Global, simulate: &SimulateWords) -> Result<String, AllocError> {
+    let order = order_text(alloc, &simulate.order)?;
+    let miner = simulate.miner;
+    format!(in alloc;
+        "simulate {miner} {} {} {} {} {} {}{order}",
+        simulate.program,
+        simulate.public,
+        simulate.opened,
+        simulate.sim,
+        simulate.view,
+        simulate.budget
+    )
+}
+
+fn twin_text(alloc: Global, twin: &TwinWords) -> Result<String, AllocError> {
+    let miner = twin.miner;
+    format!(in alloc;
+        "twin {miner} {} {} {} {} {} {}",
+        twin.program, twin.input, twin.second, twin.tape, twin.to, twin.budget
+    )
+}
+
 fn command_text(alloc: Global, command: &Command) -> Result<String, AllocError> {
     match command {
-        Command::Run(run) => {
-            let source = source_text(alloc, &run.source)?;
-            format!(in alloc; "run {} {} {source} {}", run.program, run.input, run.budget)
-        }
+        Command::Run(run) => run_text(alloc, run),
         Command::Deal(deal) => {
             format!(in alloc; "deal {} {} {}", deal.input, deal.tape, deal.to)
         }
@@ -42,6 +100,10 @@ fn command_text(alloc: Global, command: &Command) -> Result<String, AllocError> 
         Command::Need(need) => {
             format!(in alloc; "need {} {} {}", need.program, need.input, need.budget)
         }
+        Command::Map(map) => map_text(alloc, map),
+        Command::Simulate(simulate) => simulate_text(alloc, simulate),
+        Command::Twin(twin) => twin_text(alloc, twin),
+        Command::Load(load) => format!(in alloc; "load {}", load.number),
     }
 }
 
@@ -55,7 +117,7 @@ fn answer(alloc: Global, line: &str) -> Result<String, AllocError> {
     }
 }
 
-const ROWS: [(&str, &str); 68] = [
+const ROWS: [(&str, &str); 108] = [
     ("run p --input i --tape t", "run p i file t 1000000"),
     ("run --tape=t --budget=007 --input=i p", "run p i file t 7"),
     (
@@ -89,6 +151,47 @@ const ROWS: [(&str, &str); 68] = [
         "need --p i 18446744073709551615",
     ),
     ("need p --input i", "need p i 1000000"),
+    (
+        "run p --input i --tape t --schedule s --record r",
+        "run p i file t 1000000 schedule s record r",
+    ),
+    (
+        "run p --views=v --shuffle ab00000000000000000000000000000000000000000000000000000000000001 --input i --tape t --budget 7",
+        "run p i file t 7 shuffle 171 1 views v",
+    ),
+    (
+        "map 2 p --input i --tape t --sim s --public b --opened o",
+        "map 2 p i t s b o 1000000",
+    ),
+    (
+        "map --opened o --public b --sim s --tape t --input i 003 --budget 7 p",
+        "map 3 p i t s b o 7",
+    ),
+    (
+        "simulate 1 p --public b --opened o --sim s --view v",
+        "simulate 1 p b o s v 1000000",
+    ),
+    (
+        "simulate 1 p --public b --opened o --sim s --view v --schedule=d --budget=7",
+        "simulate 1 p b o s v 7 schedule d",
+    ),
+    (
+        "simulate 2 p --shuffle ab00000000000000000000000000000000000000000000000000000000000001 --public b --opened o --sim s --view v",
+        "simulate 2 p b o s v 1000000 shuffle 171 1",
+    ),
+    (
+        "twin 3 p --input i --second j --tape t --to u",
+        "twin 3 p i j t u 1000000",
+    ),
+    (
+        "twin 1 --budget 0 --input i --second j --tape t --to u -- --p",
+        "twin 1 --p i j t u 0",
+    ),
+    (
+        "load --number 18446744073709551615",
+        "load 18446744073709551615",
+    ),
+    ("load --number=00", "load 0"),
     ("", "usage"),
     ("help", "usage"),
     ("help run", "usage"),
@@ -106,7 +209,7 @@ const ROWS: [(&str, &str); 68] = [
     ("run p --input i --tape", "usage"),
     ("run p --input -x --tape t", "usage"),
     ("run p --input i --tape t --tape t", "usage"),
-    ("run p --input i --tape t --views v", "usage"),
+    ("run p --input i --tape t --view v", "usage"),
     (
         "run p --input i --tape t --budget 18446744073709551616",
         "usage",
@@ -148,6 +251,83 @@ const ROWS: [(&str, &str); 68] = [
     ("need p --input i --seed 00", "usage"),
     ("need p --input i --input i", "usage"),
     ("need p", "usage"),
+    ("run p --input i --tape t --views v --views v", "usage"),
+    (
+        "run p --input i --tape t --schedule s --shuffle ab00000000000000000000000000000000000000000000000000000000000001",
+        "usage",
+    ),
+    ("run p --input i --tape t --shuffle 00", "usage"),
+    (
+        "eval p --input i --shuffle ab00000000000000000000000000000000000000000000000000000000000001",
+        "usage",
+    ),
+    (
+        "map 0 p --input i --tape t --sim s --public b --opened o",
+        "usage",
+    ),
+    (
+        "map 4 p --input i --tape t --sim s --public b --opened o",
+        "usage",
+    ),
+    (
+        "map +1 p --input i --tape t --sim s --public b --opened o",
+        "usage",
+    ),
+    (
+        "map p 1 --input i --tape t --sim s --public b --opened o",
+        "usage",
+    ),
+    (
+        "map 1 --input i --tape t --sim s --public b --opened o",
+        "usage",
+    ),
+    ("map 1 p --input i --tape t --sim s --public b", "usage"),
+    (
+        "map 1 p --input i --tape t --sim s --public b --opened o --view v",
+        "usage",
+    ),
+    (
+        "map 1 p --input i --tape t --sim s --public b --opened o --schedule s",
+        "usage",
+    ),
+    (
+        "simulate 4 p --public b --opened o --sim s --view v",
+        "usage",
+    ),
+    (
+        "simulate 1 p --public b --opened o --sim s --view v --schedule d --shuffle ab00000000000000000000000000000000000000000000000000000000000001",
+        "usage",
+    ),
+    (
+        "simulate 1 p --public b --opened o --sim s --view v --shuffle 00",
+        "usage",
+    ),
+    (
+        "simulate 1 p --public b --opened o --sim s --view v --record r",
+        "usage",
+    ),
+    (
+        "simulate 1 p --public b --opened o --sim s --view v --input i",
+        "usage",
+    ),
+    ("simulate 1 p --public b --opened o --sim s", "usage"),
+    ("twin 4 p --input i --second j --tape t --to u", "usage"),
+    ("twin 1 p --input i --tape t --to u", "usage"),
+    (
+        "twin 1 p --input i --second j --tape t --to u --budget -1",
+        "usage",
+    ),
+    (
+        "twin 1 p --input i --second j --tape t --to u --schedule s",
+        "usage",
+    ),
+    ("load", "usage"),
+    ("load 2", "usage"),
+    ("load p --number 2", "usage"),
+    ("load --number 2 --budget 7", "usage"),
+    ("load --number +2", "usage"),
+    ("load --number 18446744073709551616", "usage"),
+    ("load --number 2 --number 2", "usage"),
 ];
 
 fn agrees(alloc: Global, line: &str, wanted: &str) -> Result<bool, AllocError> {

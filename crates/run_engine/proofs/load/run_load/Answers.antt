@@ -29,8 +29,8 @@ unreachable-requires c =
     let is = never_refused (typed_program_tree c.in_ok-program.program) entries tapes c.in_ok-program.ensures.accepted have c.in-Err-EmptyLink.field-0 c.in-Err-EmptyLink.ensures in
     absurd (let wrong = sym c.in-Err-EmptyLink.field-0-is ∙ is in cc)
 
-pub unreachable-2-requires : goal.unreachable-2-requires
-unreachable-2-requires c =
+pub unreachable-requires-in-Err-Stalled : goal.unreachable-2-requires
+unreachable-requires-in-Err-Stalled c =
     let entries = c.args.load.now.inputs in
     let tapes = c.args.load.now.tapes in
     let have = have_words entries tapes c.requires.inputs (subst (All HasWords) c.entries.ensures c.see_entries.ensures)
