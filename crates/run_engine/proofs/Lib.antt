@@ -7,6 +7,7 @@ pub mod Held
 pub mod Judged
 pub mod Loads
 pub mod Miners
+pub mod Missing
 pub mod Obeying
 pub mod OfTexts
 pub mod Planned

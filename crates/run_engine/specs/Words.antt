@@ -3,7 +3,7 @@ use Rattle.std.specs.Prelude.{◌≡◌, ℕ, List, [], Bool, false, Err}
 use Rattle.std.specs.Option.{option_map_or}
 use Rattle.outside.specs.Files.{Contents}
 use Rattle.command_frame.specs.Answer.{Answer, usage}
-use Rattle.command_words.specs.Ask.{Ask, run, deal, check, compile, eval, need, load, words_of}
+use Rattle.command_words.specs.Ask.{Ask, run, deal, check, compile, eval, need, map_tape, simulate, twin, load, words_of}
 use Rattle.run_engine.specs.Check.{check_of, check_paths}
 use Rattle.run_engine.specs.Compile.{compile_of, compile_paths, compiled_paths}
 use Rattle.run_engine.specs.Deal.{deal_of, deal_paths, written_paths}
@@ -21,6 +21,9 @@ answer_to found (compile ask) files = compile_of found ask files
 answer_to found (eval ask) files = eval_of found ask files
 answer_to found (need ask) files = need_of found ask files
 answer_to found (load ask) files = load_of ask
+answer_to found (map_tape ask) files = Err usage
+answer_to found (simulate ask) files = Err usage
+answer_to found (twin ask) files = Err usage
 
 -- what it asks of a program; what that of a workload is doesn't hang on any file
 unfoldable pub question_of : Ask → Question
@@ -31,6 +34,9 @@ question_of (compile ask) = its_program ask.program
 question_of (eval ask) = its_program ask.program
 question_of (need ask) = its_program ask.program
 question_of (load ask) = nothing
+question_of (map_tape ask) = nothing
+question_of (simulate ask) = nothing
+question_of (twin ask) = nothing
 
 -- the paths that a command reads
 unfoldable pub reads_of : Ask → List (List ℕ)
@@ -41,6 +47,9 @@ reads_of (compile ask) = compile_paths ask
 reads_of (eval ask) = eval_paths ask
 reads_of (need ask) = eval_paths ask
 reads_of (load ask) = []
+reads_of (map_tape ask) = []
+reads_of (simulate ask) = []
+reads_of (twin ask) = []
 
 -- the paths that it writes
 unfoldable pub writes_of : Ask → List (List ℕ)
@@ -51,6 +60,9 @@ writes_of (compile ask) = compiled_paths ask
 writes_of (eval ask) = []
 writes_of (need ask) = []
 writes_of (load ask) = []
+writes_of (map_tape ask) = []
+writes_of (simulate ask) = []
+writes_of (twin ask) = []
 
 -- whether it reaches other miners
 abbrev pub uses_links : Ask → Bool
@@ -61,6 +73,9 @@ uses_links (compile ask) = false
 uses_links (eval ask) = false
 uses_links (need ask) = false
 uses_links (load ask) = false
+uses_links (map_tape ask) = false
+uses_links (simulate ask) = false
+uses_links (twin ask) = false
 
 -- whether it starts other programs
 abbrev pub uses_children : Ask → Bool
@@ -71,6 +86,9 @@ uses_children (compile ask) = false
 uses_children (eval ask) = false
 uses_children (need ask) = false
 uses_children (load ask) = false
+uses_children (map_tape ask) = false
+uses_children (simulate ask) = false
+uses_children (twin ask) = false
 
 -- the same of words; those that ask for no command are refused as usage
 unfoldable pub answer_of : Finding → List (List ℕ) → Contents → Answer

@@ -47,6 +47,9 @@ fn plan<F: Files>(alloc: Global, files: &mut F, command: &Command) -> Result<Pla
         Command::Eval(words) => plan_eval(alloc, files, words),
         Command::Need(words) => plan_need(alloc, files, words),
         Command::Load(words) => plan_load(alloc, words),
+        Command::Map(_) => Err(Stop::Memory),
+        Command::Simulate(_) => Err(Stop::Memory),
+        Command::Twin(_) => Err(Stop::Memory),
     }
 }
 

@@ -1,4 +1,5 @@
 use Rattle.run_engine.proofs.Loads.{load_planned}
+use Rattle.run_engine.proofs.Missing.{missing_planned}
 use Rattle.run_engine.proofs.Obeying.{run_planned, deal_planned, check_planned, compile_planned, eval_planned, need_planned}
 use Rattle.run_engine.proofs.top.plan.Goals as goal
 
@@ -34,3 +35,12 @@ returns-in-Need g c =
 pub returns-in-Load : goal.returns-in-Load
 returns-in-Load g c =
     rw c.in-Load.is (load_planned _ (g.F.Files.state c.args.files.now) _ c.plan_load.ensures.effect c.plan_load.ensures.memory c.plan_load.ensures.names)
+
+pub returns-in-Map : goal.returns-in-Map
+returns-in-Map g c = rw c.in-Map.is (missing_planned _ (g.F.Files.state c.args.files.now))
+
+pub returns-in-Simulate : goal.returns-in-Simulate
+returns-in-Simulate g c = rw c.in-Simulate.is (missing_planned _ (g.F.Files.state c.args.files.now))
+
+pub returns-in-Twin : goal.returns-in-Twin
+returns-in-Twin g c = rw c.in-Twin.is (missing_planned _ (g.F.Files.state c.args.files.now))
