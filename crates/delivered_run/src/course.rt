@@ -6,8 +6,8 @@ ghost use Rattle.program_run.specs.Accepted.{IsAccepted};
 ghost use Rattle.delivered_run.specs.Courses.{IsCourseOf, run_told};
 ghost use Rattle.delivered_run.specs.Deliveries.{IsRunOf, delivery_seen};
 
-use counted_net::{Delivery, DeliveryErr};
 use crate::running::{DeliveredRun, Job, NetRun, run_dealt, run_refused};
+use counted_net::{Delivery, DeliveryErr};
 use input_share::{Dealt, deal};
 use program_run::{compile_program, lengths, see_entries, see_words};
 use std::alloc::Global;
