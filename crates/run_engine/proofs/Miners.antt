@@ -16,7 +16,7 @@ use Rattle.delivered_run.specs.Laws.{HaveWords, IsMade}
 use Rattle.delivered_run.proofs.Taken.{made_deliveries_are_taken}
 use Rattle.run_engine.specs.Runs.{HoldsRun, HoldsTyped, net_for}
 
-accepted_so : (path : List ℕ) (files : Contents) (p : TypedProgramTree) → HoldsTyped path files p → IsAccepted p
+pub accepted_so : (path : List ℕ) (files : Contents) (p : TypedProgramTree) → HoldsTyped path files p → IsAccepted p
 accepted_so path files p h =
     let spells = h.held.accepted.spells in
     record {
