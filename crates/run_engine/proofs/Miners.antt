@@ -23,7 +23,7 @@ use Rattle.proto_core.specs.declared.party.Number.{Number}
 use Rattle.view_model.specs.TapeMaps.{AreTapes}
 use Rattle.run_engine.specs.Runs.{HoldsRun, HoldsTyped, net_for}
 
-accepted_so : (path : List ℕ) (files : Contents) (p : TypedProgramTree) → HoldsTyped path files p → IsAccepted p
+pub accepted_so : (path : List ℕ) (files : Contents) (p : TypedProgramTree) → HoldsTyped path files p → IsAccepted p
 accepted_so path files p h =
     let spells = h.held.accepted.spells in
     record {

@@ -81,6 +81,6 @@ pub fn plan_map<F: Files>(alloc: Global, files: &mut F, words: &MapWords) -> Res
     let program = read_typed(alloc, files, &words.program)?;
     let inputs = read_inputs(alloc, files, &words.input)?;
     let tapes = read_tape_file(alloc, files, &words.tape)?;
-    let run = map_run(alloc, words.miner, &program, &inputs, &tapes, words.budget)?;
-    Ok(map_plan(alloc, words, &inputs, &run)?)
+    let made = map_run(alloc, words.miner, &program, &inputs, &tapes, words.budget)?;
+    Ok(map_plan(alloc, words, &inputs, &made)?)
 }

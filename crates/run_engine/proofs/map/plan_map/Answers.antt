@@ -20,9 +20,9 @@ returns-clause-answer g c = λ found h t.
     let f2 = g.F.Files.state c.read_inputs.new.files in
     let first = still f f1 c.in_ok-program.ensures.files in
     let second = still_later f f1 f2 first c.in_ok-inputs.ensures.files in
-    mapped_so found ask f p c.in_ok-inputs.inputs c.in_ok-tapes.tapes (made_effect ask c.in_ok-inputs.inputs c.in_ok-run.run)
+    mapped_so found ask f p c.in_ok-inputs.inputs c.in_ok-tapes.tapes (made_effect ask c.in_ok-inputs.inputs c.in_ok-made.made)
     (at_path c.deref.result.now ask.program c.deref.ensures f p c.in_ok-program.ensures.answer found h t)
     (read_still inputs_at f f1 first c.deref-2.result.now ask.input c.deref-2.ensures c.in_ok-inputs.inputs c.in_ok-inputs.ensures.answer t)
     (read_still tape_file_at f f2 second c.deref-3.result.now ask.tape c.deref-3.ensures c.in_ok-tapes.tapes c.in_ok-tapes.ensures.answer t)
-    (effect_so ask p c.in_ok-inputs.inputs c.in_ok-tapes.tapes c.in_ok-run.run c.in_ok-run.ensures.report c.in_ok-run.ensures.tapes)
+    (effect_so ask p c.in_ok-inputs.inputs c.in_ok-tapes.tapes c.in_ok-made.made c.in_ok-made.ensures.report c.in_ok-made.ensures.tapes)
     ∙ ap done_with (sym c.in_ok-map_plan.ensures.effect)
