@@ -1,5 +1,5 @@
 -- The run of a workload, and what `load` answers.
-use Rattle.std.proofs.Common.{◌≡◌, ℕ, List, [], ◌++◌, length, true, Some, Ok, Err, Result, refl, ap, subst, sym, ◌∙◌, All}
+use Rattle.std.proofs.Common.{◌≡◌, ℕ, List, [], ◌++◌, length, Some, Ok, Err, Result, refl, ap, subst, sym, ◌∙◌, All}
 use Rattle.std.specs.Prelude.{IfErr, IfOk}
 use Rattle.std.specs.Result.{IsErrAnd}
 use Rattle.outside.specs.Files.{Contents, FilesState}
@@ -17,15 +17,11 @@ use Rattle.value_file.specs.declared.inputs.Entry.{Entry}
 use Rattle.value_file.specs.Input.{AreInputs}
 use Rattle.view_model.specs.TapeMaps.{miners_of}
 use Rattle.typed_tree.specs.Programs.{TypedProgramTree}
-use Rattle.language_model.specs.Reports.{Report}
 use Rattle.workload.specs.Load.{load_entries, load_program, load_seed}
 use Rattle.tape_file.specs.Seeds.{seed_tapes}
 use Rattle.workload_program.specs.LoadTree.{load_typed}
-use Rattle.workload_program.specs.Runnable.{IsRunnable}
 use Rattle.workload_program.proofs.Runnable.{load_is_runnable}
 use Rattle.program_run.specs.Accepted.{IsAccepted}
-use Rattle.program_run.specs.Reports.{TellsAs}
-use Rattle.program_run.specs.declared.running.RunReport.{RunReport}
 use Rattle.delivered_run.specs.Deliveries.{HasRunOf, IsRunOf, net_of}
 use Rattle.delivered_run.specs.Laws.{HaveWords}
 use Rattle.counted_net.specs.declared.delivery.DeliveryErr.{DeliveryErr}
@@ -33,7 +29,6 @@ use Rattle.counted_net.specs.declared.delivery.DeliveryErr.TheVariants as refusa
 use Rattle.delivered_run.specs.declared.running.DeliveredRun.{DeliveredRun}
 use Rattle.delivered_run.proofs.Taken.{made_deliveries_are_taken}
 use Rattle.command_frame.specs.declared.plan.Plan.{Plan}
-use Rattle.command_frame.specs.declared.status.Status.{Status}
 use Rattle.command_frame.specs.declared.stop.Stop.{Stop}
 use Rattle.command_frame.specs.declared.stop.Stop.TheVariants as stops
 use Rattle.command_frame.specs.Answer.{Answer, Effect, effect_of}
@@ -45,7 +40,7 @@ use Rattle.run_engine.specs.Eval.{end_of}
 use Rattle.run_engine.specs.Judging.{Finding, HasFinding, nothing}
 use Rattle.run_engine.specs.Load.{load_budget, load_effect, load_links, load_of, load_report, load_tapes, loaded_effect, messages_text}
 use Rattle.run_engine.specs.Obeying.{Planned}
-use Rattle.run_engine.specs.OfText.{Decides, IsFoundOf, StopsSo, program_in}
+use Rattle.run_engine.specs.OfText.{Decides, IsFoundOf, program_in}
 use Rattle.run_engine.specs.Run.{run_report}
 use Rattle.run_engine.specs.Words.{answer_to, question_of, reads_of, writes_of, IsAnswer}
 use Rattle.run_engine.proofs.Judged.{found_nothing}

@@ -1,5 +1,5 @@
 -- What is found of a text: its judgement, and whether it is small enough.
-use Rattle.std.proofs.Common.{◌≡◌, ℕ, List, [], true, Option, Some, None, Ok, Err, Result, refl, ap, subst, sym, ◌∙◌}
+use Rattle.std.proofs.Common.{◌≡◌, ℕ, List, true, Some, None, Ok, Err, Result, refl, ap, subst, sym, ◌∙◌}
 use Rattle.std.specs.Prelude.{IfErr}
 use Rattle.std.specs.Result.{IsErrAnd}
 use Rattle.outside.specs.Files.{Contents, FilesState, file_at}
@@ -15,7 +15,7 @@ use Rattle.command_frame.specs.declared.stop.Stop.TheVariants as stops
 use Rattle.command_frame.specs.Answer.{Cause, ◌>>=◌, bytes_at}
 use Rattle.command_frame.specs.Reads.{Gives, StopNames, Stops, StopsReading}
 use Rattle.command_frame.specs.Stops.{IsRefusalFor}
-use Rattle.run_engine.specs.Judging.{JudgedAt, Sized, IsSized, IsSizedAs, IsReachedAs, Finding, FoundAt, HasFinding, StopTells, Tells, its_program}
+use Rattle.run_engine.specs.Judging.{Sized, IsSized, IsSizedAs, IsReachedAs, Finding, FoundAt, HasFinding, StopTells, Tells, its_program}
 use Rattle.run_engine.specs.OfText.{Decides, HasDecided, IsFoundOf, IsFoundSo, IsJudgedSo, IsOwnStop, NotForMemory, StopsSo, program_in}
 use Rattle.run_engine.specs.Programs.{accepted, program_at, too_large, tree_at}
 use Rattle.run_engine.proofs.Judged.{found_there, no_text, some}

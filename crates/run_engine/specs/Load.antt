@@ -1,6 +1,6 @@
 -- The command `load`: three miners run the program of the workload of a number, their messages delivered always on the first link that
 -- has one; what they open and publish is what evaluation in the clear does. No file is read or written.
-use Rattle.std.specs.Prelude.{◌≡◌, ℕ, List, [], ◌++◌, length, codes, Ok}
+use Rattle.std.specs.Prelude.{ℕ, List, [], ◌++◌, length, codes, Ok}
 use Rattle.std.specs.Fmt.{decimal}
 use Rattle.proto_core.specs.declared.link.Link.{Link}
 use Rattle.protocol_model.specs.Network.{Default}

@@ -1,9 +1,8 @@
-use Rattle.std.proofs.Common.{◌≡◌, sym, ◌∙◌, subst}
+use Rattle.std.proofs.Common.{sym, ◌∙◌, subst}
 use Rattle.proto_core.specs.Lists.{AreWords}
 use Rattle.input_share.specs.AddUp.{HasWords}
 use Rattle.std.specs.Prelude.{All}
 use Rattle.typed_tree.specs.Programs.{typed_program_tree}
-use Rattle.delivered_run.specs.declared.delivery.DeliveryErr.TheVariants as refusal
 use Rattle.run_engine.proofs.Loads.{have_words, load_is_typed, load_stops_on, never_refused, run_of_load}
 use Rattle.run_engine.proofs.load.run_load.Goals as goal
 
@@ -29,7 +28,7 @@ unreachable-requires c =
     let is = never_refused (typed_program_tree c.in_ok-program.program) entries tapes c.in_ok-program.ensures.accepted have c.in-Err-EmptyLink.field-0 c.in-Err-EmptyLink.ensures in
     absurd (let wrong = sym c.in-Err-EmptyLink.field-0-is ∙ is in cc)
 
-pub unreachable-requires-in-Err-Stalled : goal.unreachable-2-requires
+pub unreachable-requires-in-Err-Stalled : goal.unreachable-requires-in-Err-Stalled
 unreachable-requires-in-Err-Stalled c =
     let entries = c.args.load.now.inputs in
     let tapes = c.args.load.now.tapes in
