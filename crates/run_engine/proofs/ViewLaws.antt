@@ -1,5 +1,5 @@
 -- The tapes that `map` writes correspond to those that it reads, and a twin gives the same view.
-use Rattle.std.proofs.Common.{◌≡◌, ℕ, List}
+use Rattle.std.proofs.Common.{List}
 use Rattle.outside.specs.Files.{Contents}
 use Rattle.command_words.specs.Ask.{MapAsk, TwinAsk}
 use Rattle.tape_file.specs.Tapes.{FourTapes}
