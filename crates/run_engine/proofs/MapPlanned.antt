@@ -1,10 +1,10 @@
 -- What `map` plans is what is decided of the files.
-use Rattle.std.proofs.Common.{◌≡◌, ℕ, List, ◌∷◌, ◌++◌, take, length, ◌+◌, ◌<◌, true, Ok, Result, refl, sym, ◌∙◌, ap}
+use Rattle.std.proofs.Common.{◌≡◌, ℕ, List, true, Ok, Result, sym, ◌∙◌, ap}
 use Rattle.std.specs.Prelude.{IfErr}
 use Rattle.outside.specs.Files.{FilesState}
 use Rattle.command_frame.specs.declared.plan.Plan.{Plan}
 use Rattle.command_frame.specs.declared.stop.Stop.{Stop}
-use Rattle.command_frame.specs.Answer.{Answer, Effect, effect_of}
+use Rattle.command_frame.specs.Answer.{Effect, effect_of}
 use Rattle.command_frame.specs.Reads.{Gives, KeepsTo, OnlyRead, StopsReading}
 use Rattle.command_words.specs.Ask.{MapAsk, map_tape}
 use Rattle.clear_eval.specs.Reports.{report_seen}

@@ -1,10 +1,10 @@
 -- What `twin` plans is what is decided of the files.
-use Rattle.std.proofs.Common.{◌≡◌, ℕ, List, true, Some, None, Ok, Err, Result, refl, sym, ◌∙◌, ap, subst}
+use Rattle.std.proofs.Common.{◌≡◌, ℕ, List, true, Some, Ok, Err, Result, refl, sym, ap, subst}
 use Rattle.std.specs.Prelude.{IfErr}
 use Rattle.outside.specs.Files.{FilesState}
 use Rattle.command_frame.specs.declared.plan.Plan.{Plan}
 use Rattle.command_frame.specs.declared.stop.Stop.{Stop}
-use Rattle.command_frame.specs.Answer.{Answer, Effect, effect_of}
+use Rattle.command_frame.specs.Answer.{Effect, effect_of}
 use Rattle.command_frame.specs.Reads.{Gives, KeepsTo, OnlyRead, Stops, StopsReading}
 use Rattle.command_words.specs.Ask.{TwinAsk, twin}
 use Rattle.typed_tree.specs.Programs.{TypedProgramTree}
@@ -14,7 +14,7 @@ use Rattle.tape_file.specs.Tapes.{FourTapes}
 use Rattle.program_views.specs.TapeMaps.{AreAlike, twinned}
 use Rattle.program_views.specs.Views.{lengths_of}
 use Rattle.tape_twin.specs.Alike.{RefusesTwin}
-use Rattle.tape_twin.specs.FirstDifference.{Difference, at_entry, at_word, difference}
+use Rattle.tape_twin.specs.FirstDifference.{at_entry, at_word, difference}
 use Rattle.tape_twin.specs.declared.twin_err.TwinErr.{TwinErr}
 use Rattle.tape_twin.specs.declared.twin_err.TwinErr.TheVariants as refusal
 use Rattle.tape_twin.proofs.FirstDifferences.{alike_have_none, told_at_entry, told_at_word}
