@@ -1,11 +1,6 @@
-<<<<<<< HEAD
 -- The tapes that `map` writes correspond to those that it reads, the simulator makes the view of a run that it is told of, and a twin gives
 -- the same view.
 use Rattle.std.proofs.Common.{◌≡◌, ℕ, List, sym, ◌∙◌}
-=======
--- The tapes that `map` writes correspond to those that it reads, and a twin gives the same view.
-use Rattle.std.proofs.Common.{List}
->>>>>>> 4a3c9de9e64e18633d2c9b1edee7ea0286df8d33
 use Rattle.outside.specs.Files.{Contents}
 use Rattle.command_words.specs.Ask.{MapAsk, SimulateAsk, TwinAsk}
 use Rattle.tape_file.specs.Tapes.{FourTapes}

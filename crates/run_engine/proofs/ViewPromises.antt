@@ -1,10 +1,5 @@
-<<<<<<< HEAD
 -- What `map`, `simulate` and `twin` promise, from their answers.
 use Rattle.std.proofs.Common.{◌≢◌, ◌⊎◌, ◌≡◌, ℕ, List, true, false, Some, Ok, refl, subst, sym}
-=======
--- What `map` and `twin` promise, from their answers.
-use Rattle.std.proofs.Common.{◌≢◌, ◌⊎◌, ◌≡◌, ℕ, List, true, false, Some, refl, subst, sym}
->>>>>>> 4a3c9de9e64e18633d2c9b1edee7ea0286df8d33
 use Rattle.outside.specs.Files.{FilesState}
 use Rattle.outside.specs.Sink.{SinkState}
 use Rattle.command_frame.specs.declared.status.Status.{Status}
