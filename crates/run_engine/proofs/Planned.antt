@@ -1,8 +1,9 @@
 -- What `compile` and `run` plan is what is decided of the files.
-use Rattle.std.proofs.Common.{◌≡◌, ℕ, List, [], ◌∷◌, ◌++◌, length, true, Option, Ok, Err, Result, refl, sym, ◌∙◌, ap, subst, inl, inr}
+use Rattle.std.proofs.Common.{◌≡◌, ℕ, List, [], ◌∷◌, ◌++◌, length, true, Option, Some, None, Ok, Err, Result, refl, sym, ◌∙◌, ap, subst, inl, inr}
 use Rattle.std.proofs.lemmas.List.{length-map}
 use Rattle.outside.specs.Files.{Contents, FilesState}
-use Rattle.command_frame.specs.Answer.{Answer, Cause, Effect, Written, writes_of, ◌>>=◌}
+use Rattle.command_frame.specs.Answer.{Answer, Cause, Effect, Written, effect_of, ◌>>=◌}
+use Rattle.command_frame.specs.declared.plan.Plan.{Plan}
 use Rattle.command_frame.specs.declared.stop.Stop.{Stop}
 use Rattle.command_frame.specs.Reads.{OnlyRead, Stops}
 use Rattle.command_words.specs.Ask.{CompileAsk, RunAsk}
@@ -22,22 +23,26 @@ use Rattle.language_model.specs.Reports.{Report}
 use Rattle.program_run.specs.Codes.{IsCodeOf}
 use Rattle.program_run.specs.Reports.{TellsAs, eval_with}
 use Rattle.program_run.specs.declared.running.RunReport.{RunReport}
-use Rattle.delivered_run.specs.Deliveries.{delivered_of, net_of}
+use Rattle.delivered_run.specs.Deliveries.{HasRunOf, delivered_of, net_of}
+use Rattle.delivered_run.specs.declared.running.DeliveredRun.{DeliveredRun}
 use Rattle.counted_net.specs.declared.delivery.DeliveryErr.{DeliveryErr}
 use Rattle.counted_net.specs.declared.delivery.DeliveryErr.TheVariants as refusal
 use Rattle.program_views.specs.Views.{view_of}
 use Rattle.view_text.specs.View.{View}
+use Rattle.viewed_run.specs.Seen.{HasSeenRun, view_in}
+use Rattle.viewed_run.specs.declared.seen.SeenRun.{SeenRun}
+use Rattle.viewed_run.specs.declared.seen.Views.{Views}
 use Rattle.proto_core.specs.declared.link.Link.{Link}
 use Rattle.proto_core.specs.declared.party.Number.{Number}
-use Rattle.protocol_model.specs.Network.{Delivery, EmptyLink, Stalled}
-use Rattle.run_engine.specs.declared.run.Ran.{Ran}
+use Rattle.proto_core.specs.declared.party.Number.TheVariants.{One, Two, Three}
+use Rattle.protocol_model.specs.Network.{Accepted, Delivery, EmptyLink, Stalled}
 use Rattle.run_engine.specs.Compile.{code_bytes, compile_of, written_effect}
 use Rattle.run_engine.specs.Ends.{status_of}
 use Rattle.run_engine.specs.Eval.{end_of, ending_of}
 use Rattle.run_engine.specs.Judging.{Finding, FoundAt, IsReachedAs, IsReachedBy, Sized, its_program}
 use Rattle.run_engine.specs.Programs.{program_at, small_enough, tree_at}
 use Rattle.run_engine.specs.Reading.{delivery_at, inputs_at, tapes_at}
-use Rattle.run_engine.specs.Run.{HasRan, IsRan, IsStopOf, by_net, empty_line, ran_effect, recorded_links, refused_with, run_effect, run_of, run_report, stalled_line}
+use Rattle.run_engine.specs.Run.{HasRan, IsRan, IsStopOf, by_net, empty_line, ran_effect, recorded_links, refused_with, run_effect, run_of, run_report, run_told, stalled_line}
 use Rattle.run_engine.specs.Views.{view_files}
 use Rattle.run_engine.proofs.Judged.{refused_so}
 use Rattle.run_engine.proofs.Refusals.{steps}
@@ -99,16 +104,51 @@ abbrev effect_with : RunAsk → List Written → List Event → End → List Lin
 effect_with ask files events end links =
     record { writes = files ++ recorded_links ask.recorded links; text = run_text events end; status = status_of end.how }
 
-told_so : (ask : RunAsk) (views : Number → Option View) (r : Report) (links : List Link) (ran : Ran)
-    → writes_of ran.files.items ≡ view_files ask.views views → TellsAs r ran.run.report → ran.run.delivered.items ≡ links
-    → run_effect ask views r links ≡ ran_effect ask ran
-told_so ask views r links ran files h delivered =
-    let written = writes_of ran.files.items in
-    let told = ran.run.report in
-    ap (λ files. effect_with ask files r.events (end_of r) links) (sym files)
-    ∙ ap (λ events. effect_with ask written events (end_of r) links) (sym h.events)
-    ∙ ap (λ end. effect_with ask written told.events.items end links) (told_end r told h)
-    ∙ ap (effect_with ask written told.events.items told.end) (sym delivered)
+told_so : (ask : RunAsk) (views : Number → Option View) (r : Report) (links : List Link) (files : List Written) (run : DeliveredRun)
+    → files ≡ view_files ask.views views → TellsAs r run.report → run.delivered.items ≡ links
+    → ran_effect ask files run ≡ run_effect ask views r links
+told_so ask views r links files run same h delivered =
+    sym
+    (ap (λ written. effect_with ask written r.events (end_of r) links) (sym same)
+    ∙ ap (λ events. effect_with ask files events (end_of r) links) (sym h.events)
+    ∙ ap (λ end. effect_with ask files run.report.events.items end links) (told_end r run.report h)
+    ∙ ap (effect_with ask files run.report.events.items run.report.end) (sym delivered))
+
+views_so : (prefix : List ℕ) (views : Number → Option View) (seen : Views) → ((i : Number) → views i ≡ Some (view_in seen i))
+    → view_files (Some prefix) views ≡ view_files (Some prefix) (λ i. Some (view_in seen i))
+views_so prefix views seen same = rw (same One, same Two, same Three) refl
+
+pub some_path : (o : Option (List ℕ)) (p q : List ℕ) → o ≡ Some p → q ≡ p → o ≡ Some q
+some_path o p q is same = is ∙ ap (λ (x : List ℕ). Some x) (sym same)
+
+-- what is planned of a run is what the definitions say
+module _ (ask : RunAsk) (p : TypedProgramTree) (entries : List Entry) (tapes : FourTapes) (delivery : Delivery) where
+  abbrev views_wanted : Number → Option View
+  views_wanted i = view_of i p entries tapes ask.budget delivery
+
+  planned_so : (run : DeliveredRun) (files : List Written) (plan : Plan) → HasRunOf p entries tapes ask.budget delivery run
+      → files ≡ view_files ask.views views_wanted → effect_of plan ≡ ran_effect ask files run → HasRan ask p entries tapes delivery plan
+  unfolding run_report
+  planned_so run files plan h same is = record {
+    accepted = h.accepted;
+    planned =
+        is
+        ∙ told_so ask views_wanted (eval_with p entries tapes ask.budget) (delivered_of p entries tapes ask.budget delivery) files run same h.told
+        h.delivered;
+  }
+
+  pub planned_unseen : (run : DeliveredRun) (plan : Plan) → ask.views ≡ None → HasRunOf p entries tapes ask.budget delivery run
+      → effect_of plan ≡ ran_effect ask [] run → HasRan ask p entries tapes delivery plan
+  planned_unseen run plan none h is =
+      let same : view_files ask.views views_wanted ≡ [] = rw none refl in
+      planned_so run [] plan h (sym same) is
+
+  pub planned_seen : (prefix : List ℕ) (seen : SeenRun) (files : List Written) (plan : Plan) → ask.views ≡ Some prefix
+      → HasSeenRun p entries tapes ask.budget delivery seen → files ≡ view_files (Some prefix) (λ i. Some (view_in seen.views i))
+      → effect_of plan ≡ ran_effect ask files seen.run → HasRan ask p entries tapes delivery plan
+  planned_seen prefix seen files plan some h same is =
+      let wanted : view_files ask.views views_wanted ≡ view_files (Some prefix) views_wanted = ap (λ views. view_files views views_wanted) some in
+      planned_so seen.run files plan h.run (same ∙ sym (wanted ∙ views_so prefix views_wanted seen.views h.views)) is
 
 -- files that were read one after another are those of the beginning
 module _ (f f1 f2 f3 : FilesState) (first : OnlyRead f f1) (second : OnlyRead f1 f2) (third : OnlyRead f2 f3)
@@ -137,12 +177,10 @@ module _ (f f1 f2 f3 : FilesState) (first : OnlyRead f f1) (second : OnlyRead f1
       ap (λ c. delivery_at c ask.order) (sym (third.same.contents ∙ second_contents)) ∙ order (third.same.told ∙ second_told t)
 
   pub ran :
-      (run : Ran) → HasRan ask p entries tapes delivery run → f.told ≡ true → run_of found ask f.contents ≡ Ok (ran_effect ask run)
-  unfolding run_of run_report by_net
-  ran run h t =
-      rw (program t, there t, given t, ordered t, h.run.accepted)
-      (ap Ok (told_so ask (λ i. view_of i p entries tapes ask.budget delivery) (eval_with p entries tapes ask.budget)
-      (delivered_of p entries tapes ask.budget delivery) run h.files h.run.told h.run.delivered))
+      net_of p entries tapes ask.budget delivery ≡ Accepted → f.told ≡ true
+      → run_of found ask f.contents ≡ Ok (run_told ask p entries tapes delivery)
+  unfolding run_of by_net
+  ran accepted t = rw (program t, there t, given t, ordered t, accepted) refl
 
   emptied : (entry : ℕ) (link : Link) (sent : ℕ) → net_of p entries tapes ask.budget delivery ≡ EmptyLink entry link sent → f.told ≡ true
       → run_of found ask f.contents ≡ Err (refused_with (empty_line entry link sent))

@@ -4,7 +4,7 @@ use Rattle.std.specs.Prelude.{◌≡◌, ℕ, List, [], ◌∷◌, ◌++◌, cod
 use Rattle.std.specs.Fmt.{decimal}
 use Rattle.outside.specs.Files.{Contents}
 use Rattle.command_frame.specs.declared.status.Status.TheVariants.{Schedule}
-use Rattle.command_frame.specs.Answer.{Answer, Cause, Effect, Written, writes_of, ◌>>=◌}
+use Rattle.command_frame.specs.Answer.{Answer, Cause, Effect, Written, effect_of, ◌>>=◌}
 use Rattle.command_frame.specs.Stops.{IsRefusalFor}
 use Rattle.command_frame.specs.declared.stop.Stop.{Stop}
 use Rattle.command_frame.specs.declared.stop.Stop.TheVariants as stops
@@ -21,12 +21,13 @@ use Rattle.value_file.specs.declared.inputs.Entry.{Entry}
 use Rattle.typed_tree.specs.Programs.{TypedProgramTree}
 use Rattle.language_model.specs.Reports.{Report}
 use Rattle.program_run.specs.Reports.{eval_with}
-use Rattle.delivered_run.specs.Deliveries.{delivered_of, net_of, HasRunOf, IsRefusedOf}
+use Rattle.delivered_run.specs.Deliveries.{delivered_of, net_of, IsRefusedOf}
 use Rattle.counted_net.specs.declared.delivery.DeliveryErr.{DeliveryErr}
 use Rattle.counted_net.specs.declared.delivery.DeliveryErr.TheVariants as refusal
 use Rattle.program_views.specs.Views.{view_of}
 use Rattle.view_text.specs.View.{View}
-use Rattle.run_engine.specs.declared.run.Ran.{Ran}
+use Rattle.command_frame.specs.declared.plan.Plan.{Plan}
+use Rattle.delivered_run.specs.declared.running.DeliveredRun.{DeliveredRun}
 use Rattle.run_engine.specs.Ends.{status_of}
 use Rattle.run_engine.specs.Eval.{end_status, eval_text}
 use Rattle.run_engine.specs.Judging.{Finding}
@@ -69,24 +70,30 @@ abbrev pub run_effect : RunAsk → (Number → Option View) → Report → List 
 run_effect ask views report links =
     record { writes = view_files ask.views views ++ recorded_links ask.recorded links; text = eval_text report; status = end_status report }
 
--- the same of a run in memory
-abbrev pub ran_effect : RunAsk → Ran → Effect
-ran_effect ask ran =
+-- the same of a run in memory, with the files of its views
+abbrev pub ran_effect : RunAsk → (files : List Written) → DeliveredRun → Effect
+ran_effect ask files run =
     record {
-      writes = writes_of ran.files.items ++ recorded_links ask.recorded ran.run.delivered.items;
-      text = run_text ran.run.report.events.items ran.run.report.end;
-      status = status_of ran.run.report.end.how;
+      writes = files ++ recorded_links ask.recorded run.delivered.items;
+      text = run_text run.report.events.items run.report.end;
+      status = status_of run.report.end.how;
     }
 
+-- what is written and printed of a run, whose views, text and links are those that the definitions say
+abbrev pub run_told : RunAsk → TypedProgramTree → List Entry → FourTapes → Delivery → Effect
+run_told ask program entries tapes delivery =
+    run_effect ask (λ i. view_of i program entries tapes ask.budget delivery) (run_report program entries tapes ask.budget)
+    (delivered_of program entries tapes ask.budget delivery)
+
 module _ (ask : RunAsk) (p : TypedProgramTree) (entries : List Entry) (tapes : FourTapes) (delivery : Delivery) where
-  -- it has run as its evaluation in the clear reports, and the files are those of the miners' views
-  pub record HasRan (ran : Ran) : Type 0 where
-    pub run : HasRunOf p entries tapes ask.budget delivery ran.run
-    pub files : writes_of ran.files.items ≡ view_files ask.views (λ i. view_of i p entries tapes ask.budget delivery)
+  -- the net takes the delivery, and this is planned
+  pub record HasRan (plan : Plan) : Type 0 where
+    pub accepted : net_of p entries tapes ask.budget delivery ≡ network.Accepted
+    pub planned : effect_of plan ≡ run_told ask p entries tapes delivery
 
   -- so it is, or the schedule is refused
-  abbrev pub IsRan : Result Ran DeliveryErr → Type 0
-  IsRan (Ok ran) = HasRan ran
+  abbrev pub IsRan : Result Plan DeliveryErr → Type 0
+  IsRan (Ok plan) = HasRan plan
   IsRan (Err e) = IsRefusedOf p entries tapes ask.budget delivery e
 
 -- the stop of a run whose schedule is refused
@@ -94,12 +101,6 @@ abbrev pub IsStopOf : DeliveryErr → Stop → Type 0
 IsStopOf (refusal.EmptyLink entry link sent) stop = IsRefusalFor (refused_with (empty_line entry link sent)) stop
 IsStopOf (refusal.Stalled miner link) stop = IsRefusalFor (refused_with (stalled_line miner link)) stop
 IsStopOf refusal.Memory stop = stop ≡ stops.Memory
-
--- what is written and printed of a run, whose views, text and links are those that the definitions say
-abbrev pub run_told : RunAsk → TypedProgramTree → List Entry → FourTapes → Delivery → Effect
-run_told ask program entries tapes delivery =
-    run_effect ask (λ i. view_of i program entries tapes ask.budget delivery) (run_report program entries tapes ask.budget)
-    (delivered_of program entries tapes ask.budget delivery)
 
 -- Each file is read and then checked: the program and its size, the input, the tapes, the schedule; then the program is run.
 unfoldable pub run_of : Finding → RunAsk → Contents → Answer

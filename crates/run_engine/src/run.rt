@@ -1,6 +1,6 @@
 // The command `run`.
 ghost use Rattle.std.specs.Prelude.{◌≡◌, ◌++◌, true, option_map, IfOk, IfErr, OnOk, string_bytes};
-ghost use Rattle.command_frame.specs.Answer.{effect_of, paths_in, writes_of};
+ghost use Rattle.command_frame.specs.Answer.{effect_of, writes_of};
 ghost use Rattle.command_frame.specs.Reads.{OnlyRead, Gives, KeepsTo, PlanNames, StopNames, StopsReading};
 ghost use Rattle.command_words.specs.Views.{run_ask, source_ask};
 ghost use Rattle.counted_net.specs.declared.delivery.DeliveryErr.TheVariants.{Memory as NoMemory};
@@ -11,7 +11,6 @@ ghost use Rattle.value_file.specs.Input.{AreInputs};
 ghost use Rattle.run_engine.specs.Judging.{Finding, FoundAt, HasFinding, its_program, Tells};
 ghost use Rattle.run_engine.specs.Reading.{tapes_at, source_paths};
 ghost use Rattle.run_engine.specs.Run.{ran_effect, ran_paths, recorded_links, run_of, run_paths, IsRan};
-ghost use Rattle.run_engine.specs.Views.{view_paths};
 
 use crate::deliveries::{delivery_stop, read_delivery};
 use crate::ends::status;
@@ -28,20 +27,7 @@ use std::alloc::{AllocError, Global};
 use tape_file::{Tapes, from_seed};
 use typed_tree::TypedProgram;
 use value_file::Inputs;
-use viewed_run::{SeenRun, run_seen};
-
-/// A run, and the files of the miners' views that are asked for.
-pub struct Ran {
-    pub run: DeliveredRun,
-    pub files: Vec<PlannedWrite>,
-}
-
-// Written out, so that an early exit calls this once.
-impl Drop for Ran {
-    fn drop(self) {
-        let Ran { run: _, files: _ } = self;
-    }
-}
+use viewed_run::run_seen;
 
 // The tapes of a file, or those that are drawn from a seed.
 #[tactic(auto, unfolding(crate::specs::Reading::tapes_at))]
@@ -74,11 +60,15 @@ fn record_links(
     Ok(())
 }
 
-// What is to be written and printed of a run: the miners' views and the links that were delivered, where they are asked for, and its text.
-fn ran_plan(alloc: Global, ran: Ran, words: &RunWords) -> Result<Plan, AllocError>
-    ensures effect { IfOk result (λ plan. effect_of plan ≡ ran_effect (run_ask words.now) ran) }
+// What is to be written and printed of a run: these files, the links that were delivered, where they are asked for, and its text.
+fn ran_plan(
+    alloc: Global,
+    run: &DeliveredRun,
+    files: Vec<PlannedWrite>,
+    words: &RunWords,
+) -> Result<Plan, AllocError>
+    ensures { IfOk result (λ plan. effect_of plan ≡ ran_effect (run_ask words.now) (writes_of files.items) run.now) }
 {
-    let Ran { run, files } = ran;
     let text = run_text(alloc, &run.report.events, &run.report.end)?;
     let mut writes = files;
     record_links(alloc, &mut writes, &run.delivered, &words.recorded)?;
@@ -98,13 +88,13 @@ struct Job<'a> {
     delivery: &'a Delivery,
 }
 
-// The run, and the files of the miners' views where they are asked for.
-fn run_job(alloc: Global, job: &Job<'_>, words: &RunWords) -> Result<Ran, DeliveryErr>
+// The run, and what is to be written and printed of it; the miners' views are made where they are asked for.
+fn run_job(alloc: Global, job: &Job<'_>, words: &RunWords) -> Result<Plan, DeliveryErr>
     requires accepted { IsAccepted (typed_program_tree job.now.program.now) }
     requires inputs { AreInputs job.now.inputs.now }
     ensures ran { IsRan (run_ask words.now) (typed_program_tree job.now.program.now) job.now.inputs.now job.now.tapes.now
         (delivery_seen job.now.delivery.now) result }
-    ensures names { IfOk result (λ ran. paths_in (writes_of ran.files.items) ≡ view_paths (option_map string_bytes words.now.views)) }
+    ensures names { IfOk result (PlanNames (ran_paths (run_ask words.now))) }
 {
     let (program, inputs) = (job.program, job.inputs);
     let (tapes, budget) = (job.tapes, words.budget);
@@ -112,13 +102,11 @@ fn run_job(alloc: Global, job: &Job<'_>, words: &RunWords) -> Result<Ran, Delive
         Some(prefix) => {
             let seen = run_seen(alloc, program, inputs, tapes, budget, job.delivery)?;
             let files = view_writes(alloc, prefix, &seen.views)?;
-            let SeenRun { run, views: _ } = seen;
-            Ok(Ran { run, files })
+            Ok(ran_plan(alloc, &seen.run, files, words)?)
         }
         None => {
             let run = run_delivered(alloc, program, inputs, tapes, budget, job.delivery)?;
-            let files = Vec::new(alloc);
-            Ok(Ran { run, files })
+            Ok(ran_plan(alloc, &run, Vec::new(alloc), words)?)
         }
     }
 }
@@ -147,7 +135,7 @@ pub fn plan_run<F: Files>(alloc: Global, files: &mut F, words: &RunWords) -> Res
         delivery: &delivery,
     };
     match run_job(alloc, &job, words) {
-        Ok(ran) => Ok(ran_plan(alloc, ran, words)?),
+        Ok(plan) => Ok(plan),
         Err(refusal) => Err(delivery_stop(alloc, refusal)),
     }
 }

@@ -15,8 +15,8 @@ returns-in-Ok-clause-answer g c = λ found h t.
     (delivery_seen c.in_ok-delivery.delivery)
     (at_path c.deref.result.now ask.program c.deref.ensures f p c.in_ok-program.ensures.answer found h)
     c.deref-2.result.now c.deref-2.ensures c.in_ok-inputs.ensures.answer c.in_ok-tapes.ensures.answer c.in_ok-delivery.ensures.answer
-    c.in-Ok.ran c.in-Ok.ensures.ran t
-    ∙ ap done_with (sym c.in_ok-ran_plan-in-Ok.ensures.effect)
+    c.in-Ok.ensures.ran.accepted t
+    ∙ ap done_with (sym c.in-Ok.ensures.ran.planned)
 
 pub returns-clause-answer : goal.returns-clause-answer
 returns-clause-answer g c = λ found h.
@@ -28,4 +28,4 @@ returns-clause-answer g c = λ found h.
     (delivery_seen c.in_ok-delivery.delivery)
     (at_path c.deref.result.now ask.program c.deref.ensures f p c.in_ok-program.ensures.answer found h)
     c.deref-2.result.now c.deref-2.ensures c.in_ok-inputs.ensures.answer c.in_ok-tapes.ensures.answer c.in_ok-delivery.ensures.answer
-    (g.F.Files.state c.read_delivery.new.files) c.in-Err.refusal c.delivery_stop.result c.in-Err.ensures c.delivery_stop.ensures
+    (g.F.Files.state c.read_delivery.new.files) c.in-Err.refusal c.delivery_stop.result c.in-Err.ensures.ran c.delivery_stop.ensures
