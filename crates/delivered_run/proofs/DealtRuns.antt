@@ -27,7 +27,7 @@ use Rattle.link_schedule.specs.Net.{NetState, Own}
 use Rattle.program_run.specs.Reports.{CanRunOn, code_report, lengths_of}
 use Rattle.program_run.specs.declared.running.RunReport.{RunReport}
 use Rattle.program_run.proofs.Told.{known_so}
-use Rattle.delivered_run.specs.declared.delivery.DeliveryErr.{DeliveryErr}
+use Rattle.counted_net.specs.declared.delivery.DeliveryErr.{DeliveryErr}
 use Rattle.delivered_run.specs.declared.running.DeliveredRun.{DeliveredRun}
 use Rattle.delivered_run.specs.Deliveries.{HasRun, IsRun}
 use Rattle.delivered_run.specs.Nets.{Delivers, HasStopped, HasTold, net_with}

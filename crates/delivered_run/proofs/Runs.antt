@@ -28,8 +28,8 @@ use Rattle.link_schedule.specs.Net.{NetState, Own, after, net_mail, net_node, no
 use Rattle.link_schedule.specs.Orders.{IsMade, Makes}
 use Rattle.program_run.specs.Reports.{TellsAs}
 use Rattle.program_run.specs.declared.running.RunReport.{RunReport}
-use Rattle.delivered_run.specs.declared.delivery.DeliveryErr.{DeliveryErr}
-use Rattle.delivered_run.specs.declared.delivery.DeliveryErr.TheVariants as err
+use Rattle.counted_net.specs.declared.delivery.DeliveryErr.{DeliveryErr}
+use Rattle.counted_net.specs.declared.delivery.DeliveryErr.TheVariants as err
 use Rattle.delivered_run.specs.declared.running.DeliveredRun.{DeliveredRun}
 use Rattle.delivered_run.specs.Deliveries.{HasRun, IsRun, delivered_for, net_for}
 use Rattle.delivered_run.specs.Nets.{Delivers, HasStopped, HasTold, StopsAt, net_with}

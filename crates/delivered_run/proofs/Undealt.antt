@@ -13,8 +13,8 @@ use Rattle.input_share.specs.declared.dealing.DealErr.{DealErr}
 use Rattle.input_share.specs.declared.dealing.DealErr.TheVariants as refusal
 use Rattle.typed_tree.specs.Programs.{TypedProgramTree}
 use Rattle.program_run.proofs.Told.{undealt_so}
-use Rattle.delivered_run.specs.declared.delivery.DeliveryErr.{DeliveryErr}
-use Rattle.delivered_run.specs.declared.delivery.DeliveryErr.TheVariants as err
+use Rattle.counted_net.specs.declared.delivery.DeliveryErr.{DeliveryErr}
+use Rattle.counted_net.specs.declared.delivery.DeliveryErr.TheVariants as err
 use Rattle.delivered_run.specs.declared.running.DeliveredRun.{DeliveredRun}
 use Rattle.delivered_run.specs.Deliveries.{IsRunOf}
 use Rattle.delivered_run.specs.Undealt.{IsUndealt, IsUndealtBy}

@@ -3,7 +3,6 @@ use Rattle.std.specs.Prelude.{◌≡◌, ℕ, List, Result, Ok, Err}
 use Rattle.proto_core.specs.declared.link.Link.{Link}
 use Rattle.protocol_model.specs.Network as network
 use Rattle.protocol_model.specs.Network.{net, order_of}
-use Rattle.tape_file.specs.Seeds.{stream_word}
 use Rattle.tape_file.specs.Tapes.{FourTapes}
 use Rattle.typed_tree.specs.Programs.{TypedProgramTree}
 use Rattle.value_file.specs.declared.inputs.Entry.{Entry}
@@ -12,17 +11,10 @@ use Rattle.gate_laws.specs.Facts.{Dealt}
 use Rattle.code_inputs.specs.Inputs.{dealt_of}
 use Rattle.code_runs.specs.Runs.{scripts}
 use Rattle.program_run.specs.Reports.{TellsAs, eval_with}
-use Rattle.delivered_run.specs.declared.delivery.Delivery.{Delivery}
-use Rattle.delivered_run.specs.declared.delivery.Delivery.TheVariants as delivery
-use Rattle.delivered_run.specs.declared.delivery.DeliveryErr.{DeliveryErr}
-use Rattle.delivered_run.specs.declared.delivery.DeliveryErr.TheVariants as err
+pub use Rattle.counted_net.specs.Answers.{delivery_seen}
+use Rattle.counted_net.specs.declared.delivery.DeliveryErr.{DeliveryErr}
+use Rattle.counted_net.specs.declared.delivery.DeliveryErr.TheVariants as err
 use Rattle.delivered_run.specs.declared.running.DeliveredRun.{DeliveredRun}
-
--- word k of stream 4 of a seed chooses at delivery k
-abbrev pub delivery_seen : Delivery → network.Delivery
-delivery_seen delivery.InTurn = network.Default
-delivery_seen (delivery.Scheduled links) = network.Listed links.items
-delivery_seen (delivery.Shuffled seed) = network.Shuffled (stream_word seed 4)
 
 -- ---- by what was dealt, and the report of the run in the clear
 

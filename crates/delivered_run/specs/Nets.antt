@@ -20,8 +20,8 @@ use Rattle.link_schedule.specs.Net.{NetState, Own, after, net_node}
 use Rattle.link_schedule.specs.Orders.{Makes}
 use Rattle.program_run.specs.declared.running.RunReport.{RunReport}
 use Rattle.delivered_run.specs.declared.net.Setting.{Setting}
-use Rattle.delivered_run.specs.declared.delivery.DeliveryErr.{DeliveryErr}
-use Rattle.delivered_run.specs.declared.delivery.DeliveryErr.TheVariants as err
+use Rattle.counted_net.specs.declared.delivery.DeliveryErr.{DeliveryErr}
+use Rattle.counted_net.specs.declared.delivery.DeliveryErr.TheVariants as err
 
 -- a miner to which nothing was delivered
 abbrev pub story_for : World → List Function → (budget : ℕ) → Own → Story

@@ -8,8 +8,8 @@ use Rattle.proto_core.specs.Script.{Move}
 use Rattle.protocol_model.specs.Network.{Accepted, Default, Delivery, EmptyLink, Listed, Shuffled, net, order_of}
 use Rattle.input_share.specs.declared.dealing.DealErr.{DealErr}
 use Rattle.input_share.specs.declared.dealing.DealErr.TheVariants as refusal
-use Rattle.delivered_run.specs.declared.delivery.DeliveryErr.{DeliveryErr}
-use Rattle.delivered_run.specs.declared.delivery.DeliveryErr.TheVariants as err
+use Rattle.counted_net.specs.declared.delivery.DeliveryErr.{DeliveryErr}
+use Rattle.counted_net.specs.declared.delivery.DeliveryErr.TheVariants as err
 use Rattle.delivered_run.specs.declared.running.DeliveredRun.{DeliveredRun}
 
 abbrev pub no_scripts : Number → List Move

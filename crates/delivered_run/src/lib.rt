@@ -3,11 +3,10 @@
 #![tactic(auto)]
 
 mod client;
-mod delivery;
 mod laws;
 mod net;
 mod running;
 
-pub use delivery::{Delivery, DeliveryErr};
+pub use counted_net::{Delivery, DeliveryErr};
 pub use laws::made_deliveries_are_taken;
 pub use running::{DeliveredRun, run_delivered};

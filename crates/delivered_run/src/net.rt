@@ -7,8 +7,8 @@ ghost use Rattle.miner_core.specs.Views.{task_world, task_code};
 ghost use Rattle.delivered_run.specs.Deliveries.{delivery_seen};
 ghost use Rattle.delivered_run.specs.Nets.{setting_world, story_for, net_with, Delivers};
 
-use crate::delivery::{Delivery, DeliveryErr};
 use clear_eval::parts_given;
+use counted_net::{Delivery, DeliveryErr};
 use input_share::{Dealt, ShareFile};
 use link_schedule::{Net3, RunErr};
 use miner_core::{Miner, Task};

@@ -12,8 +12,8 @@ ghost use Rattle.delivered_run.specs.Nets.{HasStopped, HasTold};
 ghost use Rattle.delivered_run.specs.Undealt.{IsFirstEntry, IsUndealt, IsUndealtBy};
 
 use crate::client::told_to_client;
-use crate::delivery::{Delivery, DeliveryErr};
 use crate::net::{Setting, deliver_all, net};
+use counted_net::{Delivery, DeliveryErr};
 use input_share::{DealErr, Dealt, deal};
 use link_schedule::Net3;
 use program_run::{RunReport, compile_program, lengths, see_entries, see_words, undealt};

@@ -1,6 +1,6 @@
 // In which order messages are delivered, and why an order is refused.
 ghost use Rattle.std.specs.Prelude.{◌≡◌};
-ghost use Rattle.delivered_run.specs.declared.delivery.DeliveryErr.TheVariants.{Memory};
+ghost use Rattle.counted_net.specs.declared.delivery.DeliveryErr.TheVariants.{Memory};
 
 use proto_core::{Link, Number};
 use std::alloc::AllocError;

@@ -1,0 +1,19 @@
+// What each miner sends and takes.
+use proto_core::Link;
+
+/// A step of a miner's script: a message that it sends, or one that it takes.
+#[derive(Clone, Copy)]
+pub enum Move {
+    /// A message goes out on this link.
+    Sends(Link),
+    /// The oldest message of this link that isn't taken is taken; where none has come, the miner waits for it.
+    Takes(Link),
+}
+
+/// What each miner sends and takes, in order.
+#[derive(Drop)]
+pub struct Scripts {
+    pub one: Vec<Move>,
+    pub two: Vec<Move>,
+    pub three: Vec<Move>,
+}
