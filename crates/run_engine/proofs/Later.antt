@@ -3,9 +3,12 @@ use Rattle.std.proofs.Common.{◌≡◌, ℕ, List, true, Ok, Result, sym, ◌�
 use Rattle.outside.specs.Files.{Contents, FilesState}
 use Rattle.command_frame.specs.Answer.{Cause}
 use Rattle.command_frame.specs.Reads.{OnlyRead}
+use Rattle.command_words.specs.Ask.{Order}
+use Rattle.protocol_model.specs.Network.{Delivery}
 use Rattle.typed_tree.specs.Programs.{TypedProgramTree}
 use Rattle.program_run.specs.Accepted.{IsAccepted}
 use Rattle.tape_twin.specs.Accepted.{IsAcceptedProgram}
+use Rattle.run_engine.specs.Reading.{delivery_at}
 
 -- as at the beginning
 pub record IsStill (f g : FilesState) : Type 0 where
@@ -22,6 +25,10 @@ pub read_still : {X : Type 0} (at : Contents → List ℕ → Result X Cause) (f
     → (g.told ≡ true → at g.contents path ≡ Ok x) → f.told ≡ true → at f.contents other ≡ Ok x
 read_still at f g kept path other same x given t =
     ap (at f.contents) (sym same) ∙ ap (λ (c : Contents). at c path) (sym kept.contents) ∙ given (kept.told ∙ t)
+
+pub order_still : (f g : FilesState) → IsStill f g → (order : Order) (delivery : Delivery)
+    → (g.told ≡ true → delivery_at g.contents order ≡ Ok delivery) → f.told ≡ true → delivery_at f.contents order ≡ Ok delivery
+order_still f g kept order delivery given t = ap (λ (c : Contents). delivery_at c order) (sym kept.contents) ∙ given (kept.told ∙ t)
 
 -- an accepted program has instances
 pub has_instances : (p : TypedProgramTree) → IsAccepted p → IsAcceptedProgram p

@@ -19,6 +19,8 @@ pub mod Promises
 pub mod Refusals
 pub mod RunRefusals
 pub mod Runs
+pub mod SimulatePlanned
+pub mod SimulateRefusals
 pub mod Sizes
 pub mod Texts
 pub mod Tops

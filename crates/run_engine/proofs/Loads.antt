@@ -28,8 +28,8 @@ use Rattle.program_run.specs.Reports.{TellsAs}
 use Rattle.program_run.specs.declared.running.RunReport.{RunReport}
 use Rattle.delivered_run.specs.Deliveries.{HasRunOf, IsRunOf, net_of}
 use Rattle.delivered_run.specs.Laws.{HaveWords}
-use Rattle.delivered_run.specs.declared.delivery.DeliveryErr.{DeliveryErr}
-use Rattle.delivered_run.specs.declared.delivery.DeliveryErr.TheVariants as refusal
+use Rattle.counted_net.specs.declared.delivery.DeliveryErr.{DeliveryErr}
+use Rattle.counted_net.specs.declared.delivery.DeliveryErr.TheVariants as refusal
 use Rattle.delivered_run.specs.declared.running.DeliveredRun.{DeliveredRun}
 use Rattle.delivered_run.proofs.Taken.{made_deliveries_are_taken}
 use Rattle.command_frame.specs.declared.plan.Plan.{Plan}

@@ -23,8 +23,8 @@ use Rattle.program_run.specs.Codes.{IsCodeOf}
 use Rattle.program_run.specs.Reports.{TellsAs, eval_with}
 use Rattle.program_run.specs.declared.running.RunReport.{RunReport}
 use Rattle.delivered_run.specs.Deliveries.{delivered_of, net_of}
-use Rattle.delivered_run.specs.declared.delivery.DeliveryErr.{DeliveryErr}
-use Rattle.delivered_run.specs.declared.delivery.DeliveryErr.TheVariants as refusal
+use Rattle.counted_net.specs.declared.delivery.DeliveryErr.{DeliveryErr}
+use Rattle.counted_net.specs.declared.delivery.DeliveryErr.TheVariants as refusal
 use Rattle.program_views.specs.Views.{view_of}
 use Rattle.view_text.specs.View.{View}
 use Rattle.proto_core.specs.declared.link.Link.{Link}

@@ -16,11 +16,13 @@ use Rattle.protocol_model.specs.Network.{Listed}
 use Rattle.tape_file.specs.Format.{read_of as tapes_read_of}
 use Rattle.value_file.specs.declared.read_err.ReadErr.{ReadErr}
 use Rattle.value_file.specs.Input.{read_of as inputs_read_of}
+use Rattle.value_file.specs.PublicFile.{read_public_of}
+use Rattle.view_reader.specs.Opened.{opened_of}
 use Rattle.run_engine.specs.Ends.{status_of}
 use Rattle.run_engine.specs.Judging.{JudgedAt}
 use Rattle.run_engine.specs.Programs.{accepted, bad_program, tree_at}
 use Rattle.schedule_file.specs.Reading.{links_of}
-use Rattle.run_engine.specs.Reading.{bad_input, bad_schedule, bad_tape, delivery_at, inputs_at, read_or, schedule_file_at, tape_file_at, tapes_at}
+use Rattle.run_engine.specs.Reading.{bad_input, bad_opened, bad_schedule, bad_tape, delivery_at, inputs_at, opened_at, public_at, read_or, schedule_file_at, tape_file_at, tapes_at}
 use Rattle.run_engine.specs.Runs.{HoldsProgram, HoldsBadProgram}
 
 -- of two steps the first is refused, or both are done
@@ -166,6 +168,14 @@ pub inputs_refused : (files : Contents) (path : List ℕ) (c : Cause) → inputs
 unfolding inputs_at
 inputs_refused files path c is = read_refused files path bad_input inputs_read_of c is
 
+pub public_refused : (files : Contents) (path : List ℕ) (c : Cause) → public_at files path ≡ Err c → ReadRefused files path bad_input read_public_of c
+unfolding public_at
+public_refused files path c is = read_refused files path bad_input read_public_of c is
+
+pub opened_refused : (files : Contents) (path : List ℕ) (c : Cause) → opened_at files path ≡ Err c → ReadRefused files path bad_opened opened_of c
+unfolding opened_at
+opened_refused files path c is = read_refused files path bad_opened opened_of c is
+
 pub tape_file_refused : (files : Contents) (path : List ℕ) (c : Cause) → tape_file_at files path ≡ Err c → ReadRefused files path bad_tape tapes_read_of c
 unfolding tape_file_at
 tape_file_refused files path c is = read_refused files path bad_tape tapes_read_of c is
@@ -197,6 +207,10 @@ schedule_status line = refl
 pub input_status : (err : ReadErr) → status_of_cause (bad_input err) ≡ statuses.Input
 unfolding bad_input
 input_status err = refl
+
+pub opened_status : (line : ℕ) → status_of_cause (bad_opened line) ≡ statuses.Input
+unfolding bad_opened
+opened_status line = refl
 
 pub tape_status : (place : ℕ) → status_of_cause (bad_tape place) ≡ statuses.TapeFile
 unfolding bad_tape

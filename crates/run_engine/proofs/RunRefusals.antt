@@ -60,7 +60,7 @@ run_answered words ask files p entries tapes delivery asks h accepted =
 abbrev IsRefusedAs : RunAsk → Contents → Status → Type 0
 IsRefusedAs ask files s = (found : Finding) × FoundAt (its_program ask.program) files found × (status_in_answer (run_of found ask files) ≡ s)
 
-refused_by_net : (answer : NetAnswer) (more : NetAnswer → Answer) → IsNotTaken answer → status_in_answer (by_net answer >>= more) ≡ statuses.Schedule
+pub refused_by_net : (answer : NetAnswer) (more : NetAnswer → Answer) → IsNotTaken answer → status_in_answer (by_net answer >>= more) ≡ statuses.Schedule
 unfolding by_net
 refused_by_net Accepted more refused = absurd refused
 refused_by_net (EmptyLink entry link sent) more refused = refl
@@ -124,7 +124,7 @@ abbrev cause_status : Result NetAnswer Cause → Status
 cause_status (Ok answer) = statuses.Schedule
 cause_status (Err c) = c.status
 
-net_cases : (answer : NetAnswer) (c : Cause) → by_net answer ≡ Err c → IsNotTaken answer × (status_of_cause c ≡ statuses.Schedule)
+pub net_cases : (answer : NetAnswer) (c : Cause) → by_net answer ≡ Err c → IsNotTaken answer × (status_of_cause c ≡ statuses.Schedule)
 unfolding by_net
 net_cases Accepted c is = absurd cc
 net_cases (EmptyLink entry link sent) c is = (tt, ap cause_status (sym is))

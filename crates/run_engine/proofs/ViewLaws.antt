@@ -1,23 +1,45 @@
--- The tapes that `map` writes correspond to those that it reads, and a twin gives the same view.
-use Rattle.std.proofs.Common.{◌≡◌, ℕ, List}
+-- The tapes that `map` writes correspond to those that it reads, the simulator makes the view of a run that it is told of, and a twin gives
+-- the same view.
+use Rattle.std.proofs.Common.{◌≡◌, ℕ, List, sym, ◌∙◌}
 use Rattle.outside.specs.Files.{Contents}
-use Rattle.command_words.specs.Ask.{MapAsk, TwinAsk}
+use Rattle.command_words.specs.Ask.{MapAsk, SimulateAsk, TwinAsk}
 use Rattle.tape_file.specs.Tapes.{FourTapes}
 use Rattle.typed_tree.specs.Programs.{TypedProgramTree}
 use Rattle.value_file.specs.declared.inputs.Entry.{Entry}
+use Rattle.value_file.specs.Public.{part_of}
 use Rattle.delivered_run.specs.Laws.{HaveWords}
+use Rattle.protocol_model.specs.Network.{Delivery}
+use Rattle.program_views.specs.Laws.{ViewIsSimulated}
 use Rattle.program_views.specs.TapeMaps.{IsTwin, MapsCorrespond, twinned}
 use Rattle.program_views.proofs.Corresponding.{tapes_corresponding}
+use Rattle.program_views.proofs.Simulated.{views_simulated}
 use Rattle.program_views.proofs.Twins.{twins_see}
+use Rattle.view_simulator.proofs.Runs.{nets_simulated}
 use Rattle.run_engine.specs.MapPromises.{HoldsMap}
+use Rattle.run_engine.specs.SimulatePromises.{HoldsOfRun, IsOfRun, opened_and, tapes_mapped}
 use Rattle.run_engine.specs.TwinPromises.{AreTaken, HoldsTwin}
 use Rattle.run_engine.proofs.Miners.{given_to, of_words}
+use Rattle.run_engine.proofs.SimulatePlanned.{view_ended}
 
 pub maps_correspond : (ask : MapAsk) (files : Contents) (p : TypedProgramTree) (entries : List Entry) (tapes : FourTapes)
     → HoldsMap ask files p entries tapes → HaveWords entries tapes → MapsCorrespond ask.miner p entries tapes ask.budget
 maps_correspond ask files p entries tapes h have =
     tapes_corresponding ask.miner h.program.tree p entries tapes ask.budget h.program.within.list
     (given_to ask.program files p entries h.program have.sound) (of_words entries tapes have)
+
+pub simulated_so : (ask : SimulateAsk) (files : Contents) (p : TypedProgramTree) (entries : List Entry) (tapes : FourTapes) (more : List ℕ)
+    (delivery : Delivery) → HoldsOfRun ask p entries tapes more delivery files → HaveWords entries tapes → IsOfRun ask p entries tapes more delivery
+simulated_so ask files p entries tapes more delivery h have =
+    let given = given_to ask.program files p entries h.program have.sound in
+    let v : ViewIsSimulated ask.miner p entries tapes ask.budget delivery =
+    views_simulated ask.miner h.program.tree p entries tapes ask.budget delivery h.program.within.list given (of_words entries tapes have) in
+    record {
+      suffice =
+          view_ended ask p (part_of entries) (opened_and ask p entries tapes more) (tapes_mapped ask p entries tapes) delivery v.view (v.made_with_more more);
+      net =
+          nets_simulated ask.miner h.program.tree p entries tapes ask.budget delivery h.program.within.list given (of_words entries tapes have) more;
+      view = v.made_with_more more ∙ sym v.seen;
+    }
 
 pub twins_see_it : (ask : TwinAsk) (files : Contents) (p : TypedProgramTree) (first second : List Entry) (tapes : FourTapes)
     → HoldsTwin ask files p first second tapes → HaveWords first tapes → HaveWords second tapes → AreTaken ask p first second tapes

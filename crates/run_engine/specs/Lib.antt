@@ -16,6 +16,8 @@ pub mod Promises
 pub mod Reading
 pub mod Run
 pub mod Runs
+pub mod Simulate
+pub mod SimulatePromises
 pub mod Twin
 pub mod TwinPromises
 pub mod Vectors

@@ -1,4 +1,4 @@
--- Input, tape and schedule files at their paths, as commands read them.
+-- Input, public, opened, tape and schedule files at their paths, as commands read them.
 use Rattle.std.specs.Prelude.{ℕ, List, [], ◌∷◌, Option, Some, None, Result, Ok, Err}
 use Rattle.outside.specs.Files.{Contents}
 use Rattle.command_frame.specs.declared.status.Status.TheVariants.{Input, Schedule, TapeFile}
@@ -18,11 +18,14 @@ use Rattle.tape_file.specs.Format.{read_of as tapes_read_of}
 use Rattle.tape_file.specs.Seeds.{seed_tapes, stream_word}
 use Rattle.tape_file.specs.Tapes.{FourTapes}
 use Rattle.value_file.specs.declared.inputs.Entry.{Entry}
+use Rattle.value_file.specs.declared.public.PublicEntry.{PublicEntry}
 use Rattle.value_file.specs.declared.read_err.Field.{Field}
 use Rattle.value_file.specs.declared.read_err.Field.TheVariants as fields
 use Rattle.value_file.specs.declared.read_err.ReadErr.{ReadErr}
 use Rattle.value_file.specs.declared.read_err.ReadErr.TheVariants as read_errs
 use Rattle.value_file.specs.Input.{read_of as inputs_read_of}
+use Rattle.value_file.specs.PublicFile.{read_public_of}
+use Rattle.view_reader.specs.Opened.{opened_of}
 
 -- the refusal of a tape file, by the place of its first fault
 unfoldable pub bad_tape : ℕ → Cause
@@ -72,6 +75,18 @@ read_or cause (Err e) = Err (cause e)
 
 unfoldable pub inputs_at : Contents → List ℕ → Result (List Entry) Cause
 inputs_at files path = bytes_at files path >>= λ bytes. read_or bad_input (inputs_read_of bytes)
+
+-- the public part of inputs is refused as inputs are
+unfoldable pub public_at : Contents → List ℕ → Result (List PublicEntry) Cause
+public_at files path = bytes_at files path >>= λ bytes. read_or bad_input (read_public_of bytes)
+
+-- the refusal of a file of opened values, by the number of its first wrong line
+unfoldable pub bad_opened : ℕ → Cause
+bad_opened line = record { status = Input; line = fault_line (faults.BadView line) }
+
+-- the words of a file of opened values
+unfoldable pub opened_at : Contents → List ℕ → Result (List ℕ) Cause
+opened_at files path = bytes_at files path >>= λ bytes. read_or bad_opened (opened_of bytes)
 
 unfoldable pub tape_file_at : Contents → List ℕ → Result FourTapes Cause
 tape_file_at files path = bytes_at files path >>= λ bytes. read_or bad_tape (tapes_read_of bytes)

@@ -22,8 +22,8 @@ use Rattle.typed_tree.specs.Programs.{TypedProgramTree}
 use Rattle.language_model.specs.Reports.{Report}
 use Rattle.program_run.specs.Reports.{eval_with}
 use Rattle.delivered_run.specs.Deliveries.{delivered_of, net_of, HasRunOf, IsRefusedOf}
-use Rattle.delivered_run.specs.declared.delivery.DeliveryErr.{DeliveryErr}
-use Rattle.delivered_run.specs.declared.delivery.DeliveryErr.TheVariants as refusal
+use Rattle.counted_net.specs.declared.delivery.DeliveryErr.{DeliveryErr}
+use Rattle.counted_net.specs.declared.delivery.DeliveryErr.TheVariants as refusal
 use Rattle.program_views.specs.Views.{view_of}
 use Rattle.view_text.specs.View.{View}
 use Rattle.run_engine.specs.declared.run.Ran.{Ran}

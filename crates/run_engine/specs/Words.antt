@@ -3,7 +3,7 @@ use Rattle.std.specs.Prelude.{◌≡◌, ℕ, List, [], Bool, false, Err}
 use Rattle.std.specs.Option.{option_map_or}
 use Rattle.outside.specs.Files.{Contents}
 use Rattle.command_frame.specs.Answer.{Answer, usage}
-use Rattle.command_words.specs.Ask.{Ask, run, deal, check, compile, eval, need, map_tape, twin, words_of, load}
+use Rattle.command_words.specs.Ask.{Ask, run, deal, check, compile, eval, need, map_tape, simulate, twin, words_of, load}
 use Rattle.run_engine.specs.Check.{check_of, check_paths}
 use Rattle.run_engine.specs.Compile.{compile_of, compile_paths, compiled_paths}
 use Rattle.run_engine.specs.Deal.{deal_of, deal_paths, written_paths}
@@ -12,6 +12,7 @@ use Rattle.run_engine.specs.Judging.{Finding, FoundAt, Question, nothing, its_pr
 use Rattle.run_engine.specs.Map.{map_of, map_paths, mapped_paths}
 use Rattle.run_engine.specs.Load.{load_of}
 use Rattle.run_engine.specs.Run.{ran_paths, run_of, run_paths}
+use Rattle.run_engine.specs.Simulate.{simulate_of, simulate_paths, simulated_paths}
 use Rattle.run_engine.specs.Twin.{twin_of, twin_paths, twinned_paths}
 
 -- what a command decides of the files' contents, and of what is found of the program that it reads
@@ -23,6 +24,7 @@ answer_to found (compile ask) files = compile_of found ask files
 answer_to found (eval ask) files = eval_of found ask files
 answer_to found (need ask) files = need_of found ask files
 answer_to found (map_tape ask) files = map_of found ask files
+answer_to found (simulate ask) files = simulate_of found ask files
 answer_to found (twin ask) files = twin_of found ask files
 answer_to found (load ask) files = load_of ask
 
@@ -35,6 +37,7 @@ question_of (compile ask) = its_program ask.program
 question_of (eval ask) = its_program ask.program
 question_of (need ask) = its_program ask.program
 question_of (map_tape ask) = its_program ask.program
+question_of (simulate ask) = its_program ask.program
 question_of (twin ask) = its_program ask.program
 question_of (load ask) = nothing
 
@@ -47,6 +50,7 @@ reads_of (compile ask) = compile_paths ask
 reads_of (eval ask) = eval_paths ask
 reads_of (need ask) = eval_paths ask
 reads_of (map_tape ask) = map_paths ask
+reads_of (simulate ask) = simulate_paths ask
 reads_of (twin ask) = twin_paths ask
 reads_of (load ask) = []
 
@@ -59,6 +63,7 @@ writes_of (compile ask) = compiled_paths ask
 writes_of (eval ask) = []
 writes_of (need ask) = []
 writes_of (map_tape ask) = mapped_paths ask
+writes_of (simulate ask) = simulated_paths ask.view
 writes_of (twin ask) = twinned_paths ask.to
 writes_of (load ask) = []
 
@@ -71,6 +76,7 @@ uses_links (compile ask) = false
 uses_links (eval ask) = false
 uses_links (need ask) = false
 uses_links (map_tape ask) = false
+uses_links (simulate ask) = false
 uses_links (twin ask) = false
 uses_links (load ask) = false
 
@@ -83,6 +89,7 @@ uses_children (compile ask) = false
 uses_children (eval ask) = false
 uses_children (need ask) = false
 uses_children (map_tape ask) = false
+uses_children (simulate ask) = false
 uses_children (twin ask) = false
 uses_children (load ask) = false
 

@@ -4,14 +4,16 @@
 mod check;
 mod compile;
 mod deal;
+mod deliveries;
 mod ends;
 mod eval;
+mod load;
 mod map;
 mod paths;
-mod load;
 mod programs;
 mod readers;
 mod run;
+mod simulate;
 mod top;
 mod twin;
 mod views;

@@ -1,4 +1,4 @@
-// Input, tape and schedule files, read from their paths.
+// Input, public, opened, tape and schedule files, read from their paths.
 ghost use Rattle.std.specs.Prelude.{◌≡◌, ◌∷◌, [], true, IfOk, IfErr};
 ghost use Rattle.command_frame.specs.Reads.{OnlyRead, Gives, StopNames};
 ghost use Rattle.command_frame.specs.Status.{is_refusal};
@@ -7,7 +7,8 @@ ghost use Rattle.sc_text.specs.Fault.{fault_line};
 ghost use Rattle.command_frame.specs.declared.status.Status.TheVariants.{Input};
 ghost use Rattle.sc_text.specs.declared.fault.Fault.TheVariants.{Input as InputFile};
 ghost use Rattle.value_file.specs.Input.{AreInputs};
-ghost use Rattle.run_engine.specs.Reading.{bad_tape, bad_schedule, field_fault, top_fault, entry_field, inputs_at, tape_file_at, schedule_file_at};
+ghost use Rattle.value_file.specs.PublicFile.{IsWritable};
+ghost use Rattle.run_engine.specs.Reading.{bad_opened, bad_tape, bad_schedule, field_fault, top_fault, entry_field, inputs_at, opened_at, public_at, tape_file_at, schedule_file_at};
 
 use command_frame::{Refusal, Status, Stop, read_file};
 use outside::Files;
@@ -15,7 +16,7 @@ use proto_core::Link;
 use sc_text::{EntryField, Fault, InputFault};
 use std::alloc::Global;
 use tape_file::Tapes;
-use value_file::{Field, Inputs};
+use value_file::{Field, Inputs, PublicPart};
 
 /// The refusal of what was read, with this status and the line of this fault; `Memory` where the line can't be made.
 pub fn refusal_of(alloc: Global, status: Status, fault: &Fault) -> Stop
@@ -90,6 +91,61 @@ pub fn read_inputs<F: Files>(alloc: Global, files: &mut F, path: &str) -> Result
         Err(value_file::ReadErr::TooLong { entry }) => {
             Err(input_stop(alloc, InputFault::TooMany { entry }))
         }
+    }
+}
+
+/// The public part of the file at this path.
+#[tactic(auto, unfolding(crate::specs::Reading::public_at, crate::specs::Reading::bad_input))]
+pub fn read_public_file<F: Files>(
+    alloc: Global,
+    files: &mut F,
+    path: &str,
+) -> Result<PublicPart, Stop>
+    ensures files { OnlyRead (F.state files.old) (F.state files.new) }
+    ensures answer { Gives (λ part. part) (F.state files.old) (F.state files.new) result
+        (public_at (F.state files.old).contents path.now) }
+    ensures form { IfOk result IsWritable }
+    ensures names { IfErr result (StopNames (path.now ∷ [])) }
+{
+    let bytes = read_file(alloc, files, path)?;
+    match value_file::read_public(alloc, &bytes) {
+        Ok(part) => Ok(part),
+        Err(value_file::ReadErr::Memory) => Err(Stop::Memory),
+        Err(value_file::ReadErr::Syntax) => Err(input_stop(alloc, InputFault::NotJson)),
+        Err(value_file::ReadErr::BadField { entry, name }) => {
+            Err(input_stop(alloc, field_fault(entry, name)))
+        }
+        Err(value_file::ReadErr::TooLong { entry }) => {
+            Err(input_stop(alloc, InputFault::TooMany { entry }))
+        }
+    }
+}
+
+// Why a file of opened values is refused.
+#[tactic(auto, unfolding(crate::specs::Reading::bad_opened))]
+fn opened_stop(alloc: Global, line: u64) -> Stop
+    ensures { IsRefusalFor (bad_opened line) result }
+{
+    refusal_of(alloc, Status::Input, &Fault::BadView { line })
+}
+
+/// The words of the file of opened values at this path.
+#[tactic(auto, unfolding(crate::specs::Reading::opened_at))]
+pub fn read_opened_file<F: Files>(
+    alloc: Global,
+    files: &mut F,
+    path: &str,
+) -> Result<Vec<u64>, Stop>
+    ensures files { OnlyRead (F.state files.old) (F.state files.new) }
+    ensures answer { Gives (λ words. words.items) (F.state files.old) (F.state files.new) result
+        (opened_at (F.state files.old).contents path.now) }
+    ensures names { IfErr result (StopNames (path.now ∷ [])) }
+{
+    let bytes = read_file(alloc, files, path)?;
+    match view_reader::read_opened(alloc, &bytes) {
+        Ok(words) => Ok(words),
+        Err(view_reader::ReadErr::BadView { line }) => Err(opened_stop(alloc, line)),
+        Err(view_reader::ReadErr::Memory) => Err(Stop::Memory),
     }
 }
 

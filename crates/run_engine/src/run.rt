@@ -2,27 +2,27 @@
 ghost use Rattle.std.specs.Prelude.{◌≡◌, ◌++◌, true, option_map, IfOk, IfErr, OnOk, string_bytes};
 ghost use Rattle.command_frame.specs.Answer.{effect_of, paths_in, writes_of};
 ghost use Rattle.command_frame.specs.Reads.{OnlyRead, Gives, KeepsTo, PlanNames, StopNames, StopsReading};
-ghost use Rattle.command_frame.specs.Stops.{IsRefusalFor};
-ghost use Rattle.command_words.specs.Views.{run_ask, order_ask, source_ask};
+ghost use Rattle.command_words.specs.Views.{run_ask, source_ask};
+ghost use Rattle.counted_net.specs.declared.delivery.DeliveryErr.TheVariants.{Memory as NoMemory};
 ghost use Rattle.delivered_run.specs.Deliveries.{delivery_seen};
-ghost use Rattle.delivered_run.specs.declared.delivery.DeliveryErr.TheVariants.{Memory as NoMemory};
 ghost use Rattle.program_run.specs.Accepted.{IsAccepted};
 ghost use Rattle.typed_tree.specs.Programs.{typed_program_tree};
 ghost use Rattle.value_file.specs.Input.{AreInputs};
 ghost use Rattle.run_engine.specs.Judging.{Finding, FoundAt, HasFinding, its_program, Tells};
-ghost use Rattle.run_engine.specs.Reading.{delivery_at, order_paths, tapes_at, source_paths};
-ghost use Rattle.run_engine.specs.Run.{ran_effect, ran_paths, recorded_links, refused_with, empty_line, stalled_line, run_of, run_paths, IsRan, IsStopOf};
+ghost use Rattle.run_engine.specs.Reading.{tapes_at, source_paths};
+ghost use Rattle.run_engine.specs.Run.{ran_effect, ran_paths, recorded_links, run_of, run_paths, IsRan};
 ghost use Rattle.run_engine.specs.Views.{view_paths};
 
+use crate::deliveries::{delivery_stop, read_delivery};
 use crate::ends::status;
 use crate::programs::read_typed;
-use crate::readers::{read_inputs, read_schedule_file, read_tape_file};
+use crate::readers::{read_inputs, read_tape_file};
 use crate::views::view_writes;
-use command_frame::{Plan, PlannedWrite, Refusal, Status, Stop};
-use command_words::{DeliveryOrder, RunWords, TapeSource};
+use command_frame::{Plan, PlannedWrite, Stop};
+use command_words::{RunWords, TapeSource};
 use delivered_run::{DeliveredRun, Delivery, DeliveryErr, run_delivered};
 use outside::Files;
-use proto_core::{Link, Number};
+use proto_core::Link;
 use sc_text::run_text;
 use std::alloc::{AllocError, Global};
 use tape_file::{Tapes, from_seed};
@@ -54,70 +54,6 @@ fn read_tapes<F: Files>(alloc: Global, files: &mut F, source: &TapeSource) -> Re
     match source {
         TapeSource::File(path) => read_tape_file(alloc, files, path),
         TapeSource::Seed(seed) => Ok(from_seed(alloc, seed.seed, seed.words)?),
-    }
-}
-
-// In which order messages are delivered.
-#[tactic(auto, unfolding(crate::specs::Reading::delivery_at))]
-fn read_delivery<F: Files>(
-    alloc: Global,
-    files: &mut F,
-    order: &DeliveryOrder,
-) -> Result<Delivery, Stop>
-    ensures files { OnlyRead (F.state files.old) (F.state files.new) }
-    ensures answer { Gives delivery_seen (F.state files.old) (F.state files.new) result
-        (delivery_at (F.state files.old).contents (order_ask order.now)) }
-    ensures names { IfErr result (StopNames (order_paths (order_ask order.now))) }
-{
-    match order {
-        DeliveryOrder::InTurn => Ok(Delivery::InTurn),
-        DeliveryOrder::Schedule(path) => {
-            let links = read_schedule_file(alloc, files, path)?;
-            Ok(Delivery::Scheduled(links))
-        }
-        DeliveryOrder::Shuffle(seed) => Ok(Delivery::Shuffled(*seed)),
-    }
-}
-
-// The stop of this line, if it could be made.
-fn refused(line: Result<String, AllocError>) -> Stop
-    ensures refusal { IfOk line (λ text. IsRefusalFor (refused_with (string_bytes text)) result) }
-    ensures memory { IfErr line (λ e. result ≡ Stop.Memory) }
-{
-    match line {
-        Ok(line) => Stop::Refused(Refusal {
-            status: Status::Schedule,
-            line,
-        }),
-        Err(_) => Stop::Memory,
-    }
-}
-
-// The line of an entry whose link has no message.
-fn empty_text(alloc: Global, entry: u64, link: Link, sent: u64) -> Result<String, AllocError>
-    ensures { IfOk result (λ text. string_bytes text ≡ empty_line entry link sent) }
-{
-    format!(in alloc; "error: S2 entry {entry} link {link} sent {sent}\n")
-}
-
-// The line of a miner that is left waiting.
-#[tactic(auto, unfolding(crate::specs::Run::stalled_line))]
-fn stalled_text(alloc: Global, miner: Number, link: Link) -> Result<String, AllocError>
-    ensures { IfOk result (λ text. string_bytes text ≡ stalled_line miner link) }
-{
-    format!(in alloc; "error: S3 miner {miner} link {link}\n")
-}
-
-// Why a schedule is refused by the run.
-fn delivery_stop(alloc: Global, refusal: DeliveryErr) -> Stop
-    ensures { IsStopOf refusal result }
-{
-    match refusal {
-        DeliveryErr::EmptyLink { entry, link, sent } => refused(empty_text(
-            alloc, entry, link, sent,
-        )),
-        DeliveryErr::Stalled { miner, link } => refused(stalled_text(alloc, miner, link)),
-        DeliveryErr::Memory => Stop::Memory,
     }
 }
 

@@ -1,5 +1,5 @@
 // The top call.
-ghost use Rattle.std.specs.Prelude.{◌≡◌, ◌≢◌, ◌⊎◌, true, false, List, None, Some, IsOkAnd};
+ghost use Rattle.std.specs.Prelude.{◌≡◌, ◌≢◌, ◌⊎◌, ℕ, true, false, List, None, Some, IsOkAnd};
 ghost use Rattle.outside.specs.Causes.{Rose};
 ghost use Rattle.outside.specs.Sink.{SameSink};
 ghost use Rattle.command_frame.specs.Answer.{Answer, usage};
@@ -8,13 +8,13 @@ ghost use Rattle.command_frame.specs.Status.{is_end, is_fault, is_refusal};
 ghost use Rattle.command_frame.specs.Stops.{write_line, memory_line};
 ghost use Rattle.command_frame.specs.Whole.{CarriedOut, FileTold, IsAnswered, IsCut, IsMissed, OnlyWritten, OutFaulted};
 ghost use Rattle.command_frame.specs.declared.status.Status.{Status};
-ghost use Rattle.command_words.specs.Ask.{CheckAsk, CompileAsk, EvalAsk, RunAsk, DealAsk, MapAsk, TwinAsk, check, compile, eval, need, run, deal, map_tape, twin, words_of, LoadAsk, load};
+ghost use Rattle.command_words.specs.Ask.{CheckAsk, CompileAsk, EvalAsk, RunAsk, DealAsk, MapAsk, SimulateAsk, TwinAsk, check, compile, eval, need, run, deal, map_tape, simulate, twin, words_of, LoadAsk, load};
 ghost use Rattle.command_words.specs.Views.{ask_of, texts};
 ghost use Rattle.tape_file.specs.Tapes.{FourTapes};
 ghost use Rattle.typed_tree.specs.Programs.{TypedProgramTree};
 ghost use Rattle.value_file.specs.declared.inputs.Entry.{Entry};
 ghost use Rattle.proto_core.specs.declared.party.Number.{Number};
-ghost use Rattle.protocol_model.specs.Network.{Accepted};
+ghost use Rattle.protocol_model.specs.Network.{Accepted, Delivery};
 ghost use Rattle.program_run.specs.Miners.{CanBeDealt};
 ghost use Rattle.miner_runs.specs.Programs.{OwnRunsOnShares};
 ghost use Rattle.delivered_run.specs.Laws.{HaveWords, IsMade};
@@ -26,6 +26,7 @@ ghost use Rattle.run_engine.specs.MapPromises.{HoldsMap, MapEffect, MapRefused};
 ghost use Rattle.run_engine.specs.Obeying.{Acted, Obeyed, Planned};
 ghost use Rattle.run_engine.specs.Promises.{AllSteady, CheckEffect, CompileEffect, DealEffect, EvalEffect, RunEffect, Keeps, is_done, LoadEffect};
 ghost use Rattle.run_engine.specs.Runs.{DealRefused, EvalRefused, IsNotTaken, ProgramRefused, RunRefused, HoldsRun, net_for};
+ghost use Rattle.run_engine.specs.SimulatePromises.{HoldsOfRun, IsOfRun, SimulateEffect, SimulateRefused};
 ghost use Rattle.run_engine.specs.TwinPromises.{AreTaken, HoldsTwin, TwinEffect, TwinRefused};
 ghost use Rattle.run_engine.specs.Load.{IsNeverRefused};
 ghost use Rattle.run_engine.specs.Words.{read_by, written_by, reach_miners, start_programs, IsAnswer, HasAnswer};
@@ -34,9 +35,10 @@ use crate::check::plan_check;
 use crate::compile::plan_compile;
 use crate::deal::plan_deal;
 use crate::eval::{plan_eval, plan_need};
-use crate::map::plan_map;
 use crate::load::plan_load;
+use crate::map::plan_map;
 use crate::run::plan_run;
+use crate::simulate::plan_simulate;
 use crate::twin::plan_twin;
 use command_frame::{Plan, Status, Stop, ended_status, finish_plan, say};
 use command_words::{Command, WordsErr, read};
@@ -55,6 +57,7 @@ fn plan<F: Files>(alloc: Global, files: &mut F, command: &Command) -> Result<Pla
         Command::Eval(words) => plan_eval(alloc, files, words),
         Command::Need(words) => plan_need(alloc, files, words),
         Command::Map(words) => plan_map(alloc, files, words),
+        Command::Simulate(words) => plan_simulate(alloc, files, words),
         Command::Twin(words) => plan_twin(alloc, files, words),
         Command::Load(words) => plan_load(alloc, words),
     }
@@ -244,6 +247,20 @@ pub fn secrec<F: Files, O: Sink, E: Sink, L: Links, C: Spawner>(
     ensures mapped_tapes_correspond { (ask : MapAsk) (program : TypedProgramTree) (entries : List Entry) (tapes : FourTapes) →
         words_of (texts words.now) ≡ Some (map_tape ask) → HoldsMap ask (F.state files.old).contents program entries tapes →
         HaveWords entries tapes → MapsCorrespond ask.miner program entries tapes ask.budget }
+
+    // `simulate` writes the view that the simulator makes for the miner of the public part of the inputs, the opened words and the tapes,
+    // however the run of one who is told these words ends. Words that don't suffice are a refusal of it, and else a schedule that its net
+    // can't follow to the end.
+    ensures simulates { (ask : SimulateAsk) → words_of (texts words.now) ≡ Some (simulate ask) → (F.state files.old).told ≡ true →
+        Keeps (SimulateEffect ask (F.state files.old).contents) (SimulateRefused ask (F.state files.old).contents) is_done
+        (F.state files.old) (F.state files.new) (O.state out.old) (O.state out.new) result }
+
+    // Where the files hold the public part, the opened words, also with more behind them, and the mapped tapes of a run, as `map` writes
+    // them, the words suffice, the delivery comes to what it comes to in the run, and the view is the one that the miner has of the run.
+    ensures simulated_views_are_views { (ask : SimulateAsk) (program : TypedProgramTree) (entries : List Entry) (tapes : FourTapes) (more : List ℕ) (delivery : Delivery) →
+        words_of (texts words.now) ≡ Some (simulate ask) →
+        HoldsOfRun ask program entries tapes more delivery (F.state files.old).contents → HaveWords entries tapes →
+        IsOfRun ask program entries tapes more delivery }
 
     // `twin` writes the tapes with which the second inputs give the miner the view of the first. Inputs that are not alike, in what
     // everybody knows or in what is opened, are a refusal of it.

@@ -1,6 +1,7 @@
 use Rattle.run_engine.proofs.Loads.{load_planned}
 use Rattle.run_engine.proofs.Obeying.{run_planned, deal_planned, check_planned, compile_planned, eval_planned, need_planned}
 use Rattle.run_engine.proofs.MapPlanned.{map_planned}
+use Rattle.run_engine.proofs.SimulatePlanned.{simulate_planned}
 use Rattle.run_engine.proofs.TwinPlanned.{twin_planned}
 use Rattle.run_engine.proofs.top.plan.Goals as goal
 
@@ -42,6 +43,11 @@ pub returns-in-Twin : goal.returns-in-Twin
 returns-in-Twin g c =
     rw c.in-Twin.is (twin_planned _ _ _ c.plan_twin.ensures.files c.plan_twin.ensures.anyhow _ c.plan_twin.ensures.answer c.plan_twin.ensures.found
     c.plan_twin.ensures.names)
+
+pub returns-in-Simulate : goal.returns-in-Simulate
+returns-in-Simulate g c =
+    rw c.in-Simulate.is (simulate_planned _ _ _ c.plan_simulate.ensures.files c.plan_simulate.ensures.anyhow _ c.plan_simulate.ensures.answer
+    c.plan_simulate.ensures.found c.plan_simulate.ensures.names)
 
 pub returns-in-Load : goal.returns-in-Load
 returns-in-Load g c =

@@ -4,8 +4,8 @@ use Rattle.run_engine.proofs.Miners.{made_taken, maps_made, miners_run, views_ma
 use Rattle.run_engine.proofs.Promises.{check_keeps, compile_keeps, deal_keeps, eval_keeps, need_keeps, run_keeps, load_keeps}
 use Rattle.run_engine.proofs.Runs.{no_command}
 use Rattle.run_engine.proofs.Tops.{telling}
-use Rattle.run_engine.proofs.ViewLaws.{maps_correspond, twins_see_it}
-use Rattle.run_engine.proofs.ViewPromises.{map_keeps, twin_keeps}
+use Rattle.run_engine.proofs.ViewLaws.{maps_correspond, simulated_so, twins_see_it}
+use Rattle.run_engine.proofs.ViewPromises.{map_keeps, simulate_keeps, twin_keeps}
 use Rattle.run_engine.proofs.top.secrec.Goals as goal
 
 pub returns-clause-usage_only_without_command : goal.returns-clause-usage_only_without_command
@@ -143,6 +143,15 @@ returns-clause-maps g c = λ ask asks t.
 
 pub returns-clause-mapped_tapes_correspond : goal.returns-clause-mapped_tapes_correspond
 returns-clause-mapped_tapes_correspond g c = λ ask program entries tapes asks held have. maps_correspond ask _ program entries tapes held have
+
+pub returns-clause-simulates : goal.returns-clause-simulates
+returns-clause-simulates g c = λ ask asks t.
+    simulate_keeps _ _ _ _ _ _ _ _ (returns-clause-answered g c t) (λ answer a sound. returns-clause-answer_carried_out g c answer a sound t)
+    (λ answer a steady. returns-clause-complete g c answer a steady t) ask asks
+
+pub returns-clause-simulated_views_are_views : goal.returns-clause-simulated_views_are_views
+returns-clause-simulated_views_are_views g c = λ ask program entries tapes more delivery asks held have.
+    simulated_so ask _ program entries tapes more delivery held have
 
 pub returns-clause-twins : goal.returns-clause-twins
 returns-clause-twins g c = λ ask asks t.

@@ -1,6 +1,6 @@
 use Rattle.std.proofs.lemmas.List.{append_assoc}
 use Rattle.run_engine.specs.Run.{empty_line}
-use Rattle.run_engine.proofs.run.empty_text.Goals as goal
+use Rattle.run_engine.proofs.deliveries.empty_text.Goals as goal
 
 pub returns : goal.returns
 unfolding empty_line
