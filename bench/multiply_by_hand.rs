@@ -1,6 +1,7 @@
 // What the multiplication of shared values costs when it is written by hand in plain Rust: three miners in one process, the
 // same draws, messages and blocks of 512 elements as crates/multiply, without types for parties and rings, without
-// refusals and without proofs. `bench/multiply.sh` builds it with `rustc -O` and sets it beside the proved program.
+// refusals and without proofs. `bench/multiply.sh` builds it with `rustc -O` and sets it beside the proved program. With a second word it only makes the
+// shares and the tapes, so that `bench/programs_on_shares.sh` can tell how much processor time the products take.
 use std::time::Instant;
 
 const BLOCK: usize = 512;
@@ -54,6 +55,10 @@ fn main() {
             product: Vec::with_capacity(n),
         })
         .collect();
+    if std::env::args().nth(2).is_some() {
+        println!("words {}", miners.iter().map(|miner| miner.u.len() + miner.v.len() + miner.tape.len()).sum::<usize>());
+        return;
+    }
     let start = Instant::now();
     for from in (0..n).step_by(BLOCK) {
         let to = n.min(from + BLOCK);

@@ -13,50 +13,14 @@ fi
 work=$(mktemp -d)
 trap 'rm -rf "$work"' EXIT
 
-python3 - "$program" "$work" <<'PY'
+PYTHONDONTWRITEBYTECODE=1 python3 - "$program" "$work" "$top/tools" <<'PY'
 import subprocess, sys
 
-program, work = sys.argv[1:]
+program, work, tools = sys.argv[1:]
+sys.path.insert(0, tools)
+from deep_programs import SHAPES, deepest
+
 WITHIN = 8192  # kB
-
-# Each shape makes a program of n parts inside one another around a call of the function itself.
-HEAD = "import stdlib; import shared3p; domain p shared3p;\n"
-MAIN = 'void main() { publish("x", f(%s)); }\n'
-
-
-def around(before, behind, inside):
-    return lambda n: before * n + inside + behind * n
-
-
-def expression(kind, start, parts):
-    return lambda n: HEAD + f"{kind} f({kind} n) {{ return {parts(n)}; }}\n" + MAIN % start
-
-
-def statement(parts):
-    return lambda n: HEAD + f"bool f(bool n) {{ {parts(n)} return n; }}\n" + MAIN % "true"
-
-
-def arrays(parts):
-    ending = 'void main() { uint64[[1]] a; publish("x", f(a)); }\n'
-    return lambda n: HEAD + f"uint64[[1]] f(uint64[[1]] n) {{ return {parts(n)}; }}\n" + ending
-
-
-shapes = {
-    "chains of !": expression("bool", "true", around("!", "", "f(n)")),
-    "calls as arguments of calls": expression("bool", "true", around("f(", ")", "n")),
-    "blocks in blocks": statement(around("{ ", " }", "f(n);")),
-    "if in if": statement(around("if (n) ", "", "f(n);")),
-    "else in else": statement(around("if (!n) return n; else ", "", "f(n);")),
-    "while in while": statement(around("while (n) ", "", "f(n);")),
-    "do in do": statement(around("do ", " while (n);", "f(n);")),
-    "for in for": statement(around("for (; n; ) ", "", "f(n);")),
-    "right operands of +": expression("uint64", "1", around("1 + (", ")", "f(n)")),
-    "left operands of +": expression("uint64", "1", around("", " + 1", "f(n)")),
-    "left operands of &&": expression("bool", "true", around("", " && n", "f(n)")),
-    "right operands of &&": expression("bool", "true", around("n && (", ")", "f(n)")),
-    "arrays joined on the left": arrays(around("cat(", ", n)", "f(n)")),
-    "arrays joined on the right": arrays(around("cat(n, ", ")", "f(n)")),
-}
 
 
 def written(name, text):
@@ -80,8 +44,8 @@ def ended(source, kilobytes):
 
 beyond = False
 print(f"{'shape':28} {'parts':>5}   least stack, kB")
-for name, made in shapes.items():
-    parts = max((n for n in range(16, 129) if is_accepted(made(n))), default=None)
+for name, made in SHAPES.items():
+    parts = deepest(is_accepted, made)
     if parts is None:
         print(f"{name:28} no program of this shape is accepted")
         beyond = True

@@ -11,7 +11,7 @@ ghost use Rattle.block_steps.specs.Pendings.{pending_left, progress_left, HasBeg
 
 use crate::links::Links;
 use crate::pending::Pending;
-use crate::progress::Progress;
+use crate::progress::{Progress, through};
 use crate::{converting, multiplying, opening, resharing, splitting};
 use gates::RingKind;
 use joint_run::Exchange;
@@ -118,7 +118,8 @@ fn begin_resharing<P: Party>(
     }
 }
 
-/// A splitting.
+/// A splitting. Not inlined, for the reason that `through` gives.
+#[inline(never)]
 fn begin_splitting<P: Party>(
     negated: bool,
     u: &[u64],
@@ -135,6 +136,6 @@ fn begin_splitting<P: Party>(
     Ok(match splitting::begin(negated, u, words, links)? {
         Progress::Stands(state) => Progress::Stands(Pending::Splitting(state)),
         Progress::Goes(state) => Progress::Goes(Pending::Splitting(state)),
-        Progress::Made { first, second } => Progress::Made { first, second },
+        Progress::Made { first, second } => through(first, second),
     })
 }

@@ -6,7 +6,7 @@ ghost use Rattle.block_steps.specs.Pendings.{ring_left, pending_left, progress_l
 
 use crate::converting::Conversion;
 use crate::links::Links;
-use crate::progress::Progress;
+use crate::progress::{Progress, through};
 use crate::ring_block::RingBlock;
 use crate::splitting::Splits;
 use proto_core::{Link, Party};
@@ -69,7 +69,7 @@ fn step_numbers<P: Party>(
     Ok(match block.step(links)? {
         Progress::Stands(block) => Progress::Stands(Pending::Numbers(block)),
         Progress::Goes(block) => Progress::Goes(Pending::Numbers(block)),
-        Progress::Made { first, second } => Progress::Made { first, second },
+        Progress::Made { first, second } => through(first, second),
     })
 }
 
@@ -86,7 +86,7 @@ fn step_bits<P: Party>(
     Ok(match block.step(links)? {
         Progress::Stands(block) => Progress::Stands(Pending::Bits(block)),
         Progress::Goes(block) => Progress::Goes(Pending::Bits(block)),
-        Progress::Made { first, second } => Progress::Made { first, second },
+        Progress::Made { first, second } => through(first, second),
     })
 }
 
@@ -103,7 +103,7 @@ fn step_conversion<P: Party>(
     Ok(match state.step(links)? {
         Progress::Stands(state) => Progress::Stands(Pending::Conversion(state)),
         Progress::Goes(state) => Progress::Goes(Pending::Conversion(state)),
-        Progress::Made { first, second } => Progress::Made { first, second },
+        Progress::Made { first, second } => through(first, second),
     })
 }
 
@@ -120,6 +120,6 @@ fn step_splitting<P: Party>(
     Ok(match state.step(links)? {
         Progress::Stands(state) => Progress::Stands(Pending::Splitting(state)),
         Progress::Goes(state) => Progress::Goes(Pending::Splitting(state)),
-        Progress::Made { first, second } => Progress::Made { first, second },
+        Progress::Made { first, second } => through(first, second),
     })
 }

@@ -1,4 +1,5 @@
 ghost use Rattle.std.specs.Prelude.{◌≡◌, List};
+ghost use Rattle.block_steps.specs.declared.progress.Progress.TheVariants.{Made};
 
 use proto_core::Block;
 
@@ -18,6 +19,20 @@ pub enum Progress<S, P> {
         first: Block<AnyRing, P>,
         second: Option<Block<AnyRing, P>>,
     },
+}
+
+/// A block that is through with these values.
+///
+/// It is kept apart, since a function that moves the words of a block and of what it makes between the same places takes the
+/// compiler minutes.
+#[inline(never)]
+pub(crate) fn through<S, P>(
+    first: Block<AnyRing, P>,
+    second: Option<Block<AnyRing, P>>,
+) -> Progress<S, P>
+    ensures { result ≡ Made first second }
+{
+    Progress::Made { first, second }
 }
 
 /// The same words, of a ring that is not told, for the same miner under another name.

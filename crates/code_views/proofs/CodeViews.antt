@@ -55,7 +55,7 @@ use Rattle.code_views.specs.CodeViews.{shown_in, code_nodes, order, ran, SeesIts
 
 -- ---- WHAT IS TOLD AND HELD
 
-shown_same : {events : List Event} {notices : Number → List Notice} (i : Number) → Tells events notices → openings events ≡ shown_in (notices i)
+pub shown_same : {events : List Event} {notices : Number → List Notice} (i : Number) → Tells events notices → openings events ≡ shown_in (notices i)
 shown_same i tells.nothing = refl
 shown_same i (tells.opened form words of more) = ap (λ v. elements_told form words ∷ v) (shown_same i more)
 shown_same i (tells.published text form words of more) = shown_same i more

@@ -28,10 +28,11 @@ use Rattle.program_run.specs.Reports.{CanRunOn, code_report, lengths_of}
 use Rattle.program_run.specs.declared.running.RunReport.{RunReport}
 use Rattle.program_run.proofs.Told.{known_so}
 use Rattle.counted_net.specs.declared.delivery.DeliveryErr.{DeliveryErr}
-use Rattle.delivered_run.specs.declared.running.DeliveredRun.{DeliveredRun}
-use Rattle.delivered_run.specs.Deliveries.{HasRun, IsRun}
+use Rattle.delivered_run.specs.declared.running.NetRun.{NetRun}
+use Rattle.delivered_run.specs.Courses.{HasNetRun, IsNetRun}
+use Rattle.delivered_run.specs.Deliveries.{IsRefused}
 use Rattle.delivered_run.specs.Nets.{Delivers, HasStopped, HasTold, net_with}
-use Rattle.delivered_run.proofs.Runs.{all_stopped, at_first, going_on, has_run, is_refused}
+use Rattle.delivered_run.proofs.Runs.{all_stopped, at_first, going_on, has_net_run, is_refused}
 
 abbrev pub own_with : Values → (tape : List ℕ) → Own
 own_with shares tape = record { dealt = shares; tape = tape }
@@ -84,14 +85,15 @@ module _ (code : RawCode) (entries : List Entry) (t : FourTapes) (budget : ℕ) 
     pub stops : Delivers given net then (Ok tt) → HasStopped then
     stops h = all_stopped offer dealing (settled code) budget (miners_of t) report own given then (from_start (Ok tt) h)
 
-    pub runs : (ran : DeliveredRun) → Delivers given net then (Ok tt) → HasTold then ran.report → ran.delivered.items ≡ then.delivered → HasRun dealing report given ran
-    runs ran h told delivered = has_run offer dealing (settled code) budget (miners_of t) report own given then ran (from_start (Ok tt) h) told delivered
+    pub runs : (ran : NetRun) → Delivers given net then (Ok tt) → ran.net ≡ then → HasTold then ran.run.report
+        → ran.run.delivered.items ≡ then.delivered → HasNetRun offer dealing budget (miners_of t) report given ran
+    runs ran h = has_net_run offer dealing (settled code) budget (miners_of t) report own given then ran (from_start (Ok tt) h)
 
-    pub refuses : (e : DeliveryErr) → Delivers given net then (Err e) → IsRun dealing report given (Err e)
+    pub refuses : (e : DeliveryErr) → Delivers given net then (Err e) → IsRefused dealing report given e
     refuses e h = is_refused offer dealing (settled code) budget (miners_of t) report own given then e (from_start (Err e) h)
 
     pub refuses_on :
-        (e : DeliveryErr) → Delivers given net then (Err e) → (r : Result DeliveredRun DeliveryErr) → IsErrAnd r (λ x. x ≡ e)
-        → IsRun dealing report given r
+        (e : DeliveryErr) → Delivers given net then (Err e) → (r : Result NetRun DeliveryErr) → IsErrAnd r (λ x. x ≡ e)
+        → IsNetRun offer dealing budget (miners_of t) report given r
     refuses_on e h (Ok ran) is = absurd is
-    refuses_on e h (Err x) is = subst (λ (y : DeliveryErr). IsRun dealing report given (Err y)) (sym is) (refuses e h)
+    refuses_on e h (Err x) is = subst (IsRefused dealing report given) (sym is) (refuses e h)

@@ -4,3 +4,4 @@ pub mod Made
 pub mod Runs
 pub mod DealtRuns
 pub mod Undealt
+pub mod Going

@@ -30,8 +30,9 @@ use Rattle.program_run.specs.Reports.{TellsAs}
 use Rattle.program_run.specs.declared.running.RunReport.{RunReport}
 use Rattle.counted_net.specs.declared.delivery.DeliveryErr.{DeliveryErr}
 use Rattle.counted_net.specs.declared.delivery.DeliveryErr.TheVariants as err
-use Rattle.delivered_run.specs.declared.running.DeliveredRun.{DeliveredRun}
-use Rattle.delivered_run.specs.Deliveries.{HasRun, IsRun, delivered_for, net_for}
+use Rattle.delivered_run.specs.declared.running.NetRun.{NetRun}
+use Rattle.delivered_run.specs.Courses.{HasNetRun, IsAtItsEnd}
+use Rattle.delivered_run.specs.Deliveries.{IsRefused, delivered_for, net_for}
 use Rattle.delivered_run.specs.Nets.{Delivers, HasStopped, HasTold, StopsAt, net_with}
 use Rattle.delivered_run.proofs.Made.{order_made}
 
@@ -127,6 +128,9 @@ module _ (o : Offered) (d : Dealt) (c : List Function) (budget : ℕ) (tapes : T
         ∙ ap (λ (m : Mail). told_together (λ i. told_in (run_of own m i).acts)) mail_so
         ∙ told_together_are_the_events r.events (λ i. told_in (run_of own (messages d r tapes) i).acts) run.told
 
+    node_at_end : (i : Number) → net_node then i ≡ run_of own (messages d r tapes) i
+    node_at_end i = node_so i ∙ ap (λ (m : Mail). run_of own m i) mail_so
+
     pub tells : (told : RunReport) → HasTold then told → TellsAs r told
     tells told h =
         let stops = run.turns.stops in
@@ -144,18 +148,34 @@ module _ (o : Offered) (d : Dealt) (c : List Function) (budget : ℕ) (tapes : T
   pub all_stopped : (given : Delivery) (then : NetState) → Delivers given at_first then (Ok tt) → HasStopped then
   all_stopped given then h = stopped (delivered_for d r given) then (came given then h)
 
-  pub has_run : (given : Delivery) (then : NetState) (ran : DeliveredRun) → Delivers given at_first then (Ok tt) → HasTold then ran.report
-      → ran.delivered.items ≡ then.delivered → HasRun d r given ran
-  has_run given then ran h told delivered = record {
-    accepted = accepted given then h;
-    told = tells (delivered_for d r given) then (came given then h) ran.report told;
-    delivered = delivered ∙ delivered_so (delivered_for d r given) then (came given then h);
+  at_its_end : (given : Delivery) (then : NetState) → Delivers given at_first then (Ok tt) → IsAtItsEnd o d budget tapes r given then
+  at_its_end given then h =
+      let links = delivered_for d r given in
+      let all = came given then h in
+      record {
+        code = c;
+        own = run;
+        going = going links then all;
+        steps = budget_so links then all;
+        delivered = delivered_so links then all;
+        node = node_at_end links then all;
+      }
+
+  pub has_net_run : (given : Delivery) (then : NetState) (ran : NetRun) → Delivers given at_first then (Ok tt) → ran.net ≡ then
+      → HasTold then ran.run.report → ran.run.delivered.items ≡ then.delivered → HasNetRun o d budget tapes r given ran
+  has_net_run given then ran h stands told delivered = record {
+    run = record {
+      accepted = accepted given then h;
+      told = tells (delivered_for d r given) then (came given then h) ran.run.report told;
+      delivered = delivered ∙ delivered_so (delivered_for d r given) then (came given then h);
+    };
+    net = subst (IsAtItsEnd o d budget tapes r given) (sym stands) (at_its_end given then h);
   }
 
   refused_listed : (links : List Link) (answer : Answer) → net_walked at_first links ≡ answer → net_for d r (Listed links) ≡ answer
   refused_listed links answer is = sym (run.counted (Listed links)) ∙ walked_so links answer is
 
-  pub is_refused : (given : Delivery) (then : NetState) (e : DeliveryErr) → Delivers given at_first then (Err e) → IsRun d r given (Err e)
+  pub is_refused : (given : Delivery) (then : NetState) (e : DeliveryErr) → Delivers given at_first then (Err e) → IsRefused d r given e
   is_refused given then err.Memory h = tt
   is_refused (Listed links) then (err.EmptyLink entry link sent) h = refused_listed links (EmptyLink entry link sent) h
   is_refused (Listed links) then (err.Stalled miner link) h = refused_listed links (Stalled miner link) h

@@ -16,7 +16,8 @@ use Rattle.program_run.proofs.Told.{undealt_so}
 use Rattle.counted_net.specs.declared.delivery.DeliveryErr.{DeliveryErr}
 use Rattle.counted_net.specs.declared.delivery.DeliveryErr.TheVariants as err
 use Rattle.delivered_run.specs.declared.running.DeliveredRun.{DeliveredRun}
-use Rattle.delivered_run.specs.Deliveries.{IsRunOf}
+use Rattle.delivered_run.specs.Courses.{IsUndealtRun}
+use Rattle.delivered_run.specs.Deliveries.{IsRefusedOf, IsRunOf}
 use Rattle.delivered_run.specs.Undealt.{IsUndealt, IsUndealtBy}
 use Rattle.delivered_run.proofs.Taken.{without_scripts}
 
@@ -38,10 +39,16 @@ module _ (p : TypedProgramTree) (entries : List Entry) (t : FourTapes) (budget :
   undealt_run need have as_need as_have (Err (err.Stalled miner link)) h = absurd h
   undealt_run need have as_need as_have (Err err.Memory) h = tt
 
-pub undealt_by :
-    (p : TypedProgramTree) (entries : List Entry) (t : FourTapes) (budget : ℕ) (given : Delivery) (why : DealErr)
-    → Refuses (need_of entries) (length t.dealer) why → (result : Result DeliveredRun DeliveryErr) → IsUndealtBy why given result
-    → IsRunOf p entries t budget given result
-undealt_by p entries t budget given (refusal.TapeShort need have) short result h =
-    undealt_run p entries t budget short.0 given need have short.1 short.2 result h
-undealt_by p entries t budget given refusal.Memory short result h = subst (IsRunOf p entries t budget given) (sym h) tt
+module _ (p : TypedProgramTree) (entries : List Entry) (t : FourTapes) (budget : ℕ) (given : Delivery) where
+  pub undealt_ran :
+      (why : DealErr) → Refuses (need_of entries) (length t.dealer) why → (run : DeliveredRun) → IsUndealtBy why given (Ok run)
+      → IsUndealtRun p entries t budget given run
+  undealt_ran (refusal.TapeShort need have) short run h =
+      record { few = short.0; ran = undealt_run p entries t budget short.0 given need have short.1 short.2 (Ok run) h }
+  undealt_ran refusal.Memory short run h = absurd cc
+
+  pub undealt_refused :
+      (why : DealErr) → Refuses (need_of entries) (length t.dealer) why → (e : DeliveryErr) → IsUndealtBy why given (Err e)
+      → IsRefusedOf p entries t budget given e
+  undealt_refused (refusal.TapeShort need have) short e h = undealt_run p entries t budget short.0 given need have short.1 short.2 (Err e) h
+  undealt_refused refusal.Memory short e h = let same : e ≡ err.Memory = cc in subst (IsRefusedOf p entries t budget given) (sym same) tt

@@ -32,12 +32,16 @@ module _ (d : Dealt) (r : Report) where
     pub told : TellsAs r ran.report
     pub delivered : ran.delivered.items ≡ delivered_for given
 
-  -- so it is, or the schedule is refused as the net says
+  -- the schedule is refused as the net says
+  abbrev pub IsRefused : network.Delivery → DeliveryErr → Type 0
+  IsRefused given (err.EmptyLink entry link sent) = net_for given ≡ network.EmptyLink entry link sent
+  IsRefused given (err.Stalled miner link) = net_for given ≡ network.Stalled miner link
+  IsRefused given err.Memory = Unit {0}
+
+  -- it has run so, or the schedule is refused
   abbrev pub IsRun : network.Delivery → Result DeliveredRun DeliveryErr → Type 0
   IsRun given (Ok ran) = HasRun given ran
-  IsRun given (Err (err.EmptyLink entry link sent)) = net_for given ≡ network.EmptyLink entry link sent
-  IsRun given (Err (err.Stalled miner link)) = net_for given ≡ network.Stalled miner link
-  IsRun given (Err err.Memory) = Unit {0}
+  IsRun given (Err e) = IsRefused given e
 
 -- ---- of a program, with tapes of these lengths
 
@@ -50,6 +54,9 @@ module _ (p : TypedProgramTree) (entries : List Entry) (t : FourTapes) (budget :
 
   abbrev pub HasRunOf : network.Delivery → DeliveredRun → Type 0
   HasRunOf given ran = HasRun (dealt_of entries t.dealer) (eval_with p entries t budget) given ran
+
+  abbrev pub IsRefusedOf : network.Delivery → DeliveryErr → Type 0
+  IsRefusedOf given e = IsRefused (dealt_of entries t.dealer) (eval_with p entries t budget) given e
 
   abbrev pub IsRunOf : network.Delivery → Result DeliveredRun DeliveryErr → Type 0
   IsRunOf given result = IsRun (dealt_of entries t.dealer) (eval_with p entries t budget) given result

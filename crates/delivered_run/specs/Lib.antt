@@ -1,5 +1,6 @@
 pub mod Client
 pub mod Deliveries
+pub mod Courses
 pub mod Nets
 pub mod Undealt
 pub mod Laws

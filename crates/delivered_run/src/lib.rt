@@ -3,10 +3,12 @@
 #![tactic(auto)]
 
 mod client;
+mod course;
 mod laws;
 mod net;
 mod running;
 
 pub use counted_net::{Delivery, DeliveryErr};
+pub use course::{Course, run_delivered, run_in_net};
 pub use laws::made_deliveries_are_taken;
-pub use running::{DeliveredRun, run_delivered};
+pub use running::{DeliveredRun, NetRun};

@@ -2,26 +2,26 @@
 ghost use Rattle.std.specs.Prelude.{◌≡◌, false, Some, None, IfOk};
 ghost use Rattle.proto_core.specs.declared.party.Number.TheVariants.{One, Two, Three};
 ghost use Rattle.input_share.specs.Dealing.{dealt};
-ghost use Rattle.typed_tree.specs.Programs.{typed_program_tree};
 ghost use Rattle.value_file.specs.Input.{AreInputs};
+ghost use Rattle.view_model.specs.TapeMaps.{miners_of};
+ghost use Rattle.clear_eval.specs.Offers.{offered};
 ghost use Rattle.code_inputs.specs.Inputs.{dealt_of};
-ghost use Rattle.program_run.specs.Accepted.{IsAccepted};
 ghost use Rattle.program_run.specs.Reports.{CanRunOn, code_report, lengths_of};
-ghost use Rattle.delivered_run.specs.Deliveries.{IsRun, IsRunOf, delivery_seen};
+ghost use Rattle.delivered_run.specs.Courses.{IsNetRun};
+ghost use Rattle.delivered_run.specs.Deliveries.{delivery_seen};
 ghost use Rattle.delivered_run.specs.Nets.{HasStopped, HasTold};
 ghost use Rattle.delivered_run.specs.Undealt.{IsFirstEntry, IsUndealt, IsUndealtBy};
 
 use crate::client::told_to_client;
 use crate::net::{Setting, deliver_all, net};
 use counted_net::{Delivery, DeliveryErr};
-use input_share::{DealErr, Dealt, deal};
+use input_share::{DealErr, Dealt};
 use link_schedule::Net3;
-use program_run::{RunReport, compile_program, lengths, see_entries, see_words, undealt};
+use program_run::{RunReport, lengths, undealt};
 use proto_core::Link;
 use sc_text::End;
 use std::alloc::{AllocError, Global};
 use tape_file::Tapes;
-use typed_tree::TypedProgram;
 use value_file::{Inputs, public_part};
 use verified_code::Verified;
 
@@ -30,6 +30,29 @@ use verified_code::Verified;
 pub struct DeliveredRun {
     pub report: RunReport,
     pub delivered: Vec<Link>,
+}
+
+/// What came of a run of three miners, and the miners as they stand behind it.
+pub struct NetRun {
+    pub run: DeliveredRun,
+    pub net: Net3,
+}
+
+// Written out, so that an early exit calls this once.
+impl Drop for NetRun {
+    fn drop(self) {
+        let NetRun { run: _, net: _ } = self;
+    }
+}
+
+impl NetRun {
+    /// What came of it.
+    pub fn into_run(self) -> DeliveredRun
+        ensures { result ≡ self.run }
+    {
+        let NetRun { run, net: _ } = self;
+        run
+    }
 }
 
 // What the miners of a net have told that has come to its end.
@@ -55,29 +78,30 @@ fn reported(alloc: Global, net: &Net3) -> Result<RunReport, AllocError>
     }
 }
 
-// What a run needs: the code, the inputs, the four tapes, and the budget.
+/// What a run needs: the code, the inputs, the four tapes, and the budget.
 #[derive(Drop)]
-struct Job<'a> {
-    code: &'a Verified,
-    inputs: &'a Inputs,
-    tapes: &'a Tapes,
-    budget: u64,
+pub(crate) struct Job<'a> {
+    pub code: &'a Verified,
+    pub inputs: &'a Inputs,
+    pub tapes: &'a Tapes,
+    pub budget: u64,
 }
 
-// Three miners run the code on their shares.
-fn run_dealt(
+/// Three miners run the code on their shares.
+pub(crate) fn run_dealt(
     alloc: Global,
     job: &Job<'_>,
     files: &Dealt,
     delivery: &Delivery,
-) -> Result<DeliveredRun, DeliveryErr>
+) -> Result<NetRun, DeliveryErr>
     requires inputs { AreInputs job.now.inputs.now }
     requires first { files.now.first ≡ dealt One job.now.inputs.now job.now.tapes.now.dealer (lengths_of job.now.tapes.now) }
     requires second { files.now.second ≡ dealt Two job.now.inputs.now job.now.tapes.now.dealer (lengths_of job.now.tapes.now) }
     requires third { files.now.third ≡ dealt Three job.now.inputs.now job.now.tapes.now.dealer (lengths_of job.now.tapes.now) }
     requires runs { CanRunOn job.now.code.now job.now.inputs.now job.now.tapes.now }
-    ensures { IsRun (dealt_of job.now.inputs.now job.now.tapes.now.dealer)
-        (code_report job.now.code.now job.now.inputs.now job.now.tapes.now job.now.budget) (delivery_seen delivery.now) result }
+    ensures { IsNetRun (offered job.now.inputs.now (lengths_of job.now.tapes.now)) (dealt_of job.now.inputs.now job.now.tapes.now.dealer)
+        job.now.budget (miners_of job.now.tapes.now) (code_report job.now.code.now job.now.inputs.now job.now.tapes.now job.now.budget)
+        (delivery_seen delivery.now) result }
 {
     let part = public_part(alloc, job.inputs)?;
     let setting = Setting {
@@ -90,7 +114,8 @@ fn run_dealt(
     deliver_all(&mut net, delivery)?;
     let report = reported(alloc, &net)?;
     let delivered = Vec::from_slice(alloc, net.recorded())?;
-    Ok(DeliveredRun { report, delivered })
+    let run = DeliveredRun { report, delivered };
+    Ok(NetRun { run, net })
 }
 
 // The first link of a schedule.
@@ -125,8 +150,8 @@ fn run_undealt(
     }
 }
 
-// What comes of inputs that are not dealt.
-fn run_refused(
+/// What comes of inputs that are not dealt.
+pub(crate) fn run_refused(
     alloc: Global,
     refusal: DealErr,
     delivery: &Delivery,
@@ -136,39 +161,5 @@ fn run_refused(
     match refusal {
         DealErr::TapeShort { need, have } => run_undealt(alloc, need, have, delivery),
         DealErr::Memory => Err(DeliveryErr::Memory),
-    }
-}
-
-/// Runs a program: its code is verified, its inputs are dealt with the dealer's tape, and three miners, each with its shares and its tape
-/// alone, run the code, with their messages delivered in this order.
-///
-/// A schedule is refused for its first entry without a message, else for the lowest miner that it leaves waiting.
-pub fn run_delivered(
-    alloc: Global,
-    program: &TypedProgram,
-    inputs: &Inputs,
-    tapes: &Tapes,
-    budget: u64,
-    delivery: &Delivery,
-) -> Result<DeliveredRun, DeliveryErr>
-    requires accepted { IsAccepted (typed_program_tree program.now) }
-    requires inputs { AreInputs inputs.now }
-    ensures { IsRunOf (typed_program_tree program.now) inputs.now tapes.now budget (delivery_seen delivery.now) result }
-{
-    see_entries(inputs.entries());
-    see_words(tapes.dealer());
-    see_words(tapes.miner1());
-    see_words(tapes.miner2());
-    see_words(tapes.miner3());
-    let code = compile_program(alloc, program)?;
-    let job = Job {
-        code: &code,
-        inputs,
-        tapes,
-        budget,
-    };
-    match deal(alloc, inputs, tapes.dealer(), lengths(tapes)) {
-        Ok(files) => run_dealt(alloc, &job, &files, delivery),
-        Err(refusal) => run_refused(alloc, refusal, delivery),
     }
 }

@@ -5,3 +5,4 @@ pub mod Gates
 pub mod Notices
 pub mod Stories
 pub mod Stops
+pub mod Staying

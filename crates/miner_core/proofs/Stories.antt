@@ -59,10 +59,10 @@ not_at_end_refuses : (l : Link) (cause : BadMessage) → Refuses l cause ≡ AtI
 not_at_end_refuses l cause e = cc
 
 module _ (i : Number) where
-  mail_previous : (p n : List (List ℕ)) (m : List ℕ) → mail_of i (p ++ m ∷ []) n ≡ added (mail_of i p n) (mail_of i (m ∷ []) [])
+  pub mail_previous : (p n : List (List ℕ)) (m : List ℕ) → mail_of i (p ++ m ∷ []) n ≡ added (mail_of i p n) (mail_of i (m ∷ []) [])
   mail_previous p n m = sym (mail-added i p n (m ∷ []) [] ∙ ap (λ v. mail_of i (p ++ m ∷ []) v) (append-none n))
 
-  mail_next : (p n : List (List ℕ)) (m : List ℕ) → mail_of i p (n ++ m ∷ []) ≡ added (mail_of i p n) (mail_of i [] (m ∷ []))
+  pub mail_next : (p n : List (List ℕ)) (m : List ℕ) → mail_of i p (n ++ m ∷ []) ≡ added (mail_of i p n) (mail_of i [] (m ∷ []))
   mail_next p n m = sym (mail-added i p n [] (m ∷ []) ∙ ap (λ v. mail_of i v (n ++ m ∷ [])) (append-none p))
 
   -- where a message is awaited

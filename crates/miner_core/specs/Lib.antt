@@ -2,3 +2,4 @@ pub mod OwnCode
 pub mod Views
 pub mod Engines
 pub mod Story
+pub mod Laws

@@ -5,12 +5,14 @@
 mod answer;
 mod delivery;
 mod engine;
+mod laws;
 mod miner;
 mod notice;
 mod stepping;
 mod task;
 
 pub use answer::{End, MinerErr, Step};
+pub use laws::a_refusal_stays;
 pub use miner::Miner;
 pub use notice::Notice;
 pub use task::Task;

@@ -90,6 +90,11 @@ pub load_stops_on : {X Y : Type 0} (view : X → TypedProgramTree) (text : List 
 load_stops_on view text is stop all (Ok y) same = tt
 load_stops_on view text is stop all (Err given) same = same ∙ load_stops view text is stop all
 
+-- want of memory, when it is handed on
+pub memory_on : {Y : Type 0} (r : Result Y Stop) → IsErrAnd r (λ given. given ≡ stops.Memory) → IfErr r (λ given. given ≡ stops.Memory)
+memory_on (Ok y) is = tt
+memory_on (Err given) is = is
+
 -- ---- its run
 
 pub have_words : (entries : List Entry) (tapes : FourTapes) → AreInputs entries → All HasWords entries → AreWords tapes.dealer → AreWords tapes.one

@@ -30,12 +30,12 @@ refuses_so (stops.Refused r) decided for is = is ∙ ap (λ (c : Cause). Err c) 
 refuses_so (stops.File line) decided for is = absurd for
 refuses_so stops.Out decided for is = absurd for
 
-pub own_refusal : (stop : Stop) {cause : Cause} → IsRefusalFor cause stop → IsOwnStop stop
-own_refusal stops.Memory for = tt
-own_refusal stops.Usage for = absurd for
-own_refusal (stops.Refused r) for = tt
-own_refusal (stops.File line) for = absurd for
-own_refusal stops.Out for = absurd for
+pub own_refusal : (cause : Cause) (stop : Stop) → IsRefusalFor cause stop → IsOwnStop stop
+own_refusal cause stops.Memory for = tt
+own_refusal cause stops.Usage for = absurd for
+own_refusal cause (stops.Refused r) for = tt
+own_refusal cause (stops.File line) for = absurd for
+own_refusal cause stops.Out for = absurd for
 
 -- a step behind a refused one isn't made
 pub stops_behind : {X Y : Type 0} (stop : Stop) (decided : Result X Cause) (more : X → Result Y Cause) → StopsSo stop decided → StopsSo stop (decided >>= more)

@@ -70,7 +70,8 @@ fn run_load(alloc: Global, load: &Workload) -> Result<DeliveredRun, Stop>
     ) {
         Ok(ran) => Ok(ran),
         Err(DeliveryErr::Memory) => Err(Stop::Memory),
-        Err(_) => unreachable!(),
+        Err(DeliveryErr::EmptyLink { .. }) => unreachable!(),
+        Err(DeliveryErr::Stalled { .. }) => unreachable!(),
     }
 }
 

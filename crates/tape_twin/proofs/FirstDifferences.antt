@@ -228,9 +228,10 @@ module _ (p : TypedProgramTree) (lengths : List ℕ) (budget : ℕ) where
       → WordsDiffer (opened_with first) (opened_with second) place x y → difference p first second lengths budget ≡ Some (at_word place x y)
   unfolding difference
   told_at_word first second place x y known h =
+      let here : 0 + length h.common ≡ length h.common = omega arith in
       ap (λ (part : List PublicEntry). entry_first (other_entry (part_of first) part) (words_of first second)) (sym known)
       ∙ ap (λ (name : Option (List ℕ)). entry_first name (words_of first second)) (parts-itself (part_of first))
       ∙ ap (λ (words : List ℕ). other_word 0 words (opened_with second)) h.first_is
       ∙ ap (λ (words : List ℕ). other_word 0 (h.common ++ x ∷ h.rest) words) h.second_is
       ∙ words-differ 0 h.common h.rest h.other x y h.differ
-      ∙ ap (λ (k : ℕ). Some (at_word k x y)) h.count
+      ∙ ap (λ (k : ℕ). Some (at_word k x y)) (here ∙ h.count)

@@ -1,4 +1,4 @@
-use Rattle.std.proofs.Common.{sym, ◌∙◌, ap}
+use Rattle.std.proofs.Common.{refl, ◌∙◌}
 use Rattle.delivered_run.specs.Deliveries.{delivery_seen}
 use Rattle.delivered_run.proofs.DealtRuns.{goes, net_is, refuses_on, runs, stops}
 use Rattle.delivered_run.proofs.running.run_dealt.Goals as goal
@@ -50,5 +50,5 @@ returns c =
     (c.in_ok-net.ensures
     ∙ net_is job.code.now entries t job.budget c.requires.runs c.in_ok-part.part c.lengths.result files.first files.second files.third
     c.in_ok-part.ensures.value c.lengths.ensures c.requires.first c.requires.second c.requires.third)
-    (delivery_seen c.args.delivery.now) c.deliver_all.new.net _ c.in_ok-deliver_all.ensures c.in_ok-report.ensures
+    (delivery_seen c.args.delivery.now) c.deliver_all.new.net _ c.in_ok-deliver_all.ensures refl c.in_ok-report.ensures
     (c.in_ok-delivered.ensures.items ∙ c.recorded.ensures)

@@ -1,7 +1,40 @@
-use Rattle.std.proofs.Common.{sym, ◌∙◌}
+use Rattle.std.proofs.Common.{◌≡◌, sym, ◌∙◌, subst}
+use Rattle.proto_core.specs.Lists.{AreWords}
+use Rattle.input_share.specs.AddUp.{HasWords}
+use Rattle.std.specs.Prelude.{All}
 use Rattle.typed_tree.specs.Programs.{typed_program_tree}
-use Rattle.run_engine.proofs.Loads.{load_is_typed, load_stops_on, run_of_load}
+use Rattle.delivered_run.specs.declared.delivery.DeliveryErr.TheVariants as refusal
+use Rattle.run_engine.proofs.Loads.{have_words, load_is_typed, load_stops_on, never_refused, run_of_load}
 use Rattle.run_engine.proofs.load.run_load.Goals as goal
 
 pub returns-in_err-program-clause-memory : goal.returns-in_err-program-clause-memory
-returns-in_err-program-clause-memory c = ?
+returns-in_err-program-clause-memory c =
+    load_stops_on typed_program_tree c.as_bytes.result.now (c.as_bytes.ensures.value ∙ c.requires.program) _ c.in_err-program.ensures.answer
+    c.from_residual.result c.from_residual.ensures.1
+
+pub returns-in-Ok-clause-run : goal.returns-in-Ok-clause-run
+returns-in-Ok-clause-run c =
+    run_of_load (typed_program_tree c.in_ok-program.program) c.args.load.now.inputs c.args.load.now.tapes c.in-Ok.ran
+    (load_is_typed typed_program_tree c.as_bytes.result.now (c.as_bytes.ensures.value ∙ c.requires.program) c.in_ok-program.program
+    c.in_ok-program.ensures.answer)
+    c.in-Ok.ensures
+
+pub unreachable-requires : goal.unreachable-requires
+unreachable-requires c =
+    let entries = c.args.load.now.inputs in
+    let tapes = c.args.load.now.tapes in
+    let have = have_words entries tapes c.requires.inputs (subst (All HasWords) c.entries.ensures c.see_entries.ensures)
+    (subst AreWords c.dealer.ensures c.see_words.ensures) (subst AreWords c.miner1.ensures c.see_words-2.ensures)
+    (subst AreWords c.miner2.ensures c.see_words-3.ensures) (subst AreWords c.miner3.ensures c.see_words-4.ensures) in
+    let is = never_refused (typed_program_tree c.in_ok-program.program) entries tapes c.in_ok-program.ensures.accepted have c.in-Err-EmptyLink.field-0 c.in-Err-EmptyLink.ensures in
+    absurd (let wrong = sym c.in-Err-EmptyLink.field-0-is ∙ is in cc)
+
+pub unreachable-requires-in-Err-Stalled : goal.unreachable-2-requires
+unreachable-requires-in-Err-Stalled c =
+    let entries = c.args.load.now.inputs in
+    let tapes = c.args.load.now.tapes in
+    let have = have_words entries tapes c.requires.inputs (subst (All HasWords) c.entries.ensures c.see_entries.ensures)
+    (subst AreWords c.dealer.ensures c.see_words.ensures) (subst AreWords c.miner1.ensures c.see_words-2.ensures)
+    (subst AreWords c.miner2.ensures c.see_words-3.ensures) (subst AreWords c.miner3.ensures c.see_words-4.ensures) in
+    let is = never_refused (typed_program_tree c.in_ok-program.program) entries tapes c.in_ok-program.ensures.accepted have c.in-Err-Stalled.field-0 c.in-Err-Stalled.ensures in
+    absurd (let wrong = sym c.in-Err-Stalled.field-0-is ∙ is in cc)

@@ -38,4 +38,4 @@ returns-in-Err-Refused-clause-judged c = λ told. (
 )
 
 pub returns-in-Err-Refused-clause-own : goal.returns-in-Err-Refused-clause-own
-returns-in-Err-Refused-clause-own c = own_refusal c.program_stop.result c.program_stop.ensures
+returns-in-Err-Refused-clause-own c = own_refusal _ c.program_stop.result c.program_stop.ensures

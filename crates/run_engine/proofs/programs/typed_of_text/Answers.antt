@@ -48,4 +48,4 @@ returns-clause-found c = λ told.
     c.size_stop.ensures.memory c.in_ok-program.ensures.answer c.in_ok-typed.ensures.tree c.in-Err.ensures.answer (c.in_ok-program.ensures.judged tt) told
 
 pub returns-clause-own : goal.returns-clause-own
-returns-clause-own c = own_refusal c.size_stop.result c.size_stop.ensures.refusal
+returns-clause-own c = own_refusal _ c.size_stop.result c.size_stop.ensures.refusal

@@ -1,0 +1,108 @@
+#!/usr/bin/env bash
+# Times what programs do on shares, at three sizes each: `secrec run` over products of private numbers, in arrays of 65,536, beside the same messages
+# written by hand in plain Rust; over comparisons of private numbers; and over a loop of public steps beside `secrec eval`. Processor time and peak memory
+# are those of the run of five that took least processor time. Of both ways to multiply, the time of a run over the same words that multiplies nothing is
+# taken away. It measures; it tests nothing. It wants bash, python3, rustc, and 2 GB of memory; another program than the one that `./secrec` runs can be named.
+set -eu
+top=$(cd "$(dirname "$0")/.." && pwd)
+program=${1-}
+if [ $# -eq 0 ]; then
+  . "$top/tools/build.sh"
+  find_program
+fi
+work=$(mktemp -d)
+trap 'rm -rf "$work"' EXIT
+rustc -O -o "$work/by_hand" "$top/bench/multiply_by_hand.rs"
+
+python3 - "$program" "$work" <<'PY'
+import os, subprocess, sys
+
+program, work = sys.argv[1:]
+HEAD = "import stdlib; import shared3p; domain p shared3p;\n"
+PRODUCTS = HEAD + """void main() {
+    p uint64[[1]] a = argument("a"); p uint64[[1]] b = argument("b"); uint64 n = argument("n");
+    uint64 i = 0;
+    for (i = 0; i < n; i++) { a = a * b; }
+    publish("size", size(a));
+}
+"""
+COMPARISONS = HEAD + """void main() {
+    p uint64[[1]] a = argument("a"); p uint64[[1]] b = argument("b");
+    p bool[[1]] less = a < b;
+    publish("size", size(less));
+}
+"""
+STEPS = """void main() {
+    uint64 n = argument("n"); uint64 i = 0; uint64 s = 0;
+    for (i = 0; i < n; i++) { s = s + i; }
+    publish("s", s);
+}
+"""
+
+
+def written(name, text):
+    with open(f"{work}/{name}", "w") as file:
+        file.write(text)
+    return f"{work}/{name}"
+
+
+def entry(name, domain, value):
+    return '{"name":"%s","domain":"%s","type":"uint64","value":%s}' % (name, domain, value)
+
+
+def numbers(count, factor):
+    return "[" + ",".join(str(k * factor % 2**64) for k in range(count)) + "]"
+
+
+def pairs(count):
+    return [entry("a", "private", numbers(count, 2862933555777941757)), entry("b", "private", numbers(count, 3202034522624059733))]
+
+
+def timed(words):
+    child = subprocess.Popen(words, stdout=subprocess.DEVNULL)
+    _, status, used = os.wait4(child.pid, 0)
+    assert status == 0, (words, status)
+    return used.ru_utime + used.ru_stime, used.ru_maxrss
+
+
+def least(*words):
+    return min(timed(words) for _ in range(5))
+
+
+def called(command, text, entries, *more):
+    source, given = written("p.sc", text), written("p.json", '{"inputs":[' + ",".join(entries) + "]}")
+    return least(program, command, source, "--input", given, "--budget", "1000000000000", *more)
+
+
+def run(text, entries, words):
+    return called("run", text, entries, "--seed", "00" * 32, "--words", str(words))
+
+
+def by_hand(count):
+    return least(f"{work}/by_hand", str(count))[0] - least(f"{work}/by_hand", str(count), "words")[0]
+
+
+def told(name, size, seconds, memory, last, more=""):
+    over = "" if last is None else f"{seconds / last:.2f}"
+    print(f"{name:12} {size:9} {seconds:9.3f} {1e9 * seconds / size:9.1f} {memory / 1024:9.0f} {over:>9}   {more}", flush=True)
+    return seconds
+
+
+print(f"{'what':12} {'how many':>9} {'seconds':>9} {'ns each':>9} {'peak MB':>9} {'growth':>9}")
+SIZE, last = 65536, None
+for times in (4, 16, 64):
+    products = lambda n: run(PRODUCTS, pairs(SIZE) + [entry("n", "public", n)], 4 * SIZE + 3 * SIZE * times)
+    (none, _), (seconds, memory), hand = products(0), products(times), by_hand(SIZE * times)
+    ratio = f"without any {none:.3f}; by hand {hand:.3f}; over by hand {(seconds - none) / hand:.2f}"
+    last = told("products", SIZE * times, seconds - none, memory, last, ratio)
+last = None
+for size in (4096, 16384, 65536):
+    last = told("comparisons", size, *run(COMPARISONS, pairs(size), 119 * size), last)
+last = evaluated = None
+for size in (62500, 250000, 1000000):
+    given = [entry("n", "public", size)]
+    seconds, memory = called("eval", STEPS, given)
+    evaluated = told("steps, eval", size, seconds, memory, evaluated)
+    ran = run(STEPS, given, 1)
+    last = told("steps, run", size, *ran, last, f"over eval {ran[0] / seconds:.2f}")
+PY

@@ -1,0 +1,80 @@
+-- How a program's run by three miners apart goes: what was dealt, and the miners as they stand behind it.
+use Rattle.std.specs.Prelude.{◌≡◌, ◌<◌, ℕ, List, length, false, Result, Ok, Err}
+use Rattle.proto_core.specs.declared.party.Number.{Number}
+use Rattle.proto_core.specs.Net.{run_of}
+use Rattle.protocol_model.specs.Network.{Delivery}
+use Rattle.protocol_model.specs.Runs.{Tapes}
+use Rattle.tape_file.specs.Tapes.{FourTapes}
+use Rattle.typed_tree.specs.Programs.{TypedProgramTree}
+use Rattle.value_file.specs.declared.inputs.Entry.{Entry}
+use Rattle.input_share.specs.Dealing.{dealt, need_of}
+use Rattle.input_share.specs.ShareFile.{MinerFile}
+use Rattle.input_share.specs.declared.dealing.Dealt as sharing
+use Rattle.language_model.specs.Reports.{Offered, Report}
+use Rattle.clear_eval.specs.Offers.{offered}
+use Rattle.verified_code.specs.Steps.{Function}
+use Rattle.view_model.specs.TapeMaps.{miners_of}
+use Rattle.gate_laws.specs.Facts.{Dealt}
+use Rattle.code_inputs.specs.Inputs.{dealt_of}
+use Rattle.code_runs.specs.Runs.{messages}
+use Rattle.program_run.specs.Miners.{CanBeDealt}
+use Rattle.program_run.specs.Reports.{eval_with, lengths_of}
+use Rattle.miner_runs.specs.OwnRuns.{OwnRunAsReported, own_nodes}
+use Rattle.link_schedule.specs.Net.{NetState, by_number, net_node}
+use Rattle.delivered_run.specs.declared.course.Course.{Course}
+use Rattle.delivered_run.specs.declared.course.Course.TheVariants as course
+use Rattle.counted_net.specs.declared.delivery.DeliveryErr.{DeliveryErr}
+use Rattle.delivered_run.specs.declared.running.DeliveredRun.{DeliveredRun}
+use Rattle.delivered_run.specs.declared.running.NetRun.{NetRun}
+use Rattle.delivered_run.specs.Deliveries.{HasRun, HasRunOf, IsRefused, IsRefusedOf, delivered_for}
+
+-- ---- three miners with code, by what was offered and dealt, and the report of the run in the clear
+
+module _ (o : Offered) (d : Dealt) (budget : ℕ) (tapes : Tapes) (r : Report) where
+  -- they run code as the report says, and each has done all of its part, with all messages of the run
+  pub record IsAtItsEnd (given : Delivery) (net : NetState) : Type 0 where
+    pub code : List Function
+    pub own : OwnRunAsReported o d code budget tapes r
+    pub going : net.lost ≡ false
+    pub steps : net.budget ≡ budget
+    pub delivered : net.delivered ≡ delivered_for d r given
+    pub node : (i : Number) → net_node net i ≡ run_of (own_nodes o d code budget tapes) (messages d r tapes) i
+
+  pub record HasNetRun (given : Delivery) (ran : NetRun) : Type 0 where
+    pub run : HasRun d r given ran.run
+    pub net : IsAtItsEnd given ran.net
+
+  -- so it is, or the schedule is refused
+  abbrev pub IsNetRun : Delivery → Result NetRun DeliveryErr → Type 0
+  IsNetRun given (Ok ran) = HasNetRun given ran
+  IsNetRun given (Err e) = IsRefused d r given e
+
+-- ---- of a program
+
+abbrev pub file_of : sharing.Dealt → Number → MinerFile
+file_of files i = by_number files.first files.second files.third i
+
+-- what came of it
+abbrev pub run_told : Course → DeliveredRun
+run_told (course.Dealt files end) = end.run
+run_told (course.Undealt run) = run
+
+module _ (p : TypedProgramTree) (entries : List Entry) (t : FourTapes) (budget : ℕ) (given : Delivery) where
+  -- the inputs are dealt in these files, with which the miners have run
+  pub record IsDealtRun (files : sharing.Dealt) (end : NetRun) : Type 0 where
+    pub can : CanBeDealt entries t
+    pub file : (i : Number) → file_of files i ≡ dealt i entries t.dealer (lengths_of t)
+    pub ran : HasNetRun (offered entries (lengths_of t)) (dealt_of entries t.dealer) budget (miners_of t) (eval_with p entries t budget) given end
+
+  -- the dealer's tape is too short
+  pub record IsUndealtRun (run : DeliveredRun) : Type 0 where
+    pub few : length t.dealer < need_of entries
+    pub ran : HasRunOf p entries t budget given run
+
+  abbrev pub HasCourse : Course → Type 0
+  HasCourse (course.Dealt files end) = IsDealtRun files end
+  HasCourse (course.Undealt run) = IsUndealtRun run
+
+  abbrev pub IsCourseOf : Result Course DeliveryErr → Type 0
+  IsCourseOf (Ok went) = HasCourse went
+  IsCourseOf (Err e) = IsRefusedOf p entries t budget given e

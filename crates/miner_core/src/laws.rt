@@ -1,0 +1,16 @@
+// What is true of a miner that has refused a message.
+ghost use Rattle.std.specs.Prelude.{ℕ, List, Result};
+ghost use Rattle.proto_core.specs.declared.party.Number.{Number};
+ghost use Rattle.proto_core.specs.declared.link.Link.{Link};
+ghost use Rattle.miner_core.specs.declared.answer.Step.{Step};
+ghost use Rattle.miner_core.specs.declared.answer.MinerErr.{MinerErr};
+ghost use Rattle.miner_core.specs.Story.{Story};
+ghost use Rattle.miner_core.specs.Laws.{StaysRefused, AnswersAgain};
+
+/// Law: whatever comes to a miner behind a message that it refuses, it refuses that message for the same cause, and sends, opens and tells
+/// no more; so each later delivery answers the same, unless memory is wanting.
+pub fn a_refusal_stays()
+    ensures stays { (i : Number) (s : Story) (link : Link) (m : List ℕ) → StaysRefused i s link m }
+    ensures answers { (i : Number) (before after last : Story) (l k refused : Link) (m n : List ℕ) (answer : Result Step MinerErr) →
+        AnswersAgain i before after last l k refused m n answer }
+{}

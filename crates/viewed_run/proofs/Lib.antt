@@ -1,0 +1,6 @@
+pub mod Agreeing
+pub mod Pieces
+pub mod Sitting
+pub mod Ended
+pub mod Undealt
+pub mod Viewed

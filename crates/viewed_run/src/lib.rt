@@ -1,0 +1,11 @@
+//! The run of a program by three miners, each by itself, whose messages are delivered in any order, and what each of them saw of it: its
+//! shares of the private inputs, the words that it drew, the messages that came, in order of arrival, what was opened, and how it ended.
+#![tactic(auto)]
+
+mod laws;
+mod parts;
+mod seat;
+mod seen;
+
+pub use laws::nets_agree;
+pub use seen::{SeenRun, Views, run_seen};

@@ -1,0 +1,121 @@
+// The parts of a view.
+ghost use Rattle.std.specs.Prelude.{◌≡◌, ◌++◌, ◌∷◌, [], map, take, IfOk, OnOk};
+ghost use Rattle.proto_core.specs.Parties.{from_previous, from_next};
+ghost use Rattle.proto_core.specs.Strand.{Mail};
+ghost use Rattle.protocol_model.specs.Arrivals.{arrivals};
+ghost use Rattle.program_views.specs.Views.{input_shares, received};
+ghost use Rattle.code_views.specs.CodeViews.{shown_in};
+ghost use Rattle.miner_core.specs.Views.{notice_seen};
+
+use arrival_order::{Arrival, arrivals};
+use input_share::{Part, ShareEntry, ShareFile};
+use miner_core::Notice;
+use proto_core::{Link, Messages, Number};
+use sc_text::Elements;
+use std::alloc::{AllocError, Global};
+use vector_ops::elements;
+use view_text::{InputShare, Received};
+
+/// The share of an input, if it is private, as one more.
+fn push_share(
+    alloc: Global,
+    shares: &mut Vec<InputShare>,
+    entry: &ShareEntry,
+) -> Result<(), AllocError>
+    ensures { OnOk result (shares.new.items ≡ shares.old.items ++ input_shares (entry.now ∷ [])) }
+{
+    match &entry.part {
+        Part::Public(_) => Ok(()),
+        Part::Private(shared) => {
+            let name = entry.name.copy(alloc)?;
+            let words = Vec::from_slice(alloc, shared.words.as_slice())?;
+            shares.push(InputShare::new(name, words))?;
+            Ok(())
+        }
+    }
+}
+
+/// A miner's shares of the private inputs, by name, in their order.
+pub(crate) fn input_shares(alloc: Global, file: &ShareFile) -> Result<Vec<InputShare>, AllocError>
+    ensures { IfOk result (λ shares. shares.items ≡ input_shares file.now.entries) }
+{
+    let mut shares = Vec::new(alloc);
+    for entry in file.entries() {
+        push_share(alloc, &mut shares, entry)?;
+    }
+    Ok(shares)
+}
+
+/// As many words from the front of a tape, or all.
+#[tactic(auto, using(std::proofs::lemmas::List::take_min))]
+pub(crate) fn front(alloc: Global, tape: &[u64], count: u64) -> Result<Vec<u64>, AllocError>
+    ensures { IfOk result (λ words. words.items ≡ take count tape.now) }
+{
+    let count = count.min(tape.len() as u64) as usize;
+    Vec::from_slice(alloc, &tape[..count])
+}
+
+/// These messages, as a view has them.
+fn as_received(alloc: Global, messages: Vec<Arrival>) -> Result<Vec<Received>, AllocError>
+    ensures { IfOk result (λ got. got.items ≡ map received messages.items) }
+{
+    messages
+        .into_iter()
+        .map(|m| Received::new(m.link(), m.into_message()))
+        .collect(alloc)
+}
+
+/// The messages that come to a miner by an order of deliveries, of those that its previous miner and its next one have sent to it.
+pub(crate) fn received(
+    alloc: Global,
+    miner: Number,
+    previous: &Messages,
+    next: &Messages,
+    order: &[Link],
+) -> Result<Vec<Received>, AllocError>
+    ensures { IfOk result (λ got. (mail : Mail) → mail (from_previous miner) ≡ previous.now → mail (from_next miner) ≡ next.now
+        → got.items ≡ map received (arrivals miner mail order.now)) }
+{
+    let messages = arrivals(alloc, miner, previous, next, order)?;
+    let got = as_received(alloc, messages)?;
+    Ok(got)
+}
+
+/// What a notice shows, if it tells of an opening, as one more.
+#[tactic(auto, using(crate::proofs::Pieces::told_type))]
+fn push_opening(
+    alloc: Global,
+    opened: &mut Vec<Elements>,
+    notice: &Notice,
+) -> Result<(), AllocError>
+    ensures { OnOk result (opened.new.items ≡ opened.old.items ++ shown_in (notice_seen notice.now ∷ [])) }
+{
+    match notice {
+        Notice::Shown { shape, words } => {
+            let shown = elements(alloc, shape.element, words)?;
+            opened.push(shown)?;
+            Ok(())
+        }
+        Notice::Published {
+            name: _,
+            shape: _,
+            words: _,
+        } => Ok(()),
+        Notice::Handed {
+            name: _,
+            shape: _,
+            words: _,
+        } => Ok(()),
+    }
+}
+
+/// What was opened, opening by opening, by what a miner has told.
+pub(crate) fn openings(alloc: Global, notices: &[Notice]) -> Result<Vec<Elements>, AllocError>
+    ensures { IfOk result (λ opened. opened.items ≡ shown_in (map notice_seen notices.now)) }
+{
+    let mut opened = Vec::new(alloc);
+    for notice in notices {
+        push_opening(alloc, &mut opened, notice)?;
+    }
+    Ok(opened)
+}
