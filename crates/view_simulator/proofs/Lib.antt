@@ -1,0 +1,7 @@
+pub mod Bits
+pub mod Zeros
+pub mod Suiting
+pub mod Pieces
+pub mod Making
+pub mod Answering
+pub mod Runs

@@ -1,0 +1,5 @@
+pub mod Refusals
+pub mod Making
+pub mod Simulating
+pub mod Laws
+pub mod Vectors

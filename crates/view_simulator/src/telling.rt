@@ -1,0 +1,59 @@
+// The run of one who is told what is opened.
+ghost use Rattle.std.specs.Prelude.{◌≡◌, [], length, IfOk};
+ghost use Rattle.typed_tree.specs.Programs.{typed_program_tree};
+ghost use Rattle.typed_tree.specs.Sound.{IsSound};
+ghost use Rattle.value_file.specs.PublicFile.{IsWritable};
+ghost use Rattle.clear_eval.specs.Reports.{IsBlindAnswer};
+ghost use Rattle.gate_scripts.specs.Sizes.{SizesFit};
+ghost use Rattle.view_model.specs.Dealing.{hidden_sizes};
+ghost use Rattle.program_views.specs.Views.{lengths_of, told_run};
+ghost use Rattle.tape_twin.specs.Accepted.{IsAcceptedProgram};
+ghost use Rattle.view_simulator.specs.Making.{CanBeMade};
+
+use crate::words::{see_part, see_words};
+use clear_eval::{BlindError, Report, blind};
+use gate_scripts::few_words_fit;
+use std::alloc::Global;
+use tape_file::Tapes;
+use typed_tree::TypedProgram;
+use value_file::PublicPart;
+
+// The lengths of the tapes of the dealer and of miners 1, 2 and 3.
+fn lengths(tapes: &Tapes) -> [u64; 4]
+    ensures { result ≡ lengths_of tapes.now }
+{
+    [
+        tapes.dealer().len() as u64,
+        tapes.miner1().len() as u64,
+        tapes.miner2().len() as u64,
+        tapes.miner3().len() as u64,
+    ]
+}
+
+/// The run of an accepted program by one who knows the public part alone and is told these words, with tapes as long as these. Its
+/// gates can be run on them with the shares that are made for a miner, and none takes 2^64 elements.
+pub(crate) fn run_told(
+    alloc: Global,
+    program: &TypedProgram,
+    part: &PublicPart,
+    opened: &[u64],
+    tapes: &Tapes,
+    budget: u64,
+) -> Result<Report, BlindError>
+    requires sound { IsSound (typed_program_tree program.now) }
+    requires accepted { IsAcceptedProgram (typed_program_tree program.now) }
+    requires part { IsWritable part.now }
+    ensures report { IsBlindAnswer result
+        (told_run (typed_program_tree program.now) part.now opened.now (lengths_of tapes.now) budget) (length opened.now) }
+    ensures can { IfOk result (λ report. CanBeMade part.now report.gates.items tapes.now) }
+    ensures fit { IfOk result (λ report. SizesFit (hidden_sizes part.now) [] report.gates.items) }
+{
+    see_part(part.entries());
+    see_words(opened);
+    see_words(tapes.dealer());
+    see_words(tapes.miner1());
+    see_words(tapes.miner2());
+    see_words(tapes.miner3());
+    few_words_fit();
+    blind(alloc, program, part, opened, budget, lengths(tapes))
+}
