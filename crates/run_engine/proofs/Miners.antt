@@ -49,6 +49,7 @@ made_taken ask files p entries tapes delivery h have made =
 
 pub given_to : (path : List ℕ) (files : Contents) (p : TypedProgramTree) (entries : List Entry) (h : HoldsTyped path files p) → AreSound entries
     → IsGivenTo h.tree p h.within.list entries
+unfolding accepted_so
 given_to path files p entries h sound =
     let a = accepted_so path files p h in
     record {

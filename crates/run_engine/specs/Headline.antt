@@ -43,7 +43,7 @@ pub record Given : Type 0 where
 pub record IsGiven (words : List (List ℕ)) (files : Contents) (g : Given) : Type 0 where
   pub asks : words_of words ≡ Some (run g.ask)
   pub held : HoldsRun g.ask files g.program g.entries g.tapes g.delivery
-  pub words : HaveWords g.entries g.tapes
+  pub have : HaveWords g.entries g.tapes
 
 module _ (g : Given) where
   -- evaluation in the clear, with tapes of these lengths

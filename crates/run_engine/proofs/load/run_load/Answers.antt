@@ -3,7 +3,7 @@ use Rattle.proto_core.specs.Lists.{AreWords}
 use Rattle.input_share.specs.AddUp.{HasWords}
 use Rattle.std.specs.Prelude.{All}
 use Rattle.typed_tree.specs.Programs.{typed_program_tree}
-use Rattle.delivered_run.specs.declared.delivery.DeliveryErr.TheVariants as refusal
+use Rattle.counted_net.specs.declared.delivery.DeliveryErr.TheVariants as refusal
 use Rattle.run_engine.proofs.Loads.{have_words, load_is_typed, load_stops_on, never_refused, run_of_load}
 use Rattle.run_engine.proofs.load.run_load.Goals as goal
 

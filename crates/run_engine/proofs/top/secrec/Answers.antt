@@ -103,7 +103,7 @@ returns-clause-run_prints_evaluation g c = λ given is taken t steady.
 
 pub returns-clause-made_deliveries_are_complete : goal.returns-clause-made_deliveries_are_complete
 returns-clause-made_deliveries_are_complete g c = λ given is made.
-    made_taken given.ask _ given.program given.entries given.tapes given.delivery is.held is.words made
+    made_taken given.ask _ given.program given.entries given.tapes given.delivery is.held is.have made
 
 pub returns-clause-run_ends_by_budget_and_tapes : goal.returns-clause-run_ends_by_budget_and_tapes
 returns-clause-run_ends_by_budget_and_tapes g c = λ given is. ends_by_budget_and_tapes given.program given.entries given.tapes given.ask.budget
@@ -114,10 +114,10 @@ returns-clause-run_writes_views_and_links g c = λ given is taken t steady.
 
 pub returns-clause-views_are_simulated : goal.returns-clause-views_are_simulated
 returns-clause-views_are_simulated g c = λ given i is.
-    views_made i given.ask _ given.program given.entries given.tapes given.delivery is.held is.words
+    views_made i given.ask _ given.program given.entries given.tapes given.delivery is.held is.have
 
 pub returns-clause-tapes_correspond : goal.returns-clause-tapes_correspond
-returns-clause-tapes_correspond g c = λ given i is. maps_made i given.ask _ given.program given.entries given.tapes given.delivery is.held is.words
+returns-clause-tapes_correspond g c = λ given i is. maps_made i given.ask _ given.program given.entries given.tapes given.delivery is.held is.have
 
 pub returns-clause-schedule_refused_if : goal.returns-clause-schedule_refused_if
 returns-clause-schedule_refused_if g c = λ given is refused t steady.
