@@ -29,7 +29,8 @@ use Rattle.run_engine.specs.Obeying.{Planned}
 use Rattle.run_engine.specs.Programs.{program_at}
 use Rattle.run_engine.specs.Reading.{delivery_at, opened_at, public_at, tape_file_at}
 use Rattle.run_engine.specs.Run.{by_net, empty_line, refused_with, stalled_line}
-use Rattle.run_engine.specs.Simulate.{IsStopOf, by_told, net_simulated, short_line, short_with, simulate_effect, simulate_of, simulate_paths, simulated_paths, stop_told, view_simulated}
+use Rattle.run_engine.specs.Simulate.{IsStopOf, by_told, net_simulated, short_line, short_with}
+use Rattle.run_engine.specs.Simulate.{simulate_effect, simulate_of, simulate_paths, simulated_paths, stop_told, view_simulated}
 use Rattle.run_engine.specs.Words.{answer_to, question_of, reads_of, writes_of}
 use Rattle.run_engine.proofs.Judged.{refused_so}
 
