@@ -23,7 +23,7 @@ use Rattle.typed_tree.specs.Programs.{TypedProgramTree}
 use Rattle.value_file.specs.declared.inputs.Entry.{Entry}
 use Rattle.run_engine.specs.Headline.{EndsByBudgetAndTapes, EndsSomewhere, Given, IsGiven, PrintsEvaluation, RefusesSchedule, ScheduleRefused, WritesViewsAndLinks, is_whole, net_given, not_a_schedule, not_complete, refused_line}
 use Rattle.run_engine.specs.Promises.{AllSteady, Gives, Keeps, RunEffect}
-use Rattle.run_engine.specs.Run.{refused_with, run_told}
+use Rattle.run_engine.specs.Run.{refused_with, run_report, run_told}
 use Rattle.run_engine.specs.Runs.{IsNotTaken, ProgramRefused, RunRefused, bad_program, bad_input, bad_tape, bad_schedule, not_taken, bad_text, too_large}
 use Rattle.run_engine.specs.Words.{IsAnswer}
 use Rattle.run_engine.proofs.RunRefusals.{run_refused_by_net}
@@ -38,6 +38,7 @@ module _ (words : List (List ℕ)) (f f' : FilesState) (o o' : SinkState) (s : S
       (g.program, g.entries, g.tapes, g.delivery, given.held, taken, refl) steady
 
   pub prints : PrintsEvaluation g o o' s
+  unfolding run_report
   prints = elim done [ inl whole ↦ inl (whole.status, whole.text) | inr memory ↦ inr memory ]
 
   pub writes : WritesViewsAndLinks g f.contents f'.contents s

@@ -20,7 +20,7 @@ use Rattle.language_model.specs.Reports.{Report}
 use Rattle.blind_evaluation.specs.Courses.{IsEnded}
 use Rattle.view_model.specs.Seen.{Seen}
 use Rattle.view_text.specs.View.{View}
-use Rattle.program_views.specs.Views.{view_at}
+use Rattle.program_views.specs.Views.{lengths_of, made_of, told_run, view_at}
 use Rattle.view_simulator.specs.Simulating.{IsMadeView, IsSimulation}
 use Rattle.view_simulator.specs.declared.errors.SimulateErr.{SimulateErr}
 use Rattle.view_simulator.specs.declared.errors.SimulateErr.TheVariants as refusal
@@ -29,14 +29,21 @@ use Rattle.run_engine.specs.Obeying.{Planned}
 use Rattle.run_engine.specs.Programs.{program_at}
 use Rattle.run_engine.specs.Reading.{delivery_at, opened_at, public_at, tape_file_at}
 use Rattle.run_engine.specs.Run.{by_net, empty_line, refused_with, stalled_line}
-use Rattle.run_engine.specs.Simulate.{IsStopOf, by_told, net_simulated, short_line, short_with, simulate_effect, simulate_of, simulate_paths, simulated_paths, stop_told, view_simulated}
+use Rattle.run_engine.specs.Simulate.{IsStopOf, by_told, net_simulated, short_line, short_with}
+use Rattle.run_engine.specs.Simulate.{simulate_effect, simulate_of, simulate_paths, simulated_paths, stop_told, view_simulated}
 use Rattle.run_engine.specs.Words.{answer_to, question_of, reads_of, writes_of}
 use Rattle.run_engine.proofs.Judged.{refused_so}
 
 -- what gives a view has ended
-pub ended_so : (i : Number) (seen : Seen) (r : Report) (s : RunStop) (view : View) → view_at i seen r s ≡ Some view → IsEnded s
+ended_so : (i : Number) (seen : Seen) (r : Report) (s : RunStop) (view : View) → view_at i seen r s ≡ Some view → IsEnded s
 ended_so i seen r (Ended ending) view is = tt
 ended_so i seen r Short view is = absurd cc
+
+pub view_ended : (ask : SimulateAsk) (p : TypedProgramTree) (part : List PublicEntry) (opened : List ℕ) (tapes : FourTapes) (delivery : Delivery) (view : View)
+    → view_simulated ask p part opened tapes delivery ≡ Some view → IsEnded (stop_told ask p part opened tapes)
+view_ended ask p part opened tapes delivery view is =
+    ended_so ask.miner (made_of ask.miner part tapes delivery (told_run p part opened (lengths_of tapes) ask.budget))
+    (told_run p part opened (lengths_of tapes) ask.budget) (stop_told ask p part opened tapes) view is
 
 -- ---- what is decided once the files are read
 
@@ -94,27 +101,39 @@ module _ (found : Finding) (ask : SimulateAsk) (f : FilesState) (p : TypedProgra
   unfolding simulate_of
   read_so t = rw (program t, public t, words t, taped t, order t) refl
 
-  pub simulated_so : (view : View) → IsMadeView ask.miner p part opened tapes ask.budget delivery view → f.told ≡ true
+  made_so : (view : View) → IsMadeView ask.miner p part opened tapes ask.budget delivery view → f.told ≡ true
       → simulate_of found ask f.contents ≡ Ok (simulate_effect ask (Some view))
-  simulated_so view h t =
-      read_so t
-      ∙ enough ask p part opened tapes delivery (ended_so ask.miner _ _ (stop_told ask p part opened tapes) view h.made)
+  made_so view h t =
+      read_so t ∙ enough ask p part opened tapes delivery (view_ended ask p part opened tapes delivery view h.made)
       ∙ taken_so ask p part opened tapes delivery h.accepted
       ∙ ap (λ (v : Option View). Ok (simulate_effect ask v)) h.made
 
   -- a simulator without a view stops the command
-  pub stops : (f' : FilesState) (e : SimulateErr) (stop : Stop) → IsSimulation ask.miner p part opened tapes ask.budget delivery (Err e)
+  stops_so : (f' : FilesState) (e : SimulateErr) (stop : Stop) → IsSimulation ask.miner p part opened tapes ask.budget delivery (Err e)
       → IsStopOf e stop → Stops f f' stop (simulate_of found ask f.contents)
-  stops f' (refusal.OpenedShort have) stop h is =
+  stops_so f' (refusal.OpenedShort have) stop h is =
       refused_so f f' stop (simulate_of found ask f.contents) is
       (λ t. read_so t ∙ short ask p part opened tapes delivery have h.all h.short)
-  stops f' (refusal.EmptyLink entry link sent) stop h is =
+  stops_so f' (refusal.EmptyLink entry link sent) stop h is =
       refused_so f f' stop (simulate_of found ask f.contents) is
       (λ t. read_so t ∙ enough ask p part opened tapes delivery h.ended ∙ emptied ask p part opened tapes delivery entry link sent h.refused)
-  stops f' (refusal.Stalled miner link) stop h is =
+  stops_so f' (refusal.Stalled miner link) stop h is =
       refused_so f f' stop (simulate_of found ask f.contents) is
       (λ t. read_so t ∙ enough ask p part opened tapes delivery h.ended ∙ stalled ask p part opened tapes delivery miner link h.refused)
-  stops f' refusal.Memory stop h is = subst (λ (s : Stop). Stops f f' s (simulate_of found ask f.contents)) (sym is) tt
+  stops_so f' refusal.Memory stop h is = subst (λ (s : Stop). Stops f f' s (simulate_of found ask f.contents)) (sym is) tt
+
+  -- the words as they are lent to the simulator
+  module _ (lent : List ℕ) (same : lent ≡ opened) where
+    abbrev answers : (words : List ℕ) → Result View SimulateErr → Type 0
+    answers words result = IsSimulation ask.miner p part words tapes ask.budget delivery result
+
+    pub simulated_so : (view : View) → answers lent (Ok view) → f.told ≡ true
+        → simulate_of found ask f.contents ≡ Ok (simulate_effect ask (Some view))
+    simulated_so view h t = made_so view (subst (λ (words : List ℕ). answers words (Ok view)) same h) t
+
+    pub stops : (f' : FilesState) (e : SimulateErr) (stop : Stop) → answers lent (Err e) → IsStopOf e stop
+        → Stops f f' stop (simulate_of found ask f.contents)
+    stops f' e stop h is = stops_so f' e stop (subst (λ (words : List ℕ). answers words (Err e)) same h) is
 
 -- ---- the command's own part
 

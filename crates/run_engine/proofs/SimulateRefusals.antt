@@ -24,11 +24,13 @@ use Rattle.run_engine.specs.Reading.{bad_input, bad_opened, bad_schedule, bad_ta
 use Rattle.run_engine.specs.Run.{by_net}
 use Rattle.run_engine.specs.Runs.{HoldsTyped}
 use Rattle.run_engine.specs.Simulate.{by_told, net_simulated, simulate_of, stop_told}
-use Rattle.run_engine.specs.SimulatePromises.{HoldsSimulation, IsSimulated, SimulateRefused, for_opened, for_program, for_public, for_schedule, for_tape, net_refuses, told_too_little}
+use Rattle.run_engine.specs.SimulatePromises.{HoldsSimulation, IsSimulated, SimulateRefused, for_opened, for_program}
+use Rattle.run_engine.specs.SimulatePromises.{for_public, for_schedule, for_tape, net_refuses, told_too_little}
 use Rattle.run_engine.specs.Words.{answer_to, question_of, IsAnswer}
 use Rattle.run_engine.proofs.Accepting.{program_cases, refused_by_program}
 use Rattle.run_engine.proofs.Held.{found_of, found_there, no_program, program_there}
-use Rattle.run_engine.proofs.Refusals.{ReadRefused, input_status, not_done, not_missing, opened_refused, opened_status, order_refused, public_refused, refusing, schedule_status, status_in_answer, status_of_cause, steps, tape_file_refused, tape_status}
+use Rattle.run_engine.proofs.Refusals.{ReadRefused, input_status, not_done, not_missing, opened_refused, opened_status, order_refused}
+use Rattle.run_engine.proofs.Refusals.{public_refused, refusing, schedule_status, status_in_answer, status_of_cause, steps, tape_file_refused, tape_status}
 use Rattle.run_engine.proofs.RunRefusals.{net_cases, refused_by_net}
 use Rattle.run_engine.proofs.Runs.{HasAnswerOf, command_answers, is_answer, read_there}
 use Rattle.run_engine.proofs.SimulatePlanned.{by_the_net, by_the_words, enough, short_told, simulated_to, taken_so}

@@ -6,6 +6,7 @@ use Rattle.command_words.specs.Ask.{MapAsk, SimulateAsk, TwinAsk}
 use Rattle.tape_file.specs.Tapes.{FourTapes}
 use Rattle.typed_tree.specs.Programs.{TypedProgramTree}
 use Rattle.value_file.specs.declared.inputs.Entry.{Entry}
+use Rattle.value_file.specs.Public.{part_of}
 use Rattle.delivered_run.specs.Laws.{HaveWords}
 use Rattle.protocol_model.specs.Network.{Delivery}
 use Rattle.program_views.specs.Laws.{ViewIsSimulated}
@@ -15,10 +16,10 @@ use Rattle.program_views.proofs.Simulated.{views_simulated}
 use Rattle.program_views.proofs.Twins.{twins_see}
 use Rattle.view_simulator.proofs.Runs.{nets_simulated}
 use Rattle.run_engine.specs.MapPromises.{HoldsMap}
-use Rattle.run_engine.specs.SimulatePromises.{HoldsOfRun, IsOfRun}
+use Rattle.run_engine.specs.SimulatePromises.{HoldsOfRun, IsOfRun, opened_and, tapes_mapped}
 use Rattle.run_engine.specs.TwinPromises.{AreTaken, HoldsTwin}
 use Rattle.run_engine.proofs.Miners.{given_to, of_words}
-use Rattle.run_engine.proofs.SimulatePlanned.{ended_so}
+use Rattle.run_engine.proofs.SimulatePlanned.{view_ended}
 
 pub maps_correspond : (ask : MapAsk) (files : Contents) (p : TypedProgramTree) (entries : List Entry) (tapes : FourTapes)
     → HoldsMap ask files p entries tapes → HaveWords entries tapes → MapsCorrespond ask.miner p entries tapes ask.budget
@@ -33,7 +34,8 @@ simulated_so ask files p entries tapes more delivery h have =
     let v : ViewIsSimulated ask.miner p entries tapes ask.budget delivery =
     views_simulated ask.miner h.program.tree p entries tapes ask.budget delivery h.program.within.list given (of_words entries tapes have) in
     record {
-      suffice = ended_so ask.miner _ _ _ v.view (v.made_with_more more);
+      suffice =
+          view_ended ask p (part_of entries) (opened_and ask p entries tapes more) (tapes_mapped ask p entries tapes) delivery v.view (v.made_with_more more);
       net =
           nets_simulated ask.miner h.program.tree p entries tapes ask.budget delivery h.program.within.list given (of_words entries tapes have) more;
       view = v.made_with_more more ∙ sym v.seen;

@@ -8,7 +8,8 @@ ghost use Rattle.command_frame.specs.declared.status.Status.TheVariants.{Input};
 ghost use Rattle.sc_text.specs.declared.fault.Fault.TheVariants.{Input as InputFile};
 ghost use Rattle.value_file.specs.Input.{AreInputs};
 ghost use Rattle.value_file.specs.PublicFile.{IsWritable};
-ghost use Rattle.run_engine.specs.Reading.{bad_opened, bad_tape, bad_schedule, field_fault, top_fault, entry_field, inputs_at, opened_at, public_at, tape_file_at, schedule_file_at};
+ghost use Rattle.run_engine.specs.Reading.{bad_opened, bad_tape, bad_schedule, field_fault, top_fault};
+ghost use Rattle.run_engine.specs.Reading.{entry_field, inputs_at, opened_at, public_at, tape_file_at, schedule_file_at};
 
 use command_frame::{Refusal, Status, Stop, read_file};
 use outside::Files;

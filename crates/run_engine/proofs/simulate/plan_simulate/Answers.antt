@@ -30,7 +30,7 @@ returns-in-Ok-clause-answer g c = λ found h t.
     (read_still opened_at f f2 s2 c.deref-3.result.now ask.opened c.deref-3.ensures c.in_ok-opened.opened.items c.in_ok-opened.ensures.answer)
     (read_still tape_file_at f f3 s3 c.deref-4.result.now ask.sim c.deref-4.ensures c.in_ok-tapes.tapes c.in_ok-tapes.ensures.answer)
     (order_still f f4 s4 ask.order (delivery_seen c.in_ok-delivery.delivery) c.in_ok-delivery.ensures.answer)
-    c.in-Ok.view c.in-Ok.ensures t
+    c.deref-5.result.now c.deref-5.ensures.value c.in-Ok.view c.in-Ok.ensures t
     ∙ ap done_with (sym c.in_ok-simulate_plan-in-Ok.ensures.effect)
 
 pub returns-clause-answer : goal.returns-clause-answer
@@ -52,4 +52,5 @@ returns-clause-answer g c = λ found h.
     (read_still opened_at f f2 s2 c.deref-3.result.now ask.opened c.deref-3.ensures c.in_ok-opened.opened.items c.in_ok-opened.ensures.answer)
     (read_still tape_file_at f f3 s3 c.deref-4.result.now ask.sim c.deref-4.ensures c.in_ok-tapes.tapes c.in_ok-tapes.ensures.answer)
     (order_still f f4 s4 ask.order (delivery_seen c.in_ok-delivery.delivery) c.in_ok-delivery.ensures.answer)
-    (g.F.Files.state c.read_delivery.new.files) c.in-Err.refusal c.simulate_stop.result c.in-Err.ensures c.simulate_stop.ensures
+    c.deref-5.result.now c.deref-5.ensures.value (g.F.Files.state c.read_delivery.new.files)
+    c.in-Err.refusal c.simulate_stop.result c.in-Err.ensures c.simulate_stop.ensures
