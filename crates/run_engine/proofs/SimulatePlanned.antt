@@ -7,7 +7,6 @@ use Rattle.command_frame.specs.declared.stop.Stop.{Stop}
 use Rattle.command_frame.specs.Answer.{Answer, effect_of, ◌>>=◌}
 use Rattle.command_frame.specs.Reads.{Gives, KeepsTo, OnlyRead, Stops, StopsReading}
 use Rattle.command_words.specs.Ask.{SimulateAsk, simulate}
-use Rattle.sc_text.specs.declared.end.Ending.{Ending}
 use Rattle.proto_core.specs.declared.link.Link.{Link}
 use Rattle.proto_core.specs.declared.party.Number.{Number}
 use Rattle.protocol_model.specs.Network as network

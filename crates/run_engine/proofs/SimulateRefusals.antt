@@ -1,6 +1,6 @@
 -- What the answer of `simulate` is: for files that are as they must be, and that it is refused only for one that is there and is not, for
 -- opened words that don't suffice, or for a schedule that can't be followed to the end.
-use Rattle.std.proofs.Common.{◌≡◌, ◌⊎◌, ℕ, List, length, true, Option, Some, None, Ok, Err, Result, refl, ap, subst, sym, ◌∙◌, inl, inr}
+use Rattle.std.proofs.Common.{◌≡◌, ℕ, List, length, true, Some, Ok, Err, Result, refl, ap, subst, sym, ◌∙◌, inl, inr}
 use Rattle.outside.specs.Files.{Contents}
 use Rattle.command_frame.specs.declared.status.Status.{Status}
 use Rattle.command_frame.specs.declared.status.Status.TheVariants as statuses

@@ -1,6 +1,6 @@
 -- The tapes that `map` writes correspond to those that it reads, the simulator makes the view of a run that it is told of, and a twin gives
 -- the same view.
-use Rattle.std.proofs.Common.{◌≡◌, ℕ, List, sym, ◌∙◌}
+use Rattle.std.proofs.Common.{ℕ, List, sym, ◌∙◌}
 use Rattle.outside.specs.Files.{Contents}
 use Rattle.command_words.specs.Ask.{MapAsk, SimulateAsk, TwinAsk}
 use Rattle.tape_file.specs.Tapes.{FourTapes}
