@@ -1,0 +1,64 @@
+#!/usr/bin/env bash
+# Times how many messages a second `secrec run` delivers, in turn, shuffled, and as recorded, over programs that multiply private numbers one after
+# another: six messages each. Processor time is that of the run of three that took least, with what the same program takes that multiplies nothing taken
+# away. It measures; it tests nothing. It wants bash and python3; another program than the one that `./secrec` runs can be named.
+set -eu
+top=$(cd "$(dirname "$0")/.." && pwd)
+program=${1-}
+if [ $# -eq 0 ]; then
+  . "$top/tools/build.sh"
+  find_program
+fi
+work=$(mktemp -d)
+trap 'rm -rf "$work"' EXIT
+
+python3 - "$program" "$work" <<'PY'
+import os, subprocess, sys
+
+program, work = sys.argv[1:]
+SEED = "00" * 31 + "07"
+PRODUCTS = """import shared3p; domain p shared3p;
+void main() {
+    p uint64 x = argument("x"); uint64 n = argument("n");
+    for (uint64 i = 0; i < n; i++) { x = x * x; }
+}
+"""
+
+
+def written(name, text):
+    with open(f"{work}/{name}", "w") as file:
+        file.write(text)
+    return f"{work}/{name}"
+
+
+def inputs(count):
+    private = '{"name":"x","domain":"private","type":"uint64","value":3}'
+    return written("input.json", '{"inputs":[%s,{"name":"n","domain":"public","type":"uint64","value":%d}]}' % (private, count))
+
+
+def seconds(count, *options):
+    """The least processor time of three runs."""
+    words = [program, "run", written("products.sc", PRODUCTS), "--input", inputs(count), "--seed", SEED, "--words", "400000",
+             "--budget", "100000000", *options]
+    least = None
+    for _ in range(3):
+        before = os.times()
+        subprocess.run(words, check=True, stdout=subprocess.DEVNULL)
+        after = os.times()
+        spent = after.children_user + after.children_system - before.children_user - before.children_system
+        least = spent if least is None else min(least, spent)
+    return least
+
+
+recorded = f"{work}/recorded"
+orders = [("in turn", ["--record", recorded]), ("shuffled", ["--shuffle", SEED]), ("as recorded", ["--schedule", recorded]),
+          ("in turn, with views", ["--views", f"{work}/view"])]
+print("order of delivery      messages   seconds   messages a second")
+for count in (2_000, 8_000, 32_000):
+    idle = seconds(0)
+    for name, options in orders:
+        spent = seconds(count, *options)
+        with open(recorded) as links:
+            messages = sum(1 for _ in links)
+        print(f"{name:20} {messages:10,} {spent:9.2f} {messages / max(spent - idle, 0.01):15,.0f}")
+PY
