@@ -18,5 +18,3 @@ mod streams;
 mod tapes;
 #[cfg(test)]
 mod texts;
-#[cfg(test)]
-mod words;
