@@ -2,15 +2,7 @@
 # Times how many messages a second `secrec run` delivers, in turn, shuffled, and as recorded, over programs that multiply private numbers one after
 # another: six messages each. Processor time is that of the run of three that took least, with what the same program takes that multiplies nothing taken
 # away. It measures; it tests nothing. It wants bash and python3; another program than the one that `./secrec` runs can be named.
-set -eu
-top=$(cd "$(dirname "$0")/.." && pwd)
-program=${1-}
-if [ $# -eq 0 ]; then
-  . "$top/tools/build.sh"
-  find_program
-fi
-work=$(mktemp -d)
-trap 'rm -rf "$work"' EXIT
+. "$(dirname "$0")/begin.sh"
 
 python3 - "$program" "$work" <<'PY'
 import os, subprocess, sys

@@ -2,12 +2,7 @@
 # Times `secrec eval` over arrays of 4,096, 16,384 and 65,536 elements, and prints processor time and peak memory with their ratios:
 # a loop that reads and writes each element, private operators on whole arrays, and calls that pass them on. It measures; it tests
 # nothing. It wants bash and python3.
-set -eu
-top=$(cd "$(dirname "$0")/.." && pwd)
-. "$top/tools/build.sh"
-find_program
-work=$(mktemp -d)
-trap 'rm -rf "$work"' EXIT
+. "$(dirname "$0")/begin.sh"
 
 python3 - "$program" "$work" <<'PY'
 import os, subprocess, sys

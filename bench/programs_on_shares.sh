@@ -3,15 +3,7 @@
 # written by hand in plain Rust; over comparisons of private numbers; and over a loop of public steps beside `secrec eval`. Processor time and peak memory
 # are those of the run of five that took least processor time. Of both ways to multiply, the time of a run over the same words that multiplies nothing is
 # taken away. It measures; it tests nothing. It wants bash, python3, rustc, and 2 GB of memory; another program than the one that `./secrec` runs can be named.
-set -eu
-top=$(cd "$(dirname "$0")/.." && pwd)
-program=${1-}
-if [ $# -eq 0 ]; then
-  . "$top/tools/build.sh"
-  find_program
-fi
-work=$(mktemp -d)
-trap 'rm -rf "$work"' EXIT
+. "$(dirname "$0")/begin.sh"
 rustc -O -o "$work/by_hand" "$top/bench/multiply_by_hand.rs"
 
 python3 - "$program" "$work" <<'PY'

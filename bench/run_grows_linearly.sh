@@ -3,12 +3,7 @@
 # tapes of 4 x 16,777,216 words, and an input file of 64 arrays of 65,536 elements. Between them, large tapes with the small
 # inputs show what time and memory go into. It measures; it tests nothing. It wants bash, python3, about 700 MB in TMPDIR
 # (or /tmp), and 2 GB of memory.
-set -eu
-top=$(cd "$(dirname "$0")/.." && pwd)
-. "$top/tools/build.sh"
-find_program
-work=$(mktemp -d)
-trap 'rm -rf "$work"' EXIT
+. "$(dirname "$0")/begin.sh"
 
 # A file of four tapes of so many words each.
 tapes() {

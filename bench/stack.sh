@@ -3,15 +3,7 @@
 # an expression or a statement of the greatest height that the parser takes. It prints the least stack, to 64 kB, with which each shape ends, and ends
 # with status 1 where a shape doesn't end within 8 MiB, the stack that most systems give. It wants bash and python3; another program than the one
 # that `./secrec` runs can be named.
-set -eu
-top=$(cd "$(dirname "$0")/.." && pwd)
-program=${1-}
-if [ $# -eq 0 ]; then
-  . "$top/tools/build.sh"
-  find_program
-fi
-work=$(mktemp -d)
-trap 'rm -rf "$work"' EXIT
+. "$(dirname "$0")/begin.sh"
 
 PYTHONDONTWRITEBYTECODE=1 python3 - "$program" "$work" "$top/tools" <<'PY'
 import subprocess, sys
