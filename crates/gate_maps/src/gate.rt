@@ -3,7 +3,8 @@ ghost use Rattle.std.specs.Prelude.{◌≡◌, ◌≤◌, [], ◌++◌, length, 
 ghost use Rattle.proto_core.specs.declared.party.Number.{Number as NumberValue};
 ghost use Rattle.gates.specs.Clear.{value};
 ghost use Rattle.blocked_protocol.specs.Blocked.{blocked};
-ghost use Rattle.joint_run.specs.Three.{of_three, each_of, joint, values_of};
+ghost use Rattle.proto_core.specs.Parties.{of_three};
+ghost use Rattle.joint_run.specs.Three.{each_of, joint, values_of};
 ghost use Rattle.joint_run.specs.Exchanges.{protocol_of};
 ghost use Rattle.joint_run.specs.Steps.{second_value};
 ghost use Rattle.joint_run.specs.JointRuns.{IsEven};

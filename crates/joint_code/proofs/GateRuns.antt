@@ -8,10 +8,11 @@ use Rattle.gates.specs.declared.gate.Gate.{Gate}
 use Rattle.gates.specs.Clear.{Values}
 use Rattle.proto_core.specs.declared.party.Number.{Number}
 use Rattle.shared_gates.specs.Model.{run_gates}
+use Rattle.shared_gates.proofs.GatesBehind.{gates-then}
 use Rattle.joint_run.specs.RunState.{RunState, begun, behind}
 use Rattle.joint_run.specs.JointRuns.{dealt_sizes, sizes_behind}
 use Rattle.joint_run.specs.GateByGate.{Through}
-use Rattle.joint_run.proofs.InSteps.{both-behind, both-gates}
+use Rattle.joint_run.proofs.InSteps.{both-behind}
 use Rattle.driven_nodes.specs.Steps.{gained}
 
 -- what comes behind a beginning is what is gained
@@ -39,6 +40,6 @@ module _ (dealt : Number → Values) (tapes : Tapes) where
       let more : List Gate = gained before all in
       there.run.is
       ∙ ap (λ gates. behind (run_gates dealt ds [] gates) (begun tapes)) (begins_gained before all begins)
-      ∙ ap (λ gates. behind gates (begun tapes)) (both-gates dealt ds [] before more)
+      ∙ ap (λ gates. behind gates (begun tapes)) (gates-then dealt ds [] before more)
       ∙ both-behind (run_gates dealt ds [] before) (run_gates dealt ds (sizes_behind dealt before) more) (begun tapes)
       ∙ ap (behind (run_gates dealt ds (sizes_behind dealt before) more)) (sym here.run.is)

@@ -3,13 +3,14 @@ use Rattle.std.proofs.Common.{◌≡◌, ◌≢◌, ℕ, ◌+◌, ◌≤◌, Lis
 use Rattle.proto_core.specs.declared.party.Number.{Number}
 use Rattle.protocol_model.specs.Gates.{needed}
 use Rattle.protocol_model.specs.Runs.{Tapes}
+use Rattle.protocol_model.proofs.Sizes.{needed-append}
 use Rattle.gates.specs.declared.gate.Gate.{Gate}
 use Rattle.gates.specs.Clear.{Values}
 use Rattle.shared_gates.specs.Model.{SizesSuit, AllSizesSuit, sizes_made, run_gate, run_gates, sizes_after}
+use Rattle.shared_gates.proofs.GatesBehind.{gates-then}
 use Rattle.joint_run.specs.declared.joint_err.JointErr.{JointErr}
 use Rattle.joint_run.specs.declared.joint_err.JointErr.TheVariants as joint
 use Rattle.joint_run.specs.JointRuns.{dealt_sizes, words_for, sizes_behind, words_for_next, CanRun, IsUnsuited, EndsTape, Refuses}
-use Rattle.joint_run.proofs.InSteps.{both-needed, both-gates}
 
 suits_there :
     (ds sizes : List ℕ) (before : List Gate) (gate : Gate) (later : List Gate) → AllSizesSuit ds sizes (before ++ gate ∷ later)
@@ -29,9 +30,9 @@ module _ (dealt : Number → Values) (gates : List Gate) (tapes : Tapes) (can : 
       let here = run_gate dealt ds sizes gate in
       let rest = run_gates dealt ds (sizes ++ sizes_made ds sizes gate) later in
       let whole : words_for dealt gates i ≡ needed (first ++ here ∷ rest) i =
-      ap (λ g. words_for dealt g i) e ∙ ap (λ g. needed g i) (both-gates dealt ds [] before (gate ∷ later)) in
-      let apart : needed (first ++ here ∷ rest) i ≡ needed first i + needed (here ∷ rest) i = both-needed first (here ∷ rest) i in
-      let again : needed (here ∷ rest) i ≡ needed (here ∷ []) i + needed rest i = both-needed (here ∷ []) rest i in
+      ap (λ g. words_for dealt g i) e ∙ ap (λ g. needed g i) (gates-then dealt ds [] before (gate ∷ later)) in
+      let apart : needed (first ++ here ∷ rest) i ≡ needed first i + needed (here ∷ rest) i = needed-append first (here ∷ rest) i in
+      let again : needed (here ∷ rest) i ≡ needed (here ∷ []) i + needed rest i = needed-append (here ∷ []) rest i in
       omega (arith, whole, apart, again)
 
   not_unsuited : (place : ℕ) → IsUnsuited dealt gates tapes place → ⊥
