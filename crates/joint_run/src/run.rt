@@ -73,8 +73,8 @@ fn second_value(values: &Values, number: Option<u64>) -> &[u64]
     }
 }
 
-/// The operands of a gate in the miners' shares, with words that they drew.
-fn operands<'s>(
+/// The operands of a gate in the miners' shares, with these words.
+pub fn operands<'s>(
     gate: Exchanged,
     shares: &'s SharedValues,
     first: &'s [u64],
