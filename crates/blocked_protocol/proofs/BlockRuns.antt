@@ -3,7 +3,7 @@ use Rattle.std.proofs.Common.{◌≡◌, ℕ, ◌+◌, true, false, if◌then◌
 use Rattle.proto_core.specs.declared.party.Number.{Number}
 use Rattle.proto_core.specs.declared.link.Link.{Link}
 use Rattle.proto_core.specs.Parties.{sender_of, receiver_of}
-use Rattle.proto_core.specs.Strand.{Shape, same_link, Mail, Strand, Ends, Acts, Waits, then_do, opened_in}
+use Rattle.proto_core.specs.Strand.{Shape, same_link, Mail, Strand, Ends, then_do, opened_in}
 use Rattle.proto_core.specs.Script.{Move, Sends, Takes, Moves, EndsWith, Matched, UsesOwnLinks, sends_on, takes_on}
 use Rattle.proto_core.specs.Net.{added, nothing, run_of, opened_by, Finishes}
 use Rattle.proto_core.specs.Protocol.{Joint, Protocol, Fits, Sound, strands_of, AreMessages, AreBlocks}
@@ -12,6 +12,7 @@ use Rattle.proto_core.proofs.Strands.{opened-append}
 use Rattle.proto_core.proofs.Nets.{finishes-both, run-both}
 use Rattle.protocol_model.proofs.Scripts.{moves-then}
 use Rattle.protocol_model.proofs.GateRuns.{into-nothing, sends_on-append}
+use Rattle.protocol_model.proofs.Slots.{ends_then}
 use Rattle.blocked_protocol.specs.Blocked.{total, joined, no_elements, front, behind, blocks_strand, blocks_script, blocks_messages, blocks_output, blocks_opened, in_blocks, IsCut, sums, Blockable}
 use Rattle.blocked_protocol.proofs.Fitting.{itself, front-length, behind-length, fits-front, fits-behind, fits-whole, sizes-joined, sizes-none, blocks-joined, blocks-none}
 
@@ -37,13 +38,6 @@ messages-append (shape ∷ s) t [] ys h k = absurd h
 messages-append (shape ∷ s) t (x ∷ xs) ys h k = (h.0, messages-append s t xs ys h.1 k)
 
 -- ---- strands one after another
-
-ends-then :
-    {A B : Type 0} (P : A → Type 0) (Q : B → Type 0) (s : Strand A) (f : A → Strand B) → EndsWith P s →
-    ((a : A) → P a → EndsWith Q (f a)) → EndsWith Q (then_do s f)
-ends-then P Q (Ends a) f h k = k a h
-ends-then P Q (Acts a s) f h k = ends-then P Q s f h k
-ends-then P Q (Waits l shape g) f h k = λ m e. ends-then P Q (g m) f (h m e) k
 
 -- where nothing is left to do
 at_end : {B : Type 0} (outputs : Number → B) → Finishes (λ i. Ends (outputs i)) nothing outputs
@@ -120,11 +114,11 @@ module _ (p : Protocol) (blockable : Blockable p) (sound : Sound p) where
       EndsWith (λ blocks. map length blocks ≡ p.made (total sizes)) (blocks_strand p sizes i u v words)
   blocks-sized [] i u v words hu hv hw = sizes-none (p.made 0) ∙ blockable.made_none
   blocks-sized (m ∷ sizes) i u v words hu hv hw =
-      ends-then (λ here. map length here ≡ p.made m) (λ blocks. map length blocks ≡ p.made (m + total sizes))
+      ends_then (λ here. map length here ≡ p.made m) (λ blocks. map length blocks ≡ p.made (m + total sizes))
       (p.strand m i (take m u) (take (p.second m) v) (take (p.draws m i) words)) (goes_on m sizes i u v words)
       (first-sized m sizes i u v words hu hv hw)
       (λ here e.
-      ends-then (λ later. map length later ≡ p.made (total sizes)) (λ blocks. map length blocks ≡ p.made (m + total sizes))
+      ends_then (λ later. map length later ≡ p.made (total sizes)) (λ blocks. map length blocks ≡ p.made (m + total sizes))
       (blocks_strand p sizes i (drop m u) (drop (p.second m) v) (drop (p.draws m i) words)) (λ later. Ends (joined here later))
       (blocks-sized sizes i _ _ _ (left_u m sizes i u v words hu hv hw) (left_v m sizes i u v words hu hv hw) (left_words m sizes i u v words hu hv hw))
       (λ later f.

@@ -68,7 +68,7 @@ tests_for_zero first difference inputs values fit =
     ap (λ l. word l k) (sym split.join) ∙ (Column-each_two add_ring.sub both.0 both.1).words k lt in
     let tested = λ (k : ℕ) (lt : k < n).
     equal_by_ones (word (value values first) k) (word (value values (first + 1)) k) (end.2 k)
-    (split.words k 0 (omega (arith, both.0.size))) (split.other_words k 0 (omega (arith, both.1.size)))
+    (split.words k) (split.other_words k)
     (end.4 k lt).0 (end.4 k lt).1
     ∙ ap zero_test (sym (is_difference k lt)) in
     end.1 ∙ ap Some (same_columns n (λ k. zero_test (word us k)) end.0 (map zero_test us) (Column-ext tested end.3) (Column-map zero_test (Column-of n us refl)))

@@ -1,6 +1,7 @@
 -- Rows with two operands.
 use Rattle.std.proofs.Common.{◌≡◌, ℕ, ◌<◌, ◌^◌, List, [], ◌∷◌, ◌++◌, length, Bool, true, false, refl, sym, ap, ◌∙◌, subst, arith}
 use Rattle.std.proofs.lemmas.Bool.{eqb-true}
+use Rattle.shared_gates.proofs.Models.{length-each_two}
 use Rattle.sc_text.specs.declared.end.TrapKind.TheVariants as trap
 use Rattle.secrec_ast.specs.declared.expression.DataType.{DataType}
 use Rattle.secrec_ast.specs.declared.expression.DataType.TheVariants.{Uint64}
@@ -27,7 +28,7 @@ use Rattle.gate_laws.proofs.Effects.{Tell, suits_bind, suits_with, test_suits, d
 use Rattle.gate_laws.proofs.Gains.{fact, gate_suits}
 use Rattle.gate_laws.proofs.Singles.{mulpub_gain}
 use Rattle.gate_laws.proofs.Parts.{tell_same, tell_first, stretched_words, charged_suits, number_as, number_suits, stretched_suits, given_as, shown_suits}
-use Rattle.gate_laws.proofs.Ranges.{two_same, two_lengths, replicate_below, length_replicated, first_below}
+use Rattle.gate_laws.proofs.Ranges.{two_same, replicate_below, length_replicated, first_below}
 use Rattle.gate_laws.proofs.Meanings.{two_ext, two_swapped, and_bits, operator_range, some_bound}
 use Rattle.gate_laws.proofs.Operators.{in_terms, operator_suits}
 
@@ -100,7 +101,7 @@ module _ (op : BinaryOperator) (ds : Operands) (x y : Value) (h : OperandsSuit o
   result_small alike =
       let left = left_size ds h.left_single in
       let right = right_size ds h.right_single alike in
-      subst (λ n. n < 2 ^ 64) (sym (two_lengths (W.meaning op) (W.left_words ds x y) (W.right_words ds x y) (left ∙ sym right) ∙ left)) (size_small ds)
+      subst (λ n. n < 2 ^ 64) (sym (length-each_two (W.meaning op) (W.left_words ds x y) (W.right_words ds x y) (left ∙ sym right) ∙ left)) (size_small ds)
 
   left_one : is_scalar_left ds ≡ true → length x.words ≡ 1
   left_one e = h.left_single (go ds e)

@@ -1,14 +1,15 @@
 -- Values behind those that fit change nothing, and evaluation gives values that fit.
-use Rattle.std.proofs.Common.{◌≡◌, ℕ, zero, suc, ◌+◌, ◌-◌, ◌%◌, ◌^◌, ◌<◌, ◌≤◌, Bool, true, false, Some, List, [], ◌∷◌, ◌++◌, length, refl, sym, ◌∙◌, ap, subst, arith, append_assoc, length-append}
+use Rattle.std.proofs.Common.{◌≡◌, ℕ, zero, suc, ◌+◌, ◌-◌, ◌%◌, ◌^◌, ◌<◌, ◌≤◌, Bool, true, false, Some, List, [], ◌∷◌, ◌++◌, length, refl, sym, ◌∙◌, ap, subst, inl, inr, arith, append_assoc, length-append}
 use Rattle.std.specs.Prelude.{slice_get}
-use Rattle.std.proofs.lemmas.List.{get_or_append_left, length-replicate, get_or-replicate, append-nil}
-use Rattle.std.proofs.lemmas.List.Elements.{All-from_get_or}
+use Rattle.std.proofs.lemmas.List.{get_or_append_left, get_or_past, length-replicate, get_or-replicate, append-nil}
+use Rattle.std.proofs.lemmas.Bool.{cases_lt}
 use Rattle.std.proofs.lemmas.Nat.{mod_below, pow_pos}
 use Rattle.share_ring.specs.Rings.{add_ring}
 use Rattle.gates.specs.declared.gate.Gate.{Gate}
 use Rattle.gates.specs.declared.gate.Gate.TheVariants.{Input, Const, Add, Sub, MulPub, Mul, Xor, And, Not, Shl, Shr, Low, Cat, Part, Put, Rep, Spread, Sum, Split, Conv, Open, Result}
 use Rattle.gates.specs.Counts.{made_by, made_by_all}
-use Rattle.gates.specs.Clear.{Values, value, clear_value, each_two, AreWords, IsSplit, AreOperands, Suits, Makes, FitFrom, Fit}
+use Rattle.share_ring.specs.Words.{AreWords}
+use Rattle.gates.specs.Clear.{Values, value, clear_value, each_two, IsSplit, AreOperands, Suits, Makes, FitFrom, Fit}
 use Rattle.gates.specs.Evaluated.{unmasked, masks_for, made, evaluated, SplitsWords, AllSuit}
 use Rattle.gates.proofs.Columns.{word, Column, stands, Column-of, Column-ext, Column-each_two, same_columns}
 
@@ -141,9 +142,11 @@ masks-column : (m : ℕ) (us : List ℕ) → Column (length us) (λ _. m) (masks
 masks-column m us = record { size = length-replicate (length us) m; words = λ k lt. get_or-replicate (length us) k m 0 lt }
 
 words-of : (n : ℕ) (f : ℕ → ℕ) (xs : List ℕ) → Column n f xs → ((k : ℕ) → f k < 2 ^ 64) → AreWords xs
-words-of n f xs c small =
-    All-from_get_or (λ x. x < 2 ^ 64) xs 0
-    (λ i lt. let within : i < n = omega (arith, c.size) in subst (λ x. x < 2 ^ 64) (sym (c.words i within)) (small i))
+words-of n f xs c small k =
+    elim (cases_lt k n) as (λ d. word xs k < 2 ^ 64) [
+      | inl below ↦ subst (λ x. x < 2 ^ 64) (sym (c.words k below)) (small k)
+      | inr past ↦ subst (λ x. x < 2 ^ 64) (sym (get_or_past xs k 0 (omega (arith, c.size)))) (pow_pos 64)
+    ]
 
 -- a Split by masks is a Split
 pub is_split : (negated : Bool) (m : ℕ) (us : List ℕ) → m < 2 ^ 64 → AreWords us → IsSplit negated us (unmasked negated us (masks_for m us)) (masks_for m us)
@@ -158,7 +161,7 @@ is_split false m us hm words =
       other_words = words-of n _ _ masks (λ k. hm);
       join =
           same_columns n (word us) (each_two add_ring.add (each_two add_ring.sub us (masks_for m us)) (masks_for m us)) us
-          (Column-ext (λ k lt. back_masked (word us k) m (words k 0 lt) hm) (Column-each_two add_ring.add rest masks)) column;
+          (Column-ext (λ k lt. back_masked (word us k) m (words k) hm) (Column-each_two add_ring.add rest masks)) column;
     }
 is_split true m us hm words =
     let n = length us in
@@ -171,7 +174,7 @@ is_split true m us hm words =
       other_words = words-of n _ _ masks (λ k. hm);
       join =
           same_columns n (word us) (each_two add_ring.sub (each_two add_ring.add us (masks_for m us)) (masks_for m us)) us
-          (Column-ext (λ k lt. back_negated (word us k) m (words k 0 lt) hm) (Column-each_two add_ring.sub rest masks)) column;
+          (Column-ext (λ k lt. back_negated (word us k) m (words k) hm) (Column-each_two add_ring.sub rest masks)) column;
     }
 
 at_number : (values : Values) (m : ℕ) {xs : List ℕ} → slice_get values m ≡ Some xs → slice_get values m ≡ Some (value values m)

@@ -36,7 +36,7 @@ module _ {r : Ring} (laws : RingLaws r) where
       ap (λ n. n ∷ sums_of r d1s d2s (left_of r xs d1s d2s)) (masks_and_left x d1 d2 (words 0 x (omega arith)))
       ∙ ap (λ l. x ∷ l) (sums_of-left_of xs d1s d2s (omega arith) (omega arith) (λ k d h. words (suc k) d (omega arith)))
 
-ring_laws : (t : DataType) → RingLaws (ring_of t)
+pub ring_laws : (t : DataType) → RingLaws (ring_of t)
 ring_laws data_type.Uint64 = add_ring_laws
 ring_laws data_type.Bool = xor_ring_laws
 

@@ -39,7 +39,7 @@ length-share_of Two r xs words enough = length-second_masks (length xs) words en
 length-share_of Three r xs words enough =
     length-left_of r xs (first_masks (length xs) words) (second_masks (length xs) words) (length-first_masks (length xs) words enough) (length-second_masks (length xs) words enough)
 
-size_of-shape_of : (v : Value) → size_of (shape_of v) ≡ count_of v
+pub size_of-shape_of : (v : Value) → size_of (shape_of v) ≡ count_of v
 size_of-shape_of (value.Number n) = refl
 size_of-shape_of (value.Truth b) = refl
 size_of-shape_of (value.Numbers ns) = refl

@@ -128,10 +128,10 @@ module _ {r : Ring} (laws : RingLaws r) where
   tape-tape n Three j fits Two = refl
   tape-tape n Three j fits Three = refl
 
-  seen :
+  open-seen :
       (n : ℕ) (j : Joint) (i : Number) (l : Link) → receiver_of l ≡ i →
       open_messages r n j l ≡ open_received r n i (j.u i) (open_tape r n i j) (opened_words r n j) l
-  seen n j i l h = subst (λ k. open_messages r n j l ≡ open_received r n k (j.u k) (open_tape r n k j) (opened_words r n j) l) h (at_link l)
+  open-seen n j i l h = subst (λ k. open_messages r n j l ≡ open_received r n k (j.u k) (open_tape r n k j) (opened_words r n j) l) h (at_link l)
     where
       left : (x y z : List ℕ) → length z ≡ n → AreWords z → opened_words r n j ≡ sum_of_three r n x y z → z ∷ [] ≡ left_of_opened r n (opened_words r n j) x y ∷ []
       left x y z e words is = ap (λ l. l ∷ []) (sym (left_over laws n x y z (opened_words r n j) e words is))
@@ -155,7 +155,7 @@ module _ {r : Ring} (laws : RingLaws r) where
         back_kept = tape-kept;
         back_tape = tape-tape;
         tape_back = tape-tape;
-        seen = λ n i j fits l h. seen n j i l h;
+        seen = λ n i j fits l h. open-seen n j i l h;
       }
 
   pub opens : (n : ℕ) (j : Joint) → Opens r n j

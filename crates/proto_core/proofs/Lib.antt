@@ -1,4 +1,5 @@
 pub mod Each
+pub mod Numbers
 pub mod Parts
 pub mod MessageFields
 pub mod MessageListsLemmas

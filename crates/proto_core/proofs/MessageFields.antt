@@ -5,20 +5,20 @@ use Rattle.std.proofs.Math.Seq.{take-append_seam, drop-append_seam}
 use Rattle.std.proofs.lemmas.List.{append-nil}
 use Rattle.proto_core.specs.Strand.{Field, Words, Bits, Shape, shaped, accepts, has_bits, is_bit}
 
-both_true : (a b : Bool) → a ≡ true → b ≡ true → (a && b) ≡ true
+pub both_true : (a b : Bool) → a ≡ true → b ≡ true → (a && b) ≡ true
 both_true true true h k = refl
 both_true true false h k = k
 both_true false b h k = h
 
-first_true : (a b : Bool) → (a && b) ≡ true → a ≡ true
+pub first_true : (a b : Bool) → (a && b) ≡ true → a ≡ true
 first_true true b h = refl
 first_true false b h = h
 
-second_true : (a b : Bool) → (a && b) ≡ true → b ≡ true
+pub second_true : (a b : Bool) → (a && b) ≡ true → b ≡ true
 second_true true b h = h
 second_true false b h = cc
 
-equal_test : (a b : ℕ) → a ≡ b → (a == b) ≡ true
+pub equal_test : (a b : ℕ) → a ≡ b → (a == b) ≡ true
 equal_test a b h = grind arith
 
 equal_from : (a b : ℕ) → (a == b) ≡ true → a ≡ b

@@ -99,7 +99,7 @@ told-append (Told t ∷ xs) ys = ap (λ v. t ∷ v) (told-append xs ys)
 
 -- ---- what follows from it
 
-added-rest : (x y : Mail) → MailBegins x y → added x (λ l. drop (length (x l)) (y l)) ≡ y
+pub added-rest : (x y : Mail) → MailBegins x y → added x (λ l. drop (length (x l)) (y l)) ≡ y
 added-rest x y h = λ i. λ l. begins-rest (x l) (y l) (h l) i
 
 -- longer lists of messages extend what is done
@@ -155,6 +155,12 @@ agree-on_link l xs ys h =
     agree-begins _ _ (on_link l (longer xs ys)) (begins-on_link l xs (longer xs ys) (begins-longer xs ys)) (begins-on_link l ys (longer xs ys) (agree-longer xs ys h))
 
 -- ---- one after the other
+
+pub then-regrouped :
+    {A B C : Type 0} (s : Strand A) (f : A → Strand B) (g : B → Strand C) → then_do (then_do s f) g ≡ then_do s (λ a. then_do (f a) g)
+then-regrouped (Ends a) f g = refl
+then-regrouped (Acts a s) f g = ap (Acts a) (then-regrouped s f g)
+then-regrouped (Waits l n k) f g = ap (Waits l n) (λ d. λ m. then-regrouped (k m) f g d)
 
 pub run-then_do : {A B : Type 0} (s : Strand A) (f : A → Strand B) (x : Mail) → run (then_do s f) x ≡ followed (run s x) (run (then_do (run s x).left f) (run s x).unread)
 run-then_do (Ends a) f x = refl

@@ -10,6 +10,7 @@ use Rattle.proto_core.specs.Net.{added, into, run_of, posted, delivered, all_del
 use Rattle.proto_core.proofs.Beginnings.{begins-rest, append-none}
 use Rattle.proto_core.proofs.Strands.{run-none, run-took, run-refused, run-added, run-ended, followed}
 use Rattle.proto_core.proofs.Nets.{into-more, covers, orders-begin}
+use Rattle.proto_core.proofs.Numbers.{same_itself}
 use Rattle.protocol_model.specs.Network.{Accepted, Stalled, or_stalled, at_the_end, waits_for, walked}
 use Rattle.protocol_model.specs.Arrivals.{to_come}
 use Rattle.protocol_model.specs.Complete.{IsComplete, IsThrough}
@@ -88,12 +89,7 @@ module _ {A : Type 0} (nodes : Number → Strand A) (full : Mail) (outputs : Num
     end-of (Waits l n k) h m = absurd h
 
     into-receiver : (l : Link) → into (receiver_of l) rest l ≡ rest l
-    into-receiver l = ap (λ b. if b then rest l else []) (same (receiver_of l))
-      where
-        same : (k : Number) → is_same k k ≡ true
-        same One = refl
-        same Two = refl
-        same Three = refl
+    into-receiver l = ap (λ b. if b then rest l else []) (same_itself (receiver_of l))
 
     module _ (i : Number) (ended : IsEnded (run_of nodes mail i).left) where
       same-acts : (run_of nodes full i).acts ≡ (run_of nodes mail i).acts

@@ -13,30 +13,16 @@ use Rattle.proto_core.proofs.Nets.{nothing-under_way, delivered-begins}
 use Rattle.protocol_model.specs.Network.{Accepted, EmptyLink, waits_for, at_the_end, Counts, one_more, into_counts, stands_at, posted_count, counted, all_links, those, is_full, link_at, chosen, entry_then, made_order, total}
 use Rattle.protocol_model.specs.Network.{counts}
 use Rattle.protocol_model.proofs.NetCounts.{posted-counted, stood-counted, counts-delivered, posted-begins, lt_from}
+use Rattle.protocol_model.proofs.Choosing.{in_those}
 
 -- ---- choosing
 
-in_those : (p : Link → Bool) (ls : List Link) (k : ℕ) (l : Link) → link_at (those p ls) k ≡ Some l → p l ≡ true
-in_those p [] k l h = none_some h
-  where
-    none_some : {P : Type 0} → None ≡ Some l → P
-    none_some e = cc
-in_those p (x ∷ xs) k l h = by_test (p x) refl (λ i g. in_those p xs i l g)
-  where
-    by_test : (b : Bool) → p x ≡ b → ((i : ℕ) → link_at (those p xs) i ≡ Some l → p l ≡ true) → p l ≡ true
-    by_test false e more = more k (sym (ap (λ b. link_at (if b then x ∷ those p xs else those p xs) k) e) ∙ h)
-    by_test true e more = by_place k (sym (ap (λ b. link_at (if b then x ∷ those p xs else those p xs) k) e) ∙ h)
-      where
-        by_place : (k : ℕ) → link_at (x ∷ those p xs) k ≡ Some l → p l ≡ true
-        by_place zero g = let same : x ≡ l = cc in ap p (sym same) ∙ e
-        by_place (suc k) g = more k g
-
-some_there : (ls : List Link) (k : ℕ) → k < length ls → link_at ls k ≡ None → ⊥
+pub some_there : (ls : List Link) (k : ℕ) → k < length ls → link_at ls k ≡ None → ⊥
 some_there [] k h e = let f : ⊥ = omega arith in f
 some_there (l ∷ ls) zero h e = cc
 some_there (l ∷ ls) (suc k) h e = some_there ls k (omega arith) e
 
-none_chosen : (word : ℕ) (ls : List Link) → chosen word ls ≡ None → ls ≡ []
+pub none_chosen : (word : ℕ) (ls : List Link) → chosen word ls ≡ None → ls ≡ []
 none_chosen word [] e = refl
 none_chosen word (l ∷ ls) e = absurd (some_there (l ∷ ls) (word % length (l ∷ ls)) (omega arith) e)
 
@@ -69,7 +55,7 @@ none_full p h l =
 
 -- ---- totals
 
-total-more : (l : Link) (got : Counts) → total (one_more l got) ≡ total got + 1
+pub total-more : (l : Link) (got : Counts) → total (one_more l got) ≡ total got + 1
 total-more Link12 got = omega arith
 total-more Link13 got = omega arith
 total-more Link21 got = omega arith
@@ -90,7 +76,7 @@ total-same x y h t l =
     by_link a b c d e f Link31 = omega arith
     by_link a b c d e f Link32 = omega arith
 
-begins-length : (xs ys : List (List ℕ)) → Begins xs ys → length xs ≤ length ys
+pub begins-length : (xs ys : List (List ℕ)) → Begins xs ys → length xs ≤ length ys
 begins-length [] ys h = omega arith
 begins-length (x ∷ xs) [] h = absurd h
 begins-length (x ∷ xs) (y ∷ ys) h = let l = begins-length xs ys h.1 in omega arith

@@ -7,7 +7,7 @@ ghost use Rattle.proto_core.specs.Strand.{Begins, Ends, Mail, Strand, run};
 ghost use Rattle.protocol_model.specs.Along.{MovesAlong};
 ghost use Rattle.protocol_model.specs.Arrivals.{arrivals, arrived, to_come};
 ghost use Rattle.protocol_model.specs.Complete.{IsComplete};
-ghost use Rattle.protocol_model.specs.Gates.{Gate, AreSound, ArePrivate, Sized, gates_script, gates_strand, needed, sizes_of, value_at};
+ghost use Rattle.protocol_model.specs.Gates.{Gate, AreSound, ArePrivate, Sized, gates_script, gates_strand, needed, sizes_of, nth_value};
 ghost use Rattle.protocol_model.specs.Network.{Accepted, Default, Delivery, Shuffled, counted, counts, made_order, net, order_of, total, walked};
 ghost use Rattle.protocol_model.specs.Runs.{Shares, Tapes, Ready, RunTogether, nodes_of, run_messages};
 ghost use Rattle.protocol_model.specs.Schedules.{AnyOrder, ThreeNodes};
@@ -107,9 +107,9 @@ pub fn messages_come_in_order()
 pub fn gates_keep_other_values()
     ensures before { (i : Number) (gates : List Gate) (values all : List (List ℕ)) (tape : List ℕ) (mail : Mail) (number : ℕ) →
         (run (gates_strand i gates values tape) mail).left ≡ Ends all → number < length values →
-        value_at all number ≡ value_at values number }
+        nth_value all number ≡ nth_value values number }
     ensures others { (i : Number) (gates : List Gate) (values all : List (List ℕ)) (tape : List ℕ) (mail : Mail) (number : ℕ) →
         (run (gates_strand i gates values tape) mail).left ≡ Ends all →
         AreSound gates → Sized gates (sizes_of values) → needed gates i ≤ length tape → (IsOwn (length values) gates number → ⊥) →
-        value_at all number ≡ value_at values number }
+        nth_value all number ≡ nth_value values number }
 {}

@@ -8,7 +8,7 @@ use Rattle.proto_core.specs.Protocol.{Joint}
 use Rattle.proto_core.specs.Resharing.{reshared}
 use Rattle.share_convert.specs.Bits.{bits, xor_bits, xor_bits_of_three, bits_less, one_less_where, negative_where}
 use Rattle.share_convert.specs.Converting.{conv_messages, converted, two_map, three_map, three_back, flipped}
-use Rattle.share_convert.specs.Together.{joint_of}
+use Rattle.proto_core.specs.Joints.{joint_of}
 
 -- b, e, m, a are 3, 2, 10, 0
 true_bit : Joint

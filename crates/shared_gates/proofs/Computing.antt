@@ -9,9 +9,9 @@ use Rattle.proto_core.specs.declared.party.Number.{Number}
 use Rattle.proto_core.specs.declared.party.Number.TheVariants.{One}
 use Rattle.proto_core.specs.Protocol.{Joint, Protocol, Fits, Sound, AreBlocks}
 use Rattle.proto_core.proofs.Beginnings.{append-none}
-use Rattle.protocol_model.specs.Gates.{Joined, value_at, sizes_of}
+use Rattle.protocol_model.specs.Gates.{Joined, nth_value, sizes_of}
 use Rattle.protocol_model.specs.Gates as model
-use Rattle.protocol_model.specs.Runs.{Shares, Tapes, drawn, joint_of, after, after_local, run_values, run_opened, left, Ready}
+use Rattle.protocol_model.specs.Runs.{Shares, Tapes, drawn, gate_joint, after, after_local, run_values, run_opened, left, Ready}
 use Rattle.protocol_model.proofs.Sizes.{block-fits, ready-next, ready-local, sizes-append}
 use Rattle.multiply.specs.Multiplying.{mul_protocol}
 use Rattle.open_result.specs.Opening.{open_protocol}
@@ -39,7 +39,7 @@ use Rattle.shared_gates.specs.Kinds.{AllKinded}
 use Rattle.shared_gates.specs.Model.{size_made, AllSizesSuit, run_gates}
 use Rattle.shared_gates.specs.Computed.{opened_by_gate, opened_values, Computed}
 use Rattle.shared_gates.proofs.LocalGates.{laws_of, of_ring, local-held}
-use Rattle.shared_gates.proofs.Models.{value_at-value, size-value, local-size, suits-sizes}
+use Rattle.shared_gates.proofs.Models.{nth_value-value, size-value, local-size, suits-sizes}
 use Rattle.shared_gates.proofs.Gained.{one-block, two-blocks, first-block-size, second-block-size, length-two, word_of, length-word, gained-product, gained-opened, gained-reshared, gained-converted, gained-split, first-word-shares, second-word-shares}
 
 -- ---- one more value
@@ -62,10 +62,10 @@ sizes-one : (xs : Values) (x : List ℕ) (sizes : List ℕ) (n : ℕ) → sizes_
 sizes-one xs x sizes n e f =
     sizes-append xs (x ∷ []) ∙ ap (λ s. s ++ length x ∷ []) e ∙ ap (λ k. sizes ++ k ∷ []) f
 
-counted : (xs ys : Values) → sizes_of xs ≡ sizes_of ys → length xs ≡ length ys
-counted xs ys e = sym (length-map xs length) ∙ ap length e ∙ length-map ys length
+pub same-count : (xs ys : Values) → sizes_of xs ≡ sizes_of ys → length xs ≡ length ys
+same-count xs ys e = sym (length-map xs length) ∙ ap length e ∙ length-map ys length
 
-holds-size : (kind : Kind) (xs : List ℕ) (s : Number → List ℕ) → Holds kind xs s → (i : Number) → length xs ≡ length (s i)
+pub holds-size : (kind : Kind) (xs : List ℕ) (s : Number → List ℕ) → Holds kind xs s → (i : Number) → length xs ≡ length (s i)
 holds-size (Shared ring) xs s h i = sym (h.sizes i)
 holds-size Known xs s h i = sym (ap length (h i))
 
@@ -177,7 +177,7 @@ module _ (before : Values) (x y : List ℕ) where
 
 module _ (before : Values) (sizes : List ℕ) (shares : Shares) (tapes : Tapes) (p : Protocol) (n u : ℕ) (v : Option ℕ) (gates : List model.Gate) (sound : Sound p) (ready : Ready (Joined p n u v ∷ gates) shares tapes) (before_sizes : sizes_of before ≡ sizes) (share_sizes : (i : Number) → sizes_of (shares i) ≡ sizes) where
   abbrev j : Joint
-  j = joint_of u v shares (drawn p n tapes)
+  j = gate_joint u v shares (drawn p n tapes)
 
   abbrev out : Number → List (List ℕ)
   out i = p.output n j i
@@ -192,7 +192,7 @@ module _ (before : Values) (sizes : List ℕ) (shares : Shares) (tapes : Tapes) 
   silent none = sym (no_words (p.opened n j) (sound.opens n j fits ∙ none))
 
   same_count : (i : Number) → length before ≡ length (shares i)
-  same_count i = counted before (shares i) (before_sizes ∙ sym (share_sizes i))
+  same_count i = same-count before (shares i) (before_sizes ∙ sym (share_sizes i))
 
   -- of one block
   module _ (made : p.made n ≡ n ∷ []) where
@@ -247,10 +247,10 @@ module _ (dealt_kinds kinds : List Kind) (inputs : Values) (dealt : Number → V
   -- the shares of an operand
   operand-shares :
       (before : Values) (shares : Number → Values) → AllHeld kinds before shares → (ring : RingKind) (u : ℕ) → u < length before →
-      kind_at kinds u ≡ Shared ring → AreShares (ring_of ring) (value before u) (λ i. value_at (shares i) u)
+      kind_at kinds u ≡ Shared ring → AreShares (ring_of ring) (value before u) (λ i. nth_value (shares i) u)
   operand-shares before shares held ring u lt e =
       subst (λ s. AreShares (ring_of ring) (value before u) s)
-      (same_words (share_at shares u) (λ i. value_at (shares i) u) (λ i. sym (value_at-value (shares i) u)))
+      (same_words (share_at shares u) (λ i. nth_value (shares i) u) (λ i. sym (nth_value-value (shares i) u)))
       (of_ring dealt_kinds kinds inputs before dealt shares inputs_held held ring u lt e)
 
   made_kind : (before : Values) (xs : List ℕ) (s : Number → List ℕ) (kind : Kind) → kind_at kinds (length before) ≡ kind → Holds kind xs s → Holds (kind_at kinds (length before)) xs s
@@ -274,16 +274,16 @@ module _ (dealt_kinds kinds : List Kind) (inputs : Values) (dealt : Number → V
       sizes_of before ≡ sizes → ((i : Number) → sizes_of (shares i) ≡ sizes) → AllHeld kinds before shares → MakesOne gate →
       Suits inputs before (length before) gate → Sound p → p.made n ≡ n ∷ [] → Ready (Joined p n u v ∷ rest) shares tapes →
       length (clear_value inputs before gate) ≡ n →
-      (Fits p n (joint_of u v shares (drawn p n tapes)) → ((i : Number) → AreBlocks (n ∷ []) (p.output n (joint_of u v shares (drawn p n tapes)) i)) →
-      Holds (kind_at kinds (length before)) (clear_value inputs before gate) (nth 0 (p.output n (joint_of u v shares (drawn p n tapes))))) →
-      (Fits p n (joint_of u v shares (drawn p n tapes)) → (more : Values) →
-      p.opened n (joint_of u v shares (drawn p n tapes)) ≡ opened_by_gate ((before ++ clear_value inputs before gate ∷ []) ++ more) gate) →
+      (Fits p n (gate_joint u v shares (drawn p n tapes)) → ((i : Number) → AreBlocks (n ∷ []) (p.output n (gate_joint u v shares (drawn p n tapes)) i)) →
+      Holds (kind_at kinds (length before)) (clear_value inputs before gate) (nth 0 (p.output n (gate_joint u v shares (drawn p n tapes))))) →
+      (Fits p n (gate_joint u v shares (drawn p n tapes)) → (more : Values) →
+      p.opened n (gate_joint u v shares (drawn p n tapes)) ≡ opened_by_gate ((before ++ clear_value inputs before gate ∷ []) ++ more) gate) →
       Goes gates (before ++ clear_value inputs before gate ∷ []) (sizes ++ n ∷ []) (after p n u v shares (drawn p n tapes)) rest (left p n tapes) →
       Computed kinds inputs before (gate ∷ gates) (run_values (Joined p n u v ∷ rest) shares tapes) (run_opened (Joined p n u v ∷ rest) shares tapes)
   joined-gate gate gates before sizes shares tapes p n u v rest bs ss held one suits sound made ready size gained opens goes =
       let x : List ℕ = clear_value inputs before gate in
       let f = fits before sizes shares tapes p n u v rest sound ready bs ss in
-      go_on kinds inputs before (x ∷ []) gate gates _ (p.opened n (joint_of u v shares (drawn p n tapes))) _ suits (makes-one inputs before gate one suits) (makes_one_count gate one)
+      go_on kinds inputs before (x ∷ []) gate gates _ (p.opened n (gate_joint u v shares (drawn p n tapes))) _ suits (makes-one inputs before gate one suits) (makes_one_count gate one)
       (opens f)
       (goes (sizes-one before x sizes n bs size)
       (next_sizes before sizes shares tapes p n u v rest sound ready bs ss made)
@@ -305,7 +305,7 @@ module _ (dealt_kinds kinds : List Kind) (inputs : Values) (dealt : Number → V
   computes (Mul u v ∷ gates) before sizes shares tapes bs ss held kinded suit ready =
       let n = size_of sizes u in
       let p = blocked (mul_protocol add_ring) in
-      let j = joint_of u (Some v) shares (drawn p n tapes) in
+      let j = gate_joint u (Some v) shares (drawn p n tapes) in
       let law = mul_whole block_sizes block_sizes-cut add_ring_laws in
       let suits = suits-sizes ds sizes inputs before inputs_sizes bs (Mul u v) suit.0 in
       let hu : length (value before u) ≡ n = operand-size before sizes u bs in
@@ -323,7 +323,7 @@ module _ (dealt_kinds kinds : List Kind) (inputs : Values) (dealt : Number → V
   computes (And u v ∷ gates) before sizes shares tapes bs ss held kinded suit ready =
       let n = size_of sizes u in
       let p = blocked (mul_protocol xor_ring) in
-      let j = joint_of u (Some v) shares (drawn p n tapes) in
+      let j = gate_joint u (Some v) shares (drawn p n tapes) in
       let law = mul_whole block_sizes block_sizes-cut xor_ring_laws in
       let suits = suits-sizes ds sizes inputs before inputs_sizes bs (And u v) suit.0 in
       let hu : length (value before u) ≡ n = operand-size before sizes u bs in
@@ -341,7 +341,7 @@ module _ (dealt_kinds kinds : List Kind) (inputs : Values) (dealt : Number → V
   computes (Conv u ∷ gates) before sizes shares tapes bs ss held kinded suit ready =
       let n = size_of sizes u in
       let p = blocked conv_protocol in
-      let j = joint_of u None shares (drawn p n tapes) in
+      let j = gate_joint u None shares (drawn p n tapes) in
       let law = conv_whole block_sizes block_sizes-cut in
       let suits = suits-sizes ds sizes inputs before inputs_sizes bs (Conv u) suit.0 in
       let hu : length (value before u) ≡ n = operand-size before sizes u bs in
@@ -357,7 +357,7 @@ module _ (dealt_kinds kinds : List Kind) (inputs : Values) (dealt : Number → V
   computes (Open ring u ∷ gates) before sizes shares tapes bs ss held kinded suit ready =
       let n = size_of sizes u in
       let p = blocked (open_protocol (ring_of ring)) in
-      let j = joint_of u None shares (drawn p n tapes) in
+      let j = gate_joint u None shares (drawn p n tapes) in
       let law = open_whole block_sizes block_sizes-cut (laws_of ring) in
       let suits = suits-sizes ds sizes inputs before inputs_sizes bs (Open ring u) suit.0 in
       let hu : length (value before u) ≡ n = operand-size before sizes u bs in
@@ -380,7 +380,7 @@ module _ (dealt_kinds kinds : List Kind) (inputs : Values) (dealt : Number → V
   computes (Result ring u ∷ gates) before sizes shares tapes bs ss held kinded suit ready =
       let n = size_of sizes u in
       let p = blocked (reshare_protocol (ring_of ring)) in
-      let j = joint_of u None shares (drawn p n tapes) in
+      let j = gate_joint u None shares (drawn p n tapes) in
       let law = reshare_whole block_sizes block_sizes-cut (laws_of ring) in
       let suits = suits-sizes ds sizes inputs before inputs_sizes bs (Result ring u) suit.0 in
       let hu : length (value before u) ≡ n = operand-size before sizes u bs in
@@ -396,7 +396,7 @@ module _ (dealt_kinds kinds : List Kind) (inputs : Values) (dealt : Number → V
   computes (Split u negated ∷ gates) before sizes shares tapes bs ss held kinded suit ready =
       let n = size_of sizes u in
       let p = blocked (split_protocol negated) in
-      let j = joint_of u None shares (drawn p n tapes) in
+      let j = gate_joint u None shares (drawn p n tapes) in
       let law = split_whole block_sizes block_sizes-cut negated in
       let rest = run_gates dealt ds (sizes ++ n ∷ n ∷ []) gates in
       let suits = suits-sizes ds sizes inputs before inputs_sizes bs (Split u negated) suit.0 in
@@ -430,6 +430,6 @@ module _ (dealt_kinds kinds : List Kind) (inputs : Values) (dealt : Number → V
       (computes gates (before ++ x ∷ []) (sizes ++ size_made ds sizes gate ∷ []) (after_local (λ i own. local_share i (dealt i) own gate) shares) tapes
       (sizes-one before x sizes (size_made ds sizes gate) bs (holds-size (kind_at kinds (length before)) x (λ i. local_share i (dealt i) (shares i) gate) new One ∙ size One))
       (λ i. sizes-one (shares i) (local_share i (dealt i) (shares i) gate) sizes (size_made ds sizes gate) (ss i) (size i))
-      (held-one kinds before shares x (λ i. local_share i (dealt i) (shares i) gate) (λ i. counted before (shares i) (bs ∙ sym (ss i))) held new)
+      (held-one kinds before shares x (λ i. local_share i (dealt i) (shares i) gate) (λ i. same-count before (shares i) (bs ∙ sym (ss i))) held new)
       (in_place before x gates kinded.1) suit.1
       (ready-local (size_made ds sizes gate) (λ i own. local_share i (dealt i) own gate) _ shares tapes ready))

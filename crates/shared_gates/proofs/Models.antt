@@ -8,7 +8,7 @@ use Rattle.std.proofs.lemmas.List.Concat.{flat_map-cons}
 use Rattle.share_ring.specs.RingsKeepLaws.{add_ring_laws, xor_ring_laws}
 use Rattle.proto_core.specs.declared.party.Number.{Number}
 use Rattle.proto_core.specs.declared.party.Number.TheVariants.{One, Two, Three}
-use Rattle.protocol_model.specs.Gates.{value_at, size_at, sizes_of, Sized, AreSound, ArePrivate}
+use Rattle.protocol_model.specs.Gates.{nth_value, size_at, sizes_of, Sized, AreSound, ArePrivate}
 use Rattle.gates.specs.Blocks.{block_sizes}
 use Rattle.gates.specs.declared.gate.Gate.{Gate}
 use Rattle.gates.specs.declared.gate.Gate.TheVariants.{Input, Const, Add, Sub, MulPub, Mul, Xor, And, Not, Shl, Shr, Low, Cat, Part, Put, Rep, Spread, Sum, Split, Conv, Open, Result}
@@ -23,14 +23,14 @@ use Rattle.shared_gates.proofs.LocalGates.{laws_of, bits-column}
 
 -- ---- sizes of values
 
-pub value_at-value : (values : Values) (k : ℕ) → value_at values k ≡ value values k
-value_at-value [] k = sym (nothing_at k)
+pub nth_value-value : (values : Values) (k : ℕ) → nth_value values k ≡ value values k
+nth_value-value [] k = sym (nothing_at k)
   where
     nothing_at : (k : ℕ) → value [] k ≡ []
     nothing_at zero = refl
     nothing_at (suc k) = refl
-value_at-value (x ∷ xs) zero = refl
-value_at-value (x ∷ xs) (suc k) = value_at-value xs k
+nth_value-value (x ∷ xs) zero = refl
+nth_value-value (x ∷ xs) (suc k) = nth_value-value xs k
 
 pub size-value : (values : Values) (k : ℕ) → length (value values k) ≡ size_of (sizes_of values) k
 size-value [] zero = refl
@@ -87,7 +87,7 @@ gates-private dealt ds sizes gates = (sound-and-private dealt ds sizes gates).1
 
 -- ---- sizes of what is made
 
-length-each_two : (f : ℕ → ℕ → ℕ) (xs ys : List ℕ) → length xs ≡ length ys → length (each_two f xs ys) ≡ length xs
+pub length-each_two : (f : ℕ → ℕ → ℕ) (xs ys : List ℕ) → length xs ≡ length ys → length (each_two f xs ys) ≡ length xs
 length-each_two f xs ys e = (Column-each_two f (Column-of (length xs) xs refl) (Column-of (length xs) ys (sym e))).size
 
 length-spread : (xs : List ℕ) → length (flat_map bits_of xs) ≡ length xs * 64

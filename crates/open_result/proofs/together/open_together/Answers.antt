@@ -1,7 +1,7 @@
 use Rattle.std.proofs.Common.{◌∙◌, length, refl}
 use Rattle.proto_core.specs.declared.party.Number.TheVariants.{One, Two, Three}
 use Rattle.proto_core.proofs.ResharingLaws.{length-reshared, swap_last, swap_first, swap_ends}
-use Rattle.reshare.specs.Joints.{joint_of}
+use Rattle.proto_core.specs.Joints.{joint_of}
 use Rattle.reshare.proofs.StepsLemmas.{of_three_has}
 use Rattle.open_result.proofs.StepsLemmas.{masked, summed, part_is}
 use Rattle.open_result.proofs.together.open_together.Goals as goal

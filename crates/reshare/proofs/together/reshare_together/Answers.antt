@@ -1,6 +1,6 @@
 use Rattle.std.proofs.Common.{length, refl}
 use Rattle.proto_core.specs.declared.party.Number.TheVariants.{One, Two, Three}
-use Rattle.reshare.specs.Joints.{joint_of}
+use Rattle.proto_core.specs.Joints.{joint_of}
 use Rattle.reshare.proofs.StepsLemmas.{reshared_share, part_is, value_is, of_three_has}
 use Rattle.reshare.proofs.together.reshare_together.Goals as goal
 

@@ -2,7 +2,7 @@ use Rattle.std.proofs.Common.{◌∙◌, [], ◌∷◌, length, refl, ap}
 use Rattle.share_ring.specs.Rings.{add_ring}
 use Rattle.proto_core.specs.declared.party.Number.TheVariants.{One, Two}
 use Rattle.proto_core.specs.Resharing.{sum_of_three}
-use Rattle.share_convert.specs.Together.{joint_of}
+use Rattle.proto_core.specs.Joints.{joint_of}
 use Rattle.share_convert.specs.Converting.{converted}
 use Rattle.share_convert.specs.ConvertingLaws.{converts}
 use Rattle.share_convert.proofs.BitFields.{sent-has12, sent-has13, sent-has23, sent-has32}
