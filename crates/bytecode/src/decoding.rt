@@ -8,7 +8,7 @@ ghost use Rattle.bytecode.specs.Layouts.{read};
 ghost use Rattle.bytecode.specs.Reading.{Reads};
 
 use crate::code::{Code, Function};
-use crate::fault::{DecodeErr, Fault, FaultKind, Stopped};
+use crate::fault::{DecodeErr, DecodeFault, FaultKind, Stopped};
 use crate::heads::{Head, all_heads};
 use crate::names::all_names;
 use crate::operands::body;
@@ -105,7 +105,7 @@ fn code(alloc: Global, reader: &mut Reader<'_>) -> Result<Code, Stopped>
 fn fault(kind: FaultKind, size: usize, left: usize) -> DecodeErr
     ensures { result ≡ Refused (record { kind = kind; place = size - left }) }
 {
-    DecodeErr::Refused(Fault {
+    DecodeErr::Refused(DecodeFault {
         kind,
         place: size.saturating_sub(left),
     })

@@ -15,7 +15,7 @@ use Rattle.clear_eval.specs.Standing.{AreSoundStatements}
 
 pub record IsBegun (functions : List TypedFunction) (calls_left number : ℕ) (binding : List BoundDomain) (xs : List Value) (b : Begun) : Type 0 where
   pub around : b.at.here.functions.now ≡ functions
-  pub room : b.at.room ≡ calls_left
+  pub depth : b.at.depth ≡ calls_left
   pub executes : (w : World) (calls : Calls) (s : Stage) →
       body_of w calls (map typed_function_tree functions) (slice_get (map typed_function_tree functions) number) binding xs s
       ≡ carry (execute_all w calls (place_seen b.at) (commands_of (map command b.body.now.items)) (frame_seen b.frame.items) s) (λ g. done (result_of g))

@@ -7,7 +7,7 @@ use Rattle.language_model.specs.Values.{Value}
 use Rattle.language_model.specs.Evaluation.{array_elements}
 
 -- where there is room for so many calls inside one another: 1, and then the elements of its arrays
-abbrev pub call_charged : (room line : ℕ) → List Value → Effect (Unit {0})
+abbrev pub call_charged : (depth line : ℕ) → List Value → Effect (Unit {0})
 call_charged zero line xs = do
   _ ← charge 1
   end (ending.Trap trap.Depth line)

@@ -58,5 +58,5 @@ abbrev pub body_weight : TypedFunctionTree → ℕ
 body_weight f = commands_weight f.body
 
 -- a call falls by one in the room for calls, and begins a body
-unfoldable pub work : List TypedFunctionTree → (room weight : ℕ) → ℕ
-work fs room n = room * (sum (map body_weight fs) + 2) + n
+unfoldable pub work : List TypedFunctionTree → (depth weight : ℕ) → ℕ
+work fs depth n = depth * (sum (map body_weight fs) + 2) + n

@@ -7,7 +7,7 @@ use Rattle.reached_instances.specs.Domains.{Setting}
 use Rattle.language_model.specs.Effects.{World, Stage, Effect, ◌>>=◌, carry, done}
 use Rattle.language_model.specs.Values.{Value}
 use Rattle.language_model.specs.Operations.{wanted, operation, negated, cast_to, size_told, summed, bits_extracted, element_of_array, filled, published, asserted, declassified}
-use Rattle.language_model.specs.Evaluation.{Frame, Calls, Flow, goes, returns, Place, slot_is_private, put, value, execute, stored}
+use Rattle.language_model.specs.Evaluation.{Frame, Calls, Flow, goes, returns, StatementContext, slot_is_private, put, value, execute, stored}
 use Rattle.clear_eval.specs.declared.parts.Parts.{Parts}
 use Rattle.clear_eval.specs.declared.parts.Parts.TheVariants as parts
 use Rattle.clear_eval.specs.declared.parts.StatementParts.{StatementParts}
@@ -72,7 +72,7 @@ is_plain (input_command line k text) = true
 is_plain c = false
 
 -- the step of a statement with one expression, on its value
-abbrev pub after_one : World → Place → Command → Value → Frame → Effect Flow
+abbrev pub after_one : World → StatementContext → Command → Value → Frame → Effect Flow
 after_one w at (return_command (Some e)) x fr = do
   v ← wanted at.secret_result x
   done (returns v)
@@ -86,7 +86,7 @@ after_one w at (publish_command text e) x fr = do
 after_one w at c x fr = done (goes fr)
 
 -- and of one with two
-abbrev pub after_two : World → Place → Command → (x y : Value) → Frame → Effect Flow
+abbrev pub after_two : World → StatementContext → Command → (x y : Value) → Frame → Effect Flow
 after_two w at (fill_command line k n e) m x fr = do
   a ← wanted (slot_is_private at.here k) x
   v ← filled line m a
@@ -97,12 +97,12 @@ after_two w at (element_command line k i e) j x fr = do
 after_two w at c x y fr = done (goes fr)
 
 pub record HasOneWithin (c : Command) (x : TypedTree) : Type 0 where
-  pub executes : (w : World) (calls : Calls) (at : Place) (fr : Frame) (s : Stage) → execute w calls at c fr s ≡ carry (value w calls at.here x fr s) (λ a. after_one w at c a fr)
+  pub executes : (w : World) (calls : Calls) (at : StatementContext) (fr : Frame) (s : Stage) → execute w calls at c fr s ≡ carry (value w calls at.here x fr s) (λ a. after_one w at c a fr)
   pub lighter : weight x + 4 ≤ command_weight c
   pub sound : (n : ℕ) (ps : List ℕ) → IsSoundCommand n ps c → IsSoundTree n ps x
 
 pub record HasTwoWithin (c : Command) (x y : TypedTree) : Type 0 where
-  pub executes : (w : World) (calls : Calls) (at : Place) (fr : Frame) (s : Stage) →
+  pub executes : (w : World) (calls : Calls) (at : StatementContext) (fr : Frame) (s : Stage) →
       execute w calls at c fr s ≡ carry (value w calls at.here x fr s) (λ a t. carry (value w calls at.here y fr t) (λ b. after_two w at c a b fr))
   pub lighter : weight x + weight y + 4 ≤ command_weight c
   pub sound : (n : ℕ) (ps : List ℕ) → IsSoundCommand n ps c → IsSoundTree n ps x × IsSoundTree n ps y

@@ -4,11 +4,11 @@ use Rattle.std.specs.declared.alloc.Global.{Global}
 use Rattle.typed_tree.specs.Programs.{TypedFunctionTree, typed_function_tree}
 use Rattle.reached_instances.specs.Views.{setting}
 use Rattle.language_model.specs.Values.{Value}
-use Rattle.language_model.specs.Evaluation.{Frame, Calls, Flow, goes, returns, stops, skips, Place, nothing, call_at}
+use Rattle.language_model.specs.Evaluation.{Frame, Calls, Flow, goes, returns, stops, skips, StatementContext, nothing, call_at}
 use Rattle.value_steps.specs.declared.value.Value as held
 use Rattle.value_steps.specs.declared.world.World as fixed
 use Rattle.value_steps.specs.Views.{value_seen, world_seen}
-use Rattle.clear_eval.specs.declared.place.Place as standing
+use Rattle.clear_eval.specs.declared.place.StatementContext as standing
 use Rattle.clear_eval.specs.declared.flow.Flow as going
 use Rattle.clear_eval.specs.declared.flow.Flow.TheVariants as flow
 use Rattle.clear_eval.specs.declared.held.Held as operand
@@ -35,12 +35,12 @@ abbrev pub held_seen : operand.Held → Value
 held_seen (Lent v) = value_seen v.now
 held_seen (Own v) = value_seen v
 
-abbrev pub place_seen : standing.Place → Place
+abbrev pub place_seen : standing.StatementContext → StatementContext
 place_seen at = record { here = setting at.here; secret_result = at.private_result }
 
-abbrev pub functions_around : standing.Place → List TypedFunctionTree
+abbrev pub functions_around : standing.StatementContext → List TypedFunctionTree
 functions_around at = map typed_function_tree at.here.functions.now
 
 -- the calls that a place has room for
-abbrev pub calls_from : fixed.World → standing.Place → Calls
-calls_from w at = call_at (world_seen w) (functions_around at) at.room
+abbrev pub calls_from : fixed.World → standing.StatementContext → Calls
+calls_from w at = call_at (world_seen w) (functions_around at) at.depth

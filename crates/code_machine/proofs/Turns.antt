@@ -9,7 +9,7 @@ use Rattle.code_model.specs.Machine.{Machine, exec, further}
 use Rattle.value_steps.specs.declared.halt.Halt.{Halt}
 use Rattle.value_steps.specs.declared.halt.Halt.TheVariants as halt
 use Rattle.value_steps.specs.Steps.{Does}
-use Rattle.code_machine.specs.declared.ran.Stop as halted
+use Rattle.code_machine.specs.declared.ran.StopReason as halted
 use Rattle.code_machine.specs.Runs.{IsStopOf, stopped_at}
 use Rattle.code_machine.specs.Views.{stepped}
 
@@ -34,7 +34,7 @@ turn-none w code (suc k) m s e = absurd (omega (arith, e))
 
 -- a step stopped, and so did the run
 pub turn-stops : {A : Type 0} (seen : A → Machine) (w : World) (code : RawCode) (k : ℕ) (m : Machine) (s s' : Stage) (h : Halt)
-    (r : Result (Option halted.Stop) AllocError)
+    (r : Result (Option halted.StopReason) AllocError)
     → IsStopOf h r → 0 < k → Does seen (stepped w code m) s (Err h) s' → IfOk r (λ o. exec w (settled code) k m s ≡ stopped_at o s')
 turn-stops seen w code k m s s' halt.Memory (Ok o) i l d = absurd i
 turn-stops seen w code k m s s' halt.Memory (Err e) i l d = tt

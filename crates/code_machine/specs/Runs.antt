@@ -6,16 +6,16 @@ use Rattle.language_model.specs.Reports.{Report}
 use Rattle.value_steps.specs.declared.halt.Halt.{Halt}
 use Rattle.value_steps.specs.declared.halt.Halt.TheVariants as halt
 use Rattle.value_steps.specs.Views as seen
-use Rattle.code_machine.specs.declared.ran.Stop as halted
-use Rattle.code_machine.specs.declared.ran.Stop.TheVariants as stop
+use Rattle.code_machine.specs.declared.ran.StopReason as halted
+use Rattle.code_machine.specs.declared.ran.StopReason.TheVariants as stop
 use Rattle.code_machine.specs.declared.ran.Ran as finished
 
-abbrev pub stop_seen : halted.Stop → Stop
+abbrev pub stop_seen : halted.StopReason → Stop
 stop_seen (stop.Ended e) = Ended e
 stop_seen stop.Short = Short
 
 -- where a run stopped, if it did
-abbrev pub stopped_at : Option halted.Stop → Stage → Option (Stop × Stage)
+abbrev pub stopped_at : Option halted.StopReason → Stage → Option (Stop × Stage)
 stopped_at None s = None
 stopped_at (Some stop) s = Some (stop_seen stop, s)
 
@@ -33,7 +33,7 @@ ran_seen r =
     }
 
 -- where a step stopped so does a run, unless memory ran short
-abbrev pub IsStopOf : Halt → Result (Option halted.Stop) AllocError → Type 0
+abbrev pub IsStopOf : Halt → Result (Option halted.StopReason) AllocError → Type 0
 IsStopOf halt.Memory (Ok o) = ⊥
 IsStopOf halt.Memory (Err e) = Unit {0}
 IsStopOf (halt.Ended x) r = r ≡ Ok (Some (stop.Ended x))

@@ -29,6 +29,6 @@ pub use begin::start;
 pub use laws::steps_only_gain;
 pub use machine::{Caller, Machine};
 pub use marks::{Mark, marked, rewind};
-pub use ran::{Ran, Stop};
+pub use ran::{Ran, StopReason};
 pub use running::run_code;
 pub use stepping::step;

@@ -8,7 +8,7 @@ use value_steps::{Halt, Stage};
 
 /// Why a run stopped.
 #[derive(Clone, Copy)]
-pub enum Stop {
+pub enum StopReason {
     Ended(Ending),
     /// An opened value wanted more answers than were left.
     Short,
@@ -16,7 +16,7 @@ pub enum Stop {
 
 /// What a run of code gave: why it stopped, its cost, the words that it needed of the dealer's tape, and how far it came.
 pub struct Ran<'a> {
-    pub stop: Stop,
+    pub stop: StopReason,
     pub cost: u64,
     pub dealt: u64,
     pub stage: Stage<'a>,
@@ -37,12 +37,12 @@ impl Drop for Ran<'_> {
 }
 
 /// Why a run stopped, of why its step did. An error comes where memory ran short.
-pub(crate) fn stop_of(halt: Halt) -> Result<Option<Stop>, AllocError>
+pub(crate) fn stop_of(halt: Halt) -> Result<Option<StopReason>, AllocError>
     ensures { IsStopOf halt result }
 {
     match halt {
-        Halt::Ended(ending) => Ok(Some(Stop::Ended(ending))),
-        Halt::Short => Ok(Some(Stop::Short)),
+        Halt::Ended(ending) => Ok(Some(StopReason::Ended(ending))),
+        Halt::Short => Ok(Some(StopReason::Short)),
         Halt::Memory => Err(AllocError),
     }
 }

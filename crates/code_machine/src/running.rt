@@ -13,7 +13,7 @@ use crate::begin::start;
 use crate::dealer::dealing;
 use crate::fuel::fuel;
 use crate::machine::Machine;
-use crate::ran::{Ran, Stop, stop_of};
+use crate::ran::{Ran, StopReason, stop_of};
 use crate::stepping::step;
 use sc_text::{Ending, TapeOwner};
 use std::alloc::{AllocError, Global};
@@ -47,7 +47,7 @@ fn run_within(
     stage: &mut Stage<'_>,
     machine: Machine,
     steps: u128,
-) -> Result<Option<Stop>, AllocError>
+) -> Result<Option<StopReason>, AllocError>
     requires { Stands code.now machine }
     ensures { IfOk result (λ stopped. exec (world_seen world.now) (settled code.now) steps (machine_seen code.now machine) (stage_seen stage.old)
         ≡ stopped_at stopped (stage_seen stage.new)) }
@@ -68,7 +68,7 @@ fn run_main(
     world: &World<'_>,
     code: &Verified,
     stage: &mut Stage<'_>,
-) -> Result<Stop, AllocError>
+) -> Result<StopReason, AllocError>
     ensures { IfOk result (λ stop. exec (world_seen world.now) (settled code.now)
         (fuel (settled code.now) stage.old.left) (start (settled code.now)) (stage_seen stage.old)
         ≡ Some (stop_seen stop, stage_seen stage.new)) }
@@ -97,7 +97,7 @@ pub fn run_code<'a>(
     if need > have as u128 {
         let owner = TapeOwner::Dealer;
         return Ok(Ran {
-            stop: Stop::Ended(Ending::Tape { owner, need, have }),
+            stop: StopReason::Ended(Ending::Tape { owner, need, have }),
             cost: 0,
             dealt: 0,
             stage,

@@ -1,13 +1,13 @@
 -- What the checker has found behind a piece of a program.
 use Rattle.std.specs.Prelude.{◌≡◌, List, ◌++◌}
 use Rattle.domain_types.specs.declared.calls.Found.{Found}
-use Rattle.domain_types.specs.declared.fault.Fault.{Fault}
+use Rattle.domain_types.specs.declared.fault.TypeFault.{TypeFault}
 use Rattle.domain_types.specs.Reached.{Call}
 use Rattle.domain_types.specs.Views.{calls_seen}
 use Rattle.domain_types.specs.Least.{least}
 
 -- what is wanted is given, and these faults and calls are found behind those of before
-pub record Gives {A : Type 0} (wanted given : A) (before behind : Found) (fs : List Fault) (cs : List Call) : Type 0 where
+pub record Gives {A : Type 0} (wanted given : A) (before behind : Found) (fs : List TypeFault) (cs : List Call) : Type 0 where
   pub kind : given ≡ wanted
-  pub worst : behind.worst ≡ least before.worst fs
+  pub least_fault : behind.least_fault ≡ least before.least_fault fs
   pub calls : calls_seen behind.calls.items ≡ calls_seen before.calls.items ++ cs

@@ -3,7 +3,7 @@ use Rattle.std.specs.Prelude.{ℕ, ◌≡◌, ◌+◌, Bool, nat_eq, if◌then�
 use Rattle.std.specs.List.{list_any, slice_get}
 use Rattle.secrec_ast.specs.declared.statement.Identifier.{Identifier}
 use Rattle.secrec_ast.specs.Programs.{FunctionTree}
-use Rattle.domain_types.specs.declared.fault.Fault.{Fault}
+use Rattle.domain_types.specs.declared.fault.TypeFault.{TypeFault}
 use Rattle.domain_types.specs.declared.value_type.Protection.{Protection}
 use Rattle.domain_types.specs.Declarations.{Declared}
 use Rattle.domain_types.specs.ExpressionTypes.{within}
@@ -45,7 +45,7 @@ abbrev pub of_function : {A : Type 0} → Option FunctionTree → (FunctionTree 
 of_function None has = []
 of_function (Some f) has = has f
 
-abbrev pub instance_faults : Declared → Instance → List Fault
+abbrev pub instance_faults : Declared → Instance → List TypeFault
 instance_faults d i = of_function (slice_get d.functions i.function) (λ f. function_faults (within d f i.binding) f)
 
 abbrev pub instance_calls : Declared → Instance → List Call
@@ -60,7 +60,7 @@ abbrev pub is_called : ℕ → List Call → Bool
 is_called k cs = list_any (λ c. nat_eq c.function k) cs
 
 -- the heads of the functions that the test picks, numbered from n on
-abbrev pub heads_faults : Declared → (protections : List Identifier) → (ℕ → Bool) → ℕ → List FunctionTree → List Fault
+abbrev pub heads_faults : Declared → (protections : List Identifier) → (ℕ → Bool) → ℕ → List FunctionTree → List TypeFault
 heads_faults d ps test n [] = []
 heads_faults d ps test n (f ∷ fs) =
     (if test n then domain_variables_faults d ps f.parameters [] f.variables else []) ++ heads_faults d ps test (n + 1) fs

@@ -8,7 +8,7 @@ ghost use Rattle.lowering.specs.Leaves.{pair_command, pair_step, with_leaf};
 ghost use Rattle.lowering.specs.Pieces.{with_command};
 ghost use Rattle.lowering.specs.Views.{numbers_at, place_seen};
 
-use crate::place::Place;
+use crate::place::LoweringContext;
 use lowered_expressions::{
     Around, Body, Operand, Step, argument, call, expression, given_to, kind, kind_of, lacks,
     operand, private_kind, slot_is_private, slot_shape, wanted,
@@ -22,7 +22,7 @@ use typed_tree::{Shape, TypedExpression};
 pub fn returning(
     alloc: Global,
     body: &mut Body<'_>,
-    at: &Place<'_>,
+    at: &LoweringContext<'_>,
     e: &Option<TypedExpression>,
 ) -> Result<(), AllocError>
     ensures { OnOk result (built body.new ≡

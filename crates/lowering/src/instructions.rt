@@ -12,7 +12,7 @@ ghost use Rattle.lowering.specs.Views.{function_seen};
 use crate::errors::LowerErr;
 use crate::functions::FunctionSteps;
 use crate::naming::{Names, place_among};
-use bytecode::{Function, FunctionPlace, Instruction, NamePlace, Register, Target};
+use bytecode::{Function, FunctionPlace, Instruction, JumpTarget, NamePlace, Register};
 use lowered_expressions::Step;
 use std::alloc::{AllocError, Global};
 use typed_tree::{BinaryOperator, BoolOperator, WordOperator};
@@ -37,10 +37,10 @@ fn register(number: usize) -> Register
     Register(short(number))
 }
 
-fn place_target(number: usize) -> Target
+fn place_target(number: usize) -> JumpTarget
     ensures { result.0 ≡ capped number }
 {
-    Target(short(number))
+    JumpTarget(short(number))
 }
 
 fn name_place(number: usize) -> NamePlace

@@ -9,9 +9,9 @@ ghost use Rattle.lowering.specs.Views.{numbers_at, place_seen};
 use crate::commands::{
     Pair, assertion, default_store, input, pair_store, publishing, returning, store, unread,
 };
-use crate::place::Place;
+use crate::place::LoweringContext;
 use crate::settling::{push, settle};
-use lowered_expressions::{Body, Piece, Step, expression};
+use lowered_expressions::{Body, BodyPiece, Step, expression};
 use std::alloc::{AllocError, Global};
 use typed_tree::{TypedExpression, TypedStatement};
 
@@ -20,7 +20,7 @@ use typed_tree::{TypedExpression, TypedStatement};
 fn statement<'p>(
     alloc: Global,
     body: &mut Body<'p>,
-    at: &Place<'_>,
+    at: &LoweringContext<'_>,
     s: &'p TypedStatement,
 ) -> Result<(), AllocError>
     ensures { OnOk result (built body.new ≡ with_command (numbers_at at.now) (place_seen at.now) (built body.old) (command s.now)) }
@@ -31,8 +31,8 @@ fn statement<'p>(
         TypedStatement::If(e, first, second) => choice(alloc, body, at, e, first, second),
         TypedStatement::Loop(e, step, repeated) => turns(alloc, body, at, e, step, repeated),
         TypedStatement::DoWhile(repeated, e) => repeats(alloc, body, at, repeated, e),
-        TypedStatement::Break => push(body, Piece::Break),
-        TypedStatement::Continue => push(body, Piece::Continue),
+        TypedStatement::Break => push(body, BodyPiece::Break),
+        TypedStatement::Continue => push(body, BodyPiece::Continue),
         TypedStatement::Return(e) => returning(alloc, body, at, e),
         TypedStatement::Assert(line, e) => assertion(alloc, body, &at.around, *line, e),
         TypedStatement::Store(slot, e) => store(alloc, body, &at.around, *slot, e),
@@ -63,7 +63,7 @@ fn statement<'p>(
 pub fn statements<'p>(
     alloc: Global,
     body: &mut Body<'p>,
-    at: &Place<'_>,
+    at: &LoweringContext<'_>,
     list: &'p Vec<TypedStatement>,
 ) -> Result<(), AllocError>
     ensures { OnOk result (built body.new ≡
@@ -80,7 +80,7 @@ pub fn statements<'p>(
 fn choice<'p>(
     alloc: Global,
     body: &mut Body<'p>,
-    at: &Place<'_>,
+    at: &LoweringContext<'_>,
     e: &TypedExpression,
     first: &'p TypedStatement,
     second: &'p TypedStatement,
@@ -115,7 +115,7 @@ fn choice<'p>(
 fn turns<'p>(
     alloc: Global,
     body: &mut Body<'p>,
-    at: &Place<'_>,
+    at: &LoweringContext<'_>,
     e: &TypedExpression,
     step: &'p TypedStatement,
     repeated: &'p TypedStatement,
@@ -149,7 +149,7 @@ fn turns<'p>(
 fn repeats<'p>(
     alloc: Global,
     body: &mut Body<'p>,
-    at: &Place<'_>,
+    at: &LoweringContext<'_>,
     repeated: &'p TypedStatement,
     e: &TypedExpression,
 ) -> Result<(), AllocError>

@@ -7,8 +7,8 @@ use Rattle.secrec_ast.specs.Programs.{FunctionTree}
 use Rattle.domain_types.specs.Views.{tree_at}
 use Rattle.name_resolution.specs.declared.values.Valued.{Valued}
 use Rattle.name_resolution.specs.declared.values.CallMade.{CallMade}
-use Rattle.name_resolution.specs.declared.found.Found.{Found}
-use Rattle.name_resolution.specs.declared.place.Place.{Place}
+use Rattle.name_resolution.specs.declared.found.CalledFunctions.{CalledFunctions}
+use Rattle.name_resolution.specs.declared.place.FunctionScope.{FunctionScope}
 use Rattle.typed_tree.specs.declared.kinds.Slot.{Slot}
 use Rattle.typed_tree.specs.declared.statement.TypedStatement.{TypedStatement}
 use Rattle.typed_tree.specs.declared.function.TypedFunction.{TypedFunction}
@@ -33,10 +33,10 @@ call_seen c = record { tree = typed_tree c.tree; gives = c.gives }
 abbrev pub type_at : Bor DeclaredType → DeclaredType
 type_at t = t.now
 
-abbrev pub place_seen : Place → scopes.Place
+abbrev pub place_seen : FunctionScope → scopes.FunctionScope
 place_seen s = record { scope = s.variables; slots = map type_at s.slots.items }
 
-abbrev pub found_seen : Found → List FunctionTree
+abbrev pub found_seen : CalledFunctions → List FunctionTree
 found_seen f = map tree_at f.functions.items
 
 abbrev pub command_in : Box TypedStatement Global → Command
@@ -46,7 +46,7 @@ abbrev pub commands_seen : Vec TypedStatement Global → Commands
 commands_seen cs = commands_of (map command cs.items)
 
 -- what is made of a piece, with the place behind it
-abbrev pub with_place : {A B : Type 0} → (A → B) → scopes.Place → A → B × scopes.Place
+abbrev pub with_place : {A B : Type 0} → (A → B) → scopes.FunctionScope → A → B × scopes.FunctionScope
 with_place view s a = (view a, s)
 
 abbrev pub slots_seen : Vec Slot Global → List Slot

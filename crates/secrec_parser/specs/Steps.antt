@@ -3,8 +3,8 @@ use Rattle.std.specs.Prelude.{ℕ, zero, suc, ◌+◌, ◌-◌, nat_eq, nat_lt, 
 use Rattle.sc_text.specs.declared.span.Span.{Span}
 use Rattle.secrec_lexer.specs.declared.sign.Sign.{Sign}
 use Rattle.secrec_lexer.specs.declared.sign.Sign.TheVariants as signs
-use Rattle.secrec_lexer.specs.declared.token.Kind.{Kind}
-use Rattle.secrec_lexer.specs.declared.token.Kind.TheVariants as kinds
+use Rattle.secrec_lexer.specs.declared.token.TokenKind.{TokenKind}
+use Rattle.secrec_lexer.specs.declared.token.TokenKind.TheVariants as kinds
 use Rattle.secrec_lexer.specs.declared.token.Token.{Token}
 use Rattle.secrec_lexer.specs.Tokens.{is_sign, is_end}
 use Rattle.secrec_ast.specs.declared.expression.Operator.{Operator}
@@ -21,7 +21,7 @@ use Rattle.secrec_ast.specs.Tree.{Tree, number}
 use Rattle.secrec_ast.specs.Statements.{DeclarationTree, TargetTree, target_of, AssignmentTree, StartTree, starts_with_nothing, starts_with_declaration, starts_with_assignment, StepTree, steps_by_nothing, steps_by_assignment, steps_by_expression, StatementTree, statements_of, block, empty, branch, choice, while_loop, do_loop, for_loop, breaks, continues, returns, assertion, declaration, assignment, evaluation}
 use Rattle.secrec_ast.specs.Programs.{BlockTree, FunctionTree, ItemTree, imports, kind, domain, defines, ProgramTree}
 use Rattle.secrec_ast.specs.Heights.{target_height}
-use Rattle.expression_parser.specs.declared.problem.Problem.TheVariants.{Unexpected, TooHigh}
+use Rattle.expression_parser.specs.declared.problem.ParseProblem.TheVariants.{Unexpected, TooHigh}
 use Rattle.secrec_parser.specs.declared.leader.Leader.{Leader}
 use Rattle.secrec_parser.specs.declared.leader.Leader.TheVariants as leaders
 use Rattle.secrec_parser.specs.declared.assignment.Update.{Update}
@@ -50,7 +50,7 @@ listed stop inner found w = list_from stop inner (suc (length w)) found w
 
 -- Types
 
-abbrev pub domain_of : Kind → Token → List Token → Outcome Domain
+abbrev pub domain_of : TokenKind → Token → List Token → Outcome Domain
 domain_of (kinds.Name text) x m = Ok (domains.Named (record { place = x.place; text = text }), m)
 domain_of other x m = if is_sign signs.Public x then Ok (domains.Public, m) else Ok (domains.Public, x ∷ m)
 
@@ -59,7 +59,7 @@ abbrev pub optional_domain : List Token → Outcome Domain
 optional_domain [] = Err (Unexpected, [])
 optional_domain (x ∷ m) = domain_of x.kind x m
 
-abbrev pub zero_or_one_of : Kind → Token → List Token → Outcome Bool
+abbrev pub zero_or_one_of : TokenKind → Token → List Token → Outcome Bool
 zero_or_one_of (kinds.Number n) x m =
     if nat_eq n 0 then Ok (false, m) else if nat_eq n 1 then Ok (true, m) else Err (Unexpected, x ∷ m)
 zero_or_one_of other x m = Err (Unexpected, x ∷ m)
@@ -154,20 +154,20 @@ least_height t (updates.Compound op) = t + 2
 least_height t (updates.Step op) = t + 2
 
 abbrev pub value_by : ℕ → TargetTree → Update → List Token → Outcome Tree
-value_by room t updates.Plain m = operand (room - 1) m
-value_by room t (updates.Compound op) m = operand (room - 2) m >>= λ e. Ok (updated t op e.0, e.1)
-value_by room t (updates.Step op) m = Ok (updated t op (number t.variable.place 1), m)
+value_by max_height t updates.Plain m = operand (max_height - 1) m
+value_by max_height t (updates.Compound op) m = operand (max_height - 2) m >>= λ e. Ok (updated t op e.0, e.1)
+value_by max_height t (updates.Step op) m = Ok (updated t op (number t.variable.place 1), m)
 
 abbrev pub assigned_by : ℕ → TargetTree → Option Update → Token → List Token → Outcome AssignmentTree
-assigned_by room t None x m = Err (Unexpected, x ∷ m)
-assigned_by room t (Some u) x m =
-    if nat_lt room (least_height (target_height t) u) then Err (TooHigh, x ∷ m)
-    else (value_by room t u m >>= λ v. Ok (record { target = t; value = v.0 }, v.1))
+assigned_by max_height t None x m = Err (Unexpected, x ∷ m)
+assigned_by max_height t (Some u) x m =
+    if nat_lt max_height (least_height (target_height t) u) then Err (TooHigh, x ∷ m)
+    else (value_by max_height t u m >>= λ v. Ok (record { target = t; value = v.0 }, v.1))
 
 -- what a target gets, in an assignment of at most this height
 abbrev pub assigned : ℕ → TargetTree → List Token → Outcome AssignmentTree
-assigned room t [] = Err (Unexpected, [])
-assigned room t (x ∷ m) = assigned_by room t (update_of x) x m
+assigned max_height t [] = Err (Unexpected, [])
+assigned max_height t (x ∷ m) = assigned_by max_height t (update_of x) x m
 
 abbrev pub bracketed : ℕ → List Token → Outcome Tree
 bracketed h w = do
@@ -178,16 +178,16 @@ bracketed h w = do
 
 -- the index of a target, in an assignment of at most this height
 abbrev pub target_index : ℕ → List Token → Outcome (Option Tree)
-target_index room w =
+target_index max_height w =
     if at_sign signs.LeftBracket w
-    then (if nat_lt room 3 then Err (TooHigh, w) else (bracketed (room - 2) w >>= λ e. Ok (Some e.0, e.1)))
+    then (if nat_lt max_height 3 then Err (TooHigh, w) else (bracketed (max_height - 2) w >>= λ e. Ok (Some e.0, e.1)))
     else Ok (None, w)
 
 unfoldable pub assignment_step : ℕ → List Token → Outcome AssignmentTree
-assignment_step room w = do
+assignment_step max_height w = do
   x ← identifier w
-  i ← target_index room x.1
-  assigned room (record { variable = x.0; index = i.0 }) i.1
+  i ← target_index max_height x.1
+  assigned max_height (record { variable = x.0; index = i.0 }) i.1
 
 -- an assignment or an expression
 pub data ActionTree : Type 0 where
@@ -195,8 +195,8 @@ pub data ActionTree : Type 0 where
   evaluates : Tree → ActionTree
 
 abbrev pub assigns_to : ℕ → Option TargetTree → List Token → Outcome ActionTree
-assigns_to room None w = Err (Unexpected, w)
-assigns_to room (Some t) w = assigned room t w >>= λ a. Ok (assigns a.0, a.1)
+assigns_to max_height None w = Err (Unexpected, w)
+assigns_to max_height (Some t) w = assigned max_height t w >>= λ a. Ok (assigns a.0, a.1)
 
 abbrev pub updates_by : Option Update → Bool
 updates_by None = false
@@ -208,13 +208,13 @@ is_update (x ∷ m) = updates_by (update_of x)
 
 -- an expression of at most the first height, or an assignment of at most the second
 unfoldable pub action : ℕ → ℕ → List Token → Outcome ActionTree
-action h room w =
+action h max_height w =
     operand h w >>= λ e.
-    if is_update e.1 then assigns_to room (target_of e.0) e.1 else Ok (evaluates e.0, e.1)
+    if is_update e.1 then assigns_to max_height (target_of e.0) e.1 else Ok (evaluates e.0, e.1)
 
 -- Statements
 
-abbrev pub name_leader : Kind → Leader
+abbrev pub name_leader : TokenKind → Leader
 name_leader (kinds.Name text) = leaders.Name
 name_leader other = leaders.Expression
 
@@ -294,7 +294,7 @@ do_step h inner p w = do
   do_behind h p s.0 s.1
 
 -- whether a declaration begins here: with a type, or with a name and a type
-abbrev pub is_named_type : Kind → List Token → Bool
+abbrev pub is_named_type : TokenKind → List Token → Bool
 is_named_type (kinds.Name text) [] = false
 is_named_type (kinds.Name text) (y ∷ m) = is_type y
 is_named_type other m = false
@@ -374,8 +374,8 @@ statement_of (assigns a) = assignment a
 statement_of (evaluates e) = evaluation e
 
 unfoldable pub action_statement : ℕ → List Token → Outcome StatementTree
-action_statement room w = do
-  a ← action (room - 1) room w
+action_statement max_height w = do
+  a ← action (max_height - 1) max_height w
   b ← expect signs.Semicolon a.1
   Ok (statement_of a.0, b.1)
 
@@ -396,40 +396,40 @@ only_declares (y ∷ m) = if follows_name y then Err (TooHigh, y ∷ m) else Err
 
 -- a statement that begins with a name, which stands before m
 unfoldable pub name_statement : ℕ → List Token → List Token → Outcome StatementTree
-name_statement room w m =
-    if declares w then declaration_statement (room - 1) w
-    else if nat_eq room 1 then only_declares m
-    else action_statement room w
+name_statement max_height w m =
+    if declares w then declaration_statement (max_height - 1) w
+    else if nat_eq max_height 1 then only_declares m
+    else action_statement max_height w
 
 -- a statement that holds none and that a keyword or a semicolon leads, which stands at this place before the tokens
 abbrev pub short : Leader → ℕ → Span → List Token → Outcome StatementTree
-short leaders.Break room p m = expect signs.Semicolon m >>= λ b. Ok (breaks p, b.1)
-short leaders.Continue room p m = expect signs.Semicolon m >>= λ b. Ok (continues p, b.1)
-short leaders.Return room p m = return_step (room - 1) p m
-short leaders.Assert room p m = assert_step (room - 1) p m
-short other room p m = Ok (empty p, m)
+short leaders.Break max_height p m = expect signs.Semicolon m >>= λ b. Ok (breaks p, b.1)
+short leaders.Continue max_height p m = expect signs.Semicolon m >>= λ b. Ok (continues p, b.1)
+short leaders.Return max_height p m = return_step (max_height - 1) p m
+short leaders.Assert max_height p m = assert_step (max_height - 1) p m
+short other max_height p m = Ok (empty p, m)
 
 -- what a keyword, a brace or a semicolon leads, which stands at this place before the tokens
 unfoldable pub led : Leader → ℕ → (Bool → Inner) → Bool → Span → List Token → Outcome StatementTree
-led leaders.Block room lower inside p m = braced (lower inside) m >>= λ ss. Ok (block p (statements_of ss.0), ss.1)
-led leaders.If room lower inside p m = if_step (room - 1) (lower inside) p m
-led leaders.While room lower inside p m = while_step (room - 1) (lower true) p m
-led leaders.DoWhile room lower inside p m = do_step (room - 1) (lower true) p m
-led leaders.For room lower inside p m = for_step (room - 1) (lower true) p m
-led other room lower inside p m = short other room p m
+led leaders.Block max_height lower inside p m = braced (lower inside) m >>= λ ss. Ok (block p (statements_of ss.0), ss.1)
+led leaders.If max_height lower inside p m = if_step (max_height - 1) (lower inside) p m
+led leaders.While max_height lower inside p m = while_step (max_height - 1) (lower true) p m
+led leaders.DoWhile max_height lower inside p m = do_step (max_height - 1) (lower true) p m
+led leaders.For max_height lower inside p m = for_step (max_height - 1) (lower true) p m
+led other max_height lower inside p m = short other max_height p m
 
 abbrev pub statement_by : Leader → ℕ → (Bool → Inner) → Bool → Token → List Token → Outcome StatementTree
-statement_by leaders.Declaration room lower inside x m = declaration_statement (room - 1) (x ∷ m)
-statement_by leaders.Name room lower inside x m = name_statement room (x ∷ m) m
-statement_by leaders.Expression room lower inside x m = action_statement room (x ∷ m)
-statement_by other room lower inside x m = led other room lower inside x.place m
+statement_by leaders.Declaration max_height lower inside x m = declaration_statement (max_height - 1) (x ∷ m)
+statement_by leaders.Name max_height lower inside x m = name_statement max_height (x ∷ m) m
+statement_by leaders.Expression max_height lower inside x m = action_statement max_height (x ∷ m)
+statement_by other max_height lower inside x m = led other max_height lower inside x.place m
 
 -- one statement, where `lower` reads the statements in it
 unfoldable pub statement_step : ℕ → (Bool → Inner) → Bool → List Token → Outcome StatementTree
-statement_step room lower inside [] = Err (Unexpected, [])
-statement_step room lower inside (x ∷ m) =
-    if nat_lt room (least (leader_of inside x)) then Err (TooHigh, x ∷ m)
-    else statement_by (leader_of inside x) room lower inside x m
+statement_step max_height lower inside [] = Err (Unexpected, [])
+statement_step max_height lower inside (x ∷ m) =
+    if nat_lt max_height (least (leader_of inside x)) then Err (TooHigh, x ∷ m)
+    else statement_by (leader_of inside x) max_height lower inside x m
 
 -- a statement of at most this height
 unfoldable pub statement_at_most : ℕ → Bool → List Token → Outcome StatementTree
@@ -488,11 +488,11 @@ parameters w =
     if at_sign signs.RightParenthesis w then Ok ([], w)
     else (parameter w >>= λ p. listed no_comma (comma_then parameter) (p.0 ∷ []) p.1)
 
--- a function's body; room is that for its statements
+-- a function's body; `max_height` is that for its statements
 unfoldable pub body : ℕ → List Token → Outcome BlockTree
-body room w = do
+body max_height w = do
   a ← expect signs.LeftBrace w
-  ss ← braced (statement_at_most room false) a.1
+  ss ← braced (statement_at_most max_height false) a.1
   Ok (record { place = a.0; statements = statements_of ss.0 }, ss.1)
 
 unfoldable pub parameter_list : List Token → Outcome (List Parameter)
@@ -503,12 +503,12 @@ parameter_list w = do
   Ok (ps.0, b.1)
 
 unfoldable pub function_step : ℕ → List Token → Outcome FunctionTree
-function_step room w = do
+function_step max_height w = do
   vs ← template w
   t ← result_type vs.1
   x ← identifier t.1
   ps ← parameter_list x.1
-  c ← body room ps.1
+  c ← body max_height ps.1
   Ok (record { variables = vs.0; returned = t.0; function = x.0; parameters = ps.0; body = c.0 }, c.1)
 
 -- Programs
@@ -528,15 +528,15 @@ domain_item w = do
   Ok (domain x.0 k.0, b.1)
 
 abbrev pub item_step : ℕ → Token → List Token → Outcome ItemTree
-item_step room x m =
+item_step max_height x m =
     if is_sign signs.Import x then (named m >>= λ x. Ok (imports x.0, x.1))
     else if is_sign signs.Kind x then (named m >>= λ x. Ok (kind x.0, x.1))
     else if is_sign signs.Domain x then domain_item m
-    else (function_step room (x ∷ m) >>= λ f. Ok (defines f.0, f.1))
+    else (function_step max_height (x ∷ m) >>= λ f. Ok (defines f.0, f.1))
 
 unfoldable pub item : ℕ → List Token → Outcome ItemTree
-item room [] = Err (Unexpected, [])
-item room (x ∷ m) = item_step room x m
+item max_height [] = Err (Unexpected, [])
+item max_height (x ∷ m) = item_step max_height x m
 
 abbrev pub at_end : List Token → Bool
 at_end [] = false
@@ -544,7 +544,7 @@ at_end (x ∷ m) = is_end x.kind
 
 -- a whole program, up to the end of the text
 unfoldable pub program : ℕ → List Token → Outcome ProgramTree
-program room w = do
-  is ← listed (λ found w. at_end w) (item room) [] w
+program max_height w = do
+  is ← listed (λ found w. at_end w) (item max_height) [] w
   p ← place_at is.1
   Ok (record { items = is.0; end = p.0 }, p.1)

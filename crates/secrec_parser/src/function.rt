@@ -136,25 +136,25 @@ fn parameter_list<'a>(alloc: Global, tokens: &'a [Token]) -> Read<'a, Vec<Parame
     closed(found, expect(Sign::RightParenthesis, rest))
 }
 
-/// A function's body; room is the greatest height of its statements.
+/// A function's body; `max_height` is the greatest height of its statements.
 #[tactic(auto, unfolding(crate::specs::Steps::body))]
-fn body<'a>(alloc: Global, tokens: &'a [Token], room: u8) -> Read<'a, Block>
-    ensures { Takes (λ x. (block_tree x.0, x.1.now)) result (body room tokens.now) (length tokens.now) }
+fn body<'a>(alloc: Global, tokens: &'a [Token], max_height: u8) -> Read<'a, Block>
+    ensures { Takes (λ x. (block_tree x.0, x.1.now)) result (body max_height tokens.now) (length tokens.now) }
 {
     let (place, rest) = expect(Sign::LeftBrace, tokens)?;
-    let (statements, rest) = braced(alloc, rest, room, false)?;
+    let (statements, rest) = braced(alloc, rest, max_height, false)?;
     Ok((Block { place, statements }, rest))
 }
 
 #[tactic(auto, unfolding(crate::specs::Steps::function_step))]
-pub fn function<'a>(alloc: Global, tokens: &'a [Token], room: u8) -> Read<'a, Function>
-    ensures { Takes (λ x. (function_tree x.0, x.1.now)) result (function_step room tokens.now) (length tokens.now) }
+pub fn function<'a>(alloc: Global, tokens: &'a [Token], max_height: u8) -> Read<'a, Function>
+    ensures { Takes (λ x. (function_tree x.0, x.1.now)) result (function_step max_height tokens.now) (length tokens.now) }
 {
     let (variables, rest) = template(alloc, tokens)?;
     let (result, rest) = result_type(alloc, rest)?;
     let (function, rest) = identifier(alloc, rest)?;
     let (parameters, rest) = parameter_list(alloc, rest)?;
-    let (body, rest) = body(alloc, rest, room)?;
+    let (body, rest) = body(alloc, rest, max_height)?;
     let function = Function {
         variables,
         result,

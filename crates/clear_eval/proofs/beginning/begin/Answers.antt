@@ -31,7 +31,7 @@ returns c =
     let frame = c.in_ok-frame.ensures.frame ∙ ap (λ ss. entered b ss xs) c.deref.ensures.value in
     record {
       around = refl;
-      room = refl;
+      depth = refl;
       executes = λ w calls s.
           let run : List Slot → Bool → Frame → Run Value =
           λ slots private fr. carry (execute_all w calls (record { here = record { functions = map typed_function_tree fs; slots = slots; binding = b }; secret_result = private }) tree.body fr s) (λ g. done (result_of g)) in

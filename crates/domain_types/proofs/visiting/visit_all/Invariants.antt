@@ -8,7 +8,7 @@ use Rattle.domain_types.proofs.visiting.visit_all.Given as goal
 
 abbrev pub invariant-loop-next : goal.invariant-loop-next
 invariant-loop-next l = record {
-  worst : l.worst ≡ least l.fn.worst (gathered (instance_faults (declared l.declarations)) (take l.next l.list));
+  least_fault : l.least_fault ≡ least l.fn.least_fault (gathered (instance_faults (declared l.declarations)) (take l.next l.list));
   visited : AreVisited (declared l.declarations) (plain_instances (declared l.declarations)) (take l.next l.list) l.list;
   called : (k : ℕ) → contains nat_cmp l.called k ≡ is_called k (gathered (instance_calls (declared l.declarations)) (take l.next l.list));
 }

@@ -1,5 +1,5 @@
 ghost use Rattle.std.specs.Prelude.{◌≡◌};
-ghost use Rattle.program_limits.specs.declared.limit_error.LimitError.TheVariants.{Memory};
+ghost use Rattle.program_limits.specs.declared.limit_err.LimitErr.TheVariants.{Memory};
 ghost use Rattle.program_limits.specs.Refusals.{fault_said};
 
 use sc_text::{CountedFault, Fault};
@@ -7,7 +7,7 @@ use std::alloc::AllocError;
 
 /// Why a program can't be run: what it has too much of, and how much.
 #[derive(Clone, Copy, PartialEq, Eq)]
-pub enum LimitError {
+pub enum LimitErr {
     /// It reaches more than 1,024 instances of templates.
     TooManyInstances { count: u64 },
     /// The sizes of all instances that it reaches add up to more than 65,535 nodes and parameters; 18,446,744,073,709,551,615 stands
@@ -19,33 +19,33 @@ pub enum LimitError {
     Memory,
 }
 
-impl From<AllocError> for LimitError {
+impl From<AllocError> for LimitErr {
     ghost from_gives = { λ _ e. e ≡ Memory };
 
     fn from(_: AllocError) -> Self {
-        LimitError::Memory
+        LimitErr::Memory
     }
 }
 
 /// The fault whose line a command says.
-impl From<LimitError> for Fault {
+impl From<LimitErr> for Fault {
     ghost from_gives = { λ error fault. fault ≡ fault_said error };
 
-    fn from(error: LimitError) -> Self {
+    fn from(error: LimitErr) -> Self {
         match error {
-            LimitError::TooManyInstances { count } => Fault::Counted {
+            LimitErr::TooManyInstances { count } => Fault::Counted {
                 fault: CountedFault::TooManyInstances,
                 count,
             },
-            LimitError::ProgramTooLarge { size } => Fault::Counted {
+            LimitErr::ProgramTooLarge { size } => Fault::Counted {
                 fault: CountedFault::ProgramTooLarge,
                 count: size,
             },
-            LimitError::FunctionTooLarge { size } => Fault::Counted {
+            LimitErr::FunctionTooLarge { size } => Fault::Counted {
                 fault: CountedFault::FunctionTooLarge,
                 count: size,
             },
-            LimitError::Memory => Fault::Memory,
+            LimitErr::Memory => Fault::Memory,
         }
     }
 }
