@@ -5,7 +5,7 @@ ghost use Rattle.bytecode.specs.Decoded.{bodies_layout, code_layout, decoded};
 ghost use Rattle.bytecode.specs.Decoding.{IsDecoded, function_layout, opening_layout, settled, some_functions_layout};
 ghost use Rattle.bytecode.specs.InMemory.{raw_code, raw_function, raw_head};
 ghost use Rattle.bytecode.specs.Layouts.{read};
-ghost use Rattle.bytecode.specs.Reading.{Reads};
+ghost use Rattle.bytecode.specs.inner.Reading.{Reads};
 
 use crate::code::{Code, Function};
 use crate::fault::{DecodeErr, DecodeFault, FaultKind, Stopped};

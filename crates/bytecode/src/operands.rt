@@ -3,8 +3,8 @@ ghost use Rattle.std.specs.Prelude.{◌≡◌, ◌<◌, ◌++◌, ◌∷◌, [],
 ghost use Rattle.bytecode.specs.Decoded.{body_layout, instruction_layout, operands, repeated, short_layout};
 ghost use Rattle.bytecode.specs.InMemory.{raw_instruction, result_register};
 ghost use Rattle.bytecode.specs.Layouts.{read};
-ghost use Rattle.bytecode.specs.Reading.{Reads};
-ghost use Rattle.bytecode.specs.Tags.{made, operands_of};
+ghost use Rattle.bytecode.specs.inner.Reading.{Reads};
+ghost use Rattle.bytecode.specs.inner.Tags.{made, operands_of};
 ghost use Rattle.bytecode.specs.Writable.{arguments_at};
 
 use crate::fault::Stopped;

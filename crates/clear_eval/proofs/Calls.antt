@@ -9,7 +9,7 @@ use Rattle.reached_instances.specs.declared.instance.BoundDomain.{BoundDomain}
 use Rattle.language_model.specs.Effects.{World, Stage, Effect, carry, end, charge}
 use Rattle.language_model.specs.Values.{Value}
 use Rattle.language_model.specs.Evaluation.{call_at, body_of, array_elements}
-use Rattle.clear_eval.specs.Calling.{call_charged}
+use Rattle.clear_eval.specs.inner.Calling.{call_charged}
 use Rattle.clear_eval.proofs.Runs.{carry-carry}
 
 abbrev pub body_behind : World → List TypedFunctionTree → (depth k : ℕ) → List BoundDomain → List Value → Unit {0} → Effect Value

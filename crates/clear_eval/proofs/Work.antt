@@ -4,7 +4,7 @@ use Rattle.std.specs.Prelude.{map, sum, Some}
 use Rattle.std.specs.List.{slice_get}
 use Rattle.typed_tree.specs.Programs.{TypedFunctionTree}
 use Rattle.std.proofs.lemmas.List.Sums.{sum_by-cons}
-use Rattle.clear_eval.specs.Measures.{body_weight, work}
+use Rattle.clear_eval.specs.inner.Measures.{body_weight, work}
 
 pub work_less : (fs : List TypedFunctionTree) (depth n m : ℕ) → n < m → work fs depth n < work fs depth m
 unfolding work

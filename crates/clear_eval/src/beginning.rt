@@ -2,8 +2,8 @@
 ghost use Rattle.std.specs.Prelude.{IfOk, map, length};
 ghost use Rattle.typed_tree.specs.Programs.{typed_function_tree};
 ghost use Rattle.value_steps.specs.Views.{value_seen};
-ghost use Rattle.clear_eval.specs.Beginning.{IsBegun};
-ghost use Rattle.clear_eval.specs.Standing.{HasRoomFor, AreSoundAmong};
+ghost use Rattle.clear_eval.specs.inner.Beginning.{IsBegun};
+ghost use Rattle.clear_eval.specs.inner.Standing.{HasRoomFor, AreSoundAmong};
 
 use crate::entering::enter;
 use crate::place::StatementContext;

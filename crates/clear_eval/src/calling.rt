@@ -8,8 +8,8 @@ ghost use Rattle.language_model.specs.Effects.{charge};
 ghost use Rattle.language_model.specs.Evaluation.{array_elements, bound_at, slots_of};
 ghost use Rattle.value_steps.specs.Steps.{Does, itself};
 ghost use Rattle.value_steps.specs.Views.{value_seen, stage_seen};
-ghost use Rattle.clear_eval.specs.Calling.{call_charged};
-ghost use Rattle.clear_eval.specs.Views.{functions_around};
+ghost use Rattle.clear_eval.specs.inner.Calling.{call_charged};
+ghost use Rattle.clear_eval.specs.inner.Views.{functions_around};
 
 use crate::place::StatementContext;
 use reached_instances::{BoundDomain, binding_of, domains};

@@ -8,10 +8,10 @@ ghost use Rattle.reached_instances.specs.Views.{setting};
 ghost use Rattle.language_model.specs.Evaluation.{arguments, not_cut_short, cut_short, gives_private};
 ghost use Rattle.value_steps.specs.Steps.{Does, itself};
 ghost use Rattle.value_steps.specs.Views.{value_seen, stage_seen, world_seen};
-ghost use Rattle.clear_eval.specs.Parts.{HasOne, HasTwo, HasOneWithin, HasTwoWithin};
-ghost use Rattle.clear_eval.specs.Standing.{node_at, evaluation_at, wanted_at, test_at, flow_at, flow_of_all, branch_at, turns_at, repeats_at, body_at};
-ghost use Rattle.clear_eval.specs.Standing.{HasRoomFor, AreSoundAmong, IsSoundAround, IsSoundNode, IsSoundIn, AreSoundIn, IsSoundStatement, AreSoundStatements};
-ghost use Rattle.clear_eval.specs.Views.{frame_seen, flow_seen, held_seen, values_seen, calls_from};
+ghost use Rattle.clear_eval.specs.inner.Parts.{HasOne, HasTwo, HasOneWithin, HasTwoWithin};
+ghost use Rattle.clear_eval.specs.inner.Standing.{node_at, evaluation_at, wanted_at, test_at, flow_at, flow_of_all, branch_at, turns_at, repeats_at, body_at};
+ghost use Rattle.clear_eval.specs.inner.Standing.{HasRoomFor, AreSoundAmong, IsSoundAround, IsSoundNode, IsSoundIn, AreSoundIn, IsSoundStatement, AreSoundStatements};
+ghost use Rattle.clear_eval.specs.inner.Views.{frame_seen, flow_seen, held_seen, values_seen, calls_from};
 
 use crate::beginning::{Begun, begin};
 use crate::calling::{add_argument, bound_by, charge_call, slots_of};

@@ -8,7 +8,7 @@ ghost use Rattle.language_model.specs.Reports.{beginning, reported, report_of, e
 ghost use Rattle.value_steps.specs.Views.{given_seen, source_seen, stage_seen, world_seen};
 ghost use Rattle.clear_eval.specs.Offers.{offered_with};
 ghost use Rattle.clear_eval.specs.Reports.{stop_seen, ran_seen, report_seen};
-ghost use Rattle.clear_eval.specs.Standing.{body_at, AreSoundAmong};
+ghost use Rattle.clear_eval.specs.inner.Standing.{body_at, AreSoundAmong};
 
 use crate::dealer::dealing;
 use crate::evaluation::body;

@@ -5,8 +5,8 @@ ghost use Rattle.language_model.specs.Values.{Value as Meant, plain, default_wor
 ghost use Rattle.language_model.specs.Evaluation.{put, next_is_private, slot_is_private, slot_shape, stored};
 ghost use Rattle.value_steps.specs.Steps.{Does};
 ghost use Rattle.value_steps.specs.Views.{value_seen, stage_seen};
-ghost use Rattle.clear_eval.specs.Views.{frame_seen, goes_on};
-ghost use Rattle.clear_eval.specs.Elements.{with_element_in};
+ghost use Rattle.clear_eval.specs.inner.Views.{frame_seen, goes_on};
+ghost use Rattle.clear_eval.specs.inner.Elements.{with_element_in};
 
 use crate::place::StatementContext;
 use crate::words::is_private;

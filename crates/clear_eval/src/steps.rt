@@ -8,9 +8,9 @@ ghost use Rattle.language_model.specs.Operations.{wanted};
 ghost use Rattle.language_model.specs.Evaluation.{gives_private, truth_value};
 ghost use Rattle.value_steps.specs.Steps.{Does};
 ghost use Rattle.value_steps.specs.Views.{value_seen, stage_seen, world_seen};
-ghost use Rattle.clear_eval.specs.Views.{frame_seen, flow_seen, held_seen, place_seen};
-ghost use Rattle.clear_eval.specs.Parts.{is_leaf, step_on_one, step_on_two, is_plain, after_one, after_two};
-ghost use Rattle.clear_eval.specs.Standing.{evaluation_at, flow_at, IsSoundIn, IsSoundStatement};
+ghost use Rattle.clear_eval.specs.inner.Views.{frame_seen, flow_seen, held_seen, place_seen};
+ghost use Rattle.clear_eval.specs.inner.Parts.{is_leaf, step_on_one, step_on_two, is_plain, after_one, after_two};
+ghost use Rattle.clear_eval.specs.inner.Standing.{evaluation_at, flow_at, IsSoundIn, IsSoundStatement};
 
 use crate::flow::Flow;
 use crate::held::Held;

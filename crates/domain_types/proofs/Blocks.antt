@@ -12,7 +12,7 @@ use Rattle.domain_types.specs.Scopes.{Variable, Scope, inner, leaving}
 use Rattle.domain_types.specs.StatementTypes.{after, after_all, after_start, statement_faults, block_faults, start_faults, optional_type, optional_faults, step_faults, is_step_typed, for_rule, for_own}
 use Rattle.domain_types.specs.Reached.{Call, statement_calls, block_calls, start_calls, optional_calls, step_calls}
 use Rattle.domain_types.specs.declared.value_type.ValueType.{ValueType}
-use Rattle.domain_types.specs.Least.{least}
+use Rattle.domain_types.specs.inner.LeastFault.{least}
 use Rattle.domain_types.proofs.Visits.{then_least, then_calls}
 
 pub after_all-more : (w : Setting) (s : Scope) (ts : List StatementTree) (t : StatementTree) → after_all w s (statements_of (ts ++ t ∷ [])) ≡ after w (after_all w s (statements_of ts)) t

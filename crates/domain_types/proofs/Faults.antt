@@ -5,7 +5,7 @@ use Rattle.sc_text.specs.declared.span.Span.{Span}
 use Rattle.domain_types.specs.declared.fault.TypeProblem.{TypeProblem}
 use Rattle.domain_types.specs.declared.fault.TypeFault.{TypeFault}
 use Rattle.domain_types.specs.Types.{fault_if, is_faultless}
-use Rattle.domain_types.specs.Least.{lesser, least}
+use Rattle.domain_types.specs.inner.LeastFault.{lesser, least}
 
 pub least-append : (o : Option TypeFault) (fs gs : List TypeFault) → least o (fs ++ gs) ≡ least (least o fs) gs
 least-append o [] gs = refl

@@ -7,7 +7,8 @@ use Rattle.domain_types.specs.declared.fault.TypeProblem.{TypeProblem}
 use Rattle.domain_types.specs.declared.fault.TypeProblem.TheVariants.{UnknownName, Twice, TypeMismatch, PrivateCondition, PrivateIndex, PrivateSize, PrivateToPublic, PrivateDivision, PrivateAssert, DomainMix, NoMain, BadImport, BadArity, MissingReturn, ArgumentPlace}
 use Rattle.domain_types.specs.declared.fault.TypeFault.{TypeFault}
 use Rattle.sc_text.specs.Lists.{Among}
-use Rattle.domain_types.specs.Least.{number_of, NotAfter, IsLeast, is_before, least}
+use Rattle.domain_types.specs.Least.{number_of, NotAfter, IsLeast}
+use Rattle.domain_types.specs.inner.LeastFault.{is_before, least}
 
 -- what the test says
 told : (f g : TypeFault) → ((is_before f g ≡ true) × NotAfter f g) ⊎ ((is_before f g ≡ false) × NotAfter g f)

@@ -14,11 +14,11 @@ use Rattle.domain_types.specs.Declarations.{Declared, declared_by, functions_of}
 use Rattle.domain_types.specs.ExpressionTypes.{within}
 use Rattle.domain_types.specs.FunctionTypes.{function_faults, protections_of, domain_variables_faults}
 use Rattle.sc_text.specs.Lists.{Among}
-use Rattle.domain_types.specs.Least.{least}
+use Rattle.domain_types.specs.inner.LeastFault.{least}
 use Rattle.domain_types.specs.Reached.{Call, function_calls, Instance, Calls, IsChecked, plain, reached}
 use Rattle.domain_types.specs.ProgramTypes.{is_without, items_faults, has_main, declaring_faults, IsFault, declaring, inside, of_head}
 use Rattle.domain_types.specs.Answer.{AreTheChecked, IsTold}
-use Rattle.domain_types.specs.WorkList.{added, with_plain, plain_instances, of_function, instance_faults, instance_calls, gathered, is_called, heads_faults, IsReached, begins, follows, AreVisited}
+use Rattle.domain_types.specs.inner.WorkList.{added, with_plain, plain_instances, of_function, instance_faults, instance_calls, gathered, is_called, heads_faults, IsReached, begins, follows, AreVisited}
 use Rattle.sc_text.proofs.Lists.{among_left, among_right, among_parts}
 use Rattle.domain_types.proofs.TypingPrograms.{HasJustTheFaults, least_is_told, none_is_accepted, accepted_is_typed}
 use Rattle.domain_types.proofs.Visits.{then_least}

@@ -11,8 +11,8 @@ use Rattle.domain_types.specs.Scopes.{Scope}
 use Rattle.domain_types.specs.ExpressionTypes.{value_type, value_faults}
 use Rattle.domain_types.specs.Reached.{Call, calls_of}
 use Rattle.domain_types.specs.Views.{calls_seen}
-use Rattle.domain_types.specs.Walks.{Gives}
-use Rattle.domain_types.specs.Least.{least}
+use Rattle.domain_types.specs.inner.Walks.{Gives}
+use Rattle.domain_types.specs.inner.LeastFault.{least}
 use Rattle.domain_types.proofs.Faults.{least-append}
 
 -- the least of two lists, one after the other

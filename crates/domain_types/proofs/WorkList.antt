@@ -8,10 +8,10 @@ use Rattle.domain_types.specs.declared.fault.TypeFault.{TypeFault}
 use Rattle.domain_types.specs.declared.value_type.Protection.{Protection}
 use Rattle.domain_types.specs.Declarations.{Declared}
 use Rattle.sc_text.specs.Lists.{Among}
-use Rattle.domain_types.specs.Least.{least}
+use Rattle.domain_types.specs.inner.LeastFault.{least}
 use Rattle.domain_types.specs.Reached.{Call, Instance}
 use Rattle.domain_types.specs.Instances.{same_instance, is_listed}
-use Rattle.domain_types.specs.WorkList.{added, with_binding, with_calls, instance_faults, instance_calls, gathered, is_called, IsReached, begins, follows, AreVisited}
+use Rattle.domain_types.specs.inner.WorkList.{added, with_binding, with_calls, instance_faults, instance_calls, gathered, is_called, IsReached, begins, follows, AreVisited}
 use Rattle.sc_text.proofs.Lists.{among_left, among_right, among_parts}
 use Rattle.domain_types.proofs.Visits.{then_least}
 use Rattle.domain_types.proofs.Listing.{same_instance-Decides}

@@ -1,5 +1,5 @@
 -- The fault that is told: at the least place, and there of the least number.
-use Rattle.std.specs.Prelude.{◌≡◌, ℕ, ◌≤◌, Bool, ◌||◌, ◌&&◌, nat_eq, nat_lt, nat_le, List, [], ◌∷◌, Option, Some, None, if◌then◌else◌}
+use Rattle.std.specs.Prelude.{◌≡◌, ℕ, ◌≤◌, List}
 use Rattle.sc_text.specs.Lists.{Among}
 use Rattle.domain_types.specs.declared.fault.TypeProblem.{TypeProblem}
 use Rattle.domain_types.specs.declared.fault.TypeProblem.TheVariants.{UnknownName, Twice, TypeMismatch, PrivateCondition, PrivateIndex, PrivateSize, PrivateToPublic, PrivateDivision, PrivateAssert, DomainMix, NoMain, BadImport, BadArity, MissingReturn, ArgumentPlace}
@@ -32,20 +32,3 @@ pub record NotAfter (f g : TypeFault) : Type 0 where
 pub record IsLeast (f : TypeFault) (fs : List TypeFault) : Type 0 where
   pub among : Among f fs
   pub before : (g : TypeFault) → Among g fs → NotAfter f g
-
--- the same as a computation, which the steps of the checker follow: the least of `o` and the list
-
-abbrev pub is_before : TypeFault → TypeFault → Bool
-is_before f g =
-    nat_lt f.place.line g.place.line
-    || (nat_eq f.place.line g.place.line
-    && (nat_lt f.place.column g.place.column
-    || (nat_eq f.place.column g.place.column && nat_le (number_of f.problem) (number_of g.problem))))
-
-abbrev pub lesser : Option TypeFault → TypeFault → Option TypeFault
-lesser None f = Some f
-lesser (Some o) f = if is_before o f then Some o else Some f
-
-abbrev pub least : Option TypeFault → List TypeFault → Option TypeFault
-least o [] = o
-least o (f ∷ fs) = least (lesser o f) fs

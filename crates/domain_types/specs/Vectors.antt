@@ -22,7 +22,7 @@ use Rattle.domain_types.specs.StatementTypes.{sized_faults}
 use Rattle.domain_types.specs.FunctionTypes.{function_faults}
 use Rattle.domain_types.specs.Reached.{function_calls}
 use Rattle.domain_types.specs.ProgramTypes.{declaring_faults}
-use Rattle.domain_types.specs.Least.{least}
+use Rattle.domain_types.specs.inner.LeastFault.{least}
 
 -- a place: line and column
 abbrev at : ℕ → ℕ → Span

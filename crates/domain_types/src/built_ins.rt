@@ -3,7 +3,7 @@ ghost use Rattle.std.specs.Prelude.{◌≡◌};
 ghost use Rattle.domain_types.specs.Types.{unless_refused};
 ghost use Rattle.domain_types.specs.ExpressionTypes.{size_faults, cat_faults, sum_faults, bit_extract_faults, built_in_faults, built_in_result};
 ghost use Rattle.domain_types.specs.declared.value_type.BuiltIn.TheVariants.{Size, Cat, Sum, BitExtract};
-ghost use Rattle.domain_types.specs.Least.{least};
+ghost use Rattle.domain_types.specs.inner.LeastFault.{least};
 
 use crate::fault::{TypeFault, TypeProblem};
 use crate::least_fault::{note, note_if};

@@ -6,7 +6,7 @@ ghost use Rattle.domain_types.specs.Declarations.{defined, callee};
 ghost use Rattle.domain_types.specs.ExpressionTypes.{defined_faults, callee_type, call_faults, call_type};
 ghost use Rattle.domain_types.specs.Reached.{call_of};
 ghost use Rattle.domain_types.specs.Views.{declared};
-ghost use Rattle.domain_types.specs.Walks.{Gives};
+ghost use Rattle.domain_types.specs.inner.Walks.{Gives};
 
 use crate::built_ins::built_in;
 use crate::calls::{Call, Found};

@@ -7,7 +7,7 @@ ghost use Rattle.domain_types.specs.Scopes.{twice_faults, with_variable};
 ghost use Rattle.domain_types.specs.StatementTypes.{domain_faults, is_argument, sized_faults, filled_faults, initial_faults, declared_faults, declaration_faults, variable_declared, target_type, target_faults, assignment_faults};
 ghost use Rattle.domain_types.specs.Reached.{calls_of, optional_calls, declaration_calls, assignment_calls};
 ghost use Rattle.domain_types.specs.Views.{setting, calls_seen};
-ghost use Rattle.domain_types.specs.Least.{least};
+ghost use Rattle.domain_types.specs.inner.LeastFault.{least};
 
 use crate::calls::Found;
 use crate::expressions::{place_of, value, variable};

@@ -5,7 +5,7 @@ ghost use Rattle.domain_types.specs.Types.{is_faultless, of_typed, unless_refuse
 ghost use Rattle.domain_types.specs.Declarations.{type_written};
 ghost use Rattle.domain_types.specs.Views.{declared, setting};
 ghost use Rattle.domain_types.specs.ExpressionTypes.{is_named, bound_from, bound_by, bound_faults, binding_faults, binding_by, argument_faults, defined_faults, within, result_type};
-ghost use Rattle.domain_types.specs.Least.{least};
+ghost use Rattle.domain_types.specs.inner.LeastFault.{least};
 
 use crate::fault::{TypeFault, TypeProblem};
 use crate::least_fault::note;

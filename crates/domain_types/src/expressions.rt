@@ -8,8 +8,8 @@ ghost use Rattle.domain_types.specs.Scopes.{variable_named};
 ghost use Rattle.domain_types.specs.ExpressionTypes.{variable_type, variable_faults, cast_type, declassified, given_value, nothing_given, and_argument, type_of, value_type, arguments_of, faults, value_faults, argument_list_faults};
 ghost use Rattle.domain_types.specs.Reached.{calls_of, calls_of_all};
 ghost use Rattle.domain_types.specs.Views.{setting};
-ghost use Rattle.domain_types.specs.Walks.{Gives};
-ghost use Rattle.domain_types.specs.Least.{least};
+ghost use Rattle.domain_types.specs.inner.Walks.{Gives};
+ghost use Rattle.domain_types.specs.inner.LeastFault.{least};
 
 use crate::call_rule::call;
 use crate::calls::Found;

@@ -7,7 +7,7 @@ ghost use Rattle.domain_types.specs.StatementTypes.{always_returns, one_returns}
 ghost use Rattle.domain_types.specs.FunctionTypes.{with_parameters, parameter_faults, result_faults, way_faults, function_faults};
 ghost use Rattle.domain_types.specs.Reached.{function_calls};
 ghost use Rattle.domain_types.specs.Views.{setting, calls_seen};
-ghost use Rattle.domain_types.specs.Least.{least};
+ghost use Rattle.domain_types.specs.inner.LeastFault.{least};
 
 use crate::calls::Found;
 use crate::declaring::{is_new, known};

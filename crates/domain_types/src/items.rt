@@ -4,7 +4,7 @@ ghost use Rattle.secrec_ast.specs.Programs.{function_tree, item_tree};
 ghost use Rattle.domain_types.specs.Declarations.{is_known_kind};
 ghost use Rattle.domain_types.specs.ProgramTypes.{is_module, space_faults, item_faults, items_faults, is_main, has_main};
 ghost use Rattle.domain_types.specs.Views.{declared, tree_at};
-ghost use Rattle.domain_types.specs.Least.{least};
+ghost use Rattle.domain_types.specs.inner.LeastFault.{least};
 
 use crate::declarations::Declarations;
 use crate::fault::{TypeFault, TypeProblem};

@@ -1,7 +1,8 @@
 // The fault that is told: the checker goes over the tree once and keeps the least fault so far.
 ghost use Rattle.std.specs.Prelude.{◌≡◌, ◌∷◌, []};
 ghost use Rattle.domain_types.specs.Types.{fault_at, fault_if};
-ghost use Rattle.domain_types.specs.Least.{number_of, is_before, least};
+ghost use Rattle.domain_types.specs.Least.{number_of};
+ghost use Rattle.domain_types.specs.inner.LeastFault.{is_before, least};
 
 use crate::fault::{TypeFault, TypeProblem};
 use sc_text::Span;

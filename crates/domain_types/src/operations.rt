@@ -2,7 +2,7 @@
 ghost use Rattle.std.specs.Prelude.{◌≡◌, option_map, option_and_then};
 ghost use Rattle.domain_types.specs.Types.{of_typed};
 ghost use Rattle.domain_types.specs.ExpressionTypes.{uint64_result, bool_result, element_result, element_of, is_division, operator_faults, operator_type, negation_faults, negation_type, index_faults, index_type, of_two};
-ghost use Rattle.domain_types.specs.Least.{least};
+ghost use Rattle.domain_types.specs.inner.LeastFault.{least};
 
 use crate::fault::{TypeFault, TypeProblem};
 use crate::least_fault::note_if;

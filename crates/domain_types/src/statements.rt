@@ -5,7 +5,7 @@ ghost use Rattle.domain_types.specs.Scopes.{inner};
 ghost use Rattle.domain_types.specs.StatementTypes.{after, after_all, statement_faults, block_faults};
 ghost use Rattle.domain_types.specs.Reached.{statement_calls, block_calls};
 ghost use Rattle.domain_types.specs.Views.{setting, calls_seen};
-ghost use Rattle.domain_types.specs.Least.{least};
+ghost use Rattle.domain_types.specs.inner.LeastFault.{least};
 
 use crate::calls::Found;
 use crate::declaring::{assignment, declaration};

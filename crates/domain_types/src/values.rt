@@ -4,7 +4,7 @@ ghost use Rattle.secrec_ast.specs.Tree.{expression};
 ghost use Rattle.domain_types.specs.StatementTypes.{test_faults};
 ghost use Rattle.domain_types.specs.Reached.{calls_of};
 ghost use Rattle.domain_types.specs.Views.{setting, calls_seen};
-ghost use Rattle.domain_types.specs.Least.{least};
+ghost use Rattle.domain_types.specs.inner.LeastFault.{least};
 
 use crate::calls::Found;
 use crate::expressions::{place_of, value};

@@ -48,7 +48,7 @@ impl<'p> Model for Variables<'p> {
 
     ghost Value = { Scope };
 
-    ghost use Rattle.domain_types.specs.Table.{scope_of, IsTable};
+    ghost use Rattle.domain_types.specs.inner.Table.{scope_of, IsTable};
 
     ghost view = { scope_of };
 

@@ -7,8 +7,8 @@ ghost use Rattle.domain_types.specs.FunctionTypes.{domain_variables_faults};
 ghost use Rattle.domain_types.specs.ProgramTypes.{is_without};
 ghost use Rattle.domain_types.specs.Views.{declared, tree_at, call_seen, calls_seen};
 ghost use Rattle.domain_types.specs.Instances.{instance_seen};
-ghost use Rattle.domain_types.specs.WorkList.{with_binding, with_calls, with_plain, plain_instances, instance_faults, instance_calls, gathered, is_called, heads_faults, AreVisited};
-ghost use Rattle.domain_types.specs.Least.{least};
+ghost use Rattle.domain_types.specs.inner.WorkList.{with_binding, with_calls, with_plain, plain_instances, instance_faults, instance_calls, gathered, is_called, heads_faults, AreVisited};
+ghost use Rattle.domain_types.specs.inner.LeastFault.{least};
 
 use crate::calls::{Call, Found};
 use crate::declarations::Declarations;

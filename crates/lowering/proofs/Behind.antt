@@ -6,7 +6,7 @@ use Rattle.bytecode.specs.declared.kind.Kind.{Kind}
 use Rattle.verified_code.specs.Steps.{Step}
 use Rattle.lowered_expressions.specs.Built.{BodyPiece, whole, Built, with_step}
 use Rattle.lowered_expressions.proofs.Building.{body_of}
-use Rattle.lowering.specs.Pieces.{with_pieces}
+use Rattle.lowering.specs.inner.Pieces.{with_pieces}
 
 pub then_pieces : (b : Built) (k l : List Kind) (p q : List BodyPiece) → with_pieces (with_pieces b k p) l q ≡ with_pieces b (k ++ l) (p ++ q)
 then_pieces b k l p q = ap₂ body_of (append_assoc b.kinds k l) (append_assoc b.pieces p q)

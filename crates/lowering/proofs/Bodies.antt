@@ -14,7 +14,7 @@ use Rattle.code_model.specs.Programs.{given_kind, last_kinds, last_step, body_en
 use Rattle.code_model.proofs.Widths.{commands_registers}
 use Rattle.lowered_expressions.specs.Built.{BodyPiece, whole, Built}
 use Rattle.lowered_expressions.proofs.Building.{body_of}
-use Rattle.lowering.specs.Pieces.{placed, commands_pieces, with_commands, with_last}
+use Rattle.lowering.specs.inner.Pieces.{placed, commands_pieces, with_commands, with_last}
 use Rattle.lowering.proofs.Placed.{commands_placed}
 
 abbrev pub function_of : ℕ → Option Kind → List Kind → List Step → Function

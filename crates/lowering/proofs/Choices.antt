@@ -6,7 +6,7 @@ use Rattle.bytecode.specs.declared.kind.Kind.{Kind}
 use Rattle.verified_code.specs.Steps.{Step, Branch, Jump, ReturnNone}
 use Rattle.lowered_expressions.specs.Built.{BodyPiece, whole, Built, with_step, with_step_at, with_code}
 use Rattle.lowered_expressions.proofs.Building.{body_of}
-use Rattle.lowering.specs.Pieces.{with_pieces, if_pieces}
+use Rattle.lowering.specs.inner.Pieces.{with_pieces, if_pieces}
 use Rattle.lowering.proofs.Behind.{registers_behind, places_behind, registers_step, places_step, two_writes}
 
 -- lists of pieces one behind another

@@ -16,7 +16,7 @@ use Rattle.code_model.proofs.Widths.{commands_registers}
 use Rattle.lowered_expressions.specs.Built.{BodyPiece, whole, Built, with_step, with_step_at}
 use Rattle.lowered_expressions.specs.Parts.{with_expression}
 use Rattle.lowered_expressions.proofs.Building.{body_of}
-use Rattle.lowering.specs.Pieces.{placed, settled, settled_part, command_pieces, with_pieces, with_settled, with_command}
+use Rattle.lowering.specs.inner.Pieces.{placed, settled, settled_part, command_pieces, with_pieces, with_settled, with_command}
 use Rattle.lowering.proofs.SettledParts.{part_between}
 use Rattle.lowering.proofs.Placed.{settled_placed, command_placed, command_as_long}
 use Rattle.lowering.proofs.Behind.{registers_behind, places_behind, registers_step, places_step}

@@ -13,7 +13,7 @@ use Rattle.code_model.specs.Expressions.{Numbers, expression_code}
 use Rattle.code_model.specs.Commands.{command_width, command_code, commands_code, if_code}
 use Rattle.code_model.proofs.Lengths.{command_length}
 use Rattle.lowered_expressions.specs.Built.{BodyPiece, whole}
-use Rattle.lowering.specs.Pieces.{placed, settled, command_pieces, commands_pieces, if_pieces}
+use Rattle.lowering.specs.inner.Pieces.{placed, settled, command_pieces, commands_pieces, if_pieces}
 
 pub placed_whole : (x y : ℕ) (is : List Step) → map (placed x y) (map whole is) ≡ is
 placed_whole x y [] = refl

@@ -8,7 +8,7 @@ use Rattle.code_model.specs.Expressions.{Numbers}
 use Rattle.code_model.specs.Commands.{command_width, commands_width, command_kinds, commands_kinds}
 use Rattle.code_model.proofs.Widths.{commands_registers}
 use Rattle.lowered_expressions.specs.Built.{BodyPiece, Built}
-use Rattle.lowering.specs.Pieces.{command_pieces, commands_pieces, with_pieces, with_command, with_commands}
+use Rattle.lowering.specs.inner.Pieces.{command_pieces, commands_pieces, with_pieces, with_command, with_commands}
 use Rattle.lowering.proofs.Behind.{then_pieces, registers_behind, places_behind}
 
 kinds_more : (here : Setting) (cs : List Command) (c : Command) → commands_kinds here (commands_of (cs ++ c ∷ []))

@@ -4,7 +4,7 @@ use Rattle.std.specs.Prelude.{map, slice_set}
 use Rattle.std.proofs.lemmas.List.{length-map, get_or-map, set-get_or}
 use Rattle.verified_code.specs.Steps.{Step}
 use Rattle.lowered_expressions.specs.Built.{BodyPiece, whole}
-use Rattle.lowering.specs.Pieces.{settled, settled_front, settled_part}
+use Rattle.lowering.specs.inner.Pieces.{settled, settled_front, settled_part}
 
 module _ (x y : ℕ) where
   front_none : (ps : List BodyPiece) → settled_front x y 0 ps ≡ ps

@@ -6,8 +6,8 @@ ghost use Rattle.code_model.specs.Kinds.{kind_of, slot_kind};
 ghost use Rattle.typed_tree.specs.Shapes.{shape_of};
 ghost use Rattle.code_model.specs.Programs.{function_code, given_kind, nothing_code};
 ghost use Rattle.lowered_expressions.specs.Views.{built, here_of, numbers_of, piece_seen, step_seen};
-ghost use Rattle.lowering.specs.Pieces.{placed, with_last};
-ghost use Rattle.lowering.specs.Views.{function_seen};
+ghost use Rattle.lowering.specs.inner.Pieces.{placed, with_last};
+ghost use Rattle.lowering.specs.inner.Views.{function_seen};
 
 use crate::place::LoweringContext;
 use crate::statements::statements;

@@ -5,9 +5,9 @@ ghost use Rattle.bytecode.specs.InMemory.{operator_byte, raw_function, raw_instr
 ghost use Rattle.bytecode.specs.Written.{body_numbers, head_numbers, instruction_numbers};
 ghost use Rattle.raw_steps.specs.Instructions.{instruction, operator_number, raw_function as raw_of, register_or_nowhere, truth_number, word_number};
 ghost use Rattle.lowered_expressions.specs.Views.{step_seen};
-ghost use Rattle.lowering.specs.Naming.{texts};
+ghost use Rattle.lowering.specs.inner.Naming.{texts};
 ghost use Rattle.lowering.specs.Narrow.{IsJust, are_short, capped, capped_instruction, is_short};
-ghost use Rattle.lowering.specs.Views.{function_seen};
+ghost use Rattle.lowering.specs.inner.Views.{function_seen};
 
 use crate::errors::LowerErr;
 use crate::functions::FunctionSteps;

@@ -1,7 +1,7 @@
 // Where the breaks and continues of a loop lead.
 ghost use Rattle.std.specs.Prelude.{◌≡◌, ◌+◌, ◌-◌, ◌<◌, ◌≤◌, OnOk, length};
 ghost use Rattle.lowered_expressions.specs.Views.{built, piece_seen};
-ghost use Rattle.lowering.specs.Pieces.{settled_part, with_piece, with_settled};
+ghost use Rattle.lowering.specs.inner.Pieces.{settled_part, with_piece, with_settled};
 
 use lowered_expressions::{Body, BodyPiece, Step};
 use std::alloc::AllocError;

@@ -3,8 +3,8 @@ ghost use Rattle.std.specs.Prelude.{◌≡◌, OnOk, map};
 ghost use Rattle.typed_tree.specs.Tree.{typed_tree};
 ghost use Rattle.typed_tree.specs.Commands.{command, commands_of, do_command, if_command, loop_command};
 ghost use Rattle.lowered_expressions.specs.Views.{built};
-ghost use Rattle.lowering.specs.Pieces.{with_command, with_commands};
-ghost use Rattle.lowering.specs.Views.{numbers_at, place_seen};
+ghost use Rattle.lowering.specs.inner.Pieces.{with_command, with_commands};
+ghost use Rattle.lowering.specs.inner.Views.{numbers_at, place_seen};
 
 use crate::commands::{
     Pair, assertion, default_store, input, pair_store, publishing, returning, store, unread,

@@ -22,7 +22,7 @@ use Rattle.name_resolution.specs.Values.{of_both, and_values, value, values}
 use Rattle.name_resolution.specs.Resolving.{carry, done}
 use Rattle.name_resolution.specs.Bodies.{resolved, resolved_all}
 use Rattle.name_resolution.specs.Functions.{slot_written, slots_written, and_slots, typed_function, typed_functions, and_functions}
-use Rattle.name_resolution.specs.Views.{type_at}
+use Rattle.name_resolution.specs.inner.Views.{type_at}
 use Rattle.name_resolution.proofs.Sequences.{place_made}
 
 -- a list by its element of this number

@@ -13,7 +13,7 @@ use Rattle.std.specs.Map.{update}
 use denote.Ref.{Bor}
 use Rattle.domain_types.specs.Index.{found}
 use Rattle.domain_types.proofs.Names.{bytes_eq-swap}
-use Rattle.name_resolution.specs.Table.{variable_of, scope_at, latest_in}
+use Rattle.name_resolution.specs.inner.Table.{variable_of, scope_at, latest_in}
 
 -- the variables of all blocks
 pub whole : (n : ℕ) (es : List VariableEntry) → (scope_at n es).block ++ (scope_at n es).outer ≡ map variable_of es

@@ -29,7 +29,7 @@ impl<'p> CalledFunctions<'p> {
     ghost use Rattle.domain_types.specs.Declarations.{callee};
     ghost use Rattle.domain_types.specs.Views.{declared};
     ghost use Rattle.name_resolution.specs.Order.{with_callee};
-    ghost use Rattle.name_resolution.specs.Views.{found_seen};
+    ghost use Rattle.name_resolution.specs.inner.Views.{found_seen};
 
     /// No functions.
     pub fn new(alloc: Global) -> CalledFunctions<'p>

@@ -5,7 +5,7 @@ ghost use Rattle.domain_types.specs.Views.{declared, tree_at};
 ghost use Rattle.name_resolution.specs.Functions.{variable_number, slot_domain, slot_written, slots_written, given_back, with_parameters, typed_function, typed_functions};
 ghost use Rattle.typed_tree.specs.Programs.{typed_function_tree};
 ghost use Rattle.name_resolution.specs.Answer.{Answers};
-ghost use Rattle.name_resolution.specs.Views.{place_seen, type_at, slots_seen, functions_seen};
+ghost use Rattle.name_resolution.specs.inner.Views.{place_seen, type_at, slots_seen, functions_seen};
 
 use crate::place::FunctionScope;
 use crate::resolve_err::ResolveErr;

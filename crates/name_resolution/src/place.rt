@@ -1,7 +1,7 @@
 // Where a piece of a function stands.
 ghost use Rattle.std.specs.Prelude.{◌≡◌, ◌≤◌, length, IfOk};
 ghost use Rattle.name_resolution.specs.Scopes.{no_place, declaring, entering, left};
-ghost use Rattle.name_resolution.specs.Views.{place_seen};
+ghost use Rattle.name_resolution.specs.inner.Views.{place_seen};
 
 use crate::values::shape_written;
 use crate::variables::{Known, Variables};

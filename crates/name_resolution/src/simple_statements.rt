@@ -8,7 +8,7 @@ ghost use Rattle.typed_tree.specs.Commands.{command};
 ghost use Rattle.name_resolution.specs.Resolving.{resolved_value, known_at};
 ghost use Rattle.name_resolution.specs.Bodies.{evaluated, default_of, from_value, initial, declared as declared_at, assigned_to, assigned, started, stepped, condition_of, returned};
 ghost use Rattle.name_resolution.specs.Answer.{Answers};
-ghost use Rattle.name_resolution.specs.Views.{place_seen, with_place};
+ghost use Rattle.name_resolution.specs.inner.Views.{place_seen, with_place};
 
 use crate::place::FunctionScope;
 use crate::resolve_err::ResolveErr;

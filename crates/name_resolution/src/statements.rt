@@ -6,7 +6,7 @@ ghost use Rattle.typed_tree.specs.Commands.{command};
 ghost use Rattle.name_resolution.specs.Resolving.{in_block};
 ghost use Rattle.name_resolution.specs.Bodies.{looped, resolved, resolved_all};
 ghost use Rattle.name_resolution.specs.Answer.{Answers};
-ghost use Rattle.name_resolution.specs.Views.{place_seen, with_place, command_in, commands_seen};
+ghost use Rattle.name_resolution.specs.inner.Views.{place_seen, with_place, command_in, commands_seen};
 
 use crate::place::FunctionScope;
 use crate::resolve_err::ResolveErr;

@@ -55,7 +55,7 @@ impl<'p> Model for Variables<'p> {
 
     ghost Value = { Scope };
 
-    ghost use Rattle.name_resolution.specs.Table.{scope_of, IsTable};
+    ghost use Rattle.name_resolution.specs.inner.Table.{scope_of, IsTable};
 
     ghost view = { scope_of };
 

@@ -10,7 +10,8 @@ use Rattle.secrec_lexer.specs.declared.lex_err.LexErr.{LexErr}
 use Rattle.secrec_lexer.specs.declared.lex_err.LexErr.TheVariants.{Memory, Refused}
 use Rattle.secrec_lexer.specs.declared.piece.Piece.{Piece}
 use Rattle.secrec_lexer.specs.declared.piece.Piece.TheVariants.{End, Blank, Lexeme, Fault}
-use Rattle.secrec_lexer.specs.Pieces.{first, IsWithin}
+use Rattle.secrec_lexer.specs.Pieces.{first}
+use Rattle.secrec_lexer.specs.inner.Extents.{IsWithin}
 use Rattle.secrec_lexer.proofs.Turns.{found_within}
 use Rattle.secrec_lexer.specs.Places.{place_at}
 use Rattle.secrec_lexer.specs.Lexis.{Lexes, ended, blank, lexeme, Refuses, here, behind_blank, behind_lexeme, HasTokens, IsRefused, too_long, within, IsAnswer, IsTokens, IsRefusal, token_at, IsDecided}

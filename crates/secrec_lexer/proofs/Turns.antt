@@ -13,7 +13,8 @@ use Rattle.secrec_lexer.specs.declared.lex_err.LexErr.TheVariants.{Memory}
 use Rattle.secrec_lexer.specs.declared.piece.Piece.{Piece}
 use Rattle.secrec_lexer.specs.declared.piece.Piece.TheVariants.{End, Blank, Lexeme, Fault}
 use Rattle.secrec_lexer.specs.Tokens.{is_end}
-use Rattle.secrec_lexer.specs.Pieces.{first, IsWithin}
+use Rattle.secrec_lexer.specs.Pieces.{first}
+use Rattle.secrec_lexer.specs.inner.Extents.{IsWithin}
 use Rattle.secrec_lexer.specs.Places.{place_behind, place_at, next_place}
 use Rattle.secrec_lexer.specs.Lexis.{Lexes, ended, blank, lexeme, Refuses, here, behind_blank, behind_lexeme, IsRefused, within, IsAnswer, token_at}
 use Rattle.secrec_lexer.proofs.Runs.{rest_from}

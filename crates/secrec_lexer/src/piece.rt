@@ -3,7 +3,8 @@ ghost use Rattle.std.specs.List.{list_all};
 ghost use Rattle.sc_text.specs.Name.{is_name_byte};
 ghost use Rattle.secrec_lexer.specs.Bytes.{begins, size_to_close, name_run};
 ghost use Rattle.secrec_lexer.specs.Signs.{single_sign, keyword};
-ghost use Rattle.secrec_lexer.specs.Pieces.{comment, number, word_value, word, text, sign, first, IsWithin};
+ghost use Rattle.secrec_lexer.specs.Pieces.{comment, number, word_value, word, text, sign, first};
+ghost use Rattle.secrec_lexer.specs.inner.Extents.{IsWithin};
 
 use crate::bytes::{as_text, is_blank, is_name_byte, line_size, name_run, size_to_close};
 use crate::number::word_value;

@@ -28,8 +28,8 @@ use Rattle.secrec_parser.specs.declared.assignment.Update.{Update}
 use Rattle.secrec_parser.specs.declared.assignment.Update.TheVariants as updates
 use Rattle.secrec_parser.specs.Sugar.{held_in, held, updated}
 use Rattle.secrec_parser.specs.Grammar.{identifier, bracketed, optional, compound, stepping, IsTarget, IsAssigned, IsAssignment}
-use Rattle.secrec_parser.specs.Steps.{operand, update_of, updates_by, is_update, least_height, value_by, assigned_by, assigned, target_index, assignment_step, ActionTree, assigns, evaluates, assigns_to, action}
-use Rattle.secrec_parser.specs.Steps as steps
+use Rattle.secrec_parser.specs.inner.Steps.{operand, update_of, updates_by, is_update, least_height, value_by, assigned_by, assigned, target_index, assignment_step, ActionTree, assigns, evaluates, assigns_to, action}
+use Rattle.secrec_parser.specs.inner.Steps as steps
 use Rattle.secrec_parser.proofs.Clashes.{none_some}
 use Rattle.secrec_parser.proofs.Targets.{target_of_height}
 use Rattle.secrec_parser.proofs.Made.{Made, Both, reads_same, seq, made, known}

@@ -16,8 +16,8 @@ use Rattle.expression_parser.proofs.Reading.{Reads, Stops}
 use Rattle.expression_parser.proofs.Tokens.{Any, origin, any_stops, good_ended, is_sign-true, is_sign-false}
 use Rattle.expression_parser.proofs.Nodes.{Low, leaf}
 use Rattle.secrec_parser.specs.Grammar.{parenthesised, IsStatement, AreStatements, AreAll}
-use Rattle.secrec_parser.specs.Steps.{Inner, leader_of, listed, at_sign, braced, while_step, do_behind, do_step, for_step}
-use Rattle.secrec_parser.specs.Steps as steps
+use Rattle.secrec_parser.specs.inner.Steps.{Inner, leader_of, listed, at_sign, braced, while_step, do_behind, do_step, for_step}
+use Rattle.secrec_parser.specs.inner.Steps as steps
 use Rattle.secrec_parser.proofs.Made.{Made, Both, reads_same, seq, made, sign_seq, sign_end}
 use Rattle.secrec_parser.proofs.TypeReadings.{lone}
 use Rattle.secrec_parser.proofs.Declarations.{parenthesised_reads, last_sign_first, sign_first}

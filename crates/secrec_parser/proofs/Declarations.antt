@@ -25,8 +25,8 @@ use Rattle.expression_parser.proofs.Tokens.{Any, All, origin, any_stops, good_en
 use Rattle.expression_parser.proofs.Nodes.{Low, tall, leaf, leaf_token}
 use Rattle.expression_parser.proofs.Levels.{at_most_reads}
 use Rattle.secrec_parser.specs.Grammar.{identifier, parenthesised, bracketed, initialiser, optional, IsType, IsDeclaration}
-use Rattle.secrec_parser.specs.Steps.{operand, at_sign, size, optional_operand, declared_type, declaration_step}
-use Rattle.secrec_parser.specs.Steps as steps
+use Rattle.secrec_parser.specs.inner.Steps.{operand, at_sign, size, optional_operand, declared_type, declaration_step}
+use Rattle.secrec_parser.specs.inner.Steps as steps
 use Rattle.secrec_parser.proofs.Made.{Made, Both, reads_same, seq, made, sign_seq, sign_end}
 use Rattle.secrec_parser.proofs.Heads.{some_reads, none_reads, optional_high}
 use Rattle.secrec_parser.proofs.TypeReadings.{is_one, NoBracket, lone, type_reads, identifier_reads}

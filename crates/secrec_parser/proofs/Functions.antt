@@ -28,8 +28,8 @@ use Rattle.expression_parser.proofs.Reading.{Reads, Stops, reads_as}
 use Rattle.expression_parser.proofs.Tokens.{Any, All, origin, any_stops, good_ended, head_kind, is_sign-true, is_sign-false, sign_reads}
 use Rattle.secrec_parser.specs.Grammar.{identifier, optional, comma_and, AreAll, IsType, AreStatements, IsDomainVariable, IsTemplate, IsResult, IsParameter, AreParameters, IsBlock, IsFunction}
 use Rattle.secrec_parser.specs.Grammar as grammar
-use Rattle.secrec_parser.specs.Steps.{at_sign, listed, comma_then, no_more_variables, no_comma, declared_type, domain_variable, template, result_type, parameter, parameters, parameter_list, body, function_step, braced, statement_at_most}
-use Rattle.secrec_parser.specs.Steps as steps
+use Rattle.secrec_parser.specs.inner.Steps.{at_sign, listed, comma_then, no_more_variables, no_comma, declared_type, domain_variable, template, result_type, parameter, parameters, parameter_list, body, function_step, braced, statement_at_most}
+use Rattle.secrec_parser.specs.inner.Steps as steps
 use Rattle.secrec_parser.proofs.Made.{Made, Both, reads_same, seq, made, sign_seq, sign_end}
 use Rattle.secrec_parser.proofs.Heads.{nothing_reads, some_reads, none_reads}
 use Rattle.secrec_parser.proofs.TypeReadings.{NoBracket, lone, type_reads, identifier_reads}

@@ -29,8 +29,8 @@ use Rattle.expression_parser.proofs.Nodes.{Low, tall, leaf, leaf_token, first_to
 use Rattle.secrec_parser.specs.declared.assignment.Update.{Update}
 use Rattle.secrec_parser.specs.declared.assignment.Update.TheVariants as updates
 use Rattle.secrec_parser.specs.Grammar.{identifier, optional, IsDeclaration, IsAssignment, IsStart, IsStep, heading}
-use Rattle.secrec_parser.specs.Steps.{operand, optional_operand, is_type, is_named_type, declares, update_of, declaration_step, assignment_step, target_index, assigned, assigned_by, ActionTree, assigns, evaluates, action, start_step, step_of, last_step, start_part, test_part, last_part}
-use Rattle.secrec_parser.specs.Steps as steps
+use Rattle.secrec_parser.specs.inner.Steps.{operand, optional_operand, is_type, is_named_type, declares, update_of, declaration_step, assignment_step, target_index, assigned, assigned_by, ActionTree, assigns, evaluates, action, start_step, step_of, last_step, start_part, test_part, last_part}
+use Rattle.secrec_parser.specs.inner.Steps as steps
 use Rattle.secrec_parser.proofs.Clashes.{false_true}
 use Rattle.secrec_parser.proofs.Made.{Made, Both, reads_same, seq, made, sign_seq, sign_end}
 use Rattle.secrec_parser.proofs.Heads.{nothing_reads, unexpected, some_reads, none_reads}

@@ -19,8 +19,8 @@ use Rattle.expression_parser.proofs.Nodes.{Low}
 use Rattle.secrec_parser.specs.declared.leader.Leader.{Leader}
 use Rattle.secrec_parser.specs.declared.leader.Leader.TheVariants as leaders
 use Rattle.secrec_parser.specs.Grammar.{parenthesised, IsStatement, Closed}
-use Rattle.secrec_parser.specs.Steps.{Inner, leader_of, least, else_step, if_step, while_step, for_step, led, statement_by, statement_step, statement_at_most}
-use Rattle.secrec_parser.specs.Steps as steps
+use Rattle.secrec_parser.specs.inner.Steps.{Inner, leader_of, least, else_step, if_step, while_step, for_step, led, statement_by, statement_step, statement_at_most}
+use Rattle.secrec_parser.specs.inner.Steps as steps
 use Rattle.secrec_parser.proofs.Clashes.{false_true, no_break, no_continue}
 use Rattle.secrec_parser.proofs.Heads.{too_high}
 use Rattle.secrec_parser.proofs.Declarations.{parenthesised_reads}

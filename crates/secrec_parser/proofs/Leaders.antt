@@ -21,7 +21,7 @@ use Rattle.expression_parser.proofs.Nodes.{tall, begins}
 use Rattle.secrec_parser.specs.declared.leader.Leader.{Leader}
 use Rattle.secrec_parser.specs.declared.leader.Leader.TheVariants as leaders
 use Rattle.secrec_parser.specs.Grammar.{IsDomain, IsType, IsStatement}
-use Rattle.secrec_parser.specs.Steps.{leader_of, least}
+use Rattle.secrec_parser.specs.inner.Steps.{leader_of, least}
 use Rattle.secrec_parser.proofs.Clashes.{none_some, false_true}
 
 -- statements that can be taken for one another by their first token alone

@@ -24,7 +24,7 @@ use Rattle.expression_parser.proofs.Operators.{operator_of-some}
 use Rattle.secrec_parser.specs.declared.leader.Leader.TheVariants as leaders
 use Rattle.secrec_parser.specs.declared.assignment.Update.{Update}
 use Rattle.secrec_parser.specs.Grammar.{IsStatement}
-use Rattle.secrec_parser.specs.Steps.{leader_of, is_type, declares, update_of, updates_by, is_operator, follows_name, only_declares, name_statement, declaration_statement, ActionTree, assigns, evaluates, action_statement}
+use Rattle.secrec_parser.specs.inner.Steps.{leader_of, is_type, declares, update_of, updates_by, is_operator, follows_name, only_declares, name_statement, declaration_statement, ActionTree, assigns, evaluates, action_statement}
 use Rattle.secrec_parser.proofs.Clashes.{false_true}
 use Rattle.secrec_parser.proofs.TypeReadings.{is_one, lone}
 use Rattle.secrec_parser.proofs.Declarations.{clash, name_token}

@@ -23,7 +23,7 @@ use Rattle.expression_parser.proofs.Reading.{Bad, Stops, Allowed, Begun, cons_he
 use Rattle.expression_parser.proofs.Tokens.{head_kind}
 use Rattle.secrec_parser.specs.declared.assignment.Update.{Update}
 use Rattle.secrec_parser.specs.Grammar.{bracketed, optional, IsDomain, IsDimension, IsType, IsDeclaration, IsAssignment}
-use Rattle.secrec_parser.specs.Steps.{is_type, update_of, follows_name, ActionTree, assigns, evaluates}
+use Rattle.secrec_parser.specs.inner.Steps.{is_type, update_of, follows_name, ActionTree, assigns, evaluates}
 use Rattle.secrec_parser.proofs.Clashes.{none_some, false_true}
 use Rattle.secrec_parser.proofs.Declarations.{clash, sign_head}
 use Rattle.secrec_parser.proofs.Assignments.{by_down, IsAction}

@@ -20,7 +20,7 @@ use Rattle.expression_parser.specs.Steps as expressions
 use Rattle.expression_parser.proofs.Reading.{Good, Bad, Reads, Allowed, Stops, cons_head, cancel, reads_as}
 use Rattle.expression_parser.proofs.Tokens.{Any, All, origin, any_stops, good_ended, is_sign-true, is_sign-false}
 use Rattle.secrec_parser.specs.Grammar.{identifier, AreAll, IsTemplate, IsFunction, IsItem, IsProgram}
-use Rattle.secrec_parser.specs.Steps.{at_end, list_from, listed, place_at, named, domain_item, function_step, item_step, item, program}
+use Rattle.secrec_parser.specs.inner.Steps.{at_end, list_from, listed, place_at, named, domain_item, function_step, item_step, item, program}
 use Rattle.secrec_parser.specs.declared.parse_err.ParseErr.{ParseErr}
 use Rattle.secrec_parser.specs.FirstFault.{Begins, IsCause, IsFirstFault}
 use Rattle.secrec_parser.specs.Answer.{RefusesAtFault, refusal_at}

@@ -20,7 +20,7 @@ use Rattle.expression_parser.proofs.Nodes.{leaf, leaf_token, first_token}
 use Rattle.secrec_parser.specs.declared.leader.Leader.{Leader}
 use Rattle.secrec_parser.specs.declared.leader.Leader.TheVariants as leaders
 use Rattle.secrec_parser.specs.Grammar.{parenthesised, heading, IsStatement}
-use Rattle.secrec_parser.specs.Steps.{leader_of}
+use Rattle.secrec_parser.specs.inner.Steps.{leader_of}
 use Rattle.secrec_parser.proofs.Clashes.{none_some, false_true, no_break, no_continue}
 use Rattle.secrec_parser.proofs.TypeReadings.{lone}
 use Rattle.secrec_parser.proofs.Declarations.{some_name, name_token}

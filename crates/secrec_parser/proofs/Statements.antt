@@ -15,8 +15,8 @@ use Rattle.expression_parser.proofs.Reading.{Good, Reads, Stops, cons_head, read
 use Rattle.expression_parser.proofs.Tokens.{Any, origin, any_stops, good_ended, after_kind, is_sign-true, is_sign-false}
 use Rattle.expression_parser.proofs.Nodes.{Low, tall, leaf}
 use Rattle.secrec_parser.specs.Grammar.{parenthesised, IsDeclaration, IsStatement, Closed}
-use Rattle.secrec_parser.specs.Steps.{Inner, leader_of, least, listed, at_sign, braced, else_step, if_step, while_step, do_step, for_step, return_step, assert_step, declaration_step, declaration_statement, action, ActionTree, assigns, evaluates, statement_of, action_statement}
-use Rattle.secrec_parser.specs.Steps as steps
+use Rattle.secrec_parser.specs.inner.Steps.{Inner, leader_of, least, listed, at_sign, braced, else_step, if_step, while_step, do_step, for_step, return_step, assert_step, declaration_step, declaration_statement, action, ActionTree, assigns, evaluates, statement_of, action_statement}
+use Rattle.secrec_parser.specs.inner.Steps as steps
 use Rattle.secrec_parser.proofs.Made.{Made, Both, Living, seq, made, known, sign_seq, sign_end}
 use Rattle.secrec_parser.proofs.Heads.{nothing_reads, one_reads}
 use Rattle.secrec_parser.proofs.TypeReadings.{lone}

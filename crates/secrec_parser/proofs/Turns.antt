@@ -18,8 +18,8 @@ use Rattle.secrec_parser.specs.declared.assignment.Update.{Update}
 use Rattle.secrec_parser.specs.declared.leader.Leader.{Leader}
 use Rattle.secrec_parser.specs.declared.leader.Leader.TheVariants as leaders
 use Rattle.expression_parser.specs.Steps.{Outcome, ◌>>=◌, expect}
-use Rattle.secrec_parser.specs.Given.{Takes}
-use Rattle.secrec_parser.specs.Steps.{list_from, at_sign, update_of, least_height, value_by, assigned_by, assigned, comma_then, no_more_variables, leader_of, least, Inner, led, declaration_statement, name_statement, action_statement, else_step, if_step, parenthesised, short, statement_by, statement_step, statement_at_most}
+use Rattle.secrec_parser.specs.inner.Given.{Takes}
+use Rattle.secrec_parser.specs.inner.Steps.{list_from, at_sign, update_of, least_height, value_by, assigned_by, assigned, comma_then, no_more_variables, leader_of, least, Inner, led, declaration_statement, name_statement, action_statement, else_step, if_step, parenthesised, short, statement_by, statement_step, statement_at_most}
 
 module _ {A : Type 0} (stop : List A → List Token → Bool) (inner : List Token → Outcome A) where
   pub list_stops : (n : ℕ) (found : List A) (w : List Token) → stop found w ≡ true → list_from stop inner n found w ≡ Ok (found, w)

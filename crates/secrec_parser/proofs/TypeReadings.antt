@@ -24,7 +24,7 @@ use Rattle.expression_parser.proofs.Reading.{Good, Bad, Reads, Stops, cons_head,
 use Rattle.expression_parser.proofs.Tokens.{Any, All, origin, any_stops, good_ended, after_kind, head_kind, is_sign-true, is_sign-false}
 use Rattle.expression_parser.proofs.Unaries.{data_type_reads}
 use Rattle.secrec_parser.specs.Grammar.{identifier, BeginsAt, IsDomain, IsDimension, IsType}
-use Rattle.secrec_parser.specs.Steps.{domain_of, zero_or_one, zero_or_one_of, brackets, dimension, declared_type}
+use Rattle.secrec_parser.specs.inner.Steps.{domain_of, zero_or_one, zero_or_one_of, brackets, dimension, declared_type}
 use Rattle.secrec_parser.proofs.Made.{Made, Both, seq, made, sign_seq, sign_end}
 use Rattle.secrec_parser.proofs.Heads.{nothing_reads, one_reads, unexpected, reads_placed}
 

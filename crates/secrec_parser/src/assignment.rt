@@ -5,8 +5,8 @@ ghost use Rattle.secrec_ast.specs.Tree.{expression};
 ghost use Rattle.secrec_ast.specs.Statements.{assignment_tree, optional, statement, step_tree, target_tree};
 ghost use Rattle.secrec_ast.specs.Heights.{height, optional_height, target_height};
 ghost use Rattle.secrec_parser.specs.Sugar.{held, updated};
-ghost use Rattle.secrec_parser.specs.Steps.{action, assigned, assignment_step, is_update, least_height, statement_of, step_of, target_index, update_of, value_by};
-ghost use Rattle.secrec_parser.specs.Given.{action_tree, Takes};
+ghost use Rattle.secrec_parser.specs.inner.Steps.{action, assigned, assignment_step, is_update, least_height, statement_of, step_of, target_index, update_of, value_by};
+ghost use Rattle.secrec_parser.specs.inner.Given.{action_tree, Takes};
 
 use crate::declaration::operand;
 use crate::tokens::at_sign;
@@ -215,7 +215,7 @@ fn target_index<'a>(
 }
 
 /// An assignment of at most this height.
-#[tactic(auto, unfolding(crate::specs::Steps::assignment_step))]
+#[tactic(auto, unfolding(crate::specs::inner::Steps::assignment_step))]
 pub fn assignment<'a>(alloc: Global, tokens: &'a [Token], max_height: u8) -> Read<'a, Assignment>
     ensures { Takes (λ x. (assignment_tree x.0, x.1.now)) result (assignment_step max_height tokens.now) (length tokens.now) }
 {
@@ -231,7 +231,7 @@ pub fn assignment<'a>(alloc: Global, tokens: &'a [Token], max_height: u8) -> Rea
 }
 
 /// An expression of at most the first height, or an assignment of at most the second.
-#[tactic(auto, unfolding(crate::specs::Steps::action))]
+#[tactic(auto, unfolding(crate::specs::inner::Steps::action))]
 pub fn assignment_or_expression<'a>(
     alloc: Global,
     tokens: &'a [Token],

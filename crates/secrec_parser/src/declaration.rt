@@ -3,8 +3,8 @@
 ghost use Rattle.std.specs.Prelude.{◌≡◌, ◌+◌, length};
 ghost use Rattle.secrec_ast.specs.Tree.{expression};
 ghost use Rattle.secrec_ast.specs.Statements.{optional, declaration_tree};
-ghost use Rattle.secrec_parser.specs.Steps.{declaration_step, initialiser, operand, parenthesised, size};
-ghost use Rattle.secrec_parser.specs.Given.{Takes};
+ghost use Rattle.secrec_parser.specs.inner.Steps.{declaration_step, initialiser, operand, parenthesised, size};
+ghost use Rattle.secrec_parser.specs.inner.Given.{Takes};
 
 use crate::tokens::at_sign;
 use crate::types::declared_type;
@@ -64,7 +64,7 @@ fn initialiser<'a>(
 }
 
 /// A declaration whose size and value are of at most this height.
-#[tactic(auto, unfolding(crate::specs::Steps::declaration_step))]
+#[tactic(auto, unfolding(crate::specs::inner::Steps::declaration_step))]
 pub fn declaration<'a>(alloc: Global, tokens: &'a [Token], max_height: u8) -> Read<'a, Declaration>
     ensures { Takes (λ x. (declaration_tree x.0, x.1.now)) result (declaration_step max_height tokens.now) (length tokens.now) }
 {

@@ -1,7 +1,7 @@
 // What a statement is, as far as its first token tells.
 
 ghost use Rattle.std.specs.Prelude.{◌≡◌};
-ghost use Rattle.secrec_parser.specs.Steps.{leader_of, least, is_type, name_leader};
+ghost use Rattle.secrec_parser.specs.inner.Steps.{leader_of, least, is_type, name_leader};
 
 use secrec_lexer::{Sign, Token, TokenKind};
 

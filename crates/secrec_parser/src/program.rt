@@ -2,9 +2,9 @@
 
 ghost use Rattle.std.specs.Prelude.{◌≡◌, [], length, map};
 ghost use Rattle.secrec_ast.specs.Programs.{item_tree, program_tree};
-ghost use Rattle.secrec_parser.specs.Steps.{at_end, domain_item, item, item_step, listed, named, program};
+ghost use Rattle.secrec_parser.specs.inner.Steps.{at_end, domain_item, item, item_step, listed, named, program};
 ghost use Rattle.expression_parser.specs.Given.{Gives};
-ghost use Rattle.secrec_parser.specs.Given.{Takes};
+ghost use Rattle.secrec_parser.specs.inner.Given.{Takes};
 
 use crate::function::function;
 use crate::tokens::{at_end, place_at};
@@ -22,7 +22,7 @@ fn named<'a>(alloc: Global, tokens: &'a [Token]) -> Read<'a, Identifier>
 }
 
 /// A domain and its kind, behind the keyword.
-#[tactic(auto, unfolding(crate::specs::Steps::domain_item))]
+#[tactic(auto, unfolding(crate::specs::inner::Steps::domain_item))]
 fn domain<'a>(alloc: Global, tokens: &'a [Token]) -> Read<'a, Item>
     ensures { Takes (λ x. (item_tree x.0, x.1.now)) result (domain_item tokens.now) (length tokens.now) }
 {
@@ -32,7 +32,7 @@ fn domain<'a>(alloc: Global, tokens: &'a [Token]) -> Read<'a, Item>
 }
 
 /// A part of a program; `max_height` is the greatest height of the statements of functions.
-#[tactic(auto, unfolding(crate::specs::Steps::item))]
+#[tactic(auto, unfolding(crate::specs::inner::Steps::item))]
 fn item<'a>(alloc: Global, tokens: &'a [Token], max_height: u8) -> Read<'a, Item>
     ensures { Takes (λ x. (item_tree x.0, x.1.now)) result (item max_height tokens.now) (length tokens.now) }
 {
@@ -67,7 +67,7 @@ fn items<'a>(alloc: Global, tokens: &'a [Token], max_height: u8) -> Read<'a, Vec
 }
 
 /// A whole program, up to the end of the text; `max_height` is the greatest height of the statements of functions.
-#[tactic(auto, unfolding(crate::specs::Steps::program))]
+#[tactic(auto, unfolding(crate::specs::inner::Steps::program))]
 pub fn program<'a>(alloc: Global, tokens: &'a [Token], max_height: u8) -> Read<'a, Program>
     ensures step { Gives (λ x. (program_tree x.0, x.1.now)) result (program max_height tokens.now) }
 {

@@ -2,8 +2,8 @@
 
 ghost use Rattle.std.specs.Prelude.{◌≡◌, ◌+◌, ◌<◌, ◌≤◌, length, Err};
 ghost use Rattle.secrec_ast.specs.Statements.{optional, start_tree, statement, step_tree};
-ghost use Rattle.secrec_parser.specs.Steps.{action_statement, assert_step, declaration_statement, declares, do_behind, follows_name, headed, heading, last_part, last_step, least, name_statement, only_declares, return_step, short, start_part, start_step, test_part};
-ghost use Rattle.secrec_parser.specs.Given.{heading_parts, Takes};
+ghost use Rattle.secrec_parser.specs.inner.Steps.{action_statement, assert_step, declaration_statement, declares, do_behind, follows_name, headed, heading, last_part, last_step, least, name_statement, only_declares, return_step, short, start_part, start_step, test_part};
+ghost use Rattle.secrec_parser.specs.inner.Given.{heading_parts, Takes};
 
 use crate::assignment::{assignment, assignment_or_expression, update_of};
 use crate::declaration::{declaration, operand, parenthesised};
@@ -26,7 +26,7 @@ pub fn declares(tokens: &[Token]) -> bool
 }
 
 fn is_named_type(token: &Token, rest: &[Token]) -> bool
-    ensures { result ≡ Rattle.secrec_parser.specs.Steps.is_named_type token.now.kind rest.now }
+    ensures { result ≡ Rattle.secrec_parser.specs.inner.Steps.is_named_type token.now.kind rest.now }
 {
     match token.kind {
         TokenKind::Name(_) => match rest.split_first() {
@@ -38,7 +38,7 @@ fn is_named_type(token: &Token, rest: &[Token]) -> bool
 }
 
 /// A declaration whose size and value are of at most this height, and its semicolon.
-#[tactic(auto, unfolding(crate::specs::Steps::declaration_statement))]
+#[tactic(auto, unfolding(crate::specs::inner::Steps::declaration_statement))]
 pub fn declaration_statement<'a>(
     alloc: Global,
     tokens: &'a [Token],
@@ -51,7 +51,7 @@ pub fn declaration_statement<'a>(
 }
 
 /// An assignment or an expression, and its semicolon.
-#[tactic(auto, unfolding(crate::specs::Steps::action_statement))]
+#[tactic(auto, unfolding(crate::specs::inner::Steps::action_statement))]
 pub fn action_statement<'a>(
     alloc: Global,
     tokens: &'a [Token],
@@ -94,7 +94,7 @@ fn fault_behind_name(tokens: &[Token]) -> ParseProblem
 }
 
 /// A statement that begins with a name, behind which the rest stands.
-#[tactic(auto, unfolding(crate::specs::Steps::name_statement))]
+#[tactic(auto, unfolding(crate::specs::inner::Steps::name_statement))]
 pub fn name_statement<'a>(
     alloc: Global,
     tokens: &'a [Token],
@@ -115,7 +115,7 @@ pub fn name_statement<'a>(
 }
 
 /// An expression if there is one, and its semicolon.
-#[tactic(auto, unfolding(crate::specs::Steps::test_part))]
+#[tactic(auto, unfolding(crate::specs::inner::Steps::test_part))]
 fn optional_part<'a>(
     alloc: Global,
     tokens: &'a [Token],
@@ -131,7 +131,7 @@ fn optional_part<'a>(
 }
 
 /// A statement that holds no statement and that a keyword or a semicolon led, which stands before the tokens.
-#[tactic(auto, unfolding(crate::specs::Steps::return_step, crate::specs::Steps::assert_step))]
+#[tactic(auto, unfolding(crate::specs::inner::Steps::return_step, crate::specs::inner::Steps::assert_step))]
 pub fn short_statement<'a>(
     alloc: Global,
     leader: Leader,
@@ -161,7 +161,7 @@ pub fn short_statement<'a>(
 }
 
 /// The test of a `do` with this body, and the signs around it.
-#[tactic(auto, unfolding(crate::specs::Steps::do_behind))]
+#[tactic(auto, unfolding(crate::specs::inner::Steps::do_behind))]
 pub fn do_test<'a>(
     alloc: Global,
     place: Span,
@@ -180,7 +180,7 @@ pub fn do_test<'a>(
 }
 
 /// The first part of a `for`, up to its semicolon.
-#[tactic(auto, unfolding(crate::specs::Steps::start_step))]
+#[tactic(auto, unfolding(crate::specs::inner::Steps::start_step))]
 fn start<'a>(alloc: Global, tokens: &'a [Token], max_height: u8) -> Read<'a, ForStart>
     requires { 1 ≤ max_height }
     ensures { Takes (λ x. (start_tree x.0, x.1.now)) result (start_step max_height tokens.now) (length tokens.now + 1) }
@@ -197,7 +197,7 @@ fn start<'a>(alloc: Global, tokens: &'a [Token], max_height: u8) -> Read<'a, For
 }
 
 /// The third part of a `for`, up to its parenthesis.
-#[tactic(auto, unfolding(crate::specs::Steps::last_step))]
+#[tactic(auto, unfolding(crate::specs::inner::Steps::last_step))]
 fn last<'a>(alloc: Global, tokens: &'a [Token], max_height: u8) -> Read<'a, ForStep>
     ensures { Takes (λ x. (step_tree x.0, x.1.now)) result (last_step max_height tokens.now) (length tokens.now + 1) }
 {
@@ -209,7 +209,7 @@ fn last<'a>(alloc: Global, tokens: &'a [Token], max_height: u8) -> Read<'a, ForS
 }
 
 /// The first part of a `for`, with the parenthesis before it and the semicolon behind it.
-#[tactic(auto, unfolding(crate::specs::Steps::start_part))]
+#[tactic(auto, unfolding(crate::specs::inner::Steps::start_part))]
 fn start_part<'a>(alloc: Global, tokens: &'a [Token], max_height: u8) -> Read<'a, ForStart>
     requires { 1 ≤ max_height }
     ensures { Takes (λ x. (start_tree x.0, x.1.now)) result (start_part max_height tokens.now) (length tokens.now) }
@@ -220,7 +220,7 @@ fn start_part<'a>(alloc: Global, tokens: &'a [Token], max_height: u8) -> Read<'a
 }
 
 /// The third part of a `for`, with the parenthesis behind it.
-#[tactic(auto, unfolding(crate::specs::Steps::last_part))]
+#[tactic(auto, unfolding(crate::specs::inner::Steps::last_part))]
 fn last_part<'a>(alloc: Global, tokens: &'a [Token], max_height: u8) -> Read<'a, ForStep>
     ensures { Takes (λ x. (step_tree x.0, x.1.now)) result (last_part max_height tokens.now) (length tokens.now) }
 {
@@ -259,7 +259,7 @@ impl Heading {
 }
 
 /// The parentheses of a `for` and what stands in them.
-#[tactic(auto, unfolding(crate::specs::Steps::heading))]
+#[tactic(auto, unfolding(crate::specs::inner::Steps::heading))]
 pub fn for_heading<'a>(alloc: Global, tokens: &'a [Token], max_height: u8) -> Read<'a, Heading>
     requires { 1 ≤ max_height }
     ensures { Takes (λ x. (heading_parts x.0, x.1.now)) result (heading max_height tokens.now) (length tokens.now) }

@@ -2,8 +2,8 @@
 
 ghost use Rattle.std.specs.Prelude.{◌≡◌, ◌+◌, ◌-◌, ◌≤◌, true, length, map};
 ghost use Rattle.secrec_ast.specs.Statements.{statement};
-ghost use Rattle.secrec_parser.specs.Steps.{braced, do_step, for_step, if_step, least, led, statement_at_most, while_step};
-ghost use Rattle.secrec_parser.specs.Given.{Takes};
+ghost use Rattle.secrec_parser.specs.inner.Steps.{braced, do_step, for_step, if_step, least, led, statement_at_most, while_step};
+ghost use Rattle.secrec_parser.specs.inner.Given.{Takes};
 
 use crate::declaration::parenthesised;
 use crate::leader::{Leader, leader_of};
@@ -44,7 +44,7 @@ fn statement<'a>(
 
 /// A statement that a keyword, a brace or a semicolon led, which stands before the tokens.
 #[cycle(statements)]
-#[tactic(auto, unfolding(crate::specs::Steps::led))]
+#[tactic(auto, unfolding(crate::specs::inner::Steps::led))]
 fn led<'a>(
     alloc: Global,
     leader: Leader,
@@ -90,7 +90,7 @@ pub fn braced<'a>(
 }
 
 #[cycle(statements)]
-#[tactic(auto, unfolding(crate::specs::Steps::if_step))]
+#[tactic(auto, unfolding(crate::specs::inner::Steps::if_step))]
 fn if_statement<'a>(
     alloc: Global,
     place: Span,
@@ -113,7 +113,7 @@ fn if_statement<'a>(
 }
 
 #[cycle(statements)]
-#[tactic(auto, unfolding(crate::specs::Steps::while_step))]
+#[tactic(auto, unfolding(crate::specs::inner::Steps::while_step))]
 fn while_statement<'a>(
     alloc: Global,
     place: Span,
@@ -129,7 +129,7 @@ fn while_statement<'a>(
 }
 
 #[cycle(statements)]
-#[tactic(auto, unfolding(crate::specs::Steps::do_step))]
+#[tactic(auto, unfolding(crate::specs::inner::Steps::do_step))]
 fn do_statement<'a>(
     alloc: Global,
     place: Span,
@@ -144,7 +144,7 @@ fn do_statement<'a>(
 }
 
 #[cycle(statements)]
-#[tactic(auto, unfolding(crate::specs::Steps::for_step))]
+#[tactic(auto, unfolding(crate::specs::inner::Steps::for_step))]
 fn for_statement<'a>(
     alloc: Global,
     place: Span,

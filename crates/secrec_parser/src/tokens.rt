@@ -1,7 +1,7 @@
 // Single tokens.
 
 ghost use Rattle.std.specs.Prelude.{◌≡◌, IfOk};
-ghost use Rattle.secrec_parser.specs.Steps.{at_sign, at_end, place_at};
+ghost use Rattle.secrec_parser.specs.inner.Steps.{at_sign, at_end, place_at};
 ghost use Rattle.expression_parser.specs.Steps.{operator_at};
 ghost use Rattle.expression_parser.specs.Given.{Gives};
 

@@ -1,8 +1,8 @@
 // Types as they are declared.
 
 ghost use Rattle.std.specs.Prelude.{◌≡◌, ◌+◌, length};
-ghost use Rattle.secrec_parser.specs.Steps.{brackets, declared_type, dimension, optional_domain, zero_or_one};
-ghost use Rattle.secrec_parser.specs.Given.{Takes};
+ghost use Rattle.secrec_parser.specs.inner.Steps.{brackets, declared_type, dimension, optional_domain, zero_or_one};
+ghost use Rattle.secrec_parser.specs.inner.Given.{Takes};
 
 use crate::tokens::{at_sign, place_at};
 use expression_parser::{ParseProblem, Read, Stopped, closed, data_type, expect};
@@ -75,7 +75,7 @@ fn dimension<'a>(tokens: &'a [Token]) -> Read<'a, bool>
     }
 }
 
-#[tactic(auto, unfolding(crate::specs::Steps::declared_type))]
+#[tactic(auto, unfolding(crate::specs::inner::Steps::declared_type))]
 pub fn declared_type<'a>(alloc: Global, tokens: &'a [Token]) -> Read<'a, DeclaredType>
     ensures { Takes (λ x. (x.0, x.1.now)) result (declared_type tokens.now) (length tokens.now) }
 {

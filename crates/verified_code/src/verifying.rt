@@ -1,7 +1,7 @@
 // The first fault of code.
 ghost use Rattle.std.specs.Prelude.{◌≡◌, ◌<◌, length};
 ghost use Rattle.bytecode.specs.InMemory.{raw_code, raw_function, raw_instruction};
-ghost use Rattle.verified_code.specs.Places.{here_in};
+ghost use Rattle.verified_code.specs.inner.Places.{here_in};
 ghost use Rattle.verified_code.specs.Verified.{body_fault, first_fault, function_fault, functions_fault, head_fits, problem_at};
 
 use crate::fault::{CodeProblem, VerifyErr};

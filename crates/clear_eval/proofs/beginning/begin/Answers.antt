@@ -11,7 +11,7 @@ use Rattle.language_model.specs.Effects.{Run, carry, done}
 use Rattle.language_model.specs.Values.{Value}
 use Rattle.language_model.specs.Evaluation.{Frame, execute_all, entered, result_of, is_private, body_of}
 use Rattle.value_steps.specs.Views.{value_seen}
-use Rattle.clear_eval.specs.Views.{frame_seen}
+use Rattle.clear_eval.specs.inner.Views.{frame_seen}
 use Rattle.clear_eval.proofs.Sound.{body_sound}
 use Rattle.clear_eval.proofs.Work.{body_within}
 use Rattle.clear_eval.proofs.beginning.begin.Goals as goal

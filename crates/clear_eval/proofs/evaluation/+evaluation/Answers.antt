@@ -13,11 +13,11 @@ use Rattle.language_model.specs.Operations.{tested}
 use Rattle.language_model.specs.Evaluation.{value, execute, arguments, next_is_private, call_at}
 use Rattle.value_steps.specs.Steps.{itself}
 use Rattle.value_steps.specs.Views.{value_seen, stage_seen, world_seen}
-use Rattle.clear_eval.specs.Calling.{call_charged}
-use Rattle.clear_eval.specs.Measures.{weight, weight_of_all, command_weight, commands_weight, work}
-use Rattle.clear_eval.specs.Parts.{HasOne, HasTwo, HasOneWithin, HasTwoWithin}
-use Rattle.clear_eval.specs.Standing.{AreSoundAmong, IsSoundAround, IsSoundIn, AreSoundStatements, IsSoundStatement, HasRoomFor, turns_at, repeats_at}
-use Rattle.clear_eval.specs.Views.{frame_seen, flow_seen, place_seen, functions_around, calls_from}
+use Rattle.clear_eval.specs.inner.Calling.{call_charged}
+use Rattle.clear_eval.specs.inner.Measures.{weight, weight_of_all, command_weight, commands_weight, work}
+use Rattle.clear_eval.specs.inner.Parts.{HasOne, HasTwo, HasOneWithin, HasTwoWithin}
+use Rattle.clear_eval.specs.inner.Standing.{AreSoundAmong, IsSoundAround, IsSoundIn, AreSoundStatements, IsSoundStatement, HasRoomFor, turns_at, repeats_at}
+use Rattle.clear_eval.specs.inner.Views.{frame_seen, flow_seen, place_seen, functions_around, calls_from}
 use Rattle.clear_eval.proofs.Arguments.{behind_those, arguments_more}
 use Rattle.clear_eval.proofs.Calls.{call_run, body_behind}
 use Rattle.clear_eval.proofs.Lists.{trees, commands, lighter_tree, sound_tree, lighter_command, sound_command, trees-drop, behind-drop, counted}

@@ -7,8 +7,8 @@ use Rattle.reached_instances.specs.Views.{setting}
 use Rattle.language_model.specs.Effects.{carry, done}
 use Rattle.language_model.specs.Evaluation.{arguments, value, execute, execute_all}
 use Rattle.value_steps.specs.Views.{value_seen, stage_seen, world_seen}
-use Rattle.clear_eval.specs.Views.{frame_seen, place_seen, functions_around, calls_from}
-use Rattle.clear_eval.specs.Measures.{weight, weight_of_all, command_weight, commands_weight, work}
+use Rattle.clear_eval.specs.inner.Views.{frame_seen, place_seen, functions_around, calls_from}
+use Rattle.clear_eval.specs.inner.Measures.{weight, weight_of_all, command_weight, commands_weight, work}
 use Rattle.clear_eval.proofs.Loops.{Turns, Repeats}
 use Rattle.clear_eval.proofs.evaluation.+evaluation.Given as goal
 

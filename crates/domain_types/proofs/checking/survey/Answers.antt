@@ -8,7 +8,7 @@ use Rattle.domain_types.specs.Declarations.{declared_in, declared_by}
 use Rattle.domain_types.specs.ProgramTypes.{items_faults, has_main}
 use Rattle.domain_types.specs.Answer.{AreTheChecked, IsTold}
 use Rattle.domain_types.specs.Views.{declared, tree_at}
-use Rattle.domain_types.specs.Least.{least}
+use Rattle.domain_types.specs.inner.LeastFault.{least}
 use Rattle.domain_types.proofs.Verdicts.{IsWorked, noted, last_kept, told, are_the_checked}
 use Rattle.domain_types.proofs.checking.survey.Goals as goal
 

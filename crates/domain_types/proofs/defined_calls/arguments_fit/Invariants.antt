@@ -3,7 +3,7 @@ use Rattle.std.specs.Prelude.{◌&&◌}
 use Rattle.domain_types.specs.Types.{is_faultless}
 use Rattle.domain_types.specs.Views.{setting}
 use Rattle.domain_types.specs.ExpressionTypes.{argument_faults}
-use Rattle.domain_types.specs.Least.{least}
+use Rattle.domain_types.specs.inner.LeastFault.{least}
 use Rattle.domain_types.proofs.defined_calls.arguments_fit.Given as goal
 
 abbrev pub invariant-loop-parameter : goal.invariant-loop-parameter

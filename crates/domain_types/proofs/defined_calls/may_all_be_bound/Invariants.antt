@@ -2,7 +2,7 @@ use Rattle.std.proofs.Common.{◌≡◌, length}
 use Rattle.std.specs.Prelude.{◌&&◌}
 use Rattle.domain_types.specs.Types.{is_faultless}
 use Rattle.domain_types.specs.ExpressionTypes.{binding_faults}
-use Rattle.domain_types.specs.Least.{least}
+use Rattle.domain_types.specs.inner.LeastFault.{least}
 use Rattle.domain_types.proofs.defined_calls.may_all_be_bound.Given as goal
 
 abbrev pub invariant-loop-variable : goal.invariant-loop-variable

@@ -13,8 +13,8 @@ use Rattle.domain_types.specs.Declarations.{callee}
 use Rattle.domain_types.specs.ExpressionTypes.{and_argument, of_two, given_value, negation_type, operator_type, index_type, call_type, negation_faults, operator_faults, index_faults, call_faults, type_of, value_type, faults, value_faults, arguments_of, argument_list_faults}
 use Rattle.domain_types.specs.Reached.{calls_of, calls_of_all, call_of}
 use Rattle.domain_types.specs.Views.{setting, calls_seen}
-use Rattle.domain_types.specs.Walks.{Gives}
-use Rattle.domain_types.specs.Least.{least}
+use Rattle.domain_types.specs.inner.Walks.{Gives}
+use Rattle.domain_types.specs.inner.LeastFault.{least}
 use Rattle.domain_types.proofs.Visits.{then_least, then_calls, gives_behind, if_ok_so, one_part, two_parts}
 use Rattle.domain_types.proofs.Arguments.{arguments_of-more, argument_list_faults-more, calls_of_all-more}
 use Rattle.domain_types.proofs.expressions.+expressions.Goals as goal

@@ -1,7 +1,7 @@
 use Rattle.std.proofs.Common.{◌≡◌, length}
 use Rattle.domain_types.specs.FunctionTypes.{with_parameters, parameter_faults}
 use Rattle.domain_types.specs.Views.{setting}
-use Rattle.domain_types.specs.Least.{least}
+use Rattle.domain_types.specs.inner.LeastFault.{least}
 use Rattle.domain_types.proofs.functions.parameters.Given as goal
 
 abbrev pub invariant-loop-parameter : goal.invariant-loop-parameter

@@ -10,7 +10,7 @@ use Rattle.domain_types.specs.Scopes.{inner, leaving}
 use Rattle.domain_types.specs.StatementTypes.{after, after_all, test_faults, statement_faults, block_faults, optional_faults, return_rule, optional_type}
 use Rattle.domain_types.specs.Reached.{calls_of, statement_calls, block_calls}
 use Rattle.domain_types.specs.Views.{setting, calls_seen}
-use Rattle.domain_types.specs.Least.{least}
+use Rattle.domain_types.specs.inner.LeastFault.{least}
 use Rattle.domain_types.proofs.Faults.{least-append}
 use Rattle.domain_types.proofs.Visits.{then_least, then_calls}
 use Rattle.domain_types.proofs.Blocks.{after_all-more, block_faults-more, block_calls-more, after_all_outer, after_start_outer, leaving_inner, leave_fits, for_least_fault, for_calls}

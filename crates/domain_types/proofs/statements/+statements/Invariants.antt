@@ -4,7 +4,7 @@ use Rattle.secrec_ast.specs.Statements.{statement, statements_of}
 use Rattle.domain_types.specs.StatementTypes.{after_all, block_faults}
 use Rattle.domain_types.specs.Reached.{block_calls}
 use Rattle.domain_types.specs.Views.{setting, calls_seen}
-use Rattle.domain_types.specs.Least.{least}
+use Rattle.domain_types.specs.inner.LeastFault.{least}
 use Rattle.domain_types.proofs.statements.+statements.Given as goal
 
 abbrev pub invariant-statements-loop-each : goal.invariant-statements-loop-each

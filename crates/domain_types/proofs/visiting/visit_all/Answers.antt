@@ -5,7 +5,7 @@ use Rattle.std.specs.BTreeSet.{contains}
 use Rattle.std.specs.Ordering.{nat_cmp}
 use Rattle.domain_types.specs.Views.{declared, tree_at, calls_seen}
 use Rattle.domain_types.specs.Instances.{instance_seen}
-use Rattle.domain_types.specs.WorkList.{with_calls, with_plain, plain_instances, instance_calls, is_called, AreVisited}
+use Rattle.domain_types.specs.inner.WorkList.{with_calls, with_plain, plain_instances, instance_calls, is_called, AreVisited}
 use Rattle.domain_types.proofs.WorkList.{begun, next_visited, next_least, next_called}
 use Rattle.domain_types.proofs.visiting.visit_all.Goals as goal
 

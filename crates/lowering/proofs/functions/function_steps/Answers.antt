@@ -11,8 +11,8 @@ use Rattle.code_model.specs.Commands.{defaults_behind}
 use Rattle.lowered_expressions.specs.Built.{BodyPiece}
 use Rattle.lowered_expressions.specs.Views.{built, here_of, numbers_of, piece_seen, step_seen}
 use Rattle.lowered_expressions.proofs.Building.{body_of}
-use Rattle.lowering.specs.Pieces.{with_commands}
-use Rattle.lowering.specs.Views.{place_seen}
+use Rattle.lowering.specs.inner.Pieces.{with_commands}
+use Rattle.lowering.specs.inner.Views.{place_seen}
 use Rattle.lowering.proofs.Bodies.{function_made, function_of}
 use Rattle.lowering.proofs.functions.function_steps.Goals as goal
 

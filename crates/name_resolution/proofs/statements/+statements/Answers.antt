@@ -7,7 +7,7 @@ use Rattle.domain_types.specs.Views.{declared}
 use Rattle.typed_tree.specs.Commands.{command, commands_of}
 use Rattle.name_resolution.specs.Scopes.{FunctionScope}
 use Rattle.name_resolution.specs.Bodies.{looped, resolved, resolved_all}
-use Rattle.name_resolution.specs.Views.{place_seen, with_place, commands_seen}
+use Rattle.name_resolution.specs.inner.Views.{place_seen, with_place, commands_seen}
 use Rattle.name_resolution.proofs.Growing.{map_one}
 use Rattle.name_resolution.proofs.Missing.{passed_on, statements_none}
 use Rattle.name_resolution.proofs.Sequences.{resolved_all_more, place_made}

@@ -7,8 +7,8 @@ use Rattle.secrec_ast.specs.Tree.{expression}
 use Rattle.secrec_ast.specs.Statements.{statement}
 use Rattle.secrec_ast.specs.Equations.{branch_statement_is, choice_statement_is}
 use Rattle.expression_parser.specs.Steps.{◌>>=◌, expect}
-use Rattle.secrec_parser.specs.Given.{Takes}
-use Rattle.secrec_parser.specs.Steps.{at_sign, braced, list_from, statement_at_most}
+use Rattle.secrec_parser.specs.inner.Given.{Takes}
+use Rattle.secrec_parser.specs.inner.Steps.{at_sign, braced, list_from, statement_at_most}
 use Rattle.secrec_parser.proofs.Turns.{list_stops, list_goes_on, list_fails, passes, taken, takes_less, closed_takes, if_alone, if_chosen, led_short, statement_none, statement_high, statement_declares, statement_names, statement_evaluates, statement_led}
 use Rattle.secrec_parser.proofs.statement.+statements.Goals as goal
 

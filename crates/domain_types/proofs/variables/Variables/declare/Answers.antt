@@ -4,7 +4,7 @@ use Rattle.std.proofs.lemmas.List.{length-reverse, reverse-append}
 use Rattle.std.proofs.lemmas.Map.Text.{btree_map_updates_str}
 use Rattle.domain_types.specs.declared.variables.VariableEntry.{VariableEntry}
 use Rattle.domain_types.specs.Scopes.{with_variable}
-use Rattle.domain_types.specs.Table.{latest_in, HideEachOther, latest_first, scope_at}
+use Rattle.domain_types.specs.inner.Table.{latest_in, HideEachOther, latest_first, scope_at}
 use Rattle.domain_types.proofs.Tables.{one_more}
 use Rattle.domain_types.proofs.variables.Variables.declare.Goals as goal
 

@@ -4,7 +4,7 @@ use Rattle.std.proofs.lemmas.List.{length-reverse, reverse-append}
 use Rattle.std.proofs.lemmas.Map.Text.{btree_map_updates_str}
 use Rattle.name_resolution.specs.declared.variables.VariableEntry.{VariableEntry}
 use Rattle.name_resolution.specs.Scopes.{with_variable}
-use Rattle.name_resolution.specs.Table.{latest_in, HideEachOther, latest_first, scope_at}
+use Rattle.name_resolution.specs.inner.Table.{latest_in, HideEachOther, latest_first, scope_at}
 use Rattle.name_resolution.proofs.Tables.{one_more}
 use Rattle.name_resolution.proofs.variables.Variables.declare.Goals as goal
 
