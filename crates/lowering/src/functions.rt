@@ -137,7 +137,6 @@ fn all_placed<'p>(
 /// The code of a function under a binding: its slots are the first registers; a break outside of a loop would lead behind the body. An
 /// error comes where memory runs short.
 pub fn function_steps<'p>(
-    alloc: Global,
     around: &Around<'_>,
     function: &'p TypedFunction,
 ) -> Result<FunctionSteps<'p>, AllocError>
@@ -150,16 +149,16 @@ pub fn function_steps<'p>(
         around: *around,
         secret_result: is_private(given_domain(binding, function.given)),
     };
-    let registers = first_registers(alloc, binding, &function.slots)?;
+    let registers = first_registers(around.alloc, binding, &function.slots)?;
     let mut body = Body {
         registers,
-        pieces: Vec::new(alloc),
+        pieces: Vec::new(around.alloc),
     };
-    statements(alloc, &mut body, &at, &function.body)?;
+    statements(&mut body, &at, &function.body)?;
     let end = body.next_place();
     push_last(&mut body, binding, function.given)?;
     let Body { registers, pieces } = body;
-    let steps = all_placed(alloc, pieces, end)?;
+    let steps = all_placed(around.alloc, pieces, end)?;
     Ok(FunctionSteps {
         parameters: function.parameters,
         gives: given_kind(binding, function.given),

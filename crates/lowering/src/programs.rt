@@ -35,6 +35,7 @@ fn instance_steps<'p>(
         return Ok(nothing_steps(alloc));
     };
     let around = Around {
+        alloc,
         here: Setting {
             functions: &program.functions,
             slots: &function.slots,
@@ -42,7 +43,7 @@ fn instance_steps<'p>(
         },
         instances,
     };
-    function_steps(alloc, &around, function)
+    function_steps(&around, function)
 }
 
 fn push_steps<'p>(
