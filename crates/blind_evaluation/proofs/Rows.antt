@@ -21,7 +21,7 @@ use Rattle.typed_tree.specs.declared.operators.Cast.{Cast}
 use Rattle.typed_tree.specs.declared.operators.Cast.TheVariants.{WordToWord, WordToBool, BoolToWord, BoolToBool}
 use Rattle.typed_tree.specs.Shapes.{shape_of}
 use Rattle.language_model.specs.Effects.{Words, words_each, Clear, Answers, World, Stage, Short, Effect, ◌>>=◌, carry, done, test, gate, draw, planned, emit, next_answers, show}
-use Rattle.language_model.specs.Values.{Secrecy, Private, Value, plain, is_secret, size, seen, is_true, ring_for, element_of, elements_of}
+use Rattle.language_model.specs.Values.{Secrecy, Private, Value, plain, is_secret, size, visible_words, is_true, ring_for, element_of, elements_of}
 use Rattle.language_model.specs.Words as W
 use Rattle.language_model.specs.Operations.{charged, no_traps, largest, not_too_large, number_of, made_private, classified, wanted, read_answer, revealed, opened_from, declassified, stretched, is_scalar_left, is_scalar_right, flip, words_of_operator, operator_gates, is_product, result_shape, private_result, product_with, combined_from, operator_traps, operated, is_classified, operation, negated_from, negated, words_of_cast, cast_shape, cast_gates, changed, cast_from, cast_to, scalar_word, size_told, summed_from, summed, words_for_bits, bits_from, bits_extracted, joined_from, joined, position, element_at, element_from, element_of_array, with_element_from, with_element, filled_from, filled, handed_over, published, tested, asserted}
 use Rattle.language_model.specs.Reports.{Offered, world_of, public_part}
@@ -146,7 +146,7 @@ with_element_private k i {v = v} {v' = v'} {x = x} {x' = x'} l m =
 
 with_element_from_alike : (i : ℕ) {v v' x x' : Value} → LikeValues v v' → LikeValues x x' → Alike LikeValues (with_element_from v.secrecy v i x) (with_element_from v'.secrecy v' i x')
 with_element_from_alike i {x = x} (plains shape words) m =
-    to_equal (λ ws. done (plain shape (set words i (first_word ws)))) (like_seen m) (plain_alike shape (set words i (first_word (seen x))))
+    to_equal (λ ws. done (plain shape (set words i (first_word ws)))) (like_seen m) (plain_alike shape (set words i (first_word (visible_words x))))
 with_element_from_alike i (unmade shape words) m = with_element_private None i (unmade shape words) m
 with_element_from_alike i (made shape k words words' e) m = with_element_private (Some k) i (made shape k words words' e) m
 

@@ -14,7 +14,7 @@ use Rattle.reached_instances.specs.Domains.{domain_under}
 use Rattle.typed_tree.specs.Shapes.{shape_of}
 use Rattle.language_model.specs.Effects.{Stage, Effect}
 use Rattle.language_model.specs.Values.{Value, size, default_words}
-use Rattle.language_model.specs.Evaluation.{Frame, put, Calls, nothing, is_private, slot_is_private, behind_next, either, value, Flow, goes, returns, stops, skips, then_do, turned, turns, repeats, Place, slot_shape, stored, execute, execute_all, begins, entered, result_of, place_in, body_of, array_elements, call_at}
+use Rattle.language_model.specs.Evaluation.{Frame, put, Calls, nothing, is_private, slot_is_private, behind_next, either, value, Flow, goes, returns, stops, skips, then_do, turned, turns, repeats, StatementContext, slot_shape, stored, execute, execute_all, begins, entered, result_of, place_in, body_of, array_elements, call_at}
 use Rattle.language_model.specs.Reports.{Offered}
 use Rattle.blind_evaluation.proofs.Alike.{Alike, AlikeAt, alike_bind, alike_done, same_bind, any_bind, end_alike, charge_alike, charge_equal}
 use Rattle.blind_evaluation.proofs.AlikeValues.{LikeValues, plains, like_size, like_shape, never_like, AllLike, no_more, and_more}
@@ -75,7 +75,7 @@ repeats_alike (suc n) c c' body body' hc hb fr fr' l =
 -- ---- STATEMENTS
 
 module _ (o : Offered) where
-  module _ (calls calls' : Calls) (ok : CallsAlike calls calls') (at : Place) where
+  module _ (calls calls' : Calls) (ok : CallsAlike calls calls') (at : StatementContext) where
     stored_alike : (k : ℕ) {v v' : Value} {fr fr' : Frame} → LikeValues v v' → LikeFrames fr fr' → Alike LikeFlow (stored at.here k v fr) (stored at.here k v' fr')
     stored_alike k l m = alike_bind (wanted_alike (slot_is_private at.here k) l) (λ u u' p. any_bind (sized_alike p) (λ _ _. alike_done (put_like k p m)))
 

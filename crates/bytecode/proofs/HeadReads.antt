@@ -5,7 +5,7 @@ use Rattle.bytecode.specs.declared.fault.Stopped.{Stopped}
 use Rattle.bytecode.specs.Kinds.{is_return, return_of}
 use Rattle.bytecode.specs.Layouts.{Layout, Makes, Field, BadTag, read, behind}
 use Rattle.bytecode.specs.Decoded.{Head, head_layout, short_layout, kind_layout, repeated}
-use Rattle.bytecode.specs.Reading.{Stops}
+use Rattle.bytecode.specs.inner.Reading.{Stops}
 use Rattle.bytecode.proofs.Reading.{step_ok, step_stops}
 
 abbrev return_layout : Layout ℕ

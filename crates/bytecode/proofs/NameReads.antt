@@ -13,7 +13,7 @@ use Rattle.bytecode.specs.Layouts.{Truncated, BadTag, Layout, Makes, Field, Name
 use Rattle.bytecode.specs.Writable.{is_new_name}
 use Rattle.bytecode.specs.Decoded.{Head, body_layout, bodies_layout, function_of, names_layout}
 use Rattle.bytecode.specs.Decoding.{function_layout}
-use Rattle.bytecode.specs.Reading.{Refuses, Stops}
+use Rattle.bytecode.specs.inner.Reading.{Refuses, Stops}
 use Rattle.bytecode.proofs.Reading.{stops_carry, read_behind, after, after_nothing, after_step}
 
 -- ---- bytes as they stand

@@ -7,7 +7,7 @@ use Rattle.bytecode.specs.declared.fault.Stopped.{Stopped}
 use Rattle.bytecode.specs.declared.fault.Stopped.TheVariants.{Refused, Memory}
 use Rattle.bytecode.specs.Layouts.{Layout, Makes, Field, NameField, Read, carry, number, characters, passed, is_name_length, read, behind}
 use Rattle.bytecode.specs.Decoded.{repeated}
-use Rattle.bytecode.specs.Reading.{Refuses, Stops, Reads}
+use Rattle.bytecode.specs.inner.Reading.{Refuses, Stops, Reads}
 
 -- ---- a fault stays what it is
 

@@ -6,10 +6,10 @@ use Rattle.bytecode.specs.Raw.{Raw, Call}
 use Rattle.bytecode.specs.Layouts.{behind, Layout, Makes, Field, BadTag, read}
 use Rattle.bytecode.specs.Decoded.{operands, short_layout, repeated, any, is_operator, is_truth}
 use Rattle.bytecode.specs.declared.fault.Stopped.{Stopped}
-use Rattle.bytecode.specs.Reading.{optional, Stops}
+use Rattle.bytecode.specs.inner.Reading.{optional, Stops}
 use Rattle.bytecode.proofs.Reading.{step_ok, step_stops, seven, seven_ok, seven_stops-6}
 use Rattle.bytecode.specs.Writable.{arguments_at}
-use Rattle.bytecode.specs.Tags.{tag_byte, operands_of, made, has_operator, has_first, has_truth, has_second, has_third, has_line, has_word}
+use Rattle.bytecode.specs.inner.Tags.{tag_byte, operands_of, made, has_operator, has_first, has_truth, has_second, has_third, has_line, has_word}
 
 -- a tag with plain operands
 abbrev pub IsPlain : Tag → Type 0

@@ -5,10 +5,10 @@ ghost use Rattle.bytecode.specs.Decoded.{bodies_layout, code_layout, decoded};
 ghost use Rattle.bytecode.specs.Decoding.{IsDecoded, function_layout, opening_layout, settled, some_functions_layout};
 ghost use Rattle.bytecode.specs.InMemory.{raw_code, raw_function, raw_head};
 ghost use Rattle.bytecode.specs.Layouts.{read};
-ghost use Rattle.bytecode.specs.Reading.{Reads};
+ghost use Rattle.bytecode.specs.inner.Reading.{Reads};
 
 use crate::code::{Code, Function};
-use crate::fault::{DecodeErr, Fault, FaultKind, Stopped};
+use crate::fault::{DecodeErr, DecodeFault, FaultKind, Stopped};
 use crate::heads::{Head, all_heads};
 use crate::names::all_names;
 use crate::operands::body;
@@ -105,7 +105,7 @@ fn code(alloc: Global, reader: &mut Reader<'_>) -> Result<Code, Stopped>
 fn fault(kind: FaultKind, size: usize, left: usize) -> DecodeErr
     ensures { result ≡ Refused (record { kind = kind; place = size - left }) }
 {
-    DecodeErr::Refused(Fault {
+    DecodeErr::Refused(DecodeFault {
         kind,
         place: size.saturating_sub(left),
     })

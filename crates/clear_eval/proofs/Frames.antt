@@ -9,7 +9,7 @@ use Rattle.language_model.specs.Values.{Value}
 use Rattle.language_model.specs.Evaluation.{Frame, put, nothing}
 use Rattle.value_steps.specs.declared.value.Value as held
 use Rattle.value_steps.specs.Views.{value_seen}
-use Rattle.clear_eval.specs.Views.{frame_seen}
+use Rattle.clear_eval.specs.inner.Views.{frame_seen}
 
 pub frame-put : (vs : List held.Value) (k : ℕ) (v : held.Value) → k < length vs → frame_seen (set vs k v) ≡ put k (value_seen v) (frame_seen vs)
 unfolding frame_seen

@@ -9,7 +9,7 @@ use Rattle.typed_tree.specs.Tree.{TypedTrees, also, typed_tree, typed_trees_of}
 use Rattle.typed_tree.specs.Commands.{Commands, command, commands_of}
 use Rattle.typed_tree.specs.Sound.{IsSoundTree, AreSoundTrees, IsSoundCommand, AreSoundCommands, count_of}
 use Rattle.language_model.specs.Evaluation.{behind_next}
-use Rattle.clear_eval.specs.Measures.{weight, weight_of_all, command_weight, commands_weight}
+use Rattle.clear_eval.specs.inner.Measures.{weight, weight_of_all, command_weight, commands_weight}
 
 abbrev pub trees : List TypedExpression → TypedTrees
 trees es = typed_trees_of (map typed_tree es)

@@ -6,7 +6,7 @@ use Rattle.typed_tree.specs.declared.function.TypedFunction.{TypedFunction}
 use Rattle.typed_tree.specs.Commands.{command, commands_of}
 use Rattle.typed_tree.specs.Programs.{typed_function_tree}
 use Rattle.typed_tree.specs.Sound.{parameters_of, AreSoundFunctions, AreSoundCommands}
-use Rattle.clear_eval.specs.Standing.{HasRoomFor, AreSoundAmong}
+use Rattle.clear_eval.specs.inner.Standing.{HasRoomFor, AreSoundAmong}
 
 room_among : (ps : List ℕ) (fs : List TypedFunction) (k n : ℕ) → AreSoundFunctions ps (map typed_function_tree fs) → slice_get (map parameters_of (map typed_function_tree fs)) k ≡ Some n → HasRoomFor fs k n
 room_among ps [] k n a h = cc

@@ -8,13 +8,13 @@ ghost use Rattle.language_model.specs.Operations.{wanted};
 ghost use Rattle.language_model.specs.Evaluation.{gives_private, truth_value};
 ghost use Rattle.value_steps.specs.Steps.{Does};
 ghost use Rattle.value_steps.specs.Views.{value_seen, stage_seen, world_seen};
-ghost use Rattle.clear_eval.specs.Views.{frame_seen, flow_seen, held_seen, place_seen};
-ghost use Rattle.clear_eval.specs.Parts.{is_leaf, step_on_one, step_on_two, is_plain, after_one, after_two};
-ghost use Rattle.clear_eval.specs.Standing.{value_at, flow_at, IsSoundIn, IsSoundStatement};
+ghost use Rattle.clear_eval.specs.inner.Views.{frame_seen, flow_seen, held_seen, place_seen};
+ghost use Rattle.clear_eval.specs.inner.Parts.{is_leaf, step_on_one, step_on_two, is_plain, after_one, after_two};
+ghost use Rattle.clear_eval.specs.inner.Standing.{evaluation_at, flow_at, IsSoundIn, IsSoundStatement};
 
 use crate::flow::Flow;
 use crate::held::Held;
-use crate::place::Place;
+use crate::place::StatementContext;
 use crate::slots::{
     default_value, is_private_slot, put, set_element, slot_shape, slot_value, store,
 };
@@ -33,14 +33,14 @@ use value_steps::{
 pub fn leaf(
     alloc: Global,
     world: &World<'_>,
-    at: &Place<'_>,
+    at: &StatementContext<'_>,
     stage: &mut Stage<'_>,
     frame: &Vec<Value>,
     e: &TypedExpression,
 ) -> Result<Value, Halt>
     requires here { IsSoundIn at.now frame.now.items e.now }
     requires leaf { is_leaf (typed_tree e.now) ≡ true }
-    ensures step { Does value_seen (value_at world.now at.now frame.now.items e.now) (stage_seen stage.old) result (stage_seen stage.new) }
+    ensures step { Does value_seen (evaluation_at world.now at.now frame.now.items e.now) (stage_seen stage.old) result (stage_seen stage.new) }
     ensures spends { stage.new.left ≤ stage.old.left }
 {
     match e {
@@ -104,7 +104,7 @@ pub fn on_two(
 #[inline(never)]
 pub fn decided(
     alloc: Global,
-    at: &Place<'_>,
+    at: &StatementContext<'_>,
     stage: &mut Stage<'_>,
     truth: bool,
     right: &TypedExpression,
@@ -124,7 +124,7 @@ pub fn decided(
 pub fn plain(
     alloc: Global,
     world: &World<'_>,
-    at: &Place<'_>,
+    at: &StatementContext<'_>,
     stage: &mut Stage<'_>,
     frame: &mut Vec<Value>,
     s: &TypedStatement,
@@ -161,7 +161,7 @@ pub fn plain(
 pub fn with_one(
     alloc: Global,
     world: &World<'_>,
-    at: &Place<'_>,
+    at: &StatementContext<'_>,
     stage: &mut Stage<'_>,
     frame: &mut Vec<Value>,
     s: &TypedStatement,
@@ -199,7 +199,7 @@ pub fn with_one(
 pub fn with_two(
     alloc: Global,
     world: &World<'_>,
-    at: &Place<'_>,
+    at: &StatementContext<'_>,
     stage: &mut Stage<'_>,
     frame: &mut Vec<Value>,
     s: &TypedStatement,

@@ -6,13 +6,13 @@ use Rattle.secrec_ast.specs.declared.function.ResultType.{ResultType}
 use Rattle.sc_text.specs.declared.span.Span.{Span}
 use Rattle.secrec_ast.specs.Tree.{Tree}
 use Rattle.secrec_ast.specs.Statements.{StartTree, starts_with_nothing, starts_with_declaration, starts_with_assignment, StepTree, StatementTree, block, empty, branch, choice, while_loop, do_loop, for_loop, breaks, continues, returns, assertion, declaration, assignment, evaluation, StatementTrees, none, also, statements_of}
-use Rattle.domain_types.specs.declared.fault.Fault.{Fault}
+use Rattle.domain_types.specs.declared.fault.TypeFault.{TypeFault}
 use Rattle.domain_types.specs.Declarations.{Setting}
 use Rattle.domain_types.specs.Scopes.{Variable, Scope, inner, leaving}
 use Rattle.domain_types.specs.StatementTypes.{after, after_all, after_start, statement_faults, block_faults, start_faults, optional_type, optional_faults, step_faults, is_step_typed, for_rule, for_own}
 use Rattle.domain_types.specs.Reached.{Call, statement_calls, block_calls, start_calls, optional_calls, step_calls}
 use Rattle.domain_types.specs.declared.value_type.ValueType.{ValueType}
-use Rattle.domain_types.specs.Least.{least}
+use Rattle.domain_types.specs.inner.LeastFault.{least}
 use Rattle.domain_types.proofs.Visits.{then_least, then_calls}
 
 pub after_all-more : (w : Setting) (s : Scope) (ts : List StatementTree) (t : StatementTree) → after_all w s (statements_of (ts ++ t ∷ [])) ≡ after w (after_all w s (statements_of ts)) t
@@ -78,12 +78,12 @@ after_start_outer w s (starts_with_declaration d) = refl
 after_start_outer w s (starts_with_assignment a) = refl
 
 -- the parts of a `for`, one after another: e0 is the scope in which it begins, v that behind its first part
-pub for_worst : (w : Setting) (r : ResultType) (s e0 v : Scope) (p : Span) (a : StartTree) (e : Option Tree) (b : StepTree) (body : StatementTree) (o f1 f2 f3 f4 f5 : Option Fault) (given : Option ValueType) (typed : Bool) →
+pub for_least_fault : (w : Setting) (r : ResultType) (s e0 v : Scope) (p : Span) (a : StartTree) (e : Option Tree) (b : StepTree) (body : StatementTree) (o f1 f2 f3 f4 f5 : Option TypeFault) (given : Option ValueType) (typed : Bool) →
     e0 ≡ inner s → v ≡ after_start w e0 a → given ≡ optional_type w v e → typed ≡ is_step_typed w v b →
     f1 ≡ least o (start_faults w e0 a) → f2 ≡ least f1 (optional_faults w v e) → f3 ≡ least f2 (step_faults w v b) →
     f4 ≡ least f3 (for_rule e given typed) → f5 ≡ least f4 (statement_faults w r (inner v) body) →
     f5 ≡ least o (statement_faults w r s (for_loop p a e b body))
-for_worst w r s e0 v p a e b body o f1 f2 f3 f4 f5 given typed begins goes given_is typed_is g1 g2 g3 g4 g5 =
+for_least_fault w r s e0 v p a e b body o f1 f2 f3 f4 f5 given typed begins goes given_is typed_is g1 g2 g3 g4 g5 =
     then_least o f4 f5 (start_faults w e0 a ++ optional_faults w v e ++ step_faults w v b ++ own v) (statement_faults w r (inner v) body)
     (then_least o f3 f4 (start_faults w e0 a ++ optional_faults w v e ++ step_faults w v b) (own v)
     (then_least o f2 f3 (start_faults w e0 a ++ optional_faults w v e) (step_faults w v b)
@@ -91,10 +91,10 @@ for_worst w r s e0 v p a e b body o f1 f2 f3 f4 f5 given typed begins goes given
     ∙ ap (λ x. least o (all x v)) begins
     ∙ ap (λ x. least o (all (inner s) x)) (goes ∙ ap (λ x. after_start w x a) begins)
   where
-    own : Scope → List Fault
+    own : Scope → List TypeFault
     own x = for_own w x e (is_step_typed w x b)
 
-    all : Scope → Scope → List Fault
+    all : Scope → Scope → List TypeFault
     all y x = start_faults w y a ++ optional_faults w x e ++ step_faults w x b ++ own x ++ statement_faults w r (inner x) body
 
     condition : f4 ≡ least f3 (own v)

@@ -6,7 +6,7 @@ use denote.Ref.{Bor}
 use Rattle.secrec_ast.specs.declared.statement.Identifier.{Identifier}
 use Rattle.domain_types.specs.Declarations.{number_in}
 use Rattle.domain_types.specs.FunctionTypes.{first_named}
-use Rattle.domain_types.specs.Lent.{identifier_at, text_at}
+use Rattle.domain_types.specs.inner.Lent.{identifier_at, text_at}
 
 first_at : (x : List ℕ) (ys : List (Bor Identifier)) → option_map identifier_at (option_and_then (slice_get ys) (number_in x (map text_at ys))) ≡ first_named x (map identifier_at ys)
 first_at x [] = refl

@@ -10,8 +10,8 @@ use Rattle.secrec_ast.specs.declared.statement.Identifier.{Identifier}
 use Rattle.secrec_ast.specs.declared.function.DomainVariable.{DomainVariable}
 use Rattle.secrec_ast.specs.declared.function.Parameter.{Parameter}
 use Rattle.secrec_ast.specs.Programs.{FunctionTree}
-use Rattle.domain_types.specs.declared.fault.Problem.TheVariants.{UnknownName, TypeMismatch, DomainMix, BadArity}
-use Rattle.domain_types.specs.declared.fault.Fault.{Fault}
+use Rattle.domain_types.specs.declared.fault.TypeProblem.TheVariants.{UnknownName, TypeMismatch, DomainMix, BadArity}
+use Rattle.domain_types.specs.declared.fault.TypeFault.{TypeFault}
 use Rattle.domain_types.specs.declared.value_type.Argument.{Argument}
 use Rattle.domain_types.specs.declared.value_type.Protection.{Protection}
 use Rattle.domain_types.specs.declared.value_type.Protection.TheVariants.{Public, Private}
@@ -206,7 +206,7 @@ unfaulted : (d : Declared) (p : Span) (f : FunctionTree) (gs : List Argument) �
 unfolding defined_faults
 unfaulted d p f gs h = go (nat_eq (length f.parameters) (length gs)) refl h
   where
-    own : List Fault
+    own : List TypeFault
     own = binding_faults p f.variables f.parameters gs ++ of_typed (binding_by f.variables f.parameters gs) (λ ds. argument_faults (within d f ds) f.parameters gs)
 
     go : (b : Bool) → nat_eq (length f.parameters) (length gs) ≡ b → (if b then own else fault_at p BadArity) ≡ [] → Unfaulted d p f gs

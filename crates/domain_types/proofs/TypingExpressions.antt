@@ -9,8 +9,8 @@ use Rattle.secrec_ast.specs.declared.expression.DataType.TheVariants as datatype
 use Rattle.secrec_ast.specs.Tree.{Tree, Trees, number, truth, variable, call, index, parentheses, negation, cast, binary, declassify, argument, publish, none, also}
 use Rattle.secrec_ast.specs.Heights.{place_of}
 use Rattle.secrec_ast.specs.Programs.{FunctionTree}
-use Rattle.domain_types.specs.declared.fault.Problem.TheVariants.{UnknownName, TypeMismatch, ArgumentPlace}
-use Rattle.domain_types.specs.declared.fault.Fault.{Fault}
+use Rattle.domain_types.specs.declared.fault.TypeProblem.TheVariants.{UnknownName, TypeMismatch, ArgumentPlace}
+use Rattle.domain_types.specs.declared.fault.TypeFault.{TypeFault}
 use Rattle.domain_types.specs.declared.value_type.Argument.{Argument}
 use Rattle.domain_types.specs.declared.value_type.Protection.{Protection}
 use Rattle.domain_types.specs.declared.value_type.ValueType.{ValueType}
@@ -170,7 +170,7 @@ as_value_faultless : (w : Setting) (s : Scope) (e : Tree) (x : ValueType) → Ha
 as_value_faultless w s e x h n = joined (faults w s e) (void_faults (place_of e) (type_of w s e)) n (ap (void_faults (place_of e)) (type_from w s e (Value x) h))
 
 -- of two parts with types
-both_say : (w : Setting) (s : Scope) (a b : Tree) (say : ValueType → ValueType → List Fault) (x y : ValueType) → HasType w s a (Value x) → HasType w s b (Value y) → say x y ≡ [] → of_typed (value_type w s a) (λ t. of_typed (value_type w s b) (say t)) ≡ []
+both_say : (w : Setting) (s : Scope) (a b : Tree) (say : ValueType → ValueType → List TypeFault) (x y : ValueType) → HasType w s a (Value x) → HasType w s b (Value y) → say x y ≡ [] → of_typed (value_type w s a) (λ t. of_typed (value_type w s b) (say t)) ≡ []
 both_say w s a b say x y ha hb n =
     says_nothing (value_type w s a) (λ t. of_typed (value_type w s b) (say t)) x (value_typed w s a x ha)
     (says_nothing (value_type w s b) (say x) y (value_typed w s b y hb) n)
@@ -252,7 +252,7 @@ part_value w s e given h =
     let t = given hs.0 in
     a_value (place_of e) (type_of w s e) t.0 t.1 hs.1
 
-both_said : (w : Setting) (s : Scope) (a b : Tree) (say : ValueType → ValueType → List Fault) (x y : ValueType) → type_of w s a ≡ Some (Value x) → type_of w s b ≡ Some (Value y) → of_typed (value_type w s a) (λ t. of_typed (value_type w s b) (say t)) ≡ [] → say x y ≡ []
+both_said : (w : Setting) (s : Scope) (a b : Tree) (say : ValueType → ValueType → List TypeFault) (x y : ValueType) → type_of w s a ≡ Some (Value x) → type_of w s b ≡ Some (Value y) → of_typed (value_type w s a) (λ t. of_typed (value_type w s b) (say t)) ≡ [] → say x y ≡ []
 both_said w s a b say x y ha hb n =
     said (value_type w s b) (say x) y (ap value_of hb)
     (said (value_type w s a) (λ t. of_typed (value_type w s b) (say t)) x (ap value_of ha) n)

@@ -9,7 +9,7 @@ use Rattle.secrec_ast.specs.declared.function.Parameter.{Parameter}
 use Rattle.secrec_ast.specs.declared.function.ResultType.{ResultType}
 use Rattle.secrec_ast.specs.declared.function.ResultType.TheVariants as returned
 use Rattle.secrec_ast.specs.Programs.{FunctionTree, ItemTree}
-use Rattle.domain_types.specs.declared.fault.Problem.TheVariants.{UnknownName, Twice, TypeMismatch, MissingReturn}
+use Rattle.domain_types.specs.declared.fault.TypeProblem.TheVariants.{UnknownName, Twice, TypeMismatch, MissingReturn}
 use Rattle.domain_types.specs.declared.value_type.ExpressionType.TheVariants.{Value}
 use Rattle.domain_types.specs.Types.{fault_if}
 use Rattle.domain_types.specs.Declarations.{Declared, Setting, type_written, is_known_kind, number_in}

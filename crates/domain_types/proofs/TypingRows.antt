@@ -13,7 +13,7 @@ use Rattle.secrec_ast.specs.declared.function.ResultType.TheVariants as returned
 use Rattle.secrec_ast.specs.Tree.{variable, binary, declassify, argument, publish}
 use Rattle.secrec_ast.specs.Statements.{StatementTree, declaration, evaluation, statements_of}
 use Rattle.secrec_ast.specs.Programs.{FunctionTree, imports, domain as domain_item, defines, ProgramTree}
-use Rattle.domain_types.specs.declared.fault.Problem.TheVariants.{PrivateToPublic}
+use Rattle.domain_types.specs.declared.fault.TypeProblem.TheVariants.{PrivateToPublic}
 use Rattle.domain_types.specs.declared.value_type.Protection.{Protection}
 use Rattle.domain_types.specs.Declarations.{declared_by}
 use Rattle.domain_types.specs.ExpressionTypes.{within, operator_faults, operator_type}

@@ -8,8 +8,8 @@ use Rattle.secrec_ast.specs.declared.expression.DataType.{DataType}
 use Rattle.secrec_ast.specs.declared.expression.DataType.TheVariants as datatype
 use Rattle.secrec_ast.specs.declared.expression.Operator.{Operator}
 use Rattle.secrec_ast.specs.declared.expression.Operator.TheVariants.{Add, Subtract, Multiply, Divide, Remainder, Equal, NotEqual, Less, LessOrEqual, Greater, GreaterOrEqual, And, Or, Xor, AndAlso, OrElse}
-use Rattle.domain_types.specs.declared.fault.Problem.{Problem}
-use Rattle.domain_types.specs.declared.fault.Problem.TheVariants.{TypeMismatch, PrivateDivision, DomainMix, PrivateIndex}
+use Rattle.domain_types.specs.declared.fault.TypeProblem.{TypeProblem}
+use Rattle.domain_types.specs.declared.fault.TypeProblem.TheVariants.{TypeMismatch, PrivateDivision, DomainMix, PrivateIndex}
 use Rattle.domain_types.specs.declared.value_type.Protection.{Protection}
 use Rattle.domain_types.specs.declared.value_type.Protection.TheVariants.{Public, Private}
 use Rattle.domain_types.specs.declared.value_type.ValueType.{ValueType}
@@ -116,12 +116,12 @@ not_private : (d : Protection) → is_private d ≡ false → d ≡ Public
 not_private Public h = refl
 not_private (Private k) h = cc
 
-pub no_scalar_fault : (element : DataType) (problem : Problem) (p : Span) (given : ValueType) → IsPublicScalar element given → scalar_faults element problem p given ≡ []
+pub no_scalar_fault : (element : DataType) (problem : TypeProblem) (p : Span) (given : ValueType) → IsPublicScalar element given → scalar_faults element problem p given ≡ []
 no_scalar_fault element problem p given h =
     ap (scalar_faults element problem p) h
     ∙ ap (λ b. fault_if (not (b && true)) p TypeMismatch ++ []) (element_itself element)
 
-pub public_scalar_from : (element : DataType) (problem : Problem) (p : Span) (given : ValueType) → scalar_faults element problem p given ≡ [] → IsPublicScalar element given
+pub public_scalar_from : (element : DataType) (problem : TypeProblem) (p : Span) (given : ValueType) → scalar_faults element problem p given ≡ [] → IsPublicScalar element given
 public_scalar_from element problem p given h =
     let hs = parts (fault_if (not (same_element element given.element && not given.array)) p TypeMismatch) (fault_if (is_private given.domain) p problem) h in
     let both =

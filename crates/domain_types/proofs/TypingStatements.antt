@@ -15,9 +15,9 @@ use Rattle.secrec_ast.specs.declared.function.ResultType.TheVariants as returned
 use Rattle.secrec_ast.specs.Tree.{Tree, number, truth, variable, call, index, parentheses, negation, cast, binary, declassify, argument, publish}
 use Rattle.secrec_ast.specs.Statements.{DeclarationTree, TargetTree, AssignmentTree, StartTree, starts_with_nothing, starts_with_declaration, starts_with_assignment, StepTree, steps_by_nothing, steps_by_assignment, steps_by_expression, StatementTree, block, empty, branch, choice, while_loop, do_loop, for_loop, breaks, continues, returns, assertion, declaration, assignment, evaluation, StatementTrees, none, also}
 use Rattle.secrec_ast.specs.Heights.{place_of}
-use Rattle.domain_types.specs.declared.fault.Problem.{Problem}
-use Rattle.domain_types.specs.declared.fault.Problem.TheVariants.{UnknownName, Twice, TypeMismatch, PrivateCondition, PrivateSize, PrivateAssert}
-use Rattle.domain_types.specs.declared.fault.Fault.{Fault}
+use Rattle.domain_types.specs.declared.fault.TypeProblem.{TypeProblem}
+use Rattle.domain_types.specs.declared.fault.TypeProblem.TheVariants.{UnknownName, Twice, TypeMismatch, PrivateCondition, PrivateSize, PrivateAssert}
+use Rattle.domain_types.specs.declared.fault.TypeFault.{TypeFault}
 use Rattle.domain_types.specs.declared.value_type.Protection.{Protection}
 use Rattle.domain_types.specs.declared.value_type.Protection.TheVariants.{Public}
 use Rattle.domain_types.specs.declared.value_type.ValueType.{ValueType}
@@ -39,19 +39,19 @@ KnownResult w r = IsTrue (is_some (result_type w r))
 
 -- WHERE A TYPE IS WANTED
 
-test_typed : (w : Setting) (s : Scope) (problem : Problem) (e : Tree) → Known s → GiveTypes w.declared (calls_of w s e) → test_faults w s problem e ≡ [] → HasPublicScalar w s e datatype.Bool
+test_typed : (w : Setting) (s : Scope) (problem : TypeProblem) (e : Tree) → Known s → GiveTypes w.declared (calls_of w s e) → test_faults w s problem e ≡ [] → HasPublicScalar w s e datatype.Bool
 test_typed w s problem e k g h =
     let hs = parts (value_faults w s e) (test_own w s problem e) h in
     let x = typed_value w s e k g hs.0 in
     let own = said (value_type w s e) (scalar_faults datatype.Bool problem (place_of e)) x.0 (value_typed w s e x.0 x.1) hs.1 in
     subst (λ t. HasType w s e (Value t)) (public_scalar_from datatype.Bool problem (place_of e) x.0 own) x.1
 
-no_test_own : (w : Setting) (s : Scope) (problem : Problem) (e : Tree) → HasPublicScalar w s e datatype.Bool → test_own w s problem e ≡ []
+no_test_own : (w : Setting) (s : Scope) (problem : TypeProblem) (e : Tree) → HasPublicScalar w s e datatype.Bool → test_own w s problem e ≡ []
 no_test_own w s problem e h =
     says_nothing (value_type w s e) (scalar_faults datatype.Bool problem (place_of e)) (public_scalar datatype.Bool) (value_typed w s e (public_scalar datatype.Bool) h)
     (no_scalar_fault datatype.Bool problem (place_of e) (public_scalar datatype.Bool) refl)
 
-no_test_faults : (w : Setting) (s : Scope) (problem : Problem) (e : Tree) → HasPublicScalar w s e datatype.Bool → test_faults w s problem e ≡ []
+no_test_faults : (w : Setting) (s : Scope) (problem : TypeProblem) (e : Tree) → HasPublicScalar w s e datatype.Bool → test_faults w s problem e ≡ []
 no_test_faults w s problem e h =
     joined (value_faults w s e) (test_own w s problem e) (no_value_faults w s e (public_scalar datatype.Bool) h) (no_test_own w s problem e h)
 
@@ -151,7 +151,7 @@ argument_untyped w s (binary p op a b) h = cc
 argument_untyped w s (declassify p e) h = cc
 argument_untyped w s (publish p x e) h = cc
 
-either_empty : (b : Bool) (fs : List Fault) → fs ≡ [] → (if b then [] else fs) ≡ []
+either_empty : (b : Bool) (fs : List TypeFault) → fs ≡ [] → (if b then [] else fs) ≡ []
 either_empty true fs h = refl
 either_empty false fs h = h
 

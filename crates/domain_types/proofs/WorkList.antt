@@ -4,14 +4,14 @@ use Rattle.std.specs.Prelude.{nat_eq, ◌||◌, if◌then◌else◌}
 use Rattle.std.specs.List.{slice_get}
 use Rattle.std.proofs.lemmas.List.Folds.{list_any-append}
 use Rattle.std.proofs.lemmas.Option.{same_Some}
-use Rattle.domain_types.specs.declared.fault.Fault.{Fault}
+use Rattle.domain_types.specs.declared.fault.TypeFault.{TypeFault}
 use Rattle.domain_types.specs.declared.value_type.Protection.{Protection}
 use Rattle.domain_types.specs.Declarations.{Declared}
 use Rattle.sc_text.specs.Lists.{Among}
-use Rattle.domain_types.specs.Least.{least}
+use Rattle.domain_types.specs.inner.LeastFault.{least}
 use Rattle.domain_types.specs.Reached.{Call, Instance}
 use Rattle.domain_types.specs.Instances.{same_instance, is_listed}
-use Rattle.domain_types.specs.WorkList.{added, with_binding, with_calls, instance_faults, instance_calls, gathered, is_called, IsReached, begins, follows, AreVisited}
+use Rattle.domain_types.specs.inner.WorkList.{added, with_binding, with_calls, instance_faults, instance_calls, gathered, is_called, IsReached, begins, follows, AreVisited}
 use Rattle.sc_text.proofs.Lists.{among_left, among_right, among_parts}
 use Rattle.domain_types.proofs.Visits.{then_least}
 use Rattle.domain_types.proofs.Listing.{same_instance-Decides}
@@ -194,7 +194,7 @@ among_place [] n i e = cc
 among_place (j ∷ js) zero i e = inl (sym (same_Some j i e))
 among_place (j ∷ js) (suc n) i e = inr (among_place js n i e)
 
-pub next_least : (d : Declared) (n : ℕ) (is js : List Instance) (i : Instance) (o o1 o2 : Option Fault) → slice_get is n ≡ Some i → js ≡ with_calls is (instance_calls d i) → o1 ≡ least o (gathered (instance_faults d) (take n is)) → o2 ≡ least o1 (instance_faults d i) → o2 ≡ least o (gathered (instance_faults d) (take (n + 1) js))
+pub next_least : (d : Declared) (n : ℕ) (is js : List Instance) (i : Instance) (o o1 o2 : Option TypeFault) → slice_get is n ≡ Some i → js ≡ with_calls is (instance_calls d i) → o1 ≡ least o (gathered (instance_faults d) (take n is)) → o2 ≡ least o1 (instance_faults d i) → o2 ≡ least o (gathered (instance_faults d) (take (n + 1) js))
 next_least d n is js i o o1 o2 there grown before here =
     then_least o o1 o2 (gathered (instance_faults d) (take n is)) (instance_faults d i) before here
     ∙ ap (least o) (sym (gathered-last (instance_faults d) (take n is) i))

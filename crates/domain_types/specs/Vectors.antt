@@ -12,9 +12,9 @@ use Rattle.secrec_ast.specs.Tree.{Tree, Trees, number, truth, variable, call, in
 use Rattle.secrec_ast.specs.Tree as Tree'
 use Rattle.secrec_ast.specs.Statements.{StatementTree, block, branch, returns, assertion, declaration, evaluation, statements_of}
 use Rattle.secrec_ast.specs.Programs.{FunctionTree, ItemTree, imports, domain as domains_item, defines, ProgramTree}
-use Rattle.domain_types.specs.declared.fault.Problem.{Problem}
-use Rattle.domain_types.specs.declared.fault.Problem.TheVariants.{UnknownName, Twice, TypeMismatch, PrivateCondition, PrivateIndex, PrivateSize, PrivateToPublic, PrivateDivision, PrivateAssert, MissingReturn}
-use Rattle.domain_types.specs.declared.fault.Fault.{Fault}
+use Rattle.domain_types.specs.declared.fault.TypeProblem.{TypeProblem}
+use Rattle.domain_types.specs.declared.fault.TypeProblem.TheVariants.{UnknownName, Twice, TypeMismatch, PrivateCondition, PrivateIndex, PrivateSize, PrivateToPublic, PrivateDivision, PrivateAssert, MissingReturn}
+use Rattle.domain_types.specs.declared.fault.TypeFault.{TypeFault}
 use Rattle.domain_types.specs.declared.value_type.Protection.TheVariants.{Public, Private}
 use Rattle.domain_types.specs.Declarations.{declared_by}
 use Rattle.domain_types.specs.ExpressionTypes.{within, operator_faults, operator_type, index_faults, index_type, defined_faults, call_faults, call_type}
@@ -22,7 +22,7 @@ use Rattle.domain_types.specs.StatementTypes.{sized_faults}
 use Rattle.domain_types.specs.FunctionTypes.{function_faults}
 use Rattle.domain_types.specs.Reached.{function_calls}
 use Rattle.domain_types.specs.ProgramTypes.{declaring_faults}
-use Rattle.domain_types.specs.Least.{least}
+use Rattle.domain_types.specs.inner.LeastFault.{least}
 
 -- a place: line and column
 abbrev at : ℕ → ℕ → Span
@@ -65,13 +65,13 @@ program_with more ss =
       end = at 3 2;
     }
 
-abbrev faults_of : List StatementTree → List Fault
+abbrev faults_of : List StatementTree → List TypeFault
 faults_of ss = declaring_faults (program_with [] ss) ++ function_faults (within (declared_by (program_with [] ss)) (main_with ss) []) (main_with ss)
 
-abbrev told : List StatementTree → Option Fault
+abbrev told : List StatementTree → Option TypeFault
 told ss = least None (faults_of ss)
 
-abbrev fault : ℕ → Problem → Option Fault
+abbrev fault : ℕ → TypeProblem → Option TypeFault
 fault c problem = Some (record { place = at 2 c; problem = problem })
 
 abbrev a_at : ℕ → Tree

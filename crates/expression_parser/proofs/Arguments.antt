@@ -3,7 +3,7 @@ use Rattle.std.proofs.Common.{◌≡◌, ℕ, zero, suc, ◌<◌, ◌≤◌, Lis
 use Rattle.sc_text.specs.declared.span.Span.{Span}
 use Rattle.secrec_lexer.specs.Tokens.{is_sign, IsEnded}
 use Rattle.secrec_lexer.specs.declared.sign.Sign.TheVariants as signs
-use Rattle.secrec_lexer.specs.declared.token.Kind.TheVariants as kinds
+use Rattle.secrec_lexer.specs.declared.token.TokenKind.TheVariants as kinds
 use Rattle.secrec_lexer.specs.declared.token.Token.{Token}
 use Rattle.secrec_ast.specs.Tree.{Tree, Trees, variable, call, none, also}
 use Rattle.secrec_ast.specs.Heights.{height}
@@ -104,7 +104,7 @@ module _ (h : ℕ) (inner : List Token → Outcome Tree)
         (λ e r g. comma_body_reads e g.fits r (again r) (let low = g.fits in let up = tall e in k r (good_ended g en) (good_shorter g) (omega arith)))
 
     more_reads_at : (n : ℕ) (x : Token) (m : List Token) → 0 < h → IsEnded (x ∷ m) → ((r : List Token) → IsEnded r → length r ≤ length m → Reads AreMore (Lows h) IsClose r (more inner n r)) → Reads AreMore (Lows h) IsClose (x ∷ m) (more_at inner (more inner n) x m)
-    more_reads_at n x m room en ih = go (is_sign signs.Comma x) refl
+    more_reads_at n x m max_height en ih = go (is_sign signs.Comma x) refl
       where
         go : (b : Bool) → is_sign signs.Comma x ≡ b → Reads AreMore (Lows h) IsClose (x ∷ m) (cond b (inner m >>= λ e. more inner n e.1 >>= λ es. Ok (also e.0 es.0, es.1)) (Ok (none, x ∷ m)))
         go true t =
@@ -118,9 +118,9 @@ module _ (h : ℕ) (inner : List Token → Outcome Tree)
 
     more_reads : (n : ℕ) (w : List Token) → 0 < h → length w ≤ n → IsEnded w → Reads AreMore (Lows h) IsClose w (more inner n w)
     unfolding more
-    more_reads n [] room le en = cc
-    more_reads zero (x ∷ m) room le en = absurd (omega arith)
-    more_reads (suc n) (x ∷ m) room le en = more_reads_at n x m room en (λ r enr le2. more_reads n r room (omega arith) enr)
+    more_reads n [] max_height le en = cc
+    more_reads zero (x ∷ m) max_height le en = absurd (omega arith)
+    more_reads (suc n) (x ∷ m) max_height le en = more_reads_at n x m max_height en (λ r enr le2. more_reads n r max_height (omega arith) enr)
 
     SomeArguments : Trees → Phrase
     SomeArguments = Then (IsExpression loosest) CommaBody
@@ -146,7 +146,7 @@ module _ (h : ℕ) (inner : List Token → Outcome Tree)
     some_reads : (x : Token) (m : List Token) → (x.kind ≡ kinds.Sign signs.RightParenthesis → ⊥) → IsEnded (x ∷ m) → Reads AreArguments (Lows h) IsClose (x ∷ m) (some_arguments inner (x ∷ m))
     some_reads x m k en =
         reads_as SomeArguments AreArguments (Lows h) IsClose IsClose x some_up (λ c s m' m2 v st eq. some_down c s m' m2 x k v st eq) (λ c m' st. st) (x ∷ m) m (some_arguments inner (x ∷ m)) refl
-        (unfold SomeArguments in one_reads (λ r. more inner (length r) r) (x ∷ m) en (λ r enr le room. more_reads (length r) r room (omega arith) enr))
+        (unfold SomeArguments in one_reads (λ r. more inner (length r) r) (x ∷ m) en (λ r enr le max_height. more_reads (length r) r max_height (omega arith) enr))
 
     arguments_reads : (w : List Token) → IsEnded w → Reads AreArguments (Lows h) IsClose w (arguments inner w)
     unfolding arguments

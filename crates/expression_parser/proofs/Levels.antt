@@ -4,14 +4,14 @@ use Rattle.std.specs.Prelude.{nat_le}
 use Rattle.std.proofs.lemmas.Bool.{leb-true, leb-false, lt-ltb, cases_lt}
 use Rattle.sc_text.specs.declared.span.Span.{Span}
 use Rattle.secrec_lexer.specs.Tokens.{IsEnded}
-use Rattle.secrec_lexer.specs.declared.token.Kind.{Kind}
-use Rattle.secrec_lexer.specs.declared.token.Kind.TheVariants as kinds
+use Rattle.secrec_lexer.specs.declared.token.TokenKind.{TokenKind}
+use Rattle.secrec_lexer.specs.declared.token.TokenKind.TheVariants as kinds
 use Rattle.secrec_lexer.specs.declared.token.Token.{Token}
 use Rattle.secrec_ast.specs.declared.expression.Operator.{Operator}
 use Rattle.secrec_ast.specs.Tree.{Tree, number, truth, variable, call, index, parentheses, negation, cast, binary, declassify, argument, publish}
 use Rattle.secrec_ast.specs.Heights.{height, place_of}
-use Rattle.expression_parser.specs.declared.problem.Problem.{Problem}
-use Rattle.expression_parser.specs.declared.problem.Problem.TheVariants.{Unexpected, TooHigh}
+use Rattle.expression_parser.specs.declared.problem.ParseProblem.{ParseProblem}
+use Rattle.expression_parser.specs.declared.problem.ParseProblem.TheVariants.{Unexpected, TooHigh}
 use Rattle.expression_parser.specs.Phrases.{Phrase, token, sign_at}
 use Rattle.expression_parser.specs.Grammar.{IsExpression, sign_of, level, loosest, unary}
 use Rattle.expression_parser.specs.Follow.{goes_on, Free}
@@ -168,13 +168,13 @@ module _ (k h : ℕ) (operand : List Token → Outcome Tree) (reads_operand : (w
     where
       at : (o : Option Operator) → at_level (suc k) (operator_at x.kind) ≡ o → ((op : Operator) (b : Tree) (r : List Token) → IsEnded r → length r ≤ length m → Low (suc h) (binary (place_of a) op a b) → Reads (Grows k (binary (place_of a) op a b)) (Low (suc h)) (Free (suc k)) r (grow (suc k) (suc h) operand n (binary (place_of a) op a b) r)) → Reads (Grows k a) (Low (suc h)) (Free (suc k)) (x ∷ m) (grow_at (suc h) operand (grow (suc k) (suc h) operand n) a o x m)
       at None o ih = alone_reads a x m o low
-      at (Some op) o ih = choose (Grows k a) (Low (suc h)) (Free (suc k)) (x ∷ m) (nat_le (suc h) (height a)) _ _ (λ t. too_high a op x m i.1 i.0 (leb-true (suc h) (height a) t)) room
+      at (Some op) o ih = choose (Grows k a) (Low (suc h)) (Free (suc k)) (x ∷ m) (nat_le (suc h) (height a)) _ _ (λ t. too_high a op x m i.1 i.0 (leb-true (suc h) (height a) t)) max_height
         where
           i : (x.kind ≡ kinds.Sign (sign_of op)) × (level op ≡ suc k)
           i = operator_is (suc k) x.kind op o
 
-          room : nat_le (suc h) (height a) ≡ false → Reads (Grows k a) (Low (suc h)) (Free (suc k)) (x ∷ m) (operand m >>= λ b. grow (suc k) (suc h) operand n (binary (place_of a) op a b.0) b.1)
-          room t =
+          max_height : nat_le (suc h) (height a) ≡ false → Reads (Grows k a) (Low (suc h)) (Free (suc k)) (x ∷ m) (operand m >>= λ b. grow (suc k) (suc h) operand n (binary (place_of a) op a b.0) b.1)
+          max_height t =
               let i = operator_is (suc k) x.kind op o in
               let fits = leb-false (suc h) (height a) t in
               let one_a = tall a in
@@ -208,18 +208,18 @@ climb_reads h lower ih (suc k) (x ∷ m) en =
     (λ a r g. grow_reads k h (lower k) (ih k) (length r) a r (omega arith) (good_ended g en) g.fits))
 
 -- where no node has room, nothing begins
-no_room : (k : ℕ) (lower : ℕ → List Token → Outcome Tree) (x : Token) (m : List Token) (p : Problem) → why_not 0 (least x.kind) ≡ Some p → climb 0 lower k (x ∷ m) ≡ Err (p, x ∷ m)
+nothing_fits : (k : ℕ) (lower : ℕ → List Token → Outcome Tree) (x : Token) (m : List Token) (p : ParseProblem) → why_not 0 (least x.kind) ≡ Some p → climb 0 lower k (x ∷ m) ≡ Err (p, x ∷ m)
 unfolding climb unary_of
-no_room zero lower x m p e = ap (λ o. unless o (x ∷ m) (unary_at 0 (lower loosest) (lower unary) x m)) e
-no_room (suc k) lower x m p e = ap (λ o. o >>= λ a. grow (suc k) 0 (lower k) (length a.1) a.0 a.1) (no_room k lower x m p e)
+nothing_fits zero lower x m p e = ap (λ o. unless o (x ∷ m) (unary_at 0 (lower loosest) (lower unary) x m)) e
+nothing_fits (suc k) lower x m p e = ap (λ o. o >>= λ a. grow (suc k) 0 (lower k) (length a.1) a.0 a.1) (nothing_fits k lower x m p e)
 
-some_problem : (o : Option ℕ) → ((n : ℕ) → o ≡ Some n → 0 < n) → (p : Problem) × (why_not 0 o ≡ Some p)
+some_problem : (o : Option ℕ) → ((n : ℕ) → o ≡ Some n → 0 < n) → (p : ParseProblem) × (why_not 0 o ≡ Some p)
 some_problem None positive = (Unexpected, refl)
 some_problem (Some zero) positive = let f = positive 0 refl in absurd (omega arith)
 some_problem (Some (suc n)) positive = (TooHigh, ap (λ b. cond b (Some TooHigh) None) (lt-ltb 0 (suc n) (omega arith)))
 
 -- where no node has room, each token is refused
-pub nowhere : (kind : Kind) → (p : Problem) × (why_not 0 (least kind) ≡ Some p)
+pub nowhere : (kind : TokenKind) → (p : ParseProblem) × (why_not 0 (least kind) ≡ Some p)
 nowhere kind = some_problem (least kind) (least_positive kind)
 
 pub at_most_reads : (h k : ℕ) (w : List Token) → IsEnded w → Reads (IsExpression k) (Low h) (Free k) w (at_most h k w)
@@ -227,9 +227,9 @@ unfolding at_most
 at_most_reads h k [] en = cc
 at_most_reads zero k (x ∷ m) en =
     let p = nowhere x.kind in
-    subst (Reads (IsExpression k) (Low 0) (Free k) (x ∷ m)) (sym (no_room k (λ j v. Err (TooHigh, v)) x m p.0 p.1)) (start_bad k 0 x m p.0 p.1)
+    subst (Reads (IsExpression k) (Low 0) (Free k) (x ∷ m)) (sym (nothing_fits k (λ j v. Err (TooHigh, v)) x m p.0 p.1)) (start_bad k 0 x m p.0 p.1)
 at_most_reads (suc h) k (x ∷ m) en = climb_reads h (at_most h) (at_most_reads h) k (x ∷ m) en
 
 -- the parser of expressions reads the grammar's expressions
-pub expression_reads : (room : ℕ) (w : List Token) → IsEnded w → Reads (IsExpression loosest) (Low room) (Free loosest) w (at_most room loosest w)
-expression_reads room w en = at_most_reads room loosest w en
+pub expression_reads : (max_height : ℕ) (w : List Token) → IsEnded w → Reads (IsExpression loosest) (Low max_height) (Free loosest) w (at_most max_height loosest w)
+expression_reads max_height w en = at_most_reads max_height loosest w en

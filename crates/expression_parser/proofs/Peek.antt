@@ -1,7 +1,7 @@
 -- The same reading under another name, where the next two tokens are known.
 use Rattle.std.proofs.Common.{◌≡◌, List, [], ◌∷◌, ◌++◌, ◌⊎◌, inl, inr, refl, sym, ap, ◌∙◌, subst, Ok, Err}
-use Rattle.expression_parser.specs.declared.problem.Problem.{Problem}
-use Rattle.expression_parser.specs.declared.problem.Problem.TheVariants.{Unexpected, TooHigh}
+use Rattle.expression_parser.specs.declared.problem.ParseProblem.{ParseProblem}
+use Rattle.expression_parser.specs.declared.problem.ParseProblem.TheVariants.{Unexpected, TooHigh}
 use Rattle.secrec_lexer.specs.declared.token.Token.{Token}
 use Rattle.expression_parser.specs.Phrases.{Phrase}
 use Rattle.expression_parser.specs.Steps.{Outcome}
@@ -24,17 +24,17 @@ module _ {C : Type 0} (V W : C → Phrase) (Fits : C → Type 0) (F G : C → To
     (some : (c : C) → V c [] → ⊥)
   where
     -- the fault does not stand at x
-    not_first : (p : Problem) (w r : List Token) (g : Bad V Fits F w p r) → g.s ≡ [] → g.x ≡ x → ⊥
+    not_first : (p : ParseProblem) (w r : List Token) (g : Bad V Fits F w p r) → g.s ≡ [] → g.x ≡ x → ⊥
     not_first p w r g e f =
         let a = alive in
         g.never a.0 (x ∷ a.1) (a.2 ∷ []) (a.1 ++ a.2 ∷ []) a.3 (low p a.4) a.5
         (ap (λ u. u ∷ (a.1 ++ a.2 ∷ [])) (sym f) ∙ ap (λ s. s ++ g.x ∷ (a.1 ++ a.2 ∷ [])) (sym e))
       where
-        low : (p : Problem) → Fits alive.0 → Allowed p (Fits alive.0)
+        low : (p : ParseProblem) → Fits alive.0 → Allowed p (Fits alive.0)
         low Unexpected h = tt
         low TooHigh h = h
 
-    begun_peek : (p : Problem) (s : List Token) (z : Token) → Begun p ((b : C) × (t : List Token) × V b (s ++ z ∷ t)) → Begun p ((b : C) × (t : List Token) × W b (s ++ z ∷ t))
+    begun_peek : (p : ParseProblem) (s : List Token) (z : Token) → Begun p ((b : C) × (t : List Token) × V b (s ++ z ∷ t)) → Begun p ((b : C) × (t : List Token) × W b (s ++ z ∷ t))
     begun_peek Unexpected s z v = tt
     begun_peek TooHigh s z v = (v.0, v.1, up v.0 (s ++ z ∷ v.1) v.2)
 

@@ -4,11 +4,11 @@ use Rattle.std.specs.Prelude.{not, ◌&&◌}
 use Rattle.sc_text.specs.declared.span.Span.{Span}
 use Rattle.secrec_lexer.specs.Tokens.{is_sign, is_end, is_ended, IsEnded}
 use Rattle.secrec_lexer.specs.declared.sign.Sign.{Sign}
-use Rattle.secrec_lexer.specs.declared.token.Kind.{Kind}
-use Rattle.secrec_lexer.specs.declared.token.Kind.TheVariants as kinds
+use Rattle.secrec_lexer.specs.declared.token.TokenKind.{TokenKind}
+use Rattle.secrec_lexer.specs.declared.token.TokenKind.TheVariants as kinds
 use Rattle.secrec_lexer.specs.declared.token.Token.{Token}
 use Rattle.secrec_lexer.proofs.Signs.{kind_is-true, kind_is-false}
-use Rattle.expression_parser.specs.declared.problem.Problem.TheVariants.{Unexpected}
+use Rattle.expression_parser.specs.declared.problem.ParseProblem.TheVariants.{Unexpected}
 use Rattle.expression_parser.specs.Phrases.{Phrase, token, one_at, one, sign_at, sign}
 use Rattle.expression_parser.specs.Steps.{Outcome, ◌>>=◌, expect, text, text_of}
 use Rattle.expression_parser.proofs.Reading.{Good, Bad, Reads, Then, Only, Stops, cons_head, second, bind_reads, pure_reads}
@@ -61,10 +61,10 @@ pub after : (x : Token) (m : List Token) → IsEnded (x ∷ m) → is_end x.kind
 after x [] h other = let f = sym h ∙ other in cc
 after x (y ∷ m) h other = (both (not (is_end x.kind)) (is_ended (y ∷ m)) h).1
 
-pub after_kind : (x : Token) (m : List Token) (kind : Kind) → IsEnded (x ∷ m) → x.kind ≡ kind → is_end kind ≡ false → IsEnded m
+pub after_kind : (x : Token) (m : List Token) (kind : TokenKind) → IsEnded (x ∷ m) → x.kind ≡ kind → is_end kind ≡ false → IsEnded m
 after_kind x m kind h e other = after x m h (ap is_end e ∙ other)
 
-pub head_kind : (s t m m2 : List Token) (p : Span) (k : Kind) (x : Token) → s ≡ token p k ∷ t → s ++ m ≡ x ∷ m2 → k ≡ x.kind
+pub head_kind : (s t m m2 : List Token) (p : Span) (k : TokenKind) (x : Token) → s ≡ token p k ∷ t → s ++ m ≡ x ∷ m2 → k ≡ x.kind
 head_kind s t m m2 p k x e eq = ap (λ z. z.kind) (cons_head (sym (ap (λ l. l ++ m) e) ∙ eq))
 
 -- what a test of a token says of it
@@ -74,7 +74,7 @@ is_sign-true s x e = kind_is-true s x.kind e
 pub is_sign-false : (s : Sign) (x : Token) → is_sign s x ≡ false → x.kind ≡ kinds.Sign s → ⊥
 is_sign-false s x e = kind_is-false s x.kind e
 
-pub token_good : (F : Span → Token → Type 0) (kind : Kind) (x : Token) (m : List Token) → x.kind ≡ kind → IsEnded m → Good (λ p. one_at p kind) All F (x ∷ m) x.place m
+pub token_good : (F : Span → Token → Type 0) (kind : TokenKind) (x : Token) (m : List Token) → x.kind ≡ kind → IsEnded m → Good (λ p. one_at p kind) All F (x ∷ m) x.place m
 token_good F kind x m h en =
     let c = ended_cons m en in
     record {
@@ -90,7 +90,7 @@ token_good F kind x m h en =
           (ap (λ t. t.place) hd, v ∙ ap (λ t. t ∷ []) hd);
     }
 
-pub token_bad : (F : Span → Token → Type 0) (kind : Kind) (x : Token) (m : List Token) → (x.kind ≡ kind → ⊥) → Bad (λ p. one_at p kind) All F (x ∷ m) Unexpected (x ∷ m)
+pub token_bad : (F : Span → Token → Type 0) (kind : TokenKind) (x : Token) (m : List Token) → (x.kind ≡ kind → ⊥) → Bad (λ p. one_at p kind) All F (x ∷ m) Unexpected (x ∷ m)
 token_bad F kind x m other = record {
   s = [];
   x = x;
@@ -115,7 +115,7 @@ pub text_reads : (w : List Token) → IsEnded w → Reads (λ bytes. one (kinds.
 text_reads [] h = cc
 text_reads (x ∷ m) h = go x.kind refl
   where
-    none : (kind : Kind) → ((bytes : List ℕ) → kind ≡ kinds.Text bytes → ⊥) → x.kind ≡ kind → Bad (λ bytes. one (kinds.Text bytes)) All Any (x ∷ m) Unexpected (x ∷ m)
+    none : (kind : TokenKind) → ((bytes : List ℕ) → kind ≡ kinds.Text bytes → ⊥) → x.kind ≡ kind → Bad (λ bytes. one (kinds.Text bytes)) All Any (x ∷ m) Unexpected (x ∷ m)
     none kind other e = record {
       s = [];
       x = x;
@@ -127,7 +127,7 @@ text_reads (x ∷ m) h = go x.kind refl
       begun = tt;
     }
 
-    go : (kind : Kind) → x.kind ≡ kind → Reads (λ bytes. one (kinds.Text bytes)) All Any (x ∷ m) (text_of kind x m)
+    go : (kind : TokenKind) → x.kind ≡ kind → Reads (λ bytes. one (kinds.Text bytes)) All Any (x ∷ m) (text_of kind x m)
     go (kinds.Text bytes) e =
         let c = ended_cons m (after_kind x m (kinds.Text bytes) h e refl) in
         record {
@@ -153,7 +153,7 @@ abbrev pub Alive : {C : Type 0} → (C → Phrase) → (C → Type 0) → Type 0
 Alive {C = C} W Fits = (c : C) × (t : List Token) × W c t × Fits c
 
 -- a token that is known, and then more
-pub token_then : {C : Type 0} (kind : Kind) (W : Span → C → Phrase) (Fits : C → Type 0) (F : C → Token → Type 0) → is_end kind ≡ false → ((p : Span) → Alive (W p) Fits) → (x : Token) (m : List Token) (o : Outcome C) → x.kind ≡ kind → IsEnded (x ∷ m) → (IsEnded m → Reads (W x.place) Fits F m o) → Reads (Then (λ p. one_at p kind) W) Fits F (x ∷ m) o
+pub token_then : {C : Type 0} (kind : TokenKind) (W : Span → C → Phrase) (Fits : C → Type 0) (F : C → Token → Type 0) → is_end kind ≡ false → ((p : Span) → Alive (W p) Fits) → (x : Token) (m : List Token) (o : Outcome C) → x.kind ≡ kind → IsEnded (x ∷ m) → (IsEnded m → Reads (W x.place) Fits F m o) → Reads (Then (λ p. one_at p kind) W) Fits F (x ∷ m) o
 token_then kind W Fits F open_kind alive x m o k en r =
     let en2 = after_kind x m kind en k open_kind in
     second (λ p. one_at p kind) All Any W Fits F (λ p c t v f. tt) (λ p c t m' v st. any_stops (F c) t m' st) (λ p s v f. alive p) (λ p s v. let a = alive p in (a.0, a.1, a.2)) (x ∷ m) m x.place o (token_good Any kind x m k en2) (r en2)

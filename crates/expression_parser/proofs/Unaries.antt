@@ -6,15 +6,15 @@ use Rattle.sc_text.specs.declared.span.Span.{Span}
 use Rattle.secrec_lexer.specs.Tokens.{is_sign, IsEnded}
 use Rattle.secrec_lexer.specs.declared.sign.Sign.{Sign}
 use Rattle.secrec_lexer.specs.declared.sign.Sign.TheVariants as signs
-use Rattle.secrec_lexer.specs.declared.token.Kind.TheVariants as kinds
+use Rattle.secrec_lexer.specs.declared.token.TokenKind.TheVariants as kinds
 use Rattle.secrec_lexer.specs.declared.token.Token.{Token}
 use Rattle.secrec_ast.specs.declared.expression.DataType.{DataType}
 use Rattle.secrec_ast.specs.declared.expression.DataType.TheVariants as types
 use Rattle.secrec_ast.specs.declared.expression.Operator.{Operator}
 use Rattle.secrec_ast.specs.Tree.{Tree, number, truth, variable, call, index, parentheses, negation, cast, binary, declassify, argument, publish}
 use Rattle.secrec_ast.specs.Heights.{height, place_of}
-use Rattle.expression_parser.specs.declared.problem.Problem.{Problem}
-use Rattle.expression_parser.specs.declared.problem.Problem.TheVariants.{TooHigh}
+use Rattle.expression_parser.specs.declared.problem.ParseProblem.{ParseProblem}
+use Rattle.expression_parser.specs.declared.problem.ParseProblem.TheVariants.{TooHigh}
 use Rattle.expression_parser.specs.Phrases.{Phrase, token, sign_at, sign}
 use Rattle.expression_parser.specs.Grammar.{IsDataType, IsPrimary, IsExpression, level, loosest, unary}
 use Rattle.expression_parser.specs.Follow.{goes_on, Free}
@@ -406,10 +406,10 @@ module _ (h : ℕ) (inner operand : List Token → Outcome Tree)
         first a c t m (inr u) st = subst (λ l. Stops (FreeName a) (l ++ m)) (sym (u.3 ∙ ap (λ l. l ++ u.2) u.4)) refl
 
     negation_reads : 1 ≤ h → (x : Token) (m : List Token) → x.kind ≡ kinds.Sign signs.Exclamation → IsEnded (x ∷ m) → Reads (IsExpression unary) (Low (suc h)) (Free unary) (x ∷ m) (negation_behind operand x.place m)
-    negation_reads room x m k en =
+    negation_reads max_height x m k en =
         reads_as NegationPhrase (IsExpression unary) (Low (suc h)) (Free unary) (Free unary) x negation_up (λ c s m' m2 v st eq. down c s m' m2 (unary_cases c s v) eq) (λ c m' st. st) (x ∷ m) m (negation_behind operand x.place m) refl
         (unfold NegationPhrase in token_then (kinds.Sign signs.Exclamation) (λ p. Made (negation p)) (Low (suc h)) (Free unary) refl
-        (λ p. made_alive h inner operand reads_inner reads_operand (negation p) room (λ e f. omega arith))
+        (λ p. made_alive h inner operand reads_inner reads_operand (negation p) max_height (λ e f. omega arith))
         x m (negation_behind operand x.place m) k en
         (λ en2. made_reads h inner operand reads_inner reads_operand (negation x.place) (λ e f. omega arith) (λ e f. omega arith) m en2))
       where
@@ -419,40 +419,40 @@ module _ (h : ℕ) (inner operand : List Token → Outcome Tree)
         down c s m' m2 (inr (inr u)) eq = absurd (exclamation_or_parenthesis x k (cast_first c s m' m2 x u eq))
 
     cast_tail_alive : 1 ≤ h → (p : Span) (t : DataType) → Alive (Then (λ q. sign_at q signs.RightParenthesis) (λ q. Made (cast p t))) (Low (suc h))
-    cast_tail_alive room p t =
+    cast_tail_alive max_height p t =
         let close = token origin (kinds.Sign signs.RightParenthesis) in
-        let a = made_alive h inner operand reads_inner reads_operand (cast p t) room (λ e f. omega arith) in
+        let a = made_alive h inner operand reads_inner reads_operand (cast p t) max_height (λ e f. omega arith) in
         (a.0, close ∷ a.1, (origin, close ∷ [], a.1, refl, refl, a.2), a.3)
 
     type_body_alive : 1 ≤ h → (p : Span) → Alive (TypeBody p) (Low (suc h))
     unfolding TypeBody
-    type_body_alive room p =
+    type_body_alive max_height p =
         let word = token origin (kinds.Sign signs.Uint64) in
-        let a = cast_tail_alive room p types.Uint64 in
+        let a = cast_tail_alive max_height p types.Uint64 in
         (a.0, word ∷ a.1, (types.Uint64, word ∷ [], a.1, refl, inl (origin, refl), a.2), a.3)
 
     type_body_reads : 1 ≤ h → (p : Span) (w : List Token) → IsEnded w → Reads (TypeBody p) (Low (suc h)) (Free unary) w (cast_behind operand p w)
     unfolding TypeBody
-    type_body_reads room p w en =
+    type_body_reads max_height p w en =
         bind_reads IsDataType All Any (λ t. Then (λ q. sign_at q signs.RightParenthesis) (λ q. Made (cast p t))) (Low (suc h)) (Free unary)
         (λ t c s v f. tt)
         (λ t c s m v st. any_stops (Free unary c) s m st)
-        (λ t s v f. cast_tail_alive room p t)
-        (λ t s v. let a = cast_tail_alive room p t in (a.0, a.1, a.2))
+        (λ t s v f. cast_tail_alive max_height p t)
+        (λ t s v. let a = cast_tail_alive max_height p t in (a.0, a.1, a.2))
         w (data_type w) (λ t. expect signs.RightParenthesis t.1 >>= λ q. operand q.1 >>= λ e. Ok (cast p t.0 e.0, e.1)) (data_type_reads w en)
         (λ t r g. sign_then signs.RightParenthesis (Made (cast p t)) (Low (suc h)) (Free unary)
-        (made_alive h inner operand reads_inner reads_operand (cast p t) room (λ e f. omega arith))
+        (made_alive h inner operand reads_inner reads_operand (cast p t) max_height (λ e f. omega arith))
         r (λ q. operand q.1 >>= λ e. Ok (cast p t e.0, e.1)) (good_ended g en)
         (λ q r2 enr. made_reads h inner operand reads_inner reads_operand (cast p t) (λ e f. omega arith) (λ e f. omega arith) r2 enr))
 
     cast_reads : 1 ≤ h → (x y : Token) (m : List Token) → x.kind ≡ kinds.Sign signs.LeftParenthesis → begins_data_type (y ∷ m) ≡ true → IsEnded (x ∷ y ∷ m) → Reads (IsExpression unary) (Low (suc h)) (Free unary) (x ∷ y ∷ m) (cast_behind operand x.place (y ∷ m))
     unfolding CastPhrase
-    cast_reads room x y m k types en =
+    cast_reads max_height x y m k types en =
         reads_peek CastPhrase (IsExpression unary) (Low (suc h)) (Free unary) (Free unary) x y cast_up (λ c s m' m2 v st eq. down c s m' m2 (unary_cases c s v) eq) (λ c m' st. st)
-        (alive (type_body_alive room x.place)) some (x ∷ y ∷ m) m (cast_behind operand x.place (y ∷ m)) refl
-        (token_then (kinds.Sign signs.LeftParenthesis) TypeBody (Low (suc h)) (Free unary) refl (type_body_alive room)
+        (alive (type_body_alive max_height x.place)) some (x ∷ y ∷ m) m (cast_behind operand x.place (y ∷ m)) refl
+        (token_then (kinds.Sign signs.LeftParenthesis) TypeBody (Low (suc h)) (Free unary) refl (type_body_alive max_height)
         x (y ∷ m) (cast_behind operand x.place (y ∷ m)) k en
-        (λ en2. type_body_reads room x.place (y ∷ m) en2))
+        (λ en2. type_body_reads max_height x.place (y ∷ m) en2))
       where
         down : (c : Tree) (s m' m2 : List Token) → Postfix c s ⊎ (NegationPhrase c s ⊎ CastPhrase c s) → s ++ m' ≡ x ∷ y ∷ m2 → CastPhrase c s
         down c s m' m2 (inl u) eq = absurd (postfix_no_type c s m' m2 x y u eq k (type_least y m types))
@@ -467,7 +467,7 @@ module _ (h : ℕ) (inner operand : List Token → Outcome Tree)
 
     -- a parenthesis, and no type behind it
     bracketed_reads : 1 ≤ h → (x y : Token) (m : List Token) → why_not (suc h) (least x.kind) ≡ None → x.kind ≡ kinds.Sign signs.LeftParenthesis → begins_data_type (y ∷ m) ≡ false → IsEnded (x ∷ y ∷ m) → Reads (IsExpression unary) (Low (suc h)) (Free unary) (x ∷ y ∷ m) (postfix (suc h) inner (x ∷ y ∷ m))
-    bracketed_reads room x y m fits k no_type en =
+    bracketed_reads max_height x y m fits k no_type en =
         reads_peek Postfix (IsExpression unary) (Low (suc h)) (Free unary) (Free unary) x y (λ c s v. v.1) (λ c s m' m2 v st eq. down c s m' m2 (unary_cases c s v) eq) (λ c m' st. st)
         (parentheses x.place leaf, leaf_token ∷ token origin (kinds.Sign signs.RightParenthesis) ∷ [], token origin kinds.End, (tt, (x ∷ [], leaf_token ∷ token origin (kinds.Sign signs.RightParenthesis) ∷ [], refl, ap (λ z. token x.place z ∷ []) k, (leaf_token ∷ [], token origin (kinds.Sign signs.RightParenthesis) ∷ [], refl, refl, (origin, refl)))), omega arith, refl)
         some (x ∷ y ∷ m) m (postfix (suc h) inner (x ∷ y ∷ m)) refl
@@ -494,8 +494,8 @@ module _ (h : ℕ) (inner operand : List Token → Outcome Tree)
         down c s m' m2 (inr (inl u)) eq = absurd (k1 (negation_first c s m' m2 x u eq))
         down c s m' m2 (inr (inr u)) eq = absurd (k2 (cast_first c s m' m2 x u eq))
 
-    room_under : (s : Sign) (x : Token) → x.kind ≡ kinds.Sign s → least (kinds.Sign s) ≡ Some 2 → why_not (suc h) (least x.kind) ≡ None → 1 ≤ h
-    room_under s x k two fits =
+    one_fits_under : (s : Sign) (x : Token) → x.kind ≡ kinds.Sign s → least (kinds.Sign s) ≡ Some 2 → why_not (suc h) (least x.kind) ≡ None → 1 ≤ h
+    one_fits_under s x k two fits =
         let f = start_fits (suc h) (least x.kind) fits in
         let g : Some 2 ≡ Some f.0 = sym two ∙ ap least (sym k) ∙ f.1 in
         let same : 2 ≡ f.0 = cc in
@@ -505,7 +505,7 @@ module _ (h : ℕ) (inner operand : List Token → Outcome Tree)
     unary_at_reads : (x : Token) (m : List Token) → why_not (suc h) (least x.kind) ≡ None → IsEnded (x ∷ m) → Reads (IsExpression unary) (Low (suc h)) (Free unary) (x ∷ m) (unary_at (suc h) inner operand x m)
     unary_at_reads x m fits en =
         choose (IsExpression unary) (Low (suc h)) (Free unary) (x ∷ m) (is_sign signs.Exclamation x) _ _
-        (λ t. let k = is_sign-true signs.Exclamation x t in negation_reads (room_under signs.Exclamation x k refl fits) x m k en)
+        (λ t. let k = is_sign-true signs.Exclamation x t in negation_reads (one_fits_under signs.Exclamation x k refl fits) x m k en)
         (λ f. go (is_sign signs.LeftParenthesis x) refl (is_sign-false signs.Exclamation x f) m en)
       where
         go : (b : Bool) → is_sign signs.LeftParenthesis x ≡ b → (x.kind ≡ kinds.Sign signs.Exclamation → ⊥) → (m : List Token) → IsEnded (x ∷ m) → Reads (IsExpression unary) (Low (suc h)) (Free unary) (x ∷ m) (cond (b && begins_data_type m) (cast_behind operand x.place m) (postfix (suc h) inner (x ∷ m)))
@@ -514,16 +514,16 @@ module _ (h : ℕ) (inner operand : List Token → Outcome Tree)
             let e = after_kind x [] (kinds.Sign signs.LeftParenthesis) en (is_sign-true signs.LeftParenthesis x t) refl in cc
         go true t k (y ∷ m) en =
             let k2 = is_sign-true signs.LeftParenthesis x t in
-            let room = room_under signs.LeftParenthesis x k2 refl fits in
+            let max_height = one_fits_under signs.LeftParenthesis x k2 refl fits in
             choose (IsExpression unary) (Low (suc h)) (Free unary) (x ∷ y ∷ m) (begins_data_type (y ∷ m)) _ _
-            (λ told. cast_reads room x y m k2 told en)
-            (λ no_type. bracketed_reads room x y m fits k2 no_type en)
+            (λ told. cast_reads max_height x y m k2 told en)
+            (λ no_type. bracketed_reads max_height x y m fits k2 no_type en)
 
     pub unary_reads : (w : List Token) → IsEnded w → Reads (IsExpression unary) (Low (suc h)) (Free unary) w (unary_of (suc h) inner operand w)
     unfolding unary_of
     unary_reads [] en = cc
     unary_reads (x ∷ m) en = go (why_not (suc h) (least x.kind)) refl
       where
-        go : (o : Option Problem) → why_not (suc h) (least x.kind) ≡ o → Reads (IsExpression unary) (Low (suc h)) (Free unary) (x ∷ m) (unless o (x ∷ m) (unary_at (suc h) inner operand x m))
+        go : (o : Option ParseProblem) → why_not (suc h) (least x.kind) ≡ o → Reads (IsExpression unary) (Low (suc h)) (Free unary) (x ∷ m) (unless o (x ∷ m) (unary_at (suc h) inner operand x m))
         go None e = unary_at_reads x m e en
         go (Some p) e = start_bad unary (suc h) x m p e

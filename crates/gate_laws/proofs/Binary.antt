@@ -17,7 +17,7 @@ use Rattle.typed_tree.specs.declared.operators.Operands.{Operands}
 use Rattle.typed_tree.specs.declared.operators.Operands.TheVariants.{Scalars, ArrayAndScalar, ScalarAndArray, Arrays}
 use Rattle.typed_tree.specs.Operators.{element_made}
 use Rattle.language_model.specs.Effects.{World}
-use Rattle.language_model.specs.Values.{Secrecy, Plain, Private, Value, is_secret, size, seen, ring_for}
+use Rattle.language_model.specs.Values.{Secrecy, Plain, Private, Value, is_secret, size, visible_words, ring_for}
 use Rattle.language_model.specs.Words as W
 use Rattle.language_model.specs.Operations.{words_of_operator, is_scalar_left, is_scalar_right, is_product, result_shape, private_result, product_with}
 use Rattle.language_model.specs.Operations.{combined_from, operator_traps, operated}
@@ -272,5 +272,5 @@ operated_suits w d line op ds x y h =
     suits_bind w d
     (charged_suits w d fs (operator_traps line op ds x y) (W.result_size ds x y) (W.are_alike ds x y ≡ true)
     (suits_bind w d (test_suits w d fs (W.are_alike ds x y) trap.Length line) (λ _ alike.
-    suits_with w d (test_suits w d fs (W.may_divide op (seen y)) trap.Div line) (λ _ _. tell_same []) (λ _ _. alike)))) (λ _ alike.
+    suits_with w d (test_suits w d fs (W.may_divide op (visible_words y)) trap.Div line) (λ _ _. tell_same []) (λ _ _. alike)))) (λ _ alike.
     combined_suits w d op ds x y h alike x.secrecy y.secrecy h.secrecy)

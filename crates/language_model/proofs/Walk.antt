@@ -36,10 +36,10 @@ use Rattle.reached_instances.specs.declared.instance.BoundDomain.{BoundDomain}
 use Rattle.reached_instances.specs.Domains.{Setting, domains}
 use Rattle.typed_tree.specs.Shapes.{shape_of}
 use Rattle.language_model.specs.Effects.{Words, World, Given, Source, Clear, Answers, Effect, ◌>>=◌, done, end, charge, test, draw, gate, next_number, put_gates, planned, emit, next_answers, answer, show}
-use Rattle.language_model.specs.Values.{Secrecy, Plain, Private, Value, plain, hidden, size, seen, default_words, elements_of}
+use Rattle.language_model.specs.Values.{Secrecy, Plain, Private, Value, plain, hidden, size, visible_words, default_words, elements_of}
 use Rattle.language_model.specs.Words.{flipped, result_size, result_words, are_alike, may_divide}
 use Rattle.language_model.specs.Operations.{charged, is_classified, words_of_operator, is_scalar_left, is_scalar_right, result_shape, made_private, read_answer, words_for_bits, number_from, number_of, classified_from, wanted, revealed, opened_from, declassified, stretched, flip, equal_gates, less_gates, word_gates, bool_gates, operator_gates, private_result, product_with, combined_from, operator_traps, operated, operation, negated_from, negated, cast_gates, changed, cast_from, cast_to, size_told, summed_from, summed, bits_from, bits_extracted, joined_from, joined, element_from, element_of_array, with_element_from, with_element, filled_from, filled, handed_over, published, tested, asserted}
-use Rattle.language_model.specs.Evaluation.{Frame, put, Calls, gives_private, slot_is_private, slots_of, bound_at, next_is_private, behind_next, connective, decides, truth_value, slot_shape, entered, result_of, place_in, array_elements, given_value, asked_for, input_from, input_named, either, cut_short, not_cut_short, value, arguments, Flow, goes, returns, stops, skips, then_do, turns, repeats, Place, stored, execute, execute_all, body_of, call_at, deepest}
+use Rattle.language_model.specs.Evaluation.{Frame, put, Calls, gives_private, slot_is_private, slots_of, bound_at, next_is_private, behind_next, connective, decides, truth_value, slot_shape, entered, result_of, place_in, array_elements, given_value, asked_for, input_from, input_named, either, cut_short, not_cut_short, value, arguments, Flow, goes, returns, stops, skips, then_do, turns, repeats, StatementContext, stored, execute, execute_all, body_of, call_at, deepest}
 
 -- the steps, under two worlds with the same inputs and answers
 pub record IsLaw (w w' : World) (P : (A : Type 0) → Effect A → Effect A → Type 0) : Type 1 where
@@ -165,7 +165,7 @@ module _ (w w' : World) (P : (A : Type 0) → Effect A → Effect A → Type 0) 
 
   pub operated_holds : (line : ℕ) (op : BinaryOperator) (ds : Operands) (x y : Value) → P _ (operated w line op ds x y) (operated w' line op ds x y)
   operated_holds line op ds x y =
-      law.bind (charged_holds (operator_traps line op ds x y) (result_size ds x y) (law.bind (law.on_test (are_alike ds x y) trap.Length line) (λ _. law.on_test (may_divide op (seen y)) trap.Div line))) (λ _. combined_holds x.secrecy y.secrecy op ds x y)
+      law.bind (charged_holds (operator_traps line op ds x y) (result_size ds x y) (law.bind (law.on_test (are_alike ds x y) trap.Length line) (λ _. law.on_test (may_divide op (visible_words y)) trap.Div line))) (λ _. combined_holds x.secrecy y.secrecy op ds x y)
 
   pub operation_holds : (line : ℕ) (op : BinaryOperator) (ds : Operands) (x y : Value) → P _ (operation w line op ds x y) (operation w' line op ds x y)
   operation_holds line op ds x y = law.bind (wanted_holds (is_classified op x y) x) (λ a. law.bind (wanted_holds (is_classified op y x) y) (λ b. operated_holds line op ds a b))
@@ -334,7 +334,7 @@ module _ (w w' : World) (P : (A : Type 0) → Effect A → Effect A → Type 0) 
     mutual
       unfolding execute execute_all
 
-      execute_holds : (at : Place) (c : Command) (fr : Frame) → P _ (execute w calls at c fr) (execute w' calls' at c fr)
+      execute_holds : (at : StatementContext) (c : Command) (fr : Frame) → P _ (execute w calls at c fr) (execute w' calls' at c fr)
       execute_holds at empty_command fr = law.on_done _
       execute_holds at (block_command cs) fr = execute_all_holds at cs fr
       execute_holds at (if_command e a b) fr =
@@ -356,7 +356,7 @@ module _ (w w' : World) (P : (A : Type 0) → Effect A → Effect A → Type 0) 
       execute_holds at (publish_command text e) fr = law.bind (value_holds at.here e fr) (λ v. law.bind (published_holds text v) (λ _. law.on_done (goes fr)))
       execute_holds at (evaluate_command e) fr = law.bind (value_holds at.here e fr) (λ _. law.on_done (goes fr))
 
-      execute_all_holds : (at : Place) (cs : Commands) (fr : Frame) → P _ (execute_all w calls at cs fr) (execute_all w' calls' at cs fr)
+      execute_all_holds : (at : StatementContext) (cs : Commands) (fr : Frame) → P _ (execute_all w calls at cs fr) (execute_all w' calls' at cs fr)
       execute_all_holds at Commands'.none fr = law.on_done _
       execute_all_holds at (Commands'.also c cs) fr = law.bind (execute_holds at c fr) (λ g. then_holds g _ _ (execute_all_holds at cs))
 

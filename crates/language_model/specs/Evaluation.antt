@@ -241,7 +241,7 @@ repeats (suc n) condition body fr = do
   turned g (λ f. condition f >>= λ v. tested v >>= λ t. either t (repeats n condition body f) (done (goes f)))
 
 -- where a statement stands: in a body of a function whose result is private or not
-pub record Place : Type 0 where
+pub record StatementContext : Type 0 where
   pub here : Setting
   pub secret_result : Bool
 
@@ -260,7 +260,7 @@ stored here k x fr = do
   done (goes (put k v fr))
 
 unfoldable mutual
-  pub execute : World → Calls → Place → Command → Frame → Effect Flow
+  pub execute : World → Calls → StatementContext → Command → Frame → Effect Flow
   execute w calls at empty_command fr = done (goes fr)
   execute w calls at (block_command cs) fr = execute_all w calls at cs fr
   execute w calls at (if_command e a b) fr = do
@@ -309,7 +309,7 @@ unfoldable mutual
     _ ← value w calls at.here e fr
     done (goes fr)
 
-  pub execute_all : World → Calls → Place → Commands → Frame → Effect Flow
+  pub execute_all : World → Calls → StatementContext → Commands → Frame → Effect Flow
   execute_all w calls at Commands'.none fr = done (goes fr)
   execute_all w calls at (Commands'.also c cs) fr = do
     g ← execute w calls at c fr
@@ -333,7 +333,7 @@ result_of (returns v) = v
 result_of (stops fr) = nothing
 result_of (skips fr) = nothing
 
-abbrev pub place_in : List TypedFunctionTree → TypedFunctionTree → List BoundDomain → Place
+abbrev pub place_in : List TypedFunctionTree → TypedFunctionTree → List BoundDomain → StatementContext
 place_in fs f b =
     record {
       here = record { functions = fs; slots = f.slots; binding = b };

@@ -11,7 +11,7 @@ use Rattle.lowered_expressions.specs.Built.{Built, with_kind, with_step, with_co
 use Rattle.lowered_expressions.proofs.Building.{begun_one, two_parts, stepped}
 use Rattle.lowering.specs.declared.commands.Pair.{Pair}
 use Rattle.lowering.specs.declared.commands.Pair.TheVariants as pairs
-use Rattle.lowering.specs.Leaves.{pair_step, pair_command, with_leaf}
+use Rattle.lowering.specs.inner.Leaves.{pair_step, pair_command, with_leaf}
 
 -- one step behind code and a classification, which reads the register where the value stands
 pub pushed : (b f g : Built) (ks : List Kind) (c d : List Step) (last : ℕ → Step) (r s : ℕ) → f ≡ with_code b ks (c ++ d) → g ≡ with_step f (last r)

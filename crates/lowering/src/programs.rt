@@ -7,9 +7,9 @@ ghost use Rattle.typed_tree.specs.Programs.{typed_program_tree};
 ghost use Rattle.reached_instances.specs.Instances.{instance_seen};
 ghost use Rattle.code_model.specs.Programs.{code_of, instance_code, numbers_in};
 ghost use Rattle.raw_steps.specs.Instructions.{raw_code_of, raw_function as raw_of};
-ghost use Rattle.lowering.specs.Naming.{AreSame, texts};
+ghost use Rattle.lowering.specs.inner.Naming.{AreSame, texts};
 ghost use Rattle.lowering.specs.Narrow.{IsJustOfSome, IsJustRefusal};
-ghost use Rattle.lowering.specs.Views.{function_seen};
+ghost use Rattle.lowering.specs.inner.Views.{function_seen};
 
 use crate::errors::LowerErr;
 use crate::functions::{FunctionSteps, function_steps, nothing_steps};
@@ -35,6 +35,7 @@ fn instance_steps<'p>(
         return Ok(nothing_steps(alloc));
     };
     let around = Around {
+        alloc,
         here: Setting {
             functions: &program.functions,
             slots: &function.slots,
@@ -42,7 +43,7 @@ fn instance_steps<'p>(
         },
         instances,
     };
-    function_steps(alloc, &around, function)
+    function_steps(&around, function)
 }
 
 fn push_steps<'p>(

@@ -14,34 +14,34 @@ use Rattle.domain_types.specs.Declarations.{Declared, callee}
 use Rattle.name_resolution.specs.declared.variables.Known.{Known}
 use Rattle.typed_tree.specs.Tree.{TypedTree, truth_node}
 use Rattle.typed_tree.specs.Commands.{Command, Commands, none, also, empty_command, block_command, if_command, loop_command, do_command, break_command, continue_command, return_command, assert_command, store_command, default_command, fill_command, input_command, element_command, publish_command, evaluate_command}
-use Rattle.name_resolution.specs.Scopes.{Place, known_of, variable_named, declaring, entering, behind_block}
+use Rattle.name_resolution.specs.Scopes.{FunctionScope, known_of, variable_named, declaring, entering, behind_block}
 use Rattle.name_resolution.specs.Values.{value, values, called, call_made}
-use Rattle.name_resolution.specs.Resolving.{Resolving, ◌>>=◌, carry, done, reading, closed, in_block, tree_in, value_at, expression, known_at, named}
+use Rattle.name_resolution.specs.Resolving.{Resolving, ◌>>=◌, carry, done, reading, closed, in_block, tree_in, resolved_value, expression, known_at, named}
 use Rattle.name_resolution.specs.Bodies.{tree_in_call, calling, evaluated, default_of, from_value, initial, declared, assigned_to, assigned, started, stepped, condition_of, returned, looped, resolved, resolved_all}
 use Rattle.typed_tree.specs.Sound.{IsSoundTree, IsSoundCommand, AreSoundCommands}
 use Rattle.name_resolution.proofs.SoundValues.{mapped, both_there, arities, AreBelow, below_more, below_append, below_named, sound_value, sound_values, sound_called}
 
 -- each variable that is known has a slot
-pub record IsPlace (s : Place) : Type 0 where
+pub record IsPlace (s : FunctionScope) : Type 0 where
   pub block : AreBelow (length s.slots) s.scope.block
   pub outer : AreBelow (length s.slots) s.scope.outer
 
 -- a step ends at such a place, with as many slots or more, and what it makes is so in all functions with so many slots or more
-pub record Ends {A : Type 0} (P : ℕ → A → Type 0) (s : Place) (a : A) (p : Place) : Type 0 where
+pub record Ends {A : Type 0} (P : ℕ → A → Type 0) (s : FunctionScope) (a : A) (p : FunctionScope) : Type 0 where
   pub place : IsPlace p
   pub longer : length s.slots ≤ length p.slots
   pub made : (n : ℕ) → length p.slots ≤ n → P n a
 
 pub record Yields {A : Type 0} (m : Resolving A) (P : ℕ → A → Type 0) : Type 0 where
-  pub from : (s : Place) (a : A) (p : Place) → IsPlace s → m s ≡ Some (a, p) → Ends P s a p
+  pub from : (s : FunctionScope) (a : A) (p : FunctionScope) → IsPlace s → m s ≡ Some (a, p) → Ends P s a p
 
-abbrev pub pair_of : {A : Type 0} → A → Place → A × Place
+abbrev pub pair_of : {A : Type 0} → A → FunctionScope → A × FunctionScope
 pair_of a p = (a, p)
 
-pair_is : {A : Type 0} (a b : A) (p q : Place) → Some (pair_of a p) ≡ Some (pair_of b q) → (a ≡ b) × (p ≡ q)
+pair_is : {A : Type 0} (a b : A) (p q : FunctionScope) → Some (pair_of a p) ≡ Some (pair_of b q) → (a ≡ b) × (p ≡ q)
 pair_is a b p q e = let same : pair_of a p ≡ pair_of b q = cc in (ap (λ z. z.0) same, ap (λ z. z.1) same)
 
-ends_as : {A : Type 0} (P : ℕ → A → Type 0) (s : Place) (a b : A) (p q : Place) → Some (pair_of a p) ≡ Some (pair_of b q) → Ends P s a p → Ends P s b q
+ends_as : {A : Type 0} (P : ℕ → A → Type 0) (s : FunctionScope) (a b : A) (p q : FunctionScope) → Some (pair_of a p) ≡ Some (pair_of b q) → Ends P s a p → Ends P s b q
 ends_as P s a b p q e h = let same = pair_is a b p q e in subst (λ z. Ends P s z q) same.0 (subst (λ z. Ends P s a z) same.1 h)
 
 pub yields_done : {A : Type 0} (a : A) (P : ℕ → A → Type 0) → ((n : ℕ) → P n a) → Yields (done a) P
@@ -50,7 +50,7 @@ yields_done a P h = record { from = λ s b p is e. ends_as P s a b s p e (record
 pub yields_bind : {A B : Type 0} (m : Resolving A) (f : A → Resolving B) (P : ℕ → A → Type 0) (Q : ℕ → B → Type 0) → Yields m P → ((a : A) → Yields (f a) (λ n b. P n a → Q n b)) → Yields (m >>= f) Q
 yields_bind {A} {B} m f P Q first then = record { from = λ s b q is e. go s b q is (m s) refl e }
   where
-    go : (s : Place) (b : B) (q : Place) → IsPlace s → (o : Option (A × Place)) → m s ≡ o → carry o f ≡ Some (b, q) → Ends Q s b q
+    go : (s : FunctionScope) (b : B) (q : FunctionScope) → IsPlace s → (o : Option (A × FunctionScope)) → m s ≡ o → carry o f ≡ Some (b, q) → Ends Q s b q
     go s b q is None h e = cc
     go s b q is (Some r) h e =
         let one = first.from s r.0 r.1 is h in
@@ -62,21 +62,21 @@ yields_bind {A} {B} m f P Q first then = record { from = λ s b q is e. go s b q
         }
 
 -- what is read at a place
-pub yields_reading : {A : Type 0} (f : Place → Option A) (P : ℕ → A → Type 0) → ((s : Place) (a : A) → IsPlace s → f s ≡ Some a → (n : ℕ) → length s.slots ≤ n → P n a) → Yields (reading f) P
+pub yields_reading : {A : Type 0} (f : FunctionScope → Option A) (P : ℕ → A → Type 0) → ((s : FunctionScope) (a : A) → IsPlace s → f s ≡ Some a → (n : ℕ) → length s.slots ≤ n → P n a) → Yields (reading f) P
 yields_reading {A} f P h = record { from = λ s b p is e. go s b p is (f s) refl e }
   where
-    go : (s : Place) (b : A) (p : Place) → IsPlace s → (o : Option A) → f s ≡ o → option_map (λ a. pair_of a s) o ≡ Some (b, p) → Ends P s b p
+    go : (s : FunctionScope) (b : A) (p : FunctionScope) → IsPlace s → (o : Option A) → f s ≡ o → option_map (λ a. pair_of a s) o ≡ Some (b, p) → Ends P s b p
     go s b p is None g e = cc
     go s b p is (Some a) g e = ends_as P s a b s p e (record { place = is; longer = omega arith; made = λ n l. h s a is g n l })
 
-known_below : (s : Place) → IsPlace s → (n : ℕ) → length s.slots ≤ n → AreBelow n (s.scope.block ++ s.scope.outer)
+known_below : (s : FunctionScope) → IsPlace s → (n : ℕ) → length s.slots ≤ n → AreBelow n (s.scope.block ++ s.scope.outer)
 known_below s is n l = below_append n s.scope.block s.scope.outer (below_more (length s.slots) n s.scope.block l is.block) (below_more (length s.slots) n s.scope.outer l is.outer)
 
 -- a block
 pub yields_block : {A : Type 0} (m : Resolving A) (P : ℕ → A → Type 0) → Yields m P → Yields (in_block m) P
 yields_block {A} m P h = record { from = λ s b p is e. go s b p is (m (entering s)) refl e }
   where
-    go : (s : Place) (b : A) (p : Place) → IsPlace s → (o : Option (A × Place)) → m (entering s) ≡ o → closed s o ≡ Some (b, p) → Ends P s b p
+    go : (s : FunctionScope) (b : A) (p : FunctionScope) → IsPlace s → (o : Option (A × FunctionScope)) → m (entering s) ≡ o → closed s o ≡ Some (b, p) → Ends P s b p
     go s b p is None g e = cc
     go s b p is (Some r) g e =
         let in_it : IsPlace (entering s) = record { block = tt; outer = below_append (length s.slots) s.scope.block s.scope.outer is.block is.outer } in
@@ -104,9 +104,9 @@ abbrev pub Commands_in : Declared → ℕ → Commands → Type 0
 Commands_in d n cs = AreSoundCommands n (arities d) cs
 
 pub expression_yields : (d : Declared) (e : Tree) → Yields (expression d e) (Tree_in d)
-expression_yields d e = yields_reading (value_at d e) (Tree_in d) read
+expression_yields d e = yields_reading (resolved_value d e) (Tree_in d) read
   where
-    read : (s : Place) (t : TypedTree) → IsPlace s → value_at d e s ≡ Some t → (n : ℕ) → length s.slots ≤ n → Tree_in d n t
+    read : (s : FunctionScope) (t : TypedTree) → IsPlace s → resolved_value d e s ≡ Some t → (n : ℕ) → length s.slots ≤ n → Tree_in d n t
     read s t is h n l =
         let m = mapped tree_in (value d s.scope e) t h in
         subst (Tree_in d n) m.is (sound_value n d s.scope (known_below s is n l) e m.part m.there)
@@ -114,7 +114,7 @@ expression_yields d e = yields_reading (value_at d e) (Tree_in d) read
 named_yields : (d : Declared) (x : List ℕ) → Yields (named x) (λ n k. k.slot < n)
 named_yields d x = yields_reading (known_at x) (λ n k. k.slot < n) read
   where
-    read : (s : Place) (k : Known) → IsPlace s → known_at x s ≡ Some k → (n : ℕ) → length s.slots ≤ n → k.slot < n
+    read : (s : FunctionScope) (k : Known) → IsPlace s → known_at x s ≡ Some k → (n : ℕ) → length s.slots ≤ n → k.slot < n
     read s k is h n l =
         let m = mapped known_of (variable_named s.scope x) k h in
         subst (λ (z : Known). z.slot < n) m.is (below_named n x (s.scope.block ++ s.scope.outer) m.part (known_below s is n l) m.there)
@@ -122,7 +122,7 @@ named_yields d x = yields_reading (known_at x) (λ n k. k.slot < n) read
 calling_yields : (d : Declared) (line : ℕ) (x : List ℕ) (es : Trees) → Yields (reading (calling d line x es)) (Tree_in d)
 calling_yields d line x es = yields_reading (calling d line x es) (Tree_in d) read
   where
-    read : (s : Place) (t : TypedTree) → IsPlace s → calling d line x es s ≡ Some t → (n : ℕ) → length s.slots ≤ n → Tree_in d n t
+    read : (s : FunctionScope) (t : TypedTree) → IsPlace s → calling d line x es s ≡ Some t → (n : ℕ) → length s.slots ≤ n → Tree_in d n t
     read s t is h n l =
         let m = mapped tree_in_call (call_made d s.scope line x es) t h in
         let b = both_there (called line) (callee d x) (values d s.scope es) m.part m.there in
@@ -186,7 +186,7 @@ initial_yields d line k element (Some m) (Some e) =
     (λ v. yields_bind (expression d e) (λ w. done (fill_command line k v w)) (Tree_in d) (λ n c. Tree_in d n v → If_there d k n c) (expression_yields d e)
     (λ w. yields_done (fill_command line k v w) (λ n c. Tree_in d n w → Tree_in d n v → If_there d k n c) (λ n u t h. (h, t, u))))
 
-pub declaring_place : (x : Identifier) (t : DeclaredType) (s : Place) → IsPlace s → IsPlace (declaring x t s)
+pub declaring_place : (x : Identifier) (t : DeclaredType) (s : FunctionScope) → IsPlace s → IsPlace (declaring x t s)
 declaring_place x t s is =
     let more = length-append s.slots (t ∷ []) in
     record {
@@ -197,7 +197,7 @@ declaring_place x t s is =
 pub declared_yields : (d : Declared) (t : DeclarationTree) → Yields (declared d t) (Command_in d)
 declared_yields d t = record { from = λ s c q is e. go s c q is (initial d t.declared.place.line (length s.slots) t.declared.element t.size t.value s) refl e }
   where
-    go : (s : Place) (c : Command) (q : Place) → IsPlace s → (o : Option (Command × Place)) → initial d t.declared.place.line (length s.slots) t.declared.element t.size t.value s ≡ o → carry o (λ b p. Some (pair_of b (declaring t.variable t.declared p))) ≡ Some (c, q) → Ends (Command_in d) s c q
+    go : (s : FunctionScope) (c : Command) (q : FunctionScope) → IsPlace s → (o : Option (Command × FunctionScope)) → initial d t.declared.place.line (length s.slots) t.declared.element t.size t.value s ≡ o → carry o (λ b p. Some (pair_of b (declaring t.variable t.declared p))) ≡ Some (c, q) → Ends (Command_in d) s c q
     go s c q is None h e = cc
     go s c q is (Some r) h e =
         let ends = (initial_yields d t.declared.place.line (length s.slots) t.declared.element t.size t.value).from s r.0 r.1 is h in

@@ -8,7 +8,7 @@ use Rattle.secrec_ast.specs.declared.function.Parameter.{Parameter}
 use Rattle.secrec_ast.specs.Programs.{FunctionTree, ProgramTree}
 use Rattle.domain_types.specs.Declarations.{Declared, declared_by}
 use Rattle.typed_tree.specs.declared.kinds.Slot.{Slot}
-use Rattle.name_resolution.specs.Scopes.{Place, no_place, declaring}
+use Rattle.name_resolution.specs.Scopes.{FunctionScope, no_place, declaring}
 use Rattle.name_resolution.specs.Bodies.{resolved_all}
 use Rattle.typed_tree.specs.Programs.{TypedFunctionTree, TypedProgramTree}
 use Rattle.name_resolution.specs.Order.{reached}
@@ -26,11 +26,11 @@ slots_count d vs (t ∷ ts) ss e =
     omega arith
 
 -- the parameters take the first slots
-parameters_place : (ps : List Parameter) (s : Place) → IsPlace s → IsPlace (with_parameters ps s)
+parameters_place : (ps : List Parameter) (s : FunctionScope) → IsPlace s → IsPlace (with_parameters ps s)
 parameters_place [] s is = is
 parameters_place (p ∷ ps) s is = parameters_place ps (declaring p.variable p.declared s) (declaring_place p.variable p.declared s is)
 
-parameters_count : (ps : List Parameter) (s : Place) → length (with_parameters ps s).slots ≡ length s.slots + length ps
+parameters_count : (ps : List Parameter) (s : FunctionScope) → length (with_parameters ps s).slots ≡ length s.slots + length ps
 parameters_count [] s = omega arith
 parameters_count (p ∷ ps) s =
     let more = length-append s.slots (p.declared ∷ []) in

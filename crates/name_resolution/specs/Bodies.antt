@@ -9,7 +9,7 @@ use Rattle.secrec_ast.specs.Statements as Statements'
 use Rattle.domain_types.specs.Declarations.{Declared}
 use Rattle.typed_tree.specs.Tree.{TypedTree, word_node, truth_node}
 use Rattle.typed_tree.specs.Commands.{Command, Commands, none, also, empty_command, block_command, if_command, loop_command, do_command, break_command, continue_command, return_command, assert_command, store_command, default_command, fill_command, input_command, element_command, publish_command, evaluate_command}
-use Rattle.name_resolution.specs.Scopes.{Place}
+use Rattle.name_resolution.specs.Scopes.{FunctionScope}
 use Rattle.name_resolution.specs.Values.{TypedCall, call_made}
 use Rattle.name_resolution.specs.Resolving.{Resolving, ◌>>=◌, done, reading, next_slot, declare, in_block, expression, named}
 
@@ -18,7 +18,7 @@ use Rattle.name_resolution.specs.Resolving.{Resolving, ◌>>=◌, done, reading,
 abbrev pub tree_in_call : TypedCall → TypedTree
 tree_in_call c = c.tree
 
-abbrev pub calling : Declared → ℕ → List ℕ → Trees → Place → Option TypedTree
+abbrev pub calling : Declared → ℕ → List ℕ → Trees → FunctionScope → Option TypedTree
 calling d line x es s = option_map tree_in_call (call_made d s.scope line x es)
 
 -- what is published is told by its name; a call may give nothing

@@ -20,9 +20,9 @@ use Rattle.domain_types.proofs.TypingSteps.{there, mapped}
 use Rattle.typed_tree.specs.declared.kinds.SlotDomain.{SlotDomain}
 use Rattle.typed_tree.specs.declared.kinds.SlotDomain.TheVariants.{Public, Private, Variable}
 use Rattle.typed_tree.specs.declared.kinds.Slot.{Slot}
-use Rattle.typed_tree.specs.declared.function.Given.{Given}
-use Rattle.typed_tree.specs.declared.function.Given.TheVariants.{Nothing, Value}
-use Rattle.name_resolution.specs.Scopes.{Place, no_place, declaring}
+use Rattle.typed_tree.specs.declared.function.Returned.{Returned}
+use Rattle.typed_tree.specs.declared.function.Returned.TheVariants.{Nothing, Value}
+use Rattle.name_resolution.specs.Scopes.{FunctionScope, no_place, declaring}
 use Rattle.name_resolution.specs.Values.{of_both}
 use Rattle.typed_tree.specs.Programs.{TypedFunctionTree}
 use Rattle.name_resolution.specs.Functions.{variable_number, domain_named, slot_domain, slot_in, and_slots, slots_written, given_back, with_parameters, function_made, function_from, function_behind, typed_function, with_functions}
@@ -75,14 +75,14 @@ slots_there k vs (t ∷ ts) h = let more = slots_there k vs ts h.1 in (h.0.0 ∷
 abbrev pub frame_of : Declared → List FunctionTree → FunctionTree → List Protection → Frame
 frame_of d fs f ds = record { setting = within d f ds; known = with_functions d fs; variables = f.variables; written = written_there d fs f ds }
 
-fits_parameters : (z : Frame) (ps : List Parameter) (s : checked.Scope) (p : Place) → AreParameters z.setting s ps → Fits z s p → Fits z (head.with_parameters z.setting ps s) (with_parameters ps p)
+fits_parameters : (z : Frame) (ps : List Parameter) (s : checked.Scope) (p : FunctionScope) → AreParameters z.setting s ps → Fits z s p → Fits z (head.with_parameters z.setting ps s) (with_parameters ps p)
 fits_parameters z [] s p h f = f
 fits_parameters z (q ∷ qs) s p h f =
     let t = there (type_written z.setting q.declared) h.0 in
     fits_parameters z qs (head.with_parameter z.setting q s) (declaring q.variable q.declared p) h.2
     (fits_declaring z q.variable q.declared s p (z.written q.declared t.0 t.1) f)
 
-given_there : (z : Frame) (f : FunctionTree) (r : ResultType) → GivesResult z.setting f r → (g : Given) × (given_back z.known z.variables r ≡ Some g)
+given_there : (z : Frame) (f : FunctionTree) (r : ResultType) → GivesResult z.setting f r → (g : Returned) × (given_back z.known z.variables r ≡ Some g)
 given_there z f result.Void h = (Nothing, refl)
 given_there z f (result.Value t) h =
     let v = there (type_written z.setting t) h.0 in

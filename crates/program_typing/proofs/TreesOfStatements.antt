@@ -24,9 +24,9 @@ use Rattle.domain_types.specs.Typing.{HasType, HasFitting, HasPublicScalar, IsIn
 use Rattle.typed_tree.specs.declared.kinds.Slot.{Slot}
 use Rattle.typed_tree.specs.Tree.{TypedTree, truth_node}
 use Rattle.typed_tree.specs.Commands.{Command, none, also, empty_command, block_command, if_command, loop_command, do_command, break_command, continue_command, return_command, assert_command, store_command, default_command, fill_command, input_command, element_command, publish_command, evaluate_command}
-use Rattle.name_resolution.specs.Scopes.{Place, known_of, declaring, entering, behind_block}
+use Rattle.name_resolution.specs.Scopes.{FunctionScope, known_of, declaring, entering, behind_block}
 use Rattle.name_resolution.specs.Functions.{slot_written}
-use Rattle.name_resolution.specs.Resolving.{Resolving, carry, ◌>>=◌, done, reading, next_slot, declare, closed, in_block, tree_in, value_at, expression, known_at, named}
+use Rattle.name_resolution.specs.Resolving.{Resolving, carry, ◌>>=◌, done, reading, next_slot, declare, closed, in_block, tree_in, resolved_value, expression, known_at, named}
 use Rattle.name_resolution.specs.Bodies.{tree_in_call, calling, evaluated, default_of, from_value, initial, declared, assigned_to, assigned, started, stepped, condition_of, returned, looped, resolved, resolved_all}
 use Rattle.name_resolution.proofs.SoundValues.{mapped}
 use Rattle.program_typing.proofs.TreesOfValues.{SameVariable, Same, same_append, names_same, Agree, agree_left, agree_right, names_in, value_makes, call_makes}
@@ -105,19 +105,19 @@ right_of : (z : Frame) (xs ys : List (List ℕ)) → Agreed z (xs ++ ys) → Agr
 right_of z xs ys a = agree_right z.setting.declared z.known xs ys a
 
 -- a place where these variables are known, and the domains of all slots
-pub record Fits (z : Frame) (s : checked.Scope) (p : Place) : Type 0 where
+pub record Fits (z : Frame) (s : checked.Scope) (p : FunctionScope) : Type 0 where
   pub same : Same s p.scope
   pub slots : AreWritten z.known z.variables p.slots
 
-pub record Reaches {A : Type 0} (z : Frame) (m : Resolving A) (s : checked.Scope) (p : Place) : Type 0 where
+pub record Reaches {A : Type 0} (z : Frame) (m : Resolving A) (s : checked.Scope) (p : FunctionScope) : Type 0 where
   pub made : A
-  pub place : Place
+  pub place : FunctionScope
   pub there : m p ≡ Some (made, place)
   pub fits : Fits z s place
 
 -- a step from each place where the one scope is known to a place where the other is
 pub record Goes {A : Type 0} (z : Frame) (m : Resolving A) (s t : checked.Scope) : Type 0 where
-  pub from : (p : Place) → Fits z s p → Reaches z m t p
+  pub from : (p : FunctionScope) → Fits z s p → Reaches z m t p
 
 goes_done : {A : Type 0} (z : Frame) (a : A) (s : checked.Scope) → Goes z (done a) s s
 goes_done z a s = record { from = λ p f. record { made = a; place = p; there = refl; fits = f } }
@@ -131,10 +131,10 @@ goes_bind z m g s t u first then =
           record { made = two.made; place = two.place; there = ap (λ o. carry o g) one.there ∙ two.there; fits = two.fits };
     }
 
-abbrev pair_at : {A : Type 0} → Place → A → A × Place
+abbrev pair_at : {A : Type 0} → FunctionScope → A → A × FunctionScope
 pair_at p a = (a, p)
 
-goes_reading : {A : Type 0} (z : Frame) (r : Place → Option A) (s : checked.Scope) → ((p : Place) → Fits z s p → (a : A) × (r p ≡ Some a)) → Goes z (reading r) s s
+goes_reading : {A : Type 0} (z : Frame) (r : FunctionScope → Option A) (s : checked.Scope) → ((p : FunctionScope) → Fits z s p → (a : A) × (r p ≡ Some a)) → Goes z (reading r) s s
 goes_reading z r s h =
     record { from = λ p f. let one = h p f in record { made = one.0; place = p; there = ap (option_map (pair_at p)) one.1; fits = f } }
 
@@ -148,7 +148,7 @@ goes_block z m s t h =
     }
 
 -- a variable takes the shape that is written
-pub fits_declaring : (z : Frame) (x : Identifier) (t : DeclaredType) (s : checked.Scope) (p : Place) → IsWritten z.known z.variables t → Fits z s p → Fits z (checked.with_variable (record { name = x.text; held = type_written z.setting t }) s) (declaring x t p)
+pub fits_declaring : (z : Frame) (x : Identifier) (t : DeclaredType) (s : checked.Scope) (p : FunctionScope) → IsWritten z.known z.variables t → Fits z s p → Fits z (checked.with_variable (record { name = x.text; held = type_written z.setting t }) s) (declaring x t p)
 fits_declaring z x t s p h f =
     record {
       same = record { block = (here, f.same.block); outer = f.same.outer };
@@ -172,7 +172,7 @@ goes_next z s = record { from = λ p f. record { made = length p.slots; place = 
 
 goes_value : (z : Frame) (s : checked.Scope) (e : Tree) (v : ValueType) → Agreed z (names_in e) → HasType z.setting s e (Value v) → Goes z (expression z.known e) s s
 goes_value z s e v a h =
-    goes_reading z (value_at z.known e) s (λ p f. let m = value_makes z.setting z.known s p.scope f.same e v a h in (m.value.tree, ap (option_map tree_in) m.there))
+    goes_reading z (resolved_value z.known e) s (λ p f. let m = value_makes z.setting z.known s p.scope f.same e v a h in (m.value.tree, ap (option_map tree_in) m.there))
 
 goes_one : (z : Frame) (s : checked.Scope) (e : Tree) (v : ValueType) (make : TypedTree → Command) → Agreed z (names_in e) → HasType z.setting s e (Value v) → Goes z (expression z.known e >>= λ x. done (make x)) s s
 goes_one z s e v make a h = goes_bind z (expression z.known e) (λ x. done (make x)) s s s (goes_value z s e v a h) (λ x. goes_done z (make x) s)

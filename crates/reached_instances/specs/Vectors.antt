@@ -5,8 +5,8 @@ use Rattle.secrec_ast.specs.declared.expression.DataType.TheVariants.{Uint64}
 use Rattle.typed_tree.specs.declared.kinds.SlotDomain.{SlotDomain}
 use Rattle.typed_tree.specs.declared.kinds.SlotDomain.TheVariants as slot
 use Rattle.typed_tree.specs.declared.kinds.Slot.{Slot}
-use Rattle.typed_tree.specs.declared.function.Given.{Given}
-use Rattle.typed_tree.specs.declared.function.Given.TheVariants.{Nothing, Value}
+use Rattle.typed_tree.specs.declared.function.Returned.{Returned}
+use Rattle.typed_tree.specs.declared.function.Returned.TheVariants.{Nothing, Value}
 use Rattle.typed_tree.specs.declared.operators.WordOperator.TheVariants.{Add}
 use Rattle.typed_tree.specs.declared.operators.BinaryOperator.TheVariants.{Words}
 use Rattle.typed_tree.specs.declared.operators.Operands.TheVariants.{Scalars}
@@ -28,7 +28,7 @@ abbrev word : SlotDomain → Slot
 word d = record { domain = d; shape = record { element = Uint64; array = false } }
 
 -- a function with these parameters and no other slots
-abbrev function_of : (variables parameters : ℕ) → List Slot → Given → List Command → TypedFunctionTree
+abbrev function_of : (variables parameters : ℕ) → List Slot → Returned → List Command → TypedFunctionTree
 function_of variables parameters slots given body =
     record {
       name = codes "f";

@@ -44,10 +44,6 @@ pub private_condition : fault_line (faults.Placed placed.PrivateCondition (recor
 unfolding fault_line fault_text placed_code span_text digits
 private_condition = refl
 
-pub cannot_run_yet : fault_line (faults.NotYet (record { line = 1; column = 1 })) ≡ codes "error: X4 line 1 column 1\n"
-unfolding fault_line fault_text span_text digits
-cannot_run_yet = refl
-
 pub bad_value : fault_line (faults.Input (inputs.BadField 0 fields.Value)) ≡ codes "error: I2 entry 0 value\n"
 unfolding fault_line fault_text input_fault_text field_word digits
 bad_value = refl

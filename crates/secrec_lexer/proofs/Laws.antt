@@ -2,7 +2,7 @@
 use Rattle.std.proofs.Common.{◌≤◌, zero, suc, ◌-◌, ◌⊎◌, inl, inr, ◌≡◌, ℕ, ◌+◌, ◌<◌, List, ◌∷◌, refl, sym, ap, ◌∙◌, subst, length, drop, arith, Result, Ok, Err}
 use Rattle.std.proofs.lemmas.Bool.{cases_lt}
 use Rattle.sc_text.specs.declared.span.Span.{Span}
-use Rattle.secrec_lexer.specs.declared.token.Kind.{Kind}
+use Rattle.secrec_lexer.specs.declared.token.TokenKind.{TokenKind}
 use Rattle.secrec_lexer.specs.declared.token.Token.{Token}
 use Rattle.secrec_lexer.specs.declared.lex_err.LexFault.{LexFault}
 use Rattle.secrec_lexer.specs.declared.lex_err.LexFault.TheVariants as faults
@@ -10,7 +10,8 @@ use Rattle.secrec_lexer.specs.declared.lex_err.LexErr.{LexErr}
 use Rattle.secrec_lexer.specs.declared.lex_err.LexErr.TheVariants.{Memory, Refused}
 use Rattle.secrec_lexer.specs.declared.piece.Piece.{Piece}
 use Rattle.secrec_lexer.specs.declared.piece.Piece.TheVariants.{End, Blank, Lexeme, Fault}
-use Rattle.secrec_lexer.specs.Pieces.{first, IsWithin}
+use Rattle.secrec_lexer.specs.Pieces.{first}
+use Rattle.secrec_lexer.specs.inner.Extents.{IsWithin}
 use Rattle.secrec_lexer.proofs.Turns.{found_within}
 use Rattle.secrec_lexer.specs.Places.{place_at}
 use Rattle.secrec_lexer.specs.Lexis.{Lexes, ended, blank, lexeme, Refuses, here, behind_blank, behind_lexeme, HasTokens, IsRefused, too_long, within, IsAnswer, IsTokens, IsRefusal, token_at, IsDecided}
@@ -28,28 +29,28 @@ same_size found piece other e f = ap size_of (sym f ∙ e)
 end_or_blank : (found : Piece) (size : ℕ) → found ≡ End → found ≡ Blank size → ⊥
 end_or_blank found size e f = cc
 
-end_or_lexeme : (found : Piece) (kind : Kind) (size : ℕ) → found ≡ End → found ≡ Lexeme kind size → ⊥
+end_or_lexeme : (found : Piece) (kind : TokenKind) (size : ℕ) → found ≡ End → found ≡ Lexeme kind size → ⊥
 end_or_lexeme found kind size e f = cc
 
 end_or_fault : (found : Piece) (fault : LexFault) (before : ℕ) → found ≡ End → found ≡ Fault fault before → ⊥
 end_or_fault found fault before e f = cc
 
-blank_or_lexeme : (found : Piece) (size other : ℕ) (kind : Kind) → found ≡ Blank size → found ≡ Lexeme kind other → ⊥
+blank_or_lexeme : (found : Piece) (size other : ℕ) (kind : TokenKind) → found ≡ Blank size → found ≡ Lexeme kind other → ⊥
 blank_or_lexeme found size other kind e f = cc
 
 blank_or_fault : (found : Piece) (size before : ℕ) (fault : LexFault) → found ≡ Blank size → found ≡ Fault fault before → ⊥
 blank_or_fault found size before fault e f = cc
 
-lexeme_or_fault : (found : Piece) (kind : Kind) (size before : ℕ) (fault : LexFault) → found ≡ Lexeme kind size → found ≡ Fault fault before → ⊥
+lexeme_or_fault : (found : Piece) (kind : TokenKind) (size before : ℕ) (fault : LexFault) → found ≡ Lexeme kind size → found ≡ Fault fault before → ⊥
 lexeme_or_fault found kind size before fault e f = cc
 
 same_blank : (found : Piece) (size other : ℕ) → found ≡ Blank size → found ≡ Blank other → other ≡ size
 same_blank found size other e f = cc
 
-same_lexeme : (found : Piece) (kind like : Kind) (size other : ℕ) → found ≡ Lexeme kind size → found ≡ Lexeme like other → other ≡ size
+same_lexeme : (found : Piece) (kind like : TokenKind) (size other : ℕ) → found ≡ Lexeme kind size → found ≡ Lexeme like other → other ≡ size
 same_lexeme found kind like size other e f = cc
 
-same_kind : (found : Piece) (kind like : Kind) (size other : ℕ) → found ≡ Lexeme kind size → found ≡ Lexeme like other → kind ≡ like
+same_kind : (found : Piece) (kind like : TokenKind) (size other : ℕ) → found ≡ Lexeme kind size → found ≡ Lexeme like other → kind ≡ like
 same_kind found kind like size other e f = cc
 
 same_fault : (found : Piece) (fault like : LexFault) (before other : ℕ) → found ≡ Fault fault before → found ≡ Fault like other → fault ≡ like

@@ -4,8 +4,8 @@ use Rattle.std.specs.Prelude.{not, IfOk, IfErr}
 use Rattle.std.specs.List.{list_all, fold}
 use Rattle.std.proofs.lemmas.List.Folds.{list_all-append}
 use Rattle.sc_text.specs.declared.span.Span.{Span}
-use Rattle.secrec_lexer.specs.declared.token.Kind.{Kind}
-use Rattle.secrec_lexer.specs.declared.token.Kind.TheVariants as kinds
+use Rattle.secrec_lexer.specs.declared.token.TokenKind.{TokenKind}
+use Rattle.secrec_lexer.specs.declared.token.TokenKind.TheVariants as kinds
 use Rattle.secrec_lexer.specs.declared.token.Token.{Token}
 use Rattle.secrec_lexer.specs.declared.lex_err.LexFault.{LexFault}
 use Rattle.secrec_lexer.specs.declared.lex_err.LexErr.{LexErr}
@@ -13,7 +13,8 @@ use Rattle.secrec_lexer.specs.declared.lex_err.LexErr.TheVariants.{Memory}
 use Rattle.secrec_lexer.specs.declared.piece.Piece.{Piece}
 use Rattle.secrec_lexer.specs.declared.piece.Piece.TheVariants.{End, Blank, Lexeme, Fault}
 use Rattle.secrec_lexer.specs.Tokens.{is_end}
-use Rattle.secrec_lexer.specs.Pieces.{first, IsWithin}
+use Rattle.secrec_lexer.specs.Pieces.{first}
+use Rattle.secrec_lexer.specs.inner.Extents.{IsWithin}
 use Rattle.secrec_lexer.specs.Places.{place_behind, place_at, next_place}
 use Rattle.secrec_lexer.specs.Lexis.{Lexes, ended, blank, lexeme, Refuses, here, behind_blank, behind_lexeme, IsRefused, within, IsAnswer, token_at}
 use Rattle.secrec_lexer.proofs.Runs.{rest_from}
@@ -81,7 +82,7 @@ cut_blank text offset size place next tokens h e f =
       refused = λ fault spot k. h.refused fault spot (behind_blank size e k);
     }
 
-pub cut_lexeme : (text : List ℕ) (offset size : ℕ) (place next : Span) (tokens : List Token) (kind : Kind) → IsCut text offset place tokens → first (drop offset text) ≡ Lexeme kind size → next ≡ place_at text (offset + size) → IsCut text (offset + size) next (tokens ++ record { place = place; kind = kind } ∷ [])
+pub cut_lexeme : (text : List ℕ) (offset size : ℕ) (place next : Span) (tokens : List Token) (kind : TokenKind) → IsCut text offset place tokens → first (drop offset text) ≡ Lexeme kind size → next ≡ place_at text (offset + size) → IsCut text (offset + size) next (tokens ++ record { place = place; kind = kind } ∷ [])
 cut_lexeme text offset size place next tokens kind h e f =
     let size_within = found_within text offset (Lexeme kind size) e in
     let token : Token = record { place = place; kind = kind } in

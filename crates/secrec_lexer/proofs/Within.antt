@@ -9,7 +9,8 @@ use Rattle.secrec_lexer.specs.declared.sign.Sign.{Sign}
 use Rattle.secrec_lexer.specs.declared.piece.Piece.{Piece}
 use Rattle.secrec_lexer.specs.Bytes.{is_blank, is_newline, name_run, first_line, begins, size_to_close}
 use Rattle.secrec_lexer.specs.Signs.{single_sign, longer_sign, keyword}
-use Rattle.secrec_lexer.specs.Pieces.{comment, word_value, number, word, text, longest, sign, first, IsWithin}
+use Rattle.secrec_lexer.specs.Pieces.{comment, word_value, number, word, text, longest, sign, first}
+use Rattle.secrec_lexer.specs.inner.Extents.{IsWithin}
 use Rattle.std.proofs.lemmas.Bool.{eqb-true}
 use Rattle.secrec_lexer.proofs.Choices.{and_left, and_right, split}
 

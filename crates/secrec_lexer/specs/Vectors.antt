@@ -2,7 +2,7 @@
 use Rattle.std.specs.Prelude.{◌≡◌, ◌^◌, ◌-◌, [], ◌∷◌, ◌++◌, codes, map, replicate}
 use Rattle.std.proofs.Common.{refl, lit≤}
 use Rattle.secrec_lexer.specs.declared.sign.Sign.TheVariants as signs
-use Rattle.secrec_lexer.specs.declared.token.Kind.TheVariants as kinds
+use Rattle.secrec_lexer.specs.declared.token.TokenKind.TheVariants as kinds
 use Rattle.secrec_lexer.specs.declared.lex_err.LexFault.TheVariants as faults
 use Rattle.secrec_lexer.specs.declared.piece.Piece.TheVariants.{End, Blank, Lexeme, Fault}
 use Rattle.secrec_lexer.specs.Pieces.{first}

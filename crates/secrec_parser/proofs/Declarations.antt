@@ -5,8 +5,8 @@ use Rattle.std.proofs.lemmas.Bool.{eqb-true, eqb-false}
 use Rattle.sc_text.specs.declared.span.Span.{Span}
 use Rattle.secrec_lexer.specs.declared.sign.Sign.{Sign}
 use Rattle.secrec_lexer.specs.declared.sign.Sign.TheVariants as signs
-use Rattle.secrec_lexer.specs.declared.token.Kind.{Kind}
-use Rattle.secrec_lexer.specs.declared.token.Kind.TheVariants as kinds
+use Rattle.secrec_lexer.specs.declared.token.TokenKind.{TokenKind}
+use Rattle.secrec_lexer.specs.declared.token.TokenKind.TheVariants as kinds
 use Rattle.secrec_lexer.specs.declared.token.Token.{Token}
 use Rattle.secrec_lexer.specs.Tokens.{is_sign, IsEnded}
 use Rattle.secrec_ast.specs.declared.statement.Identifier.{Identifier}
@@ -14,7 +14,7 @@ use Rattle.secrec_ast.specs.declared.statement.DeclaredType.{DeclaredType}
 use Rattle.secrec_ast.specs.Tree.{Tree}
 use Rattle.secrec_ast.specs.Statements.{DeclarationTree}
 use Rattle.secrec_ast.specs.Heights.{height, optional_height, declaration_height}
-use Rattle.expression_parser.specs.declared.problem.Problem.TheVariants.{TooHigh}
+use Rattle.expression_parser.specs.declared.problem.ParseProblem.TheVariants.{TooHigh}
 use Rattle.expression_parser.specs.Phrases.{Phrase, token, sign, ◌then◌}
 use Rattle.expression_parser.specs.Grammar.{IsExpression, loosest}
 use Rattle.expression_parser.specs.Follow.{goes_on, Free}
@@ -25,8 +25,8 @@ use Rattle.expression_parser.proofs.Tokens.{Any, All, origin, any_stops, good_en
 use Rattle.expression_parser.proofs.Nodes.{Low, tall, leaf, leaf_token}
 use Rattle.expression_parser.proofs.Levels.{at_most_reads}
 use Rattle.secrec_parser.specs.Grammar.{identifier, parenthesised, bracketed, initialiser, optional, IsType, IsDeclaration}
-use Rattle.secrec_parser.specs.Steps.{operand, at_sign, size, optional_operand, declared_type, declaration_step}
-use Rattle.secrec_parser.specs.Steps as steps
+use Rattle.secrec_parser.specs.inner.Steps.{operand, at_sign, size, optional_operand, declared_type, declaration_step}
+use Rattle.secrec_parser.specs.inner.Steps as steps
 use Rattle.secrec_parser.proofs.Made.{Made, Both, reads_same, seq, made, sign_seq, sign_end}
 use Rattle.secrec_parser.proofs.Heads.{some_reads, none_reads, optional_high}
 use Rattle.secrec_parser.proofs.TypeReadings.{is_one, NoBracket, lone, type_reads, identifier_reads}
@@ -72,7 +72,7 @@ module _ (first last : Sign) (free : (e : Tree) (q : Span) → Free loosest e (t
 
   pub between_reads : 0 < h → (w : List Token) → IsEnded w → Reads Between (Low h) Any w (expect first w >>= λ a. operand h a.1 >>= λ e. expect last e.1 >>= λ b. Ok (e.0, b.1))
   unfolding Closed
-  between_reads room w en =
+  between_reads max_height w en =
       reads_same (Made (λ (v : Tree × Unit {0}). v.0) (λ v. sign first then Closed v)) Between (Low h) Any Any
       (λ c s v. subst (λ z. Between z s) (sym v.1) v.2)
       (λ c s v. ((c, tt), refl, v))
@@ -138,7 +138,7 @@ module _ (h : ℕ) (end : Sign) (free : (e : Tree) (x : Token) → x.kind ≡ ki
   free_stop e (y ∷ m) st = free e y st
 
   equals_reads : 0 < h → (w : List Token) → IsEnded w → Reads initialiser (Low h) (Before end) w (expect signs.Assign w >>= λ a. operand h a.1)
-  equals_reads room w en =
+  equals_reads max_height w en =
       reads_same (Made (λ (e : Tree). e) (λ e. sign signs.Assign then IsExpression loosest e)) initialiser (Low h) (Before end) (Before end)
       (λ c s v. subst (λ z. initialiser z s) (sym v.1) v.2)
       (λ c s v. (c, refl, v))
@@ -186,7 +186,7 @@ LowDeclaration h d = declaration_height d ≤ h
 abbrev pub Semicolon : {C : Type 0} → C → Token → Type 0
 Semicolon c x = x.kind ≡ kinds.Sign signs.Semicolon
 
-pub kind_free : (e : Tree) (k : Kind) (x : Token) → goes_on loosest k ≡ false → x.kind ≡ k → Free loosest e x
+pub kind_free : (e : Tree) (k : TokenKind) (x : Token) → goes_on loosest k ≡ false → x.kind ≡ k → Free loosest e x
 kind_free e k x f is = ap (goes_on loosest) is ∙ f
 
 pub semicolon_free : (e : Tree) (x : Token) → x.kind ≡ kinds.Sign signs.Semicolon → Free loosest e x
@@ -195,7 +195,7 @@ semicolon_free e x k = kind_free e (kinds.Sign signs.Semicolon) x refl k
 pub parenthesis_free : (e : Tree) (x : Token) → x.kind ≡ kinds.Sign signs.RightParenthesis → Free loosest e x
 parenthesis_free e x k = kind_free e (kinds.Sign signs.RightParenthesis) x refl k
 
-other_sign : (s : Sign) (x : Token) (k : Kind) → x.kind ≡ k → is_sign s (token x.place k) ≡ false → is_sign s x ≡ false
+other_sign : (s : Sign) (x : Token) (k : TokenKind) → x.kind ≡ k → is_sign s (token x.place k) ≡ false → is_sign s x ≡ false
 other_sign s x k e f = ap (λ z. is_sign s (token x.place z)) e ∙ f
 
 pub semicolon_assign : (x : Token) → x.kind ≡ kinds.Sign signs.Semicolon → is_sign signs.Assign x ≡ false

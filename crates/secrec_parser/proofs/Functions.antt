@@ -5,8 +5,8 @@ use Rattle.std.proofs.lemmas.Bool.{ltb-true, ltb-false}
 use Rattle.sc_text.specs.declared.span.Span.{Span}
 use Rattle.secrec_lexer.specs.declared.sign.Sign.{Sign}
 use Rattle.secrec_lexer.specs.declared.sign.Sign.TheVariants as signs
-use Rattle.secrec_lexer.specs.declared.token.Kind.{Kind}
-use Rattle.secrec_lexer.specs.declared.token.Kind.TheVariants as kinds
+use Rattle.secrec_lexer.specs.declared.token.TokenKind.{TokenKind}
+use Rattle.secrec_lexer.specs.declared.token.TokenKind.TheVariants as kinds
 use Rattle.secrec_lexer.specs.declared.token.Token.{Token}
 use Rattle.secrec_lexer.specs.Tokens.{is_sign, IsEnded}
 use Rattle.secrec_ast.specs.declared.statement.Identifier.{Identifier}
@@ -28,8 +28,8 @@ use Rattle.expression_parser.proofs.Reading.{Reads, Stops, reads_as}
 use Rattle.expression_parser.proofs.Tokens.{Any, All, origin, any_stops, good_ended, head_kind, is_sign-true, is_sign-false, sign_reads}
 use Rattle.secrec_parser.specs.Grammar.{identifier, optional, comma_and, AreAll, IsType, AreStatements, IsDomainVariable, IsTemplate, IsResult, IsParameter, AreParameters, IsBlock, IsFunction}
 use Rattle.secrec_parser.specs.Grammar as grammar
-use Rattle.secrec_parser.specs.Steps.{at_sign, listed, comma_then, no_more_variables, no_comma, declared_type, domain_variable, template, result_type, parameter, parameters, parameter_list, body, function_step, braced, statement_at_most}
-use Rattle.secrec_parser.specs.Steps as steps
+use Rattle.secrec_parser.specs.inner.Steps.{at_sign, listed, comma_then, no_more_variables, no_comma, declared_type, domain_variable, template, result_type, parameter, parameters, parameter_list, body, function_step, braced, statement_at_most}
+use Rattle.secrec_parser.specs.inner.Steps as steps
 use Rattle.secrec_parser.proofs.Made.{Made, Both, reads_same, seq, made, sign_seq, sign_end}
 use Rattle.secrec_parser.proofs.Heads.{nothing_reads, some_reads, none_reads}
 use Rattle.secrec_parser.proofs.TypeReadings.{NoBracket, lone, type_reads, identifier_reads}
@@ -38,7 +38,7 @@ use Rattle.secrec_parser.proofs.Lists.{listed_reads}
 use Rattle.secrec_parser.proofs.Leaders.{begins_type, declared_kind, front}
 use Rattle.secrec_parser.proofs.Headings.{then_left, then_right, then_map}
 use Rattle.secrec_parser.proofs.Bodies.{listed_of, of_list, LowStatements, braced_reads}
-use Rattle.secrec_parser.proofs.Rooms.{statement_reads}
+use Rattle.secrec_parser.proofs.HeightLimits.{statement_reads}
 
 -- the same value
 abbrev pub Same : {C : Type 0} → (C → Phrase) → C → Phrase
@@ -122,7 +122,7 @@ comma_head P a s m m2 x v eq = sign_head signs.Comma (P a) s m m2 x v eq
 comma_some : {A : Type 0} (P : A → Phrase) (a : A) → comma_and P a [] → ⊥
 comma_some P a v = let f = comma_head P a [] (name_token ∷ []) [] name_token v refl in cc
 
-other_kind : (s : Sign) (x : Token) (k : Kind) → x.kind ≡ k → is_sign s (token x.place k) ≡ false → is_sign s x ≡ false
+other_kind : (s : Sign) (x : Token) (k : TokenKind) → x.kind ≡ k → is_sign s (token x.place k) ≡ false → is_sign s x ≡ false
 other_kind s x k e f = ap (λ z. is_sign s (token x.place z)) e ∙ f
 
 abbrev Four : List DomainVariable → Type 0
@@ -405,7 +405,7 @@ parameter_list_reads w en =
 -- Bodies
 
 abbrev pub LowBlock : ℕ → BlockTree → Type 0
-LowBlock room b = statement_heights b.statements ≤ room
+LowBlock max_height b = statement_heights b.statements ≤ max_height
 
 abbrev In : List StatementTree × Unit {0} → Phrase
 In = Both (λ ss ts. AreStatements false (statements_of ss) ts) (λ ss (u : Unit {0}). sign signs.RightBrace)
@@ -413,24 +413,24 @@ In = Both (λ ss ts. AreStatements false (statements_of ss) ts) (λ ss (u : Unit
 abbrev block_at : Span → List StatementTree → BlockTree
 block_at p ss = record { place = p; statements = statements_of ss }
 
-pub body_reads : (room : ℕ) (w : List Token) → IsEnded w → Reads IsBlock (LowBlock room) Any w (body room w)
+pub body_reads : (max_height : ℕ) (w : List Token) → IsEnded w → Reads IsBlock (LowBlock max_height) Any w (body max_height w)
 unfolding body
-body_reads room w en =
-    reads_same (Made (λ (v : Span × (List StatementTree × Unit {0})). block_at v.0 v.1.0) (Both (λ p. sign_at p signs.LeftBrace) (λ p. In))) IsBlock (LowBlock room) Any Any
+body_reads max_height w en =
+    reads_same (Made (λ (v : Span × (List StatementTree × Unit {0})). block_at v.0 v.1.0) (Both (λ p. sign_at p signs.LeftBrace) (λ p. In))) IsBlock (LowBlock max_height) Any Any
     (λ c s v. subst (λ z. IsBlock z s) (sym v.1) v.2)
     down (λ c m st. st) w _
-    (seq (λ p. sign_at p signs.LeftBrace) All Any (λ p. In) (λ p v. block_at p v.0) (LowBlock room) Any
+    (seq (λ p. sign_at p signs.LeftBrace) All Any (λ p. In) (λ p v. block_at p v.0) (LowBlock max_height) Any
     (λ p v t u f. tt)
     (λ p v t m u st. any_stops (λ y. Unit {0}) t m st)
     (λ p s u. (([], tt), lone signs.RightBrace, ([], lone signs.RightBrace, refl, refl, (origin, refl)), λ f. omega arith))
     w (expect signs.LeftBrace w) _ (sign_reads signs.LeftBrace w en) (λ p r is g.
-    reads_same (Made (λ ss. block_at p ss) (Made (λ (v : List StatementTree × Unit {0}). v.0) In)) (Made (λ b. block_at p b.0) In) (LowBlock room) Any Any
+    reads_same (Made (λ ss. block_at p ss) (Made (λ (v : List StatementTree × Unit {0}). v.0) In)) (Made (λ b. block_at p b.0) In) (LowBlock max_height) Any Any
     (λ c s v. (v.2.0, v.1 ∙ ap (block_at p) v.2.1, v.2.2))
     (λ c s v. (v.0.0, v.1, (v.0, refl, v.2)))
     (λ c m st. st) r _
-    (made (Made (λ (v : List StatementTree × Unit {0}). v.0) In) (LowStatements room) Any (λ ss. block_at p ss) (LowBlock room) Any
+    (made (Made (λ (v : List StatementTree × Unit {0}). v.0) In) (LowStatements max_height) Any (λ ss. block_at p ss) (LowBlock max_height) Any
     (λ ss f. f) (λ ss f. f) (λ ss m st. any_stops (λ y. Unit {0}) [] m st)
-    r (braced (statement_at_most room false) r) (braced_reads room false (statement_at_most room false) (statement_reads room false) r (good_ended g en)))))
+    r (braced (statement_at_most max_height false) r) (braced_reads max_height false (statement_at_most max_height false) (statement_reads max_height false) r (good_ended g en)))))
   where
     down : (c : BlockTree) (s : List Token) → IsBlock c s → Made (λ (v : Span × (List StatementTree × Unit {0})). block_at v.0 v.1.0) (Both (λ p. sign_at p signs.LeftBrace) (λ p. In)) c s
     down c s v = (
@@ -442,7 +442,7 @@ body_reads room w en =
 -- Functions
 
 abbrev pub LowFunction : ℕ → FunctionTree → Type 0
-LowFunction room f = function_height f ≤ 2 + room
+LowFunction max_height f = function_height f ≤ 2 + max_height
 
 abbrev FunctionParts : Type 0
 FunctionParts = List DomainVariable × (ResultType × (Identifier × (List Parameter × BlockTree)))
@@ -457,7 +457,7 @@ pub result_head : (t : ResultType) (s m m2 : List Token) (x : Token) → IsResul
 result_head results.Void s m m2 x v eq = inl (sym (head_kind s [] m m2 v.0 (kinds.Sign signs.Void) x v.1 eq))
 result_head (results.Value d) s m m2 x v eq = inr (declared_kind d s m m2 x v eq)
 
-type_no_template : (k : Kind) (p : Span) → begins_type k ≡ true → is_sign signs.Template (token p k) ≡ false
+type_no_template : (k : TokenKind) (p : Span) → begins_type k ≡ true → is_sign signs.Template (token p k) ≡ false
 type_no_template (kinds.Name b) p e = refl
 type_no_template (kinds.Sign signs.Public) p e = refl
 type_no_template (kinds.Sign signs.Uint64) p e = refl
@@ -501,39 +501,39 @@ bodied = (
   is_block,
 )
 
-pub function_reads : (room : ℕ) (w : List Token) → IsEnded w → Reads IsFunction (LowFunction room) Any w (function_step room w)
+pub function_reads : (max_height : ℕ) (w : List Token) → IsEnded w → Reads IsFunction (LowFunction max_height) Any w (function_step max_height w)
 unfolding function_step
-function_reads room w en =
-    reads_same (Made function_of (Both IsTemplate (λ vs. Behind))) IsFunction (LowFunction room) Any Any
+function_reads max_height w en =
+    reads_same (Made function_of (Both IsTemplate (λ vs. Behind))) IsFunction (LowFunction max_height) Any Any
     (λ c s v. subst (λ z. IsFunction z s) (sym v.1) (up v.0 s v.2))
     (λ c s v. ((c.variables, (c.returned, (c.function, (c.parameters, c.body)))), refl, down c s v))
     (λ c m st. st) w _
-    (seq IsTemplate All NoTemplate (λ vs. Behind) (λ vs v. function_of (vs, v)) (LowFunction room) Any
+    (seq IsTemplate All NoTemplate (λ vs. Behind) (λ vs v. function_of (vs, v)) (LowFunction max_height) Any
     (λ vs v t u f. tt)
     (λ vs v t m u st. template_first vs v t m u)
     (λ vs s u. ((results.Void, (some_name, ([], block_of))), lone signs.Void ++ name_token ∷ ((lone signs.LeftParenthesis ++ lone signs.RightParenthesis) ++ braces), (lone signs.Void, name_token ∷ ((lone signs.LeftParenthesis ++ lone signs.RightParenthesis) ++ braces), refl, (origin, refl), (name_token ∷ [], (lone signs.LeftParenthesis ++ lone signs.RightParenthesis) ++ braces, refl, refl, bodied)), λ f. omega arith))
     w (template w) _ (template_reads w en) (λ vs r is g.
     let en2 = good_ended g en in
-    seq IsResult All NoBracket (λ t. Both identifier (λ x. Both Listed (λ ps. IsBlock))) (λ t v. function_of (vs, (t, v))) (LowFunction room) Any
+    seq IsResult All NoBracket (λ t. Both identifier (λ x. Both Listed (λ ps. IsBlock))) (λ t v. function_of (vs, (t, v))) (LowFunction max_height) Any
     (λ t v s u f. tt)
     (λ t v s m u st. subst (λ l. Stops (NoBracket t) (l ++ m)) (sym (u.2 ∙ ap (λ l. l ++ u.1) u.3)) refl)
     (λ t s u. ((some_name, ([], block_of)), name_token ∷ ((lone signs.LeftParenthesis ++ lone signs.RightParenthesis) ++ braces), (name_token ∷ [], (lone signs.LeftParenthesis ++ lone signs.RightParenthesis) ++ braces, refl, refl, bodied), λ f. omega arith))
     r (result_type r) _ (result_reads r en2) (λ t r2 is2 g2.
     let en3 = good_ended g2 en2 in
-    seq identifier All Any (λ x. Both Listed (λ ps. IsBlock)) (λ x v. function_of (vs, (t, (x, v)))) (LowFunction room) Any
+    seq identifier All Any (λ x. Both Listed (λ ps. IsBlock)) (λ x v. function_of (vs, (t, (x, v)))) (LowFunction max_height) Any
     (λ x v s u f. tt)
     (λ x v s m u st. any_stops (λ y. Unit {0}) s m st)
     (λ x s u. (([], block_of), (lone signs.LeftParenthesis ++ lone signs.RightParenthesis) ++ braces, bodied, λ f. omega arith))
     r2 (expressions.identifier r2) _ (identifier_reads r2 en3) (λ x r3 is3 g3.
     let en4 = good_ended g3 en3 in
-    seq Listed All Any (λ ps. IsBlock) (λ ps b. function_of (vs, (t, (x, (ps, b))))) (LowFunction room) Any
+    seq Listed All Any (λ ps. IsBlock) (λ ps b. function_of (vs, (t, (x, (ps, b))))) (LowFunction max_height) Any
     (λ ps b s u f. tt)
     (λ ps b s m u st. any_stops (λ y. Unit {0}) s m st)
     (λ ps s u. (block_of, braces, is_block, λ f. omega arith))
     r3 (parameter_list r3) _ (parameter_list_reads r3 en4) (λ ps r4 is4 g4.
-    made IsBlock (LowBlock room) Any (λ b. function_of (vs, (t, (x, (ps, b))))) (LowFunction room) Any
+    made IsBlock (LowBlock max_height) Any (λ b. function_of (vs, (t, (x, (ps, b))))) (LowFunction max_height) Any
     (λ b f. omega (arith, f)) (λ b f. omega (arith, f)) (λ b m st. any_stops (λ y. Unit {0}) [] m st)
-    r4 (body room r4) (body_reads room r4 (good_ended g4 en4)))))))
+    r4 (body max_height r4) (body_reads max_height r4 (good_ended g4 en4)))))))
   where
     up : (v : FunctionParts) (s : List Token) → (IsTemplate v.0 then Behind v.1) s → IsFunction (function_of v) s
     up v s u = then_map s (λ t q. then_map t (λ t2 q2. then_map t2 (λ t3 q3. then_map t3 (λ t4 q4. then_right t4 q4) (then_right t3 q3)) q2) q) u

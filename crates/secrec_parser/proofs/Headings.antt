@@ -5,8 +5,8 @@ use Rattle.std.proofs.lemmas.Bool.{ltb-true, ltb-false}
 use Rattle.sc_text.specs.declared.span.Span.{Span}
 use Rattle.secrec_lexer.specs.declared.sign.Sign.{Sign}
 use Rattle.secrec_lexer.specs.declared.sign.Sign.TheVariants as signs
-use Rattle.secrec_lexer.specs.declared.token.Kind.{Kind}
-use Rattle.secrec_lexer.specs.declared.token.Kind.TheVariants as kinds
+use Rattle.secrec_lexer.specs.declared.token.TokenKind.{TokenKind}
+use Rattle.secrec_lexer.specs.declared.token.TokenKind.TheVariants as kinds
 use Rattle.secrec_lexer.specs.declared.token.Token.{Token}
 use Rattle.secrec_lexer.specs.Tokens.{is_sign, IsEnded}
 use Rattle.secrec_ast.specs.declared.expression.DataType.TheVariants as types
@@ -16,7 +16,7 @@ use Rattle.secrec_ast.specs.declared.statement.DeclaredType.{DeclaredType}
 use Rattle.secrec_ast.specs.Tree.{Tree}
 use Rattle.secrec_ast.specs.Statements.{DeclarationTree, TargetTree, AssignmentTree, StartTree, starts_with_nothing, starts_with_declaration, starts_with_assignment, StepTree, steps_by_nothing, steps_by_assignment, steps_by_expression}
 use Rattle.secrec_ast.specs.Heights.{optional_height, assignment_height, start_height, step_height}
-use Rattle.expression_parser.specs.declared.problem.Problem.TheVariants.{Unexpected, TooHigh}
+use Rattle.expression_parser.specs.declared.problem.ParseProblem.TheVariants.{Unexpected, TooHigh}
 use Rattle.expression_parser.specs.Phrases.{Phrase, token, one, sign, ◌then◌}
 use Rattle.expression_parser.specs.Grammar.{IsExpression, loosest}
 use Rattle.expression_parser.specs.Follow.{Free}
@@ -29,8 +29,8 @@ use Rattle.expression_parser.proofs.Nodes.{Low, tall, leaf, leaf_token, first_to
 use Rattle.secrec_parser.specs.declared.assignment.Update.{Update}
 use Rattle.secrec_parser.specs.declared.assignment.Update.TheVariants as updates
 use Rattle.secrec_parser.specs.Grammar.{identifier, optional, IsDeclaration, IsAssignment, IsStart, IsStep, heading}
-use Rattle.secrec_parser.specs.Steps.{operand, optional_operand, is_type, is_named_type, declares, update_of, declaration_step, assignment_step, target_index, assigned, assigned_by, ActionTree, assigns, evaluates, action, start_step, step_of, last_step, start_part, test_part, last_part}
-use Rattle.secrec_parser.specs.Steps as steps
+use Rattle.secrec_parser.specs.inner.Steps.{operand, optional_operand, is_type, is_named_type, declares, update_of, declaration_step, assignment_step, target_index, assigned, assigned_by, ActionTree, assigns, evaluates, action, start_step, step_of, last_step, start_part, test_part, last_part}
+use Rattle.secrec_parser.specs.inner.Steps as steps
 use Rattle.secrec_parser.proofs.Clashes.{false_true}
 use Rattle.secrec_parser.proofs.Made.{Made, Both, reads_same, seq, made, sign_seq, sign_end}
 use Rattle.secrec_parser.proofs.Heads.{nothing_reads, unexpected, some_reads, none_reads}
@@ -82,7 +82,7 @@ test_reads h w en =
 
 -- The first part
 
-update_no_type : (k : Kind) (p : Span) (u : Update) → update_of (token p k) ≡ Some u → is_type (token p k) ≡ false
+update_no_type : (k : TokenKind) (p : Span) (u : Update) → update_of (token p k) ≡ Some u → is_type (token p k) ≡ false
 update_no_type (kinds.Sign signs.Uint64) p u e = cc
 update_no_type (kinds.Sign signs.Uint) p u e = cc
 update_no_type (kinds.Sign signs.Bool) p u e = cc
@@ -335,14 +335,14 @@ module _ (h : ℕ) (one : 1 ≤ h) where
       go false z = let l = ltb-false h 2 z in named_set h one (omega (arith, l)) x y n text k t en
 
   -- what no first part begins with, which is no name
-  no_choice : (x : Token) (m : List Token) (k : Kind) → x.kind ≡ k → is_sign signs.Semicolon x ≡ false → expressions.identifier_of k x m ≡ Err (Unexpected, x ∷ m) → (begins_type k ≡ true → ⊥) → ((text : List ℕ) → k ≡ kinds.Name text → ⊥) → Reads IsStart (LowStart h) Semicolon (x ∷ m) (Choice false (x ∷ m))
+  no_choice : (x : Token) (m : List Token) (k : TokenKind) → x.kind ≡ k → is_sign signs.Semicolon x ≡ false → expressions.identifier_of k x m ≡ Err (Unexpected, x ∷ m) → (begins_type k ≡ true → ⊥) → ((text : List ℕ) → k ≡ kinds.Name text → ⊥) → Reads IsStart (LowStart h) Semicolon (x ∷ m) (Choice false (x ∷ m))
   unfolding Choice assignment_step
   no_choice x m k is other fails no_type no_name =
       let f : expressions.identifier (x ∷ m) ≡ Err (Unexpected, x ∷ m) = ap (λ z. expressions.identifier_of z x m) is ∙ fails in
       subst (λ o. Reads IsStart (LowStart h) Semicolon (x ∷ m) ((o >>= λ i. target_index h i.1 >>= λ j. assigned h (record { variable = i.0; index = j.0 }) j.1) >>= λ a. Ok (starts_with_assignment a.0, a.1))) (sym f)
       (no_start_reads h one x m other (λ b. no_type (ap begins_type (sym is) ∙ b)) (λ text b. no_name text (sym is ∙ b)))
 
-  choice_reads : (x : Token) (m : List Token) → is_sign signs.Semicolon x ≡ false → IsEnded (x ∷ m) → (k : Kind) → x.kind ≡ k → Reads IsStart (LowStart h) Semicolon (x ∷ m) (Choice (declares (token x.place k ∷ m)) (x ∷ m))
+  choice_reads : (x : Token) (m : List Token) → is_sign signs.Semicolon x ≡ false → IsEnded (x ∷ m) → (k : TokenKind) → x.kind ≡ k → Reads IsStart (LowStart h) Semicolon (x ∷ m) (Choice (declares (token x.place k ∷ m)) (x ∷ m))
   unfolding Choice
   choice_reads x [] other en (kinds.Name text) k = let f = after_kind x [] (kinds.Name text) en k refl in absurd (false_true f)
   choice_reads x (y ∷ n) other en (kinds.Name text) k = named_start x y n text k en (is_type y) refl

@@ -2,8 +2,8 @@
 use Rattle.std.proofs.Common.{◌≡◌, List, [], ◌∷◌, ◌++◌, ◌⊎◌, inl, inr, refl, sym, ap, ◌∙◌, subst, Ok, Err, Option, Some, None}
 use Rattle.secrec_lexer.specs.declared.token.Token.{Token}
 use Rattle.secrec_lexer.specs.Tokens.{IsEnded}
-use Rattle.expression_parser.specs.declared.problem.Problem.{Problem}
-use Rattle.expression_parser.specs.declared.problem.Problem.TheVariants.{Unexpected, TooHigh}
+use Rattle.expression_parser.specs.declared.problem.ParseProblem.{ParseProblem}
+use Rattle.expression_parser.specs.declared.problem.ParseProblem.TheVariants.{Unexpected, TooHigh}
 use Rattle.expression_parser.specs.Phrases.{Phrase}
 use Rattle.expression_parser.specs.Steps.{Outcome, ◌>>=◌}
 use Rattle.expression_parser.proofs.Reading.{Good, Bad, Reads, Begun, Stops, cons_head, reads_as}
@@ -116,7 +116,7 @@ module _ {C : Type 0} (V : C → Phrase) (Fits : C → Type 0) (F : C → Token 
   before_placed (y ∷ s) t m e (inl f) = inl f
   before_placed (y ∷ s) t m e (inr v) = inr (v.0, v.1, (ap (λ (t : Token). t.place) (sym (cons_head e)), v.2), v.3)
 
-  begun_placed : (p : Problem) (s : List Token) (y : Token) (t m : List Token) → x ∷ m ≡ s ++ y ∷ t → Begun p ((b : C) × (u : List Token) × V b (s ++ y ∷ u)) → Begun p ((b : C) × (u : List Token) × Placed b (s ++ y ∷ u))
+  begun_placed : (p : ParseProblem) (s : List Token) (y : Token) (t m : List Token) → x ∷ m ≡ s ++ y ∷ t → Begun p ((b : C) × (u : List Token) × V b (s ++ y ∷ u)) → Begun p ((b : C) × (u : List Token) × Placed b (s ++ y ∷ u))
   begun_placed Unexpected s y t m e v = tt
   begun_placed TooHigh [] y t m e v = (v.0, v.1, (ap (λ (t : Token). t.place) (sym (cons_head e)), v.2))
   begun_placed TooHigh (z ∷ s) y t m e v = (v.0, v.1, (ap (λ (t : Token). t.place) (sym (cons_head e)), v.2))

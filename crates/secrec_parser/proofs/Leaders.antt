@@ -3,8 +3,8 @@ use Rattle.std.proofs.Common.{◌≡◌, ℕ, zero, suc, ◌≤◌, List, [], �
 use Rattle.sc_text.specs.declared.span.Span.{Span}
 use Rattle.secrec_lexer.specs.declared.sign.Sign.{Sign}
 use Rattle.secrec_lexer.specs.declared.sign.Sign.TheVariants as signs
-use Rattle.secrec_lexer.specs.declared.token.Kind.{Kind}
-use Rattle.secrec_lexer.specs.declared.token.Kind.TheVariants as kinds
+use Rattle.secrec_lexer.specs.declared.token.TokenKind.{TokenKind}
+use Rattle.secrec_lexer.specs.declared.token.TokenKind.TheVariants as kinds
 use Rattle.secrec_lexer.specs.declared.token.Token.{Token}
 use Rattle.secrec_ast.specs.declared.expression.DataType.{DataType}
 use Rattle.secrec_ast.specs.declared.expression.DataType.TheVariants as types
@@ -21,7 +21,7 @@ use Rattle.expression_parser.proofs.Nodes.{tall, begins}
 use Rattle.secrec_parser.specs.declared.leader.Leader.{Leader}
 use Rattle.secrec_parser.specs.declared.leader.Leader.TheVariants as leaders
 use Rattle.secrec_parser.specs.Grammar.{IsDomain, IsType, IsStatement}
-use Rattle.secrec_parser.specs.Steps.{leader_of, least}
+use Rattle.secrec_parser.specs.inner.Steps.{leader_of, least}
 use Rattle.secrec_parser.proofs.Clashes.{none_some, false_true}
 
 -- statements that can be taken for one another by their first token alone
@@ -56,14 +56,14 @@ family_of (declaration d) = 10
 family_of (assignment a) = 10
 family_of (evaluation e) = 10
 
-pub leader_at : (inside : Bool) (x : Token) (k : Kind) → k ≡ x.kind → leader_of inside x ≡ leader_of inside (token x.place k)
+pub leader_at : (inside : Bool) (x : Token) (k : TokenKind) → k ≡ x.kind → leader_of inside x ≡ leader_of inside (token x.place k)
 leader_at inside x k e = ap (λ z. leader_of inside (token x.place z)) (sym e)
 
-family_at : (inside : Bool) (x : Token) (k : Kind) (n : ℕ) → k ≡ x.kind → family (leader_of inside (token x.place k)) ≡ n → family (leader_of inside x) ≡ n
+family_at : (inside : Bool) (x : Token) (k : TokenKind) (n : ℕ) → k ≡ x.kind → family (leader_of inside (token x.place k)) ≡ n → family (leader_of inside x) ≡ n
 family_at inside x k n e f = ap family (leader_at inside x k e) ∙ f
 
 -- what a type begins with
-abbrev pub begins_type : Kind → Bool
+abbrev pub begins_type : TokenKind → Bool
 begins_type (kinds.Name bytes) = true
 begins_type (kinds.Sign signs.Public) = true
 begins_type (kinds.Sign signs.Uint64) = true
@@ -90,7 +90,7 @@ declared_kind t s m m2 x v eq = go t.domain v.1.3
     go domains.Public (inr u) = ap begins_type (sym (head_kind v.1.0 [] (v.1.1 ++ m) m2 u.0 (kinds.Sign signs.Public) x u.1 eq2))
     go (domains.Named y) u = ap begins_type (sym (head_kind v.1.0 [] (v.1.1 ++ m) m2 y.place (kinds.Name y.text) x u eq2))
 
-type_family : (inside : Bool) (k : Kind) (p : Span) → begins_type k ≡ true → family (leader_of inside (token p k)) ≡ 10
+type_family : (inside : Bool) (k : TokenKind) (p : Span) → begins_type k ≡ true → family (leader_of inside (token p k)) ≡ 10
 type_family inside (kinds.Name bytes) p e = refl
 type_family inside (kinds.Sign signs.Public) p e = refl
 type_family inside (kinds.Sign signs.Uint64) p e = refl
@@ -98,7 +98,7 @@ type_family inside (kinds.Sign signs.Uint) p e = refl
 type_family inside (kinds.Sign signs.Bool) p e = refl
 type_family inside k p e = absurd (false_true e)
 
-expression_family : (inside : Bool) (k : Kind) (p : Span) (n : ℕ) → expressions.least k ≡ Some n → family (leader_of inside (token p k)) ≡ 10
+expression_family : (inside : Bool) (k : TokenKind) (p : Span) (n : ℕ) → expressions.least k ≡ Some n → family (leader_of inside (token p k)) ≡ 10
 expression_family inside (kinds.Name bytes) p n e = refl
 expression_family inside (kinds.Number v) p n e = refl
 expression_family inside (kinds.Sign signs.True) p n e = refl
@@ -235,7 +235,7 @@ keyword leaders.Expression = None
 same_sign : (a b : Sign) → Some a ≡ Some b → kinds.Sign a ≡ kinds.Sign b
 same_sign a b e = cc
 
-keyword_kind : (inside : Bool) (k : Kind) (p : Span) (s : Sign) → keyword (leader_of inside (token p k)) ≡ Some s → k ≡ kinds.Sign s
+keyword_kind : (inside : Bool) (k : TokenKind) (p : Span) (s : Sign) → keyword (leader_of inside (token p k)) ≡ Some s → k ≡ kinds.Sign s
 keyword_kind inside (kinds.Sign signs.LeftBrace) p s e = same_sign signs.LeftBrace s e
 keyword_kind inside (kinds.Sign signs.Semicolon) p s e = same_sign signs.Semicolon s e
 keyword_kind inside (kinds.Sign signs.If) p s e = same_sign signs.If s e

@@ -7,7 +7,7 @@ use Rattle.expression_parser.specs.Steps.{Outcome, ◌>>=◌}
 use Rattle.expression_parser.proofs.Reading.{Reads, Stops, reads_as}
 use Rattle.expression_parser.proofs.Tokens.{good_ended}
 use Rattle.secrec_parser.specs.Grammar.{AreAll}
-use Rattle.secrec_parser.specs.Steps.{list_from, listed}
+use Rattle.secrec_parser.specs.inner.Steps.{list_from, listed}
 use Rattle.secrec_parser.proofs.Made.{Made, Both, reads_same, seq}
 use Rattle.secrec_parser.proofs.Heads.{nothing_reads}
 

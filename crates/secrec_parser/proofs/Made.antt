@@ -2,11 +2,11 @@
 use Rattle.std.proofs.Common.{◌≡◌, List, [], ◌∷◌, ◌++◌, ◌⊎◌, inl, inr, refl, sym, ap, ◌∙◌, subst, append-nil, Ok, Err, false}
 use Rattle.sc_text.specs.declared.span.Span.{Span}
 use Rattle.secrec_lexer.specs.declared.sign.Sign.{Sign}
-use Rattle.secrec_lexer.specs.declared.token.Kind.{Kind}
+use Rattle.secrec_lexer.specs.declared.token.TokenKind.{TokenKind}
 use Rattle.secrec_lexer.specs.declared.token.Token.{Token}
 use Rattle.secrec_lexer.specs.Tokens.{is_end, IsEnded}
-use Rattle.expression_parser.specs.declared.problem.Problem.{Problem}
-use Rattle.expression_parser.specs.declared.problem.Problem.TheVariants.{Unexpected, TooHigh}
+use Rattle.expression_parser.specs.declared.problem.ParseProblem.{ParseProblem}
+use Rattle.expression_parser.specs.declared.problem.ParseProblem.TheVariants.{Unexpected, TooHigh}
 use Rattle.expression_parser.specs.Phrases.{Phrase, one_at, sign_at, sign, ◌then◌}
 use Rattle.expression_parser.specs.Steps.{Outcome, ◌>>=◌, expect}
 use Rattle.expression_parser.proofs.Reading.{Good, Reads, Allowed, Begun, Stops, Then, second, bad_one}
@@ -30,7 +30,7 @@ module _ {C : Type 0} (V W : C → Phrase) (Fits : C → Type 0) (F G : C → To
     before_same s (inl e) = inl e
     before_same s (inr v) = inr (v.0, v.1, up v.0 (s ++ v.1) v.2, v.3)
 
-    begun_same : (p : Problem) (s : List Token) (y : Token) → Begun p ((b : C) × (t : List Token) × V b (s ++ y ∷ t)) → Begun p ((b : C) × (t : List Token) × W b (s ++ y ∷ t))
+    begun_same : (p : ParseProblem) (s : List Token) (y : Token) → Begun p ((b : C) × (t : List Token) × V b (s ++ y ∷ t)) → Begun p ((b : C) × (t : List Token) × W b (s ++ y ∷ t))
     begun_same Unexpected s y v = tt
     begun_same TooHigh s y v = (v.0, v.1, up v.0 (s ++ y ∷ v.1) v.2)
 
@@ -115,11 +115,11 @@ module _ {A C : Type 0} (W : A → Phrase) (Fits1 : A → Type 0) (F1 : A → To
     before_made s (inl e) = inl e
     before_made s (inr v) = inr (f v.0, v.1, (v.0, refl, v.2), high v.0 v.3)
 
-    begun_made : (p : Problem) (s : List Token) (y : Token) → Begun p ((a : A) × (t : List Token) × W a (s ++ y ∷ t)) → Begun p ((c : C) × (t : List Token) × Made f W c (s ++ y ∷ t))
+    begun_made : (p : ParseProblem) (s : List Token) (y : Token) → Begun p ((a : A) × (t : List Token) × W a (s ++ y ∷ t)) → Begun p ((c : C) × (t : List Token) × Made f W c (s ++ y ∷ t))
     begun_made Unexpected s y v = tt
     begun_made TooHigh s y v = (f v.0, v.1, (v.0, refl, v.2))
 
-    allowed_made : (p : Problem) (a : A) (c : C) → c ≡ f a → Allowed p (Fits2 c) → Allowed p (Fits1 a)
+    allowed_made : (p : ParseProblem) (a : A) (c : C) → c ≡ f a → Allowed p (Fits2 c) → Allowed p (Fits1 a)
     allowed_made Unexpected a c e h = tt
     allowed_made TooHigh a c e h = low a (subst Fits2 e h)
 
@@ -156,7 +156,7 @@ living : {B C : Type 0} (f : B → C) (W : B → Phrase) (Fits : C → Type 0) �
 living f W Fits u = (f u.0, u.1, (u.0, refl, u.2), u.3)
 
 -- a token that is known, and then more that may depend on its place
-module _ {B C : Type 0} (kind : Kind) (W : Span → B → Phrase) (f : Span → B → C) (Fits : C → Type 0) (F : C → Token → Type 0)
+module _ {B C : Type 0} (kind : TokenKind) (W : Span → B → Phrase) (f : Span → B → C) (Fits : C → Type 0) (F : C → Token → Type 0)
     (goes_on : is_end kind ≡ false)
     (alive : (p : Span) → Living (f p) (W p) Fits)
   where

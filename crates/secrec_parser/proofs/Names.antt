@@ -3,8 +3,8 @@ use Rattle.std.proofs.Common.{◌≡◌, ℕ, List, [], ◌∷◌, ◌++◌, ◌
 use Rattle.sc_text.specs.declared.span.Span.{Span}
 use Rattle.secrec_lexer.specs.declared.sign.Sign.{Sign}
 use Rattle.secrec_lexer.specs.declared.sign.Sign.TheVariants as signs
-use Rattle.secrec_lexer.specs.declared.token.Kind.{Kind}
-use Rattle.secrec_lexer.specs.declared.token.Kind.TheVariants as kinds
+use Rattle.secrec_lexer.specs.declared.token.TokenKind.{TokenKind}
+use Rattle.secrec_lexer.specs.declared.token.TokenKind.TheVariants as kinds
 use Rattle.secrec_lexer.specs.declared.token.Token.{Token}
 use Rattle.secrec_ast.specs.declared.expression.DataType.{DataType}
 use Rattle.secrec_ast.specs.declared.expression.DataType.TheVariants as types
@@ -15,7 +15,7 @@ use Rattle.secrec_ast.specs.declared.statement.Domain.TheVariants as domains
 use Rattle.secrec_ast.specs.declared.statement.DeclaredType.{DeclaredType}
 use Rattle.secrec_ast.specs.Tree.{Tree, number, truth, variable, call, index, parentheses, negation, cast, binary, declassify, argument, publish}
 use Rattle.secrec_ast.specs.Statements.{DeclarationTree, AssignmentTree}
-use Rattle.expression_parser.specs.declared.problem.Problem.{Problem}
+use Rattle.expression_parser.specs.declared.problem.ParseProblem.{ParseProblem}
 use Rattle.expression_parser.specs.Phrases.{Phrase, token, sign, ◌then◌}
 use Rattle.expression_parser.specs.Grammar.{IsDataType, IsExpression, level, sign_of, loosest, unary}
 use Rattle.expression_parser.specs.Follow.{goes_on}
@@ -23,7 +23,7 @@ use Rattle.expression_parser.proofs.Reading.{Bad, Stops, Allowed, Begun, cons_he
 use Rattle.expression_parser.proofs.Tokens.{head_kind}
 use Rattle.secrec_parser.specs.declared.assignment.Update.{Update}
 use Rattle.secrec_parser.specs.Grammar.{bracketed, optional, IsDomain, IsDimension, IsType, IsDeclaration, IsAssignment}
-use Rattle.secrec_parser.specs.Steps.{is_type, update_of, follows_name, ActionTree, assigns, evaluates}
+use Rattle.secrec_parser.specs.inner.Steps.{is_type, update_of, follows_name, ActionTree, assigns, evaluates}
 use Rattle.secrec_parser.proofs.Clashes.{none_some, false_true}
 use Rattle.secrec_parser.proofs.Declarations.{clash, sign_head}
 use Rattle.secrec_parser.proofs.Assignments.{by_down, IsAction}
@@ -33,7 +33,7 @@ use Rattle.secrec_parser.proofs.Leaders.{front}
 behind_one : {P Q : Phrase} (z : Token) (s m m2 : List Token) (x y : Token) (v : (P then Q) s) → v.0 ≡ z ∷ [] → s ++ m ≡ x ∷ y ∷ m2 → v.1 ++ m ≡ y ∷ m2
 behind_one z s m m2 x y v e eq = cons_tail (sym (ap (λ l. l ++ (v.1 ++ m)) e) ∙ front s m (y ∷ m2) x v eq)
 
-no_name : (s : Sign) (k : Kind) (text : List ℕ) → kinds.Sign s ≡ k → k ≡ kinds.Name text → ⊥
+no_name : (s : Sign) (k : TokenKind) (text : List ℕ) → kinds.Sign s ≡ k → k ≡ kinds.Name text → ⊥
 no_name s k text e f = let g = e ∙ f in cc
 
 operator_goes_on : (op : Operator) → goes_on loosest (kinds.Sign (sign_of op)) ≡ true
@@ -93,7 +93,7 @@ name_second k (publish p z e) s m m2 x y text v eq is = absurd (no_name signs.Pu
 
 -- Types behind a name
 
-is_type_at : (x : Token) (k : Kind) → k ≡ x.kind → is_type x ≡ is_type (token x.place k)
+is_type_at : (x : Token) (k : TokenKind) → k ≡ x.kind → is_type x ≡ is_type (token x.place k)
 is_type_at x k e = ap (λ z. is_type (token x.place z)) (sym e)
 
 pub data_type_head : (e : DataType) (s m m2 : List Token) (x : Token) → IsDataType e s → s ++ m ≡ x ∷ m2 → is_type x ≡ true
@@ -126,7 +126,7 @@ declaration_second d s m m2 x y text v eq is = type_second d.declared v.0 (v.1 +
 
 -- What goes on behind a name is told by `follows_name`
 
-type_stops : (k : Kind) (p : Span) → is_type (token p k) ≡ true → follows_name (token p k) ≡ false
+type_stops : (k : TokenKind) (p : Span) → is_type (token p k) ≡ true → follows_name (token p k) ≡ false
 type_stops (kinds.Sign signs.Uint64) p e = refl
 type_stops (kinds.Sign signs.Uint) p e = refl
 type_stops (kinds.Sign signs.Bool) p e = refl
@@ -135,7 +135,7 @@ type_stops k p e = absurd (false_true e)
 pub type_follows_not : (y : Token) → is_type y ≡ true → follows_name y ≡ true → ⊥
 type_follows_not y e f = clash (follows_name y) f (type_stops y.kind y.place e)
 
-follows : (k : Kind) (p : Span) → goes_on loosest k ≡ true → follows_name (token p k) ≡ true
+follows : (k : TokenKind) (p : Span) → goes_on loosest k ≡ true → follows_name (token p k) ≡ true
 follows (kinds.Sign signs.LeftParenthesis) p e = refl
 follows (kinds.Sign signs.LeftBracket) p e = refl
 follows (kinds.Sign signs.Plus) p e = refl
@@ -156,7 +156,7 @@ follows (kinds.Sign signs.DoubleAmpersand) p e = refl
 follows (kinds.Sign signs.DoubleBar) p e = refl
 follows k p e = absurd (false_true e)
 
-update_follows : (k : Kind) (p : Span) (u : Update) → update_of (token p k) ≡ Some u → follows_name (token p k) ≡ true
+update_follows : (k : TokenKind) (p : Span) (u : Update) → update_of (token p k) ≡ Some u → follows_name (token p k) ≡ true
 update_follows (kinds.Sign signs.Assign) p u e = refl
 update_follows (kinds.Sign signs.PlusAssign) p u e = refl
 update_follows (kinds.Sign signs.MinusAssign) p u e = refl
@@ -206,7 +206,7 @@ action_follows c s m m2 x y text v eq is = go (action_second c v.0 (v.1 ++ m) m2
         ap (λ z. follows_name (token y.place z)) (sym (head_kind v.1 [] m m2 v.4.0 (kinds.Sign signs.Semicolon) y v.4.1 b))
 
 -- where the second token is at fault
-pub second_fault : {C : Type 0} (W : C → Phrase) (Fits : C → Type 0) (F : C → Token → Type 0) (x y : Token) (m : List Token) (p : Problem) → ((b : C) × (t : List Token) × W b (x ∷ t) × Fits b) → ((b : C) (s m' m2 : List Token) → W b s → Allowed p (Fits b) → Stops (F b) m' → s ++ m' ≡ x ∷ y ∷ m2 → ⊥) → Begun p ((b : C) × (t : List Token) × W b (x ∷ y ∷ t)) → Bad W Fits F (x ∷ y ∷ m) p (y ∷ m)
+pub second_fault : {C : Type 0} (W : C → Phrase) (Fits : C → Type 0) (F : C → Token → Type 0) (x y : Token) (m : List Token) (p : ParseProblem) → ((b : C) × (t : List Token) × W b (x ∷ t) × Fits b) → ((b : C) (s m' m2 : List Token) → W b s → Allowed p (Fits b) → Stops (F b) m' → s ++ m' ≡ x ∷ y ∷ m2 → ⊥) → Begun p ((b : C) × (t : List Token) × W b (x ∷ y ∷ t)) → Bad W Fits F (x ∷ y ∷ m) p (y ∷ m)
 second_fault W Fits F x y m p before never begun = record {
   s = x ∷ [];
   x = y;

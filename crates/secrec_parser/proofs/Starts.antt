@@ -3,8 +3,8 @@ use Rattle.std.proofs.Common.{◌≡◌, ℕ, List, [], ◌∷◌, ◌++◌, inl
 use Rattle.sc_text.specs.declared.span.Span.{Span}
 use Rattle.secrec_lexer.specs.declared.sign.Sign.{Sign}
 use Rattle.secrec_lexer.specs.declared.sign.Sign.TheVariants as signs
-use Rattle.secrec_lexer.specs.declared.token.Kind.{Kind}
-use Rattle.secrec_lexer.specs.declared.token.Kind.TheVariants as kinds
+use Rattle.secrec_lexer.specs.declared.token.TokenKind.{TokenKind}
+use Rattle.secrec_lexer.specs.declared.token.TokenKind.TheVariants as kinds
 use Rattle.secrec_lexer.specs.declared.token.Token.{Token}
 use Rattle.secrec_ast.specs.declared.expression.DataType.TheVariants as types
 use Rattle.secrec_ast.specs.declared.statement.Domain.TheVariants as domains
@@ -20,7 +20,7 @@ use Rattle.expression_parser.proofs.Nodes.{leaf, leaf_token, first_token}
 use Rattle.secrec_parser.specs.declared.leader.Leader.{Leader}
 use Rattle.secrec_parser.specs.declared.leader.Leader.TheVariants as leaders
 use Rattle.secrec_parser.specs.Grammar.{parenthesised, heading, IsStatement}
-use Rattle.secrec_parser.specs.Steps.{leader_of}
+use Rattle.secrec_parser.specs.inner.Steps.{leader_of}
 use Rattle.secrec_parser.proofs.Clashes.{none_some, false_true, no_break, no_continue}
 use Rattle.secrec_parser.proofs.TypeReadings.{lone}
 use Rattle.secrec_parser.proofs.Declarations.{some_name, name_token}
@@ -29,7 +29,7 @@ use Rattle.secrec_parser.proofs.Headings.{uint_token, no_declaration, assignment
 
 -- What begins a statement
 
-abbrev pub starter : Kind → Bool
+abbrev pub starter : TokenKind → Bool
 starter (kinds.Name bytes) = true
 starter (kinds.Number n) = true
 starter (kinds.Sign signs.LeftBrace) = true
@@ -55,7 +55,7 @@ starter (kinds.Sign signs.Declassify) = true
 starter (kinds.Sign signs.Publish) = true
 starter other = false
 
-type_starter : (k : Kind) → begins_type k ≡ true → starter k ≡ true
+type_starter : (k : TokenKind) → begins_type k ≡ true → starter k ≡ true
 type_starter (kinds.Name bytes) e = refl
 type_starter (kinds.Sign signs.Public) e = refl
 type_starter (kinds.Sign signs.Uint64) e = refl
@@ -63,7 +63,7 @@ type_starter (kinds.Sign signs.Uint) e = refl
 type_starter (kinds.Sign signs.Bool) e = refl
 type_starter k e = absurd (false_true e)
 
-expression_starter : (k : Kind) (n : ℕ) → expressions.least k ≡ Some n → starter k ≡ true
+expression_starter : (k : TokenKind) (n : ℕ) → expressions.least k ≡ Some n → starter k ≡ true
 expression_starter (kinds.Name bytes) n e = refl
 expression_starter (kinds.Number v) n e = refl
 expression_starter (kinds.Sign signs.True) n e = refl
@@ -108,7 +108,7 @@ is_expression : Leader → Bool
 is_expression leaders.Expression = true
 is_expression other = false
 
-pub declared_leader : (inside : Bool) (k : Kind) (p : Span) → begins_type k ≡ true → leader_of inside (token p k) ≡ leaders.Expression → ⊥
+pub declared_leader : (inside : Bool) (k : TokenKind) (p : Span) → begins_type k ≡ true → leader_of inside (token p k) ≡ leaders.Expression → ⊥
 unfolding is_expression
 declared_leader inside (kinds.Name bytes) p e f = false_true (ap is_expression f)
 declared_leader inside (kinds.Sign signs.Public) p e f = false_true (ap is_expression f)
@@ -117,7 +117,7 @@ declared_leader inside (kinds.Sign signs.Uint) p e f = false_true (ap is_express
 declared_leader inside (kinds.Sign signs.Bool) p e f = false_true (ap is_expression f)
 declared_leader inside k p e f = false_true e
 
-pub expression_leader : (inside : Bool) (k : Kind) (p : Span) (n : ℕ) → expressions.least k ≡ Some n → leader_of inside (token p k) ≡ leaders.Declaration → ⊥
+pub expression_leader : (inside : Bool) (k : TokenKind) (p : Span) (n : ℕ) → expressions.least k ≡ Some n → leader_of inside (token p k) ≡ leaders.Declaration → ⊥
 unfolding is_declaration
 expression_leader inside (kinds.Name bytes) p n e f = false_true (ap is_declaration f)
 expression_leader inside (kinds.Number v) p n e f = false_true (ap is_declaration f)
@@ -134,7 +134,7 @@ is_name : Leader → Bool
 is_name leaders.Name = true
 is_name other = false
 
-pub name_kind : (inside : Bool) (k : Kind) (p : Span) → leader_of inside (token p k) ≡ leaders.Name → (text : List ℕ) × (k ≡ kinds.Name text)
+pub name_kind : (inside : Bool) (k : TokenKind) (p : Span) → leader_of inside (token p k) ≡ leaders.Name → (text : List ℕ) × (k ≡ kinds.Name text)
 unfolding is_name
 name_kind inside (kinds.Name text) p e = (text, refl)
 name_kind inside (kinds.Sign signs.LeftBrace) p e = absurd (false_true (ap is_name e))
@@ -153,7 +153,7 @@ pub typed : (inside : Bool) (x : Token) → leader_of inside x ≡ leaders.Decla
 unfolding is_declaration
 typed inside x e = go inside x.kind refl e
   where
-    go : (inside : Bool) (k : Kind) → x.kind ≡ k → leader_of inside (token x.place k) ≡ leaders.Declaration → Typed x
+    go : (inside : Bool) (k : TokenKind) → x.kind ≡ k → leader_of inside (token x.place k) ≡ leaders.Declaration → Typed x
     go inside (kinds.Sign signs.Public) k e = open_type k
     go inside (kinds.Sign signs.Uint64) k e = uint64_type k
     go inside (kinds.Sign signs.Uint) k e = uint_type k

@@ -5,8 +5,8 @@ use Rattle.std.proofs.lemmas.Bool.{eqb-true, eqb-false}
 use Rattle.sc_text.specs.declared.span.Span.{Span}
 use Rattle.secrec_lexer.specs.declared.sign.Sign.{Sign}
 use Rattle.secrec_lexer.specs.declared.sign.Sign.TheVariants as signs
-use Rattle.secrec_lexer.specs.declared.token.Kind.{Kind}
-use Rattle.secrec_lexer.specs.declared.token.Kind.TheVariants as kinds
+use Rattle.secrec_lexer.specs.declared.token.TokenKind.{TokenKind}
+use Rattle.secrec_lexer.specs.declared.token.TokenKind.TheVariants as kinds
 use Rattle.secrec_lexer.specs.declared.token.Token.{Token}
 use Rattle.secrec_lexer.specs.Tokens.{is_sign, IsEnded}
 use Rattle.secrec_ast.specs.declared.expression.DataType.{DataType}
@@ -15,7 +15,7 @@ use Rattle.secrec_ast.specs.declared.statement.Identifier.{Identifier}
 use Rattle.secrec_ast.specs.declared.statement.Domain.{Domain}
 use Rattle.secrec_ast.specs.declared.statement.Domain.TheVariants as domains
 use Rattle.secrec_ast.specs.declared.statement.DeclaredType.{DeclaredType}
-use Rattle.expression_parser.specs.declared.problem.Problem.TheVariants.{Unexpected}
+use Rattle.expression_parser.specs.declared.problem.ParseProblem.TheVariants.{Unexpected}
 use Rattle.expression_parser.specs.Phrases.{Phrase, token, one, sign, ◌then◌}
 use Rattle.expression_parser.specs.Grammar.{IsDataType}
 use Rattle.expression_parser.specs.Steps.{Outcome, ◌>>=◌, expect, data_type}
@@ -24,17 +24,17 @@ use Rattle.expression_parser.proofs.Reading.{Good, Bad, Reads, Stops, cons_head,
 use Rattle.expression_parser.proofs.Tokens.{Any, All, origin, any_stops, good_ended, after_kind, head_kind, is_sign-true, is_sign-false}
 use Rattle.expression_parser.proofs.Unaries.{data_type_reads}
 use Rattle.secrec_parser.specs.Grammar.{identifier, BeginsAt, IsDomain, IsDimension, IsType}
-use Rattle.secrec_parser.specs.Steps.{domain_of, zero_or_one, zero_or_one_of, brackets, dimension, declared_type}
+use Rattle.secrec_parser.specs.inner.Steps.{domain_of, zero_or_one, zero_or_one_of, brackets, dimension, declared_type}
 use Rattle.secrec_parser.proofs.Made.{Made, Both, seq, made, sign_seq, sign_end}
 use Rattle.secrec_parser.proofs.Heads.{nothing_reads, one_reads, unexpected, reads_placed}
 
 -- one token is the next
-pub one_is : (k : Kind) (s m m2 : List Token) (x : Token) → one k s → s ++ m ≡ x ∷ m2 → (x.kind ≡ k) × (s ≡ x ∷ [])
+pub one_is : (k : TokenKind) (s m m2 : List Token) (x : Token) → one k s → s ++ m ≡ x ∷ m2 → (x.kind ≡ k) × (s ≡ x ∷ [])
 one_is k s m m2 x v eq =
     let hd : token v.0 k ≡ x = cons_head (sym (ap (λ l. l ++ m) v.1) ∙ eq) in
     (sym (ap (λ (t : Token). t.kind) hd), v.1 ∙ ap (λ t. t ∷ []) hd)
 
-pub is_one : (k : Kind) (x : Token) → x.kind ≡ k → one k (x ∷ [])
+pub is_one : (k : TokenKind) (x : Token) → x.kind ≡ k → one k (x ∷ [])
 is_one k x e = (x.place, ap (λ z. token x.place z ∷ []) e)
 
 -- a name is the next token
@@ -55,7 +55,7 @@ abbrev pub sign_begins_domain : Sign → Bool
 sign_begins_domain signs.Public = true
 sign_begins_domain other = false
 
-abbrev pub begins_domain : Kind → Bool
+abbrev pub begins_domain : TokenKind → Bool
 begins_domain (kinds.Name bytes) = true
 begins_domain (kinds.Number n) = false
 begins_domain (kinds.Text bytes) = false
@@ -105,7 +105,7 @@ unnamed_reads x m en other = go (is_sign signs.Public x) refl
 domain_reads : (x : Token) (m : List Token) → IsEnded (x ∷ m) → Reads IsDomain All NoDomain (x ∷ m) (domain_of x.kind x m)
 domain_reads x m en = go x.kind refl
   where
-    go : (k : Kind) → x.kind ≡ k → Reads IsDomain All NoDomain (x ∷ m) (domain_of k x m)
+    go : (k : TokenKind) → x.kind ≡ k → Reads IsDomain All NoDomain (x ∷ m) (domain_of k x m)
     go (kinds.Name text) e = named_reads x m text en e
     go (kinds.Number n) e = unnamed_reads x m en (λ text f. let g : kinds.Number n ≡ kinds.Name text = sym e ∙ f in cc)
     go (kinds.Text bytes) e = unnamed_reads x m en (λ text f. let g : kinds.Text bytes ≡ kinds.Name text = sym e ∙ f in cc)
@@ -131,7 +131,7 @@ bit_reads : (w : List Token) → IsEnded w → Reads Bit All Any w (zero_or_one 
 bit_reads [] en = cc
 bit_reads (x ∷ m) en = go x.kind refl
   where
-    none : (k : Kind) → x.kind ≡ k → ((n : ℕ) → k ≡ kinds.Number n → ⊥) → Bad Bit All Any (x ∷ m) Unexpected (x ∷ m)
+    none : (k : TokenKind) → x.kind ≡ k → ((n : ℕ) → k ≡ kinds.Number n → ⊥) → Bad Bit All Any (x ∷ m) Unexpected (x ∷ m)
     none k e other = unexpected Bit All Any x m (λ b s m' m2 v st eq. other (bit b) (sym e ∙ (one_is (kinds.Number (bit b)) s m' m2 x v eq).0))
 
     found : (n : ℕ) (b : Bool) → x.kind ≡ kinds.Number n → n ≡ bit b → ((c : Bool) → bit c ≡ bit b → c ≡ b) → Good Bit All Any (x ∷ m) b m
@@ -156,7 +156,7 @@ bit_reads (x ∷ m) en = go x.kind refl
         go2 false s m' m2 v st eq = eqb-false n 0 t (sym (bit_is n false s m' m2 x e v eq).0)
         go2 true s m' m2 v st eq = eqb-false n 1 u (sym (bit_is n true s m' m2 x e v eq).0)
 
-    go : (k : Kind) → x.kind ≡ k → Reads Bit All Any (x ∷ m) (zero_or_one_of k x m)
+    go : (k : TokenKind) → x.kind ≡ k → Reads Bit All Any (x ∷ m) (zero_or_one_of k x m)
     go (kinds.Number n) e = at n e (nat_eq n 0) (nat_eq n 1) refl refl
     go (kinds.Name text) e = none (kinds.Name text) e (λ n (f : kinds.Name text ≡ kinds.Number n). cc)
     go (kinds.Text bytes) e = none (kinds.Text bytes) e (λ n (f : kinds.Text bytes ≡ kinds.Number n). cc)
@@ -310,10 +310,10 @@ pub identifier_reads : (w : List Token) → IsEnded w → Reads identifier All A
 identifier_reads [] en = cc
 identifier_reads (x ∷ m) en = go x.kind refl
   where
-    none : (k : Kind) → x.kind ≡ k → ((text : List ℕ) → k ≡ kinds.Name text → ⊥) → Bad identifier All Any (x ∷ m) Unexpected (x ∷ m)
+    none : (k : TokenKind) → x.kind ≡ k → ((text : List ℕ) → k ≡ kinds.Name text → ⊥) → Bad identifier All Any (x ∷ m) Unexpected (x ∷ m)
     none k e other = unexpected identifier All Any x m (λ y s m' m2 v st eq. other y.text (sym e ∙ (identifier_is y s m' m2 x v eq).0))
 
-    go : (k : Kind) → x.kind ≡ k → Reads identifier All Any (x ∷ m) (expressions.identifier_of k x m)
+    go : (k : TokenKind) → x.kind ≡ k → Reads identifier All Any (x ∷ m) (expressions.identifier_of k x m)
     go (kinds.Name text) e =
         one_reads identifier All Any x m (record { place = x.place; text = text }) (after_kind x m (kinds.Name text) en e refl) (ap (λ k. token x.place k ∷ []) e) tt
         (λ y s m' m2 v st eq. let f = identifier_is y s m' m2 x v eq in (same_name y x text f.0 f.1 e, f.2))

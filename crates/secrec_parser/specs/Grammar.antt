@@ -3,7 +3,7 @@
 use Rattle.std.specs.Prelude.{◌≡◌, ℕ, ◌<◌, Bool, true, false, ◌⊎◌, List, [], ◌∷◌, length, Option, Some, None}
 use Rattle.sc_text.specs.declared.span.Span.{Span}
 use Rattle.secrec_lexer.specs.declared.sign.Sign.TheVariants.{LeftParenthesis, RightParenthesis, LeftBracket, RightBracket, LeftBrace, RightBrace, Less, Greater, Comma, Semicolon, Colon, Assign, PlusAssign, MinusAssign, StarAssign, AmpersandAssign, BarAssign, CaretAssign, Increment, Decrement, Import, Kind as KindWord, Domain as DomainWord, Template, Public, Void, If, Else, While, Do, For, Break, Continue, Return, Assert}
-use Rattle.secrec_lexer.specs.declared.token.Kind.TheVariants.{Name, Number, End}
+use Rattle.secrec_lexer.specs.declared.token.TokenKind.TheVariants.{Name, Number, End}
 use Rattle.secrec_ast.specs.declared.expression.Operator.{Operator}
 use Rattle.secrec_ast.specs.declared.expression.Operator.TheVariants.{Add, Subtract, Multiply, And, Or, Xor}
 use Rattle.secrec_ast.specs.declared.statement.Identifier.{Identifier}

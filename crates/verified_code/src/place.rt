@@ -3,7 +3,7 @@ ghost use Rattle.std.specs.Prelude.{◌≡◌, ◌==◌, ◌<◌, ◌&&◌, ◌|
 ghost use Rattle.std.specs.List.{list_all};
 ghost use Rattle.bytecode.specs.InMemory.{raw_code, raw_function, raw_instruction, result_register};
 ghost use Rattle.verified_code.specs.Fitting.{arguments_fit, call_fits, gives_fits, goes_on, is_there, kind_at, names_there, operands_fit, target_fits};
-ghost use Rattle.verified_code.specs.Places.{here_in};
+ghost use Rattle.verified_code.specs.inner.Places.{here_in};
 
 use crate::kinds::{
     are_alike, bits_fit, cast_fits, cat_fits, classify_fits, declassify_fits, element_fits,

@@ -27,7 +27,7 @@ use Rattle.name_resolution.specs.Functions.{variable_number, domain_named, slot_
 use Rattle.name_resolution.proofs.SoundValues.{mapped, both_there, some_is}
 use Rattle.reached_instances.specs.declared.instance.BoundDomain.{BoundDomain}
 use Rattle.reached_instances.specs.declared.instance.BoundDomain.TheVariants.{Public, Private}
-use Rattle.reached_instances.specs.Domains.{joined, is_variable, bound_to, bound_below}
+use Rattle.reached_instances.specs.Domains.{joined_domain, is_variable, bound_to, bound_below}
 use Rattle.program_typing.proofs.ReachedFunctions.{text_is, text_same}
 use Rattle.well_typed.specs.Kinds.{GoesTo, Meet}
 use Rattle.well_typed.specs.Laws.{bound_domain}
@@ -39,12 +39,12 @@ meets_meet checked.Public d r h = tt
 meets_meet (checked.Private k) checked.Public r h = tt
 meets_meet (checked.Private k) (checked.Private m) r h = h.0
 
-pub meets_joined : (a b r : Protection) → Meets a b r → joined (bound_domain a) (bound_domain b) ≡ bound_domain r
+pub meets_joined : (a b r : Protection) → Meets a b r → joined_domain (bound_domain a) (bound_domain b) ≡ bound_domain r
 meets_joined checked.Public d r h = ap bound_domain (sym h)
 meets_joined (checked.Private k) checked.Public r h = ap bound_domain (sym h)
 meets_joined (checked.Private k) (checked.Private m) r h = ap bound_domain (sym h.1)
 
-meet_joined : (a b r : Protection) → meet a b ≡ Some r → joined (bound_domain a) (bound_domain b) ≡ bound_domain r
+meet_joined : (a b r : Protection) → meet a b ≡ Some r → joined_domain (bound_domain a) (bound_domain b) ≡ bound_domain r
 meet_joined checked.Public d r e = ap bound_domain (same_Some d r e)
 meet_joined (checked.Private k) checked.Public r e = ap bound_domain (same_Some (checked.Private k) r e)
 meet_joined (checked.Private k) (checked.Private m) r e = go (nat_eq k m) e
@@ -58,11 +58,11 @@ goes checked.Public wanted h = tt
 goes (checked.Private k) checked.Public h = absurd h
 goes (checked.Private k) (checked.Private m) h = h
 
-joined_with_three : (a b c : BoundDomain) → joined (joined a b) c ≡ joined a (joined b c)
+joined_with_three : (a b c : BoundDomain) → joined_domain (joined_domain a b) c ≡ joined_domain a (joined_domain b c)
 joined_with_three Public b c = refl
 joined_with_three (Private k) b c = refl
 
-joined_public : (a : BoundDomain) → joined a Public ≡ a
+joined_public : (a : BoundDomain) → joined_domain a Public ≡ a
 joined_public Public = refl
 joined_public (Private k) = refl
 
@@ -152,9 +152,9 @@ bound_to_none i (s ∷ ss) = refl
 
 -- one domain variable; e is what the arguments so far have made
 module _ (k : Declared) (vs : List DomainVariable) (own : HaveOwnNumbers vs) (i : ℕ) (v : DomainVariable) (at : slice_get vs i ≡ Some v) (more : List Slot) where
-  bound_same : (ps : List Parameter) (gs : List Argument) (ss : List Slot) (e r : Protection) → slots_written k vs (map declared_type ps) ≡ Some ss → length ps ≡ length gs → bound_from e v.variable.text ps gs ≡ Some r → joined (bound_domain e) (bound_to i (ss ++ more) (map argument_domain gs)) ≡ bound_domain r
+  bound_same : (ps : List Parameter) (gs : List Argument) (ss : List Slot) (e r : Protection) → slots_written k vs (map declared_type ps) ≡ Some ss → length ps ≡ length gs → bound_from e v.variable.text ps gs ≡ Some r → joined_domain (bound_domain e) (bound_to i (ss ++ more) (map argument_domain gs)) ≡ bound_domain r
   bound_same [] [] ss e r w n h =
-      ap (joined (bound_domain e)) (bound_to_none i (ss ++ more)) ∙ joined_public (bound_domain e) ∙ ap bound_domain (some_is e r h)
+      ap (joined_domain (bound_domain e)) (bound_to_none i (ss ++ more)) ∙ joined_public (bound_domain e) ∙ ap bound_domain (some_is e r h)
   bound_same [] (g ∷ gs) ss e r w n h = absurd (omega arith)
   bound_same (p ∷ ps) [] ss e r w n h = absurd (omega arith)
   bound_same (p ∷ ps) (g ∷ gs) ss e r w n h =
@@ -163,19 +163,19 @@ module _ (k : Declared) (vs : List DomainVariable) (own : HaveOwnNumbers vs) (i 
       let name_is : is_variable i f.0.domain ≡ is_named v.variable.text p.declared.domain =
       ap (λ (z : Slot). is_variable i z.domain) (sym m.is) ∙ same_variable k vs own i v at p.declared.domain m.part m.there in
       let shorter : length ps ≡ length gs = omega arith in
-      ap (λ (z : List Slot). joined (bound_domain e) (bound_to i (z ++ more) (map argument_domain (g ∷ gs)))) (sym f.4)
-      ∙ ap (λ b. joined (bound_domain e) (cond b (joined (argument_domain g) (bound_to i (f.1 ++ more) (map argument_domain gs))) (bound_to i (f.1 ++ more) (map argument_domain gs)))) name_is
+      ap (λ (z : List Slot). joined_domain (bound_domain e) (bound_to i (z ++ more) (map argument_domain (g ∷ gs)))) (sym f.4)
+      ∙ ap (λ b. joined_domain (bound_domain e) (cond b (joined_domain (argument_domain g) (bound_to i (f.1 ++ more) (map argument_domain gs))) (bound_to i (f.1 ++ more) (map argument_domain gs)))) name_is
       ∙ go (is_named v.variable.text p.declared.domain) f.1 h (λ e'. bound_same ps gs f.1 e' r f.3 shorter)
     where
-      go : (b : Bool) (rest : List Slot) → cond b (option_and_then (λ e'. bound_from e' v.variable.text ps gs) (meet e g.given.domain)) (bound_from e v.variable.text ps gs) ≡ Some r → ((e' : Protection) → bound_from e' v.variable.text ps gs ≡ Some r → joined (bound_domain e') (bound_to i (rest ++ more) (map argument_domain gs)) ≡ bound_domain r) → joined (bound_domain e) (cond b (joined (argument_domain g) (bound_to i (rest ++ more) (map argument_domain gs))) (bound_to i (rest ++ more) (map argument_domain gs))) ≡ bound_domain r
+      go : (b : Bool) (rest : List Slot) → cond b (option_and_then (λ e'. bound_from e' v.variable.text ps gs) (meet e g.given.domain)) (bound_from e v.variable.text ps gs) ≡ Some r → ((e' : Protection) → bound_from e' v.variable.text ps gs ≡ Some r → joined_domain (bound_domain e') (bound_to i (rest ++ more) (map argument_domain gs)) ≡ bound_domain r) → joined_domain (bound_domain e) (cond b (joined_domain (argument_domain g) (bound_to i (rest ++ more) (map argument_domain gs))) (bound_to i (rest ++ more) (map argument_domain gs))) ≡ bound_domain r
       go false rest q ih = ih e q
       go true rest q ih = met (meet e g.given.domain) refl q
         where
-          met : (o : Option Protection) → meet e g.given.domain ≡ o → option_and_then (λ e'. bound_from e' v.variable.text ps gs) o ≡ Some r → joined (bound_domain e) (joined (argument_domain g) (bound_to i (rest ++ more) (map argument_domain gs))) ≡ bound_domain r
+          met : (o : Option Protection) → meet e g.given.domain ≡ o → option_and_then (λ e'. bound_from e' v.variable.text ps gs) o ≡ Some r → joined_domain (bound_domain e) (joined_domain (argument_domain g) (bound_to i (rest ++ more) (map argument_domain gs))) ≡ bound_domain r
           met None a b = cc
           met (Some e') a b =
               sym (joined_with_three (bound_domain e) (argument_domain g) (bound_to i (rest ++ more) (map argument_domain gs)))
-              ∙ ap (λ z. joined z (bound_to i (rest ++ more) (map argument_domain gs))) (meet_joined e g.given.domain e' a)
+              ∙ ap (λ z. joined_domain z (bound_to i (rest ++ more) (map argument_domain gs))) (meet_joined e g.given.domain e' a)
               ∙ ih e' b
 
 -- all of them

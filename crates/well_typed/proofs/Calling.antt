@@ -27,8 +27,8 @@ use Rattle.domain_types.proofs.TypingSteps.{there, passes}
 use Rattle.domain_types.proofs.TypingCalls.{defined_from}
 use Rattle.typed_tree.specs.declared.kinds.Shape.{Shape}
 use Rattle.typed_tree.specs.declared.kinds.Slot.{Slot}
-use Rattle.typed_tree.specs.declared.function.Given.{Given}
-use Rattle.typed_tree.specs.declared.function.Given.TheVariants as given
+use Rattle.typed_tree.specs.declared.function.Returned.{Returned}
+use Rattle.typed_tree.specs.declared.function.Returned.TheVariants as given
 use Rattle.typed_tree.specs.Tree.{TypedTrees, call_node, typed_trees_of}
 use Rattle.typed_tree.specs.Programs.{TypedFunctionTree}
 use Rattle.typed_tree.specs.Shapes.{shape_of}
@@ -167,11 +167,11 @@ taken_good p w f ds fs n s (q ∷ ps) (g ∷ gs) (x ∷ xs) first h t e a =
 
 -- WHAT IS GIVEN BACK
 
-record GivenIs (b : List BoundDomain) (g : Given) (t : ExpressionType) : Type 0 where
+record GivenIs (b : List BoundDomain) (g : Returned) (t : ExpressionType) : Type 0 where
   pub shape : shape_given g ≡ shape_of_type t
   pub seen_by : (v : ValueType) → t ≡ Value v → given_domain b g ≡ bound_domain v.domain
 
-given_same : (d : Declared) (fs : List FunctionTree) (f : FunctionTree) (ds : List Protection) → length ds ≡ length f.variables → (r : ResultType) (g : Given) (t : ExpressionType) → result_type (within d f ds) r ≡ Some t → given_back (with_functions d fs) f.variables r ≡ Some g → GivenIs (map bound_domain ds) g t
+given_same : (d : Declared) (fs : List FunctionTree) (f : FunctionTree) (ds : List Protection) → length ds ≡ length f.variables → (r : ResultType) (g : Returned) (t : ExpressionType) → result_type (within d f ds) r ≡ Some t → given_back (with_functions d fs) f.variables r ≡ Some g → GivenIs (map bound_domain ds) g t
 given_same d fs f ds n result.Void g t e h =
     let is : GivenIs (map bound_domain ds) given.Nothing Void = record { shape = refl; seen_by = λ v q. cc } in
     subst (λ z. GivenIs (map bound_domain ds) z t) (some_is given.Nothing g h) (subst (GivenIs (map bound_domain ds) given.Nothing) (some_is Void t e) is)

@@ -15,10 +15,10 @@ use Rattle.domain_types.specs.FunctionTypes as head
 use Rattle.domain_types.specs.StatementTypes as checker
 use Rattle.domain_types.specs.Typing.{GivesResult, IsTypedFunction, IsTypedProgram}
 use Rattle.domain_types.specs.ExpressionTypes.{within}
-use Rattle.typed_tree.specs.declared.function.Given.{Given}
-use Rattle.typed_tree.specs.declared.function.Given.TheVariants as given
+use Rattle.typed_tree.specs.declared.function.Returned.{Returned}
+use Rattle.typed_tree.specs.declared.function.Returned.TheVariants as given
 use Rattle.typed_tree.specs.Commands.{Commands}
-use Rattle.name_resolution.specs.Scopes.{Place, no_place, declaring}
+use Rattle.name_resolution.specs.Scopes.{FunctionScope, no_place, declaring}
 use Rattle.typed_tree.specs.Programs.{TypedFunctionTree, TypedProgramTree}
 use Rattle.name_resolution.specs.Functions.{slot_written, slots_written, given_back, with_parameters, typed_function, typed_functions}
 use Rattle.name_resolution.specs.Order as order
@@ -40,7 +40,7 @@ use Rattle.well_typed.proofs.Statements.{GoodCommands, Walked, new_variable, goo
 
 -- PARAMETERS
 
-same_parameters : (p : ProgramTree) (z : Frame p) (g : Given) (final : List DeclaredType) → slots_written (known_in p) z.function.variables final ≡ Some z.slots → (ps : List Parameter) (s : checked.Scope) (b : Place) → Same (here z) s b.scope → Begins (with_parameters ps b).slots final → Same (here z) (head.with_parameters (setting z) ps s) (with_parameters ps b).scope
+same_parameters : (p : ProgramTree) (z : Frame p) (g : Returned) (final : List DeclaredType) → slots_written (known_in p) z.function.variables final ≡ Some z.slots → (ps : List Parameter) (s : checked.Scope) (b : FunctionScope) → Same (here z) s b.scope → Begins (with_parameters ps b).slots final → Same (here z) (head.with_parameters (setting z) ps s) (with_parameters ps b).scope
 same_parameters p z g final w [] s b m l = m
 same_parameters p z g final w (q ∷ ps) s b m l =
     let next = declaring q.variable q.declared b in
@@ -51,7 +51,7 @@ same_parameters p z g final w (q ∷ ps) s b m l =
 
 -- RESULTS
 
-gives_back : (p : ProgramTree) (z : Frame p) (r : ResultType) (g : Given) (body : Commands) (b : Bool) → given_back (known_in p) z.function.variables r ≡ Some g → one_returns body ≡ b → b ≡ checker.one_returns z.function.body.statements → GivesResult (setting z) z.function r → GivesBack g body
+gives_back : (p : ProgramTree) (z : Frame p) (r : ResultType) (g : Returned) (body : Commands) (b : Bool) → given_back (known_in p) z.function.variables r ≡ Some g → one_returns body ≡ b → b ≡ checker.one_returns z.function.body.statements → GivesResult (setting z) z.function r → GivesBack g body
 gives_back p z result.Void g body b e f q h = subst (λ x. GivesBack x body) (some_is given.Nothing g e) tt
 gives_back p z (result.Value t) g body b e f q h =
     let m = mapped given.Value (slot_written (known_in p) z.function.variables t) g e in
@@ -109,7 +109,7 @@ good_instance p functions accepted well made_all i c =
     typed : IsTypedFunction (within (declared_by p) c.function c.domains) c.function
     typed = accepted.functions (record { function = c.number; binding = c.domains }) c.function c.checked c.there
 
-    start : Place
+    start : FunctionScope
     start = with_parameters c.function.parameters no_place
 
     scope : checked.Scope

@@ -14,8 +14,8 @@ use Rattle.domain_types.specs.Declarations.{Declared}
 use Rattle.typed_tree.specs.declared.kinds.Slot.{Slot}
 use Rattle.typed_tree.specs.Tree.{TypedTree, truth_node}
 use Rattle.typed_tree.specs.Commands.{Command, none, also, empty_command, block_command, if_command, loop_command, do_command, break_command, continue_command, return_command, assert_command, store_command, default_command, fill_command, input_command, element_command, publish_command, evaluate_command}
-use Rattle.name_resolution.specs.Scopes.{Place, no_place, declaring}
-use Rattle.name_resolution.specs.Resolving.{Resolving, ◌>>=◌, done, reading, next_slot, declare, in_block, value_at, expression, known_at, named}
+use Rattle.name_resolution.specs.Scopes.{FunctionScope, no_place, declaring}
+use Rattle.name_resolution.specs.Resolving.{Resolving, ◌>>=◌, done, reading, next_slot, declare, in_block, resolved_value, expression, known_at, named}
 use Rattle.name_resolution.specs.Bodies.{calling, evaluated, default_of, from_value, initial, declared, assigned_to, assigned, started, stepped, condition_of, returned, looped, resolved, resolved_all}
 use Rattle.typed_tree.specs.Programs.{TypedFunctionTree}
 use Rattle.name_resolution.specs.Functions.{slots_written, given_back, with_parameters, function_made, function_from, function_behind, typed_function, and_functions, typed_functions}
@@ -44,16 +44,16 @@ grows_done a = step_done Grow a (λ p. begins_itself p.slots)
 grows_bind : {A B : Type 0} (m : Resolving A) (g : A → Resolving B) → Step m Grow → ((a : A) → Step (g a) Grow) → Step (m >>= g) Grow
 grows_bind m g first then =
     step_bind m g Grow Grow first
-    (λ a. step_as (g a) Grow (λ q b r. (p : Place) → Grow p a q → Grow p b r) (then a) (λ q b r h p k. begins_further p.slots q.slots r.slots k h))
+    (λ a. step_as (g a) Grow (λ q b r. (p : FunctionScope) → Grow p a q → Grow p b r) (then a) (λ q b r h p k. begins_further p.slots q.slots r.slots k h))
 
-grows_reading : {A : Type 0} (f : Place → Option A) → Step (reading f) Grow
+grows_reading : {A : Type 0} (f : FunctionScope → Option A) → Step (reading f) Grow
 grows_reading f = step_reading f Grow (λ p a e. begins_itself p.slots)
 
 grows_block : {A : Type 0} (m : Resolving A) → Step m Grow → Step (in_block m) Grow
 grows_block m h = step_block m Grow Grow h (λ p a q g. g)
 
 grows_one : (d : Declared) (e : Tree) (make : TypedTree → Command) → Step (expression d e >>= λ v. done (make v)) Grow
-grows_one d e make = grows_bind (expression d e) (λ v. done (make v)) (grows_reading (value_at d e)) (λ v. grows_done (make v))
+grows_one d e make = grows_bind (expression d e) (λ v. done (make v)) (grows_reading (resolved_value d e)) (λ v. grows_done (make v))
 
 grows_evaluated : (d : Declared) (e : Tree) → Step (evaluated d e) Grow
 grows_evaluated d (number p n) = grows_one d (number p n) evaluate_command
@@ -88,7 +88,7 @@ grows_initial d line k element None None = grows_done (default_command k)
 grows_initial d line k element None (Some e) = grows_from d k e
 grows_initial d line k element (Some n) None = grows_one d n (λ m. fill_command line k m (default_of element))
 grows_initial d line k element (Some n) (Some e) =
-    grows_bind (expression d n) (λ m. expression d e >>= λ v. done (fill_command line k m v)) (grows_reading (value_at d n)) (λ m. grows_one d e (fill_command line k m))
+    grows_bind (expression d n) (λ m. expression d e >>= λ v. done (fill_command line k m v)) (grows_reading (resolved_value d n)) (λ m. grows_one d e (fill_command line k m))
 
 grows_declared : (d : Declared) (t : DeclarationTree) → Step (declared d t) Grow
 grows_declared d t =
@@ -102,7 +102,7 @@ grows_declared d t =
 grows_assigned_to : (d : Declared) (line k : ℕ) (i : Option Tree) (e : Tree) → Step (assigned_to d line k i e) Grow
 grows_assigned_to d line k None e = grows_one d e (store_command k)
 grows_assigned_to d line k (Some i) e =
-    grows_bind (expression d i) (λ j. expression d e >>= λ v. done (element_command line k j v)) (grows_reading (value_at d i)) (λ j. grows_one d e (element_command line k j))
+    grows_bind (expression d i) (λ j. expression d e >>= λ v. done (element_command line k j v)) (grows_reading (resolved_value d i)) (λ j. grows_one d e (element_command line k j))
 
 grows_assigned : (d : Declared) (a : AssignmentTree) → Step (assigned d a) Grow
 grows_assigned d a =
@@ -121,7 +121,7 @@ grows_stepped d (steps_by_expression e) = grows_evaluated d e
 
 grows_condition : (d : Declared) (e : Option Tree) → Step (condition_of d e) Grow
 grows_condition d None = grows_done (truth_node true)
-grows_condition d (Some e) = grows_reading (value_at d e)
+grows_condition d (Some e) = grows_reading (resolved_value d e)
 
 grows_returned : (d : Declared) (e : Option Tree) → Step (returned d e) Grow
 grows_returned d None = grows_done (return_command None)
@@ -139,12 +139,12 @@ grows_looped d b e c body h =
 
 grows_test : (d : Declared) (e : Tree) (m : Resolving Command) (make : TypedTree → Command → Command) → Step m Grow → Step (expression d e >>= λ v. in_block m >>= λ c. done (make v c)) Grow
 grows_test d e m make h =
-    grows_bind (expression d e) (λ v. in_block m >>= λ c. done (make v c)) (grows_reading (value_at d e))
+    grows_bind (expression d e) (λ v. in_block m >>= λ c. done (make v c)) (grows_reading (resolved_value d e))
     (λ v. grows_bind (in_block m) (λ c. done (make v c)) (grows_block m h) (λ c. grows_done (make v c)))
 
 grows_choice : (d : Declared) (e : Tree) (m k : Resolving Command) → Step m Grow → Step k Grow → Step (expression d e >>= λ v. in_block m >>= λ b. in_block k >>= λ c. done (if_command v b c)) Grow
 grows_choice d e m k g h =
-    grows_bind (expression d e) (λ v. in_block m >>= λ b. in_block k >>= λ c. done (if_command v b c)) (grows_reading (value_at d e))
+    grows_bind (expression d e) (λ v. in_block m >>= λ b. in_block k >>= λ c. done (if_command v b c)) (grows_reading (resolved_value d e))
     (λ v. grows_bind (in_block m) (λ b. in_block k >>= λ c. done (if_command v b c)) (grows_block m g)
     (λ b. grows_bind (in_block k) (λ c. done (if_command v b c)) (grows_block k h) (λ c. grows_done (if_command v b c))))
 
@@ -179,7 +179,7 @@ mutual
 
 -- how a typed function is made
 pub record IsMade (k : Declared) (f : FunctionTree) (t : TypedFunctionTree) : Type 0 where
-  pub final : Place
+  pub final : FunctionScope
   pub body : resolved_all k f.body.statements (with_parameters f.parameters no_place) ≡ Some (t.body, final)
   pub slots : slots_written k f.variables final.slots ≡ Some t.slots
   pub given : given_back k f.variables f.returned ≡ Some t.given
@@ -194,7 +194,7 @@ is_made k f t e =
     record { final = r.part.1; body = r.there; slots = m.left_there; given = m.right_there; variables = refl; parameters = refl } in
     subst (IsMade k f) (some_is (function_made f r.part.0 m.left m.right) t m.is) made
 
-pub parameter_slots : (ps : List Parameter) (s : Place) → (with_parameters ps s).slots ≡ s.slots ++ map declared_type ps
+pub parameter_slots : (ps : List Parameter) (s : FunctionScope) → (with_parameters ps s).slots ≡ s.slots ++ map declared_type ps
 parameter_slots [] s = sym (append-nil s.slots)
 parameter_slots (p ∷ ps) s = parameter_slots ps (declaring p.variable p.declared s) ∙ append_assoc s.slots (p.declared ∷ []) (map declared_type ps)
 

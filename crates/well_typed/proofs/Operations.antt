@@ -24,7 +24,7 @@ use Rattle.typed_tree.specs.Operators.{operator_on, element_made, operands_of, m
 use Rattle.typed_tree.specs.Shapes.{shape_of}
 use Rattle.name_resolution.specs.Values.{TypedValue, operation_node, operation_made}
 use Rattle.name_resolution.proofs.SoundValues.{some_is}
-use Rattle.reached_instances.specs.Domains.{Setting, domain, joined}
+use Rattle.reached_instances.specs.Domains.{Setting, domain, joined_domain}
 use Rattle.reached_instances.specs.Calls.{calls}
 use Rattle.well_typed.specs.Kinds.{scalar, Meet, operand_of, MayOperate, left_is_array, right_is_array}
 use Rattle.well_typed.specs.Expressions.{Gives}
@@ -130,8 +130,8 @@ is_cut OrElse Arrays c e = cc
 -- THE NODE
 
 module _ (p : ProgramTree) (w : Setting) (line : ℕ) (sign : Operator) (a b : TypedValue) (x y z : ValueType) (g : Good p w a x) (h : Good p w b y) (op : IsOperation sign x y z) where
-  seen : joined (domain w a.tree) (domain w b.tree) ≡ bound_domain z.domain
-  seen = ap (λ d. joined d (domain w b.tree)) g.seen_by ∙ ap (joined (bound_domain x.domain)) h.seen_by ∙ meets_joined x.domain y.domain z.domain op.meets
+  seen : joined_domain (domain w a.tree) (domain w b.tree) ≡ bound_domain z.domain
+  seen = ap (λ d. joined_domain d (domain w b.tree)) g.seen_by ∙ ap (joined_domain (bound_domain x.domain)) h.seen_by ∙ meets_joined x.domain y.domain z.domain op.meets
 
   meet : Meet (domain w a.tree) (domain w b.tree)
   meet = subst (λ d. Meet d (domain w b.tree)) (sym g.seen_by) (subst (Meet (bound_domain x.domain)) (sym h.seen_by) (meets_meet x.domain y.domain z.domain op.meets))

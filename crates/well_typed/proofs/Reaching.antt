@@ -13,7 +13,7 @@ use Rattle.sc_text.specs.Lists.{Among}
 use Rattle.domain_types.specs.Reached.{plain}
 use Rattle.domain_types.specs.ProgramTypes.{is_without, is_void, is_main, has_main}
 use Rattle.domain_types.specs.Typing.{IsTypedProgram}
-use Rattle.typed_tree.specs.declared.function.Given.TheVariants as given
+use Rattle.typed_tree.specs.declared.function.Returned.TheVariants as given
 use Rattle.typed_tree.specs.Programs.{TypedFunctionTree, TypedProgramTree}
 use Rattle.name_resolution.specs.Functions.{given_back, typed_function, typed_functions, program_of}
 use Rattle.name_resolution.specs.Order as order

@@ -28,15 +28,15 @@ use Rattle.domain_types.specs.Typing as typing
 use Rattle.sc_text.proofs.Lists.{among_left, among_right}
 use Rattle.typed_tree.specs.declared.kinds.Shape.{Shape}
 use Rattle.typed_tree.specs.declared.kinds.Slot.{Slot}
-use Rattle.typed_tree.specs.declared.function.Given.{Given}
-use Rattle.typed_tree.specs.declared.function.Given.TheVariants as given_back
+use Rattle.typed_tree.specs.declared.function.Returned.{Returned}
+use Rattle.typed_tree.specs.declared.function.Returned.TheVariants as given_back
 use Rattle.name_resolution.specs.declared.variables.Known.{Known}
 use Rattle.typed_tree.specs.Tree.{TypedTree, truth_node}
 use Rattle.typed_tree.specs.Commands.{Command, Commands, none, also, empty_command, block_command, if_command, loop_command, do_command, break_command, continue_command, return_command, assert_command, store_command, default_command, fill_command, input_command, element_command, publish_command, evaluate_command}
-use Rattle.name_resolution.specs.Scopes.{Place, known_of, variable_named, shape_written, declaring}
+use Rattle.name_resolution.specs.Scopes.{FunctionScope, known_of, variable_named, shape_written, declaring}
 use Rattle.typed_tree.specs.Shapes.{shape_of}
 use Rattle.name_resolution.specs.Values.{value, call_made}
-use Rattle.name_resolution.specs.Resolving.{Resolving, carry, ◌>>=◌, done, reading, in_block, tree_in, value_at, expression, known_at, named}
+use Rattle.name_resolution.specs.Resolving.{Resolving, carry, ◌>>=◌, done, reading, in_block, tree_in, resolved_value, expression, known_at, named}
 use Rattle.name_resolution.specs.Bodies.{tree_in_call, calling, evaluated, default_of, from_value, initial, declared, assigned_to, assigned, started, stepped, condition_of, returned, looped, resolved, resolved_all}
 use Rattle.name_resolution.specs.Functions.{slot_written, slots_written}
 use Rattle.name_resolution.specs.Functions as functions
@@ -63,12 +63,12 @@ use Rattle.well_typed.proofs.Values.{SameVariable, Same, same_append, slot_named
 -- WHAT IS SAID OF STEPS
 
 -- a piece that is read: the place stays
-pub record Read {A : Type 0} (w : domains.Setting) (s : checked.Scope) (P : A → Type 0) (b : Place) (a : A) (q : Place) : Type 0 where
+pub record Read {A : Type 0} (w : domains.Setting) (s : checked.Scope) (P : A → Type 0) (b : FunctionScope) (a : A) (q : FunctionScope) : Type 0 where
   pub kept : b ≡ q
   pub good : Same w s b.scope → P a
 
 -- a piece that may declare variables, which have their slots in the whole function
-pub record Walked {A : Type 0} (w : domains.Setting) (final : List DeclaredType) (s t : checked.Scope) (P : A → Type 0) (b : Place) (a : A) (q : Place) : Type 0 where
+pub record Walked {A : Type 0} (w : domains.Setting) (final : List DeclaredType) (s t : checked.Scope) (P : A → Type 0) (b : FunctionScope) (a : A) (q : FunctionScope) : Type 0 where
   pub grows : Begins b.slots q.slots
   pub good : Same w s b.scope → Begins q.slots final → Same w t q.scope × P a
 
@@ -76,22 +76,22 @@ module _ (w : domains.Setting) (s : checked.Scope) where
   pub read_done : {A : Type 0} (P : A → Type 0) (a : A) → P a → Step (done a) (Read w s P)
   read_done P a h = step_done (Read w s P) a (λ b. record { kept = refl; good = λ m. h })
 
-  pub read_at : {A : Type 0} (P : A → Type 0) (f : Place → Option A) → ((b : Place) (a : A) → Same w s b.scope → f b ≡ Some a → P a) → Step (reading f) (Read w s P)
+  pub read_at : {A : Type 0} (P : A → Type 0) (f : FunctionScope → Option A) → ((b : FunctionScope) (a : A) → Same w s b.scope → f b ≡ Some a → P a) → Step (reading f) (Read w s P)
   read_at P f h = step_reading f (Read w s P) (λ b a e. record { kept = refl; good = λ m. h b a m e })
 
   pub read_bind : {A B : Type 0} (P : A → Type 0) (Q : B → Type 0) (m : Resolving A) (g : A → Resolving B) → Step m (Read w s P) → ((a : A) → Step (g a) (Read w s (λ c. P a → Q c))) → Step (m >>= g) (Read w s Q)
   read_bind {A} {B} P Q m g first then =
       step_bind m g (Read w s P) (Read w s Q) first
-      (λ a. step_as (g a) (Read w s (λ c. P a → Q c)) (λ q c r. (b : Place) → Read w s P b a q → Read w s Q b c r) (then a) (both a))
+      (λ a. step_as (g a) (Read w s (λ c. P a → Q c)) (λ q c r. (b : FunctionScope) → Read w s P b a q → Read w s Q b c r) (then a) (both a))
     where
-      both : (a : A) (q : Place) (c : B) (r : Place) → Read w s (λ c. P a → Q c) q c r → (b : Place) → Read w s P b a q → Read w s Q b c r
-      both a q c r two b one = record { kept = one.kept ∙ two.kept; good = λ m. two.good (subst (λ (x : Place). Same w s x.scope) one.kept m) (one.good m) }
+      both : (a : A) (q : FunctionScope) (c : B) (r : FunctionScope) → Read w s (λ c. P a → Q c) q c r → (b : FunctionScope) → Read w s P b a q → Read w s Q b c r
+      both a q c r two b one = record { kept = one.kept ∙ two.kept; good = λ m. two.good (subst (λ (x : FunctionScope). Same w s x.scope) one.kept m) (one.good m) }
 
 module _ (w : domains.Setting) (final : List DeclaredType) where
   pub walked_read : {A : Type 0} (s : checked.Scope) (P : A → Type 0) (m : Resolving A) → Step m (Read w s P) → Step m (Walked w final s s P)
   walked_read {A} s P m h = step_as m (Read w s P) (Walked w final s s P) h one
     where
-      one : (b : Place) (a : A) (q : Place) → Read w s P b a q → Walked w final s s P b a q
+      one : (b : FunctionScope) (a : A) (q : FunctionScope) → Read w s P b a q → Walked w final s s P b a q
       one b a q r = subst (Walked w final s s P b a) r.kept (record { grows = begins_itself b.slots; good = λ m l. (m, r.good m) })
 
   pub walked_done : {A : Type 0} (s : checked.Scope) (P : A → Type 0) (a : A) → P a → Step (done a) (Walked w final s s P)
@@ -100,9 +100,9 @@ module _ (w : domains.Setting) (final : List DeclaredType) where
   pub walked_bind : {A B : Type 0} (s t u : checked.Scope) (P : A → Type 0) (Q : B → Type 0) (m : Resolving A) (g : A → Resolving B) → Step m (Walked w final s t P) → ((a : A) → Step (g a) (Walked w final t u (λ c. P a → Q c))) → Step (m >>= g) (Walked w final s u Q)
   walked_bind {A} {B} s t u P Q m g first then =
       step_bind m g (Walked w final s t P) (Walked w final s u Q) first
-      (λ a. step_as (g a) (Walked w final t u (λ c. P a → Q c)) (λ q c r. (b : Place) → Walked w final s t P b a q → Walked w final s u Q b c r) (then a) (both a))
+      (λ a. step_as (g a) (Walked w final t u (λ c. P a → Q c)) (λ q c r. (b : FunctionScope) → Walked w final s t P b a q → Walked w final s u Q b c r) (then a) (both a))
     where
-      both : (a : A) (q : Place) (c : B) (r : Place) → Walked w final t u (λ c. P a → Q c) q c r → (b : Place) → Walked w final s t P b a q → Walked w final s u Q b c r
+      both : (a : A) (q : FunctionScope) (c : B) (r : FunctionScope) → Walked w final t u (λ c. P a → Q c) q c r → (b : FunctionScope) → Walked w final s t P b a q → Walked w final s u Q b c r
       both a q c r two b one =
           record {
             grows = begins_further b.slots q.slots r.slots one.grows two.grows;
@@ -136,12 +136,12 @@ pub record HoldsAt (w : domains.Setting) (v : ValueType) (k : ℕ) : Type 0 wher
   pub at : slice_get w.slots k ≡ Some slot
   pub is : SlotIs w.binding slot v
 
-pub record GoodCommand (p : ProgramTree) (w : domains.Setting) (g : Given) (inside returns : Bool) (c : Command) : Type 0 where
+pub record GoodCommand (p : ProgramTree) (w : domains.Setting) (g : Returned) (inside returns : Bool) (c : Command) : Type 0 where
   pub typed : IsWellTypedCommand w g inside c
   pub returns_so : always_returns c ≡ returns
   pub called : AreChecked p (command_calls w c)
 
-pub record GoodCommands (p : ProgramTree) (w : domains.Setting) (g : Given) (inside returns : Bool) (cs : Commands) : Type 0 where
+pub record GoodCommands (p : ProgramTree) (w : domains.Setting) (g : Returned) (inside returns : Bool) (cs : Commands) : Type 0 where
   pub typed : AreWellTypedCommands w g inside cs
   pub returns_so : one_returns cs ≡ returns
   pub called : AreChecked p (commands_calls w cs)
@@ -173,7 +173,7 @@ at_last (x ∷ xs) more t = at_last xs more t
 
 -- ONE FUNCTION
 
-module _ (p : ProgramTree) (z : Frame p) (g : Given) where
+module _ (p : ProgramTree) (z : Frame p) (g : Returned) where
   abbrev Agreed : List (List ℕ) → Type 0
   Agreed xs = Agree (declared_by p) (known_in p) xs
 
@@ -196,9 +196,9 @@ module _ (p : ProgramTree) (z : Frame p) (g : Given) where
   -- EXPRESSIONS
 
   read_value : (s : checked.Scope) (e : Tree) (v : ValueType) → Agreed (names_in e) → AreMade z (calls_of (setting z) s e) → HasWords e → HasType (setting z) s e (Value v) → Step (expression (known_in p) e) (Read (here z) s (GoodTree p (here z) v))
-  read_value s e v a c w h = read_at (here z) s (GoodTree p (here z) v) (value_at (known_in p) e) one
+  read_value s e v a c w h = read_at (here z) s (GoodTree p (here z) v) (resolved_value (known_in p) e) one
     where
-      one : (b : Place) (t : TypedTree) → Same (here z) s b.scope → value_at (known_in p) e b ≡ Some t → GoodTree p (here z) v t
+      one : (b : FunctionScope) (t : TypedTree) → Same (here z) s b.scope → resolved_value (known_in p) e b ≡ Some t → GoodTree p (here z) v t
       one b t m i =
           let r = mapped tree_in (value (known_in p) b.scope e) t i in
           let x = good_value_of p z s b.scope m e v a c w h r.part r.there in
@@ -213,7 +213,7 @@ module _ (p : ProgramTree) (z : Frame p) (g : Given) where
   read_call : (s : checked.Scope) (q : Span) (x : List ℕ) (es : Trees) (t : ExpressionType) → Agreed (names_in (call q x es)) → AreMade z (calls_of (setting z) s (call q x es)) → HasWords (call q x es) → HasType (setting z) s (call q x es) t → Step (reading (calling (known_in p) q.line x es)) (Read (here z) s (GoodAny p (here z)))
   read_call s q x es t a c w h = read_at (here z) s (GoodAny p (here z)) (calling (known_in p) q.line x es) one
     where
-      one : (b : Place) (u : TypedTree) → Same (here z) s b.scope → calling (known_in p) q.line x es b ≡ Some u → GoodAny p (here z) u
+      one : (b : FunctionScope) (u : TypedTree) → Same (here z) s b.scope → calling (known_in p) q.line x es b ≡ Some u → GoodAny p (here z) u
       one b u m i =
           let r = mapped tree_in_call (call_made (known_in p) b.scope q.line x es) u i in
           let k = good_call p z s b.scope m q x es t a c w h r.part r.there in
@@ -302,7 +302,7 @@ module _ (p : ProgramTree) (z : Frame p) (g : Given) where
   read_named : (s : checked.Scope) (x : List ℕ) (held : ValueType) → variable_type (checked.variable_named s x) ≡ Some held → Step (named x) (Read (here z) s (λ (k : Known). HoldsAt (here z) held k.slot))
   read_named s x held h = read_at (here z) s (λ (k : Known). HoldsAt (here z) held k.slot) (known_at x) one
     where
-      one : (b : Place) (k : Known) → Same (here z) s b.scope → known_at x b ≡ Some k → HoldsAt (here z) held k.slot
+      one : (b : FunctionScope) (k : Known) → Same (here z) s b.scope → known_at x b ≡ Some k → HoldsAt (here z) held k.slot
       one b k m i =
           let r = mapped known_of (variable_named b.scope x) k i in
           let o = slot_named (here z) s b.scope x held r.part m h r.there in
@@ -361,13 +361,13 @@ module _ (p : ProgramTree) (z : Frame p) (g : Given) where
     abbrev Walks : {A : Type 0} → Resolving A → (s t : checked.Scope) → (A → Type 0) → Type 0
     Walks m s t P = Step m (Walked (here z) final s t P)
 
-    held_at : (b : Place) (t : DeclaredType) (v : ValueType) → type_written (setting z) t ≡ Some v → Begins (b.slots ++ t ∷ []) final → HoldsAt (here z) v (length b.slots)
+    held_at : (b : FunctionScope) (t : DeclaredType) (v : ValueType) → type_written (setting z) t ≡ Some v → Begins (b.slots ++ t ∷ []) final → HoldsAt (here z) v (length b.slots)
     held_at b t v e l =
         let there = ap (λ (ts : List DeclaredType). slice_get ts (length b.slots)) l.1 ∙ at_last b.slots l.0 t in
         let s = slots_at (known_in p) z.function.variables final z.slots (length b.slots) t written there in
         record { slot = s.0; at = s.1; is = slot_same (declared_by p) (order.reached (declared_by p)) z.function z.domains z.count t v s.0 e s.2 }
 
-    pub new_variable : (x : List ℕ) (b : Place) (t : DeclaredType) → Begins (b.slots ++ t ∷ []) final → SameVariable (here z) (record { name = x; held = type_written (setting z) t }) (record { name = x; known = record { slot = length b.slots; shape = shape_written t } })
+    pub new_variable : (x : List ℕ) (b : FunctionScope) (t : DeclaredType) → Begins (b.slots ++ t ∷ []) final → SameVariable (here z) (record { name = x; held = type_written (setting z) t }) (record { name = x; known = record { slot = length b.slots; shape = shape_written t } })
     new_variable x b t l =
         record {
           name = refl;
@@ -392,13 +392,13 @@ module _ (p : ProgramTree) (z : Frame p) (g : Given) where
         first : (k : ℕ) → Step (initial (known_in p) line k t.declared.element t.size t.value) (Read (here z) s (IfHeld inside h.held k))
         first k = subst (λ d. Step (initial (known_in p) line k d t.size t.value) (Read (here z) s (IfHeld inside h.held k))) element (good_initial inside s k line h.held t.size t.value a c w.0 w.1 h.initial)
 
-        made : (b : Place) (x : Command) → (Same (here z) s b.scope → IfHeld inside h.held (length b.slots) x) → Walked (here z) final s behind (Runs inside) b x (declaring t.variable t.declared b)
+        made : (b : FunctionScope) (x : Command) → (Same (here z) s b.scope → IfHeld inside h.held (length b.slots) x) → Walked (here z) final s behind (Runs inside) b x (declaring t.variable t.declared b)
         made b x k = record {
           grows = (t.declared ∷ [], refl);
           good = λ m l. (record { block = (new_variable t.variable.text b t.declared l, m.block); outer = m.outer }, k m (held_at b t.declared h.held h.written l));
         }
 
-        go : (b : Place) (x : Command) (q : Place) (o : Option (Command × Place)) → initial (known_in p) line (length b.slots) t.declared.element t.size t.value b ≡ o → carry o (λ y r. Some (pair_of y (declaring t.variable t.declared r))) ≡ Some (x, q) → Walked (here z) final s behind (Runs inside) b x q
+        go : (b : FunctionScope) (x : Command) (q : FunctionScope) (o : Option (Command × FunctionScope)) → initial (known_in p) line (length b.slots) t.declared.element t.size t.value b ≡ o → carry o (λ y r. Some (pair_of y (declaring t.variable t.declared r))) ≡ Some (x, q) → Walked (here z) final s behind (Runs inside) b x q
         go b x q None i e = cc
         go b x q (Some r) i e =
             let read = (first (length b.slots)).from b r.0 r.1 i in

@@ -20,7 +20,7 @@ use Rattle.typed_tree.specs.Tree.{TypedTree, word_node, truth_node, slot_node, s
 use Rattle.typed_tree.specs.Shapes.{shape_of}
 use Rattle.name_resolution.specs.Values.{TypedValue, made, negated, cast_value, declassified_value}
 use Rattle.reached_instances.specs.Instances.{Instance}
-use Rattle.reached_instances.specs.Domains.{Setting, domain, slot_domain, joined}
+use Rattle.reached_instances.specs.Domains.{Setting, domain, slot_domain, joined_domain}
 use Rattle.reached_instances.specs.Calls.{calls}
 use Rattle.well_typed.specs.Kinds.{scalar, array, Meet, cast_from, cast_to}
 use Rattle.well_typed.specs.Expressions.{Gives}
@@ -139,7 +139,7 @@ good_size p w a x g e =
 pub good_cat : (p : ProgramTree) (w : Setting) (line : ℕ) (a b : TypedValue) (x y t : ValueType) → Good p w a x → Good p w b y → x.array ≡ true → y.array ≡ true → x.element ≡ y.element → t.element ≡ x.element → t.array ≡ true → Meets x.domain y.domain t.domain → Good p w (made (cat_node line a.tree b.tree) a.shape.element true) t
 good_cat p w line a b x y t g h ax ay same element is m =
     let seen : domain w (cat_node line a.tree b.tree) ≡ bound_domain t.domain =
-    ap (λ d. joined d (domain w b.tree)) g.seen_by ∙ ap (joined (bound_domain x.domain)) h.seen_by ∙ meets_joined x.domain y.domain t.domain m in
+    ap (λ d. joined_domain d (domain w b.tree)) g.seen_by ∙ ap (joined_domain (bound_domain x.domain)) h.seen_by ∙ meets_joined x.domain y.domain t.domain m in
     let meet : Meet (domain w a.tree) (domain w b.tree) =
     subst (λ d. Meet d (domain w b.tree)) (sym g.seen_by) (subst (Meet (bound_domain x.domain)) (sym h.seen_by) (meets_meet x.domain y.domain t.domain m)) in
     let left = gives_as w a.tree (shape_in x) (array x.element) g.gives (array_shape x ax) in

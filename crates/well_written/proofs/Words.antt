@@ -8,8 +8,8 @@ use Rattle.std.proofs.lemmas.Bool.{and_parts}
 use Rattle.std.proofs.lemmas.Bool.Decides.{Decides-ltb}
 use Rattle.sc_text.specs.Name.{is_name, is_name_byte}
 use Rattle.secrec_lexer.specs.declared.sign.Sign.{Sign}
-use Rattle.secrec_lexer.specs.declared.token.Kind.{Kind}
-use Rattle.secrec_lexer.specs.declared.token.Kind.TheVariants as kinds
+use Rattle.secrec_lexer.specs.declared.token.TokenKind.{TokenKind}
+use Rattle.secrec_lexer.specs.declared.token.TokenKind.TheVariants as kinds
 use Rattle.secrec_lexer.specs.declared.token.Token.{Token}
 use Rattle.secrec_lexer.specs.declared.lex_err.LexFault.TheVariants as faults
 use Rattle.secrec_lexer.specs.declared.piece.Piece.{Piece}
@@ -20,7 +20,7 @@ use Rattle.secrec_lexer.specs.Pieces.{comment, number_spelled, word_value, numbe
 use Rattle.secrec_lexer.specs.Lexis.{token_at, Lexes, ended, blank, lexeme}
 
 -- a number is a word
-abbrev pub IsWord : Kind → Type 0
+abbrev pub IsWord : TokenKind → Type 0
 IsWord (kinds.Name x) = Unit {0}
 IsWord (kinds.Number n) = n < 2 ^ 64
 IsWord (kinds.Text x) = Unit {0}

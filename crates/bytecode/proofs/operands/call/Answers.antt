@@ -5,7 +5,7 @@ use Rattle.bytecode.specs.Decoded.{repeated, short_layout}
 use Rattle.bytecode.specs.InMemory.{raw_instruction}
 use Rattle.bytecode.specs.Layouts.{read}
 use Rattle.bytecode.specs.Raw.{Call}
-use Rattle.bytecode.specs.Reading.{Stops}
+use Rattle.bytecode.specs.inner.Reading.{Stops}
 use Rattle.bytecode.proofs.Reading.{reads_err}
 use Rattle.bytecode.proofs.SameOperands.{call_ok, call_stops_at_arguments, call_stops_at_line}
 use Rattle.bytecode.proofs.operands.call.Goals as goal

@@ -11,7 +11,7 @@ use Rattle.language_model.specs.Effects.{Run, carry, done}
 use Rattle.language_model.specs.Values.{Value}
 use Rattle.language_model.specs.Evaluation.{Frame, execute_all, entered, result_of, is_private, body_of}
 use Rattle.value_steps.specs.Views.{value_seen}
-use Rattle.clear_eval.specs.Views.{frame_seen}
+use Rattle.clear_eval.specs.inner.Views.{frame_seen}
 use Rattle.clear_eval.proofs.Sound.{body_sound}
 use Rattle.clear_eval.proofs.Work.{body_within}
 use Rattle.clear_eval.proofs.beginning.begin.Goals as goal
@@ -31,7 +31,7 @@ returns c =
     let frame = c.in_ok-frame.ensures.frame ∙ ap (λ ss. entered b ss xs) c.deref.ensures.value in
     record {
       around = refl;
-      room = refl;
+      depth = refl;
       executes = λ w calls s.
           let run : List Slot → Bool → Frame → Run Value =
           λ slots private fr. carry (execute_all w calls (record { here = record { functions = map typed_function_tree fs; slots = slots; binding = b }; secret_result = private }) tree.body fr s) (λ g. done (result_of g)) in

@@ -8,7 +8,7 @@ use Rattle.std.proofs.lemmas.Option.{slice_get_past}
 use Rattle.std.proofs.Math.Seq.{get_or-append_seam}
 use Rattle.language_model.specs.Evaluation.{entered, begins, nothing}
 use Rattle.value_steps.specs.Views.{value_seen}
-use Rattle.clear_eval.specs.Views.{frame_seen}
+use Rattle.clear_eval.specs.inner.Views.{frame_seen}
 use Rattle.clear_eval.proofs.Entries.{entered-argument, entered-behind}
 use Rattle.clear_eval.proofs.entering.enter.Goals as goal
 

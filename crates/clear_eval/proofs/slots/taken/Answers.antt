@@ -1,7 +1,7 @@
 use Rattle.std.proofs.Common.{◌∙◌, ap, sym}
 use Rattle.language_model.specs.Evaluation.{put}
 use Rattle.value_steps.specs.Views.{value_seen}
-use Rattle.clear_eval.specs.Views.{frame_seen}
+use Rattle.clear_eval.specs.inner.Views.{frame_seen}
 use Rattle.clear_eval.proofs.Frames.{frame-put, frame-at, put-put}
 use Rattle.clear_eval.proofs.slots.taken.Goals as goal
 

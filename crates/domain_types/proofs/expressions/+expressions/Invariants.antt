@@ -4,7 +4,7 @@ use Rattle.secrec_ast.specs.Tree.{expression, trees_of}
 use Rattle.domain_types.specs.ExpressionTypes.{arguments_of, argument_list_faults}
 use Rattle.domain_types.specs.Reached.{calls_of_all}
 use Rattle.domain_types.specs.Views.{setting}
-use Rattle.domain_types.specs.Walks.{Gives}
+use Rattle.domain_types.specs.inner.Walks.{Gives}
 use Rattle.domain_types.proofs.expressions.+expressions.Given as goal
 
 abbrev pub invariant-arguments-loop-argument : goal.invariant-arguments-loop-argument

@@ -3,7 +3,7 @@ use Rattle.std.specs.Prelude.{◌||◌}
 use Rattle.std.specs.BTreeSet.{contains}
 use Rattle.std.specs.Ordering.{nat_cmp}
 use Rattle.domain_types.specs.Views.{calls_seen}
-use Rattle.domain_types.specs.WorkList.{with_calls, is_called}
+use Rattle.domain_types.specs.inner.WorkList.{with_calls, is_called}
 use Rattle.domain_types.proofs.visiting.with_calls.Given as goal
 
 abbrev pub invariant-loop-call : goal.invariant-loop-call

@@ -4,7 +4,7 @@ use Rattle.std.specs.List.{flat_map}
 use Rattle.std.proofs.lemmas.List.{take_more, map-append, flat_map_more}
 use Rattle.raw_steps.specs.Instructions.{naming_all, step_names}
 use Rattle.lowered_expressions.specs.Views.{step_seen}
-use Rattle.lowering.specs.Naming.{texts}
+use Rattle.lowering.specs.inner.Naming.{texts}
 use Rattle.lowering.proofs.Noting.{naming_both}
 use Rattle.lowering.proofs.naming.note_steps.Goals as goal
 

@@ -3,7 +3,7 @@ use Rattle.std.specs.Prelude.{map}
 use Rattle.std.specs.List.{flat_map}
 use Rattle.raw_steps.specs.Instructions.{naming_all, step_names}
 use Rattle.lowered_expressions.specs.Views.{step_seen}
-use Rattle.lowering.specs.Naming.{AreSame, texts}
+use Rattle.lowering.specs.inner.Naming.{AreSame, texts}
 use Rattle.lowering.proofs.naming.note_steps.Given as goal
 
 abbrev pub invariant-loop-step : goal.invariant-loop-step

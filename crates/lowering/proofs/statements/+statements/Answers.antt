@@ -11,8 +11,8 @@ use Rattle.code_model.specs.Commands.{command_width, command_kinds}
 use Rattle.code_model.proofs.Widths.{expression_registers}
 use Rattle.lowered_expressions.specs.Built.{Built, whole}
 use Rattle.lowered_expressions.specs.Views.{built}
-use Rattle.lowering.specs.Pieces.{command_pieces, with_commands}
-use Rattle.lowering.specs.Views.{numbers_at, place_seen}
+use Rattle.lowering.specs.inner.Pieces.{command_pieces, with_commands}
+use Rattle.lowering.specs.inner.Views.{numbers_at, place_seen}
 use Rattle.lowering.proofs.Weights.{weight, weights, weights_item}
 use Rattle.lowering.proofs.SettledParts.{part_length}
 use Rattle.lowering.proofs.Behind.{places_behind, places_step}

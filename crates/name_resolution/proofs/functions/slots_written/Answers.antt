@@ -3,7 +3,7 @@ use Rattle.std.specs.Prelude.{map}
 use Rattle.std.proofs.lemmas.List.{take_more, map-append}
 use Rattle.domain_types.specs.Views.{declared}
 use Rattle.name_resolution.specs.Functions.{slots_written}
-use Rattle.name_resolution.specs.Views.{type_at}
+use Rattle.name_resolution.specs.inner.Views.{type_at}
 use Rattle.name_resolution.proofs.Growing.{slots_written_more}
 use Rattle.name_resolution.proofs.Missing.{slots_none}
 use Rattle.name_resolution.proofs.functions.slots_written.Goals as goal

@@ -4,7 +4,7 @@ use Rattle.std.proofs.lemmas.List.{take_more, map-append}
 use Rattle.domain_types.specs.Views.{declared, tree_at}
 use Rattle.typed_tree.specs.Programs.{typed_function_tree}
 use Rattle.name_resolution.specs.Functions.{typed_function, typed_functions}
-use Rattle.name_resolution.specs.Views.{functions_seen}
+use Rattle.name_resolution.specs.inner.Views.{functions_seen}
 use Rattle.name_resolution.proofs.Growing.{map_one, typed_functions_more}
 use Rattle.name_resolution.proofs.Missing.{passed_on, functions_none}
 use Rattle.name_resolution.proofs.functions.typed_functions.Goals as goal

@@ -4,7 +4,7 @@ use Rattle.std.specs.List.{slice_get}
 use Rattle.std.proofs.lemmas.Option.{slice_get-map}
 use Rattle.domain_types.specs.Views.{declared, tree_at}
 use Rattle.name_resolution.specs.Order.{read_one, known_after}
-use Rattle.name_resolution.specs.Views.{found_seen}
+use Rattle.name_resolution.specs.inner.Views.{found_seen}
 use Rattle.name_resolution.proofs.Reading.{copied_is}
 use Rattle.name_resolution.proofs.order.reached.Goals as goal
 

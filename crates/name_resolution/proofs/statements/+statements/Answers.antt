@@ -5,9 +5,9 @@ use Rattle.secrec_ast.specs.Statements.{statement, statements_of, start_tree, st
 use Rattle.secrec_ast.specs.Equations.{for_statement_is}
 use Rattle.domain_types.specs.Views.{declared}
 use Rattle.typed_tree.specs.Commands.{command, commands_of}
-use Rattle.name_resolution.specs.Scopes.{Place}
+use Rattle.name_resolution.specs.Scopes.{FunctionScope}
 use Rattle.name_resolution.specs.Bodies.{looped, resolved, resolved_all}
-use Rattle.name_resolution.specs.Views.{place_seen, with_place, commands_seen}
+use Rattle.name_resolution.specs.inner.Views.{place_seen, with_place, commands_seen}
 use Rattle.name_resolution.proofs.Growing.{map_one}
 use Rattle.name_resolution.proofs.Missing.{passed_on, statements_none}
 use Rattle.name_resolution.proofs.Sequences.{resolved_all_more, place_made}
@@ -66,7 +66,7 @@ statement-returns-in_ok-made-in-For-clause-made t c =
 
 pub statement-returns-in_ok-made-in-For-clause-outer : goal.statement-returns-in_ok-made-in-For-clause-outer
 statement-returns-in_ok-made-in-For-clause-outer t c =
-    ap (λ (p : Place). p.scope.outer) (block_left (place_seen c.args.place.now) (place_seen c.enter-outer-in-For.new.self) (place_seen c.looped.new.place) (place_seen c.leave-in-For.new.self) c.enter-outer-in-For.result c.enter-outer-in-For.ensures.inner c.enter-outer-in-For.ensures.outer c.in_ok-made-in-For.ensures.outer c.leave-in-For.ensures)
+    ap (λ (p : FunctionScope). p.scope.outer) (block_left (place_seen c.args.place.now) (place_seen c.enter-outer-in-For.new.self) (place_seen c.looped.new.place) (place_seen c.leave-in-For.new.self) c.enter-outer-in-For.result c.enter-outer-in-For.ensures.inner c.enter-outer-in-For.ensures.outer c.in_ok-made-in-For.ensures.outer c.leave-in-For.ensures)
 
 pub inside-leave-requires : goal.inside-leave-requires
 inside-leave-requires t c =

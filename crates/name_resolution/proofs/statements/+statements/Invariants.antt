@@ -4,7 +4,7 @@ use Rattle.secrec_ast.specs.Statements.{statement, statements_of}
 use Rattle.domain_types.specs.Views.{declared}
 use Rattle.typed_tree.specs.Commands.{command, commands_of}
 use Rattle.name_resolution.specs.Bodies.{resolved_all}
-use Rattle.name_resolution.specs.Views.{place_seen}
+use Rattle.name_resolution.specs.inner.Views.{place_seen}
 use Rattle.name_resolution.proofs.statements.+statements.Given as goal
 
 abbrev pub invariant-statements-loop-each : goal.invariant-statements-loop-each

@@ -1,7 +1,7 @@
 use Rattle.std.proofs.Common.{◌+◌, ◌-◌, [], ◌∷◌, sym, ap, ◌∙◌, length, arith}
 use Rattle.std.specs.Prelude.{not}
 use Rattle.std.proofs.lemmas.Result.{err_from_is_err_and}
-use Rattle.secrec_parser.specs.Steps.{comma_then, list_from, listed, no_comma, parameter}
+use Rattle.secrec_parser.specs.inner.Steps.{comma_then, list_from, listed, no_comma, parameter}
 use Rattle.secrec_parser.proofs.Turns.{list_stops, list_goes_on, list_fails, passes, comma_fails, comma_reads}
 use Rattle.secrec_parser.proofs.function.more_parameters.Goals as goal
 

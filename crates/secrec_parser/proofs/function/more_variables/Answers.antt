@@ -1,6 +1,6 @@
 use Rattle.std.proofs.Common.{◌≡◌, ◌+◌, ◌-◌, true, [], ◌∷◌, sym, ap, ◌∙◌, length, arith}
 use Rattle.std.proofs.lemmas.Result.{err_from_is_err_and}
-use Rattle.secrec_parser.specs.Steps.{comma_then, domain_variable, list_from, listed, no_more_variables}
+use Rattle.secrec_parser.specs.inner.Steps.{comma_then, domain_variable, list_from, listed, no_more_variables}
 use Rattle.secrec_parser.proofs.Turns.{list_stops, list_goes_on, list_fails, passes, variables_go, variables_alone, variables_full, comma_fails, comma_reads}
 use Rattle.secrec_parser.proofs.function.more_variables.Goals.{then-loop-found-test+else-len-lt-MOST_VARIABLES, else-loop-found-test}
 use Rattle.secrec_parser.proofs.function.more_variables.Goals as goal

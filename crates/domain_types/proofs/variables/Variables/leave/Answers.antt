@@ -1,6 +1,6 @@
 use Rattle.std.proofs.Common.{◌≡◌, ◌≤◌, length, arith, ap, ◌∙◌, sym, subst}
 use Rattle.std.specs.Prelude.{map}
-use Rattle.domain_types.specs.Table.{variable_of, latest_first, block_count, scope_at}
+use Rattle.domain_types.specs.inner.Table.{variable_of, latest_first, block_count, scope_at}
 use Rattle.domain_types.proofs.Tables.{block_empty, leaving_is}
 use Rattle.domain_types.proofs.variables.Variables.leave.Goals as goal
 

@@ -1,6 +1,6 @@
 use Rattle.std.proofs.Common.{◌≡◌, ◌≤◌, length, arith, ap, ◌∙◌, sym, subst}
 use Rattle.std.specs.Prelude.{map}
-use Rattle.name_resolution.specs.Table.{variable_of, latest_first, block_count, scope_at}
+use Rattle.name_resolution.specs.inner.Table.{variable_of, latest_first, block_count, scope_at}
 use Rattle.name_resolution.proofs.Tables.{block_empty, leaving_is}
 use Rattle.name_resolution.proofs.variables.Variables.leave.Goals as goal
 
