@@ -5,7 +5,8 @@ use Rattle.language_model.specs.Values.{Private, Value, plain, hidden, size, vis
 
 pub data LikeValues : Value → Value → Type 0 where
   plains : (shape : Shape) (words : List ℕ) → LikeValues (plain shape words) (plain shape words)
-  unmade : (shape : Shape) (words : List ℕ) → LikeValues (record { secrecy = Private None; shape = shape; words = words }) (record { secrecy = Private None; shape = shape; words = words })
+  unmade : (shape : Shape) (words : List ℕ)
+      → LikeValues (record { secrecy = Private None; shape = shape; words = words }) (record { secrecy = Private None; shape = shape; words = words })
   made : (shape : Shape) (k : ℕ) (words words' : List ℕ) → length words ≡ length words' → LikeValues (hidden shape k words) (hidden shape k words')
 
 pub like_size : {v v' : Value} → LikeValues v v' → size v ≡ size v'

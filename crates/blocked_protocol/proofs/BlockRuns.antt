@@ -13,8 +13,10 @@ use Rattle.proto_core.proofs.Nets.{finishes-both, run-both}
 use Rattle.protocol_model.proofs.Scripts.{moves-then}
 use Rattle.protocol_model.proofs.GateRuns.{into-nothing, sends_on-append}
 use Rattle.protocol_model.proofs.Slots.{ends_then}
-use Rattle.blocked_protocol.specs.Blocked.{total, joined, no_elements, front, behind, blocks_strand, blocks_script, blocks_messages, blocks_output, blocks_opened, in_blocks, IsCut, sums, Blockable}
-use Rattle.blocked_protocol.proofs.Fitting.{itself, front-length, behind-length, fits-front, fits-behind, fits-whole, sizes-joined, sizes-none, blocks-joined, blocks-none}
+use Rattle.blocked_protocol.specs.Blocked.{total, joined, no_elements, front, behind, blocks_strand, blocks_script, blocks_messages, blocks_output}
+use Rattle.blocked_protocol.specs.Blocked.{blocks_opened, in_blocks, IsCut, sums, Blockable}
+use Rattle.blocked_protocol.proofs.Fitting.{itself, front-length, behind-length, fits-front, fits-behind, fits-whole, sizes-joined, sizes-none}
+use Rattle.blocked_protocol.proofs.Fitting.{blocks-joined, blocks-none}
 
 -- ---- scripts one after another
 
@@ -22,7 +24,8 @@ takes_on-append : (l : Link) (xs ys : List Move) → takes_on l (xs ++ ys) ≡ t
 takes_on-append l [] ys = refl
 takes_on-append l (Sends k shape ∷ xs) ys = takes_on-append l xs ys
 takes_on-append l (Takes k shape ∷ xs) ys =
-    elim (same_link l k) as (λ b. (if b then shape ∷ takes_on l (xs ++ ys) else takes_on l (xs ++ ys)) ≡ (if b then shape ∷ takes_on l xs else takes_on l xs) ++ takes_on l ys)
+    elim (same_link l k) as (λ b. (if b then shape ∷ takes_on l (xs ++ ys) else takes_on l (xs ++ ys))
+    ≡ (if b then shape ∷ takes_on l xs else takes_on l xs) ++ takes_on l ys)
     [ true ↦ ap (λ v. shape ∷ v) (takes_on-append l xs ys) | false ↦ takes_on-append l xs ys ]
 
 links-append : (i : Number) (xs ys : List Move) → UsesOwnLinks i xs → UsesOwnLinks i ys → UsesOwnLinks i (xs ++ ys)
@@ -85,7 +88,8 @@ module _ (p : Protocol) (blockable : Blockable p) (sound : Sound p) where
       then_do (blocks_strand p sizes i (drop m u) (drop (p.second m) v) (drop (p.draws m i) words))
       (λ later. Ends (joined here later))
 
-  module _ (m : ℕ) (sizes : List ℕ) (i : Number) (u v words : List ℕ) (hu : length u ≡ m + total sizes) (hv : length v ≡ p.second (m + total sizes)) (hw : length words ≡ p.draws (m + total sizes) i) where
+  module _ (m : ℕ) (sizes : List ℕ) (i : Number) (u v words : List ℕ) (hu : length u ≡ m + total sizes) (hv : length v ≡ p.second (m + total sizes))
+      (hw : length words ≡ p.draws (m + total sizes) i) where
     first-moves : Moves (p.strand m i (take m u) (take (p.second m) v) (take (p.draws m i) words)) (p.script m i)
     first-moves =
         sound.moves m i _ _ _ (front-length (λ k. k) itself m (total sizes) u hu)

@@ -25,7 +25,8 @@ head_written f start a b d gives n m kinds eg en ek em h1 h2 h3 =
     ∙ ap (λ z. start ++ bytes_of (short f.parameters ∷ byte z ∷ short n ∷ (kind_numbers kinds ++ short m ∷ []))) eg
     ∙ ap (λ z. start ++ bytes_of (short f.parameters ∷ byte (return_byte f.gives) ∷ short z ∷ (kind_numbers kinds ++ short m ∷ []))) en
     ∙ ap (λ z. start ++ bytes_of (short f.parameters ∷ byte (return_byte f.gives) ∷ short (length f.registers.items) ∷ (kind_numbers z ++ short m ∷ []))) ek
-    ∙ ap (λ z. start ++ bytes_of (short f.parameters ∷ byte (return_byte f.gives) ∷ short (length f.registers.items) ∷ (kind_numbers f.registers.items ++ short z ∷ [])))
+    ∙ ap (λ z. start ++ bytes_of
+    (short f.parameters ∷ byte (return_byte f.gives) ∷ short (length f.registers.items) ∷ (kind_numbers f.registers.items ++ short z ∷ [])))
     (em ∙ sym (length-map f.body.items raw_instruction))
 
 parts_written : (code : RawCode) (t1 t2 t3 t4 t5 : List ℕ)

@@ -9,7 +9,8 @@ use Rattle.bytecode.specs.declared.code.Function.{Function}
 use Rattle.bytecode.specs.declared.code.Code.{Code}
 use Rattle.bytecode.specs.declared.heads.Head as heads
 use Rattle.bytecode.specs.Decoded.{Head}
-use Rattle.bytecode.specs.Raw.{Raw, Literal, Move, Store, Binary, Not, Cast, Classify, Fill, At, Put, Size, Cat, Sum, Bits, Declassify, Argument, Publish, Assert, Branch, Jump, Call, Return, ReturnNone, RawFunction, RawCode}
+use Rattle.bytecode.specs.Raw.{Raw, Literal, Move, Store, Binary, Not, Cast, Classify, Fill, At, Put, Size, Cat, Sum, Bits, Declassify, Argument}
+use Rattle.bytecode.specs.Raw.{Publish, Assert, Branch, Jump, Call, Return, ReturnNone, RawFunction, RawCode}
 
 abbrev pub operator_byte : BinaryOperator → ℕ
 operator_byte operators.Add = 0

@@ -18,7 +18,8 @@ frame-put vs k v h = fun_ext (λ j. at j (nat_eq j k) refl)
     there : k < length (map value_seen vs)
     there = simp (length-map) h
 
-    at : (j : ℕ) (b : Bool) → nat_eq j k ≡ b → get_or (map value_seen (set vs k v)) j nothing ≡ (if b then value_seen v else get_or (map value_seen vs) j nothing)
+    at : (j : ℕ) (b : Bool) → nat_eq j k ≡ b
+        → get_or (map value_seen (set vs k v)) j nothing ≡ (if b then value_seen v else get_or (map value_seen vs) j nothing)
     at j true e = ap (λ l. get_or l j nothing) (map-set value_seen vs k v) ∙ get_or-set_at (map value_seen vs) k j (value_seen v) nothing (eqb-true j k e) there
     at j false e = ap (λ l. get_or l j nothing) (map-set value_seen vs k v) ∙ get_or-set_other (map value_seen vs) k j (value_seen v) nothing (eqb-false j k e)
 

@@ -10,7 +10,8 @@ ghost use Rattle.value_steps.specs.Steps.{Does, itself};
 ghost use Rattle.value_steps.specs.Views.{value_seen, stage_seen, world_seen};
 ghost use Rattle.clear_eval.specs.inner.Parts.{HasOne, HasTwo, HasOneWithin, HasTwoWithin};
 ghost use Rattle.clear_eval.specs.inner.Standing.{node_at, evaluation_at, wanted_at, test_at, flow_at, flow_of_all, branch_at, turns_at, repeats_at, body_at};
-ghost use Rattle.clear_eval.specs.inner.Standing.{HasRoomFor, AreSoundAmong, IsSoundAround, IsSoundNode, IsSoundIn, AreSoundIn, IsSoundStatement, AreSoundStatements};
+ghost use Rattle.clear_eval.specs.inner.Standing.{HasRoomFor, AreSoundAmong, IsSoundAround, IsSoundNode, IsSoundIn, AreSoundIn, IsSoundStatement};
+ghost use Rattle.clear_eval.specs.inner.Standing.{AreSoundStatements};
 ghost use Rattle.clear_eval.specs.inner.Views.{frame_seen, flow_seen, held_seen, values_seen, calls_from};
 
 use crate::beginning::{Begun, begin};
@@ -224,7 +225,8 @@ fn not_cut_short(
 ) -> Result<Value, Halt>
     requires program { IsSoundAround at.now }
     requires here { IsSoundIn at.now frame.now.items right.now }
-    ensures step { Does value_seen (not_cut_short (world_seen world.now) connective (value_seen left) (evaluation_at world.now at.now frame.now.items right.now))
+    ensures step { Does value_seen
+        (not_cut_short (world_seen world.now) connective (value_seen left) (evaluation_at world.now at.now frame.now.items right.now))
         (stage_seen stage.old) result (stage_seen stage.new) }
     ensures spends { stage.new.left ≤ stage.old.left }
 {

@@ -60,7 +60,8 @@ pub fn on_one(
     e: &TypedExpression,
     x: Held<'_>,
 ) -> Result<Value, Halt>
-    ensures step { Does value_seen (step_on_one (world_seen world.now) (typed_tree e.now) (held_seen x.entry)) (stage_seen stage.old) result (stage_seen stage.new) }
+    ensures step { Does value_seen (step_on_one (world_seen world.now) (typed_tree e.now) (held_seen x.entry)) (stage_seen stage.old) result
+        (stage_seen stage.new) }
     ensures spends { stage.new.left ≤ stage.old.left }
 {
     match e {
@@ -84,7 +85,8 @@ pub fn on_two(
     x: Held<'_>,
     y: Held<'_>,
 ) -> Result<Value, Halt>
-    ensures step { Does value_seen (step_on_two (world_seen world.now) (typed_tree e.now) (held_seen x.entry) (held_seen y.entry)) (stage_seen stage.old) result (stage_seen stage.new) }
+    ensures step { Does value_seen (step_on_two (world_seen world.now) (typed_tree e.now) (held_seen x.entry) (held_seen y.entry))
+        (stage_seen stage.old) result (stage_seen stage.new) }
     ensures spends { stage.new.left ≤ stage.old.left }
 {
     match e {
@@ -168,7 +170,8 @@ pub fn with_one(
     x: Value,
 ) -> Result<Flow, Halt>
     requires { IsSoundStatement at.now frame.old.items s.now }
-    ensures step { Does (flow_seen frame.new.items) (after_one (world_seen world.now) (place_seen at.now) (command s.now) (value_seen x) (frame_seen frame.old.items))
+    ensures step { Does (flow_seen frame.new.items)
+        (after_one (world_seen world.now) (place_seen at.now) (command s.now) (value_seen x) (frame_seen frame.old.items))
         (stage_seen stage.old) result (stage_seen stage.new) }
     ensures slots { length frame.new.items ≡ length frame.old.items }
     ensures spends { stage.new.left ≤ stage.old.left }
@@ -207,7 +210,8 @@ pub fn with_two(
     y: Value,
 ) -> Result<Flow, Halt>
     requires { IsSoundStatement at.now frame.old.items s.now }
-    ensures step { Does (flow_seen frame.new.items) (after_two (world_seen world.now) (place_seen at.now) (command s.now) (value_seen x) (value_seen y) (frame_seen frame.old.items))
+    ensures step { Does (flow_seen frame.new.items)
+        (after_two (world_seen world.now) (place_seen at.now) (command s.now) (value_seen x) (value_seen y) (frame_seen frame.old.items))
         (stage_seen stage.old) result (stage_seen stage.new) }
     ensures slots { length frame.new.items ≡ length frame.old.items }
     ensures spends { stage.new.left ≤ stage.old.left }

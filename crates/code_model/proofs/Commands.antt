@@ -17,7 +17,8 @@ use Rattle.language_model.specs.Effects.{World, Stage, Effect, ◌>>=◌, carry,
 use Rattle.language_model.specs.Values.{Value, plain, size, default_words}
 use Rattle.language_model.specs.Operations as row
 use Rattle.language_model.specs.Operations.{charged, no_traps, wanted, tested}
-use Rattle.language_model.specs.Evaluation.{Frame, put, Calls, StatementContext, gives_private, slot_is_private, slot_shape, slots_of, bound_at, asked_for, input_named}
+use Rattle.language_model.specs.Evaluation.{Frame, put, Calls, StatementContext, gives_private, slot_is_private, slot_shape, slots_of, bound_at}
+use Rattle.language_model.specs.Evaluation.{asked_for, input_named}
 use Rattle.language_model.specs.Evaluation.{either, value, Flow, goes, stops, skips, stored, execute, execute_all}
 use Rattle.verified_code.specs.Steps.{Step, Store, Fill, Put, Argument, Publish, Assert, Branch, Jump, Call, Return, Function}
 use Rattle.code_model.specs.Machine.{Caller, Machine, at, next, step, resume, received, limit, same_bool}

@@ -23,7 +23,8 @@ use Rattle.reached_instances.specs.declared.instance.BoundDomain.{BoundDomain}
 use Rattle.reached_instances.specs.Domains.{Setting, domains}
 use Rattle.reached_instances.specs.Instances.{Instance}
 use Rattle.language_model.specs.Words.{truth_word}
-use Rattle.language_model.specs.Evaluation.{StatementContext, gives_private, slot_is_private, slot_shape, slots_of, bound_at, next_is_private, behind_next, connective}
+use Rattle.language_model.specs.Evaluation.{StatementContext, gives_private, slot_is_private, slot_shape, slots_of, bound_at, next_is_private}
+use Rattle.language_model.specs.Evaluation.{behind_next, connective}
 use Rattle.language_model.specs.Evaluation.{either, place_in}
 use Rattle.verified_code.specs.Steps.{Step, Literal, Move, Store, Fill, Put, Return, Branch, Jump, Function}
 use Rattle.code_model.specs.Kinds.{width}

@@ -7,7 +7,8 @@ use Rattle.typed_tree.specs.Tree.{TypedTree}
 use Rattle.language_model.specs.Effects.{World, Stage, Ended, Effect, ◌>>=◌, carry, done}
 use Rattle.language_model.specs.Values.{Value, is_true}
 use Rattle.language_model.specs.Operations.{tested}
-use Rattle.language_model.specs.Evaluation.{Frame, Calls, StatementContext, gives_private, either, value, Flow, goes, returns, stops, skips, turned, turns, repeats}
+use Rattle.language_model.specs.Evaluation.{Frame, Calls, StatementContext, gives_private, either, value, Flow, goes, returns, stops, skips, turned}
+use Rattle.language_model.specs.Evaluation.{turns, repeats}
 use Rattle.verified_code.specs.Steps.{Step, Branch, Function}
 use Rattle.code_model.specs.Machine.{Caller, Machine, limit, same_bool}
 use Rattle.code_model.specs.Expressions.{Numbers}

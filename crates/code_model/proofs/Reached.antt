@@ -128,7 +128,8 @@ module _ (Known : ℕ → List BoundDomain → Type 0) where
     command_knows at i (publish_command text e) fit h = knows at.here e fit h
     command_knows at i (evaluate_command e) fit h = knows at.here e fit h
 
-    commands_know : (at : StatementContext) (i : Bool) (cs : Commands) → AreFitCommands (IsThere at.here.functions) at i cs → AllKnown (commands_calls at.here cs)
+    commands_know : (at : StatementContext) (i : Bool) (cs : Commands) → AreFitCommands (IsThere at.here.functions) at i cs
+        → AllKnown (commands_calls at.here cs)
         → AreFitCommands Known at i cs
     commands_know at i Commands'.none fit h = tt
     commands_know at i (Commands'.also c cs) fit h =

@@ -4,7 +4,9 @@ use Rattle.std.specs.Prelude.{nat_eq, nat_lt, nat_le, ◌&&◌, ◌||◌, if◌t
 use Rattle.std.proofs.lemmas.Bool.{eqb-true, eqb-false, ltb-true, ltb-false, leb-true, leb-false}
 use Rattle.sc_text.specs.declared.span.Span.{Span}
 use Rattle.domain_types.specs.declared.fault.TypeProblem.{TypeProblem}
-use Rattle.domain_types.specs.declared.fault.TypeProblem.TheVariants.{UnknownName, Twice, TypeMismatch, PrivateCondition, PrivateIndex, PrivateSize, PrivateToPublic, PrivateDivision, PrivateAssert, DomainMix, NoMain, BadImport, BadArity, MissingReturn, ArgumentPlace}
+use Rattle.domain_types.specs.declared.fault.TypeProblem.TheVariants.{UnknownName, Twice, TypeMismatch, PrivateCondition, PrivateIndex, PrivateSize}
+use Rattle.domain_types.specs.declared.fault.TypeProblem.TheVariants.{PrivateToPublic, PrivateDivision, PrivateAssert, DomainMix, NoMain, BadImport}
+use Rattle.domain_types.specs.declared.fault.TypeProblem.TheVariants.{BadArity, MissingReturn, ArgumentPlace}
 use Rattle.domain_types.specs.declared.fault.TypeFault.{TypeFault}
 use Rattle.sc_text.specs.Lists.{Among}
 use Rattle.domain_types.specs.Least.{number_of, NotAfter, IsLeast}
@@ -12,9 +14,11 @@ use Rattle.domain_types.specs.inner.LeastFault.{is_before, least}
 
 -- what the test says
 told : (f g : TypeFault) → ((is_before f g ≡ true) × NotAfter f g) ⊎ ((is_before f g ≡ false) × NotAfter g f)
-told f g = go (nat_lt f.place.line g.place.line) (nat_eq f.place.line g.place.line) (nat_lt f.place.column g.place.column) (nat_eq f.place.column g.place.column) (nat_le (number_of f.problem) (number_of g.problem)) refl refl refl refl refl
+told f g = go (nat_lt f.place.line g.place.line) (nat_eq f.place.line g.place.line) (nat_lt f.place.column g.place.column)
+    (nat_eq f.place.column g.place.column) (nat_le (number_of f.problem) (number_of g.problem)) refl refl refl refl refl
   where
-    go : (a b c d e : Bool) → nat_lt f.place.line g.place.line ≡ a → nat_eq f.place.line g.place.line ≡ b → nat_lt f.place.column g.place.column ≡ c → nat_eq f.place.column g.place.column ≡ d → nat_le (number_of f.problem) (number_of g.problem) ≡ e →
+    go : (a b c d e : Bool) → nat_lt f.place.line g.place.line ≡ a → nat_eq f.place.line g.place.line ≡ b → nat_lt f.place.column g.place.column ≡ c
+        → nat_eq f.place.column g.place.column ≡ d → nat_le (number_of f.problem) (number_of g.problem) ≡ e →
         ((a || (b && (c || (d && e))) ≡ true) × NotAfter f g) ⊎ ((a || (b && (c || (d && e))) ≡ false) × NotAfter g f)
     go true b c d e ea eb ec ed ee =
         let l = ltb-true f.place.line g.place.line ea in
@@ -47,8 +51,11 @@ follows : (f g h : TypeFault) → NotAfter f g → NotAfter g h → NotAfter f h
 follows f g h a b =
     record {
       lines = let x = a.lines in let y = b.lines in omega arith;
-      columns = λ s. let x = a.lines in let y = b.lines in let p : f.place.line ≡ g.place.line = omega arith in let q : g.place.line ≡ h.place.line = omega arith in let u = a.columns p in let v = b.columns q in omega arith;
-      numbers = λ s t. let x = a.lines in let y = b.lines in let p : f.place.line ≡ g.place.line = omega arith in let q : g.place.line ≡ h.place.line = omega arith in let u = a.columns p in let v = b.columns q in let m : f.place.column ≡ g.place.column = omega arith in let n : g.place.column ≡ h.place.column = omega arith in let i = a.numbers p m in let j = b.numbers q n in omega arith;
+      columns = λ s. let x = a.lines in let y = b.lines in let p : f.place.line ≡ g.place.line = omega arith in let q : g.place.line ≡ h.place.line =
+          omega arith in let u = a.columns p in let v = b.columns q in omega arith;
+      numbers = λ s t. let x = a.lines in let y = b.lines in let p : f.place.line ≡ g.place.line = omega arith in
+          let q : g.place.line ≡ h.place.line = omega arith in let u = a.columns p in let v = b.columns q in let m : f.place.column ≡ g.place.column =
+          omega arith in let n : g.place.column ≡ h.place.column = omega arith in let i = a.numbers p m in let j = b.numbers q n in omega arith;
     }
 
 itself : (f : TypeFault) → NotAfter f f
@@ -73,7 +80,8 @@ least_of o (n ∷ fs) f e = go (told o n) (λ h. least_of o fs f h) (λ h. least
       rest = λ g h. ⊎_elim (λ (s : g ≡ n). subst (NotAfter f) (sym s) (follows f w n l.first bn)) (λ (m : Among g fs). l.rest g m) h;
     }
 
-    go : ((is_before o n ≡ true) × NotAfter o n) ⊎ ((is_before o n ≡ false) × NotAfter n o) → (least (Some o) fs ≡ Some f → LeastOf f o fs) → (least (Some n) fs ≡ Some f → LeastOf f n fs) → LeastOf f o (n ∷ fs)
+    go : ((is_before o n ≡ true) × NotAfter o n) ⊎ ((is_before o n ≡ false) × NotAfter n o) → (least (Some o) fs ≡ Some f → LeastOf f o fs)
+        → (least (Some n) fs ≡ Some f → LeastOf f n fs) → LeastOf f o (n ∷ fs)
     go (inl t) io in' = here o (io (ap (λ b. least (cond b (Some o) (Some n)) fs) (sym t.0) ∙ e)) (inl refl) (itself o) t.1
     go (inr t) io in' = here n (in' (ap (λ b. least (cond b (Some o) (Some n)) fs) (sym t.0) ∙ e)) (inr refl) t.1 (itself n)
 

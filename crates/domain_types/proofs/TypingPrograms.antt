@@ -15,7 +15,8 @@ use Rattle.domain_types.specs.FunctionTypes.{function_faults, head_faults}
 use Rattle.sc_text.specs.Lists.{Among}
 use Rattle.domain_types.specs.inner.LeastFault.{least}
 use Rattle.domain_types.specs.Reached.{function_calls, Instance, Calls, IsChecked, reached}
-use Rattle.domain_types.specs.ProgramTypes.{is_module, is_one_of, more_kinds, more_functions, space_faults, item_faults, items_faults, has_main, declaring_faults, IsFault, declaring, inside, of_head, IsAccepted, IsRefused}
+use Rattle.domain_types.specs.ProgramTypes.{is_module, is_one_of, more_kinds, more_functions, space_faults, item_faults, items_faults, has_main}
+use Rattle.domain_types.specs.ProgramTypes.{declaring_faults, IsFault, declaring, inside, of_head, IsAccepted, IsRefused}
 use Rattle.domain_types.specs.Typing.{IsNew, IsItem, AreItems, IsTypedProgram}
 use Rattle.domain_types.proofs.Laws.{is_least, none_from_least}
 use Rattle.domain_types.proofs.TypingSteps.{parts, joined, not_so}
@@ -92,12 +93,14 @@ pub none_in_empty : (g : TypeFault) (fs : List TypeFault) → fs ≡ [] → Amon
 none_in_empty g fs e m = subst (Among g) e m
 
 -- each checked function of an accepted program is without fault
-function_faultless : (p : ProgramTree) → IsAccepted p → (i : Instance) (f : FunctionTree) → IsChecked p i → slice_get (functions_of p.items) i.function ≡ Some f → function_faults (within (declared_by p) f i.binding) f ≡ []
+function_faultless : (p : ProgramTree) → IsAccepted p → (i : Instance) (f : FunctionTree) → IsChecked p i
+    → slice_get (functions_of p.items) i.function ≡ Some f → function_faults (within (declared_by p) f i.binding) f ≡ []
 function_faultless p a i f c at =
     empty_where_none (function_faults (within (declared_by p) f i.binding) f) (λ g m. a.faultless g (inside i f g c at m))
 
 -- the functions that it calls are checked too, and so are their results
-calls_give_types : (p : ProgramTree) → IsAccepted p → (i : Instance) (f : FunctionTree) → IsChecked p i → slice_get (functions_of p.items) i.function ≡ Some f → GiveTypes (declared_by p) (function_calls (within (declared_by p) f i.binding) f)
+calls_give_types : (p : ProgramTree) → IsAccepted p → (i : Instance) (f : FunctionTree) → IsChecked p i
+    → slice_get (functions_of p.items) i.function ≡ Some f → GiveTypes (declared_by p) (function_calls (within (declared_by p) f i.binding) f)
 calls_give_types p a i f c at =
     λ call m g ds there bound.
     let made : Calls p i (record { function = call.function; binding = Some ds }) =
@@ -129,7 +132,8 @@ accepted_is_typed p a =
 no_fault : (p : ProgramTree) → IsTypedProgram p → (g : TypeFault) → IsFault p g → ⊥
 no_fault p t g (declaring h m) = none_in_empty h (declaring_faults p) (no_declaring_faults p t) m
 no_fault p t g (inside i f h c at m) =
-    none_in_empty h (function_faults (within (declared_by p) f i.binding) f) (no_function_faults (within (declared_by p) f i.binding) f (t.functions i f c at)) m
+    none_in_empty h (function_faults (within (declared_by p) f i.binding) f)
+    (no_function_faults (within (declared_by p) f i.binding) f (t.functions i f c at)) m
 no_fault p t g (of_head i call f h c made at m) =
     none_in_empty h (head_faults (declared_by p) p.items f)
     (no_domain_variables_faults (declared_by p) p.items f.parameters [] f.variables (t.heads i call f c made at)) m

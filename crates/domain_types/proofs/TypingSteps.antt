@@ -25,7 +25,8 @@ pub followed : {A B : Type 0} (h : A → Option B) (o : Option A) (b : B) → op
 followed h None b e = absurd (none-some b e)
 followed h (Some a) b e = (a, refl, e)
 
-pub paired : {A : Type 0} (rule : ValueType → ValueType → Option A) (a b : Option ValueType) (c : A) → of_two rule a b ≡ Some c → (x y : ValueType) × (a ≡ Some x) × (b ≡ Some y) × (rule x y ≡ Some c)
+pub paired : {A : Type 0} (rule : ValueType → ValueType → Option A) (a b : Option ValueType) (c : A) → of_two rule a b ≡ Some c
+    → (x y : ValueType) × (a ≡ Some x) × (b ≡ Some y) × (rule x y ≡ Some c)
 paired rule None b c e = absurd (none-some c e)
 paired rule (Some x) None c e = absurd (none-some c e)
 paired rule (Some x) (Some y) c e = (x, y, refl, refl, e)

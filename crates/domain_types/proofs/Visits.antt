@@ -24,7 +24,9 @@ pub then_calls : (a b c : List Call) (cs ds : List Call) → b ≡ a ++ cs → c
 then_calls a b c cs ds e f = f ∙ ap (λ (z : List Call). z ++ ds) e ∙ append_assoc a cs ds
 
 -- behind a part: its faults and calls, and then those of the rest
-pub gives_behind : {A : Type 0} (wanted given : A) (f g h : Found) (fs gs : List TypeFault) (cs ds : List Call) → g.least_fault ≡ least f.least_fault fs → calls_seen g.calls.items ≡ calls_seen f.calls.items ++ cs → Gives wanted given g h gs ds → Gives wanted given f h (fs ++ gs) (cs ++ ds)
+pub gives_behind : {A : Type 0} (wanted given : A) (f g h : Found) (fs gs : List TypeFault) (cs ds : List Call)
+    → g.least_fault ≡ least f.least_fault fs → calls_seen g.calls.items ≡ calls_seen f.calls.items ++ cs → Gives wanted given g h gs ds
+    → Gives wanted given f h (fs ++ gs) (cs ++ ds)
 gives_behind wanted given f g h fs gs cs ds least_fault calls rest =
     record {
       kind = rest.kind;
@@ -38,7 +40,10 @@ if_ok_so P Q (Ok a) so given = so a given
 if_ok_so P Q (Err e) so given = given
 
 -- a node with one part, and one with two: what is found in the parts, and then the node's own faults
-pub one_part : {A : Type 0} (w : Setting) (s : Scope) (e : Tree) (f g h : Found) (v : Option ValueType) (wanted given : A) (own : ValueType → List TypeFault) → Gives (value_type w s e) v f g (value_faults w s e) (calls_of w s e) → given ≡ wanted → h.least_fault ≡ least g.least_fault (of_typed v own) → calls_seen h.calls.items ≡ calls_seen g.calls.items → Gives wanted given f h (value_faults w s e ++ of_typed (value_type w s e) own) (calls_of w s e)
+pub one_part : {A : Type 0} (w : Setting) (s : Scope) (e : Tree) (f g h : Found) (v : Option ValueType) (wanted given : A)
+    (own : ValueType → List TypeFault) → Gives (value_type w s e) v f g (value_faults w s e) (calls_of w s e) → given ≡ wanted
+    → h.least_fault ≡ least g.least_fault (of_typed v own) → calls_seen h.calls.items ≡ calls_seen g.calls.items
+    → Gives wanted given f h (value_faults w s e ++ of_typed (value_type w s e) own) (calls_of w s e)
 one_part w s e f g h v wanted given own part kind last same =
     record {
       kind = kind;
@@ -48,13 +53,21 @@ one_part w s e f g h v wanted given own part kind last same =
       calls = same ∙ part.calls;
     }
 
-pub two_parts : {A : Type 0} (w : Setting) (s : Scope) (a b : Tree) (f g h k : Found) (u v : Option ValueType) (wanted given : A) (own : ValueType → ValueType → List TypeFault) → Gives (value_type w s a) u f g (value_faults w s a) (calls_of w s a) → Gives (value_type w s b) v g h (value_faults w s b) (calls_of w s b) → given ≡ wanted → k.least_fault ≡ least h.least_fault (of_typed u (λ t. of_typed v (own t))) → calls_seen k.calls.items ≡ calls_seen h.calls.items → Gives wanted given f k ((value_faults w s a ++ value_faults w s b) ++ of_typed (value_type w s a) (λ t. of_typed (value_type w s b) (own t))) (calls_of w s a ++ calls_of w s b)
+pub two_parts : {A : Type 0} (w : Setting) (s : Scope) (a b : Tree) (f g h k : Found) (u v : Option ValueType) (wanted given : A)
+    (own : ValueType → ValueType → List TypeFault) → Gives (value_type w s a) u f g (value_faults w s a) (calls_of w s a)
+    → Gives (value_type w s b) v g h (value_faults w s b) (calls_of w s b) → given ≡ wanted
+    → k.least_fault ≡ least h.least_fault (of_typed u (λ t. of_typed v (own t))) → calls_seen k.calls.items ≡ calls_seen h.calls.items
+    → Gives wanted given f k ((value_faults w s a ++ value_faults w s b) ++ of_typed (value_type w s a) (λ t. of_typed (value_type w s b) (own t)))
+    (calls_of w s a ++ calls_of w s b)
 two_parts w s a b f g h k u v wanted given own first second kind last same =
     record {
       kind = kind;
       least_fault =
-          then_least f.least_fault h.least_fault k.least_fault (value_faults w s a ++ value_faults w s b) (of_typed (value_type w s a) (λ t. of_typed (value_type w s b) (own t)))
+          then_least f.least_fault h.least_fault k.least_fault (value_faults w s a ++ value_faults w s b)
+          (of_typed (value_type w s a) (λ t. of_typed (value_type w s b) (own t)))
           (then_least f.least_fault g.least_fault h.least_fault (value_faults w s a) (value_faults w s b) first.least_fault second.least_fault)
-          (last ∙ ap (λ z. least h.least_fault (of_typed z (λ t. of_typed v (own t)))) first.kind ∙ ap (λ z. least h.least_fault (of_typed (value_type w s a) (λ t. of_typed z (own t)))) second.kind);
-      calls = same ∙ then_calls (calls_seen f.calls.items) (calls_seen g.calls.items) (calls_seen h.calls.items) (calls_of w s a) (calls_of w s b) first.calls second.calls;
+          (last ∙ ap (λ z. least h.least_fault (of_typed z (λ t. of_typed v (own t)))) first.kind
+          ∙ ap (λ z. least h.least_fault (of_typed (value_type w s a) (λ t. of_typed z (own t)))) second.kind);
+      calls = same ∙ then_calls (calls_seen f.calls.items) (calls_seen g.calls.items) (calls_seen h.calls.items) (calls_of w s a)
+          (calls_of w s b) first.calls second.calls;
     }

@@ -2,7 +2,9 @@
 use Rattle.std.specs.Prelude.{◌≡◌, ℕ, ◌≤◌, List}
 use Rattle.sc_text.specs.Lists.{Among}
 use Rattle.domain_types.specs.declared.fault.TypeProblem.{TypeProblem}
-use Rattle.domain_types.specs.declared.fault.TypeProblem.TheVariants.{UnknownName, Twice, TypeMismatch, PrivateCondition, PrivateIndex, PrivateSize, PrivateToPublic, PrivateDivision, PrivateAssert, DomainMix, NoMain, BadImport, BadArity, MissingReturn, ArgumentPlace}
+use Rattle.domain_types.specs.declared.fault.TypeProblem.TheVariants.{UnknownName, Twice, TypeMismatch, PrivateCondition, PrivateIndex, PrivateSize}
+use Rattle.domain_types.specs.declared.fault.TypeProblem.TheVariants.{PrivateToPublic, PrivateDivision, PrivateAssert, DomainMix, NoMain, BadImport}
+use Rattle.domain_types.specs.declared.fault.TypeProblem.TheVariants.{BadArity, MissingReturn, ArgumentPlace}
 use Rattle.domain_types.specs.declared.fault.TypeFault.{TypeFault}
 
 -- the number in the code that is printed, D1 to D15

@@ -103,7 +103,8 @@ fn returns_on_every_way(least_fault: &mut Option<TypeFault>, function: &Function
 /// Checks the function that `here` is in, whose domain variables are bound as it says.
 #[tactic(auto, using(crate::proofs::Faults::appends))]
 pub fn function(found: &mut Found, here: &Setting<'_, '_>) -> Result<(), AllocError>
-    ensures least_fault { IfOk result (λ _. found.new.least_fault ≡ least found.old.least_fault (function_faults (setting here.now) (function_tree here.now.function.now))) }
+    ensures least_fault { IfOk result
+        (λ _. found.new.least_fault ≡ least found.old.least_fault (function_faults (setting here.now) (function_tree here.now.function.now))) }
     ensures calls { IfOk result (λ _. calls_seen found.new.calls.items ≡
         calls_seen found.old.calls.items ++ function_calls (setting here.now) (function_tree here.now.function.now)) }
 {

@@ -1,7 +1,8 @@
 // The faults of a template's head, which needs no binding.
 ghost use Rattle.std.specs.Prelude.{◌≡◌, [], reverse};
 ghost use Rattle.secrec_ast.specs.Programs.{function_tree};
-ghost use Rattle.domain_types.specs.FunctionTypes.{is_earlier, later_of, hiding_faults, kind_faults, is_variable, is_in_parameter, domain_variable_faults, domain_variables_faults};
+ghost use Rattle.domain_types.specs.FunctionTypes.{is_earlier, later_of, hiding_faults, kind_faults, is_variable, is_in_parameter};
+ghost use Rattle.domain_types.specs.FunctionTypes.{domain_variable_faults, domain_variables_faults};
 ghost use Rattle.domain_types.specs.Views.{declared};
 ghost use Rattle.domain_types.specs.inner.LeastFault.{least};
 
@@ -95,7 +96,8 @@ fn domain_variable<'p>(
     before: &[DomainVariable],
     variable: &'p DomainVariable,
 )
-    ensures { least_fault.new ≡ least least_fault.old (domain_variable_faults (declared declarations.now) protections.now parameters.now (reverse before.now) variable.now) }
+    ensures { least_fault.new ≡ least least_fault.old
+        (domain_variable_faults (declared declarations.now) protections.now parameters.now (reverse before.now) variable.now) }
 {
     let name = &variable.variable;
     let text = name.text.as_str();
@@ -122,7 +124,8 @@ pub fn head<'p>(
     function: &'p Function,
 )
     ensures { least_fault.new ≡ least least_fault.old
-        (domain_variables_faults (declared declarations.now) protections.now (function_tree function.now).parameters [] (function_tree function.now).variables) }
+        (domain_variables_faults (declared declarations.now) protections.now (function_tree function.now).parameters []
+        (function_tree function.now).variables) }
 {
     let variables = function.variables.as_slice();
     for index in 0..variables.len() {

@@ -1,7 +1,8 @@
 // The rules of operators, `!` and indices, on the types of their operands.
 ghost use Rattle.std.specs.Prelude.{◌≡◌, option_map, option_and_then};
 ghost use Rattle.domain_types.specs.Types.{of_typed};
-ghost use Rattle.domain_types.specs.ExpressionTypes.{uint64_result, bool_result, element_result, element_of, is_division, operator_faults, operator_type, negation_faults, negation_type, index_faults, index_type, of_two};
+ghost use Rattle.domain_types.specs.ExpressionTypes.{uint64_result, bool_result, element_result, element_of, is_division, operator_faults};
+ghost use Rattle.domain_types.specs.ExpressionTypes.{operator_type, negation_faults, negation_type, index_faults, index_type, of_two};
 ghost use Rattle.domain_types.specs.inner.LeastFault.{least};
 
 use crate::fault::{TypeFault, TypeProblem};

@@ -1,6 +1,7 @@
 // Where a value may go. Each rule notes its faults and says whether there is none.
 ghost use Rattle.std.specs.Prelude.{◌≡◌};
-ghost use Rattle.domain_types.specs.Types.{is_faultless, of_typed, is_private, is_uint64, same_element, same_dimension, meet, mix_faults, flow_faults, store_faults, scalar_faults};
+ghost use Rattle.domain_types.specs.Types.{is_faultless, of_typed, is_private, is_uint64, same_element, same_dimension, meet, mix_faults};
+ghost use Rattle.domain_types.specs.Types.{flow_faults, store_faults, scalar_faults};
 ghost use Rattle.domain_types.specs.inner.LeastFault.{least};
 
 use crate::fault::{TypeFault, TypeProblem};

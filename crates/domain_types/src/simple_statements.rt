@@ -2,7 +2,8 @@
 ghost use Rattle.std.specs.Prelude.{◌≡◌, ◌++◌, IfOk};
 ghost use Rattle.secrec_ast.specs.Tree.{expression};
 ghost use Rattle.secrec_ast.specs.Statements.{optional, start_tree, step_tree};
-ghost use Rattle.domain_types.specs.StatementTypes.{start_faults, after_start, step_faults, is_step_typed, optional_type, optional_faults, for_rule, return_rule};
+ghost use Rattle.domain_types.specs.StatementTypes.{start_faults, after_start, step_faults, is_step_typed, optional_type, optional_faults, for_rule};
+ghost use Rattle.domain_types.specs.StatementTypes.{return_rule};
 ghost use Rattle.domain_types.specs.Reached.{optional_calls, start_calls, step_calls};
 ghost use Rattle.domain_types.specs.Views.{setting, calls_seen};
 ghost use Rattle.domain_types.specs.inner.LeastFault.{least};
@@ -27,7 +28,8 @@ pub fn start<'p>(
     variables: &mut Variables<'p>,
     start: &'p ForStart,
 ) -> Result<(), AllocError>
-    ensures least_fault { IfOk result (λ _. found.new.least_fault ≡ least found.old.least_fault (start_faults (setting here.now) variables.old (start_tree start.now))) }
+    ensures least_fault { IfOk result
+        (λ _. found.new.least_fault ≡ least found.old.least_fault (start_faults (setting here.now) variables.old (start_tree start.now))) }
     ensures calls { IfOk result (λ _. calls_seen found.new.calls.items ≡
         calls_seen found.old.calls.items ++ start_calls (setting here.now) variables.old (start_tree start.now)) }
     ensures variables { IfOk result (λ _. variables.new ≡ after_start (setting here.now) variables.old (start_tree start.now)) }
@@ -47,7 +49,8 @@ pub fn step<'p>(
     step: &'p ForStep,
 ) -> Result<bool, AllocError>
     ensures typed { IfOk result (λ b. b ≡ is_step_typed (setting here.now) variables.now (step_tree step.now)) }
-    ensures least_fault { IfOk result (λ _. found.new.least_fault ≡ least found.old.least_fault (step_faults (setting here.now) variables.now (step_tree step.now))) }
+    ensures least_fault { IfOk result
+        (λ _. found.new.least_fault ≡ least found.old.least_fault (step_faults (setting here.now) variables.now (step_tree step.now))) }
     ensures calls { IfOk result (λ _. calls_seen found.new.calls.items ≡
         calls_seen found.old.calls.items ++ step_calls (setting here.now) variables.now (step_tree step.now)) }
 {
@@ -72,7 +75,8 @@ pub fn optional_value<'p>(
     e: &'p Option<Expression>,
 ) -> Result<Option<ValueType>, AllocError>
     ensures kind { IfOk result (λ t. t ≡ optional_type (setting here.now) variables.now (optional e.now)) }
-    ensures least_fault { IfOk result (λ _. found.new.least_fault ≡ least found.old.least_fault (optional_faults (setting here.now) variables.now (optional e.now))) }
+    ensures least_fault { IfOk result
+        (λ _. found.new.least_fault ≡ least found.old.least_fault (optional_faults (setting here.now) variables.now (optional e.now))) }
     ensures calls { IfOk result (λ _. calls_seen found.new.calls.items ≡
         calls_seen found.old.calls.items ++ optional_calls (setting here.now) variables.now (optional e.now)) }
 {

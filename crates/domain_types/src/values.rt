@@ -24,7 +24,8 @@ pub fn test<'p>(
     private_one: TypeProblem,
     e: &'p Expression,
 ) -> Result<(), AllocError>
-    ensures least_fault { IfOk result (λ _. found.new.least_fault ≡ least found.old.least_fault (test_faults (setting here.now) variables.now private_one (expression e.now))) }
+    ensures least_fault { IfOk result
+        (λ _. found.new.least_fault ≡ least found.old.least_fault (test_faults (setting here.now) variables.now private_one (expression e.now))) }
     ensures calls { IfOk result (λ _. calls_seen found.new.calls.items ≡
         calls_seen found.old.calls.items ++ calls_of (setting here.now) variables.now (expression e.now)) }
 {

@@ -7,7 +7,8 @@ ghost use Rattle.domain_types.specs.FunctionTypes.{domain_variables_faults};
 ghost use Rattle.domain_types.specs.ProgramTypes.{is_without};
 ghost use Rattle.domain_types.specs.Views.{declared, tree_at, call_seen, calls_seen};
 ghost use Rattle.domain_types.specs.Instances.{instance_seen};
-ghost use Rattle.domain_types.specs.inner.WorkList.{with_binding, with_calls, with_plain, plain_instances, instance_faults, instance_calls, gathered, is_called, heads_faults, AreVisited};
+ghost use Rattle.domain_types.specs.inner.WorkList.{with_binding, with_calls, with_plain, plain_instances, instance_faults, instance_calls, gathered};
+ghost use Rattle.domain_types.specs.inner.WorkList.{is_called, heads_faults, AreVisited};
 ghost use Rattle.domain_types.specs.inner.LeastFault.{least};
 
 use crate::calls::{Call, Found};
@@ -59,7 +60,8 @@ fn visit<'p>(
     declarations: &Declarations<'p>,
     instance: &Instance,
 ) -> Result<Vec<Call>, AllocError>
-    ensures least_fault { IfOk result (λ _. least_fault.new ≡ least least_fault.old (instance_faults (declared declarations.now) (instance_seen instance.now))) }
+    ensures least_fault { IfOk result
+        (λ _. least_fault.new ≡ least least_fault.old (instance_faults (declared declarations.now) (instance_seen instance.now))) }
     ensures calls { IfOk result (λ calls. calls_seen calls.items ≡ instance_calls (declared declarations.now) (instance_seen instance.now)) }
 {
     let mut found = Found {
@@ -141,7 +143,8 @@ fn head_if<'p>(
     function: &'p Function,
 )
     ensures { least_fault.new ≡ least least_fault.old
-        (if wanted then domain_variables_faults (declared declarations.now) protections.now (function_tree function.now).parameters [] (function_tree function.now).variables else []) }
+        (if wanted then domain_variables_faults (declared declarations.now) protections.now (function_tree function.now).parameters []
+        (function_tree function.now).variables else []) }
 {
     if wanted {
         head(least_fault, declarations, protections, function);

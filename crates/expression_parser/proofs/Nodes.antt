@@ -1,5 +1,6 @@
 -- What every expression begins with, and the readings of what stands in brackets.
-use Rattle.std.proofs.Common.{◌≡◌, ℕ, suc, ◌<◌, ◌≤◌, List, [], ◌∷◌, ◌++◌, inl, refl, sym, ap, ◌∙◌, subst, append-nil, Ok, Option, Some, None, arith, Bool, true, false, cond}
+use Rattle.std.proofs.Common.{◌≡◌, ℕ, suc, ◌<◌, ◌≤◌, List, [], ◌∷◌, ◌++◌, inl, refl, sym, ap, ◌∙◌, subst, append-nil, Ok, Option, Some, None, arith}
+use Rattle.std.proofs.Common.{Bool, true, false, cond}
 use Rattle.std.specs.Prelude.{nat_lt}
 use Rattle.std.proofs.lemmas.Bool.{ltb-true, ltb-false}
 use Rattle.sc_text.specs.declared.span.Span.{Span}
@@ -57,7 +58,8 @@ pub record Begins (k : ℕ) (c : Tree) (s : List Token) : Type 0 where
   pub low : least kind ≡ Some n
   pub fits : n ≤ height c
 
-begins_so : (k : ℕ) (c : Tree) (s t t2 : List Token) (p : Span) (kind : TokenKind) (n : ℕ) → s ≡ t ++ t2 → t ≡ token p kind ∷ [] → least kind ≡ Some n → n ≤ height c → Begins k c s
+begins_so : (k : ℕ) (c : Tree) (s t t2 : List Token) (p : Span) (kind : TokenKind) (n : ℕ) → s ≡ t ++ t2 → t ≡ token p kind ∷ [] → least kind ≡ Some n
+    → n ≤ height c → Begins k c s
 begins_so k c s t t2 p kind n e o l f = record {
   place = p;
   kind = kind;
@@ -119,7 +121,8 @@ begins k (publish p x e) s v =
     begins_so k (publish p x e) s v.0 v.1 p (kinds.Sign signs.Publish) 2 v.2 v.3 refl (omega arith)
 
 -- the first token of a text that begins with an expression
-pub first_token : (k : ℕ) (c : Tree) (s m m2 : List Token) (x : Token) → IsExpression k c s → s ++ m ≡ x ∷ m2 → (n : ℕ) × (least x.kind ≡ Some n) × (n ≤ height c)
+pub first_token : (k : ℕ) (c : Tree) (s m m2 : List Token) (x : Token) → IsExpression k c s → s ++ m ≡ x ∷ m2
+    → (n : ℕ) × (least x.kind ≡ Some n) × (n ≤ height c)
 first_token k c s m m2 x v eq =
     let b = begins k c s v in
     let f = head_kind s b.behind m m2 b.place b.kind x b.split eq in
@@ -152,7 +155,13 @@ begun_sign signs.Declassify x n e l =
     record {
       tree = declassify x.place leaf;
       behind = start ∷ leaf_token ∷ close ∷ [];
-      here = λ k. (x ∷ [], start ∷ leaf_token ∷ close ∷ [], refl, ap (λ z. token x.place z ∷ []) e, (start ∷ [], leaf_token ∷ close ∷ [], refl, (origin, refl), (leaf_token ∷ [], close ∷ [], refl, refl, (origin, refl))));
+      here = λ k. (
+        x ∷ [],
+        start ∷ leaf_token ∷ close ∷ [],
+        refl,
+        ap (λ z. token x.place z ∷ []) e,
+        (start ∷ [], leaf_token ∷ close ∷ [], refl, (origin, refl), (leaf_token ∷ [], close ∷ [], refl, refl, (origin, refl))),
+      );
     }
 begun_sign signs.Argument x n e l =
     let start = token origin (kinds.Sign signs.LeftParenthesis) in
@@ -161,7 +170,13 @@ begun_sign signs.Argument x n e l =
     record {
       tree = argument x.place [];
       behind = start ∷ name ∷ close ∷ [];
-      here = λ k. (x ∷ [], start ∷ name ∷ close ∷ [], refl, ap (λ z. token x.place z ∷ []) e, (start ∷ [], name ∷ close ∷ [], refl, (origin, refl), (name ∷ [], close ∷ [], refl, (origin, refl), (origin, refl))));
+      here = λ k. (
+        x ∷ [],
+        start ∷ name ∷ close ∷ [],
+        refl,
+        ap (λ z. token x.place z ∷ []) e,
+        (start ∷ [], name ∷ close ∷ [], refl, (origin, refl), (name ∷ [], close ∷ [], refl, (origin, refl), (origin, refl))),
+      );
     }
 begun_sign signs.Publish x n e l =
     let start = token origin (kinds.Sign signs.LeftParenthesis) in
@@ -171,7 +186,25 @@ begun_sign signs.Publish x n e l =
     record {
       tree = publish x.place [] leaf;
       behind = start ∷ name ∷ comma ∷ leaf_token ∷ close ∷ [];
-      here = λ k. (x ∷ [], start ∷ name ∷ comma ∷ leaf_token ∷ close ∷ [], refl, ap (λ z. token x.place z ∷ []) e, (start ∷ [], name ∷ comma ∷ leaf_token ∷ close ∷ [], refl, (origin, refl), (name ∷ [], comma ∷ leaf_token ∷ close ∷ [], refl, (origin, refl), (comma ∷ [], leaf_token ∷ close ∷ [], refl, (origin, refl), (leaf_token ∷ [], close ∷ [], refl, refl, (origin, refl))))));
+      here = λ k. (
+        x ∷ [],
+        start ∷ name ∷ comma ∷ leaf_token ∷ close ∷ [],
+        refl,
+        ap (λ z. token x.place z ∷ []) e,
+        (
+          start ∷ [],
+          name ∷ comma ∷ leaf_token ∷ close ∷ [],
+          refl,
+          (origin, refl),
+          (
+            name ∷ [],
+            comma ∷ leaf_token ∷ close ∷ [],
+            refl,
+            (origin, refl),
+            (comma ∷ [], leaf_token ∷ close ∷ [], refl, (origin, refl), (leaf_token ∷ [], close ∷ [], refl, refl, (origin, refl))),
+          ),
+        ),
+      );
     }
 begun_sign other x n e l = cc
 
@@ -183,7 +216,8 @@ begun (kinds.Sign s) x n e l = begun_sign s x n e l
 begun kinds.End x n e l = cc
 
 -- no expression of at most this height begins with the token
-pub start_bad : (k max_height : ℕ) (x : Token) (m : List Token) (p : ParseProblem) → why_not max_height (least x.kind) ≡ Some p → Bad (IsExpression k) (Low max_height) (Free k) (x ∷ m) p (x ∷ m)
+pub start_bad : (k max_height : ℕ) (x : Token) (m : List Token) (p : ParseProblem) → why_not max_height (least x.kind) ≡ Some p
+    → Bad (IsExpression k) (Low max_height) (Free k) (x ∷ m) p (x ∷ m)
 start_bad k max_height x m p e = go (least x.kind) refl e
   where
     unexpected : least x.kind ≡ None → Bad (IsExpression k) (Low max_height) (Free k) (x ∷ m) Unexpected (x ∷ m)
@@ -217,7 +251,8 @@ start_bad k max_height x m p e = go (least x.kind) refl e
           begun = (b.tree, b.behind, b.here k);
         }
 
-    at : (n : ℕ) (b : Bool) → least x.kind ≡ Some n → nat_lt max_height n ≡ b → cond b (Some TooHigh) None ≡ Some p → Bad (IsExpression k) (Low max_height) (Free k) (x ∷ m) p (x ∷ m)
+    at : (n : ℕ) (b : Bool) → least x.kind ≡ Some n → nat_lt max_height n ≡ b → cond b (Some TooHigh) None ≡ Some p
+        → Bad (IsExpression k) (Low max_height) (Free k) (x ∷ m) p (x ∷ m)
     at n true is lt e =
         let f : TooHigh ≡ p = cc in
         subst (λ q. Bad (IsExpression k) (Low max_height) (Free k) (x ∷ m) q (x ∷ m)) f (too_high n is (ltb-true max_height n lt))
@@ -286,7 +321,9 @@ module _ (h : ℕ) (inner operand : List Token → Outcome Tree)
     (reads_inner : (w : List Token) → IsEnded w → Reads (IsExpression loosest) (Low h) (Free loosest) w (inner w))
     (reads_operand : (w : List Token) → IsEnded w → Reads (IsExpression unary) (Low h) (Free unary) w (operand w))
   where
-    pub enclosed_reads : (s : Sign) (f : Tree → Tree) → goes_on loosest (kinds.Sign s) ≡ false → ((e : Tree) → height (f e) ≤ suc h → height e ≤ h) → ((e : Tree) → height e ≤ h → height (f e) ≤ suc h) → (w : List Token) → IsEnded w → Reads (Enclosed s f) (Low (suc h)) Any w (inner w >>= λ e. expect s e.1 >>= λ q. Ok (f e.0, q.1))
+    pub enclosed_reads : (s : Sign) (f : Tree → Tree) → goes_on loosest (kinds.Sign s) ≡ false → ((e : Tree) → height (f e) ≤ suc h → height e ≤ h)
+        → ((e : Tree) → height e ≤ h → height (f e) ≤ suc h) → (w : List Token) → IsEnded w
+        → Reads (Enclosed s f) (Low (suc h)) Any w (inner w >>= λ e. expect s e.1 >>= λ q. Ok (f e.0, q.1))
     enclosed_reads s f free down up w en =
         bind_reads (IsExpression loosest) (Low h) (Free loosest) (λ e. Closing s (f e)) (Low (suc h)) Any
         (λ e c t v fits. down e (subst (Low (suc h)) v.5.0 fits))
@@ -297,10 +334,15 @@ module _ (h : ℕ) (inner operand : List Token → Outcome Tree)
         (λ e r g. closing s (Low (suc h)) (f e) (up e g.fits) r (good_ended g en))
 
     pub enclosed_alive : (s : Sign) (f : Tree → Tree) → 1 ≤ h → ((e : Tree) → height e ≤ h → height (f e) ≤ suc h) → Alive (Enclosed s f) (Low (suc h))
-    enclosed_alive s f max_height up =
-        (f leaf, leaf_token ∷ token origin (kinds.Sign s) ∷ [], (leaf, leaf_token ∷ [], token origin (kinds.Sign s) ∷ [], refl, refl, closes s (f leaf)), up leaf max_height)
+    enclosed_alive s f max_height up = (
+      f leaf,
+      leaf_token ∷ token origin (kinds.Sign s) ∷ [],
+      (leaf, leaf_token ∷ [], token origin (kinds.Sign s) ∷ [], refl, refl, closes s (f leaf)),
+      up leaf max_height,
+    )
 
-    pub made_reads : (f : Tree → Tree) → ((e : Tree) → height (f e) ≤ suc h → height e ≤ h) → ((e : Tree) → height e ≤ h → height (f e) ≤ suc h) → (w : List Token) → IsEnded w → Reads (Made f) (Low (suc h)) (Free unary) w (operand w >>= λ e. Ok (f e.0, e.1))
+    pub made_reads : (f : Tree → Tree) → ((e : Tree) → height (f e) ≤ suc h → height e ≤ h) → ((e : Tree) → height e ≤ h → height (f e) ≤ suc h)
+        → (w : List Token) → IsEnded w → Reads (Made f) (Low (suc h)) (Free unary) w (operand w >>= λ e. Ok (f e.0, e.1))
     made_reads f down up w en =
         bind_reads (IsExpression unary) (Low h) (Free unary) (λ e. Only (f e)) (Low (suc h)) (Free unary)
         (λ e c t v fits. down e (subst (Low (suc h)) v.0 fits))

@@ -20,7 +20,8 @@ ends : (e : Tree) (m : List Token) → Ends m → Stops (Free loosest e) m
 ends e [] h = h
 ends e (x ∷ m) h = h
 
-is_read : (max_height : ℕ) (ts : List Token) (e : Tree) (rest : List Token) → Good (IsExpression loosest) (Low max_height) (Free loosest) ts e rest → IsRead max_height ts e rest
+is_read : (max_height : ℕ) (ts : List Token) (e : Tree) (rest : List Token) → Good (IsExpression loosest) (Low max_height) (Free loosest) ts e rest
+    → IsRead max_height ts e rest
 is_read max_height ts e rest g = record {
   front = g.s;
   split = g.split;
@@ -33,11 +34,13 @@ allowed : (p : ParseProblem) (max_height : ℕ) (e : Tree) → RulesOut p max_he
 allowed Unexpected max_height e h = tt
 allowed TooHigh max_height e h = h
 
-caused : (p : ParseProblem) (s : List Token) (x : Token) → Begun p ((e : Tree) × (t : List Token) × IsExpression loosest e (s ++ x ∷ t)) → IsCause p (s ++ x ∷ [])
+caused : (p : ParseProblem) (s : List Token) (x : Token) → Begun p ((e : Tree) × (t : List Token) × IsExpression loosest e (s ++ x ∷ t))
+    → IsCause p (s ++ x ∷ [])
 caused Unexpected s x b = tt
 caused TooHigh s x b = (b.0, b.1, subst (IsExpression loosest b.0) (sym (append_assoc s (x ∷ []) b.1)) b.2)
 
-is_stopped : (max_height : ℕ) (ts : List Token) (p : ParseProblem) (rest : List Token) → Bad (IsExpression loosest) (Low max_height) (Free loosest) ts p rest → IsStopped max_height ts p rest
+is_stopped : (max_height : ℕ) (ts : List Token) (p : ParseProblem) (rest : List Token)
+    → Bad (IsExpression loosest) (Low max_height) (Free loosest) ts p rest → IsStopped max_height ts p rest
 is_stopped max_height ts p rest g = record {
   front = g.s;
   next = g.x;
@@ -50,7 +53,8 @@ is_stopped max_height ts p rest g = record {
 }
 
 -- however the text ends, the step's answer is told in the grammar's words
-pub told : {X : Type 0} (view : X → Tree × List Token) (max_height : ℕ) (ts : List Token) (result : Result X Stopped) → Gives view result (at_most max_height 9 ts) → IsEnded ts → Answers view max_height ts result
+pub told : {X : Type 0} (view : X → Tree × List Token) (max_height : ℕ) (ts : List Token) (result : Result X Stopped)
+    → Gives view result (at_most max_height 9 ts) → IsEnded ts → Answers view max_height ts result
 told view max_height ts (Ok x) g en =
     is_read max_height ts (view x).0 (view x).1 (subst (Reads (IsExpression loosest) (Low max_height) (Free loosest) ts) g (expression_reads max_height ts en))
 told view max_height ts (Err Memory) g en = tt

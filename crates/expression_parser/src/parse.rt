@@ -1,7 +1,9 @@
 // Recursive descent: each function reads one phrase, where `max_height` is the height that the whole may have.
 
 ghost use Rattle.std.specs.Prelude.{◌≡◌, ◌-◌, ◌<◌, ◌≤◌, ◌∷◌, length, IfOk};
-ghost use Rattle.expression_parser.specs.Steps.{at_most, unary_of, negation_behind, cast_behind, postfix, indexed, primary, signed, parentheses_behind, declassify_behind, argument_behind, publish_behind, after_name, arguments, more, front, grow};
+ghost use Rattle.expression_parser.specs.Steps.{at_most, unary_of, negation_behind, cast_behind, postfix, indexed, primary, signed};
+ghost use Rattle.expression_parser.specs.Steps.{parentheses_behind, declassify_behind, argument_behind, publish_behind, after_name, arguments, more};
+ghost use Rattle.expression_parser.specs.Steps.{front, grow};
 ghost use Rattle.secrec_lexer.specs.Tokens.{IsEnded};
 ghost use Rattle.expression_parser.specs.Answer.{Answers};
 ghost use Rattle.expression_parser.specs.Given.{Gives, tree_of, tree_height, list_of, trees_height, trees_in};
@@ -67,7 +69,8 @@ fn grow<'a>(
 ) -> Read<'a, Parsed>
     requires level { (0 < level) × (level ≤ 9) }
     requires height { (left.height ≡ tree_height left) × (left.height ≤ max_height) }
-    ensures step { Gives (λ x. (tree_of x.0, x.1.now)) result (grow level max_height (at_most (max_height - 1) (level - 1)) (length tokens.now) (tree_of left) tokens.now) }
+    ensures step { Gives (λ x. (tree_of x.0, x.1.now)) result
+        (grow level max_height (at_most (max_height - 1) (level - 1)) (length tokens.now) (tree_of left) tokens.now) }
     ensures height { IfOk result (λ x. (x.0.height ≡ tree_height x.0) × (x.0.height ≤ max_height)) }
     ensures shorter { IfOk result (λ x. length x.1.now ≤ length tokens.now) }
 {

@@ -74,7 +74,8 @@ pub has_just :
     HasJust bytes tokens
 has_just bytes tokens has just accepted = record { has = has; just = just; accepted = accepted }
 
-pub unparsed : (bytes : List ℕ) (tokens : List Token) (e : ParseErr) → HasTokens bytes tokens → RefusesAtFault height_limit tokens (Err e) → IsAnswer bytes (Err (parser_error e))
+pub unparsed : (bytes : List ℕ) (tokens : List Token) (e : ParseErr) → HasTokens bytes tokens → RefusesAtFault height_limit tokens (Err e)
+    → IsAnswer bytes (Err (parser_error e))
 unparsed bytes tokens parsing.Memory has r = tt
 unparsed bytes tokens (parsing.Refused problem place) has r = of_grammar tokens problem place has r
 
@@ -123,7 +124,8 @@ same_tree : (bytes : List ℕ) (tree other : ProgramTree) → SpellsJust bytes t
 same_tree bytes tree other h s = h.just other (spelled_by bytes h.tokens h.lexed other s) s.low
 
 -- where the text spells a tree, it is refused by the type rules or not at all
-refused_by_rules : (bytes : List ℕ) (tree : ProgramTree) → SpellsJust bytes tree → (f : ProgramFault) → IsRefusedText bytes f → (g : TypeFault) × (f ≡ type_fault g) × IsRefused tree g
+refused_by_rules : (bytes : List ℕ) (tree : ProgramTree) → SpellsJust bytes tree → (f : ProgramFault) → IsRefusedText bytes f
+    → (g : TypeFault) × (f ≡ type_fault g) × IsRefused tree g
 refused_by_rules bytes tree h f (of_tokens fault place told) = absurd (h.lexed.accepted fault place told)
 refused_by_rules bytes tree h f (of_grammar ts p s has first) =
     absurd (faultless_where_spelled height_limit ts p s tree first (subst (IsProgram tree) (h.lexed.just ts has) h.spelled) h.low)

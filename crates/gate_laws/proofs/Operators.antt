@@ -187,7 +187,8 @@ module _ (w : World) (d : Dealt) where
           (gate_suits w d (fact one Boolean one_words ∷ (fact both Boolean both_words ∷ fs)) none_of (λ m. 0 * length one_words) none_of
           (gates.Xor one both) Boolean
           (each_two xor_ring.add one_words both_words) (λ m. omega arith) refl
-          (λ r good facts. xor_gain r good one both one_words both_words (length-each_two xor_ring.add us vs same ∙ sym (length-each_two xor_ring.mul us vs same))
+          (λ r good facts. xor_gain r good one both one_words both_words
+          (length-each_two xor_ring.add us vs same ∙ sym (length-each_two xor_ring.mul us vs same))
           facts.0 facts.1.0))))
 
       none_each : (m : Miner) → drawn_by (words_each 0) m ≡ none_of m

@@ -1,7 +1,8 @@
 -- What gates mean on clear values: which values fit a list of gates.
 --
 -- A value is a list of words; the values of a run are a list, each at its number.
-use Rattle.std.specs.Prelude.{◌≡◌, ℕ, ◌+◌, ◌*◌, ◌/◌, ◌^◌, ◌%◌, ◌<◌, ◌≤◌, List, [], ◌∷◌, ◌++◌, Bool, true, false, Some, length, map, take, drop, set, sum, replicate, slice_get, get_or}
+use Rattle.std.specs.Prelude.{◌≡◌, ℕ, ◌+◌, ◌*◌, ◌/◌, ◌^◌, ◌%◌, ◌<◌, ◌≤◌, List, [], ◌∷◌, ◌++◌, Bool, true, false, Some, length, map, take, drop, set}
+use Rattle.std.specs.Prelude.{sum, replicate, slice_get, get_or}
 use Rattle.std.specs.List.{zip, flat_map, range_with_len}
 use Rattle.std.specs.Int.{w64, bit_at, bit_not}
 use Rattle.share_ring.specs.Ring.{Ring}
@@ -10,7 +11,8 @@ use Rattle.share_ring.specs.Words.{AreWords}
 use Rattle.gates.specs.declared.ring_kind.RingKind.{RingKind}
 use Rattle.gates.specs.declared.ring_kind.RingKind.TheVariants.{Arithmetic, Boolean}
 use Rattle.gates.specs.declared.gate.Gate.{Gate}
-use Rattle.gates.specs.declared.gate.Gate.TheVariants.{Input, Const, Add, Sub, MulPub, Mul, Xor, And, Not, Shl, Shr, Low, Cat, Part, Put, Rep, Spread, Sum, Split, Conv, Open, Result}
+use Rattle.gates.specs.declared.gate.Gate.TheVariants.{Input, Const, Add, Sub, MulPub, Mul, Xor, And, Not, Shl, Shr, Low, Cat, Part, Put, Rep, Spread}
+use Rattle.gates.specs.declared.gate.Gate.TheVariants.{Sum, Split, Conv, Open, Result}
 use Rattle.gates.specs.Counts.{made_by, made_by_all}
 
 abbrev pub Values : Type 0

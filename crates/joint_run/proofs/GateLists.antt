@@ -101,7 +101,8 @@ module _ (dealt : Number → Values) (tapes : Tapes) where
           let same : draws_for dealt s gate i ≡ words_for_next dealt before gate i = draws-are i in
           omega arith
 
-      earlier : (miner : Number) → EarlierReach (draws_for dealt s gate) (left_of s) miner → EarlierReach (λ k. words_for dealt before k + words_for_next dealt before gate k) (λ k. length (tapes k)) miner
+      earlier : (miner : Number) → EarlierReach (draws_for dealt s gate) (left_of s) miner
+          → EarlierReach (λ k. words_for dealt before k + words_for_next dealt before gate k) (λ k. length (tapes k)) miner
       earlier One h = tt
       earlier Two h = reaches One h
       earlier Three h = (reaches One h.0, reaches Two h.1)

@@ -217,7 +217,8 @@ module _ (dealt : Number → Values) (ds sizes : List ℕ) where
 
 -- ---- a gate that can be run
 
-module _ (dealt : Number → Values) (even : IsEven dealt) (gate : Gate) (s t : RunState) (same : HaveSizes (own_sizes s) s) (suits : SizesSuit (dealt_sizes dealt) (own_sizes s) gate) where
+module _ (dealt : Number → Values) (even : IsEven dealt) (gate : Gate) (s t : RunState) (same : HaveSizes (own_sizes s) s)
+    (suits : SizesSuit (dealt_sizes dealt) (own_sizes s) gate) where
   pub local-runs : IsLocal gate → AddsLocal dealt gate s t → RunsGate dealt gate s t
   local-runs local adds =
       record {

@@ -2,7 +2,8 @@
 --
 -- A charged operation charges 1, tests for its traps, charges what its result has of elements beyond the first, has its random words
 -- compared with the tapes, and then makes its gates.
-use Rattle.std.specs.Prelude.{ℕ, ◌+◌, ◌*◌, ◌-◌, Bool, true, false, not, ◌&&◌, nat_le, nat_lt, List, [], ◌∷◌, ◌++◌, Some, None, length, map, replicate, set, sum, ◌%◌, ◌^◌, get_or}
+use Rattle.std.specs.Prelude.{ℕ, ◌+◌, ◌*◌, ◌-◌, Bool, true, false, not, ◌&&◌, nat_le, nat_lt, List, [], ◌∷◌, ◌++◌, Some, None, length, map, replicate}
+use Rattle.std.specs.Prelude.{set, sum, ◌%◌, ◌^◌, get_or}
 use Rattle.std.specs.List.{flat_map}
 use Rattle.sc_text.specs.declared.end.TrapKind.TheVariants as trap
 use Rattle.sc_text.specs.declared.event.Event.TheVariants as event

@@ -138,7 +138,8 @@ module _ (number : Numbers) (c : List Function) (ks : List Kind) (count : ℕ) (
         (i (picked (lacks w (gives_private here e)) t u) (public_at (t + 1) n Uint64 hn first)
         (picked_kind c ks (given_here g) count w (gives_private here e) s t u m v p))))
 
-    returned : (g : Returned) (o : Option TypedTree) (inside : Bool) → IsReturned here g o → IsFitCommand Known (at g) inside (return_command o) → (t x y pc : ℕ)
+    returned : (g : Returned) (o : Option TypedTree) (inside : Bool) → IsReturned here g o → IsFitCommand Known (at g) inside (return_command o)
+        → (t x y pc : ℕ)
         → Stands ks t (command_kinds here (return_command o)) → Ends g pc (command_code number (at g) t x y pc (return_command o))
     returned Nothing None inside h f t x y pc stands l = (refl, tt)
     returned Nothing (Some e) inside h f t x y pc stands l = absurd h

@@ -60,14 +60,16 @@ takes_bind : {A B : Type 0} (first : A → ℕ) (second : B → ℕ) (n k : ℕ)
     → ((a : A) → Takes second (k + first a) (f a)) → Takes second (n + k) (m >>= f)
 takes_bind {A = A} {B = B} first second n k m f h g = record { from = λ s b q e. go s b q (m s) refl e }
   where
-    go : (s : FunctionScope) (b : B) (q : FunctionScope) (o : Option (A × FunctionScope)) → m s ≡ o → carry o f ≡ Some (b, q) → second b + length q.slots ≤ n + k + length s.slots
+    go : (s : FunctionScope) (b : B) (q : FunctionScope) (o : Option (A × FunctionScope)) → m s ≡ o → carry o f ≡ Some (b, q)
+        → second b + length q.slots ≤ n + k + length s.slots
     go s b q None t e = cc
     go s b q (Some r) t e =
         let one = h.from s r.0 r.1 t in
         let two = (g r.0).from r.1 b q e in
         omega (arith, one, two)
 
-takes_reading : {A : Type 0} (measure : A → ℕ) (n : ℕ) (f : FunctionScope → Option A) → ((s : FunctionScope) (a : A) → f s ≡ Some a → measure a ≤ n) → Takes measure n
+takes_reading : {A : Type 0} (measure : A → ℕ) (n : ℕ) (f : FunctionScope → Option A) → ((s : FunctionScope) (a : A) → f s ≡ Some a → measure a ≤ n)
+    → Takes measure n
     (reading f)
 takes_reading {A = A} measure n f h = record { from = λ s b q e. go s b q (f s) refl e }
   where

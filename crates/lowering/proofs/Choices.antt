@@ -30,7 +30,8 @@ pub if_made : (b0 b1 b2 b3 b4 b5 b6 b7 : Built) (ke k1 k2 : List Kind) (ce : (t 
     → jump ≡ length b3.pieces → target ≡ length b4.pieces → end ≡ length b5.pieces
     → b7 ≡ with_pieces b0 (ke ++ (k1 ++ k2)) (if_pieces (length b0.pieces) (length b0.kinds) (ce (length b0.kinds) (length b0.pieces))
     (a (length b0.kinds + w)) (b (length b0.kinds + w + w1)))
-if_made b0 b1 b2 b3 b4 b5 b6 b7 ke k1 k2 ce a b w w1 condition branch jump target end e1 e2 e3 e4 e5 e6 e7 many many1 at_condition at_branch at_jump at_target at_end =
+if_made b0 b1 b2 b3 b4 b5 b6 b7 ke k1 k2 ce a b w w1 condition branch jump target end e1 e2 e3 e4 e5 e6 e7 many many1 at_condition at_branch at_jump
+    at_target at_end =
     let t = length b0.kinds in
     let pc = length b0.pieces in
     let c = ce t pc in

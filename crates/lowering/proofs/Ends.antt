@@ -21,7 +21,8 @@ pushed b f g ks c d last r s e h same =
     ∙ ap (with_code b ks) (append_assoc c d (last s ∷ []))
 
 -- a number and a value, and the step that reads both
-pub pair_made : (b d f g h : Built) (k : Kind) (kn ke : List Kind) (cn ce : (t pc : ℕ) → List Step) (l : Bool) (classified first second w : ℕ) (last : ℕ → ℕ → Step)
+pub pair_made : (b d f g h : Built) (k : Kind) (kn ke : List Kind) (cn ce : (t pc : ℕ) → List Step) (l : Bool) (classified first second w : ℕ)
+    (last : ℕ → ℕ → Step)
     → d ≡ with_kind b k → f ≡ with_code d kn (cn (length d.kinds) (length d.pieces))
     → g ≡ with_code f ke (ce (length f.kinds) (length f.pieces) ++ classifying l classified (length f.kinds))
     → h ≡ with_step g (last first second) → classified ≡ length b.kinds → first ≡ length d.kinds → second ≡ picked l classified (length f.kinds)

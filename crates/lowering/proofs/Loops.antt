@@ -87,7 +87,8 @@ module _ (number : Numbers) (at : StatementContext) (e : TypedTree) where
       → jump ≡ length b0.pieces → start ≡ length b1.pieces → onward ≡ length b2.pieces → test ≡ length b3.pieces
       → condition ≡ length b3.kinds → end ≡ length b5.pieces → n ≡ onward - start → m ≡ test - onward
       → b8 ≡ with_command number at b0 (loop_command e step body)
-  loop_made step body b0 b1 b2 b3 b4 b5 b6 b7 b8 jump start onward test condition end n m e1 e2 e3 e4 e5 e6 e7 e8 at_jump at_start at_onward at_test at_condition at_end n_is m_is =
+  loop_made step body b0 b1 b2 b3 b4 b5 b6 b7 b8 jump start onward test condition end n m e1 e2 e3 e4 e5 e6 e7 e8 at_jump at_start at_onward at_test
+      at_condition at_end n_is m_is =
       let here = at.here in
       let t = length b0.kinds in
       let pc = length b0.pieces in

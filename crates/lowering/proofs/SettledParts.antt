@@ -46,7 +46,8 @@ module _ (x y : ℕ) where
   pub part_begins : (from n : ℕ) (ps : List BodyPiece) → n ≡ 0 → ps ≡ settled_part x y from n ps
   part_begins from n ps e = sym (ap (λ (z : ℕ). settled_part x y from z ps) e ∙ part_none from ps)
 
-  pub part_next : (from k n m : ℕ) (ps : List BodyPiece) → k ≡ from + n → m ≡ n + 1 → settled_part x y k 1 (settled_part x y from n ps) ≡ settled_part x y from m ps
+  pub part_next : (from k n m : ℕ) (ps : List BodyPiece) → k ≡ from + n → m ≡ n + 1
+      → settled_part x y k 1 (settled_part x y from n ps) ≡ settled_part x y from m ps
   part_next from k n m ps e f =
       let same : suc n ≡ m = omega (arith, f) in
       part_more from n k ps e ∙ ap (λ (z : ℕ). settled_part x y from z ps) same

@@ -1,7 +1,8 @@
 // The code of statements without others in them.
 ghost use Rattle.std.specs.Prelude.{◌≡◌, ◌<◌, OnOk};
 ghost use Rattle.typed_tree.specs.Tree.{typed_tree};
-ghost use Rattle.typed_tree.specs.Commands.{assert_command, default_command, evaluate_command, input_command, optional_tree, publish_command, return_command, store_command};
+ghost use Rattle.typed_tree.specs.Commands.{assert_command, default_command, evaluate_command, input_command, optional_tree, publish_command};
+ghost use Rattle.typed_tree.specs.Commands.{return_command, store_command};
 ghost use Rattle.code_model.specs.Commands.{shape_number};
 ghost use Rattle.lowered_expressions.specs.Views.{built, here_of, numbers_of, step_seen};
 ghost use Rattle.lowering.specs.inner.Leaves.{pair_command, pair_step, with_leaf};

@@ -31,7 +31,8 @@ block_fits s e r k begins count outer =
     let m = ap length (outer ∙ ap (λ (p : FunctionScope). p.scope.outer) begins) in
     omega arith
 
-pub block_left : (s e r n : FunctionScope) (k : ℕ) → e ≡ entering s → k ≡ length s.scope.outer → r.scope.outer ≡ e.scope.outer → n ≡ left k r → n ≡ behind_block s r
+pub block_left : (s e r n : FunctionScope) (k : ℕ) → e ≡ entering s → k ≡ length s.scope.outer → r.scope.outer ≡ e.scope.outer → n ≡ left k r
+    → n ≡ behind_block s r
 block_left s e r n k begins count outer ends =
     ends
     ∙ ap (λ j. left j r) count
@@ -40,6 +41,7 @@ block_left s e r n k begins count outer ends =
     placed : Scope → List DeclaredType → FunctionScope
     placed x l = record { scope = x; slots = l }
 
-pub block_made : {A : Type 0} (m : Resolving A) (s e r n : FunctionScope) (k : ℕ) (a : A) → e ≡ entering s → k ≡ length s.scope.outer → m e ≡ Some (place_made a r) → r.scope.outer ≡ e.scope.outer → n ≡ left k r → in_block m s ≡ Some (place_made a n)
+pub block_made : {A : Type 0} (m : Resolving A) (s e r n : FunctionScope) (k : ℕ) (a : A) → e ≡ entering s → k ≡ length s.scope.outer
+    → m e ≡ Some (place_made a r) → r.scope.outer ≡ e.scope.outer → n ≡ left k r → in_block m s ≡ Some (place_made a n)
 block_made m s e r n k a begins count made outer ends =
     ap (closed s) (ap m (sym begins) ∙ made) ∙ ap (λ (p : FunctionScope). Some (place_made a p)) (sym (block_left s e r n k begins count outer ends))

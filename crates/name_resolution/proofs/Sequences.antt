@@ -11,7 +11,9 @@ abbrev pub place_made : {A : Type 0} → A → FunctionScope → A × FunctionSc
 place_made a s = (a, s)
 
 -- statements with one more behind them
-pub resolved_all_more : (d : Declared) (ts : List StatementTree) (t : StatementTree) (s r q : FunctionScope) (cs : List Command) (c : Command) → resolved_all d (statements_of ts) s ≡ Some (commands_of cs, r) → resolved d t r ≡ Some (c, q) → resolved_all d (statements_of (ts ++ t ∷ [])) s ≡ Some (commands_of (cs ++ c ∷ []), q)
+pub resolved_all_more : (d : Declared) (ts : List StatementTree) (t : StatementTree) (s r q : FunctionScope) (cs : List Command) (c : Command)
+    → resolved_all d (statements_of ts) s ≡ Some (commands_of cs, r) → resolved d t r ≡ Some (c, q)
+    → resolved_all d (statements_of (ts ++ t ∷ [])) s ≡ Some (commands_of (cs ++ c ∷ []), q)
 resolved_all_more d [] t s r q [] c e f =
     let same : place_made none s ≡ place_made none r = cc in
     ap (λ z. then_none (resolved d t z)) (ap (λ z. z.1) same) ∙ ap then_none f
@@ -27,7 +29,10 @@ resolved_all_more d (u ∷ us) t s r q cs c e f = go (resolved d u s) (λ p ys s
     rest : Command → Option (Commands × FunctionScope) → Option (Commands × FunctionScope)
     rest x o = carry o (λ xs. done (also x xs))
 
-    inside : (x : Command) (p : FunctionScope) (o : Option (Commands × FunctionScope)) → resolved_all d (statements_of us) p ≡ o → ((ys : List Command) → resolved_all d (statements_of us) p ≡ Some (commands_of ys, r) → resolved_all d (statements_of (us ++ t ∷ [])) p ≡ Some (commands_of (ys ++ c ∷ []), q)) → (ys : List Command) → rest x o ≡ Some (commands_of ys, r) → rest x (resolved_all d (statements_of (us ++ t ∷ [])) p) ≡ Some (commands_of (ys ++ c ∷ []), q)
+    inside : (x : Command) (p : FunctionScope) (o : Option (Commands × FunctionScope)) → resolved_all d (statements_of us) p ≡ o
+        → ((ys : List Command) → resolved_all d (statements_of us) p ≡ Some (commands_of ys, r)
+        → resolved_all d (statements_of (us ++ t ∷ [])) p ≡ Some (commands_of (ys ++ c ∷ []), q)) → (ys : List Command)
+        → rest x o ≡ Some (commands_of ys, r) → rest x (resolved_all d (statements_of (us ++ t ∷ [])) p) ≡ Some (commands_of (ys ++ c ∷ []), q)
     inside x p None h more ys g = cc
     inside x p (Some z) h more [] g =
         let same : place_made (also x z.0) z.1 ≡ place_made none r = cc in
@@ -41,6 +46,10 @@ resolved_all_more d (u ∷ us) t s r q cs c e f = go (resolved d u s) (λ p ys s
         let so = h ∙ ap (λ w. Some (place_made w z.1)) there ∙ ap (λ w. Some (place_made (commands_of ys) w)) (ap (λ w. w.1) same) in
         ap (rest x) (more ys so) ∙ ap (λ w. Some (place_made (also w (commands_of (ys ++ c ∷ []))) q)) here
 
-    go : (o : Option (Command × FunctionScope)) → ((p : FunctionScope) (ys : List Command) → resolved_all d (statements_of us) p ≡ Some (commands_of ys, r) → resolved_all d (statements_of (us ++ t ∷ [])) p ≡ Some (commands_of (ys ++ c ∷ []), q)) → carry o (λ x p. rest x (resolved_all d (statements_of us) p)) ≡ Some (commands_of cs, r) → carry o (λ x p. rest x (resolved_all d (statements_of (us ++ t ∷ [])) p)) ≡ Some (commands_of (cs ++ c ∷ []), q)
+    go : (o : Option (Command × FunctionScope))
+        → ((p : FunctionScope) (ys : List Command) → resolved_all d (statements_of us) p ≡ Some (commands_of ys, r)
+        → resolved_all d (statements_of (us ++ t ∷ [])) p ≡ Some (commands_of (ys ++ c ∷ []), q))
+        → carry o (λ x p. rest x (resolved_all d (statements_of us) p)) ≡ Some (commands_of cs, r)
+        → carry o (λ x p. rest x (resolved_all d (statements_of (us ++ t ∷ [])) p)) ≡ Some (commands_of (cs ++ c ∷ []), q)
     go None more g = cc
     go (Some z) more g = inside z.0 z.1 (resolved_all d (statements_of us) z.1) refl (more z.1) cs g

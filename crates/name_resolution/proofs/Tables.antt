@@ -1,5 +1,6 @@
 -- The table of variables shows the scope.
-use Rattle.std.proofs.Common.{◌≡◌, ℕ, zero, suc, ◌-◌, ◌<◌, ◌≤◌, List, [], ◌∷◌, ◌++◌, refl, sym, ap, ◌∙◌, Option, Some, None, Bool, true, false, cond, length, take, drop, arith}
+use Rattle.std.proofs.Common.{◌≡◌, ℕ, zero, suc, ◌-◌, ◌<◌, ◌≤◌, List, [], ◌∷◌, ◌++◌, refl, sym, ap, ◌∙◌, Option, Some, None, Bool, true, false, cond}
+use Rattle.std.proofs.Common.{length, take, drop, arith}
 use Rattle.std.specs.Prelude.{map, bytes_eq, option_map}
 use Rattle.std.specs.List.{take-map}
 use Rattle.std.proofs.lemmas.List.{map-append, drop-map, length-map, take-append-drop}
@@ -23,11 +24,14 @@ abbrev pub known_of_latest : Latest → Known
 known_of_latest l = l.known
 
 -- the latest variable of a name is the one that the name means
-pub latest_is_meant : (x : List ℕ) (es : List VariableEntry) → option_map known_of_latest (latest_in x es) ≡ option_map known_of (variable_in x (map variable_of es))
+pub latest_is_meant : (x : List ℕ) (es : List VariableEntry)
+    → option_map known_of_latest (latest_in x es) ≡ option_map known_of (variable_in x (map variable_of es))
 latest_is_meant x [] = refl
 latest_is_meant x (e ∷ es) = go (bytes_eq x e.name.now) (latest_is_meant x es)
   where
-    go : (b : Bool) → option_map known_of_latest (latest_in x es) ≡ option_map known_of (variable_in x (map variable_of es)) → option_map known_of_latest (cond b (Some (record { number = length es; known = e.known })) (latest_in x es)) ≡ option_map known_of (cond b (Some (variable_of e)) (variable_in x (map variable_of es)))
+    go : (b : Bool) → option_map known_of_latest (latest_in x es) ≡ option_map known_of (variable_in x (map variable_of es))
+        → option_map known_of_latest (cond b (Some (record { number = length es; known = e.known })) (latest_in x es))
+        ≡ option_map known_of (cond b (Some (variable_of e)) (variable_in x (map variable_of es)))
     go true i = refl
     go false i = i
 
@@ -39,7 +43,9 @@ abbrev latest_at : ℕ → Known → Option Latest
 latest_at n h = Some (record { number = n; known = h })
 
 -- the table with one variable more
-pub one_more : (m n : BTreeMap (Bor (List ℕ)) Latest) (e : VariableEntry) (es : List VariableEntry) (l : Latest) → l.number ≡ length es → l.known ≡ e.known → ((q : List ℕ) → found m q ≡ latest_in q es) → ((q : List ℕ) → found n q ≡ update bytes_eq (found m) e.name.now (Some l) q) → (q : List ℕ) → found n q ≡ latest_in q (e ∷ es)
+pub one_more : (m n : BTreeMap (Bor (List ℕ)) Latest) (e : VariableEntry) (es : List VariableEntry) (l : Latest) → l.number ≡ length es
+    → l.known ≡ e.known → ((q : List ℕ) → found m q ≡ latest_in q es) → ((q : List ℕ) → found n q ≡ update bytes_eq (found m) e.name.now (Some l) q)
+    → (q : List ℕ) → found n q ≡ latest_in q (e ∷ es)
 one_more m n e es l number known old updates q = updates q ∙ go (bytes_eq e.name.now q) (bytes_eq q e.name.now) (bytes_eq-swap e.name.now q)
   where
     go : (b c : Bool) → b ≡ c → cond b (Some l) (found m q) ≡ cond c (Some (record { number = length es; known = e.known })) (latest_in q es)
@@ -49,7 +55,9 @@ one_more m n e es l number known old updates q = updates q ∙ go (bytes_eq e.na
     go false false s = old q
 
 -- the table with one variable less
-pub one_less : (m n : BTreeMap (Bor (List ℕ)) Latest) (e : VariableEntry) (es : List VariableEntry) → e.hidden ≡ latest_in e.name.now es → ((q : List ℕ) → found m q ≡ latest_in q (e ∷ es)) → ((q : List ℕ) → found n q ≡ cond (bytes_eq e.name.now q) e.hidden (found m q)) → (q : List ℕ) → found n q ≡ latest_in q es
+pub one_less : (m n : BTreeMap (Bor (List ℕ)) Latest) (e : VariableEntry) (es : List VariableEntry) → e.hidden ≡ latest_in e.name.now es
+    → ((q : List ℕ) → found m q ≡ latest_in q (e ∷ es)) → ((q : List ℕ) → found n q ≡ cond (bytes_eq e.name.now q) e.hidden (found m q))
+    → (q : List ℕ) → found n q ≡ latest_in q es
 one_less m n e es hides old updates q = updates q ∙ go (bytes_eq e.name.now q) refl ∙ refl
   where
     go : (b : Bool) → bytes_eq e.name.now q ≡ b → cond b e.hidden (found m q) ≡ latest_in q es
@@ -57,10 +65,12 @@ one_less m n e es hides old updates q = updates q ∙ go (bytes_eq e.name.now q)
     go false s = old q ∙ ap (λ b. cond b (Some (record { number = length es; known = e.known })) (latest_in q es)) (sym (bytes_eq-swap e.name.now q) ∙ s)
 
 -- a name that has just been declared is in the table
-pub is_there : (m : BTreeMap (Bor (List ℕ)) Latest) (e : VariableEntry) (es : List VariableEntry) → ((q : List ℕ) → found m q ≡ latest_in q (e ∷ es)) → found m e.name.now ≡ None → ⊥
+pub is_there : (m : BTreeMap (Bor (List ℕ)) Latest) (e : VariableEntry) (es : List VariableEntry) → ((q : List ℕ) → found m q ≡ latest_in q (e ∷ es))
+    → found m e.name.now ≡ None → ⊥
 is_there m e es old none =
     let same : bytes_eq e.name.now e.name.now ≡ true = (bytes_eq-Decides e.name.now e.name.now).1 refl in
-    let here : latest_in e.name.now (e ∷ es) ≡ Some (record { number = length es; known = e.known }) = ap (λ b. cond b (Some (record { number = length es; known = e.known })) (latest_in e.name.now es)) same in
+    let here : latest_in e.name.now (e ∷ es) ≡ Some (record { number = length es; known = e.known }) =
+    ap (λ b. cond b (Some (record { number = length es; known = e.known })) (latest_in e.name.now es)) same in
     let what = old e.name.now in
     cc
 

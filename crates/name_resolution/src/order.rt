@@ -3,7 +3,8 @@ ghost use Rattle.std.specs.Prelude.{◌≡◌, IfOk, map, option_map};
 ghost use Rattle.secrec_ast.specs.Tree.{expression, trees_of};
 ghost use Rattle.secrec_ast.specs.Statements.{statement, statements_of, optional, declaration_tree, assignment_tree, start_tree, step_tree};
 ghost use Rattle.domain_types.specs.Views.{declared, tree_at};
-ghost use Rattle.name_resolution.specs.Order.{called_in, called_in_all, called_in_optional, called_in_declaration, called_in_assignment, called_in_start, called_in_step, called_by, called_by_all, read_one, reached};
+ghost use Rattle.name_resolution.specs.Order.{called_in, called_in_all, called_in_optional, called_in_declaration, called_in_assignment};
+ghost use Rattle.name_resolution.specs.Order.{called_in_start, called_in_step, called_by, called_by_all, read_one, reached};
 ghost use Rattle.name_resolution.specs.inner.Views.{found_seen};
 
 use crate::found::CalledFunctions;
@@ -163,7 +164,8 @@ fn in_statements<'p>(
     declarations: &Declarations<'p>,
     list: &'p Vec<Statement>,
 ) -> Result<CalledFunctions<'p>, AllocError>
-    ensures { IfOk result (λ f. found_seen f ≡ called_by_all (declared declarations.now) (found_seen found.entry) (statements_of (map statement list.now.items))) }
+    ensures { IfOk result (λ f. found_seen f
+        ≡ called_by_all (declared declarations.now) (found_seen found.entry) (statements_of (map statement list.now.items))) }
 {
     let mut found = found;
     for each in list {

@@ -6,7 +6,8 @@ ghost use Rattle.domain_types.specs.Views.{declared};
 ghost use Rattle.typed_tree.specs.Tree.{typed_tree};
 ghost use Rattle.typed_tree.specs.Commands.{command};
 ghost use Rattle.name_resolution.specs.Resolving.{resolved_value, known_at};
-ghost use Rattle.name_resolution.specs.Bodies.{evaluated, default_of, from_value, initial, declared as declared_at, assigned_to, assigned, started, stepped, condition_of, returned};
+ghost use Rattle.name_resolution.specs.Bodies.{evaluated, default_of, from_value, initial, declared as declared_at, assigned_to, assigned, started};
+ghost use Rattle.name_resolution.specs.Bodies.{stepped, condition_of, returned};
 ghost use Rattle.name_resolution.specs.Answer.{Answers};
 ghost use Rattle.name_resolution.specs.inner.Views.{place_seen, with_place};
 
@@ -92,7 +93,8 @@ fn from_value<'p>(
     slot: usize,
     e: &'p Expression,
 ) -> Result<TypedStatement, ResolveErr>
-    ensures { Answers (with_place command (place_seen place.now)) result (from_value (declared declarations.now) slot (expression e.now) (place_seen place.now)) }
+    ensures { Answers (with_place command (place_seen place.now)) result
+        (from_value (declared declarations.now) slot (expression e.now) (place_seen place.now)) }
 {
     match e {
         Expression::Argument(at, name) => {
@@ -114,7 +116,8 @@ fn initial<'p>(
     d: &'p Declaration,
 ) -> Result<TypedStatement, ResolveErr>
     ensures { Answers (with_place command (place_seen place.now)) result
-        (initial (declared declarations.now) d.now.declared.place.line slot d.now.declared.element (optional d.now.size) (optional d.now.value) (place_seen place.now)) }
+        (initial (declared declarations.now) d.now.declared.place.line slot d.now.declared.element (optional d.now.size) (optional d.now.value)
+        (place_seen place.now)) }
 {
     let line = d.declared.place.line;
     match (&d.size, &d.value) {
@@ -139,7 +142,8 @@ pub fn declared<'p>(
     place: &mut FunctionScope<'p>,
     d: &'p Declaration,
 ) -> Result<TypedStatement, ResolveErr>
-    ensures made { Answers (with_place command (place_seen place.new)) result (declared_at (declared declarations.now) (declaration_tree d.now) (place_seen place.old)) }
+    ensures made { Answers (with_place command (place_seen place.new)) result
+        (declared_at (declared declarations.now) (declaration_tree d.now) (place_seen place.old)) }
     ensures outer { IfOk result (λ _. (place_seen place.new).scope.outer ≡ (place_seen place.old).scope.outer) }
 {
     let slot = place.slots.len();
@@ -157,7 +161,8 @@ fn assigned_to<'p>(
     a: &'p Assignment,
 ) -> Result<TypedStatement, ResolveErr>
     ensures { Answers (with_place command (place_seen place.now)) result
-        (assigned_to (declared declarations.now) a.now.target.variable.place.line slot (optional a.now.target.index) (expression a.now.value) (place_seen place.now)) }
+        (assigned_to (declared declarations.now) a.now.target.variable.place.line slot (optional a.now.target.index) (expression a.now.value)
+        (place_seen place.now)) }
 {
     match &a.target.index {
         None => {
@@ -193,7 +198,8 @@ pub fn started<'p>(
     place: &mut FunctionScope<'p>,
     start: &'p ForStart,
 ) -> Result<TypedStatement, ResolveErr>
-    ensures made { Answers (with_place command (place_seen place.new)) result (started (declared declarations.now) (start_tree start.now) (place_seen place.old)) }
+    ensures made { Answers (with_place command (place_seen place.new)) result
+        (started (declared declarations.now) (start_tree start.now) (place_seen place.old)) }
     ensures outer { IfOk result (λ _. (place_seen place.new).scope.outer ≡ (place_seen place.old).scope.outer) }
 {
     match start {

@@ -129,7 +129,8 @@ fn looped<'p>(
     body: &'p Statement,
 ) -> Result<TypedStatement, ResolveErr>
     ensures made { Answers (with_place command (place_seen place.new)) result
-        (looped (declared declarations.now) (start_tree start.now) (optional e.now) (step_tree step.now) (resolved (declared declarations.now) (statement body.now)) (place_seen place.old)) }
+        (looped (declared declarations.now) (start_tree start.now) (optional e.now) (step_tree step.now)
+        (resolved (declared declarations.now) (statement body.now)) (place_seen place.old)) }
     ensures outer { IfOk result (λ _. (place_seen place.new).scope.outer ≡ (place_seen place.old).scope.outer) }
 {
     let start = started(alloc, declarations, place, start)?;

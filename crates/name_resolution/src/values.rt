@@ -7,7 +7,9 @@ ghost use Rattle.domain_types.specs.Views.{declared};
 ghost use Rattle.typed_tree.specs.Tree.{typed_tree};
 ghost use Rattle.name_resolution.specs.Scopes.{variable_named, shape_written};
 ghost use Rattle.typed_tree.specs.Operators.{operands_of, may_cut_short};
-ghost use Rattle.name_resolution.specs.Values.{made, of_both, only, pair, variable_value, element_value, negated, cast_value, declassified_value, operation_node, operation, shape_returned, tree_of_value, built_in_value, called, value, values, call_made};
+ghost use Rattle.name_resolution.specs.Values.{made, of_both, only, pair, variable_value, element_value, negated, cast_value, declassified_value};
+ghost use Rattle.name_resolution.specs.Values.{operation_node, operation, shape_returned, tree_of_value, built_in_value, called, value, values};
+ghost use Rattle.name_resolution.specs.Values.{call_made};
 ghost use Rattle.name_resolution.specs.Answer.{Answers};
 ghost use Rattle.name_resolution.specs.inner.Views.{valued, values_seen, pair_seen, call_seen};
 

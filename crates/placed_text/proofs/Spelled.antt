@@ -12,7 +12,8 @@ use Rattle.secrec_ast.specs.declared.statement.Identifier.{Identifier}
 use Rattle.secrec_ast.specs.Heights.{place_of}
 use Rattle.secrec_ast.specs.Tree as Tree'
 use Rattle.secrec_ast.specs.Statements.{DeclarationTree, TargetTree, AssignmentTree, StartTree, starts_with_nothing, starts_with_declaration}
-use Rattle.secrec_ast.specs.Statements.{starts_with_assignment, StepTree, steps_by_nothing, steps_by_assignment, steps_by_expression, StatementTree, block, empty}
+use Rattle.secrec_ast.specs.Statements.{starts_with_assignment, StepTree, steps_by_nothing, steps_by_assignment, steps_by_expression, StatementTree}
+use Rattle.secrec_ast.specs.Statements.{block, empty}
 use Rattle.secrec_ast.specs.Statements.{branch, choice, while_loop, do_loop, for_loop, breaks, continues, returns, assertion, declaration, assignment}
 use Rattle.secrec_ast.specs.Statements.{evaluation, StatementTrees}
 use Rattle.secrec_ast.specs.Statements as Statements'

@@ -9,7 +9,8 @@ use Rattle.program_limits.specs.declared.limit_err.LimitErr.TheVariants.{TooMany
 use Rattle.program_limits.specs.Limits.{refusal, IsVerdict}
 use Rattle.program_limits.specs.Answer.{IsJust}
 
-pub verdict_known : (p : TypedProgramTree) (list : List Instance) (known refused : Option LimitErr) → IsReachedList p list → known ≡ refusal p list → IsVerdict p refused → refused ≡ known
+pub verdict_known : (p : TypedProgramTree) (list : List Instance) (known refused : Option LimitErr) → IsReachedList p list → known ≡ refusal p list
+    → IsVerdict p refused → refused ≡ known
 verdict_known p list known refused reached is v =
     sym v.is ∙ ap (refusal p) (is_the_only_list p v.list list v.reached reached) ∙ sym is
 

@@ -1,5 +1,6 @@
 -- Three miners that do the same gates come to the end, with the joint run's messages, values and opened words.
-use Rattle.std.proofs.Common.{◌≡◌, ℕ, suc, ◌+◌, ◌≤◌, true, false, if◌then◌else◌, List, [], ◌∷◌, ◌++◌, length, take, drop, refl, sym, ◌∙◌, ap, subst, arith, length-append}
+use Rattle.std.proofs.Common.{◌≡◌, ℕ, suc, ◌+◌, ◌≤◌, true, false, if◌then◌else◌, List, [], ◌∷◌, ◌++◌, length, take, drop, refl, sym, ◌∙◌, ap, subst}
+use Rattle.std.proofs.Common.{arith, length-append}
 use Rattle.std.specs.Prelude.{Some}
 use Rattle.std.proofs.lemmas.List.{length-take-le, length-drop}
 use Rattle.proto_core.specs.declared.party.Number.{Number}
@@ -86,7 +87,8 @@ gates-move i (Joined p n u v ∷ gates) sizes values tape sound sized same reach
 pub sends_on-append : (l : Link) (xs ys : List Move) → sends_on l (xs ++ ys) ≡ sends_on l xs ++ sends_on l ys
 sends_on-append l [] ys = refl
 sends_on-append l (Sends k shape ∷ xs) ys =
-    elim (same_link l k) as (λ b. (if b then shape ∷ sends_on l (xs ++ ys) else sends_on l (xs ++ ys)) ≡ (if b then shape ∷ sends_on l xs else sends_on l xs) ++ sends_on l ys)
+    elim (same_link l k) as (λ b. (if b then shape ∷ sends_on l (xs ++ ys) else sends_on l (xs ++ ys))
+    ≡ (if b then shape ∷ sends_on l xs else sends_on l xs) ++ sends_on l ys)
     [ true ↦ ap (λ v. shape ∷ v) (sends_on-append l xs ys) | false ↦ sends_on-append l xs ys ]
 sends_on-append l (Takes k shape ∷ xs) ys = sends_on-append l xs ys
 

@@ -1,5 +1,6 @@
 -- The map of the tapes has an inverse on both sides, and what a miner receives is made of the mapped tapes.
-use Rattle.std.proofs.Common.{◌≡◌, ℕ, ◌+◌, ◌≤◌, Bool, true, false, if◌then◌else◌, List, [], ◌∷◌, ◌++◌, length, take, drop, refl, sym, ◌∙◌, ap, subst, arith, length-append}
+use Rattle.std.proofs.Common.{◌≡◌, ℕ, ◌+◌, ◌≤◌, Bool, true, false, if◌then◌else◌, List, [], ◌∷◌, ◌++◌, length, take, drop, refl, sym, ◌∙◌, ap, subst}
+use Rattle.std.proofs.Common.{arith, length-append}
 use Rattle.std.specs.Prelude.{Option}
 use Rattle.std.proofs.lemmas.List.{length-drop, take-append-drop}
 use Rattle.proto_core.specs.declared.party.Number.{Number}
@@ -172,7 +173,8 @@ same_into i x y h = λ d. λ l. at_link l (is_same (receiver_of l) i) refl d
     at_link l false e = ap (λ b. if b then x l else []) e ∙ sym (ap (λ b. if b then y l else []) e)
 
 -- a block, made of the miner's own shares, the opened words and the mapped ones
-module _ (i : Number) (p : Protocol) (n u : ℕ) (v : Option ℕ) (values : Shares) (words : Tapes) (later : List ℕ) (sound : Sound p) (private : Private p) (fits : Fits p n (gate_joint u v values words)) where
+module _ (i : Number) (p : Protocol) (n u : ℕ) (v : Option ℕ) (values : Shares) (words : Tapes) (later : List ℕ) (sound : Sound p)
+    (private : Private p) (fits : Fits p n (gate_joint u v values words)) where
   abbrev j : Joint
   j = gate_joint u v values words
 
@@ -220,7 +222,8 @@ run-made i (Joined p n u v ∷ gates) values tapes sound private ready =
     let opened_all : List ℕ = p.opened n j ++ opened_later in
     let o : drop (p.opens n) opened_all ≡ opened_later = drop-front (p.opens n) (p.opened n j) opened_later (sound.0.opens n j fits) in
     let blocks : made_blocks i p n u v (values i) opened_all whole ≡ p.output n j i =
-    ap (λ w. blocks_at_end (run (p.strand n i (nth_value (values i) u) (operand (values i) v) (w i)) (into i (p.received n i (nth_value (values i) u) (operand (values i) v) w (take (p.opens n) opened_all)))).left) front
+    ap (λ w. blocks_at_end (run (p.strand n i (nth_value (values i) u) (operand (values i) v) (w i))
+    (into i (p.received n i (nth_value (values i) u) (operand (values i) v) w (take (p.opens n) opened_all)))).left) front
     ∙ made-blocks i p n u v values (drawn p n tapes) opened_later sound.0 private.0 fits in
     let mail : Mail = p.received n i (nth_value (values i) u) (operand (values i) v) mapped (take (p.opens n) opened_all) in
     let hyp = run-made i gates next (left p n tapes) sound.1 private.1 (ready-next p n u v gates values tapes ready sound.0) in

@@ -10,7 +10,8 @@ use Rattle.protocol_model.specs.Along.{MovesAlong}
 use Rattle.proto_core.specs.Net.{into, run_of, posted, delivered, MailBegins, Finishes}
 use Rattle.proto_core.proofs.Beginnings.{begins-both}
 use Rattle.proto_core.proofs.Nets.{nothing-under_way, delivered-begins}
-use Rattle.protocol_model.specs.Network.{Accepted, EmptyLink, waits_for, at_the_end, Counts, one_more, into_counts, stands_at, posted_count, counted, all_links, those, is_full, link_at, chosen, entry_then, made_order, total}
+use Rattle.protocol_model.specs.Network.{Accepted, EmptyLink, waits_for, at_the_end, Counts, one_more, into_counts, stands_at, posted_count, counted}
+use Rattle.protocol_model.specs.Network.{all_links, those, is_full, link_at, chosen, entry_then, made_order, total}
 use Rattle.protocol_model.specs.Network.{counts}
 use Rattle.protocol_model.proofs.NetCounts.{posted-counted, stood-counted, counts-delivered, posted-begins, lt_from}
 use Rattle.protocol_model.proofs.Choosing.{in_those}
@@ -68,7 +69,8 @@ total-same : (x y : Counts) → ((l : Link) → x l ≤ y l) → total y ≤ tot
 total-same x y h t l =
     by_link (h Link12) (h Link13) (h Link21) (h Link23) (h Link31) (h Link32) l
   where
-    by_link : x Link12 ≤ y Link12 → x Link13 ≤ y Link13 → x Link21 ≤ y Link21 → x Link23 ≤ y Link23 → x Link31 ≤ y Link31 → x Link32 ≤ y Link32 → (l : Link) → x l ≡ y l
+    by_link : x Link12 ≤ y Link12 → x Link13 ≤ y Link13 → x Link21 ≤ y Link21 → x Link23 ≤ y Link23 → x Link31 ≤ y Link31 → x Link32 ≤ y Link32
+        → (l : Link) → x l ≡ y l
     by_link a b c d e f Link12 = omega arith
     by_link a b c d e f Link13 = omega arith
     by_link a b c d e f Link21 = omega arith
@@ -93,9 +95,11 @@ not_lt a b h = grind arith
 
 -- ---- acceptance
 
-module _ {A : Type 0} (nodes : Number → Strand A) (scripts : Number → List Move) (full : Mail) (outputs : Number → A) (f : Finishes nodes full outputs) (moves : (i : Number) → MovesAlong (nodes i) (scripts i) (into i full)) where
+module _ {A : Type 0} (nodes : Number → Strand A) (scripts : Number → List Move) (full : Mail) (outputs : Number → A)
+    (f : Finishes nodes full outputs) (moves : (i : Number) → MovesAlong (nodes i) (scripts i) (into i full)) where
   -- where all has come, none waits
-  all-ended : (mail : Mail) → MailBegins mail full → ((l : Link) → mail l ≡ full l) → at_the_end (λ i. stands_at (scripts i) (into_counts i (counts mail))) ≡ Accepted
+  all-ended : (mail : Mail) → MailBegins mail full → ((l : Link) → mail l ≡ full l)
+      → at_the_end (λ i. stands_at (scripts i) (into_counts i (counts mail))) ≡ Accepted
   all-ended mail h same =
       let is : mail ≡ full = λ d. λ l. same l d in
       ap at_the_end (λ d. λ i. ended i d)
@@ -118,11 +122,14 @@ module _ {A : Type 0} (nodes : Number → Strand A) (scripts : Number → List M
       begins-own (x ∷ xs) = (refl, begins-own xs)
 
       same_length : (l : Link) → length (full l) ≤ length (mail l)
-      same_length l = let e : counts mail l ≡ counts full l = total-same (counts mail) (counts full) (λ k. begins-length (mail k) (full k) (h k)) (omega arith) l in omega arith
+      same_length l = let e : counts mail l ≡ counts full l =
+          total-same (counts mail) (counts full) (λ k. begins-length (mail k) (full k) (h k)) (omega arith) l in omega arith
   made-accepted words (suc fuel) entry mail h t =
       by_choice (chosen (words entry) (those (is_full scripts (counts mail)) all_links)) refl
-      (λ l lt. made-accepted words fuel (entry + 1) (delivered nodes mail l) (delivered-begins nodes mail full l h (posted-begins nodes scripts full outputs f moves mail h))
-      (let n : total (counts (delivered nodes mail l)) ≡ total (counts mail) + 1 = ap total (counts-delivered nodes mail l lt) ∙ total-more l (counts mail) in omega arith))
+      (λ l lt. made-accepted words fuel (entry + 1) (delivered nodes mail l)
+      (delivered-begins nodes mail full l h (posted-begins nodes scripts full outputs f moves mail h))
+      (let n : total (counts (delivered nodes mail l)) ≡ total (counts mail) + 1 =
+      ap total (counts-delivered nodes mail l lt) ∙ total-more l (counts mail) in omega arith))
     where
       order : Option Link → List Link
       order choice = entry_then choice (λ l. made_order scripts words fuel (entry + 1) (one_more l (counts mail)))
@@ -130,7 +137,8 @@ module _ {A : Type 0} (nodes : Number → Strand A) (scripts : Number → List M
       by_choice :
           (choice : Option Link) → chosen (words entry) (those (is_full scripts (counts mail)) all_links) ≡ choice →
           ((l : Link) → length (mail l) < length (posted nodes mail l) →
-          counted scripts (entry + 1) (counts (delivered nodes mail l)) (made_order scripts words fuel (entry + 1) (counts (delivered nodes mail l))) ≡ Accepted) →
+          counted scripts (entry + 1) (counts (delivered nodes mail l)) (made_order scripts words fuel (entry + 1) (counts (delivered nodes mail l)))
+          ≡ Accepted) →
           counted scripts entry (counts mail) (made_order scripts words (suc fuel) entry (counts mail)) ≡ Accepted
       by_choice None e more =
           ap (λ c. counted scripts entry (counts mail) (order c)) e
@@ -148,6 +156,7 @@ module _ {A : Type 0} (nodes : Number → Strand A) (scripts : Number → List M
           let here : counts mail l < posted_count scripts (counts mail) l = lt_from _ _ test in
           let lt : length (mail l) < length (posted nodes mail l) = omega arith in
           ap (λ c. counted scripts entry (counts mail) (order c)) e
-          ∙ ap (λ b. if b then counted scripts (entry + 1) (one_more l (counts mail)) (made_order scripts words fuel (entry + 1) (one_more l (counts mail))) else EmptyLink entry l (posted_count scripts (counts mail) l)) test
+          ∙ ap (λ b. if b then counted scripts (entry + 1) (one_more l (counts mail))
+          (made_order scripts words fuel (entry + 1) (one_more l (counts mail))) else EmptyLink entry l (posted_count scripts (counts mail) l)) test
           ∙ ap (λ c. counted scripts (entry + 1) c (made_order scripts words fuel (entry + 1) c)) (sym (counts-delivered nodes mail l lt))
           ∙ more l lt

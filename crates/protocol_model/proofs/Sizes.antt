@@ -1,5 +1,6 @@
 -- Shares and tapes that suffice for a list of gates suffice at each of its blocks.
-use Rattle.std.proofs.Common.{◌≡◌, ℕ, zero, suc, ◌+◌, ◌≤◌, ◌<◌, ◌^◌, List, [], ◌∷◌, ◌++◌, length, take, drop, refl, sym, ◌∙◌, ap, subst, arith, add_assoc, zero-add}
+use Rattle.std.proofs.Common.{◌≡◌, ℕ, zero, suc, ◌+◌, ◌≤◌, ◌<◌, ◌^◌, List, [], ◌∷◌, ◌++◌, length, take, drop, refl, sym, ◌∙◌, ap, subst, arith}
+use Rattle.std.proofs.Common.{add_assoc, zero-add}
 use Rattle.std.specs.Prelude.{Option, Some, None}
 use Rattle.std.proofs.lemmas.List.{length-take-le, length-drop, map-append}
 use Rattle.proto_core.specs.declared.party.Number.{Number}
@@ -50,7 +51,8 @@ sizes-blocks (n ∷ sizes) (xs ∷ blocks) h = ap (λ k. k ∷ sizes_of blocks) 
 
 -- ---- at a block
 
-module _ (p : Protocol) (n u : ℕ) (v : Option ℕ) (gates : List Gate) (values : Shares) (tapes : Tapes) (ready : Ready (Joined p n u v ∷ gates) values tapes) where
+module _ (p : Protocol) (n u : ℕ) (v : Option ℕ) (gates : List Gate) (values : Shares) (tapes : Tapes)
+    (ready : Ready (Joined p n u v ∷ gates) values tapes) where
   pub block-fits : Fits p n (gate_joint u v values (drawn p n tapes))
   block-fits =
       record {

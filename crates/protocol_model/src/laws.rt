@@ -64,7 +64,8 @@ pub fn gates_move_along_their_scripts()
 /// miners' moves along the run and by how many messages were delivered on each link before: for any nodes that finish, from
 /// any state; and of a list of gates by its scripts.
 pub fn schedules_are_counted()
-    ensures any_state { (nodes : Number → Strand (List (List ℕ))) (scripts : Number → List Move) (full : Mail) (outputs : Number → List (List ℕ)) (order : List Link) (entry : ℕ) (mail : Mail) →
+    ensures any_state { (nodes : Number → Strand (List (List ℕ))) (scripts : Number → List Move) (full : Mail) (outputs : Number → List (List ℕ))
+        (order : List Link) (entry : ℕ) (mail : Mail) →
         Finishes nodes full outputs → ((i : Number) → MovesAlong (nodes i) (scripts i) (into i full)) → MailBegins mail full →
         walked nodes entry mail order ≡ counted scripts entry (counts mail) order }
     ensures gates { (gates : List Gate) (values : Shares) (tapes : Tapes) (delivery : Delivery) →
@@ -76,7 +77,8 @@ pub fn schedules_are_counted()
 /// Law: an order that is made of words, as long as messages are under way, is accepted from any state; so are the default
 /// delivery and every shuffled one of a list of gates.
 pub fn made_orders_are_accepted()
-    ensures any_state { (nodes : Number → Strand (List (List ℕ))) (scripts : Number → List Move) (full : Mail) (outputs : Number → List (List ℕ)) (words : ℕ → ℕ) (fuel entry : ℕ) (mail : Mail) →
+    ensures any_state { (nodes : Number → Strand (List (List ℕ))) (scripts : Number → List Move) (full : Mail) (outputs : Number → List (List ℕ))
+        (words : ℕ → ℕ) (fuel entry : ℕ) (mail : Mail) →
         Finishes nodes full outputs → ((i : Number) → MovesAlong (nodes i) (scripts i) (into i full)) → MailBegins mail full →
         total (counts full) ≤ total (counts mail) + fuel →
         counted scripts entry (counts mail) (made_order scripts words fuel entry (counts mail)) ≡ Accepted }
@@ -97,7 +99,8 @@ pub fn accepted_orders_are_complete()
 /// Law: what comes to a miner, entry by entry of an accepted schedule, are the messages of the full run that were still to come,
 /// each link's in order: the schedule decides of their order alone.
 pub fn messages_come_in_order()
-    ensures { (nodes : Number → Strand (List (List ℕ))) (full : Mail) (outputs : Number → List (List ℕ)) (order : List Link) (entry : ℕ) (mail : Mail) (i : Number) →
+    ensures { (nodes : Number → Strand (List (List ℕ))) (full : Mail) (outputs : Number → List (List ℕ)) (order : List Link) (entry : ℕ) (mail : Mail)
+        (i : Number) →
         Finishes nodes full outputs → MailBegins mail full → walked nodes entry mail order ≡ Accepted →
         arrived nodes i mail order ≡ arrivals i (to_come full mail) order }
 {}

@@ -6,7 +6,8 @@ use Rattle.typed_tree.specs.declared.kinds.SlotDomain.TheVariants as slot
 use Rattle.typed_tree.specs.declared.kinds.Slot.{Slot}
 use Rattle.typed_tree.specs.declared.function.Returned.{Returned}
 use Rattle.typed_tree.specs.declared.function.Returned.TheVariants.{Nothing, Value}
-use Rattle.typed_tree.specs.Tree.{TypedTree, TypedTrees, word_node, truth_node, slot_node, call_node, size_node, cat_node, sum_node, bits_node, element_node, not_node, cast_node, binary_node, cut_node, declassify_node}
+use Rattle.typed_tree.specs.Tree.{TypedTree, TypedTrees, word_node, truth_node, slot_node, call_node, size_node, cat_node, sum_node, bits_node}
+use Rattle.typed_tree.specs.Tree.{element_node, not_node, cast_node, binary_node, cut_node, declassify_node}
 use Rattle.typed_tree.specs.Tree as Tree'
 use Rattle.typed_tree.specs.Programs.{TypedFunctionTree}
 use Rattle.reached_instances.specs.declared.instance.BoundDomain.{BoundDomain}

@@ -36,7 +36,8 @@ pub short_tape : end_line (record { how = endings.Tape owners.Miner3 1 0; cost =
 unfolding end_line ending_text owner_digit digits
 short_tape = refl
 
-pub widest_need : end_line (record { how = endings.Tape owners.Dealer (2 ^ 128 - 1) 1; cost = 2 ^ 64 - 1 }) ≡ codes "end tape 0 need 340282366920938463463374607431768211455 have 1 cost 18446744073709551615\n"
+pub widest_need : end_line (record { how = endings.Tape owners.Dealer (2 ^ 128 - 1) 1; cost = 2 ^ 64 - 1 })
+    ≡ codes "end tape 0 need 340282366920938463463374607431768211455 have 1 cost 18446744073709551615\n"
 unfolding end_line ending_text owner_digit digits
 widest_need = refl
 

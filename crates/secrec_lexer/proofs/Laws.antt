@@ -14,7 +14,8 @@ use Rattle.secrec_lexer.specs.Pieces.{first}
 use Rattle.secrec_lexer.specs.inner.Extents.{IsWithin}
 use Rattle.secrec_lexer.proofs.Turns.{found_within}
 use Rattle.secrec_lexer.specs.Places.{place_at}
-use Rattle.secrec_lexer.specs.Lexis.{Lexes, ended, blank, lexeme, Refuses, here, behind_blank, behind_lexeme, HasTokens, IsRefused, too_long, within, IsAnswer, IsTokens, IsRefusal, token_at, IsDecided}
+use Rattle.secrec_lexer.specs.Lexis.{Lexes, ended, blank, lexeme, Refuses, here, behind_blank, behind_lexeme, HasTokens, IsRefused, too_long, within}
+use Rattle.secrec_lexer.specs.Lexis.{IsAnswer, IsTokens, IsRefusal, token_at, IsDecided}
 
 -- what a piece is: its number of bytes, and its token
 size_of : Piece → ℕ
@@ -90,7 +91,8 @@ no_fault text {offset = o} {fault = x} {place = p} (lexeme kind size e g) (behin
     no_fault text g (subst (λ n. Refuses text (o + n) x p) (same_lexeme (first (drop o text)) kind like size other e f) h)
 
 -- from an offset on there is one first fault, at one place
-one_fault : (text : List ℕ) {offset : ℕ} {fault other : LexFault} {place spot : Span} → Refuses text offset fault place → Refuses text offset other spot → (fault ≡ other) × (place ≡ spot)
+one_fault : (text : List ℕ) {offset : ℕ} {fault other : LexFault} {place spot : Span} → Refuses text offset fault place
+    → Refuses text offset other spot → (fault ≡ other) × (place ≡ spot)
 one_fault text {offset = o} {fault = x} {other = y} (here before e) (here behind f) =
     (same_fault (first (drop o text)) x y before behind e f, ap (λ n. place_at text (o + n)) (same_before (first (drop o text)) x y before behind e f))
 one_fault text {offset = o} {fault = x} (here before e) (behind_blank size f h) = absurd (blank_or_fault (first (drop o text)) size before x f e)
@@ -111,18 +113,21 @@ pub not_both : (text : List ℕ) (tokens : List Token) (fault : LexFault) (place
 not_both text tokens _ _ g (too_long long) = let short = g.0 in omega arith
 not_both text tokens fault place g (within short h) = no_fault text g.1 h
 
-pub one_refusal : (text : List ℕ) (fault other : LexFault) (place spot : Span) → IsRefused text fault place → IsRefused text other spot → (fault ≡ other) × (place ≡ spot)
+pub one_refusal : (text : List ℕ) (fault other : LexFault) (place spot : Span) → IsRefused text fault place → IsRefused text other spot
+    → (fault ≡ other) × (place ≡ spot)
 one_refusal text _ _ _ _ (too_long long) (too_long longer) = (refl, refl)
 one_refusal text _ other _ spot (too_long long) (within short h) = absurd (omega arith)
 one_refusal text fault _ place _ (within short h) (too_long long) = absurd (omega arith)
 one_refusal text fault other place spot (within short g) (within shorter h) = one_fault text g h
 
-pub only_tokens : (text : List ℕ) (answer : Result (List Token) LexErr) → IsAnswer text answer → (tokens : List Token) → HasTokens text tokens → IsTokens answer tokens
+pub only_tokens : (text : List ℕ) (answer : Result (List Token) LexErr) → IsAnswer text answer → (tokens : List Token) → HasTokens text tokens
+    → IsTokens answer tokens
 only_tokens text (Ok found) h tokens g = one_list text found tokens h g
 only_tokens text (Err Memory) h tokens g = tt
 only_tokens text (Err (Refused fault place)) h tokens g = not_both text tokens fault place g h
 
-pub only_refusal : (text : List ℕ) (answer : Result (List Token) LexErr) → IsAnswer text answer → (fault : LexFault) (place : Span) → IsRefused text fault place → IsRefusal answer fault place
+pub only_refusal : (text : List ℕ) (answer : Result (List Token) LexErr) → IsAnswer text answer → (fault : LexFault) (place : Span)
+    → IsRefused text fault place → IsRefusal answer fault place
 only_refusal text (Ok found) h fault place g = not_both text found fault place h g
 only_refusal text (Err Memory) h fault place g = tt
 only_refusal text (Err (Refused other spot)) h fault place g = one_refusal text other fault spot place h g
@@ -134,7 +139,8 @@ is_too_long text place long e = subst (IsRefused text faults.TooLong) (sym e) (t
 abbrev Decides : List ℕ → ℕ → Type 0
 Decides text offset = ((tokens : List Token) × Lexes text offset tokens) ⊎ ((fault : LexFault) × (place : Span) × Refuses text offset fault place)
 
-behind : (text : List ℕ) (offset : ℕ) (piece : Piece) → first (drop offset text) ≡ piece → IsWithin piece (length text - offset) → ((size : ℕ) → 0 < size → size ≤ length text - offset → Decides text (offset + size)) → Decides text offset
+behind : (text : List ℕ) (offset : ℕ) (piece : Piece) → first (drop offset text) ≡ piece → IsWithin piece (length text - offset)
+    → ((size : ℕ) → 0 < size → size ≤ length text - offset → Decides text (offset + size)) → Decides text offset
 behind text offset End e h k = inl (_, ended e)
 behind text offset (Blank size) e h k =
     elim (k size h.0 h.1) [

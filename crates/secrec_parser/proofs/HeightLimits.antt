@@ -19,7 +19,8 @@ use Rattle.expression_parser.proofs.Nodes.{Low}
 use Rattle.secrec_parser.specs.declared.leader.Leader.{Leader}
 use Rattle.secrec_parser.specs.declared.leader.Leader.TheVariants as leaders
 use Rattle.secrec_parser.specs.Grammar.{parenthesised, IsStatement, Closed}
-use Rattle.secrec_parser.specs.inner.Steps.{Inner, leader_of, least, else_step, if_step, while_step, for_step, led, statement_by, statement_step, statement_at_most}
+use Rattle.secrec_parser.specs.inner.Steps.{Inner, leader_of, least, else_step, if_step, while_step, for_step, led, statement_by, statement_step}
+use Rattle.secrec_parser.specs.inner.Steps.{statement_at_most}
 use Rattle.secrec_parser.specs.inner.Steps as steps
 use Rattle.secrec_parser.proofs.Clashes.{false_true, no_break, no_continue}
 use Rattle.secrec_parser.proofs.Heads.{too_high}
@@ -50,11 +51,13 @@ same_value : (a b : StatementTree) (r s : List Token) → read a r ≡ read b s 
 unfolding value_of rest_of
 same_value a b r s e = (ap (value_of a) e, ap rest_of e)
 
-greedy_bind : {A : Type 0} (o : Outcome A) (k : A × List Token → Outcome StatementTree) → ((a : A) (r : List Token) → o ≡ Ok (a, r) → Greedy (k (a, r))) → Greedy (o >>= k)
+greedy_bind : {A : Type 0} (o : Outcome A) (k : A × List Token → Outcome StatementTree)
+    → ((a : A) (r : List Token) → o ≡ Ok (a, r) → Greedy (k (a, r))) → Greedy (o >>= k)
 greedy_bind (Ok o) k go = go o.0 o.1 refl
 greedy_bind (Err e) k go = λ c r en (f : Err e ≡ Ok (c, r)). cc
 
-greedy_made : (o : Outcome StatementTree) (f : StatementTree → StatementTree) → ((s : StatementTree) → Closed s → Closed (f s)) → Greedy o → Greedy (o >>= λ s. Ok (f s.0, s.1))
+greedy_made : (o : Outcome StatementTree) (f : StatementTree → StatementTree) → ((s : StatementTree) → Closed s → Closed (f s)) → Greedy o
+    → Greedy (o >>= λ s. Ok (f s.0, s.1))
 greedy_made (Err e) f up g = λ c r en (q : Err e ≡ Ok (c, r)). cc
 greedy_made (Ok o) f up g = λ c r en q.
     let e = same_value (f o.0) c o.1 r q in
@@ -76,11 +79,13 @@ all_closed : (c : StatementTree) (r : List Token) → IsEnded r → Closed c →
 all_closed c [] en k = cc
 all_closed c (y ∷ r) en k = λ e. k
 
-module _ (max_height : ℕ) (inside : Bool) (x : Token) (m : List Token) (en : IsEnded (x ∷ m)) (o : Outcome StatementTree) (reads : Reads (IsStatement inside) (LowStatement max_height) Follow (x ∷ m) o) where
+module _ (max_height : ℕ) (inside : Bool) (x : Token) (m : List Token) (en : IsEnded (x ∷ m)) (o : Outcome StatementTree)
+    (reads : Reads (IsStatement inside) (LowStatement max_height) Follow (x ∷ m) o) where
   -- the family of what was read
   read_family : (c : StatementTree) (r : List Token) → o ≡ Ok (c, r) → family (leader_of inside x) ≡ family_of c
   read_family c r e =
-      let g : Good (IsStatement inside) (LowStatement max_height) Follow (x ∷ m) c r = subst (Reads (IsStatement inside) (LowStatement max_height) Follow (x ∷ m)) e reads in
+      let g : Good (IsStatement inside) (LowStatement max_height) Follow (x ∷ m) c r =
+      subst (Reads (IsStatement inside) (LowStatement max_height) Follow (x ∷ m)) e reads in
       family_is inside c g.s r m x g.here (sym g.split)
 
   pub trivial_greedy : (n : ℕ) → family (leader_of inside x) ≡ n → (n ≡ 2 → ⊥) → (n ≡ 3 → ⊥) → (n ≡ 5 → ⊥) → Greedy o
@@ -92,12 +97,14 @@ span_rest : Outcome Span → List Token
 span_rest (Ok o) = o.1
 span_rest (Err e) = e.1
 
-else_greedy : (inner : Inner) (p : Span) (e : Tree) (s : StatementTree) (w : List Token) → ((w : List Token) → IsEnded w → Greedy (inner w)) → IsEnded w → Greedy (else_step inner p e s w)
+else_greedy : (inner : Inner) (p : Span) (e : Tree) (s : StatementTree) (w : List Token) → ((w : List Token) → IsEnded w → Greedy (inner w))
+    → IsEnded w → Greedy (else_step inner p e s w)
 unfolding span_rest
 else_greedy inner p e s [] gi en = cc
 else_greedy inner p e s (x ∷ m) gi en = go (is_sign signs.Else x) refl
   where
-    go : (b : Bool) → is_sign signs.Else x ≡ b → Greedy (cond b (expect signs.Else (x ∷ m) >>= λ a. inner a.1 >>= λ t. Ok (choice p e s t.0, t.1)) (Ok (branch p e s, x ∷ m)))
+    go : (b : Bool) → is_sign signs.Else x ≡ b
+        → Greedy (cond b (expect signs.Else (x ∷ m) >>= λ a. inner a.1 >>= λ t. Ok (choice p e s t.0, t.1)) (Ok (branch p e s, x ∷ m)))
     go true t =
         greedy_bind (expect signs.Else (x ∷ m)) (λ a. inner a.1 >>= λ t. Ok (choice p e s t.0, t.1)) (λ a r f.
         greedy_made (inner r) (λ t. choice p e s t) (λ t c. c) (gi r (behind a r f)))
@@ -112,21 +119,26 @@ else_greedy inner p e s (x ∷ m) gi en = go (is_sign signs.Else x) refl
         subst (λ z. Stops (Follow z) r) e2.0 (subst (Stops (Follow (branch p e s))) e2.1 (λ k. absurd (is_sign-false signs.Else x t k)))
 
 module _ (max_height : ℕ) (lower : Bool → Inner)
-    (reads_lower : 1 ≤ max_height → (inside : Bool) (w : List Token) → IsEnded w → Reads (IsStatement inside) (LowStatement (max_height - 1)) Follow w (lower inside w))
+    (reads_lower : 1 ≤ max_height → (inside : Bool) (w : List Token) → IsEnded w
+    → Reads (IsStatement inside) (LowStatement (max_height - 1)) Follow w (lower inside w))
     (greedy_lower : 1 ≤ max_height → (inside : Bool) (w : List Token) → IsEnded w → Greedy (lower inside w))
     (inside : Bool) (x : Token) (m : List Token) (en : IsEnded (x ∷ m))
   where
-    by_reads : (l : Leader) → leader_of inside x ≡ l → least l ≤ max_height → Reads (IsStatement inside) (LowStatement max_height) Follow (x ∷ m) (statement_by l max_height lower inside x m)
+    by_reads : (l : Leader) → leader_of inside x ≡ l → least l ≤ max_height
+        → Reads (IsStatement inside) (LowStatement max_height) Follow (x ∷ m) (statement_by l max_height lower inside x m)
     unfolding led
     by_reads leaders.Block e low =
         block_reads max_height low inside (lower inside) (reads_lower low inside) x m (leads inside x leaders.Block signs.LeftBrace e refl) (ap family e) en
     by_reads leaders.Empty e low = empty_reads inside max_height low x m (leads inside x leaders.Empty signs.Semicolon e refl) (ap family e) en
     by_reads leaders.If e low =
-        if_reads max_height low inside (lower inside) (reads_lower (omega (arith, low)) inside) (λ w r s enw enr f. greedy_lower (omega (arith, low)) inside w enw s r enr f) x m (leads inside x leaders.If signs.If e refl) (ap family e) en
+        if_reads max_height low inside (lower inside) (reads_lower (omega (arith, low)) inside)
+        (λ w r s enw enr f. greedy_lower (omega (arith, low)) inside w enw s r enr f) x m (leads inside x leaders.If signs.If e refl) (ap family e) en
     by_reads leaders.While e low =
-        while_reads max_height low inside (lower true) (reads_lower (omega (arith, low)) true) x m (leads inside x leaders.While signs.While e refl) (ap family e) en
+        while_reads max_height low inside (lower true) (reads_lower (omega (arith, low)) true) x m (leads inside x leaders.While signs.While e refl)
+        (ap family e) en
     by_reads leaders.DoWhile e low =
-        do_reads max_height low inside (lower true) (reads_lower (omega (arith, low)) true) x m (leads inside x leaders.DoWhile signs.Do e refl) (ap family e) en
+        do_reads max_height low inside (lower true) (reads_lower (omega (arith, low)) true) x m (leads inside x leaders.DoWhile signs.Do e refl)
+        (ap family e) en
     by_reads leaders.For e low =
         for_reads max_height low inside (lower true) (reads_lower (omega (arith, low)) true) x m (leads inside x leaders.For signs.For e refl) (ap family e) en
     by_reads leaders.Break e low =
@@ -140,12 +152,14 @@ module _ (max_height : ℕ) (lower : Bool → Inner)
     by_reads leaders.Declaration e low = typed_reads max_height low inside x m e en
     by_reads leaders.Name e low = behind m en
       where
-        behind : (m : List Token) → IsEnded (x ∷ m) → Reads (IsStatement inside) (LowStatement max_height) Follow (x ∷ m) (steps.name_statement max_height (x ∷ m) m)
+        behind : (m : List Token) → IsEnded (x ∷ m)
+            → Reads (IsStatement inside) (LowStatement max_height) Follow (x ∷ m) (steps.name_statement max_height (x ∷ m) m)
         behind [] en = let k = name_kind inside x.kind x.place e in let f = after_kind x [] (kinds.Name k.0) en k.1 refl in absurd (false_true f)
         behind (y ∷ n) en = let k = name_kind inside x.kind x.place e in named_reads inside x y n k.0 k.1 (ap family e) en max_height low
     by_reads leaders.Expression e low = expression_reads max_height inside x m e en
 
-    high_reads : (l : Leader) → leader_of inside x ≡ l → max_height < least l → (l ≡ leaders.Expression → ⊥) → Bad (IsStatement inside) (LowStatement max_height) Follow (x ∷ m) TooHigh (x ∷ m)
+    high_reads : (l : Leader) → leader_of inside x ≡ l → max_height < least l → (l ≡ leaders.Expression → ⊥)
+        → Bad (IsStatement inside) (LowStatement max_height) Follow (x ∷ m) TooHigh (x ∷ m)
     high_reads l e high other =
         too_high (IsStatement inside) (LowStatement max_height) Follow x m
         (λ c s m' m2 v f st eq. let h = least_high inside c s m' m2 x v eq in let g = ap least e in omega (arith, f, h, g, high))
@@ -154,21 +168,27 @@ module _ (max_height : ℕ) (lower : Bool → Inner)
     no_expression : (l : Leader) → max_height < least l → l ≡ leaders.Expression → ⊥
     no_expression l high e = let f = ap least e in omega (arith, f, high)
 
-    head_reads : Reads (IsStatement inside) (LowStatement max_height) Follow (x ∷ m) (cond (nat_lt max_height (least (leader_of inside x))) (Err (TooHigh, x ∷ m)) (statement_by (leader_of inside x) max_height lower inside x m))
+    head_reads : Reads (IsStatement inside) (LowStatement max_height) Follow (x ∷ m)
+        (cond (nat_lt max_height (least (leader_of inside x))) (Err (TooHigh, x ∷ m)) (statement_by (leader_of inside x) max_height lower inside x m))
     head_reads = go (nat_lt max_height (least (leader_of inside x))) refl
       where
-        go : (b : Bool) → nat_lt max_height (least (leader_of inside x)) ≡ b → Reads (IsStatement inside) (LowStatement max_height) Follow (x ∷ m) (cond b (Err (TooHigh, x ∷ m)) (statement_by (leader_of inside x) max_height lower inside x m))
-        go true t = let high = ltb-true max_height (least (leader_of inside x)) t in high_reads (leader_of inside x) refl high (no_expression (leader_of inside x) high)
+        go : (b : Bool) → nat_lt max_height (least (leader_of inside x)) ≡ b
+            → Reads (IsStatement inside) (LowStatement max_height) Follow (x ∷ m)
+            (cond b (Err (TooHigh, x ∷ m)) (statement_by (leader_of inside x) max_height lower inside x m))
+        go true t = let high = ltb-true max_height (least (leader_of inside x)) t in
+            high_reads (leader_of inside x) refl high (no_expression (leader_of inside x) high)
         go false t = by_reads (leader_of inside x) refl (ltb-false max_height (least (leader_of inside x)) t)
 
-    keeps_end : {A : Type 0} (W : A → Phrase) (Fits : A → Type 0) (F : A → Token → Type 0) (w : List Token) (o : Outcome A) → Reads W Fits F w o → IsEnded w → (a : A) (r : List Token) → o ≡ Ok (a, r) → IsEnded r
+    keeps_end : {A : Type 0} (W : A → Phrase) (Fits : A → Type 0) (F : A → Token → Type 0) (w : List Token) (o : Outcome A) → Reads W Fits F w o
+        → IsEnded w → (a : A) (r : List Token) → o ≡ Ok (a, r) → IsEnded r
     keeps_end W Fits F w o reads enw a r e = good_ended {W = W} {Fits = Fits} {F = F} (subst (Reads W Fits F w) e reads) enw
 
     behind_first : (l : Leader) (s : Sign) → leader_of inside x ≡ l → keyword l ≡ Some s → IsEnded m
     behind_first l s e f = let k = leads inside x l s e f in after_kind x m (kinds.Sign s) en k refl
 
     test_ended : 2 ≤ max_height → IsEnded m → (a : Tree) (r : List Token) → steps.parenthesised (max_height - 1) m ≡ Ok (a, r) → IsEnded r
-    test_ended two enm a r e = keeps_end parenthesised (Low (max_height - 1)) Any m (steps.parenthesised (max_height - 1) m) (parenthesised_reads (max_height - 1) (omega (arith, two)) m enm) enm a r e
+    test_ended two enm a r e = keeps_end parenthesised (Low (max_height - 1)) Any m (steps.parenthesised (max_height - 1) m)
+        (parenthesised_reads (max_height - 1) (omega (arith, two)) m enm) enm a r e
 
     if_greedy : 2 ≤ max_height → IsEnded m → Greedy (if_step (max_height - 1) (lower inside) x.place m)
     unfolding if_step
@@ -190,10 +210,13 @@ module _ (max_height : ℕ) (lower : Bool → Inner)
     for_greedy two enm =
         greedy_bind (steps.heading (max_height - 1) m) (λ f. lower true f.1 >>= λ s. Ok (for_loop x.place f.0.0 f.0.1 f.0.2 s.0, s.1)) (λ a r f.
         greedy_made (lower true r) (λ s. for_loop x.place a.0 a.1 a.2 s) (λ s c. c) (greedy_lower (omega (arith, two)) true r
-        (keeps_end IsHeading (LowHeading (max_height - 1)) Any m (steps.heading (max_height - 1) m) (heading_reads (max_height - 1) (omega (arith, two)) m enm) enm a r f)))
+        (keeps_end IsHeading (LowHeading (max_height - 1)) Any m (steps.heading (max_height - 1) m)
+        (heading_reads (max_height - 1) (omega (arith, two)) m enm) enm a r f)))
 
-    plain_greedy : (l : Leader) → leader_of inside x ≡ l → least l ≤ max_height → (family l ≡ 2 → ⊥) → (family l ≡ 3 → ⊥) → (family l ≡ 5 → ⊥) → Greedy (statement_by l max_height lower inside x m)
-    plain_greedy l e low i w f = trivial_greedy max_height inside x m en (statement_by l max_height lower inside x m) (by_reads l e low) (family l) (ap family e) i w f
+    plain_greedy : (l : Leader) → leader_of inside x ≡ l → least l ≤ max_height → (family l ≡ 2 → ⊥) → (family l ≡ 3 → ⊥) → (family l ≡ 5 → ⊥)
+        → Greedy (statement_by l max_height lower inside x m)
+    plain_greedy l e low i w f =
+        trivial_greedy max_height inside x m en (statement_by l max_height lower inside x m) (by_reads l e low) (family l) (ap family e) i w f
 
     by_greedy : (l : Leader) → leader_of inside x ≡ l → least l ≤ max_height → Greedy (statement_by l max_height lower inside x m)
     unfolding led
@@ -211,18 +234,22 @@ module _ (max_height : ℕ) (lower : Bool → Inner)
     by_greedy leaders.Name e low = plain_greedy leaders.Name e low (λ f. omega (arith, f)) (λ f. omega (arith, f)) (λ f. omega (arith, f))
     by_greedy leaders.Expression e low = plain_greedy leaders.Expression e low (λ f. omega (arith, f)) (λ f. omega (arith, f)) (λ f. omega (arith, f))
 
-    head_greedy : Greedy (cond (nat_lt max_height (least (leader_of inside x))) (Err (TooHigh, x ∷ m)) (statement_by (leader_of inside x) max_height lower inside x m))
+    head_greedy : Greedy (cond (nat_lt max_height (least (leader_of inside x))) (Err (TooHigh, x ∷ m))
+        (statement_by (leader_of inside x) max_height lower inside x m))
     head_greedy = go (nat_lt max_height (least (leader_of inside x))) refl
       where
-        go : (b : Bool) → nat_lt max_height (least (leader_of inside x)) ≡ b → Greedy (cond b (Err (TooHigh, x ∷ m)) (statement_by (leader_of inside x) max_height lower inside x m))
+        go : (b : Bool) → nat_lt max_height (least (leader_of inside x)) ≡ b
+            → Greedy (cond b (Err (TooHigh, x ∷ m)) (statement_by (leader_of inside x) max_height lower inside x m))
         go true t = λ c r enr (f : Err (TooHigh, x ∷ m) ≡ Ok (c, r)). cc
         go false t = by_greedy (leader_of inside x) refl (ltb-false max_height (least (leader_of inside x)) t)
 
-    pub head_both : Reads (IsStatement inside) (LowStatement max_height) Follow (x ∷ m) (statement_step max_height lower inside (x ∷ m)) × Greedy (statement_step max_height lower inside (x ∷ m))
+    pub head_both : Reads (IsStatement inside) (LowStatement max_height) Follow (x ∷ m) (statement_step max_height lower inside (x ∷ m))
+        × Greedy (statement_step max_height lower inside (x ∷ m))
     unfolding statement_step
     head_both = (head_reads, head_greedy)
 
-statement_both : (max_height : ℕ) (inside : Bool) (w : List Token) → IsEnded w → Reads (IsStatement inside) (LowStatement max_height) Follow w (statement_at_most max_height inside w) × Greedy (statement_at_most max_height inside w)
+statement_both : (max_height : ℕ) (inside : Bool) (w : List Token) → IsEnded w
+    → Reads (IsStatement inside) (LowStatement max_height) Follow w (statement_at_most max_height inside w) × Greedy (statement_at_most max_height inside w)
 unfolding statement_at_most
 statement_both max_height inside [] en = cc
 statement_both zero inside (x ∷ m) en =
@@ -234,5 +261,6 @@ statement_both (suc h) inside (x ∷ m) en =
     (λ one i w enw. (statement_both h i w enw).1) inside x m en
 
 -- a statement of at most this height is read as the grammar spells it
-pub statement_reads : (max_height : ℕ) (inside : Bool) (w : List Token) → IsEnded w → Reads (IsStatement inside) (LowStatement max_height) Follow w (statement_at_most max_height inside w)
+pub statement_reads : (max_height : ℕ) (inside : Bool) (w : List Token) → IsEnded w
+    → Reads (IsStatement inside) (LowStatement max_height) Follow w (statement_at_most max_height inside w)
 statement_reads max_height inside w en = (statement_both max_height inside w en).0

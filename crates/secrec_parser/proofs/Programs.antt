@@ -1,5 +1,6 @@
 -- Readings of programs, and what the whole parser answers.
-use Rattle.std.proofs.Common.{◌≡◌, ℕ, zero, suc, ◌+◌, ◌<◌, ◌≤◌, List, [], ◌∷◌, ◌++◌, ◌⊎◌, inl, inr, refl, sym, ap, ◌∙◌, subst, append_assoc, Ok, Err, Bool, true, false, cond, length, length-append, arith}
+use Rattle.std.proofs.Common.{◌≡◌, ℕ, zero, suc, ◌+◌, ◌<◌, ◌≤◌, List, [], ◌∷◌, ◌++◌, ◌⊎◌, inl, inr, refl, sym, ap, ◌∙◌, subst, append_assoc, Ok, Err}
+use Rattle.std.proofs.Common.{Bool, true, false, cond, length, length-append, arith}
 use Rattle.std.specs.Prelude.{◌&&◌, not}
 use Rattle.sc_text.specs.declared.span.Span.{Span}
 use Rattle.secrec_lexer.specs.declared.sign.Sign.{Sign}
@@ -43,11 +44,13 @@ LowItem max_height (defines f) = function_height f ≤ 2 + max_height
 abbrev Named : Identifier × Unit {0} → Phrase
 Named = Both identifier (λ x (u : Unit {0}). sign signs.Semicolon)
 
-named_reads : {C : Type 0} (f : Identifier → C) (Fits : C → Type 0) → ((x : Identifier) → Fits (f x)) → (w : List Token) → IsEnded w → Reads (Made (λ (v : Identifier × Unit {0}). f v.0) Named) Fits Any w (named w >>= λ x. Ok (f x.0, x.1))
+named_reads : {C : Type 0} (f : Identifier → C) (Fits : C → Type 0) → ((x : Identifier) → Fits (f x)) → (w : List Token) → IsEnded w
+    → Reads (Made (λ (v : Identifier × Unit {0}). f v.0) Named) Fits Any w (named w >>= λ x. Ok (f x.0, x.1))
 named_reads f Fits fits w en =
     reads_same (Made f (Made (λ (v : Identifier × Unit {0}). v.0) Named)) (Made (λ (v : Identifier × Unit {0}). f v.0) Named) Fits Any Any
     (λ c s v. (v.2.0, v.1 ∙ ap f v.2.1, v.2.2)) (λ c s v. (v.0.0, v.1, (v.0, refl, v.2))) (λ c m st. st) w _
-    (made (Made (λ (v : Identifier × Unit {0}). v.0) Named) All Any f Fits Any (λ x g. tt) (λ x g. fits x) (λ x m st. any_stops (λ y. Unit {0}) [] m st) w (named w)
+    (made (Made (λ (v : Identifier × Unit {0}). v.0) Named) All Any f Fits Any (λ x g. tt) (λ x g. fits x)
+    (λ x m st. any_stops (λ y. Unit {0}) [] m st) w (named w)
     (seq identifier All Any (λ x (u : Unit {0}). sign signs.Semicolon) (λ x u. x) All Any
     (λ x u t v g. tt) (λ x u t m v st. any_stops (λ y. Unit {0}) t m st) (λ x s v. (tt, lone signs.Semicolon, (origin, refl), λ g. tt))
     w (expressions.identifier w) _ (identifier_reads w en) (λ x r is g. sign_end signs.Semicolon x All tt r (good_ended g en))))
@@ -69,7 +72,8 @@ function_head f s m m2 x v eq = go f.variables v.3
         inr (result_head f.returned w.0 (w.1 ++ m) m2 x w.3 (front v.1 m m2 x w e))
     go (a ∷ more) u = inl (sign_head signs.Template _ v.0 (v.1 ++ m) m2 x u.1 eq2)
 
-no_function : (k : TokenKind) (s : Sign) → FunctionKind k → k ≡ kinds.Sign s → begins_type (kinds.Sign s) ≡ false → (kinds.Sign s ≡ kinds.Sign signs.Template → ⊥) → (kinds.Sign s ≡ kinds.Sign signs.Void → ⊥) → ⊥
+no_function : (k : TokenKind) (s : Sign) → FunctionKind k → k ≡ kinds.Sign s → begins_type (kinds.Sign s) ≡ false
+    → (kinds.Sign s ≡ kinds.Sign signs.Template → ⊥) → (kinds.Sign s ≡ kinds.Sign signs.Void → ⊥) → ⊥
 no_function k s (inl e) is f t v = t (sym is ∙ e)
 no_function k s (inr (inl e)) is f t v = v (sym is ∙ e)
 no_function k s (inr (inr e)) is f t v = clash (begins_type (kinds.Sign s)) (ap begins_type (sym is) ∙ e) f
@@ -78,7 +82,11 @@ module _ (max_height : ℕ) (x : Token) (m : List Token) (en : IsEnded (x ∷ m)
   abbrev Led : (Identifier → ItemTree) → Sign → ItemTree → Phrase
   Led f s = Made (λ (v : Span × (Identifier × Unit {0})). f v.1.0) (Both (λ p. one_at p (kinds.Sign s)) (λ p. Named))
 
-  led_reads : (f : Identifier → ItemTree) (s : Sign) → is_end (kinds.Sign s) ≡ false → ((y : Identifier) → LowItem max_height (f y)) → ((y : Identifier) (ts : List Token) → (sign s then (identifier y then sign signs.Semicolon)) ts → IsItem (f y) ts) → ((c : ItemTree) (ts m' m2 : List Token) → IsItem c ts → ts ++ m' ≡ x ∷ m2 → (y : Identifier) × (c ≡ f y) × (sign s then (identifier y then sign signs.Semicolon)) ts) → x.kind ≡ kinds.Sign s → Reads IsItem (LowItem max_height) Any (x ∷ m) (named m >>= λ y. Ok (f y.0, y.1))
+  led_reads : (f : Identifier → ItemTree) (s : Sign) → is_end (kinds.Sign s) ≡ false → ((y : Identifier) → LowItem max_height (f y))
+      → ((y : Identifier) (ts : List Token) → (sign s then (identifier y then sign signs.Semicolon)) ts → IsItem (f y) ts)
+      → ((c : ItemTree) (ts m' m2 : List Token) → IsItem c ts → ts ++ m' ≡ x ∷ m2
+      → (y : Identifier) × (c ≡ f y) × (sign s then (identifier y then sign signs.Semicolon)) ts) → x.kind ≡ kinds.Sign s
+      → Reads IsItem (LowItem max_height) Any (x ∷ m) (named m >>= λ y. Ok (f y.0, y.1))
   led_reads f s goes_on low up down k =
       reads_as (Led f s) IsItem (LowItem max_height) Any Any x
       (λ c ts v. let w = v.2 in subst (λ z. IsItem z ts) (sym v.1) (up v.0.1.0 ts (w.0, w.1, w.2, (v.0.0, w.3), w.4)))
@@ -91,22 +99,26 @@ module _ (max_height : ℕ) (x : Token) (m : List Token) (en : IsEnded (x ∷ m)
   import_reads : x.kind ≡ kinds.Sign signs.Import → Reads IsItem (LowItem max_height) Any (x ∷ m) (named m >>= λ y. Ok (imports y.0, y.1))
   import_reads k = led_reads imports signs.Import refl (λ y. tt) (λ y ts v. v) down k
     where
-      down : (c : ItemTree) (ts m' m2 : List Token) → IsItem c ts → ts ++ m' ≡ x ∷ m2 → (y : Identifier) × (c ≡ imports y) × (sign signs.Import then (identifier y then sign signs.Semicolon)) ts
+      down : (c : ItemTree) (ts m' m2 : List Token) → IsItem c ts → ts ++ m' ≡ x ∷ m2
+          → (y : Identifier) × (c ≡ imports y) × (sign signs.Import then (identifier y then sign signs.Semicolon)) ts
       down (imports y) ts m' m2 v eq = (y, refl, v)
       down (kind y) ts m' m2 v eq = let f = sym k ∙ sign_head signs.Kind _ ts m' m2 x v eq in cc
       down (domain y z) ts m' m2 v eq = let f = sym k ∙ sign_head signs.Domain _ ts m' m2 x v eq in cc
       down (defines g) ts m' m2 v eq =
-          absurd (no_function x.kind signs.Import (function_head g ts m' m2 x v eq) k refl (λ (e : kinds.Sign signs.Import ≡ kinds.Sign signs.Template). cc) (λ (e : kinds.Sign signs.Import ≡ kinds.Sign signs.Void). cc))
+          absurd (no_function x.kind signs.Import (function_head g ts m' m2 x v eq) k refl
+          (λ (e : kinds.Sign signs.Import ≡ kinds.Sign signs.Template). cc) (λ (e : kinds.Sign signs.Import ≡ kinds.Sign signs.Void). cc))
 
   kind_reads : x.kind ≡ kinds.Sign signs.Kind → Reads IsItem (LowItem max_height) Any (x ∷ m) (named m >>= λ y. Ok (kind y.0, y.1))
   kind_reads k = led_reads kind signs.Kind refl (λ y. tt) (λ y ts v. v) down k
     where
-      down : (c : ItemTree) (ts m' m2 : List Token) → IsItem c ts → ts ++ m' ≡ x ∷ m2 → (y : Identifier) × (c ≡ kind y) × (sign signs.Kind then (identifier y then sign signs.Semicolon)) ts
+      down : (c : ItemTree) (ts m' m2 : List Token) → IsItem c ts → ts ++ m' ≡ x ∷ m2
+          → (y : Identifier) × (c ≡ kind y) × (sign signs.Kind then (identifier y then sign signs.Semicolon)) ts
       down (kind y) ts m' m2 v eq = (y, refl, v)
       down (imports y) ts m' m2 v eq = let f = sym k ∙ sign_head signs.Import _ ts m' m2 x v eq in cc
       down (domain y z) ts m' m2 v eq = let f = sym k ∙ sign_head signs.Domain _ ts m' m2 x v eq in cc
       down (defines g) ts m' m2 v eq =
-          absurd (no_function x.kind signs.Kind (function_head g ts m' m2 x v eq) k refl (λ (e : kinds.Sign signs.Kind ≡ kinds.Sign signs.Template). cc) (λ (e : kinds.Sign signs.Kind ≡ kinds.Sign signs.Void). cc))
+          absurd (no_function x.kind signs.Kind (function_head g ts m' m2 x v eq) k refl
+          (λ (e : kinds.Sign signs.Kind ≡ kinds.Sign signs.Template). cc) (λ (e : kinds.Sign signs.Kind ≡ kinds.Sign signs.Void). cc))
 
   abbrev Two : Identifier × (Identifier × Unit {0}) → Phrase
   Two = Both identifier (λ y. Named)
@@ -122,7 +134,12 @@ module _ (max_height : ℕ) (x : Token) (m : List Token) (en : IsEnded (x ∷ m)
       (λ c ts m' m2 v st eq. down c ts m' m2 v eq)
       (λ c m' st. st) (x ∷ m) m _ refl
       (known (kinds.Sign signs.Domain) (λ p. Two) (λ p v. domain v.0 v.1.0) (LowItem max_height) Any refl
-      (λ p. ((some_name, (some_name, tt)), name_token ∷ name_token ∷ lone signs.Semicolon, (name_token ∷ [], name_token ∷ lone signs.Semicolon, refl, refl, (name_token ∷ [], lone signs.Semicolon, refl, refl, (origin, refl))), tt))
+      (λ p. (
+        (some_name, (some_name, tt)),
+        name_token ∷ name_token ∷ lone signs.Semicolon,
+        (name_token ∷ [], name_token ∷ lone signs.Semicolon, refl, refl, (name_token ∷ [], lone signs.Semicolon, refl, refl, (origin, refl))),
+        tt,
+      ))
       x m _ k en (λ en2.
       seq identifier All Any (λ y. Named) (λ y v. domain y v.0) (LowItem max_height) Any
       (λ y v t u f. tt) (λ y v t m u st. any_stops (λ y. Unit {0}) t m st)
@@ -138,15 +155,18 @@ module _ (max_height : ℕ) (x : Token) (m : List Token) (en : IsEnded (x ∷ m)
       down (imports y) ts m' m2 v eq = let f = sym k ∙ sign_head signs.Import _ ts m' m2 x v eq in cc
       down (kind y) ts m' m2 v eq = let f = sym k ∙ sign_head signs.Kind _ ts m' m2 x v eq in cc
       down (defines g) ts m' m2 v eq =
-          absurd (no_function x.kind signs.Domain (function_head g ts m' m2 x v eq) k refl (λ (e : kinds.Sign signs.Domain ≡ kinds.Sign signs.Template). cc) (λ (e : kinds.Sign signs.Domain ≡ kinds.Sign signs.Void). cc))
+          absurd (no_function x.kind signs.Domain (function_head g ts m' m2 x v eq) k refl
+          (λ (e : kinds.Sign signs.Domain ≡ kinds.Sign signs.Template). cc) (λ (e : kinds.Sign signs.Domain ≡ kinds.Sign signs.Void). cc))
 
-  defines_reads : is_sign signs.Import x ≡ false → is_sign signs.Kind x ≡ false → is_sign signs.Domain x ≡ false → Reads IsItem (LowItem max_height) Any (x ∷ m) (function_step max_height (x ∷ m) >>= λ f. Ok (defines f.0, f.1))
+  defines_reads : is_sign signs.Import x ≡ false → is_sign signs.Kind x ≡ false → is_sign signs.Domain x ≡ false
+      → Reads IsItem (LowItem max_height) Any (x ∷ m) (function_step max_height (x ∷ m) >>= λ f. Ok (defines f.0, f.1))
   defines_reads i k d =
       reads_as (Made defines IsFunction) IsItem (LowItem max_height) Any Any x
       (λ c ts v. subst (λ z. IsItem z ts) (sym v.1) v.2)
       (λ c ts m' m2 v st eq. down c ts m' m2 v eq)
       (λ c m' st. st) (x ∷ m) m _ refl
-      (made IsFunction (LowFunction max_height) Any defines (LowItem max_height) Any (λ f l. l) (λ f l. l) (λ f m st. any_stops (λ y. Unit {0}) [] m st) (x ∷ m) (function_step max_height (x ∷ m)) (function_reads max_height (x ∷ m) en))
+      (made IsFunction (LowFunction max_height) Any defines (LowItem max_height) Any (λ f l. l) (λ f l. l)
+      (λ f m st. any_stops (λ y. Unit {0}) [] m st) (x ∷ m) (function_step max_height (x ∷ m)) (function_reads max_height (x ∷ m) en))
     where
       down : (c : ItemTree) (ts m' m2 : List Token) → IsItem c ts → ts ++ m' ≡ x ∷ m2 → Made defines IsFunction c ts
       down (imports y) ts m' m2 v eq = absurd (is_sign-false signs.Import x i (sign_head signs.Import _ ts m' m2 x v eq))
@@ -157,7 +177,10 @@ module _ (max_height : ℕ) (x : Token) (m : List Token) (en : IsEnded (x ∷ m)
   item_step_reads : Reads IsItem (LowItem max_height) Any (x ∷ m) (item_step max_height x m)
   item_step_reads = go (is_sign signs.Import x) (is_sign signs.Kind x) (is_sign signs.Domain x) refl refl refl
     where
-      go : (i k d : Bool) → is_sign signs.Import x ≡ i → is_sign signs.Kind x ≡ k → is_sign signs.Domain x ≡ d → Reads IsItem (LowItem max_height) Any (x ∷ m) (cond i (named m >>= λ y. Ok (imports y.0, y.1)) (cond k (named m >>= λ y. Ok (kind y.0, y.1)) (cond d (domain_item m) (function_step max_height (x ∷ m) >>= λ f. Ok (defines f.0, f.1)))))
+      go : (i k d : Bool) → is_sign signs.Import x ≡ i → is_sign signs.Kind x ≡ k → is_sign signs.Domain x ≡ d
+          → Reads IsItem (LowItem max_height) Any (x ∷ m)
+          (cond i (named m >>= λ y. Ok (imports y.0, y.1))
+          (cond k (named m >>= λ y. Ok (kind y.0, y.1)) (cond d (domain_item m) (function_step max_height (x ∷ m) >>= λ f. Ok (defines f.0, f.1)))))
       go true k d ie ke de = import_reads (is_sign-true signs.Import x ie)
       go false true d ie ke de = kind_reads (is_sign-true signs.Kind x ke)
       go false false true ie ke de = domain_reads (is_sign-true signs.Domain x de)
@@ -260,7 +283,9 @@ module _ {A : Type 0} (stop : List A → List Token → Bool) (inner : List Toke
         rest (Ok o) = o.1
         rest (Err o) = []
 
-        go : (b : Bool) → stop found w ≡ b → cond b (Ok (found, w)) (inner w >>= λ a. list_from stop inner n (found ++ a.0 ∷ []) a.1) ≡ Ok (c, r) → ((found c : List A) (w r : List Token) → length w < n → IsEnded w → list_from stop inner n found w ≡ Ok (c, r) → stop c r ≡ true) → stop c r ≡ true
+        go : (b : Bool) → stop found w ≡ b → cond b (Ok (found, w)) (inner w >>= λ a. list_from stop inner n (found ++ a.0 ∷ []) a.1) ≡ Ok (c, r)
+            → ((found c : List A) (w r : List Token) → length w < n → IsEnded w → list_from stop inner n found w ≡ Ok (c, r) → stop c r ≡ true)
+            → stop c r ≡ true
         go true t e again =
             ap (λ z. stop z r) (sym (ap value e)) ∙ ap (stop found) (sym (ap rest e)) ∙ t
         go false t e again = at (inner w) refl e
@@ -290,9 +315,11 @@ ended_alone x (y ∷ m) en e =
 
 module _ (max_height limit : ℕ) (enough : limit ≡ 3 + max_height) (w : List Token) (en : IsEnded w) where
   -- the items were read, and the end
-  whole : (is : List ItemTree) (r : List Token) → items_of max_height w ≡ Ok (is, r) → (x : Token) × (r ≡ x ∷ []) × (x.kind ≡ kinds.End) × Good Items (LowItems max_height) (λ is x. AtEnd x) w is r
+  whole : (is : List ItemTree) (r : List Token) → items_of max_height w ≡ Ok (is, r)
+      → (x : Token) × (r ≡ x ∷ []) × (x.kind ≡ kinds.End) × Good Items (LowItems max_height) (λ is x. AtEnd x) w is r
   whole is r e =
-      let g : Good Items (LowItems max_height) (λ is x. AtEnd x) w is r = subst (Reads Items (LowItems max_height) (λ is x. AtEnd x) w) e (items_reads max_height w en) in
+      let g : Good Items (LowItems max_height) (λ is x. AtEnd x) w is r =
+      subst (Reads Items (LowItems max_height) (λ is x. AtEnd x) w) e (items_reads max_height w en) in
       let t : at_end r ≡ true = list_ends (λ found w. at_end w) (item max_height) (item_shorter max_height) (suc (length w)) [] is w r (omega arith) en e in
       let f : is_end g.x.kind ≡ true = ap at_end (sym g.rest) ∙ t in
       let er : IsEnded (g.x ∷ g.m) = subst IsEnded g.rest (good_ended g en) in
@@ -378,7 +405,8 @@ module _ (max_height limit : ℕ) (enough : limit ≡ 3 + max_height) (w : List 
       b.never q.items u.0 u.1 b.m u.3 (low_allowed p q low) (at_end_stops q.items u.1 q.end u.4) (sym u.2 ∙ b.split)
 
   -- whatever begins with the tokens up to the fault
-  beyond : (p : ParseProblem) (r : List Token) (b : Bad Items (LowItems max_height) (λ is x. AtEnd x) w p r) (q : ProgramTree) (more : List Token) → IsProgram q ((b.s ++ b.x ∷ []) ++ more) → Allowed p (LowItems max_height q.items) → ⊥
+  beyond : (p : ParseProblem) (r : List Token) (b : Bad Items (LowItems max_height) (λ is x. AtEnd x) w p r) (q : ProgramTree) (more : List Token)
+      → IsProgram q ((b.s ++ b.x ∷ []) ++ more) → Allowed p (LowItems max_height q.items) → ⊥
   beyond p r b q more u al =
       b.never q.items u.0 u.1 more u.3 al (at_end_stops q.items u.1 q.end u.4) (sym u.2 ∙ append_assoc b.s (b.x ∷ []) more)
 
@@ -392,7 +420,13 @@ module _ (max_height limit : ℕ) (enough : limit ≡ 3 + max_height) (w : List 
       let v = b.begun in (
         with_end v.0,
         v.1 ++ end_token ∷ [],
-        (b.s ++ b.x ∷ v.1, end_token ∷ [], append_assoc b.s (b.x ∷ []) (v.1 ++ end_token ∷ []) ∙ sym (append_assoc b.s (b.x ∷ v.1) (end_token ∷ [])), v.2, refl),
+        (
+          b.s ++ b.x ∷ v.1,
+          end_token ∷ [],
+          append_assoc b.s (b.x ∷ []) (v.1 ++ end_token ∷ []) ∙ sym (append_assoc b.s (b.x ∷ v.1) (end_token ∷ [])),
+          v.2,
+          refl,
+        ),
       )
 
   begins_of : (p : ParseProblem) (r : List Token) (b : Bad Items (LowItems max_height) (λ is x. AtEnd x) w p r) → Begins limit b.s
@@ -402,8 +436,12 @@ module _ (max_height limit : ℕ) (enough : limit ≡ 3 + max_height) (w : List 
       go : (b.s ≡ []) ⊎ ((is : List ItemTree) × (t : List Token) × AreAll IsItem is (b.s ++ t) × (items_height is ≤ 2 + max_height)) → Begins limit b.s
       go (inl e) = (with_end [], end_token ∷ [], (b.s, end_token ∷ [], refl, e, refl), omega (arith, enough))
       go (inr v) =
-          let low = v.3 in
-          (with_end v.0, v.1 ++ end_token ∷ [], (b.s ++ v.1, end_token ∷ [], sym (append_assoc b.s v.1 (end_token ∷ [])), v.2, refl), omega (arith, low, enough))
+          let low = v.3 in (
+            with_end v.0,
+            v.1 ++ end_token ∷ [],
+            (b.s ++ v.1, end_token ∷ [], sym (append_assoc b.s v.1 (end_token ∷ [])), v.2, refl),
+            omega (arith, low, enough),
+          )
 
   pub fault : (p : ParseProblem) (r : List Token) (x : Token) (m : List Token) → program max_height w ≡ Err (p, r) → r ≡ x ∷ m → IsFirstFault limit w p x.place
   fault p r x m e at =
@@ -427,6 +465,7 @@ module _ (max_height limit : ℕ) (enough : limit ≡ 3 + max_height) (w : List 
       omega (arith, l)
 
   -- the refusal that the code makes of it stands at the first fault
-  pub refuses : (p : ParseProblem) (r : List Token) (answer : ParseErr) → program max_height w ≡ Err (p, r) → refusal_at p r answer → RefusesAtFault limit w (Err answer)
+  pub refuses : (p : ParseProblem) (r : List Token) (answer : ParseErr) → program max_height w ≡ Err (p, r) → refusal_at p r answer
+      → RefusesAtFault limit w (Err answer)
   refuses p [] answer e h = absurd h
   refuses p (x ∷ m) answer e h = subst (λ z. RefusesAtFault limit w (Err z)) (sym h) (fault p (x ∷ m) x m e refl)

@@ -1,5 +1,6 @@
 -- The steps, as the code comes to them.
-use Rattle.std.proofs.Common.{Bor, ◌≡◌, subst, ℕ, zero, suc, ◌-◌, ◌<◌, ◌≤◌, Bool, true, false, cond, Option, Some, None, List, [], ◌∷◌, ◌++◌, refl, sym, ap, ◌∙◌, Result, Ok, Err, length, arith}
+use Rattle.std.proofs.Common.{Bor, ◌≡◌, subst, ℕ, zero, suc, ◌-◌, ◌<◌, ◌≤◌, Bool, true, false, cond, Option, Some, None, List, [], ◌∷◌, ◌++◌, refl}
+use Rattle.std.proofs.Common.{sym, ap, ◌∙◌, Result, Ok, Err, length, arith}
 use Rattle.std.specs.Prelude.{◌&&◌, not, nat_lt, IfOk}
 use Rattle.std.proofs.lemmas.Bool.{ltb-false, lt-ltb, le-ltb}
 use Rattle.secrec_lexer.specs.declared.token.Token.{Token}
@@ -19,7 +20,9 @@ use Rattle.secrec_parser.specs.declared.leader.Leader.{Leader}
 use Rattle.secrec_parser.specs.declared.leader.Leader.TheVariants as leaders
 use Rattle.expression_parser.specs.Steps.{Outcome, ◌>>=◌, expect}
 use Rattle.secrec_parser.specs.inner.Given.{Takes}
-use Rattle.secrec_parser.specs.inner.Steps.{list_from, at_sign, update_of, least_height, value_by, assigned_by, assigned, comma_then, no_more_variables, leader_of, least, Inner, led, declaration_statement, name_statement, action_statement, else_step, if_step, parenthesised, short, statement_by, statement_step, statement_at_most}
+use Rattle.secrec_parser.specs.inner.Steps.{list_from, at_sign, update_of, least_height, value_by, assigned_by, assigned, comma_then}
+use Rattle.secrec_parser.specs.inner.Steps.{no_more_variables, leader_of, least, Inner, led, declaration_statement, name_statement, action_statement}
+use Rattle.secrec_parser.specs.inner.Steps.{else_step, if_step, parenthesised, short, statement_by, statement_step, statement_at_most}
 
 module _ {A : Type 0} (stop : List A → List Token → Bool) (inner : List Token → Outcome A) where
   pub list_stops : (n : ℕ) (found : List A) (w : List Token) → stop found w ≡ true → list_from stop inner n found w ≡ Ok (found, w)
@@ -28,7 +31,8 @@ module _ {A : Type 0} (stop : List A → List Token → Bool) (inner : List Toke
   list_stops (suc n) found w e =
       ap (λ b. cond b (Ok (found, w)) (inner w >>= λ a. list_from stop inner n (found ++ a.0 ∷ []) a.1)) e
 
-  pub list_goes_on : (n : ℕ) (found : List A) (w r : List Token) (a : A) → 0 < n → stop found w ≡ false → inner w ≡ Ok (a, r) → list_from stop inner n found w ≡ list_from stop inner (n - 1) (found ++ a ∷ []) r
+  pub list_goes_on : (n : ℕ) (found : List A) (w r : List Token) (a : A) → 0 < n → stop found w ≡ false → inner w ≡ Ok (a, r)
+      → list_from stop inner n found w ≡ list_from stop inner (n - 1) (found ++ a ∷ []) r
   unfolding list_from
   list_goes_on zero found w r a h e f = absurd (omega arith)
   list_goes_on (suc n) found w r a h e f =
@@ -37,7 +41,8 @@ module _ {A : Type 0} (stop : List A → List Token → Bool) (inner : List Toke
       ∙ ap (λ o. o >>= λ a. list_from stop inner n (found ++ a.0 ∷ []) a.1) f
       ∙ ap (λ m. list_from stop inner m (found ++ a ∷ []) r) d
 
-  pub list_fails : (n : ℕ) (found : List A) (w r : List Token) (p : ParseProblem) → 0 < n → stop found w ≡ false → inner w ≡ Err (p, r) → list_from stop inner n found w ≡ Err (p, r)
+  pub list_fails : (n : ℕ) (found : List A) (w r : List Token) (p : ParseProblem) → 0 < n → stop found w ≡ false → inner w ≡ Err (p, r)
+      → list_from stop inner n found w ≡ Err (p, r)
   unfolding list_from
   list_fails zero found w r p h e f = absurd (omega arith)
   list_fails (suc n) found w r p h e f =
@@ -45,7 +50,8 @@ module _ {A : Type 0} (stop : List A → List Token → Bool) (inner : List Toke
       ∙ ap (λ o. o >>= λ a. list_from stop inner n (found ++ a.0 ∷ []) a.1) f
 
 -- a statement that holds none is read without what reads the statements in it
-lower_unused : (l : Leader) (max_height : ℕ) (f g : Bool → Inner) (inside : Bool) (x : Token) (m : List Token) → least l ≤ 0 → statement_by l max_height f inside x m ≡ statement_by l max_height g inside x m
+lower_unused : (l : Leader) (max_height : ℕ) (f g : Bool → Inner) (inside : Bool) (x : Token) (m : List Token) → least l ≤ 0
+    → statement_by l max_height f inside x m ≡ statement_by l max_height g inside x m
 lower_unused leaders.Expression max_height f g inside x m h = refl
 lower_unused leaders.Block max_height f g inside x m h = absurd (omega arith)
 lower_unused leaders.Empty max_height f g inside x m h = absurd (omega arith)
@@ -61,16 +67,23 @@ lower_unused leaders.Declaration max_height f g inside x m h = absurd (omega ari
 lower_unused leaders.Name max_height f g inside x m h = absurd (omega arith)
 
 -- a statement that holds none of its height
-statement_here : (max_height : ℕ) (inside : Bool) (x : Token) (m : List Token) → statement_at_most max_height inside (x ∷ m) ≡ cond (nat_lt max_height (least (leader_of inside x))) (Err (TooHigh, x ∷ m)) (statement_by (leader_of inside x) max_height (statement_at_most (max_height - 1)) inside x m)
+statement_here : (max_height : ℕ) (inside : Bool) (x : Token) (m : List Token)
+    → statement_at_most max_height inside (x ∷ m)
+    ≡ cond (nat_lt max_height (least (leader_of inside x))) (Err (TooHigh, x ∷ m))
+    (statement_by (leader_of inside x) max_height (statement_at_most (max_height - 1)) inside x m)
 unfolding statement_at_most statement_step
 statement_here zero inside x m = go (nat_lt zero (least (leader_of inside x))) refl
   where
-    go : (b : Bool) → nat_lt zero (least (leader_of inside x)) ≡ b → cond b (Err (TooHigh, x ∷ m)) (statement_by (leader_of inside x) zero (λ i m. Err (TooHigh, m)) inside x m) ≡ cond b (Err (TooHigh, x ∷ m)) (statement_by (leader_of inside x) zero (statement_at_most (zero - 1)) inside x m)
+    go : (b : Bool) → nat_lt zero (least (leader_of inside x)) ≡ b
+        → cond b (Err (TooHigh, x ∷ m)) (statement_by (leader_of inside x) zero (λ i m. Err (TooHigh, m)) inside x m)
+        ≡ cond b (Err (TooHigh, x ∷ m)) (statement_by (leader_of inside x) zero (statement_at_most (zero - 1)) inside x m)
     go true e = refl
-    go false e = lower_unused (leader_of inside x) zero (λ i m. Err (TooHigh, m)) (statement_at_most (zero - 1)) inside x m (ltb-false zero (least (leader_of inside x)) e)
+    go false e = lower_unused (leader_of inside x) zero (λ i m. Err (TooHigh, m)) (statement_at_most (zero - 1)) inside x m
+        (ltb-false zero (least (leader_of inside x)) e)
 statement_here (suc h) inside x m =
     let d : h ≡ suc h - 1 = omega arith in
-    ap (λ n. cond (nat_lt (suc h) (least (leader_of inside x))) (Err (TooHigh, x ∷ m)) (statement_by (leader_of inside x) (suc h) (statement_at_most n) inside x m)) d
+    ap (λ n. cond (nat_lt (suc h) (least (leader_of inside x))) (Err (TooHigh, x ∷ m))
+    (statement_by (leader_of inside x) (suc h) (statement_at_most n) inside x m)) d
 
 pub statement_none : (max_height : ℕ) (inside : Bool) (w : List Token) → length w ≡ 0 → statement_at_most max_height inside w ≡ Err (Unexpected, w)
 unfolding statement_at_most statement_step
@@ -79,34 +92,42 @@ statement_none (suc h) inside [] e = refl
 statement_none max_height inside (x ∷ m) e = absurd (omega (arith, e))
 
 -- where l is what leads the tokens, and n its least height
-module _ (max_height : ℕ) (inside : Bool) (w : List Token) (x : Token) (m : List Token) (l : Leader) (n : ℕ) (front : w ≡ x ∷ m) (led_by : l ≡ leader_of inside x) (least_is : n ≡ least l) where
+module _ (max_height : ℕ) (inside : Bool) (w : List Token) (x : Token) (m : List Token) (l : Leader) (n : ℕ) (front : w ≡ x ∷ m)
+    (led_by : l ≡ leader_of inside x) (least_is : n ≡ least l) where
   pub statement_high : max_height < n → statement_at_most max_height inside w ≡ Err (TooHigh, w)
   statement_high lt =
       let f = ap least led_by in
       ap (statement_at_most max_height inside) front ∙ statement_here max_height inside x m
-      ∙ ap (λ b. cond b (Err (TooHigh, x ∷ m)) (statement_by (leader_of inside x) max_height (statement_at_most (max_height - 1)) inside x m)) (lt-ltb max_height (least (leader_of inside x)) (omega (arith, f, least_is, lt)))
+      ∙ ap (λ b. cond b (Err (TooHigh, x ∷ m)) (statement_by (leader_of inside x) max_height (statement_at_most (max_height - 1)) inside x m))
+      (lt-ltb max_height (least (leader_of inside x)) (omega (arith, f, least_is, lt)))
       ∙ ap (λ v. Err (TooHigh, v)) (sym front)
 
   pub statement_leads : n ≤ max_height → statement_at_most max_height inside w ≡ statement_by l max_height (statement_at_most (max_height - 1)) inside x m
   statement_leads le =
       let f = ap least led_by in
       ap (statement_at_most max_height inside) front ∙ statement_here max_height inside x m
-      ∙ ap (λ b. cond b (Err (TooHigh, x ∷ m)) (statement_by (leader_of inside x) max_height (statement_at_most (max_height - 1)) inside x m)) (le-ltb max_height (least (leader_of inside x)) (omega (arith, f, least_is, le)))
+      ∙ ap (λ b. cond b (Err (TooHigh, x ∷ m)) (statement_by (leader_of inside x) max_height (statement_at_most (max_height - 1)) inside x m))
+      (le-ltb max_height (least (leader_of inside x)) (omega (arith, f, least_is, le)))
       ∙ ap (λ l. statement_by l max_height (statement_at_most (max_height - 1)) inside x m) (sym led_by)
 
   pub statement_declares : n ≤ max_height → l ≡ leaders.Declaration → statement_at_most max_height inside w ≡ declaration_statement (max_height - 1) w
-  statement_declares le is = statement_leads le ∙ ap (λ l. statement_by l max_height (statement_at_most (max_height - 1)) inside x m) is ∙ ap (declaration_statement (max_height - 1)) (sym front)
+  statement_declares le is = statement_leads le ∙ ap (λ l. statement_by l max_height (statement_at_most (max_height - 1)) inside x m) is
+      ∙ ap (declaration_statement (max_height - 1)) (sym front)
 
   pub statement_names : n ≤ max_height → l ≡ leaders.Name → statement_at_most max_height inside w ≡ name_statement max_height w m
-  statement_names le is = statement_leads le ∙ ap (λ l. statement_by l max_height (statement_at_most (max_height - 1)) inside x m) is ∙ ap (λ v. name_statement max_height v m) (sym front)
+  statement_names le is = statement_leads le ∙ ap (λ l. statement_by l max_height (statement_at_most (max_height - 1)) inside x m) is
+      ∙ ap (λ v. name_statement max_height v m) (sym front)
 
   pub statement_evaluates : n ≤ max_height → l ≡ leaders.Expression → statement_at_most max_height inside w ≡ action_statement max_height w
-  statement_evaluates le is = statement_leads le ∙ ap (λ l. statement_by l max_height (statement_at_most (max_height - 1)) inside x m) is ∙ ap (action_statement max_height) (sym front)
+  statement_evaluates le is = statement_leads le ∙ ap (λ l. statement_by l max_height (statement_at_most (max_height - 1)) inside x m) is
+      ∙ ap (action_statement max_height) (sym front)
 
-  pub statement_led : n ≤ max_height → (l ≡ leaders.Declaration → ⊥) → (l ≡ leaders.Name → ⊥) → (l ≡ leaders.Expression → ⊥) → statement_at_most max_height inside w ≡ led l max_height (statement_at_most (max_height - 1)) inside x.place m
+  pub statement_led : n ≤ max_height → (l ≡ leaders.Declaration → ⊥) → (l ≡ leaders.Name → ⊥) → (l ≡ leaders.Expression → ⊥)
+      → statement_at_most max_height inside w ≡ led l max_height (statement_at_most (max_height - 1)) inside x.place m
   statement_led le d k e = statement_leads le ∙ other l d k e
     where
-      other : (l : Leader) → (l ≡ leaders.Declaration → ⊥) → (l ≡ leaders.Name → ⊥) → (l ≡ leaders.Expression → ⊥) → statement_by l max_height (statement_at_most (max_height - 1)) inside x m ≡ led l max_height (statement_at_most (max_height - 1)) inside x.place m
+      other : (l : Leader) → (l ≡ leaders.Declaration → ⊥) → (l ≡ leaders.Name → ⊥) → (l ≡ leaders.Expression → ⊥)
+          → statement_by l max_height (statement_at_most (max_height - 1)) inside x m ≡ led l max_height (statement_at_most (max_height - 1)) inside x.place m
       other leaders.Declaration d k e = absurd (d refl)
       other leaders.Name d k e = absurd (k refl)
       other leaders.Expression d k e = absurd (e refl)
@@ -128,7 +149,8 @@ module _ (max_height : ℕ) (t : TargetTree) (w : List Token) (x : Token) (m : L
         (ap (λ h. nat_lt max_height (least_height h u)) (sym high) ∙ lt-ltb max_height (least_height h u) lt)
         ∙ ap (λ v. Err (TooHigh, v)) (sym front)
 
-    pub assigned_value : least_height h u ≤ max_height → assigned max_height t w ≡ (value_by max_height t u m >>= λ v. Ok (record { target = t; value = v.0 }, v.1))
+    pub assigned_value : least_height h u ≤ max_height
+        → assigned max_height t w ≡ (value_by max_height t u m >>= λ v. Ok (record { target = t; value = v.0 }, v.1))
     assigned_value le =
         assigned_is (Some u) does
         ∙ ap (λ b. cond b (Err (TooHigh, x ∷ m)) (value_by max_height t u m >>= λ v. Ok (record { target = t; value = v.0 }, v.1)))
@@ -188,7 +210,8 @@ taken view r o n x e t = subst (λ z. Takes (λ x. (view x.0, x.1.now)) z o n) e
 
 -- a leader that leads a statement that holds none
 pub led_short : (l : Leader) (max_height : ℕ) (lower : Bool → Inner) (inside : Bool) (p : Span) (m : List Token) → (l ≡ leaders.Block → ⊥) →
-    (l ≡ leaders.If → ⊥) → (l ≡ leaders.While → ⊥) → (l ≡ leaders.DoWhile → ⊥) → (l ≡ leaders.For → ⊥) → led l max_height lower inside p m ≡ short l max_height p
+    (l ≡ leaders.If → ⊥) → (l ≡ leaders.While → ⊥) → (l ≡ leaders.DoWhile → ⊥) → (l ≡ leaders.For → ⊥)
+    → led l max_height lower inside p m ≡ short l max_height p
     m
 unfolding led
 led_short leaders.Block max_height lower inside p m a b c d e = absurd (a refl)
@@ -212,10 +235,12 @@ variables_full found w l = ap (λ b. not (at_sign signs.Comma w && b)) (le-ltb (
     go false = refl
 
 -- what stops behind a comma
-pub comma_fails : {A : Type 0} (inner : List Token → Outcome A) (w r r2 : List Token) (q : Span) (p : ParseProblem) → expect signs.Comma w ≡ Ok (q, r) → inner r ≡ Err (p, r2) → comma_then inner w ≡ Err (p, r2)
+pub comma_fails : {A : Type 0} (inner : List Token → Outcome A) (w r r2 : List Token) (q : Span) (p : ParseProblem) → expect signs.Comma w ≡ Ok (q, r)
+    → inner r ≡ Err (p, r2) → comma_then inner w ≡ Err (p, r2)
 comma_fails inner w r r2 q p e f = ap (λ o. o >>= λ a. inner a.1) e ∙ f
 
-pub comma_reads : {A : Type 0} (inner : List Token → Outcome A) (w r r2 : List Token) (q : Span) (a : A) → expect signs.Comma w ≡ Ok (q, r) → inner r ≡ Ok (a, r2) → comma_then inner w ≡ Ok (a, r2)
+pub comma_reads : {A : Type 0} (inner : List Token → Outcome A) (w r r2 : List Token) (q : Span) (a : A) → expect signs.Comma w ≡ Ok (q, r)
+    → inner r ≡ Ok (a, r2) → comma_then inner w ≡ Ok (a, r2)
 comma_reads inner w r r2 q a e f = ap (λ o. o >>= λ a. inner a.1) e ∙ f
 
 -- what reads past a token reads past the tokens that it began

@@ -5,7 +5,8 @@ ghost use Rattle.secrec_ast.specs.Tree.{expression};
 ghost use Rattle.secrec_ast.specs.Statements.{assignment_tree, optional, statement, step_tree, target_tree};
 ghost use Rattle.secrec_ast.specs.Heights.{height, optional_height, target_height};
 ghost use Rattle.secrec_parser.specs.Sugar.{held, updated};
-ghost use Rattle.secrec_parser.specs.inner.Steps.{action, assigned, assignment_step, is_update, least_height, statement_of, step_of, target_index, update_of, value_by};
+ghost use Rattle.secrec_parser.specs.inner.Steps.{action, assigned, assignment_step, is_update, least_height, statement_of, step_of, target_index};
+ghost use Rattle.secrec_parser.specs.inner.Steps.{update_of, value_by};
 ghost use Rattle.secrec_parser.specs.inner.Given.{action_tree, Takes};
 
 use crate::declaration::operand;

@@ -2,7 +2,8 @@
 
 ghost use Rattle.std.specs.Prelude.{◌≡◌, ◌+◌, [], ◌∷◌, length, map};
 ghost use Rattle.secrec_ast.specs.Programs.{block_tree, function_tree};
-ghost use Rattle.secrec_parser.specs.inner.Steps.{body, comma_then, constraint, domain_variable, function_step, listed, no_comma, no_more_variables, parameter, parameter_list, parameters, result_type, template};
+ghost use Rattle.secrec_parser.specs.inner.Steps.{body, comma_then, constraint, domain_variable, function_step, listed, no_comma, no_more_variables};
+ghost use Rattle.secrec_parser.specs.inner.Steps.{parameter, parameter_list, parameters, result_type, template};
 ghost use Rattle.secrec_parser.specs.inner.Given.{Takes};
 
 use crate::statement::braced;

@@ -2,7 +2,9 @@
 
 ghost use Rattle.std.specs.Prelude.{◌≡◌, ◌+◌, ◌<◌, ◌≤◌, length, Err};
 ghost use Rattle.secrec_ast.specs.Statements.{optional, start_tree, statement, step_tree};
-ghost use Rattle.secrec_parser.specs.inner.Steps.{action_statement, assert_step, declaration_statement, declares, do_behind, follows_name, headed, heading, last_part, last_step, least, name_statement, only_declares, return_step, short, start_part, start_step, test_part};
+ghost use Rattle.secrec_parser.specs.inner.Steps.{action_statement, assert_step, declaration_statement, declares, do_behind, follows_name, headed};
+ghost use Rattle.secrec_parser.specs.inner.Steps.{heading, last_part, last_step, least, name_statement, only_declares, return_step, short};
+ghost use Rattle.secrec_parser.specs.inner.Steps.{start_part, start_step, test_part};
 ghost use Rattle.secrec_parser.specs.inner.Given.{heading_parts, Takes};
 
 use crate::assignment::{assignment, assignment_or_expression, update_of};

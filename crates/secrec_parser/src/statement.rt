@@ -54,7 +54,8 @@ fn led<'a>(
     inside: bool,
 ) -> Read<'a, Statement>
     requires { least leader ≤ max_height }
-    ensures { Takes (λ x. (statement x.0, x.1.now)) result (led leader max_height (statement_at_most (max_height - 1)) inside place tokens.now) (length tokens.now + 1) }
+    ensures { Takes (λ x. (statement x.0, x.1.now)) result (led leader max_height (statement_at_most (max_height - 1)) inside place tokens.now)
+        (length tokens.now + 1) }
 {
     match leader {
         Leader::Block => {

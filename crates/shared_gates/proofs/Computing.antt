@@ -1,5 +1,6 @@
 -- Behind a list of gates the miners hold values that fit it.
-use Rattle.std.proofs.Common.{◌≡◌, ℕ, ◌+◌, ◌%◌, ◌<◌, ◌≤◌, Bool, List, [], ◌∷◌, ◌++◌, length, refl, sym, ◌∙◌, ap, subst, arith, inl, inr, length-append, append_assoc}
+use Rattle.std.proofs.Common.{◌≡◌, ℕ, ◌+◌, ◌%◌, ◌<◌, ◌≤◌, Bool, List, [], ◌∷◌, ◌++◌, length, refl, sym, ◌∙◌, ap, subst, arith, inl, inr}
+use Rattle.std.proofs.Common.{length-append, append_assoc}
 use Rattle.std.specs.Prelude.{Option, Some, None, slice_get}
 use Rattle.std.proofs.lemmas.Bool.{cases_lt}
 use Rattle.std.proofs.lemmas.List.{length-map, get_or_append_left}
@@ -40,7 +41,8 @@ use Rattle.shared_gates.specs.Model.{size_made, AllSizesSuit, run_gates}
 use Rattle.shared_gates.specs.Computed.{opened_by_gate, opened_values, Computed}
 use Rattle.shared_gates.proofs.LocalGates.{laws_of, of_ring, local-held}
 use Rattle.shared_gates.proofs.Models.{nth_value-value, size-value, local-size, suits-sizes}
-use Rattle.shared_gates.proofs.Gained.{one-block, two-blocks, first-block-size, second-block-size, length-two, word_of, length-word, gained-product, gained-opened, gained-reshared, gained-converted, gained-split, first-word-shares, second-word-shares}
+use Rattle.shared_gates.proofs.Gained.{one-block, two-blocks, first-block-size, second-block-size, length-two, word_of, length-word, gained-product}
+use Rattle.shared_gates.proofs.Gained.{gained-opened, gained-reshared, gained-converted, gained-split, first-word-shares, second-word-shares}
 
 -- ---- one more value
 
@@ -168,14 +170,17 @@ module _ (before : Values) (x y : List ℕ) where
   makes-split inputs u negated lt split = (
     stands_at_end before x (y ∷ []) ∙ ap Some (sym first_of_two),
     second_stands ∙ ap Some (sym second_of_two),
-    subst (λ us. clear.IsSplit negated us (value with_two (length before)) (value with_two (length before + 1))) (sym (get_or_append_left before (x ∷ y ∷ []) [] u lt))
+    subst (λ us. clear.IsSplit negated us (value with_two (length before)) (value with_two (length before + 1)))
+        (sym (get_or_append_left before (x ∷ y ∷ []) [] u lt))
         (subst (λ a. clear.IsSplit negated (value before u) a (value with_two (length before + 1))) (sym first_of_two)
         (subst (λ b. clear.IsSplit negated (value before u) x b) (sym second_of_two) split)),
   )
 
 -- ---- behind a whole gate
 
-module _ (before : Values) (sizes : List ℕ) (shares : Shares) (tapes : Tapes) (p : Protocol) (n u : ℕ) (v : Option ℕ) (gates : List model.Gate) (sound : Sound p) (ready : Ready (Joined p n u v ∷ gates) shares tapes) (before_sizes : sizes_of before ≡ sizes) (share_sizes : (i : Number) → sizes_of (shares i) ≡ sizes) where
+module _ (before : Values) (sizes : List ℕ) (shares : Shares) (tapes : Tapes) (p : Protocol) (n u : ℕ) (v : Option ℕ) (gates : List model.Gate)
+    (sound : Sound p) (ready : Ready (Joined p n u v ∷ gates) shares tapes) (before_sizes : sizes_of before ≡ sizes)
+    (share_sizes : (i : Number) → sizes_of (shares i) ≡ sizes) where
   abbrev j : Joint
   j = gate_joint u v shares (drawn p n tapes)
 
@@ -243,7 +248,8 @@ module _ (before : Values) (sizes : List ℕ) (shares : Shares) (tapes : Tapes) 
 
 -- ---- a list of gates
 
-module _ (dealt_kinds kinds : List Kind) (inputs : Values) (dealt : Number → Values) (ds : List ℕ) (inputs_held : AllHeld dealt_kinds inputs dealt) (inputs_sizes : sizes_of inputs ≡ ds) (dealt_sizes : (i : Number) → sizes_of (dealt i) ≡ ds) where
+module _ (dealt_kinds kinds : List Kind) (inputs : Values) (dealt : Number → Values) (ds : List ℕ) (inputs_held : AllHeld dealt_kinds inputs dealt)
+    (inputs_sizes : sizes_of inputs ≡ ds) (dealt_sizes : (i : Number) → sizes_of (dealt i) ≡ ds) where
   -- the shares of an operand
   operand-shares :
       (before : Values) (shares : Number → Values) → AllHeld kinds before shares → (ring : RingKind) (u : ℕ) → u < length before →
@@ -253,13 +259,15 @@ module _ (dealt_kinds kinds : List Kind) (inputs : Values) (dealt : Number → V
       (same_words (share_at shares u) (λ i. nth_value (shares i) u) (λ i. sym (nth_value-value (shares i) u)))
       (of_ring dealt_kinds kinds inputs before dealt shares inputs_held held ring u lt e)
 
-  made_kind : (before : Values) (xs : List ℕ) (s : Number → List ℕ) (kind : Kind) → kind_at kinds (length before) ≡ kind → Holds kind xs s → Holds (kind_at kinds (length before)) xs s
+  made_kind : (before : Values) (xs : List ℕ) (s : Number → List ℕ) (kind : Kind) → kind_at kinds (length before) ≡ kind → Holds kind xs s
+      → Holds (kind_at kinds (length before)) xs s
   made_kind before xs s kind e h = subst (λ k. Holds k xs s) (sym e) h
 
   operand-size : (before : Values) (sizes : List ℕ) (u : ℕ) → sizes_of before ≡ sizes → length (value before u) ≡ size_of sizes u
   operand-size before sizes u bs = size-value before u ∙ ap (λ s. size_of s u) bs
 
-  in_place : (before : Values) (x : List ℕ) (gates : List Gate) → AllKinded dealt_kinds kinds (length before + 1) gates → AllKinded dealt_kinds kinds (length (before ++ x ∷ [])) gates
+  in_place : (before : Values) (x : List ℕ) (gates : List Gate) → AllKinded dealt_kinds kinds (length before + 1) gates
+      → AllKinded dealt_kinds kinds (length (before ++ x ∷ [])) gates
   in_place before x gates h = subst (λ k. AllKinded dealt_kinds kinds k gates) (sym (one_longer before x)) h
 
   -- what the others need behind a gate, in a state of theirs
@@ -270,7 +278,8 @@ module _ (dealt_kinds kinds : List Kind) (inputs : Values) (dealt : Number → V
 
   -- a protocol that makes one value
   joined-gate :
-      (gate : Gate) (gates : List Gate) (before : Values) (sizes : List ℕ) (shares : Shares) (tapes : Tapes) (p : Protocol) (n u : ℕ) (v : Option ℕ) (rest : List model.Gate) →
+      (gate : Gate) (gates : List Gate) (before : Values) (sizes : List ℕ) (shares : Shares) (tapes : Tapes) (p : Protocol) (n u : ℕ) (v : Option ℕ)
+      (rest : List model.Gate) →
       sizes_of before ≡ sizes → ((i : Number) → sizes_of (shares i) ≡ sizes) → AllHeld kinds before shares → MakesOne gate →
       Suits inputs before (length before) gate → Sound p → p.made n ≡ n ∷ [] → Ready (Joined p n u v ∷ rest) shares tapes →
       length (clear_value inputs before gate) ≡ n →
@@ -283,11 +292,13 @@ module _ (dealt_kinds kinds : List Kind) (inputs : Values) (dealt : Number → V
   joined-gate gate gates before sizes shares tapes p n u v rest bs ss held one suits sound made ready size gained opens goes =
       let x : List ℕ = clear_value inputs before gate in
       let f = fits before sizes shares tapes p n u v rest sound ready bs ss in
-      go_on kinds inputs before (x ∷ []) gate gates _ (p.opened n (gate_joint u v shares (drawn p n tapes))) _ suits (makes-one inputs before gate one suits) (makes_one_count gate one)
+      go_on kinds inputs before (x ∷ []) gate gates _ (p.opened n (gate_joint u v shares (drawn p n tapes))) _ suits
+      (makes-one inputs before gate one suits) (makes_one_count gate one)
       (opens f)
       (goes (sizes-one before x sizes n bs size)
       (next_sizes before sizes shares tapes p n u v rest sound ready bs ss made)
-      (next_held before sizes shares tapes p n u v rest sound ready bs ss made kinds x held (gained f (blocks before sizes shares tapes p n u v rest sound ready bs ss made)))
+      (next_held before sizes shares tapes p n u v rest sound ready bs ss made kinds x held
+      (gained f (blocks before sizes shares tapes p n u v rest sound ready bs ss made)))
       (ready-next p n u v rest shares tapes ready sound))
     where
       makes_one_count : (gate : Gate) → MakesOne gate → 1 ≡ made_by gate
@@ -316,10 +327,12 @@ module _ (dealt_kinds kinds : List Kind) (inputs : Values) (dealt : Number → V
       (λ f made.
       made_kind before x (nth 0 (p.output n j)) (Shared Arithmetic) kinded.0.1.1.0
       (gained-product n j (p.output n j) (p.opened n j) add_ring (value before u) (value before v) made hu hv
-      (operand-shares before shares held Arithmetic u suits.first kinded.0.0) (operand-shares before shares held Arithmetic v suits.second kinded.0.1.0) (law.clear n j f)))
+      (operand-shares before shares held Arithmetic u suits.first kinded.0.0)
+      (operand-shares before shares held Arithmetic v suits.second kinded.0.1.0) (law.clear n j f)))
       (λ f more. sym (no_words (p.opened n j) (law.sound.opens n j f)))
       (λ bs2 ss2 held2 ready2.
-      computes gates (before ++ x ∷ []) (sizes ++ n ∷ []) (after p n u (Some v) shares (drawn p n tapes)) (left p n tapes) bs2 ss2 held2 (in_place before x gates kinded.1) suit.1 ready2)
+      computes gates (before ++ x ∷ []) (sizes ++ n ∷ []) (after p n u (Some v) shares (drawn p n tapes)) (left p n tapes) bs2 ss2 held2
+      (in_place before x gates kinded.1) suit.1 ready2)
   computes (And u v ∷ gates) before sizes shares tapes bs ss held kinded suit ready =
       let n = size_of sizes u in
       let p = blocked (mul_protocol xor_ring) in
@@ -334,10 +347,12 @@ module _ (dealt_kinds kinds : List Kind) (inputs : Values) (dealt : Number → V
       (λ f made.
       made_kind before x (nth 0 (p.output n j)) (Shared Boolean) kinded.0.1.1.0
       (gained-product n j (p.output n j) (p.opened n j) xor_ring (value before u) (value before v) made hu hv
-      (operand-shares before shares held Boolean u suits.first kinded.0.0) (operand-shares before shares held Boolean v suits.second kinded.0.1.0) (law.clear n j f)))
+      (operand-shares before shares held Boolean u suits.first kinded.0.0) (operand-shares before shares held Boolean v suits.second kinded.0.1.0)
+      (law.clear n j f)))
       (λ f more. sym (no_words (p.opened n j) (law.sound.opens n j f)))
       (λ bs2 ss2 held2 ready2.
-      computes gates (before ++ x ∷ []) (sizes ++ n ∷ []) (after p n u (Some v) shares (drawn p n tapes)) (left p n tapes) bs2 ss2 held2 (in_place before x gates kinded.1) suit.1 ready2)
+      computes gates (before ++ x ∷ []) (sizes ++ n ∷ []) (after p n u (Some v) shares (drawn p n tapes)) (left p n tapes) bs2 ss2 held2
+      (in_place before x gates kinded.1) suit.1 ready2)
   computes (Conv u ∷ gates) before sizes shares tapes bs ss held kinded suit ready =
       let n = size_of sizes u in
       let p = blocked conv_protocol in
@@ -350,10 +365,12 @@ module _ (dealt_kinds kinds : List Kind) (inputs : Values) (dealt : Number → V
       (length-map (value before u) (λ w. w % 2) ∙ hu)
       (λ f made.
       made_kind before x (nth 0 (p.output n j)) (Shared Arithmetic) kinded.0.1.0
-      (gained-converted n j (p.output n j) (p.opened n j) (value before u) made hu (operand-shares before shares held Boolean u suits kinded.0.0.0) (law.clear n j f)))
+      (gained-converted n j (p.output n j) (p.opened n j) (value before u) made hu (operand-shares before shares held Boolean u suits kinded.0.0.0)
+      (law.clear n j f)))
       (λ f more. sym (no_words (p.opened n j) (law.sound.opens n j f)))
       (λ bs2 ss2 held2 ready2.
-      computes gates (before ++ x ∷ []) (sizes ++ n ∷ []) (after p n u None shares (drawn p n tapes)) (left p n tapes) bs2 ss2 held2 (in_place before x gates kinded.1) suit.1 ready2)
+      computes gates (before ++ x ∷ []) (sizes ++ n ∷ []) (after p n u None shares (drawn p n tapes)) (left p n tapes) bs2 ss2 held2
+      (in_place before x gates kinded.1) suit.1 ready2)
   computes (Open ring u ∷ gates) before sizes shares tapes bs ss held kinded suit ready =
       let n = size_of sizes u in
       let p = blocked (open_protocol (ring_of ring)) in
@@ -372,7 +389,8 @@ module _ (dealt_kinds kinds : List Kind) (inputs : Values) (dealt : Number → V
       (gained-opened n j (p.output n j) (p.opened n j) (ring_of ring) (value before u) hu us (law.clear n j f)).0
       ∙ sym (still before x more u suits))
       (λ bs2 ss2 held2 ready2.
-      computes gates (before ++ x ∷ []) (sizes ++ n ∷ []) (after p n u None shares (drawn p n tapes)) (left p n tapes) bs2 ss2 held2 (in_place before x gates kinded.1) suit.1 ready2)
+      computes gates (before ++ x ∷ []) (sizes ++ n ∷ []) (after p n u None shares (drawn p n tapes)) (left p n tapes) bs2 ss2 held2
+      (in_place before x gates kinded.1) suit.1 ready2)
     where
       still : (before : Values) (x : List ℕ) (more : Values) (u : ℕ) → u < length before → value ((before ++ x ∷ []) ++ more) u ≡ value before u
       still before x more u lt =
@@ -385,14 +403,17 @@ module _ (dealt_kinds kinds : List Kind) (inputs : Values) (dealt : Number → V
       let suits = suits-sizes ds sizes inputs before inputs_sizes bs (Result ring u) suit.0 in
       let hu : length (value before u) ≡ n = operand-size before sizes u bs in
       let x : List ℕ = clear_value inputs before (Result ring u) in
-      joined-gate (Result ring u) gates before sizes shares tapes p n u None (run_gates dealt ds (sizes ++ n ∷ []) gates) bs ss held tt suits law.sound refl ready
+      joined-gate (Result ring u) gates before sizes shares tapes p n u None (run_gates dealt ds (sizes ++ n ∷ []) gates) bs ss held tt suits
+      law.sound refl ready
       hu
       (λ f made.
       made_kind before x (nth 0 (p.output n j)) (Shared ring) kinded.0.1.0
-      (gained-reshared n j (p.output n j) (p.opened n j) (ring_of ring) (value before u) made hu (operand-shares before shares held ring u suits kinded.0.0) (law.clear n j f)))
+      (gained-reshared n j (p.output n j) (p.opened n j) (ring_of ring) (value before u) made hu
+      (operand-shares before shares held ring u suits kinded.0.0) (law.clear n j f)))
       (λ f more. sym (no_words (p.opened n j) (law.sound.opens n j f)))
       (λ bs2 ss2 held2 ready2.
-      computes gates (before ++ x ∷ []) (sizes ++ n ∷ []) (after p n u None shares (drawn p n tapes)) (left p n tapes) bs2 ss2 held2 (in_place before x gates kinded.1) suit.1 ready2)
+      computes gates (before ++ x ∷ []) (sizes ++ n ∷ []) (after p n u None shares (drawn p n tapes)) (left p n tapes) bs2 ss2 held2
+      (in_place before x gates kinded.1) suit.1 ready2)
   computes (Split u negated ∷ gates) before sizes shares tapes bs ss held kinded suit ready =
       let n = size_of sizes u in
       let p = blocked (split_protocol negated) in
@@ -407,11 +428,13 @@ module _ (dealt_kinds kinds : List Kind) (inputs : Values) (dealt : Number → V
       let y : List ℕ = word_of n j (p.output n j) (p.opened n j) 1 in
       let hx : length x ≡ n = length-word n j (p.output n j) (p.opened n j) 0 in
       let hy : length y ≡ n = length-word n j (p.output n j) (p.opened n j) 1 in
-      let split = gained-split n j (p.output n j) (p.opened n j) xor_ring_laws negated (value before u) hu (operand-shares before shares held Arithmetic u suits kinded.0.0.0) (law.clear n j f) in
+      let split = gained-split n j (p.output n j) (p.opened n j) xor_ring_laws negated (value before u) hu
+      (operand-shares before shares held Arithmetic u suits kinded.0.0.0) (law.clear n j f) in
       go_on kinds inputs before (x ∷ y ∷ []) (Split u negated) gates _ (p.opened n j) _ suits (makes-split before x y inputs u negated suits split) refl
       (λ more. sym (no_words (p.opened n j) (law.sound.opens n j f)))
       (computes gates (before ++ x ∷ y ∷ []) (sizes ++ n ∷ n ∷ []) (after p n u None shares (drawn p n tapes)) (left p n tapes)
-      (sizes-append before (x ∷ y ∷ []) ∙ ap (λ s. s ++ length x ∷ length y ∷ []) bs ∙ ap (λ k. sizes ++ k ∷ length y ∷ []) hx ∙ ap (λ k. sizes ++ n ∷ k ∷ []) hy)
+      (sizes-append before (x ∷ y ∷ []) ∙ ap (λ s. s ++ length x ∷ length y ∷ []) bs ∙ ap (λ k. sizes ++ k ∷ length y ∷ []) hx
+      ∙ ap (λ k. sizes ++ n ∷ k ∷ []) hy)
       (pair_sizes before sizes shares tapes p n u None rest law.sound ready bs ss refl)
       (pair_held before sizes shares tapes p n u None rest law.sound ready bs ss refl kinds x y held
       (made_kind before x (nth 0 (p.output n j)) (Shared Boolean) kinded.0.1.0 (first-word-shares n j (p.output n j) (p.opened n j) two))
@@ -428,7 +451,8 @@ module _ (dealt_kinds kinds : List Kind) (inputs : Values) (dealt : Number → V
       go_on kinds inputs before (x ∷ []) gate gates _ [] _ suits (makes-one inputs before gate tt suits) refl
       (λ more. refl)
       (computes gates (before ++ x ∷ []) (sizes ++ size_made ds sizes gate ∷ []) (after_local (λ i own. local_share i (dealt i) own gate) shares) tapes
-      (sizes-one before x sizes (size_made ds sizes gate) bs (holds-size (kind_at kinds (length before)) x (λ i. local_share i (dealt i) (shares i) gate) new One ∙ size One))
+      (sizes-one before x sizes (size_made ds sizes gate) bs
+      (holds-size (kind_at kinds (length before)) x (λ i. local_share i (dealt i) (shares i) gate) new One ∙ size One))
       (λ i. sizes-one (shares i) (local_share i (dealt i) (shares i) gate) sizes (size_made ds sizes gate) (ss i) (size i))
       (held-one kinds before shares x (λ i. local_share i (dealt i) (shares i) gate) (λ i. same-count before (shares i) (bs ∙ sym (ss i))) held new)
       (in_place before x gates kinded.1) suit.1

@@ -59,7 +59,8 @@ unfolding sum_of_three
 value-is r n xs s e h = each-is n _ xs e (λ k lt. h.sum k (subst (λ m. k < m) (sym e) lt))
 
 -- and lists that add up to a value are shares of it
-pub shares-of : (r : Ring) (n : ℕ) (xs : List ℕ) (s : Number → List ℕ) → length xs ≡ n → ((i : Number) → length (s i) ≡ n) → ((i : Number) → AreWords (s i)) → value_of r n s ≡ xs → AreShares r xs s
+pub shares-of : (r : Ring) (n : ℕ) (xs : List ℕ) (s : Number → List ℕ) → length xs ≡ n → ((i : Number) → length (s i) ≡ n)
+    → ((i : Number) → AreWords (s i)) → value_of r n s ≡ xs → AreShares r xs s
 shares-of r n xs s e sizes words sums =
     record {
       sizes = λ i. sizes i ∙ sym e;

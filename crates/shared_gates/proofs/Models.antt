@@ -11,7 +11,8 @@ use Rattle.proto_core.specs.declared.party.Number.TheVariants.{One, Two, Three}
 use Rattle.protocol_model.specs.Gates.{nth_value, size_at, sizes_of, Sized, AreSound, ArePrivate}
 use Rattle.gates.specs.Blocks.{block_sizes}
 use Rattle.gates.specs.declared.gate.Gate.{Gate}
-use Rattle.gates.specs.declared.gate.Gate.TheVariants.{Input, Const, Add, Sub, MulPub, Mul, Xor, And, Not, Shl, Shr, Low, Cat, Part, Put, Rep, Spread, Sum, Split, Conv, Open, Result}
+use Rattle.gates.specs.declared.gate.Gate.TheVariants.{Input, Const, Add, Sub, MulPub, Mul, Xor, And, Not, Shl, Shr, Low, Cat, Part, Put, Rep, Spread}
+use Rattle.gates.specs.declared.gate.Gate.TheVariants.{Sum, Split, Conv, Open, Result}
 use Rattle.gates.specs.Clear.{Values, value, each_two, bits_of, Suits}
 use Rattle.gates.specs.Counts.{size_of}
 use Rattle.gates.proofs.Columns.{Column-of, Column-each_two}
@@ -51,7 +52,8 @@ size_at-size (n ∷ sizes) (suc k) h = size_at-size sizes k (omega arith)
 
 -- ---- the protocols
 
-sound-and-private : (dealt : Number → Values) (ds sizes : List ℕ) (gates : List Gate) → AreSound (run_gates dealt ds sizes gates) × ArePrivate (run_gates dealt ds sizes gates)
+sound-and-private : (dealt : Number → Values) (ds sizes : List ℕ) (gates : List Gate)
+    → AreSound (run_gates dealt ds sizes gates) × ArePrivate (run_gates dealt ds sizes gates)
 sound-and-private dealt ds sizes [] = (tt, tt)
 sound-and-private dealt ds sizes (Mul u v ∷ gates) =
     let law = mul_whole block_sizes block_sizes-cut add_ring_laws in
@@ -192,12 +194,17 @@ module _ (ds sizes : List ℕ) (inputs values : Values) (inputs_sizes : sizes_of
   pub suits-sizes : (gate : Gate) → SizesSuit ds sizes gate → Suits inputs values (length values) gate
   suits-sizes (Input k) suit = subst (λ n. k < n) count_inputs suit
   suits-sizes (Const list) suit = tt
-  suits-sizes (Add u v) suit = record { first = there u suit.first; second = there v suit.second; same_size = size_there u ∙ suit.same_size ∙ sym (size_there v) }
-  suits-sizes (Sub u v) suit = record { first = there u suit.first; second = there v suit.second; same_size = size_there u ∙ suit.same_size ∙ sym (size_there v) }
+  suits-sizes (Add u v) suit =
+      record { first = there u suit.first; second = there v suit.second; same_size = size_there u ∙ suit.same_size ∙ sym (size_there v) }
+  suits-sizes (Sub u v) suit =
+      record { first = there u suit.first; second = there v suit.second; same_size = size_there u ∙ suit.same_size ∙ sym (size_there v) }
   suits-sizes (MulPub ring u list) suit = (there u suit.0, size_there u ∙ suit.1)
-  suits-sizes (Mul u v) suit = record { first = there u suit.first; second = there v suit.second; same_size = size_there u ∙ suit.same_size ∙ sym (size_there v) }
-  suits-sizes (Xor u v) suit = record { first = there u suit.first; second = there v suit.second; same_size = size_there u ∙ suit.same_size ∙ sym (size_there v) }
-  suits-sizes (And u v) suit = record { first = there u suit.first; second = there v suit.second; same_size = size_there u ∙ suit.same_size ∙ sym (size_there v) }
+  suits-sizes (Mul u v) suit =
+      record { first = there u suit.first; second = there v suit.second; same_size = size_there u ∙ suit.same_size ∙ sym (size_there v) }
+  suits-sizes (Xor u v) suit =
+      record { first = there u suit.first; second = there v suit.second; same_size = size_there u ∙ suit.same_size ∙ sym (size_there v) }
+  suits-sizes (And u v) suit =
+      record { first = there u suit.first; second = there v suit.second; same_size = size_there u ∙ suit.same_size ∙ sym (size_there v) }
   suits-sizes (Not u) suit = there u suit
   suits-sizes (Shl u count) suit = there u suit
   suits-sizes (Shr u count) suit = there u suit

@@ -19,7 +19,8 @@ use Rattle.shared_gates.specs.Computed.{Computed}
 use Rattle.shared_gates.proofs.Models.{gates-sound}
 use Rattle.shared_gates.proofs.Drawn.{drawn-counted, run-ready}
 use Rattle.shared_gates.proofs.Computing.{computes, holds-size}
-use Rattle.shared_plans.specs.GateRuns.{GateRun, IsWellFormed, dealt_sizes, value_count, value_sizes, model_gates, end_shares, shares_of, opened_words, words_drawn}
+use Rattle.shared_plans.specs.GateRuns.{GateRun, IsWellFormed, dealt_sizes, value_count, value_sizes, model_gates, end_shares, shares_of}
+use Rattle.shared_plans.specs.GateRuns.{opened_words, words_drawn}
 use Rattle.shared_plans.proofs.GateLists.{length-sizes}
 use Rattle.shared_plans.proofs.RunLists.{sizes_behind, values-sized}
 

@@ -23,7 +23,8 @@ use Rattle.shared_gates.specs.Computed.{Computed}
 use Rattle.shared_gates.proofs.Models.{gates-sound}
 use Rattle.shared_gates.proofs.Drawn.{drawn-counted}
 use Rattle.shared_gates.proofs.GatesBehind.{sizes-then, suits-then, gates-then, size-stays}
-use Rattle.shared_plans.specs.GateRuns.{GateRun, IsWellFormed, dealt_sizes, value_count, value_sizes, then_gates, model_gates, end_shares, shares_of, opened_words, words_drawn, IsNumber, Reach}
+use Rattle.shared_plans.specs.GateRuns.{GateRun, IsWellFormed, dealt_sizes, value_count, value_sizes, then_gates, model_gates, end_shares, shares_of}
+use Rattle.shared_plans.specs.GateRuns.{opened_words, words_drawn, IsNumber, Reach}
 use Rattle.shared_plans.specs.Outcomes.{OpensNone, Follows, Outcome}
 use Rattle.shared_plans.proofs.KindedPlans.{shared-grown, shared-below, kind-behind, kinded-append}
 use Rattle.shared_plans.proofs.GateLists.{all-kinded-still}
@@ -77,7 +78,8 @@ module _ (r : GateRun) (plan : List Gate) (own : List Kind) (words : Miner → �
 
   -- ---- values that fit
 
-  module _ (tapes : Tapes) (ready : Ready (model_gates longer) (λ i. []) tapes) (computed : Computed longer.kinds longer.inputs [] longer.gates (end_shares longer tapes) (opened_words longer tapes)) where
+  module _ (tapes : Tapes) (ready : Ready (model_gates longer) (λ i. []) tapes)
+      (computed : Computed longer.kinds longer.inputs [] longer.gates (end_shares longer tapes) (opened_words longer tapes)) where
     pub plan-fit : FitFrom r.inputs computed.more (value_count r) plan
     plan-fit =
         let start : 0 + value_count r ≡ value_count r = omega arith in
@@ -102,7 +104,8 @@ module _ (r : GateRun) (plan : List Gate) (own : List Kind) (words : Miner → �
   pub words-then : (i : Number) → words_drawn longer i ≡ words_drawn r i + words (miner_of i)
   words-then i =
       let zeros = zeros-go longer longer-formed in
-      let of_plan = plan-words (zero_tapes longer longer-formed) zeros (run-computes longer longer-formed (zero_tapes longer longer-formed) zeros) (miner_of i) in
+      let of_plan = plan-words (zero_tapes longer longer-formed) zeros (run-computes longer longer-formed (zero_tapes longer longer-formed) zeros)
+      (miner_of i) in
       sym (run-needs longer longer-formed i)
       ∙ ap (λ gates. needed gates i) all-gates
       ∙ needed-append (model_gates r) plan_gates i

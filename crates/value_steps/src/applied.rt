@@ -105,7 +105,8 @@ impl Applied<'_> {
     /// The words of the result.
     #[tactic(auto, using(crate::proofs::ResultSizes::length_each_two))]
     pub(crate) fn result_words(&self, alloc: Global) -> Result<Vec<u64>, AllocError>
-        ensures words { IfOk result (λ words. words.items ≡ W.result_words self.now.operator self.now.operands (value_seen self.now.left.now) (value_seen self.now.right.now)) }
+        ensures words { IfOk result (λ words. words.items
+            ≡ W.result_words self.now.operator self.now.operands (value_seen self.now.left.now) (value_seen self.now.right.now)) }
         ensures bounded { IfOk result (λ words. length words.items ≤ 1048576) }
     {
         let (op, left, right) = (self.operator, self.left, self.right);

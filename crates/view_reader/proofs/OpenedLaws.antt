@@ -104,5 +104,8 @@ lines_of k (l ∷ m ∷ ms) os h =
 pub was_written : (bytes : List ℕ) (os : List (List Element)) → openings_of bytes ≡ Ok os → AreOpened os × (opened_bytes os ≡ bytes)
 unfolding openings_of
 was_written bytes os h =
-    let are = lines_of 1 (lines_in bytes) os h in
-    (are.good, sym (lines_joined (map Opened os) [] [] ∙ append-none (lines_bytes (map Opened os))) ∙ ap (join_with_byte 10) are.text ∙ join_with_byte-slice_split 10 bytes)
+    let are = lines_of 1 (lines_in bytes) os h in (
+      are.good,
+      sym (lines_joined (map Opened os) [] [] ∙ append-none (lines_bytes (map Opened os))) ∙ ap (join_with_byte 10) are.text
+          ∙ join_with_byte-slice_split 10 bytes,
+    )

@@ -25,7 +25,8 @@ comes {A} P a b p q e h =
 pub step_done : {A : Type 0} (P : Relation A) (a : A) → ((p : FunctionScope) → P p a p) → Step (done a) P
 step_done P a h = record { from = λ p b q e. comes (P p) a b p q e (h p) }
 
-pub step_bind : {A B : Type 0} (m : Resolving A) (g : A → Resolving B) (P : Relation A) (Q : Relation B) → Step m P → ((a : A) → Step (g a) (λ q b r. (p : FunctionScope) → P p a q → Q p b r)) → Step (m >>= g) Q
+pub step_bind : {A B : Type 0} (m : Resolving A) (g : A → Resolving B) (P : Relation A) (Q : Relation B) → Step m P
+    → ((a : A) → Step (g a) (λ q b r. (p : FunctionScope) → P p a q → Q p b r)) → Step (m >>= g) Q
 step_bind {A} {B} m g P Q first then = record { from = λ p b r e. go p b r (m p) refl e }
   where
     go : (p : FunctionScope) (b : B) (r : FunctionScope) → (o : Option (A × FunctionScope)) → m p ≡ o → carry o g ≡ Some (b, r) → Q p b r
@@ -39,7 +40,8 @@ step_reading {A} f P h = record { from = λ p a q e. go p a q (f p) refl e }
     go p a q None g e = cc
     go p a q (Some b) g e = comes (P p) b a p q e (h p b g)
 
-pub step_block : {A : Type 0} (m : Resolving A) (P Q : Relation A) → Step m P → ((p : FunctionScope) (a : A) (q : FunctionScope) → P (entering p) a q → Q p a (behind_block p q)) → Step (in_block m) Q
+pub step_block : {A : Type 0} (m : Resolving A) (P Q : Relation A) → Step m P
+    → ((p : FunctionScope) (a : A) (q : FunctionScope) → P (entering p) a q → Q p a (behind_block p q)) → Step (in_block m) Q
 step_block {A} m P Q h within = record { from = λ p a q e. go p a q (m (entering p)) refl e }
   where
     go : (p : FunctionScope) (a : A) (q : FunctionScope) → (o : Option (A × FunctionScope)) → m (entering p) ≡ o → closed p o ≡ Some (a, q) → Q p a q

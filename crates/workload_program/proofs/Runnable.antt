@@ -39,7 +39,8 @@ no_call c calls =
 main_checked : (i : Instance) → IsChecked load_tree i → i ≡ main_instance
 main_checked i (plain k f there without) = let alone = main_alone k f there in ap (λ n. record { function = n; binding = [] }) alone.0
 main_checked i (reached j k ds checked calls) =
-    absurd (no_call (record { function = k; binding = Some ds }) (subst (λ x. Calls load_tree x (record { function = k; binding = Some ds })) (main_checked j checked) calls))
+    absurd (no_call (record { function = k; binding = Some ds })
+    (subst (λ x. Calls load_tree x (record { function = k; binding = Some ds })) (main_checked j checked) calls))
 
 no_fault_inside : (f : FunctionTree) (g : TypeFault) → f ≡ main_tree → Among g (function_faults (within (declared_by load_tree) f []) f) → ⊥
 unfolding built_in_result call_faults call_type defined_faults operator_faults operator_type sum_faults

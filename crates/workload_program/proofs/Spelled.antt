@@ -14,7 +14,8 @@ use Rattle.secrec_ast.specs.declared.expression.Operator.TheVariants.{Multiply, 
 use Rattle.expression_parser.specs.Phrases.{Phrase, token, nothing, one, one_at, sign, ◌then◌}
 use Rattle.secrec_parser.specs.Grammar.{IsItem, IsProgram, IsStatement}
 use Rattle.workload_program.specs.LoadTree.{a_and_b, array_from_input, at, load_tree, main_tree, named, sum_published}
-use Rattle.workload_program.proofs.Tokens.{import_stdlib, import_shared3p, domain_p, heading, first_array, second_array, products, comparisons, behind_main, load_tokens}
+use Rattle.workload_program.proofs.Tokens.{import_stdlib, import_shared3p, domain_p, heading, first_array, second_array, products, comparisons}
+use Rattle.workload_program.proofs.Tokens.{behind_main, load_tokens}
 
 -- ---- one phrase behind another
 

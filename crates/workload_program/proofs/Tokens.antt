@@ -98,7 +98,8 @@ pieces : (at_most : ℕ) → (bytes : List ℕ) → (offset : ℕ) → Option (L
 pieces zero bytes offset = None
 pieces (suc n) bytes offset = piece bytes offset (pieces n bytes) (first (drop offset bytes))
 
-behind_lexeme : (bytes : List ℕ) (offset size : ℕ) (kind : TokenKind) (ts : List Token) → first (drop offset bytes) ≡ Lexeme kind size → (o : Option (List Token))
+behind_lexeme : (bytes : List ℕ) (offset size : ℕ) (kind : TokenKind) (ts : List Token) → first (drop offset bytes) ≡ Lexeme kind size
+    → (o : Option (List Token))
     → ((more : List Token) → o ≡ Some more → Lexes bytes (offset + size) more) → option_map (λ more. token_at bytes offset kind ∷ more) o ≡ Some ts
     → Lexes bytes offset ts
 behind_lexeme bytes offset size kind ts here None lexed is = absurd cc

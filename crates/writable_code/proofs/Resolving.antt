@@ -35,7 +35,8 @@ use Rattle.name_resolution.specs.Bodies.{condition_of, returned, looped, resolve
 use Rattle.name_resolution.proofs.SoundValues.{mapped, both_there, then_there, some_is}
 use Rattle.said_code.specs.Laws.{any_number}
 use Rattle.said_code.specs.Says.{TreeSays, TreesSay, CommandSays, CommandsSay}
-use Rattle.writable_code.specs.Sources.{is_line, IsLine, IsPlaced, ArePlaced, IsPlacedIf, DeclaresPlaced, AssignsPlaced, StartsPlaced, StepsPlaced, StandsPlaced}
+use Rattle.writable_code.specs.Sources.{is_line, IsLine, IsPlaced, ArePlaced, IsPlacedIf, DeclaresPlaced, AssignsPlaced, StartsPlaced, StepsPlaced}
+use Rattle.writable_code.specs.Sources.{StandsPlaced}
 use Rattle.writable_code.specs.Sources.{StandPlaced}
 use Rattle.writable_code.proofs.Counts.{count, counts}
 
@@ -267,7 +268,8 @@ declared_made d t h =
 
 -- ---- ASSIGNMENTS
 
-assigned_to_made : (d : Declared) (line k : ℕ) (i : Option Tree) (e : Tree) → IsLine line → IsPlacedIf i → IsPlaced e → Makes (Made 1) (assigned_to d line k i e)
+assigned_to_made : (d : Declared) (line k : ℕ) (i : Option Tree) (e : Tree) → IsLine line → IsPlacedIf i → IsPlaced e
+    → Makes (Made 1) (assigned_to d line k i e)
 assigned_to_made d line k None e l h p = store_made d k e p
 assigned_to_made d line k (Some i) e l h p =
     makes_bind Said (Made 1) (expression d i) (λ j. expression d e >>= λ v. done (element_command line k j v)) (expression_made d i h)

@@ -3,7 +3,8 @@
 use Rattle.std.specs.Prelude.{ℕ, Bool, true, false}
 use Rattle.bytecode.specs.declared.tag.Tag.{Tag}
 use Rattle.bytecode.specs.declared.tag.Tag.TheVariants as tags
-use Rattle.bytecode.specs.Raw.{Raw, Literal, Move, Store, Binary, Not, Cast, Classify, Fill, At, Put, Size, Cat, Sum, Bits, Declassify, Argument, Publish, Assert, Branch, Jump, Return, ReturnNone}
+use Rattle.bytecode.specs.Raw.{Raw, Literal, Move, Store, Binary, Not, Cast, Classify, Fill, At, Put, Size, Cat, Sum, Bits, Declassify, Argument}
+use Rattle.bytecode.specs.Raw.{Publish, Assert, Branch, Jump, Return, ReturnNone}
 use Rattle.bytecode.specs.Layouts.{Layout, Makes, Field, BadTag, behind}
 use Rattle.bytecode.specs.Decoded.{any, is_operator, is_truth}
 use Rattle.bytecode.specs.inner.Reading.{optional}

@@ -1,13 +1,17 @@
 -- Cited by private functions alone: no contract of another crate rests on it.
 -- How expressions and statements are evaluated in parts: first the expressions in them, and then a step on the values of these.
 use Rattle.std.specs.Prelude.{◌≡◌, ℕ, ◌+◌, ◌≤◌, Bool, true, false, List, map, None, Some}
-use Rattle.typed_tree.specs.Tree.{TypedTree, word_node, truth_node, slot_node, call_node, size_node, cat_node, sum_node, bits_node, element_node, not_node, cast_node, binary_node, cut_node, declassify_node, typed_tree, typed_trees_of}
-use Rattle.typed_tree.specs.Commands.{Command, empty_command, block_command, if_command, loop_command, do_command, break_command, continue_command, return_command, assert_command, store_command, default_command, fill_command, input_command, element_command, publish_command, command, commands_of}
+use Rattle.typed_tree.specs.Tree.{TypedTree, word_node, truth_node, slot_node, call_node, size_node, cat_node, sum_node, bits_node, element_node}
+use Rattle.typed_tree.specs.Tree.{not_node, cast_node, binary_node, cut_node, declassify_node, typed_tree, typed_trees_of}
+use Rattle.typed_tree.specs.Commands.{Command, empty_command, block_command, if_command, loop_command, do_command, break_command, continue_command}
+use Rattle.typed_tree.specs.Commands.{return_command, assert_command, store_command, default_command, fill_command, input_command, element_command}
+use Rattle.typed_tree.specs.Commands.{publish_command, command, commands_of}
 use Rattle.typed_tree.specs.Sound.{IsSoundTree, IsSoundCommand}
 use Rattle.reached_instances.specs.Domains.{Setting}
 use Rattle.language_model.specs.Effects.{World, Stage, Effect, ◌>>=◌, carry, done}
 use Rattle.language_model.specs.Values.{Value}
-use Rattle.language_model.specs.Operations.{wanted, operation, negated, cast_to, size_told, summed, bits_extracted, element_of_array, filled, published, asserted, declassified}
+use Rattle.language_model.specs.Operations.{wanted, operation, negated, cast_to, size_told, summed, bits_extracted, element_of_array, filled}
+use Rattle.language_model.specs.Operations.{published, asserted, declassified}
 use Rattle.language_model.specs.Evaluation.{Frame, Calls, Flow, goes, returns, StatementContext, slot_is_private, put, value, execute, stored}
 use Rattle.clear_eval.specs.declared.parts.Parts.{Parts}
 use Rattle.clear_eval.specs.declared.parts.Parts.TheVariants as parts
@@ -42,7 +46,8 @@ step_on_two w (binary_node line op ds a b) x y = operation w line op ds x y
 step_on_two w e x y = done x
 
 pub record HasOne (e x : TypedTree) : Type 0 where
-  pub evaluates : (w : World) (calls : Calls) (here : Setting) (fr : Frame) (s : Stage) → value w calls here e fr s ≡ carry (value w calls here x fr s) (step_on_one w e)
+  pub evaluates : (w : World) (calls : Calls) (here : Setting) (fr : Frame) (s : Stage)
+      → value w calls here e fr s ≡ carry (value w calls here x fr s) (step_on_one w e)
   pub lighter : weight x + 4 ≤ weight e
   pub sound : (n : ℕ) (ps : List ℕ) → IsSoundTree n ps e → IsSoundTree n ps x
 
@@ -98,7 +103,8 @@ after_two w at (element_command line k i e) j x fr = do
 after_two w at c x y fr = done (goes fr)
 
 pub record HasOneWithin (c : Command) (x : TypedTree) : Type 0 where
-  pub executes : (w : World) (calls : Calls) (at : StatementContext) (fr : Frame) (s : Stage) → execute w calls at c fr s ≡ carry (value w calls at.here x fr s) (λ a. after_one w at c a fr)
+  pub executes : (w : World) (calls : Calls) (at : StatementContext) (fr : Frame) (s : Stage)
+      → execute w calls at c fr s ≡ carry (value w calls at.here x fr s) (λ a. after_one w at c a fr)
   pub lighter : weight x + 4 ≤ command_weight c
   pub sound : (n : ℕ) (ps : List ℕ) → IsSoundCommand n ps c → IsSoundTree n ps x
 

@@ -71,10 +71,12 @@ heads_faults d ps test n (f ∷ fs) =
 -- the least set with these instances that is closed under calls
 pub data IsReached (d : Declared) (start : List Instance) : Instance → Type 0 where
   begins : (i : Instance) → Among i start → IsReached d start i
-  follows : (i : Instance) (k : ℕ) (ds : List Protection) → IsReached d start i → Among (record { function = k; binding = Some ds }) (instance_calls d i) → IsReached d start (record { function = k; binding = ds })
+  follows : (i : Instance) (k : ℕ) (ds : List Protection) → IsReached d start i
+      → Among (record { function = k; binding = Some ds }) (instance_calls d i) → IsReached d start (record { function = k; binding = ds })
 
 -- a list that began with `start`, of which `done` are visited: each call there is followed
 pub record AreVisited (d : Declared) (start done is : List Instance) : Type 0 where
   pub starts : (i : Instance) → Among i start → Among i is
   pub reached : (i : Instance) → Among i is → IsReached d start i
-  pub followed : (c : Call) (ds : List Protection) → Among c (gathered (instance_calls d) done) → c.binding ≡ Some ds → Among (record { function = c.function; binding = ds }) is
+  pub followed : (c : Call) (ds : List Protection) → Among c (gathered (instance_calls d) done) → c.binding ≡ Some ds
+      → Among (record { function = c.function; binding = ds }) is

@@ -64,13 +64,15 @@ abbrev pub decreases-holds : goal.decreases-holds
 decreases-holds l = work (functions_around l.at.now) l.at.now.depth (weight (typed_tree l.condition.now) + 1)
 
 abbrev pub decreases-branch : goal.decreases-branch
-decreases-branch l = work (functions_around l.at.now) l.at.now.depth (weight (typed_tree l.condition.now) + command_weight (command l.first.now) + command_weight (command l.second.now) + 3)
+decreases-branch l = work (functions_around l.at.now) l.at.now.depth
+    (weight (typed_tree l.condition.now) + command_weight (command l.first.now) + command_weight (command l.second.now) + 3)
 
 abbrev pub decreases-statements : goal.decreases-statements
 decreases-statements l = work (functions_around l.at.now) l.at.now.depth (commands_weight (commands_of (map command l.list.now.items)))
 
 abbrev pub decreases-turns : goal.decreases-turns
-decreases-turns l = work (functions_around l.at.now) l.at.now.depth (weight (typed_tree l.condition.now) + command_weight (command l.step.now) + command_weight (command l.body.now) + 2)
+decreases-turns l = work (functions_around l.at.now) l.at.now.depth
+    (weight (typed_tree l.condition.now) + command_weight (command l.step.now) + command_weight (command l.body.now) + 2)
 
 abbrev pub decreases-repeats : goal.decreases-repeats
 decreases-repeats l = work (functions_around l.at.now) l.at.now.depth (command_weight (command l.body.now) + weight (typed_tree l.condition.now) + 2)
@@ -79,16 +81,21 @@ abbrev pub invariant-arguments-loop-e : goal.invariant-arguments-loop-e
 invariant-arguments-loop-e l = record {
   each : length l.values.items ≡ l.e-index;
   spends : l.stage.left ≤ l.initial.stage.left;
-  step : arguments (world_seen l.world) (calls_from l.world l.at) (setting l.at.here) l.binding l.slots (typed_trees_of (map typed_tree l.e-items)) (frame_seen l.frame.items) (stage_seen l.initial.stage)
-      ≡ carry (arguments (world_seen l.world) (calls_from l.world l.at) (setting l.at.here) l.binding (drop l.e-index l.slots) (typed_trees_of (map typed_tree (drop l.e-index l.e-items))) (frame_seen l.frame.items) (stage_seen l.stage)) (λ xs. done (map value_seen l.values.items ++ xs));
+  step : arguments (world_seen l.world) (calls_from l.world l.at) (setting l.at.here) l.binding l.slots (typed_trees_of (map typed_tree l.e-items))
+      (frame_seen l.frame.items) (stage_seen l.initial.stage)
+      ≡ carry (arguments (world_seen l.world) (calls_from l.world l.at) (setting l.at.here) l.binding (drop l.e-index l.slots)
+      (typed_trees_of (map typed_tree (drop l.e-index l.e-items))) (frame_seen l.frame.items) (stage_seen l.stage))
+      (λ xs. done (map value_seen l.values.items ++ xs));
 }
 
 abbrev pub invariant-statements-loop-s : goal.invariant-statements-loop-s
 invariant-statements-loop-s l = record {
   slots : length l.frame.items ≡ length l.initial.frame.items;
   spends : l.stage.left ≤ l.initial.stage.left;
-  step : execute_all (world_seen l.world) (calls_from l.world l.at) (place_seen l.at) (commands_of (map command l.s-items)) (frame_seen l.initial.frame.items) (stage_seen l.initial.stage)
-      ≡ execute_all (world_seen l.world) (calls_from l.world l.at) (place_seen l.at) (commands_of (map command (drop l.s-index l.s-items))) (frame_seen l.frame.items) (stage_seen l.stage);
+  step : execute_all (world_seen l.world) (calls_from l.world l.at) (place_seen l.at) (commands_of (map command l.s-items))
+      (frame_seen l.initial.frame.items) (stage_seen l.initial.stage)
+      ≡ execute_all (world_seen l.world) (calls_from l.world l.at) (place_seen l.at) (commands_of (map command (drop l.s-index l.s-items)))
+      (frame_seen l.frame.items) (stage_seen l.stage);
 }
 
 abbrev pub invariant-turns-loop-again : goal.invariant-turns-loop-again

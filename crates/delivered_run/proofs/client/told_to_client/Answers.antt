@@ -12,7 +12,8 @@ loop-place-preserved c =
     let first = c.args.first.now in
     let two = drop k (map notice_seen c.args.second.now) in
     let three = drop k (map notice_seen c.args.third.now) in
-    let rest = told_beside (drop (k + 1) (map notice_seen first)) (drop (k + 1) (map notice_seen c.args.second.now)) (drop (k + 1) (map notice_seen c.args.third.now)) in
+    let rest = told_beside (drop (k + 1) (map notice_seen first)) (drop (k + 1) (map notice_seen c.args.second.now))
+    (drop (k + 1) (map notice_seen c.args.third.now)) in
     let item = c.index-first-place.result in
     let told =
     c.in_ok-event.ensures

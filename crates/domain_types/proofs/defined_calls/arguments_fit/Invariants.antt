@@ -8,8 +8,10 @@ use Rattle.domain_types.proofs.defined_calls.arguments_fit.Given as goal
 
 abbrev pub invariant-loop-parameter : goal.invariant-loop-parameter
 invariant-loop-parameter l = record {
-  fits : is_faultless (argument_faults (setting l.callee) l.fn.parameters l.fn.arguments) ≡ l.fits && is_faultless (argument_faults (setting l.callee) l.parameters l.arguments);
-  least_fault : least l.initial.least_fault (argument_faults (setting l.callee) l.fn.parameters l.fn.arguments) ≡ least l.least_fault (argument_faults (setting l.callee) l.parameters l.arguments);
+  fits : is_faultless (argument_faults (setting l.callee) l.fn.parameters l.fn.arguments)
+      ≡ l.fits && is_faultless (argument_faults (setting l.callee) l.parameters l.arguments);
+  least_fault : least l.initial.least_fault (argument_faults (setting l.callee) l.fn.parameters l.fn.arguments)
+      ≡ least l.least_fault (argument_faults (setting l.callee) l.parameters l.arguments);
 }
 
 abbrev pub decreases-loop-parameter : goal.decreases-loop-parameter

@@ -9,6 +9,7 @@ use Rattle.domain_types.proofs.expressions.+expressions.Given as goal
 
 abbrev pub invariant-arguments-loop-argument : goal.invariant-arguments-loop-argument
 invariant-arguments-loop-argument l =
-    Gives (arguments_of (setting l.here) l.variables (trees_of (map expression (take l.argument-index l.argument-items)))) (option_map vec_items l.types) l.initial.found l.found
+    Gives (arguments_of (setting l.here) l.variables (trees_of (map expression (take l.argument-index l.argument-items))))
+    (option_map vec_items l.types) l.initial.found l.found
     (argument_list_faults (setting l.here) l.variables (trees_of (map expression (take l.argument-index l.argument-items))))
     (calls_of_all (setting l.here) l.variables (trees_of (map expression (take l.argument-index l.argument-items))))

@@ -6,7 +6,8 @@ use Rattle.domain_types.proofs.functions.parameters.Given as goal
 
 abbrev pub invariant-loop-parameter : goal.invariant-loop-parameter
 invariant-loop-parameter l = record {
-  least_fault : least l.initial.least_fault (parameter_faults (setting l.here) l.initial.variables l.fn.list) ≡ least l.least_fault (parameter_faults (setting l.here) l.variables l.list);
+  least_fault : least l.initial.least_fault (parameter_faults (setting l.here) l.initial.variables l.fn.list)
+      ≡ least l.least_fault (parameter_faults (setting l.here) l.variables l.list);
   variables : with_parameters (setting l.here) l.fn.list l.initial.variables ≡ with_parameters (setting l.here) l.list l.variables;
 }
 

@@ -8,4 +8,5 @@ use Rattle.domain_types.proofs.heads.head.Given as goal
 abbrev pub invariant-loop-index : goal.invariant-loop-index
 invariant-loop-index l =
     least l.initial.least_fault (domain_variables_faults (declared l.declarations) l.protections l.function.parameters.items [] l.function.variables.items)
-    ≡ least l.least_fault (domain_variables_faults (declared l.declarations) l.protections l.function.parameters.items (reverse (take l.index l.function.variables.items)) (drop l.index l.function.variables.items))
+    ≡ least l.least_fault (domain_variables_faults (declared l.declarations) l.protections l.function.parameters.items
+    (reverse (take l.index l.function.variables.items)) (drop l.index l.function.variables.items))

@@ -9,5 +9,7 @@ use Rattle.domain_types.proofs.visiting.called_heads.Given as goal
 
 abbrev pub invariant-loop-number : goal.invariant-loop-number
 invariant-loop-number l =
-    least l.initial.least_fault (heads_faults (declared l.declarations) l.protections (contains nat_cmp l.called) 0 (map tree_at l.declarations.functions.items))
-    ≡ least l.least_fault (heads_faults (declared l.declarations) l.protections (contains nat_cmp l.called) l.number-counter (map tree_at (drop l.number-counter l.declarations.functions.items)))
+    least l.initial.least_fault (heads_faults (declared l.declarations) l.protections (contains nat_cmp l.called) 0
+    (map tree_at l.declarations.functions.items))
+    ≡ least l.least_fault (heads_faults (declared l.declarations) l.protections (contains nat_cmp l.called) l.number-counter
+    (map tree_at (drop l.number-counter l.declarations.functions.items)))

@@ -14,7 +14,8 @@ loop-number-preserved c =
     let is = c.loop-number.list in
     let x = c.index-functions-number.result in
     let behind : suc n ≡ n + 1 = omega arith in
-    let next : drop n fs ≡ x ∷ drop (n + 1) fs = drop-cons fs n x c.loop-number-test.true ∙ ap (λ z. z ∷ drop (suc n) fs) (sym c.index-functions-number.is) ∙ ap (λ m. x ∷ drop m fs) behind in
+    let next : drop n fs ≡ x ∷ drop (n + 1) fs =
+    drop-cons fs n x c.loop-number-test.true ∙ ap (λ z. z ∷ drop (suc n) fs) (sym c.index-functions-number.is) ∙ ap (λ m. x ∷ drop m fs) behind in
     let told : c.is_plain.result ≡ is_without x.now.variables.items = c.is_plain.ensures in
     let choose = λ (b : Bool). if b then added is (record { function = n; binding = [] }) else is in
     let chosen : choose (is_without x.now.variables.items) ≡ c.if-is_plain.list =

@@ -26,13 +26,16 @@ loop-next-preserved c =
     let n = c.loop-next.next in
     let is = c.loop-next.list in
     let js = c.in_ok-list-2.list in
-    let made : calls_seen c.deref-in-loop-next.result.now ≡ instance_calls d i = ap calls_seen c.deref-in-loop-next.ensures.value ∙ c.in_ok-calls.ensures.calls in
+    let made : calls_seen c.deref-in-loop-next.result.now ≡ instance_calls d i =
+    ap calls_seen c.deref-in-loop-next.ensures.value ∙ c.in_ok-calls.ensures.calls in
     let grown : js ≡ with_calls is (instance_calls d i) = c.in_ok-list-2.ensures.list ∙ ap (with_calls is) made in
     let there : slice_get is n ≡ Some i = c.instance.ensures in
     record {
-      least_fault = next_least d n is js i c.args.least_fault.now c.loop-next.least_fault c.visit.new.least_fault there grown c.loop-next.invariant.least_fault c.in_ok-calls.ensures.least_fault;
+      least_fault = next_least d n is js i c.args.least_fault.now c.loop-next.least_fault c.visit.new.least_fault there grown
+          c.loop-next.invariant.least_fault c.in_ok-calls.ensures.least_fault;
       visited = next_visited d (plain_instances d) n is js i there grown c.loop-next.invariant.visited;
       called =
-          λ k. next_called d n is js i k (contains nat_cmp c.loop-next.called k) (contains nat_cmp c.with_calls.new.called k) there grown (c.loop-next.invariant.called k)
+          λ k. next_called d n is js i k (contains nat_cmp c.loop-next.called k) (contains nat_cmp c.with_calls.new.called k) there grown
+          (c.loop-next.invariant.called k)
           (c.in_ok-list-2.ensures.called k ∙ ap (λ cs. contains nat_cmp c.loop-next.called k || is_called k cs) made);
     }

@@ -9,5 +9,6 @@ use Rattle.domain_types.proofs.visiting.with_calls.Given as goal
 abbrev pub invariant-loop-call : goal.invariant-loop-call
 invariant-loop-call l = record {
   list : with_calls l.fn.list (calls_seen l.calls) ≡ with_calls l.list (calls_seen (drop l.call-index l.calls));
-  called : (k : ℕ) → contains nat_cmp l.fn.called k || is_called k (calls_seen l.calls) ≡ contains nat_cmp l.called k || is_called k (calls_seen (drop l.call-index l.calls));
+  called : (k : ℕ) → contains nat_cmp l.fn.called k || is_called k (calls_seen l.calls)
+      ≡ contains nat_cmp l.called k || is_called k (calls_seen (drop l.call-index l.calls));
 }

@@ -50,7 +50,9 @@ abbrev pub invariant-grow-loop-token : goal.invariant-grow-loop-token
 invariant-grow-loop-token l = record {
   height : (l.left.height ≡ tree_height l.left) × (l.left.height ≤ l.max_height);
   shorter : length l.rest ≤ length l.tokens;
-  step : (n : ℕ) × (length l.rest ≤ n) × (grow l.level l.max_height (at_most (l.max_height - 1) (l.level - 1)) (length l.tokens) (tree_of l.fn.left) l.tokens ≡ grow l.level l.max_height (at_most (l.max_height - 1) (l.level - 1)) n (tree_of l.left) l.rest);
+  step : (n : ℕ) × (length l.rest ≤ n)
+      × (grow l.level l.max_height (at_most (l.max_height - 1) (l.level - 1)) (length l.tokens) (tree_of l.fn.left) l.tokens
+      ≡ grow l.level l.max_height (at_most (l.max_height - 1) (l.level - 1)) n (tree_of l.left) l.rest);
 }
 
 abbrev pub decreases-grow-loop-token : goal.decreases-grow-loop-token
@@ -60,7 +62,9 @@ abbrev pub invariant-more-loop-token : goal.invariant-more-loop-token
 invariant-more-loop-token l = record {
   height : (l.found.height ≡ trees_height l.found) × (l.found.height < l.max_height);
   shorter : length l.rest ≤ length l.tokens;
-  step : (n : ℕ) × (length l.rest ≤ n) × (front (list_of l.fn.found) (more (at_most (l.max_height - 1) 9) (length l.tokens) l.tokens) ≡ front (list_of l.found) (more (at_most (l.max_height - 1) 9) n l.rest));
+  step : (n : ℕ) × (length l.rest ≤ n)
+      × (front (list_of l.fn.found) (more (at_most (l.max_height - 1) 9) (length l.tokens) l.tokens)
+      ≡ front (list_of l.found) (more (at_most (l.max_height - 1) 9) n l.rest));
 }
 
 abbrev pub decreases-more-loop-token : goal.decreases-more-loop-token

@@ -31,8 +31,10 @@ returns c =
     ∙ function_made number fs f b registers (built c.statements.new.body) (built c.push_last.new.body) c.next_place-end.result steps
     (c.in_ok-registers.ensures ∙ ap (λ (ss : List Slot). map (slot_kind b) ss ++ defaults_behind ss) c.deref.ensures.value)
     (c.in_ok-statements.ensures
-    ∙ ap (λ (ps : List BodyPiece). with_commands number (place_seen (record { around = c.args.around.now; secret_result = c.is_private.result })) (body_of registers ps) cs)
+    ∙ ap (λ (ps : List BodyPiece). with_commands number (place_seen (record { around = c.args.around.now; secret_result = c.is_private.result }))
+    (body_of registers ps) cs)
     (ap (map piece_seen) c.new.ensures.items)
-    ∙ ap₂ (λ (ss : List Slot) (secret : Bool). with_commands number (record { here = record { functions = fs; slots = ss; binding = b }; secret_result = secret })
+    ∙ ap₂ (λ (ss : List Slot) (secret : Bool). with_commands number
+    (record { here = record { functions = fs; slots = ss; binding = b }; secret_result = secret })
     (body_of registers []) cs) c.requires private)
     c.next_place-end.ensures c.in_ok-push_last.ensures c.in_ok-steps.ensures

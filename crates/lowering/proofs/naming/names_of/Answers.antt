@@ -15,7 +15,8 @@ loop-function-preserved c =
     let i = c.loop-function.function-index in
     let x = c.function-item.result in
     let fs = map function_seen (take i xs) in
-    let more : map function_seen (take (i + 1) xs) ≡ fs ++ function_seen x ∷ [] = ap (map function_seen) (take_more xs i x c.loop-function-test.true) ∙ map-append function_seen (take i xs) (get_or xs i x ∷ []) ∙ ap (λ z. fs ++ function_seen z ∷ []) (sym c.function-item.is) in
+    let more : map function_seen (take (i + 1) xs) ≡ fs ++ function_seen x ∷ [] = ap (map function_seen) (take_more xs i x c.loop-function-test.true)
+    ∙ map-append function_seen (take i xs) (get_or xs i x ∷ []) ∙ ap (λ z. fs ++ function_seen z ∷ []) (sym c.function-item.is) in
     let before = c.loop-function.invariant in
     let now = c.in_ok-note_steps.ensures before.1 in (
       now.0

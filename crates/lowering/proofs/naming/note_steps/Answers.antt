@@ -15,7 +15,8 @@ loop-step-preserved c = λ same.
     let x = c.step-item.result in
     let is = map step_seen (take i xs) in
     let first = texts c.args.names.now in
-    let more : map step_seen (take (i + 1) xs) ≡ is ++ step_seen x ∷ [] = ap (map step_seen) (take_more xs i x c.loop-step-test.true) ∙ map-append step_seen (take i xs) (get_or xs i x ∷ []) ∙ ap (λ z. is ++ step_seen z ∷ []) (sym c.step-item.is) in
+    let more : map step_seen (take (i + 1) xs) ≡ is ++ step_seen x ∷ [] = ap (map step_seen) (take_more xs i x c.loop-step-test.true)
+    ∙ map-append step_seen (take i xs) (get_or xs i x ∷ []) ∙ ap (λ z. is ++ step_seen z ∷ []) (sym c.step-item.is) in
     let before = c.loop-step.invariant same in
     let now = c.in_ok-note_step.ensures before.1 in (
       now.0

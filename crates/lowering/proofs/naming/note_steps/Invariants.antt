@@ -8,4 +8,5 @@ use Rattle.lowering.proofs.naming.note_steps.Given as goal
 
 abbrev pub invariant-loop-step : goal.invariant-loop-step
 invariant-loop-step l =
-    AreSame l.initial.names → (texts l.names ≡ naming_all (texts l.initial.names) (flat_map step_names (map step_seen (take l.step-index l.steps)))) × AreSame l.names
+    AreSame l.initial.names → (texts l.names ≡ naming_all (texts l.initial.names) (flat_map step_names (map step_seen (take l.step-index l.steps))))
+    × AreSame l.names

@@ -7,4 +7,5 @@ use Rattle.name_resolution.specs.inner.Views.{found_seen}
 use Rattle.name_resolution.proofs.order.+expressions.Given as goal
 
 abbrev pub invariant-in_expressions-loop-each : goal.invariant-in_expressions-loop-each
-invariant-in_expressions-loop-each l = found_seen l.found ≡ called_in_all (declared l.declarations) (found_seen l.initial.found) (trees_of (map expression (take l.each-index l.each-items)))
+invariant-in_expressions-loop-each l =
+    found_seen l.found ≡ called_in_all (declared l.declarations) (found_seen l.initial.found) (trees_of (map expression (take l.each-index l.each-items)))

@@ -16,7 +16,8 @@ in_statements-loop-each-preserved t c =
     let ts = map statement (take i xs) in
     let d = declared c.args.declarations.now in
     let fs = found_seen c.args.found in
-    let more : map statement (take (i + 1) xs) ≡ ts ++ statement x ∷ [] = ap (map statement) (take_more xs i x c.loop-each-test.true) ∙ map-append statement (take i xs) (get_or xs i x ∷ []) ∙ ap (λ z. ts ++ statement z ∷ []) (sym c.each-item.is) in
+    let more : map statement (take (i + 1) xs) ≡ ts ++ statement x ∷ [] = ap (map statement) (take_more xs i x c.loop-each-test.true)
+    ∙ map-append statement (take i xs) (get_or xs i x ∷ []) ∙ ap (λ z. ts ++ statement z ∷ []) (sym c.each-item.is) in
     c.in_ok-found.ensures
     ∙ ap (λ l. called_by d l (statement x)) c.loop-each.invariant
     ∙ sym (called_by_all_more d fs ts (statement x))

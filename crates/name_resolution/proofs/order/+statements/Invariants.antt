@@ -7,4 +7,5 @@ use Rattle.name_resolution.specs.inner.Views.{found_seen}
 use Rattle.name_resolution.proofs.order.+statements.Given as goal
 
 abbrev pub invariant-in_statements-loop-each : goal.invariant-in_statements-loop-each
-invariant-in_statements-loop-each l = found_seen l.found ≡ called_by_all (declared l.declarations) (found_seen l.initial.found) (statements_of (map statement (take l.each-index l.each-items)))
+invariant-in_statements-loop-each l =
+    found_seen l.found ≡ called_by_all (declared l.declarations) (found_seen l.initial.found) (statements_of (map statement (take l.each-index l.each-items)))

@@ -9,6 +9,7 @@ use Rattle.name_resolution.proofs.statements.+statements.Given as goal
 
 abbrev pub invariant-statements-loop-each : goal.invariant-statements-loop-each
 invariant-statements-loop-each l = record {
-  made : resolved_all (declared l.declarations) (statements_of (map statement (take l.each-index l.each-items))) (place_seen l.initial.place) ≡ Some (commands_of (map command l.made.items), place_seen l.place);
+  made : resolved_all (declared l.declarations) (statements_of (map statement (take l.each-index l.each-items))) (place_seen l.initial.place)
+      ≡ Some (commands_of (map command l.made.items), place_seen l.place);
   outer : (place_seen l.place).scope.outer ≡ (place_seen l.initial.place).scope.outer;
 }

@@ -7,4 +7,5 @@ use Rattle.name_resolution.specs.inner.Views.{valued}
 use Rattle.name_resolution.proofs.values.+values.Given as goal
 
 abbrev pub invariant-values-loop-each : goal.invariant-values-loop-each
-invariant-values-loop-each l = values (declared l.declarations) l.variables (trees_of (map expression (take l.each-index l.each-items))) ≡ Some (map valued l.found.items)
+invariant-values-loop-each l =
+    values (declared l.declarations) l.variables (trees_of (map expression (take l.each-index l.each-items))) ≡ Some (map valued l.found.items)

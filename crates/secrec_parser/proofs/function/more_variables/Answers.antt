@@ -16,7 +16,8 @@ returns-in_err-next c =
     (listed no_more_variables (comma_then domain_variable) (c.args.first ∷ []) c.args.tokens.now) (length c.in_ok-behind.behind.now)
     (length c.args.tokens.now + 1)
     (λ q r e.
-    i.2 ∙ list_fails no_more_variables (comma_then domain_variable) i.0 found w r q (omega (arith, i.1)) go (comma_fails domain_variable w c.in_ok-behind.behind.now r _ q c.in_ok-behind.ensures.step e))
+    i.2 ∙ list_fails no_more_variables (comma_then domain_variable) i.0 found w r q (omega (arith, i.1)) go
+    (comma_fails domain_variable w c.in_ok-behind.behind.now r _ q c.in_ok-behind.ensures.step e))
     c.in_err-next.ensures)
 
 pub loop-found-preserved : goal.loop-found-preserved
@@ -45,5 +46,11 @@ returns c =
     let i = c.loop-found.invariant.step in
     let found = c.loop-found.found.items in
     let rest = c.loop-found.rest.now in
-    let stops : no_more_variables found rest ≡ true = elim c.loop-found-test.branch [ then-loop-found-test+else-len-lt-MOST_VARIABLES w ↦ variables_full found rest (omega (arith, w.if-len-lt-MOST_VARIABLES.false, w.len.ensures)) | else-loop-found-test w ↦ variables_alone found rest (sym c.at_sign.ensures ∙ w.loop-found-test.false) ] in
+    let stops : no_more_variables found rest ≡ true =
+    elim c.loop-found-test.branch [
+      | then-loop-found-test+else-len-lt-MOST_VARIABLES w ↦ variables_full found rest
+          (omega (arith, w.if-len-lt-MOST_VARIABLES.false, w.len.ensures))
+      | else-loop-found-test w ↦ variables_alone found rest
+          (sym c.at_sign.ensures ∙ w.loop-found-test.false)
+    ] in
     (i.2 ∙ list_stops no_more_variables (comma_then domain_variable) i.0 found rest stops, omega (arith, c.loop-found.invariant.shorter))

@@ -17,7 +17,8 @@ returns-in_err-next c =
       step =
           rw (p.1, p.2)
           (passes_on c.in_err-next.field-0.0 (item c.args.max_height w) (listed (λ found w. at_end w) (item c.args.max_height) [] c.args.tokens.now) (length w)
-          (λ q r e. i.2 ∙ list_fails (λ found w. at_end w) (item c.args.max_height) i.0 found w r q (omega (arith, i.1)) (sym c.at_end.ensures ∙ c.loop-alloc-test.true) e)
+          (λ q r e. i.2 ∙ list_fails (λ found w. at_end w) (item c.args.max_height) i.0 found w r q (omega (arith, i.1))
+          (sym c.at_end.ensures ∙ c.loop-alloc-test.true) e)
           c.in_err-next.ensures);
     }
 
@@ -44,5 +45,6 @@ pub returns : goal.returns
 returns c =
     let i = c.loop-alloc.invariant.step in
     record {
-      step = i.2 ∙ list_stops (λ found w. at_end w) (item c.args.max_height) i.0 (map item_tree c.loop-alloc.found.items) c.loop-alloc.rest.now (sym c.at_end.ensures ∙ c.loop-alloc-test.false);
+      step = i.2 ∙ list_stops (λ found w. at_end w) (item c.args.max_height) i.0 (map item_tree c.loop-alloc.found.items) c.loop-alloc.rest.now
+          (sym c.at_end.ensures ∙ c.loop-alloc-test.false);
     }

@@ -9,7 +9,8 @@ use Rattle.secrec_ast.specs.Equations.{branch_statement_is, choice_statement_is}
 use Rattle.expression_parser.specs.Steps.{◌>>=◌, expect}
 use Rattle.secrec_parser.specs.inner.Given.{Takes}
 use Rattle.secrec_parser.specs.inner.Steps.{at_sign, braced, list_from, statement_at_most}
-use Rattle.secrec_parser.proofs.Turns.{list_stops, list_goes_on, list_fails, passes, taken, takes_less, closed_takes, if_alone, if_chosen, led_short, statement_none, statement_high, statement_declares, statement_names, statement_evaluates, statement_led}
+use Rattle.secrec_parser.proofs.Turns.{list_stops, list_goes_on, list_fails, passes, taken, takes_less, closed_takes, if_alone, if_chosen, led_short}
+use Rattle.secrec_parser.proofs.Turns.{statement_none, statement_high, statement_declares, statement_names, statement_evaluates, statement_led}
 use Rattle.secrec_parser.proofs.statement.+statements.Goals as goal
 
 pub braced-returns-in_err-next : goal.braced-returns-in_err-next
@@ -22,7 +23,8 @@ braced-returns-in_err-next t c =
     (passes c.in_err-next.field-0.0 (inner c.loop-alloc.rest.now) (braced inner c.args.tokens.now) (length c.loop-alloc.rest.now) (length c.args.tokens.now)
     (λ q r e.
     ap (λ o. o >>= λ ss. expect signs.RightBrace ss.1 >>= λ b. Ok (ss.0, b.1))
-    (i.2 ∙ list_fails (λ found w. at_sign signs.RightBrace w) inner i.0 found c.loop-alloc.rest.now r q (omega (arith, i.1)) (sym c.at_sign.ensures ∙ c.loop-alloc-test.true) e))
+    (i.2 ∙ list_fails (λ found w. at_sign signs.RightBrace w) inner i.0 found c.loop-alloc.rest.now r q (omega (arith, i.1))
+    (sym c.at_sign.ensures ∙ c.loop-alloc-test.true) e))
     c.in_err-next.ensures)
 
 pub braced-loop-alloc-preserved : goal.braced-loop-alloc-preserved
@@ -98,7 +100,8 @@ if_statement-returns t c =
 
 pub led-returns-in_default : goal.led-returns-in_default
 led-returns-in_default t c =
-    rw (led_short c.args.leader c.args.max_height (statement_at_most (c.args.max_height - 1)) c.args.inside c.args.place c.args.tokens.now c.in_default.not-Block
+    rw (led_short c.args.leader c.args.max_height (statement_at_most (c.args.max_height - 1)) c.args.inside c.args.place c.args.tokens.now
+    c.in_default.not-Block
     c.in_default.not-If c.in_default.not-While c.in_default.not-DoWhile c.in_default.not-For) c.short_statement.ensures
 
 pub statement-returns-in_default : goal.statement-returns-in_default
@@ -106,7 +109,8 @@ statement-returns-in_default t c = statement_none c.args.max_height c.args.insid
 
 pub statement-returns-then-max_height-least_height : goal.statement-returns-then-max_height-least_height
 statement-returns-then-max_height-least_height t c =
-    statement_high c.args.max_height c.args.inside c.args.tokens.now c.in-Some.token.now c.in-Some.rest.now c.leader_of-leader.result c.least_height.result c.in-Some.ensures.cases.0 c.leader_of-leader.ensures c.least_height.ensures c.if-max_height-least_height.true
+    statement_high c.args.max_height c.args.inside c.args.tokens.now c.in-Some.token.now c.in-Some.rest.now c.leader_of-leader.result
+    c.least_height.result c.in-Some.ensures.cases.0 c.leader_of-leader.ensures c.least_height.ensures c.if-max_height-least_height.true
 
 pub statement-returns-in-Declaration : goal.statement-returns-in-Declaration
 statement-returns-in-Declaration t c =

@@ -16,8 +16,11 @@ invariant_of-self-in-Ok c =
     let items : reverse c.push.new.self.items ≡ e ∷ es = ap reverse c.in_ok-push.ensures.items ∙ reverse-append c.self.inside.entries.items (e ∷ []) in
     let longer = ap length items in
     record {
-      latest = λ q. one_more c.self.inside.latest c.insert.new.self e es (record { number = c.len-number.result; held = c.args.held }) (omega arith) refl c.self.invariant.latest (btree_map_updates_str c.args.name.now c.self.inside.latest c.insert.new.self _ c.in-Ok.ensures.updates) q ∙ ap (latest_in q) (sym items);
-      hidden = subst HideEachOther (sym items) (c.copied-hidden.ensures ∙ c.get.ensures.value ∙ c.self.invariant.latest c.args.name.now, c.self.invariant.hidden);
+      latest = λ q. one_more c.self.inside.latest c.insert.new.self e es (record { number = c.len-number.result; held = c.args.held })
+          (omega arith) refl c.self.invariant.latest
+          (btree_map_updates_str c.args.name.now c.self.inside.latest c.insert.new.self _ c.in-Ok.ensures.updates) q ∙ ap (latest_in q) (sym items);
+      hidden = subst HideEachOther (sym items)
+          (c.copied-hidden.ensures ∙ c.get.ensures.value ∙ c.self.invariant.latest c.args.name.now, c.self.invariant.hidden);
       within = omega (arith, longer, c.self.invariant.within);
     }
 
