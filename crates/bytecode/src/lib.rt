@@ -19,7 +19,7 @@ mod tag;
 mod test;
 mod writing;
 
-pub use code::{Code, Function};
+pub use code::{Code, CodeFunction};
 pub use decoding::decode;
 pub use encoding::encode;
 pub use fault::{DecodeErr, DecodeFault, FaultKind};

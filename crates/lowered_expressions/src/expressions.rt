@@ -15,7 +15,7 @@ use crate::body::Body;
 use crate::calling::{bound_at, next_is_private, number_of, slots_of};
 use crate::closing::{One, Operation, close_binary, close_cut, one_step};
 use crate::kinds::{gives_private, kind, kind_of, private_kind};
-use crate::operands::{Operand, wanted};
+use crate::operands::{WantedOperand, wanted};
 use crate::step::Step;
 use crate::words::{lacks, mixes, operator_of, scalar, truth_word};
 use bytecode::Kind;
@@ -104,7 +104,7 @@ pub fn operand(
     expression(body, around, e)?;
     wanted(
         body,
-        Operand {
+        WantedOperand {
             lacks: lacks(private, given),
             classified,
             value,
@@ -227,12 +227,12 @@ fn both(
     let right = gives_private(around.alloc, &around.here, b)?;
     let value = body.next_register();
     expression(body, around, b)?;
-    let left_operand = Operand {
+    let left_operand = WantedOperand {
         lacks: mixes(operation.operator, left, right),
         classified: to + 1,
         value: to + 3,
     };
-    let right_operand = Operand {
+    let right_operand = WantedOperand {
         lacks: mixes(operation.operator, right, left),
         classified: to + 2,
         value,

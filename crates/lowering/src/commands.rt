@@ -11,7 +11,7 @@ ghost use Rattle.lowering.specs.inner.Views.{numbers_at, place_seen};
 
 use crate::place::LoweringContext;
 use lowered_expressions::{
-    Around, Body, Operand, Step, argument, call, expression, given_to, kind, kind_of, lacks,
+    Around, Body, Step, WantedOperand, argument, call, expression, given_to, kind, kind_of, lacks,
     operand, private_kind, slot_is_private, slot_shape, wanted,
 };
 use sc_text::Name;
@@ -106,7 +106,7 @@ pub fn default_store(
     let classified = body.fresh(kind_of(true, shape))?;
     let source = wanted(
         body,
-        Operand {
+        WantedOperand {
             lacks: lacks(slot_is_private(here, slot), false),
             classified,
             value: here.slots.len() + shape_number(shape),

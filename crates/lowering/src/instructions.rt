@@ -12,7 +12,7 @@ ghost use Rattle.lowering.specs.inner.Views.{function_seen};
 use crate::errors::LowerErr;
 use crate::functions::FunctionSteps;
 use crate::naming::{Names, place_among};
-use bytecode::{Function, FunctionPlace, Instruction, JumpTarget, NamePlace, Register};
+use bytecode::{CodeFunction, FunctionPlace, Instruction, JumpTarget, NamePlace, Register};
 use lowered_expressions::Step;
 use std::alloc::{AllocError, Global};
 use typed_tree::{BinaryOperator, BoolOperator, WordOperator};
@@ -392,7 +392,7 @@ pub fn function(
     alloc: Global,
     names: &Names<'_>,
     steps: &FunctionSteps<'_>,
-) -> Result<Function, LowerErr>
+) -> Result<CodeFunction, LowerErr>
     ensures code { IfOk result (λ f. raw_function f ≡ raw_of (texts names.now) (function_seen steps.now)) }
     ensures refused { IfErr result (λ e. IsJust e
         (head_numbers (raw_of (texts names.now) (function_seen steps.now)) ++ body_numbers (raw_of (texts names.now) (function_seen steps.now)))) }
@@ -402,7 +402,7 @@ pub fn function(
     }
     let registers = Vec::from_slice(alloc, &steps.registers)?;
     let body = instructions(alloc, names, &steps.steps)?;
-    Ok(Function {
+    Ok(CodeFunction {
         parameters: short(steps.parameters),
         gives: steps.gives,
         registers,

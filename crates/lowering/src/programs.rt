@@ -15,7 +15,7 @@ use crate::errors::LowerErr;
 use crate::functions::{FunctionSteps, function_steps, nothing_steps};
 use crate::instructions::function;
 use crate::naming::{Names, names_of};
-use bytecode::{Code, Function};
+use bytecode::{Code, CodeFunction};
 use lowered_expressions::Around;
 use reached_instances::{Instance, ReachedInstances, Setting};
 use std::alloc::{AllocError, Global};
@@ -72,7 +72,10 @@ fn all_steps<'p>(
     Ok(all)
 }
 
-fn push_function(functions: &mut Vec<Function>, function: Function) -> Result<(), AllocError>
+fn push_function(
+    functions: &mut Vec<CodeFunction>,
+    function: CodeFunction,
+) -> Result<(), AllocError>
     ensures { OnOk result (map raw_function functions.new.items ≡ map raw_function functions.old.items ++ raw_function function ∷ []) }
 {
     functions.push(function)?;
@@ -84,7 +87,7 @@ fn all_functions(
     alloc: Global,
     names: &Names<'_>,
     all: &[FunctionSteps<'_>],
-) -> Result<Vec<Function>, LowerErr>
+) -> Result<Vec<CodeFunction>, LowerErr>
     ensures code { IfOk result (λ functions. map raw_function functions.items ≡ map (raw_of (texts names.now)) (map function_seen all.now)) }
     ensures refused { IfErr result (λ e. IsJustOfSome e (map (raw_of (texts names.now)) (map function_seen all.now))) }
 {

@@ -11,13 +11,13 @@ use crate::kinds::{
     size_fits, sum_fits,
 };
 use crate::operators::binary_fits;
-use bytecode::{Code, Function, FunctionPlace, Instruction, Kind, NamePlace, Register};
+use bytecode::{Code, CodeFunction, FunctionPlace, Instruction, Kind, NamePlace, Register};
 
 /// Where an instruction stands.
 #[derive(Clone, Copy)]
 pub(crate) struct Here<'c> {
     pub(crate) code: &'c Code,
-    pub(crate) own: &'c Function,
+    pub(crate) own: &'c CodeFunction,
     pub(crate) place: usize,
 }
 
@@ -90,7 +90,7 @@ fn result_fits(kinds: &[Kind], gives: Option<Kind>, to: Option<Register>) -> boo
 
 fn call_of_fits(
     kinds: &[Kind],
-    called: &Function,
+    called: &CodeFunction,
     to: Option<Register>,
     arguments: &[Register],
 ) -> bool

@@ -7,9 +7,9 @@ ghost use Rattle.verified_code.specs.Verified.{body_fault, first_fault, function
 use crate::fault::{CodeProblem, VerifyErr};
 use crate::kinds::gives_none;
 use crate::place::{Here, goes_on, names_there, operands_fit, target_fits};
-use bytecode::{Code, Function, Instruction};
+use bytecode::{Code, CodeFunction, Instruction};
 
-fn head_fits(number: usize, function: &Function) -> bool
+fn head_fits(number: usize, function: &CodeFunction) -> bool
     ensures { result ≡ head_fits number (raw_function function.now) }
 {
     (function.parameters as usize) <= function.registers.len()
@@ -33,7 +33,7 @@ fn problem_at(number: usize, here: Here<'_>, instruction: &Instruction) -> Optio
     }
 }
 
-fn body_fault(code: &Code, number: usize, own: &Function) -> Option<VerifyErr>
+fn body_fault(code: &Code, number: usize, own: &CodeFunction) -> Option<VerifyErr>
     ensures { result ≡ body_fault (raw_code code.now) number (raw_function own.now) 0 (raw_function own.now).body }
 {
     for place in 0..own.body.len() {
@@ -49,7 +49,7 @@ fn body_fault(code: &Code, number: usize, own: &Function) -> Option<VerifyErr>
     None
 }
 
-fn function_fault(code: &Code, number: usize, own: &Function) -> Option<VerifyErr>
+fn function_fault(code: &Code, number: usize, own: &CodeFunction) -> Option<VerifyErr>
     ensures { result ≡ function_fault (raw_code code.now) number (raw_function own.now) }
 {
     if own.body.is_empty() {
