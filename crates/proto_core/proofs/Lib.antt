@@ -1,4 +1,5 @@
 pub mod Each
+pub mod Edits
 pub mod Parts
 pub mod MessageFields
 pub mod MessageListsLemmas
