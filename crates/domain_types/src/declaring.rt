@@ -166,7 +166,8 @@ fn initial<'p>(
 ) -> Result<(), AllocError>
     ensures least_fault { IfOk result (λ _. found.new.least_fault ≡ least found.old.least_fault
         (initial_faults (setting here.now) variables.now (declaration_tree declaration.now).size (declaration_tree declaration.now).value
-        ++ of_typed declared (λ t. declared_faults (setting here.now) variables.now t (declaration_tree declaration.now).size (declaration_tree declaration.now).value))) }
+        ++ of_typed declared (λ t. declared_faults (setting here.now) variables.now t
+        (declaration_tree declaration.now).size (declaration_tree declaration.now).value))) }
     ensures calls { IfOk result (λ _. calls_seen found.new.calls.items ≡
         calls_seen found.old.calls.items ++ declaration_calls (setting here.now) variables.now (declaration_tree declaration.now)) }
 {

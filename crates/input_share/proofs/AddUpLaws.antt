@@ -64,6 +64,7 @@ add_up [] words fit enough = refl
 add_up (e ∷ es) words fit enough =
     let need : need_of (e ∷ es) ≡ draws_of e + need_of es = sum_by-cons draws_of e es in
     let rest : length (drop (draws_of e) words) ≡ length words - draws_of e = length-drop (draws_of e) words in
-    ap (λ l. l ∷ all_together (dealt_entries One es (drop (draws_of e) words)) (dealt_entries Two es (drop (draws_of e) words)) (dealt_entries Three es (drop (draws_of e) words)))
+    ap (λ l. l ∷ all_together (dealt_entries One es (drop (draws_of e) words)) (dealt_entries Two es (drop (draws_of e) words))
+    (dealt_entries Three es (drop (draws_of e) words)))
     (together-part_of e.domain e.value words (omega arith) (fit 0 e (omega arith)))
     ∙ ap (λ l. elements_of e.value ∷ l) (add_up es (drop (draws_of e) words) (λ k d h. fit (suc k) d (omega arith)) (omega arith))

@@ -42,7 +42,8 @@ module _ {r : Ring} (laws : RingLaws r) where
       let x = reshared r n u a ga in
       let y = reshared r n v b gb in
       let first : minus r n (plus r n u a) ga ≡ part n 0 (x ++ y) = minus-plus r n u a ga ∙ sym (two_first n x y (length-reshared r n u a ga)) in
-      let second : minus r n (plus r n v b) gb ≡ part n 1 (x ++ y) = minus-plus r n v b gb ∙ sym (two_second n x y (length-reshared r n u a ga) (length-reshared r n v b gb)) in
+      let second : minus r n (plus r n v b) gb ≡ part n 1 (x ++ y) =
+      minus-plus r n v b gb ∙ sym (two_second n x y (length-reshared r n u a ga) (length-reshared r n v b gb)) in
       plus-minus laws n _ c gc
       ∙ ap (λ w. reshared r n (cross r n w (minus r n (plus r n v b) gb) (part n 0 got) (part n 1 got)) c gc) first
       ∙ ap (λ w. reshared r n (cross r n (part n 0 (x ++ y)) w (part n 0 got) (part n 1 got)) c gc) second

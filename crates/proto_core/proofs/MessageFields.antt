@@ -38,7 +38,8 @@ pub accepts-none : (n : ℕ) → accepts (shaped n []) [] ≡ true
 accepts-none n = both_true _ _ (equal_test 0 (0 * n) (omega arith)) refl
 
 -- n words in front
-pub accepts-words : (n : ℕ) (fields : List Field) (xs ys : List ℕ) → length xs ≡ n → accepts (shaped n fields) ys ≡ true → accepts (shaped n (Words ∷ fields)) (xs ++ ys) ≡ true
+pub accepts-words : (n : ℕ) (fields : List Field) (xs ys : List ℕ) → length xs ≡ n → accepts (shaped n fields) ys ≡ true
+    → accepts (shaped n (Words ∷ fields)) (xs ++ ys) ≡ true
 accepts-words n fields xs ys len rest =
     let size : length ys ≡ length fields * n = accepted-length (shaped n fields) ys rest in
     both_true _ _
@@ -46,7 +47,8 @@ accepts-words n fields xs ys len rest =
     (ap (has_bits n fields) (drop-front n xs ys len) ∙ second_true _ _ rest)
 
 -- n bits in front
-pub accepts-bits : (n : ℕ) (fields : List Field) (xs ys : List ℕ) → length xs ≡ n → list_all is_bit xs ≡ true → accepts (shaped n fields) ys ≡ true → accepts (shaped n (Bits ∷ fields)) (xs ++ ys) ≡ true
+pub accepts-bits : (n : ℕ) (fields : List Field) (xs ys : List ℕ) → length xs ≡ n → list_all is_bit xs ≡ true → accepts (shaped n fields) ys ≡ true
+    → accepts (shaped n (Bits ∷ fields)) (xs ++ ys) ≡ true
 accepts-bits n fields xs ys len bits rest =
     let size : length ys ≡ length fields * n = accepted-length (shaped n fields) ys rest in
     both_true _ _

@@ -28,7 +28,8 @@ sizes :
     EndsWith (λ blocks. map length blocks ≡ n ∷ []) (reshare_strand r n i u words)
 sizes r n i u words = λ m h. ap (λ k. k ∷ []) (length-reshared r n u words m)
 
-messages : (r : Ring) (n : ℕ) (j : Joint) → Fits (reshare_protocol r) n j → (l : Link) → AreMessages (sends_on l (reshare_script n (sender_of l))) (reshare_messages j l)
+messages : (r : Ring) (n : ℕ) (j : Joint) → Fits (reshare_protocol r) n j → (l : Link)
+    → AreMessages (sends_on l (reshare_script n (sender_of l))) (reshare_messages j l)
 messages r n j fits =
     elim [
       | Link12 ↦ (mask One, tt)

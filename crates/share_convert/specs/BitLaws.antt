@@ -138,8 +138,15 @@ xor_bits-xor_bits n x y z = each-ext n _ _ (λ k h. simp (at-each, h) (bit-bit_f
 
 choice_of : (b e u2 u3 : ℕ) → bit (bit_xor (bit (bit_xor e u2)) (bit (bit_xor (bit_xor b e) u3))) ≡ bit (bit_xor (bit_xor b u2) u3)
 choice_of b e u2 u3 =
-    omega
-    (arith, bit-xor (bit (bit_xor e u2)) (bit (bit_xor (bit_xor b e) u3)), bit-xor (bit_xor b e) u3, bit-xor b e, bit-xor e u2, bit-xor (bit_xor b u2) u3, bit-xor b u2)
+    omega (
+      arith,
+      bit-xor (bit (bit_xor e u2)) (bit (bit_xor (bit_xor b e) u3)),
+      bit-xor (bit_xor b e) u3,
+      bit-xor b e,
+      bit-xor e u2,
+      bit-xor (bit_xor b u2) u3,
+      bit-xor b u2,
+    )
 
 -- what miners 2 and 3 send each other is, xored, the choice
 pub choice-is : (n : ℕ) (b e u2 u3 : List ℕ) → xor_bits n (xor_bits n e u2) (xor_bits_of_three n b e u3) ≡ xor_bits_of_three n b u2 u3

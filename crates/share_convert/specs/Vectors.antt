@@ -42,7 +42,8 @@ shares = refl
 with_masks : Joint
 with_masks = joint_of (5 ∷ []) (6 ∷ []) (8 ∷ []) (4 ∷ 7 ∷ 100 ∷ 1000 ∷ []) (30 ∷ []) (2 ∷ [])
 
-masked_shares : converted 1 with_masks One ++ converted 1 with_masks Two ++ converted 1 with_masks Three ≡ 998 ∷ 18446744073709550746 ∷ 18446744073709551489 ∷ []
+masked_shares : converted 1 with_masks One ++ converted 1 with_masks Two ++ converted 1 with_masks Three
+    ≡ 998 ∷ 18446744073709550746 ∷ 18446744073709551489 ∷ []
 unfolding with_masks zeros one_less_where negative_where bits_less xor_bits_of_three reshared part each
 masked_shares = refl
 

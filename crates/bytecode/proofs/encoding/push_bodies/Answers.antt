@@ -8,7 +8,8 @@ use Rattle.bytecode.proofs.encoding.push_bodies.Goals as goal
 
 pub loop-function-preserved : goal.loop-function-preserved
 loop-function-preserved c =
-    more_items (λ (f : CodeFunction). body_numbers (raw_function f)) c.args.functions.now c.loop-function.function-index c.function-item.result c.function-item.is
+    more_items (λ (f : CodeFunction). body_numbers (raw_function f)) c.args.functions.now c.loop-function.function-index c.function-item.result
+    c.function-item.is
     _ _ _ c.loop-function-test.true c.loop-function.invariant
     (subst (λ z. c.push_body.new.text.items ≡ c.loop-function.text.items ++ bytes_of (flat_map instruction_numbers (map raw_instruction z)))
     c.deref.ensures.value c.in_ok-push_body.ensures)

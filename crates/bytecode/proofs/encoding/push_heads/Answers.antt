@@ -6,7 +6,8 @@ use Rattle.bytecode.proofs.encoding.push_heads.Goals as goal
 
 pub loop-function-preserved : goal.loop-function-preserved
 loop-function-preserved c =
-    more_items (λ (f : CodeFunction). head_numbers (raw_function f)) c.args.functions.now c.loop-function.function-index c.function-item.result c.function-item.is
+    more_items (λ (f : CodeFunction). head_numbers (raw_function f)) c.args.functions.now c.loop-function.function-index c.function-item.result
+    c.function-item.is
     _ _ _ c.loop-function-test.true c.loop-function.invariant c.in_ok-push_head.ensures
 
 pub returns : goal.returns

@@ -11,9 +11,13 @@ loop-at-preserved g c =
     let i = c.loop-at.at in
     let from = c.args.number * c.len-n.result in
     let within : i < length xs = omega (arith, c.len-n.ensures.len) in
-    let word : c.word.result ≡ at xs i = c.word.ensures ∙ ap (λ ys. at ys i) c.loop-at.invariant.1 ∙ at-edited i (λ k. op (at xs k) (at c.args.words.now (from + k))) xs in
-    let made : c.add.result ≡ op (at xs i) (at c.args.words.now (from + i)) = c.add.ensures ∙ ap (λ w. op w (at c.args.words.now (from + i))) word in
-    (omega arith, edited_more i (λ k. op (at xs k) (at c.args.words.now (from + k))) xs c.loop-at.x c.set_word.new.self c.add.result within c.loop-at.invariant.1 made c.set_word.ensures)
+    let word : c.word.result ≡ at xs i =
+    c.word.ensures ∙ ap (λ ys. at ys i) c.loop-at.invariant.1 ∙ at-edited i (λ k. op (at xs k) (at c.args.words.now (from + k))) xs in
+    let made : c.add.result ≡ op (at xs i) (at c.args.words.now (from + i)) = c.add.ensures ∙ ap (λ w. op w (at c.args.words.now (from + i))) word in (
+      omega arith,
+      edited_more i (λ k. op (at xs k) (at c.args.words.now (from + k))) xs c.loop-at.x c.set_word.new.self c.add.result within
+          c.loop-at.invariant.1 made c.set_word.ensures,
+    )
 
 pub returns-clause-sum : goal.returns-clause-sum
 returns-clause-sum g c =

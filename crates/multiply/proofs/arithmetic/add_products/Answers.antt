@@ -30,8 +30,11 @@ loop-at-preserved g c =
     let two : c.add.result ≡ r.add (r.mul (at u i) (at v i)) (r.mul (at u i) (at previous (n + i))) = c.add.ensures ∙ ap₂ r.add own with_v in
     let word : c.word.result ≡ at mask i = c.word.ensures ∙ ap (λ ys. at ys i) c.loop-at.invariant.1 ∙ at-edited i (masked r u v previous mask n) mask in
     let made : c.add-in-loop-at.result ≡ masked r u v previous mask n i =
-    c.add-in-loop-at.ensures ∙ ap₂ r.add (c.add-products.ensures ∙ ap₂ r.add two with_u) word in
-    (omega arith, edited_more i (masked r u v previous mask n) mask c.loop-at.share c.set_word.new.self c.add-in-loop-at.result within c.loop-at.invariant.1 made c.set_word.ensures)
+    c.add-in-loop-at.ensures ∙ ap₂ r.add (c.add-products.ensures ∙ ap₂ r.add two with_u) word in (
+      omega arith,
+      edited_more i (masked r u v previous mask n) mask c.loop-at.share c.set_word.new.self c.add-in-loop-at.result within
+          c.loop-at.invariant.1 made c.set_word.ensures,
+    )
 
 pub returns-clause-share : goal.returns-clause-share
 unfolding masked
