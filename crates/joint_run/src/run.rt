@@ -12,7 +12,7 @@ ghost use Rattle.joint_run.specs.Steps.{second_value, CanExchange, AddsLocal, Ad
 
 use crate::exchanged::Exchanged;
 use crate::local::local_share;
-use crate::operands::{Operands, Own};
+use crate::own_operands::{Operands, Own};
 use crate::outputs::Outputs;
 use crate::shares::SharedValues;
 use crate::tapes::Tapes;

@@ -6,7 +6,7 @@ ghost use Rattle.joint_run.specs.Adding.{AddsGate};
 
 use crate::blocks::add_block;
 use crate::exchange::Exchange;
-use crate::operands::Operands;
+use crate::own_operands::Operands;
 use crate::outputs::Outputs;
 use crate::transcript::Transcript;
 use gates::BLOCK_LEN;
