@@ -2,6 +2,7 @@
 use Rattle.std.proofs.Common.{◌≡◌, ℕ, ◌+◌, ◌-◌, ◌<◌, ◌≤◌, min, List, ◌++◌, length, take, drop, refl, sym, ◌∙◌, ap, subst, arith, length-drop, Option, Some, None, ◌⊎◌, inl, inr}
 use Rattle.std.proofs.lemmas.List.{length-take-le, drop-append-le}
 use Rattle.proto_core.specs.declared.party.Number.{Number}
+use Rattle.proto_core.specs.declared.refused.BadMessage.{BadMessage}
 use Rattle.proto_core.specs.Strand.{Strand, Ends, Acts, Waits, then_do}
 use Rattle.gates.specs.Blocks.{block_sizes}
 use Rattle.gates.specs.declared.gate.Gate.{Gate}
@@ -36,10 +37,12 @@ pub outcome-behind :
 outcome-behind i f a b s t h =
     outcome-then i f a.to_next a.to_previous b.to_next b.to_previous a.opened.items b.opened.items s t (mail_left i a) (mail_left i b) h
 
-pub stands-behind : {A B : Type 0} (i : Number) (l : Links) (s : Strand A) (f : A → Strand B) → StandsAt i l s → StandsAt i l (then_do s f)
-stands-behind i l (Ends a) f h = absurd h
-stands-behind i l (Acts act s) f h = absurd h
-stands-behind i l (Waits link shape k) f h = h
+pub stands-behind :
+    {A B : Type 0} (i : Number) (l : Links) (cause : Option BadMessage) (s : Strand A) (f : A → Strand B) → StandsAt i l cause s →
+    StandsAt i l cause (then_do s f)
+stands-behind i l cause (Ends a) f h = absurd h
+stands-behind i l cause (Acts act s) f h = absurd h
+stands-behind i l cause (Waits link shape k) f h = h
 
 pub awaits-behind : {A B : Type 0} (l : _) (s : Strand A) (f : A → Strand B) → AwaitsOn l s → AwaitsOn l (then_do s f)
 awaits-behind l (Ends a) f h = absurd h
@@ -102,9 +105,10 @@ of-made left to first None is = ap (progress_left left) is
 of-made left to first (Some second) is = ap (progress_left left) is
 
 pub begun-left :
-    {S P : Type 0} (left : S → Strand (List (List ℕ))) (to : Progress S P) (state : S) → (to ≡ Stands state) ⊎ (to ≡ Goes state) →
+    {S P : Type 0} (left : S → Strand (List (List ℕ))) (to : Progress S P) (state : S) →
+    ((cause : Option BadMessage) × (to ≡ Stands state cause)) ⊎ (to ≡ Goes state) →
     progress_left left to ≡ left state
-begun-left left to state (inl is) = ap (progress_left left) is
+begun-left left to state (inl is) = ap (progress_left left) is.1
 begun-left left to state (inr is) = ap (progress_left left) is
 
 -- ---- gates are added

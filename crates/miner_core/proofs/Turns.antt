@@ -1,9 +1,10 @@
 -- What a step of a miner leaves to do.
 use Rattle.std.proofs.Common.{◌≡◌, ℕ, suc, List, [], ◌∷◌, ◌++◌, map, length, drop, refl, sym, ◌∙◌, ap, subst, append_assoc}
-use Rattle.std.specs.Prelude.{Vec}
+use Rattle.std.specs.Prelude.{Option, Vec}
 use Rattle.std.specs.declared.alloc.Global.{Global}
 use Rattle.proto_core.specs.declared.party.Number.{Number}
 use Rattle.proto_core.specs.declared.link.Link.{Link}
+use Rattle.proto_core.specs.declared.refused.BadMessage.{BadMessage}
 use Rattle.proto_core.specs.Strand.{Notice, Mail, Strand, run, then_do, told_in}
 use Rattle.gates.specs.declared.gate.Gate.{Gate}
 use Rattle.gates.specs.Clear.{Values}
@@ -192,15 +193,15 @@ holds_links e e2 k =
 
 -- ---- where it rests
 
-no_through_waits : (link : Link) → stand.Waits link ≡ stand.Through → ⊥
-no_through_waits link e = cc
+no_through_waits : (link : Link) (cause : Option BadMessage) → stand.Waits link cause ≡ stand.Through → ⊥
+no_through_waits link cause e = cc
 
 no_through_stuck : stand.Stuck ≡ stand.Through → ⊥
 no_through_stuck e = cc
 
 module _ {P : Type 0} (i : Number) (e : Engine P) (s : Stand) where
-  pub rests_waits : (link : Link) → s ≡ stand.Waits link → node.EngineStands i s e.node → Rests i s e
-  rests_waits link is h = record { node = h; over = λ other. absurd (no_through_waits link (sym is ∙ other)) }
+  pub rests_waits : (link : Link) (cause : Option BadMessage) → s ≡ stand.Waits link cause → node.EngineStands i s e.node → Rests i s e
+  rests_waits link cause is h = record { node = h; over = λ other. absurd (no_through_waits link cause (sym is ∙ other)) }
 
   pub rests_stuck : s ≡ stand.Stuck → node.EngineStands i s e.node → Rests i s e
   rests_stuck is h = record { node = h; over = λ other. absurd (no_through_stuck (sym is ∙ other)) }

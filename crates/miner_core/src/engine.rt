@@ -234,7 +234,7 @@ impl<P: Party> Engine<P> {
             let stand = self.gates()?;
             match stand {
                 Stand::Through => {}
-                Stand::Waits(_) => return Ok(stand),
+                Stand::Waits(..) => return Ok(stand),
                 Stand::Stuck => return Ok(stand),
             }
             let more = self.turn()?;

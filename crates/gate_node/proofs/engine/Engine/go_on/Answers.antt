@@ -33,7 +33,7 @@ returns-in-Stands-clause-stands g c =
     let r = c.args.running in
     let b = c.step.new.links in
     let s = pending_left i c.in-Stands.block in (
-      stands-behind i b s (λ here. running_left i e r (joined r.made here)) (subst (StandsThen (pending_left i) i b) c.in-Stands.is c.in_ok-block.ensures.stands),
+      stands-behind i b c.in-Stands.cause s (λ here. running_left i e r (joined r.made here)) (subst (StandsThen (pending_left i) i b) c.in-Stands.is c.in_ok-block.ensures.stands),
       awaits-behind c.awaits-link.result s (λ here. running_left i e r (joined r.made here)) c.awaits-link.ensures,
     )
 
