@@ -10,7 +10,8 @@ use Rattle.proto_core.specs.Standing.{fault_of}
 use Rattle.proto_core.specs.Strand.{Sent, Ends, Acts, run, rest_of}
 use Rattle.proto_core.specs.Net.{mail_of}
 use Rattle.proto_core.proofs.Refusing.{bits_between_words, bits_behind_words, bits_before_words, bits_alone}
-use Rattle.share_convert.specs.ConvStrand.{Held, shape12, shape13, shape23, shape32, two_ends, two_passes, three_ends, three_passes, awaits12, awaits32, awaits13, awaits23}
+use Rattle.share_convert.specs.ConvStrand.{Held, shape12, shape13, shape23, shape32, two_ends, two_passes, three_ends, three_passes, awaits12}
+use Rattle.share_convert.specs.ConvStrand.{awaits32, awaits13, awaits23}
 use Rattle.share_convert.specs.Steps.{Got12, Got32, Got13, Got23}
 use Rattle.share_convert.proofs.Tails.{got12-is, got32-is, got13-is, got23-is}
 use Rattle.share_convert.proofs.BitFields.{accepts12, accepts13, accepts23, accepts32}

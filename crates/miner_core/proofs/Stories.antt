@@ -41,7 +41,8 @@ use Rattle.miner_core.specs.Engines.{place_at, goes_on_at, behind_node, engine_l
 use Rattle.miner_core.specs.declared.answer.Step.{Step}
 use Rattle.miner_core.specs.declared.answer.MinerErr.{MinerErr}
 use Rattle.miner_core.specs.declared.answer.MinerErr.TheVariants as error
-use Rattle.miner_core.specs.Story.{Story, received, start_of, story_of, mail_in, strand_in, standing, stands_at, Follows, Leads, IsAnswerOf, IsAnswer, DeliverAnswers}
+use Rattle.miner_core.specs.Story.{Story, received, start_of, story_of, mail_in, strand_in, standing, stands_at, Follows, Leads, IsAnswerOf, IsAnswer}
+use Rattle.miner_core.specs.Story.{DeliverAnswers}
 use Rattle.miner_core.specs.Story as story
 use Rattle.miner_core.proofs.Quiet.{QuietAt, quiet_come}
 
@@ -76,7 +77,8 @@ module _ (i : Number) where
         (waits_front shape (mail_left i l link)) h.0
 
     pub refuses_is :
-        (cause : BadMessage) (s : Strand Halted) → StandsAt i l (Some cause) s × AwaitsOn link s → standing_with (then_do s f) (mail_left i l) ≡ Refuses link cause
+        (cause : BadMessage) (s : Strand Halted) → StandsAt i l (Some cause) s × AwaitsOn link s
+        → standing_with (then_do s f) (mail_left i l) ≡ Refuses link cause
     refuses_is cause (Ends a) h = absurd h.0
     refuses_is cause (Acts a s) h = absurd h.0
     refuses_is cause (Waits other shape k) h =
@@ -162,7 +164,8 @@ module _ {P : Type 0} (i : Number) where
 
   -- these messages more
   module _ (e : Engine P) (s : Story) (f : Follows i e s) (more : Mail) (l : Links) (next : l.to_next ≡ e.node.links.to_next)
-      (previous : l.to_previous ≡ e.node.links.to_previous) (opened : l.opened ≡ e.node.links.opened) (mail : mail_left i l ≡ added (mail_left i e.node.links) more)
+      (previous : l.to_previous ≡ e.node.links.to_previous) (opened : l.opened ≡ e.node.links.opened)
+      (mail : mail_left i l ≡ added (mail_left i e.node.links) more)
       (s2 : Story) (strand : strand_in i s2 ≡ strand_in i s) (mail2 : mail_in i s2 ≡ added (mail_in i s) more) where
     node_is : story.node i s2 ≡ run (strand_in i s) (added (mail_in i s) more)
     node_is = ap (λ v. run v (mail_in i s2)) strand ∙ ap (run (strand_in i s)) mail2
@@ -227,7 +230,8 @@ module _ {P : Type 0} (i : Number) where
   -- ---- and the story of an engine has it
 
   pub story_from_previous :
-      (e : Engine P) (n : gates.Engine P) (l : Link) (m : List ℕ) (budget : ℕ) → l ≡ from_previous i → n ≡ record e.node { links = came_from_previous e.node.links m } →
+      (e : Engine P) (n : gates.Engine P) (l : Link) (m : List ℕ) (budget : ℕ) → l ≡ from_previous i
+      → n ≡ record e.node { links = came_from_previous e.node.links m } →
       story_of (record e { node = n }) budget ≡ received i (story_of e budget) l m
   story_from_previous e n l m budget is node =
       let s = story_of e budget in
@@ -236,7 +240,8 @@ module _ {P : Type 0} (i : Number) where
       (ap (same_link (from_previous i)) is ∙ same-link_self (from_previous i)))
 
   pub story_from_next :
-      (e : Engine P) (n : gates.Engine P) (l : Link) (m : List ℕ) (budget : ℕ) → l ≢ from_previous i → n ≡ record e.node { links = came_from_next e.node.links m } →
+      (e : Engine P) (n : gates.Engine P) (l : Link) (m : List ℕ) (budget : ℕ) → l ≢ from_previous i
+      → n ≡ record e.node { links = came_from_next e.node.links m } →
       story_of (record e { node = n }) budget ≡ received i (story_of e budget) l m
   story_from_next e n l m budget is node =
       let s = story_of e budget in
@@ -292,7 +297,8 @@ module _ {P : Type 0} (i : Number) where
   end_is e x h = ap (λ s. standing_with s (mail_left i e.node.links)) h
 
   -- an engine that follows a story answers as it says
-  pub answer_of : (e : Engine P) (s : Story) (r : Result Step MinerErr) → Follows i e s → IsAnswerOf (engine_left i e) (mail_left i e.node.links) r → IsAnswer i s r
+  pub answer_of : (e : Engine P) (s : Story) (r : Result Step MinerErr) → Follows i e s → IsAnswerOf (engine_left i e) (mail_left i e.node.links) r
+      → IsAnswer i s r
   answer_of e s r f h = subst (λ o. IsAnswerOf o.left o.unread r) f.same h
 
   pub standing_of_story : (e : Engine P) (s : Story) → Follows i e s → standing_with (engine_left i e) (mail_left i e.node.links) ≡ stands_at i s

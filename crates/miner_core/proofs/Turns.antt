@@ -34,7 +34,8 @@ use Rattle.miner_core.specs.declared.engine.Engine.{Engine}
 use Rattle.miner_core.specs.declared.notice.Notice as said
 use Rattle.miner_core.specs.OwnCode.{From, go_on, tell_and_go_on, gates_between, led_by, behind_gates, own_code, Ended}
 use Rattle.miner_core.specs.Views.{task_world, task_code, told_since, notice_seen}
-use Rattle.miner_core.specs.Engines.{place_at, code_from, goes_on_at, behind_node, engine_left, engine_outcome, engine_told, IsThrough, IsOver, Rests, KeepsLinks, Keeps, measure, acting, led_to}
+use Rattle.miner_core.specs.Engines.{place_at, code_from, goes_on_at, behind_node, engine_left, engine_outcome, engine_told, IsThrough, IsOver, Rests}
+use Rattle.miner_core.specs.Engines.{KeepsLinks, Keeps, measure, acting, led_to}
 
 -- ---- what a step tells
 
@@ -69,7 +70,8 @@ module _ {P : Type 0} (i : Number) (e e2 : Engine P) where
 
   -- behind its gates the miner is where the step has led
   abbrev pub IsLed : Type 0
-  IsLed = (values : Values) (tape : List ℕ) → goes_on_at i e2 e2.at values tape ≡ tell_and_go_on (code_at e2.fuel) (place_at i e) (led_at values first) values tape
+  IsLed = (values : Values) (tape : List ℕ)
+      → goes_on_at i e2 e2.at values tape ≡ tell_and_go_on (code_at e2.fuel) (place_at i e) (led_at values first) values tape
 
   led_on : IsLed → (h : Halted) → behind_node i e2 e2.at h ≡ behind_gates (task_world e.task) (task_code e.task) (code_at e2.fuel) (place_at i e) first h
   led_on led (Whole values tape) = led values tape
@@ -94,7 +96,8 @@ module _ {P : Type 0} (i : Number) (e e2 : Engine P) where
   pub does_again :
       e.at ≡ at.Again → IsThrough i e.node → node.engine_left i e2.node ≡ node.engine_left i e.node →
       goes_on_at i e2 e2.at e.node.values e.node.tape.1
-      ≡ tell_and_go_on (code_from i e) (place_at i e) (step_told (task_world e.task) (task_code e.task) (place_at i e) (last_of e.node.values)) e.node.values e.node.tape.1 →
+      ≡ tell_and_go_on (code_from i e) (place_at i e) (step_told (task_world e.task) (task_code e.task) (place_at i e) (last_of e.node.values))
+      e.node.values e.node.tape.1 →
       engine_left i e2 ≡ engine_left i e
   does_again again through left led =
       ap (λ s. then_do s (behind_node i e2 e2.at)) (left ∙ through)
@@ -138,7 +141,8 @@ module _ {P : Type 0} (i : Number) (e : Engine P) where
     left_acting = ap (λ s. then_do s (behind_node i (acting e t speech before) (at.Acts t speech before))) through
 
     pub goes_on_same :
-        (a : At) (own : Vec said.Notice Global) → a ≡ led_to t → engine_outcome i (record e { at = a; notices = own }) ≡ engine_outcome i (acting e t speech before)
+        (a : At) (own : Vec said.Notice Global) → a ≡ led_to t
+        → engine_outcome i (record e { at = a; notices = own }) ≡ engine_outcome i (acting e t speech before)
     goes_on_same a own led =
         let l = e.node.links in
         ap (outcome_of i l) (left_there a own led)

@@ -16,5 +16,6 @@ returns-in_ok-push-in-Ok-clause-same g c =
 pub returns-in-Err-clause-stands : goal.returns-in-Err-clause-stands
 returns-in-Err-clause-stands g c =
     let l = c.args.links.now in
-    wrong-previous (λ (s : Held). length s.mask) (Words ∷ Words ∷ Words ∷ []) c.args.state (3 * length c.args.state.mask) c.in-Some.msg c.in-Err.refused g.P.Party.me
+    wrong-previous (λ (s : Held). length s.mask) (Words ∷ Words ∷ Words ∷ []) c.args.state
+    (3 * length c.args.state.mask) c.in-Some.msg c.in-Err.refused g.P.Party.me
     l.from_previous.1 l.from_next.1 refl c.in-Err.ensures.err (from_previous g.P.Party.me) refl c.in-Some.ensures
