@@ -1,5 +1,6 @@
 -- What a whole command does, told of its status alone.
-use Rattle.std.proofs.Common.{◌≡◌, ◌≢◌, ◌⊎◌, ℕ, Bool, nat_eq, List, true, false, Option, None, Ok, Err, Result, refl, ap, subst, sym, ◌∙◌, inl, inr, arith, Contains, string_bytes, ◌++◌, ◌∷◌, zero}
+use Rattle.std.proofs.Common.{◌≡◌, ◌≢◌, ◌⊎◌, ℕ, Bool, nat_eq, List, true, false, Option, None, Ok, Err, Result, refl, ap, subst, sym, ◌∙◌, inl, inr}
+use Rattle.std.proofs.Common.{arith, Contains, string_bytes, ◌++◌, ◌∷◌, zero}
 use Rattle.std.proofs.lemmas.List.{map-append}
 use Rattle.std.proofs.lemmas.List.Elements.{Contains-append_right}
 use Rattle.std.proofs.lemmas.Bool.{true≢false, false≢true}
@@ -21,7 +22,8 @@ use Rattle.command_frame.specs.Reads.{Faulted, OnlyRead, PlanNames, StopNames, S
 use Rattle.command_frame.specs.Status.{can_refuse, code_of, is_end}
 use Rattle.command_frame.specs.Objects.{write_line}
 use Rattle.command_frame.specs.Stops.{memory_line}
-use Rattle.command_frame.specs.Whole.{Acts, ActsAnyhow, CarriedOut, EndsAnyhow, EndsAs, FileFaulted, FileTold, HasFailed, IsAnswered, IsCut, IsDone, IsMissed, OnlyWritten, OutFaulted, Says, StopsAtFile, status_in}
+use Rattle.command_frame.specs.Whole.{Acts, ActsAnyhow, CarriedOut, EndsAnyhow, EndsAs, FileFaulted, FileTold, HasFailed, IsAnswered, IsCut, IsDone}
+use Rattle.command_frame.specs.Whole.{IsMissed, OnlyWritten, OutFaulted, Says, StopsAtFile, status_in}
 
 -- ---- statuses
 
@@ -44,11 +46,13 @@ no_refusal s w refuses other is = never (can_refuse w) (subst (λ (x : Status). 
 
 -- ---- a plan, and then its effect
 
-pub only_written : (answer : Answer) (e : Effect) (a b c : FilesState) → OnlyRead a b → (a.told ≡ true → answer ≡ Ok e) → OnlyAmong (paths_in e.writes) b c → OnlyWritten answer a c
+pub only_written : (answer : Answer) (e : Effect) (a b c : FilesState) → OnlyRead a b → (a.told ≡ true → answer ≡ Ok e)
+    → OnlyAmong (paths_in e.writes) b c → OnlyWritten answer a c
 only_written answer e a b c read is among = record {
   told = among.told ∙ read.same.told;
   others = λ t q no.
-      let at_e : IfOk {E = Cause} (Ok e) (λ e. Contains (paths_in e.writes) q → ⊥) = subst (λ (r : Answer). IfOk {E = Cause} r (λ e. Contains (paths_in e.writes) q → ⊥)) (is t) no in
+      let at_e : IfOk {E = Cause} (Ok e) (λ e. Contains (paths_in e.writes) q → ⊥) =
+      subst (λ (r : Answer). IfOk {E = Cause} r (λ e. Contains (paths_in e.writes) q → ⊥)) (is t) no in
       among.others (read.same.told ∙ t) q at_e ∙ ap (λ (m : Contents). file_at m q) read.same.contents;
   later = omega (arith, read.later, among.later);
 }
@@ -135,7 +139,8 @@ stops_so reads written Answers Others a b stop all stops = record {
 done_since : (answer : Answer) (e : Effect) (a b c : FilesState) (o o' : SinkState) (s : Status) → OnlyRead a b → (a.told ≡ true → answer ≡ Ok e)
     → s ≡ e.status → WroteAll e.writes b c → Appends o o' e.text → a.told ≡ true → IsOkAnd answer (λ e. IsDone e a c o o' s)
 done_since answer e a b c o o' s read is status wrote text t =
-    let done : IsDone e a c o o' s = record { status = status; files = wrote (read.same.told ∙ t) ∙ ap (after_writes e.writes) read.same.contents; text = text } in
+    let done : IsDone e a c o o' s =
+    record { status = status; files = wrote (read.same.told ∙ t) ∙ ap (after_writes e.writes) read.same.contents; text = text } in
     subst (λ (r : Answer). IsOkAnd r (λ e. IsDone e a c o o' s)) (sym (is t)) done
 
 cut_since : (answer : Answer) (e : Effect) (a b c : FilesState) (o o' : SinkState) → OnlyRead a b → (a.told ≡ true → answer ≡ Ok e)
@@ -155,7 +160,8 @@ prefix_since : (answer : Answer) (e : Effect) (a : FilesState) (o o' : SinkState
 prefix_since answer e a o o' is (inl same) = inl same
 prefix_since answer e a o o' is (inr put) = inr (λ t. subst (λ (r : Answer). IsOkAnd r (λ e. PutPrefix e.text o o')) (sym (is t)) put)
 
-pub ends_as : (answer : Answer) (e : Effect) (a b c : FilesState) (o o' : SinkState) (r : Result Status Stop) → OnlyRead a b → (a.told ≡ true → answer ≡ Ok e) → is_end e.status ≡ true
+pub ends_as : (answer : Answer) (e : Effect) (a b c : FilesState) (o o' : SinkState) (r : Result Status Stop) → OnlyRead a b
+    → (a.told ≡ true → answer ≡ Ok e) → is_end e.status ≡ true
     → Finishes e b c o o' r → EndsAs answer a c o o' r
 ends_as answer e a b c o o' (Ok s) read is end (status, wrote, text) = (ap is_end status ∙ end, done_since answer e a b c o o' s read is status wrote text)
 ends_as answer e a b c o o' (Err stops.Memory) read is end part = prefix_since answer e a o o' is part
@@ -218,7 +224,8 @@ acts_anyhow ask f f' o o' (Err stops.Usage) named ends = absurd ends
 acts_anyhow ask f f' o o' (Err (stops.Refused r)) named ends = (named, ends)
 acts_anyhow ask f f' o o' (Err (stops.Failed object)) named ends = (named, ends)
 
-pub acts_as : {A : Type 0} (ask : Option A) (answer : Answer) (f f' : FilesState) (o o' : SinkState) (r : Result Status Stop) → IsSome ask → EndsAs answer f f' o o' r → Acts ask answer f f' o o' r
+pub acts_as : {A : Type 0} (ask : Option A) (answer : Answer) (f f' : FilesState) (o o' : SinkState) (r : Result Status Stop) → IsSome ask
+    → EndsAs answer f f' o o' r → Acts ask answer f f' o o' r
 acts_as ask answer f f' o o' (Ok s) named ends = (named, ends)
 acts_as ask answer f f' o o' (Err stops.Memory) named ends = ends
 acts_as ask answer f f' o o' (Err stops.Usage) named ends = absurd ends
@@ -234,7 +241,8 @@ done_by : (answer : Answer) (f f' : FilesState) (o o' : SinkState) (s : Status) 
 done_by (Ok e) f f' o o' s d = d.status
 done_by (Err c) f f' o o' s d = absurd d
 
-pub complete : {A : Type 0} (ask : Option A) (answer : Answer) (f f' : FilesState) (o o' : SinkState) (r : Result Status Stop) → (ask ≡ None → answer ≡ Err usage) → Acts ask answer f f' o o' r
+pub complete : {A : Type 0} (ask : Option A) (answer : Answer) (f f' : FilesState) (o o' : SinkState) (r : Result Status Stop)
+    → (ask ≡ None → answer ≡ Err usage) → Acts ask answer f f' o o' r
     → f.steady ≡ true → o.steady ≡ true → f.told ≡ true → IsAnswered answer (status_in r) ⊎ (status_in r ≡ statuses.Memory)
 complete ask answer f f' o o' (Ok s) none a fs os t = inl (done_by answer f f' o o' s (a.1.1 t))
 complete ask answer f f' o o' (Err stops.Memory) none a fs os t = inr refl
@@ -247,7 +255,8 @@ complete ask answer f f' o o' (Err (stops.Failed objects.Children)) none a fs os
 
 -- ---- the answer is carried out, or a fault is told
 
-carries_end : (answer : Answer) (f f' : FilesState) (o o' e e' : SinkState) (s : Status) → IsOkAnd answer (λ x. IsDone x f f' o o' s) → SameSink e e' → CarriedOut answer f f' o o' e e' s
+carries_end : (answer : Answer) (f f' : FilesState) (o o' e e' : SinkState) (s : Status) → IsOkAnd answer (λ x. IsDone x f f' o o' s) → SameSink e e'
+    → CarriedOut answer f f' o o' e e' s
 carries_end (Ok x) f f' o o' e e' s d same = (d, same)
 carries_end (Err c) f f' o o' e e' s d same = absurd d
 
@@ -315,7 +324,8 @@ file_missed ask answer reads written Answers f f' o o' e e' (Err (stops.Failed o
 
 -- ---- what a fault leaves of the answer
 
-pub write_cuts : {A : Type 0} (ask : Option A) (answer : Answer) (f f' : FilesState) (o o' : SinkState) (r : Result Status Stop) → Acts ask answer f f' o o' r → status_in r ≡ statuses.Write
+pub write_cuts : {A : Type 0} (ask : Option A) (answer : Answer) (f f' : FilesState) (o o' : SinkState) (r : Result Status Stop)
+    → Acts ask answer f f' o o' r → status_in r ≡ statuses.Write
     → f.told ≡ true → IsOkAnd answer (λ e. IsCut e f f' o o')
 write_cuts ask answer f f' o o' (Ok s) a is t = no_end s statuses.Write a.1.0 refl is
 write_cuts ask answer f f' o o' (Err stops.Memory) a is t = clash statuses.Memory statuses.Write refl is
@@ -326,7 +336,8 @@ write_cuts ask answer f f' o o' (Err (stops.Failed objects.Output)) a is t = a.1
 write_cuts ask answer f f' o o' (Err (stops.Failed objects.Links)) a is t = absurd a.1
 write_cuts ask answer f f' o o' (Err (stops.Failed objects.Children)) a is t = absurd a.1
 
-pub memory_cuts : {A : Type 0} (ask : Option A) (answer : Answer) (f f' : FilesState) (o o' : SinkState) (r : Result Status Stop) → Acts ask answer f f' o o' r → status_in r ≡ statuses.Memory
+pub memory_cuts : {A : Type 0} (ask : Option A) (answer : Answer) (f f' : FilesState) (o o' : SinkState) (r : Result Status Stop)
+    → Acts ask answer f f' o o' r → status_in r ≡ statuses.Memory
     → SameSink o o' ⊎ (f.told ≡ true → IsOkAnd answer (λ e. PutPrefix e.text o o'))
 memory_cuts ask answer f f' o o' (Ok s) a is = no_end s statuses.Memory a.1.0 refl is
 memory_cuts ask answer f f' o o' (Err stops.Memory) a is = a
@@ -339,7 +350,8 @@ memory_cuts ask answer f f' o o' (Err (stops.Failed objects.Children)) a is = ab
 
 -- ---- a command that comes to its end says nothing
 
-pub end_says_nothing : (e e' : SinkState) (r : Result Status Stop) → Says r e e' → is_end (status_in r) ≡ true → can_refuse (status_in r) ≡ false → SameSink e e'
+pub end_says_nothing : (e e' : SinkState) (r : Result Status Stop) → Says r e e' → is_end (status_in r) ≡ true → can_refuse (status_in r) ≡ false
+    → SameSink e e'
 end_says_nothing e e' (Ok s) says ends unrefused = says
 end_says_nothing e e' (Err stops.Memory) says ends unrefused = absurd (false≢true ends)
 end_says_nothing e e' (Err stops.Usage) says ends unrefused = absurd (false≢true ends)

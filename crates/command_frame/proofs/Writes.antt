@@ -1,5 +1,6 @@
 -- Writing files one after another.
-use Rattle.std.proofs.Common.{◌≡◌, ℕ, ◌+◌, ◌<◌, ◌≤◌, List, [], ◌∷◌, ◌++◌, length, get_or, drop, take, take_all, take-suc, take-append-drop, map, true, refl, ap, sym, ◌∙◌, arith, add-one, drop-cons, string_bytes, Contains}
+use Rattle.std.proofs.Common.{◌≡◌, ℕ, ◌+◌, ◌<◌, ◌≤◌, List, [], ◌∷◌, ◌++◌, length, get_or, drop, take, take_all, take-suc, take-append-drop, map, true}
+use Rattle.std.proofs.Common.{refl, ap, sym, ◌∙◌, arith, add-one, drop-cons, string_bytes, Contains}
 use Rattle.std.proofs.lemmas.List.{get_or-map, length-map, map-append}
 use Rattle.outside.specs.Files.{Contents, FilesState, Wrote, OnlyAt, with_file, file_at}
 use Rattle.sc_text.specs.Fault.{file_line}

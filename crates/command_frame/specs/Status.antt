@@ -1,7 +1,8 @@
 -- The exit statuses, and which of them come for which reason.
 use Rattle.std.specs.Prelude.{ℕ, Bool, true, false}
 use Rattle.command_frame.specs.declared.status.Status.{Status}
-use Rattle.command_frame.specs.declared.status.Status.TheVariants.{Done, Trap, Usage, Program, Input, TapeFile, Schedule, Budget, Tape, File, Link, Peer, Child, Disagree, NotAlike, OpenedShort, Write, Memory}
+use Rattle.command_frame.specs.declared.status.Status.TheVariants.{Done, Trap, Usage, Program, Input, TapeFile, Schedule, Budget, Tape, File, Link}
+use Rattle.command_frame.specs.declared.status.Status.TheVariants.{Peer, Child, Disagree, NotAlike, OpenedShort, Write, Memory}
 
 abbrev pub code_of : Status → ℕ
 code_of Done = 0
