@@ -1,33 +1,42 @@
 -- What stands behind a part of a miner's strand, and what comes later.
-use Rattle.std.proofs.Common.{◌≡◌, ℕ, List, [], ◌∷◌, ◌++◌, refl, sym, ◌∙◌, ap, append_assoc}
+use Rattle.std.proofs.Common.{◌≡◌, ℕ, List, [], ◌∷◌, ◌++◌, refl, sym, ◌∙◌, ap, append_assoc, false, Option, Some, None, is_none}
 use Rattle.proto_core.specs.declared.party.Number.{Number}
 use Rattle.proto_core.specs.declared.party.Number.TheVariants.{One, Two, Three}
 use Rattle.proto_core.specs.declared.link.Link.{Link}
 use Rattle.proto_core.specs.declared.link.Link.TheVariants.{Link12, Link13, Link21, Link23, Link31, Link32}
+use Rattle.proto_core.specs.declared.refused.BadMessage.{BadMessage}
 use Rattle.proto_core.specs.Parties.{to_next, to_previous}
-use Rattle.proto_core.specs.Strand.{Shape, Mail, Strand, Ends, Acts, Waits, Ran, run, then_do, on_link, opened_in}
+use Rattle.proto_core.specs.Strand.{Shape, accepts, Mail, Strand, Ends, Acts, Waits, Ran, run, then_do, on_link, opened_in}
 use Rattle.proto_core.specs.Net.{mail_of, added}
+use Rattle.proto_core.specs.Standing.{fault_of}
+use Rattle.proto_core.proofs.Refusing.{faultless_is_accepted}
 use Rattle.proto_core.proofs.Strands.{followed, standing, on_link-append, opened-append, run-none, run-refused, run-added, run-then_do}
 use Rattle.block_steps.specs.declared.links.Links.{Links}
 use Rattle.block_steps.specs.Outcomes.{Outcome, outcome, mail_left, IsStill, HasNoneOf, StandsAt}
 
 -- ---- behind what stands still all stands still
 
+unfit : (shape : Shape) (m : List ℕ) (cause : BadMessage) → fault_of shape m ≡ Some cause → accepts shape m ≡ false
+unfit shape m cause told = sym (faultless_is_accepted shape m) ∙ ap is_none told
+
 still-of :
-    {A : Type 0} (link : Link) (shape : Shape) (k : List ℕ → Strand A) (mail : Mail) (front : List (List ℕ)) → mail link ≡ front → HasNoneOf shape front →
-    run (Waits link shape k) mail ≡ standing link shape k mail
-still-of link shape k mail [] e h = run-none link shape k mail e
-still-of link shape k mail (m ∷ ms) e h = run-refused link shape k mail m ms e h
+    {A : Type 0} (link : Link) (shape : Shape) (k : List ℕ → Strand A) (mail : Mail) (cause : Option BadMessage) (front : List (List ℕ)) →
+    mail link ≡ front → HasNoneOf shape cause front → run (Waits link shape k) mail ≡ standing link shape k mail
+still-of link shape k mail None [] e h = run-none link shape k mail e
+still-of link shape k mail None (m ∷ ms) e h = absurd h
+still-of link shape k mail (Some cause) [] e h = absurd h
+still-of link shape k mail (Some cause) (m ∷ ms) e h = run-refused link shape k mail m ms e (unfit shape m cause h)
 
-pub still-then : {A B : Type 0} (i : Number) (l : Links) (s : Strand A) (f : A → Strand B) → StandsAt i l s → IsStill i l (then_do s f)
-still-then i l (Ends a) f h = absurd h
-still-then i l (Acts act s) f h = absurd h
-still-then i l (Waits link shape k) f h = still-of link shape (λ m. then_do (k m) f) (mail_left i l) (mail_left i l link) refl h
+pub still-then :
+    {A B : Type 0} (i : Number) (l : Links) (cause : Option BadMessage) (s : Strand A) (f : A → Strand B) → StandsAt i l cause s → IsStill i l (then_do s f)
+still-then i l cause (Ends a) f h = absurd h
+still-then i l cause (Acts act s) f h = absurd h
+still-then i l cause (Waits link shape k) f h = still-of link shape (λ m. then_do (k m) f) (mail_left i l) cause (mail_left i l link) refl h
 
-pub still-is : {A : Type 0} (i : Number) (l : Links) (s : Strand A) → StandsAt i l s → IsStill i l s
-still-is i l (Ends a) h = absurd h
-still-is i l (Acts act s) h = absurd h
-still-is i l (Waits link shape k) h = still-of link shape k (mail_left i l) (mail_left i l link) refl h
+pub still-is : {A : Type 0} (i : Number) (l : Links) (cause : Option BadMessage) (s : Strand A) → StandsAt i l cause s → IsStill i l s
+still-is i l cause (Ends a) h = absurd h
+still-is i l cause (Acts act s) h = absurd h
+still-is i l cause (Waits link shape k) h = still-of link shape k (mail_left i l) cause (mail_left i l link) refl h
 
 -- ---- what comes to the same comes to the same with what stands behind it
 

@@ -1,22 +1,23 @@
 -- Each step of a conversion is the next one of the miner's part.
-use Rattle.std.proofs.Common.{◌≡◌, ℕ, ◌*◌, true, false, List, [], ◌∷◌, ◌++◌, length, refl, sym, ◌∙◌, ap, subst, Some}
+use Rattle.std.proofs.Common.{◌≡◌, ℕ, ◌*◌, List, [], ◌∷◌, ◌++◌, length, refl, sym, ◌∙◌, ap, Some}
 use Rattle.proto_core.specs.declared.party.Number.{Number}
 use Rattle.proto_core.specs.declared.party.Number.TheVariants.{Two, Three}
 use Rattle.proto_core.specs.declared.link.Link.TheVariants.{Link12, Link13, Link23, Link32}
+use Rattle.proto_core.specs.declared.refused.Refused.{Refused}
 use Rattle.proto_core.specs.Parties.{to_next, to_previous, from_previous, from_next}
+use Rattle.proto_core.specs.Refusals.{RefusesBits}
+use Rattle.proto_core.specs.Standing.{fault_of}
 use Rattle.proto_core.specs.Strand.{Sent, Ends, Acts, run, rest_of}
 use Rattle.proto_core.specs.Net.{mail_of}
-use Rattle.share_convert.specs.ConvStrand.{Held, shape12, shape13, shape23, shape32, two_ends, two_passes, three_ends, three_passes, awaits12, awaits32, awaits13, awaits23}
-use Rattle.share_convert.specs.Steps.{HasBits, Got12, Got32, Got13, Got23}
+use Rattle.proto_core.proofs.Refusing.{bits_between_words, bits_behind_words, bits_before_words, bits_alone}
+use Rattle.share_convert.specs.ConvStrand.{Held, shape12, shape13, shape23, shape32, two_ends, two_passes, three_ends, three_passes, awaits12}
+use Rattle.share_convert.specs.ConvStrand.{awaits32, awaits13, awaits23}
+use Rattle.share_convert.specs.Steps.{Got12, Got32, Got13, Got23}
 use Rattle.share_convert.proofs.Tails.{got12-is, got32-is, got13-is, got23-is}
-use Rattle.share_convert.proofs.BitFields.{accepts12, accepts13, accepts23, accepts32, accepted12, accepted13, accepted23, accepted32}
+use Rattle.share_convert.proofs.BitFields.{accepts12, accepts13, accepts23, accepts32}
 use Rattle.block_steps.specs.Inboxes.{FrontIs}
 use Rattle.block_steps.specs.Outcomes.{outcome, HasNoneOf}
 use Rattle.block_steps.proofs.Turns.{outcome-sent_next, outcome-sent_previous, took-previous, took-next, refused-previous, refused-next}
-
--- a state refuses no message that it takes
-never : false ≡ true → ⊥
-never e = cc
 
 module _ (i : Number) where
   pub turn12 :
@@ -63,34 +64,36 @@ module _ (i : Number) where
       took-previous i Link23 (shape23 size) (three_ends size before) m (Ends (made ∷ [])) front front2 q n p o
       (ap from_previous (sym me)) h e (accepts23 size m k.fits) (got23-is size before m share refl k ∙ ap (λ w. Ends (w ∷ [])) (sym same))
 
-  -- ---- a message that is refused doesn't fit
+  -- ---- a message is refused for its fault
 
   pub refused12 :
-      (before held : Held) (m : List ℕ) (front q : List (List ℕ)) → i ≡ Two → FrontIs (Some m) front → held ≡ before →
-      (HasBits m (3 * length before.mask) (length before.mask) (length before.mask) → false ≡ true) →
-      HasNoneOf (shape12 (length held.mask)) (mail_of i front q Link12)
-  refused12 before held m front q me h same refuses =
-      refused-previous i Link12 (shape12 (length held.mask)) front q m (ap from_previous (sym me)) h
-      (λ t. never (refuses (subst (λ w. HasBits m (3 * length w.mask) (length w.mask) (length w.mask)) same (accepted12 (length held.mask) m t))))
+      (before : Held) (refused : Refused Held) (m : List ℕ) (front q : List (List ℕ)) → i ≡ Two → FrontIs (Some m) front →
+      RefusesBits before m (3 * length before.mask) (length before.mask) (length before.mask) refused →
+      HasNoneOf (shape12 (length refused.state.mask)) (Some refused.cause) (mail_of i front q Link12)
+  refused12 before refused m front q me h why =
+      refused-previous i Link12 (shape12 (length refused.state.mask)) front q m refused.cause (ap from_previous (sym me)) h
+      (ap (λ (w : Held). fault_of (shape12 (length w.mask)) m) why.state ∙ bits_between_words before (length before.mask) m refused why)
 
   pub refused32 :
-      (before held : Held) (m : List ℕ) (front q : List (List ℕ)) → i ≡ Two → FrontIs (Some m) front → held ≡ before →
-      (HasBits m (length before.mask) 0 (length before.mask) → false ≡ true) → HasNoneOf (shape32 (length held.mask)) (mail_of i q front Link32)
-  refused32 before held m front q me h same refuses =
-      refused-next i Link32 (shape32 (length held.mask)) front q m (ap from_next (sym me)) h
-      (λ t. never (refuses (subst (λ w. HasBits m (length w.mask) 0 (length w.mask)) same (accepted32 (length held.mask) m t))))
+      (before : Held) (refused : Refused Held) (m : List ℕ) (front q : List (List ℕ)) → i ≡ Two → FrontIs (Some m) front →
+      RefusesBits before m (length before.mask) 0 (length before.mask) refused →
+      HasNoneOf (shape32 (length refused.state.mask)) (Some refused.cause) (mail_of i q front Link32)
+  refused32 before refused m front q me h why =
+      refused-next i Link32 (shape32 (length refused.state.mask)) front q m refused.cause (ap from_next (sym me)) h
+      (ap (λ (w : Held). fault_of (shape32 (length w.mask)) m) why.state ∙ bits_alone before (length before.mask) m refused why)
 
   pub refused13 :
-      (before held : Held) (m : List ℕ) (front q : List (List ℕ)) → i ≡ Three → FrontIs (Some m) front → held ≡ before →
-      (HasBits m (2 * length before.mask) (length before.mask) (length before.mask) → false ≡ true) →
-      HasNoneOf (shape13 (length held.mask)) (mail_of i q front Link13)
-  refused13 before held m front q me h same refuses =
-      refused-next i Link13 (shape13 (length held.mask)) front q m (ap from_next (sym me)) h
-      (λ t. never (refuses (subst (λ w. HasBits m (2 * length w.mask) (length w.mask) (length w.mask)) same (accepted13 (length held.mask) m t))))
+      (before : Held) (refused : Refused Held) (m : List ℕ) (front q : List (List ℕ)) → i ≡ Three → FrontIs (Some m) front →
+      RefusesBits before m (2 * length before.mask) (length before.mask) (length before.mask) refused →
+      HasNoneOf (shape13 (length refused.state.mask)) (Some refused.cause) (mail_of i q front Link13)
+  refused13 before refused m front q me h why =
+      refused-next i Link13 (shape13 (length refused.state.mask)) front q m refused.cause (ap from_next (sym me)) h
+      (ap (λ (w : Held). fault_of (shape13 (length w.mask)) m) why.state ∙ bits_behind_words before (length before.mask) m refused why)
 
   pub refused23 :
-      (before held : Held) (m : List ℕ) (front q : List (List ℕ)) → i ≡ Three → FrontIs (Some m) front → held ≡ before →
-      (HasBits m (2 * length before.mask) 0 (length before.mask) → false ≡ true) → HasNoneOf (shape23 (length held.mask)) (mail_of i front q Link23)
-  refused23 before held m front q me h same refuses =
-      refused-previous i Link23 (shape23 (length held.mask)) front q m (ap from_previous (sym me)) h
-      (λ t. never (refuses (subst (λ w. HasBits m (2 * length w.mask) 0 (length w.mask)) same (accepted23 (length held.mask) m t))))
+      (before : Held) (refused : Refused Held) (m : List ℕ) (front q : List (List ℕ)) → i ≡ Three → FrontIs (Some m) front →
+      RefusesBits before m (2 * length before.mask) 0 (length before.mask) refused →
+      HasNoneOf (shape23 (length refused.state.mask)) (Some refused.cause) (mail_of i front q Link23)
+  refused23 before refused m front q me h why =
+      refused-previous i Link23 (shape23 (length refused.state.mask)) front q m refused.cause (ap from_previous (sym me)) h
+      (ap (λ (w : Held). fault_of (shape23 (length w.mask)) m) why.state ∙ bits_before_words before (length before.mask) m refused why)

@@ -1,13 +1,17 @@
 -- One message changes nothing of what a miner has done and will do.
-use Rattle.std.proofs.Common.{◌≡◌, ℕ, true, List, [], ◌∷◌, ◌++◌, sym, ◌∙◌, ap, subst, append_assoc, Some, None}
-use Rattle.std.proofs.lemmas.Bool.{false_from_ne_true}
+use Rattle.std.proofs.Common.{◌≡◌, ℕ, ◌*◌, true, List, [], ◌∷◌, ◌++◌, length, sym, ◌∙◌, ap, subst, arith, append_assoc, Some, None}
 use Rattle.proto_core.specs.declared.party.Number.{Number}
 use Rattle.proto_core.specs.declared.party.Number.TheVariants.{One, Two, Three}
 use Rattle.proto_core.specs.declared.link.Link.{Link}
+use Rattle.proto_core.specs.declared.refused.BadMessage.{BadMessage}
+use Rattle.proto_core.specs.declared.refused.Refused.{Refused}
 use Rattle.proto_core.specs.Parties.{to_next, to_previous, from_previous, from_next}
-use Rattle.proto_core.specs.Strand.{Shape, accepts, Sent, Opened, Mail, Strand, Acts, Waits, Ran, acted, run, rest_of, on_link, opened_in}
+use Rattle.proto_core.specs.Strand.{Field, Shape, shaped, accepts, Sent, Opened, Mail, Strand, Acts, Waits, Ran, acted, run, rest_of, on_link, opened_in}
 use Rattle.proto_core.specs.Net.{mail_of}
+use Rattle.proto_core.specs.Refusals.{WrongLength}
+use Rattle.proto_core.specs.Standing.{fault_of}
 use Rattle.proto_core.proofs.Nodes.{mail-previous, mail-next, run-previous, run-next}
+use Rattle.proto_core.proofs.Refusing.{wrong_length_is_told}
 use Rattle.block_steps.specs.Inboxes.{FrontIs}
 use Rattle.block_steps.specs.Outcomes.{Outcome, outcome, HasNoneOf}
 
@@ -99,13 +103,15 @@ module _ {A : Type 0} (i : Number) (link : Link) (shape : Shape) (k : List ℕ �
 
 -- ---- none is there that fits
 
-none-there : (shape : Shape) (front : List (List ℕ)) → FrontIs None front → HasNoneOf shape front
+none-there : (shape : Shape) (front : List (List ℕ)) → FrontIs None front → HasNoneOf shape None front
 none-there shape [] h = tt
 none-there shape (m ∷ ms) h = absurd h
 
-refused-there : (shape : Shape) (m : List ℕ) (front : List (List ℕ)) → FrontIs (Some m) front → (accepts shape m ≡ true → ⊥) → HasNoneOf shape front
-refused-there shape m [] h unfit = tt
-refused-there shape m (m2 ∷ ms) h unfit = ap (accepts shape) (sym h) ∙ false_from_ne_true (accepts shape m) unfit
+refused-there :
+    (shape : Shape) (m : List ℕ) (cause : BadMessage) (front : List (List ℕ)) → FrontIs (Some m) front → fault_of shape m ≡ Some cause →
+    HasNoneOf shape (Some cause) front
+refused-there shape m cause [] h told = absurd h
+refused-there shape m cause (m2 ∷ ms) h told = ap (fault_of shape) (sym h) ∙ told
 
 module _ (i : Number) (link : Link) (shape : Shape) (front q : List (List ℕ)) where
   at-previous : link ≡ from_previous i → mail_of i front q link ≡ front
@@ -114,16 +120,37 @@ module _ (i : Number) (link : Link) (shape : Shape) (front q : List (List ℕ)) 
   at-next : link ≡ from_next i → mail_of i q front link ≡ front
   at-next on = ap (mail_of i q front) on ∙ mail-next i q front
 
-  pub none-previous : link ≡ from_previous i → FrontIs None front → HasNoneOf shape (mail_of i front q link)
-  none-previous on h = subst (HasNoneOf shape) (sym (at-previous on)) (none-there shape front h)
+  pub none-previous : link ≡ from_previous i → FrontIs None front → HasNoneOf shape None (mail_of i front q link)
+  none-previous on h = subst (HasNoneOf shape None) (sym (at-previous on)) (none-there shape front h)
 
-  pub none-next : link ≡ from_next i → FrontIs None front → HasNoneOf shape (mail_of i q front link)
-  none-next on h = subst (HasNoneOf shape) (sym (at-next on)) (none-there shape front h)
+  pub none-next : link ≡ from_next i → FrontIs None front → HasNoneOf shape None (mail_of i q front link)
+  none-next on h = subst (HasNoneOf shape None) (sym (at-next on)) (none-there shape front h)
 
   pub refused-previous :
-      (m : List ℕ) → link ≡ from_previous i → FrontIs (Some m) front → (accepts shape m ≡ true → ⊥) → HasNoneOf shape (mail_of i front q link)
-  refused-previous m on h unfit = subst (HasNoneOf shape) (sym (at-previous on)) (refused-there shape m front h unfit)
+      (m : List ℕ) (cause : BadMessage) → link ≡ from_previous i → FrontIs (Some m) front → fault_of shape m ≡ Some cause →
+      HasNoneOf shape (Some cause) (mail_of i front q link)
+  refused-previous m cause on h told = subst (HasNoneOf shape (Some cause)) (sym (at-previous on)) (refused-there shape m cause front h told)
 
   pub refused-next :
-      (m : List ℕ) → link ≡ from_next i → FrontIs (Some m) front → (accepts shape m ≡ true → ⊥) → HasNoneOf shape (mail_of i q front link)
-  refused-next m on h unfit = subst (HasNoneOf shape) (sym (at-next on)) (refused-there shape m front h unfit)
+      (m : List ℕ) (cause : BadMessage) → link ≡ from_next i → FrontIs (Some m) front → fault_of shape m ≡ Some cause →
+      HasNoneOf shape (Some cause) (mail_of i q front link)
+  refused-next m cause on h told = subst (HasNoneOf shape (Some cause)) (sym (at-next on)) (refused-there shape m cause front h told)
+
+-- ---- a message of a wrong length is refused, with both lengths
+
+pub one-times : (n : ℕ) → n ≡ 1 * n
+one-times n = omega arith
+
+module _ {S : Type 0} (size : S → ℕ) (fields : List Field) (before : S) (want : ℕ) (m : List ℕ) (refused : Refused S) (i : Number) (front q : List (List ℕ))
+    (is : want ≡ length fields * size before) (wrong : WrongLength before want (length m) refused) where
+  abbrev wanted : Shape
+  wanted = shaped (size refused.state) fields
+
+  told : fault_of wanted m ≡ Some refused.cause
+  told = wrong_length_is_told before wanted want m refused (is ∙ ap (λ s. length fields * size s) (sym wrong.state)) wrong
+
+  pub wrong-previous : (link : Link) → link ≡ from_previous i → FrontIs (Some m) front → HasNoneOf wanted (Some refused.cause) (mail_of i front q link)
+  wrong-previous link on h = refused-previous i link wanted front q m refused.cause on h told
+
+  pub wrong-next : (link : Link) → link ≡ from_next i → FrontIs (Some m) front → HasNoneOf wanted (Some refused.cause) (mail_of i q front link)
+  wrong-next link on h = refused-next i link wanted front q m refused.cause on h told

@@ -1,10 +1,12 @@
 -- What a miner has done, and what a part of a protocol does with the messages that it has.
-use Rattle.std.specs.Prelude.{◌≡◌, ℕ, ◌+◌, false, List, [], ◌∷◌, ◌++◌, length}
+use Rattle.std.specs.Prelude.{◌≡◌, ℕ, ◌+◌, List, [], ◌∷◌, ◌++◌, length, Option, Some, None}
 use Rattle.proto_core.specs.declared.party.Number.{Number}
 use Rattle.proto_core.specs.declared.link.Link.{Link}
+use Rattle.proto_core.specs.declared.refused.BadMessage.{BadMessage}
 use Rattle.proto_core.specs.Parties.{to_next, to_previous}
-use Rattle.proto_core.specs.Strand.{Shape, accepts, Mail, Strand, Ends, Acts, Waits, Ran, run, on_link, opened_in}
+use Rattle.proto_core.specs.Strand.{Shape, Mail, Strand, Ends, Acts, Waits, Ran, run, on_link, opened_in}
 use Rattle.proto_core.specs.Net.{mail_of}
+use Rattle.proto_core.specs.Standing.{fault_of}
 use Rattle.block_steps.specs.declared.links.Links.{Links}
 
 -- what was sent to each and opened, where the miner stands then and what it hasn't taken
@@ -38,16 +40,18 @@ outcome_of i l s = outcome i l.to_next l.to_previous l.opened.items (run s (mail
 abbrev pub IsStill : {A : Type 0} → Number → Links → Strand A → Type 0
 IsStill i l s = run s (mail_left i l) ≡ record { acts = []; left = s; unread = mail_left i l }
 
--- the oldest message, if there is one, has not this shape
-abbrev pub HasNoneOf : Shape → List (List ℕ) → Type 0
-HasNoneOf shape [] = Unit {0}
-HasNoneOf shape (m ∷ ms) = accepts shape m ≡ false
+-- no message is there, or the oldest one is refused for this cause
+abbrev pub HasNoneOf : Shape → Option BadMessage → List (List ℕ) → Type 0
+HasNoneOf shape None [] = Unit {0}
+HasNoneOf shape None (m ∷ ms) = ⊥
+HasNoneOf shape (Some cause) [] = ⊥
+HasNoneOf shape (Some cause) (m ∷ ms) = fault_of shape m ≡ Some cause
 
--- it waits, and no message is there that fits
-abbrev pub StandsAt : {A : Type 0} → Number → Links → Strand A → Type 0
-StandsAt i l (Ends a) = ⊥
-StandsAt i l (Acts act s) = ⊥
-StandsAt i l (Waits link shape k) = HasNoneOf shape (mail_left i l link)
+-- it waits, and no message is there that fits: none at all, or one that is refused for this cause
+abbrev pub StandsAt : {A : Type 0} → Number → Links → Option BadMessage → Strand A → Type 0
+StandsAt i l cause (Ends a) = ⊥
+StandsAt i l cause (Acts act s) = ⊥
+StandsAt i l cause (Waits link shape k) = HasNoneOf shape cause (mail_left i l link)
 
 -- it waits for a message of this link
 abbrev pub AwaitsOn : {A : Type 0} → Link → Strand A → Type 0

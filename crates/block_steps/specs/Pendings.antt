@@ -35,25 +35,25 @@ pending_left i (pending.Splitting state) = splitting_left state
 
 -- the shares that were made are one value's, or two values'
 abbrev pub progress_left : {S P : Type 0} → (S → Strand (List (List ℕ))) → Progress S P → Strand (List (List ℕ))
-progress_left left (Stands state) = left state
+progress_left left (Stands state cause) = left state
 progress_left left (Goes state) = left state
 progress_left left (Made first None) = Ends (first ∷ [])
 progress_left left (Made first (Some second)) = Ends (first ∷ second ∷ [])
 
--- no message is there that fits
+-- no message is there that fits, for this cause
 abbrev pub StandsThen : {S P : Type 0} → (S → Strand (List (List ℕ))) → Number → Links → Progress S P → Type 0
-StandsThen left i l (Stands state) = StandsAt i l (left state)
+StandsThen left i l (Stands state cause) = StandsAt i l cause (left state)
 StandsThen left i l (Goes state) = Unit {0}
 StandsThen left i l (Made first second) = Unit {0}
 
 -- a message is taken, or all is as before
 abbrev pub Shorter : {S P : Type 0} → Links → Links → Progress S P → Type 0
-Shorter before after (Stands state) = after ≡ before
+Shorter before after (Stands state cause) = after ≡ before
 Shorter before after (Goes state) = waiting after < waiting before
 Shorter before after (Made first second) = waiting after < waiting before
 
 -- a block that has just begun: none says that it stands
 abbrev pub HasBegun : {S P : Type 0} → Progress S P → Type 0
-HasBegun (Stands state) = ⊥
+HasBegun (Stands state cause) = ⊥
 HasBegun (Goes state) = Unit {0}
 HasBegun (Made first second) = Unit {0}

@@ -134,7 +134,7 @@ fn begin_splitting<P: Party>(
     ensures unread { OnOk result (IsBeside links.old links.new) }
 {
     Ok(match splitting::begin(negated, u, words, links)? {
-        Progress::Stands(state) => Progress::Stands(Pending::Splitting(state)),
+        Progress::Stands(state, cause) => Progress::Stands(Pending::Splitting(state), cause),
         Progress::Goes(state) => Progress::Goes(Pending::Splitting(state)),
         Progress::Made { first, second } => through(first, second),
     })

@@ -154,10 +154,13 @@ fn got31<P: Party>(
     ensures kept { OnOk result (Holds links.old links.new) }
 {
     let Some(msg) = links.from_previous.front() else {
-        return Ok(Progress::Stands(Conversion {
-            state: Converting::One(state),
-            of: PhantomData,
-        }));
+        return Ok(Progress::Stands(
+            Conversion {
+                state: Converting::One(state),
+                of: PhantomData,
+            },
+            None,
+        ));
     };
     match state.got31(&msg) {
         Ok(share) => {
@@ -167,10 +170,13 @@ fn got31<P: Party>(
                 second: None,
             })
         }
-        Err(refused) => Ok(Progress::Stands(Conversion {
-            state: Converting::One(refused.state),
-            of: PhantomData,
-        })),
+        Err(refused) => Ok(Progress::Stands(
+            Conversion {
+                state: Converting::One(refused.state),
+                of: PhantomData,
+            },
+            Some(refused.cause),
+        )),
     }
 }
 
@@ -187,10 +193,13 @@ fn got12<P: Party>(
     ensures kept { OnOk result (Holds links.old links.new) }
 {
     let Some(msg) = links.from_previous.front() else {
-        return Ok(Progress::Stands(Conversion {
-            state: Converting::TwoFirst(state),
-            of: PhantomData,
-        }));
+        return Ok(Progress::Stands(
+            Conversion {
+                state: Converting::TwoFirst(state),
+                of: PhantomData,
+            },
+            None,
+        ));
     };
     match state.got12(&msg) {
         Ok((state, reply)) => {
@@ -201,10 +210,13 @@ fn got12<P: Party>(
                 of: PhantomData,
             }))
         }
-        Err(refused) => Ok(Progress::Stands(Conversion {
-            state: Converting::TwoFirst(refused.state),
-            of: PhantomData,
-        })),
+        Err(refused) => Ok(Progress::Stands(
+            Conversion {
+                state: Converting::TwoFirst(refused.state),
+                of: PhantomData,
+            },
+            Some(refused.cause),
+        )),
     }
 }
 
@@ -221,10 +233,13 @@ fn got32<P: Party>(
     ensures kept { OnOk result (Holds links.old links.new) }
 {
     let Some(msg) = links.from_next.front() else {
-        return Ok(Progress::Stands(Conversion {
-            state: Converting::TwoSecond(state),
-            of: PhantomData,
-        }));
+        return Ok(Progress::Stands(
+            Conversion {
+                state: Converting::TwoSecond(state),
+                of: PhantomData,
+            },
+            None,
+        ));
     };
     match state.got32(&msg) {
         Ok(share) => {
@@ -234,10 +249,13 @@ fn got32<P: Party>(
                 second: None,
             })
         }
-        Err(refused) => Ok(Progress::Stands(Conversion {
-            state: Converting::TwoSecond(refused.state),
-            of: PhantomData,
-        })),
+        Err(refused) => Ok(Progress::Stands(
+            Conversion {
+                state: Converting::TwoSecond(refused.state),
+                of: PhantomData,
+            },
+            Some(refused.cause),
+        )),
     }
 }
 
@@ -254,10 +272,13 @@ fn got13<P: Party>(
     ensures kept { OnOk result (Holds links.old links.new) }
 {
     let Some(msg) = links.from_next.front() else {
-        return Ok(Progress::Stands(Conversion {
-            state: Converting::ThreeFirst(state),
-            of: PhantomData,
-        }));
+        return Ok(Progress::Stands(
+            Conversion {
+                state: Converting::ThreeFirst(state),
+                of: PhantomData,
+            },
+            None,
+        ));
     };
     match state.got13(&msg) {
         Ok((state, reply)) => {
@@ -268,10 +289,13 @@ fn got13<P: Party>(
                 of: PhantomData,
             }))
         }
-        Err(refused) => Ok(Progress::Stands(Conversion {
-            state: Converting::ThreeFirst(refused.state),
-            of: PhantomData,
-        })),
+        Err(refused) => Ok(Progress::Stands(
+            Conversion {
+                state: Converting::ThreeFirst(refused.state),
+                of: PhantomData,
+            },
+            Some(refused.cause),
+        )),
     }
 }
 
@@ -288,10 +312,13 @@ fn got23<P: Party>(
     ensures kept { OnOk result (Holds links.old links.new) }
 {
     let Some(msg) = links.from_previous.front() else {
-        return Ok(Progress::Stands(Conversion {
-            state: Converting::ThreeSecond(state),
-            of: PhantomData,
-        }));
+        return Ok(Progress::Stands(
+            Conversion {
+                state: Converting::ThreeSecond(state),
+                of: PhantomData,
+            },
+            None,
+        ));
     };
     match state.got23(&msg) {
         Ok(share) => {
@@ -301,9 +328,12 @@ fn got23<P: Party>(
                 second: None,
             })
         }
-        Err(refused) => Ok(Progress::Stands(Conversion {
-            state: Converting::ThreeSecond(refused.state),
-            of: PhantomData,
-        })),
+        Err(refused) => Ok(Progress::Stands(
+            Conversion {
+                state: Converting::ThreeSecond(refused.state),
+                of: PhantomData,
+            },
+            Some(refused.cause),
+        )),
     }
 }

@@ -43,7 +43,7 @@ pub fn masked<R: ShareRing, P: Party>(
     ensures kept { OnOk result (Holds links.old links.new) }
 {
     let Some(msg) = links.from_previous.front() else {
-        return Ok(Progress::Stands(RingBlock::MulMasked(state)));
+        return Ok(Progress::Stands(RingBlock::MulMasked(state), None));
     };
     match state.got(&msg) {
         Ok((state, next)) => {
@@ -51,7 +51,10 @@ pub fn masked<R: ShareRing, P: Party>(
             links.to_next.push(&next)?;
             Ok(Progress::Goes(RingBlock::MulCrossed(state)))
         }
-        Err(refused) => Ok(Progress::Stands(RingBlock::MulMasked(refused.state))),
+        Err(refused) => Ok(Progress::Stands(
+            RingBlock::MulMasked(refused.state),
+            Some(refused.cause),
+        )),
     }
 }
 
@@ -67,7 +70,7 @@ pub fn crossed<R: ShareRing, P: Party>(
     ensures kept { OnOk result (Holds links.old links.new) }
 {
     let Some(msg) = links.from_previous.front() else {
-        return Ok(Progress::Stands(RingBlock::MulCrossed(state)));
+        return Ok(Progress::Stands(RingBlock::MulCrossed(state), None));
     };
     match state.got(&msg) {
         Ok(share) => {
@@ -77,6 +80,9 @@ pub fn crossed<R: ShareRing, P: Party>(
                 second: None,
             })
         }
-        Err(refused) => Ok(Progress::Stands(RingBlock::MulCrossed(refused.state))),
+        Err(refused) => Ok(Progress::Stands(
+            RingBlock::MulCrossed(refused.state),
+            Some(refused.cause),
+        )),
     }
 }

@@ -42,7 +42,7 @@ pub fn masked<R: ShareRing, P: Party>(
     ensures kept { OnOk result (Holds links.old links.new) }
 {
     let Some(msg) = links.from_previous.front() else {
-        return Ok(Progress::Stands(RingBlock::OpenMasked(state)));
+        return Ok(Progress::Stands(RingBlock::OpenMasked(state), None));
     };
     match state.got(&msg) {
         Ok((state, next, previous)) => {
@@ -51,7 +51,10 @@ pub fn masked<R: ShareRing, P: Party>(
             links.to_previous.push(&previous)?;
             Ok(Progress::Goes(RingBlock::OpenFromPrevious(state)))
         }
-        Err(refused) => Ok(Progress::Stands(RingBlock::OpenMasked(refused.state))),
+        Err(refused) => Ok(Progress::Stands(
+            RingBlock::OpenMasked(refused.state),
+            Some(refused.cause),
+        )),
     }
 }
 
@@ -67,14 +70,17 @@ pub fn from_previous<R: ShareRing, P: Party>(
     ensures kept { OnOk result (Holds links.old links.new) }
 {
     let Some(msg) = links.from_previous.front() else {
-        return Ok(Progress::Stands(RingBlock::OpenFromPrevious(state)));
+        return Ok(Progress::Stands(RingBlock::OpenFromPrevious(state), None));
     };
     match state.got(&msg) {
         Ok(state) => {
             links.from_previous.take();
             Ok(Progress::Goes(RingBlock::OpenFromNext(state)))
         }
-        Err(refused) => Ok(Progress::Stands(RingBlock::OpenFromPrevious(refused.state))),
+        Err(refused) => Ok(Progress::Stands(
+            RingBlock::OpenFromPrevious(refused.state),
+            Some(refused.cause),
+        )),
     }
 }
 
@@ -90,7 +96,7 @@ pub fn from_next<R: ShareRing, P: Party>(
     ensures kept { OnOk result (Holds links.old links.new) }
 {
     let Some(msg) = links.from_next.front() else {
-        return Ok(Progress::Stands(RingBlock::OpenFromNext(state)));
+        return Ok(Progress::Stands(RingBlock::OpenFromNext(state), None));
     };
     match state.got(&msg) {
         Ok(opened) => {
@@ -101,6 +107,9 @@ pub fn from_next<R: ShareRing, P: Party>(
                 second: None,
             })
         }
-        Err(refused) => Ok(Progress::Stands(RingBlock::OpenFromNext(refused.state))),
+        Err(refused) => Ok(Progress::Stands(
+            RingBlock::OpenFromNext(refused.state),
+            Some(refused.cause),
+        )),
     }
 }

@@ -67,7 +67,7 @@ fn step_numbers<P: Party>(
     ensures kept { OnOk result (Holds links.old links.new) }
 {
     Ok(match block.step(links)? {
-        Progress::Stands(block) => Progress::Stands(Pending::Numbers(block)),
+        Progress::Stands(block, cause) => Progress::Stands(Pending::Numbers(block), cause),
         Progress::Goes(block) => Progress::Goes(Pending::Numbers(block)),
         Progress::Made { first, second } => through(first, second),
     })
@@ -84,7 +84,7 @@ fn step_bits<P: Party>(
     ensures kept { OnOk result (Holds links.old links.new) }
 {
     Ok(match block.step(links)? {
-        Progress::Stands(block) => Progress::Stands(Pending::Bits(block)),
+        Progress::Stands(block, cause) => Progress::Stands(Pending::Bits(block), cause),
         Progress::Goes(block) => Progress::Goes(Pending::Bits(block)),
         Progress::Made { first, second } => through(first, second),
     })
@@ -101,7 +101,7 @@ fn step_conversion<P: Party>(
     ensures kept { OnOk result (Holds links.old links.new) }
 {
     Ok(match state.step(links)? {
-        Progress::Stands(state) => Progress::Stands(Pending::Conversion(state)),
+        Progress::Stands(state, cause) => Progress::Stands(Pending::Conversion(state), cause),
         Progress::Goes(state) => Progress::Goes(Pending::Conversion(state)),
         Progress::Made { first, second } => through(first, second),
     })
@@ -118,7 +118,7 @@ fn step_splitting<P: Party>(
     ensures kept { OnOk result (Holds links.old links.new) }
 {
     Ok(match state.step(links)? {
-        Progress::Stands(state) => Progress::Stands(Pending::Splitting(state)),
+        Progress::Stands(state, cause) => Progress::Stands(Pending::Splitting(state), cause),
         Progress::Goes(state) => Progress::Goes(Pending::Splitting(state)),
         Progress::Made { first, second } => through(first, second),
     })

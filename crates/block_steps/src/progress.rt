@@ -1,7 +1,7 @@
 ghost use Rattle.std.specs.Prelude.{◌≡◌, List};
 ghost use Rattle.block_steps.specs.declared.progress.Progress.TheVariants.{Made};
 
-use proto_core::Block;
+use proto_core::{BadMessage, Block};
 
 /// Marks words whose ring is not told: the exchange says in which they are shared.
 #[derive(Drop)]
@@ -10,8 +10,8 @@ pub struct AnyRing;
 /// What the oldest message of a block led to, where `S` is a state in which a message is awaited.
 #[derive(Drop)]
 pub enum Progress<S, P> {
-    /// No message is there that fits: the state is as before.
-    Stands(S),
+    /// No message is there, or the oldest one is refused, for this cause: the state is as before.
+    Stands(S, Option<BadMessage>),
     /// The message was taken, and a further one is awaited.
     Goes(S),
     /// The block is through: the miner's shares of the one value that it made, or of both.

@@ -42,7 +42,7 @@ pub fn sent<R: ShareRing, P: Party>(
     ensures kept { OnOk result (Holds links.old links.new) }
 {
     let Some(msg) = links.from_previous.front() else {
-        return Ok(Progress::Stands(RingBlock::Resharing(state)));
+        return Ok(Progress::Stands(RingBlock::Resharing(state), None));
     };
     match state.got(&msg) {
         Ok(share) => {
@@ -52,6 +52,9 @@ pub fn sent<R: ShareRing, P: Party>(
                 second: None,
             })
         }
-        Err(refused) => Ok(Progress::Stands(RingBlock::Resharing(refused.state))),
+        Err(refused) => Ok(Progress::Stands(
+            RingBlock::Resharing(refused.state),
+            Some(refused.cause),
+        )),
     }
 }

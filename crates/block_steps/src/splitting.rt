@@ -129,10 +129,13 @@ fn got12<P: Party>(state: Split<P2, Waiting>, links: &mut Links) -> Progress<Spl
     ensures kept { Holds links.old links.new }
 {
     let Some(msg) = links.from_previous.front() else {
-        return Progress::Stands(Splits {
-            state: Splitting::Two(state),
-            of: PhantomData,
-        });
+        return Progress::Stands(
+            Splits {
+                state: Splitting::Two(state),
+                of: PhantomData,
+            },
+            None,
+        );
     };
     match state.got12(&msg) {
         Ok((x, y)) => {
@@ -142,10 +145,13 @@ fn got12<P: Party>(state: Split<P2, Waiting>, links: &mut Links) -> Progress<Spl
                 second: Some(untold(&y)),
             }
         }
-        Err(refused) => Progress::Stands(Splits {
-            state: Splitting::Two(refused.state),
-            of: PhantomData,
-        }),
+        Err(refused) => Progress::Stands(
+            Splits {
+                state: Splitting::Two(refused.state),
+                of: PhantomData,
+            },
+            Some(refused.cause),
+        ),
     }
 }
 
@@ -159,10 +165,13 @@ fn got13<P: Party>(state: Split<P3, Waiting>, links: &mut Links) -> Progress<Spl
     ensures kept { Holds links.old links.new }
 {
     let Some(msg) = links.from_next.front() else {
-        return Progress::Stands(Splits {
-            state: Splitting::Three(state),
-            of: PhantomData,
-        });
+        return Progress::Stands(
+            Splits {
+                state: Splitting::Three(state),
+                of: PhantomData,
+            },
+            None,
+        );
     };
     match state.got13(&msg) {
         Ok((x, y)) => {
@@ -172,9 +181,12 @@ fn got13<P: Party>(state: Split<P3, Waiting>, links: &mut Links) -> Progress<Spl
                 second: Some(untold(&y)),
             }
         }
-        Err(refused) => Progress::Stands(Splits {
-            state: Splitting::Three(refused.state),
-            of: PhantomData,
-        }),
+        Err(refused) => Progress::Stands(
+            Splits {
+                state: Splitting::Three(refused.state),
+                of: PhantomData,
+            },
+            Some(refused.cause),
+        ),
     }
 }

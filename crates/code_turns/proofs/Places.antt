@@ -8,7 +8,7 @@ use Rattle.code_model.specs.Machine.{Machine, step}
 use Rattle.driven_nodes.specs.Steps as turns
 use Rattle.driven_nodes.specs.Steps.{Went, Wants, place_of}
 use Rattle.code_places.proofs.Again.{wants_before_it_tells, gates_stand}
-use Rattle.code_places.specs.Places.{Place, telling_stage, place, stopped, went, next_step, step_told}
+use Rattle.code_places.specs.Places.{Place, telling_stage, stopped, went, next_step, step_told}
 use Rattle.code_turns.specs.declared.outcome.Turned.{Turned}
 use Rattle.code_turns.specs.declared.outcome.Turned.TheVariants as turned
 use Rattle.code_turns.specs.Views.{went_as}

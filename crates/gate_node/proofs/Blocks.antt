@@ -1,5 +1,6 @@
 -- A gate at work, block by block, is the gate.
-use Rattle.std.proofs.Common.{◌≡◌, ℕ, suc, ◌+◌, ◌-◌, ◌<◌, ◌≤◌, min, Bool, true, false, ◌&&◌, nat_le, if◌then◌else◌, List, [], ◌∷◌, ◌++◌, length, take, drop, refl, sym, ◌∙◌, ap, subst, arith, Some, None, IsTrue, ◌↔◌, get_or, drop-cons, add-one}
+use Rattle.std.proofs.Common.{◌≡◌, ℕ, suc, ◌+◌, ◌-◌, ◌<◌, ◌≤◌, min, Bool, true, false, ◌&&◌, nat_le, if◌then◌else◌, List, [], ◌∷◌, ◌++◌, length, take}
+use Rattle.std.proofs.Common.{drop, refl, sym, ◌∙◌, ap, subst, arith, Some, None, IsTrue, ◌↔◌, get_or, drop-cons, add-one}
 use Rattle.std.specs.Prelude.{Option}
 use Rattle.std.proofs.lemmas.Bool.{le-leb, lt-leb, leb-true, and_parts}
 use Rattle.std.proofs.lemmas.List.{drop-drop, drop-take, length-take-le, length-map}
@@ -101,7 +102,8 @@ module _ (p : Protocol) (blockable : Blockable p) (i : Number) where
         ap (λ sizes. then_do (blocks_strand p sizes i (drop from u) (drop (p.second from) v) w) (λ later. go (joined made later) (drop (p.draws k i) tape))) cut
         ∙ ap (λ x. whole x (drop d w) (drop size (drop from u)) (drop (p.second size) (drop (p.second from) v)) (drop (p.draws k i) tape)) front
         ∙ ap (λ x. whole (take d tape) x (drop size (drop from u)) (drop (p.second size) (drop (p.second from) v)) (drop (p.draws k i) tape)) back
-        ∙ ap (λ x. whole (take d tape) (take (p.draws (k - size) i) (drop d tape)) x (drop (p.second size) (drop (p.second from) v)) (drop (p.draws k i) tape)) us
+        ∙ ap (λ x. whole (take d tape) (take (p.draws (k - size) i) (drop d tape)) x (drop (p.second size) (drop (p.second from) v))
+        (drop (p.draws k i) tape)) us
         ∙ ap (λ x. whole (take d tape) (take (p.draws (k - size) i) (drop d tape)) u2 x (drop (p.draws k i) tape)) vs
         ∙ ap (λ x. whole (take d tape) (take (p.draws (k - size) i) (drop d tape)) u2 v2 x) behind
         ∙ whole-in_order (take d tape) (take (p.draws (k - size) i) (drop d tape)) u2 v2 (drop (p.draws (k - size) i) (drop d tape))
@@ -148,7 +150,8 @@ module _ (i : Number) (dealt values : Values) (tape : List ℕ) (gate : Gate) (g
   abbrev goes : Bool → Strand Halted
   goes b =
       if b
-      then then_do (gates_strand i (own_gate i dealt values gate ∷ []) values tape) (λ all. own_gates i dealt gates all (drop (own_draws i dealt values gate) tape))
+      then then_do (gates_strand i (own_gate i dealt values gate ∷ []) values tape)
+      (λ all. own_gates i dealt gates all (drop (own_draws i dealt values gate) tape))
       else Ends Stuck
 
   abbrev by_gate : model.Gate → Strand Halted
@@ -239,7 +242,8 @@ bool-same true b p q = sym (q.1 (p.0 refl))
 bool-same false true p q = p.1 (q.0 refl)
 bool-same false false p q = refl
 
-module _ (i : Number) (dealt values : Values) (tape : List ℕ) (gate : Gate) (b : Bool) (tells : IsTrue b ↔ SizesSuit (sizes_of dealt) (sizes_of values) gate) where
+module _ (i : Number) (dealt values : Values) (tape : List ℕ) (gate : Gate) (b : Bool)
+    (tells : IsTrue b ↔ SizesSuit (sizes_of dealt) (sizes_of values) gate) where
   can-is : can_run i dealt values tape gate ≡ (b && nat_le (own_draws i dealt values gate) (length tape))
   can-is = ap (λ t. t && nat_le (own_draws i dealt values gate) (length tape)) (bool-same _ b (test-is (sizes_of dealt) (sizes_of values) gate) tells)
 

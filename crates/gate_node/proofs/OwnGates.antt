@@ -1,5 +1,6 @@
 -- What a miner does by its own values is its part in the run of the gates.
-use Rattle.std.proofs.Common.{◌≡◌, ℕ, ◌+◌, ◌-◌, ◌≤◌, Bool, true, false, ◌&&◌, nat_le, if◌then◌else◌, List, [], ◌∷◌, ◌++◌, length, take, drop, refl, sym, ◌∙◌, ap, subst, arith, length-drop, Some, None}
+use Rattle.std.proofs.Common.{◌≡◌, ℕ, ◌+◌, ◌-◌, ◌≤◌, Bool, true, false, ◌&&◌, nat_le, if◌then◌else◌, List, [], ◌∷◌, ◌++◌, length, take, drop, refl}
+use Rattle.std.proofs.Common.{sym, ◌∙◌, ap, subst, arith, length-drop, Some, None}
 use Rattle.std.specs.Prelude.{Option}
 use Rattle.std.proofs.lemmas.Bool.{le-leb}
 use Rattle.std.proofs.lemmas.List.{drop-drop}
@@ -38,7 +39,8 @@ gates-apart :
     (i : Number) (g : model.Gate) (gates : List model.Gate) (values : Values) (tape : List ℕ) →
     gates_strand i (g ∷ gates) values tape ≡ then_do (gates_strand i (g ∷ []) values tape) (λ all. gates_strand i gates all (drop (needed (g ∷ []) i) tape))
 gates-apart i (Joined p n u v) gates values tape =
-    ap (λ k. then_do (p.strand n i (nth_value values u) (operand values v) (take (p.draws n i) tape)) (λ made. gates_strand i gates (values ++ made) (drop k tape)))
+    ap (λ k. then_do (p.strand n i (nth_value values u) (operand values v) (take (p.draws n i) tape))
+    (λ made. gates_strand i gates (values ++ made) (drop k tape)))
     (sym (nothing-more (p.draws n i)))
     ∙ sym (then-assoc (p.strand n i (nth_value values u) (operand values v) (take (p.draws n i) tape)) (λ made. Ends (values ++ made))
     (λ all. gates_strand i gates all (drop (needed (Joined p n u v ∷ []) i) tape)))
@@ -159,7 +161,8 @@ module _ (i : Number) (dealt : Values) (behind : List Gate) where
       rest = drop (own_draws i dealt values gate) tape
 
       by_test :
-          (b : Bool) → ((all : Values) → own_gates i dealt (gates ++ behind) all rest ≡ then_do (own_gates i dealt gates all rest) (then_gates i dealt behind)) →
+          (b : Bool) → ((all : Values)
+          → own_gates i dealt (gates ++ behind) all rest ≡ then_do (own_gates i dealt gates all rest) (then_gates i dealt behind)) →
           (if b then then_do first (λ all. own_gates i dealt (gates ++ behind) all rest) else Ends Stuck)
           ≡ then_do (if b then then_do first (λ all. own_gates i dealt gates all rest) else Ends Stuck) (then_gates i dealt behind)
       by_test true more =

@@ -1,7 +1,9 @@
 -- One step of a block changes nothing of what a miner has done and will do.
-use Rattle.std.proofs.Common.{◌≡◌, ℕ, ◌+◌, ◌-◌, ◌<◌, ◌≤◌, min, List, ◌++◌, length, take, drop, refl, sym, ◌∙◌, ap, subst, arith, length-drop, Option, Some, None, ◌⊎◌, inl, inr}
+use Rattle.std.proofs.Common.{◌≡◌, ℕ, ◌+◌, ◌-◌, ◌<◌, ◌≤◌, min, List, ◌++◌, length, take, drop, refl, sym, ◌∙◌, ap, subst, arith, length-drop, Option}
+use Rattle.std.proofs.Common.{Some, None, ◌⊎◌, inl, inr}
 use Rattle.std.proofs.lemmas.List.{length-take-le, drop-append-le}
 use Rattle.proto_core.specs.declared.party.Number.{Number}
+use Rattle.proto_core.specs.declared.refused.BadMessage.{BadMessage}
 use Rattle.proto_core.specs.Strand.{Strand, Ends, Acts, Waits, then_do}
 use Rattle.gates.specs.Blocks.{block_sizes}
 use Rattle.gates.specs.declared.gate.Gate.{Gate}
@@ -36,10 +38,12 @@ pub outcome-behind :
 outcome-behind i f a b s t h =
     outcome-then i f a.to_next a.to_previous b.to_next b.to_previous a.opened.items b.opened.items s t (mail_left i a) (mail_left i b) h
 
-pub stands-behind : {A B : Type 0} (i : Number) (l : Links) (s : Strand A) (f : A → Strand B) → StandsAt i l s → StandsAt i l (then_do s f)
-stands-behind i l (Ends a) f h = absurd h
-stands-behind i l (Acts act s) f h = absurd h
-stands-behind i l (Waits link shape k) f h = h
+pub stands-behind :
+    {A B : Type 0} (i : Number) (l : Links) (cause : Option BadMessage) (s : Strand A) (f : A → Strand B) → StandsAt i l cause s →
+    StandsAt i l cause (then_do s f)
+stands-behind i l cause (Ends a) f h = absurd h
+stands-behind i l cause (Acts act s) f h = absurd h
+stands-behind i l cause (Waits link shape k) f h = h
 
 pub awaits-behind : {A B : Type 0} (l : _) (s : Strand A) (f : A → Strand B) → AwaitsOn l s → AwaitsOn l (then_do s f)
 awaits-behind l (Ends a) f h = absurd h
@@ -84,7 +88,8 @@ module _ (i : Number) (x : Exchange) (from size : ℕ) (u v tape : List ℕ) (ma
       let is_size : size ≡ min (length u - from) 512 = subst (λ l. size ≡ min (length l - from) 512) hw is in
       let of_u : (from + size) - from ≡ size = omega arith in
       let of_v : (f + n) - f ≡ n = omega arith in
-      let is_u : take ((from + size) - from) (drop from w) ≡ take size (drop from u) = ap (λ k. take k (drop from w)) of_u ∙ ap (λ l. take size (drop from l)) hw in
+      let is_u : take ((from + size) - from) (drop from w) ≡ take size (drop from u) =
+      ap (λ k. take k (drop from w)) of_u ∙ ap (λ l. take size (drop from l)) hw in
       let is_v : take ((f + n) - f) (drop f w2) ≡ take (p.second size) (drop (p.second from) v) =
       ap (λ k. take k (drop f w2)) (of_v ∙ hn) ∙ ap (λ k. take (p.second size) (drop k w2)) hf ∙ ap (λ l. take (p.second size) (drop (p.second from) l)) hw2 in
       let l = length-drop from u in
@@ -102,21 +107,24 @@ of-made left to first None is = ap (progress_left left) is
 of-made left to first (Some second) is = ap (progress_left left) is
 
 pub begun-left :
-    {S P : Type 0} (left : S → Strand (List (List ℕ))) (to : Progress S P) (state : S) → (to ≡ Stands state) ⊎ (to ≡ Goes state) →
+    {S P : Type 0} (left : S → Strand (List (List ℕ))) (to : Progress S P) (state : S) →
+    ((cause : Option BadMessage) × (to ≡ Stands state cause)) ⊎ (to ≡ Goes state) →
     progress_left left to ≡ left state
-begun-left left to state (inl is) = ap (progress_left left) is
+begun-left left to state (inl is) = ap (progress_left left) is.1
 begun-left left to state (inr is) = ap (progress_left left) is
 
 -- ---- gates are added
 
-module _ {P : Type 0} (i : Number) (more : List Gate) (e f : Engine P) (has : f.gates.items ≡ e.gates.items ++ more) (within : e.begun ≤ length e.gates.items) where
+module _ {P : Type 0} (i : Number) (more : List Gate) (e f : Engine P) (has : f.gates.items ≡ e.gates.items ++ more)
+    (within : e.begun ≤ length e.gates.items) where
   dropped : drop e.begun f.gates.items ≡ drop e.begun e.gates.items ++ more
   dropped = ap (drop e.begun) has ∙ drop-append-le e.begun e.gates.items more within
 
   abbrev behind : Halted → Strand Halted
   behind = then_gates i e.dealt more
 
-  gates-more : (values : Values) (tape : List ℕ) → own_gates i e.dealt (drop e.begun f.gates.items) values tape ≡ then_do (own_gates i e.dealt (gates_left i e) values tape) behind
+  gates-more : (values : Values) (tape : List ℕ)
+      → own_gates i e.dealt (drop e.begun f.gates.items) values tape ≡ then_do (own_gates i e.dealt (gates_left i e) values tape) behind
   gates-more values tape = ap (λ l. own_gates i e.dealt l values tape) dropped ∙ run-behind i e.dealt more (gates_left i e) values tape
 
   running-more : (r : Running) (made : List (List ℕ)) → running_left i (record e { gates = f.gates }) r made ≡ then_do (running_left i e r made) behind
@@ -124,7 +132,8 @@ module _ {P : Type 0} (i : Number) (more : List Gate) (e f : Engine P) (has : f.
       let p = protocol_at r in
       let k = size_at e.values r - r.begun in
       let tape = e.tape.1 in
-      let blocks = blocks_strand p (block_sizes k) i (drop r.begun (value e.values r.gate.u)) (drop (p.second r.begun) (second_value e.values r.gate.v)) (take (p.draws k i) tape) in
+      let blocks = blocks_strand p (block_sizes k) i (drop r.begun (value e.values r.gate.u))
+      (drop (p.second r.begun) (second_value e.values r.gate.v)) (take (p.draws k i) tape) in
       then-all blocks _ _ (λ later. gates-more (e.values ++ joined made later) (drop (p.draws k i) tape))
       ∙ sym (then-assoc blocks (λ later. own_gates i e.dealt (gates_left i e) (e.values ++ joined made later) (drop (p.draws k i) tape)) behind)
 

@@ -48,7 +48,7 @@ size_at values r = length (value values r.gate.u)
 -- where a miner stands with these links and values, this tape left and this left to do
 abbrev pub StandsAs : Number → Stand → Links → Values → (tape : List ℕ) → (left : Strand Halted) → Type 0
 StandsAs i stand.Through links values tape left = left ≡ Ends (Whole values tape)
-StandsAs i (stand.Waits link) links values tape left = StandsAt i links left × AwaitsOn link left
+StandsAs i (stand.Waits link cause) links values tape left = StandsAt i links cause left × AwaitsOn link left
 StandsAs i stand.Stuck links values tape left = left ≡ Ends Stuck
 
 module _ {P : Type 0} (i : Number) where

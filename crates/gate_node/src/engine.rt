@@ -12,7 +12,7 @@ use crate::tape::Tape;
 use block_steps::{Links, Pending, Progress, begin};
 use gates::{BLOCK_LEN, Gate, Values};
 use joint_run::local_share;
-use proto_core::{Link, Party};
+use proto_core::{BadMessage, Link, Party};
 use std::alloc::{AllocError, Global};
 use std::mem;
 
@@ -90,7 +90,7 @@ impl<P: Party> Engine<P> {
         let begun = begun + size;
         let running = Running { gate, begun, made };
         match progress {
-            Progress::Stands(block) | Progress::Goes(block) => {
+            Progress::Stands(block, _) | Progress::Goes(block) => {
                 self.work = Work::Within(running, block);
                 Ok(())
             }
@@ -101,22 +101,27 @@ impl<P: Party> Engine<P> {
         }
     }
 
-    /// The block at work, as far as the oldest message leads; the link on which it waits, where none is there that fits.
-    fn go_on(&mut self, running: Running, block: Pending<P>) -> Result<Option<Link>, AllocError>
+    /// The block at work, as far as the oldest message leads; where none is there that fits, the link on which it waits, and why a message
+    /// that is there is refused.
+    fn go_on(
+        &mut self,
+        running: Running,
+        block: Pending<P>,
+    ) -> Result<Option<(Link, Option<BadMessage>)>, AllocError>
         requires idle { self.old.work ≡ Work.Idle }
         requires gates { self.old.begun ≤ length self.old.gates.items }
         requires sound { IsSoundRun P.me self.old running }
         ensures same { OnOk result (engine_outcome P.me self.new ≡ outcome_of P.me self.old.links (work_left P.me self.old (Work.Within running block))) }
-        ensures stands { IfOk result (λ link. IfSome link (λ link. EngineStands P.me (Stand.Waits link) self.new)) }
-        ensures falls { IfOk result (λ link. link ≡ None → measure self.new self.new.work < measure self.old (Work.Within running block)) }
+        ensures stands { IfOk result (λ at. IfSome at (λ at. EngineStands P.me (Stand.Waits at.0 at.1) self.new)) }
+        ensures falls { IfOk result (λ at. at ≡ None → measure self.new self.new.work < measure self.old (Work.Within running block)) }
         ensures sound { IsSound P.me self.new }
         ensures kept { OnOk result (KeepsGates self.old self.new) }
     {
         match block.step(&mut self.links)? {
-            Progress::Stands(block) => {
+            Progress::Stands(block, cause) => {
                 let link = block.awaits();
                 self.work = Work::Within(running, block);
-                Ok(Some(link))
+                Ok(Some((link, cause)))
             }
             Progress::Goes(block) => {
                 self.work = Work::Within(running, block);
@@ -142,8 +147,8 @@ impl<P: Party> Engine<P> {
                 Work::Idle => return Ok(Stand::Through),
                 Work::Between(running) => self.next_block(running)?,
                 Work::Within(running, block) => {
-                    if let Some(link) = self.go_on(running, block)? {
-                        return Ok(Stand::Waits(link));
+                    if let Some((link, cause)) = self.go_on(running, block)? {
+                        return Ok(Stand::Waits(link, cause));
                     }
                 }
                 Work::Halt => {
@@ -206,7 +211,7 @@ impl<P: Party> Engine<P> {
                 let stand = self.finish()?;
                 match stand {
                     Stand::Through => {}
-                    Stand::Waits(_) | Stand::Stuck => return Ok(stand),
+                    Stand::Waits(..) | Stand::Stuck => return Ok(stand),
                 }
             }
             if !self.begin_gate()? {

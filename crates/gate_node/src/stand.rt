@@ -1,12 +1,12 @@
-use proto_core::Link;
+use proto_core::{BadMessage, Link};
 
 /// Where a miner stands when it has done all that the messages lead to.
 #[derive(Clone, Copy, Drop)]
 pub enum Stand {
     /// All gates are through.
     Through,
-    /// For a message of this link, and no message is there that fits.
-    Waits(Link),
+    /// For a message of this link: none is there, or the oldest one is refused, for this cause.
+    Waits(Link, Option<BadMessage>),
     /// A gate doesn't suit the values before it, or the tape is too short for it.
     Stuck,
 }

@@ -10,8 +10,8 @@ ghost use Rattle.joint_run.specs.Exchanges.{protocol_of, makes_two, IsSized};
 ghost use Rattle.joint_run.specs.Adding.{AddsBlock};
 
 use crate::exchange::Exchange;
-use crate::operands::Operands;
 use crate::outputs::Outputs;
+use crate::own_operands::Operands;
 use crate::transcript::Transcript;
 use gates::RingKind;
 use multiply::{Operands as Factors, multiply_together};

@@ -12,8 +12,8 @@ ghost use Rattle.joint_run.specs.Steps.{second_value, CanExchange, AddsLocal, Ad
 
 use crate::exchanged::Exchanged;
 use crate::local::local_share;
-use crate::operands::{Operands, Own};
 use crate::outputs::Outputs;
+use crate::own_operands::{Operands, Own};
 use crate::shares::SharedValues;
 use crate::tapes::Tapes;
 use crate::transcript::Transcript;

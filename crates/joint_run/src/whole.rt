@@ -6,8 +6,8 @@ ghost use Rattle.joint_run.specs.Adding.{AddsGate};
 
 use crate::blocks::add_block;
 use crate::exchange::Exchange;
-use crate::operands::Operands;
 use crate::outputs::Outputs;
+use crate::own_operands::Operands;
 use crate::transcript::Transcript;
 use gates::BLOCK_LEN;
 use std::alloc::{AllocError, Global};

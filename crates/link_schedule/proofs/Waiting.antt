@@ -14,7 +14,7 @@ use Rattle.miner_core.specs.declared.answer.Step.{Step}
 use Rattle.miner_core.specs.declared.answer.Step.TheVariants as step
 use Rattle.miner_core.specs.declared.answer.MinerErr.{MinerErr}
 use Rattle.miner_core.specs.declared.answer.MinerErr.TheVariants as error
-use Rattle.miner_core.specs.Story.{Story, mail_in, strand_in, node, IsRefused, HasEnded, IsAnswer}
+use Rattle.miner_core.specs.Story.{Story, mail_in, strand_in, node, HasEnded, IsAnswer}
 
 none_is_some : {A P : Type 0} (x : A) → None ≡ Some x → P
 none_is_some x e = cc
@@ -30,6 +30,12 @@ refuses_awaits l k cause e = cc
 
 end_awaits : {P : Type 0} (l : Link) → AtItsEnd ≡ Awaits l → P
 end_awaits l e = cc
+
+same_refuses : (l k : Link) (cause why : BadMessage) → Refuses l cause ≡ Refuses k why → l ≡ k
+same_refuses l k cause why e = cc
+
+end_refuses : {P : Type 0} (l : Link) (cause : BadMessage) → AtItsEnd ≡ Refuses l cause → P
+end_refuses l cause e = cc
 
 -- it waits for this link, or refuses its oldest message
 abbrev AtLink : Link → Standing → Type 0
@@ -65,15 +71,15 @@ module _ {A : Type 0} where
       by_waiting None e = end_awaits l (sym (at_end (run s x).left (run s x).unread (not_waiting s x e)) ∙ h)
       by_waiting (Some k) e = e ∙ ap Some (by_link k (at_link (run s x).left (run s x).unread k e))
 
-  refuses_is : (s : Strand A) (x : Mail) (l : Link) → IsRefused l (standing_of (run s x)) → waits_for (run s x).left ≡ Some l
-  refuses_is s x l h = by_waiting (waits_for (run s x).left) refl
+  refuses_is : (s : Strand A) (x : Mail) (l : Link) (cause : BadMessage) → standing_of (run s x) ≡ Refuses l cause → waits_for (run s x).left ≡ Some l
+  refuses_is s x l cause h = by_waiting (waits_for (run s x).left) refl
     where
       by_link : (k : Link) → AtLink k (standing_of (run s x)) → k ≡ l
-      by_link k (inl e) = absurd (subst (λ at. IsRefused l at) e h)
-      by_link k (inr e) = subst (λ at. IsRefused l at) e.1 h
+      by_link k (inl e) = refuses_awaits l k cause (sym h ∙ e)
+      by_link k (inr e) = same_refuses k l e.0 cause (sym e.1 ∙ h)
 
       by_waiting : (o : Option Link) → waits_for (run s x).left ≡ o → waits_for (run s x).left ≡ Some l
-      by_waiting None e = absurd (subst (λ at. IsRefused l at) (at_end (run s x).left (run s x).unread (not_waiting s x e)) h)
+      by_waiting None e = end_refuses l cause (sym (at_end (run s x).left (run s x).unread (not_waiting s x e)) ∙ h)
       by_waiting (Some k) e = e ∙ ap Some (by_link k (at_link (run s x).left (run s x).unread k e))
 
 ended_is : (s : Strand Ended) (end : End) → HasEnded s end → waits_for s ≡ None
@@ -85,13 +91,13 @@ ended_is (Waits l shape k) end h = absurd h
 abbrev pub awaited_of : Result Step MinerErr → Option Link
 awaited_of (Ok (step.Waits l)) = Some l
 awaited_of (Ok (step.Ended end)) = None
-awaited_of (Err (error.BadMessage l)) = Some l
+awaited_of (Err (error.BadMessage l cause)) = Some l
 awaited_of (Err (error.NotAwaited l)) = None
 awaited_of (Err error.Memory) = None
 
 pub awaited_is : (i : Number) (s : Story) (r : Result Step MinerErr) → IsAnswer i s r → awaited_of r ≡ waits_for (node i s).left
 awaited_is i s (Ok (step.Waits l)) h = sym (awaits_is (strand_in i s) (mail_in i s) l h)
 awaited_is i s (Ok (step.Ended end)) h = sym (ended_is (node i s).left end h)
-awaited_is i s (Err (error.BadMessage l)) h = sym (refuses_is (strand_in i s) (mail_in i s) l h)
+awaited_is i s (Err (error.BadMessage l cause)) h = sym (refuses_is (strand_in i s) (mail_in i s) l cause h)
 awaited_is i s (Err (error.NotAwaited l)) h = absurd h
 awaited_is i s (Err error.Memory) h = absurd h

@@ -18,7 +18,7 @@ fn give<P: Party>(miner: &mut Miner<P>, link: Link, message: &Msg) -> Result<(),
 {
     match miner.deliver(link, message) {
         Ok(_) => Ok(()),
-        Err(MinerErr::BadMessage { link: _ }) => Ok(()),
+        Err(MinerErr::BadMessage { link: _, cause: _ }) => Ok(()),
         Err(MinerErr::NotAwaited { link: _ }) => Ok(()),
         Err(MinerErr::Memory) => Err(AllocError),
     }
@@ -32,7 +32,7 @@ pub(crate) fn awaited<P: Party>(miner: &Miner<P>) -> Option<Link>
     match miner.stands() {
         Ok(Step::Waits(link)) => Some(link),
         Ok(Step::Ended(_)) => None,
-        Err(MinerErr::BadMessage { link }) => Some(link),
+        Err(MinerErr::BadMessage { link, cause: _ }) => Some(link),
         Err(MinerErr::NotAwaited { link: _ }) => None,
         Err(MinerErr::Memory) => None,
     }

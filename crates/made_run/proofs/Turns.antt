@@ -48,9 +48,9 @@ module _ {P : Type 0} (i : Number) (e : Engine P) (links : Links) (s : Strand Ha
         previous = sym (mail-previous i e.links.from_previous.1 e.links.from_next.1) ∙ ap (λ m. m (from_previous i)) none;
         next = sym (mail-next i e.links.from_previous.1 e.links.from_next.1) ∙ ap (λ m. m (from_next i)) none;
       }
-  stands-through (stand.Waits link) same at ends =
-      let is : L ≡ Ends (Whole all tape) = sym (ap (λ r. r.left) (still-is i e.links L at.0)) ∙ ap (λ o. o.left) same ∙ ends.left in
-      absurd (subst (λ t. StandsAt i e.links t) is at.0)
+  stands-through (stand.Waits link cause) same at ends =
+      let is : L ≡ Ends (Whole all tape) = sym (ap (λ r. r.left) (still-is i e.links cause L at.0)) ∙ ap (λ o. o.left) same ∙ ends.left in
+      absurd (subst (λ t. StandsAt i e.links cause t) is at.0)
   stands-through stand.Stuck same at ends =
       not-stuck all tape (sym (ap (λ t. (run t (mail_left i e.links)).left) at) ∙ ap (λ o. o.left) same ∙ ends.left)
 

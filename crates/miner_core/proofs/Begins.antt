@@ -98,7 +98,8 @@ module _ {P : Type 0} (i : Number) (e : Engine P) (m : running.Machine) (s : rea
       (sym (ap (led_by w c values p) step ∙ led_acts w c values p t (machine_seen e.task.code m) (stage_seen s) goes)))
 
   pub begins_again :
-      (back : reached.Stage) → t ≡ turned.Short → (HasGained (stage_seen e.stage) (stage_seen s) → stage_seen back ≡ again_at (stage_seen e.stage) (stage_seen s).answers) →
+      (back : reached.Stage) → t ≡ turned.Short
+      → (HasGained (stage_seen e.stage) (stage_seen s) → stage_seen back ≡ again_at (stage_seen e.stage) (stage_seen s).answers) →
       engine_left i (record e { machine = m; stage = back; fuel = f; at = at.Again; node = n }) ≡ engine_left i e
   begins_again back short again =
       let w = task_world e.task in

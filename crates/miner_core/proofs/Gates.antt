@@ -35,7 +35,8 @@ module _ {P : Type 0} (i : Number) (e : Engine P) (n : gates.Engine P) where
   behind_same dealt at.Again (Whole values tape) =
       ap (λ d. tell_and_go_on (code_by d) (place_at i e) (step_told (task_world e.task) (task_code e.task) (place_at i e) (last_of values)) values tape) dealt
   behind_same dealt (at.Acts t speech before) (Whole values tape) =
-      ap (λ d. telling (told_since speech before e.stage (last_of values)) (go_on (code_by d) (stand_of (went_to e.task.code t e.machine e.stage)) values tape)) dealt
+      ap (λ d. telling (told_since speech before e.stage (last_of values))
+      (go_on (code_by d) (stand_of (went_to e.task.code t e.machine e.stage)) values tape)) dealt
   behind_same dealt (at.Over ending) (Whole values tape) = refl
   behind_same dealt at.Short (Whole values tape) = refl
 

@@ -104,8 +104,8 @@ pub node_quiet :
     IsQuiet i n → IsQuiet i n2
 node_quiet i n n2 Through same h quiet = subst (λ s. QuietAt s (mail_left i n2.links)) (sym h) (λ more. refl)
 node_quiet i n n2 AtStuck same h quiet = subst (λ s. QuietAt s (mail_left i n2.links)) (sym h) (λ more. refl)
-node_quiet i n n2 (AtWait link) same h quiet =
-    quiet_kept i n.links n2.links (node.engine_left i n) (node.engine_left i n2) same (still-is i n2.links (node.engine_left i n2) h.0) quiet
+node_quiet i n n2 (AtWait link cause) same h quiet =
+    quiet_kept i n.links n2.links (node.engine_left i n) (node.engine_left i n2) same (still-is i n2.links cause (node.engine_left i n2) h.0) quiet
 
 -- what stands behind tells all
 then_told :

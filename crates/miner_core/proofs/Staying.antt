@@ -7,7 +7,7 @@ use Rattle.proto_core.specs.declared.refused.BadMessage.{BadMessage}
 use Rattle.proto_core.specs.Parties.{from_previous}
 use Rattle.proto_core.specs.Strand.{same_link, Mail, Strand, Ends, Acts, Waits, run}
 use Rattle.proto_core.specs.Net.{mail_of, added}
-use Rattle.proto_core.specs.Standing.{Standing, AtItsEnd, Awaits, Refuses, standing_with, standing_of}
+use Rattle.proto_core.specs.Standing.{AtItsEnd, Awaits, Refuses, standing_with, standing_of}
 use Rattle.proto_core.proofs.Refusing.{refused_stays}
 use Rattle.miner_core.specs.declared.answer.End.{End}
 use Rattle.miner_core.specs.declared.answer.Step.{Step}
@@ -15,7 +15,7 @@ use Rattle.miner_core.specs.declared.answer.Step.TheVariants as step
 use Rattle.miner_core.specs.declared.answer.MinerErr.{MinerErr}
 use Rattle.miner_core.specs.declared.answer.MinerErr.TheVariants as error
 use Rattle.miner_core.specs.OwnCode.{Ended}
-use Rattle.miner_core.specs.Story.{Story, mail_in, strand_in, node, stands_at, IsRefused, HasEnded, DeliverAnswers}
+use Rattle.miner_core.specs.Story.{Story, mail_in, strand_in, node, stands_at, HasEnded, DeliverAnswers}
 use Rattle.miner_core.specs.Laws.{StaysRefused, IsThisRefusal, AnswersAgain}
 use Rattle.miner_core.proofs.Stories.{mail_previous, mail_next}
 
@@ -25,11 +25,9 @@ no_end l cause e = cc
 no_wait : {P : Type 0} (k l : Link) (cause : BadMessage) → Awaits k ≡ Refuses l cause → P
 no_wait k l cause e = cc
 
--- a refusal names its cause
-cause_of : (l : Link) (s : Standing) → IsRefused l s → (cause : BadMessage) × (s ≡ Refuses l cause)
-cause_of l AtItsEnd h = absurd h
-cause_of l (Awaits k) h = absurd h
-cause_of l (Refuses k cause) h = (cause, ap (λ v. Refuses v cause) h)
+-- a refusal is of one message, for one cause
+same_refusal : (l k : Link) (why cause : BadMessage) → Refuses l why ≡ Refuses k cause → (l ≡ k) × (why ≡ cause)
+same_refusal l k why cause e = (cc, cc)
 
 end_stands : (s : Strand Ended) (unread : Mail) (end : End) → HasEnded s end → standing_with s unread ≡ AtItsEnd
 end_stands (Ends e) unread end h = refl
@@ -64,20 +62,18 @@ module _ (i : Number) where
 
   again :
       (after last : Story) (k refused : Link) (n : List ℕ) (cause : BadMessage) → stands_at i after ≡ Refuses refused cause →
-      (answer : Result Step MinerErr) → DeliverAnswers i after last k n answer → IsThisRefusal refused answer
+      (answer : Result Step MinerErr) → DeliverAnswers i after last k n answer → IsThisRefusal refused cause answer
   again after last k refused n cause e (Ok (step.Waits l)) h =
       no_wait l refused cause (sym h.2 ∙ ap (stands_at i) h.1 ∙ (stays after k n refused cause e).0)
   again after last k refused n cause e (Ok (step.Ended end)) h =
       no_end refused cause
       (sym (end_stands (node i last).left (node i last).unread end h.2) ∙ ap (stands_at i) h.1 ∙ (stays after k n refused cause e).0)
   again after last k refused n cause e (Err (error.NotAwaited l)) h = no_end refused cause (sym h.1 ∙ e)
-  again after last k refused n cause e (Err (error.BadMessage l)) h =
-      sym (subst (IsRefused l) (ap (stands_at i) h.1 ∙ (stays after k n refused cause e).0) h.2)
+  again after last k refused n cause e (Err (error.BadMessage l why)) h =
+      same_refusal l refused why cause (sym h.2 ∙ ap (stands_at i) h.1 ∙ (stays after k n refused cause e).0)
   again after last k refused n cause e (Err error.Memory) h = tt
 
   pub answers_again :
-      (before after last : Story) (l k refused : Link) (m n : List ℕ) (answer : Result Step MinerErr) →
-      AnswersAgain i before after last l k refused m n answer
-  answers_again before after last l k refused m n answer first next =
-      let cause = cause_of refused (stands_at i after) first.2 in
-      again after last k refused n cause.0 cause.1 answer next
+      (before after last : Story) (l k refused : Link) (cause : BadMessage) (m n : List ℕ) (answer : Result Step MinerErr) →
+      AnswersAgain i before after last l k refused cause m n answer
+  answers_again before after last l k refused cause m n answer first next = again after last k refused n cause first.2 answer next

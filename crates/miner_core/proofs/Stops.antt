@@ -1,6 +1,7 @@
 -- Where a miner has ended, by what its engine holds.
-use Rattle.std.proofs.Common.{◌≡◌, ℕ, List, [], Some, refl, sym, ◌∙◌, ap}
+use Rattle.std.proofs.Common.{◌≡◌, ℕ, List, [], Option, Some, refl, sym, ◌∙◌, ap}
 use Rattle.proto_core.specs.declared.party.Number.{Number}
+use Rattle.proto_core.specs.declared.refused.BadMessage.{BadMessage}
 use Rattle.proto_core.specs.Strand.{Strand, Ends, Acts, Waits, then_do}
 use Rattle.gates.specs.Clear.{Values}
 use Rattle.language_model.specs.Effects.{Stage}
@@ -29,10 +30,12 @@ pub record IsThere {P : Type 0} (e : Engine P) (a : At) (p : Place) : Type 0 whe
   pub ended : p.ended ≡ ended_by a
 
 module _ (i : Number) where
-  no_end : (l : Links) (f : Halted → Strand Ended) (s : Strand Halted) → StandsAt i l s → (x : Ended) → then_do s f ≡ Ends x → ⊥
-  no_end l f (Ends a) h x is = h
-  no_end l f (Acts a s) h x is = h
-  no_end l f (Waits k shape g) h x is = cc
+  no_end :
+      (l : Links) (cause : Option BadMessage) (f : Halted → Strand Ended) (s : Strand Halted) → StandsAt i l cause s →
+      (x : Ended) → then_do s f ≡ Ends x → ⊥
+  no_end l cause f (Ends a) h x is = h
+  no_end l cause f (Acts a s) h x is = h
+  no_end l cause f (Waits k shape g) h x is = cc
 
 module _ {P : Type 0} (i : Number) where
   over_at : (e : Engine P) (a : At) (vs : Values) (tape : List ℕ) → IsOver i e a → (p : Place) (values : Values) →
@@ -53,7 +56,7 @@ module _ {P : Type 0} (i : Number) where
   stage_at e Through h p values is =
       over_at e e.at e.node.values e.node.tape.1 (h.over refl) p values (sym (ap (λ s. then_do s (behind_node i e e.at)) h.node) ∙ is)
   stage_at e AtStuck h p values is = let wrong = sym (stuck_ends i e h) ∙ is in absurd cc
-  stage_at e (AtWait link) h p values is = absurd (no_end i e.node.links (behind_node i e e.at) (node.engine_left i e.node) h.node.0 _ is)
+  stage_at e (AtWait link cause) h p values is = absurd (no_end i e.node.links cause (behind_node i e e.at) (node.engine_left i e.node) h.node.0 _ is)
 
   pub stop_at : (e : Engine P) (stand : Stand) (s : Story) → Follows i e s → Rests i stand e → AtStop i s (IsThere e e.at)
   stop_at e stand s f h p values is = stage_at e stand h p values (ap (λ (o : Outcome Ended). o.left) f.same ∙ is)

@@ -1,6 +1,6 @@
 -- An engine stays where its story leads.
-use Rattle.std.proofs.Common.{◌≡◌, ◌≢◌, ℕ, true, false, if◌then◌else◌, List, [], ◌∷◌, ◌++◌, length, map, refl, sym, ◌∙◌, ap, subst, arith}
-use Rattle.std.specs.Prelude.{Option, None, Some, is_none, Result, Ok, Err, Vec}
+use Rattle.std.proofs.Common.{◌≡◌, ◌≢◌, ℕ, true, false, if◌then◌else◌, List, [], ◌∷◌, ◌++◌, map, refl, sym, ◌∙◌, ap, subst}
+use Rattle.std.specs.Prelude.{Option, None, Some, Result, Ok, Err, Vec}
 use Rattle.std.specs.declared.alloc.Global.{Global}
 use Rattle.std.proofs.lemmas.Bool.{false_from_ne_true}
 use Rattle.proto_core.specs.declared.party.Number.{Number}
@@ -9,7 +9,6 @@ use Rattle.proto_core.specs.Parties.{to_next, to_previous, from_previous, from_n
 use Rattle.proto_core.specs.Strand.{Shape, same_link, Mail, Strand, Ends, Acts, Waits, Ran, run, then_do, told_in}
 use Rattle.proto_core.specs.Standing.{AtItsEnd, Awaits, Refuses, standing_with, before_mail, at_fault, fault_of}
 use Rattle.proto_core.specs.declared.refused.BadMessage.{BadMessage}
-use Rattle.proto_core.proofs.Refusing.{faultless_is_accepted}
 use Rattle.language_model.specs.Reports.{beginning}
 use Rattle.code_model.specs.Machine.{start}
 use Rattle.code_model.specs.Meaning.{fuel}
@@ -42,15 +41,10 @@ use Rattle.miner_core.specs.Engines.{place_at, goes_on_at, behind_node, engine_l
 use Rattle.miner_core.specs.declared.answer.Step.{Step}
 use Rattle.miner_core.specs.declared.answer.MinerErr.{MinerErr}
 use Rattle.miner_core.specs.declared.answer.MinerErr.TheVariants as error
-use Rattle.miner_core.specs.Story.{Story, received, start_of, story_of, mail_in, strand_in, standing, stands_at, Follows, Leads, IsRefused, IsAnswerOf, IsAnswer, DeliverAnswers}
+use Rattle.miner_core.specs.Story.{Story, received, start_of, story_of, mail_in, strand_in, standing, stands_at, Follows, Leads, IsAnswerOf, IsAnswer}
+use Rattle.miner_core.specs.Story.{DeliverAnswers}
 use Rattle.miner_core.specs.Story as story
 use Rattle.miner_core.proofs.Quiet.{QuietAt, quiet_come}
-
-none_longer : {A : Type 0} (x : A) (xs : List A) → length (x ∷ xs) ≡ 0 → ⊥
-none_longer x xs h = omega (arith, h)
-
-not_true : true ≡ false → ⊥
-not_true e = cc
 
 not_at_end_awaits : (l : Link) → Awaits l ≡ AtItsEnd → ⊥
 not_at_end_awaits l e = cc
@@ -67,32 +61,29 @@ module _ (i : Number) where
 
   -- where a message is awaited
   module _ (l : Links) (link : Link) (f : Halted → Strand Ended) where
-    waits_front : (shape : Shape) (ms : List (List ℕ)) → length ms ≡ 0 → before_mail link shape ms ≡ Awaits link
+    waits_front : (shape : Shape) (ms : List (List ℕ)) → HasNoneOf shape None ms → before_mail link shape ms ≡ Awaits link
     waits_front shape [] h = refl
-    waits_front shape (m ∷ ms) h = absurd (none_longer m ms h)
+    waits_front shape (m ∷ ms) h = absurd h
 
-    refused_by : (fault : Option BadMessage) → is_none fault ≡ false → IsRefused link (at_fault link fault)
-    refused_by None h = absurd (not_true h)
-    refused_by (Some cause) h = refl
+    refuses_front : (cause : BadMessage) (shape : Shape) (ms : List (List ℕ)) → HasNoneOf shape (Some cause) ms → before_mail link shape ms ≡ Refuses link cause
+    refuses_front cause shape [] h = absurd h
+    refuses_front cause shape (m ∷ ms) h = ap (at_fault link) h
 
-    refuses_front : (shape : Shape) (ms : List (List ℕ)) → HasNoneOf shape ms → length ms ≢ 0 → IsRefused link (before_mail link shape ms)
-    refuses_front shape [] h some = absurd (some refl)
-    refuses_front shape (m ∷ ms) h some = refused_by (fault_of shape m) (faultless_is_accepted shape m ∙ h)
-
-    pub waits_is :
-        (s : Strand Halted) → StandsAt i l s × AwaitsOn link s → length (mail_left i l link) ≡ 0 → standing_with (then_do s f) (mail_left i l) ≡ Awaits link
-    waits_is (Ends a) h none = absurd h.0
-    waits_is (Acts a s) h none = absurd h.0
-    waits_is (Waits other shape k) h none =
-        subst (λ o. before_mail o shape (mail_left i l o) ≡ Awaits link) (sym h.1) (waits_front shape (mail_left i l link) none)
+    pub waits_is : (s : Strand Halted) → StandsAt i l None s × AwaitsOn link s → standing_with (then_do s f) (mail_left i l) ≡ Awaits link
+    waits_is (Ends a) h = absurd h.0
+    waits_is (Acts a s) h = absurd h.0
+    waits_is (Waits other shape k) h =
+        subst (λ o. HasNoneOf shape None (mail_left i l o) → before_mail o shape (mail_left i l o) ≡ Awaits link) (sym h.1)
+        (waits_front shape (mail_left i l link)) h.0
 
     pub refuses_is :
-        (s : Strand Halted) → StandsAt i l s × AwaitsOn link s → length (mail_left i l link) ≢ 0 → IsRefused link (standing_with (then_do s f) (mail_left i l))
-    refuses_is (Ends a) h some = absurd h.0
-    refuses_is (Acts a s) h some = absurd h.0
-    refuses_is (Waits other shape k) h some =
-        subst (λ o. HasNoneOf shape (mail_left i l o) → IsRefused link (before_mail o shape (mail_left i l o))) (sym h.1)
-        (λ none. refuses_front shape (mail_left i l link) none some) h.0
+        (cause : BadMessage) (s : Strand Halted) → StandsAt i l (Some cause) s × AwaitsOn link s
+        → standing_with (then_do s f) (mail_left i l) ≡ Refuses link cause
+    refuses_is cause (Ends a) h = absurd h.0
+    refuses_is cause (Acts a s) h = absurd h.0
+    refuses_is cause (Waits other shape k) h =
+        subst (λ o. HasNoneOf shape (Some cause) (mail_left i l o) → before_mail o shape (mail_left i l o) ≡ Refuses link cause) (sym h.1)
+        (refuses_front cause shape (mail_left i l link)) h.0
 
     waits_no_end : (shape : Shape) (ms : List (List ℕ)) → before_mail link shape ms ≢ AtItsEnd
     waits_no_end shape [] e = not_at_end_awaits link e
@@ -102,10 +93,11 @@ module _ (i : Number) where
         fault_no_end None e = not_at_end_awaits link e
         fault_no_end (Some cause) e = not_at_end_refuses link cause e
 
-    pub goes : (s : Strand Halted) → StandsAt i l s × AwaitsOn link s → standing_with (then_do s f) (mail_left i l) ≢ AtItsEnd
-    goes (Ends a) h e = h.0
-    goes (Acts a s) h e = h.0
-    goes (Waits other shape k) h e =
+    pub goes :
+        (cause : Option BadMessage) (s : Strand Halted) → StandsAt i l cause s × AwaitsOn link s → standing_with (then_do s f) (mail_left i l) ≢ AtItsEnd
+    goes cause (Ends a) h e = h.0
+    goes cause (Acts a s) h e = h.0
+    goes cause (Waits other shape k) h e =
         subst (λ o. before_mail o shape (mail_left i l o) ≢ AtItsEnd) (sym h.1) (waits_no_end shape (mail_left i l link)) e
 
 module _ {P : Type 0} (i : Number) where
@@ -130,7 +122,7 @@ module _ {P : Type 0} (i : Number) where
   rests_still : (e : Engine P) (s : Stand) → Rests i s e → IsStill i e.node.links (engine_left i e)
   rests_still e Through h = subst (λ v. IsStill i e.node.links v) (sym (through_ends e h).1) refl
   rests_still e AtStuck h = subst (λ v. IsStill i e.node.links v) (sym (stuck_ends e h)) refl
-  rests_still e (AtWait link) h = still-then i e.node.links (node.engine_left i e.node) (behind_node i e e.at) h.node.0
+  rests_still e (AtWait link cause) h = still-then i e.node.links cause (node.engine_left i e.node) (behind_node i e e.at) h.node.0
 
   abbrev of_lists : (e : Engine P) → (n p : List (List ℕ)) → (o : List ℕ) → Outcome Ended
   of_lists e n p o = record { to_next = n; to_previous = p; opened = o; left = engine_left i e; unread = mail_left i e.node.links }
@@ -172,7 +164,8 @@ module _ {P : Type 0} (i : Number) where
 
   -- these messages more
   module _ (e : Engine P) (s : Story) (f : Follows i e s) (more : Mail) (l : Links) (next : l.to_next ≡ e.node.links.to_next)
-      (previous : l.to_previous ≡ e.node.links.to_previous) (opened : l.opened ≡ e.node.links.opened) (mail : mail_left i l ≡ added (mail_left i e.node.links) more)
+      (previous : l.to_previous ≡ e.node.links.to_previous) (opened : l.opened ≡ e.node.links.opened)
+      (mail : mail_left i l ≡ added (mail_left i e.node.links) more)
       (s2 : Story) (strand : strand_in i s2 ≡ strand_in i s) (mail2 : mail_in i s2 ≡ added (mail_in i s) more) where
     node_is : story.node i s2 ≡ run (strand_in i s) (added (mail_in i s) more)
     node_is = ap (λ v. run v (mail_in i s2)) strand ∙ ap (run (strand_in i s)) mail2
@@ -237,7 +230,8 @@ module _ {P : Type 0} (i : Number) where
   -- ---- and the story of an engine has it
 
   pub story_from_previous :
-      (e : Engine P) (n : gates.Engine P) (l : Link) (m : List ℕ) (budget : ℕ) → l ≡ from_previous i → n ≡ record e.node { links = came_from_previous e.node.links m } →
+      (e : Engine P) (n : gates.Engine P) (l : Link) (m : List ℕ) (budget : ℕ) → l ≡ from_previous i
+      → n ≡ record e.node { links = came_from_previous e.node.links m } →
       story_of (record e { node = n }) budget ≡ received i (story_of e budget) l m
   story_from_previous e n l m budget is node =
       let s = story_of e budget in
@@ -246,7 +240,8 @@ module _ {P : Type 0} (i : Number) where
       (ap (same_link (from_previous i)) is ∙ same-link_self (from_previous i)))
 
   pub story_from_next :
-      (e : Engine P) (n : gates.Engine P) (l : Link) (m : List ℕ) (budget : ℕ) → l ≢ from_previous i → n ≡ record e.node { links = came_from_next e.node.links m } →
+      (e : Engine P) (n : gates.Engine P) (l : Link) (m : List ℕ) (budget : ℕ) → l ≢ from_previous i
+      → n ≡ record e.node { links = came_from_next e.node.links m } →
       story_of (record e { node = n }) budget ≡ received i (story_of e budget) l m
   story_from_next e n l m budget is node =
       let s = story_of e budget in
@@ -302,7 +297,8 @@ module _ {P : Type 0} (i : Number) where
   end_is e x h = ap (λ s. standing_with s (mail_left i e.node.links)) h
 
   -- an engine that follows a story answers as it says
-  pub answer_of : (e : Engine P) (s : Story) (r : Result Step MinerErr) → Follows i e s → IsAnswerOf (engine_left i e) (mail_left i e.node.links) r → IsAnswer i s r
+  pub answer_of : (e : Engine P) (s : Story) (r : Result Step MinerErr) → Follows i e s → IsAnswerOf (engine_left i e) (mail_left i e.node.links) r
+      → IsAnswer i s r
   answer_of e s r f h = subst (λ o. IsAnswerOf o.left o.unread r) f.same h
 
   pub standing_of_story : (e : Engine P) (s : Story) → Follows i e s → standing_with (engine_left i e) (mail_left i e.node.links) ≡ stands_at i s
@@ -321,7 +317,7 @@ pub deliver_answers :
     (i : Number) (before after : Story) (l : Link) (m : List ℕ) (r : Result Step MinerErr) → before.lost ≡ false → after ≡ received i before l m →
     IsAnswer i after r → DeliverAnswers i before after l m r
 deliver_answers i before after l m (Ok x) kept same h = (kept, same, h)
-deliver_answers i before after l m (Err (error.BadMessage k)) kept same h = (kept, same, h)
+deliver_answers i before after l m (Err (error.BadMessage k cause)) kept same h = (kept, same, h)
 deliver_answers i before after l m (Err (error.NotAwaited k)) kept same h = absurd h
 deliver_answers i before after l m (Err error.Memory) kept same h = absurd h
 

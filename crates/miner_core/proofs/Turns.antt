@@ -1,9 +1,10 @@
 -- What a step of a miner leaves to do.
 use Rattle.std.proofs.Common.{◌≡◌, ℕ, suc, List, [], ◌∷◌, ◌++◌, map, length, drop, refl, sym, ◌∙◌, ap, subst, append_assoc}
-use Rattle.std.specs.Prelude.{Vec}
+use Rattle.std.specs.Prelude.{Option, Vec}
 use Rattle.std.specs.declared.alloc.Global.{Global}
 use Rattle.proto_core.specs.declared.party.Number.{Number}
 use Rattle.proto_core.specs.declared.link.Link.{Link}
+use Rattle.proto_core.specs.declared.refused.BadMessage.{BadMessage}
 use Rattle.proto_core.specs.Strand.{Notice, Mail, Strand, run, then_do, told_in}
 use Rattle.gates.specs.declared.gate.Gate.{Gate}
 use Rattle.gates.specs.Clear.{Values}
@@ -33,7 +34,8 @@ use Rattle.miner_core.specs.declared.engine.Engine.{Engine}
 use Rattle.miner_core.specs.declared.notice.Notice as said
 use Rattle.miner_core.specs.OwnCode.{From, go_on, tell_and_go_on, gates_between, led_by, behind_gates, own_code, Ended}
 use Rattle.miner_core.specs.Views.{task_world, task_code, told_since, notice_seen}
-use Rattle.miner_core.specs.Engines.{place_at, code_from, goes_on_at, behind_node, engine_left, engine_outcome, engine_told, IsThrough, IsOver, Rests, KeepsLinks, Keeps, measure, acting, led_to}
+use Rattle.miner_core.specs.Engines.{place_at, code_from, goes_on_at, behind_node, engine_left, engine_outcome, engine_told, IsThrough, IsOver, Rests}
+use Rattle.miner_core.specs.Engines.{KeepsLinks, Keeps, measure, acting, led_to}
 
 -- ---- what a step tells
 
@@ -68,7 +70,8 @@ module _ {P : Type 0} (i : Number) (e e2 : Engine P) where
 
   -- behind its gates the miner is where the step has led
   abbrev pub IsLed : Type 0
-  IsLed = (values : Values) (tape : List ℕ) → goes_on_at i e2 e2.at values tape ≡ tell_and_go_on (code_at e2.fuel) (place_at i e) (led_at values first) values tape
+  IsLed = (values : Values) (tape : List ℕ)
+      → goes_on_at i e2 e2.at values tape ≡ tell_and_go_on (code_at e2.fuel) (place_at i e) (led_at values first) values tape
 
   led_on : IsLed → (h : Halted) → behind_node i e2 e2.at h ≡ behind_gates (task_world e.task) (task_code e.task) (code_at e2.fuel) (place_at i e) first h
   led_on led (Whole values tape) = led values tape
@@ -93,7 +96,8 @@ module _ {P : Type 0} (i : Number) (e e2 : Engine P) where
   pub does_again :
       e.at ≡ at.Again → IsThrough i e.node → node.engine_left i e2.node ≡ node.engine_left i e.node →
       goes_on_at i e2 e2.at e.node.values e.node.tape.1
-      ≡ tell_and_go_on (code_from i e) (place_at i e) (step_told (task_world e.task) (task_code e.task) (place_at i e) (last_of e.node.values)) e.node.values e.node.tape.1 →
+      ≡ tell_and_go_on (code_from i e) (place_at i e) (step_told (task_world e.task) (task_code e.task) (place_at i e) (last_of e.node.values))
+      e.node.values e.node.tape.1 →
       engine_left i e2 ≡ engine_left i e
   does_again again through left led =
       ap (λ s. then_do s (behind_node i e2 e2.at)) (left ∙ through)
@@ -137,7 +141,8 @@ module _ {P : Type 0} (i : Number) (e : Engine P) where
     left_acting = ap (λ s. then_do s (behind_node i (acting e t speech before) (at.Acts t speech before))) through
 
     pub goes_on_same :
-        (a : At) (own : Vec said.Notice Global) → a ≡ led_to t → engine_outcome i (record e { at = a; notices = own }) ≡ engine_outcome i (acting e t speech before)
+        (a : At) (own : Vec said.Notice Global) → a ≡ led_to t
+        → engine_outcome i (record e { at = a; notices = own }) ≡ engine_outcome i (acting e t speech before)
     goes_on_same a own led =
         let l = e.node.links in
         ap (outcome_of i l) (left_there a own led)
@@ -192,15 +197,15 @@ holds_links e e2 k =
 
 -- ---- where it rests
 
-no_through_waits : (link : Link) → stand.Waits link ≡ stand.Through → ⊥
-no_through_waits link e = cc
+no_through_waits : (link : Link) (cause : Option BadMessage) → stand.Waits link cause ≡ stand.Through → ⊥
+no_through_waits link cause e = cc
 
 no_through_stuck : stand.Stuck ≡ stand.Through → ⊥
 no_through_stuck e = cc
 
 module _ {P : Type 0} (i : Number) (e : Engine P) (s : Stand) where
-  pub rests_waits : (link : Link) → s ≡ stand.Waits link → node.EngineStands i s e.node → Rests i s e
-  rests_waits link is h = record { node = h; over = λ other. absurd (no_through_waits link (sym is ∙ other)) }
+  pub rests_waits : (link : Link) (cause : Option BadMessage) → s ≡ stand.Waits link cause → node.EngineStands i s e.node → Rests i s e
+  rests_waits link cause is h = record { node = h; over = λ other. absurd (no_through_waits link cause (sym is ∙ other)) }
 
   pub rests_stuck : s ≡ stand.Stuck → node.EngineStands i s e.node → Rests i s e
   rests_stuck is h = record { node = h; over = λ other. absurd (no_through_stuck (sym is ∙ other)) }

@@ -15,15 +15,16 @@ StaysRefused i s link m =
     (refused : Link) (cause : BadMessage) → stands_at i s ≡ Refuses refused cause →
     (stands_at i (received i s link m) ≡ Refuses refused cause) × ((node i (received i s link m)).acts ≡ (node i s).acts)
 
--- an answer that the message of this link is refused, unless memory is wanting
-abbrev pub IsThisRefusal : Link → Result Step MinerErr → Type 0
-IsThisRefusal refused (Ok step) = ⊥
-IsThisRefusal refused (Err (error.NotAwaited link)) = ⊥
-IsThisRefusal refused (Err (error.BadMessage link)) = link ≡ refused
-IsThisRefusal refused (Err error.Memory) = Unit {0}
+-- an answer that the message of this link is refused, for this cause, unless memory is wanting
+abbrev pub IsThisRefusal : Link → BadMessage → Result Step MinerErr → Type 0
+IsThisRefusal refused cause (Ok step) = ⊥
+IsThisRefusal refused cause (Err (error.NotAwaited link)) = ⊥
+IsThisRefusal refused cause (Err (error.BadMessage link why)) = (link ≡ refused) × (why ≡ cause)
+IsThisRefusal refused cause (Err error.Memory) = Unit {0}
 
 -- where one delivery is answered by a refusal, so is the next
 abbrev pub AnswersAgain :
-    Number → (before after last : Story) → (l k refused : Link) → (m n : List ℕ) → Result Step MinerErr → Type 0
-AnswersAgain i before after last l k refused m n answer =
-    DeliverAnswers i before after l m (Err (error.BadMessage refused)) → DeliverAnswers i after last k n answer → IsThisRefusal refused answer
+    Number → (before after last : Story) → (l k refused : Link) → (cause : BadMessage) → (m n : List ℕ) → Result Step MinerErr → Type 0
+AnswersAgain i before after last l k refused cause m n answer =
+    DeliverAnswers i before after l m (Err (error.BadMessage refused cause)) → DeliverAnswers i after last k n answer →
+    IsThisRefusal refused cause answer

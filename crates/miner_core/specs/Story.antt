@@ -74,12 +74,6 @@ AtStop i s Q = (p : Place) (values : Values) → (node i s).left ≡ Ends (Reach
 
 -- ---- answers
 
--- the oldest message of this link, which is awaited, is not accepted
-abbrev pub IsRefused : Link → Standing → Type 0
-IsRefused l AtItsEnd = ⊥
-IsRefused l (Awaits k) = ⊥
-IsRefused l (Refuses k cause) = k ≡ l
-
 abbrev pub IsEnd : Ended → End → Type 0
 IsEnd (Reached (Stopped p) values) (end.Over ending) = p.ended ≡ Some ending
 IsEnd (Reached (Short p) values) end.Short = Unit {0}
@@ -96,7 +90,7 @@ HasEnded (Waits l shape k) end = ⊥
 abbrev pub IsAnswerOf : Strand Ended → Mail → Result Step MinerErr → Type 0
 IsAnswerOf s unread (Ok (step.Waits l)) = standing_with s unread ≡ Awaits l
 IsAnswerOf s unread (Ok (step.Ended end)) = HasEnded s end
-IsAnswerOf s unread (Err (error.BadMessage l)) = IsRefused l (standing_with s unread)
+IsAnswerOf s unread (Err (error.BadMessage l cause)) = standing_with s unread ≡ Refuses l cause
 IsAnswerOf s unread (Err (error.NotAwaited l)) = ⊥
 IsAnswerOf s unread (Err error.Memory) = ⊥
 

@@ -1,4 +1,4 @@
-use proto_core::Link;
+use proto_core::{BadMessage, Link};
 use sc_text::Ending;
 
 /// How a miner's run of code ends.
@@ -28,8 +28,9 @@ pub enum Step {
 pub enum MinerErr {
     /// The miner has ended.
     NotAwaited { link: Link },
-    /// The oldest message of this link, which is awaited, hasn't the length that is wanted, or a word that has to be a bit and is none.
-    BadMessage { link: Link },
+    /// The oldest message of this link, which is awaited, hasn't the length that is wanted, or a word that has to be a bit and is none. The
+    /// cause says which, with both lengths, or with the word's place and the word: it is what the protocol says that refuses the message.
+    BadMessage { link: Link, cause: BadMessage },
     /// There is no memory left.
     Memory,
 }

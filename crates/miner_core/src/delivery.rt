@@ -1,5 +1,5 @@
 // An engine at its start, a message that comes, and where it stands.
-ghost use Rattle.std.specs.Prelude.{◌≡◌, ◌≢◌, ℕ, length, true, false, IfOk, OnOk};
+ghost use Rattle.std.specs.Prelude.{◌≡◌, ◌≢◌, ℕ, true, false, IfOk, OnOk};
 ghost use Rattle.proto_core.specs.Standing.{AtItsEnd, standing_with};
 ghost use Rattle.gate_node.specs.declared.stand.Stand.TheVariants.{Through};
 ghost use Rattle.block_steps.specs.Outcomes.{mail_left};
@@ -74,23 +74,10 @@ impl<P: Party> Engine<P> {
         ensures going { result ≡ false → standing_with (engine_left P.me self.now) (mail_left P.me self.now.node.links) ≢ AtItsEnd }
     {
         match stand {
-            Stand::Waits(_) => false,
+            Stand::Waits(..) => false,
             Stand::Through => true,
             Stand::Stuck => true,
         }
-    }
-
-    /// How many messages of a link were not taken.
-    fn unread(&self, link: Link) -> usize
-        ensures { result ≡ length (mail_left P.me self.now.node.links link) }
-    {
-        if link == P::number().previous().link_to_next() {
-            return self.node.links().from_previous().unread();
-        }
-        if link == P::number().next().link_to_previous() {
-            return self.node.links().from_next().unread();
-        }
-        0
     }
 
     /// How the run has ended, where all gates are through.
@@ -126,12 +113,8 @@ impl<P: Party> Engine<P> {
                 Ok(Step::Ended(end))
             }
             Stand::Stuck => Ok(Step::Ended(End::Unfit)),
-            Stand::Waits(link) => {
-                if self.unread(link) == 0 {
-                    return Ok(Step::Waits(link));
-                }
-                Err(MinerErr::BadMessage { link })
-            }
+            Stand::Waits(link, None) => Ok(Step::Waits(link)),
+            Stand::Waits(link, Some(cause)) => Err(MinerErr::BadMessage { link, cause }),
         }
     }
 }

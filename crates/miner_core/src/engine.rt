@@ -2,7 +2,8 @@ ghost use Rattle.std.specs.Prelude.{◌≡◌, ◌<◌, true, false, IfOk, OnOk,
 ghost use Rattle.gate_node.specs.Nodes as node;
 ghost use Rattle.code_turns.specs.declared.outcome.Turned.TheVariants.{Short};
 ghost use Rattle.miner_core.specs.declared.engine.At.TheVariants.{Ready, Again};
-ghost use Rattle.miner_core.specs.Engines.{engine_left, engine_outcome, engine_told, IsSound, IsThrough, IsOver, Rests, Keeps, KeepsLinks, GoesOn, acting, led_to, measure};
+ghost use Rattle.miner_core.specs.Engines.{engine_left, engine_outcome, engine_told, IsSound, IsThrough, IsOver, Rests, Keeps, KeepsLinks, GoesOn};
+ghost use Rattle.miner_core.specs.Engines.{acting, led_to, measure};
 
 use crate::notice::{Notice, tell};
 use crate::stepping::{gates_from, step_told};
@@ -234,7 +235,7 @@ impl<P: Party> Engine<P> {
             let stand = self.gates()?;
             match stand {
                 Stand::Through => {}
-                Stand::Waits(_) => return Ok(stand),
+                Stand::Waits(..) => return Ok(stand),
                 Stand::Stuck => return Ok(stand),
             }
             let more = self.turn()?;

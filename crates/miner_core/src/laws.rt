@@ -2,6 +2,7 @@
 ghost use Rattle.std.specs.Prelude.{ℕ, List, Result};
 ghost use Rattle.proto_core.specs.declared.party.Number.{Number};
 ghost use Rattle.proto_core.specs.declared.link.Link.{Link};
+ghost use Rattle.proto_core.specs.declared.refused.BadMessage.{BadMessage};
 ghost use Rattle.miner_core.specs.declared.answer.Step.{Step};
 ghost use Rattle.miner_core.specs.declared.answer.MinerErr.{MinerErr};
 ghost use Rattle.miner_core.specs.Story.{Story};
@@ -11,6 +12,6 @@ ghost use Rattle.miner_core.specs.Laws.{StaysRefused, AnswersAgain};
 /// no more; so each later delivery answers the same, unless memory is wanting.
 pub fn a_refusal_stays()
     ensures stays { (i : Number) (s : Story) (link : Link) (m : List ℕ) → StaysRefused i s link m }
-    ensures answers { (i : Number) (before after last : Story) (l k refused : Link) (m n : List ℕ) (answer : Result Step MinerErr) →
-        AnswersAgain i before after last l k refused m n answer }
+    ensures answers { (i : Number) (before after last : Story) (l k refused : Link) (cause : BadMessage) (m n : List ℕ) (answer : Result Step MinerErr) →
+        AnswersAgain i before after last l k refused cause m n answer }
 {}

@@ -89,7 +89,8 @@ impl<P: Party> Miner<P> {
     /// says where the miner then stands.
     ///
     /// `NotAwaited` comes exactly where the miner has ended, and it is as before; `BadMessage` exactly where the oldest message of the
-    /// awaited link isn't accepted: it stays the oldest, so each later delivery answers the same, and nothing more is sent.
+    /// awaited link isn't accepted, with the cause for which the protocol refuses it. It stays the oldest, so each later delivery answers
+    /// the same, and nothing more is sent.
     pub fn deliver(&mut self, link: Link, message: &Msg) -> Result<Step, MinerErr>
         requires { receiver_of link ≡ P.me }
         ensures answers { DeliverAnswers P.me self.old self.new link message.now result }

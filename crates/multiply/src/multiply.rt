@@ -49,10 +49,12 @@ impl<R, P, S> Mul<R, P, S> {
     }
 }
 
+// The steps are kept out of their callers: a caller that has them inside zeroes and copies each block once more.
 impl<R: ShareRing, P: Party> Mul<R, P, Masked> {
     /// Begins to multiply the blocks `u` and `v` with drawn words: for n elements n that mask `u`, n that mask `v`, n
     /// that mask the product. The message, these words, is for the next miner.
     #[tactic(auto, using(proto_core::proofs::Parts::part_steps))]
+    #[inline(never)]
     pub fn start(u: &Block<R, P>, v: &Block<R, P>, words: &[u64]) -> (Self, Msg)
         requires v { length v.now ≡ length u.now }
         requires words { length words.now ≡ 3 * length u.now }
@@ -73,6 +75,7 @@ impl<R: ShareRing, P: Party> Mul<R, P, Masked> {
 
     /// Takes the previous miner's 3n masks. The message, both masked factors, is for the next miner. A message of a
     /// wrong length is refused.
+    #[inline(never)]
     pub fn got(mut self, msg: &Msg) -> Result<(Mul<R, P, Crossed>, Msg), Refused<Self>>
         ensures taken { IsOk result ↔ (length msg.now ≡ 3 * length self.mask) }
         ensures ok { IfOk result (λ x. Crosses R.ring self msg.now x.0 x.1) }
@@ -103,6 +106,7 @@ impl<R: ShareRing, P: Party> Mul<R, P, Masked> {
 impl<R: ShareRing, P: Party> Mul<R, P, Crossed> {
     /// Takes the previous miner's two masked factors, and answers the party's share of the product. A message of a
     /// wrong length is refused.
+    #[inline(never)]
     pub fn got(mut self, msg: &Msg) -> Result<Block<R, P>, Refused<Self>>
         ensures taken { IsOk result ↔ (length msg.now ≡ 2 * length self.mask) }
         ensures ok { IfOk result (λ share. Multiplied R.ring self msg.now share) }

@@ -1,5 +1,5 @@
 -- Truth values are words.
-use Rattle.std.proofs.Common.{◌<◌, ◌^◌, ℕ, zero, suc, List, [], ◌∷◌, length, map, Bool, true, false, All, arith}
+use Rattle.std.proofs.Common.{◌<◌, ◌^◌, zero, suc, List, [], ◌∷◌, map, Bool, true, false, All, arith}
 use Rattle.input_share.specs.Values.{bit_word}
 
 pub bit_small : (b : Bool) → bit_word b < 2 ^ 64

@@ -1,6 +1,6 @@
 -- The code of an accepted program runs on shares of the inputs of a file, with these tapes, as its evaluation in the clear does.
 use Rattle.std.proofs.Common.{◌≡◌, ◌≤◌, ℕ, List, []}
-use Rattle.std.proofs.Common.{◌∷◌, length, true, refl, sym, ◌∙◌, ap, subst, arith}
+use Rattle.std.proofs.Common.{length, true, refl, sym, ◌∙◌, ap, subst, arith}
 use Rattle.std.specs.Prelude.{slice_get, nat_le}
 use Rattle.std.proofs.lemmas.Bool.Decides.{nat_tests}
 use Rattle.secrec_ast.specs.Programs.{ProgramTree}
@@ -11,7 +11,6 @@ use Rattle.proto_core.specs.declared.party.Number.TheVariants.{One, Two, Three}
 use Rattle.proto_core.specs.Lists.{AreWords}
 use Rattle.tape_file.specs.Tapes.{FourTapes}
 use Rattle.value_file.specs.declared.inputs.Entry.{Entry}
-use Rattle.input_share.specs.Dealing.{need_of}
 use Rattle.language_model.specs.Effects.{Clear}
 use Rattle.language_model.specs.Reports.{Offered, Report, world_of, dealing, eval}
 use Rattle.clear_eval.specs.Offers.{offered}

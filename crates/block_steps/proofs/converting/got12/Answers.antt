@@ -11,5 +11,5 @@ returns-in_ok-push-in-Ok-clause-same g c =
 pub returns-in-Err-clause-stands : goal.returns-in-Err-clause-stands
 returns-in-Err-clause-stands g c =
     let l = c.args.links.now in
-    refused12 g.P.Party.me c.args.state c.in-Err.refused.state c.in-Some.msg l.from_previous.1 l.from_next.1
-    c.requires.second c.in-Some.ensures c.in-Err.ensures.err.state c.in-Err.ensures.taken.1
+    refused12 g.P.Party.me c.args.state c.in-Err.refused c.in-Some.msg l.from_previous.1 l.from_next.1
+    c.requires.second c.in-Some.ensures c.in-Err.ensures.err

@@ -1,4 +1,8 @@
+use Rattle.std.proofs.Common.{ℕ, List, [], ◌∷◌, length, refl}
+use Rattle.proto_core.specs.Parties.{from_previous}
+use Rattle.proto_core.specs.Strand.{Words}
 use Rattle.block_steps.proofs.Rings.{mask-turn}
+use Rattle.block_steps.proofs.Turns.{one-times, wrong-previous}
 use Rattle.block_steps.proofs.opening.masked.Goals as goal
 
 pub returns-in_ok-push-in-Ok-2-clause-same : goal.returns-in_ok-push-in-Ok-2-clause-same
@@ -7,3 +11,9 @@ returns-in_ok-push-in-Ok-2-clause-same g c =
     mask-turn g.R.ShareRing.ring g.P.Party.me c.args.state c.in-Ok.state c.in-Some.msg c.in-Ok.next c.in-Ok.previous
     l.from_previous.1 c.take.new.self.1 l.from_next.1 l.to_next c.push.new.self l.to_previous c.push-in-Ok.new.self l.opened.items
     c.in-Some.ensures c.take.ensures.left c.in-Ok.ensures.ok c.in_ok-push-in-Ok.ensures.ok c.in_ok-push-in-Ok-2.ensures.ok
+
+pub returns-in-Err-clause-stands : goal.returns-in-Err-clause-stands
+returns-in-Err-clause-stands g c =
+    let l = c.args.links.now in
+    wrong-previous (λ (s : List ℕ × List ℕ). length s.0) (Words ∷ []) c.args.state (length c.args.state.0) c.in-Some.msg c.in-Err.refused g.P.Party.me
+    l.from_previous.1 l.from_next.1 (one-times _) c.in-Err.ensures.err (from_previous g.P.Party.me) refl c.in-Some.ensures

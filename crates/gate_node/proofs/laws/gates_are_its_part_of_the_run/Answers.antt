@@ -9,5 +9,6 @@ pub returns : goal.returns
 returns c =
     λ i dealt all_dealt gates values tape run own suit is reach.
     subst
-    (λ r. needed r i ≤ length tape → own_gates i dealt gates values tape ≡ then_do (gates_strand i r values tape) (λ all. Ends (Whole all (drop (needed r i) tape))))
+    (λ r. needed r i ≤ length tape
+    → own_gates i dealt gates values tape ≡ then_do (gates_strand i r values tape) (λ all. Ends (Whole all (drop (needed r i) tape))))
     (sym is) (its-part i dealt all_dealt own gates values tape suit) reach

@@ -1,6 +1,3 @@
-use Rattle.std.proofs.Common.{◌<◌, ◌^◌, All, subst, sym}
-use Rattle.value_file.specs.declared.value.Value.{Value}
-use Rattle.input_share.specs.Values.{elements_of}
 use Rattle.program_run.proofs.Bits.{bits_small}
 use Rattle.program_run.proofs.words.see_value.Goals as goal
 

@@ -33,7 +33,8 @@ returns-in-Together-clause-same g c =
     sym (ap (λ w. outcome_of i e.links (work_left i e w)) c.requires.idle
     ∙ ap (λ l. outcome_of i e.links (own_gates i e.dealt l e.values e.tape.1)) (drop-front e.begun e.gates.items gate some (sym c.index-gate.ensures))
     ∙ ap (outcome_of i e.links) (gate-begins i e.dealt e.values e.tape.1 gate rest x c.in-Together.ensures.1 can)
-    ∙ ap (λ m. outcome_of i e.links (blocks_then p i 0 (value e.values x.u) (second_value e.values x.v) e.tape.1 m (λ made left. own_gates i e.dealt rest (e.values ++ made) left)))
+    ∙ ap (λ m. outcome_of i e.links
+    (blocks_then p i 0 (value e.values x.u) (second_value e.values x.v) e.tape.1 m (λ made left. own_gates i e.dealt rest (e.values ++ made) left)))
     (sym c.new-made.ensures))
 
 pub returns-in-Together-clause-sound : goal.returns-in-Together-clause-sound
@@ -54,6 +55,7 @@ returns-in-Together-clause-sound g c =
           record {
             within = omega arith;
             second = second-sized (sizes_of e.dealt) e.values gate x c.in-Together.ensures.1 (can-suits i e.dealt e.values e.tape.1 gate can);
-            reach = subst (λ k. (protocol_of x.exchange).draws k i ≤ length e.tape.1) all (subst (λ k. k ≤ length e.tape.1) draws (can-reach i e.dealt e.values e.tape.1 gate can));
+            reach = subst (λ k. (protocol_of x.exchange).draws k i ≤ length e.tape.1) all
+                (subst (λ k. k ≤ length e.tape.1) draws (can-reach i e.dealt e.values e.tape.1 gate can));
           };
     }

@@ -15,7 +15,8 @@ returns-in-Stands-clause-same g c =
     let r = c.args.running in
     let b = c.step.new.links in
     outcome-behind i (λ here. running_left i e r (joined r.made here)) b e.links (pending_left i c.in-Stands.block) (pending_left i c.args.block)
-    (subst (λ v. outcome_of i b (progress_left (pending_left i) v) ≡ outcome_of i e.links (pending_left i c.args.block)) c.in-Stands.is c.in_ok-block.ensures.same)
+    (subst (λ v. outcome_of i b (progress_left (pending_left i) v) ≡ outcome_of i e.links (pending_left i c.args.block)) c.in-Stands.is
+    c.in_ok-block.ensures.same)
 
 pub returns-in-Goes-clause-same : goal.returns-in-Goes-clause-same
 returns-in-Goes-clause-same g c =
@@ -24,7 +25,8 @@ returns-in-Goes-clause-same g c =
     let r = c.args.running in
     let b = c.step.new.links in
     outcome-behind i (λ here. running_left i e r (joined r.made here)) b e.links (pending_left i c.in-Goes.block) (pending_left i c.args.block)
-    (subst (λ v. outcome_of i b (progress_left (pending_left i) v) ≡ outcome_of i e.links (pending_left i c.args.block)) c.in-Goes.is c.in_ok-block.ensures.same)
+    (subst (λ v. outcome_of i b (progress_left (pending_left i) v) ≡ outcome_of i e.links (pending_left i c.args.block)) c.in-Goes.is
+    c.in_ok-block.ensures.same)
 
 pub returns-in-Stands-clause-stands : goal.returns-in-Stands-clause-stands
 returns-in-Stands-clause-stands g c =
@@ -33,7 +35,8 @@ returns-in-Stands-clause-stands g c =
     let r = c.args.running in
     let b = c.step.new.links in
     let s = pending_left i c.in-Stands.block in (
-      stands-behind i b s (λ here. running_left i e r (joined r.made here)) (subst (StandsThen (pending_left i) i b) c.in-Stands.is c.in_ok-block.ensures.stands),
+      stands-behind i b c.in-Stands.cause s (λ here. running_left i e r (joined r.made here))
+          (subst (StandsThen (pending_left i) i b) c.in-Stands.is c.in_ok-block.ensures.stands),
       awaits-behind c.awaits-link.result s (λ here. running_left i e r (joined r.made here)) c.awaits-link.ensures,
     )
 

@@ -60,7 +60,8 @@ returns-in_ok-through-in-Made-clause-same g c =
     let r = c.args.running in
     let x = r.gate.exchange in
     let b = c.begin.new.links in
-    ap (λ q. outcome_of i b (blocks_then (protocol_at q) i q.begun (value e.values q.gate.u) (second_value e.values q.gate.v) c.draw.new.self.1 q.made (gates_then i e)))
+    ap (λ q. outcome_of i b (blocks_then (protocol_at q) i q.begun (value e.values q.gate.u) (second_value e.values q.gate.v) c.draw.new.self.1 q.made
+    (gates_then i e)))
     c.in_ok-through-in-Made.ensures
     ∙ next-turn i x r.begun c.min-size.result (value e.values r.gate.u) (second_value e.values r.gate.v) e.tape.1 r.made (gates_then i e)
     e.links b (Ends (shares_of c.in-Made.first c.in-Made.second)) c.draw.new.self.1 c.value-u.result.now c.second_value.result.now c.left.result.now
@@ -68,4 +69,5 @@ returns-in_ok-through-in-Made-clause-same g c =
     c.value-u.ensures c.second_value.ensures c.left.ensures c.second-from.ensures c.second.ensures
     (c.draws-count.ensures ∙ ap (λ k. (protocol_of x).draws c.min-size.result k) c.number.ensures)
     c.draw.ensures.left c.if-begun-u.false c.min-size.ensures c.requires.sound.reach
-    (ap (outcome_of i b) (sym (of-made (pending_left i) c.in_ok-progress.progress c.in-Made.first c.in-Made.second c.in-Made.is)) ∙ c.in_ok-progress.ensures.same)
+    (ap (outcome_of i b) (sym (of-made (pending_left i) c.in_ok-progress.progress c.in-Made.first c.in-Made.second c.in-Made.is))
+    ∙ c.in_ok-progress.ensures.same)

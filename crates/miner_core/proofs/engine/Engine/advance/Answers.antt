@@ -7,7 +7,8 @@ pub turn-requires-clause-through : goal.turn-requires-clause-through
 turn-requires-clause-through g c = subst (λ s. node.EngineStands g.P.Party.me s c.gates.new.self.node) c.in-Through.is c.in_ok-stand.ensures.stands
 
 pub returns-in-Waits-clause-stands : goal.returns-in-Waits-clause-stands
-returns-in-Waits-clause-stands g c = rests_waits g.P.Party.me c.gates.new.self c.in_ok-stand.stand c.in-Waits.field-0 c.in-Waits.is c.in_ok-stand.ensures.stands
+returns-in-Waits-clause-stands g c =
+    rests_waits g.P.Party.me c.gates.new.self c.in_ok-stand.stand c.in-Waits.field-0 c.in-Waits.field-1 c.in-Waits.is c.in_ok-stand.ensures.stands
 
 pub returns-in-Stuck-clause-stands : goal.returns-in-Stuck-clause-stands
 returns-in-Stuck-clause-stands g c = rests_stuck g.P.Party.me c.gates.new.self c.in_ok-stand.stand c.in-Stuck.is c.in_ok-stand.ensures.stands

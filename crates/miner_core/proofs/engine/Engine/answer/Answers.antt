@@ -1,5 +1,4 @@
-use Rattle.std.proofs.Common.{◌≡◌, length, sym, subst, arith}
-use Rattle.block_steps.specs.Outcomes.{mail_left}
+use Rattle.std.proofs.Common.{sym, subst}
 use Rattle.gate_node.specs.Nodes as node
 use Rattle.miner_core.specs.Engines.{Rests, behind_node}
 use Rattle.miner_core.specs.Story.{HasEnded}
@@ -13,17 +12,16 @@ returns-in-Stuck g c =
     let e = c.args.self.now in
     subst (λ s. HasEnded s end.Unfit) (sym (stuck_ends i e (subst (λ s. Rests i s e) c.in-Stuck.is c.requires))) tt
 
-pub returns-then-unread-eq0 : goal.returns-then-unread-eq0
-returns-then-unread-eq0 g c =
+pub returns-in-Waits-None : goal.returns-in-Waits-None
+returns-in-Waits-None g c =
     let i = g.P.Party.me in
     let e = c.args.self.now in
-    let h = subst (λ s. node.EngineStands i s e.node) c.in-Waits.is c.requires.node in
-    let none : length (mail_left i e.node.links c.in-Waits.link) ≡ 0 = omega (arith, c.unread.ensures, c.if-unread-eq0.true) in
-    waits_is i e.node.links c.in-Waits.link (behind_node i e e.at) (node.engine_left i e.node) h none
+    let h = subst (λ s. node.EngineStands i s e.node) c.in-Waits-None.is c.requires.node in
+    waits_is i e.node.links c.in-Waits-None.link (behind_node i e e.at) (node.engine_left i e.node) h
 
-pub returns-else-unread-eq0 : goal.returns-else-unread-eq0
-returns-else-unread-eq0 g c =
+pub returns-in-Waits-Some : goal.returns-in-Waits-Some
+returns-in-Waits-Some g c =
     let i = g.P.Party.me in
     let e = c.args.self.now in
-    let h = subst (λ s. node.EngineStands i s e.node) c.in-Waits.is c.requires.node in
-    refuses_is i e.node.links c.in-Waits.link (behind_node i e e.at) (node.engine_left i e.node) h (λ none. omega (arith, c.unread.ensures, c.if-unread-eq0.false, none))
+    let h = subst (λ s. node.EngineStands i s e.node) c.in-Waits-Some.is c.requires.node in
+    refuses_is i e.node.links c.in-Waits-Some.link (behind_node i e e.at) c.in-Waits-Some.cause (node.engine_left i e.node) h

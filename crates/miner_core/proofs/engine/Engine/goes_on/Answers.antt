@@ -6,11 +6,13 @@ use Rattle.miner_core.proofs.engine.Engine.goes_on.Goals as goal
 
 pub returns-clause-same : goal.returns-clause-same
 returns-clause-same g c =
-    goes_on_same g.P.Party.me c.args.self.now c.requires.through c.args.turned c.args.speech.now c.args.before c.led_to.result c.tell.new.notices c.led_to.ensures
+    goes_on_same g.P.Party.me c.args.self.now c.requires.through c.args.turned c.args.speech.now c.args.before c.led_to.result c.tell.new.notices
+    c.led_to.ensures
 
 pub returns-clause-told : goal.returns-clause-told
 returns-clause-told g c =
-    goes_on_told g.P.Party.me c.args.self.now c.requires.through c.args.turned c.args.speech.now c.args.before c.led_to.result c.tell.new.notices c.led_to.ensures
+    goes_on_told g.P.Party.me c.args.self.now c.requires.through c.args.turned c.args.speech.now c.args.before c.led_to.result c.tell.new.notices
+    c.led_to.ensures
     (c.in_ok-tell.ensures
     ∙ ap (λ ws. map notice_seen c.args.self.now.notices.items ++ told_since c.args.speech.now c.args.before c.args.self.now.stage ws)
     (c.last_words-last.ensures ∙ ap last_of c.values.ensures))

@@ -10,7 +10,7 @@ returns-in-Waits-clause-going g c =
     let i = g.P.Party.me in
     let e = c.args.self.now in
     let h = subst (λ s. node.EngineStands i s e.node) c.in-Waits.is c.requires.node in
-    goes i e.node.links c.in-Waits.field-0 (behind_node i e e.at) (node.engine_left i e.node) h
+    goes i e.node.links c.in-Waits.field-0 (behind_node i e e.at) c.in-Waits.field-1 (node.engine_left i e.node) h
 
 pub returns-in-Through-clause-ended : goal.returns-in-Through-clause-ended
 returns-in-Through-clause-ended g c =

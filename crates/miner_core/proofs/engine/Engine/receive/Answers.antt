@@ -26,7 +26,8 @@ pub returns-then-eq-clause-story : goal.returns-then-eq-clause-story
 returns-then-eq-clause-story g c =
     let i = g.P.Party.me in
     let is : c.args.link ≡ from_previous i = grind arith in
-    λ budget. story_from_previous i c.args.self.now c.receive_from_previous.new.self c.args.link c.args.message.now budget is c.in_ok-receive_from_previous.ensures.ok
+    λ budget. story_from_previous i c.args.self.now c.receive_from_previous.new.self c.args.link c.args.message.now budget is
+    c.in_ok-receive_from_previous.ensures.ok
 
 pub returns-clause-story : goal.returns-clause-story
 returns-clause-story g c =

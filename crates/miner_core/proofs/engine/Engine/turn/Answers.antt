@@ -5,18 +5,24 @@ use Rattle.miner_core.proofs.Turns.{put_same, put_told, put_measure, beside_same
 use Rattle.miner_core.proofs.engine.Engine.turn.Goals as goal
 
 pub returns-in_ok-more-in-Ready-clause-same : goal.returns-in_ok-more-in-Ready-clause-same
-returns-in_ok-more-in-Ready-clause-same g c = c.in_ok-more-in-Ready.ensures.same ∙ put_same g.P.Party.me c.args.self.now c.replace.new.dest (sym c.replace.ensures.value ∙ c.in-Ready.is ∙ sym c.replace.ensures.after)
+returns-in_ok-more-in-Ready-clause-same g c =
+    c.in_ok-more-in-Ready.ensures.same
+    ∙ put_same g.P.Party.me c.args.self.now c.replace.new.dest (sym c.replace.ensures.value ∙ c.in-Ready.is ∙ sym c.replace.ensures.after)
 
 pub returns-in_ok-more-in-Ready-clause-told : goal.returns-in_ok-more-in-Ready-clause-told
-returns-in_ok-more-in-Ready-clause-told g c = c.in_ok-more-in-Ready.ensures.told ∙ put_told g.P.Party.me c.args.self.now c.replace.new.dest (sym c.replace.ensures.value ∙ c.in-Ready.is ∙ sym c.replace.ensures.after)
+returns-in_ok-more-in-Ready-clause-told g c =
+    c.in_ok-more-in-Ready.ensures.told
+    ∙ put_told g.P.Party.me c.args.self.now c.replace.new.dest (sym c.replace.ensures.value ∙ c.in-Ready.is ∙ sym c.replace.ensures.after)
 
 pub returns-in_ok-again-in-Again-clause-same : goal.returns-in_ok-again-in-Again-clause-same
 returns-in_ok-again-in-Again-clause-same g c =
-    beside_same g.P.Party.me c.args.self.now Again (sym c.replace.ensures.value ∙ c.in-Again.is) c.again.new.self c.in_ok-again-in-Again.ensures.left c.in_ok-again-in-Again.ensures.kept
+    beside_same g.P.Party.me c.args.self.now Again (sym c.replace.ensures.value ∙ c.in-Again.is) c.again.new.self c.in_ok-again-in-Again.ensures.left
+    c.in_ok-again-in-Again.ensures.kept
 
 pub returns-in_ok-again-in-Again-clause-told : goal.returns-in_ok-again-in-Again-clause-told
 returns-in_ok-again-in-Again-clause-told g c =
-    beside_told g.P.Party.me c.args.self.now Again (sym c.replace.ensures.value ∙ c.in-Again.is) c.again.new.self c.in_ok-again-in-Again.ensures.left c.in_ok-again-in-Again.ensures.kept
+    beside_told g.P.Party.me c.args.self.now Again (sym c.replace.ensures.value ∙ c.in-Again.is) c.again.new.self c.in_ok-again-in-Again.ensures.left
+    c.in_ok-again-in-Again.ensures.kept
 
 pub returns-in_ok-again-in-Again-clause-kept : goal.returns-in_ok-again-in-Again-clause-kept
 returns-in_ok-again-in-Again-clause-kept g c =
@@ -47,14 +53,18 @@ returns-in-Short-clause-told g c = put_told g.P.Party.me c.args.self.now Short (
 
 pub returns-in_ok-more-in-Ready-clause-falls : goal.returns-in_ok-more-in-Ready-clause-falls
 returns-in_ok-more-in-Ready-clause-falls g c =
-    λ more. subst (λ n. measure c.ready.new.self < n) (put_measure g.P.Party.me c.args.self.now c.replace.new.dest (sym c.replace.ensures.value ∙ c.in-Ready.is ∙ sym c.replace.ensures.after)) (c.in_ok-more-in-Ready.ensures.falls more)
+    λ more. subst (λ n. measure c.ready.new.self < n)
+    (put_measure g.P.Party.me c.args.self.now c.replace.new.dest (sym c.replace.ensures.value ∙ c.in-Ready.is ∙ sym c.replace.ensures.after))
+    (c.in_ok-more-in-Ready.ensures.falls more)
 
 pub returns-in_ok-again-in-Again-clause-falls : goal.returns-in_ok-again-in-Again-clause-falls
 returns-in_ok-again-in-Again-clause-falls g c =
-    λ more. subst (λ n. measure c.again.new.self < n) (put_measure g.P.Party.me c.args.self.now Again (sym c.replace.ensures.value ∙ c.in-Again.is)) c.in_ok-again-in-Again.ensures.falls
+    λ more. subst (λ n. measure c.again.new.self < n) (put_measure g.P.Party.me c.args.self.now Again (sym c.replace.ensures.value ∙ c.in-Again.is))
+    c.in_ok-again-in-Again.ensures.falls
 
 pub returns-in_ok-goes_on-in-Acts-clause-falls : goal.returns-in_ok-goes_on-in-Acts-clause-falls
 returns-in_ok-goes_on-in-Acts-clause-falls g c =
     let a = c.in-Acts in
     λ more.
-    subst (λ n. measure c.goes_on.new.self < n) (put_measure g.P.Party.me c.args.self.now (Acts a.turned a.speech a.before) (sym c.replace.ensures.value ∙ a.is)) c.in_ok-goes_on-in-Acts.ensures.falls
+    subst (λ n. measure c.goes_on.new.self < n)
+    (put_measure g.P.Party.me c.args.self.now (Acts a.turned a.speech a.before) (sym c.replace.ensures.value ∙ a.is)) c.in_ok-goes_on-in-Acts.ensures.falls
