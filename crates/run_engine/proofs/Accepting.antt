@@ -3,7 +3,7 @@ use Rattle.std.proofs.Common.{◌≡◌, ◌⊎◌, ℕ, List, true, Ok, Err, Re
 use Rattle.outside.specs.Files.{Contents}
 use Rattle.command_frame.specs.declared.status.Status.TheVariants as statuses
 use Rattle.command_frame.specs.Answer.{Answer, Cause, missing}
-use Rattle.command_frame.specs.Status.{is_refusal}
+use Rattle.command_frame.specs.Status.{can_refuse}
 use Rattle.secrec_ast.specs.Programs.{ProgramTree}
 use Rattle.typed_tree.specs.Programs.{TypedProgramTree}
 use Rattle.program_limits.specs.declared.limit_err.LimitErr.{LimitErr}
@@ -47,7 +47,7 @@ program_cases found files path h r is =
     unread c (inr (status, bad)) = inr (status, inl bad)
 
 -- a command is refused by the program
-pub refused_by_program : (path : List ℕ) (files : Contents) (r : Answer) → is_refusal (status_in_answer r) ≡ true → (c : Cause) → r ≡ Err c
+pub refused_by_program : (path : List ℕ) (files : Contents) (r : Answer) → can_refuse (status_in_answer r) ≡ true → (c : Cause) → r ≡ Err c
     → ProgramRead files path (Err c) → ProgramRefused path files (status_in_answer r)
 refused_by_program path files r refusal c is (inl missed) = not_missing r c path refusal is missed
 refused_by_program path files r refusal c is (inr (status, inl bad)) = bad_text (refusing r c is ∙ status) bad

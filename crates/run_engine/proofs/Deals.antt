@@ -6,7 +6,7 @@ use Rattle.outside.specs.Files.{Contents}
 use Rattle.command_frame.specs.declared.status.Status.{Status}
 use Rattle.command_frame.specs.declared.status.Status.TheVariants as statuses
 use Rattle.command_frame.specs.Answer.{Answer, Cause, ◌>>=◌}
-use Rattle.command_frame.specs.Status.{is_refusal}
+use Rattle.command_frame.specs.Status.{can_refuse}
 use Rattle.command_words.specs.Ask.{DealAsk, deal, words_of}
 use Rattle.input_share.specs.Dealing.{need_of}
 use Rattle.tape_file.specs.Format.{read_of as tapes_read_of}
@@ -16,6 +16,7 @@ use Rattle.value_file.specs.Input.{read_of as inputs_read_of}
 use Rattle.run_engine.specs.Deal.{deal_effect, deal_of, dealing, short_tape}
 use Rattle.run_engine.specs.Reading.{bad_input, bad_tape, inputs_at, tape_file_at}
 use Rattle.run_engine.specs.Runs.{HoldsDeal, DealRefused, unreadable_entries, unreadable_tapes, too_few_words}
+use Rattle.run_engine.specs.Told.{Outside}
 use Rattle.run_engine.specs.Words.{answer_to, question_of, IsAnswer}
 use Rattle.run_engine.proofs.Judged.{found_nothing}
 use Rattle.run_engine.proofs.Refusals.{ReadRefused, input_status, inputs_refused, not_missing, refusing, status_in_answer, status_of_cause, steps, tape_file_refused, tape_status}
@@ -38,14 +39,14 @@ deal_refused ask files s (unreadable_tapes is entries inputs bytes place there b
 deal_refused ask files s (too_few_words is entries tapes held few) =
     rw (held.inputs, held.tapes, fewer (length tapes.dealer) (need_of entries) few) (sym is)
 
-pub deal_answered_so : (words : List (List ℕ)) (ask : DealAsk) (files : Contents) (s : Status) → words_of words ≡ Some (deal ask) → DealRefused ask files s
-    → HasAnswerOf words files s
+pub deal_answered_so : (words : List (List ℕ)) (ask : DealAsk) (outside : Outside) (s : Status) → words_of words ≡ Some (deal ask)
+    → DealRefused ask outside.files s → HasAnswerOf words outside s
 unfolding answer_to question_of
-deal_answered_so words ask files s asks out =
-    let (found, any) = found_nothing files in
-    (deal_of ask files, is_answer words (deal ask) files found asks any, deal_refused ask files s out)
+deal_answered_so words ask outside s asks out =
+    let (found, any) = found_nothing outside.files in
+    (deal_of ask outside.files, is_answer words (deal ask) outside found asks any, deal_refused ask outside.files s out)
 
-module _ (ask : DealAsk) (files : Contents) (r : Answer) (refusal : is_refusal (status_in_answer r) ≡ true) where
+module _ (ask : DealAsk) (files : Contents) (r : Answer) (refusal : can_refuse (status_in_answer r) ≡ true) where
   by_input : (c : Cause) → r ≡ Err c → ReadRefused files ask.input bad_input inputs_read_of c → DealRefused ask files (status_in_answer r)
   by_input c is (inl missed) = not_missing r c ask.input refusal is missed
   by_input c is (inr (bytes, err, there, bad, e)) = unreadable_entries (refusing r c is ∙ ap status_of_cause e ∙ input_status err) bytes err there bad
@@ -65,7 +66,7 @@ module _ (ask : DealAsk) (files : Contents) (r : Answer) (refusal : is_refusal (
   at_dealing entries tapes held is false enough =
       let whole : dealing ask.to entries tapes ≡ Ok (deal_effect ask.to entries tapes) = rw enough refl in
       let done : status_in_answer r ≡ statuses.Done = ap status_in_answer (sym is ∙ whole) in
-      let wrong : is_refusal statuses.Done ≡ true = subst (λ (x : Status). is_refusal x ≡ true) done refusal in
+      let wrong : can_refuse statuses.Done ≡ true = subst (λ (x : Status). can_refuse x ≡ true) done refusal in
       absurd cc
 
   at_tape : (entries : List Entry) → inputs_at files ask.input ≡ Ok entries → (tape_file_at files ask.tape >>= dealing ask.to entries) ≡ r
@@ -87,9 +88,9 @@ module _ (ask : DealAsk) (files : Contents) (r : Answer) (refusal : is_refusal (
         | inr (entries, e, rest) ↦ at_tape entries e rest
       ]
 
-pub deal_refused_only : (words : List (List ℕ)) (ask : DealAsk) (files : Contents) → words_of words ≡ Some (deal ask) → (answer : Answer)
-    → IsAnswer words files answer → is_refusal (status_in_answer answer) ≡ true → DealRefused ask files (status_in_answer answer)
+pub deal_refused_only : (words : List (List ℕ)) (ask : DealAsk) (outside : Outside) → words_of words ≡ Some (deal ask) → (answer : Answer)
+    → IsAnswer words outside answer → can_refuse (status_in_answer answer) ≡ true → DealRefused ask outside.files (status_in_answer answer)
 unfolding answer_to question_of
-deal_refused_only words ask files asks answer a refusal =
-    let (found, at, is) = command_answers words (deal ask) files answer asks a in
-    refused_only ask files answer refusal is
+deal_refused_only words ask outside asks answer a refusal =
+    let (found, at, is) = command_answers words (deal ask) outside answer asks a in
+    refused_only ask outside.files answer refusal is

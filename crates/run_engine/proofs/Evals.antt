@@ -7,10 +7,11 @@ use Rattle.command_words.specs.Ask.{EvalAsk, eval, need, words_of}
 use Rattle.typed_tree.specs.Programs.{TypedProgramTree}
 use Rattle.value_file.specs.declared.inputs.Entry.{Entry}
 use Rattle.language_model.specs.Reports.{Report}
-use Rattle.run_engine.specs.Eval.{eval_of, eval_text, need_of, need_text, report_at, report_effect, report_for}
+use Rattle.run_engine.specs.Eval.{eval_of, eval_text, needs_of, need_text, report_at, report_effect, report_for}
 use Rattle.run_engine.specs.Judging.{Finding, FoundAt, its_program}
 use Rattle.run_engine.specs.Reading.{bad_input, inputs_at}
 use Rattle.run_engine.specs.Runs.{HoldsEvaluation, Evaluates, EvalRefused, of_program, bad_entries}
+use Rattle.run_engine.specs.Told.{Outside}
 use Rattle.run_engine.specs.Words.{answer_to, question_of, IsAnswer}
 use Rattle.run_engine.proofs.EvalRefusals.{report_refused_only}
 use Rattle.run_engine.proofs.Held.{found_of, found_there, no_program, program_there}
@@ -27,21 +28,23 @@ report_there ask files p entries h = rw (program_there ask.program files p h.pro
 abbrev pub printed : (Report → List ℕ) → Report → Answer
 printed text report = Ok (report_effect text report)
 
-pub eval_answered : (words : List (List ℕ)) (ask : EvalAsk) (files : Contents) (p : TypedProgramTree) (entries : List Entry)
-    → words_of words ≡ Some (eval ask) → HoldsEvaluation ask files p entries → IsAnswer words files (printed eval_text (report_for p entries ask.budget))
+pub eval_answered : (words : List (List ℕ)) (ask : EvalAsk) (outside : Outside) (p : TypedProgramTree) (entries : List Entry)
+    → words_of words ≡ Some (eval ask) → HoldsEvaluation ask outside.files p entries
+    → IsAnswer words outside (printed eval_text (report_for p entries ask.budget))
 unfolding answer_to question_of eval_of
-eval_answered words ask files p entries asks h =
-    let found : Finding = found_of ask.program files p h.program in
-    subst (IsAnswer words files) (rw (report_there ask files p entries h) refl)
-    (is_answer words (eval ask) files found asks (found_there ask.program files p h.program))
+eval_answered words ask outside p entries asks h =
+    let found : Finding = found_of ask.program outside.files p h.program in
+    subst (IsAnswer words outside) (rw (report_there ask outside.files p entries h) refl)
+    (is_answer words (eval ask) outside found asks (found_there ask.program outside.files p h.program))
 
-pub need_answered : (words : List (List ℕ)) (ask : EvalAsk) (files : Contents) (p : TypedProgramTree) (entries : List Entry)
-    → words_of words ≡ Some (need ask) → HoldsEvaluation ask files p entries → IsAnswer words files (printed need_text (report_for p entries ask.budget))
-unfolding answer_to question_of need_of
-need_answered words ask files p entries asks h =
-    let found : Finding = found_of ask.program files p h.program in
-    subst (IsAnswer words files) (rw (report_there ask files p entries h) refl)
-    (is_answer words (need ask) files found asks (found_there ask.program files p h.program))
+pub need_answered : (words : List (List ℕ)) (ask : EvalAsk) (outside : Outside) (p : TypedProgramTree) (entries : List Entry)
+    → words_of words ≡ Some (need ask) → HoldsEvaluation ask outside.files p entries
+    → IsAnswer words outside (printed need_text (report_for p entries ask.budget))
+unfolding answer_to question_of needs_of
+need_answered words ask outside p entries asks h =
+    let found : Finding = found_of ask.program outside.files p h.program in
+    subst (IsAnswer words outside) (rw (report_there ask outside.files p entries h) refl)
+    (is_answer words (need ask) outside found asks (found_there ask.program outside.files p h.program))
 
 -- ---- files that are refused
 
@@ -62,22 +65,23 @@ no_report ask files s (bad_entries is p h bytes err there bad) = (
   is,
 )
 
-pub eval_answered_so : (words : List (List ℕ)) (ask : EvalAsk) (files : Contents) (s : Status) → Evaluates (words_of words) ask → EvalRefused ask files s → HasAnswerOf words files s
-unfolding answer_to question_of eval_of need_of
-eval_answered_so words ask files s (inl asks) out =
-    let (found, c, at, e, is) = no_report ask files s out in
-    (eval_of found ask files, is_answer words (eval ask) files found asks at, rw e (sym is))
-eval_answered_so words ask files s (inr asks) out =
-    let (found, c, at, e, is) = no_report ask files s out in
-    (need_of found ask files, is_answer words (need ask) files found asks at, rw e (sym is))
+pub eval_answered_so : (words : List (List ℕ)) (ask : EvalAsk) (outside : Outside) (s : Status) → Evaluates (words_of words) ask
+    → EvalRefused ask outside.files s → HasAnswerOf words outside s
+unfolding answer_to question_of eval_of needs_of
+eval_answered_so words ask outside s (inl asks) out =
+    let (found, c, at, e, is) = no_report ask outside.files s out in
+    (eval_of found ask outside.files, is_answer words (eval ask) outside found asks at, rw e (sym is))
+eval_answered_so words ask outside s (inr asks) out =
+    let (found, c, at, e, is) = no_report ask outside.files s out in
+    (needs_of found ask outside.files, is_answer words (need ask) outside found asks at, rw e (sym is))
 
-pub eval_refused_so : (words : List (List ℕ)) (ask : EvalAsk) (files : Contents) → Evaluates (words_of words) ask → (answer : Answer)
-    → IsAnswer words files answer
-    → Refuses (status_in_answer answer) → EvalRefused ask files (status_in_answer answer)
-unfolding answer_to question_of eval_of need_of
-eval_refused_so words ask files (inl asks) answer a why =
-    let (found, at, is) = command_answers words (eval ask) files answer asks a in
-    report_refused_only found ask files at answer why eval_text is
-eval_refused_so words ask files (inr asks) answer a why =
-    let (found, at, is) = command_answers words (need ask) files answer asks a in
-    report_refused_only found ask files at answer why need_text is
+pub eval_refused_so : (words : List (List ℕ)) (ask : EvalAsk) (outside : Outside) → Evaluates (words_of words) ask → (answer : Answer)
+    → IsAnswer words outside answer
+    → Refuses (status_in_answer answer) → EvalRefused ask outside.files (status_in_answer answer)
+unfolding answer_to question_of eval_of needs_of
+eval_refused_so words ask outside (inl asks) answer a why =
+    let (found, at, is) = command_answers words (eval ask) outside answer asks a in
+    report_refused_only found ask outside.files at answer why eval_text is
+eval_refused_so words ask outside (inr asks) answer a why =
+    let (found, at, is) = command_answers words (need ask) outside answer asks a in
+    report_refused_only found ask outside.files at answer why need_text is

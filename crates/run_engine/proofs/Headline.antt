@@ -1,12 +1,13 @@
 -- The sentences of the headline, from what `run` keeps and from the laws of evaluation and of views.
-use Rattle.std.proofs.Common.{◌≡◌, ◌≢◌, ◌≤◌, ◌⊎◌, ℕ, List, [], true, false, Some, Err, refl, ap, subst, sym, ◌∙◌, inl, inr}
+use Rattle.std.proofs.Common.{◌≡◌, ◌≢◌, ◌≤◌, ◌⊎◌, ℕ, ℤ, List, [], true, false, Some, Err, refl, ap, subst, sym, ◌∙◌, inl, inr}
 use Rattle.outside.specs.Files.{Contents, FilesState}
 use Rattle.outside.specs.Sink.{SinkState}
 use Rattle.command_frame.specs.declared.status.Status.{Status}
 use Rattle.command_frame.specs.declared.status.Status.TheVariants as statuses
-use Rattle.command_frame.specs.Answer.{Answer}
-use Rattle.command_frame.specs.Status.{is_end, is_fault, is_refusal}
-use Rattle.command_frame.specs.Whole.{CarriedOut, IsAnswered, IsDone}
+use Rattle.command_frame.specs.Answer.{Answer, Cause}
+use Rattle.command_frame.specs.Finish.{PutLine}
+use Rattle.command_frame.specs.Status.{can_refuse, is_end}
+use Rattle.command_frame.specs.Whole.{CarriedOut, HasFailed, IsAnswered, IsDone}
 use Rattle.command_words.specs.Ask.{RunAsk, run, words_of}
 use Rattle.sc_text.specs.declared.end.Ending.TheVariants.{Done, Trap, Budget, Tape}
 use Rattle.clear_eval.specs.Offers.{offered}
@@ -26,6 +27,7 @@ use Rattle.run_engine.specs.Promises.{AllSteady, Gives, Keeps, RunEffect}
 use Rattle.run_engine.specs.Run.{refused_with, run_report, run_told}
 use Rattle.run_engine.specs.Runs.{IsNotTaken, ProgramRefused, RunRefused, bad_program, bad_input, bad_tape, bad_schedule, not_taken, bad_text, too_large}
 use Rattle.run_engine.specs.Words.{IsAnswer}
+use Rattle.run_engine.proofs.Promises.{outside_with}
 use Rattle.run_engine.proofs.RunRefusals.{run_refused_by_net}
 
 -- ---- a delivery that leaves nothing to come
@@ -46,15 +48,20 @@ module _ (words : List (List ℕ)) (f f' : FilesState) (o o' : SinkState) (s : S
 
 -- ---- one that is refused
 
-module _ (words : List (List ℕ)) (f f' : FilesState) (o o' e e' : SinkState) (s : Status)
-    (carried : (answer : Answer) → IsAnswer words f.contents answer → is_fault s ≡ false → CarriedOut answer f f' o o' e e' s)
-    (complete : (answer : Answer) → IsAnswer words f.contents answer → AllSteady f o → IsAnswered answer s ⊎ (s ≡ statuses.Memory)) where
+module _ (words : List (List ℕ)) (coming : ℕ → List ℕ) (status : ℕ → ℤ) (f f' : FilesState) (o o' e e' : SinkState) (s : Status)
+    (carried : (answer : Answer) → IsAnswer words (outside_with f coming status) answer → CarriedOut answer f f' o o' e e' s ⊎ HasFailed f f' o o' s)
+    (complete : (answer : Answer) → IsAnswer words (outside_with f coming status) answer → AllSteady f o → IsAnswered answer s ⊎ (s ≡ statuses.Memory)) where
+  -- a status that tells no fault is that of an answer that is carried out
+  said : (c : Cause) → c.status ≡ statuses.Schedule → s ≡ c.status → CarriedOut (Err c) f f' o o' e e' s ⊎ HasFailed f f' o o' s → PutLine c.line e e'
+  said c is same (inl carried) = carried.1
+  said c is same (inr failed) = absurd (subst (HasFailed f f' o o') (is ∙ same) failed)
+
   pub refuses : (g : Given) → IsGiven words f.contents g → IsNotTaken (net_given g) → AllSteady f o → RefusesSchedule g e e' s
   refuses g given refused steady =
-      let answer : IsAnswer words f.contents (Err (refused_with (refused_line (net_given g)))) =
-      run_refused_by_net words g.ask f.contents g.program g.entries g.tapes g.delivery given.asks given.held refused in
+      let answer : IsAnswer words (outside_with f coming status) (Err (refused_with (refused_line (net_given g)))) =
+      run_refused_by_net words g.ask (outside_with f coming status) g.program g.entries g.tapes g.delivery given.asks given.held refused in
       elim (complete (Err (refused_with (refused_line (net_given g)))) answer steady) [
-        | inl is ↦ inl (is, (carried (Err (refused_with (refused_line (net_given g)))) answer (ap is_fault is)).1)
+        | inl is ↦ inl (is, said (refused_with (refused_line (net_given g))) refl is (carried (Err (refused_with (refused_line (net_given g)))) answer))
         | inr memory ↦ inr memory
       ]
 
@@ -74,7 +81,7 @@ only_refused ask files (not_taken is p entries tapes delivery h refused) =
 pub schedule_refused : (ask : RunAsk) (f f' : FilesState) (o o' : SinkState) (s : Status) → s ≡ statuses.Schedule
     → Keeps (RunEffect ask f.contents) (RunRefused ask f.contents) is_end f f' o o' s → ScheduleRefused ask f.contents
 schedule_refused ask f f' o o' s is keeps =
-    only_refused ask f.contents (subst (RunRefused ask f.contents) is (keeps.refused_only (ap is_refusal is) (ap is_end is)))
+    only_refused ask f.contents (subst (RunRefused ask f.contents) is (keeps.refused_only (ap can_refuse is) (ap is_end is)))
 
 -- ---- how a run ends
 

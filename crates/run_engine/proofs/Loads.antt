@@ -29,19 +29,21 @@ use Rattle.counted_net.specs.declared.delivery.DeliveryErr.TheVariants as refusa
 use Rattle.delivered_run.specs.declared.running.DeliveredRun.{DeliveredRun}
 use Rattle.delivered_run.proofs.Taken.{made_deliveries_are_taken}
 use Rattle.command_frame.specs.declared.plan.Plan.{Plan}
+use Rattle.command_frame.specs.declared.object.Object.TheVariants as objects
 use Rattle.command_frame.specs.declared.stop.Stop.{Stop}
 use Rattle.command_frame.specs.declared.stop.Stop.TheVariants as stops
 use Rattle.command_frame.specs.Answer.{Answer, Effect, effect_of}
 use Rattle.command_frame.specs.Reads.{Gives, KeepsTo, PlanNames, StopNames, StopsReading}
 use Rattle.command_frame.proofs.Wholes.{unchanged}
 use Rattle.command_words.specs.Ask.{LoadAsk, load, words_of}
-use Rattle.run_engine.specs.Ends.{status_of}
+use Rattle.run_engine.specs.Ends.{ending_status}
 use Rattle.run_engine.specs.Eval.{end_of}
 use Rattle.run_engine.specs.Judging.{Finding, HasFinding, nothing}
 use Rattle.run_engine.specs.Load.{load_budget, load_effect, load_links, load_of, load_report, load_tapes, loaded_effect, messages_text}
 use Rattle.run_engine.specs.Obeying.{Planned}
 use Rattle.run_engine.specs.OfText.{Decides, IsFoundOf, program_in}
 use Rattle.run_engine.specs.Run.{run_report}
+use Rattle.run_engine.specs.Told.{Outside}
 use Rattle.run_engine.specs.Words.{answer_to, question_of, reads_of, writes_of, IsAnswer}
 use Rattle.run_engine.proofs.Judged.{found_nothing}
 use Rattle.run_engine.proofs.OfTexts.{only_memory}
@@ -119,7 +121,7 @@ run_of_load p entries tapes ran is h = subst (λ (x : TypedProgramTree). HasRunO
 
 abbrev effect_with : List Event → End → List Link → Effect
 effect_with events end links =
-    record { writes = []; text = run_text events end ++ messages_text (length links); status = status_of end.how }
+    record { writes = []; text = run_text events end ++ messages_text (length links); status = ending_status end.how }
 
 abbrev load_run : (number : ℕ) → DeliveredRun → Type 0
 load_run number ran = HasRunOf load_typed (load_entries number) (load_tapes number) load_budget Default ran
@@ -153,7 +155,7 @@ module _ (ask : LoadAsk) (f : FilesState) where
   reading (Err stop) memory = subst (StopsReading f f) (sym memory) tt
 
   no_file : (stop : Stop) → stop ≡ stops.Memory → StopNames [] stop
-  no_file stop memory = record { named = λ line is. let wrong : stops.Memory ≡ stops.File line = sym memory ∙ is in absurd cc }
+  no_file stop memory = record { named = λ line is. let wrong : stops.Memory ≡ stops.Failed (objects.File line) = sym memory ∙ is in absurd cc }
 
   keeping : (r : Result Plan Stop) → IfErr r (λ stop. stop ≡ stops.Memory) → IfOk r (PlanNames []) → KeepsTo [] [] r
   keeping (Ok plan) memory names = names
@@ -165,7 +167,7 @@ module _ (ask : LoadAsk) (f : FilesState) where
   load_planned r is memory names = record {
     files = unchanged f;
     anyhow = reading r memory;
-    answer = λ found at. gives r is memory;
+    answer = λ coming status found at. gives r is memory;
     found = λ t tells. found_nothing f.contents;
     keeps = keeping r memory names;
   }
@@ -175,14 +177,14 @@ module _ (ask : LoadAsk) (f : FilesState) where
 abbrev loads : (number : ℕ) → Answer
 loads number = Ok (load_effect number)
 
-pub load_answered : (words : List (List ℕ)) (ask : LoadAsk) (files : Contents) → words_of words ≡ Some (load ask) → HasFinding nothing files
-    → IsAnswer words files (loads ask.number)
+pub load_answered : (words : List (List ℕ)) (ask : LoadAsk) (outside : Outside) → words_of words ≡ Some (load ask) → HasFinding nothing outside.files
+    → IsAnswer words outside (loads ask.number)
 unfolding answer_to question_of load_of
-load_answered words ask files asks (found, any) = is_answer words (load ask) files found asks any
+load_answered words ask outside asks (found, any) = is_answer words (load ask) outside found asks any
 
-pub load_never_refused : (words : List (List ℕ)) (ask : LoadAsk) (files : Contents) → words_of words ≡ Some (load ask) → (answer : Answer)
-    → IsAnswer words files answer → Refuses (status_in_answer answer) → ⊥
+pub load_never_refused : (words : List (List ℕ)) (ask : LoadAsk) (outside : Outside) → words_of words ≡ Some (load ask) → (answer : Answer)
+    → IsAnswer words outside answer → Refuses (status_in_answer answer) → ⊥
 unfolding answer_to question_of load_of
-load_never_refused words ask files asks answer a why =
-    let (found, at, is) = command_answers words (load ask) files answer asks a in
+load_never_refused words ask outside asks answer a why =
+    let (found, at, is) = command_answers words (load ask) outside answer asks a in
     no_ending (status_in_answer answer) (end_of (load_report ask.number)).how why (ap status_in_answer (sym is))

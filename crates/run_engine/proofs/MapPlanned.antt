@@ -49,18 +49,3 @@ pub mapped_so : (found : Finding) (ask : MapAsk) (f : FilesState) (p : TypedProg
     → map_effect ask p entries tapes ≡ effect → map_of found ask f.contents ≡ Ok effect
 unfolding map_of
 mapped_so found ask f p entries tapes effect program inputs taped is = rw (program, inputs, taped) (ap (λ (e : Effect). Ok e) is)
-
--- ---- the command's own part
-
-pub map_planned : (f f' : FilesState) (r : Result Plan Stop) → OnlyRead f f' → IfErr r (StopsReading f f') → (ask : MapAsk)
-    → ((found : Finding) → FoundAt (its_program ask.program) f.contents found → Gives effect_of f f' r (map_of found ask f.contents))
-    → (f.told ≡ true → Tells f r → HasFinding (its_program ask.program) f.contents) → KeepsTo (map_paths ask) (mapped_paths ask) r
-    → Planned (map_tape ask) f f' r
-unfolding answer_to question_of reads_of writes_of
-map_planned f f' r read anyhow ask answer found keeps = record {
-  files = read;
-  anyhow = anyhow;
-  answer = answer;
-  found = found;
-  keeps = keeps;
-}

@@ -3,7 +3,7 @@ use Rattle.std.proofs.Common.{◌≡◌, ℕ, List, true, Some, Ok, Err, refl, a
 use Rattle.outside.specs.Files.{Contents}
 use Rattle.command_frame.specs.declared.status.Status.{Status}
 use Rattle.command_frame.specs.Answer.{Answer, Cause, ◌>>=◌}
-use Rattle.command_frame.specs.Status.{is_refusal}
+use Rattle.command_frame.specs.Status.{can_refuse}
 use Rattle.command_words.specs.Ask.{MapAsk, map_tape, words_of}
 use Rattle.tape_file.specs.Format.{read_of as tapes_read_of}
 use Rattle.tape_file.specs.Tapes.{FourTapes}
@@ -16,6 +16,7 @@ use Rattle.run_engine.specs.MapPromises.{HoldsMap, MapRefused, for_input, for_pr
 use Rattle.run_engine.specs.Programs.{program_at}
 use Rattle.run_engine.specs.Reading.{bad_input, bad_tape, inputs_at, tape_file_at}
 use Rattle.run_engine.specs.Runs.{HoldsTyped}
+use Rattle.run_engine.specs.Told.{Outside}
 use Rattle.run_engine.specs.Words.{answer_to, question_of, IsAnswer}
 use Rattle.run_engine.proofs.Accepting.{program_cases, refused_by_program}
 use Rattle.run_engine.proofs.Held.{found_of, found_there, no_program, program_there}
@@ -32,12 +33,12 @@ map_there : (ask : MapAsk) (files : Contents) (p : TypedProgramTree) (entries : 
 unfolding map_of
 map_there ask files p entries tapes h = rw (program_there ask.program files p h.program h.program.within.list, h.inputs, h.tapes) refl
 
-pub map_answered : (words : List (List ℕ)) (ask : MapAsk) (files : Contents) (p : TypedProgramTree) (entries : List Entry) (tapes : FourTapes)
-    → words_of words ≡ Some (map_tape ask) → HoldsMap ask files p entries tapes → IsAnswer words files (mapped_to ask p entries tapes)
+pub map_answered : (words : List (List ℕ)) (ask : MapAsk) (outside : Outside) (p : TypedProgramTree) (entries : List Entry) (tapes : FourTapes)
+    → words_of words ≡ Some (map_tape ask) → HoldsMap ask outside.files p entries tapes → IsAnswer words outside (mapped_to ask p entries tapes)
 unfolding answer_to question_of
-map_answered words ask files p entries tapes asks h =
-    subst (IsAnswer words files) (map_there ask files p entries tapes h)
-    (is_answer words (map_tape ask) files (found_of ask.program files p h.program) asks (found_there ask.program files p h.program))
+map_answered words ask outside p entries tapes asks h =
+    subst (IsAnswer words outside) (map_there ask outside.files p entries tapes h)
+    (is_answer words (map_tape ask) outside (found_of ask.program outside.files p h.program) asks (found_there ask.program outside.files p h.program))
 
 -- ---- files that are refused
 
@@ -61,17 +62,17 @@ map_refused ask files s (for_tape is p h entries inputs bytes place there bad) =
   rw (program_there ask.program files p h h.within.list, inputs, read_there files ask.tape bytes there, bad) (sym is),
 )
 
-pub map_answered_so : (words : List (List ℕ)) (ask : MapAsk) (files : Contents) (s : Status) → words_of words ≡ Some (map_tape ask)
-    → MapRefused ask files s → HasAnswerOf words files s
+pub map_answered_so : (words : List (List ℕ)) (ask : MapAsk) (outside : Outside) (s : Status) → words_of words ≡ Some (map_tape ask)
+    → MapRefused ask outside.files s → HasAnswerOf words outside s
 unfolding answer_to question_of
-map_answered_so words ask files s asks out =
-    let (found, at, status) = map_refused ask files s out in
-    (map_of found ask files, is_answer words (map_tape ask) files found asks at, status)
+map_answered_so words ask outside s asks out =
+    let (found, at, status) = map_refused ask outside.files s out in
+    (map_of found ask outside.files, is_answer words (map_tape ask) outside found asks at, status)
 
 -- ---- and only so
 
 module _ (found : Finding) (ask : MapAsk) (files : Contents) (h : FoundAt (its_program ask.program) files found) (r : Answer)
-    (refusal : is_refusal (status_in_answer r) ≡ true) where
+    (refusal : can_refuse (status_in_answer r) ≡ true) where
   by_input : (p : TypedProgramTree) → HoldsTyped ask.program files p → (c : Cause) → r ≡ Err c → ReadRefused files ask.input bad_input inputs_read_of c
       → MapRefused ask files (status_in_answer r)
   by_input p held c is (inl missed) = not_missing r c ask.input refusal is missed
@@ -112,9 +113,9 @@ module _ (found : Finding) (ask : MapAsk) (files : Contents) (h : FoundAt (its_p
         | inr (p, e, rest) ↦ at_inputs p (program_cases found files ask.program h (Ok p) e) rest
       ]
 
-pub map_refused_only : (words : List (List ℕ)) (ask : MapAsk) (files : Contents) → words_of words ≡ Some (map_tape ask) → (answer : Answer)
-    → IsAnswer words files answer → is_refusal (status_in_answer answer) ≡ true → MapRefused ask files (status_in_answer answer)
+pub map_refused_only : (words : List (List ℕ)) (ask : MapAsk) (outside : Outside) → words_of words ≡ Some (map_tape ask) → (answer : Answer)
+    → IsAnswer words outside answer → can_refuse (status_in_answer answer) ≡ true → MapRefused ask outside.files (status_in_answer answer)
 unfolding answer_to question_of
-map_refused_only words ask files asks answer a refusal =
-    let (found, at, is) = command_answers words (map_tape ask) files answer asks a in
-    refused_only found ask files at answer refusal is
+map_refused_only words ask outside asks answer a refusal =
+    let (found, at, is) = command_answers words (map_tape ask) outside answer asks a in
+    refused_only found ask outside.files at answer refusal is

@@ -1,10 +1,10 @@
 -- What a command did, from what its steps did.
-use Rattle.std.proofs.Common.{◌≡◌, ℕ, List, [], true, Some, None, Ok, Err, Result, subst, sym, ◌∙◌, inl, inr}
+use Rattle.std.proofs.Common.{◌≡◌, ℕ, ℤ, List, true, Some, None, Ok, Err, Result, subst, sym, ◌∙◌, inl, inr}
 use Rattle.std.specs.Prelude.{IfErr}
 use Rattle.std.specs.Result.{IsErrAnd}
 use Rattle.outside.specs.Files.{FilesState}
 use Rattle.outside.specs.Sink.{SinkState}
-use Rattle.command_words.specs.Ask.{Ask, CheckAsk, CompileAsk, DealAsk, EvalAsk, RunAsk, check, compile, deal, eval, need, run, words_of}
+use Rattle.command_words.specs.Ask.{Ask, words_of}
 use Rattle.command_frame.specs.declared.plan.Plan.{Plan}
 use Rattle.command_frame.specs.declared.status.Status.{Status}
 use Rattle.command_frame.specs.declared.stop.Stop.{Stop}
@@ -14,98 +14,36 @@ use Rattle.command_frame.specs.Finish.{Finishes, OnlyAmong}
 use Rattle.command_frame.specs.Reads.{Gives, KeepsTo, OnlyRead, StopsReading}
 use Rattle.command_frame.specs.Whole.{EndsAs, StopsAtFile}
 use Rattle.command_frame.proofs.Wholes.{acts_anyhow, acts_as, among_written, ends_anyhow, ends_as, nothing_written, only_written, read_only, reading_stops, same_sink, stops_anyhow, stops_as, stops_so, unchanged, writing_stops}
-use Rattle.run_engine.specs.Check.{check_of, check_paths}
-use Rattle.run_engine.specs.Compile.{compile_of, compile_paths, compiled_paths}
-use Rattle.run_engine.specs.Deal.{deal_of, deal_paths, written_paths}
-use Rattle.run_engine.specs.Eval.{eval_of, eval_paths, need_of}
-use Rattle.run_engine.specs.Judging.{Finding, FoundAt, HasFinding, Tells, its_program}
-use Rattle.run_engine.specs.Obeying.{Acted, CommandAnswers, Obeyed, Planned}
-use Rattle.run_engine.specs.Run.{ran_paths, run_of, run_paths}
-use Rattle.run_engine.specs.Words.{answer_to, question_of, reads_of, read_by, writes_of, written_by, IsAnswer}
+use Rattle.run_engine.specs.Judging.{Finding, FoundAt, HasFinding, Tells}
+use Rattle.run_engine.specs.Obeying.{Acted, CommandAnswers, Obeyed, Planned, WordsAnswer}
+use Rattle.run_engine.specs.Told.{told_over}
+use Rattle.run_engine.specs.Words.{answer_to, question_of, reads_of, read_by, writes_of, written_by}
 use Rattle.run_engine.proofs.Judged.{found_nothing}
-use Rattle.run_engine.proofs.Runs.{answer_of_usage, command_answers, has_answer, reads_by, writes_by}
-use Rattle.run_engine.proofs.Tops.{is_named, printed_so}
+use Rattle.run_engine.proofs.Runs.{command_answers_over, found_by, found_of_usage, reads_by, writes_by}
+use Rattle.run_engine.proofs.Tops.{found_so, is_named}
 
--- ---- each command's own part
+-- ---- a command's own part
 
-module _ (f f' : FilesState) (r : Result Plan Stop) (read : OnlyRead f f') (anyhow : IfErr r (StopsReading f f')) where
-  pub run_planned : (ask : RunAsk)
-      → ((found : Finding) → FoundAt (its_program ask.program) f.contents found → Gives effect_of f f' r (run_of found ask f.contents))
-      → (f.told ≡ true → Tells f r → HasFinding (its_program ask.program) f.contents) → KeepsTo (run_paths ask) (ran_paths ask) r → Planned (run ask) f f' r
-  unfolding answer_to question_of reads_of writes_of
-  run_planned ask answer found keeps = record {
-    files = read;
-    anyhow = anyhow;
-    answer = answer;
-    found = found;
-    keeps = keeps;
-  }
-
-  pub check_planned : (ask : CheckAsk)
-      → ((found : Finding) → FoundAt (its_program ask.program) f.contents found → Gives effect_of f f' r (check_of found ask f.contents))
-      → (f.told ≡ true → Tells f r → HasFinding (its_program ask.program) f.contents) → KeepsTo (check_paths ask) [] r → Planned (check ask) f f' r
-  unfolding answer_to question_of reads_of writes_of
-  check_planned ask answer found keeps = record {
-    files = read;
-    anyhow = anyhow;
-    answer = answer;
-    found = found;
-    keeps = keeps;
-  }
-
-  pub compile_planned : (ask : CompileAsk)
-      → ((found : Finding) → FoundAt (its_program ask.program) f.contents found → Gives effect_of f f' r (compile_of found ask f.contents))
-      → (f.told ≡ true → Tells f r → HasFinding (its_program ask.program) f.contents) → KeepsTo (compile_paths ask) (compiled_paths ask) r → Planned (compile ask) f f' r
-  unfolding answer_to question_of reads_of writes_of
-  compile_planned ask answer found keeps = record {
-    files = read;
-    anyhow = anyhow;
-    answer = answer;
-    found = found;
-    keeps = keeps;
-  }
-
-  pub deal_planned : (ask : DealAsk) → Gives effect_of f f' r (deal_of ask f.contents) → KeepsTo (deal_paths ask) (written_paths ask.to) r
-      → Planned (deal ask) f f' r
-  unfolding answer_to question_of reads_of writes_of
-  deal_planned ask answer keeps = record {
-    files = read;
-    anyhow = anyhow;
-    answer = λ found at. answer;
-    found = λ t tells. found_nothing f.contents;
-    keeps = keeps;
-  }
-
-  pub eval_planned : (ask : EvalAsk)
-      → ((found : Finding) → FoundAt (its_program ask.program) f.contents found → Gives effect_of f f' r (eval_of found ask f.contents))
-      → (f.told ≡ true → Tells f r → HasFinding (its_program ask.program) f.contents) → KeepsTo (eval_paths ask) [] r → Planned (eval ask) f f' r
-  unfolding answer_to question_of reads_of writes_of
-  eval_planned ask answer found keeps = record {
-    files = read;
-    anyhow = anyhow;
-    answer = answer;
-    found = found;
-    keeps = keeps;
-  }
-
-  pub need_planned : (ask : EvalAsk)
-      → ((found : Finding) → FoundAt (its_program ask.program) f.contents found → Gives effect_of f f' r (need_of found ask f.contents))
-      → (f.told ≡ true → Tells f r → HasFinding (its_program ask.program) f.contents) → KeepsTo (eval_paths ask) [] r → Planned (need ask) f f' r
-  unfolding answer_to question_of reads_of writes_of
-  need_planned ask answer found keeps = record {
-    files = read;
-    anyhow = anyhow;
-    answer = answer;
-    found = found;
-    keeps = keeps;
-  }
+pub planned : (ask : Ask) (f f' : FilesState) (r : Result Plan Stop) → OnlyRead f f' → IfErr r (StopsReading f f')
+    → ((coming : ℕ → List ℕ) (status : ℕ → ℤ) (found : Finding) → FoundAt (question_of ask) f.contents found
+    → Gives effect_of f f' r (answer_to ask (told_over f.contents coming status found)))
+    → (f.told ≡ true → Tells f r → HasFinding (question_of ask) f.contents) → KeepsTo (reads_of ask) (writes_of ask) r → Planned ask f f' r
+planned ask f f' r read anyhow answer found keeps = record {
+  files = read;
+  anyhow = anyhow;
+  answer = answer;
+  found = found;
+  keeps = keeps;
+}
 
 -- ---- a whole command
 
 obeyed_at : (ask : Ask) (f f' : FilesState) (o : SinkState) (stop : Stop) → Planned ask f f' (Err stop) → Obeyed ask f f' o o (Err stop)
 obeyed_at ask f f' o stop p = record {
   anyhow = stops_anyhow f f' o stop p.files p.anyhow;
-  ends = λ answer a. subst (λ (x : Answer). EndsAs x f f' o o (Err stop)) a.2 (stops_as (answer_to a.0 ask f.contents) f f' o stop p.files (p.answer a.0 a.1));
+  ends = λ answer a.
+      let wanted : Answer = answer_to ask (told_over f.contents a.0 a.1 a.2) in
+      subst (λ (x : Answer). EndsAs x f f' o o (Err stop)) a.4 (stops_as wanted f f' o stop p.files (p.answer a.0 a.1 a.2 a.3));
   files = λ answer a. read_only answer f f' p.files;
   only = nothing_written (writes_of ask) f f' p.files;
   stops = reading_stops (reads_of ask) (writes_of ask) (CommandAnswers ask f.contents) f f' stop p.files p.keeps;
@@ -121,7 +59,7 @@ obeyed_stop ask f f' o stop (Err given) is p = subst (λ (x : Stop). Obeyed ask 
 -- what is decided is the plan's effect
 decided : (ask : Ask) (f m : FilesState) (plan : Plan) → Planned ask f m (Ok plan) → (answer : Answer) → CommandAnswers ask f.contents answer
     → f.told ≡ true → answer ≡ Ok (effect_of plan)
-decided ask f m plan p answer a t = sym a.2 ∙ p.answer a.0 a.1 t
+decided ask f m plan p answer a t = sym a.4 ∙ p.answer a.0 a.1 a.2 a.3 t
 
 finish_stops : (ask : Ask) (f m f' : FilesState) (o o' : SinkState) (plan : Plan) (r : Result Status Stop) → Planned ask f m (Ok plan)
     → Finishes (effect_of plan) m f' o o' r
@@ -146,23 +84,23 @@ obeyed_end ask f m f' o o' plan r p among finishes = record {
 
 named_stops : (words : List (List ℕ)) (ask : Ask) (f f' : FilesState) (r : Result Status Stop) → words_of words ≡ Some ask
     → IfErr r (StopsAtFile (reads_of ask) (writes_of ask) (CommandAnswers ask f.contents) f f')
-    → IfErr r (StopsAtFile (read_by words) (written_by words) (IsAnswer words f.contents) f f')
+    → IfErr r (StopsAtFile (read_by words) (written_by words) (WordsAnswer words f.contents) f f')
 named_stops words ask f f' (Ok s) e stops = tt
 named_stops words ask f f' (Err stop) e stops =
     rw (reads_by words ask e, writes_by words ask e)
-    (stops_so (reads_of ask) (writes_of ask) (CommandAnswers ask f.contents) (IsAnswer words f.contents) f f' stop
-    (λ answer a. command_answers words ask f.contents answer e a) stops)
+    (stops_so (reads_of ask) (writes_of ask) (CommandAnswers ask f.contents) (WordsAnswer words f.contents) f f' stop
+    (λ answer a. command_answers_over words ask f.contents answer e a) stops)
 
 pub acted_obeyed : (words : List (List ℕ)) (ask : Ask) (f f' : FilesState) (o o' : SinkState) (r : Result Status Stop) → words_of words ≡ Some ask
     → Obeyed ask f f' o o' r → Acted words f f' o o' r
 acted_obeyed words ask f f' o o' r e b = record {
   anyhow = acts_anyhow (words_of words) f f' o o' r (is_named words ask e) b.anyhow;
-  acts = λ answer a. acts_as (words_of words) answer f f' o o' r (is_named words ask e) (b.ends answer (command_answers words ask f.contents answer e a));
-  files = λ answer a. b.files answer (command_answers words ask f.contents answer e a);
+  acts = λ answer a. acts_as (words_of words) answer f f' o o' r (is_named words ask e) (b.ends answer (command_answers_over words ask f.contents answer e a));
+  files = λ answer a. b.files answer (command_answers_over words ask f.contents answer e a);
   only = rw (writes_by words ask e) b.only;
   stops = named_stops words ask f f' r e b.stops;
-  answered = λ t tells. has_answer words ask f.contents e (b.found t tells);
-  out = printed_so words ask f o o' e b.out;
+  found = λ t tells. found_by words ask f.contents e (b.found t tells);
+  out = found_so words ask f o o' e b.out;
 }
 
 no_file_usage : (reads written : List (List ℕ)) (Answers : Answer → Type 0) (f f' : FilesState) → StopsAtFile reads written Answers f f' stops.Usage
@@ -177,8 +115,8 @@ acted_usage words f o none = record {
   acts = λ answer a. (none, same_sink o, (unchanged f).same);
   files = λ answer a. read_only answer f f (unchanged f);
   only = nothing_written (written_by words) f f (unchanged f);
-  stops = no_file_usage (read_by words) (written_by words) (IsAnswer words f.contents) f f;
-  answered = λ t tells. answer_of_usage words f.contents none (found_nothing f.contents);
+  stops = no_file_usage (read_by words) (written_by words) (WordsAnswer words f.contents) f f;
+  found = λ t tells. found_of_usage words f.contents none (found_nothing f.contents);
   out = inl (same_sink o);
 }
 
@@ -188,7 +126,7 @@ acted_memory words f o = record {
   acts = λ answer a. inl (same_sink o);
   files = λ answer a. read_only answer f f (unchanged f);
   only = nothing_written (written_by words) f f (unchanged f);
-  stops = no_file_memory (read_by words) (written_by words) (IsAnswer words f.contents) f f;
-  answered = λ t tells. absurd tells;
+  stops = no_file_memory (read_by words) (written_by words) (WordsAnswer words f.contents) f f;
+  found = λ t tells. absurd tells;
   out = inl (same_sink o);
 }

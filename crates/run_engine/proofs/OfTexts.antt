@@ -10,6 +10,7 @@ use Rattle.program_limits.specs.declared.limit_err.LimitErr.{LimitErr}
 use Rattle.program_limits.specs.declared.limit_err.LimitErr.TheVariants.{TooManyInstances, ProgramTooLarge, FunctionTooLarge, Memory}
 use Rattle.program_limits.specs.Answer.{IsAnswer}
 use Rattle.front_end.specs.Judgement.{Judged, IsJudged}
+use Rattle.command_frame.specs.declared.object.Object.TheVariants as objects
 use Rattle.command_frame.specs.declared.stop.Stop.{Stop}
 use Rattle.command_frame.specs.declared.stop.Stop.TheVariants as stops
 use Rattle.command_frame.specs.Answer.{Cause, ◌>>=◌, bytes_at}
@@ -27,23 +28,20 @@ pub refuses_so : {Y : Type 0} (stop : Stop) (decided : Result Y Cause) {cause : 
 refuses_so stops.Memory decided for is = tt
 refuses_so stops.Usage decided for is = absurd for
 refuses_so (stops.Refused r) decided for is = is ∙ ap (λ (c : Cause). Err c) (sym for)
-refuses_so (stops.File line) decided for is = absurd for
-refuses_so stops.Out decided for is = absurd for
+refuses_so (stops.Failed object) decided for is = absurd for
 
 pub own_refusal : (cause : Cause) (stop : Stop) → IsRefusalFor cause stop → IsOwnStop stop
 own_refusal cause stops.Memory for = tt
 own_refusal cause stops.Usage for = absurd for
 own_refusal cause (stops.Refused r) for = tt
-own_refusal cause (stops.File line) for = absurd for
-own_refusal cause stops.Out for = absurd for
+own_refusal cause (stops.Failed object) for = absurd for
 
 -- a step behind a refused one isn't made
 pub stops_behind : {X Y : Type 0} (stop : Stop) (decided : Result X Cause) (more : X → Result Y Cause) → StopsSo stop decided → StopsSo stop (decided >>= more)
 stops_behind stops.Memory decided more s = tt
 stops_behind stops.Usage decided more s = absurd s
 stops_behind (stops.Refused r) decided more s = rw s refl
-stops_behind (stops.File line) decided more s = absurd s
-stops_behind stops.Out decided more s = absurd s
+stops_behind (stops.Failed object) decided more s = absurd s
 
 -- a stop that is handed on
 pub handed_on : {X Y : Type 0} (view : X → Y) (r : Result X Stop) (stop : Stop) (decided : Result Y Cause) → IsErrAnd r (λ given. given ≡ stop) → StopsSo stop decided
@@ -56,8 +54,7 @@ pub only_memory : {Y : Type 0} (stop : Stop) (decided : Result Y Cause) (y : Y) 
 only_memory stops.Memory decided y is s = refl
 only_memory stops.Usage decided y is s = absurd s
 only_memory (stops.Refused r) decided y is s = absurd (let wrong : Ok y ≡ Err _ = sym is ∙ s in cc)
-only_memory (stops.File line) decided y is s = absurd s
-only_memory stops.Out decided y is s = absurd s
+only_memory (stops.Failed object) decided y is s = absurd s
 
 -- ---- a text that is refused
 
@@ -65,8 +62,7 @@ no_stop : (stop : Stop) (tree : ProgramTree) → NotForMemory stop → StopsSo s
 no_stop stops.Memory tree told s = told
 no_stop stops.Usage tree told s = s
 no_stop (stops.Refused r) tree told s = absurd cc
-no_stop (stops.File line) tree told s = s
-no_stop stops.Out tree told s = s
+no_stop (stops.Failed object) tree told s = s
 
 abbrev AllStop : List ℕ → Stop → Type 0
 AllStop bytes stop = (judged : Judged) → IsJudged bytes judged → StopsSo stop (accepted judged)
@@ -151,8 +147,7 @@ module _ (old new : FilesState) (path bytes : List ℕ) (there : old.told ≡ tr
   stops_at_file stops.Memory found s own = tt
   stops_at_file stops.Usage found s own = own
   stops_at_file (stops.Refused r) found s own = λ t. at_file old.contents path bytes (there t) found ∙ s t
-  stops_at_file (stops.File line) found s own = absurd own
-  stops_at_file stops.Out found s own = own
+  stops_at_file (stops.Failed object) found s own = absurd own
 
   -- what is decided of the text is decided of the file
   pub gives_of_file : {X : Type 0} (view : X → TypedProgramTree) (r : Result X Stop) → ((found : Finding) → IsFoundOf bytes found → Decides view r (program_in found))
@@ -166,8 +161,7 @@ module _ (old new : FilesState) (path bytes : List ℕ) (there : old.told ≡ tr
   told_so stops.Memory own tells = tells
   told_so stops.Usage own tells = absurd own
   told_so (stops.Refused r) own tells = tt
-  told_so (stops.File line) own tells = absurd own
-  told_so stops.Out own tells = absurd own
+  told_so (stops.Failed object) own tells = absurd own
 
   pub found_of_file : {X : Type 0} (r : Result X Stop) → IfErr r IsOwnStop → (HasDecided r → IsFoundSo bytes) → old.told ≡ true → Tells old r
       → HasFinding (its_program path) old.contents
@@ -179,8 +173,7 @@ own_reading old new (Ok x) own = tt
 own_reading old new (Err stops.Memory) own = tt
 own_reading old new (Err stops.Usage) own = absurd own
 own_reading old new (Err (stops.Refused r)) own = tt
-own_reading old new (Err (stops.File line)) own = absurd own
-own_reading old new (Err stops.Out) own = absurd own
+own_reading old new (Err (stops.Failed object)) own = absurd own
 
 pub own_names : {X : Type 0} (paths : List (List ℕ)) (r : Result X Stop) → IfErr r IsOwnStop → IfErr r (StopNames paths)
 own_names paths (Ok x) own = tt
@@ -194,8 +187,10 @@ unfolding program_at tree_at
 unread_stops old new path stops.Memory found s = tt
 unread_stops old new path stops.Usage found s = s
 unread_stops old new path (stops.Refused r) found s = λ t. rw (s t) refl
-unread_stops old new path (stops.File line) found s = record { rose = s.rose; missing = λ steady t. rw (s.missing steady t) refl }
-unread_stops old new path stops.Out found s = s
+unread_stops old new path (stops.Failed (objects.File line)) found s = record { rose = s.rose; missing = λ steady t. rw (s.missing steady t) refl }
+unread_stops old new path (stops.Failed objects.Output) found s = s
+unread_stops old new path (stops.Failed objects.Links) found s = s
+unread_stops old new path (stops.Failed objects.Children) found s = s
 
 pub unread_gives : {X : Type 0} (view : X → TypedProgramTree) (old new : FilesState) (path : List ℕ) (stop : Stop) (r : Result X Stop) (found : Finding)
     → IsErrAnd r (λ given. given ≡ stop) → Stops old new stop (bytes_at old.contents path) → Gives view old new r (program_at found old.contents path)
@@ -212,8 +207,10 @@ unread : (files new : FilesState) (path : List ℕ) (stop : Stop) → Stops file
 unread files new path stops.Memory s t tells = absurd tells
 unread files new path stops.Usage s t tells = absurd s
 unread files new path (stops.Refused r) s t tells = found_none files.contents path _ (s t)
-unread files new path (stops.File line) s t tells = found_none files.contents path _ (s.missing tells t)
-unread files new path stops.Out s t tells = absurd s
+unread files new path (stops.Failed (objects.File line)) s t tells = found_none files.contents path _ (s.missing tells t)
+unread files new path (stops.Failed objects.Output) s t tells = absurd s
+unread files new path (stops.Failed objects.Links) s t tells = absurd s
+unread files new path (stops.Failed objects.Children) s t tells = absurd s
 
 pub unread_on : {X : Type 0} (files new : FilesState) (path : List ℕ) (stop : Stop) (r : Result X Stop) → IsErrAnd r (λ given. given ≡ stop)
     → Stops files new stop (bytes_at files.contents path) → files.told ≡ true → Tells files r → HasFinding (its_program path) files.contents

@@ -37,12 +37,12 @@ use Rattle.proto_core.specs.declared.party.Number.{Number}
 use Rattle.proto_core.specs.declared.party.Number.TheVariants.{One, Two, Three}
 use Rattle.protocol_model.specs.Network.{Accepted, Delivery, EmptyLink, Stalled}
 use Rattle.run_engine.specs.Compile.{code_bytes, compile_of, written_effect}
-use Rattle.run_engine.specs.Ends.{status_of}
+use Rattle.run_engine.specs.Ends.{ending_status}
 use Rattle.run_engine.specs.Eval.{end_of, ending_of}
 use Rattle.run_engine.specs.Judging.{Finding, FoundAt, IsReachedAs, IsReachedBy, Sized, its_program}
 use Rattle.run_engine.specs.Programs.{program_at, small_enough, tree_at}
 use Rattle.run_engine.specs.Reading.{delivery_at, inputs_at, tapes_at}
-use Rattle.run_engine.specs.Run.{HasRan, IsRan, IsStopOf, by_net, empty_line, ran_effect, recorded_links, refused_with, run_effect, run_of, run_report, run_told, stalled_line}
+use Rattle.run_engine.specs.Run.{HasRan, IsRan, IsDeliveryStop, by_net, empty_line, ran_effect, recorded_links, refused_with, run_effect, run_of, run_report, run_told, stalled_line}
 use Rattle.run_engine.specs.Views.{view_files}
 use Rattle.run_engine.proofs.Judged.{refused_so}
 use Rattle.run_engine.proofs.Refusals.{steps}
@@ -102,7 +102,7 @@ told_end r told h = rw (ap ending_of h.stop, sym h.cost) refl
 
 abbrev effect_with : RunAsk → List Written → List Event → End → List Link → Effect
 effect_with ask files events end links =
-    record { writes = files ++ recorded_links ask.recorded links; text = run_text events end; status = status_of end.how }
+    record { writes = files ++ recorded_links ask.recorded links; text = run_text events end; status = ending_status end.how }
 
 told_so : (ask : RunAsk) (views : Number → Option View) (r : Report) (links : List Link) (files : List Written) (run : DeliveredRun)
     → files ≡ view_files ask.views views → TellsAs r run.report → run.delivered.items ≡ links
@@ -193,7 +193,7 @@ module _ (f f1 f2 f3 : FilesState) (first : OnlyRead f f1) (second : OnlyRead f1
   stalled miner link is t = rw (program t, there t, given t, ordered t, is) refl
 
   -- a schedule that is refused stops the command
-  pub stops : (f4 : FilesState) (e : DeliveryErr) (stop : Stop) → IsRan ask p entries tapes delivery (Err e) → IsStopOf e stop
+  pub stops : (f4 : FilesState) (e : DeliveryErr) (stop : Stop) → IsRan ask p entries tapes delivery (Err e) → IsDeliveryStop e stop
       → Stops f f4 stop (run_of found ask f.contents)
   stops f4 (refusal.EmptyLink entry link sent) stop is of =
       refused_so f f4 stop (run_of found ask f.contents) of (emptied entry link sent is)

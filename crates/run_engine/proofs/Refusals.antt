@@ -5,7 +5,7 @@ use Rattle.outside.specs.Files.{Contents, file_at}
 use Rattle.command_frame.specs.declared.status.Status.{Status}
 use Rattle.command_frame.specs.declared.status.Status.TheVariants as statuses
 use Rattle.command_frame.specs.Answer.{Answer, Cause, bytes_at, missing, ◌>>=◌}
-use Rattle.command_frame.specs.Status.{is_end, is_refusal}
+use Rattle.command_frame.specs.Status.{is_end, can_refuse}
 use Rattle.command_words.specs.Ask.{Order, Source, file, in_turn, scheduled, seeded, shuffled}
 use Rattle.secrec_ast.specs.Programs.{ProgramTree}
 use Rattle.front_end.specs.declared.program_fault.ProgramFault.{ProgramFault}
@@ -18,7 +18,7 @@ use Rattle.value_file.specs.declared.read_err.ReadErr.{ReadErr}
 use Rattle.value_file.specs.Input.{read_of as inputs_read_of}
 use Rattle.value_file.specs.PublicFile.{read_public_of}
 use Rattle.view_reader.specs.Opened.{opened_of}
-use Rattle.run_engine.specs.Ends.{status_of}
+use Rattle.run_engine.specs.Ends.{ending_status}
 use Rattle.run_engine.specs.Judging.{JudgedAt}
 use Rattle.run_engine.specs.Programs.{accepted, bad_program, tree_at}
 use Rattle.schedule_file.specs.Reading.{links_of}
@@ -94,7 +94,7 @@ status_in_answer (Err c) = c.status
 
 -- the status of a refusal, which neither a missing file nor an end of a run has
 pub record Refuses (s : Status) : Type 0 where
-  pub refusal : is_refusal s ≡ true
+  pub refusal : can_refuse s ≡ true
   pub no_end : is_end s ≡ false
 
 abbrev pub status_of_cause : Cause → Status
@@ -103,28 +103,28 @@ status_of_cause c = c.status
 pub refusing : (r : Answer) (c : Cause) → r ≡ Err c → status_in_answer r ≡ c.status
 refusing r c is = ap status_in_answer is
 
-pub not_missing : {X : Type 0} (r : Answer) (c : Cause) (path : List ℕ) → is_refusal (status_in_answer r) ≡ true → r ≡ Err c → c ≡ missing path → X
+pub not_missing : {X : Type 0} (r : Answer) (c : Cause) (path : List ℕ) → can_refuse (status_in_answer r) ≡ true → r ≡ Err c → c ≡ missing path → X
 not_missing r c path refusal is missed =
     let file : status_in_answer r ≡ statuses.File = refusing r c is ∙ ap status_of_cause missed in
-    let wrong : is_refusal statuses.File ≡ true = subst (λ (x : Status). is_refusal x ≡ true) file refusal in
+    let wrong : can_refuse statuses.File ≡ true = subst (λ (x : Status). can_refuse x ≡ true) file refusal in
     absurd cc
 
-pub end_is : (how : Ending) → is_end (status_of how) ≡ true
+pub end_is : (how : Ending) → is_end (ending_status how) ≡ true
 end_is endings.Done = refl
 end_is (endings.Trap kind line) = refl
 end_is endings.Budget = refl
 end_is (endings.Tape owner need have) = refl
 
-pub no_ending : {X : Type 0} (s : Status) (how : Ending) → Refuses s → s ≡ status_of how → X
+pub no_ending : {X : Type 0} (s : Status) (how : Ending) → Refuses s → s ≡ ending_status how → X
 no_ending s how why is =
     let ends : is_end s ≡ true = ap is_end is ∙ end_is how in
     let no : is_end s ≡ false = why.no_end in
     absurd cc
 
 -- a command that is refused isn't done
-pub not_done : {X : Type 0} (r : Answer) → is_refusal (status_in_answer r) ≡ true → status_in_answer r ≡ statuses.Done → X
+pub not_done : {X : Type 0} (r : Answer) → can_refuse (status_in_answer r) ≡ true → status_in_answer r ≡ statuses.Done → X
 not_done r refusal is =
-    let wrong : is_refusal statuses.Done ≡ true = subst (λ (x : Status). is_refusal x ≡ true) is refusal in
+    let wrong : can_refuse statuses.Done ≡ true = subst (λ (x : Status). can_refuse x ≡ true) is refusal in
     absurd cc
 
 -- ---- the program

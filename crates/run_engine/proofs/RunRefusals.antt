@@ -20,6 +20,7 @@ use Rattle.run_engine.specs.Headline.{refused_line}
 use Rattle.run_engine.specs.Run.{by_net, refused_with, run_of, run_report, run_told}
 use Rattle.run_engine.specs.Runs.{HoldsRun, HoldsTyped, IsNotTaken, RunRefused, net_for, not_taken}
 use Rattle.run_engine.specs.Runs.{bad_program, bad_input as input_refused, bad_schedule as schedule_refused, bad_tape as tape_refused}
+use Rattle.run_engine.specs.Told.{Outside}
 use Rattle.run_engine.specs.Words.{answer_to, question_of, IsAnswer}
 use Rattle.run_engine.proofs.Held.{found_of, found_there, no_program, program_there}
 use Rattle.run_engine.proofs.Accepting.{program_cases, refused_by_program}
@@ -46,13 +47,13 @@ taken_so : (ask : RunAsk) (p : TypedProgramTree) (entries : List Entry) (tapes :
 unfolding by_net
 taken_so ask p entries tapes delivery accepted = rw accepted refl
 
-pub run_answered : (words : List (List ℕ)) (ask : RunAsk) (files : Contents) (p : TypedProgramTree) (entries : List Entry) (tapes : FourTapes)
-    (delivery : Delivery) → words_of words ≡ Some (run ask) → HoldsRun ask files p entries tapes delivery → net_for ask p entries tapes delivery ≡ Accepted
-    → IsAnswer words files (ran ask p entries tapes delivery)
+pub run_answered : (words : List (List ℕ)) (ask : RunAsk) (outside : Outside) (p : TypedProgramTree) (entries : List Entry) (tapes : FourTapes)
+    (delivery : Delivery) → words_of words ≡ Some (run ask) → HoldsRun ask outside.files p entries tapes delivery
+    → net_for ask p entries tapes delivery ≡ Accepted → IsAnswer words outside (ran ask p entries tapes delivery)
 unfolding answer_to question_of
-run_answered words ask files p entries tapes delivery asks h accepted =
-    subst (IsAnswer words files) (run_there ask files p entries tapes delivery h ∙ taken_so ask p entries tapes delivery accepted)
-    (is_answer words (run ask) files (found_of ask.program files p h.program) asks (found_there ask.program files p h.program))
+run_answered words ask outside p entries tapes delivery asks h accepted =
+    subst (IsAnswer words outside) (run_there ask outside.files p entries tapes delivery h ∙ taken_so ask p entries tapes delivery accepted)
+    (is_answer words (run ask) outside (found_of ask.program outside.files p h.program) asks (found_there ask.program outside.files p h.program))
 
 -- ---- files that are refused, and schedules
 
@@ -72,15 +73,15 @@ refused_so Accepted more refused = absurd refused
 refused_so (EmptyLink entry link sent) more refused = refl
 refused_so (Stalled miner link) more refused = refl
 
-pub run_refused_by_net : (words : List (List ℕ)) (ask : RunAsk) (files : Contents) (p : TypedProgramTree) (entries : List Entry) (tapes : FourTapes)
-    (delivery : Delivery) → words_of words ≡ Some (run ask) → HoldsRun ask files p entries tapes delivery
-    → IsNotTaken (net_for ask p entries tapes delivery) → IsAnswer words files (Err (refused_with (refused_line (net_for ask p entries tapes delivery))))
+pub run_refused_by_net : (words : List (List ℕ)) (ask : RunAsk) (outside : Outside) (p : TypedProgramTree) (entries : List Entry) (tapes : FourTapes)
+    (delivery : Delivery) → words_of words ≡ Some (run ask) → HoldsRun ask outside.files p entries tapes delivery
+    → IsNotTaken (net_for ask p entries tapes delivery) → IsAnswer words outside (Err (refused_with (refused_line (net_for ask p entries tapes delivery))))
 unfolding answer_to question_of
-run_refused_by_net words ask files p entries tapes delivery asks h refused =
-    subst (IsAnswer words files)
-    (run_there ask files p entries tapes delivery h
+run_refused_by_net words ask outside p entries tapes delivery asks h refused =
+    subst (IsAnswer words outside)
+    (run_there ask outside.files p entries tapes delivery h
     ∙ refused_so (net_for ask p entries tapes delivery) (λ taken. ran ask p entries tapes delivery) refused)
-    (is_answer words (run ask) files (found_of ask.program files p h.program) asks (found_there ask.program files p h.program))
+    (is_answer words (run ask) outside (found_of ask.program outside.files p h.program) asks (found_there ask.program outside.files p h.program))
 
 run_refused : (ask : RunAsk) (files : Contents) (s : Status) → RunRefused ask files s → IsRefusedAs ask files s
 unfolding run_of inputs_at tapes_at tape_file_at delivery_at schedule_file_at bad_input bad_tape bad_schedule
@@ -110,12 +111,12 @@ run_refused ask files s (not_taken is p entries tapes delivery h refused) = (
       ∙ sym is,
 )
 
-pub run_answered_so : (words : List (List ℕ)) (ask : RunAsk) (files : Contents) (s : Status) → words_of words ≡ Some (run ask)
-    → RunRefused ask files s → HasAnswerOf words files s
+pub run_answered_so : (words : List (List ℕ)) (ask : RunAsk) (outside : Outside) (s : Status) → words_of words ≡ Some (run ask)
+    → RunRefused ask outside.files s → HasAnswerOf words outside s
 unfolding answer_to question_of
-run_answered_so words ask files s asks out =
-    let (found, at, status) = run_refused ask files s out in
-    (run_of found ask files, is_answer words (run ask) files found asks at, status)
+run_answered_so words ask outside s asks out =
+    let (found, at, status) = run_refused ask outside.files s out in
+    (run_of found ask outside.files, is_answer words (run ask) outside found asks at, status)
 
 -- ---- and only so
 
@@ -201,9 +202,9 @@ module _ (found : Finding) (ask : RunAsk) (files : Contents) (h : FoundAt (its_p
         | inr (p, e, rest) ↦ at_inputs p (program_cases found files ask.program h (Ok p) e) rest
       ]
 
-pub run_refused_only : (words : List (List ℕ)) (ask : RunAsk) (files : Contents) → words_of words ≡ Some (run ask) → (answer : Answer)
-    → IsAnswer words files answer → Refuses (status_in_answer answer) → RunRefused ask files (status_in_answer answer)
+pub run_refused_only : (words : List (List ℕ)) (ask : RunAsk) (outside : Outside) → words_of words ≡ Some (run ask) → (answer : Answer)
+    → IsAnswer words outside answer → Refuses (status_in_answer answer) → RunRefused ask outside.files (status_in_answer answer)
 unfolding answer_to question_of
-run_refused_only words ask files asks answer a why =
-    let (found, at, is) = command_answers words (run ask) files answer asks a in
-    refused_only found ask files at answer why is
+run_refused_only words ask outside asks answer a why =
+    let (found, at, is) = command_answers words (run ask) outside answer asks a in
+    refused_only found ask outside.files at answer why is

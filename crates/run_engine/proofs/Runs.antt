@@ -8,8 +8,8 @@ use Rattle.outside.specs.Sink.{SinkState}
 use Rattle.command_frame.specs.declared.status.Status.{Status}
 use Rattle.command_frame.specs.declared.status.Status.TheVariants as statuses
 use Rattle.command_frame.specs.Answer.{Answer, bytes_at, usage}
-use Rattle.command_frame.specs.Status.{is_end, is_fault, is_refusal}
-use Rattle.command_frame.specs.Whole.{CarriedOut}
+use Rattle.command_frame.specs.Status.{can_refuse, is_end}
+use Rattle.command_frame.specs.Whole.{CarriedOut, HasFailed}
 use Rattle.command_words.specs.Ask.{Ask, DealAsk, deal, words_of}
 use Rattle.secrec_ast.specs.Programs.{ProgramTree}
 use Rattle.front_end.specs.Judgement.{Judged, IsJudged}
@@ -21,18 +21,20 @@ use Rattle.run_engine.specs.Judging.{JudgedAt, Finding, FoundAt, HasFinding, Que
 use Rattle.run_engine.specs.Programs.{bad_program, tree_at}
 use Rattle.run_engine.specs.Runs.{HoldsProgram, HoldsBadProgram, HoldsDeal}
 use Rattle.run_engine.specs.Words.{answer_to, answer_of, question_of, question_in, reads_of, read_by, writes_of, written_by, IsAnswer, HasAnswer}
-use Rattle.run_engine.specs.Obeying.{CommandAnswers}
+use Rattle.run_engine.specs.Obeying.{CommandAnswers, WordsAnswer}
+use Rattle.run_engine.specs.Told.{Outside, Told, told_of}
 use Rattle.run_engine.proofs.Refusals.{status_in_answer}
 
 -- ---- words and answers
 
-pub no_command : (words : List (List ℕ)) (files : Contents) (answer : Answer) → IsAnswer words files answer → words_of words ≡ None → answer ≡ Err usage
+pub no_command : (words : List (List ℕ)) (outside : Outside) (answer : Answer) → IsAnswer words outside answer → words_of words ≡ None
+    → answer ≡ Err usage
 unfolding answer_of
-no_command words files answer a none = a.is ∙ rw none refl
+no_command words outside answer a none = a.is ∙ rw none refl
 
-answered_by : (words : List (List ℕ)) (ask : Ask) (found : Finding) (files : Contents) → words_of words ≡ Some ask → answer_of found words files ≡ answer_to found ask files
+answered_by : (words : List (List ℕ)) (ask : Ask) (told : Told) → words_of words ≡ Some ask → answer_of words told ≡ answer_to ask told
 unfolding answer_of
-answered_by words ask found files e = rw e refl
+answered_by words ask told e = rw e refl
 
 pub reads_by : (words : List (List ℕ)) (ask : Ask) → words_of words ≡ Some ask → read_by words ≡ reads_of ask
 unfolding read_by
@@ -50,31 +52,47 @@ no_question : (words : List (List ℕ)) → words_of words ≡ None → question
 unfolding question_in
 no_question words e = rw e refl
 
--- an answer to the words is the command's, of what is found of its program
-pub command_answers : (words : List (List ℕ)) (ask : Ask) (files : Contents) (answer : Answer) → words_of words ≡ Some ask → IsAnswer words files answer → CommandAnswers ask files answer
-command_answers words ask files answer e a =
-    (a.found, subst (λ (q : Question). FoundAt q files a.found) (question_by words ask e) a.of_program, sym (a.is ∙ answered_by words ask a.found files e))
+-- an answer of a command, of what is found of its program
+abbrev pub AnswersCommand : Ask → Outside → Answer → Type 0
+AnswersCommand ask outside answer =
+    (found : Finding) × FoundAt (question_of ask) outside.files found × (answer_to ask (told_of outside found) ≡ answer)
+
+-- an answer to the words is the command's
+pub command_answers : (words : List (List ℕ)) (ask : Ask) (outside : Outside) (answer : Answer) → words_of words ≡ Some ask
+    → IsAnswer words outside answer → AnswersCommand ask outside answer
+command_answers words ask outside answer e a = (
+  a.found,
+  subst (λ (q : Question). FoundAt q outside.files a.found) (question_by words ask e) a.of_program,
+  sym (a.is ∙ answered_by words ask (told_of outside a.found) e),
+)
+
+-- the same over these files, whatever else is told
+pub command_answers_over : (words : List (List ℕ)) (ask : Ask) (files : Contents) (answer : Answer) → words_of words ≡ Some ask
+    → WordsAnswer words files answer → CommandAnswers ask files answer
+command_answers_over words ask files answer e (coming, status, a) =
+    let (found, at, is) = command_answers words ask (record { files = files; coming = coming; status = status }) answer e a in
+    (coming, status, found, at, is)
 
 -- and the other way round
-pub is_answer : (words : List (List ℕ)) (ask : Ask) (files : Contents) (found : Finding) → words_of words ≡ Some ask → FoundAt (question_of ask) files found → IsAnswer words files (answer_to found ask files)
-is_answer words ask files found e h = record {
+pub is_answer : (words : List (List ℕ)) (ask : Ask) (outside : Outside) (found : Finding) → words_of words ≡ Some ask
+    → FoundAt (question_of ask) outside.files found → IsAnswer words outside (answer_to ask (told_of outside found))
+is_answer words ask outside found e h = record {
   found = found;
-  of_program = subst (λ (q : Question). FoundAt q files found) (sym (question_by words ask e)) h;
-  is = sym (answered_by words ask found files e);
+  of_program = subst (λ (q : Question). FoundAt q outside.files found) (sym (question_by words ask e)) h;
+  is = sym (answered_by words ask (told_of outside found) e);
 }
 
-pub has_answer : (words : List (List ℕ)) (ask : Ask) (files : Contents) → words_of words ≡ Some ask → HasFinding (question_of ask) files → HasAnswer words files
-has_answer words ask files e (found, h) = (answer_to found ask files, is_answer words ask files found e h)
+pub has_answer : (words : List (List ℕ)) (outside : Outside) → HasFinding (question_in words) outside.files → HasAnswer words outside
+has_answer words outside (found, h) =
+    (answer_of words (told_of outside found), record { found = found; of_program = h; is = refl })
 
-pub answer_of_usage : (words : List (List ℕ)) (files : Contents) → words_of words ≡ None → HasFinding nothing files → HasAnswer words files
-answer_of_usage words files e (found, h) = (
-  answer_of found words files,
-  record {
-    found = found;
-    of_program = subst (λ (q : Question). FoundAt q files found) (sym (no_question words e)) h;
-    is = refl;
-  },
-)
+pub found_by : (words : List (List ℕ)) (ask : Ask) (files : Contents) → words_of words ≡ Some ask → HasFinding (question_of ask) files
+    → HasFinding (question_in words) files
+found_by words ask files e h = subst (λ (q : Question). HasFinding q files) (sym (question_by words ask e)) h
+
+pub found_of_usage : (words : List (List ℕ)) (files : Contents) → words_of words ≡ None → HasFinding nothing files
+    → HasFinding (question_in words) files
+found_of_usage words files e h = subst (λ (q : Question). HasFinding q files) (sym (no_question words e)) h
 
 -- ---- the file of the program
 
@@ -116,12 +134,12 @@ deal_answer ask files entries tapes h most = rw (h.inputs, h.tapes, enough (leng
 abbrev dealt : List ℕ → List Entry → FourTapes → Answer
 dealt to entries tapes = Ok (deal_effect to entries tapes)
 
-pub deal_answered : (words : List (List ℕ)) (ask : DealAsk) (entries : List Entry) (tapes : FourTapes) (files : Contents)
-    → words_of words ≡ Some (deal ask) → HoldsDeal ask files entries tapes → need_of entries ≤ length tapes.dealer → HasFinding nothing files
-    → IsAnswer words files (dealt ask.to entries tapes)
+pub deal_answered : (words : List (List ℕ)) (ask : DealAsk) (entries : List Entry) (tapes : FourTapes) (outside : Outside)
+    → words_of words ≡ Some (deal ask) → HoldsDeal ask outside.files entries tapes → need_of entries ≤ length tapes.dealer
+    → HasFinding nothing outside.files → IsAnswer words outside (dealt ask.to entries tapes)
 unfolding answer_to question_of
-deal_answered words ask entries tapes files asks h most (found, any) =
-    subst (IsAnswer words files) (deal_answer ask files entries tapes h most) (is_answer words (deal ask) files found asks any)
+deal_answered words ask entries tapes outside asks h most (found, any) =
+    subst (IsAnswer words outside) (deal_answer ask outside.files entries tapes h most) (is_answer words (deal ask) outside found asks any)
 
 -- ---- files that are refused
 
@@ -129,57 +147,52 @@ pub carried_status : (answer : Answer) (f f' : FilesState) (o o' e e' : SinkStat
 carried_status (Ok x) f f' o o' e e' s c = sym c.0.status
 carried_status (Err x) f f' o o' e e' s c = sym c.0
 
-fault_or_not : (s : Status) → (is_fault s ≡ true) ⊎ (is_fault s ≡ false)
-fault_or_not s = elim (is_fault s) as (λ b. (b ≡ true) ⊎ (b ≡ false)) [ true ↦ inl refl | false ↦ inr refl ]
-
 -- an answer of this status
-abbrev pub HasAnswerOf : List (List ℕ) → Contents → Status → Type 0
-HasAnswerOf words files s = (answer : Answer) × IsAnswer words files answer × (status_in_answer answer ≡ s)
+abbrev pub HasAnswerOf : List (List ℕ) → Outside → Status → Type 0
+HasAnswerOf words outside s = (answer : Answer) × IsAnswer words outside answer × (status_in_answer answer ≡ s)
 
 pub refused_if : (answer : Answer) (why : Status) (f f' : FilesState) (o o' e e' : SinkState) (s : Status) → status_in_answer answer ≡ why
-    → (is_fault s ≡ false → CarriedOut answer f f' o o' e e' s) → (s ≡ why) ⊎ (is_fault s ≡ true)
-refused_if answer why f f' o o' e e' s is carried =
-    elim (fault_or_not s) [
-      | inl fault ↦ inr fault
-      | inr sound ↦ inl (sym (carried_status answer f f' o o' e e' s (carried sound)) ∙ is)
-    ]
+    → CarriedOut answer f f' o o' e e' s ⊎ HasFailed f f' o o' s → (s ≡ why) ⊎ HasFailed f f' o o' s
+refused_if answer why f f' o o' e e' s is (inl carried) = inl (sym (carried_status answer f f' o o' e e' s carried) ∙ is)
+refused_if answer why f f' o o' e e' s is (inr failed) = inr failed
 
-pub no_fault_refusal : (s : Status) → is_refusal s ≡ true → is_fault s ≡ false
-no_fault_refusal statuses.Done r = refl
-no_fault_refusal statuses.Trap r = refl
-no_fault_refusal statuses.Usage r = refl
-no_fault_refusal statuses.Program r = refl
-no_fault_refusal statuses.Input r = refl
-no_fault_refusal statuses.TapeFile r = refl
-no_fault_refusal statuses.Schedule r = refl
-no_fault_refusal statuses.Budget r = refl
-no_fault_refusal statuses.Tape r = refl
-no_fault_refusal statuses.File r = absurd (false≢true r)
-no_fault_refusal statuses.Link r = refl
-no_fault_refusal statuses.Peer r = refl
-no_fault_refusal statuses.Child r = refl
-no_fault_refusal statuses.Disagree r = refl
-no_fault_refusal statuses.NotAlike r = refl
-no_fault_refusal statuses.OpenedShort r = refl
-no_fault_refusal statuses.Write r = absurd (false≢true r)
-no_fault_refusal statuses.Memory r = absurd (false≢true r)
+-- over files and the output alone no fault is told by the status of a refusal, and none by that of an end
+pub no_fault_refusal : {X : Type 0} (f f' : FilesState) (o o' : SinkState) (s : Status) → can_refuse s ≡ true → HasFailed f f' o o' s → X
+no_fault_refusal f f' o o' statuses.Done r failed = absurd failed
+no_fault_refusal f f' o o' statuses.Trap r failed = absurd failed
+no_fault_refusal f f' o o' statuses.Usage r failed = absurd failed
+no_fault_refusal f f' o o' statuses.Program r failed = absurd failed
+no_fault_refusal f f' o o' statuses.Input r failed = absurd failed
+no_fault_refusal f f' o o' statuses.TapeFile r failed = absurd failed
+no_fault_refusal f f' o o' statuses.Schedule r failed = absurd failed
+no_fault_refusal f f' o o' statuses.Budget r failed = absurd failed
+no_fault_refusal f f' o o' statuses.Tape r failed = absurd failed
+no_fault_refusal f f' o o' statuses.File r failed = absurd (false≢true r)
+no_fault_refusal f f' o o' statuses.Link r failed = absurd failed
+no_fault_refusal f f' o o' statuses.Peer r failed = absurd failed
+no_fault_refusal f f' o o' statuses.Child r failed = absurd failed
+no_fault_refusal f f' o o' statuses.Disagree r failed = absurd failed
+no_fault_refusal f f' o o' statuses.NotAlike r failed = absurd failed
+no_fault_refusal f f' o o' statuses.OpenedShort r failed = absurd failed
+no_fault_refusal f f' o o' statuses.Write r failed = absurd (false≢true r)
+no_fault_refusal f f' o o' statuses.Memory r failed = absurd (false≢true r)
 
-pub no_fault_end : (s : Status) → is_end s ≡ true → is_fault s ≡ false
-no_fault_end statuses.Done e = refl
-no_fault_end statuses.Trap e = refl
-no_fault_end statuses.Usage e = refl
-no_fault_end statuses.Program e = refl
-no_fault_end statuses.Input e = refl
-no_fault_end statuses.TapeFile e = refl
-no_fault_end statuses.Schedule e = refl
-no_fault_end statuses.Budget e = refl
-no_fault_end statuses.Tape e = refl
-no_fault_end statuses.File e = absurd (false≢true e)
-no_fault_end statuses.Link e = refl
-no_fault_end statuses.Peer e = refl
-no_fault_end statuses.Child e = refl
-no_fault_end statuses.Disagree e = refl
-no_fault_end statuses.NotAlike e = refl
-no_fault_end statuses.OpenedShort e = refl
-no_fault_end statuses.Write e = absurd (false≢true e)
-no_fault_end statuses.Memory e = absurd (false≢true e)
+pub no_fault_end : {X : Type 0} (f f' : FilesState) (o o' : SinkState) (s : Status) → is_end s ≡ true → HasFailed f f' o o' s → X
+no_fault_end f f' o o' statuses.Done e failed = absurd failed
+no_fault_end f f' o o' statuses.Trap e failed = absurd failed
+no_fault_end f f' o o' statuses.Usage e failed = absurd failed
+no_fault_end f f' o o' statuses.Program e failed = absurd failed
+no_fault_end f f' o o' statuses.Input e failed = absurd failed
+no_fault_end f f' o o' statuses.TapeFile e failed = absurd failed
+no_fault_end f f' o o' statuses.Schedule e failed = absurd failed
+no_fault_end f f' o o' statuses.Budget e failed = absurd failed
+no_fault_end f f' o o' statuses.Tape e failed = absurd failed
+no_fault_end f f' o o' statuses.File e failed = absurd (false≢true e)
+no_fault_end f f' o o' statuses.Link e failed = absurd failed
+no_fault_end f f' o o' statuses.Peer e failed = absurd failed
+no_fault_end f f' o o' statuses.Child e failed = absurd failed
+no_fault_end f f' o o' statuses.Disagree e failed = absurd failed
+no_fault_end f f' o o' statuses.NotAlike e failed = absurd failed
+no_fault_end f f' o o' statuses.OpenedShort e failed = absurd failed
+no_fault_end f f' o o' statuses.Write e failed = absurd (false≢true e)
+no_fault_end f f' o o' statuses.Memory e failed = absurd (false≢true e)

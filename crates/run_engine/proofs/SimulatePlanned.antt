@@ -28,7 +28,7 @@ use Rattle.run_engine.specs.Obeying.{Planned}
 use Rattle.run_engine.specs.Programs.{program_at}
 use Rattle.run_engine.specs.Reading.{delivery_at, opened_at, public_at, tape_file_at}
 use Rattle.run_engine.specs.Run.{by_net, empty_line, refused_with, stalled_line}
-use Rattle.run_engine.specs.Simulate.{IsStopOf, by_told, net_simulated, short_line, short_with}
+use Rattle.run_engine.specs.Simulate.{IsSimulateStop, by_told, net_simulated, short_line, short_with}
 use Rattle.run_engine.specs.Simulate.{simulate_effect, simulate_of, simulate_paths, simulated_paths, stop_told, view_simulated}
 use Rattle.run_engine.specs.Words.{answer_to, question_of, reads_of, writes_of}
 use Rattle.run_engine.proofs.Judged.{refused_so}
@@ -109,7 +109,7 @@ module _ (found : Finding) (ask : SimulateAsk) (f : FilesState) (p : TypedProgra
 
   -- a simulator without a view stops the command
   stops_so : (f' : FilesState) (e : SimulateErr) (stop : Stop) → IsSimulation ask.miner p part opened tapes ask.budget delivery (Err e)
-      → IsStopOf e stop → Stops f f' stop (simulate_of found ask f.contents)
+      → IsSimulateStop e stop → Stops f f' stop (simulate_of found ask f.contents)
   stops_so f' (refusal.OpenedShort have) stop h is =
       refused_so f f' stop (simulate_of found ask f.contents) is
       (λ t. read_so t ∙ short ask p part opened tapes delivery have h.all h.short)
@@ -130,21 +130,6 @@ module _ (found : Finding) (ask : SimulateAsk) (f : FilesState) (p : TypedProgra
         → simulate_of found ask f.contents ≡ Ok (simulate_effect ask (Some view))
     simulated_so view h t = made_so view (subst (λ (words : List ℕ). answers words (Ok view)) same h) t
 
-    pub stops : (f' : FilesState) (e : SimulateErr) (stop : Stop) → answers lent (Err e) → IsStopOf e stop
+    pub stops : (f' : FilesState) (e : SimulateErr) (stop : Stop) → answers lent (Err e) → IsSimulateStop e stop
         → Stops f f' stop (simulate_of found ask f.contents)
     stops f' e stop h is = stops_so f' e stop (subst (λ (words : List ℕ). answers words (Err e)) same h) is
-
--- ---- the command's own part
-
-pub simulate_planned : (f f' : FilesState) (r : Result Plan Stop) → OnlyRead f f' → IfErr r (StopsReading f f') → (ask : SimulateAsk)
-    → ((found : Finding) → FoundAt (its_program ask.program) f.contents found → Gives effect_of f f' r (simulate_of found ask f.contents))
-    → (f.told ≡ true → Tells f r → HasFinding (its_program ask.program) f.contents) → KeepsTo (simulate_paths ask) (simulated_paths ask.view) r
-    → Planned (simulate ask) f f' r
-unfolding answer_to question_of reads_of writes_of
-simulate_planned f f' r read anyhow ask answer found keeps = record {
-  files = read;
-  anyhow = anyhow;
-  answer = answer;
-  found = found;
-  keeps = keeps;
-}

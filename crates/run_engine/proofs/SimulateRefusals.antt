@@ -5,7 +5,7 @@ use Rattle.outside.specs.Files.{Contents}
 use Rattle.command_frame.specs.declared.status.Status.{Status}
 use Rattle.command_frame.specs.declared.status.Status.TheVariants as statuses
 use Rattle.command_frame.specs.Answer.{Answer, Cause, ◌>>=◌}
-use Rattle.command_frame.specs.Status.{is_refusal}
+use Rattle.command_frame.specs.Status.{can_refuse}
 use Rattle.command_words.specs.Ask.{SimulateAsk, scheduled, simulate, words_of}
 use Rattle.sc_text.specs.declared.end.Ending.{Ending}
 use Rattle.protocol_model.specs.Network.{Delivery}
@@ -26,6 +26,7 @@ use Rattle.run_engine.specs.Runs.{HoldsTyped}
 use Rattle.run_engine.specs.Simulate.{by_told, net_simulated, simulate_of, stop_told}
 use Rattle.run_engine.specs.SimulatePromises.{HoldsSimulation, IsSimulated, SimulateRefused, for_opened, for_program}
 use Rattle.run_engine.specs.SimulatePromises.{for_public, for_schedule, for_tape, net_refuses, told_too_little}
+use Rattle.run_engine.specs.Told.{Outside}
 use Rattle.run_engine.specs.Words.{answer_to, question_of, IsAnswer}
 use Rattle.run_engine.proofs.Accepting.{program_cases, refused_by_program}
 use Rattle.run_engine.proofs.Held.{found_of, found_there, no_program, program_there}
@@ -44,16 +45,16 @@ unfolding simulate_of
 simulate_there ask files p part opened tapes delivery h =
     rw (program_there ask.program files p h.program h.program.within.list, h.public, h.opened, h.tapes, h.order) refl
 
-pub simulate_answered : (words : List (List ℕ)) (ask : SimulateAsk) (files : Contents) (p : TypedProgramTree) (part : List PublicEntry)
+pub simulate_answered : (words : List (List ℕ)) (ask : SimulateAsk) (outside : Outside) (p : TypedProgramTree) (part : List PublicEntry)
     (opened : List ℕ) (tapes : FourTapes) (delivery : Delivery) → words_of words ≡ Some (simulate ask)
-    → HoldsSimulation ask files p part opened tapes delivery → IsSimulated ask p part opened tapes delivery
-    → IsAnswer words files (simulated_to ask p part opened tapes delivery)
+    → HoldsSimulation ask outside.files p part opened tapes delivery → IsSimulated ask p part opened tapes delivery
+    → IsAnswer words outside (simulated_to ask p part opened tapes delivery)
 unfolding answer_to question_of
-simulate_answered words ask files p part opened tapes delivery asks h is =
-    subst (IsAnswer words files)
-    (simulate_there ask files p part opened tapes delivery h ∙ enough ask p part opened tapes delivery is.suffice
+simulate_answered words ask outside p part opened tapes delivery asks h is =
+    subst (IsAnswer words outside)
+    (simulate_there ask outside.files p part opened tapes delivery h ∙ enough ask p part opened tapes delivery is.suffice
     ∙ taken_so ask p part opened tapes delivery is.taken)
-    (is_answer words (simulate ask) files (found_of ask.program files p h.program) asks (found_there ask.program files p h.program))
+    (is_answer words (simulate ask) outside (found_of ask.program outside.files p h.program) asks (found_there ask.program outside.files p h.program))
 
 -- ---- files that are refused, opened words and schedules
 
@@ -101,24 +102,24 @@ simulate_refused ask files s (net_refuses is p part opened tapes delivery h suff
       ∙ sym is,
 )
 
-pub simulate_answered_so : (words : List (List ℕ)) (ask : SimulateAsk) (files : Contents) (s : Status) → words_of words ≡ Some (simulate ask)
-    → SimulateRefused ask files s → HasAnswerOf words files s
+pub simulate_answered_so : (words : List (List ℕ)) (ask : SimulateAsk) (outside : Outside) (s : Status) → words_of words ≡ Some (simulate ask)
+    → SimulateRefused ask outside.files s → HasAnswerOf words outside s
 unfolding answer_to question_of
-simulate_answered_so words ask files s asks out =
-    let (found, at, status) = simulate_refused ask files s out in
-    (simulate_of found ask files, is_answer words (simulate ask) files found asks at, status)
+simulate_answered_so words ask outside s asks out =
+    let (found, at, status) = simulate_refused ask outside.files s out in
+    (simulate_of found ask outside.files, is_answer words (simulate ask) outside found asks at, status)
 
 -- ---- and only so
 
 -- words are refused as too few
-abbrev ending_status : Result Ending Cause → Status
-ending_status (Ok ending) = statuses.OpenedShort
-ending_status (Err c) = c.status
+abbrev cause_status : Result Ending Cause → Status
+cause_status (Ok ending) = statuses.OpenedShort
+cause_status (Err c) = c.status
 
 short_cases : (have : ℕ) (s : Stop) (c : Cause) → by_told have s ≡ Err c → (s ≡ Short) × (status_of_cause c ≡ statuses.OpenedShort)
 unfolding by_told
 short_cases have (Ended ending) c is = absurd cc
-short_cases have Short c is = (refl, ap ending_status (sym is))
+short_cases have Short c is = (refl, ap cause_status (sym is))
 
 enough_cases : (have : ℕ) (s : Stop) (ending : Ending) → by_told have s ≡ Ok ending → IsEnded s
 unfolding by_told
@@ -126,7 +127,7 @@ enough_cases have (Ended other) ending is = tt
 enough_cases have Short ending is = absurd cc
 
 module _ (found : Finding) (ask : SimulateAsk) (files : Contents) (h : FoundAt (its_program ask.program) files found) (r : Answer)
-    (refusal : is_refusal (status_in_answer r) ≡ true) where
+    (refusal : can_refuse (status_in_answer r) ≡ true) where
   abbrev IsRefused : Type 0
   IsRefused = SimulateRefused ask files (status_in_answer r)
 
@@ -227,9 +228,9 @@ module _ (found : Finding) (ask : SimulateAsk) (files : Contents) (h : FoundAt (
         | inr (p, e, rest) ↦ at_public p (program_cases found files ask.program h (Ok p) e) rest
       ]
 
-pub simulate_refused_only : (words : List (List ℕ)) (ask : SimulateAsk) (files : Contents) → words_of words ≡ Some (simulate ask) → (answer : Answer)
-    → IsAnswer words files answer → is_refusal (status_in_answer answer) ≡ true → SimulateRefused ask files (status_in_answer answer)
+pub simulate_refused_only : (words : List (List ℕ)) (ask : SimulateAsk) (outside : Outside) → words_of words ≡ Some (simulate ask) → (answer : Answer)
+    → IsAnswer words outside answer → can_refuse (status_in_answer answer) ≡ true → SimulateRefused ask outside.files (status_in_answer answer)
 unfolding answer_to question_of
-simulate_refused_only words ask files asks answer a refusal =
-    let (found, at, is) = command_answers words (simulate ask) files answer asks a in
-    refused_only found ask files at answer refusal is
+simulate_refused_only words ask outside asks answer a refusal =
+    let (found, at, is) = command_answers words (simulate ask) outside answer asks a in
+    refused_only found ask outside.files at answer refusal is

@@ -14,6 +14,7 @@ use Rattle.run_engine.specs.Compile.{compile_effect, compile_of}
 use Rattle.run_engine.specs.Judging.{Finding, FoundAt, its_program}
 use Rattle.run_engine.specs.Programs.{program_at}
 use Rattle.run_engine.specs.Runs.{HoldsTyped, ProgramRefused}
+use Rattle.run_engine.specs.Told.{Outside}
 use Rattle.run_engine.specs.Words.{answer_to, question_of, IsAnswer}
 use Rattle.run_engine.proofs.Held.{finding, found_of, found_reaching, found_there, no_program, program_there}
 use Rattle.run_engine.proofs.Accepting.{program_cases, refused_by_program}
@@ -25,36 +26,36 @@ use Rattle.run_engine.proofs.Runs.{HasAnswerOf, command_answers, is_answer}
 abbrev pub done_with : Effect → Answer
 done_with effect = Ok effect
 
-pub check_answered : (words : List (List ℕ)) (ask : CheckAsk) (files : Contents) (p : TypedProgramTree) → words_of words ≡ Some (check ask)
-    → HoldsTyped ask.program files p → IsAnswer words files (done_with check_effect)
+pub check_answered : (words : List (List ℕ)) (ask : CheckAsk) (outside : Outside) (p : TypedProgramTree) → words_of words ≡ Some (check ask)
+    → HoldsTyped ask.program outside.files p → IsAnswer words outside (done_with check_effect)
 unfolding answer_to question_of check_of
-check_answered words ask files p asks h =
-    subst (IsAnswer words files) (rw (program_there ask.program files p h h.within.list) refl)
-    (is_answer words (check ask) files (found_of ask.program files p h) asks (found_there ask.program files p h))
+check_answered words ask outside p asks h =
+    subst (IsAnswer words outside) (rw (program_there ask.program outside.files p h h.within.list) refl)
+    (is_answer words (check ask) outside (found_of ask.program outside.files p h) asks (found_there ask.program outside.files p h))
 
-pub compile_answered : (words : List (List ℕ)) (ask : CompileAsk) (files : Contents) (p : TypedProgramTree) (reached : List Instance)
-    → words_of words ≡ Some (compile ask) → HoldsTyped ask.program files p → IsReachedList p reached
-    → IsAnswer words files (done_with (compile_effect ask.code p reached))
+pub compile_answered : (words : List (List ℕ)) (ask : CompileAsk) (outside : Outside) (p : TypedProgramTree) (reached : List Instance)
+    → words_of words ≡ Some (compile ask) → HoldsTyped ask.program outside.files p → IsReachedList p reached
+    → IsAnswer words outside (done_with (compile_effect ask.code p reached))
 unfolding answer_to question_of compile_of
-compile_answered words ask files p reached asks h are =
-    subst (IsAnswer words files) (rw (program_there ask.program files p h reached) refl)
-    (is_answer words (compile ask) files (finding ask.program files p h reached) asks (found_reaching ask.program files p h reached are))
+compile_answered words ask outside p reached asks h are =
+    subst (IsAnswer words outside) (rw (program_there ask.program outside.files p h reached) refl)
+    (is_answer words (compile ask) outside (finding ask.program outside.files p h reached) asks (found_reaching ask.program outside.files p h reached are))
 
 -- ---- a program that is refused
 
-pub check_answered_so : (words : List (List ℕ)) (ask : CheckAsk) (files : Contents) (s : Status) → words_of words ≡ Some (check ask)
-    → ProgramRefused ask.program files s → HasAnswerOf words files s
+pub check_answered_so : (words : List (List ℕ)) (ask : CheckAsk) (outside : Outside) (s : Status) → words_of words ≡ Some (check ask)
+    → ProgramRefused ask.program outside.files s → HasAnswerOf words outside s
 unfolding answer_to question_of check_of
-check_answered_so words ask files s asks refused =
-    let no = no_program ask.program files s refused in
-    (check_of no.found ask files, is_answer words (check ask) files no.found asks no.at, rw no.none (sym no.status))
+check_answered_so words ask outside s asks refused =
+    let no = no_program ask.program outside.files s refused in
+    (check_of no.found ask outside.files, is_answer words (check ask) outside no.found asks no.at, rw no.none (sym no.status))
 
-pub compile_answered_so : (words : List (List ℕ)) (ask : CompileAsk) (files : Contents) (s : Status) → words_of words ≡ Some (compile ask)
-    → ProgramRefused ask.program files s → HasAnswerOf words files s
+pub compile_answered_so : (words : List (List ℕ)) (ask : CompileAsk) (outside : Outside) (s : Status) → words_of words ≡ Some (compile ask)
+    → ProgramRefused ask.program outside.files s → HasAnswerOf words outside s
 unfolding answer_to question_of compile_of
-compile_answered_so words ask files s asks refused =
-    let no = no_program ask.program files s refused in
-    (compile_of no.found ask files, is_answer words (compile ask) files no.found asks no.at, rw no.none (sym no.status))
+compile_answered_so words ask outside s asks refused =
+    let no = no_program ask.program outside.files s refused in
+    (compile_of no.found ask outside.files, is_answer words (compile ask) outside no.found asks no.at, rw no.none (sym no.status))
 
 -- a command that reads a program and has then an effect that ends as a program does
 module _ (found : Finding) (path : List ℕ) (files : Contents) (h : FoundAt (its_program path) files found) (effect : TypedProgramTree → Effect)
@@ -69,16 +70,16 @@ module _ (found : Finding) (path : List ℕ) (files : Contents) (h : FoundAt (it
         | inr (p, e, done) ↦ no_ending (status_in_answer r) Done why (ap status_in_answer (sym done) ∙ ends p)
       ]
 
-pub check_refused_so : (words : List (List ℕ)) (ask : CheckAsk) (files : Contents) → words_of words ≡ Some (check ask) → (answer : Answer)
-    → IsAnswer words files answer → Refuses (status_in_answer answer) → ProgramRefused ask.program files (status_in_answer answer)
+pub check_refused_so : (words : List (List ℕ)) (ask : CheckAsk) (outside : Outside) → words_of words ≡ Some (check ask) → (answer : Answer)
+    → IsAnswer words outside answer → Refuses (status_in_answer answer) → ProgramRefused ask.program outside.files (status_in_answer answer)
 unfolding answer_to question_of check_of
-check_refused_so words ask files asks answer a why =
-    let (found, at, is) = command_answers words (check ask) files answer asks a in
-    refused_only found ask.program files at (λ p. check_effect) (λ p. refl) answer why is
+check_refused_so words ask outside asks answer a why =
+    let (found, at, is) = command_answers words (check ask) outside answer asks a in
+    refused_only found ask.program outside.files at (λ p. check_effect) (λ p. refl) answer why is
 
-pub compile_refused_so : (words : List (List ℕ)) (ask : CompileAsk) (files : Contents) → words_of words ≡ Some (compile ask) → (answer : Answer)
-    → IsAnswer words files answer → Refuses (status_in_answer answer) → ProgramRefused ask.program files (status_in_answer answer)
+pub compile_refused_so : (words : List (List ℕ)) (ask : CompileAsk) (outside : Outside) → words_of words ≡ Some (compile ask) → (answer : Answer)
+    → IsAnswer words outside answer → Refuses (status_in_answer answer) → ProgramRefused ask.program outside.files (status_in_answer answer)
 unfolding answer_to question_of compile_of
-compile_refused_so words ask files asks answer a why =
-    let (found, at, is) = command_answers words (compile ask) files answer asks a in
-    refused_only found ask.program files at (λ p. compile_effect ask.code p found.reached) (λ p. refl) answer why is
+compile_refused_so words ask outside asks answer a why =
+    let (found, at, is) = command_answers words (compile ask) outside answer asks a in
+    refused_only found ask.program outside.files at (λ p. compile_effect ask.code p found.reached) (λ p. refl) answer why is

@@ -22,7 +22,7 @@ use Rattle.run_engine.specs.Judging.{Finding, FoundAt, HasFinding, Tells, its_pr
 use Rattle.run_engine.specs.Obeying.{Planned}
 use Rattle.run_engine.specs.Programs.{program_at}
 use Rattle.run_engine.specs.Reading.{inputs_at, tape_file_at}
-use Rattle.run_engine.specs.Twin.{IsStopOf, by_difference, entry_line, twin_bytes, twin_effect, twin_of, twin_paths, twinned_paths, unlike, word_line, writes_to, written_effect}
+use Rattle.run_engine.specs.Twin.{IsTwinStop, by_difference, entry_line, twin_bytes, twin_effect, twin_of, twin_paths, twinned_paths, unlike, word_line, writes_to, written_effect}
 use Rattle.run_engine.specs.Words.{answer_to, question_of, reads_of, writes_of}
 use Rattle.run_engine.proofs.Judged.{refused_so}
 
@@ -59,7 +59,7 @@ module _ (found : Finding) (ask : TwinAsk) (f : FilesState) (p : TypedProgramTre
   at_some_word place x y is t = rw (program t, inputs t, others t, taped t, is) refl
 
   -- inputs that are not alike stop the command
-  pub stops : (f' : FilesState) (e : TwinErr) (stop : Stop) → RefusesTwin p first second (lengths_of tapes) ask.budget e → IsStopOf e stop
+  pub stops : (f' : FilesState) (e : TwinErr) (stop : Stop) → RefusesTwin p first second (lengths_of tapes) ask.budget e → IsTwinStop e stop
       → Stops f f' stop (twin_of found ask f.contents)
   stops f' (refusal.PublicDiffers name) stop h is =
       refused_so f f' stop (twin_of found ask f.contents) is
@@ -68,18 +68,3 @@ module _ (found : Finding) (ask : TwinAsk) (f : FilesState) (p : TypedProgramTre
       refused_so f f' stop (twin_of found ask f.contents) is
       (at_some_word place x y (told_at_word p (lengths_of tapes) ask.budget first second place x y h.0 h.1))
   stops f' refusal.Memory stop h is = subst (λ (s : Stop). Stops f f' s (twin_of found ask f.contents)) (sym is) tt
-
--- ---- the command's own part
-
-pub twin_planned : (f f' : FilesState) (r : Result Plan Stop) → OnlyRead f f' → IfErr r (StopsReading f f') → (ask : TwinAsk)
-    → ((found : Finding) → FoundAt (its_program ask.program) f.contents found → Gives effect_of f f' r (twin_of found ask f.contents))
-    → (f.told ≡ true → Tells f r → HasFinding (its_program ask.program) f.contents) → KeepsTo (twin_paths ask) (twinned_paths ask.to) r
-    → Planned (twin ask) f f' r
-unfolding answer_to question_of reads_of writes_of
-twin_planned f f' r read anyhow ask answer found keeps = record {
-  files = read;
-  anyhow = anyhow;
-  answer = answer;
-  found = found;
-  keeps = keeps;
-}

@@ -5,7 +5,7 @@ use Rattle.outside.specs.Files.{Contents}
 use Rattle.command_frame.specs.declared.status.Status.{Status}
 use Rattle.command_frame.specs.declared.status.Status.TheVariants as statuses
 use Rattle.command_frame.specs.Answer.{Answer, Cause, ◌>>=◌}
-use Rattle.command_frame.specs.Status.{is_refusal}
+use Rattle.command_frame.specs.Status.{can_refuse}
 use Rattle.command_words.specs.Ask.{TwinAsk, twin, words_of}
 use Rattle.tape_file.specs.Format.{read_of as tapes_read_of}
 use Rattle.tape_file.specs.Tapes.{FourTapes}
@@ -21,6 +21,7 @@ use Rattle.run_engine.specs.Reading.{bad_input, bad_tape, inputs_at, tape_file_a
 use Rattle.run_engine.specs.Runs.{HoldsTyped}
 use Rattle.run_engine.specs.Twin.{by_difference, twin_effect, twin_of}
 use Rattle.run_engine.specs.TwinPromises.{AreTaken, HoldsTwin, TwinRefused, for_input, for_program, for_second, for_tape, not_alike}
+use Rattle.run_engine.specs.Told.{Outside}
 use Rattle.run_engine.specs.Words.{answer_to, question_of, IsAnswer}
 use Rattle.run_engine.proofs.Accepting.{program_cases, refused_by_program}
 use Rattle.run_engine.proofs.Held.{found_of, found_there, no_program, program_there}
@@ -51,13 +52,13 @@ alike_so : (ask : TwinAsk) (p : TypedProgramTree) (first second : List Entry) (t
 unfolding by_difference
 alike_so ask p first second tapes alike = rw (alike_have_none p (lengths_of tapes) ask.budget first second alike) refl
 
-pub twin_answered : (words : List (List ℕ)) (ask : TwinAsk) (files : Contents) (p : TypedProgramTree) (first second : List Entry) (tapes : FourTapes)
-    → words_of words ≡ Some (twin ask) → HoldsTwin ask files p first second tapes → AreTaken ask p first second tapes
-    → IsAnswer words files (twinned_to ask p first second tapes)
+pub twin_answered : (words : List (List ℕ)) (ask : TwinAsk) (outside : Outside) (p : TypedProgramTree) (first second : List Entry) (tapes : FourTapes)
+    → words_of words ≡ Some (twin ask) → HoldsTwin ask outside.files p first second tapes → AreTaken ask p first second tapes
+    → IsAnswer words outside (twinned_to ask p first second tapes)
 unfolding answer_to question_of
-twin_answered words ask files p first second tapes asks h alike =
-    subst (IsAnswer words files) (twin_there ask files p first second tapes h ∙ alike_so ask p first second tapes alike)
-    (is_answer words (twin ask) files (found_of ask.program files p h.program) asks (found_there ask.program files p h.program))
+twin_answered words ask outside p first second tapes asks h alike =
+    subst (IsAnswer words outside) (twin_there ask outside.files p first second tapes h ∙ alike_so ask p first second tapes alike)
+    (is_answer words (twin ask) outside (found_of ask.program outside.files p h.program) asks (found_there ask.program outside.files p h.program))
 
 -- ---- files that are refused, and inputs
 
@@ -100,12 +101,12 @@ twin_refused ask files s (not_alike is p first second tapes h unlike) = (
       ∙ sym is,
 )
 
-pub twin_answered_so : (words : List (List ℕ)) (ask : TwinAsk) (files : Contents) (s : Status) → words_of words ≡ Some (twin ask)
-    → TwinRefused ask files s → HasAnswerOf words files s
+pub twin_answered_so : (words : List (List ℕ)) (ask : TwinAsk) (outside : Outside) (s : Status) → words_of words ≡ Some (twin ask)
+    → TwinRefused ask outside.files s → HasAnswerOf words outside s
 unfolding answer_to question_of
-twin_answered_so words ask files s asks out =
-    let (found, at, status) = twin_refused ask files s out in
-    (twin_of found ask files, is_answer words (twin ask) files found asks at, status)
+twin_answered_so words ask outside s asks out =
+    let (found, at, status) = twin_refused ask outside.files s out in
+    (twin_of found ask outside.files, is_answer words (twin ask) outside found asks at, status)
 
 -- ---- and only so
 
@@ -124,7 +125,7 @@ unlike_cases (Some (at_entry name)) c is = (λ none. cc, ap cause_status (sym is
 unlike_cases (Some (at_word place x y)) c is = (λ none. cc, ap cause_status (sym is))
 
 module _ (found : Finding) (ask : TwinAsk) (files : Contents) (h : FoundAt (its_program ask.program) files found) (r : Answer)
-    (refusal : is_refusal (status_in_answer r) ≡ true) where
+    (refusal : can_refuse (status_in_answer r) ≡ true) where
   by_input : (p : TypedProgramTree) → HoldsTyped ask.program files p → (c : Cause) → r ≡ Err c → ReadRefused files ask.input bad_input inputs_read_of c
       → TwinRefused ask files (status_in_answer r)
   by_input p held c is (inl missed) = not_missing r c ask.input refusal is missed
@@ -193,9 +194,9 @@ module _ (found : Finding) (ask : TwinAsk) (files : Contents) (h : FoundAt (its_
         | inr (p, e, rest) ↦ at_inputs p (program_cases found files ask.program h (Ok p) e) rest
       ]
 
-pub twin_refused_only : (words : List (List ℕ)) (ask : TwinAsk) (files : Contents) → words_of words ≡ Some (twin ask) → (answer : Answer)
-    → IsAnswer words files answer → is_refusal (status_in_answer answer) ≡ true → TwinRefused ask files (status_in_answer answer)
+pub twin_refused_only : (words : List (List ℕ)) (ask : TwinAsk) (outside : Outside) → words_of words ≡ Some (twin ask) → (answer : Answer)
+    → IsAnswer words outside answer → can_refuse (status_in_answer answer) ≡ true → TwinRefused ask outside.files (status_in_answer answer)
 unfolding answer_to question_of
-twin_refused_only words ask files asks answer a refusal =
-    let (found, at, is) = command_answers words (twin ask) files answer asks a in
-    refused_only found ask files at answer refusal is
+twin_refused_only words ask outside asks answer a refusal =
+    let (found, at, is) = command_answers words (twin ask) outside answer asks a in
+    refused_only found ask outside.files at answer refusal is

@@ -17,7 +17,7 @@ use Rattle.command_frame.specs.Answer.{Answer, Cause, Effect, ◌>>=◌}
 use Rattle.command_frame.specs.declared.status.Status.{Status}
 use Rattle.command_words.specs.Ask.{EvalAsk}
 use Rattle.run_engine.specs.Judging.{Finding}
-use Rattle.run_engine.specs.Ends.{status_of}
+use Rattle.run_engine.specs.Ends.{ending_status}
 use Rattle.run_engine.specs.Programs.{program_at}
 use Rattle.run_engine.specs.Reading.{inputs_at}
 
@@ -38,7 +38,7 @@ abbrev pub end_of : Report → End
 end_of report = record { how = ending_of report.stop; cost = report.cost }
 
 abbrev pub end_status : Report → Status
-end_status report = status_of (end_of report).how
+end_status report = ending_status (end_of report).how
 
 -- what it opened and published, and how it ended
 abbrev pub eval_text : Report → List ℕ
@@ -67,8 +67,8 @@ eval_of found ask files = do
   report ← report_at found ask files
   Ok (report_effect eval_text report)
 
-unfoldable pub need_of : Finding → EvalAsk → Contents → Answer
-need_of found ask files = do
+unfoldable pub needs_of : Finding → EvalAsk → Contents → Answer
+needs_of found ask files = do
   report ← report_at found ask files
   Ok (report_effect need_text report)
 

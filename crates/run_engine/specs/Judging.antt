@@ -8,6 +8,7 @@ use Rattle.program_limits.specs.Limits.{IsVerdict, IsWithinLimits}
 use Rattle.reached_instances.specs.Instances.{Instance}
 use Rattle.reached_instances.specs.Reached.{IsReachedList}
 use Rattle.outside.specs.Files.{Contents, FilesState, file_at}
+use Rattle.command_frame.specs.Objects.{OfObject}
 use Rattle.command_frame.specs.declared.stop.Stop.{Stop}
 use Rattle.command_frame.specs.declared.stop.Stop.TheVariants as stops
 use Rattle.front_end.specs.Judgement.{Judged, IsJudged}
@@ -69,8 +70,7 @@ abbrev pub StopTells : FilesState → Stop → Type 0
 StopTells files stops.Memory = ⊥
 StopTells files stops.Usage = Unit {0}
 StopTells files (stops.Refused r) = Unit {0}
-StopTells files (stops.File line) = files.steady ≡ true
-StopTells files stops.Out = Unit {0}
+StopTells files (stops.Failed object) = OfObject (λ line. files.steady ≡ true) (Unit {0}) (Unit {0}) (Unit {0}) object
 
 abbrev pub Tells : {X : Type 0} → FilesState → Result X Stop → Type 0
 Tells files (Ok x) = Unit {0}

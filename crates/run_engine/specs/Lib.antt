@@ -18,6 +18,7 @@ pub mod Run
 pub mod Runs
 pub mod Simulate
 pub mod SimulatePromises
+pub mod Told
 pub mod Twin
 pub mod TwinPromises
 pub mod Vectors

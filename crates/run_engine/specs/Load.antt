@@ -15,7 +15,7 @@ use Rattle.delivered_run.specs.declared.running.DeliveredRun.{DeliveredRun}
 use Rattle.command_frame.specs.Answer.{Answer, Effect}
 use Rattle.command_frame.specs.declared.status.Status.{Status}
 use Rattle.command_words.specs.Ask.{LoadAsk}
-use Rattle.run_engine.specs.Ends.{status_of}
+use Rattle.run_engine.specs.Ends.{ending_status}
 use Rattle.run_engine.specs.Eval.{end_status, eval_text}
 use Rattle.run_engine.specs.Run.{run_report}
 
@@ -55,7 +55,7 @@ loaded_effect ran =
     record {
       writes = [];
       text = run_text ran.report.events.items ran.report.end ++ messages_text (length ran.delivered.items);
-      status = status_of ran.report.end.how;
+      status = ending_status ran.report.end.how;
     }
 
 -- it is never refused

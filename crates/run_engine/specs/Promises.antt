@@ -7,8 +7,8 @@ use Rattle.reached_instances.specs.Reached.{IsReachedList}
 use Rattle.command_frame.specs.declared.status.Status.{Status}
 use Rattle.command_frame.specs.declared.status.Status.TheVariants.{Done, Memory}
 use Rattle.command_frame.specs.Answer.{Effect}
-use Rattle.command_frame.specs.Status.{is_fault, is_refusal}
-use Rattle.command_frame.specs.Whole.{IsDone}
+use Rattle.command_frame.specs.Status.{can_refuse}
+use Rattle.command_frame.specs.Whole.{HasFailed, IsDone}
 use Rattle.command_words.specs.Ask.{CheckAsk, CompileAsk, DealAsk, EvalAsk, RunAsk, LoadAsk}
 use Rattle.protocol_model.specs.Network.{Accepted, Delivery}
 use Rattle.input_share.specs.Dealing.{need_of}
@@ -32,13 +32,13 @@ AllSteady f o = (f.steady ≡ true) × (o.steady ≡ true)
 abbrev pub Gives : (Effect → Type 0) → FilesState → FilesState → SinkState → SinkState → Status → Type 0
 Gives Wanted f f' o o' given = (effect : Effect) → Wanted effect → AllSteady f o → IsDone effect f f' o o' given ⊎ (given ≡ Memory)
 
--- what a command keeps, where the store tells what it holds: its effect, and that it is refused exactly for the files that are not as they must be.
--- A status that the command can end with is no refusal.
+-- what a command keeps, where the store tells what it holds: its effect, and that it is refused exactly for the files that are not as they must
+-- be, or a fault is told. A status that the command can end with is no refusal.
 pub record Keeps (Wanted : Effect → Type 0) (Refused : Status → Type 0) (ends : Status → Bool) (f f' : FilesState) (o o' : SinkState) (given : Status)
     : Type 0 where
   pub gives : Gives Wanted f f' o o' given
-  pub refused_only : is_refusal given ≡ true → ends given ≡ false → Refused given
-  pub refused_if : (status : Status) → Refused status → (given ≡ status) ⊎ (is_fault given ≡ true)
+  pub refused_only : can_refuse given ≡ true → ends given ≡ false → Refused given
+  pub refused_if : (status : Status) → Refused status → (given ≡ status) ⊎ HasFailed f f' o o' given
 
 -- `deal` runs no program, so it has one end
 abbrev pub is_done : Status → Bool

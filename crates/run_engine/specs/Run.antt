@@ -28,7 +28,7 @@ use Rattle.program_views.specs.Views.{view_of}
 use Rattle.view_text.specs.View.{View}
 use Rattle.command_frame.specs.declared.plan.Plan.{Plan}
 use Rattle.delivered_run.specs.declared.running.DeliveredRun.{DeliveredRun}
-use Rattle.run_engine.specs.Ends.{status_of}
+use Rattle.run_engine.specs.Ends.{ending_status}
 use Rattle.run_engine.specs.Eval.{end_status, eval_text}
 use Rattle.run_engine.specs.Judging.{Finding}
 use Rattle.run_engine.specs.Programs.{program_at}
@@ -76,7 +76,7 @@ ran_effect ask files run =
     record {
       writes = files ++ recorded_links ask.recorded run.delivered.items;
       text = run_text run.report.events.items run.report.end;
-      status = status_of run.report.end.how;
+      status = ending_status run.report.end.how;
     }
 
 -- what is written and printed of a run, whose views, text and links are those that the definitions say
@@ -97,10 +97,10 @@ module _ (ask : RunAsk) (p : TypedProgramTree) (entries : List Entry) (tapes : F
   IsRan (Err e) = IsRefusedOf p entries tapes ask.budget delivery e
 
 -- the stop of a run whose schedule is refused
-abbrev pub IsStopOf : DeliveryErr → Stop → Type 0
-IsStopOf (refusal.EmptyLink entry link sent) stop = IsRefusalFor (refused_with (empty_line entry link sent)) stop
-IsStopOf (refusal.Stalled miner link) stop = IsRefusalFor (refused_with (stalled_line miner link)) stop
-IsStopOf refusal.Memory stop = stop ≡ stops.Memory
+abbrev pub IsDeliveryStop : DeliveryErr → Stop → Type 0
+IsDeliveryStop (refusal.EmptyLink entry link sent) stop = IsRefusalFor (refused_with (empty_line entry link sent)) stop
+IsDeliveryStop (refusal.Stalled miner link) stop = IsRefusalFor (refused_with (stalled_line miner link)) stop
+IsDeliveryStop refusal.Memory stop = stop ≡ stops.Memory
 
 -- Each file is read and then checked: the program and its size, the input, the tapes, the schedule; then the program is run.
 unfoldable pub run_of : Finding → RunAsk → Contents → Answer

@@ -40,11 +40,11 @@ by_told have (Ended ending) = Ok ending
 by_told have Short = Err (short_with (short_line have))
 
 -- the stop of a simulator that gives no view
-abbrev pub IsStopOf : SimulateErr → Stop → Type 0
-IsStopOf (refusal.OpenedShort have) stop = IsRefusalFor (short_with (short_line have)) stop
-IsStopOf (refusal.EmptyLink entry link sent) stop = IsRefusalFor (refused_with (empty_line entry link sent)) stop
-IsStopOf (refusal.Stalled miner link) stop = IsRefusalFor (refused_with (stalled_line miner link)) stop
-IsStopOf refusal.Memory stop = stop ≡ stops.Memory
+abbrev pub IsSimulateStop : SimulateErr → Stop → Type 0
+IsSimulateStop (refusal.OpenedShort have) stop = IsRefusalFor (short_with (short_line have)) stop
+IsSimulateStop (refusal.EmptyLink entry link sent) stop = IsRefusalFor (refused_with (empty_line entry link sent)) stop
+IsSimulateStop (refusal.Stalled miner link) stop = IsRefusalFor (refused_with (stalled_line miner link)) stop
+IsSimulateStop refusal.Memory stop = stop ≡ stops.Memory
 
 -- ---- the view
 

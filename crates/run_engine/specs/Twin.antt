@@ -43,10 +43,10 @@ by_difference (Some (at_entry name)) = Err (unlike (entry_line name))
 by_difference (Some (at_word place first second)) = Err (unlike (word_line place first second))
 
 -- the stop of inputs that are refused
-abbrev pub IsStopOf : TwinErr → Stop → Type 0
-IsStopOf (refusal.PublicDiffers name) stop = IsRefusalFor (unlike (entry_line name)) stop
-IsStopOf (refusal.OpenedDiffers place first second) stop = IsRefusalFor (unlike (word_line place first second)) stop
-IsStopOf refusal.Memory stop = stop ≡ stops.Memory
+abbrev pub IsTwinStop : TwinErr → Stop → Type 0
+IsTwinStop (refusal.PublicDiffers name) stop = IsRefusalFor (unlike (entry_line name)) stop
+IsTwinStop (refusal.OpenedDiffers place first second) stop = IsRefusalFor (unlike (word_line place first second)) stop
+IsTwinStop refusal.Memory stop = stop ≡ stops.Memory
 
 -- ---- the twin
 

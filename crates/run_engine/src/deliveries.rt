@@ -1,14 +1,13 @@
 // In which order messages are delivered, and orders that are refused.
 ghost use Rattle.std.specs.Prelude.{◌≡◌, IfOk, IfErr, string_bytes};
 ghost use Rattle.command_frame.specs.Reads.{OnlyRead, Gives, StopNames};
-ghost use Rattle.command_frame.specs.Stops.{IsRefusalFor};
 ghost use Rattle.command_words.specs.Views.{order_ask};
 ghost use Rattle.delivered_run.specs.Deliveries.{delivery_seen};
 ghost use Rattle.run_engine.specs.Reading.{delivery_at, order_paths};
-ghost use Rattle.run_engine.specs.Run.{empty_line, refused_with, stalled_line, IsStopOf};
+ghost use Rattle.run_engine.specs.Run.{empty_line, stalled_line, IsDeliveryStop};
 
 use crate::readers::read_schedule_file;
-use command_frame::{Refusal, Status, Stop};
+use command_frame::{Status, Stop, refused};
 use command_words::DeliveryOrder;
 use delivered_run::{Delivery, DeliveryErr};
 use outside::Files;
@@ -37,20 +36,6 @@ pub fn read_delivery<F: Files>(
     }
 }
 
-// The stop of this line, if it could be made.
-fn refused(line: Result<String, AllocError>) -> Stop
-    ensures refusal { IfOk line (λ text. IsRefusalFor (refused_with (string_bytes text)) result) }
-    ensures memory { IfErr line (λ e. result ≡ Stop.Memory) }
-{
-    match line {
-        Ok(line) => Stop::Refused(Refusal {
-            status: Status::Schedule,
-            line,
-        }),
-        Err(_) => Stop::Memory,
-    }
-}
-
 // The line of an entry whose link has no message.
 fn empty_text(alloc: Global, entry: u64, link: Link, sent: u64) -> Result<String, AllocError>
     ensures { IfOk result (λ text. string_bytes text ≡ empty_line entry link sent) }
@@ -68,13 +53,15 @@ fn stalled_text(alloc: Global, miner: Number, link: Link) -> Result<String, Allo
 
 /// Why a schedule is refused by the run.
 pub fn delivery_stop(alloc: Global, refusal: DeliveryErr) -> Stop
-    ensures { IsStopOf refusal result }
+    ensures { IsDeliveryStop refusal result }
 {
     match refusal {
-        DeliveryErr::EmptyLink { entry, link, sent } => refused(empty_text(
-            alloc, entry, link, sent,
-        )),
-        DeliveryErr::Stalled { miner, link } => refused(stalled_text(alloc, miner, link)),
+        DeliveryErr::EmptyLink { entry, link, sent } => {
+            refused(Status::Schedule, empty_text(alloc, entry, link, sent))
+        }
+        DeliveryErr::Stalled { miner, link } => {
+            refused(Status::Schedule, stalled_text(alloc, miner, link))
+        }
         DeliveryErr::Memory => Stop::Memory,
     }
 }

@@ -1,13 +1,13 @@
 // The exit status of a run's end.
 ghost use Rattle.std.specs.Prelude.{◌≡◌};
-ghost use Rattle.run_engine.specs.Ends.{status_of};
+ghost use Rattle.run_engine.specs.Ends.{ending_status};
 
 use command_frame::Status;
 use sc_text::Ending;
 
 /// The exit status of a run's end.
 pub fn status(how: Ending) -> Status
-    ensures { result ≡ status_of how }
+    ensures { result ≡ ending_status how }
 {
     match how {
         Ending::Done => Status::Done,

@@ -1,7 +1,7 @@
 // Input, public, opened, tape and schedule files, read from their paths.
 ghost use Rattle.std.specs.Prelude.{◌≡◌, ◌∷◌, [], true, IfOk, IfErr};
 ghost use Rattle.command_frame.specs.Reads.{OnlyRead, Gives, StopNames};
-ghost use Rattle.command_frame.specs.Status.{is_refusal};
+ghost use Rattle.command_frame.specs.Status.{can_refuse};
 ghost use Rattle.command_frame.specs.Stops.{IsRefusalFor};
 ghost use Rattle.sc_text.specs.Fault.{fault_line};
 ghost use Rattle.command_frame.specs.declared.status.Status.TheVariants.{Input};
@@ -11,7 +11,7 @@ ghost use Rattle.value_file.specs.PublicFile.{IsWritable};
 ghost use Rattle.run_engine.specs.Reading.{bad_opened, bad_tape, bad_schedule, field_fault, top_fault};
 ghost use Rattle.run_engine.specs.Reading.{entry_field, inputs_at, opened_at, public_at, tape_file_at, schedule_file_at};
 
-use command_frame::{Refusal, Status, Stop, read_file};
+use command_frame::{Status, Stop, read_file, refused};
 use outside::Files;
 use proto_core::Link;
 use sc_text::{EntryField, Fault, InputFault};
@@ -21,13 +21,10 @@ use value_file::{Field, Inputs, PublicPart};
 
 /// The refusal of what was read, with this status and the line of this fault; `Memory` where the line can't be made.
 pub fn refusal_of(alloc: Global, status: Status, fault: &Fault) -> Stop
-    requires { is_refusal status ≡ true }
+    requires { can_refuse status ≡ true }
     ensures { IsRefusalFor (record { status = status; line = fault_line fault.now }) result }
 {
-    match format!(in alloc; "{fault}") {
-        Ok(line) => Stop::Refused(Refusal { status, line }),
-        Err(_) => Stop::Memory,
-    }
+    refused(status, format!(in alloc; "{fault}"))
 }
 
 fn entry_field(name: Field) -> Option<EntryField>

@@ -2,15 +2,14 @@
 ghost use Rattle.std.specs.Prelude.{◌≡◌, Some, true, IfOk, IfErr, string_bytes};
 ghost use Rattle.command_frame.specs.Answer.{effect_of};
 ghost use Rattle.command_frame.specs.Reads.{OnlyRead, Gives, KeepsTo, PlanNames, StopsReading};
-ghost use Rattle.command_frame.specs.Stops.{IsRefusalFor};
 ghost use Rattle.command_words.specs.Views.{simulate_ask};
 ghost use Rattle.run_engine.specs.Judging.{Finding, FoundAt, HasFinding, its_program, Tells};
-ghost use Rattle.run_engine.specs.Simulate.{short_line, short_with, simulate_effect, simulate_of, simulate_paths, simulated_paths, IsStopOf};
+ghost use Rattle.run_engine.specs.Simulate.{short_line, simulate_effect, simulate_of, simulate_paths, simulated_paths, IsSimulateStop};
 
 use crate::deliveries::{delivery_stop, read_delivery};
 use crate::programs::read_typed;
 use crate::readers::{read_opened_file, read_public_file, read_tape_file};
-use command_frame::{Plan, PlannedWrite, Refusal, Status, Stop};
+use command_frame::{Plan, PlannedWrite, Status, Stop, refused};
 use command_words::SimulateWords;
 use delivered_run::DeliveryErr;
 use outside::Files;
@@ -25,26 +24,14 @@ fn short_text(alloc: Global, have: u64) -> Result<String, AllocError>
     format!(in alloc; "error: V2 have {have}\n")
 }
 
-// The stop of this line, if it could be made.
-fn refused(line: Result<String, AllocError>) -> Stop
-    ensures refusal { IfOk line (λ text. IsRefusalFor (short_with (string_bytes text)) result) }
-    ensures memory { IfErr line (λ e. result ≡ Stop.Memory) }
-{
-    match line {
-        Ok(line) => Stop::Refused(Refusal {
-            status: Status::OpenedShort,
-            line,
-        }),
-        Err(_) => Stop::Memory,
-    }
-}
-
 // Why there is no view.
 fn simulate_stop(alloc: Global, refusal: SimulateErr) -> Stop
-    ensures { IsStopOf refusal result }
+    ensures { IsSimulateStop refusal result }
 {
     match refusal {
-        SimulateErr::OpenedShort { have } => refused(short_text(alloc, have)),
+        SimulateErr::OpenedShort { have } => {
+            refused(Status::OpenedShort, short_text(alloc, have))
+        }
         SimulateErr::EmptyLink { entry, link, sent } => {
             delivery_stop(alloc, DeliveryErr::EmptyLink { entry, link, sent })
         }

@@ -4,9 +4,10 @@ ghost use Rattle.outside.specs.Causes.{Rose};
 ghost use Rattle.outside.specs.Sink.{SameSink};
 ghost use Rattle.command_frame.specs.Answer.{Answer, usage};
 ghost use Rattle.command_frame.specs.Finish.{OnlyAmong, PutLine, PutPrefix};
-ghost use Rattle.command_frame.specs.Status.{is_end, is_fault, is_refusal};
-ghost use Rattle.command_frame.specs.Stops.{write_line, memory_line};
-ghost use Rattle.command_frame.specs.Whole.{CarriedOut, FileTold, IsAnswered, IsCut, IsMissed, OnlyWritten, OutFaulted};
+ghost use Rattle.command_frame.specs.Objects.{write_line};
+ghost use Rattle.command_frame.specs.Status.{can_refuse, is_end};
+ghost use Rattle.command_frame.specs.Stops.{memory_line};
+ghost use Rattle.command_frame.specs.Whole.{CarriedOut, FileTold, HasFailed, IsAnswered, IsCut, IsMissed, OnlyWritten, OutFaulted};
 ghost use Rattle.command_frame.specs.declared.status.Status.{Status};
 ghost use Rattle.command_words.specs.Ask.{CheckAsk, CompileAsk, EvalAsk, RunAsk, DealAsk, MapAsk, SimulateAsk, TwinAsk, check, compile, eval, need, run, deal, map_tape, simulate, twin, words_of, LoadAsk, load};
 ghost use Rattle.command_words.specs.Views.{ask_of, texts};
@@ -29,6 +30,7 @@ ghost use Rattle.run_engine.specs.Runs.{DealRefused, EvalRefused, IsNotTaken, Pr
 ghost use Rattle.run_engine.specs.SimulatePromises.{HoldsOfRun, IsOfRun, SimulateEffect, SimulateRefused};
 ghost use Rattle.run_engine.specs.TwinPromises.{AreTaken, HoldsTwin, TwinEffect, TwinRefused};
 ghost use Rattle.run_engine.specs.Load.{IsNeverRefused};
+ghost use Rattle.run_engine.specs.Told.{outside_of};
 ghost use Rattle.run_engine.specs.Words.{read_by, written_by, reach_miners, start_programs, IsAnswer, HasAnswer};
 
 use crate::check::plan_check;
@@ -94,9 +96,9 @@ fn act<F: Files, O: Sink>(
 
 /// Does what the words after the program's name ask for, and answers the exit status.
 ///
-/// `out` is where the command prints, `err` where it says why it stopped. What the words ask for is decided by them, by
-/// what `files` holds and by what the text of the program that they name is judged to be (the answer): the files to
-/// write, the text and the status, or a refusal.
+/// `out` is where the command prints, `err` where it says why it stopped. What the words ask for (the answer: the files to write, the
+/// text and the status, or a refusal) is decided by them, by what the objects tell as they are handed over, and by what the text of
+/// the program that the words name is judged to be.
 pub fn secrec<F: Files, O: Sink, E: Sink, L: Links, C: Spawner>(
     alloc: Global,
     words: &[String],
@@ -116,17 +118,20 @@ pub fn secrec<F: Files, O: Sink, E: Sink, L: Links, C: Spawner>(
     // is printed without an answer.
     ensures answered { (F.state files.old).told ≡ true → result ≢ Status.Memory →
         (result ≡ Status.File → (F.state files.old).steady ≡ true) →
-        HasAnswer (texts words.now) (F.state files.old).contents }
+        HasAnswer (texts words.now)
+        (outside_of (F.state files.old) (L.state links.old) (C.state children.old)) }
     ensures printed_if_answered { SameSink (O.state out.old) (O.state out.new)
-        ⊎ ((F.state files.old).told ≡ true → HasAnswer (texts words.now) (F.state files.old).contents) }
+        ⊎ ((F.state files.old).told ≡ true → HasAnswer (texts words.now)
+        (outside_of (F.state files.old) (L.state links.old) (C.state children.old))) }
 
-    // Where no file, no output and no memory failed, the answer is carried out: all of its files and its text and
-    // nothing on `err`; or its refusal's line on `err`, nothing on `out` and no file changed. A line is on `err` whole, or a
-    // prefix of it where the count of `err`'s faults rose, or that of its calls without memory.
-    ensures answer_carried_out { (answer : Answer) → IsAnswer (texts words.now) (F.state files.old).contents answer →
-        is_fault result ≡ false → (F.state files.old).told ≡ true →
+    // The answer is carried out: all of its files and its text and nothing on `err`; or its refusal's line on `err`, nothing on
+    // `out` and no file changed. Or a fault is told by the status of the object that failed, whose count rose, or memory ran out. A
+    // line is on `err` whole, or a prefix of it where the count of `err`'s faults rose, or that of its calls without memory.
+    ensures answer_carried_out { (answer : Answer) → IsAnswer (texts words.now)
+        (outside_of (F.state files.old) (L.state links.old) (C.state children.old)) answer → (F.state files.old).told ≡ true →
         CarriedOut answer (F.state files.old) (F.state files.new) (O.state out.old) (O.state out.new)
-        (E.state err.old) (E.state err.new) result }
+        (E.state err.old) (E.state err.new) result
+        ⊎ HasFailed (F.state files.old) (F.state files.new) (O.state out.old) (O.state out.new) result }
 
     // A file failed, and its line is on `err`: a file that is read, and no file changed; or one that is written, and exactly those
     // before it are written. Over steady files it is one that is read and missing.
@@ -134,39 +139,45 @@ pub fn secrec<F: Files, O: Sink, E: Sink, L: Links, C: Spawner>(
         Rose (F.state files.old).faults (F.state files.new).faults }
     ensures file_fault_told { result ≡ Status.File →
         FileTold (read_by (texts words.now)) (written_by (texts words.now))
-        (IsAnswer (texts words.now) (F.state files.old).contents)
+        (IsAnswer (texts words.now) (outside_of (F.state files.old) (L.state links.old) (C.state children.old)))
         (F.state files.old) (F.state files.new) (E.state err.old) (E.state err.new) }
-    ensures file_missing_if_steady { (answer : Answer) → IsAnswer (texts words.now) (F.state files.old).contents answer →
+    ensures file_missing_if_steady { (answer : Answer) → IsAnswer (texts words.now)
+        (outside_of (F.state files.old) (L.state links.old) (C.state children.old)) answer →
         result ≡ Status.File → (F.state files.old).steady ≡ true → (F.state files.old).told ≡ true →
         IsMissed answer (E.state err.old) (E.state err.new) }
 
     // The output failed: all files are written, and it holds a prefix of the text.
     ensures write_fault_counted { result ≡ Status.Write → OutFaulted (O.state out.old) (O.state out.new) }
     ensures write_fault_said { result ≡ Status.Write → PutLine write_line (E.state err.old) (E.state err.new) }
-    ensures write_fault_cuts_text { (answer : Answer) → IsAnswer (texts words.now) (F.state files.old).contents answer →
+    ensures write_fault_cuts_text { (answer : Answer) → IsAnswer (texts words.now)
+        (outside_of (F.state files.old) (L.state links.old) (C.state children.old)) answer →
         result ≡ Status.Write → (F.state files.old).told ≡ true →
         IsOkAnd answer (λ e. IsCut e (F.state files.old) (F.state files.new) (O.state out.old) (O.state out.new)) }
 
     // Memory ran out: the output is as it was, or holds a prefix of the text.
     ensures memory_said { result ≡ Status.Memory → PutLine memory_line (E.state err.old) (E.state err.new) }
-    ensures memory_cuts_text { (answer : Answer) → IsAnswer (texts words.now) (F.state files.old).contents answer →
+    ensures memory_cuts_text { (answer : Answer) → IsAnswer (texts words.now)
+        (outside_of (F.state files.old) (L.state links.old) (C.state children.old)) answer →
         result ≡ Status.Memory → SameSink (O.state out.old) (O.state out.new)
         ⊎ ((F.state files.old).told ≡ true → IsOkAnd answer (λ e. PutPrefix e.text (O.state out.old) (O.state out.new))) }
 
     // A command that comes to its end says nothing; one that stops for another reason than output or memory
     // prints nothing. Only paths that the words name to be written change, of them only those of the answer, and nothing else.
-    ensures end_says_nothing { is_end result ≡ true → is_refusal result ≡ false →
+    ensures end_says_nothing { is_end result ≡ true → can_refuse result ≡ false →
         SameSink (E.state err.old) (E.state err.new) }
     ensures refused_prints_nothing { is_end result ≡ false → result ≢ Status.Write → result ≢ Status.Memory →
         SameSink (O.state out.old) (O.state out.new) }
-    ensures files_only_as_answered { (answer : Answer) → IsAnswer (texts words.now) (F.state files.old).contents answer →
+    ensures files_only_as_answered { (answer : Answer) → IsAnswer (texts words.now)
+        (outside_of (F.state files.old) (L.state links.old) (C.state children.old)) answer →
         OnlyWritten answer (F.state files.old) (F.state files.new) }
     ensures files_only_as_named { OnlyAmong (written_by (texts words.now)) (F.state files.old) (F.state files.new) }
+    ensures links_fail_if_reached { result ≡ Status.Link → reach_miners (texts words.now) ≡ true }
     ensures links_unused { reach_miners (texts words.now) ≡ false → links.new ≡ links.old }
     ensures children_unused { start_programs (texts words.now) ≡ false → children.new ≡ children.old }
 
     // Over steady objects the status is the answer's, or memory ran out.
-    ensures complete { (answer : Answer) → IsAnswer (texts words.now) (F.state files.old).contents answer →
+    ensures complete { (answer : Answer) → IsAnswer (texts words.now)
+        (outside_of (F.state files.old) (L.state links.old) (C.state children.old)) answer →
         AllSteady (F.state files.old) (O.state out.old) → (F.state files.old).told ≡ true →
         IsAnswered answer result ⊎ (result ≡ Status.Memory) }
 

@@ -2,14 +2,13 @@
 ghost use Rattle.std.specs.Prelude.{◌≡◌, true, IfOk, IfErr, string_bytes};
 ghost use Rattle.command_frame.specs.Answer.{effect_of};
 ghost use Rattle.command_frame.specs.Reads.{OnlyRead, Gives, KeepsTo, PlanNames, StopsReading};
-ghost use Rattle.command_frame.specs.Stops.{IsRefusalFor};
 ghost use Rattle.command_words.specs.Views.{twin_ask};
 ghost use Rattle.run_engine.specs.Judging.{Finding, FoundAt, HasFinding, its_program, Tells};
-ghost use Rattle.run_engine.specs.Twin.{entry_line, word_line, unlike, written_effect, twin_of, twin_paths, twinned_paths, IsStopOf};
+ghost use Rattle.run_engine.specs.Twin.{entry_line, word_line, written_effect, twin_of, twin_paths, twinned_paths, IsTwinStop};
 
 use crate::programs::read_typed;
 use crate::readers::{read_inputs, read_tape_file};
-use command_frame::{Plan, PlannedWrite, Refusal, Status, Stop};
+use command_frame::{Plan, PlannedWrite, Status, Stop, refused};
 use command_words::TwinWords;
 use outside::Files;
 use std::alloc::{AllocError, Global};
@@ -31,31 +30,19 @@ fn word_text(alloc: Global, place: usize, first: u64, second: u64) -> Result<Str
     format!(in alloc; "error: Z1 opened {place} {first} {second}\n")
 }
 
-// The stop of this line, if it could be made.
-fn refused(line: Result<String, AllocError>) -> Stop
-    ensures refusal { IfOk line (λ text. IsRefusalFor (unlike (string_bytes text)) result) }
-    ensures memory { IfErr line (λ e. result ≡ Stop.Memory) }
-{
-    match line {
-        Ok(line) => Stop::Refused(Refusal {
-            status: Status::NotAlike,
-            line,
-        }),
-        Err(_) => Stop::Memory,
-    }
-}
-
 // Why there is no twin.
 fn twin_stop(alloc: Global, refusal: &TwinErr) -> Stop
-    ensures { IsStopOf refusal.now result }
+    ensures { IsTwinStop refusal.now result }
 {
     match refusal {
-        TwinErr::PublicDiffers(name) => refused(entry_text(alloc, name.as_str())),
+        TwinErr::PublicDiffers(name) => {
+            refused(Status::NotAlike, entry_text(alloc, name.as_str()))
+        }
         TwinErr::OpenedDiffers {
             place,
             first,
             second,
-        } => refused(word_text(alloc, *place, *first, *second)),
+        } => refused(Status::NotAlike, word_text(alloc, *place, *first, *second)),
         TwinErr::Memory => Stop::Memory,
     }
 }

@@ -1,9 +1,10 @@
-use Rattle.command_frame.proofs.Wholes.{complete, carried_out, end_says_nothing, file_counted, file_missed, file_told, memory_cuts, memory_said, refused_prints_nothing, usage_of_unnamed, usage_said, usage_unnamed, write_counted, write_cuts, write_said}
+use Rattle.command_words.specs.Views.{texts}
+use Rattle.command_frame.proofs.Wholes.{complete, carried_out, end_says_nothing, file_counted, file_missed, file_told, memory_cuts, memory_said, no_link_failed, refused_prints_nothing, usage_of_unnamed, usage_said, usage_unnamed, write_counted, write_cuts, write_said}
 use Rattle.run_engine.proofs.Headline.{ends_by_budget_and_tapes, prints, refuses, schedule_refused, writes}
 use Rattle.run_engine.proofs.Miners.{made_taken, maps_made, miners_run, views_made}
 use Rattle.run_engine.proofs.Promises.{check_keeps, compile_keeps, deal_keeps, eval_keeps, need_keeps, run_keeps, load_keeps}
-use Rattle.run_engine.proofs.Runs.{no_command}
-use Rattle.run_engine.proofs.Tops.{telling}
+use Rattle.run_engine.proofs.Runs.{has_answer, no_command}
+use Rattle.run_engine.proofs.Tops.{over, printed_so, stops_told, telling}
 use Rattle.run_engine.proofs.ViewLaws.{maps_correspond, simulated_so, twins_see_it}
 use Rattle.run_engine.proofs.ViewPromises.{map_keeps, simulate_keeps, twin_keeps}
 use Rattle.run_engine.proofs.top.secrec.Goals as goal
@@ -18,26 +19,32 @@ pub returns-clause-usage_said : goal.returns-clause-usage_said
 returns-clause-usage_said g c = rw c.ended_status.ensures (usage_said _ _ _ _ _ _ _ c.act-ended.result c.act-ended.ensures.anyhow c.say.ensures.said)
 
 pub returns-clause-answered : goal.returns-clause-answered
-returns-clause-answered g c = rw c.ended_status.ensures (λ t sound steady. c.act-ended.ensures.answered t (telling (g.F.Files.state c.args.files.now) c.act-ended.result sound steady))
+returns-clause-answered g c =
+    rw c.ended_status.ensures (λ t sound steady.
+    has_answer (texts c.args.words.now) _ (c.act-ended.ensures.found t (telling (g.F.Files.state c.args.files.now) c.act-ended.result sound steady)))
 
 pub returns-clause-printed_if_answered : goal.returns-clause-printed_if_answered
-returns-clause-printed_if_answered g c = c.act-ended.ensures.out
+returns-clause-printed_if_answered g c =
+    printed_so (texts c.args.words.now) (g.L.Links.state c.args.links.now).coming (g.C.Spawner.state c.args.children.now).status
+    (g.F.Files.state c.args.files.now) _ _ c.act-ended.ensures.out
 
 pub returns-clause-answer_carried_out : goal.returns-clause-answer_carried_out
 returns-clause-answer_carried_out g c = λ answer a.
-    rw c.ended_status.ensures (carried_out _ answer _ _ _ _ _ _ _ (no_command _ _ answer a) (c.act-ended.ensures.acts answer a) c.say.ensures.said)
+    rw c.ended_status.ensures (carried_out _ answer _ _ _ _ _ _ c.act-ended.result (no_command _ _ answer a)
+    (c.act-ended.ensures.acts answer (over _ _ _ _ answer a)) c.say.ensures.said)
 
 pub returns-clause-file_fault_counted : goal.returns-clause-file_fault_counted
 returns-clause-file_fault_counted g c = rw c.ended_status.ensures (file_counted _ _ _ _ _ c.act-ended.result c.act-ended.ensures.anyhow)
 
 pub returns-clause-file_fault_told : goal.returns-clause-file_fault_told
 returns-clause-file_fault_told g c =
-    rw c.ended_status.ensures (file_told _ _ _ _ _ _ _ _ _ _ c.act-ended.result c.act-ended.ensures.anyhow c.act-ended.ensures.stops c.say.ensures.said)
+    rw c.ended_status.ensures (file_told _ _ _ _ _ _ _ _ _ _ c.act-ended.result c.act-ended.ensures.anyhow
+    (stops_told _ _ _ _ _ c.act-ended.result c.act-ended.ensures.stops) c.say.ensures.said)
 
 pub returns-clause-file_missing_if_steady : goal.returns-clause-file_missing_if_steady
 returns-clause-file_missing_if_steady g c = λ answer a.
-    rw c.ended_status.ensures (file_missed _ answer _ _ _ _ _ _ _ _ _ c.act-ended.result (c.act-ended.ensures.acts answer a) c.act-ended.ensures.stops
-    c.say.ensures.said)
+    rw c.ended_status.ensures (file_missed _ answer _ _ _ _ _ _ _ _ _ c.act-ended.result (c.act-ended.ensures.acts answer (over _ _ _ _ answer a))
+    c.act-ended.ensures.stops c.say.ensures.said)
 
 pub returns-clause-write_fault_counted : goal.returns-clause-write_fault_counted
 returns-clause-write_fault_counted g c = rw c.ended_status.ensures (write_counted _ _ _ _ _ c.act-ended.result c.act-ended.ensures.anyhow)
@@ -47,14 +54,14 @@ returns-clause-write_fault_said g c = rw c.ended_status.ensures (write_said _ _ 
 
 pub returns-clause-write_fault_cuts_text : goal.returns-clause-write_fault_cuts_text
 returns-clause-write_fault_cuts_text g c = λ answer a.
-    rw c.ended_status.ensures (write_cuts _ answer _ _ _ _ c.act-ended.result (c.act-ended.ensures.acts answer a))
+    rw c.ended_status.ensures (write_cuts _ answer _ _ _ _ c.act-ended.result (c.act-ended.ensures.acts answer (over _ _ _ _ answer a)))
 
 pub returns-clause-memory_said : goal.returns-clause-memory_said
 returns-clause-memory_said g c = rw c.ended_status.ensures (memory_said _ _ _ _ _ _ _ c.act-ended.result c.act-ended.ensures.anyhow c.say.ensures.said)
 
 pub returns-clause-memory_cuts_text : goal.returns-clause-memory_cuts_text
 returns-clause-memory_cuts_text g c = λ answer a.
-    rw c.ended_status.ensures (memory_cuts _ answer _ _ _ _ c.act-ended.result (c.act-ended.ensures.acts answer a))
+    rw c.ended_status.ensures (memory_cuts _ answer _ _ _ _ c.act-ended.result (c.act-ended.ensures.acts answer (over _ _ _ _ answer a)))
 
 pub returns-clause-end_says_nothing : goal.returns-clause-end_says_nothing
 returns-clause-end_says_nothing g c = rw c.ended_status.ensures (end_says_nothing _ _ c.act-ended.result c.say.ensures.said)
@@ -63,38 +70,42 @@ pub returns-clause-refused_prints_nothing : goal.returns-clause-refused_prints_n
 returns-clause-refused_prints_nothing g c = rw c.ended_status.ensures (refused_prints_nothing _ _ _ _ _ c.act-ended.result c.act-ended.ensures.anyhow)
 
 pub returns-clause-files_only_as_answered : goal.returns-clause-files_only_as_answered
-returns-clause-files_only_as_answered g c = c.act-ended.ensures.files
+returns-clause-files_only_as_answered g c = λ answer a. c.act-ended.ensures.files answer (over _ _ _ _ answer a)
 
 pub returns-clause-files_only_as_named : goal.returns-clause-files_only_as_named
 returns-clause-files_only_as_named g c = c.act-ended.ensures.only
 
+pub returns-clause-links_fail_if_reached : goal.returns-clause-links_fail_if_reached
+returns-clause-links_fail_if_reached g c = rw c.ended_status.ensures (no_link_failed _ _ _ _ _ c.act-ended.result c.act-ended.ensures.anyhow)
+
 pub returns-clause-complete : goal.returns-clause-complete
 returns-clause-complete g c = λ answer a steady.
-    rw c.ended_status.ensures (complete _ answer _ _ _ _ c.act-ended.result (no_command _ _ answer a) (c.act-ended.ensures.acts answer a) steady.0 steady.1)
+    rw c.ended_status.ensures (complete _ answer _ _ _ _ c.act-ended.result (no_command _ _ answer a)
+    (c.act-ended.ensures.acts answer (over _ _ _ _ answer a)) steady.0 steady.1)
 
 pub returns-clause-checks : goal.returns-clause-checks
 returns-clause-checks g c = λ ask asks t.
-    check_keeps _ _ _ _ _ _ _ _ (returns-clause-answered g c t) (λ answer a sound. returns-clause-answer_carried_out g c answer a sound t)
+    check_keeps _ _ _ _ _ _ _ _ _ _ (returns-clause-answered g c t) (λ answer a. returns-clause-answer_carried_out g c answer a t)
     (λ answer a steady. returns-clause-complete g c answer a steady t) ask asks
 
 pub returns-clause-compiles : goal.returns-clause-compiles
 returns-clause-compiles g c = λ ask asks t.
-    compile_keeps _ _ _ _ _ _ _ _ (returns-clause-answered g c t) (λ answer a sound. returns-clause-answer_carried_out g c answer a sound t)
+    compile_keeps _ _ _ _ _ _ _ _ _ _ (returns-clause-answered g c t) (λ answer a. returns-clause-answer_carried_out g c answer a t)
     (λ answer a steady. returns-clause-complete g c answer a steady t) ask asks
 
 pub returns-clause-evaluates : goal.returns-clause-evaluates
 returns-clause-evaluates g c = λ ask asks t.
-    eval_keeps _ _ _ _ _ _ _ _ (returns-clause-answered g c t) (λ answer a sound. returns-clause-answer_carried_out g c answer a sound t)
+    eval_keeps _ _ _ _ _ _ _ _ _ _ (returns-clause-answered g c t) (λ answer a. returns-clause-answer_carried_out g c answer a t)
     (λ answer a steady. returns-clause-complete g c answer a steady t) ask asks
 
 pub returns-clause-tells_needs : goal.returns-clause-tells_needs
 returns-clause-tells_needs g c = λ ask asks t.
-    need_keeps _ _ _ _ _ _ _ _ (returns-clause-answered g c t) (λ answer a sound. returns-clause-answer_carried_out g c answer a sound t)
+    need_keeps _ _ _ _ _ _ _ _ _ _ (returns-clause-answered g c t) (λ answer a. returns-clause-answer_carried_out g c answer a t)
     (λ answer a steady. returns-clause-complete g c answer a steady t) ask asks
 
 pub returns-clause-runs : goal.returns-clause-runs
 returns-clause-runs g c = λ ask asks t.
-    run_keeps _ _ _ _ _ _ _ _ (returns-clause-answered g c t) (λ answer a sound. returns-clause-answer_carried_out g c answer a sound t)
+    run_keeps _ _ _ _ _ _ _ _ _ _ (returns-clause-answered g c t) (λ answer a. returns-clause-answer_carried_out g c answer a t)
     (λ answer a steady. returns-clause-complete g c answer a steady t) ask asks
 
 pub returns-clause-run_prints_evaluation : goal.returns-clause-run_prints_evaluation
@@ -121,7 +132,7 @@ returns-clause-tapes_correspond g c = λ given i is. maps_made i given.ask _ giv
 
 pub returns-clause-schedule_refused_if : goal.returns-clause-schedule_refused_if
 returns-clause-schedule_refused_if g c = λ given is refused t steady.
-    refuses _ _ _ _ _ _ _ _ (λ answer a sound. returns-clause-answer_carried_out g c answer a sound t)
+    refuses _ _ _ _ _ _ _ _ _ _ (λ answer a. returns-clause-answer_carried_out g c answer a t)
     (λ answer a all. returns-clause-complete g c answer a all t) given is refused steady
 
 pub returns-clause-schedule_refused_only : goal.returns-clause-schedule_refused_only
@@ -133,12 +144,12 @@ returns-clause-runs_on_shares g c = λ given is can.
 
 pub returns-clause-deals : goal.returns-clause-deals
 returns-clause-deals g c = λ ask asks t.
-    deal_keeps _ _ _ _ _ _ _ _ (returns-clause-answered g c t) (λ answer a sound. returns-clause-answer_carried_out g c answer a sound t)
+    deal_keeps _ _ _ _ _ _ _ _ _ _ (returns-clause-answered g c t) (λ answer a. returns-clause-answer_carried_out g c answer a t)
     (λ answer a steady. returns-clause-complete g c answer a steady t) ask asks
 
 pub returns-clause-maps : goal.returns-clause-maps
 returns-clause-maps g c = λ ask asks t.
-    map_keeps _ _ _ _ _ _ _ _ (returns-clause-answered g c t) (λ answer a sound. returns-clause-answer_carried_out g c answer a sound t)
+    map_keeps _ _ _ _ _ _ _ _ _ _ (returns-clause-answered g c t) (λ answer a. returns-clause-answer_carried_out g c answer a t)
     (λ answer a steady. returns-clause-complete g c answer a steady t) ask asks
 
 pub returns-clause-mapped_tapes_correspond : goal.returns-clause-mapped_tapes_correspond
@@ -146,7 +157,7 @@ returns-clause-mapped_tapes_correspond g c = λ ask program entries tapes asks h
 
 pub returns-clause-simulates : goal.returns-clause-simulates
 returns-clause-simulates g c = λ ask asks t.
-    simulate_keeps _ _ _ _ _ _ _ _ (returns-clause-answered g c t) (λ answer a sound. returns-clause-answer_carried_out g c answer a sound t)
+    simulate_keeps _ _ _ _ _ _ _ _ _ _ (returns-clause-answered g c t) (λ answer a. returns-clause-answer_carried_out g c answer a t)
     (λ answer a steady. returns-clause-complete g c answer a steady t) ask asks
 
 pub returns-clause-simulated_views_are_views : goal.returns-clause-simulated_views_are_views
@@ -155,7 +166,7 @@ returns-clause-simulated_views_are_views g c = λ ask program entries tapes more
 
 pub returns-clause-twins : goal.returns-clause-twins
 returns-clause-twins g c = λ ask asks t.
-    twin_keeps _ _ _ _ _ _ _ _ (returns-clause-answered g c t) (λ answer a sound. returns-clause-answer_carried_out g c answer a sound t)
+    twin_keeps _ _ _ _ _ _ _ _ _ _ (returns-clause-answered g c t) (λ answer a. returns-clause-answer_carried_out g c answer a t)
     (λ answer a steady. returns-clause-complete g c answer a steady t) ask asks
 
 pub returns-clause-twins_see_the_same : goal.returns-clause-twins_see_the_same
@@ -164,5 +175,5 @@ returns-clause-twins_see_the_same g c = λ ask program first second tapes asks h
 
 pub returns-clause-loads : goal.returns-clause-loads
 returns-clause-loads g c = λ ask asks t.
-    load_keeps _ _ _ _ _ _ _ _ (returns-clause-answered g c t) (λ answer a sound. returns-clause-answer_carried_out g c answer a sound t)
+    load_keeps _ _ _ _ _ _ _ _ _ _ (returns-clause-answered g c t) (λ answer a. returns-clause-answer_carried_out g c answer a t)
     (λ answer a steady. returns-clause-complete g c answer a steady t) ask asks
