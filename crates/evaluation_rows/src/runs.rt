@@ -3,7 +3,7 @@ ghost use Rattle.std.specs.Prelude.{IfOk};
 ghost use Rattle.typed_tree.specs.Programs.{typed_program_tree};
 ghost use Rattle.typed_tree.specs.Sound.{IsSound};
 
-use clear_eval::{BlindError, Report, blind, eval};
+use clear_eval::{BlindErr, Report, blind, eval};
 use name_resolution::resolve;
 use secrec_lexer::lex;
 use secrec_parser::parse;
@@ -180,8 +180,8 @@ fn run_blindly(alloc: Global, answers: &[u64]) -> Result<String, Fail> {
     let program = typed(alloc, OPENED)?;
     match blind(alloc, &program, &part, answers, 10, [2, 1, 1, 1]) {
         Ok(report) => Ok(shown(alloc, &report)?),
-        Err(BlindError::OpenedShort { have }) => Ok(format!(in alloc; "short {have}")?),
-        Err(BlindError::Memory) => Err(Fail::from("no memory")),
+        Err(BlindErr::OpenedShort { have }) => Ok(format!(in alloc; "short {have}")?),
+        Err(BlindErr::Memory) => Err(Fail::from("no memory")),
     }
 }
 

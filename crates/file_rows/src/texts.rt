@@ -170,30 +170,27 @@ fn fault(alloc: Global, number: u32) -> Result<Fault, AllocError> {
             fault: CountedFault::TooManyInstances,
             count: 1025,
         },
-        3 => Fault::NotYet {
-            place: Span { line: 1, column: 1 },
-        },
-        4 => Fault::BadView { line: 1 },
-        5 => Fault::BadTape { place: 159 },
-        6 => Fault::ShortTape { need: 4, have: 3 },
-        7 => Fault::BadSchedule { line: 2 },
-        8 => Fault::File {
+        3 => Fault::BadView { line: 1 },
+        4 => Fault::BadTape { place: 159 },
+        5 => Fault::ShortTape { need: 4, have: 3 },
+        6 => Fault::BadSchedule { line: 2 },
+        7 => Fault::File {
             path: String::from_str(alloc, "no.sc")?,
         },
-        9 => Fault::Write,
+        8 => Fault::Write,
         _ => Fault::Memory,
     })
 }
 
 fn push_faults(alloc: Global, text: &mut Vec<u8>) -> Result<(), AllocError> {
-    for number in 0..11 {
+    for number in 0..10 {
         push_line(alloc, text, fault(alloc, number)?)?;
     }
     Ok(())
 }
 
 const TEXT: &str =
-    "open true false\nopen\npublish s\npublish _t 13\nend done cost 7\nend done cost 18446744073709551615\nend trap Argument line 2 cost 3\nend budget cost 6\nend tape 3 need 1 have 0 cost 6\nend tape 0 need 340282366920938463463374607431768211455 have 1 cost 0\nerror: I2 entry 0 value\nerror: I2 lens\nerror: I3 entry 1\nerror: usage\nerror: D4 line 2 column 33\nerror: X1 1025\nerror: X4 line 1 column 1\nerror: V1 line 1\nerror: Q1 place 159\nerror: Q2 need 4 have 3\nerror: S1 line 2\nerror: file no.sc\nerror: write\nerror: memory\n";
+    "open true false\nopen\npublish s\npublish _t 13\nend done cost 7\nend done cost 18446744073709551615\nend trap Argument line 2 cost 3\nend budget cost 6\nend tape 3 need 1 have 0 cost 6\nend tape 0 need 340282366920938463463374607431768211455 have 1 cost 0\nerror: I2 entry 0 value\nerror: I2 lens\nerror: I3 entry 1\nerror: usage\nerror: D4 line 2 column 33\nerror: X1 1025\nerror: V1 line 1\nerror: Q1 place 159\nerror: Q2 need 4 have 3\nerror: S1 line 2\nerror: file no.sc\nerror: write\nerror: memory\n";
 
 fn push_all(alloc: Global, text: &mut Vec<u8>) -> Result<(), AllocError> {
     push_run(alloc, text)?;

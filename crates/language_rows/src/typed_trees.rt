@@ -1,12 +1,14 @@
 // The typed tree of a program with a template, and a program that has none.
-use name_resolution::{ResolveError, resolve};
+use name_resolution::{ResolveErr, resolve};
 use program_typing::type_program;
 use secrec_ast::{DataType, Program};
 use secrec_lexer::lex;
 use secrec_parser::parse;
 use std::alloc::Global;
 use std::test::Fail;
-use typed_tree::{Given, Shape, Slot, SlotDomain, TypedExpression, TypedFunction, TypedStatement};
+use typed_tree::{
+    Returned, Shape, Slot, SlotDomain, TypedExpression, TypedFunction, TypedStatement,
+};
 
 // Line 2 fills an array whose size is asked for in line 3.
 const PROGRAM: &str = "\
@@ -18,7 +20,7 @@ void main() { bool[[1]] b
 // `main` has the slot 0, and calls function 1.
 fn is_main(function: &TypedFunction) -> bool {
     function.name.as_str() == "main"
-        && function.given == Given::Nothing
+        && function.given == Returned::Nothing
         && function.size == 5
         && function.parameters == 0
         && matches!(
@@ -42,7 +44,7 @@ fn is_template(function: &TypedFunction) -> bool {
         },
     };
     function.name.as_str() == "f"
-        && function.given == Given::Value(slot)
+        && function.given == Returned::Value(slot)
         && function.size == 5
         && function.parameters == 1
         && matches!(
@@ -83,6 +85,6 @@ fn functions_stand_in_the_order_of_their_calls(rt: HostRuntime) -> Result<(), Fa
 #[test]
 fn a_name_that_means_nothing_stays_unresolved(rt: HostRuntime) -> Result<(), Fail> {
     let program = program(rt.alloc(), b"void main() { x; }")?;
-    assert!(rt; matches!(resolve(rt.alloc(), &program), Err(ResolveError::Unresolved)));
+    assert!(rt; matches!(resolve(rt.alloc(), &program), Err(ResolveErr::Unresolved)));
     Ok(())
 }

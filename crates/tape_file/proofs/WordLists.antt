@@ -77,7 +77,8 @@ words_at-suc place (suc count) bytes =
     ap (λ (ws : List ℕ). word_at place bytes ∷ ws) (ih ∙ ap (λ (p : ℕ). words_at (place + 8) count bytes ++ word_at p bytes ∷ []) e)
 
 -- a word read behind those that were read
-pub words_at-more : (place count : ℕ) (bytes words : List ℕ) (word : ℕ) → words ≡ words_at place count bytes → word ≡ word_at (place + 8 * count) bytes → words ++ word ∷ [] ≡ words_at place (count + 1) bytes
+pub words_at-more : (place count : ℕ) (bytes words : List ℕ) (word : ℕ) → words ≡ words_at place count bytes
+    → word ≡ word_at (place + 8 * count) bytes → words ++ word ∷ [] ≡ words_at place (count + 1) bytes
 words_at-more place count bytes words word before here =
     let e : count + 1 ≡ suc count = omega arith in
     rw (before, here, e) (sym (words_at-suc place count bytes))
@@ -98,7 +99,8 @@ small-part place n bytes fits i = elim (cases_lt i n) [
 ]
 
 -- the bytes of a word that was read are the bytes that stand there
-pub word_bytes-word_at : (place : ℕ) (bytes : List ℕ) → ((i : ℕ) → get_or bytes i 0 < 256) → place + 8 ≤ length bytes → word_bytes (word_at place bytes) ≡ take 8 (drop place bytes)
+pub word_bytes-word_at : (place : ℕ) (bytes : List ℕ) → ((i : ℕ) → get_or bytes i 0 < 256) → place + 8 ≤ length bytes
+    → word_bytes (word_at place bytes) ≡ take 8 (drop place bytes)
 unfolding word_at word_bytes
 word_bytes-word_at place bytes fits h =
     let here : List ℕ = take 8 (drop place bytes) in
@@ -112,7 +114,8 @@ word_bytes-word_at place bytes fits h =
     le_bytes_8 here (little_number 8 (drop place bytes) % 2 ^ 64) size small value
 
 -- the bytes of words that were read are the bytes that stand there
-pub bytes_of-words_at : (place count : ℕ) (bytes : List ℕ) → ((i : ℕ) → get_or bytes i 0 < 256) → place + 8 * count ≤ length bytes → bytes_of (words_at place count bytes) ≡ take (8 * count) (drop place bytes)
+pub bytes_of-words_at : (place count : ℕ) (bytes : List ℕ) → ((i : ℕ) → get_or bytes i 0 < 256) → place + 8 * count ≤ length bytes
+    → bytes_of (words_at place count bytes) ≡ take (8 * count) (drop place bytes)
 unfolding words_at
 bytes_of-words_at place zero bytes fits h = refl
 bytes_of-words_at place (suc count) bytes fits h =
