@@ -13,6 +13,7 @@ pub mod Loads
 pub mod Miners
 pub mod Obeying
 pub mod OfTexts
+pub mod OfWords
 pub mod Planned
 pub mod OpenLines
 pub mod Promises

@@ -22,6 +22,7 @@ use Rattle.program_views.proofs.Simulated.{views_simulated}
 use Rattle.proto_core.specs.declared.party.Number.{Number}
 use Rattle.view_model.specs.TapeMaps.{AreTapes}
 use Rattle.run_engine.specs.Runs.{HoldsRun, HoldsTyped, net_for}
+use Rattle.run_engine.proofs.OfWords.{read_of_words}
 
 pub accepted_so : (path : List ℕ) (files : Contents) (p : TypedProgramTree) → HoldsTyped path files p → IsAccepted p
 accepted_so path files p h =
@@ -41,9 +42,10 @@ miners_run ask files p entries tapes delivery h can =
     own_runs_where_accepted p entries tapes ask.budget (accepted_so ask.program files p h.program) can
 
 pub made_taken : (ask : RunAsk) (files : Contents) (p : TypedProgramTree) (entries : List Entry) (tapes : FourTapes) (delivery : Delivery)
-    → HoldsRun ask files p entries tapes delivery → HaveWords entries tapes → IsMade delivery → net_for ask p entries tapes delivery ≡ Accepted
-made_taken ask files p entries tapes delivery h have made =
-    made_deliveries_are_taken p entries tapes ask.budget delivery (accepted_so ask.program files p h.program) have made
+    → HoldsRun ask files p entries tapes delivery → IsMade delivery → net_for ask p entries tapes delivery ≡ Accepted
+made_taken ask files p entries tapes delivery h made =
+    made_deliveries_are_taken p entries tapes ask.budget delivery (accepted_so ask.program files p h.program)
+    (read_of_words files ask.input ask.source entries tapes h.inputs h.tapes) made
 
 -- ---- views
 
@@ -61,13 +63,15 @@ pub of_words : (entries : List Entry) (tapes : FourTapes) → HaveWords entries 
 of_words entries tapes have = record { dealer = have.dealer; miners = have.words }
 
 pub views_made : (i : Number) (ask : RunAsk) (files : Contents) (p : TypedProgramTree) (entries : List Entry) (tapes : FourTapes) (delivery : Delivery)
-    → HoldsRun ask files p entries tapes delivery → HaveWords entries tapes → ViewIsSimulated i p entries tapes ask.budget delivery
-views_made i ask files p entries tapes delivery h have =
+    → HoldsRun ask files p entries tapes delivery → ViewIsSimulated i p entries tapes ask.budget delivery
+views_made i ask files p entries tapes delivery h =
+    let have = read_of_words files ask.input ask.source entries tapes h.inputs h.tapes in
     views_simulated i h.program.tree p entries tapes ask.budget delivery h.program.within.list
     (given_to ask.program files p entries h.program have.sound) (of_words entries tapes have)
 
 pub maps_made : (i : Number) (ask : RunAsk) (files : Contents) (p : TypedProgramTree) (entries : List Entry) (tapes : FourTapes) (delivery : Delivery)
-    → HoldsRun ask files p entries tapes delivery → HaveWords entries tapes → MapsCorrespond i p entries tapes ask.budget
-maps_made i ask files p entries tapes delivery h have =
+    → HoldsRun ask files p entries tapes delivery → MapsCorrespond i p entries tapes ask.budget
+maps_made i ask files p entries tapes delivery h =
+    let have = read_of_words files ask.input ask.source entries tapes h.inputs h.tapes in
     tapes_corresponding i h.program.tree p entries tapes ask.budget h.program.within.list
     (given_to ask.program files p entries h.program have.sound) (of_words entries tapes have)

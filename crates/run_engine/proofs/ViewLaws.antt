@@ -19,11 +19,13 @@ use Rattle.run_engine.specs.MapPromises.{HoldsMap}
 use Rattle.run_engine.specs.SimulatePromises.{HoldsOfRun, IsOfRun, opened_and, tapes_mapped}
 use Rattle.run_engine.specs.TwinPromises.{AreTaken, HoldsTwin}
 use Rattle.run_engine.proofs.Miners.{given_to, of_words}
+use Rattle.run_engine.proofs.OfWords.{file_of_words}
 use Rattle.run_engine.proofs.SimulatePlanned.{view_ended}
 
 pub maps_correspond : (ask : MapAsk) (files : Contents) (p : TypedProgramTree) (entries : List Entry) (tapes : FourTapes)
-    → HoldsMap ask files p entries tapes → HaveWords entries tapes → MapsCorrespond ask.miner p entries tapes ask.budget
-maps_correspond ask files p entries tapes h have =
+    → HoldsMap ask files p entries tapes → MapsCorrespond ask.miner p entries tapes ask.budget
+maps_correspond ask files p entries tapes h =
+    let have = file_of_words files ask.input ask.tape entries tapes h.inputs h.tapes in
     tapes_corresponding ask.miner h.program.tree p entries tapes ask.budget h.program.within.list
     (given_to ask.program files p entries h.program have.sound) (of_words entries tapes have)
 
@@ -42,9 +44,11 @@ simulated_so ask files p entries tapes more delivery h have =
     }
 
 pub twins_see_it : (ask : TwinAsk) (files : Contents) (p : TypedProgramTree) (first second : List Entry) (tapes : FourTapes)
-    → HoldsTwin ask files p first second tapes → HaveWords first tapes → HaveWords second tapes → AreTaken ask p first second tapes
+    → HoldsTwin ask files p first second tapes → AreTaken ask p first second tapes
     → IsTwin ask.miner p first second tapes (twinned ask.miner p first second tapes ask.budget) ask.budget
-twins_see_it ask files p first second tapes h have other alike =
+twins_see_it ask files p first second tapes h alike =
+    let have = file_of_words files ask.input ask.tape first tapes h.inputs h.tapes in
+    let other = file_of_words files ask.second ask.tape second tapes h.other h.tapes in
     twins_see ask.miner h.program.tree p first second tapes ask.budget h.program.within.list
     (record {
       one = given_to ask.program files p first h.program have.sound;

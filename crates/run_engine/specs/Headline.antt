@@ -18,7 +18,6 @@ use Rattle.language_model.specs.Reports.{Report, eval, world_of}
 use Rattle.language_model.specs.Tapes.{HasWords}
 use Rattle.program_run.specs.Reports.{eval_with, lengths_of}
 use Rattle.delivered_run.specs.Deliveries.{delivered_of, net_of}
-use Rattle.delivered_run.specs.Laws.{HaveWords}
 use Rattle.program_views.specs.Views.{view_of}
 use Rattle.view_text.specs.View.{View}
 use Rattle.tape_file.specs.Tapes.{FourTapes}
@@ -39,11 +38,10 @@ pub record Given : Type 0 where
   pub tapes : FourTapes
   pub delivery : Delivery
 
--- the words ask for this, and the files hold it, as they must; inputs and tapes are of words
+-- the words ask for this, and the files hold it, as they must
 pub record IsGiven (words : List (List ℕ)) (files : Contents) (g : Given) : Type 0 where
   pub asks : words_of words ≡ Some (run g.ask)
   pub held : HoldsRun g.ask files g.program g.entries g.tapes g.delivery
-  pub of_words : HaveWords g.entries g.tapes
 
 module _ (g : Given) where
   -- evaluation in the clear, with tapes of these lengths

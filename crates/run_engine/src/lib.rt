@@ -11,6 +11,7 @@ mod load;
 mod map;
 mod paths;
 mod programs;
+mod read_words;
 mod readers;
 mod run;
 mod simulate;
@@ -18,4 +19,5 @@ mod top;
 mod twin;
 mod views;
 
+pub use read_words::read_runs_are_of_words;
 pub use top::secrec;

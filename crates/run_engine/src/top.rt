@@ -257,7 +257,7 @@ pub fn secrec<F: Files, O: Sink, E: Sink, L: Links, C: Spawner>(
     // The tapes that `map` writes correspond one to one with those that it reads; each keeps its length, and the miner's own its words.
     ensures mapped_tapes_correspond { (ask : MapAsk) (program : TypedProgramTree) (entries : List Entry) (tapes : FourTapes) →
         words_of (texts words.now) ≡ Some (map_tape ask) → HoldsMap ask (F.state files.old).contents program entries tapes →
-        HaveWords entries tapes → MapsCorrespond ask.miner program entries tapes ask.budget }
+        MapsCorrespond ask.miner program entries tapes ask.budget }
 
     // `simulate` writes the view that the simulator makes for the miner of the public part of the inputs, the opened words and the tapes,
     // however the run of one who is told these words ends. Words that don't suffice are a refusal of it, and else a schedule that its net
@@ -282,7 +282,7 @@ pub fn secrec<F: Files, O: Sink, E: Sink, L: Links, C: Spawner>(
     // Under every order of delivery they do so, and the twin of the twin is the first tape.
     ensures twins_see_the_same { (ask : TwinAsk) (program : TypedProgramTree) (first second : List Entry) (tapes : FourTapes) →
         words_of (texts words.now) ≡ Some (twin ask) → HoldsTwin ask (F.state files.old).contents program first second tapes →
-        HaveWords first tapes → HaveWords second tapes → AreTaken ask program first second tapes →
+        AreTaken ask program first second tapes →
         IsTwin ask.miner program first second tapes (twinned ask.miner program first second tapes ask.budget) ask.budget }
 
     // `load` prints the text of the evaluation of the workload of its number, and how many messages were delivered. It is never refused.

@@ -114,7 +114,7 @@ returns-clause-run_prints_evaluation g c = λ given is taken t steady.
 
 pub returns-clause-made_deliveries_are_complete : goal.returns-clause-made_deliveries_are_complete
 returns-clause-made_deliveries_are_complete g c = λ given is made.
-    made_taken given.ask _ given.program given.entries given.tapes given.delivery is.held is.of_words made
+    made_taken given.ask _ given.program given.entries given.tapes given.delivery is.held made
 
 pub returns-clause-run_ends_by_budget_and_tapes : goal.returns-clause-run_ends_by_budget_and_tapes
 returns-clause-run_ends_by_budget_and_tapes g c = λ given is. ends_by_budget_and_tapes given.program given.entries given.tapes given.ask.budget
@@ -125,10 +125,10 @@ returns-clause-run_writes_views_and_links g c = λ given is taken t steady.
 
 pub returns-clause-views_are_simulated : goal.returns-clause-views_are_simulated
 returns-clause-views_are_simulated g c = λ given i is.
-    views_made i given.ask _ given.program given.entries given.tapes given.delivery is.held is.of_words
+    views_made i given.ask _ given.program given.entries given.tapes given.delivery is.held
 
 pub returns-clause-tapes_correspond : goal.returns-clause-tapes_correspond
-returns-clause-tapes_correspond g c = λ given i is. maps_made i given.ask _ given.program given.entries given.tapes given.delivery is.held is.of_words
+returns-clause-tapes_correspond g c = λ given i is. maps_made i given.ask _ given.program given.entries given.tapes given.delivery is.held
 
 pub returns-clause-schedule_refused_if : goal.returns-clause-schedule_refused_if
 returns-clause-schedule_refused_if g c = λ given is refused t steady.
@@ -153,7 +153,7 @@ returns-clause-maps g c = λ ask asks t.
     (λ answer a steady. returns-clause-complete g c answer a steady t) ask asks
 
 pub returns-clause-mapped_tapes_correspond : goal.returns-clause-mapped_tapes_correspond
-returns-clause-mapped_tapes_correspond g c = λ ask program entries tapes asks held have. maps_correspond ask _ program entries tapes held have
+returns-clause-mapped_tapes_correspond g c = λ ask program entries tapes asks held. maps_correspond ask _ program entries tapes held
 
 pub returns-clause-simulates : goal.returns-clause-simulates
 returns-clause-simulates g c = λ ask asks t.
@@ -170,8 +170,8 @@ returns-clause-twins g c = λ ask asks t.
     (λ answer a steady. returns-clause-complete g c answer a steady t) ask asks
 
 pub returns-clause-twins_see_the_same : goal.returns-clause-twins_see_the_same
-returns-clause-twins_see_the_same g c = λ ask program first second tapes asks held have other alike.
-    twins_see_it ask _ program first second tapes held have other alike
+returns-clause-twins_see_the_same g c = λ ask program first second tapes asks held alike.
+    twins_see_it ask _ program first second tapes held alike
 
 pub returns-clause-loads : goal.returns-clause-loads
 returns-clause-loads g c = λ ask asks t.
