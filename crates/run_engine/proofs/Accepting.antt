@@ -34,12 +34,14 @@ program_read files path tree held (Err error) (p, typed, verdict) r is =
     subst (ProgramRead files path) is
     (inr (large_status error, inr (error, record { tree = tree; held = held; program = p; typed = typed; verdict = verdict })))
 
-pub program_cases : (found : Finding) (files : Contents) (path : List ℕ) → FoundAt (its_program path) files found → (r : Result TypedProgramTree Cause) → program_at found files path ≡ r → ProgramRead files path r
+pub program_cases : (found : Finding) (files : Contents) (path : List ℕ) → FoundAt (its_program path) files found
+    → (r : Result TypedProgramTree Cause) → program_at found files path ≡ r → ProgramRead files path r
 unfolding program_at
 program_cases found files path h r is =
     elim (steps (tree_at found.judged files path) (λ tree. small_enough found.sized) r is) [
       | inl (c, e, is_r) ↦ subst (ProgramRead files path) (sym is_r) (unread c (tree_cases found.judged files path h.judged (Err c) e))
-      | inr (tree, e, rest) ↦ program_read files path tree (tree_cases found.judged files path h.judged (Ok tree) e) found.sized (size_found files path found tree h e) r rest
+      | inr (tree, e, rest) ↦ program_read files path tree (tree_cases found.judged files path h.judged (Ok tree) e) found.sized
+          (size_found files path found tree h e) r rest
     ]
   where
     unread : (c : Cause) → TreeRead files path (Err c) → ProgramRead files path (Err c)

@@ -19,7 +19,8 @@ use Rattle.run_engine.specs.Runs.{HoldsDeal, DealRefused, unreadable_entries, un
 use Rattle.run_engine.specs.Told.{Outside}
 use Rattle.run_engine.specs.Words.{answer_to, question_of, IsAnswer}
 use Rattle.run_engine.proofs.Judged.{found_nothing}
-use Rattle.run_engine.proofs.Refusals.{ReadRefused, input_status, inputs_refused, not_missing, refusing, status_in_answer, status_of_cause, steps, tape_file_refused, tape_status}
+use Rattle.run_engine.proofs.Refusals.{ReadRefused, input_status, inputs_refused, not_missing, refusing, status_in_answer, status_of_cause, steps}
+use Rattle.run_engine.proofs.Refusals.{tape_file_refused, tape_status}
 use Rattle.run_engine.proofs.Runs.{HasAnswerOf, command_answers, is_answer, read_there}
 
 fewer : (have need : ℕ) → have < need → nat_lt have need ≡ true

@@ -13,17 +13,21 @@ use Rattle.run_engine.specs.Programs.{program_at}
 use Rattle.run_engine.specs.Reading.{bad_input, inputs_at}
 use Rattle.run_engine.specs.Runs.{HoldsTyped, EvalRefused, of_program, bad_entries}
 use Rattle.run_engine.proofs.Accepting.{program_cases, refused_by_program}
-use Rattle.run_engine.proofs.Refusals.{Refuses, ReadRefused, steps, input_status, inputs_refused, no_ending, not_missing, refusing, status_in_answer, status_of_cause}
+use Rattle.run_engine.proofs.Refusals.{Refuses, ReadRefused, steps, input_status, inputs_refused, no_ending, not_missing, refusing, status_in_answer}
+use Rattle.run_engine.proofs.Refusals.{status_of_cause}
 
-module _ (found : Finding) (ask : EvalAsk) (files : Contents) (h : FoundAt (its_program ask.program) files found) (r : Answer) (why : Refuses (status_in_answer r)) where
-  by_input : (p : TypedProgramTree) → HoldsTyped ask.program files p → (c : Cause) → r ≡ Err c → ReadRefused files ask.input bad_input inputs_read_of c → EvalRefused ask files (status_in_answer r)
+module _ (found : Finding) (ask : EvalAsk) (files : Contents) (h : FoundAt (its_program ask.program) files found) (r : Answer)
+    (why : Refuses (status_in_answer r)) where
+  by_input : (p : TypedProgramTree) → HoldsTyped ask.program files p → (c : Cause) → r ≡ Err c
+      → ReadRefused files ask.input bad_input inputs_read_of c → EvalRefused ask files (status_in_answer r)
   by_input p held c is (inl missed) = not_missing r c ask.input why.refusal is missed
   by_input p held c is (inr (bytes, err, there, bad, e)) = bad_entries (refusing r c is ∙ ap status_of_cause e ∙ input_status err) p held bytes err there bad
 
   abbrev evaluated : TypedProgramTree → List Entry → Result Report Cause
   evaluated p entries = Ok (report_for p entries ask.budget)
 
-  at_inputs : (c : Cause) → r ≡ Err c → (p : TypedProgramTree) → HoldsTyped ask.program files p → (inputs_at files ask.input >>= evaluated p) ≡ Err c → EvalRefused ask files (status_in_answer r)
+  at_inputs : (c : Cause) → r ≡ Err c → (p : TypedProgramTree) → HoldsTyped ask.program files p → (inputs_at files ask.input >>= evaluated p) ≡ Err c
+      → EvalRefused ask files (status_in_answer r)
   at_inputs c is p held e =
       elim (steps (inputs_at files ask.input) (evaluated p) (Err c) e) [
         | inl (d, bad, same) ↦ let why_d : c ≡ d = cc in by_input p held c is (inputs_refused files ask.input c (rw why_d bad))
@@ -38,11 +42,13 @@ module _ (found : Finding) (ask : EvalAsk) (files : Contents) (h : FoundAt (its_
   unfolding report_at
   at_report c is e =
       elim (steps (program_at found files ask.program) after_program (Err c) e) [
-        | inl (d, bad, same) ↦ let why_d : c ≡ d = cc in of_program (refused_by_program ask.program files r why.refusal c is (program_cases found files ask.program h (Err c) (rw why_d bad)))
+        | inl (d, bad, same) ↦ let why_d : c ≡ d = cc in
+            of_program (refused_by_program ask.program files r why.refusal c is (program_cases found files ask.program h (Err c) (rw why_d bad)))
         | inr (p, there, rest) ↦ at_inputs c is p (program_cases found files ask.program h (Ok p) there) rest
       ]
 
-  pub report_refused_only : (text : Report → List ℕ) → (report_at found ask files >>= λ report. Ok (report_effect text report)) ≡ r → EvalRefused ask files (status_in_answer r)
+  pub report_refused_only : (text : Report → List ℕ) → (report_at found ask files >>= λ report. Ok (report_effect text report)) ≡ r
+      → EvalRefused ask files (status_in_answer r)
   report_refused_only text is =
       elim (steps (report_at found ask files) (λ report. Ok (report_effect text report)) r is) [
         | inl (c, e, is_r) ↦ at_report c is_r e

@@ -22,7 +22,8 @@ use Rattle.protocol_model.specs.Network.{Accepted}
 use Rattle.tape_file.specs.Tapes.{FourTapes}
 use Rattle.typed_tree.specs.Programs.{TypedProgramTree}
 use Rattle.value_file.specs.declared.inputs.Entry.{Entry}
-use Rattle.run_engine.specs.Headline.{EndsByBudgetAndTapes, EndsSomewhere, Given, IsGiven, PrintsEvaluation, RefusesSchedule, ScheduleRefused, WritesViewsAndLinks, is_whole, net_given, not_a_schedule, not_complete, refused_line}
+use Rattle.run_engine.specs.Headline.{EndsByBudgetAndTapes, EndsSomewhere, Given, IsGiven, PrintsEvaluation, RefusesSchedule, ScheduleRefused}
+use Rattle.run_engine.specs.Headline.{WritesViewsAndLinks, is_whole, net_given, not_a_schedule, not_complete, refused_line}
 use Rattle.run_engine.specs.Promises.{AllSteady, Gives, Keeps, RunEffect}
 use Rattle.run_engine.specs.Run.{refused_with, run_report, run_told}
 use Rattle.run_engine.specs.Runs.{IsNotTaken, ProgramRefused, RunRefused, bad_program, bad_input, bad_tape, bad_schedule, not_taken, bad_text, too_large}
@@ -32,7 +33,8 @@ use Rattle.run_engine.proofs.RunRefusals.{run_refused_by_net}
 
 -- ---- a delivery that leaves nothing to come
 
-module _ (words : List (List ℕ)) (f f' : FilesState) (o o' : SinkState) (s : Status) (gives : (ask : RunAsk) → words_of words ≡ Some (run ask) → Gives (RunEffect ask f.contents) f f' o o' s)
+module _ (words : List (List ℕ)) (f f' : FilesState) (o o' : SinkState) (s : Status)
+    (gives : (ask : RunAsk) → words_of words ≡ Some (run ask) → Gives (RunEffect ask f.contents) f f' o o' s)
     (g : Given) (given : IsGiven words f.contents g) (taken : net_given g ≡ Accepted) (steady : AllSteady f o) where
   done : IsDone (run_told g.ask g.program g.entries g.tapes g.delivery) f f' o o' s ⊎ (s ≡ statuses.Memory)
   done =

@@ -44,7 +44,8 @@ no_text files path c is = λ b there. absurd (wrong b there)
     wrong b there = let both : None ≡ Some b = sym (not_there files path c is) ∙ there in cc
 
 -- a refusal that is decided
-pub refused_so : {Y : Type 0} (old new : FilesState) (stop : Stop) (decided : Result Y Cause) {cause : Cause} → IsRefusalFor cause stop → (old.told ≡ true → decided ≡ Err cause) → Stops old new stop decided
+pub refused_so : {Y : Type 0} (old new : FilesState) (stop : Stop) (decided : Result Y Cause) {cause : Cause} → IsRefusalFor cause stop
+    → (old.told ≡ true → decided ≡ Err cause) → Stops old new stop decided
 refused_so old new stops.Memory decided for is = tt
 refused_so old new stops.Usage decided for is = absurd for
 refused_so old new (stops.Refused r) decided for is = λ t. is t ∙ ap (λ (c : Cause). Err c) (sym for)

@@ -133,7 +133,8 @@ loaded_so number ran h =
     ∙ ap (λ end. effect_with ran.report.events.items end (load_links number)) (sym (told_end (load_report number) ran.report h.told))
     ∙ ap (λ events. effect_with events (end_of (load_report number)) (load_links number)) h.told.events
 
-pub loaded : (number : ℕ) (entries : List Entry) (tapes : FourTapes) (ran : DeliveredRun) → entries ≡ load_entries number → tapes ≡ seed_tapes (load_seed number) 131072
+pub loaded : (number : ℕ) (entries : List Entry) (tapes : FourTapes) (ran : DeliveredRun) → entries ≡ load_entries number
+    → tapes ≡ seed_tapes (load_seed number) 131072
     → HasRunOf load_typed entries tapes load_budget Default ran → loaded_effect ran ≡ load_effect number
 unfolding load_tapes
 loaded number entries tapes ran same taped h =

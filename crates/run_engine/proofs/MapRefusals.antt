@@ -20,7 +20,8 @@ use Rattle.run_engine.specs.Told.{Outside}
 use Rattle.run_engine.specs.Words.{answer_to, question_of, IsAnswer}
 use Rattle.run_engine.proofs.Accepting.{program_cases, refused_by_program}
 use Rattle.run_engine.proofs.Held.{found_of, found_there, no_program, program_there}
-use Rattle.run_engine.proofs.Refusals.{ReadRefused, input_status, inputs_refused, not_done, not_missing, refusing, status_in_answer, status_of_cause, steps, tape_file_refused, tape_status}
+use Rattle.run_engine.proofs.Refusals.{ReadRefused, input_status, inputs_refused, not_done, not_missing, refusing, status_in_answer, status_of_cause}
+use Rattle.run_engine.proofs.Refusals.{steps, tape_file_refused, tape_status}
 use Rattle.run_engine.proofs.Runs.{HasAnswerOf, command_answers, is_answer, read_there}
 
 -- ---- files that are as they must be
@@ -95,7 +96,8 @@ module _ (found : Finding) (ask : MapAsk) (files : Contents) (h : FoundAt (its_p
   abbrev after_inputs : TypedProgramTree → List Entry → Answer
   after_inputs p entries = tape_file_at files ask.tape >>= mapped_to ask p entries
 
-  at_inputs : (p : TypedProgramTree) → HoldsTyped ask.program files p → (inputs_at files ask.input >>= after_inputs p) ≡ r → MapRefused ask files (status_in_answer r)
+  at_inputs : (p : TypedProgramTree) → HoldsTyped ask.program files p → (inputs_at files ask.input >>= after_inputs p) ≡ r
+      → MapRefused ask files (status_in_answer r)
   at_inputs p held is =
       elim (steps (inputs_at files ask.input) (after_inputs p) r is) [
         | inl (c, e, is_r) ↦ by_input p held c is_r (inputs_refused files ask.input c e)

@@ -13,7 +13,8 @@ use Rattle.command_frame.specs.Answer.{Answer, effect_of, paths_in}
 use Rattle.command_frame.specs.Finish.{Finishes, OnlyAmong}
 use Rattle.command_frame.specs.Reads.{Gives, KeepsTo, OnlyRead, StopsReading}
 use Rattle.command_frame.specs.Whole.{EndsAs, StopsAtFile}
-use Rattle.command_frame.proofs.Wholes.{acts_anyhow, acts_as, among_written, ends_anyhow, ends_as, nothing_written, only_written, read_only, reading_stops, same_sink, stops_anyhow, stops_as, stops_so, unchanged, writing_stops}
+use Rattle.command_frame.proofs.Wholes.{acts_anyhow, acts_as, among_written, ends_anyhow, ends_as, nothing_written, only_written, read_only}
+use Rattle.command_frame.proofs.Wholes.{reading_stops, same_sink, stops_anyhow, stops_as, stops_so, unchanged, writing_stops}
 use Rattle.run_engine.specs.Judging.{Finding, FoundAt, HasFinding, Tells}
 use Rattle.run_engine.specs.Obeying.{Acted, CommandAnswers, Obeyed, Planned, WordsAnswer}
 use Rattle.run_engine.specs.Told.{told_over}

@@ -44,7 +44,8 @@ stops_behind (stops.Refused r) decided more s = rw s refl
 stops_behind (stops.Failed object) decided more s = absurd s
 
 -- a stop that is handed on
-pub handed_on : {X Y : Type 0} (view : X → Y) (r : Result X Stop) (stop : Stop) (decided : Result Y Cause) → IsErrAnd r (λ given. given ≡ stop) → StopsSo stop decided
+pub handed_on : {X Y : Type 0} (view : X → Y) (r : Result X Stop) (stop : Stop) (decided : Result Y Cause) → IsErrAnd r (λ given. given ≡ stop)
+    → StopsSo stop decided
     → Decides view r decided
 handed_on view (Ok x) stop decided is s = absurd is
 handed_on view (Err given) stop decided is s = subst (λ (e : Stop). StopsSo e decided) (sym is) s
@@ -95,9 +96,11 @@ module _ (bytes : List ℕ) (tree : ProgramTree) (p : TypedProgramTree) (typed :
 
   pub large_stops : (found : Finding) (error : LimitErr) (stop : Stop) → IsRefusalFor (too_large error) stop → (error ≡ Memory → stop ≡ stops.Memory)
       → IsFoundOf bytes found → accepted found.judged ≡ Ok tree → JustVerdict p error → StopsSo stop (program_in found)
-  large_stops found (TooManyInstances count) stop for memory h is only = refuses_so stop (program_in found) for (large_in found (TooManyInstances count) h is only)
+  large_stops found (TooManyInstances count) stop for memory h is only =
+      refuses_so stop (program_in found) for (large_in found (TooManyInstances count) h is only)
   large_stops found (ProgramTooLarge size) stop for memory h is only = refuses_so stop (program_in found) for (large_in found (ProgramTooLarge size) h is only)
-  large_stops found (FunctionTooLarge size) stop for memory h is only = refuses_so stop (program_in found) for (large_in found (FunctionTooLarge size) h is only)
+  large_stops found (FunctionTooLarge size) stop for memory h is only =
+      refuses_so stop (program_in found) for (large_in found (FunctionTooLarge size) h is only)
   large_stops found Memory stop for memory h is only = subst (λ (s : Stop). StopsSo s (program_in found)) (sym (memory refl)) tt
 
 abbrev AllAccept : List ℕ → ProgramTree → Type 0
@@ -117,9 +120,12 @@ sized_found bytes tree sized all is (judged, h) =
 
 pub large_found : (bytes : List ℕ) (tree : ProgramTree) (p : TypedProgramTree) (error : LimitErr) (stop : Stop) → (error ≡ Memory → stop ≡ stops.Memory)
     → AllAccept bytes tree → typed_of tree ≡ Some p → IsAnswer p (Err error) → IsJudgedSo bytes → NotForMemory stop → IsFoundSo bytes
-large_found bytes tree p (TooManyInstances count) stop memory all typed verdict has told = sized_found bytes tree (Err (TooManyInstances count)) all (p, typed, verdict) has
-large_found bytes tree p (ProgramTooLarge size) stop memory all typed verdict has told = sized_found bytes tree (Err (ProgramTooLarge size)) all (p, typed, verdict) has
-large_found bytes tree p (FunctionTooLarge size) stop memory all typed verdict has told = sized_found bytes tree (Err (FunctionTooLarge size)) all (p, typed, verdict) has
+large_found bytes tree p (TooManyInstances count) stop memory all typed verdict has told =
+    sized_found bytes tree (Err (TooManyInstances count)) all (p, typed, verdict) has
+large_found bytes tree p (ProgramTooLarge size) stop memory all typed verdict has told =
+    sized_found bytes tree (Err (ProgramTooLarge size)) all (p, typed, verdict) has
+large_found bytes tree p (FunctionTooLarge size) stop memory all typed verdict has told =
+    sized_found bytes tree (Err (FunctionTooLarge size)) all (p, typed, verdict) has
 large_found bytes tree p Memory stop memory all typed verdict has told = absurd (subst NotForMemory (memory refl) told)
 
 -- ---- the text of a file
@@ -150,7 +156,8 @@ module _ (old new : FilesState) (path bytes : List ℕ) (there : old.told ≡ tr
   stops_at_file (stops.Failed object) found s own = absurd own
 
   -- what is decided of the text is decided of the file
-  pub gives_of_file : {X : Type 0} (view : X → TypedProgramTree) (r : Result X Stop) → ((found : Finding) → IsFoundOf bytes found → Decides view r (program_in found))
+  pub gives_of_file : {X : Type 0} (view : X → TypedProgramTree) (r : Result X Stop)
+      → ((found : Finding) → IsFoundOf bytes found → Decides view r (program_in found))
       → IfErr r IsOwnStop → (found : Finding) → FoundAt (its_program path) old.contents found → Gives view old new r (program_at found old.contents path)
   gives_of_file view (Ok x) all own found h =
       λ t. at_file old.contents path bytes (there t) found ∙ all found (of_file old.contents path bytes (there t) found h)

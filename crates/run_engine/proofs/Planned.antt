@@ -42,7 +42,8 @@ use Rattle.run_engine.specs.Eval.{end_of, ending_of}
 use Rattle.run_engine.specs.Judging.{Finding, FoundAt, IsReachedAs, IsReachedBy, Sized, its_program}
 use Rattle.run_engine.specs.Programs.{program_at, small_enough, tree_at}
 use Rattle.run_engine.specs.Reading.{delivery_at, inputs_at, tapes_at}
-use Rattle.run_engine.specs.Run.{HasRan, IsRan, IsDeliveryStop, by_net, empty_line, ran_effect, recorded_links, refused_with, run_effect, run_of, run_report, run_told, stalled_line}
+use Rattle.run_engine.specs.Run.{HasRan, IsRan, IsDeliveryStop, by_net, empty_line, ran_effect, recorded_links, refused_with, run_effect, run_of}
+use Rattle.run_engine.specs.Run.{run_report, run_told, stalled_line}
 use Rattle.run_engine.specs.Views.{view_files}
 use Rattle.run_engine.proofs.Judged.{refused_so}
 use Rattle.run_engine.proofs.Refusals.{steps}

@@ -78,7 +78,8 @@ module _ (words : List (List ℕ)) (coming : ℕ → List ℕ) (status : ℕ →
       → Refuses (status_in_answer answer)
   refuses answer refusal unended = record { refusal = refusal; no_end = unended }
 
-  pub check_keeps : (ask : CheckAsk) → words_of words ≡ Some (check ask) → Keeps (CheckEffect ask f.contents) (ProgramRefused ask.program f.contents) is_end f f' o o' s
+  pub check_keeps : (ask : CheckAsk) → words_of words ≡ Some (check ask)
+      → Keeps (CheckEffect ask f.contents) (ProgramRefused ask.program f.contents) is_end f f' o o' s
   check_keeps ask asks = keeps (CheckEffect ask f.contents) (ProgramRefused ask.program f.contents) is_end
       (λ effect w. subst (IsEndingAnswer words outside) (sym w.2) (record { answer = check_answered words ask outside w.0 asks w.1; ends = refl }))
       (λ answer a r u. check_refused_so words ask outside asks answer a (refuses answer r u))
@@ -92,14 +93,16 @@ module _ (words : List (List ℕ)) (coming : ℕ → List ℕ) (status : ℕ →
       (λ answer a r u. compile_refused_so words ask outside asks answer a (refuses answer r u))
       (λ status refused. compile_answered_so words ask outside status asks refused)
 
-  pub eval_keeps : (ask : EvalAsk) → words_of words ≡ Some (eval ask) → Keeps (EvalEffect eval_text ask f.contents) (EvalRefused ask f.contents) is_end f f' o o' s
+  pub eval_keeps : (ask : EvalAsk) → words_of words ≡ Some (eval ask)
+      → Keeps (EvalEffect eval_text ask f.contents) (EvalRefused ask f.contents) is_end f f' o o' s
   eval_keeps ask asks = keeps (EvalEffect eval_text ask f.contents) (EvalRefused ask f.contents) is_end
       (λ effect w. subst (IsEndingAnswer words outside) (sym w.3)
       (record { answer = eval_answered words ask outside w.0 w.1 asks w.2; ends = end_is (end_of (report_for w.0 w.1 ask.budget)).how }))
       (λ answer a r u. eval_refused_so words ask outside (inl asks) answer a (refuses answer r u))
       (λ status refused. eval_answered_so words ask outside status (inl asks) refused)
 
-  pub need_keeps : (ask : EvalAsk) → words_of words ≡ Some (need ask) → Keeps (EvalEffect need_text ask f.contents) (EvalRefused ask f.contents) is_end f f' o o' s
+  pub need_keeps : (ask : EvalAsk) → words_of words ≡ Some (need ask)
+      → Keeps (EvalEffect need_text ask f.contents) (EvalRefused ask f.contents) is_end f f' o o' s
   need_keeps ask asks = keeps (EvalEffect need_text ask f.contents) (EvalRefused ask f.contents) is_end
       (λ effect w. subst (IsEndingAnswer words outside) (sym w.3)
       (record { answer = need_answered words ask outside w.0 w.1 asks w.2; ends = end_is (end_of (report_for w.0 w.1 ask.budget)).how }))

@@ -22,7 +22,8 @@ use Rattle.run_engine.specs.Ends.{ending_status}
 use Rattle.run_engine.specs.Judging.{JudgedAt}
 use Rattle.run_engine.specs.Programs.{accepted, bad_program, tree_at}
 use Rattle.schedule_file.specs.Reading.{links_of}
-use Rattle.run_engine.specs.Reading.{bad_input, bad_opened, bad_schedule, bad_tape, delivery_at, inputs_at, opened_at, public_at, read_or, schedule_file_at, tape_file_at, tapes_at}
+use Rattle.run_engine.specs.Reading.{bad_input, bad_opened, bad_schedule, bad_tape, delivery_at, inputs_at, opened_at, public_at, read_or}
+use Rattle.run_engine.specs.Reading.{schedule_file_at, tape_file_at, tapes_at}
 use Rattle.run_engine.specs.Runs.{HoldsProgram, HoldsBadProgram}
 
 -- of two steps the first is refused, or both are done
@@ -51,7 +52,8 @@ read_cases cause (Err e) r is = inl (e, refl, sym is)
 
 -- a refusal of a reader of a file: the file is missing, or it is there and refused
 abbrev pub ReadRefused : {A E : Type 0} → Contents → List ℕ → (E → Cause) → (List ℕ → Result A E) → Cause → Type 0
-ReadRefused {A} {E} files path cause read c = (c ≡ missing path) ⊎ ((bytes : List ℕ) × (e : E) × (file_at files path ≡ Some bytes) × (read bytes ≡ Err e) × (c ≡ cause e))
+ReadRefused {A} {E} files path cause read c =
+    (c ≡ missing path) ⊎ ((bytes : List ℕ) × (e : E) × (file_at files path ≡ Some bytes) × (read bytes ≡ Err e) × (c ≡ cause e))
 
 abbrev Bytes : Type 0
 Bytes = Result (List ℕ) Cause
@@ -73,12 +75,14 @@ read_refused {A} {E} files path cause read c is =
       | inr (bytes, e, rest) ↦ at_bytes bytes (there_or_missing files path (had bytes) e) (read_cases cause (read bytes) (Err c) rest)
     ]
   where
-    at_missing : (c2 : Cause) → ((bytes : List ℕ) × (file_at files path ≡ Some bytes) × (failed c2 ≡ Ok bytes)) ⊎ (failed c2 ≡ Err (missing path)) → refused_by {A = A} c ≡ Err c2 → ReadRefused files path cause read c
+    at_missing : (c2 : Cause) → ((bytes : List ℕ) × (file_at files path ≡ Some bytes) × (failed c2 ≡ Ok bytes)) ⊎ (failed c2 ≡ Err (missing path))
+        → refused_by {A = A} c ≡ Err c2 → ReadRefused files path cause read c
     at_missing c2 (inl (bytes, there, wrong)) same = absurd cc
     at_missing c2 (inr is) same = inl cc
 
     at_bytes : (bytes : List ℕ) → ((b : List ℕ) × (file_at files path ≡ Some b) × (had bytes ≡ Ok b)) ⊎ (had bytes ≡ Err (missing path))
-        → ((e : E) × (read bytes ≡ Err e) × (refused_by {A = A} c ≡ Err (cause e))) ⊎ ((v : A) × (refused_by {A = A} c ≡ Ok v)) → ReadRefused files path cause read c
+        → ((e : E) × (read bytes ≡ Err e) × (refused_by {A = A} c ≡ Err (cause e))) ⊎ ((v : A) × (refused_by {A = A} c ≡ Ok v))
+        → ReadRefused files path cause read c
     at_bytes bytes (inl (b, there, same)) (inl (e, bad, is)) =
         let here : bytes ≡ b = cc in
         let why : c ≡ cause e = cc in
@@ -141,12 +145,14 @@ bad_status fault = refl
 abbrev tree_refused : Cause → Result ProgramTree Cause
 tree_refused c = Err c
 
-tree_read : (files : Contents) (path bytes : List ℕ) → file_at files path ≡ Some bytes → (judged : Judged) → IsJudged bytes judged → (r : Result ProgramTree Cause) → accepted judged ≡ r → TreeRead files path r
+tree_read : (files : Contents) (path bytes : List ℕ) → file_at files path ≡ Some bytes → (judged : Judged) → IsJudged bytes judged
+    → (r : Result ProgramTree Cause) → accepted judged ≡ r → TreeRead files path r
 tree_read files path bytes there (Ok tree) h r is = subst (TreeRead files path) is (record { bytes = bytes; there = there; accepted = h })
 tree_read files path bytes there (Err fault) h r is =
     subst (TreeRead files path) is (inr (bad_status fault, record { bytes = bytes; there = there; fault = fault; refused = h }))
 
-pub tree_cases : (judged : Judged) (files : Contents) (path : List ℕ) → JudgedAt (Some path) files judged → (r : Result ProgramTree Cause) → tree_at judged files path ≡ r → TreeRead files path r
+pub tree_cases : (judged : Judged) (files : Contents) (path : List ℕ) → JudgedAt (Some path) files judged → (r : Result ProgramTree Cause)
+    → tree_at judged files path ≡ r → TreeRead files path r
 unfolding tree_at
 tree_cases judged files path h r is =
     elim (steps (bytes_at files path) (λ bytes. accepted judged) r is) [
@@ -154,11 +160,13 @@ tree_cases judged files path h r is =
       | inr (bytes, e, rest) ↦ at_bytes bytes (there_or_missing files path (had bytes) e) rest
     ]
   where
-    at_missing : (c : Cause) → ((bytes : List ℕ) × (file_at files path ≡ Some bytes) × (failed c ≡ Ok bytes)) ⊎ (failed c ≡ Err (missing path)) → r ≡ Err c → TreeRead files path r
+    at_missing : (c : Cause) → ((bytes : List ℕ) × (file_at files path ≡ Some bytes) × (failed c ≡ Ok bytes)) ⊎ (failed c ≡ Err (missing path))
+        → r ≡ Err c → TreeRead files path r
     at_missing c (inl (bytes, there, wrong)) is_r = absurd cc
     at_missing c (inr missed) is_r = let why : c ≡ missing path = cc in subst (TreeRead files path) (sym is_r) (inl why)
 
-    at_bytes : (bytes : List ℕ) → ((b : List ℕ) × (file_at files path ≡ Some b) × (had bytes ≡ Ok b)) ⊎ (had bytes ≡ Err (missing path)) → accepted judged ≡ r → TreeRead files path r
+    at_bytes : (bytes : List ℕ) → ((b : List ℕ) × (file_at files path ≡ Some b) × (had bytes ≡ Ok b)) ⊎ (had bytes ≡ Err (missing path))
+        → accepted judged ≡ r → TreeRead files path r
     at_bytes bytes (inl (b, there, same)) rest = tree_read files path b there judged (h b there) r rest
     at_bytes bytes (inr wrong) rest = absurd cc
 
@@ -180,12 +188,14 @@ pub tape_file_refused : (files : Contents) (path : List ℕ) (c : Cause) → tap
 unfolding tape_file_at
 tape_file_refused files path c is = read_refused files path bad_tape tapes_read_of c is
 
-pub tapes_refused : (files : Contents) (source : Source) (c : Cause) → tapes_at files source ≡ Err c → (path : List ℕ) × (source ≡ file path) × ReadRefused files path bad_tape tapes_read_of c
+pub tapes_refused : (files : Contents) (source : Source) (c : Cause) → tapes_at files source ≡ Err c
+    → (path : List ℕ) × (source ≡ file path) × ReadRefused files path bad_tape tapes_read_of c
 unfolding tapes_at
 tapes_refused files (file path) c is = (path, refl, tape_file_refused files path c is)
 tapes_refused files (seeded seed words) c is = absurd cc
 
-pub schedule_file_refused : (files : Contents) (path : List ℕ) (c : Cause) → schedule_file_at files path ≡ Err c → ReadRefused files path bad_schedule links_of c
+pub schedule_file_refused : (files : Contents) (path : List ℕ) (c : Cause) → schedule_file_at files path ≡ Err c
+    → ReadRefused files path bad_schedule links_of c
 unfolding schedule_file_at
 schedule_file_refused files path c is = read_refused files path bad_schedule links_of c is
 
@@ -195,7 +205,8 @@ unfolding delivery_at
 order_refused files in_turn c is = absurd cc
 order_refused files (scheduled path) c is =
     elim (steps (schedule_file_at files path) (λ links. Ok (Listed links)) (Err c) is) [
-      | inl (c2, e, same) ↦ let here : c ≡ c2 = cc in (path, refl, subst (ReadRefused files path bad_schedule links_of) (sym here) (schedule_file_refused files path c2 e))
+      | inl (c2, e, same) ↦ let here : c ≡ c2 = cc in
+          (path, refl, subst (ReadRefused files path bad_schedule links_of) (sym here) (schedule_file_refused files path c2 e))
       | inr (links, e, wrong) ↦ absurd cc
     ]
 order_refused files (shuffled seed) c is = absurd cc

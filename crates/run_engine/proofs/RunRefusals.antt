@@ -24,7 +24,8 @@ use Rattle.run_engine.specs.Told.{Outside}
 use Rattle.run_engine.specs.Words.{answer_to, question_of, IsAnswer}
 use Rattle.run_engine.proofs.Held.{found_of, found_there, no_program, program_there}
 use Rattle.run_engine.proofs.Accepting.{program_cases, refused_by_program}
-use Rattle.run_engine.proofs.Refusals.{Refuses, ReadRefused, input_status, inputs_refused, no_ending, not_missing, order_refused, refusing, schedule_status, status_in_answer, status_of_cause, steps, tape_status, tapes_refused}
+use Rattle.run_engine.proofs.Refusals.{Refuses, ReadRefused, input_status, inputs_refused, no_ending, not_missing, order_refused, refusing}
+use Rattle.run_engine.proofs.Refusals.{schedule_status, status_in_answer, status_of_cause, steps, tape_status, tapes_refused}
 use Rattle.run_engine.proofs.Runs.{HasAnswerOf, command_answers, is_answer, read_there}
 
 -- ---- files that are as they must be
@@ -159,7 +160,8 @@ module _ (found : Finding) (ask : RunAsk) (files : Contents) (h : FoundAt (its_p
           elim (steps (by_net (net_for ask p entries tapes delivery)) (λ taken. ran ask p entries tapes delivery) r is) [
             | inl (c, e, is_r) ↦
                 let refused = net_cases (net_for ask p entries tapes delivery) c e in
-                not_taken (refusing r c is_r ∙ refused.1) p entries tapes delivery (record { program = held; inputs = inputs; tapes = taped; order = order }) refused.0
+                not_taken (refusing r c is_r ∙ refused.1) p entries tapes delivery
+                (record { program = held; inputs = inputs; tapes = taped; order = order }) refused.0
             | inr (taken, e, done) ↦
                 no_ending (status_in_answer r) (end_of (run_report p entries tapes ask.budget)).how why (ap status_in_answer (sym done))
           ]
@@ -184,7 +186,8 @@ module _ (found : Finding) (ask : RunAsk) (files : Contents) (h : FoundAt (its_p
   abbrev after_inputs : TypedProgramTree → List Entry → Answer
   after_inputs p entries = tapes_at files ask.source >>= λ tapes. delivery_at files ask.order >>= run_under ask p entries tapes
 
-  at_inputs : (p : TypedProgramTree) → HoldsTyped ask.program files p → (inputs_at files ask.input >>= after_inputs p) ≡ r → RunRefused ask files (status_in_answer r)
+  at_inputs : (p : TypedProgramTree) → HoldsTyped ask.program files p → (inputs_at files ask.input >>= after_inputs p) ≡ r
+      → RunRefused ask files (status_in_answer r)
   at_inputs p held is =
       elim (steps (inputs_at files ask.input) (after_inputs p) r is) [
         | inl (c, e, is_r) ↦ by_input p held c is_r (inputs_refused files ask.input c e)

@@ -101,7 +101,8 @@ unfolding bytes_at
 read_there files path bytes e = rw e refl
 
 -- what the text of a file is judged to be
-judged_there : (files : Contents) (path bytes : List ℕ) (judged : Judged) → file_at files path ≡ Some bytes → IsJudged bytes judged → JudgedAt (Some path) files judged
+judged_there : (files : Contents) (path bytes : List ℕ) (judged : Judged) → file_at files path ≡ Some bytes → IsJudged bytes judged
+    → JudgedAt (Some path) files judged
 judged_there files path bytes judged there is = λ other at. subst (λ (b : List ℕ). IsJudged b judged) (same other at) is
   where
     same : (other : List ℕ) → file_at files path ≡ Some other → bytes ≡ other
@@ -126,7 +127,8 @@ bad_tree path files h = rw (read_there files path h.bytes h.there) refl
 enough : (have need : ℕ) → need ≤ have → nat_lt have need ≡ false
 enough have need h = grind (arith, nat_tests)
 
-deal_answer : (ask : DealAsk) (files : Contents) (entries : List Entry) (tapes : FourTapes) → HoldsDeal ask files entries tapes → need_of entries ≤ length tapes.dealer
+deal_answer : (ask : DealAsk) (files : Contents) (entries : List Entry) (tapes : FourTapes) → HoldsDeal ask files entries tapes
+    → need_of entries ≤ length tapes.dealer
     → deal_of ask files ≡ Ok (deal_effect ask.to entries tapes)
 unfolding deal_of
 deal_answer ask files entries tapes h most = rw (h.inputs, h.tapes, enough (length tapes.dealer) (need_of entries) most) refl
@@ -143,7 +145,8 @@ deal_answered words ask entries tapes outside asks h most (found, any) =
 
 -- ---- files that are refused
 
-pub carried_status : (answer : Answer) (f f' : FilesState) (o o' e e' : SinkState) (s : Status) → CarriedOut answer f f' o o' e e' s → status_in_answer answer ≡ s
+pub carried_status : (answer : Answer) (f f' : FilesState) (o o' e e' : SinkState) (s : Status) → CarriedOut answer f f' o o' e e' s
+    → status_in_answer answer ≡ s
 carried_status (Ok x) f f' o o' e e' s c = sym c.0.status
 carried_status (Err x) f f' o o' e e' s c = sym c.0
 

@@ -24,16 +24,19 @@ OnlyVerdict p known = (refused : Option LimitErr) → IsVerdict p refused → re
 same_there : {A : Type 0} (o : Option A) (a b : A) → o ≡ Some a → o ≡ Some b → b ≡ a
 same_there o a b is other = let both : Some b ≡ Some a = sym other ∙ is in cc
 
-of_this : (tree : ProgramTree) (p q : TypedProgramTree) (refused : Option LimitErr) → typed_of tree ≡ Some p → typed_of tree ≡ Some q → IsVerdict q refused → IsVerdict p refused
+of_this : (tree : ProgramTree) (p q : TypedProgramTree) (refused : Option LimitErr) → typed_of tree ≡ Some p → typed_of tree ≡ Some q
+    → IsVerdict q refused → IsVerdict p refused
 of_this tree p q refused typed other v = subst (λ (x : TypedProgramTree). IsVerdict x refused) (same_there (typed_of tree) p q typed other) v
 
-pub small_known : (tree : ProgramTree) (p : TypedProgramTree) → typed_of tree ≡ Some p → OnlyVerdict p None → (sized : Sized) → IsSized tree sized → sized ≡ Ok p
+pub small_known : (tree : ProgramTree) (p : TypedProgramTree) → typed_of tree ≡ Some p → OnlyVerdict p None → (sized : Sized) → IsSized tree sized
+    → sized ≡ Ok p
 small_known tree p typed only (Ok q) (other, within) = let same : q ≡ p = same_there (typed_of tree) p q typed other in cc
 small_known tree p typed only (Err error) (q, other, verdict) =
     let wrong : Some error ≡ None = only (Some error) (of_this tree p q (Some error) typed other verdict) in
     absurd cc
 
-pub large_known : (tree : ProgramTree) (p : TypedProgramTree) (error : LimitErr) → typed_of tree ≡ Some p → OnlyVerdict p (Some error) → (sized : Sized) → IsSized tree sized → sized ≡ Err error
+pub large_known : (tree : ProgramTree) (p : TypedProgramTree) (error : LimitErr) → typed_of tree ≡ Some p → OnlyVerdict p (Some error)
+    → (sized : Sized) → IsSized tree sized → sized ≡ Err error
 large_known tree p error typed only (Ok q) (other, within) =
     let wrong : None ≡ Some error = only None (of_this tree p q None typed other within) in
     absurd cc
@@ -56,7 +59,8 @@ tree_judged files path judged tree is = go (bytes_at files path) is
     go (Ok bytes) is = accepted_judged judged tree is
     go (Err c) is = absurd cc
 
-pub size_found : (files : Contents) (path : List ℕ) (found : Finding) (tree : ProgramTree) → FoundAt (its_program path) files found → tree_at found.judged files path ≡ Ok tree → IsSized tree found.sized
+pub size_found : (files : Contents) (path : List ℕ) (found : Finding) (tree : ProgramTree) → FoundAt (its_program path) files found
+    → tree_at found.judged files path ≡ Ok tree → IsSized tree found.sized
 size_found files path found tree h is = subst (λ (j : Judged). IsSizedAs j found.sized) (tree_judged files path found.judged tree is) h.sized
 
 -- ---- what is found

@@ -24,7 +24,8 @@ use Rattle.run_engine.specs.Words.{question_in, question_of, read_by, written_by
 use Rattle.run_engine.proofs.Runs.{found_by, has_answer}
 
 -- a status that neither want of memory has nor, of a store that isn't steady, a file
-pub telling : (files : FilesState) (r : Result Status Stop) → status_in r ≢ statuses.Memory → (status_in r ≡ statuses.File → files.steady ≡ true) → Tells files r
+pub telling : (files : FilesState) (r : Result Status Stop) → status_in r ≢ statuses.Memory → (status_in r ≡ statuses.File → files.steady ≡ true)
+    → Tells files r
 telling files (Ok s) sound steady = tt
 telling files (Err stops.Memory) sound steady = absurd (sound refl)
 telling files (Err stops.Usage) sound steady = tt

@@ -22,7 +22,8 @@ use Rattle.run_engine.specs.Judging.{Finding, FoundAt, HasFinding, Tells, its_pr
 use Rattle.run_engine.specs.Obeying.{Planned}
 use Rattle.run_engine.specs.Programs.{program_at}
 use Rattle.run_engine.specs.Reading.{inputs_at, tape_file_at}
-use Rattle.run_engine.specs.Twin.{IsTwinStop, by_difference, entry_line, twin_bytes, twin_effect, twin_of, twin_paths, twinned_paths, unlike, word_line, writes_to, written_effect}
+use Rattle.run_engine.specs.Twin.{IsTwinStop, by_difference, entry_line, twin_bytes, twin_effect, twin_of, twin_paths, twinned_paths, unlike}
+use Rattle.run_engine.specs.Twin.{word_line, writes_to, written_effect}
 use Rattle.run_engine.specs.Words.{answer_to, question_of, reads_of, writes_of}
 use Rattle.run_engine.proofs.Judged.{refused_so}
 

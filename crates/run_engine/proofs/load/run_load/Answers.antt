@@ -25,7 +25,8 @@ unreachable-requires c =
     let have = have_words entries tapes c.requires.inputs (subst (All HasWords) c.entries.ensures c.see_entries.ensures)
     (subst AreWords c.dealer.ensures c.see_words.ensures) (subst AreWords c.miner1.ensures c.see_words-2.ensures)
     (subst AreWords c.miner2.ensures c.see_words-3.ensures) (subst AreWords c.miner3.ensures c.see_words-4.ensures) in
-    let is = never_refused (typed_program_tree c.in_ok-program.program) entries tapes c.in_ok-program.ensures.accepted have c.in-Err-EmptyLink.field-0 c.in-Err-EmptyLink.ensures in
+    let is = never_refused (typed_program_tree c.in_ok-program.program) entries tapes c.in_ok-program.ensures.accepted have c.in-Err-EmptyLink.field-0
+    c.in-Err-EmptyLink.ensures in
     absurd (let wrong = sym c.in-Err-EmptyLink.field-0-is ∙ is in cc)
 
 pub unreachable-requires-in-Err-Stalled : goal.unreachable-requires-in-Err-Stalled
@@ -35,5 +36,6 @@ unreachable-requires-in-Err-Stalled c =
     let have = have_words entries tapes c.requires.inputs (subst (All HasWords) c.entries.ensures c.see_entries.ensures)
     (subst AreWords c.dealer.ensures c.see_words.ensures) (subst AreWords c.miner1.ensures c.see_words-2.ensures)
     (subst AreWords c.miner2.ensures c.see_words-3.ensures) (subst AreWords c.miner3.ensures c.see_words-4.ensures) in
-    let is = never_refused (typed_program_tree c.in_ok-program.program) entries tapes c.in_ok-program.ensures.accepted have c.in-Err-Stalled.field-0 c.in-Err-Stalled.ensures in
+    let is = never_refused (typed_program_tree c.in_ok-program.program) entries tapes c.in_ok-program.ensures.accepted have c.in-Err-Stalled.field-0
+    c.in-Err-Stalled.ensures in
     absurd (let wrong = sym c.in-Err-Stalled.field-0-is ∙ is in cc)

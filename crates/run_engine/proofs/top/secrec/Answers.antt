@@ -1,5 +1,7 @@
 use Rattle.command_words.specs.Views.{texts}
-use Rattle.command_frame.proofs.Wholes.{complete, carried_out, end_says_nothing, file_counted, file_missed, file_told, memory_cuts, memory_said, no_link_failed, refused_prints_nothing, usage_of_unnamed, usage_said, usage_unnamed, write_counted, write_cuts, write_said}
+use Rattle.command_frame.proofs.Wholes.{complete, carried_out, end_says_nothing, file_counted, file_missed, file_told, memory_cuts, memory_said}
+use Rattle.command_frame.proofs.Wholes.{no_link_failed, refused_prints_nothing, usage_of_unnamed, usage_said, usage_unnamed, write_counted}
+use Rattle.command_frame.proofs.Wholes.{write_cuts, write_said}
 use Rattle.run_engine.proofs.Headline.{ends_by_budget_and_tapes, prints, refuses, schedule_refused, writes}
 use Rattle.run_engine.proofs.Miners.{made_taken, maps_made, miners_run, views_made}
 use Rattle.run_engine.proofs.Promises.{check_keeps, compile_keeps, deal_keeps, eval_keeps, need_keeps, run_keeps, load_keeps}
