@@ -1,10 +1,10 @@
 #!/usr/bin/env bash
-# Times what programs do on shares, at three sizes each: `secrec run` over products of private numbers, in arrays of 65,536, beside the same messages
-# written by hand in plain Rust; over comparisons of private numbers; and over a loop of public steps beside `secrec eval`. Processor time and peak memory
-# are those of the run of five that took least processor time. Of both ways to multiply, the time of a run over the same words that multiplies nothing is
-# taken away. It measures; it tests nothing. It wants bash, python3, rustc, and 2 GB of memory; another program than the one that `./secrec` runs can be named.
+# Times what programs do on shares, at three sizes each: `secrec run` over products of private numbers, in arrays of 65,536, and over comparisons of private
+# numbers, each beside the same messages written by hand in plain Rust; and over a loop of public steps beside `secrec eval`. Processor time and peak memory
+# are those of the run of five that took least processor time. Of products, and of all that is written by hand, the time of a run over the same words that
+# computes nothing is taken away. It measures; it tests nothing. It wants bash, python3, rustc, and 2 GB of memory; another program than the one that `./secrec` runs can be named.
 . "$(dirname "$0")/begin.sh"
-rustc -O -o "$work/by_hand" "$top/bench/multiply_by_hand.rs"
+for name in multiply compare; do rustc -O -o "$work/${name}_by_hand" "$top/bench/${name}_by_hand.rs"; done
 
 python3 - "$program" "$work" <<'PY'
 import os, subprocess, sys
@@ -70,8 +70,9 @@ def run(text, entries, words):
     return called("run", text, entries, "--seed", "00" * 32, "--words", str(words))
 
 
-def by_hand(count):
-    return least(f"{work}/by_hand", str(count))[0] - least(f"{work}/by_hand", str(count), "words")[0]
+def by_hand(name, count):
+    program = f"{work}/{name}_by_hand"
+    return least(program, str(count))[0] - least(program, str(count), "words")[0]
 
 
 def told(name, size, seconds, memory, last, more=""):
@@ -84,12 +85,13 @@ print(f"{'what':12} {'how many':>9} {'seconds':>9} {'ns each':>9} {'peak MB':>9}
 SIZE, last = 65536, None
 for times in (4, 16, 64):
     products = lambda n: run(PRODUCTS, pairs(SIZE) + [entry("n", "public", n)], 4 * SIZE + 3 * SIZE * times)
-    (none, _), (seconds, memory), hand = products(0), products(times), by_hand(SIZE * times)
+    (none, _), (seconds, memory), hand = products(0), products(times), by_hand("multiply", SIZE * times)
     ratio = f"without any {none:.3f}; by hand {hand:.3f}; over by hand {(seconds - none) / hand:.2f}"
     last = told("products", SIZE * times, seconds - none, memory, last, ratio)
 last = None
 for size in (4096, 16384, 65536):
-    last = told("comparisons", size, *run(COMPARISONS, pairs(size), 119 * size), last)
+    (seconds, memory), hand = run(COMPARISONS, pairs(size), 119 * size), by_hand("compare", size)
+    last = told("comparisons", size, seconds, memory, last, f"by hand {hand:.3f}; over by hand {seconds / hand:.2f}")
 last = evaluated = None
 for size in (62500, 250000, 1000000):
     given = [entry("n", "public", size)]
