@@ -184,9 +184,10 @@ pub fn secrec<F: Files, O: Sink, E: Sink, L: Links, C: Spawner>(
         IsAnswered answer result ⊎ (result ≡ Status.Memory) }
 
     // What each command keeps. Over steady objects that hold files as they must be its effect is there whole, or memory ran
-    // out: `check` prints `ok`, `compile` writes the code of the program, `eval` prints the text of the evaluation in the clear and `need` the words that it used, `run` the text of
-    // the evaluation with tapes of these lengths, and writes the links on which messages were delivered. Each is refused exactly for the first
-    // file that is there and not as it must be; `run` also for a schedule with an entry that has no message, or that leaves a miner waiting.
+    // out: `check` prints `ok`, `compile` writes the code of the program, `eval` prints the text of the evaluation in the clear
+    // and `need` the words that it used, `run` the text of the evaluation with tapes of these lengths, and writes the links on which
+    // messages were delivered. Each is refused exactly for the first file that is there and not as it must be, or a fault is told;
+    // `run` also for a schedule with an entry that has no message, or that leaves a miner waiting.
     ensures checks { (ask : CheckAsk) → words_of (texts words.now) ≡ Some (check ask) → (F.state files.old).told ≡ true →
         Keeps (CheckEffect ask (F.state files.old).contents) (ProgramRefused ask.program (F.state files.old).contents) is_end
         (F.state files.old) (F.state files.new) (O.state out.old) (O.state out.new) result }
@@ -270,7 +271,8 @@ pub fn secrec<F: Files, O: Sink, E: Sink, L: Links, C: Spawner>(
 
     // Where the files hold the public part, the opened words, also with more behind them, and the mapped tapes of a run, as `map` writes
     // them, the words suffice, the delivery comes to what it comes to in the run, and the view is the one that the miner has of the run.
-    ensures simulated_views_are_views { (ask : SimulateAsk) (program : TypedProgramTree) (entries : List Entry) (tapes : FourTapes) (more : List ℕ) (delivery : Delivery) →
+    ensures simulated_views_are_views { (ask : SimulateAsk) (program : TypedProgramTree) (entries : List Entry) (tapes : FourTapes)
+        (more : List ℕ) (delivery : Delivery) →
         words_of (texts words.now) ≡ Some (simulate ask) →
         HoldsOfRun ask program entries tapes more delivery (F.state files.old).contents → HaveWords entries tapes →
         IsOfRun ask program entries tapes more delivery }
