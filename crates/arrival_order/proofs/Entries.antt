@@ -1,5 +1,6 @@
 -- The messages that are still to come, entry by entry.
-use Rattle.std.proofs.Common.{◌≡◌, ℕ, zero, suc, ◌+◌, ◌<◌, ◌≤◌, Bool, true, false, if◌then◌else◌, List, [], ◌∷◌, ◌++◌, length, drop, refl, sym, ◌∙◌, ap, get_or, drop-cons, add-one, append_assoc, Option, Some, None}
+use Rattle.std.proofs.Common.{◌≡◌, ℕ, zero, suc, ◌+◌, ◌<◌, ◌≤◌, Bool, true, false, if◌then◌else◌, List, [], ◌∷◌, ◌++◌, length, drop, refl, sym, ◌∙◌}
+use Rattle.std.proofs.Common.{ap, get_or, drop-cons, add-one, append_assoc, Option, Some, None}
 use Rattle.std.specs.List.{slice_get}
 use Rattle.std.proofs.lemmas.List.{drop_all}
 use Rattle.proto_core.specs.declared.party.Number.{Number}
@@ -10,6 +11,7 @@ use Rattle.proto_core.specs.Parties.{receiver_of, is_same, from_previous, from_n
 use Rattle.proto_core.specs.Strand.{same_link, Mail, rest_of, taken}
 use Rattle.proto_core.specs.Net.{mail_of}
 use Rattle.proto_core.proofs.Beginnings.{append-none}
+use Rattle.proto_core.proofs.Numbers.{same_is}
 use Rattle.protocol_model.specs.Arrivals.{Arrival, oldest_then, arrivals}
 use Rattle.arrival_order.specs.Coming.{ToCome, mail_in, first_of, brought, come_with, AreArrivals}
 
@@ -85,12 +87,6 @@ entry-goes before after k d order message got more whole within is same left has
 
 -- ---- other links make no difference
 
-same-number : (a b : Number) → is_same a b ≡ true → a ≡ b
-same-number One One h = refl
-same-number Two Two h = refl
-same-number Three Three h = refl
-same-number _ _ h = cc
-
 same-on : (i : Number) (x y : Mail) (l k : Link) → x k ≡ y k → taken l x k ≡ taken l y k
 same-on i x y l k h = elim (same_link l k) as (λ b. (if b then rest_of (x k) else x k) ≡ (if b then rest_of (y k) else y k)) [ true ↦ ap rest_of h | false ↦ h ]
 
@@ -106,7 +102,7 @@ own-alone i x y (l ∷ ls) same =
         (if b then oldest_then l (x l) (arrivals i (taken l x) ls) else arrivals i (taken l x) ls)
         ≡ (if b then oldest_then l (y l) (arrivals i (taken l y) ls) else arrivals i (taken l y) ls)
     by_link true into more =
-        ap (λ ms. oldest_then l ms (arrivals i (taken l x) ls)) (same l (same-number (receiver_of l) i into)) ∙ ap (oldest_then l (y l)) more
+        ap (λ ms. oldest_then l ms (arrivals i (taken l x) ls)) (same l (same_is (receiver_of l) i into)) ∙ ap (oldest_then l (y l)) more
     by_link false into more = more
 
 on-own : (i : Number) (mail : Mail) (l : Link) → receiver_of l ≡ i → mail_of i (mail (from_previous i)) (mail (from_next i)) l ≡ mail l

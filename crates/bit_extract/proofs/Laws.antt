@@ -1,5 +1,6 @@
 -- The gates give the bits.
-use Rattle.std.proofs.Common.{◌≡◌, ℕ, ◌+◌, ◌*◌, ◌/◌, ◌%◌, ◌^◌, ◌<◌, ◌≤◌, Some, List, [], ◌∷◌, ◌++◌, length, map, drop, get_or, refl, sym, ◌∙◌, ap, subst, arith, false}
+use Rattle.std.proofs.Common.{◌≡◌, ℕ, ◌+◌, ◌*◌, ◌/◌, ◌%◌, ◌^◌, ◌<◌, ◌≤◌, Some, List, [], ◌∷◌, ◌++◌, length, map, drop, get_or, refl, sym, ◌∙◌, ap}
+use Rattle.std.proofs.Common.{subst, arith, false}
 use Rattle.std.specs.Prelude.{slice_get}
 use Rattle.share_ring.specs.Rings.{add_ring, xor_ring}
 use Rattle.gates.specs.declared.gate.Gate.{Gate}
@@ -7,7 +8,8 @@ use Rattle.gates.specs.Clear.{Values, value, each_two, FitFrom}
 use Rattle.gates.specs.Counts.{Miner, size_of, words_of_all, words_of_split}
 use Rattle.gates.specs.Counts.Miner.{Miner1, Miner2, Miner3}
 use Rattle.gates.proofs.Sizes.{size_of-value}
-use Rattle.gates.proofs.Columns.{word, Column, stands, Column-of, Column-same, Column-ext, Column-map, Column-each_two, Column-split, same_columns, TwoColumns-same, TwoColumns-append, TwoColumns-each_two, first_part, second_part}
+use Rattle.gates.proofs.Columns.{word, Column, stands, Column-of, Column-same, Column-ext, Column-map, Column-each_two, Column-split, same_columns}
+use Rattle.gates.proofs.Columns.{TwoColumns-same, TwoColumns-append, TwoColumns-each_two, first_part, second_part}
 use Rattle.gates.proofs.Carries.{carry, carry-zero, carry-lt, SpansUp, shifted_up, up_generate, up_propagate, up_start, up_step, sum_by_carries}
 use Rattle.std.proofs.lemmas.Nat.{mod_below, pow_pos}
 use Rattle.std.proofs.lemmas.List.{append_assoc, drop_more}
@@ -36,9 +38,11 @@ step_law inputs values n next ng np width g p rest generate propagate fit =
     let moved_g = Column-same (stands values (next + 1) fit.2.1) (Column-map (shifted_up width) generate) in
     let moved_p = Column-same (stands values (next + 2) (ap (λ i. slice_get values i) (omega arith) ∙ fit.2.2.1)) (Column-map (shifted_up width) propagate) in
     let moved = TwoColumns-same (stands values (next + 3) (ap (λ i. slice_get values i) (omega arith) ∙ fit.2.2.2.1)) (TwoColumns-append moved_g moved_p) in
-    let joined = TwoColumns-same (stands values (next + 4) (ap (λ i. slice_get values i) (omega arith) ∙ fit.2.2.2.2.1)) (TwoColumns-each_two xor_ring.mul both moved) in
+    let joined = TwoColumns-same (stands values (next + 4) (ap (λ i. slice_get values i) (omega arith) ∙ fit.2.2.2.2.1))
+    (TwoColumns-each_two xor_ring.mul both moved) in
     let low = Column-same (stands values (next + 5) (ap (λ i. slice_get values i) (omega arith) ∙ fit.2.2.2.2.2.1)) (first_part joined) in
-    let new_g = Column-same (stands values (next + 6) (ap (λ i. slice_get values i) (omega arith) ∙ fit.2.2.2.2.2.2.1)) (Column-each_two xor_ring.add generate low) in
+    let new_g = Column-same (stands values (next + 6) (ap (λ i. slice_get values i) (omega arith) ∙ fit.2.2.2.2.2.2.1))
+    (Column-each_two xor_ring.add generate low) in
     let new_p = Column-same (stands values (next + 7) (ap (λ i. slice_get values i) (omega arith) ∙ fit.2.2.2.2.2.2.2.1)) (second_part joined) in
     record {
       both = both.size;
@@ -60,13 +64,16 @@ carrying_law inputs values n x y [] width h next ng np m g p double sum generate
     let carries = Column-same (stands values next fit.1) (Column-map (shifted_up 1) generate) in (
       each_two xor_ring.add (value values h) (value values next),
       ap (λ i. slice_get values i) (e ∙ omega arith) ∙ fit.2.1,
-      Column-ext (λ k lt. sum_by_carries (x k) (y k) (g k) (p k) (subst (λ w. SpansUp (carry (x k) (y k)) w (g k) (p k)) double (spans k lt))) (Column-each_two xor_ring.add sum carries),
+      Column-ext (λ k lt. sum_by_carries (x k) (y k) (g k) (p k) (subst (λ w. SpansUp (carry (x k) (y k)) w (g k) (p k)) double (spans k lt)))
+          (Column-each_two xor_ring.add sum carries),
     )
 carrying_law inputs values n x y (count ∷ widths) width h next ng np m g p double sum generate propagate spans fit e =
     let step = step_law inputs values n next ng np count g p (carrying n h (next + 8) (next + 6) (next + 7) widths) generate propagate fit in
-    carrying_law inputs values n x y widths (2 * count) h (next + 8) (next + 6) (next + 7) m (λ k. up_generate count (g k) (p k)) (λ k. up_propagate count (p k))
+    carrying_law inputs values n x y widths (2 * count) h (next + 8) (next + 6) (next + 7) m (λ k. up_generate count (g k) (p k))
+    (λ k. up_propagate count (p k))
     double.1 sum step.generated step.propagated
-    (λ k lt. up_step (carry (x k) (y k)) (carry-zero (x k) (y k)) (carry-lt (x k) (y k)) count (g k) (p k) (subst (λ w. SpansUp (carry (x k) (y k)) w (g k) (p k)) (sym double.0) (spans k lt)))
+    (λ k lt. up_step (carry (x k) (y k)) (carry-zero (x k) (y k)) (carry-lt (x k) (y k)) count (g k) (p k)
+    (subst (λ w. SpansUp (carry (x k) (y k)) w (g k) (p k)) (sym double.0) (spans k lt)))
     step.fit (e ∙ omega arith)
 
 pub gives_bits : (first word n : ℕ) → GivesBits first word n (bits_plan first word n)
@@ -81,13 +88,15 @@ gives_bits first number n inputs values size fit =
     let x = word (value values first) in
     let y = word (value values (first + 1)) in
     let end =
-    carrying_law inputs values n x y widths 1 (first + 3) (first + 4) (first + 2) (first + 3) (first + 53) (λ k. xor_ring.mul (x k) (y k)) (λ k. xor_ring.add (x k) (y k))
+    carrying_law inputs values n x y widths 1 (first + 3) (first + 4) (first + 2) (first + 3) (first + 53) (λ k. xor_ring.mul (x k) (y k))
+    (λ k. xor_ring.add (x k) (y k))
     (refl, (refl, (refl, (refl, (refl, (refl, refl)))))) sum generate sum (λ k lt. up_start (x k) (y k)) rest (omega arith) in
     let added = Column-same (sym split.join) (Column-each_two add_ring.add both.0 both.1) in
     end.1 ∙ ap Some (same_columns n (λ k. add_ring.add (x k) (y k)) end.0 us end.2 added)
 
 -- what fits is made of words, since it is a sum modulo 2^64
-pub are_words : (inputs values : Values) (first number n : ℕ) → length (value values number) ≡ n → FitFrom inputs values first (bits_plan first number n) → (k : ℕ) → k < n → word (value values number) k < 2 ^ 64
+pub are_words : (inputs values : Values) (first number n : ℕ) → length (value values number) ≡ n
+    → FitFrom inputs values first (bits_plan first number n) → (k : ℕ) → k < n → word (value values number) k < 2 ^ 64
 are_words inputs values first number n size fit k lt =
     let split = fit.1.2 in
     let both = Column-split false split (Column-of n (value values number) size) in
@@ -128,7 +137,9 @@ takes_words first number n inputs values miner size fit =
     let rest = carrying_words inputs values miner n widths (first + 3) (first + 4) (first + 2) (first + 3) generate.size sum.size fit_rest in
     let split_size = size_of-value values number ∙ size in
     let first_size = size_of-value values first ∙ both.0.size in
-    ap (λ k. words_of_split miner k + (3 * size_of (map length values) first + (0 + words_of_all (map length values) miner (carrying n (first + 3) (first + 4) (first + 2) (first + 3) widths)))) split_size
+    ap (λ k. words_of_split miner k
+    + (3 * size_of (map length values) first
+    + (0 + words_of_all (map length values) miner (carrying n (first + 3) (first + 4) (first + 2) (first + 3) widths)))) split_size
     ∙ ap (λ k. words_of_split miner n + k) (omega (arith, rest, first_size)) ∙ total miner n
 
 -- ---- as the contract says it

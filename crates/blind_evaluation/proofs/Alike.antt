@@ -11,7 +11,8 @@ use Rattle.sc_text.specs.declared.end.TapeOwner.TheVariants.{Miner1, Miner2, Min
 use Rattle.sc_text.specs.declared.event.Event.{Event}
 use Rattle.sc_text.specs.declared.event.Event.TheVariants.{Open, Publish}
 use Rattle.gates.specs.declared.gate.Gate.{Gate}
-use Rattle.language_model.specs.Effects.{Words, World, Stage, Ended, Run, Effect, ◌>>=◌, carry, done, end, charge, test, fits, drawn_yet, take_words, draw, gate, next_number, put_gates, planned, emit}
+use Rattle.language_model.specs.Effects.{Words, World, Stage, Ended, Run, Effect, ◌>>=◌, carry, done, end, charge, test, fits, drawn_yet, take_words}
+use Rattle.language_model.specs.Effects.{draw, gate, next_number, put_gates, planned, emit}
 use Rattle.blind_evaluation.specs.Courses.{LikeEvent, LikeEvents, IsEnded}
 
 -- the second run's stage beside the first one's: the same but for its answers and events
@@ -52,17 +53,22 @@ same_events : (es : List Event) → LikeEvents es es
 same_events [] = tt
 same_events (e ∷ es) = (same_event e, same_events es)
 
-pub alike_bind : {A B C D : Type 0} {R : A → B → Type 0} {S : C → D → Type 0} {c : Effect A} {c' : Effect B} {f : A → Effect C} {f' : B → Effect D} → Alike R c c' → ((a : A) (b : B) → R a b → Alike S (f a) (f' b)) → Alike S (c >>= f) (c' >>= f')
+pub alike_bind : {A B C D : Type 0} {R : A → B → Type 0} {S : C → D → Type 0} {c : Effect A} {c' : Effect B} {f : A → Effect C} {f' : B → Effect D}
+    → Alike R c c' → ((a : A) (b : B) → R a b → Alike S (f a) (f' b)) → Alike S (c >>= f) (c' >>= f')
 alike_bind {A = A} {B = B} {C = C} {D = D} {R = R} {S = S} {c = c} {c' = c'} {f = f} {f' = f'} h k = record { from = λ s. go s (c s) refl (h.from s) }
   where
     go : (s : Stage) (r : Run A) → c s ≡ r → AlikeAt R c c' s → AlikeAt S (c >>= f) (c' >>= f') s
-    go s r e t = on r e (subst (λ z. opened_by z ≡ s.opened ++ t.words) e t.opened) (λ more events like. subst (λ z. SameOutcome R more z (c' (retold (t.words ++ more) events s))) e (t.same more events like))
+    go s r e t = on r e (subst (λ z. opened_by z ≡ s.opened ++ t.words) e t.opened)
+        (λ more events like. subst (λ z. SameOutcome R more z (c' (retold (t.words ++ more) events s))) e (t.same more events like))
       where
-        on : (r : Run A) → c s ≡ r → opened_by r ≡ s.opened ++ t.words → ((more : List ℕ) (events : List Event) → LikeEvents s.events events → SameOutcome R more r (c' (retold (t.words ++ more) events s))) → AlikeAt S (c >>= f) (c' >>= f') s
+        on : (r : Run A) → c s ≡ r → opened_by r ≡ s.opened ++ t.words
+            → ((more : List ℕ) (events : List Event) → LikeEvents s.events events → SameOutcome R more r (c' (retold (t.words ++ more) events s)))
+            → AlikeAt S (c >>= f) (c' >>= f') s
         on (Err x) e o b = record {
           words = t.words;
           opened = ap (λ z. opened_by (carry z f)) e ∙ o;
-          same = λ more events like. subst (λ z. SameOutcome S more (carry z f) (carry (c' (retold (t.words ++ more) events s)) f')) (sym e) (end_same more events (c' (retold (t.words ++ more) events s)) (b more events like));
+          same = λ more events like. subst (λ z. SameOutcome S more (carry z f) (carry (c' (retold (t.words ++ more) events s)) f')) (sym e)
+              (end_same more events (c' (retold (t.words ++ more) events s)) (b more events like));
         }
           where
             end_same : (more : List ℕ) (events : List Event) (q : Run B) → SameOutcome R more (Err x) q → SameOutcome S more (Err x) (carry q f')
@@ -90,11 +96,15 @@ alike_bind {A = A} {B = B} {C = C} {D = D} {R = R} {S = S} {c = c} {c' = c'} {f 
             on_same more (Ok y) b =
                 let other = (k x.0 y.0 b.0).from x.1 in
                 let e2 : other.words ≡ (then).words = append_cancel_left x.1.opened other.words (then).words (sym other.opened ∙ (then).opened) in
-                subst (λ z. SameOutcome S more (f x.0 x.1) (f' y.0 z)) (sym b.1.stage) (subst (λ l. SameOutcome S more (f x.0 x.1) (f' y.0 (retold (l ++ more) b.1.events x.1))) e2 (other.same more b.1.events b.1.like))
+                subst (λ z. SameOutcome S more (f x.0 x.1) (f' y.0 z)) (sym b.1.stage)
+                (subst (λ l. SameOutcome S more (f x.0 x.1) (f' y.0 (retold (l ++ more) b.1.events x.1))) e2 (other.same more b.1.events b.1.like))
             on_same more (Err y) b = absurd b
 
 pub alike_done : {A B : Type 0} {R : A → B → Type 0} {a : A} {b : B} → R a b → Alike R (done a) (done b)
-alike_done r = record { from = λ s. record { words = []; opened = sym (append-nil s.opened); same = λ more events like. (r, record { events = events; like = like; stage = refl }) } }
+alike_done r = record {
+  from =
+      λ s. record { words = []; opened = sym (append-nil s.opened); same = λ more events like. (r, record { events = events; like = like; stage = refl }) };
+}
 
 -- ---- WHERE BOTH GIVE THE SAME, OR NOTHING THAT IS USED
 
@@ -104,21 +114,25 @@ Same a b = a ≡ b
 abbrev pub Any : {A B : Type 0} → A → B → Type 0
 Any a b = Unit {0}
 
-pub same_bind : {A C D : Type 0} {S : C → D → Type 0} {c c' : Effect A} {f : A → Effect C} {f' : A → Effect D} → Alike (Same {A = A}) c c' → ((a : A) → Alike S (f a) (f' a)) → Alike S (c >>= f) (c' >>= f')
+pub same_bind : {A C D : Type 0} {S : C → D → Type 0} {c c' : Effect A} {f : A → Effect C} {f' : A → Effect D} → Alike (Same {A = A}) c c'
+    → ((a : A) → Alike S (f a) (f' a)) → Alike S (c >>= f) (c' >>= f')
 same_bind {A = A} {S = S} {f = f} {f' = f'} h k = alike_bind h (λ a b e. subst (λ z. Alike S (f a) (f' z)) e (k a))
 
-pub any_bind : {A B C D : Type 0} {S : C → D → Type 0} {c : Effect A} {c' : Effect B} {f : A → Effect C} {f' : B → Effect D} → Alike (Any {A = A} {B = B}) c c' → ((a : A) (b : B) → Alike S (f a) (f' b)) → Alike S (c >>= f) (c' >>= f')
+pub any_bind : {A B C D : Type 0} {S : C → D → Type 0} {c : Effect A} {c' : Effect B} {f : A → Effect C} {f' : B → Effect D}
+    → Alike (Any {A = A} {B = B}) c c' → ((a : A) (b : B) → Alike S (f a) (f' b)) → Alike S (c >>= f) (c' >>= f')
 any_bind h k = alike_bind h (λ a b e. k a b)
 
 -- both end for sure
 abbrev pub Never : {A B : Type 0} → A → B → Type 0
 Never a b = ⊥
 
-pub never_bind : {A B C D : Type 0} {S : C → D → Type 0} {c : Effect A} {c' : Effect B} (f : A → Effect C) (f' : B → Effect D) → Alike (Never {A = A} {B = B}) c c' → Alike S (c >>= f) (c' >>= f')
+pub never_bind : {A B C D : Type 0} {S : C → D → Type 0} {c : Effect A} {c' : Effect B} (f : A → Effect C) (f' : B → Effect D)
+    → Alike (Never {A = A} {B = B}) c c' → Alike S (c >>= f) (c' >>= f')
 never_bind {S = S} f f' h = alike_bind h (λ a b n. let g : Alike S (f a) (f' b) = absurd n in g)
 
 -- an effect that opens nothing and reads neither answers nor events
-pub alike_if_kept : {A B : Type 0} {R : A → B → Type 0} (c : Effect A) (c' : Effect B) → ((s : Stage) → opened_by (c s) ≡ s.opened) → ((s : Stage) (more : List ℕ) (events : List Event) → LikeEvents s.events events → SameOutcome R more (c s) (c' (retold more events s))) → Alike R c c'
+pub alike_if_kept : {A B : Type 0} {R : A → B → Type 0} (c : Effect A) (c' : Effect B) → ((s : Stage) → opened_by (c s) ≡ s.opened)
+    → ((s : Stage) (more : List ℕ) (events : List Event) → LikeEvents s.events events → SameOutcome R more (c s) (c' (retold more events s))) → Alike R c c'
 alike_if_kept c c' o b = record { from = λ s. record { words = []; opened = o s ∙ sym (append-nil s.opened); same = λ more events like. b s more events like } }
 
 -- ---- THE STEPS
@@ -133,22 +147,31 @@ charge_alike n = alike_if_kept (charge n) (charge n) (λ s. opens s (nat_le n s.
     opens s true = refl
     opens s false = refl
 
-    beside : (s : Stage) (more : List ℕ) (events : List Event) → LikeEvents s.events events → (b : Bool) → SameOutcome {A = Unit {0}} {B = Unit {0}} Any more (cond b (Ok (tt, record s { left = s.left - n })) (Err (Ended Budget, s))) (cond b (Ok (tt, record (retold more events s) { left = s.left - n })) (Err (Ended Budget, retold more events s)))
+    beside : (s : Stage) (more : List ℕ) (events : List Event) → LikeEvents s.events events → (b : Bool)
+        → SameOutcome {A = Unit {0}} {B = Unit {0}} Any more (cond b (Ok (tt, record s { left = s.left - n })) (Err (Ended Budget, s)))
+        (cond b (Ok (tt, record (retold more events s) { left = s.left - n })) (Err (Ended Budget, retold more events s)))
     beside s more events like true = (tt, record { events = events; like = like; stage = refl })
     beside s more events like false = (tt, refl, record { events = events; like = like; stage = refl })
 
 pub test_alike : (b : Bool) (kind : TrapKind) (line : ℕ) → Alike (Any {A = Unit {0}} {B = Unit {0}}) (test b kind line) (test b kind line)
-test_alike true kind line = alike_if_kept (test true kind line) (test true kind line) (λ s. refl) (λ s more events like. (tt, record { events = events; like = like; stage = refl }))
-test_alike false kind line = alike_if_kept (test false kind line) (test false kind line) (λ s. refl) (λ s more events like. (tt, refl, record { events = events; like = like; stage = refl }))
+test_alike true kind line = alike_if_kept (test true kind line) (test true kind line) (λ s. refl)
+    (λ s more events like. (tt, record { events = events; like = like; stage = refl }))
+test_alike false kind line =
+    alike_if_kept (test false kind line) (test false kind line) (λ s. refl)
+    (λ s more events like. (tt, refl, record { events = events; like = like; stage = refl }))
 
 fits_alike : (owner : TapeOwner) (need have : ℕ) → Alike (Any {A = Unit {0}} {B = Unit {0}}) (fits owner need have) (fits owner need have)
-fits_alike owner need have = alike_if_kept (fits owner need have) (fits owner need have) (λ s. opens s (nat_le need have)) (λ s more events like. beside s more events like (nat_le need have))
+fits_alike owner need have =
+    alike_if_kept (fits owner need have) (fits owner need have) (λ s. opens s (nat_le need have))
+    (λ s more events like. beside s more events like (nat_le need have))
   where
     opens : (s : Stage) (b : Bool) → opened_by {A = Unit {0}} (cond b (Ok (tt, s)) (Err (Ended (Tape owner need have), s))) ≡ s.opened
     opens s true = refl
     opens s false = refl
 
-    beside : (s : Stage) (more : List ℕ) (events : List Event) → LikeEvents s.events events → (b : Bool) → SameOutcome {A = Unit {0}} {B = Unit {0}} Any more (cond b (Ok (tt, s)) (Err (Ended (Tape owner need have), s))) (cond b (Ok (tt, retold more events s)) (Err (Ended (Tape owner need have), retold more events s)))
+    beside : (s : Stage) (more : List ℕ) (events : List Event) → LikeEvents s.events events → (b : Bool)
+        → SameOutcome {A = Unit {0}} {B = Unit {0}} Any more (cond b (Ok (tt, s)) (Err (Ended (Tape owner need have), s)))
+        (cond b (Ok (tt, retold more events s)) (Err (Ended (Tape owner need have), retold more events s)))
     beside s more events like true = (tt, record { events = events; like = like; stage = refl })
     beside s more events like false = (tt, refl, record { events = events; like = like; stage = refl })
 
@@ -179,7 +202,8 @@ planned_alike plan = same_bind number_alike (λ first. put_alike (plan first))
 -- what is told is alike
 pub emit_alike : (e f : Event) → LikeEvent e f → Alike (Any {A = Unit {0}} {B = Unit {0}}) (emit e) (emit f)
 emit_alike e f l =
-    alike_if_kept (emit e) (emit f) (λ s. refl) (λ s more events like. (tt, record { events = events ++ f ∷ []; like = AllZip-push LikeEvent s.events events e f like l; stage = refl }))
+    alike_if_kept (emit e) (emit f) (λ s. refl)
+    (λ s more events like. (tt, record { events = events ++ f ∷ []; like = AllZip-push LikeEvent s.events events e f like l; stage = refl }))
 
 -- ---- WHERE A PART IS EQUAL AND NOT THE SAME
 

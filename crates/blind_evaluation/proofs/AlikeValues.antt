@@ -1,11 +1,12 @@
 -- A value of the run without the private inputs beside the run's in the clear: only the words of a gate's value may differ.
 use Rattle.std.proofs.Common.{◌≡◌, ℕ, List, [], ◌∷◌, length, None, Bool, true, false, refl}
 use Rattle.typed_tree.specs.declared.kinds.Shape.{Shape}
-use Rattle.language_model.specs.Values.{Private, Value, plain, hidden, size, seen, never_stored, default_words}
+use Rattle.language_model.specs.Values.{Private, Value, plain, hidden, size, visible_words, never_stored, default_words}
 
 pub data LikeValues : Value → Value → Type 0 where
   plains : (shape : Shape) (words : List ℕ) → LikeValues (plain shape words) (plain shape words)
-  unmade : (shape : Shape) (words : List ℕ) → LikeValues (record { secrecy = Private None; shape = shape; words = words }) (record { secrecy = Private None; shape = shape; words = words })
+  unmade : (shape : Shape) (words : List ℕ)
+      → LikeValues (record { secrecy = Private None; shape = shape; words = words }) (record { secrecy = Private None; shape = shape; words = words })
   made : (shape : Shape) (k : ℕ) (words words' : List ℕ) → length words ≡ length words' → LikeValues (hidden shape k words) (hidden shape k words')
 
 pub like_size : {v v' : Value} → LikeValues v v' → size v ≡ size v'
@@ -13,7 +14,7 @@ like_size (plains shape words) = refl
 like_size (unmade shape words) = refl
 like_size (made shape k words words' e) = e
 
-pub like_seen : {v v' : Value} → LikeValues v v' → seen v ≡ seen v'
+pub like_seen : {v v' : Value} → LikeValues v v' → visible_words v ≡ visible_words v'
 like_seen (plains shape words) = refl
 like_seen (unmade shape words) = refl
 like_seen (made shape k words words' e) = refl

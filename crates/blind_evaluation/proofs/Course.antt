@@ -29,10 +29,12 @@ module _ (p : TypedProgramTree) (o : Offered) (budget : ℕ) where
   outcome : (more : List ℕ) → SameOutcome LikeValues more clear_run (unseen_run ((report_of (clear o) budget clear_run).opened ++ more))
   unfolding clear_run unseen_run
   outcome more =
-      let t = (body_alike o (call_at (clear o) p.functions (deepest - 1)) (call_at (unseen o) p.functions (deepest - 1)) (calls_alike o p.functions (deepest - 1)) p.functions (slice_get p.functions 0) [] no_more).from (beginning budget []) in
+      let t = (body_alike o (call_at (clear o) p.functions (deepest - 1)) (call_at (unseen o) p.functions (deepest - 1))
+      (calls_alike o p.functions (deepest - 1)) p.functions (slice_get p.functions 0) [] no_more).from (beginning budget []) in
       subst (λ words. SameOutcome LikeValues more clear_run (unseen_run (words ++ more))) (sym t.opened ∙ reported_opened clear_run) (t.same more [] tt)
 
-  same_report : (more : List ℕ) (r q : Run Value) → SameOutcome LikeValues more r q → TakeSameCourse (report_of (clear o) budget r) (report_of (unseen o) budget q)
+  same_report : (more : List ℕ) (r q : Run Value) → SameOutcome LikeValues more r q
+      → TakeSameCourse (report_of (clear o) budget r) (report_of (unseen o) budget q)
   same_report more (Ok x) (Ok y) b = record {
     stop = refl;
     cost = ap (λ (s : Stage). budget - s.left) (sym b.1.stage);
@@ -61,12 +63,23 @@ module _ (p : TypedProgramTree) (o : Offered) (budget : ℕ) where
   not_short more (Err x) (Err y) b = subst IsEnded b.1 b.0
 
   not_dealt_same : TakeSameCourse (not_dealt (clear o)) (not_dealt (unseen o))
-  not_dealt_same = record { stop = ap (λ n. Ended (ending.Tape Dealer n o.dealer)) (sym (same_dealing o)); cost = refl; dealt = refl; drawn = refl; events = tt; opened = refl; gates = refl }
+  not_dealt_same = record {
+    stop = ap (λ n. Ended (ending.Tape Dealer n o.dealer)) (sym (same_dealing o));
+    cost = refl;
+    dealt = refl;
+    drawn =
+        refl;
+    events = tt;
+    opened = refl;
+    gates = refl;
+  }
 
   pub same_course : (more : List ℕ) → TakeSameCourse (eval p o budget) (blind p o ((eval p o budget).opened ++ more) budget)
   unfolding clear_run unseen_run
   same_course more =
-      subst (λ n. TakeSameCourse (eval p o budget) (cond (nat_le n o.dealer) (report_of (unseen o) budget (unseen_run ((eval p o budget).opened ++ more))) (not_dealt (unseen o)))) (sym (same_dealing o))
+      subst (λ n. TakeSameCourse (eval p o budget)
+      (cond (nat_le n o.dealer) (report_of (unseen o) budget (unseen_run ((eval p o budget).opened ++ more))) (not_dealt (unseen o))))
+      (sym (same_dealing o))
       (dealt (nat_le (dealing (clear o)) o.dealer))
     where
       report : Bool → Report
@@ -79,9 +92,12 @@ module _ (p : TypedProgramTree) (o : Offered) (budget : ℕ) where
   pub never_short : (more : List ℕ) → IsEnded (blind p o ((eval p o budget).opened ++ more) budget).stop
   unfolding clear_run unseen_run
   never_short more =
-      subst (λ n. IsEnded (cond (nat_le n o.dealer) (report_of (unseen o) budget (unseen_run ((eval p o budget).opened ++ more))) (not_dealt (unseen o))).stop) (sym (same_dealing o))
+      subst (λ n. IsEnded (cond (nat_le n o.dealer) (report_of (unseen o) budget (unseen_run ((eval p o budget).opened ++ more)))
+      (not_dealt (unseen o))).stop) (sym (same_dealing o))
       (dealt (nat_le (dealing (clear o)) o.dealer))
     where
-      dealt : (b : Bool) → IsEnded (cond b (report_of (unseen o) budget (unseen_run ((cond b (report_of (clear o) budget clear_run) (not_dealt (clear o))).opened ++ more))) (not_dealt (unseen o))).stop
+      dealt : (b : Bool) → IsEnded
+          (cond b (report_of (unseen o) budget (unseen_run ((cond b (report_of (clear o) budget clear_run) (not_dealt (clear o))).opened ++ more)))
+          (not_dealt (unseen o))).stop
       dealt true = not_short more clear_run (unseen_run ((report_of (clear o) budget clear_run).opened ++ more)) (outcome more)
       dealt false = tt

@@ -36,7 +36,9 @@ found_from : (k : ℕ) (text : List ℕ) (xs : List Given) → LikeInput (input_
 found_from k text [] = absent
 found_from k text (x ∷ xs) = either_way (bytes_eq text x.text) (found_from (behind x k) text xs)
   where
-    either_way : (b : Bool) → LikeInput (input_from (behind x k) text xs) (input_from (behind x k) text (map public_input xs)) → LikeInput (cond b (Some (x, k)) (input_from (behind x k) text xs)) (cond b (Some (public_input x, k)) (input_from (behind x k) text (map public_input xs)))
+    either_way : (b : Bool) → LikeInput (input_from (behind x k) text xs) (input_from (behind x k) text (map public_input xs))
+        → LikeInput (cond b (Some (x, k)) (input_from (behind x k) text xs))
+        (cond b (Some (public_input x, k)) (input_from (behind x k) text (map public_input xs)))
     either_way true l = found x k
     either_way false l = l
 
@@ -52,17 +54,24 @@ refused : (line : ℕ) → Alike (Never {A = Unit {0}} {B = Unit {0}}) (test fal
 refused line = end_alike (ending.Trap trap.Argument line)
 
 -- an input that isn't as it is declared ends both runs
-charged_refused : (line n n' : ℕ) → Alike (Never {A = Unit {0}} {B = Unit {0}}) (charged (test false trap.Argument line) n) (charged (test false trap.Argument line) n')
+charged_refused : (line n n' : ℕ)
+    → Alike (Never {A = Unit {0}} {B = Unit {0}}) (charged (test false trap.Argument line) n) (charged (test false trap.Argument line) n')
 charged_refused line n n' = any_bind (charge_alike 1) (λ _ _. never_bind (λ _. charge (n - 1)) (λ _. charge (n' - 1)) (refused line))
 
-asked_alike : (secret : Bool) (shape : Shape) (line k : ℕ) (text : List ℕ) (is_secret : Bool) (own : Shape) (words : List ℕ) → Alike LikeValues (asked_for secret shape line (Some (given_as text is_secret own words, k))) (asked_for secret shape line (Some (given_as text is_secret own (zeros_for is_secret words), k)))
+asked_alike : (secret : Bool) (shape : Shape) (line k : ℕ) (text : List ℕ) (is_secret : Bool) (own : Shape) (words : List ℕ)
+    → Alike LikeValues (asked_for secret shape line (Some (given_as text is_secret own words, k)))
+    (asked_for secret shape line (Some (given_as text is_secret own (zeros_for is_secret words), k)))
 asked_alike true shape line k text is_secret own words =
-    any_bind (charged_alike (test_alike (is_as_declared true shape (given_as text is_secret own words)) trap.Argument line) (sym (zeros_length is_secret words))) (λ _ _.
+    any_bind (charged_alike (test_alike (is_as_declared true shape (given_as text is_secret own words)) trap.Argument line)
+    (sym (zeros_length is_secret words))) (λ _ _.
     same_bind (gate_alike (Input k)) (λ r. result_alike refl (sym (zeros_length is_secret words)) r))
 asked_alike false shape line k text false own words =
     any_bind (charged_alike (test_alike (is_as_declared false shape (given_as text false own words)) trap.Argument line) refl) (λ _ _. plain_alike own words)
-asked_alike false shape line k text true own words = never_bind (λ _. given_value false (given_as text true own words) k) (λ _. given_value false (given_as text true own (zeros_for true words)) k) (charged_refused line (length words) (length (zeros_for true words)))
+asked_alike false shape line k text true own words =
+    never_bind (λ _. given_value false (given_as text true own words) k) (λ _. given_value false (given_as text true own (zeros_for true words)) k)
+    (charged_refused line (length words) (length (zeros_for true words)))
 
-pub asked_for_alike : (secret : Bool) (shape : Shape) (line : ℕ) {x x' : Option (Given × ℕ)} → LikeInput x x' → Alike LikeValues (asked_for secret shape line x) (asked_for secret shape line x')
+pub asked_for_alike : (secret : Bool) (shape : Shape) (line : ℕ) {x x' : Option (Given × ℕ)} → LikeInput x x'
+    → Alike LikeValues (asked_for secret shape line x) (asked_for secret shape line x')
 asked_for_alike secret shape line absent = any_bind (charge_alike 1) (λ _ _. end_alike (ending.Trap trap.Argument line))
 asked_for_alike secret shape line (found x k) = asked_alike secret shape line k x.text x.secret x.shape x.words

@@ -68,23 +68,28 @@ are_enough xs ys = grind (arith, nat_tests, length-append xs ys)
 
 -- ---- TWO OPERANDS
 
-two_lengths : (f : ℕ → ℕ → ℕ) (xs xs' ys ys' : List ℕ) → length xs ≡ length xs' → length ys ≡ length ys' → length (each_two f xs ys) ≡ length (each_two f xs' ys')
+two_lengths : (f : ℕ → ℕ → ℕ) (xs xs' ys ys' : List ℕ) → length xs ≡ length xs' → length ys ≡ length ys'
+    → length (each_two f xs ys) ≡ length (each_two f xs' ys')
 two_lengths f xs xs' ys ys' e g =
-    length-map (zip xs ys) (λ (p : ℕ × ℕ). f p.0 p.1) ∙ length-zip xs ys ∙ ap (λ n. min n (length ys)) e ∙ ap (λ n. min (length xs') n) g ∙ sym (length-zip xs' ys') ∙ sym (length-map (zip xs' ys') (λ (p : ℕ × ℕ). f p.0 p.1))
+    length-map (zip xs ys) (λ (p : ℕ × ℕ). f p.0 p.1) ∙ length-zip xs ys ∙ ap (λ n. min n (length ys)) e ∙ ap (λ n. min (length xs') n) g
+    ∙ sym (length-zip xs' ys') ∙ sym (length-map (zip xs' ys') (λ (p : ℕ × ℕ). f p.0 p.1))
 
 left_length : (ds : Operands) {x x' y y' : Value} → LikeValues x x' → LikeValues y y' → length (left_words ds x y) ≡ length (left_words ds x' y')
 left_length Scalars l m = like_size l
 left_length ArrayAndScalar l m = like_size l
-left_length ScalarAndArray {x = x} {x' = x'} {y = y} {y' = y'} l m = replicated_length (size y) (size y') (first_word x.words) (first_word x'.words) (like_size m)
+left_length ScalarAndArray {x = x} {x' = x'} {y = y} {y' = y'} l m =
+    replicated_length (size y) (size y') (first_word x.words) (first_word x'.words) (like_size m)
 left_length Arrays l m = like_size l
 
 right_length : (ds : Operands) {x x' y y' : Value} → LikeValues x x' → LikeValues y y' → length (right_words ds x y) ≡ length (right_words ds x' y')
 right_length Scalars l m = like_size m
-right_length ArrayAndScalar {x = x} {x' = x'} {y = y} {y' = y'} l m = replicated_length (size x) (size x') (first_word y.words) (first_word y'.words) (like_size l)
+right_length ArrayAndScalar {x = x} {x' = x'} {y = y} {y' = y'} l m =
+    replicated_length (size x) (size x') (first_word y.words) (first_word y'.words) (like_size l)
 right_length ScalarAndArray l m = like_size m
 right_length Arrays l m = like_size m
 
-pub result_length : (op : BinaryOperator) (ds : Operands) {x x' y y' : Value} → LikeValues x x' → LikeValues y y' → length (result_words op ds x y) ≡ length (result_words op ds x' y')
+pub result_length : (op : BinaryOperator) (ds : Operands) {x x' y y' : Value} → LikeValues x x' → LikeValues y y'
+    → length (result_words op ds x y) ≡ length (result_words op ds x' y')
 result_length op ds {x = x} {x' = x'} {y = y} {y' = y'} l m =
     two_lengths (meaning op) (left_words ds x y) (left_words ds x' y') (right_words ds x y) (right_words ds x' y') (left_length ds l m) (right_length ds l m)
 

@@ -1,5 +1,6 @@
 -- What each operation does is alike, on operands that are alike.
-use Rattle.std.proofs.Common.{◌≡◌, ℕ, ◌+◌, ◌*◌, ◌-◌, List, [], ◌∷◌, ◌++◌, length, take, drop, Option, Some, None, Ok, Err, Bool, true, false, cond, refl, sym, ap, ◌∙◌, subst}
+use Rattle.std.proofs.Common.{◌≡◌, ℕ, ◌+◌, ◌*◌, ◌-◌, List, [], ◌∷◌, ◌++◌, length, take, drop, Option, Some, None, Ok, Err, Bool, true, false, cond}
+use Rattle.std.proofs.Common.{refl, sym, ap, ◌∙◌, subst}
 use Rattle.std.specs.Prelude.{nat_le, nat_lt, map, replicate, set, sum, not, ◌&&◌, ◌==◌, ◌%◌, ◌^◌}
 use Rattle.std.specs.List.{flat_map}
 use Rattle.std.proofs.lemmas.List.{length-map}
@@ -20,20 +21,30 @@ use Rattle.typed_tree.specs.declared.operators.Operands.{Operands}
 use Rattle.typed_tree.specs.declared.operators.Cast.{Cast}
 use Rattle.typed_tree.specs.declared.operators.Cast.TheVariants.{WordToWord, WordToBool, BoolToWord, BoolToBool}
 use Rattle.typed_tree.specs.Shapes.{shape_of}
-use Rattle.language_model.specs.Effects.{Words, words_each, Clear, Answers, World, Stage, Short, Effect, ◌>>=◌, carry, done, test, gate, draw, planned, emit, next_answers, show}
-use Rattle.language_model.specs.Values.{Secrecy, Private, Value, plain, is_secret, size, seen, is_true, ring_for, element_of, elements_of}
+use Rattle.language_model.specs.Effects.{Words, words_each, Clear, Answers, World, Stage, Short, Effect, ◌>>=◌, carry, done, test, gate, draw}
+use Rattle.language_model.specs.Effects.{planned, emit, next_answers, show}
+use Rattle.language_model.specs.Values.{Secrecy, Private, Value, plain, is_secret, size, visible_words, is_true, ring_for, element_of, elements_of}
 use Rattle.language_model.specs.Words as W
-use Rattle.language_model.specs.Operations.{charged, no_traps, largest, not_too_large, number_of, made_private, classified, wanted, read_answer, revealed, opened_from, declassified, stretched, is_scalar_left, is_scalar_right, flip, words_of_operator, operator_gates, is_product, result_shape, private_result, product_with, combined_from, operator_traps, operated, is_classified, operation, negated_from, negated, words_of_cast, cast_shape, cast_gates, changed, cast_from, cast_to, scalar_word, size_told, summed_from, summed, words_for_bits, bits_from, bits_extracted, joined_from, joined, position, element_at, element_from, element_of_array, with_element_from, with_element, filled_from, filled, handed_over, published, tested, asserted}
+use Rattle.language_model.specs.Operations.{charged, no_traps, largest, not_too_large, number_of, made_private, classified, wanted, read_answer}
+use Rattle.language_model.specs.Operations.{revealed, opened_from, declassified, stretched, is_scalar_left, is_scalar_right, flip, words_of_operator}
+use Rattle.language_model.specs.Operations.{operator_gates, is_product, result_shape, private_result, product_with, combined_from, operator_traps}
+use Rattle.language_model.specs.Operations.{operated, is_classified, operation, negated_from, negated, words_of_cast, cast_shape, cast_gates, changed}
+use Rattle.language_model.specs.Operations.{cast_from, cast_to, scalar_word, size_told, summed_from, summed, words_for_bits, bits_from}
+use Rattle.language_model.specs.Operations.{bits_extracted, joined_from, joined, position, element_at, element_from, element_of_array}
+use Rattle.language_model.specs.Operations.{with_element_from, with_element, filled_from, filled, handed_over, published, tested, asserted}
 use Rattle.language_model.specs.Reports.{Offered, world_of, public_part}
 use Rattle.blind_evaluation.specs.Courses.{LikeEvent, LikeEvents}
-use Rattle.blind_evaluation.proofs.Alike.{retold, SameOutcome, Alike, alike_bind, alike_done, Same, Any, same_bind, any_bind, charge_alike, gate_alike, planned_alike, emit_alike, to_equal, charge_equal, test_equal, draw_equal, gate_equal}
+use Rattle.blind_evaluation.proofs.Alike.{retold, SameOutcome, Alike, alike_bind, alike_done, Same, Any, same_bind, any_bind, charge_alike}
+use Rattle.blind_evaluation.proofs.Alike.{gate_alike, planned_alike, emit_alike, to_equal, charge_equal, test_equal, draw_equal, gate_equal}
 use Rattle.blind_evaluation.proofs.AlikeValues.{LikeValues, plains, unmade, made, like_size, like_seen, like_shape, like_secrecy}
-use Rattle.blind_evaluation.proofs.Lengths.{mapped_length, set_length, replicated_length, joined_length, bits_lengths, answer_length, read_again, are_enough, result_length, same_result_size, same_are_alike, same_left, same_right}
+use Rattle.blind_evaluation.proofs.Lengths.{mapped_length, set_length, replicated_length, joined_length, bits_lengths, answer_length, read_again}
+use Rattle.blind_evaluation.proofs.Lengths.{are_enough, result_length, same_result_size, same_are_alike, same_left, same_right}
 use Rattle.blind_evaluation.proofs.Gates.{value_number_alike, stretched_alike, flip_alike, operator_alike, cast_alike}
 
 -- ---- THE PARTS OF AN OPERATION
 
-pub charged_alike : {traps traps' : Effect (Unit {0})} {n n' : ℕ} → Alike (Any {A = Unit {0}} {B = Unit {0}}) traps traps' → n ≡ n' → Alike (Any {A = Unit {0}} {B = Unit {0}}) (charged traps n) (charged traps' n')
+pub charged_alike : {traps traps' : Effect (Unit {0})} {n n' : ℕ} → Alike (Any {A = Unit {0}} {B = Unit {0}}) traps traps' → n ≡ n'
+    → Alike (Any {A = Unit {0}} {B = Unit {0}}) (charged traps n) (charged traps' n')
 charged_alike {n = n} {n' = n'} t e = any_bind (charge_alike 1) (λ _ _. any_bind t (λ _ _. charge_equal {n = n - 1} {n' = n' - 1} (ap (λ m. m - 1) e)))
 
 no_traps_alike : Alike (Any {A = Unit {0}} {B = Unit {0}}) no_traps no_traps
@@ -46,7 +57,8 @@ pub sized_alike : {v v' : Value} → LikeValues v v' → Alike (Any {A = Unit {0
 sized_alike l = charged_alike no_traps_alike (like_size l)
 
 -- the value of a gate
-pub result_alike : {shape shape' : Shape} {words words' : List ℕ} → shape ≡ shape' → length words ≡ length words' → (k : ℕ) → Alike LikeValues (made_private shape words k) (made_private shape' words' k)
+pub result_alike : {shape shape' : Shape} {words words' : List ℕ} → shape ≡ shape' → length words ≡ length words' → (k : ℕ)
+    → Alike LikeValues (made_private shape words k) (made_private shape' words' k)
 result_alike {shape = shape} {words = words} {words' = words'} s e k = to_equal (λ t. made_private t words' k) s (alike_done (made shape k words words' e))
 
 pub plain_alike : (shape : Shape) (words : List ℕ) → Alike LikeValues (done (plain shape words)) (done (plain shape words))
@@ -55,7 +67,8 @@ plain_alike shape words = alike_done (plains shape words)
 -- ---- CLASSIFICATION
 
 pub classified_alike : {v v' : Value} → LikeValues v v' → Alike LikeValues (classified v) (classified v')
-classified_alike (plains shape words) = any_bind (sized_alike (plains shape words)) (λ _ _. same_bind (gate_alike (Const words)) (λ k. result_alike refl refl k))
+classified_alike (plains shape words) =
+    any_bind (sized_alike (plains shape words)) (λ _ _. same_bind (gate_alike (Const words)) (λ k. result_alike refl refl k))
 classified_alike (unmade shape words) = alike_done (unmade shape words)
 classified_alike (made shape k words words' e) = alike_done (made shape k words words' e)
 
@@ -82,7 +95,8 @@ pub negated_alike : {v v' : Value} → LikeValues v v' → Alike LikeValues (neg
 negated_alike l = any_bind (sized_alike l) (λ _ _. negated_from_alike l)
 
 pub size_told_alike : {v v' : Value} → LikeValues v v' → Alike LikeValues (size_told v) (size_told v')
-size_told_alike {v = v} l = any_bind (charge_alike 1) (λ _ _. to_equal (λ n. done (scalar_word n)) (like_size l) (plain_alike (shape_of Uint64 false) (size v ∷ [])))
+size_told_alike {v = v} l = any_bind (charge_alike 1)
+    (λ _ _. to_equal (λ n. done (scalar_word n)) (like_size l) (plain_alike (shape_of Uint64 false) (size v ∷ [])))
 
 summed_private : (k : Option ℕ) {v v' : Value} → LikeValues v v' → Alike LikeValues (summed_from (Private k) v) (summed_from (Private k) v')
 summed_private k l = same_bind (value_number_alike l) (λ u. same_bind (gate_alike (Sum u)) (λ r. result_alike refl refl r))
@@ -96,12 +110,15 @@ pub summed_alike : {v v' : Value} → LikeValues v v' → Alike LikeValues (summ
 summed_alike l = any_bind (charge_alike 1) (λ _ _. summed_from_alike l)
 
 -- two arrays, of which one is private
-cat_alike : {x x' y y' : Value} → LikeValues x x' → LikeValues y y' → Alike LikeValues (number_of x >>= λ u. number_of y >>= λ v. gate (Cat u v) >>= λ r. made_private x.shape (x.words ++ y.words) r) (number_of x' >>= λ u. number_of y' >>= λ v. gate (Cat u v) >>= λ r. made_private x'.shape (x'.words ++ y'.words) r)
+cat_alike : {x x' y y' : Value} → LikeValues x x' → LikeValues y y'
+    → Alike LikeValues (number_of x >>= λ u. number_of y >>= λ v. gate (Cat u v) >>= λ r. made_private x.shape (x.words ++ y.words) r)
+    (number_of x' >>= λ u. number_of y' >>= λ v. gate (Cat u v) >>= λ r. made_private x'.shape (x'.words ++ y'.words) r)
 cat_alike {x = x} {x' = x'} {y = y} {y' = y'} l m =
     same_bind (value_number_alike l) (λ u. same_bind (value_number_alike m) (λ v. same_bind (gate_alike (Cat u v)) (λ r.
     result_alike (like_shape l) (joined_length x.words x'.words y.words y'.words (like_size l) (like_size m)) r)))
 
-joined_from_alike : {x x' y y' : Value} → LikeValues x x' → LikeValues y y' → Alike LikeValues (joined_from x.secrecy y.secrecy x y) (joined_from x'.secrecy y'.secrecy x' y')
+joined_from_alike : {x x' y y' : Value} → LikeValues x x' → LikeValues y y'
+    → Alike LikeValues (joined_from x.secrecy y.secrecy x y) (joined_from x'.secrecy y'.secrecy x' y')
 joined_from_alike (plains s a) (plains t b) = plain_alike s (a ++ b)
 joined_from_alike (plains s a) (unmade t b) = cat_alike (plains s a) (unmade t b)
 joined_from_alike (plains s a) (made t k b b' e) = cat_alike (plains s a) (made t k b b' e)
@@ -122,35 +139,42 @@ joined_alike line {x' = x'} {y = y} l m =
 same_position : {i i' : Value} → LikeValues i i' → position i ≡ position i'
 same_position l = ap first_word (like_seen l)
 
-inside_alike : (line : ℕ) {v v' i i' : Value} → LikeValues v v' → LikeValues i i' → Alike (Any {A = Unit {0}} {B = Unit {0}}) (test (nat_lt (position i) (size v)) trap.Index line) (test (nat_lt (position i') (size v')) trap.Index line)
-inside_alike line {v = v} {i' = i'} l m = test_equal trap.Index line (ap (λ p. nat_lt p (size v)) (same_position m) ∙ ap (λ n. nat_lt (position i') n) (like_size l))
+inside_alike : (line : ℕ) {v v' i i' : Value} → LikeValues v v' → LikeValues i i'
+    → Alike (Any {A = Unit {0}} {B = Unit {0}}) (test (nat_lt (position i) (size v)) trap.Index line) (test (nat_lt (position i') (size v')) trap.Index line)
+inside_alike line {v = v} {i' = i'} l m =
+    test_equal trap.Index line (ap (λ p. nat_lt p (size v)) (same_position m) ∙ ap (λ n. nat_lt (position i') n) (like_size l))
 
 element_private : (k : Option ℕ) (i : ℕ) {v v' : Value} → LikeValues v v' → Alike LikeValues (element_from (Private k) v i) (element_from (Private k) v' i)
 element_private k i l =
-    same_bind (value_number_alike l) (λ u. same_bind (gate_alike (Part u i 1)) (λ r. result_alike (ap (λ (s : Shape). shape_of s.element false) (like_shape l)) refl r))
+    same_bind (value_number_alike l)
+    (λ u. same_bind (gate_alike (Part u i 1)) (λ r. result_alike (ap (λ (s : Shape). shape_of s.element false) (like_shape l)) refl r))
 
 element_from_alike : (i : ℕ) {v v' : Value} → LikeValues v v' → Alike LikeValues (element_from v.secrecy v i) (element_from v'.secrecy v' i)
 element_from_alike i (plains shape words) = plain_alike (shape_of shape.element false) (element_at words i ∷ [])
 element_from_alike i (unmade shape words) = element_private None i (unmade shape words)
 element_from_alike i (made shape k words words' e) = element_private (Some k) i (made shape k words words' e)
 
-pub element_alike : (line : ℕ) {v v' i i' : Value} → LikeValues v v' → LikeValues i i' → Alike LikeValues (element_of_array line v i) (element_of_array line v' i')
+pub element_alike : (line : ℕ) {v v' i i' : Value} → LikeValues v v' → LikeValues i i'
+    → Alike LikeValues (element_of_array line v i) (element_of_array line v' i')
 element_alike line {v' = v'} {i = i} l m =
     any_bind (charge_alike 1) (λ _ _. any_bind (inside_alike line l m) (λ _ _.
     to_equal (λ p. element_from v'.secrecy v' p) (same_position m) (element_from_alike (position i) l)))
 
-with_element_private : (k : Option ℕ) (i : ℕ) {v v' x x' : Value} → LikeValues v v' → LikeValues x x' → Alike LikeValues (with_element_from (Private k) v i x) (with_element_from (Private k) v' i x')
+with_element_private : (k : Option ℕ) (i : ℕ) {v v' x x' : Value} → LikeValues v v' → LikeValues x x'
+    → Alike LikeValues (with_element_from (Private k) v i x) (with_element_from (Private k) v' i x')
 with_element_private k i {v = v} {v' = v'} {x = x} {x' = x'} l m =
     same_bind (value_number_alike l) (λ u. same_bind (value_number_alike m) (λ e. same_bind (gate_alike (Put u i e)) (λ r.
     result_alike (like_shape l) (set_length i (first_word x.words) (first_word x'.words) v.words v'.words (like_size l)) r)))
 
-with_element_from_alike : (i : ℕ) {v v' x x' : Value} → LikeValues v v' → LikeValues x x' → Alike LikeValues (with_element_from v.secrecy v i x) (with_element_from v'.secrecy v' i x')
+with_element_from_alike : (i : ℕ) {v v' x x' : Value} → LikeValues v v' → LikeValues x x'
+    → Alike LikeValues (with_element_from v.secrecy v i x) (with_element_from v'.secrecy v' i x')
 with_element_from_alike i {x = x} (plains shape words) m =
-    to_equal (λ ws. done (plain shape (set words i (first_word ws)))) (like_seen m) (plain_alike shape (set words i (first_word (seen x))))
+    to_equal (λ ws. done (plain shape (set words i (first_word ws)))) (like_seen m) (plain_alike shape (set words i (first_word (visible_words x))))
 with_element_from_alike i (unmade shape words) m = with_element_private None i (unmade shape words) m
 with_element_from_alike i (made shape k words words' e) m = with_element_private (Some k) i (made shape k words words' e) m
 
-pub with_element_alike : (line : ℕ) {v v' i i' x x' : Value} → LikeValues v v' → LikeValues i i' → LikeValues x x' → Alike LikeValues (with_element line v i x) (with_element line v' i' x')
+pub with_element_alike : (line : ℕ) {v v' i i' x x' : Value} → LikeValues v v' → LikeValues i i' → LikeValues x x'
+    → Alike LikeValues (with_element line v i x) (with_element line v' i' x')
 with_element_alike line {v' = v'} {i = i} {x' = x'} l m h =
     any_bind (charge_alike 1) (λ _ _. any_bind (inside_alike line l m) (λ _ _.
     to_equal (λ p. with_element_from v'.secrecy v' p x') (same_position m) (with_element_from_alike (position i) l h)))
@@ -183,7 +207,8 @@ asserted_alike line l = any_bind (charge_alike 1) (λ _ _. test_equal trap.Asser
 
 -- ---- PRODUCTS WITH KNOWN WORDS
 
-product_alike : (op : BinaryOperator) (ds : Operands) (scalar : Bool) {x x' : Value} {known known' : List ℕ} (words words' : List ℕ) → LikeValues x x' → known ≡ known' → length words ≡ length words' → Alike LikeValues (product_with op ds scalar x known words) (product_with op ds scalar x' known' words')
+product_alike : (op : BinaryOperator) (ds : Operands) (scalar : Bool) {x x' : Value} {known known' : List ℕ} (words words' : List ℕ) → LikeValues x x'
+    → known ≡ known' → length words ≡ length words' → Alike LikeValues (product_with op ds scalar x known words) (product_with op ds scalar x' known' words')
 product_alike op ds scalar {x' = x'} {known = known} words words' l g e =
     to_equal (λ ks. product_with op ds scalar x' ks words') g
     (same_bind (value_number_alike l) (λ j. same_bind (stretched_alike scalar (length known) j) (λ u.
@@ -207,30 +232,75 @@ module _ (o : Offered) where
   draws e = draw_equal clear e
 
   -- the run in the clear opens the words, and the other takes them
-  revealed_alike : (secrecy : Secrecy) (shape : Shape) (words words' : List ℕ) → length words ≡ length words' → Alike LikeValues (revealed clear (record { secrecy = secrecy; shape = shape; words = words })) (revealed unseen (record { secrecy = secrecy; shape = shape; words = words' }))
-  revealed_alike secrecy shape words words' e = record { from = λ s. record { words = read; opened = refl; same = λ more events like. told s more events like } }
+  revealed_alike : (secrecy : Secrecy) (shape : Shape) (words words' : List ℕ) → length words ≡ length words'
+      → Alike LikeValues (revealed clear (record { secrecy = secrecy; shape = shape; words = words }))
+      (revealed unseen (record { secrecy = secrecy; shape = shape; words = words' }))
+  revealed_alike secrecy shape words words' e =
+      record { from = λ s. record { words = read; opened = refl; same = λ more events like. told s more events like } }
     where
       read : List ℕ
       read = read_answer shape.element words
 
-      last : (s : Stage) (more : List ℕ) (events : List Event) → LikeEvents s.events events → (ws : List ℕ) → ws ≡ read → SameOutcome LikeValues more (revealed clear (record { secrecy = secrecy; shape = shape; words = words }) s) (Ok (plain shape ws, record s { answers = more; events = events ++ event.Open (elements_of (plain shape ws)) ∷ []; opened = s.opened ++ ws }))
+      last : (s : Stage) (more : List ℕ) (events : List Event) → LikeEvents s.events events → (ws : List ℕ) → ws ≡ read
+          → SameOutcome LikeValues more (revealed clear (record { secrecy = secrecy; shape = shape; words = words }) s)
+          (Ok (plain shape ws, record s { answers = more; events = events ++ event.Open (elements_of (plain shape ws)) ∷ []; opened = s.opened ++ ws }))
       last s more events like ws g =
-          subst (λ ws. SameOutcome LikeValues more (revealed clear (record { secrecy = secrecy; shape = shape; words = words }) s) (Ok (plain shape ws, record s { answers = more; events = events ++ event.Open (elements_of (plain shape ws)) ∷ []; opened = s.opened ++ ws }))) (sym g)
-          (plains shape read, record { events = events ++ event.Open (elements_of (plain shape read)) ∷ []; like = AllZip-push LikeEvent s.events events (event.Open (elements_of (plain shape read))) (event.Open (elements_of (plain shape read))) like refl; stage = refl })
+          subst (λ ws. SameOutcome LikeValues more (revealed clear (record { secrecy = secrecy; shape = shape; words = words }) s)
+          (Ok (
+            plain shape ws,
+            record s {
+              answers = more;
+              events = events ++ event.Open (elements_of (plain shape ws)) ∷ [];
+              opened =
+                  s.opened ++ ws;
+            },
+          ))) (sym g) (
+            plains shape read,
+            record {
+              events = events ++ event.Open (elements_of (plain shape read)) ∷ [];
+              like =
+                  AllZip-push LikeEvent s.events events (event.Open (elements_of (plain shape read)))
+                  (event.Open (elements_of (plain shape read))) like refl;
+              stage = refl;
+            },
+          )
 
-      behind : (s : Stage) (more : List ℕ) (events : List Event) → LikeEvents s.events events → (answers : List ℕ) (enough : Bool) (front back : List ℕ) → enough ≡ true → front ≡ read → back ≡ more → SameOutcome LikeValues more (revealed clear (record { secrecy = secrecy; shape = shape; words = words }) s) (carry (cond enough (Ok (front, record (retold answers events s) { answers = back })) (Err (Short, retold answers events s))) (λ ws. show (read_answer shape.element ws) >>= λ _. emit (event.Open (elements_of (plain shape (read_answer shape.element ws)))) >>= λ _. done (plain shape (read_answer shape.element ws))))
+      behind : (s : Stage) (more : List ℕ) (events : List Event) → LikeEvents s.events events
+          → (answers : List ℕ) (enough : Bool) (front back : List ℕ) → enough ≡ true → front ≡ read → back ≡ more
+          → SameOutcome LikeValues more (revealed clear (record { secrecy = secrecy; shape = shape; words = words }) s)
+          (carry (cond enough (Ok (front, record (retold answers events s) { answers = back })) (Err (Short, retold answers events s)))
+          (λ ws. show (read_answer shape.element ws) >>= λ _. emit (event.Open (elements_of (plain shape (read_answer shape.element ws)))) >>= λ _.
+          done (plain shape (read_answer shape.element ws))))
       behind s more events like answers false front back t f b = absurd (cc)
       behind s more events like answers true front back t f b =
-          subst (λ z. SameOutcome LikeValues more (revealed clear (record { secrecy = secrecy; shape = shape; words = words }) s) (Ok (plain shape (read_answer shape.element front), record s { answers = z; events = events ++ event.Open (elements_of (plain shape (read_answer shape.element front))) ∷ []; opened = s.opened ++ read_answer shape.element front }))) (sym b)
+          subst (λ z. SameOutcome LikeValues more (revealed clear (record { secrecy = secrecy; shape = shape; words = words }) s)
+          (Ok (
+            plain shape (read_answer shape.element front),
+            record s {
+              answers = z;
+              events = events ++ event.Open (elements_of (plain shape (read_answer shape.element front))) ∷ [];
+              opened =
+                  s.opened ++ read_answer shape.element front;
+            },
+          ))) (sym b)
           (last s more events like (read_answer shape.element front) (ap (λ ws. read_answer shape.element ws) f ∙ read_again shape.element words))
 
-      told : (s : Stage) (more : List ℕ) (events : List Event) → LikeEvents s.events events → SameOutcome LikeValues more (revealed clear (record { secrecy = secrecy; shape = shape; words = words }) s) (revealed unseen (record { secrecy = secrecy; shape = shape; words = words' }) (retold (read ++ more) events s))
+      told : (s : Stage) (more : List ℕ) (events : List Event) → LikeEvents s.events events
+          → SameOutcome LikeValues more (revealed clear (record { secrecy = secrecy; shape = shape; words = words }) s)
+          (revealed unseen (record { secrecy = secrecy; shape = shape; words = words' }) (retold (read ++ more) events s))
       told s more events like =
           let n : length read ≡ length words' = answer_length shape.element words ∙ e in
-          subst (λ m. SameOutcome LikeValues more (revealed clear (record { secrecy = secrecy; shape = shape; words = words }) s) (carry (next_answers m (retold (read ++ more) events s)) (λ ws. show (read_answer shape.element ws) >>= λ _. emit (event.Open (elements_of (plain shape (read_answer shape.element ws)))) >>= λ _. done (plain shape (read_answer shape.element ws))))) n
-          (behind s more events like (read ++ more) (nat_le (length read) (length (read ++ more))) (take (length read) (read ++ more)) (drop (length read) (read ++ more)) (are_enough read more) (take-append_seam read more) (drop-append_seam read more))
+          subst (λ m. SameOutcome LikeValues more (revealed clear (record { secrecy = secrecy; shape = shape; words = words }) s)
+          (carry (next_answers m (retold (read ++ more) events s))
+          (λ ws. show (read_answer shape.element ws) >>= λ _. emit (event.Open (elements_of (plain shape (read_answer shape.element ws)))) >>=
+          λ _. done (plain shape (read_answer shape.element ws))))) n
+          (behind s more events like (read ++ more) (nat_le (length read) (length (read ++ more))) (take (length read) (read ++ more))
+          (drop (length read) (read ++ more)) (are_enough read more) (take-append_seam read more) (drop-append_seam read more))
 
-  opened_private : (k : Option ℕ) (shape : Shape) (words words' : List ℕ) → LikeValues (record { secrecy = Private k; shape = shape; words = words }) (record { secrecy = Private k; shape = shape; words = words' }) → Alike LikeValues (opened_from clear (Private k) (record { secrecy = Private k; shape = shape; words = words })) (opened_from unseen (Private k) (record { secrecy = Private k; shape = shape; words = words' }))
+  opened_private : (k : Option ℕ) (shape : Shape) (words words' : List ℕ)
+      → LikeValues (record { secrecy = Private k; shape = shape; words = words }) (record { secrecy = Private k; shape = shape; words = words' })
+      → Alike LikeValues (opened_from clear (Private k) (record { secrecy = Private k; shape = shape; words = words }))
+      (opened_from unseen (Private k) (record { secrecy = Private k; shape = shape; words = words' }))
   opened_private k shape words words' l =
       any_bind (draws (ap words_each (like_size l))) (λ _ _. same_bind (value_number_alike l) (λ u.
       same_bind (gate_alike (Open (ring_for shape.element) u)) (λ _. revealed_alike (Private k) shape words words' (like_size l))))
@@ -243,7 +313,8 @@ module _ (o : Offered) where
   pub declassified_alike : {v v' : Value} → LikeValues v v' → Alike LikeValues (declassified clear v) (declassified unseen v')
   declassified_alike l = any_bind (sized_alike l) (λ _ _. opened_from_alike l)
 
-  private_alike : (op : BinaryOperator) (ds : Operands) {x x' y y' : Value} → LikeValues x x' → LikeValues y y' → Alike LikeValues (private_result clear op ds x y) (private_result unseen op ds x' y')
+  private_alike : (op : BinaryOperator) (ds : Operands) {x x' y y' : Value} → LikeValues x x' → LikeValues y y'
+      → Alike LikeValues (private_result clear op ds x y) (private_result unseen op ds x' y')
   private_alike op ds {x = x} {y = y} l m =
       let n = W.result_size ds x y in
       let e = same_result_size ds l m in
@@ -253,30 +324,40 @@ module _ (o : Offered) where
       same_bind (to_equal (λ n. operator_gates op n u v) e (operator_alike op n u v)) (λ r.
       result_alike refl (result_length op ds l m) r))))))
 
-  combined_alike : (op : BinaryOperator) (ds : Operands) {x x' y y' : Value} → LikeValues x x' → LikeValues y y' → Alike LikeValues (combined_from x.secrecy y.secrecy clear op ds x y) (combined_from x'.secrecy y'.secrecy unseen op ds x' y')
+  combined_alike : (op : BinaryOperator) (ds : Operands) {x x' y y' : Value} → LikeValues x x' → LikeValues y y'
+      → Alike LikeValues (combined_from x.secrecy y.secrecy clear op ds x y) (combined_from x'.secrecy y'.secrecy unseen op ds x' y')
   combined_alike op ds (plains s a) (plains t b) = plain_alike (result_shape op ds) (W.result_words op ds (plain s a) (plain t b))
   combined_alike op ds (plains s a) (unmade t b) =
-      product_alike op ds (is_scalar_right ds) (W.result_words op ds _ _) (W.result_words op ds _ _) (unmade t b) (same_left ds (plain s a) (unmade t b)) (result_length op ds (plains s a) (unmade t b))
+      product_alike op ds (is_scalar_right ds) (W.result_words op ds _ _) (W.result_words op ds _ _) (unmade t b)
+      (same_left ds (plain s a) (unmade t b)) (result_length op ds (plains s a) (unmade t b))
   combined_alike op ds (plains s a) (made t k b b' e) =
-      product_alike op ds (is_scalar_right ds) (W.result_words op ds _ _) (W.result_words op ds _ _) (made t k b b' e) (same_left ds (plain s a) (made t k b b' e)) (result_length op ds (plains s a) (made t k b b' e))
+      product_alike op ds (is_scalar_right ds) (W.result_words op ds _ _) (W.result_words op ds _ _) (made t k b b' e)
+      (same_left ds (plain s a) (made t k b b' e)) (result_length op ds (plains s a) (made t k b b' e))
   combined_alike op ds (unmade s a) (plains t b) =
-      product_alike op ds (is_scalar_left ds) (W.result_words op ds _ _) (W.result_words op ds _ _) (unmade s a) (same_right ds (plain t b) (unmade s a)) (result_length op ds (unmade s a) (plains t b))
+      product_alike op ds (is_scalar_left ds) (W.result_words op ds _ _) (W.result_words op ds _ _) (unmade s a)
+      (same_right ds (plain t b) (unmade s a)) (result_length op ds (unmade s a) (plains t b))
   combined_alike op ds (unmade s a) (unmade t b) = private_alike op ds (unmade s a) (unmade t b)
   combined_alike op ds (unmade s a) (made t k b b' e) = private_alike op ds (unmade s a) (made t k b b' e)
   combined_alike op ds (made s j a a' d) (plains t b) =
-      product_alike op ds (is_scalar_left ds) (W.result_words op ds _ _) (W.result_words op ds _ _) (made s j a a' d) (same_right ds (plain t b) (made s j a a' d)) (result_length op ds (made s j a a' d) (plains t b))
+      product_alike op ds (is_scalar_left ds) (W.result_words op ds _ _) (W.result_words op ds _ _) (made s j a a' d)
+      (same_right ds (plain t b) (made s j a a' d)) (result_length op ds (made s j a a' d) (plains t b))
   combined_alike op ds (made s j a a' d) (unmade t b) = private_alike op ds (made s j a a' d) (unmade t b)
   combined_alike op ds (made s j a a' d) (made t k b b' e) = private_alike op ds (made s j a a' d) (made t k b b' e)
 
-  traps_alike : (line : ℕ) (op : BinaryOperator) (ds : Operands) {x x' y y' : Value} → LikeValues x x' → LikeValues y y' → Alike (Any {A = Unit {0}} {B = Unit {0}}) (operator_traps line op ds x y) (operator_traps line op ds x' y')
-  traps_alike line op ds l m = any_bind (test_equal trap.Length line (same_are_alike ds l m)) (λ _ _. test_equal trap.Div line (ap (W.may_divide op) (like_seen m)))
+  traps_alike : (line : ℕ) (op : BinaryOperator) (ds : Operands) {x x' y y' : Value} → LikeValues x x' → LikeValues y y'
+      → Alike (Any {A = Unit {0}} {B = Unit {0}}) (operator_traps line op ds x y) (operator_traps line op ds x' y')
+  traps_alike line op ds l m =
+      any_bind (test_equal trap.Length line (same_are_alike ds l m)) (λ _ _. test_equal trap.Div line (ap (W.may_divide op) (like_seen m)))
 
-  pub operated_alike : (line : ℕ) (op : BinaryOperator) (ds : Operands) {x x' y y' : Value} → LikeValues x x' → LikeValues y y' → Alike LikeValues (operated clear line op ds x y) (operated unseen line op ds x' y')
+  pub operated_alike : (line : ℕ) (op : BinaryOperator) (ds : Operands) {x x' y y' : Value} → LikeValues x x' → LikeValues y y'
+      → Alike LikeValues (operated clear line op ds x y) (operated unseen line op ds x' y')
   operated_alike line op ds l m = any_bind (charged_alike (traps_alike line op ds l m) (same_result_size ds l m)) (λ _ _. combined_alike op ds l m)
 
-  pub operation_alike : (line : ℕ) (op : BinaryOperator) (ds : Operands) {x x' y y' : Value} → LikeValues x x' → LikeValues y y' → Alike LikeValues (operation clear line op ds x y) (operation unseen line op ds x' y')
+  pub operation_alike : (line : ℕ) (op : BinaryOperator) (ds : Operands) {x x' y y' : Value} → LikeValues x x' → LikeValues y y'
+      → Alike LikeValues (operation clear line op ds x y) (operation unseen line op ds x' y')
   operation_alike line op ds l m =
-      alike_bind (wanted_equal (same_classified op l m) l) (λ a a' p. alike_bind (wanted_equal (same_classified op m l) m) (λ b b' q. operated_alike line op ds p q))
+      alike_bind (wanted_equal (same_classified op l m) l)
+      (λ a a' p. alike_bind (wanted_equal (same_classified op m l) m) (λ b b' q. operated_alike line op ds p q))
 
   changed_alike : (c : Cast) {v v' : Value} → LikeValues v v' → Alike LikeValues (changed clear c v) (changed unseen c v')
   changed_alike c {v = v} {v' = v'} l =
@@ -313,7 +394,8 @@ module _ (o : Offered) where
       let e = ap (λ n. 64 * n) (like_size l) in
       any_bind (charged_alike (too_large_alike line e) e) (λ _ _. bits_from_alike l)
 
-  handed_private : (k : Option ℕ) {v v' : Value} → LikeValues v v' → Alike (Any {A = Unit {0}} {B = Unit {0}}) (handed_over clear (Private k) v) (handed_over unseen (Private k) v')
+  handed_private : (k : Option ℕ) {v v' : Value} → LikeValues v v'
+      → Alike (Any {A = Unit {0}} {B = Unit {0}}) (handed_over clear (Private k) v) (handed_over unseen (Private k) v')
   handed_private k l =
       any_bind (draws (ap words_each (like_size l))) (λ _ _. same_bind (value_number_alike l) (λ u.
       same_bind (gate_equal (ap (λ (s : Shape). gates.Result (ring_for s.element) u) (like_shape l))) (λ _. alike_done tt)))
@@ -326,6 +408,8 @@ module _ (o : Offered) where
   same_length : {v v' : Value} → LikeValues v v' → length (elements_of v) ≡ length (elements_of v')
   same_length {v = v} {v' = v'} l = length-map v.words (element_of v.shape.element) ∙ like_size l ∙ sym (length-map v'.words (element_of v'.shape.element))
 
-  pub published_alike : (text : List ℕ) {v v' : Value} → LikeValues v v' → Alike (Any {A = Unit {0}} {B = Unit {0}}) (published clear text v) (published unseen text v')
+  pub published_alike : (text : List ℕ) {v v' : Value} → LikeValues v v'
+      → Alike (Any {A = Unit {0}} {B = Unit {0}}) (published clear text v) (published unseen text v')
   published_alike text {v = v} {v' = v'} l =
-      any_bind (sized_alike l) (λ _ _. any_bind (handed_alike l) (λ _ _. emit_alike (event.Publish text (elements_of v)) (event.Publish text (elements_of v')) (refl, same_length l)))
+      any_bind (sized_alike l) (λ _ _. any_bind (handed_alike l)
+      (λ _ _. emit_alike (event.Publish text (elements_of v)) (event.Publish text (elements_of v')) (refl, same_length l)))

@@ -3,7 +3,7 @@ use Rattle.std.proofs.Common.{◌≡◌, ℕ, ◌+◌, true, false, if◌then◌
 use Rattle.proto_core.specs.declared.party.Number.{Number}
 use Rattle.proto_core.specs.declared.link.Link.{Link}
 use Rattle.proto_core.specs.Parties.{sender_of, receiver_of}
-use Rattle.proto_core.specs.Strand.{Shape, same_link, Mail, Strand, Ends, Acts, Waits, then_do, opened_in}
+use Rattle.proto_core.specs.Strand.{Shape, same_link, Mail, Strand, Ends, then_do, opened_in}
 use Rattle.proto_core.specs.Script.{Move, Sends, Takes, Moves, EndsWith, Matched, UsesOwnLinks, sends_on, takes_on}
 use Rattle.proto_core.specs.Net.{added, nothing, run_of, opened_by, Finishes}
 use Rattle.proto_core.specs.Protocol.{Joint, Protocol, Fits, Sound, strands_of, AreMessages, AreBlocks}
@@ -12,8 +12,11 @@ use Rattle.proto_core.proofs.Strands.{opened-append}
 use Rattle.proto_core.proofs.Nets.{finishes-both, run-both}
 use Rattle.protocol_model.proofs.Scripts.{moves-then}
 use Rattle.protocol_model.proofs.GateRuns.{into-nothing, sends_on-append}
-use Rattle.blocked_protocol.specs.Blocked.{total, joined, no_elements, front, behind, blocks_strand, blocks_script, blocks_messages, blocks_output, blocks_opened, in_blocks, IsCut, sums, Blockable}
-use Rattle.blocked_protocol.proofs.Fitting.{itself, front-length, behind-length, fits-front, fits-behind, fits-whole, sizes-joined, sizes-none, blocks-joined, blocks-none}
+use Rattle.protocol_model.proofs.Slots.{ends_then}
+use Rattle.blocked_protocol.specs.Blocked.{total, joined, no_elements, front, behind, blocks_strand, blocks_script, blocks_messages, blocks_output}
+use Rattle.blocked_protocol.specs.Blocked.{blocks_opened, in_blocks, IsCut, sums, Blockable}
+use Rattle.blocked_protocol.proofs.Fitting.{itself, front-length, behind-length, fits-front, fits-behind, fits-whole, sizes-joined, sizes-none}
+use Rattle.blocked_protocol.proofs.Fitting.{blocks-joined, blocks-none}
 
 -- ---- scripts one after another
 
@@ -21,7 +24,8 @@ takes_on-append : (l : Link) (xs ys : List Move) → takes_on l (xs ++ ys) ≡ t
 takes_on-append l [] ys = refl
 takes_on-append l (Sends k shape ∷ xs) ys = takes_on-append l xs ys
 takes_on-append l (Takes k shape ∷ xs) ys =
-    elim (same_link l k) as (λ b. (if b then shape ∷ takes_on l (xs ++ ys) else takes_on l (xs ++ ys)) ≡ (if b then shape ∷ takes_on l xs else takes_on l xs) ++ takes_on l ys)
+    elim (same_link l k) as (λ b. (if b then shape ∷ takes_on l (xs ++ ys) else takes_on l (xs ++ ys))
+    ≡ (if b then shape ∷ takes_on l xs else takes_on l xs) ++ takes_on l ys)
     [ true ↦ ap (λ v. shape ∷ v) (takes_on-append l xs ys) | false ↦ takes_on-append l xs ys ]
 
 links-append : (i : Number) (xs ys : List Move) → UsesOwnLinks i xs → UsesOwnLinks i ys → UsesOwnLinks i (xs ++ ys)
@@ -37,13 +41,6 @@ messages-append (shape ∷ s) t [] ys h k = absurd h
 messages-append (shape ∷ s) t (x ∷ xs) ys h k = (h.0, messages-append s t xs ys h.1 k)
 
 -- ---- strands one after another
-
-ends-then :
-    {A B : Type 0} (P : A → Type 0) (Q : B → Type 0) (s : Strand A) (f : A → Strand B) → EndsWith P s →
-    ((a : A) → P a → EndsWith Q (f a)) → EndsWith Q (then_do s f)
-ends-then P Q (Ends a) f h k = k a h
-ends-then P Q (Acts a s) f h k = ends-then P Q s f h k
-ends-then P Q (Waits l shape g) f h k = λ m e. ends-then P Q (g m) f (h m e) k
 
 -- where nothing is left to do
 at_end : {B : Type 0} (outputs : Number → B) → Finishes (λ i. Ends (outputs i)) nothing outputs
@@ -91,7 +88,8 @@ module _ (p : Protocol) (blockable : Blockable p) (sound : Sound p) where
       then_do (blocks_strand p sizes i (drop m u) (drop (p.second m) v) (drop (p.draws m i) words))
       (λ later. Ends (joined here later))
 
-  module _ (m : ℕ) (sizes : List ℕ) (i : Number) (u v words : List ℕ) (hu : length u ≡ m + total sizes) (hv : length v ≡ p.second (m + total sizes)) (hw : length words ≡ p.draws (m + total sizes) i) where
+  module _ (m : ℕ) (sizes : List ℕ) (i : Number) (u v words : List ℕ) (hu : length u ≡ m + total sizes) (hv : length v ≡ p.second (m + total sizes))
+      (hw : length words ≡ p.draws (m + total sizes) i) where
     first-moves : Moves (p.strand m i (take m u) (take (p.second m) v) (take (p.draws m i) words)) (p.script m i)
     first-moves =
         sound.moves m i _ _ _ (front-length (λ k. k) itself m (total sizes) u hu)
@@ -120,11 +118,11 @@ module _ (p : Protocol) (blockable : Blockable p) (sound : Sound p) where
       EndsWith (λ blocks. map length blocks ≡ p.made (total sizes)) (blocks_strand p sizes i u v words)
   blocks-sized [] i u v words hu hv hw = sizes-none (p.made 0) ∙ blockable.made_none
   blocks-sized (m ∷ sizes) i u v words hu hv hw =
-      ends-then (λ here. map length here ≡ p.made m) (λ blocks. map length blocks ≡ p.made (m + total sizes))
+      ends_then (λ here. map length here ≡ p.made m) (λ blocks. map length blocks ≡ p.made (m + total sizes))
       (p.strand m i (take m u) (take (p.second m) v) (take (p.draws m i) words)) (goes_on m sizes i u v words)
       (first-sized m sizes i u v words hu hv hw)
       (λ here e.
-      ends-then (λ later. map length later ≡ p.made (total sizes)) (λ blocks. map length blocks ≡ p.made (m + total sizes))
+      ends_then (λ later. map length later ≡ p.made (total sizes)) (λ blocks. map length blocks ≡ p.made (m + total sizes))
       (blocks_strand p sizes i (drop m u) (drop (p.second m) v) (drop (p.draws m i) words)) (λ later. Ends (joined here later))
       (blocks-sized sizes i _ _ _ (left_u m sizes i u v words hu hv hw) (left_v m sizes i u v words hu hv hw) (left_words m sizes i u v words hu hv hw))
       (λ later f.

@@ -8,7 +8,7 @@ use Rattle.proto_core.specs.Elementwise.{plus, minus}
 use Rattle.proto_core.specs.Protocol.{Joint, Protocol, Fits, Lawful, AreBlocks}
 use Rattle.proto_core.proofs.MessageFields.{take-front, drop-front}
 use Rattle.proto_core.proofs.ResharingLaws.{length-sum_of_three}
-use Rattle.protocol_model.specs.Gates.{value_at}
+use Rattle.protocol_model.specs.Gates.{nth_value}
 use Rattle.multiply.specs.Products.{times}
 use Rattle.multiply.specs.Multiplying.{mul_protocol}
 use Rattle.multiply.specs.MultiplyingLaws.{mul_lawful}
@@ -26,11 +26,13 @@ use Rattle.blocked_protocol.proofs.Fitting.{fits-front, fits-behind, fits-whole}
 use Rattle.blocked_protocol.proofs.BlockRuns.{in_blocks-sound, blocks-made}
 use Rattle.blocked_protocol.proofs.BlockViews.{in_blocks-private, same_words}
 use Rattle.blocked_protocol.proofs.Blockables.{mul-blockable, open-blockable, reshare-blockable, conv-blockable, split-blockable}
-use Rattle.blocked_protocol.proofs.Cuts.{sum-cut, times-cut, plus-cut, minus-cut, xor_bits-cut, sum-none, times-none, plus-none, minus-none, xor_bits-none, two-ends}
+use Rattle.blocked_protocol.proofs.Cuts.{sum-cut, times-cut, plus-cut, minus-cut, xor_bits-cut, sum-none, times-none, plus-none, minus-none}
+use Rattle.blocked_protocol.proofs.Cuts.{xor_bits-none, two-ends}
 
 -- ---- any protocol
 
-module _ (p : Protocol) (blockable : Blockable p) (Clear : ℕ → Joint → Type 0) (lawful : Lawful p Clear) (R : Outcome) (by_elements : Elementwise p R) (clear_makes : (n : ℕ) (j : Joint) → Clear n j → Makes p R n j) where
+module _ (p : Protocol) (blockable : Blockable p) (Clear : ℕ → Joint → Type 0) (lawful : Lawful p Clear) (R : Outcome) (by_elements : Elementwise p R)
+    (clear_makes : (n : ℕ) (j : Joint) → Clear n j → Makes p R n j) where
   blocks-outcome : (sizes : List ℕ) (j : Joint) → Fits p (total sizes) j → R (total sizes) j (blocks_output p sizes j) (blocks_opened p sizes j)
   blocks-outcome [] j fits = by_elements.none j
   blocks-outcome (m ∷ sizes) j fits =
@@ -54,21 +56,23 @@ module _ (p : Protocol) (blockable : Blockable p) (Clear : ℕ → Joint → Typ
 
 -- ---- blocks end to end
 
-first-joined : (a b : ℕ) (s t : List ℕ) (xs ys : List (List ℕ)) → AreBlocks (a ∷ s) xs → AreBlocks (b ∷ t) ys → value_at (joined xs ys) 0 ≡ value_at xs 0 ++ value_at ys 0
+first-joined : (a b : ℕ) (s t : List ℕ) (xs ys : List (List ℕ)) → AreBlocks (a ∷ s) xs → AreBlocks (b ∷ t) ys
+    → nth_value (joined xs ys) 0 ≡ nth_value xs 0 ++ nth_value ys 0
 first-joined a b s t [] ys h k = absurd h
 first-joined a b s t (x ∷ xs) [] h k = absurd k
 first-joined a b s t (x ∷ xs) (y ∷ ys) h k = refl
 
-first-sized : (a : ℕ) (s : List ℕ) (xs : List (List ℕ)) → AreBlocks (a ∷ s) xs → length (value_at xs 0) ≡ a
+first-sized : (a : ℕ) (s : List ℕ) (xs : List (List ℕ)) → AreBlocks (a ∷ s) xs → length (nth_value xs 0) ≡ a
 first-sized a s [] h = absurd h
 first-sized a s (x ∷ xs) h = h.0.len
 
-second-joined : (a b c d : ℕ) (s t : List ℕ) (xs ys : List (List ℕ)) → AreBlocks (a ∷ b ∷ s) xs → AreBlocks (c ∷ d ∷ t) ys → value_at (joined xs ys) 1 ≡ value_at xs 1 ++ value_at ys 1
+second-joined : (a b c d : ℕ) (s t : List ℕ) (xs ys : List (List ℕ)) → AreBlocks (a ∷ b ∷ s) xs → AreBlocks (c ∷ d ∷ t) ys
+    → nth_value (joined xs ys) 1 ≡ nth_value xs 1 ++ nth_value ys 1
 second-joined a b c d s t [] ys h k = absurd h
 second-joined a b c d s t (x ∷ xs) [] h k = absurd k
 second-joined a b c d s t (x ∷ xs) (y ∷ ys) h k = first-joined b d s t xs ys h.1 k.1
 
-second-sized : (a b : ℕ) (s : List ℕ) (xs : List (List ℕ)) → AreBlocks (a ∷ b ∷ s) xs → length (value_at xs 1) ≡ b
+second-sized : (a b : ℕ) (s : List ℕ) (xs : List (List ℕ)) → AreBlocks (a ∷ b ∷ s) xs → length (nth_value xs 1) ≡ b
 second-sized a b s [] h = absurd h
 second-sized a b s (x ∷ xs) h = first-sized b s xs h.1
 
@@ -155,13 +159,14 @@ converted-elementwise =
           ∙ sym (xor_bits-cut m n (j.u One) (j.u Two) (j.u Three));
     }
 
-joined-none : (negated : Bool) (x y : List ℕ) → splitting.joined negated 0 x y ≡ []
+joined-none : (negated : Bool) (x y : List ℕ) → splitting.sum_or_difference negated 0 x y ≡ []
 joined-none false x y = plus-none add_ring x y
 joined-none true x y = minus-none add_ring x y
 
 joined-ends :
     (negated : Bool) (m n : ℕ) (x1 x2 y1 y2 : List ℕ) → length x1 ≡ m → length y1 ≡ m →
-    splitting.joined negated (m + n) (x1 ++ x2) (y1 ++ y2) ≡ splitting.joined negated m x1 y1 ++ splitting.joined negated n x2 y2
+    splitting.sum_or_difference negated (m + n) (x1 ++ x2) (y1 ++ y2)
+    ≡ splitting.sum_or_difference negated m x1 y1 ++ splitting.sum_or_difference negated n x2 y2
 joined-ends false m n x1 x2 y1 y2 hx hy = two-ends (plus add_ring) m n (plus-cut add_ring m n) x1 x2 y1 y2 hx hy
 joined-ends true m n x1 x2 y1 y2 hx hy = two-ends (minus add_ring) m n (minus-cut add_ring m n) x1 x2 y1 y2 hx hy
 
@@ -170,9 +175,9 @@ split-elementwise negated =
     record {
       none = λ j. joined-none negated _ _ ∙ sym (sum-none add_ring _ _ _);
       more = λ m n j x y a b hx hy e f.
-          ap (λ w. splitting.joined negated (m + n) w (value_of xor_ring (m + n) (nth 1 (λ i. joined (x i) (y i)))))
+          ap (λ w. splitting.sum_or_difference negated (m + n) w (value_of xor_ring (m + n) (nth 1 (λ i. joined (x i) (y i)))))
           (value-first xor_ring m n (m ∷ []) (n ∷ []) x y hx hy)
-          ∙ ap (λ w. splitting.joined negated (m + n) (value_of xor_ring m (nth 0 x) ++ value_of xor_ring n (nth 0 y)) w)
+          ∙ ap (λ w. splitting.sum_or_difference negated (m + n) (value_of xor_ring m (nth 0 x) ++ value_of xor_ring n (nth 0 y)) w)
           (value-second xor_ring m n x y hx hy)
           ∙ joined-ends negated m n _ _ _ _ (length-value xor_ring m n (nth 0 x)) (length-value xor_ring m n (nth 1 x))
           ∙ both _ _ _ _ e f
@@ -202,4 +207,5 @@ module _ (cut : ℕ → List ℕ) (is_cut : IsCut cut) where
       (negated : Bool) →
       Lawful (in_blocks (splitting.split_protocol negated) cut) (Makes (in_blocks (splitting.split_protocol negated) cut) (IsSplit negated))
   split_whole negated =
-      in_blocks-lawful (splitting.split_protocol negated) (split-blockable negated) _ (split_lawful negated) (IsSplit negated) (split-elementwise negated) (λ n j h. h) cut is_cut
+      in_blocks-lawful (splitting.split_protocol negated) (split-blockable negated) _ (split_lawful negated) (IsSplit negated)
+      (split-elementwise negated) (λ n j h. h) cut is_cut

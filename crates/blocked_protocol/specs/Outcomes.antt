@@ -6,7 +6,7 @@ use Rattle.proto_core.specs.declared.party.Number.{Number}
 use Rattle.proto_core.specs.declared.party.Number.TheVariants.{One, Two, Three}
 use Rattle.proto_core.specs.Protocol.{Joint, Protocol, AreBlocks}
 use Rattle.proto_core.specs.Resharing.{sum_of_three}
-use Rattle.protocol_model.specs.Gates.{value_at}
+use Rattle.protocol_model.specs.Gates.{nth_value}
 use Rattle.multiply.specs.Products.{times}
 use Rattle.share_convert.specs.Bits.{xor_bits_of_three}
 use Rattle.split_share.specs.Splitting as splitting
@@ -36,7 +36,7 @@ value_of r n s = sum_of_three r n (s One) (s Two) (s Three)
 
 -- each miner's block of a number, counted from 0
 abbrev pub nth : ℕ → (Number → List (List ℕ)) → Number → List ℕ
-nth k blocks i = value_at (blocks i) k
+nth k blocks i = nth_value (blocks i) k
 
 -- the product of the two values, element by element
 abbrev pub IsProduct : Ring → Outcome
@@ -57,5 +57,5 @@ IsConverted n j blocks opened = value_of add_ring n (nth 0 blocks) ≡ xor_bits_
 -- two words shared by xor whose sum is the value shared modulo 2^64, or their difference
 abbrev pub IsSplit : Bool → Outcome
 IsSplit negated n j blocks opened =
-    splitting.joined negated n (value_of xor_ring n (nth 0 blocks)) (value_of xor_ring n (nth 1 blocks))
+    splitting.sum_or_difference negated n (value_of xor_ring n (nth 0 blocks)) (value_of xor_ring n (nth 1 blocks))
     ≡ value_of add_ring n j.u

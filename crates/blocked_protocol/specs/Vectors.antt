@@ -9,7 +9,7 @@ use Rattle.proto_core.specs.Protocol.{Joint, Protocol}
 use Rattle.proto_core.specs.Resharing.{reshared}
 use Rattle.multiply.specs.Products.{cross}
 use Rattle.multiply.specs.Multiplying.{mul_protocol}
-use Rattle.multiply.specs.Together.{joint_of}
+use Rattle.proto_core.specs.Joints.{joint_of_two}
 use Rattle.split_share.specs.Splitting.{split_protocol}
 use Rattle.gates.specs.Blocks.{block_sizes}
 use Rattle.blocked_protocol.specs.Blocked.{in_blocks, blocked}
@@ -19,7 +19,7 @@ in_ones = in_blocks (mul_protocol add_ring) (λ n. 1 ∷ 1 ∷ [])
 
 two : Joint
 two =
-    joint_of (0 ∷ 1 ∷ []) (0 ∷ 2 ∷ []) (6 ∷ 3 ∷ []) (0 ∷ 4 ∷ []) (0 ∷ 5 ∷ []) (7 ∷ 6 ∷ [])
+    joint_of_two (0 ∷ 1 ∷ []) (0 ∷ 2 ∷ []) (6 ∷ 3 ∷ []) (0 ∷ 4 ∷ []) (0 ∷ 5 ∷ []) (7 ∷ 6 ∷ [])
     (0 ∷ 0 ∷ 0 ∷ 10 ∷ 20 ∷ 30 ∷ []) (0 ∷ 0 ∷ 0 ∷ 1 ∷ 2 ∷ 3 ∷ []) (0 ∷ 0 ∷ 0 ∷ 7 ∷ 8 ∷ 9 ∷ [])
 
 -- the masks and the factors of the first block, and then those of the second: 3 + 7 - 1 and 6 + 8 - 2

@@ -1,5 +1,6 @@
 -- A whole text: what is written of code is read again, and what is read is what would be written.
-use Rattle.std.proofs.Common.{◌≡◌, ℕ, zero, suc, ◌==◌, ◌||◌, ◌<◌, List, [], ◌∷◌, ◌++◌, length, map, Bool, true, false, Option, None, Some, Ok, Err, refl, sym, ap, ◌∙◌, subst, inl, inr, arith, append-nil, IsTrue, if◌then◌else◌}
+use Rattle.std.proofs.Common.{◌≡◌, ℕ, zero, suc, ◌==◌, ◌||◌, ◌<◌, List, [], ◌∷◌, ◌++◌, length, map, Bool, true, false, Option, None, Some, Ok, Err}
+use Rattle.std.proofs.Common.{refl, sym, ap, ◌∙◌, subst, inl, inr, arith, append-nil, IsTrue, if◌then◌else◌}
 use Rattle.std.proofs.lemmas.Bool.{lt-ltb, ltb-true, eqb-true, or_cases, and_parts}
 use Rattle.std.specs.List.{AllByRecursion as Each, All, flat_map}
 use Rattle.sc_text.specs.Name.{is_name}
@@ -11,13 +12,16 @@ use Rattle.bytecode.specs.Raw.{Raw, RawFunction, RawCode}
 use Rattle.bytecode.specs.Written.{Number, byte, short, bytes_of, instruction_numbers, head_numbers, body_numbers, name_numbers, code_numbers, written_code}
 use Rattle.bytecode.specs.Writable.{Fits, parameters_of, IsProper, AreNewNames, AreProper, IsWritable}
 use Rattle.bytecode.specs.Layouts.{is_name_length, Layout, Makes, Field, Read, read, behind}
-use Rattle.bytecode.specs.Decoded.{repeated, kind_layout, instruction_layout, body_layout, Head, kinds, head_layout, heads_layout, names_layout, function_of, bodies_layout, functions_layout, code_layout, ended, whole, decoded}
+use Rattle.bytecode.specs.Decoded.{repeated, kind_layout, instruction_layout, body_layout, Head, kinds, head_layout, heads_layout, names_layout}
+use Rattle.bytecode.specs.Decoded.{function_of, bodies_layout, functions_layout, code_layout, ended, whole, decoded}
 use Rattle.bytecode.proofs.Layouts.{Spells, layout_reads, AreBytes, Spelled, layout_spelled, behind_spells, behind_apart}
 use Rattle.bytecode.proofs.Instructions.{instruction_spells, instruction_told}
 
 -- ---- kinds
 
-of_parts : (s : Bool) (e : DataType) (a : Bool) → (kind_of (kind_byte (record { secret = s; element = e; array = a })) ≡ record { secret = s; element = e; array = a }) × IsTrue (is_kind (kind_byte (record { secret = s; element = e; array = a })))
+of_parts : (s : Bool) (e : DataType) (a : Bool)
+    → (kind_of (kind_byte (record { secret = s; element = e; array = a })) ≡ record { secret = s; element = e; array = a })
+    × IsTrue (is_kind (kind_byte (record { secret = s; element = e; array = a })))
 of_parts false types.Uint64 false = (refl, refl)
 of_parts true types.Uint64 false = (refl, refl)
 of_parts false types.Bool false = (refl, refl)
@@ -52,7 +56,8 @@ or_left : (a b : Bool) → IsTrue a → IsTrue (a || b)
 or_left true b h = refl
 or_left false b h = cc
 
-not_255 : (s : Bool) (e : DataType) (a : Bool) → return_of (kind_byte (record { secret = s; element = e; array = a })) ≡ Some (kind_of (kind_byte (record { secret = s; element = e; array = a })))
+not_255 : (s : Bool) (e : DataType) (a : Bool)
+    → return_of (kind_byte (record { secret = s; element = e; array = a })) ≡ Some (kind_of (kind_byte (record { secret = s; element = e; array = a })))
 not_255 false types.Uint64 false = refl
 not_255 true types.Uint64 false = refl
 not_255 false types.Bool false = refl
@@ -82,11 +87,13 @@ kind_numbers = map (λ k. byte (kind_byte k))
 all_kinds_spell : (ks : List Kind) → Spells (repeated kind_layout (length ks)) (kind_numbers ks) ks
 all_kinds_spell [] = (refl, refl)
 all_kinds_spell (k ∷ ks) =
-    behind_spells kind_layout (λ k. behind (repeated kind_layout (length ks)) (λ ys. Makes (k ∷ ys))) (byte (kind_byte k) ∷ []) (kind_numbers ks) k (k ∷ ks) (kind_byte k, [], refl, byte_is_kind k, (refl, kind_back k))
+    behind_spells kind_layout (λ k. behind (repeated kind_layout (length ks)) (λ ys. Makes (k ∷ ys))) (byte (kind_byte k) ∷ []) (kind_numbers ks) k
+    (k ∷ ks) (kind_byte k, [], refl, byte_is_kind k, (refl, kind_back k))
     (subst (λ z. Spells (behind (repeated kind_layout (length ks)) (λ ys. Makes (k ∷ ys))) z (k ∷ ks)) (append-nil (kind_numbers ks))
     (behind_spells (repeated kind_layout (length ks)) _ (kind_numbers ks) [] ks (k ∷ ks) (all_kinds_spell ks) (refl, refl)))
 
-kinds_spell : {A : Type 0} (ks : List Kind) (next : List Kind → Layout A) (rest : List Number) (a : A) → Spells (next ks) rest a → Spells (kinds (length ks) next) (kind_numbers ks ++ rest) a
+kinds_spell : {A : Type 0} (ks : List Kind) (next : List Kind → Layout A) (rest : List Number) (a : A) → Spells (next ks) rest a
+    → Spells (kinds (length ks) next) (kind_numbers ks ++ rest) a
 kinds_spell ks next rest a s = behind_spells (repeated kind_layout (length ks)) next (kind_numbers ks) rest ks a (all_kinds_spell ks) s
 
 record KindsTold {A : Type 0} (n : ℕ) (next : List Kind → Layout A) (ns : List Number) (a : A) : Type 0 where
@@ -103,8 +110,11 @@ all_kinds_told (suc n) ns ks h =
     let q = behind_apart (repeated kind_layout n) (λ ys. Makes (k ∷ ys)) h.1 ks h.4 in
     let ih = all_kinds_told n q.first q.value q.firsts in
     let e : (k ∷ q.value) ≡ ks = q.seconds.1 in
-    let tail : h.1 ≡ kind_numbers q.value = q.apart ∙ ap (λ z. q.first ++ z) q.seconds.0 ∙ append-nil q.first ∙ ih.0 in
-    (h.2 ∙ ap (λ z. byte z ∷ h.1) (sym (byte_back h.0 h.3)) ∙ ap (λ z. byte (kind_byte k) ∷ z) tail ∙ ap (λ z. kind_numbers z) e, ap length (sym e) ∙ ap suc ih.1)
+    let tail : h.1 ≡ kind_numbers q.value = q.apart ∙ ap (λ z. q.first ++ z) q.seconds.0 ∙ append-nil q.first ∙ ih.0 in (
+      h.2 ∙ ap (λ z. byte z ∷ h.1) (sym (byte_back h.0 h.3)) ∙ ap (λ z. byte (kind_byte k) ∷ z) tail ∙ ap (λ z. kind_numbers z) e,
+      ap length (sym e)
+          ∙ ap suc ih.1,
+    )
 
 kinds_told : {A : Type 0} (n : ℕ) (next : List Kind → Layout A) (ns : List Number) (a : A) → Spells (kinds n next) ns a → KindsTold n next ns a
 kinds_told n next ns a h =
@@ -134,7 +144,8 @@ head_spells f =
           _,
           refl,
           refl,
-          kinds_spell f.registers _ (short (length f.body) ∷ []) (head_of f) (_, _, refl, refl, (refl, ap (λ g. record { parameters = f.parameters; gives = g; registers = f.registers; instructions = length f.body }) r.0)),
+          kinds_spell f.registers _ (short (length f.body) ∷ []) (head_of f)
+              (_, _, refl, refl, (refl, ap (λ g. record { parameters = f.parameters; gives = g; registers = f.registers; instructions = length f.body }) r.0)),
         ),
       ),
     )
@@ -149,7 +160,8 @@ head_told ns head h =
     let p = h.0 in
     let b = h.4.0 in
     let n = h.4.4.0 in
-    let r = kinds_told n (λ ks. Field _ 2 _ (λ count. Makes (record { parameters = p; gives = return_of b; registers = ks; instructions = count }))) h.4.4.1 head h.4.4.4 in
+    let r = kinds_told n (λ ks. Field _ 2 _ (λ count. Makes (record { parameters = p; gives = return_of b; registers = ks; instructions = count })))
+    h.4.4.1 head h.4.4.4 in
     let s = r.spells in
     let count = s.0 in
     let made : Head = record { parameters = p; gives = return_of b; registers = r.ks; instructions = count } in
@@ -174,7 +186,8 @@ heads_told (suc n) ns hs h =
     let ih = heads_told n q.first q.value q.firsts in
     let e : (r.value ∷ q.value) ≡ hs = q.seconds.1 in
     let tail : r.second ≡ flat_map numbers_of_head q.value = q.apart ∙ ap (λ z. q.first ++ z) q.seconds.0 ∙ append-nil q.first ∙ ih.0 in (
-      r.apart ∙ ap (λ z. z ++ r.second) (head_told r.first r.value r.firsts) ∙ ap (λ z. numbers_of_head r.value ++ z) tail ∙ ap (λ z. flat_map numbers_of_head z) e,
+      r.apart ∙ ap (λ z. z ++ r.second) (head_told r.first r.value r.firsts) ∙ ap (λ z. numbers_of_head r.value ++ z) tail
+          ∙ ap (λ z. flat_map numbers_of_head z) e,
       ap length (sym e) ∙ ap suc ih.1,
     )
 
@@ -192,8 +205,10 @@ names_spell earlier (name ∷ names) h = (
   refl,
   is_name_short name (and_parts _ _ h.0).0,
   h.0,
-  subst (λ z. Spells (behind (names_layout (name ∷ earlier) (length names)) (λ ns. Makes (name ∷ ns))) z (name ∷ names)) (append-nil (flat_map name_numbers names))
-      (behind_spells (names_layout (name ∷ earlier) (length names)) _ (flat_map name_numbers names) [] names (name ∷ names) (names_spell (name ∷ earlier) names h.1) (refl, refl)),
+  subst (λ z. Spells (behind (names_layout (name ∷ earlier) (length names)) (λ ns. Makes (name ∷ ns))) z (name ∷ names))
+      (append-nil (flat_map name_numbers names))
+      (behind_spells (names_layout (name ∷ earlier) (length names)) _ (flat_map name_numbers names) [] names (name ∷ names)
+      (names_spell (name ∷ earlier) names h.1) (refl, refl)),
 )
 
 names_told : (earlier : List (List ℕ)) (n : ℕ) (ns : List Number) (names : List (List ℕ)) → Spells (names_layout earlier n) ns names
@@ -277,7 +292,8 @@ functions_numbers fs = flat_map head_numbers fs ++ flat_map body_numbers fs
 
 functions_spell : (fs : List RawFunction) → AreProper (parameters_of fs) fs → Spells (functions_layout (length fs)) (functions_numbers fs) fs
 functions_spell fs h =
-    behind_spells (heads_layout (length fs)) (λ hs. bodies_layout (map (λ h. h.parameters) hs) hs) (flat_map head_numbers fs) (flat_map body_numbers fs) (map head_of fs) fs (heads_spell fs)
+    behind_spells (heads_layout (length fs)) (λ hs. bodies_layout (map (λ h. h.parameters) hs) hs) (flat_map head_numbers fs)
+    (flat_map body_numbers fs) (map head_of fs) fs (heads_spell fs)
     (subst (λ ps. Spells (bodies_layout ps (map head_of fs)) (flat_map body_numbers fs) fs) (sym (same_parameters fs)) (bodies_spell (parameters_of fs) fs h))
 
 functions_told : (n : ℕ) (ns : List Number) (fs : List RawFunction) → Spells (functions_layout n) ns fs
@@ -327,14 +343,17 @@ code_spells code w = (
             _,
             refl,
             refl,
-            behind_spells (names_layout [] (length code.names)) _ (flat_map name_numbers code.names) (counted code) code.names code (names_spell [] code.names w.names) (
-              _,
-              _,
-              refl,
-              lt-ltb 0 (length code.functions) w.some_function,
-              subst (λ z. Spells (behind (functions_layout (length code.functions)) (λ fs. Makes (record { names = code.names; functions = fs }))) z code) (append-nil (functions_numbers code.functions))
-                  (behind_spells (functions_layout (length code.functions)) _ (functions_numbers code.functions) [] code.functions code (functions_spell code.functions w.instructions) (refl, refl)),
-            ),
+            behind_spells (names_layout [] (length code.names)) _ (flat_map name_numbers code.names) (counted code) code.names code
+                (names_spell [] code.names w.names) (
+                  _,
+                  _,
+                  refl,
+                  lt-ltb 0 (length code.functions) w.some_function,
+                  subst (λ z. Spells (behind (functions_layout (length code.functions)) (λ fs. Makes (record { names = code.names; functions = fs }))) z
+                      code) (append-nil (functions_numbers code.functions))
+                      (behind_spells (functions_layout (length code.functions)) _ (functions_numbers code.functions) [] code.functions code
+                      (functions_spell code.functions w.instructions) (refl, refl)),
+                ),
           ),
         ),
       ),
@@ -355,19 +374,23 @@ code_told : (ns : List Number) (code : RawCode) → Spells code_layout ns code �
 code_told ns code h =
     let version = h.4.4.4.4 in
     let count = version.4 in
-    let r = behind_apart (names_layout [] count.0) (λ ns. Field _ 2 _ (λ n. behind (functions_layout n) (λ fs. Makes (record { names = ns; functions = fs })))) count.1 code count.4 in
+    let r = behind_apart (names_layout [] count.0)
+    (λ ns. Field _ 2 _ (λ n. behind (functions_layout n) (λ fs. Makes (record { names = ns; functions = fs })))) count.1 code count.4 in
     let names = names_told [] count.0 r.first r.value r.firsts in
     let s = r.seconds in
     let q = behind_apart (functions_layout s.0) (λ fs. Makes (record { names = r.value; functions = fs })) s.1 code s.4 in
     let functions = functions_told s.0 q.first q.value q.firsts in
     let e : ◌≡◌ {A = RawCode} (record { names = r.value; functions = q.value }) code = q.seconds.1 in
     let tail : s.1 ≡ functions_numbers q.value = q.apart ∙ ap (λ z. q.first ++ z) q.seconds.0 ∙ append-nil q.first ∙ functions.0 in
-    let counts : r.second ≡ short (length q.value) ∷ functions_numbers q.value = s.2 ∙ ap (λ z. short z ∷ s.1) (sym functions.1) ∙ ap (λ z. short (length q.value) ∷ z) tail in
+    let counts : r.second ≡ short (length q.value) ∷ functions_numbers q.value =
+    s.2 ∙ ap (λ z. short z ∷ s.1) (sym functions.1) ∙ ap (λ z. short (length q.value) ∷ z) tail in
     let all : count.1 ≡ flat_map name_numbers r.value ++ (short (length q.value) ∷ functions_numbers q.value) =
     r.apart ∙ ap (λ z. z ++ r.second) names.0 ∙ ap (λ z. flat_map name_numbers r.value ++ z) counts in
     let told : CodeTold ns (record { names = r.value; functions = q.value }) = record {
       numbers =
-          opened h.0 83 h.1 ns _ h.3 h.2 (opened h.4.0 67 h.4.1 h.1 _ h.4.3 h.4.2 (opened h.4.4.0 51 h.4.4.1 h.4.1 _ h.4.4.3 h.4.4.2 (opened h.4.4.4.0 80 h.4.4.4.1 h.4.4.1 _ h.4.4.4.3 h.4.4.4.2
+          opened h.0 83 h.1 ns _ h.3 h.2
+          (opened h.4.0 67 h.4.1 h.1 _ h.4.3 h.4.2
+          (opened h.4.4.0 51 h.4.4.1 h.4.1 _ h.4.4.3 h.4.4.2 (opened h.4.4.4.0 80 h.4.4.4.1 h.4.4.1 _ h.4.4.4.3 h.4.4.4.2
           (opened version.0 1 version.1 h.4.4.4.1 _ version.3 version.2
           (count.2 ∙ ap (λ z. short z ∷ count.1) (sym names.1) ∙ ap (λ z. short (length r.value) ∷ z) all)))));
       names = names.2;

@@ -3,7 +3,7 @@ use Rattle.std.proofs.Common.{◌≡◌, ℕ, List, [], ◌∷◌, ◌++◌, map
 use Rattle.std.proofs.lemmas.List.{length-map}
 use Rattle.std.specs.List.{flat_map}
 use Rattle.bytecode.specs.declared.kind.Kind.{Kind}
-use Rattle.bytecode.specs.declared.code.Function.{Function}
+use Rattle.bytecode.specs.declared.code.CodeFunction.{CodeFunction}
 use Rattle.bytecode.specs.declared.code.Code.{Code}
 use Rattle.bytecode.specs.InMemory.{raw_instruction, raw_function, raw_code}
 use Rattle.bytecode.specs.Kinds.{kind_byte, return_byte}
@@ -14,7 +14,7 @@ use Rattle.bytecode.proofs.Little.{behind_bytes}
 abbrev kind_numbers : List Kind → List Number
 kind_numbers = map (λ kind. byte (kind_byte kind))
 
-pub head_written : (f : Function) (start a b d : List ℕ) (gives n m : ℕ) (kinds : List Kind)
+pub head_written : (f : CodeFunction) (start a b d : List ℕ) (gives n m : ℕ) (kinds : List Kind)
     → gives ≡ return_byte f.gives → n ≡ length f.registers.items → kinds ≡ f.registers.items → m ≡ length f.body.items
     → a ≡ start ++ bytes_of (short f.parameters ∷ byte gives ∷ short n ∷ []) → b ≡ a ++ bytes_of (kind_numbers kinds) → d ≡ b ++ bytes_of (short m ∷ [])
     → d ≡ start ++ bytes_of (head_numbers (raw_function f))
@@ -25,7 +25,8 @@ head_written f start a b d gives n m kinds eg en ek em h1 h2 h3 =
     ∙ ap (λ z. start ++ bytes_of (short f.parameters ∷ byte z ∷ short n ∷ (kind_numbers kinds ++ short m ∷ []))) eg
     ∙ ap (λ z. start ++ bytes_of (short f.parameters ∷ byte (return_byte f.gives) ∷ short z ∷ (kind_numbers kinds ++ short m ∷ []))) en
     ∙ ap (λ z. start ++ bytes_of (short f.parameters ∷ byte (return_byte f.gives) ∷ short (length f.registers.items) ∷ (kind_numbers z ++ short m ∷ []))) ek
-    ∙ ap (λ z. start ++ bytes_of (short f.parameters ∷ byte (return_byte f.gives) ∷ short (length f.registers.items) ∷ (kind_numbers f.registers.items ++ short z ∷ [])))
+    ∙ ap (λ z. start ++ bytes_of
+    (short f.parameters ∷ byte (return_byte f.gives) ∷ short (length f.registers.items) ∷ (kind_numbers f.registers.items ++ short z ∷ [])))
     (em ∙ sym (length-map f.body.items raw_instruction))
 
 parts_written : (code : RawCode) (t1 t2 t3 t4 t5 : List ℕ)
@@ -44,7 +45,7 @@ parts_written code t1 t2 t3 t4 t5 h1 h2 h3 h4 h5 =
     behind_bytes [] t4 t5 (((opening ++ names) ++ count) ++ heads) bodies four h5
     ∙ ap (λ z. bytes_of (opening ++ z)) (append_assoc (names ++ count) heads bodies ∙ append_assoc names count (heads ++ bodies))
 
-pub code_written : (code : Code) (t0 t1 t2 t3 t4 t5 : List ℕ) (n m : ℕ) (names : List (List ℕ)) (fs gs : List Function)
+pub code_written : (code : Code) (t0 t1 t2 t3 t4 t5 : List ℕ) (n m : ℕ) (names : List (List ℕ)) (fs gs : List CodeFunction)
     → t0 ≡ [] → n ≡ length code.names.items → names ≡ code.names.items → m ≡ length code.functions.items → fs ≡ code.functions.items → gs ≡ code.functions.items
     → t1 ≡ t0 ++ bytes_of (opening_numbers ++ short n ∷ []) → t2 ≡ t1 ++ bytes_of (flat_map name_numbers names)
     → t3 ≡ t2 ++ bytes_of (short m ∷ []) → t4 ≡ t3 ++ bytes_of (flat_map head_numbers (map raw_function fs))

@@ -1,7 +1,8 @@
 -- Instructions are spelled by the numbers that are written of them, and by no others.
 use Rattle.std.proofs.Common.{append-nil, sym, ◌≡◌, ℕ, zero, suc, ◌<◌, List, [], ◌∷◌, ◌++◌, length, map, refl, ap, ◌∙◌, subst, arith, IsTrue}
 use Rattle.std.proofs.lemmas.Bool.{lt-ltb, ltb-true, and_parts}
-use Rattle.bytecode.specs.Raw.{Raw, Literal, Move, Store, Binary, Not, Cast, Classify, Fill, At, Put, Size, Cat, Sum, Bits, Declassify, Argument, Publish, Assert, Branch, Jump, Call, Return, ReturnNone}
+use Rattle.bytecode.specs.Raw.{Raw, Literal, Move, Store, Binary, Not, Cast, Classify, Fill, At, Put, Size, Cat, Sum, Bits, Declassify, Argument}
+use Rattle.bytecode.specs.Raw.{Publish, Assert, Branch, Jump, Call, Return, ReturnNone}
 use Rattle.bytecode.specs.Written.{Number, byte, short, source_line, word, instruction_numbers}
 use Rattle.bytecode.specs.Writable.{arguments_at, IsProper}
 use Rattle.bytecode.specs.Layouts.{behind, Layout, Makes}
@@ -17,14 +18,16 @@ registers_spell (x ∷ xs) =
     (subst (λ z. Spells (behind (repeated short_layout (length xs)) (λ ys. Makes (x ∷ ys))) z (x ∷ xs)) (append-nil (map short xs))
     (behind_spells (repeated short_layout (length xs)) _ (map short xs) [] xs (x ∷ xs) (registers_spell xs) (refl, refl)))
 
-shorts_spell : {A : Type 0} (xs : List ℕ) (next : List ℕ → Layout A) (rest : List Number) (a : A) → Spells (next xs) rest a → Spells (shorts (length xs) next) (map short xs ++ rest) a
+shorts_spell : {A : Type 0} (xs : List ℕ) (next : List ℕ → Layout A) (rest : List Number) (a : A) → Spells (next xs) rest a
+    → Spells (shorts (length xs) next) (map short xs ++ rest) a
 shorts_spell xs next rest a s = behind_spells (repeated short_layout (length xs)) next (map short xs) rest xs a (registers_spell xs) s
 
 pub instruction_spells : (ps : List ℕ) (i : Raw) → IsProper ps i → Spells (instruction_layout ps) (instruction_numbers i) i
 instruction_spells ps (Literal d x) h = (_, _, refl, refl, (_, _, refl, refl, (_, _, refl, refl, (refl, refl))))
 instruction_spells ps (Move d r) h = (_, _, refl, refl, (_, _, refl, refl, (_, _, refl, refl, (refl, refl))))
 instruction_spells ps (Store d r) h = (_, _, refl, refl, (_, _, refl, refl, (_, _, refl, refl, (refl, refl))))
-instruction_spells ps (Binary o d a b line) h = (_, _, refl, refl, (_, _, refl, lt-ltb o 14 h, (_, _, refl, refl, (_, _, refl, refl, (_, _, refl, refl, (_, _, refl, refl, (refl, refl)))))))
+instruction_spells ps (Binary o d a b line) h =
+    (_, _, refl, refl, (_, _, refl, lt-ltb o 14 h, (_, _, refl, refl, (_, _, refl, refl, (_, _, refl, refl, (_, _, refl, refl, (refl, refl)))))))
 instruction_spells ps (Not d r) h = (_, _, refl, refl, (_, _, refl, refl, (_, _, refl, refl, (refl, refl))))
 instruction_spells ps (Cast d r) h = (_, _, refl, refl, (_, _, refl, refl, (_, _, refl, refl, (refl, refl))))
 instruction_spells ps (Classify d r) h = (_, _, refl, refl, (_, _, refl, refl, (_, _, refl, refl, (refl, refl))))
@@ -95,7 +98,9 @@ shorts_told n next ns a h =
     let q = registers_told n r.first r.value r.firsts in
     record { xs = r.value; rest = r.second; long = q.1; same = r.apart ∙ ap (λ z. z ++ r.second) q.0; spells = r.seconds }
 
-pair_told : (ps : List ℕ) (tag : ℕ) (make : ℕ → ℕ → Raw) (ns : List Number) (i : Raw) → ((d r : ℕ) → (byte tag ∷ short d ∷ short r ∷ [] ≡ instruction_numbers (make d r)) × IsProper ps (make d r)) → Spells (pair_layout make) ns i → Told ps tag ns i
+pair_told : (ps : List ℕ) (tag : ℕ) (make : ℕ → ℕ → Raw) (ns : List Number) (i : Raw)
+    → ((d r : ℕ) → (byte tag ∷ short d ∷ short r ∷ [] ≡ instruction_numbers (make d r)) × IsProper ps (make d r)) → Spells (pair_layout make) ns i
+    → Told ps tag ns i
 pair_told ps tag make ns i w h =
     let same : ns ≡ short h.0 ∷ short h.4.0 ∷ [] = h.2 ∙ ap (λ z. short h.0 ∷ z) (h.4.2 ∙ ap (λ z. short h.4.0 ∷ z) h.4.4.0) in
     let t = w h.0 h.4.0 in
@@ -106,28 +111,36 @@ triple a b c line = short a ∷ short b ∷ short c ∷ source_line line ∷ []
 
 triple_same : (make : ℕ → ℕ → ℕ → ℕ → Raw) (ns : List Number) (i : Raw) (h : Spells (triple_layout make) ns i) → ns ≡ triple h.0 h.4.0 h.4.4.0 h.4.4.4.0
 triple_same make ns i h =
-    h.2 ∙ ap (λ z. short h.0 ∷ z) (h.4.2 ∙ ap (λ z. short h.4.0 ∷ z) (h.4.4.2 ∙ ap (λ z. short h.4.4.0 ∷ z) (h.4.4.4.2 ∙ ap (λ z. source_line h.4.4.4.0 ∷ z) h.4.4.4.4.0)))
+    h.2 ∙ ap (λ z. short h.0 ∷ z)
+    (h.4.2 ∙ ap (λ z. short h.4.0 ∷ z) (h.4.4.2 ∙ ap (λ z. short h.4.4.0 ∷ z) (h.4.4.4.2 ∙ ap (λ z. source_line h.4.4.4.0 ∷ z) h.4.4.4.4.0)))
 
 triple_told : (ps : List ℕ) (tag : ℕ) (make : ℕ → ℕ → ℕ → ℕ → Raw) (ns : List Number) (i : Raw)
-    → ((a b c line : ℕ) → (byte tag ∷ triple a b c line ≡ instruction_numbers (make a b c line)) × IsProper ps (make a b c line)) → Spells (triple_layout make) ns i → Told ps tag ns i
+    → ((a b c line : ℕ) → (byte tag ∷ triple a b c line ≡ instruction_numbers (make a b c line)) × IsProper ps (make a b c line))
+    → Spells (triple_layout make) ns i → Told ps tag ns i
 triple_told ps tag make ns i w h =
     let t = w h.0 h.4.0 h.4.4.0 h.4.4.4.0 in
     told ps tag ns (make h.0 h.4.0 h.4.4.0 h.4.4.4.0) i h.4.4.4.4.1 (ap (λ z. byte tag ∷ z) (triple_same make ns i h) ∙ t.0) t.1
 
 literal_told : (ps : List ℕ) (ns : List Number) (i : Raw) → Spells (operands ps 0x01) ns i → Told ps 0x01 ns i
-literal_told ps ns i h = told ps 0x01 ns (Literal h.0 h.4.0) i h.4.4.1 (ap (λ z. byte 0x01 ∷ z) (h.2 ∙ ap (λ z. short h.0 ∷ z) (h.4.2 ∙ ap (λ z. word h.4.0 ∷ z) (h.4.4.0)))) (tt)
+literal_told ps ns i h = told ps 0x01 ns (Literal h.0 h.4.0) i h.4.4.1
+    (ap (λ z. byte 0x01 ∷ z) (h.2 ∙ ap (λ z. short h.0 ∷ z) (h.4.2 ∙ ap (λ z. word h.4.0 ∷ z) (h.4.4.0)))) (tt)
 
 bits_told : (ps : List ℕ) (ns : List Number) (i : Raw) → Spells (operands ps 0x0e) ns i → Told ps 0x0e ns i
-bits_told ps ns i h = told ps 0x0e ns (Bits h.0 h.4.0 h.4.4.0) i h.4.4.4.1 (ap (λ z. byte 0x0e ∷ z) (h.2 ∙ ap (λ z. short h.0 ∷ z) (h.4.2 ∙ ap (λ z. short h.4.0 ∷ z) (h.4.4.2 ∙ ap (λ z. source_line h.4.4.0 ∷ z) (h.4.4.4.0))))) (tt)
+bits_told ps ns i h = told ps 0x0e ns (Bits h.0 h.4.0 h.4.4.0) i h.4.4.4.1
+    (ap (λ z. byte 0x0e ∷ z) (h.2 ∙ ap (λ z. short h.0 ∷ z) (h.4.2 ∙ ap (λ z. short h.4.0 ∷ z) (h.4.4.2 ∙ ap (λ z. source_line h.4.4.0 ∷ z) (h.4.4.4.0))))) (tt)
 
 argument_told : (ps : List ℕ) (ns : List Number) (i : Raw) → Spells (operands ps 0x10) ns i → Told ps 0x10 ns i
-argument_told ps ns i h = told ps 0x10 ns (Argument h.0 h.4.0 h.4.4.0) i h.4.4.4.1 (ap (λ z. byte 0x10 ∷ z) (h.2 ∙ ap (λ z. short h.0 ∷ z) (h.4.2 ∙ ap (λ z. short h.4.0 ∷ z) (h.4.4.2 ∙ ap (λ z. source_line h.4.4.0 ∷ z) (h.4.4.4.0))))) (tt)
+argument_told ps ns i h = told ps 0x10 ns (Argument h.0 h.4.0 h.4.4.0) i h.4.4.4.1
+    (ap (λ z. byte 0x10 ∷ z) (h.2 ∙ ap (λ z. short h.0 ∷ z) (h.4.2 ∙ ap (λ z. short h.4.0 ∷ z) (h.4.4.2 ∙ ap (λ z. source_line h.4.4.0 ∷ z) (h.4.4.4.0))))) (tt)
 
 assert_told : (ps : List ℕ) (ns : List Number) (i : Raw) → Spells (operands ps 0x12) ns i → Told ps 0x12 ns i
-assert_told ps ns i h = told ps 0x12 ns (Assert h.0 h.4.0) i h.4.4.1 (ap (λ z. byte 0x12 ∷ z) (h.2 ∙ ap (λ z. short h.0 ∷ z) (h.4.2 ∙ ap (λ z. source_line h.4.0 ∷ z) (h.4.4.0)))) (tt)
+assert_told ps ns i h = told ps 0x12 ns (Assert h.0 h.4.0) i h.4.4.1
+    (ap (λ z. byte 0x12 ∷ z) (h.2 ∙ ap (λ z. short h.0 ∷ z) (h.4.2 ∙ ap (λ z. source_line h.4.0 ∷ z) (h.4.4.0)))) (tt)
 
 branch_told : (ps : List ℕ) (ns : List Number) (i : Raw) → Spells (operands ps 0x13) ns i → Told ps 0x13 ns i
-branch_told ps ns i h = told ps 0x13 ns (Branch h.0 h.4.0 h.4.4.0) i h.4.4.4.1 (ap (λ z. byte 0x13 ∷ z) (h.2 ∙ ap (λ z. short h.0 ∷ z) (h.4.2 ∙ ap (λ z. byte h.4.0 ∷ z) (h.4.4.2 ∙ ap (λ z. short h.4.4.0 ∷ z) (h.4.4.4.0))))) (ltb-true h.4.0 2 h.4.3)
+branch_told ps ns i h = told ps 0x13 ns (Branch h.0 h.4.0 h.4.4.0) i h.4.4.4.1
+    (ap (λ z. byte 0x13 ∷ z) (h.2 ∙ ap (λ z. short h.0 ∷ z) (h.4.2 ∙ ap (λ z. byte h.4.0 ∷ z) (h.4.4.2 ∙ ap (λ z. short h.4.4.0 ∷ z) (h.4.4.4.0)))))
+    (ltb-true h.4.0 2 h.4.3)
 
 jump_told : (ps : List ℕ) (ns : List Number) (i : Raw) → Spells (operands ps 0x14) ns i → Told ps 0x14 ns i
 jump_told ps ns i h = told ps 0x14 ns (Jump h.0) i h.4.1 (ap (λ z. byte 0x14 ∷ z) (h.2 ∙ ap (λ z. short h.0 ∷ z) (h.4.0))) (tt)
@@ -142,7 +155,8 @@ binary_told : (ps : List ℕ) (ns : List Number) (i : Raw) → Spells (operands 
 binary_told ps ns i h =
     let o = h.0 in
     let k = h.4 in
-    told ps 0x04 ns (Binary o k.0 k.4.0 k.4.4.0 k.4.4.4.0) i k.4.4.4.4.1 (ap (λ z. byte 0x04 ∷ z) (h.2 ∙ ap (λ z. byte o ∷ z) (triple_same (Binary o) h.1 i k))) (ltb-true o 14 h.3)
+    told ps 0x04 ns (Binary o k.0 k.4.0 k.4.4.0 k.4.4.4.0) i k.4.4.4.4.1
+    (ap (λ z. byte 0x04 ∷ z) (h.2 ∙ ap (λ z. byte o ∷ z) (triple_same (Binary o) h.1 i k))) (ltb-true o 14 h.3)
 
 call_told : (ps : List ℕ) (ns : List Number) (i : Raw) → Spells (operands ps 0x16) ns i → Told ps 0x16 ns i
 call_told ps ns i h =
@@ -176,17 +190,24 @@ by_tag (suc (suc (suc (suc (suc (suc (suc (suc (suc (suc (suc zero))))))))))) h 
 by_tag (suc (suc (suc (suc (suc (suc (suc (suc (suc (suc (suc (suc zero)))))))))))) h = λ ps ns i. triple_told ps 0x0c Cat ns i (λ a b c line. (refl, tt))
 by_tag (suc (suc (suc (suc (suc (suc (suc (suc (suc (suc (suc (suc (suc zero))))))))))))) h = λ ps ns i. pair_told ps 0x0d Sum ns i (λ d r. (refl, tt))
 by_tag (suc (suc (suc (suc (suc (suc (suc (suc (suc (suc (suc (suc (suc (suc zero)))))))))))))) h = bits_told
-by_tag (suc (suc (suc (suc (suc (suc (suc (suc (suc (suc (suc (suc (suc (suc (suc zero))))))))))))))) h = λ ps ns i. pair_told ps 0x0f Declassify ns i (λ d r. (refl, tt))
+by_tag (suc (suc (suc (suc (suc (suc (suc (suc (suc (suc (suc (suc (suc (suc (suc zero))))))))))))))) h =
+    λ ps ns i. pair_told ps 0x0f Declassify ns i (λ d r. (refl, tt))
 by_tag (suc (suc (suc (suc (suc (suc (suc (suc (suc (suc (suc (suc (suc (suc (suc (suc zero)))))))))))))))) h = argument_told
-by_tag (suc (suc (suc (suc (suc (suc (suc (suc (suc (suc (suc (suc (suc (suc (suc (suc (suc zero))))))))))))))))) h = λ ps ns i. pair_told ps 0x11 Publish ns i (λ d r. (refl, tt))
+by_tag (suc (suc (suc (suc (suc (suc (suc (suc (suc (suc (suc (suc (suc (suc (suc (suc (suc zero))))))))))))))))) h =
+    λ ps ns i. pair_told ps 0x11 Publish ns i (λ d r. (refl, tt))
 by_tag (suc (suc (suc (suc (suc (suc (suc (suc (suc (suc (suc (suc (suc (suc (suc (suc (suc (suc zero)))))))))))))))))) h = assert_told
 by_tag (suc (suc (suc (suc (suc (suc (suc (suc (suc (suc (suc (suc (suc (suc (suc (suc (suc (suc (suc zero))))))))))))))))))) h = branch_told
 by_tag (suc (suc (suc (suc (suc (suc (suc (suc (suc (suc (suc (suc (suc (suc (suc (suc (suc (suc (suc (suc zero)))))))))))))))))))) h = jump_told
 by_tag (suc (suc (suc (suc (suc (suc (suc (suc (suc (suc (suc (suc (suc (suc (suc (suc (suc (suc (suc (suc (suc zero))))))))))))))))))))) h = λ ps ns i s. cc
 by_tag (suc (suc (suc (suc (suc (suc (suc (suc (suc (suc (suc (suc (suc (suc (suc (suc (suc (suc (suc (suc (suc (suc zero)))))))))))))))))))))) h = call_told
-by_tag (suc (suc (suc (suc (suc (suc (suc (suc (suc (suc (suc (suc (suc (suc (suc (suc (suc (suc (suc (suc (suc (suc (suc zero))))))))))))))))))))))) h = return_told
-by_tag (suc (suc (suc (suc (suc (suc (suc (suc (suc (suc (suc (suc (suc (suc (suc (suc (suc (suc (suc (suc (suc (suc (suc (suc zero)))))))))))))))))))))))) h = returnnone_told
-by_tag (suc (suc (suc (suc (suc (suc (suc (suc (suc (suc (suc (suc (suc (suc (suc (suc (suc (suc (suc (suc (suc (suc (suc (suc (suc tag))))))))))))))))))))))))) h = no_tag (suc (suc (suc (suc (suc (suc (suc (suc (suc (suc (suc (suc (suc (suc (suc (suc (suc (suc (suc (suc (suc (suc (suc (suc (suc tag))))))))))))))))))))))))) (omega arith) h
+by_tag (suc (suc (suc (suc (suc (suc (suc (suc (suc (suc (suc (suc (suc (suc (suc (suc (suc (suc (suc (suc (suc (suc (suc zero)))))))))))))))))))))))
+    h = return_told
+by_tag (suc (suc (suc (suc (suc
+    (suc (suc (suc (suc (suc (suc (suc (suc (suc (suc (suc (suc (suc (suc (suc (suc (suc (suc (suc zero)))))))))))))))))))))))) h = returnnone_told
+by_tag (suc (suc (suc (suc (suc
+    (suc (suc (suc (suc (suc (suc (suc (suc (suc (suc (suc (suc (suc (suc (suc (suc (suc (suc (suc (suc tag))))))))))))))))))))))))) h =
+    no_tag (suc (suc (suc (suc
+    (suc (suc (suc (suc (suc (suc (suc (suc (suc (suc (suc (suc (suc (suc (suc (suc (suc (suc (suc (suc (suc tag))))))))))))))))))))))))) (omega arith) h
 
 pub instruction_told : (ps : List ℕ) (ns : List Number) (i : Raw) → Spells (instruction_layout ps) ns i → (ns ≡ instruction_numbers i) × IsProper ps i
 instruction_told ps ns i h = let t = by_tag h.0 h.3 ps h.1 i h.4 in (h.2 ∙ t.0, t.1)

@@ -1,5 +1,6 @@
 -- A layout is read as it is spelled, and what is read is spelled there.
-use Rattle.std.proofs.Common.{◌≡◌, ℕ, zero, suc, ◌+◌, ◌*◌, ◌/◌, ◌%◌, ◌^◌, ◌<◌, List, [], ◌∷◌, ◌++◌, length, map, Bool, true, false, Ok, Err, refl, sym, ap, ◌∙◌, subst, arith, append_assoc, IsTrue}
+use Rattle.std.proofs.Common.{◌≡◌, ℕ, zero, suc, ◌+◌, ◌*◌, ◌/◌, ◌%◌, ◌^◌, ◌<◌, List, [], ◌∷◌, ◌++◌, length, map, Bool, true, false, Ok, Err, refl}
+use Rattle.std.proofs.Common.{sym, ap, ◌∙◌, subst, arith, append_assoc, IsTrue}
 use Rattle.std.specs.List.{AllByRecursion as Each}
 use native.Mathlib.Numerals.{unary_clauses}
 use Rattle.bytecode.specs.Written.{Number, sized, byte, little, bytes_of, name_numbers}
@@ -12,7 +13,8 @@ Spells (Makes a) ns b = (ns ≡ []) × (a ≡ b)
 Spells (Field why n test next) ns b =
     (x : ℕ) × (rest : List Number) × (ns ≡ sized n x ∷ rest) × IsTrue (test x) × Spells (next x) rest b
 Spells (NameField test next) ns b =
-    (name : List ℕ) × (rest : List Number) × (ns ≡ name_numbers name ++ rest) × IsTrue (is_name_length (length name)) × IsTrue (test name) × Spells (next name) rest b
+    (name : List ℕ) × (rest : List Number) × (ns ≡ name_numbers name ++ rest) × IsTrue (is_name_length (length name)) × IsTrue (test name)
+    × Spells (next name) rest b
 
 -- ---- one number
 
@@ -46,14 +48,17 @@ characters_read (b ∷ bs) rest = ap (λ r. carry r (λ bs rest. Ok (b ∷ bs, r
 
 -- ---- a layout is read as it is spelled
 
-pub layout_reads : {A : Type 0} (f : Layout A) (ns : List Number) (a : A) → Spells f ns a → Each Fits ns → (rest : List ℕ) → read f (bytes_of ns ++ rest) ≡ Ok (a, rest)
+pub layout_reads : {A : Type 0} (f : Layout A) (ns : List Number) (a : A) → Spells f ns a → Each Fits ns → (rest : List ℕ)
+    → read f (bytes_of ns ++ rest) ≡ Ok (a, rest)
 layout_reads (Makes b) ns a h fits rest = ap (λ z. Ok (b, bytes_of z ++ rest)) h.0 ∙ ap (λ z. Ok (z, rest)) h.1
 layout_reads (Field why n test next) ns a h fits rest =
     let x = h.0 in
     let more = h.1 in
     let within : (x < 256 ^ n) × Each Fits more = subst (Each Fits) h.2 fits in
-    let text : bytes_of ns ++ rest ≡ little n x ++ (bytes_of more ++ rest) = ap (λ z. bytes_of z ++ rest) h.2 ∙ append_assoc (little n x) (bytes_of more) rest in
-    ap (λ r. carry r (λ y left. passed (test y) why (bytes_of ns ++ rest) (read (next y) left))) (ap (number n) text ∙ number_reads n x within.0 (bytes_of more ++ rest))
+    let text : bytes_of ns ++ rest ≡ little n x ++ (bytes_of more ++ rest) =
+    ap (λ z. bytes_of z ++ rest) h.2 ∙ append_assoc (little n x) (bytes_of more) rest in
+    ap (λ r. carry r (λ y left. passed (test y) why (bytes_of ns ++ rest) (read (next y) left)))
+    (ap (number n) text ∙ number_reads n x within.0 (bytes_of more ++ rest))
     ∙ ap (λ b. passed b why (bytes_of ns ++ rest) (read (next x) (bytes_of more ++ rest))) h.3
     ∙ layout_reads (next x) more a h.4 within.1 rest
 layout_reads {A} (NameField test next) ns a h fits rest =
@@ -61,10 +66,13 @@ layout_reads {A} (NameField test next) ns a h fits rest =
     let more = h.1 in
     let whole = bytes_of ns ++ rest in
     let within : (length name < 256 ^ 1) × Each Fits (map byte name ++ more) = subst (Each Fits) h.2 fits in
-    let behind_length : bytes_of (map byte name ++ more) ++ rest ≡ name ++ (bytes_of more ++ rest) = ap (λ z. z ++ rest) (name_bytes name more within.1) ∙ append_assoc name (bytes_of more) rest in
-    let text : whole ≡ little 1 (length name) ++ (name ++ (bytes_of more ++ rest)) = ap (λ z. bytes_of z ++ rest) h.2 ∙ ap (λ z. little 1 (length name) ++ z) behind_length in
+    let behind_length : bytes_of (map byte name ++ more) ++ rest ≡ name ++ (bytes_of more ++ rest) =
+    ap (λ z. z ++ rest) (name_bytes name more within.1) ∙ append_assoc name (bytes_of more) rest in
+    let text : whole ≡ little 1 (length name) ++ (name ++ (bytes_of more ++ rest)) =
+    ap (λ z. bytes_of z ++ rest) h.2 ∙ ap (λ z. little 1 (length name) ++ z) behind_length in
     let after : List ℕ → List ℕ → Read A = λ bs left. passed (test bs) BadTag whole (read (next bs) left) in
-    ap (λ r. carry r (λ n left. passed (is_name_length n) BadTag whole (carry (characters n left) after))) (ap (number 1) text ∙ number_reads 1 (length name) within.0 (name ++ (bytes_of more ++ rest)))
+    ap (λ r. carry r (λ n left. passed (is_name_length n) BadTag whole (carry (characters n left) after)))
+    (ap (number 1) text ∙ number_reads 1 (length name) within.0 (name ++ (bytes_of more ++ rest)))
     ∙ ap (λ b. passed b BadTag whole (carry (characters (length name) (name ++ (bytes_of more ++ rest))) after)) h.3
     ∙ ap (λ r. carry r after) (characters_read name (bytes_of more ++ rest))
     ∙ ap (λ b. passed b BadTag whole (read (next name) (bytes_of more ++ rest))) h.4
@@ -94,7 +102,8 @@ number_spelled zero text x rest bs h =
 number_spelled (suc n) [] x rest bs h = err_ok _ _ h
 number_spelled (suc n) (b ∷ text) x rest bs h = go (number n text) refl h (λ y left e. number_spelled n text y left bs.1 e)
   where
-    go : (r : Read ℕ) → number n text ≡ r → carry r (λ y left. Ok (b + 256 * y, left)) ≡ Ok (x, rest) → ((y : ℕ) (left : List ℕ) → number n text ≡ Ok (y, left) → NumberRead n text y left) → NumberRead (suc n) (b ∷ text) x rest
+    go : (r : Read ℕ) → number n text ≡ r → carry r (λ y left. Ok (b + 256 * y, left)) ≡ Ok (x, rest)
+        → ((y : ℕ) (left : List ℕ) → number n text ≡ Ok (y, left) → NumberRead n text y left) → NumberRead (suc n) (b ∷ text) x rest
     go (Ok y) e h ih = made (y.0) (y.1) (ih y.0 y.1 e) (ok_same (b + 256 * y.0) x y.1 rest h)
       where
         made : (y : ℕ) (left : List ℕ) → NumberRead n text y left → (b + 256 * y ≡ x) × (left ≡ rest) → NumberRead (suc n) (b ∷ text) x rest
@@ -104,7 +113,8 @@ number_spelled (suc n) (b ∷ text) x rest bs h = go (number n text) refl h (λ 
             let small : y < 256 ^ n = m.small in
             record {
               small = simp unary_clauses (omega (arith, e.0, bs.0));
-              same = ap (λ z. b ∷ z) m.same ∙ ap (λ z. z ∷ (little n y ++ left)) (sym low) ∙ ap (λ z. x % 256 ∷ (little n z ++ left)) (sym high) ∙ ap (λ z. x % 256 ∷ (little n (x / 256) ++ z)) e.1;
+              same = ap (λ z. b ∷ z) m.same ∙ ap (λ z. z ∷ (little n y ++ left)) (sym low) ∙ ap (λ z. x % 256 ∷ (little n z ++ left)) (sym high)
+                  ∙ ap (λ z. x % 256 ∷ (little n (x / 256) ++ z)) e.1;
               bytes = subst AreBytes e.1 m.bytes;
             }
     go (Err f) e h ih = err_ok _ _ h
@@ -122,7 +132,8 @@ characters_spelled zero text name rest bs h =
 characters_spelled (suc n) [] name rest bs h = err_ok _ _ h
 characters_spelled (suc n) (b ∷ text) name rest bs h = go (characters n text) refl h (λ y left e. characters_spelled n text y left bs.1 e)
   where
-    go : (r : Read (List ℕ)) → characters n text ≡ r → carry r (λ y left. Ok (b ∷ y, left)) ≡ Ok (name, rest) → ((y left : List ℕ) → characters n text ≡ Ok (y, left) → CharactersRead n text y left) → CharactersRead (suc n) (b ∷ text) name rest
+    go : (r : Read (List ℕ)) → characters n text ≡ r → carry r (λ y left. Ok (b ∷ y, left)) ≡ Ok (name, rest)
+        → ((y left : List ℕ) → characters n text ≡ Ok (y, left) → CharactersRead n text y left) → CharactersRead (suc n) (b ∷ text) name rest
     go (Ok y) e h ih = made (y.0) (y.1) (ih y.0 y.1 e) (ok_same (b ∷ y.0) name y.1 rest h)
       where
         made : (y left : List ℕ) → CharactersRead n text y left → ((b ∷ y) ≡ name) × (left ≡ rest) → CharactersRead (suc n) (b ∷ text) name rest
@@ -152,7 +163,8 @@ layout_spelled (Makes b) text a rest bs h =
 layout_spelled {A} (Field why n test next) text a rest bs h = go (number n text) refl h (λ x left b e. layout_spelled (next x) left a rest b e)
   where
     go : (r : Read ℕ) → number n text ≡ r → carry r (λ x left. passed (test x) why text (read (next x) left)) ≡ Ok (a, rest)
-        → ((x : ℕ) (left : List ℕ) → AreBytes left → read (next x) left ≡ Ok (a, rest) → Spelled (next x) left a rest) → Spelled (Field why n test next) text a rest
+        → ((x : ℕ) (left : List ℕ) → AreBytes left → read (next x) left ≡ Ok (a, rest) → Spelled (next x) left a rest)
+        → Spelled (Field why n test next) text a rest
     go (Err f) e h ih = err_ok _ _ h
     go (Ok y) e h ih = by_test (test y.0) refl h
       where
@@ -173,7 +185,8 @@ layout_spelled {A} (Field why n test next) text a rest bs h = go (number n text)
 layout_spelled {A} (NameField test next) text a rest bs h = go (number 1 text) refl h (λ x left b e. layout_spelled (next x) left a rest b e)
   where
     go : (r : Read ℕ) → number 1 text ≡ r
-        → carry r (λ n left. passed (is_name_length n) BadTag text (carry (characters n left) (λ name more. passed (test name) BadTag text (read (next name) more)))) ≡ Ok (a, rest)
+        → carry r (λ n left. passed (is_name_length n) BadTag text
+        (carry (characters n left) (λ name more. passed (test name) BadTag text (read (next name) more)))) ≡ Ok (a, rest)
         → ((x left : List ℕ) → AreBytes left → read (next x) left ≡ Ok (a, rest) → Spelled (next x) left a rest) → Spelled (NameField test next) text a rest
     go (Err f) e h ih = err_ok _ _ h
     go (Ok y) e h ih = by_length (is_name_length y.0) refl h
@@ -181,7 +194,8 @@ layout_spelled {A} (NameField test next) text a rest bs h = go (number 1 text) r
         m : NumberRead 1 text y.0 y.1
         m = number_spelled 1 text y.0 y.1 bs e
 
-        named : (n : List ℕ) (more : List ℕ) → IsTrue (is_name_length y.0) → characters y.0 y.1 ≡ Ok (n, more) → (b : Bool) → test n ≡ b → passed b BadTag text (read (next n) more) ≡ Ok (a, rest) → Spelled (NameField test next) text a rest
+        named : (n : List ℕ) (more : List ℕ) → IsTrue (is_name_length y.0) → characters y.0 y.1 ≡ Ok (n, more) → (b : Bool) → test n ≡ b
+            → passed b BadTag text (read (next n) more) ≡ Ok (a, rest) → Spelled (NameField test next) text a rest
         named n more l c false t h = err_ok _ _ h
         named n more l c true t h =
             let p = characters_spelled y.0 y.1 n more m.bytes c in
@@ -198,17 +212,21 @@ layout_spelled {A} (NameField test next) text a rest bs h = go (number 1 text) r
               bytes = r.bytes;
             }
 
-        by_text : IsTrue (is_name_length y.0) → (q : Read (List ℕ)) → characters y.0 y.1 ≡ q → carry q (λ name more. passed (test name) BadTag text (read (next name) more)) ≡ Ok (a, rest) → Spelled (NameField test next) text a rest
+        by_text : IsTrue (is_name_length y.0) → (q : Read (List ℕ)) → characters y.0 y.1 ≡ q
+            → carry q (λ name more. passed (test name) BadTag text (read (next name) more)) ≡ Ok (a, rest) → Spelled (NameField test next) text a rest
         by_text l (Err f) e h = err_ok _ _ h
         by_text l (Ok q) e h = named q.0 q.1 l e (test q.0) refl h
 
-        by_length : (b : Bool) → is_name_length y.0 ≡ b → passed b BadTag text (carry (characters y.0 y.1) (λ name more. passed (test name) BadTag text (read (next name) more))) ≡ Ok (a, rest) → Spelled (NameField test next) text a rest
+        by_length : (b : Bool) → is_name_length y.0 ≡ b
+            → passed b BadTag text (carry (characters y.0 y.1) (λ name more. passed (test name) BadTag text (read (next name) more))) ≡ Ok (a, rest)
+            → Spelled (NameField test next) text a rest
         by_length false l h = err_ok _ _ h
         by_length true l h = by_text l (characters y.0 y.1) refl h
 
 -- ---- one layout behind the other
 
-pub behind_spells : {A B : Type 0} (f : Layout A) (g : A → Layout B) (xs ys : List Number) (a : A) (b : B) → Spells f xs a → Spells (g a) ys b → Spells (behind f g) (xs ++ ys) b
+pub behind_spells : {A B : Type 0} (f : Layout A) (g : A → Layout B) (xs ys : List Number) (a : A) (b : B) → Spells f xs a → Spells (g a) ys b
+    → Spells (behind f g) (xs ++ ys) b
 behind_spells (Makes c) g xs ys a b h s = subst (λ z. Spells (g c) (z ++ ys) b) (sym h.0) (subst (λ z. Spells (g z) ys b) (sym h.1) s)
 behind_spells (Field why n test k) g xs ys a b h s = (h.0, h.1 ++ ys, ap (λ z. z ++ ys) h.2, h.3, behind_spells (k h.0) g h.1 ys a b h.4 s)
 behind_spells (NameField test k) g xs ys a b h s =

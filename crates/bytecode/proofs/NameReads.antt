@@ -1,5 +1,6 @@
 -- Names and bodies are read one by one.
-use Rattle.std.proofs.Common.{◌≡◌, ℕ, zero, suc, ◌+◌, ◌-◌, ◌<◌, ◌≤◌, List, [], ◌∷◌, ◌++◌, append-nil, length, take, drop, Bool, true, false, Ok, Err, refl, sym, ap, ◌∙◌, subst, arith, not, ◌&&◌}
+use Rattle.std.proofs.Common.{◌≡◌, ℕ, zero, suc, ◌+◌, ◌-◌, ◌<◌, ◌≤◌, List, [], ◌∷◌, ◌++◌, append-nil, length, take, drop, Bool, true, false, Ok, Err}
+use Rattle.std.proofs.Common.{refl, sym, ap, ◌∙◌, subst, arith, not, ◌&&◌}
 use Rattle.std.specs.List.{list_all, list_any}
 use Rattle.std.specs.Str.{bytes_eq, IsAscii, IsUtf8}
 use Rattle.std.proofs.lemmas.Bool.{and_parts}
@@ -13,7 +14,7 @@ use Rattle.bytecode.specs.Layouts.{Truncated, BadTag, Layout, Makes, Field, Name
 use Rattle.bytecode.specs.Writable.{is_new_name}
 use Rattle.bytecode.specs.Decoded.{Head, body_layout, bodies_layout, function_of, names_layout}
 use Rattle.bytecode.specs.Decoding.{function_layout}
-use Rattle.bytecode.specs.Reading.{Refuses, Stops}
+use Rattle.bytecode.specs.inner.Reading.{Refuses, Stops}
 use Rattle.bytecode.proofs.Reading.{stops_carry, read_behind, after, after_nothing, after_step}
 
 -- ---- bytes as they stand

@@ -6,10 +6,10 @@ use Rattle.bytecode.specs.Raw.{Raw, Call}
 use Rattle.bytecode.specs.Layouts.{behind, Layout, Makes, Field, BadTag, read}
 use Rattle.bytecode.specs.Decoded.{operands, short_layout, repeated, any, is_operator, is_truth}
 use Rattle.bytecode.specs.declared.fault.Stopped.{Stopped}
-use Rattle.bytecode.specs.Reading.{optional, Stops}
+use Rattle.bytecode.specs.inner.Reading.{optional, Stops}
 use Rattle.bytecode.proofs.Reading.{step_ok, step_stops, seven, seven_ok, seven_stops-6}
 use Rattle.bytecode.specs.Writable.{arguments_at}
-use Rattle.bytecode.specs.Tags.{tag_byte, operands_of, made, has_operator, has_first, has_truth, has_second, has_third, has_line, has_word}
+use Rattle.bytecode.specs.inner.Tags.{tag_byte, operands_of, made, has_operator, has_first, has_truth, has_second, has_third, has_line, has_word}
 
 -- a tag with plain operands
 abbrev pub IsPlain : Tag → Type 0
@@ -64,9 +64,13 @@ same_operands ps tags.ReturnNone h = refl
 
 -- seven operands with these flags
 abbrev pub flagged : Tag → (b0 b1 b2 b3 b4 b5 b6 : Bool) → Layout Raw
-flagged tag b0 b1 b2 b3 b4 b5 b6 = seven (optional b0 (Field BadTag 1 is_operator Makes)) (optional b1 (Field BadTag 2 any Makes)) (optional b2 (Field BadTag 1 is_truth Makes)) (optional b3 (Field BadTag 2 any Makes)) (optional b4 (Field BadTag 2 any Makes)) (optional b5 (Field BadTag 4 any Makes)) (optional b6 (Field BadTag 8 any Makes)) (made tag)
+flagged tag b0 b1 b2 b3 b4 b5 b6 =
+    seven (optional b0 (Field BadTag 1 is_operator Makes)) (optional b1 (Field BadTag 2 any Makes)) (optional b2 (Field BadTag 1 is_truth Makes))
+    (optional b3 (Field BadTag 2 any Makes)) (optional b4 (Field BadTag 2 any Makes)) (optional b5 (Field BadTag 4 any Makes))
+    (optional b6 (Field BadTag 8 any Makes)) (made tag)
 
-pub same_flags : (tag : Tag) (b0 b1 b2 b3 b4 b5 b6 : Bool) → b0 ≡ has_operator tag → b1 ≡ has_first tag → b2 ≡ has_truth tag → b3 ≡ has_second tag → b4 ≡ has_third tag → b5 ≡ has_line tag → b6 ≡ has_word tag → flagged tag b0 b1 b2 b3 b4 b5 b6 ≡ operands_of tag
+pub same_flags : (tag : Tag) (b0 b1 b2 b3 b4 b5 b6 : Bool) → b0 ≡ has_operator tag → b1 ≡ has_first tag → b2 ≡ has_truth tag → b3 ≡ has_second tag
+    → b4 ≡ has_third tag → b5 ≡ has_line tag → b6 ≡ has_word tag → flagged tag b0 b1 b2 b3 b4 b5 b6 ≡ operands_of tag
 same_flags tag b0 b1 b2 b3 b4 b5 b6 e0 e1 e2 e3 e4 e5 e6 =
     ap (λ z. flagged tag z b1 b2 b3 b4 b5 b6) e0
     ∙ ap (λ z. flagged tag (has_operator tag) z b2 b3 b4 b5 b6) e1
@@ -76,15 +80,31 @@ same_flags tag b0 b1 b2 b3 b4 b5 b6 e0 e1 e2 e3 e4 e5 e6 =
     ∙ ap (λ z. flagged tag (has_operator tag) (has_first tag) (has_truth tag) (has_second tag) (has_third tag) z b6) e5
     ∙ ap (λ z. flagged tag (has_operator tag) (has_first tag) (has_truth tag) (has_second tag) (has_third tag) (has_line tag) z) e6
 
-pub operands_ok : (tag : Tag) (b0 b1 b2 b3 b4 b5 b6 : Bool) (x0 x1 x2 x3 x4 x5 x6 : ℕ) (t0 t1 t2 t3 t4 t5 t6 t7 : List ℕ) → b0 ≡ has_operator tag → b1 ≡ has_first tag → b2 ≡ has_truth tag → b3 ≡ has_second tag → b4 ≡ has_third tag → b5 ≡ has_line tag → b6 ≡ has_word tag → read (optional b0 (Field BadTag 1 is_operator Makes)) t0 ≡ Ok (x0, t1) → read (optional b1 (Field BadTag 2 any Makes)) t1 ≡ Ok (x1, t2) → read (optional b2 (Field BadTag 1 is_truth Makes)) t2 ≡ Ok (x2, t3) → read (optional b3 (Field BadTag 2 any Makes)) t3 ≡ Ok (x3, t4) → read (optional b4 (Field BadTag 2 any Makes)) t4 ≡ Ok (x4, t5) → read (optional b5 (Field BadTag 4 any Makes)) t5 ≡ Ok (x5, t6) → read (optional b6 (Field BadTag 8 any Makes)) t6 ≡ Ok (x6, t7) → read (operands_of tag) t0 ≡ Ok (made tag x0 x1 x2 x3 x4 x5 x6, t7)
+pub operands_ok : (tag : Tag) (b0 b1 b2 b3 b4 b5 b6 : Bool) (x0 x1 x2 x3 x4 x5 x6 : ℕ) (t0 t1 t2 t3 t4 t5 t6 t7 : List ℕ) → b0 ≡ has_operator tag
+    → b1 ≡ has_first tag → b2 ≡ has_truth tag → b3 ≡ has_second tag → b4 ≡ has_third tag → b5 ≡ has_line tag → b6 ≡ has_word tag
+    → read (optional b0 (Field BadTag 1 is_operator Makes)) t0 ≡ Ok (x0, t1) → read (optional b1 (Field BadTag 2 any Makes)) t1 ≡ Ok (x1, t2)
+    → read (optional b2 (Field BadTag 1 is_truth Makes)) t2 ≡ Ok (x2, t3) → read (optional b3 (Field BadTag 2 any Makes)) t3 ≡ Ok (x3, t4)
+    → read (optional b4 (Field BadTag 2 any Makes)) t4 ≡ Ok (x4, t5) → read (optional b5 (Field BadTag 4 any Makes)) t5 ≡ Ok (x5, t6)
+    → read (optional b6 (Field BadTag 8 any Makes)) t6 ≡ Ok (x6, t7) → read (operands_of tag) t0 ≡ Ok (made tag x0 x1 x2 x3 x4 x5 x6, t7)
 operands_ok tag b0 b1 b2 b3 b4 b5 b6 x0 x1 x2 x3 x4 x5 x6 t0 t1 t2 t3 t4 t5 t6 t7 e0 e1 e2 e3 e4 e5 e6 r0 r1 r2 r3 r4 r5 r6 =
     ap (λ l. read l t0) (sym (same_flags tag b0 b1 b2 b3 b4 b5 b6 e0 e1 e2 e3 e4 e5 e6))
-    ∙ seven_ok (optional b0 (Field BadTag 1 is_operator Makes)) (optional b1 (Field BadTag 2 any Makes)) (optional b2 (Field BadTag 1 is_truth Makes)) (optional b3 (Field BadTag 2 any Makes)) (optional b4 (Field BadTag 2 any Makes)) (optional b5 (Field BadTag 4 any Makes)) (optional b6 (Field BadTag 8 any Makes)) (made tag) x0 x1 x2 x3 x4 x5 x6 t0 t1 t2 t3 t4 t5 t6 t7 r0 r1 r2 r3 r4 r5 r6
+    ∙ seven_ok (optional b0 (Field BadTag 1 is_operator Makes)) (optional b1 (Field BadTag 2 any Makes)) (optional b2 (Field BadTag 1 is_truth Makes))
+    (optional b3 (Field BadTag 2 any Makes)) (optional b4 (Field BadTag 2 any Makes)) (optional b5 (Field BadTag 4 any Makes))
+    (optional b6 (Field BadTag 8 any Makes)) (made tag) x0 x1 x2 x3 x4 x5 x6 t0 t1 t2 t3 t4 t5 t6 t7 r0 r1 r2 r3 r4 r5 r6
 
-pub operands_stop : (tag : Tag) (b0 b1 b2 b3 b4 b5 b6 : Bool) (x0 x1 x2 x3 x4 x5 : ℕ) (t0 t1 t2 t3 t4 t5 t6 : List ℕ) (e : Stopped) → b0 ≡ has_operator tag → b1 ≡ has_first tag → b2 ≡ has_truth tag → b3 ≡ has_second tag → b4 ≡ has_third tag → b5 ≡ has_line tag → b6 ≡ has_word tag → read (optional b0 (Field BadTag 1 is_operator Makes)) t0 ≡ Ok (x0, t1) → read (optional b1 (Field BadTag 2 any Makes)) t1 ≡ Ok (x1, t2) → read (optional b2 (Field BadTag 1 is_truth Makes)) t2 ≡ Ok (x2, t3) → read (optional b3 (Field BadTag 2 any Makes)) t3 ≡ Ok (x3, t4) → read (optional b4 (Field BadTag 2 any Makes)) t4 ≡ Ok (x4, t5) → read (optional b5 (Field BadTag 4 any Makes)) t5 ≡ Ok (x5, t6) → Stops (read (optional b6 (Field BadTag 8 any Makes)) t6) e → Stops (read (operands_of tag) t0) e
+pub operands_stop : (tag : Tag) (b0 b1 b2 b3 b4 b5 b6 : Bool) (x0 x1 x2 x3 x4 x5 : ℕ) (t0 t1 t2 t3 t4 t5 t6 : List ℕ) (e : Stopped)
+    → b0 ≡ has_operator tag → b1 ≡ has_first tag → b2 ≡ has_truth tag → b3 ≡ has_second tag → b4 ≡ has_third tag → b5 ≡ has_line tag
+    → b6 ≡ has_word tag → read (optional b0 (Field BadTag 1 is_operator Makes)) t0 ≡ Ok (x0, t1)
+    → read (optional b1 (Field BadTag 2 any Makes)) t1 ≡ Ok (x1, t2) → read (optional b2 (Field BadTag 1 is_truth Makes)) t2 ≡ Ok (x2, t3)
+    → read (optional b3 (Field BadTag 2 any Makes)) t3 ≡ Ok (x3, t4) → read (optional b4 (Field BadTag 2 any Makes)) t4 ≡ Ok (x4, t5)
+    → read (optional b5 (Field BadTag 4 any Makes)) t5 ≡ Ok (x5, t6) → Stops (read (optional b6 (Field BadTag 8 any Makes)) t6) e
+    → Stops (read (operands_of tag) t0) e
 operands_stop tag b0 b1 b2 b3 b4 b5 b6 x0 x1 x2 x3 x4 x5 t0 t1 t2 t3 t4 t5 t6 e e0 e1 e2 e3 e4 e5 e6 r0 r1 r2 r3 r4 r5 s =
     subst (λ l. Stops (read l t0) e) (same_flags tag b0 b1 b2 b3 b4 b5 b6 e0 e1 e2 e3 e4 e5 e6)
-    (seven_stops-6 (optional b0 (Field BadTag 1 is_operator Makes)) (optional b1 (Field BadTag 2 any Makes)) (optional b2 (Field BadTag 1 is_truth Makes)) (optional b3 (Field BadTag 2 any Makes)) (optional b4 (Field BadTag 2 any Makes)) (optional b5 (Field BadTag 4 any Makes)) (optional b6 (Field BadTag 8 any Makes)) (made tag) x0 x1 x2 x3 x4 x5 t0 t1 t2 t3 t4 t5 t6 e r0 r1 r2 r3 r4 r5 s)
+    (seven_stops-6 (optional b0 (Field BadTag 1 is_operator Makes)) (optional b1 (Field BadTag 2 any Makes))
+    (optional b2 (Field BadTag 1 is_truth Makes)) (optional b3 (Field BadTag 2 any Makes)) (optional b4 (Field BadTag 2 any Makes))
+    (optional b5 (Field BadTag 4 any Makes)) (optional b6 (Field BadTag 8 any Makes)) (made tag) x0 x1 x2 x3 x4 x5 t0 t1 t2 t3 t4 t5 t6 e r0 r1 r2
+    r3 r4 r5 s)
 
 pub plain_unless_call : (tag : Tag) → (tag ≡ tags.Call → ⊥) → IsPlain tag
 plain_unless_call tags.Literal h = tt
@@ -126,7 +146,8 @@ abbrev result : List ℕ → ℕ → Layout Raw
 result ps f = behind short_layout (arguments ps f)
 
 pub call_ok : (ps : List ℕ) (f d : ℕ) (xs : List ℕ) (line : ℕ) (t0 t1 t2 t3 t4 : List ℕ) → read short_layout t0 ≡ Ok (f, t1) → read short_layout t1 ≡ Ok (d, t2)
-    → read (repeated short_layout (arguments_at ps f)) t2 ≡ Ok (xs, t3) → read line_layout t3 ≡ Ok (line, t4) → read (operands ps 0x16) t0 ≡ Ok (Call f d xs line, t4)
+    → read (repeated short_layout (arguments_at ps f)) t2 ≡ Ok (xs, t3) → read line_layout t3 ≡ Ok (line, t4)
+    → read (operands ps 0x16) t0 ≡ Ok (Call f d xs line, t4)
 call_ok ps f d xs line t0 t1 t2 t3 t4 e0 e1 e2 e3 =
     step_ok short_layout (result ps) t0 f t1 e0 ∙ step_ok short_layout (arguments ps f) t1 d t2 e1
     ∙ step_ok (repeated short_layout (arguments_at ps f)) (last f d) t2 xs t3 e2 ∙ step_ok line_layout (λ line. Makes (Call f d xs line)) t3 line t4 e3
@@ -137,8 +158,10 @@ call_stops_at_arguments ps f d t0 t1 t2 e e0 e1 s =
     subst (λ r. Stops r e) (sym (step_ok short_layout (result ps) t0 f t1 e0 ∙ step_ok short_layout (arguments ps f) t1 d t2 e1))
     (step_stops (repeated short_layout (arguments_at ps f)) (last f d) t2 e s)
 
-pub call_stops_at_line : (ps : List ℕ) (f d : ℕ) (xs : List ℕ) (t0 t1 t2 t3 : List ℕ) (e : Stopped) → read short_layout t0 ≡ Ok (f, t1) → read short_layout t1 ≡ Ok (d, t2)
+pub call_stops_at_line : (ps : List ℕ) (f d : ℕ) (xs : List ℕ) (t0 t1 t2 t3 : List ℕ) (e : Stopped) → read short_layout t0 ≡ Ok (f, t1)
+    → read short_layout t1 ≡ Ok (d, t2)
     → read (repeated short_layout (arguments_at ps f)) t2 ≡ Ok (xs, t3) → Stops (read line_layout t3) e → Stops (read (operands ps 0x16) t0) e
 call_stops_at_line ps f d xs t0 t1 t2 t3 e e0 e1 e2 s =
-    subst (λ r. Stops r e) (sym (step_ok short_layout (result ps) t0 f t1 e0 ∙ step_ok short_layout (arguments ps f) t1 d t2 e1 ∙ step_ok (repeated short_layout (arguments_at ps f)) (last f d) t2 xs t3 e2))
+    subst (λ r. Stops r e) (sym (step_ok short_layout (result ps) t0 f t1 e0 ∙ step_ok short_layout (arguments ps f) t1 d t2 e1
+    ∙ step_ok (repeated short_layout (arguments_at ps f)) (last f d) t2 xs t3 e2))
     (step_stops line_layout (λ line. Makes (Call f d xs line)) t3 e s)

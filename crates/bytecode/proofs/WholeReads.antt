@@ -9,7 +9,7 @@ use Rattle.bytecode.specs.declared.heads.Head as heads
 use Rattle.bytecode.specs.InMemory.{raw_code, raw_head}
 use Rattle.bytecode.specs.Layouts.{BadTag, Trailing, Layout, Makes, Field, Read, read, behind}
 use Rattle.bytecode.specs.Raw.{RawFunction, RawCode}
-use Rattle.bytecode.specs.Reading.{Reads, Stops}
+use Rattle.bytecode.specs.inner.Reading.{Reads, Stops}
 use Rattle.bytecode.specs.Decoded.{Head, bodies_layout, code_layout, decoded, functions_layout, heads_layout, is_some_count, names_layout, short_layout, whole}
 use Rattle.bytecode.specs.Decoding.{IsDecoded, opening_layout, settled, some_functions_layout}
 use Rattle.bytecode.proofs.Reading.{reads_behind, step_ok, step_stops}

@@ -2,9 +2,10 @@
 use Rattle.std.specs.Prelude.{ℕ, zero, suc, ◌-◌, ◌==◌, ◌&&◌, not, nat_lt, List, [], ◌∷◌, length, map, Bool, true, Option, Result, Ok, Err, if◌then◌else◌}
 use Rattle.bytecode.specs.declared.kind.Kind.{Kind}
 use Rattle.bytecode.specs.Kinds.{is_kind, kind_of, is_return, return_of}
-use Rattle.bytecode.specs.Raw.{Raw, Literal, Move, Store, Binary, Not, Cast, Classify, Fill, At, Put, Size, Cat, Sum, Bits, Declassify, Argument, Publish, Assert, Branch, Jump, Call, Return, ReturnNone, RawFunction, RawCode}
+use Rattle.bytecode.specs.Raw.{Raw, Literal, Move, Store, Binary, Not, Cast, Classify, Fill, At, Put, Size, Cat, Sum, Bits, Declassify, Argument}
+use Rattle.bytecode.specs.Raw.{Publish, Assert, Branch, Jump, Call, Return, ReturnNone, RawFunction, RawCode}
 use Rattle.bytecode.specs.Writable.{arguments_at, is_new_name}
-use Rattle.bytecode.specs.declared.fault.Fault.{Fault}
+use Rattle.bytecode.specs.declared.fault.DecodeFault.{DecodeFault}
 use Rattle.bytecode.specs.Layouts.{BadTag, BadVersion, Trailing, Layout, Makes, Field, NameField, Read, read, behind}
 
 abbrev pub any : ℕ → Bool
@@ -129,13 +130,13 @@ code_layout =
 -- ---- a whole text
 
 -- the text, of so many bytes, has to end behind what was read
-abbrev pub ended : {A : Type 0} → ℕ → A → List ℕ → Result A Fault
+abbrev pub ended : {A : Type 0} → ℕ → A → List ℕ → Result A DecodeFault
 ended size a [] = Ok a
 ended size a (b ∷ left) = Err (record { kind = Trailing; place = size - length (b ∷ left) })
 
-abbrev pub whole : {A : Type 0} → ℕ → Read A → Result A Fault
+abbrev pub whole : {A : Type 0} → ℕ → Read A → Result A DecodeFault
 whole size (Ok x) = ended size x.0 x.1
 whole size (Err e) = Err (record { kind = e.0; place = size - length e.1 })
 
-abbrev pub decoded : List ℕ → Result RawCode Fault
+abbrev pub decoded : List ℕ → Result RawCode DecodeFault
 decoded text = whole (length text) (read code_layout text)

@@ -1,7 +1,7 @@
 -- The parts in which a text of code is read, and what is answered of the whole.
 use Rattle.std.specs.Prelude.{◌≡◌, ℕ, ◌-◌, ◌==◌, List, Result, Ok, Err, nat_eq, if◌then◌else◌}
 use Rattle.bytecode.specs.declared.code.Code.{Code}
-use Rattle.bytecode.specs.declared.fault.Fault.{Fault}
+use Rattle.bytecode.specs.declared.fault.DecodeFault.{DecodeFault}
 use Rattle.bytecode.specs.declared.fault.DecodeErr.{DecodeErr}
 use Rattle.bytecode.specs.declared.fault.DecodeErr.TheVariants as decoding
 use Rattle.bytecode.specs.declared.fault.Stopped.{Stopped}
@@ -24,7 +24,7 @@ abbrev pub some_functions_layout : Layout (List RawFunction)
 some_functions_layout = Field BadTag 2 is_some_count functions_layout
 
 -- the code, or the first fault, unless memory ran short
-abbrev pub IsDecoded : Result RawCode Fault → Result Code DecodeErr → Type 0
+abbrev pub IsDecoded : Result RawCode DecodeFault → Result Code DecodeErr → Type 0
 IsDecoded d (Ok code) = d ≡ Ok (raw_code code)
 IsDecoded d (Err (decoding.Refused fault)) = d ≡ Err fault
 IsDecoded d (Err decoding.Memory) = Unit {0}

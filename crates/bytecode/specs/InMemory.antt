@@ -5,11 +5,12 @@ use Rattle.bytecode.specs.declared.operator.BinaryOperator.TheVariants as operat
 use Rattle.bytecode.specs.declared.instruction.Register.{Register}
 use Rattle.bytecode.specs.declared.instruction.Instruction.{Instruction}
 use Rattle.bytecode.specs.declared.instruction.Instruction.TheVariants as instructions
-use Rattle.bytecode.specs.declared.code.Function.{Function}
+use Rattle.bytecode.specs.declared.code.CodeFunction.{CodeFunction}
 use Rattle.bytecode.specs.declared.code.Code.{Code}
 use Rattle.bytecode.specs.declared.heads.Head as heads
 use Rattle.bytecode.specs.Decoded.{Head}
-use Rattle.bytecode.specs.Raw.{Raw, Literal, Move, Store, Binary, Not, Cast, Classify, Fill, At, Put, Size, Cat, Sum, Bits, Declassify, Argument, Publish, Assert, Branch, Jump, Call, Return, ReturnNone, RawFunction, RawCode}
+use Rattle.bytecode.specs.Raw.{Raw, Literal, Move, Store, Binary, Not, Cast, Classify, Fill, At, Put, Size, Cat, Sum, Bits, Declassify, Argument}
+use Rattle.bytecode.specs.Raw.{Publish, Assert, Branch, Jump, Call, Return, ReturnNone, RawFunction, RawCode}
 
 abbrev pub operator_byte : BinaryOperator → ℕ
 operator_byte operators.Add = 0
@@ -60,7 +61,7 @@ raw_instruction (instructions.Call f d arguments line) = Call f.0 (result_regist
 raw_instruction (instructions.Return r) = Return r.0
 raw_instruction instructions.ReturnNone = ReturnNone
 
-abbrev pub raw_function : Function → RawFunction
+abbrev pub raw_function : CodeFunction → RawFunction
 raw_function f = record {
   parameters = f.parameters;
   gives = f.gives;

@@ -6,8 +6,5 @@ pub mod Layouts
 pub mod Decoded
 pub mod Decoding
 pub mod InMemory
-pub mod Numbers
-pub mod Reading
-pub mod Tests
-pub mod Tags
 pub mod Vectors
+pub mod inner

@@ -4,7 +4,7 @@ use sc_text::Name;
 
 /// A function. Its parameters are its first registers.
 #[derive(Drop)]
-pub struct Function {
+pub struct CodeFunction {
     pub parameters: u16,
     /// What the function gives back, if anything.
     pub gives: Option<Kind>,
@@ -17,5 +17,5 @@ pub struct Function {
 #[derive(Drop)]
 pub struct Code {
     pub names: Vec<Name>,
-    pub functions: Vec<Function>,
+    pub functions: Vec<CodeFunction>,
 }

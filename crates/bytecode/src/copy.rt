@@ -2,7 +2,7 @@
 ghost use Rattle.std.specs.Prelude.{◌≡◌, IfOk, map};
 ghost use Rattle.bytecode.specs.InMemory.{raw_code, raw_function, raw_instruction};
 
-use crate::code::{Code, Function};
+use crate::code::{Code, CodeFunction};
 use crate::instruction::{Instruction, Register};
 use crate::kind::Kind;
 use sc_text::Name;
@@ -195,14 +195,14 @@ fn copy_body(alloc: Global, body: &[Instruction]) -> Result<Vec<Instruction>, Al
     Ok(copies)
 }
 
-impl Function {
+impl CodeFunction {
     /// The same function in memory of its own.
-    pub fn copy(&self, alloc: Global) -> Result<Function, AllocError>
+    pub fn copy(&self, alloc: Global) -> Result<CodeFunction, AllocError>
         ensures { IfOk result (λ copy. raw_function copy ≡ raw_function self.now) }
     {
         let registers = copy_kinds(alloc, &self.registers)?;
         let body = copy_body(alloc, &self.body)?;
-        Ok(Function {
+        Ok(CodeFunction {
             parameters: self.parameters,
             gives: self.gives,
             registers,
@@ -211,7 +211,10 @@ impl Function {
     }
 }
 
-fn copy_functions(alloc: Global, functions: &[Function]) -> Result<Vec<Function>, AllocError>
+fn copy_functions(
+    alloc: Global,
+    functions: &[CodeFunction],
+) -> Result<Vec<CodeFunction>, AllocError>
     ensures { IfOk result (λ copies. map raw_function copies.items ≡ map raw_function functions.now) }
 {
     let mut copies = Vec::with_capacity(alloc, functions.len())?;

@@ -5,10 +5,10 @@ ghost use Rattle.bytecode.specs.Decoded.{bodies_layout, code_layout, decoded};
 ghost use Rattle.bytecode.specs.Decoding.{IsDecoded, function_layout, opening_layout, settled, some_functions_layout};
 ghost use Rattle.bytecode.specs.InMemory.{raw_code, raw_function, raw_head};
 ghost use Rattle.bytecode.specs.Layouts.{read};
-ghost use Rattle.bytecode.specs.Reading.{Reads};
+ghost use Rattle.bytecode.specs.inner.Reading.{Reads};
 
-use crate::code::{Code, Function};
-use crate::fault::{DecodeErr, Fault, FaultKind, Stopped};
+use crate::code::{Code, CodeFunction};
+use crate::fault::{DecodeErr, DecodeFault, FaultKind, Stopped};
 use crate::heads::{Head, all_heads};
 use crate::names::all_names;
 use crate::operands::body;
@@ -48,11 +48,11 @@ fn function(
     reader: &mut Reader<'_>,
     parameters: &[u16],
     head: Head,
-) -> Result<Function, Stopped>
+) -> Result<CodeFunction, Stopped>
     ensures { Reads raw_function (read (function_layout parameters.now (raw_head head)) reader.old) result reader.new }
 {
     let body = body(alloc, reader, parameters, head.instructions as usize)?;
-    Ok(Function {
+    Ok(CodeFunction {
         parameters: head.parameters,
         gives: head.gives,
         registers: head.registers,
@@ -60,7 +60,10 @@ fn function(
     })
 }
 
-fn push_function(functions: &mut Vec<Function>, function: Function) -> Result<(), AllocError>
+fn push_function(
+    functions: &mut Vec<CodeFunction>,
+    function: CodeFunction,
+) -> Result<(), AllocError>
     ensures { OnOk result (functions.new.items ≡ functions.old.items ++ function ∷ []) }
 {
     functions.push(function)?;
@@ -72,7 +75,7 @@ fn bodies(
     reader: &mut Reader<'_>,
     parameters: &[u16],
     heads: Vec<Head>,
-) -> Result<Vec<Function>, Stopped>
+) -> Result<Vec<CodeFunction>, Stopped>
     ensures { Reads (λ v. map raw_function v.items) (read (bodies_layout parameters.now (map raw_head heads.items)) reader.old) result reader.new }
 {
     let mut functions = Vec::new(alloc);
@@ -83,7 +86,7 @@ fn bodies(
     Ok(functions)
 }
 
-fn functions(alloc: Global, reader: &mut Reader<'_>) -> Result<Vec<Function>, Stopped>
+fn functions(alloc: Global, reader: &mut Reader<'_>) -> Result<Vec<CodeFunction>, Stopped>
     ensures { Reads (λ v. map raw_function v.items) (read some_functions_layout reader.old) result reader.new }
 {
     let count = reader.count()?;
@@ -105,7 +108,7 @@ fn code(alloc: Global, reader: &mut Reader<'_>) -> Result<Code, Stopped>
 fn fault(kind: FaultKind, size: usize, left: usize) -> DecodeErr
     ensures { result ≡ Refused (record { kind = kind; place = size - left }) }
 {
-    DecodeErr::Refused(Fault {
+    DecodeErr::Refused(DecodeFault {
         kind,
         place: size.saturating_sub(left),
     })

@@ -5,7 +5,7 @@ ghost use Rattle.bytecode.specs.InMemory.{raw_code, raw_function, raw_instructio
 ghost use Rattle.bytecode.specs.Kinds.{kind_byte};
 ghost use Rattle.bytecode.specs.Written.{body_numbers, byte, bytes_of, head_numbers, instruction_numbers, name_numbers, written_code};
 
-use crate::code::{Code, Function};
+use crate::code::{Code, CodeFunction};
 use crate::instruction::Instruction;
 use crate::kind::{Kind, return_byte};
 use crate::numbers::{Number, push_numbers};
@@ -49,7 +49,7 @@ fn push_kinds(text: &mut Vec<u8>, kinds: &[Kind]) -> Result<(), AllocError>
     Ok(())
 }
 
-fn push_head(text: &mut Vec<u8>, function: &Function) -> Result<(), AllocError>
+fn push_head(text: &mut Vec<u8>, function: &CodeFunction) -> Result<(), AllocError>
     ensures { OnOk result (text.new.items ≡ text.old.items ++ bytes_of (head_numbers (raw_function function.now))) }
 {
     let gives = return_byte(function.gives);
@@ -76,7 +76,7 @@ fn push_body(text: &mut Vec<u8>, body: &[Instruction]) -> Result<(), AllocError>
     Ok(())
 }
 
-fn push_heads(text: &mut Vec<u8>, functions: &[Function]) -> Result<(), AllocError>
+fn push_heads(text: &mut Vec<u8>, functions: &[CodeFunction]) -> Result<(), AllocError>
     ensures { OnOk result (text.new.items ≡ text.old.items ++ bytes_of (flat_map head_numbers (map raw_function functions.now))) }
 {
     for function in functions {
@@ -85,7 +85,7 @@ fn push_heads(text: &mut Vec<u8>, functions: &[Function]) -> Result<(), AllocErr
     Ok(())
 }
 
-fn push_bodies(text: &mut Vec<u8>, functions: &[Function]) -> Result<(), AllocError>
+fn push_bodies(text: &mut Vec<u8>, functions: &[CodeFunction]) -> Result<(), AllocError>
     ensures { OnOk result (text.new.items ≡ text.old.items ++ bytes_of (flat_map body_numbers (map raw_function functions.now))) }
 {
     for function in functions {

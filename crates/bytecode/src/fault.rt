@@ -18,7 +18,7 @@ pub enum FaultKind {
 
 /// The first fault of a text, and at which byte it is.
 #[derive(Clone, Copy)]
-pub struct Fault {
+pub struct DecodeFault {
     pub kind: FaultKind,
     pub place: usize,
 }
@@ -26,7 +26,7 @@ pub struct Fault {
 /// Why there is no code of a text: its first fault, or memory ran short.
 #[derive(Clone, Copy)]
 pub enum DecodeErr {
-    Refused(Fault),
+    Refused(DecodeFault),
     Memory,
 }
 

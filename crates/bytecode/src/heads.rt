@@ -3,7 +3,7 @@ ghost use Rattle.std.specs.Prelude.{◌≡◌, ◌++◌, ◌∷◌, [], OnOk, ma
 ghost use Rattle.bytecode.specs.Decoded.{head_layout, heads_layout, kind_layout, repeated};
 ghost use Rattle.bytecode.specs.InMemory.{raw_head};
 ghost use Rattle.bytecode.specs.Layouts.{read};
-ghost use Rattle.bytecode.specs.Reading.{Reads};
+ghost use Rattle.bytecode.specs.inner.Reading.{Reads};
 
 use crate::fault::Stopped;
 use crate::kind::{Kind, kind_of, return_of};

@@ -14,7 +14,7 @@ pub struct FunctionPlace(pub u16);
 
 /// An instruction of a function, by its place.
 #[derive(Clone, Copy)]
-pub struct Target(pub u16);
+pub struct JumpTarget(pub u16);
 
 /// An instruction. A line is that of the construct in the program; it stands where a trap can come.
 pub enum Instruction {
@@ -116,10 +116,10 @@ pub enum Instruction {
     Branch {
         condition: Register,
         value: bool,
-        target: Target,
+        target: JumpTarget,
     },
     Jump {
-        target: Target,
+        target: JumpTarget,
     },
     /// A call; the result is let go where there is no register for it. A result in register 65535 counts as none.
     Call {

@@ -4,7 +4,7 @@ ghost use Rattle.std.specs.List.{list_any};
 ghost use Rattle.std.specs.Str.{bytes_eq};
 ghost use Rattle.bytecode.specs.Decoded.{names_layout};
 ghost use Rattle.bytecode.specs.Layouts.{read, Makes, NameField};
-ghost use Rattle.bytecode.specs.Reading.{Reads};
+ghost use Rattle.bytecode.specs.inner.Reading.{Reads};
 ghost use Rattle.bytecode.specs.Writable.{is_new_name};
 
 use crate::fault::{FaultKind, Stopped};

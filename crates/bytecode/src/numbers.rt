@@ -1,6 +1,6 @@
 // Numbers, each in so many bytes, the lowest first.
 ghost use Rattle.std.specs.Prelude.{◌≡◌, ◌++◌, OnOk};
-ghost use Rattle.bytecode.specs.Numbers.{numbers_in};
+ghost use Rattle.bytecode.specs.inner.Numbers.{numbers_in};
 ghost use Rattle.bytecode.specs.Written.{bytes_of, little};
 
 use std::alloc::AllocError;

@@ -3,12 +3,12 @@ ghost use Rattle.std.specs.Prelude.{◌≡◌, ◌<◌, ◌++◌, ◌∷◌, [],
 ghost use Rattle.bytecode.specs.Decoded.{body_layout, instruction_layout, operands, repeated, short_layout};
 ghost use Rattle.bytecode.specs.InMemory.{raw_instruction, result_register};
 ghost use Rattle.bytecode.specs.Layouts.{read};
-ghost use Rattle.bytecode.specs.Reading.{Reads};
-ghost use Rattle.bytecode.specs.Tags.{made, operands_of};
+ghost use Rattle.bytecode.specs.inner.Reading.{Reads};
+ghost use Rattle.bytecode.specs.inner.Tags.{made, operands_of};
 ghost use Rattle.bytecode.specs.Writable.{arguments_at};
 
 use crate::fault::Stopped;
-use crate::instruction::{FunctionPlace, Instruction, NamePlace, Register, Target};
+use crate::instruction::{FunctionPlace, Instruction, JumpTarget, NamePlace, Register};
 use crate::operator::operator_of;
 use crate::reader::Reader;
 use crate::tag::{Tag, tag_of};
@@ -122,10 +122,10 @@ fn made(tag: Tag, o: Operands) -> Instruction
         Tag::Branch => Instruction::Branch {
             condition: Register(o.first),
             value: o.truth == 1,
-            target: Target(o.second),
+            target: JumpTarget(o.second),
         },
         Tag::Jump => Instruction::Jump {
-            target: Target(o.first),
+            target: JumpTarget(o.first),
         },
         Tag::Return => Instruction::Return {
             source: Register(o.first),

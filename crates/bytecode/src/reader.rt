@@ -1,9 +1,9 @@
 // What is left of a text, read number by number.
 ghost use Rattle.std.specs.Prelude.{◌≡◌, ◌==◌, ◌≤◌, ◌<◌, ◌^◌, ◌∷◌, [], List, ℕ, length, drop, IfOk, IsTrue, MatchResult};
 ghost use Rattle.bytecode.specs.Decoded.{any, is_operator, is_some_count, is_truth};
-ghost use Rattle.bytecode.specs.Tests.{passes};
+ghost use Rattle.bytecode.specs.inner.Tests.{passes};
 ghost use Rattle.bytecode.specs.Layouts.{characters, number, read, Field, Makes};
-ghost use Rattle.bytecode.specs.Reading.{Reads, optional};
+ghost use Rattle.bytecode.specs.inner.Reading.{Reads, optional};
 ghost use Rattle.bytecode.specs.declared.fault.FaultKind.TheVariants.{BadTag, Truncated};
 ghost use Rattle.bytecode.specs.declared.fault.Stopped.TheVariants.{Refused};
 

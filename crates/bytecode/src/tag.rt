@@ -1,6 +1,6 @@
 ghost use Rattle.std.specs.Prelude.{◌≡◌, IsTrue};
 ghost use Rattle.bytecode.specs.Decoded.{is_tag};
-ghost use Rattle.bytecode.specs.Tags.{has_first, has_line, has_operator, has_second, has_third, has_truth, has_word, tag_byte};
+ghost use Rattle.bytecode.specs.inner.Tags.{has_first, has_line, has_operator, has_second, has_third, has_truth, has_word, tag_byte};
 
 /// Which instruction it is.
 #[derive(Clone, Copy)]

@@ -1,5 +1,5 @@
 ghost use Rattle.std.specs.Prelude.{◌≡◌};
-ghost use Rattle.bytecode.specs.Tests.{passes};
+ghost use Rattle.bytecode.specs.inner.Tests.{passes};
 
 /// What a number that is read has to be.
 #[derive(Clone, Copy)]

@@ -15,9 +15,11 @@ use Rattle.clear_eval.proofs.Runs.{carry-carry}
 abbrev pub behind_those : List Value → List Value → Effect (List Value)
 behind_those vs xs = done (vs ++ xs)
 
-pub arguments_more : (w : World) (calls : Calls) (here : Setting) (b : List BoundDomain) (ss : List Slot) (e : TypedTree) (es : TypedTrees) (fr : Frame) (vs : List Value) (private : Bool) (v a : Value) (s s1 s2 : Stage)
+pub arguments_more : (w : World) (calls : Calls) (here : Setting) (b : List BoundDomain) (ss : List Slot) (e : TypedTree) (es : TypedTrees)
+    (fr : Frame) (vs : List Value) (private : Bool) (v a : Value) (s s1 s2 : Stage)
     → private ≡ next_is_private b ss → value w calls here e fr s ≡ Ok (v, s1) → wanted private v s1 ≡ Ok (a, s2)
-    → carry (arguments w calls here b ss (also e es) fr s) (behind_those vs) ≡ carry (arguments w calls here b (behind_next ss) es fr s2) (behind_those (vs ++ a ∷ []))
+    → carry (arguments w calls here b ss (also e es) fr s) (behind_those vs)
+    ≡ carry (arguments w calls here b (behind_next ss) es fr s2) (behind_those (vs ++ a ∷ []))
 unfolding value
 arguments_more w calls here b ss e es fr vs private v a s s1 s2 p h h' =
     ap (λ r. carry (carry r behind_value) (behind_those vs)) h

@@ -9,15 +9,15 @@ use Rattle.reached_instances.specs.declared.instance.BoundDomain.{BoundDomain}
 use Rattle.language_model.specs.Effects.{World, Stage, Effect, carry, end, charge}
 use Rattle.language_model.specs.Values.{Value}
 use Rattle.language_model.specs.Evaluation.{call_at, body_of, array_elements}
-use Rattle.clear_eval.specs.Calling.{call_charged}
+use Rattle.clear_eval.specs.inner.Calling.{call_charged}
 use Rattle.clear_eval.proofs.Runs.{carry-carry}
 
-abbrev pub body_behind : World → List TypedFunctionTree → (room k : ℕ) → List BoundDomain → List Value → Unit {0} → Effect Value
-body_behind w fs room k b xs u = body_of w (call_at w fs (room - 1)) fs (slice_get fs k) b xs
+abbrev pub body_behind : World → List TypedFunctionTree → (depth k : ℕ) → List BoundDomain → List Value → Unit {0} → Effect Value
+body_behind w fs depth k b xs u = body_of w (call_at w fs (depth - 1)) fs (slice_get fs k) b xs
 
 -- what a call is charged comes first, and then the body
-pub call_run : (w : World) (fs : List TypedFunctionTree) (room line k : ℕ) (b : List BoundDomain) (xs : List Value) (s : Stage)
-    → call_at w fs room line k b xs s ≡ carry (call_charged room line xs s) (body_behind w fs room k b xs)
+pub call_run : (w : World) (fs : List TypedFunctionTree) (depth line k : ℕ) (b : List BoundDomain) (xs : List Value) (s : Stage)
+    → call_at w fs depth line k b xs s ≡ carry (call_charged depth line xs s) (body_behind w fs depth k b xs)
 unfolding call_at
 call_run w fs zero line k b xs s = sym (carry-carry (charge 1 s) (λ u. end {A = Unit {0}} (ending.Trap trap.Depth line)) (body_behind w fs zero k b xs))
 call_run w fs (suc d) line k b xs s =

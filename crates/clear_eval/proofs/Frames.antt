@@ -9,7 +9,7 @@ use Rattle.language_model.specs.Values.{Value}
 use Rattle.language_model.specs.Evaluation.{Frame, put, nothing}
 use Rattle.value_steps.specs.declared.value.Value as held
 use Rattle.value_steps.specs.Views.{value_seen}
-use Rattle.clear_eval.specs.Views.{frame_seen}
+use Rattle.clear_eval.specs.inner.Views.{frame_seen}
 
 pub frame-put : (vs : List held.Value) (k : ℕ) (v : held.Value) → k < length vs → frame_seen (set vs k v) ≡ put k (value_seen v) (frame_seen vs)
 unfolding frame_seen
@@ -18,7 +18,8 @@ frame-put vs k v h = fun_ext (λ j. at j (nat_eq j k) refl)
     there : k < length (map value_seen vs)
     there = simp (length-map) h
 
-    at : (j : ℕ) (b : Bool) → nat_eq j k ≡ b → get_or (map value_seen (set vs k v)) j nothing ≡ (if b then value_seen v else get_or (map value_seen vs) j nothing)
+    at : (j : ℕ) (b : Bool) → nat_eq j k ≡ b
+        → get_or (map value_seen (set vs k v)) j nothing ≡ (if b then value_seen v else get_or (map value_seen vs) j nothing)
     at j true e = ap (λ l. get_or l j nothing) (map-set value_seen vs k v) ∙ get_or-set_at (map value_seen vs) k j (value_seen v) nothing (eqb-true j k e) there
     at j false e = ap (λ l. get_or l j nothing) (map-set value_seen vs k v) ∙ get_or-set_other (map value_seen vs) k j (value_seen v) nothing (eqb-false j k e)
 

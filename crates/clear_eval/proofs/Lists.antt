@@ -9,7 +9,7 @@ use Rattle.typed_tree.specs.Tree.{TypedTrees, also, typed_tree, typed_trees_of}
 use Rattle.typed_tree.specs.Commands.{Commands, command, commands_of}
 use Rattle.typed_tree.specs.Sound.{IsSoundTree, AreSoundTrees, IsSoundCommand, AreSoundCommands, count_of}
 use Rattle.language_model.specs.Evaluation.{behind_next}
-use Rattle.clear_eval.specs.Measures.{weight, weight_of_all, command_weight, commands_weight}
+use Rattle.clear_eval.specs.inner.Measures.{weight, weight_of_all, command_weight, commands_weight}
 
 abbrev pub trees : List TypedExpression → TypedTrees
 trees es = typed_trees_of (map typed_tree es)
@@ -22,23 +22,27 @@ lighter_tree [] i d h = absurd (omega arith)
 lighter_tree (e ∷ es) zero d h = omega arith
 lighter_tree (e ∷ es) (suc i) d h = let more = lighter_tree es i d (omega arith) in omega arith
 
-pub sound_tree : (n : ℕ) (ps : List ℕ) (es : List TypedExpression) (i : ℕ) (d : TypedExpression) → AreSoundTrees n ps (trees es) → i < length es → IsSoundTree n ps (typed_tree (get_or es i d))
+pub sound_tree : (n : ℕ) (ps : List ℕ) (es : List TypedExpression) (i : ℕ) (d : TypedExpression) → AreSoundTrees n ps (trees es) → i < length es
+    → IsSoundTree n ps (typed_tree (get_or es i d))
 sound_tree n ps [] i d a h = absurd (omega arith)
 sound_tree n ps (e ∷ es) zero d a h = a.0
 sound_tree n ps (e ∷ es) (suc i) d a h = sound_tree n ps es i d a.1 (omega arith)
 
-pub lighter_command : (ss : List TypedStatement) (i : ℕ) (d : TypedStatement) → i < length ss → command_weight (command (get_or ss i d)) < commands_weight (commands ss)
+pub lighter_command : (ss : List TypedStatement) (i : ℕ) (d : TypedStatement) → i < length ss
+    → command_weight (command (get_or ss i d)) < commands_weight (commands ss)
 lighter_command [] i d h = absurd (omega arith)
 lighter_command (c ∷ ss) zero d h = omega arith
 lighter_command (c ∷ ss) (suc i) d h = let more = lighter_command ss i d (omega arith) in omega arith
 
-pub sound_command : (n : ℕ) (ps : List ℕ) (ss : List TypedStatement) (i : ℕ) (d : TypedStatement) → AreSoundCommands n ps (commands ss) → i < length ss → IsSoundCommand n ps (command (get_or ss i d))
+pub sound_command : (n : ℕ) (ps : List ℕ) (ss : List TypedStatement) (i : ℕ) (d : TypedStatement) → AreSoundCommands n ps (commands ss)
+    → i < length ss → IsSoundCommand n ps (command (get_or ss i d))
 sound_command n ps [] i d a h = absurd (omega arith)
 sound_command n ps (c ∷ ss) zero d a h = a.0
 sound_command n ps (c ∷ ss) (suc i) d a h = sound_command n ps ss i d a.1 (omega arith)
 
 -- the list from a place on begins with what stands there
-pub trees-drop : (es : List TypedExpression) (i : ℕ) (d : TypedExpression) → i < length es → trees (drop i es) ≡ also (typed_tree (get_or es i d)) (trees (drop (i + 1) es))
+pub trees-drop : (es : List TypedExpression) (i : ℕ) (d : TypedExpression) → i < length es
+    → trees (drop i es) ≡ also (typed_tree (get_or es i d)) (trees (drop (i + 1) es))
 trees-drop es i d h = ap trees (drop-cons es i d h) ∙ ap (λ n. also (typed_tree (get_or es i d)) (trees (drop n es))) (sym (add-one i))
 
 pub behind-drop : (ss : List Slot) (i : ℕ) → behind_next (drop i ss) ≡ drop (i + 1) ss

@@ -29,7 +29,8 @@ turns_begin condition step body fr s = record { rest = s.left; enough = omega ar
 pub repeats_begin : (condition : Frame → Effect Value) (body : Frame → Effect Flow) (fr : Frame) (s : Stage) → Repeats condition body fr s fr s
 repeats_begin condition body fr s = record { rest = s.left; enough = omega arith; same = ap (λ n. repeats n condition body fr s) (add-one s.left) }
 
-module _ (condition : Frame → Effect Value) (step body : Frame → Effect Flow) (fr0 : Frame) (s0 : Stage) (fr : Frame) (s : Stage) (t : Turns condition step body fr0 s0 fr s) where
+module _ (condition : Frame → Effect Value) (step body : Frame → Effect Flow) (fr0 : Frame) (s0 : Stage) (fr : Frame) (s : Stage)
+    (t : Turns condition step body fr0 s0 fr s) where
   abbrev pub behind_step : Flow → Effect Flow
   behind_step h = turned h (turns t.rest condition step body)
 
@@ -62,19 +63,22 @@ module _ (condition : Frame → Effect Value) (step body : Frame → Effect Flow
       → ((next : Frame → Effect Flow) → turned g next ≡ done out) → whole_turns condition step body fr0 s0 ≡ Ok (out, s3)
   left_behind_body s2 s3 g out h h' on = behind_the_body s2 s3 g h h' ∙ ap (λ (e : Effect Flow). e s3) (on (λ f u. carry (step f u) behind_step))
 
-  pub left_behind_step : (s3 s4 : Stage) (f : Frame) (g out : Flow) → whole_turns condition step body fr0 s0 ≡ carry (step f s3) behind_step → step f s3 ≡ Ok (g, s4)
+  pub left_behind_step : (s3 s4 : Stage) (f : Frame) (g out : Flow) → whole_turns condition step body fr0 s0 ≡ carry (step f s3) behind_step
+      → step f s3 ≡ Ok (g, s4)
       → ((next : Frame → Effect Flow) → turned g next ≡ done out) → whole_turns condition step body fr0 s0 ≡ Ok (out, s4)
   left_behind_step s3 s4 f g out h h' on = h ∙ ap (λ r. carry r behind_step) h' ∙ ap (λ (e : Effect Flow). e s4) (on (turns t.rest condition step body))
 
   pub next_turn : (s3 s4 : Stage) (f f' : Frame) (g : Flow) → whole_turns condition step body fr0 s0 ≡ carry (step f s3) behind_step → step f s3 ≡ Ok (g, s4)
       → ((next : Frame → Effect Flow) → turned g next ≡ next f') → s4.left < s.left → Turns condition step body fr0 s0 f' s4
-  next_turn s3 s4 f f' g h h' on less = go t.rest t.enough (h ∙ ap (λ r. carry r behind_step) h' ∙ ap (λ (e : Effect Flow). e s4) (on (turns t.rest condition step body)))
+  next_turn s3 s4 f f' g h h' on less =
+      go t.rest t.enough (h ∙ ap (λ r. carry r behind_step) h' ∙ ap (λ (e : Effect Flow). e s4) (on (turns t.rest condition step body)))
     where
       go : (n : ℕ) → s.left ≤ n → whole_turns condition step body fr0 s0 ≡ turns n condition step body f' s4 → Turns condition step body fr0 s0 f' s4
       go zero enough same = absurd (omega arith)
       go (suc n) enough same = record { rest = n; enough = omega arith; same = same }
 
-module _ (condition : Frame → Effect Value) (body : Frame → Effect Flow) (fr0 : Frame) (s0 : Stage) (fr : Frame) (s : Stage) (t : Repeats condition body fr0 s0 fr s) where
+module _ (condition : Frame → Effect Value) (body : Frame → Effect Flow) (fr0 : Frame) (s0 : Stage) (fr : Frame) (s : Stage)
+    (t : Repeats condition body fr0 s0 fr s) where
   abbrev pub again_on : Frame → Bool → Effect Flow
   again_on f b = either b (repeats t.rest condition body f) (done (goes f))
 
@@ -91,14 +95,18 @@ module _ (condition : Frame → Effect Value) (body : Frame → Effect Flow) (fr
       ∙ ap (λ (e : Effect Flow). e s1) (on (λ f u. carry (condition f u) (λ v w. carry (tested v w) (again_on f))))
       ∙ sym (carry-carry (condition f s1) tested (again_on f))
 
-  pub again_left : (s1 : Stage) (g out : Flow) → body fr s ≡ Ok (g, s1) → ((next : Frame → Effect Flow) → turned g next ≡ done out) → whole_repeats condition body fr0 s0 ≡ Ok (out, s1)
-  again_left s1 g out h on = again_at_body ∙ ap (λ r. carry r again_behind_body) h ∙ ap (λ (e : Effect Flow). e s1) (on (λ f u. carry (condition f u) (λ v w. carry (tested v w) (again_on f))))
+  pub again_left : (s1 : Stage) (g out : Flow) → body fr s ≡ Ok (g, s1) → ((next : Frame → Effect Flow) → turned g next ≡ done out)
+      → whole_repeats condition body fr0 s0 ≡ Ok (out, s1)
+  again_left s1 g out h on = again_at_body ∙ ap (λ r. carry r again_behind_body) h
+      ∙ ap (λ (e : Effect Flow). e s1) (on (λ f u. carry (condition f u) (λ v w. carry (tested v w) (again_on f))))
 
-  pub again_ended : (s1 s3 : Stage) (f : Frame) → whole_repeats condition body fr0 s0 ≡ carry (carry (condition f s1) tested) (again_on f) → carry (condition f s1) tested ≡ Ok (false, s3)
+  pub again_ended : (s1 s3 : Stage) (f : Frame) → whole_repeats condition body fr0 s0 ≡ carry (carry (condition f s1) tested) (again_on f)
+      → carry (condition f s1) tested ≡ Ok (false, s3)
       → whole_repeats condition body fr0 s0 ≡ Ok (goes f, s3)
   again_ended s1 s3 f h h' = h ∙ ap (λ r. carry r (again_on f)) h'
 
-  pub next_repeat : (s1 s3 : Stage) (f : Frame) → whole_repeats condition body fr0 s0 ≡ carry (carry (condition f s1) tested) (again_on f) → carry (condition f s1) tested ≡ Ok (true, s3)
+  pub next_repeat : (s1 s3 : Stage) (f : Frame) → whole_repeats condition body fr0 s0 ≡ carry (carry (condition f s1) tested) (again_on f)
+      → carry (condition f s1) tested ≡ Ok (true, s3)
       → s3.left < s.left → Repeats condition body fr0 s0 f s3
   next_repeat s1 s3 f h h' less = go t.rest t.enough (h ∙ ap (λ r. carry r (again_on f)) h')
     where

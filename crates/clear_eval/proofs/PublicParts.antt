@@ -18,12 +18,14 @@ use Rattle.language_model.specs.Reports.{public_input}
 use Rattle.language_model.specs.Words.{truth_word}
 use Rattle.clear_eval.specs.Offers.{is_private, shape_given, words_given, input_given, public_given, part_given}
 
-short_from : (before es : List PublicEntry) (k : ℕ) (d : PublicEntry) → AreEntries public_name_of public_elements_of before es → k < length es → public_count (get_or es k d).value ≤ 65536
+short_from : (before es : List PublicEntry) (k : ℕ) (d : PublicEntry) → AreEntries public_name_of public_elements_of before es → k < length es
+    → public_count (get_or es k d).value ≤ 65536
 short_from before [] k d a h = absurd (omega arith)
 short_from before (e ∷ es) zero d a h = a.0.short
 short_from before (e ∷ es) (suc k) d a h = short_from (before ++ e ∷ []) es k d a.1 (omega arith)
 
-pub each_public_short : (es : List PublicEntry) (k : ℕ) (d : PublicEntry) → AreEntries public_name_of public_elements_of [] es → k < length es → public_count (get_or es k d).value ≤ 65536
+pub each_public_short : (es : List PublicEntry) (k : ℕ) (d : PublicEntry) → AreEntries public_name_of public_elements_of [] es → k < length es
+    → public_count (get_or es k d).value ≤ 65536
 each_public_short es k d a h = short_from [] es k d a h
 
 entry_is_public : (name : List ℕ) (d : Domain) (v : Value) →

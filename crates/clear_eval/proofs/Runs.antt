@@ -17,13 +17,15 @@ err_run first seen c s m t t' k (halt.Ended x) e d = e ∙ ap (λ z. carry z k) 
 err_run first seen c s m t t' k halt.Short e d = e ∙ ap (λ z. carry z k) d
 
 -- what comes next stopped the run, and the stop was handed on
-pub stop_run : {X A Y B : Type 0} (first : X → A) (seen : Y → B) (c : Effect B) (s : Stage) (m : Effect A) (t t' : Stage) (k : A → Effect B) (h : Halt) (r : Result Y Halt)
+pub stop_run : {X A Y B : Type 0} (first : X → A) (seen : Y → B) (c : Effect B) (s : Stage) (m : Effect A) (t t' : Stage) (k : A → Effect B)
+    (h : Halt) (r : Result Y Halt)
     → c s ≡ carry (m t) k → Does first m t (Err h) t' → IsErrAnd r (λ e. e ≡ h) → Does seen c s r t'
 stop_run first seen c s m t t' k h (Ok y) e d i = absurd i
 stop_run first seen c s m t t' k h (Err g) e d i = subst (λ z. Does seen c s (Err z) t') (sym i) (err_run first seen c s m t t' k h e d)
 
 -- a call did what comes next, and another the rest
-pub go_run : {X A Y B : Type 0} (first : X → A) (seen : Y → B) (c : Effect B) (s : Stage) (m : Effect A) (t t1 t2 : Stage) (k : A → Effect B) (x : X) (r : Result Y Halt)
+pub go_run : {X A Y B : Type 0} (first : X → A) (seen : Y → B) (c : Effect B) (s : Stage) (m : Effect A) (t t1 t2 : Stage) (k : A → Effect B) (x : X)
+    (r : Result Y Halt)
     → c s ≡ carry (m t) k → m t ≡ Ok (first x, t1) → Does seen (k (first x)) t1 r t2 → Does seen c s r t2
 go_run first seen c s m t t1 t2 k x (Ok y) e h d = e ∙ ap (λ z. carry z k) h ∙ d
 go_run first seen c s m t t1 t2 k x (Err halt.Memory) e h d = tt

@@ -6,9 +6,10 @@ use Rattle.typed_tree.specs.declared.function.TypedFunction.{TypedFunction}
 use Rattle.typed_tree.specs.Commands.{command, commands_of}
 use Rattle.typed_tree.specs.Programs.{typed_function_tree}
 use Rattle.typed_tree.specs.Sound.{parameters_of, AreSoundFunctions, AreSoundCommands}
-use Rattle.clear_eval.specs.Standing.{HasRoomFor, AreSoundAmong}
+use Rattle.clear_eval.specs.inner.Standing.{HasRoomFor, AreSoundAmong}
 
-room_among : (ps : List ℕ) (fs : List TypedFunction) (k n : ℕ) → AreSoundFunctions ps (map typed_function_tree fs) → slice_get (map parameters_of (map typed_function_tree fs)) k ≡ Some n → HasRoomFor fs k n
+room_among : (ps : List ℕ) (fs : List TypedFunction) (k n : ℕ) → AreSoundFunctions ps (map typed_function_tree fs)
+    → slice_get (map parameters_of (map typed_function_tree fs)) k ≡ Some n → HasRoomFor fs k n
 room_among ps [] k n a h = cc
 room_among ps (f ∷ fs) zero n a h =
     let same : f.parameters ≡ n = cc in
@@ -18,10 +19,12 @@ room_among ps (f ∷ fs) (suc k) n a h =
     record { function = r.function; there = r.there; slots = r.slots }
 
 -- where a call names a function with as many parameters as it has arguments
-pub room_for : (fs : List TypedFunction) (k n : ℕ) → AreSoundAmong (map typed_function_tree fs) → slice_get (map parameters_of (map typed_function_tree fs)) k ≡ Some n → HasRoomFor fs k n
+pub room_for : (fs : List TypedFunction) (k n : ℕ) → AreSoundAmong (map typed_function_tree fs)
+    → slice_get (map parameters_of (map typed_function_tree fs)) k ≡ Some n → HasRoomFor fs k n
 room_for fs k n a h = room_among (map parameters_of (map typed_function_tree fs)) fs k n a h
 
-body_among : (ps : List ℕ) (fs : List TypedFunction) (k : ℕ) (f : TypedFunction) → AreSoundFunctions ps (map typed_function_tree fs) → slice_get fs k ≡ Some f → AreSoundCommands (length f.slots.items) ps (commands_of (map command f.body.items))
+body_among : (ps : List ℕ) (fs : List TypedFunction) (k : ℕ) (f : TypedFunction) → AreSoundFunctions ps (map typed_function_tree fs)
+    → slice_get fs k ≡ Some f → AreSoundCommands (length f.slots.items) ps (commands_of (map command f.body.items))
 body_among ps [] k f a h = cc
 body_among ps (g ∷ fs) zero f a h =
     let same : g ≡ f = cc in

@@ -1,10 +1,3 @@
-pub mod Views
 pub mod Offers
 pub mod Reports
-pub mod Elements
-pub mod Flows
-pub mod Calling
-pub mod Measures
-pub mod Parts
-pub mod Beginning
-pub mod Standing
+pub mod inner

@@ -5,11 +5,11 @@ use Rattle.language_model.specs.Reports.{Report}
 use Rattle.value_steps.specs.Views as seen
 use Rattle.clear_eval.specs.declared.report.Needs as words
 use Rattle.clear_eval.specs.declared.report.Report as told
-use Rattle.clear_eval.specs.declared.ran.Stop as halted
-use Rattle.clear_eval.specs.declared.ran.Stop.TheVariants as stop
+use Rattle.clear_eval.specs.declared.ran.StopReason as halted
+use Rattle.clear_eval.specs.declared.ran.StopReason.TheVariants as stop
 use Rattle.clear_eval.specs.declared.ran.Ran as finished
-use Rattle.clear_eval.specs.declared.blind_run.BlindError.{BlindError}
-use Rattle.clear_eval.specs.declared.blind_run.BlindError.TheVariants.{OpenedShort, Memory}
+use Rattle.clear_eval.specs.declared.blind_run.BlindErr.{BlindErr}
+use Rattle.clear_eval.specs.declared.blind_run.BlindErr.TheVariants.{OpenedShort, Memory}
 
 abbrev pub drawn_seen : words.Needs → Words
 drawn_seen n = record { first = n.first; second = n.second; third = n.third }
@@ -26,7 +26,7 @@ report_seen r =
       gates = r.gates.items;
     }
 
-abbrev pub stop_seen : halted.Stop → Stop
+abbrev pub stop_seen : halted.StopReason → Stop
 stop_seen (stop.Ended e) = Ended e
 stop_seen stop.Short = Short
 
@@ -44,7 +44,7 @@ ran_seen r =
     }
 
 -- a blind run answers with its report, or that all answers, so many, were too few; unless memory ran short
-abbrev pub IsBlindAnswer : Result told.Report BlindError → Report → (count : ℕ) → Type 0
+abbrev pub IsBlindAnswer : Result told.Report BlindErr → Report → (count : ℕ) → Type 0
 IsBlindAnswer (Ok report) r count = report_seen report ≡ r
 IsBlindAnswer (Err (OpenedShort have)) r count = (r.stop ≡ Short) × (have ≡ count)
 IsBlindAnswer (Err Memory) r count = Unit {0}

@@ -2,11 +2,11 @@
 ghost use Rattle.std.specs.Prelude.{IfOk, map, length};
 ghost use Rattle.typed_tree.specs.Programs.{typed_function_tree};
 ghost use Rattle.value_steps.specs.Views.{value_seen};
-ghost use Rattle.clear_eval.specs.Beginning.{IsBegun};
-ghost use Rattle.clear_eval.specs.Standing.{HasRoomFor, AreSoundAmong};
+ghost use Rattle.clear_eval.specs.inner.Beginning.{IsBegun};
+ghost use Rattle.clear_eval.specs.inner.Standing.{HasRoomFor, AreSoundAmong};
 
 use crate::entering::enter;
-use crate::place::Place;
+use crate::place::StatementContext;
 use crate::words::is_private;
 use reached_instances::{BoundDomain, Setting, given_domain};
 use std::alloc::{AllocError, Global};
@@ -16,7 +16,7 @@ use value_steps::Value;
 /// The body of a function that is about to run: where it stands, what is in the function's slots, and its statements.
 #[derive(Drop)]
 pub struct Begun<'a> {
-    pub at: Place<'a>,
+    pub at: StatementContext<'a>,
     pub frame: Vec<Value>,
     pub body: &'a Vec<TypedStatement>,
 }
@@ -25,26 +25,26 @@ pub struct Begun<'a> {
 pub fn begin<'a>(
     alloc: Global,
     functions: &'a [TypedFunction],
-    room: usize,
+    depth: usize,
     number: usize,
     binding: &'a [BoundDomain],
     arguments: Vec<Value>,
 ) -> Result<Begun<'a>, AllocError>
     requires program { AreSoundAmong (map typed_function_tree functions.now) }
     requires fitting { HasRoomFor functions.now number (length arguments.items) }
-    ensures { IfOk result (IsBegun functions.now room number binding.now (map value_seen arguments.items)) }
+    ensures { IfOk result (IsBegun functions.now depth number binding.now (map value_seen arguments.items)) }
 {
     let function = &functions[number];
     let frame = enter(alloc, binding, &function.slots, arguments)?;
     Ok(Begun {
-        at: Place {
+        at: StatementContext {
             here: Setting {
                 functions,
                 slots: &function.slots,
                 binding,
             },
             private_result: is_private(given_domain(binding, function.given)),
-            room,
+            depth,
         },
         frame,
         body: &function.body,

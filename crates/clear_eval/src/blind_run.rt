@@ -9,7 +9,7 @@ ghost use Rattle.clear_eval.specs.Offers.{offered_part};
 ghost use Rattle.clear_eval.specs.Reports.{IsBlindAnswer};
 
 use crate::public_offering::parts_given;
-use crate::ran::{Stop, run, world_of};
+use crate::ran::{StopReason, run, world_of};
 use crate::report::Report;
 use std::alloc::{AllocError, Global};
 use typed_tree::TypedProgram;
@@ -18,20 +18,20 @@ use value_steps::Source;
 
 /// Why a blind run has no report.
 #[derive(Clone, Copy)]
-pub enum BlindError {
+pub enum BlindErr {
     /// An opened value wanted more answers than were left; `have` were given in all.
     OpenedShort { have: u64 },
     Memory,
 }
 
-impl From<AllocError> for BlindError {
+impl From<AllocError> for BlindErr {
     ghost use Rattle.std.specs.Prelude.{◌≡◌};
-    ghost use Rattle.clear_eval.specs.declared.blind_run.BlindError.TheVariants.{Memory};
+    ghost use Rattle.clear_eval.specs.declared.blind_run.BlindErr.TheVariants.{Memory};
 
     ghost from_gives = { λ _ error. error ≡ Memory };
 
-    fn from(_error: AllocError) -> BlindError {
-        BlindError::Memory
+    fn from(_error: AllocError) -> BlindErr {
+        BlindErr::Memory
     }
 }
 
@@ -46,7 +46,7 @@ pub fn blind(
     answers: &[u64],
     budget: u64,
     lengths: [u64; 4],
-) -> Result<Report, BlindError>
+) -> Result<Report, BlindErr>
     requires sound { IsSound (typed_program_tree program.now) }
     requires part { IsWritable part.now }
     ensures { IsBlindAnswer result
@@ -56,8 +56,8 @@ pub fn blind(
     let world = world_of(Source::Answers, lengths, &given);
     let ran = run(alloc, &world, program, budget, answers)?;
     match ran.stop {
-        Stop::Ended(how) => Ok(ran.report(how)),
-        Stop::Short => Err(BlindError::OpenedShort {
+        StopReason::Ended(how) => Ok(ran.report(how)),
+        StopReason::Short => Err(BlindErr::OpenedShort {
             have: answers.len() as u64,
         }),
     }

@@ -8,10 +8,10 @@ ghost use Rattle.language_model.specs.Effects.{charge};
 ghost use Rattle.language_model.specs.Evaluation.{array_elements, bound_at, slots_of};
 ghost use Rattle.value_steps.specs.Steps.{Does, itself};
 ghost use Rattle.value_steps.specs.Views.{value_seen, stage_seen};
-ghost use Rattle.clear_eval.specs.Calling.{call_charged};
-ghost use Rattle.clear_eval.specs.Views.{functions_around};
+ghost use Rattle.clear_eval.specs.inner.Calling.{call_charged};
+ghost use Rattle.clear_eval.specs.inner.Views.{functions_around};
 
-use crate::place::Place;
+use crate::place::StatementContext;
 use reached_instances::{BoundDomain, binding_of, domains};
 use sc_text::{Ending, TrapKind};
 use std::alloc::{AllocError, Global};
@@ -21,7 +21,7 @@ use value_steps::{Halt, Stage, Value, charge};
 /// What a call of the function of this number, with these arguments, binds its domain variables to.
 pub fn bound_by(
     alloc: Global,
-    at: &Place<'_>,
+    at: &StatementContext<'_>,
     number: usize,
     list: &Vec<TypedExpression>,
 ) -> Result<Vec<BoundDomain>, AllocError>
@@ -34,7 +34,7 @@ pub fn bound_by(
 }
 
 /// The slots of the function of this number.
-pub fn slots_of<'a>(at: &Place<'a>, number: usize) -> &'a [Slot]
+pub fn slots_of<'a>(at: &StatementContext<'a>, number: usize) -> &'a [Slot]
     requires { number < length at.now.here.functions.now }
     ensures { result.now ≡ slots_of (slice_get (functions_around at.now) number) }
 {
@@ -80,16 +80,16 @@ fn charge_arguments(stage: &mut Stage<'_>, arguments: &[Value]) -> Result<(), Ha
 /// Charges a call, where there is room for so many calls inside one another: 1, and then the elements of its arrays.
 pub fn charge_call(
     stage: &mut Stage<'_>,
-    room: usize,
+    depth: usize,
     line: u32,
     arguments: &[Value],
 ) -> Result<(), Halt>
-    ensures step { Does itself (call_charged room line (map value_seen arguments.now)) (stage_seen stage.old) result (stage_seen stage.new) }
-    ensures room { IfOk result (λ _. 0 < room) }
+    ensures step { Does itself (call_charged depth line (map value_seen arguments.now)) (stage_seen stage.old) result (stage_seen stage.new) }
+    ensures depth { IfOk result (λ _. 0 < depth) }
     ensures spends { stage.new.left ≤ stage.old.left }
 {
     charge(stage, 1)?;
-    if room == 0 {
+    if depth == 0 {
         return Err(Halt::Ended(Ending::Trap {
             kind: TrapKind::Depth,
             line,

@@ -4,7 +4,7 @@ ghost use Rattle.std.specs.List.{slice_get};
 ghost use Rattle.language_model.specs.Values.{never_stored};
 ghost use Rattle.language_model.specs.Evaluation.{begins, entered};
 ghost use Rattle.value_steps.specs.Views.{value_seen};
-ghost use Rattle.clear_eval.specs.Views.{frame_seen};
+ghost use Rattle.clear_eval.specs.inner.Views.{frame_seen};
 
 use crate::slots::default_words;
 use crate::words::{is_private, nothing};

@@ -8,17 +8,18 @@ ghost use Rattle.reached_instances.specs.Views.{setting};
 ghost use Rattle.language_model.specs.Evaluation.{arguments, not_cut_short, cut_short, gives_private};
 ghost use Rattle.value_steps.specs.Steps.{Does, itself};
 ghost use Rattle.value_steps.specs.Views.{value_seen, stage_seen, world_seen};
-ghost use Rattle.clear_eval.specs.Parts.{HasOne, HasTwo, HasOneWithin, HasTwoWithin};
-ghost use Rattle.clear_eval.specs.Standing.{node_at, value_at, wanted_at, test_at, flow_at, flow_of_all, branch_at, turns_at, repeats_at, body_at};
-ghost use Rattle.clear_eval.specs.Standing.{HasRoomFor, AreSoundAmong, IsSoundAround, IsSoundNode, IsSoundIn, AreSoundIn, IsSoundStatement, AreSoundStatements};
-ghost use Rattle.clear_eval.specs.Views.{frame_seen, flow_seen, held_seen, values_seen, calls_from};
+ghost use Rattle.clear_eval.specs.inner.Parts.{HasOne, HasTwo, HasOneWithin, HasTwoWithin};
+ghost use Rattle.clear_eval.specs.inner.Standing.{node_at, evaluation_at, wanted_at, test_at, flow_at, flow_of_all, branch_at, turns_at, repeats_at, body_at};
+ghost use Rattle.clear_eval.specs.inner.Standing.{HasRoomFor, AreSoundAmong, IsSoundAround, IsSoundNode, IsSoundIn, AreSoundIn, IsSoundStatement};
+ghost use Rattle.clear_eval.specs.inner.Standing.{AreSoundStatements};
+ghost use Rattle.clear_eval.specs.inner.Views.{frame_seen, flow_seen, held_seen, values_seen, calls_from};
 
 use crate::beginning::{Begun, begin};
 use crate::calling::{add_argument, bound_by, charge_call, slots_of};
 use crate::flow::Flow;
 use crate::held::Held;
 use crate::parts::{Parts, StatementParts, parts_of, statement_parts_of};
-use crate::place::Place;
+use crate::place::StatementContext;
 use crate::slots::{next_is_private, slot_value};
 use crate::steps::{decided, leaf, on_one, on_two, plain, with_one, with_two};
 use crate::words::{bool_operator, decides, is_private};
@@ -35,14 +36,14 @@ use value_steps::{Halt, Stage, Value, World, joined, operation, tested, wanted};
 fn value(
     alloc: Global,
     world: &World<'_>,
-    at: &Place<'_>,
+    at: &StatementContext<'_>,
     stage: &mut Stage<'_>,
     frame: &Vec<Value>,
     e: &TypedExpression,
 ) -> Result<Value, Halt>
     requires program { IsSoundAround at.now }
     requires here { IsSoundIn at.now frame.now.items e.now }
-    ensures step { Does value_seen (value_at world.now at.now frame.now.items e.now) (stage_seen stage.old) result (stage_seen stage.new) }
+    ensures step { Does value_seen (evaluation_at world.now at.now frame.now.items e.now) (stage_seen stage.old) result (stage_seen stage.new) }
     ensures spends { stage.new.left ≤ stage.old.left }
 {
     match parts_of(e) {
@@ -66,14 +67,14 @@ fn value(
 fn operand<'f>(
     alloc: Global,
     world: &World<'_>,
-    at: &Place<'_>,
+    at: &StatementContext<'_>,
     stage: &mut Stage<'_>,
     frame: &'f Vec<Value>,
     e: &TypedExpression,
 ) -> Result<Held<'f>, Halt>
     requires program { IsSoundAround at.now }
     requires here { IsSoundIn at.now frame.now.items e.now }
-    ensures step { Does held_seen (value_at world.now at.now frame.now.items e.now) (stage_seen stage.old) result (stage_seen stage.new) }
+    ensures step { Does held_seen (evaluation_at world.now at.now frame.now.items e.now) (stage_seen stage.old) result (stage_seen stage.new) }
     ensures spends { stage.new.left ≤ stage.old.left }
 {
     if let TypedExpression::Variable(slot) = e {
@@ -89,7 +90,7 @@ fn operand<'f>(
 fn on_value(
     alloc: Global,
     world: &World<'_>,
-    at: &Place<'_>,
+    at: &StatementContext<'_>,
     stage: &mut Stage<'_>,
     frame: &Vec<Value>,
     e: &TypedExpression,
@@ -98,7 +99,7 @@ fn on_value(
     requires program { IsSoundAround at.now }
     requires parts { HasOne (typed_tree e.now) (typed_tree x.now) }
     requires here { IsSoundIn at.now frame.now.items x.now }
-    ensures step { Does value_seen (value_at world.now at.now frame.now.items e.now) (stage_seen stage.old) result (stage_seen stage.new) }
+    ensures step { Does value_seen (evaluation_at world.now at.now frame.now.items e.now) (stage_seen stage.old) result (stage_seen stage.new) }
     ensures spends { stage.new.left ≤ stage.old.left }
 {
     let x = operand(alloc, world, at, stage, frame, x)?;
@@ -111,7 +112,7 @@ fn on_value(
 fn on_values(
     alloc: Global,
     world: &World<'_>,
-    at: &Place<'_>,
+    at: &StatementContext<'_>,
     stage: &mut Stage<'_>,
     frame: &Vec<Value>,
     e: &TypedExpression,
@@ -122,7 +123,7 @@ fn on_values(
     requires parts { HasTwo (typed_tree e.now) (typed_tree x.now) (typed_tree y.now) }
     requires left { IsSoundIn at.now frame.now.items x.now }
     requires right { IsSoundIn at.now frame.now.items y.now }
-    ensures step { Does value_seen (value_at world.now at.now frame.now.items e.now) (stage_seen stage.old) result (stage_seen stage.new) }
+    ensures step { Does value_seen (evaluation_at world.now at.now frame.now.items e.now) (stage_seen stage.old) result (stage_seen stage.new) }
     ensures spends { stage.new.left ≤ stage.old.left }
 {
     let x = operand(alloc, world, at, stage, frame, x)?;
@@ -136,7 +137,7 @@ fn on_values(
 fn value_wanted(
     alloc: Global,
     world: &World<'_>,
-    at: &Place<'_>,
+    at: &StatementContext<'_>,
     stage: &mut Stage<'_>,
     frame: &Vec<Value>,
     private: bool,
@@ -158,7 +159,7 @@ fn value_wanted(
 fn on_arrays(
     alloc: Global,
     world: &World<'_>,
-    at: &Place<'_>,
+    at: &StatementContext<'_>,
     stage: &mut Stage<'_>,
     frame: &Vec<Value>,
     e: &TypedExpression,
@@ -170,7 +171,7 @@ fn on_arrays(
     requires parts { typed_tree e.now ≡ cat_node line (typed_tree x.now) (typed_tree y.now) }
     requires left { IsSoundIn at.now frame.now.items x.now }
     requires right { IsSoundIn at.now frame.now.items y.now }
-    ensures step { Does value_seen (value_at world.now at.now frame.now.items e.now) (stage_seen stage.old) result (stage_seen stage.new) }
+    ensures step { Does value_seen (evaluation_at world.now at.now frame.now.items e.now) (stage_seen stage.old) result (stage_seen stage.new) }
     ensures spends { stage.new.left ≤ stage.old.left }
 {
     let private = is_private(domain(alloc, &at.here, e)?);
@@ -186,7 +187,7 @@ fn on_arrays(
 fn connected(
     alloc: Global,
     world: &World<'_>,
-    at: &Place<'_>,
+    at: &StatementContext<'_>,
     stage: &mut Stage<'_>,
     frame: &Vec<Value>,
     connective: Connective,
@@ -215,7 +216,7 @@ fn connected(
 fn not_cut_short(
     alloc: Global,
     world: &World<'_>,
-    at: &Place<'_>,
+    at: &StatementContext<'_>,
     stage: &mut Stage<'_>,
     frame: &Vec<Value>,
     connective: Connective,
@@ -224,7 +225,8 @@ fn not_cut_short(
 ) -> Result<Value, Halt>
     requires program { IsSoundAround at.now }
     requires here { IsSoundIn at.now frame.now.items right.now }
-    ensures step { Does value_seen (not_cut_short (world_seen world.now) connective (value_seen left) (value_at world.now at.now frame.now.items right.now))
+    ensures step { Does value_seen
+        (not_cut_short (world_seen world.now) connective (value_seen left) (evaluation_at world.now at.now frame.now.items right.now))
         (stage_seen stage.old) result (stage_seen stage.new) }
     ensures spends { stage.new.left ≤ stage.old.left }
 {
@@ -240,7 +242,7 @@ fn not_cut_short(
 fn cut_short(
     alloc: Global,
     world: &World<'_>,
-    at: &Place<'_>,
+    at: &StatementContext<'_>,
     stage: &mut Stage<'_>,
     frame: &Vec<Value>,
     connective: Connective,
@@ -250,7 +252,7 @@ fn cut_short(
     requires program { IsSoundAround at.now }
     requires here { IsSoundIn at.now frame.now.items right.now }
     ensures step { Does value_seen (cut_short connective (gives_private (setting at.now.here) (typed_tree right.now)) (value_seen left)
-        (value_at world.now at.now frame.now.items right.now))
+        (evaluation_at world.now at.now frame.now.items right.now))
         (stage_seen stage.old) result (stage_seen stage.new) }
     ensures spends { stage.new.left ≤ stage.old.left }
 {
@@ -269,7 +271,7 @@ fn cut_short(
 fn arguments(
     alloc: Global,
     world: &World<'_>,
-    at: &Place<'_>,
+    at: &StatementContext<'_>,
     stage: &mut Stage<'_>,
     frame: &Vec<Value>,
     binding: &[BoundDomain],
@@ -301,7 +303,7 @@ fn arguments(
 fn call(
     alloc: Global,
     world: &World<'_>,
-    at: &Place<'_>,
+    at: &StatementContext<'_>,
     stage: &mut Stage<'_>,
     frame: &Vec<Value>,
     line: u32,
@@ -326,7 +328,7 @@ fn call(
 fn called(
     alloc: Global,
     world: &World<'_>,
-    at: &Place<'_>,
+    at: &StatementContext<'_>,
     stage: &mut Stage<'_>,
     line: u32,
     number: usize,
@@ -339,10 +341,10 @@ fn called(
         (stage_seen stage.old) result (stage_seen stage.new) }
     ensures spends { stage.new.left ≤ stage.old.left }
 {
-    charge_call(stage, at.room, line, &arguments)?;
-    let (functions, room) = (at.here.functions, at.room - 1);
+    charge_call(stage, at.depth, line, &arguments)?;
+    let (functions, depth) = (at.here.functions, at.depth - 1);
     body(
-        alloc, world, functions, room, stage, number, binding, arguments,
+        alloc, world, functions, depth, stage, number, binding, arguments,
     )
 }
 
@@ -353,7 +355,7 @@ pub fn body(
     alloc: Global,
     world: &World<'_>,
     functions: &[TypedFunction],
-    room: usize,
+    depth: usize,
     stage: &mut Stage<'_>,
     number: usize,
     binding: &[BoundDomain],
@@ -361,7 +363,7 @@ pub fn body(
 ) -> Result<Value, Halt>
     requires program { AreSoundAmong (map typed_function_tree functions.now) }
     requires fitting { HasRoomFor functions.now number (length arguments.items) }
-    ensures step { Does value_seen (body_at world.now functions.now room number binding.now (map value_seen arguments.items))
+    ensures step { Does value_seen (body_at world.now functions.now depth number binding.now (map value_seen arguments.items))
         (stage_seen stage.old) result (stage_seen stage.new) }
     ensures spends { stage.new.left ≤ stage.old.left }
 {
@@ -369,7 +371,7 @@ pub fn body(
         at,
         mut frame,
         body,
-    } = begin(alloc, functions, room, number, binding, arguments)?;
+    } = begin(alloc, functions, depth, number, binding, arguments)?;
     let flow = statements(alloc, world, &at, stage, &mut frame, body)?;
     Ok(flow.into_result(alloc)?)
 }
@@ -381,7 +383,7 @@ pub fn body(
 fn statement(
     alloc: Global,
     world: &World<'_>,
-    at: &Place<'_>,
+    at: &StatementContext<'_>,
     stage: &mut Stage<'_>,
     frame: &mut Vec<Value>,
     s: &TypedStatement,
@@ -415,7 +417,7 @@ fn statement(
 fn one_within(
     alloc: Global,
     world: &World<'_>,
-    at: &Place<'_>,
+    at: &StatementContext<'_>,
     stage: &mut Stage<'_>,
     frame: &mut Vec<Value>,
     s: &TypedStatement,
@@ -438,7 +440,7 @@ fn one_within(
 fn two_within(
     alloc: Global,
     world: &World<'_>,
-    at: &Place<'_>,
+    at: &StatementContext<'_>,
     stage: &mut Stage<'_>,
     frame: &mut Vec<Value>,
     s: &TypedStatement,
@@ -463,7 +465,7 @@ fn two_within(
 fn holds(
     alloc: Global,
     world: &World<'_>,
-    at: &Place<'_>,
+    at: &StatementContext<'_>,
     stage: &mut Stage<'_>,
     frame: &Vec<Value>,
     condition: &TypedExpression,
@@ -484,7 +486,7 @@ fn holds(
 fn branch(
     alloc: Global,
     world: &World<'_>,
-    at: &Place<'_>,
+    at: &StatementContext<'_>,
     stage: &mut Stage<'_>,
     frame: &mut Vec<Value>,
     condition: &TypedExpression,
@@ -514,7 +516,7 @@ fn branch(
 fn statements(
     alloc: Global,
     world: &World<'_>,
-    at: &Place<'_>,
+    at: &StatementContext<'_>,
     stage: &mut Stage<'_>,
     frame: &mut Vec<Value>,
     list: &Vec<TypedStatement>,
@@ -542,7 +544,7 @@ fn statements(
 fn turns(
     alloc: Global,
     world: &World<'_>,
-    at: &Place<'_>,
+    at: &StatementContext<'_>,
     stage: &mut Stage<'_>,
     frame: &mut Vec<Value>,
     condition: &TypedExpression,
@@ -582,7 +584,7 @@ fn turns(
 fn repeats(
     alloc: Global,
     world: &World<'_>,
-    at: &Place<'_>,
+    at: &StatementContext<'_>,
     stage: &mut Stage<'_>,
     frame: &mut Vec<Value>,
     body: &TypedStatement,

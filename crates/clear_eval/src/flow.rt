@@ -3,8 +3,8 @@ ghost use Rattle.std.specs.Prelude.{◌≡◌, IfOk, List};
 ghost use Rattle.language_model.specs.Evaluation.{result_of};
 ghost use Rattle.value_steps.specs.Views.{value_seen};
 ghost use Rattle.value_steps.specs.declared.value.Value.{Value as Kept};
-ghost use Rattle.clear_eval.specs.Flows.{LeavesLoop};
-ghost use Rattle.clear_eval.specs.Views.{flow_seen};
+ghost use Rattle.clear_eval.specs.inner.Flows.{LeavesLoop};
+ghost use Rattle.clear_eval.specs.inner.Views.{flow_seen};
 
 use crate::words::nothing;
 use std::alloc::{AllocError, Global};

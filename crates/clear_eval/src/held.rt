@@ -1,7 +1,7 @@
 // Operands that are only read.
 ghost use Rattle.std.specs.Prelude.{◌≡◌, IfOk};
 ghost use Rattle.value_steps.specs.Views.{value_seen};
-ghost use Rattle.clear_eval.specs.Views.{held_seen};
+ghost use Rattle.clear_eval.specs.inner.Views.{held_seen};
 
 use std::alloc::{AllocError, Global};
 use value_steps::Value;

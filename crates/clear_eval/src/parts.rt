@@ -1,7 +1,7 @@
 // The parts of expressions and statements that are evaluated before they are.
 ghost use Rattle.typed_tree.specs.Tree.{typed_tree};
 ghost use Rattle.typed_tree.specs.Commands.{command};
-ghost use Rattle.clear_eval.specs.Parts.{HasParts, HasStatementParts};
+ghost use Rattle.clear_eval.specs.inner.Parts.{HasParts, HasStatementParts};
 
 use typed_tree::{Connective, TypedExpression, TypedStatement};
 

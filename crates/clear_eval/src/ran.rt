@@ -8,7 +8,7 @@ ghost use Rattle.language_model.specs.Reports.{beginning, reported, report_of, e
 ghost use Rattle.value_steps.specs.Views.{given_seen, source_seen, stage_seen, world_seen};
 ghost use Rattle.clear_eval.specs.Offers.{offered_with};
 ghost use Rattle.clear_eval.specs.Reports.{stop_seen, ran_seen, report_seen};
-ghost use Rattle.clear_eval.specs.Standing.{body_at, AreSoundAmong};
+ghost use Rattle.clear_eval.specs.inner.Standing.{body_at, AreSoundAmong};
 
 use crate::dealer::dealing;
 use crate::evaluation::body;
@@ -23,7 +23,7 @@ const DEEPEST_BELOW_MAIN: usize = 63;
 
 /// Why a run stopped.
 #[derive(Clone, Copy)]
-pub enum Stop {
+pub enum StopReason {
     Ended(Ending),
     /// An opened value wanted more answers than were left.
     Short,
@@ -31,7 +31,7 @@ pub enum Stop {
 
 /// What a run gave: why it stopped, its cost, the words that it needed of the dealer's tape, and how far it came.
 pub struct Ran<'a> {
-    pub stop: Stop,
+    pub stop: StopReason,
     pub cost: u64,
     pub dealt: u64,
     pub stage: Stage<'a>,
@@ -109,7 +109,7 @@ fn run_main(
     world: &World<'_>,
     functions: &[TypedFunction],
     stage: &mut Stage<'_>,
-) -> Result<Stop, AllocError>
+) -> Result<StopReason, AllocError>
     requires { AreSoundAmong (map typed_function_tree functions.now) }
     ensures exact { IfOk result (λ stop. (budget : ℕ) →
         report_of (world_seen world.now) budget (body_at world.now functions.now (deepest - 1) 0 [] [] (stage_seen stage.old))
@@ -117,7 +117,7 @@ fn run_main(
     ensures spends { stage.new.left ≤ stage.old.left }
 {
     if functions.is_empty() {
-        return Ok(Stop::Ended(Ending::Done));
+        return Ok(StopReason::Ended(Ending::Done));
     }
     let arguments = Vec::new(alloc);
     match body(
@@ -130,9 +130,9 @@ fn run_main(
         &[],
         arguments,
     ) {
-        Ok(_) => Ok(Stop::Ended(Ending::Done)),
-        Err(Halt::Ended(ending)) => Ok(Stop::Ended(ending)),
-        Err(Halt::Short) => Ok(Stop::Short),
+        Ok(_) => Ok(StopReason::Ended(Ending::Done)),
+        Err(Halt::Ended(ending)) => Ok(StopReason::Ended(ending)),
+        Err(Halt::Short) => Ok(StopReason::Short),
         Err(Halt::Memory) => Err(AllocError),
     }
 }
@@ -171,7 +171,7 @@ pub fn run<'a>(
     if need > have as u128 {
         let owner = TapeOwner::Dealer;
         return Ok(Ran {
-            stop: Stop::Ended(Ending::Tape { owner, need, have }),
+            stop: StopReason::Ended(Ending::Tape { owner, need, have }),
             cost: 0,
             dealt: 0,
             stage,

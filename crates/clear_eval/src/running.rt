@@ -8,7 +8,7 @@ ghost use Rattle.clear_eval.specs.Offers.{offered};
 ghost use Rattle.clear_eval.specs.Reports.{report_seen};
 
 use crate::offering::inputs_given;
-use crate::ran::{Stop, run, world_of};
+use crate::ran::{StopReason, run, world_of};
 use crate::report::Report;
 use blind_evaluation::blind_runs_take_the_same_course;
 use std::alloc::{AllocError, Global};
@@ -37,7 +37,7 @@ pub fn eval(
     let ran = run(alloc, &world, program, budget, &[])?;
     blind_runs_take_the_same_course();
     match ran.stop {
-        Stop::Ended(how) => Ok(ran.report(how)),
-        Stop::Short => unreachable!(),
+        StopReason::Ended(how) => Ok(ran.report(how)),
+        StopReason::Short => unreachable!(),
     }
 }

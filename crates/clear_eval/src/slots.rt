@@ -5,10 +5,10 @@ ghost use Rattle.language_model.specs.Values.{Value as Meant, plain, default_wor
 ghost use Rattle.language_model.specs.Evaluation.{put, next_is_private, slot_is_private, slot_shape, stored};
 ghost use Rattle.value_steps.specs.Steps.{Does};
 ghost use Rattle.value_steps.specs.Views.{value_seen, stage_seen};
-ghost use Rattle.clear_eval.specs.Views.{frame_seen, goes_on};
-ghost use Rattle.clear_eval.specs.Elements.{with_element_in};
+ghost use Rattle.clear_eval.specs.inner.Views.{frame_seen, goes_on};
+ghost use Rattle.clear_eval.specs.inner.Elements.{with_element_in};
 
-use crate::place::Place;
+use crate::place::StatementContext;
 use crate::words::is_private;
 use reached_instances::{BoundDomain, domain_under, slot_domain};
 use secrec_ast::DataType;
@@ -18,7 +18,7 @@ use typed_tree::{Shape, Slot};
 use value_steps::{Halt, Secrecy, Stage, Value, charged, wanted, with_element};
 
 /// Whether a slot's values are private.
-pub fn is_private_slot(at: &Place<'_>, slot: usize) -> bool
+pub fn is_private_slot(at: &StatementContext<'_>, slot: usize) -> bool
     ensures { result ≡ slot_is_private (setting at.now.here) slot }
 {
     is_private(slot_domain(&at.here, slot))
@@ -35,7 +35,7 @@ pub fn next_is_private(binding: &[BoundDomain], slots: &[Slot], number: usize) -
 }
 
 /// The shape of a slot's values.
-pub fn slot_shape(at: &Place<'_>, slot: usize) -> Shape
+pub fn slot_shape(at: &StatementContext<'_>, slot: usize) -> Shape
     ensures { result ≡ slot_shape (setting at.now.here) slot }
 {
     match at.here.slots.get(slot) {
@@ -59,7 +59,11 @@ pub fn default_words(alloc: Global, array: bool) -> Result<Vec<u64>, AllocError>
 }
 
 /// What a declaration stores that names no value: 0, false or the empty array, which everybody may see.
-pub fn default_value(alloc: Global, at: &Place<'_>, slot: usize) -> Result<Value, AllocError>
+pub fn default_value(
+    alloc: Global,
+    at: &StatementContext<'_>,
+    slot: usize,
+) -> Result<Value, AllocError>
     ensures { IfOk result (λ v. value_seen v ≡
         plain (slot_shape (setting at.now.here) slot) (default_words (slot_shape (setting at.now.here) slot).array)) }
 {
@@ -128,7 +132,7 @@ pub fn set_element(
 /// Stores a value in a whole variable, classified before where this is private.
 pub fn store(
     alloc: Global,
-    at: &Place<'_>,
+    at: &StatementContext<'_>,
     stage: &mut Stage<'_>,
     frame: &mut Vec<Value>,
     slot: usize,

@@ -8,13 +8,13 @@ ghost use Rattle.language_model.specs.Operations.{wanted};
 ghost use Rattle.language_model.specs.Evaluation.{gives_private, truth_value};
 ghost use Rattle.value_steps.specs.Steps.{Does};
 ghost use Rattle.value_steps.specs.Views.{value_seen, stage_seen, world_seen};
-ghost use Rattle.clear_eval.specs.Views.{frame_seen, flow_seen, held_seen, place_seen};
-ghost use Rattle.clear_eval.specs.Parts.{is_leaf, step_on_one, step_on_two, is_plain, after_one, after_two};
-ghost use Rattle.clear_eval.specs.Standing.{value_at, flow_at, IsSoundIn, IsSoundStatement};
+ghost use Rattle.clear_eval.specs.inner.Views.{frame_seen, flow_seen, held_seen, place_seen};
+ghost use Rattle.clear_eval.specs.inner.Parts.{is_leaf, step_on_one, step_on_two, is_plain, after_one, after_two};
+ghost use Rattle.clear_eval.specs.inner.Standing.{evaluation_at, flow_at, IsSoundIn, IsSoundStatement};
 
 use crate::flow::Flow;
 use crate::held::Held;
-use crate::place::Place;
+use crate::place::StatementContext;
 use crate::slots::{
     default_value, is_private_slot, put, set_element, slot_shape, slot_value, store,
 };
@@ -33,14 +33,14 @@ use value_steps::{
 pub fn leaf(
     alloc: Global,
     world: &World<'_>,
-    at: &Place<'_>,
+    at: &StatementContext<'_>,
     stage: &mut Stage<'_>,
     frame: &Vec<Value>,
     e: &TypedExpression,
 ) -> Result<Value, Halt>
     requires here { IsSoundIn at.now frame.now.items e.now }
     requires leaf { is_leaf (typed_tree e.now) ≡ true }
-    ensures step { Does value_seen (value_at world.now at.now frame.now.items e.now) (stage_seen stage.old) result (stage_seen stage.new) }
+    ensures step { Does value_seen (evaluation_at world.now at.now frame.now.items e.now) (stage_seen stage.old) result (stage_seen stage.new) }
     ensures spends { stage.new.left ≤ stage.old.left }
 {
     match e {
@@ -60,7 +60,8 @@ pub fn on_one(
     e: &TypedExpression,
     x: Held<'_>,
 ) -> Result<Value, Halt>
-    ensures step { Does value_seen (step_on_one (world_seen world.now) (typed_tree e.now) (held_seen x.entry)) (stage_seen stage.old) result (stage_seen stage.new) }
+    ensures step { Does value_seen (step_on_one (world_seen world.now) (typed_tree e.now) (held_seen x.entry)) (stage_seen stage.old) result
+        (stage_seen stage.new) }
     ensures spends { stage.new.left ≤ stage.old.left }
 {
     match e {
@@ -84,7 +85,8 @@ pub fn on_two(
     x: Held<'_>,
     y: Held<'_>,
 ) -> Result<Value, Halt>
-    ensures step { Does value_seen (step_on_two (world_seen world.now) (typed_tree e.now) (held_seen x.entry) (held_seen y.entry)) (stage_seen stage.old) result (stage_seen stage.new) }
+    ensures step { Does value_seen (step_on_two (world_seen world.now) (typed_tree e.now) (held_seen x.entry) (held_seen y.entry))
+        (stage_seen stage.old) result (stage_seen stage.new) }
     ensures spends { stage.new.left ≤ stage.old.left }
 {
     match e {
@@ -104,7 +106,7 @@ pub fn on_two(
 #[inline(never)]
 pub fn decided(
     alloc: Global,
-    at: &Place<'_>,
+    at: &StatementContext<'_>,
     stage: &mut Stage<'_>,
     truth: bool,
     right: &TypedExpression,
@@ -124,7 +126,7 @@ pub fn decided(
 pub fn plain(
     alloc: Global,
     world: &World<'_>,
-    at: &Place<'_>,
+    at: &StatementContext<'_>,
     stage: &mut Stage<'_>,
     frame: &mut Vec<Value>,
     s: &TypedStatement,
@@ -161,14 +163,15 @@ pub fn plain(
 pub fn with_one(
     alloc: Global,
     world: &World<'_>,
-    at: &Place<'_>,
+    at: &StatementContext<'_>,
     stage: &mut Stage<'_>,
     frame: &mut Vec<Value>,
     s: &TypedStatement,
     x: Value,
 ) -> Result<Flow, Halt>
     requires { IsSoundStatement at.now frame.old.items s.now }
-    ensures step { Does (flow_seen frame.new.items) (after_one (world_seen world.now) (place_seen at.now) (command s.now) (value_seen x) (frame_seen frame.old.items))
+    ensures step { Does (flow_seen frame.new.items)
+        (after_one (world_seen world.now) (place_seen at.now) (command s.now) (value_seen x) (frame_seen frame.old.items))
         (stage_seen stage.old) result (stage_seen stage.new) }
     ensures slots { length frame.new.items ≡ length frame.old.items }
     ensures spends { stage.new.left ≤ stage.old.left }
@@ -199,7 +202,7 @@ pub fn with_one(
 pub fn with_two(
     alloc: Global,
     world: &World<'_>,
-    at: &Place<'_>,
+    at: &StatementContext<'_>,
     stage: &mut Stage<'_>,
     frame: &mut Vec<Value>,
     s: &TypedStatement,
@@ -207,7 +210,8 @@ pub fn with_two(
     y: Value,
 ) -> Result<Flow, Halt>
     requires { IsSoundStatement at.now frame.old.items s.now }
-    ensures step { Does (flow_seen frame.new.items) (after_two (world_seen world.now) (place_seen at.now) (command s.now) (value_seen x) (value_seen y) (frame_seen frame.old.items))
+    ensures step { Does (flow_seen frame.new.items)
+        (after_two (world_seen world.now) (place_seen at.now) (command s.now) (value_seen x) (value_seen y) (frame_seen frame.old.items))
         (stage_seen stage.old) result (stage_seen stage.new) }
     ensures slots { length frame.new.items ≡ length frame.old.items }
     ensures spends { stage.new.left ≤ stage.old.left }

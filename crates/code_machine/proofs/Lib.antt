@@ -3,6 +3,5 @@ pub mod Functions
 pub mod There
 pub mod Does
 pub mod Callers
-pub mod Budgets
-pub mod Turns
+pub mod Worth
 pub mod Gains

@@ -3,4 +3,3 @@ pub mod Standing
 pub mod Parts
 pub mod Changes
 pub mod Marks
-pub mod Runs

@@ -2,7 +2,7 @@
 ghost use Rattle.std.specs.Prelude.{◌≡◌, ◌<◌, IfOk};
 ghost use Rattle.gates.specs.Clear.{first_word};
 ghost use Rattle.language_model.specs.Operations as row;
-ghost use Rattle.language_model.specs.Values.{seen, size};
+ghost use Rattle.language_model.specs.Values.{visible_words, size};
 ghost use Rattle.bytecode.specs.Raw.{RawCode};
 ghost use Rattle.value_steps.specs.Steps.{Does, itself};
 ghost use Rattle.value_steps.specs.Views.{stage_seen, value_seen};
@@ -22,7 +22,7 @@ use value_steps::{Halt, Secrecy, Stage, Value, charge, test_at};
 
 /// The first word of a public value. A private one isn't looked at: it gives 0.
 fn seen_word(value: &Value) -> u64
-    ensures { result ≡ first_word (seen (value_seen value.now)) }
+    ensures { result ≡ first_word (visible_words (value_seen value.now)) }
 {
     match value.secrecy {
         Secrecy::Plain => vector_ops::first_word(&value.words),

@@ -1,9 +1,10 @@
-// Where a function begins.
-ghost use Rattle.std.specs.Prelude.{◌≡◌, ◌≤◌, IfOk, Some, length, map, slice_get};
+// Where a function begins, and where a run does.
+ghost use Rattle.std.specs.Prelude.{◌≡◌, ◌≤◌, [], IfOk, Some, length, map, slice_get};
+ghost use Rattle.language_model.specs.Reports.{beginning};
 ghost use Rattle.language_model.specs.Values.{default_words};
 ghost use Rattle.verified_code.specs.Settled.{settled};
 ghost use Rattle.code_model.specs.Machine.{begun, filled_with, start};
-ghost use Rattle.value_steps.specs.Views.{value_seen};
+ghost use Rattle.value_steps.specs.Views.{stage_seen, value_seen};
 ghost use Rattle.code_machine.specs.Standing.{Stands, kinds_at};
 ghost use Rattle.code_machine.specs.Views.{machine_seen, registers_seen};
 
@@ -11,7 +12,7 @@ use crate::machine::Machine;
 use bytecode::Kind;
 use std::alloc::{AllocError, Global};
 use typed_tree::Shape;
-use value_steps::{Secrecy, Value};
+use value_steps::{Drawn, Secrecy, Stage, Value};
 use verified_code::Verified;
 
 /// The words of 0, of false, or of the empty array.
@@ -81,4 +82,23 @@ pub fn start(alloc: Global, code: &Verified) -> Result<Machine, AllocError>
         registers,
         callers: Vec::new(alloc),
     })
+}
+
+/// The stage where a run begins, with all of its budget.
+pub fn beginning(alloc: Global, budget: u64) -> Stage<'static>
+    ensures { stage_seen result ≡ beginning budget [] }
+{
+    Stage {
+        left: budget,
+        drawn: Drawn {
+            first: 0,
+            second: 0,
+            third: 0,
+        },
+        made: 0,
+        gates: Vec::new(alloc),
+        events: Vec::new(alloc),
+        opened: Vec::new(alloc),
+        answers: &[],
+    }
 }

@@ -12,7 +12,7 @@ ghost use Rattle.code_machine.specs.Standing.{IsThere};
 
 use crate::change::Change;
 use crate::machine::Machine;
-use bytecode::{Register, Target};
+use bytecode::{JumpTarget, Register};
 use value_steps::{Halt, Stage, asserted, tested};
 
 /// The change to a place, where what came before it went well.
@@ -50,7 +50,7 @@ pub(crate) fn branch(
     stage: &mut Stage<'_>,
     condition: Register,
     value: bool,
-    target: Target,
+    target: JumpTarget,
 ) -> Result<Change, Halt>
     requires there { IsThere machine.now condition }
     requires room { machine.now.place + 1 < 2 ^ 64 }

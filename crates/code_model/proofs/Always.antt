@@ -12,7 +12,8 @@ use Rattle.sc_text.specs.declared.end.Ending.TheVariants as ending
 use Rattle.language_model.specs.Effects.{World, Stage, Run, Effect, ◌>>=◌, carry, done, end}
 use Rattle.language_model.specs.Values.{Value, size}
 use Rattle.language_model.specs.Operations.{charged, no_traps, tested, wanted, asserted, published, filled, with_element}
-use Rattle.language_model.specs.Evaluation.{Frame, put, Calls, Place, slot_is_private, slot_shape, asked_for, input_named, either, value, Flow, goes, returns}
+use Rattle.language_model.specs.Evaluation.{Frame, put, Calls, StatementContext, slot_is_private, slot_shape, asked_for, input_named, either, value}
+use Rattle.language_model.specs.Evaluation.{Flow, goes, returns}
 use Rattle.language_model.specs.Evaluation.{stops, skips, then_do, turned, turns, repeats, stored, execute, execute_all}
 use Rattle.code_model.specs.Fit.{IsFitCommand, AreFitCommands, always_returns, one_returns}
 
@@ -129,7 +130,7 @@ and_false_right true b h = h
 or_false : (a b : Bool) → a ≡ false → b ≡ false → (a || b) ≡ false
 or_false a b h k = ap (λ z. z || b) h ∙ k
 
-module _ (Known : ℕ → List BoundDomain → Type 0) (w : World) (calls : Calls) (place : Place) where
+module _ (Known : ℕ → List BoundDomain → Type 0) (w : World) (calls : Calls) (place : StatementContext) where
   abbrev evaluated : TypedTree → Frame → Effect Value
   evaluated e fr = value w calls place.here e fr
 

@@ -5,14 +5,14 @@ use Rattle.std.specs.Prelude.{slice_get, nat_lt, map, sum}
 use Rattle.std.proofs.lemmas.Bool.{lt-ltb, le-ltb}
 use Rattle.sc_text.specs.declared.end.Ending.TheVariants as ending
 use Rattle.sc_text.specs.declared.end.TrapKind.TheVariants as trap
-use Rattle.typed_tree.specs.declared.function.Given.{Given}
-use Rattle.typed_tree.specs.declared.function.Given.TheVariants as given
+use Rattle.typed_tree.specs.declared.function.Returned.{Returned}
+use Rattle.typed_tree.specs.declared.function.Returned.TheVariants as given
 use Rattle.typed_tree.specs.Programs.{TypedFunctionTree}
 use Rattle.reached_instances.specs.declared.instance.BoundDomain.{BoundDomain}
 use Rattle.reached_instances.specs.Domains.{given_domain}
 use Rattle.language_model.specs.Effects.{World, Stage, Run, Effect, ◌>>=◌, carry, done, end, charge, test}
 use Rattle.language_model.specs.Values.{Value}
-use Rattle.language_model.specs.Evaluation.{Calls, Place, is_private, nothing, slots_of, array_elements, Flow, goes, returns, stops, skips}
+use Rattle.language_model.specs.Evaluation.{Calls, StatementContext, is_private, nothing, slots_of, array_elements, Flow, goes, returns, stops, skips}
 use Rattle.language_model.specs.Evaluation.{execute_all, entered, result_of, place_in, body_of, call_at}
 use Rattle.language_model.proofs.Onward.{onward_charge}
 use Rattle.verified_code.specs.Steps.{Step, Function}
@@ -62,7 +62,7 @@ module _ (w : World) (p : List Function) (number : Numbers) (fs : List TypedFunc
         f : TypedFunctionTree
         f = kn.called
 
-        pl : Place
+        pl : StatementContext
         pl = place_in fs f b
 
         c : Effect Flow
@@ -108,12 +108,12 @@ module _ (w : World) (p : List Function) (number : Numbers) (fs : List TypedFunc
         clash h = cc
 
         -- it falls off its end only where nothing is given back
-        falls_step : (g : Given) → (gives_value g ≡ true → one_returns f.body ≡ true) → one_returns f.body ≡ false → (m1 : Machine) (s : Stage)
+        falls_step : (g : Returned) → (gives_value g ≡ true → one_returns f.body ≡ true) → one_returns f.body ≡ false → (m1 : Machine) (s : Stage)
             → step w p (Some (last_step g (first_free f.slots + commands_width f.body))) m1 s ≡ resume m1.stack nothing s
         falls_step given.Nothing r h m1 s = refl
         falls_step (given.Value x) r h m1 s = absurd (clash (sym h ∙ r refl))
 
-        falls_secret : (g : Given) → (gives_value g ≡ true → one_returns f.body ≡ true) → one_returns f.body ≡ false
+        falls_secret : (g : Returned) → (gives_value g ≡ true → one_returns f.body ≡ true) → one_returns f.body ≡ false
             → IsSecret (is_private (given_domain b g)) nothing
         falls_secret given.Nothing r h = refl
         falls_secret (given.Value x) r h = absurd (clash (sym h ∙ r refl))

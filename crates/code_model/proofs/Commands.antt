@@ -2,8 +2,8 @@
 use Rattle.std.proofs.Common.{◌≡◌, ℕ, ◌+◌, ◌<◌, ◌≤◌, List, [], ◌∷◌, ◌++◌, length, Option, Some, None, Bool, true, false, refl, sym, ap, ◌∙◌}
 use Rattle.std.proofs.Common.{subst, arith, length-append}
 use Rattle.std.specs.Prelude.{slice_get}
-use Rattle.typed_tree.specs.declared.function.Given.{Given}
-use Rattle.typed_tree.specs.declared.function.Given.TheVariants as given
+use Rattle.typed_tree.specs.declared.function.Returned.{Returned}
+use Rattle.typed_tree.specs.declared.function.Returned.TheVariants as given
 use Rattle.typed_tree.specs.Tree.{TypedTree, word_node, truth_node, slot_node, call_node, size_node, cat_node, sum_node, bits_node, element_node}
 use Rattle.typed_tree.specs.Tree.{not_node, cast_node, binary_node, cut_node, declassify_node}
 use Rattle.typed_tree.specs.Commands.{Command, Commands, empty_command, block_command, if_command, loop_command, do_command, break_command, continue_command}
@@ -17,7 +17,8 @@ use Rattle.language_model.specs.Effects.{World, Stage, Effect, ◌>>=◌, carry,
 use Rattle.language_model.specs.Values.{Value, plain, size, default_words}
 use Rattle.language_model.specs.Operations as row
 use Rattle.language_model.specs.Operations.{charged, no_traps, wanted, tested}
-use Rattle.language_model.specs.Evaluation.{Frame, put, Calls, Place, gives_private, slot_is_private, slot_shape, slots_of, bound_at, asked_for, input_named}
+use Rattle.language_model.specs.Evaluation.{Frame, put, Calls, StatementContext, gives_private, slot_is_private, slot_shape, slots_of, bound_at}
+use Rattle.language_model.specs.Evaluation.{asked_for, input_named}
 use Rattle.language_model.specs.Evaluation.{either, value, Flow, goes, stops, skips, stored, execute, execute_all}
 use Rattle.verified_code.specs.Steps.{Step, Store, Fill, Put, Argument, Publish, Assert, Branch, Jump, Call, Return, Function}
 use Rattle.code_model.specs.Machine.{Caller, Machine, at, next, step, resume, received, limit, same_bool}
@@ -47,12 +48,12 @@ unread_kept : (o : Option TypedFunctionTree) (t i : ℕ) (v : Value) (registers 
 unread_kept None t i v registers l = refl
 unread_kept (Some f) t i v registers l = go f.given
   where
-    go : (g : Given) → received (given_at g t) v registers i ≡ registers i
+    go : (g : Returned) → received (given_at g t) v registers i ≡ registers i
     go given.Nothing = refl
     go (given.Value s) = put_other t i v registers (omega arith)
 
 module _ (w : World) (p : List Function) (number : Numbers) (fs : List TypedFunctionTree) (Known : ℕ → List BoundDomain → Type 0) (calls : Calls) (d : ℕ)
-    (ok : CallsRun w p number fs Known d calls) (place : Place) (hf : place.here.functions ≡ fs) (code : List Step) (stack : List Caller)
+    (ok : CallsRun w p number fs Known d calls) (place : StatementContext) (hf : place.here.functions ≡ fs) (code : List Step) (stack : List Caller)
     (room : length stack + d ≡ limit) where
   abbrev base : ℕ
   base = first_free place.here.slots

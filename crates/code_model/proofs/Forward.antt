@@ -16,14 +16,15 @@ use Rattle.typed_tree.specs.Commands.{Command, Commands, empty_command, block_co
 use Rattle.typed_tree.specs.Commands.{return_command, assert_command, store_command, default_command, fill_command, input_command, element_command}
 use Rattle.typed_tree.specs.Commands.{publish_command, evaluate_command}
 use Rattle.typed_tree.specs.Commands as Commands'
-use Rattle.typed_tree.specs.declared.function.Given.{Given}
-use Rattle.typed_tree.specs.declared.function.Given.TheVariants as given
+use Rattle.typed_tree.specs.declared.function.Returned.{Returned}
+use Rattle.typed_tree.specs.declared.function.Returned.TheVariants as given
 use Rattle.typed_tree.specs.Programs.{TypedFunctionTree, TypedProgramTree}
 use Rattle.reached_instances.specs.declared.instance.BoundDomain.{BoundDomain}
 use Rattle.reached_instances.specs.Domains.{Setting, domains}
 use Rattle.reached_instances.specs.Instances.{Instance}
 use Rattle.language_model.specs.Words.{truth_word}
-use Rattle.language_model.specs.Evaluation.{Place, gives_private, slot_is_private, slot_shape, slots_of, bound_at, next_is_private, behind_next, connective}
+use Rattle.language_model.specs.Evaluation.{StatementContext, gives_private, slot_is_private, slot_shape, slots_of, bound_at, next_is_private}
+use Rattle.language_model.specs.Evaluation.{behind_next, connective}
 use Rattle.language_model.specs.Evaluation.{either, place_in}
 use Rattle.verified_code.specs.Steps.{Step, Literal, Move, Store, Fill, Put, Return, Branch, Jump, Function}
 use Rattle.code_model.specs.Kinds.{width}
@@ -151,7 +152,7 @@ module _ (number : Numbers) where
 
   -- breaks and continues lead on too
   mutual
-    command_on : (at : Place) (c : Command) (t x y pc : ℕ) → pc + length (command_code number at t x y pc c) ≤ x → pc + length
+    command_on : (at : StatementContext) (c : Command) (t x y pc : ℕ) → pc + length (command_code number at t x y pc c) ≤ x → pc + length
         (command_code number at t x y pc c) ≤ y → GoOn pc (command_code number at t x y pc c)
     command_on at empty_command t x y pc hx hy = tt
     command_on at (block_command cs) t x y pc hx hy = commands_on at cs t x y pc hx hy
@@ -227,7 +228,7 @@ module _ (number : Numbers) where
     command_on at (publish_command text e) t x y pc hx hy = both_on pc _ _ (expression_on at.here e t pc) (tt, tt)
     command_on at (evaluate_command e) t x y pc hx hy = unread_on at.here e t pc
 
-    commands_on : (at : Place) (cs : Commands) (t x y pc : ℕ) → pc + length (commands_code number at t x y pc cs) ≤ x → pc + length
+    commands_on : (at : StatementContext) (cs : Commands) (t x y pc : ℕ) → pc + length (commands_code number at t x y pc cs) ≤ x → pc + length
         (commands_code number at t x y pc cs) ≤ y → GoOn pc (commands_code number at t x y pc cs)
     commands_on at Commands'.none t x y pc hx hy = tt
     commands_on at (Commands'.also c cs) t x y pc hx hy =
@@ -258,7 +259,7 @@ jump_at (i ∷ is) base (suc pc) target h e =
     let r : base + 1 + pc < target = jump_at is (base + 1) pc target h.1 e in
     omega (arith, r)
 
-last_on : (g : Given) (r pc : ℕ) → GoesOn pc (last_step g r)
+last_on : (g : Returned) (r pc : ℕ) → GoesOn pc (last_step g r)
 last_on given.Nothing r pc = tt
 last_on (given.Value s) r pc = tt
 

@@ -18,7 +18,7 @@ use Rattle.std.specs.List.{flat_map}
 use Rattle.typed_tree.specs.Shapes.{shape_of}
 use Rattle.secrec_ast.specs.declared.expression.DataType.TheVariants as datatype
 use Rattle.language_model.specs.Effects.{World, Given, Stage, Run, Effect, ◌>>=◌, carry, done, end, test}
-use Rattle.language_model.specs.Values.{Secrecy, Plain, Private, Value, plain, is_secret, size, seen, elements_of}
+use Rattle.language_model.specs.Values.{Secrecy, Plain, Private, Value, plain, is_secret, size, visible_words, elements_of}
 use Rattle.language_model.specs.Words as W
 use Rattle.language_model.specs.Operations.{charged, no_traps, operator_traps, result_shape, is_scalar_left}
 use Rattle.language_model.specs.Operations.{is_scalar_right, words_of_operator, classified_from, classified, made_private, wanted, opened_from, revealed}
@@ -153,7 +153,7 @@ module _ (w : World) where
 
   traps_on : (line : ℕ) (op : BinaryOperator) (ds : Operands) (x y : Value) → is_onward w (Unit {0}) (operator_traps line op ds x y)
       (operator_traps line op ds x y)
-  traps_on line op ds x y = law.bind (law.on_test (W.are_alike ds x y) trap.Length line) (λ _. law.on_test (W.may_divide op (seen y)) trap.Div line)
+  traps_on line op ds x y = law.bind (law.on_test (W.are_alike ds x y) trap.Length line) (λ _. law.on_test (W.may_divide op (visible_words y)) trap.Div line)
 
   pub operated_gives : (line : ℕ) (op : BinaryOperator) (ds : Operands) (x y : Value) → Gives (operated w line op ds x y)
       (IsSecret (is_secret x.secrecy || is_secret y.secrecy))

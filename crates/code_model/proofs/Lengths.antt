@@ -18,7 +18,7 @@ use Rattle.typed_tree.specs.Commands as Commands'
 use Rattle.reached_instances.specs.declared.instance.BoundDomain.{BoundDomain}
 use Rattle.reached_instances.specs.Domains.{Setting, domains}
 use Rattle.language_model.specs.Words.{truth_word}
-use Rattle.language_model.specs.Evaluation.{Place, gives_private, slots_of, bound_at, next_is_private, behind_next, connective, either}
+use Rattle.language_model.specs.Evaluation.{StatementContext, gives_private, slots_of, bound_at, next_is_private, behind_next, connective, either}
 use Rattle.verified_code.specs.Steps.{Step, Literal, Move, Branch, Jump}
 use Rattle.code_model.specs.Kinds.{width}
 use Rattle.code_model.specs.Expressions.{Numbers, classifying, lacks, mixes, binary_code, cat_code, element_code, deciding, settling, cut_code}
@@ -149,7 +149,7 @@ module _ (number : Numbers) where
       (pc' + length (expression_code number here t pc' a)) is)
 
   mutual
-    pub command_length : (at : Place) (c : Command) (t x y pc x' y' pc' : ℕ) → length (command_code number at t x y pc c) ≡ length
+    pub command_length : (at : StatementContext) (c : Command) (t x y pc x' y' pc' : ℕ) → length (command_code number at t x y pc c) ≡ length
         (command_code number at t x' y' pc' c)
     command_length at empty_command t x y pc x' y' pc' = refl
     command_length at (block_command cs) t x y pc x' y' pc' = commands_length at cs t x y pc x' y' pc'
@@ -246,7 +246,7 @@ module _ (number : Numbers) where
     command_length at (publish_command text e) t x y pc x' y' pc' = behind_expression at.here e t pc pc' _
     command_length at (evaluate_command e) t x y pc x' y' pc' = unread_length at.here e t pc pc'
 
-    pub commands_length : (at : Place) (cs : Commands) (t x y pc x' y' pc' : ℕ) → length (commands_code number at t x y pc cs) ≡ length
+    pub commands_length : (at : StatementContext) (cs : Commands) (t x y pc x' y' pc' : ℕ) → length (commands_code number at t x y pc cs) ≡ length
         (commands_code number at t x' y' pc' cs)
     commands_length at Commands'.none t x y pc x' y' pc' = refl
     commands_length at (Commands'.also c cs) t x y pc x' y' pc' =

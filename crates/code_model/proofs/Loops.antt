@@ -7,7 +7,8 @@ use Rattle.typed_tree.specs.Tree.{TypedTree}
 use Rattle.language_model.specs.Effects.{World, Stage, Ended, Effect, ◌>>=◌, carry, done}
 use Rattle.language_model.specs.Values.{Value, is_true}
 use Rattle.language_model.specs.Operations.{tested}
-use Rattle.language_model.specs.Evaluation.{Frame, Calls, Place, gives_private, either, value, Flow, goes, returns, stops, skips, turned, turns, repeats}
+use Rattle.language_model.specs.Evaluation.{Frame, Calls, StatementContext, gives_private, either, value, Flow, goes, returns, stops, skips, turned}
+use Rattle.language_model.specs.Evaluation.{turns, repeats}
 use Rattle.verified_code.specs.Steps.{Step, Branch, Function}
 use Rattle.code_model.specs.Machine.{Caller, Machine, limit, same_bool}
 use Rattle.code_model.specs.Expressions.{Numbers}
@@ -29,7 +30,7 @@ test_paid v s o s2 e = paid (nat_le 1 s.left) refl e
         omega arith
     paid false l e = cc
 
-module _ (w : World) (p : List Function) (number : Numbers) (calls : Calls) (d : ℕ) (place : Place) (code : List Step) (stack : List Caller)
+module _ (w : World) (p : List Function) (number : Numbers) (calls : Calls) (d : ℕ) (place : StatementContext) (code : List Step) (stack : List Caller)
     (room : length stack + d ≡ limit) where
   abbrev At : ℕ → Frame → Machine → Type 0
   At = Stands w p number calls d place code stack room

@@ -7,7 +7,7 @@ use Rattle.typed_tree.specs.Tree.{TypedTree, word_node, truth_node, slot_node, c
 use Rattle.typed_tree.specs.Tree.{not_node, cast_node, binary_node, cut_node, declassify_node}
 use Rattle.reached_instances.specs.declared.instance.BoundDomain.{BoundDomain}
 use Rattle.reached_instances.specs.declared.instance.BoundDomain.TheVariants as bound
-use Rattle.reached_instances.specs.Domains.{Setting, domain, joined}
+use Rattle.reached_instances.specs.Domains.{Setting, domain, joined_domain}
 use Rattle.language_model.specs.Effects.{World, Stage, Effect, ◌>>=◌, carry, done}
 use Rattle.language_model.specs.Values.{Value, is_secret}
 use Rattle.language_model.specs.Operations as row
@@ -40,23 +40,23 @@ width_some (binary_node line op ds a b) = omega arith
 width_some (cut_node c a b) = omega arith
 width_some (declassify_node e) = omega arith
 
-pub private_joined : (d e : BoundDomain) → is_private (joined d e) ≡ (is_private d || is_private e)
+pub private_joined : (d e : BoundDomain) → is_private (joined_domain d e) ≡ (is_private d || is_private e)
 private_joined bound.Public e = refl
 private_joined (bound.Private k) e = refl
 
-left_may : (d e : BoundDomain) → MayStand (is_private d) (is_private (joined d e))
+left_may : (d e : BoundDomain) → MayStand (is_private d) (is_private (joined_domain d e))
 left_may bound.Public e h = absurd (clash h)
   where
     clash : false ≡ true → ⊥
     clash h = cc
 left_may (bound.Private k) e h = refl
 
-right_may : (d e : BoundDomain) → MayStand (is_private e) (is_private (joined d e))
+right_may : (d e : BoundDomain) → MayStand (is_private e) (is_private (joined_domain d e))
 right_may bound.Public e h = h
 right_may (bound.Private k) e h = refl
 
-joined_both : (d e : BoundDomain) → (is_private (joined d e) || is_private (joined d e)) ≡ is_private (joined d e)
-joined_both d e = go (is_private (joined d e))
+joined_both : (d e : BoundDomain) → (is_private (joined_domain d e) || is_private (joined_domain d e)) ≡ is_private (joined_domain d e)
+joined_both d e = go (is_private (joined_domain d e))
   where
     go : (b : Bool) → (b || b) ≡ b
     go true = refl
@@ -167,7 +167,7 @@ module _ (w : World) (p : List Function) (number : Numbers) (calls : Calls) (d :
       (λ q. code here (t + 3 + width a) q b)) m
       → Runs w p m (value w calls here a fr >>= λ x. value w calls here b fr >>= λ y. operation w line op ds x y)
       (Landed t (pc + length (binary_code t (t + 3 + width a) pc line op ds (gives_private here a) (gives_private here b) (code here (t + 3) pc a)
-      (λ q. code here (t + 3 + width a) q b))) m (is_private (joined (domain here a) (domain here b))))
+      (λ q. code here (t + 3 + width a) q b))) m (is_private (joined_domain (domain here a) (domain here b))))
   binary_runs here a b t pc line op ds fr m eva evb r =
       let ga = gives_private here a in
       let gb = gives_private here b in
@@ -194,11 +194,11 @@ module _ (w : World) (p : List Function) (number : Numbers) (calls : Calls) (d :
       (classifying_runs f2 (t + 2) u y m3 (h3.kept u (omega arith) ∙ h.right) (ready_classify f2 (t + 2) u last r3)))) (λ b' m4 h4.
       let r4 = ready_wanting f2 (t + 2) u last (omega arith) r3 h4 in
       let left : m4.registers (picked f1 (t + 1) (t + 3)) ≡ a' = h4.kept (picked f1 (t + 1) (t + 3)) (apart f1 t) ∙ h3.here in
-      let secret : (is_secret a'.secrecy || is_secret b'.secrecy) ≡ is_private (joined (domain here a) (domain here b)) =
+      let secret : (is_secret a'.secrecy || is_secret b'.secrecy) ≡ is_private (joined_domain (domain here a) (domain here b)) =
       ap (λ z. z || is_secret b'.secrecy) h3.private ∙ ap (λ z. (f1 || ga) || z) h4.private ∙ either_secret (not (is_product op)) ga gb ∙ sym
       (private_joined (domain here a) (domain here b)) in
       instruct m4 (Binary line op ds t (picked f1 (t + 1) (t + 3)) (picked f2 (t + 2) u)) (operated w line op ds a' b') (λ v. next t v m4)
-      (IsSecret (is_private (joined (domain here a) (domain here b)))) _ (ready_step r4)
+      (IsSecret (is_private (joined_domain (domain here a) (domain here b)))) _ (ready_step r4)
       (λ s. ap (λ z. carry (operated w line op ds z (m4.registers (picked f2 (t + 2) u)) s) (λ v. done (next t v m4))) left ∙ ap
       (λ z. carry (operated w line op ds a' z s) (λ v. done (next t v m4))) h4.here)
       (subst (λ z. Gives (operated w line op ds a' b') (IsSecret z)) secret (operated_gives w line op ds a' b'))

@@ -18,7 +18,7 @@ use Rattle.reached_instances.specs.Instances.{Instance}
 use Rattle.reached_instances.specs.Calls.{called, calls, calls_of_all, command_calls, commands_calls, function_calls, called_by, main_of}
 use Rattle.reached_instances.specs.Reached.{follows, IsReachedList}
 use Rattle.reached_instances.proofs.ReachedLists.{has_each_reached, begins_with_main}
-use Rattle.language_model.specs.Evaluation.{Place, place_in, bound_at, slots_of}
+use Rattle.language_model.specs.Evaluation.{StatementContext, place_in, bound_at, slots_of}
 use Rattle.code_model.specs.Fit.{IsFit, AreFit, FitsSlot, IsFitCommand, AreFitCommands, IsThere, IsKnownIn, IsFitInstance, IsFitAlone}
 use Rattle.code_model.specs.Fit.{IsFitProgram, the_main}
 
@@ -85,7 +85,7 @@ module _ (Known : ℕ → List BoundDomain → Type 0) where
   slot_knows here k e fit h = (fit.0, knows here e fit.1 h, fit.2)
 
   mutual
-    command_knows : (at : Place) (i : Bool) (c : Command) → IsFitCommand (IsThere at.here.functions) at i c → AllKnown (command_calls at.here c)
+    command_knows : (at : StatementContext) (i : Bool) (c : Command) → IsFitCommand (IsThere at.here.functions) at i c → AllKnown (command_calls at.here c)
         → IsFitCommand Known at i c
     command_knows at i empty_command fit h = tt
     command_knows at i (block_command cs) fit h = commands_know at i cs fit h
@@ -128,7 +128,8 @@ module _ (Known : ℕ → List BoundDomain → Type 0) where
     command_knows at i (publish_command text e) fit h = knows at.here e fit h
     command_knows at i (evaluate_command e) fit h = knows at.here e fit h
 
-    commands_know : (at : Place) (i : Bool) (cs : Commands) → AreFitCommands (IsThere at.here.functions) at i cs → AllKnown (commands_calls at.here cs)
+    commands_know : (at : StatementContext) (i : Bool) (cs : Commands) → AreFitCommands (IsThere at.here.functions) at i cs
+        → AllKnown (commands_calls at.here cs)
         → AreFitCommands Known at i cs
     commands_know at i Commands'.none fit h = tt
     commands_know at i (Commands'.also c cs) fit h =

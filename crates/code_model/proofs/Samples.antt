@@ -2,7 +2,7 @@
 use Rattle.std.proofs.Common.{◌≡◌, ℕ, List, [], ◌∷◌, Some, None, true, false, refl, sym, subst, arith, inl, inr}
 use Rattle.secrec_ast.specs.declared.expression.DataType.TheVariants.{Uint64}
 use Rattle.typed_tree.specs.declared.kinds.SlotDomain.TheVariants as domain
-use Rattle.typed_tree.specs.declared.function.Given.TheVariants as given
+use Rattle.typed_tree.specs.declared.function.Returned.TheVariants as given
 use Rattle.typed_tree.specs.declared.operators.BinaryOperator.TheVariants.{Words}
 use Rattle.typed_tree.specs.declared.operators.WordOperator.TheVariants as word
 use Rattle.typed_tree.specs.declared.operators.Operands.TheVariants.{Scalars}

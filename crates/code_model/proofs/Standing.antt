@@ -7,7 +7,8 @@ use Rattle.reached_instances.specs.Domains.{Setting}
 use Rattle.language_model.specs.Effects.{World, Stage, Effect, ◌>>=◌, carry, done}
 use Rattle.language_model.specs.Values.{Value}
 use Rattle.language_model.specs.Operations.{wanted}
-use Rattle.language_model.specs.Evaluation.{Frame, put, Calls, Place, gives_private, slot_is_private, value, Flow, goes, returns, stops, skips, then_do}
+use Rattle.language_model.specs.Evaluation.{Frame, put, Calls, StatementContext, gives_private, slot_is_private, value, Flow, goes, returns, stops}
+use Rattle.language_model.specs.Evaluation.{skips, then_do}
 use Rattle.verified_code.specs.Steps.{Step, Jump, Function}
 use Rattle.code_model.specs.Machine.{Caller, Machine, at, next, step, resume, limit}
 use Rattle.code_model.specs.Expressions.{Numbers, classifying, picked, lacks, expression_code}
@@ -28,7 +29,7 @@ holds_put {here = here} {fr = fr} {registers = registers} k v l q h = record {
   defaults = λ s z. put_other k (length here.slots + shape_number s) v registers (omega (arith, l)) ∙ h.defaults s z;
 }
 
-module _ (w : World) (p : List Function) (number : Numbers) (calls : Calls) (d : ℕ) (place : Place) (code : List Step) (stack : List Caller)
+module _ (w : World) (p : List Function) (number : Numbers) (calls : Calls) (d : ℕ) (place : StatementContext) (code : List Step) (stack : List Caller)
     (room : length stack + d ≡ limit) where
   abbrev pub base : ℕ
   base = first_free place.here.slots

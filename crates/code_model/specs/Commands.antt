@@ -13,7 +13,7 @@ use Rattle.typed_tree.specs.Commands.{return_command, assert_command, store_comm
 use Rattle.typed_tree.specs.Commands.{publish_command, evaluate_command}
 use Rattle.typed_tree.specs.Commands as Commands'
 use Rattle.reached_instances.specs.Domains.{Setting}
-use Rattle.language_model.specs.Evaluation.{Place, gives_private, slot_is_private, slot_shape, either}
+use Rattle.language_model.specs.Evaluation.{StatementContext, gives_private, slot_is_private, slot_shape, either}
 use Rattle.bytecode.specs.declared.kind.Kind.{Kind}
 use Rattle.verified_code.specs.Steps.{Step, Store, Fill, Put, Argument, Publish, Assert, Branch, Jump, Return, ReturnNone}
 use Rattle.code_model.specs.Kinds.{width, kind_of, private_kind_in, expression_kinds}
@@ -124,7 +124,7 @@ behind_classifying wanted given t u last =
 
 module _ (number : Numbers) where
   abbrev mutual
-    pub command_code : Place → (t x y pc : ℕ) → Command → List Step
+    pub command_code : StatementContext → (t x y pc : ℕ) → Command → List Step
     command_code at t x y pc empty_command = []
     command_code at t x y pc (block_command cs) = commands_code at t x y pc cs
     command_code at t x y pc (if_command e a b) =
@@ -170,7 +170,7 @@ module _ (number : Numbers) where
     command_code at t x y pc (publish_command text e) = expression_code number at.here t pc e ++ Publish text t ∷ []
     command_code at t x y pc (evaluate_command e) = unread_code number at.here t pc e
 
-    pub commands_code : Place → (t x y pc : ℕ) → Commands → List Step
+    pub commands_code : StatementContext → (t x y pc : ℕ) → Commands → List Step
     commands_code at t x y pc Commands'.none = []
     commands_code at t x y pc (Commands'.also c cs) =
         let code = command_code at t x y pc c in

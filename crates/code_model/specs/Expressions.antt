@@ -17,8 +17,8 @@ use Rattle.typed_tree.specs.Tree.{TypedTree, TypedTrees, word_node, truth_node, 
 use Rattle.typed_tree.specs.Tree.{not_node, cast_node, binary_node, cut_node, declassify_node}
 use Rattle.typed_tree.specs.Tree as Tree'
 use Rattle.typed_tree.specs.Programs.{TypedFunctionTree}
-use Rattle.typed_tree.specs.declared.function.Given.{Given}
-use Rattle.typed_tree.specs.declared.function.Given.TheVariants as given
+use Rattle.typed_tree.specs.declared.function.Returned.{Returned}
+use Rattle.typed_tree.specs.declared.function.Returned.TheVariants as given
 use Rattle.reached_instances.specs.declared.instance.BoundDomain.{BoundDomain}
 use Rattle.reached_instances.specs.Domains.{Setting, domains}
 use Rattle.language_model.specs.Words.{truth_word}
@@ -32,7 +32,7 @@ abbrev pub Numbers : Type 0
 Numbers = (function : ℕ) → List BoundDomain → ℕ
 
 -- the register of what a call gives, where there is something
-abbrev pub given_at : Given → ℕ → Option ℕ
+abbrev pub given_at : Returned → ℕ → Option ℕ
 given_at given.Nothing t = None
 given_at (given.Value s) t = Some t
 

@@ -11,13 +11,13 @@ use Rattle.typed_tree.specs.Commands.{Command, Commands, empty_command, block_co
 use Rattle.typed_tree.specs.Commands.{return_command, assert_command, store_command, default_command, fill_command, input_command, element_command}
 use Rattle.typed_tree.specs.Commands.{publish_command, evaluate_command}
 use Rattle.typed_tree.specs.Commands as Commands'
-use Rattle.typed_tree.specs.declared.function.Given.{Given}
-use Rattle.typed_tree.specs.declared.function.Given.TheVariants as given
+use Rattle.typed_tree.specs.declared.function.Returned.{Returned}
+use Rattle.typed_tree.specs.declared.function.Returned.TheVariants as given
 use Rattle.typed_tree.specs.Programs.{TypedFunctionTree, TypedProgramTree}
 use Rattle.reached_instances.specs.declared.instance.BoundDomain.{BoundDomain}
 use Rattle.reached_instances.specs.Domains.{Setting, domains}
 use Rattle.reached_instances.specs.Instances.{Instance}
-use Rattle.language_model.specs.Evaluation.{Place, place_in, gives_private, slot_is_private, slots_of, bound_at, next_is_private}
+use Rattle.language_model.specs.Evaluation.{StatementContext, place_in, gives_private, slot_is_private, slots_of, bound_at, next_is_private}
 
 -- a private value stands only where a private one is declared
 abbrev pub MayStand : (given declared : Bool) → Type 0
@@ -58,7 +58,7 @@ module _ (Known : ℕ → List BoundDomain → Type 0) where
 
   -- inside of a loop or not
   abbrev mutual
-    pub IsFitCommand : Place → (inside : Bool) → Command → Type 0
+    pub IsFitCommand : StatementContext → (inside : Bool) → Command → Type 0
     IsFitCommand at inside empty_command = Unit {0}
     IsFitCommand at inside (block_command cs) = AreFitCommands at inside cs
     IsFitCommand at inside (if_command e a b) = IsFit at.here e × IsFitCommand at inside a × IsFitCommand at inside b
@@ -77,7 +77,7 @@ module _ (Known : ℕ → List BoundDomain → Type 0) where
     IsFitCommand at inside (publish_command text e) = IsFit at.here e
     IsFitCommand at inside (evaluate_command e) = IsFit at.here e
 
-    pub AreFitCommands : Place → (inside : Bool) → Commands → Type 0
+    pub AreFitCommands : StatementContext → (inside : Bool) → Commands → Type 0
     AreFitCommands at inside Commands'.none = Unit {0}
     AreFitCommands at inside (Commands'.also c cs) = IsFitCommand at inside c × AreFitCommands at inside cs
 
@@ -95,7 +95,7 @@ abbrev mutual
   one_returns Commands'.none = false
   one_returns (Commands'.also c cs) = always_returns c || one_returns cs
 
-abbrev pub gives_value : Given → Bool
+abbrev pub gives_value : Returned → Bool
 gives_value given.Nothing = false
 gives_value (given.Value s) = true
 

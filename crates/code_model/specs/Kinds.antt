@@ -7,8 +7,8 @@ use Rattle.secrec_ast.specs.declared.expression.DataType.TheVariants.{Uint64}
 use Rattle.secrec_ast.specs.declared.expression.DataType.TheVariants as datatype
 use Rattle.typed_tree.specs.declared.kinds.Shape.{Shape}
 use Rattle.typed_tree.specs.declared.kinds.Slot.{Slot}
-use Rattle.typed_tree.specs.declared.function.Given.{Given}
-use Rattle.typed_tree.specs.declared.function.Given.TheVariants as given
+use Rattle.typed_tree.specs.declared.function.Returned.{Returned}
+use Rattle.typed_tree.specs.declared.function.Returned.TheVariants as given
 use Rattle.typed_tree.specs.Shapes.{shape_of}
 use Rattle.typed_tree.specs.Tree.{TypedTree, TypedTrees, word_node, truth_node, slot_node, call_node, size_node, cat_node, sum_node, bits_node, element_node}
 use Rattle.typed_tree.specs.Tree.{not_node, cast_node, binary_node, cut_node, declassify_node}
@@ -48,7 +48,7 @@ abbrev mutual
 abbrev pub kind_of : (secret : Bool) → Shape → Kind
 kind_of secret shape = record { secret = secret; element = shape.element; array = shape.array }
 
-abbrev pub returned_shape : Given → Shape
+abbrev pub returned_shape : Returned → Shape
 returned_shape given.Nothing = shape_of Uint64 false
 returned_shape (given.Value s) = s.shape
 

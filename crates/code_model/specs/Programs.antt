@@ -1,8 +1,8 @@
 -- The code of a typed function under a binding, and of a program.
 use Rattle.std.specs.Prelude.{ℕ, ◌+◌, List, [], ◌∷◌, ◌++◌, length, map, Option, Some, None, if◌then◌else◌}
 use Rattle.std.specs.List.{slice_get}
-use Rattle.typed_tree.specs.declared.function.Given.{Given}
-use Rattle.typed_tree.specs.declared.function.Given.TheVariants as given
+use Rattle.typed_tree.specs.declared.function.Returned.{Returned}
+use Rattle.typed_tree.specs.declared.function.Returned.TheVariants as given
 use Rattle.typed_tree.specs.Programs.{TypedFunctionTree, TypedProgramTree}
 use Rattle.reached_instances.specs.declared.instance.BoundDomain.{BoundDomain}
 use Rattle.reached_instances.specs.Instances.{Instance, same_instance}
@@ -13,17 +13,17 @@ use Rattle.code_model.specs.Kinds.{slot_kind}
 use Rattle.code_model.specs.Expressions.{Numbers}
 use Rattle.code_model.specs.Commands.{defaults_behind, first_free, commands_width, commands_kinds, commands_code}
 
-abbrev pub given_kind : List BoundDomain → Given → Option Kind
+abbrev pub given_kind : List BoundDomain → Returned → Option Kind
 given_kind b given.Nothing = None
 given_kind b (given.Value s) = Some (slot_kind b s)
 
 -- a body that falls off its end gives nothing back. Where something is wanted it never does: its last step would return a register of
 -- this kind that no step writes, which is the last one
-abbrev pub last_kinds : List BoundDomain → Given → List Kind
+abbrev pub last_kinds : List BoundDomain → Returned → List Kind
 last_kinds b given.Nothing = []
 last_kinds b (given.Value s) = slot_kind b s ∷ []
 
-abbrev pub last_step : Given → (r : ℕ) → Step
+abbrev pub last_step : Returned → (r : ℕ) → Step
 last_step given.Nothing r = ReturnNone
 last_step (given.Value s) r = Return r
 

@@ -2,7 +2,7 @@
 use Rattle.std.proofs.Common.{[], ◌++◌, refl, sym, ap, ◌∙◌}
 use Rattle.protocol_model.specs.Gates.{sizes_of}
 use Rattle.shared_gates.specs.Model.{run_gates, sizes_after}
-use Rattle.shared_plans.proofs.GateLists.{gates-then, sizes-then}
+use Rattle.shared_gates.proofs.GatesBehind.{gates-then, sizes-then}
 use Rattle.driven_nodes.proofs.NodeRuns.{RunsJoin}
 use Rattle.gate_laws.specs.Facts.{Dealt}
 use Rattle.code_places.specs.Places.{run_dealt}

@@ -24,7 +24,7 @@ use Rattle.typed_tree.specs.declared.operators.Cast.{Cast}
 use Rattle.typed_tree.specs.declared.operators.Cast.TheVariants.{WordToWord, WordToBool, BoolToWord, BoolToBool}
 use Rattle.typed_tree.specs.Shapes.{shape_of}
 use Rattle.language_model.specs.Effects.{World, Given, Effect, ◌>>=◌, words_each}
-use Rattle.language_model.specs.Values.{Secrecy, Plain, Private, Value, plain, hidden, size, seen, is_true, ring_for, elements_of}
+use Rattle.language_model.specs.Values.{Secrecy, Plain, Private, Value, plain, hidden, size, visible_words, is_true, ring_for, elements_of}
 use Rattle.language_model.specs.Words as W
 use Rattle.language_model.specs.Operations.{charged, no_traps, not_too_large, number_from, number_of, made_private, classified_from}
 use Rattle.language_model.specs.Operations.{classified, stretched, is_scalar_left}
@@ -138,7 +138,7 @@ module _ (told : Bool) where
 
   traps_quiet : (line : ℕ) (op : BinaryOperator) (ds : Operands) (x y : Value) → Quiet told (operator_traps line op ds x y)
   traps_quiet line op ds x y =
-      bind (quiet_test told (W.are_alike ds x y) trap.Length line) (λ _. quiet_test told (W.may_divide op (seen y)) trap.Div line)
+      bind (quiet_test told (W.are_alike ds x y) trap.Length line) (λ _. quiet_test told (W.may_divide op (visible_words y)) trap.Div line)
 
   pub operated_quiet : (w : World) (line : ℕ) (op : BinaryOperator) (ds : Operands) (x y : Value) → Quiet told (operated w line op ds x y)
   operated_quiet w line op ds x y =

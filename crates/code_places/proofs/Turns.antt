@@ -35,11 +35,11 @@ begins_alike c budget =
 gained_none : {A : Type 0} (xs : List A) → gained xs xs ≡ []
 gained_none xs = ap (λ ys. drop (length xs) ys) (sym (append-nil xs)) ∙ drop-append_seam xs []
 
-gained_more : {A : Type 0} (xs ys more : List A) → ys ≡ xs ++ more → gained xs ys ≡ more
-gained_more xs ys more e = ap (λ zs. drop (length xs) zs) e ∙ drop-append_seam xs more
+pub gained_more : {A : Type 0} (xs more ys : List A) → ys ≡ xs ++ more → gained xs ys ≡ more
+gained_more xs more ys e = ap (λ zs. drop (length xs) zs) e ∙ drop-append_seam xs more
 
 stands_and_gains : {A : Type 0} (xs ys : List A) → Begins xs ys → ys ≡ xs ++ gained xs ys
-stands_and_gains xs ys h = h.1 ∙ ap (λ zs. xs ++ zs) (sym (gained_more xs ys h.0 h.1))
+stands_and_gains xs ys h = h.1 ∙ ap (λ zs. xs ++ zs) (sym (gained_more xs h.0 ys h.1))
 
 same_gates : {s s' : Stage} → LikeStage s s' → s.gates ≡ s'.gates
 same_gates h = ap (λ (z : Stage). z.gates) (sym h.same)
@@ -135,7 +135,7 @@ module _ (o : Offered) (c : List Function) where
           wanting = wants (some_words w ws e)
 
           shown : gained p.stage.opened x.1.opened ≡ w ∷ ws
-          shown = gained_more p.stage.opened x.1.opened (w ∷ ws) (opened (w ∷ ws) e)
+          shown = gained_more p.stage.opened (w ∷ ws) x.1.opened (opened (w ∷ ws) e)
 
           some : gained p.stage.opened x.1.opened ≢ []
           some none = some_words w ws e (e ∙ ap (λ ws. s.opened ++ ws) (sym shown ∙ none) ∙ append-nil s.opened)

@@ -15,8 +15,8 @@ use Rattle.driven_nodes.specs.Twins.{gates_by, gates_of, stand_by, stand_after, 
 use Rattle.code_places.specs.Places.{Place, place, stopped, went, next_step}
 use Rattle.code_places.specs.Twins.{GoAlike, EndAlike}
 use Rattle.code_places.specs.Laws.{in_the_clear, when_told, CodeHasTwins}
+use Rattle.code_places.proofs.Turns.{gained_more}
 use Rattle.code_runs.proofs.Stays.{untold, Stays, After, none_left, same_step, after_step}
-use Rattle.code_runs.proofs.Shown.{gained_more}
 
 pub none_some : {A : Type 0} {a : A} → ◌≡◌ {A = Option A} None (Some a) → ⊥
 none_some e = cc

@@ -1,5 +1,5 @@
 -- What the miners tell at each step is what the run in the clear tells.
-use Rattle.std.proofs.Common.{◌≡◌, ℕ, ◌+◌, ◌<◌, ◌%◌, List, [], ◌∷◌, ◌++◌, length, map, Option, Some, None, refl, sym, ap, ◌∙◌, subst}
+use Rattle.std.proofs.Common.{◌≡◌, ℕ, ◌+◌, ◌<◌, List, [], ◌∷◌, ◌++◌, length, map, Option, Some, None, refl, sym, ap, ◌∙◌, subst}
 use Rattle.std.proofs.Common.{arith, append_assoc, append-nil, length-append, length-drop, zero-add}
 use Rattle.std.proofs.Math.ListN.{drop_of_length-le}
 use Rattle.std.proofs.lemmas.List.Elements.{length_all_zip}
@@ -28,18 +28,18 @@ use Rattle.language_model.specs.Values.{Secrecy, Plain, Private, Value, plain, r
 use Rattle.blind_evaluation.specs.Courses.{LikeEvent}
 use Rattle.typed_tree.specs.declared.kinds.Shape.{Shape}
 use Rattle.verified_code.specs.Steps.{Step, Declassify, Publish, Function}
-use Rattle.language_model.specs.Operations.{read_answer}
-use Rattle.gate_laws.proofs.Ranges.{map_itself}
 use Rattle.gate_laws.specs.Facts.{InRange, drawn_by, AllStand, fact_from, Dealt, run_at}
+use Rattle.gate_laws.proofs.Openings.{read_same}
 use Rattle.driven_nodes.specs.Steps.{gained, last_of}
 use Rattle.code_places.specs.Places.{Place, next_step, field_of, form_of, publishing, told_by, where_made, notices_between}
 use Rattle.code_places.specs.Twins.{LikeWords, LikeStage, LikeMachine}
-use Rattle.code_runs.specs.Telling.{type_of, elements_told, ring_told, AreOf, Tells}
+use Rattle.code_places.proofs.Turns.{gained_more}
+use Rattle.code_runs.specs.Telling.{type_of, elements_told, AreOf, Tells}
 use Rattle.code_runs.specs.Telling as tells
 use Rattle.code_runs.proofs.Told.{TellsNothing, Opening, was_open, opens, NumberFor, Publishing, ToldBy}
 use Rattle.code_runs.proofs.Stays.{Stays, Along}
 use Rattle.code_runs.proofs.Values.{computed, last_value, last_held, last_kinded, last_made}
-use Rattle.code_runs.proofs.Shown.{behind, gained_more}
+use Rattle.code_runs.proofs.Shown.{behind}
 
 -- ---- FORMS
 
@@ -52,11 +52,6 @@ told_same shape words = ap (λ e. map (element_of e) words) (type_same shape.ele
 
 of_form : (shape : Shape) (words : List ℕ) → InRange shape.element words → AreOf (form_of shape) words
 of_form shape words h = subst (λ e. InRange e words) (sym (type_same shape.element)) h
-
--- a truth value that is opened is read as it is
-read_same : (e : DataType) (words : List ℕ) → InRange e words → read_answer e words ≡ words
-read_same Uint64 words h = refl
-read_same datatype.Bool words h = map_itself 2 (λ x. x % 2) words (λ x lt. omega (arith, lt)) h
 
 pub retold : {events : List Event} {ns ms : Number → List Notice} → ((i : Number) → ns i ≡ ms i) → Tells events ns → Tells events ms
 retold {events = events} h t = subst (Tells events) (λ e. λ i. h i e) t

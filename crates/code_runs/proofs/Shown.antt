@@ -2,11 +2,12 @@
 use Rattle.std.proofs.Common.{◌≡◌, ◌≢◌, ℕ, zero, suc, List, [], ◌∷◌, ◌++◌, length, drop, Option, Some, refl, sym, ap, ◌∙◌, subst, append_assoc, ◌⊎◌, inl, inr}
 use Rattle.std.proofs.Common.{append-nil}
 use Rattle.std.proofs.lemmas.List.{drop-drop, append_cancel_left}
-use Rattle.std.proofs.Math.Seq.{drop-append_seam, drop-length}
+use Rattle.std.proofs.Math.Seq.{drop-length}
 use Rattle.proto_core.specs.declared.party.Number.{Number}
 use Rattle.proto_core.specs.Lists.{AreWords}
 use Rattle.protocol_model.specs.Gates.{sizes_of, needed}
 use Rattle.protocol_model.specs.Runs.{Shares, Tapes, run_values}
+use Rattle.protocol_model.proofs.Sizes.{needed-append}
 use Rattle.gates.specs.declared.ring_kind.RingKind.{RingKind}
 use Rattle.gates.specs.declared.gate.Gate.{Gate}
 use Rattle.gates.specs.declared.gate.Gate.TheVariants.{Open}
@@ -14,8 +15,7 @@ use Rattle.gates.specs.Clear.{Values, value, FitFrom}
 use Rattle.gates.proofs.Sizes.{FitFrom-append}
 use Rattle.shared_gates.specs.Model.{miner_of}
 use Rattle.shared_gates.specs.Computed.{opened_values}
-use Rattle.shared_plans.proofs.GateLists.{gates-then}
-use Rattle.shared_plans.proofs.RunLists.{needed-then}
+use Rattle.shared_gates.proofs.GatesBehind.{gates-then}
 use Rattle.language_model.specs.Effects.{Clear, Stage}
 use Rattle.language_model.specs.Reports.{Offered, world_of}
 use Rattle.verified_code.specs.Steps.{Step, Declassify, Publish, Function}
@@ -28,6 +28,7 @@ use Rattle.driven_nodes.specs.Twins.{shown, ReadsBy, Reads}
 use Rattle.driven_nodes.proofs.Gates.{values_then}
 use Rattle.code_places.specs.Places.{Place, next_step, run_dealt}
 use Rattle.code_places.specs.Laws.{in_the_clear}
+use Rattle.code_places.proofs.Turns.{gained_more}
 use Rattle.code_runs.proofs.Told.{was_open, opens, ToldBy}
 use Rattle.code_runs.proofs.Stays.{Stays, Along, After, after}
 use Rattle.code_runs.proofs.Values.{computed, last_opened}
@@ -52,7 +53,7 @@ module _ (d : Dealt) (tapes : Tapes) where
   left_each : (xs ys : List Gate) (i : Number) → drop (needed (run_dealt d xs ys) i) (left_behind xs i) ≡ left_behind (xs ++ ys) i
   left_each xs ys i =
       drop-drop (needed (run_dealt d xs ys) i) (needed (run_dealt d [] xs) i) (tapes i)
-      ∙ ap (λ n. drop n (tapes i)) (sym (needed-then (run_dealt d [] xs) (run_dealt d xs ys) i))
+      ∙ ap (λ n. drop n (tapes i)) (sym (needed-append (run_dealt d [] xs) (run_dealt d xs ys) i))
       ∙ ap (λ g. drop (needed g i) (tapes i)) (sym (split xs ys))
 
   pub left_then : (xs ys : List Gate) → (λ i. drop (needed (run_dealt d xs ys) i) (left_behind xs i)) ≡ left_behind (xs ++ ys)
@@ -79,9 +80,6 @@ opens_last i m s u h = inl h.opened
 
 nothing_gained : {A : Type 0} (xs ys : List A) → ys ≡ xs → gained xs ys ≡ []
 nothing_gained xs ys e = ap (drop (length xs)) e ∙ drop-length xs
-
-pub gained_more : {A : Type 0} (xs more ys : List A) → ys ≡ xs ++ more → gained xs ys ≡ more
-gained_more xs more ys e = ap (drop (length xs)) e ∙ drop-append_seam xs more
 
 module _ (o : Offered) (d : Dealt) (c : List Function) (tapes : Tapes) (words : (i : Number) → AreWords (tapes i))
     (long : (i : Number) → length (tapes i) ≡ drawn_by o.lengths (miner_of i)) where

@@ -3,7 +3,7 @@ use Rattle.std.proofs.Common.{◌≡◌, ℕ, ◌+◌, ◌-◌, ◌≤◌, List,
 use Rattle.proto_core.specs.declared.party.Number.{Number}
 use Rattle.proto_core.specs.declared.party.Number.TheVariants.{One, Two, Three}
 use Rattle.proto_core.specs.Lists.{AreWords}
-use Rattle.protocol_model.specs.Gates.{value_at}
+use Rattle.protocol_model.specs.Gates.{nth_value}
 use Rattle.protocol_model.specs.Runs.{Tapes, Ready}
 use Rattle.gates.specs.declared.ring_kind.RingKind.{RingKind}
 use Rattle.gates.specs.declared.gate.Gate.{Gate}
@@ -16,14 +16,14 @@ use Rattle.shared_gates.specs.Shares.{Kind, Holds, kind_at, share_at}
 use Rattle.shared_gates.specs.Kinds.{Kinded, AllKinded}
 use Rattle.shared_gates.specs.Model.{miner_of}
 use Rattle.shared_gates.specs.Computed.{Computed}
-use Rattle.shared_gates.proofs.Models.{value_at-value}
+use Rattle.shared_gates.proofs.Models.{nth_value-value}
 use Rattle.shared_plans.specs.GateRuns.{GateRun, model_gates, end_shares, opened_words, words_drawn}
 use Rattle.shared_plans.proofs.GateRunLaws.{run-goes, run-computes, run-count}
+use Rattle.shared_plans.proofs.PlanRuns.{made-then}
 use Rattle.language_model.specs.Effects.{Clear, Stage}
 use Rattle.language_model.specs.Reports.{Offered, world_of}
 use Rattle.language_model.specs.Tapes.{AtMost}
 use Rattle.gate_laws.specs.Facts.{drawn_by, none_of, Dealt, run_at, IsAt}
-use Rattle.gate_laws.proofs.Gains.{made_split}
 use Rattle.driven_nodes.specs.Steps.{last_of}
 
 kinded_behind :
@@ -63,13 +63,13 @@ module _ (o : Offered) (d : Dealt) (tapes : Tapes) (words : (i : Number) → Are
     values = (computed).more
 
     made_last : made_by_all s.gates ≡ number + 1
-    made_last = let m = made_split before (g ∷ []) in ap made_by_all e ∙ omega arith
+    made_last = let m = made-then before (g ∷ []) in ap made_by_all e ∙ omega arith
 
     pub last_value : (i : Number) → last_of (end_shares run tapes i) ≡ share_at (end_shares run tapes) number i
     last_value i =
         let count = run-count run at.formed tapes ready i in
         let index : length (end_shares run tapes i) - 1 ≡ number = omega (arith, count, made_last) in
-        ap (value_at (end_shares run tapes i)) index ∙ value_at-value (end_shares run tapes i) number
+        ap (nth_value (end_shares run tapes i)) index ∙ nth_value-value (end_shares run tapes i) number
 
     pub last_held : Holds (kind_at kinds number) (value values number) (share_at (end_shares run tapes) number)
     last_held = (computed).held number (omega (arith, (computed).count, made_last))

@@ -1,6 +1,7 @@
 -- What is known of a stop in the reading, whatever is decided.
-use Rattle.std.proofs.Common.{◌≤◌, arith, Ok, Err, Result}
+use Rattle.std.proofs.Common.{◌≤◌, arith, Result}
 use Rattle.outside.specs.Files.{FilesState}
+use Rattle.command_frame.specs.declared.object.Object.TheVariants as objects
 use Rattle.command_frame.specs.declared.stop.Stop.{Stop}
 use Rattle.command_frame.specs.declared.stop.Stop.TheVariants as stops
 use Rattle.command_frame.specs.Answer.{Cause}
@@ -10,13 +11,17 @@ pub stops_reading : {Y : Type 0} (old new : FilesState) (stop : Stop) (decided :
 stops_reading old new stops.Memory decided s = tt
 stops_reading old new (stops.Refused r) decided s = tt
 stops_reading old new stops.Usage decided s = s
-stops_reading old new (stops.File line) decided s = s.rose
-stops_reading old new stops.Out decided s = s
+stops_reading old new (stops.Failed (objects.File line)) decided s = s.rose
+stops_reading old new (stops.Failed objects.Output) decided s = s
+stops_reading old new (stops.Failed objects.Links) decided s = s
+stops_reading old new (stops.Failed objects.Children) decided s = s
 
 -- a stop in a later step of the reading
 pub stops_later : (first old new : FilesState) (stop : Stop) → first.faults ≤ old.faults → StopsReading old new stop → StopsReading first new stop
 stops_later first old new stops.Memory later s = tt
 stops_later first old new (stops.Refused r) later s = tt
 stops_later first old new stops.Usage later s = s
-stops_later first old new (stops.File line) later s = omega (arith, later, s)
-stops_later first old new stops.Out later s = s
+stops_later first old new (stops.Failed (objects.File line)) later s = omega (arith, later, s)
+stops_later first old new (stops.Failed objects.Output) later s = s
+stops_later first old new (stops.Failed objects.Links) later s = s
+stops_later first old new (stops.Failed objects.Children) later s = s

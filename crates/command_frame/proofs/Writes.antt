@@ -1,9 +1,11 @@
 -- Writing files one after another.
-use Rattle.std.proofs.Common.{◌≡◌, ℕ, ◌+◌, ◌<◌, ◌≤◌, List, [], ◌∷◌, ◌++◌, length, get_or, drop, take, take_all, take-suc, take-append-drop, map, true, refl, ap, sym, ◌∙◌, arith, add-one, drop-cons, string_bytes, Contains}
+use Rattle.std.proofs.Common.{◌≡◌, ℕ, ◌+◌, ◌<◌, ◌≤◌, List, [], ◌∷◌, ◌++◌, length, get_or, drop, take, take_all, take-suc, take-append-drop, map, true}
+use Rattle.std.proofs.Common.{refl, ap, sym, ◌∙◌, arith, add-one, drop-cons, string_bytes, Contains}
 use Rattle.std.proofs.lemmas.List.{get_or-map, length-map, map-append}
 use Rattle.outside.specs.Files.{Contents, FilesState, Wrote, OnlyAt, with_file, file_at}
 use Rattle.sc_text.specs.Fault.{file_line}
 use Rattle.command_frame.specs.Answer.{Written, writes_of, after_writes, paths_in}
+use Rattle.command_frame.specs.declared.object.Object.TheVariants as objects
 use Rattle.command_frame.specs.declared.plan.PlannedWrite.{PlannedWrite}
 use Rattle.command_frame.specs.declared.stop.Stop.{Stop}
 use Rattle.command_frame.specs.declared.stop.Stop.TheVariants as stops
@@ -86,9 +88,11 @@ pub stops_here : (ws : List PlannedWrite) (i : ℕ) (e : PlannedWrite) (a b c : 
 stops_here ws i e a b c stops.Memory lt is p done only s = tt
 stops_here ws i e a b c stops.Usage lt is p done only s = s
 stops_here ws i e a b c (stops.Refused r) lt is p done only s = s
-stops_here ws i e a b c (stops.File line) lt is p done only s = record {
+stops_here ws i e a b c (stops.Failed (objects.File line)) lt is p done only s = record {
   rose = omega (arith, p.later, s.0);
   unsteady = λ t. s.1 (p.still t);
   breaks = breaks_off ws i e a b c (string_bytes line) lt is p.told done only s.2;
 }
-stops_here ws i e a b c stops.Out lt is p done only s = s
+stops_here ws i e a b c (stops.Failed objects.Output) lt is p done only s = s
+stops_here ws i e a b c (stops.Failed objects.Links) lt is p done only s = s
+stops_here ws i e a b c (stops.Failed objects.Children) lt is p done only s = s

@@ -1,5 +1,5 @@
 -- What a plan's writing and printing leaves.
-use Rattle.std.specs.Prelude.{ℕ, ◌≡◌, ◌≢◌, ◌≤◌, ◌⊎◌, List, ◌∷◌, ◌++◌, true, take, Contains, Result, Ok, Err, string_bytes}
+use Rattle.std.specs.Prelude.{ℕ, ◌≡◌, ◌≢◌, ◌≤◌, ◌⊎◌, List, ◌∷◌, ◌++◌, true, take, Contains, Result, Ok, Err}
 use Rattle.outside.specs.Causes.{Rose}
 use Rattle.outside.specs.Files.{FilesState, file_at}
 use Rattle.outside.specs.Sink.{SinkState, SameSink, Appends}
@@ -8,6 +8,7 @@ use Rattle.command_frame.specs.declared.status.Status.{Status}
 use Rattle.command_frame.specs.declared.stop.Stop.{Stop}
 use Rattle.command_frame.specs.declared.stop.Stop.TheVariants as stops
 use Rattle.command_frame.specs.Answer.{Effect, Written, after_writes}
+use Rattle.command_frame.specs.Objects.{OfFile, OfObject}
 
 -- all files but these are as they were
 pub record OnlyAmong (paths : List (List ℕ)) (old new : FilesState) : Type 0 where
@@ -52,15 +53,14 @@ abbrev pub StopsWriting : List Written → FilesState → FilesState → Stop �
 StopsWriting writes old new stops.Memory = Unit {0}
 StopsWriting writes old new stops.Usage = ⊥
 StopsWriting writes old new (stops.Refused r) = ⊥
-StopsWriting writes old new (stops.File line) = WriteFaulted writes (string_bytes line) old new
-StopsWriting writes old new stops.Out = ⊥
+StopsWriting writes old new (stops.Failed object) = OfFile (λ line. WriteFaulted writes line old new) object
 
 abbrev pub StopsWritingOne : List ℕ → FilesState → FilesState → Stop → Type 0
 StopsWritingOne path old new stops.Memory = Unit {0}
 StopsWritingOne path old new stops.Usage = ⊥
 StopsWritingOne path old new (stops.Refused r) = ⊥
-StopsWritingOne path old new (stops.File line) = Rose old.faults new.faults × (old.steady ≡ true → ⊥) × (string_bytes line ≡ file_line path)
-StopsWritingOne path old new stops.Out = ⊥
+StopsWritingOne path old new (stops.Failed object) =
+    OfFile (λ line. Rose old.faults new.faults × (old.steady ≡ true → ⊥) × (line ≡ file_line path)) object
 
 -- the output failed: its count rose, which a steady one's doesn't
 pub record PutFaulted (text : List ℕ) (old new : SinkState) : Type 0 where
@@ -72,8 +72,8 @@ abbrev pub StopsFinishing : Effect → FilesState → FilesState → SinkState �
 StopsFinishing effect f f' o o' stops.Memory = SameSink o o' ⊎ PutPrefix effect.text o o'
 StopsFinishing effect f f' o o' stops.Usage = ⊥
 StopsFinishing effect f f' o o' (stops.Refused r) = ⊥
-StopsFinishing effect f f' o o' (stops.File line) = WriteFaulted effect.writes (string_bytes line) f f' × SameSink o o'
-StopsFinishing effect f f' o o' stops.Out = WroteAll effect.writes f f' × PutFaulted effect.text o o'
+StopsFinishing effect f f' o o' (stops.Failed object) =
+    OfObject (λ line. WriteFaulted effect.writes line f f' × SameSink o o') (WroteAll effect.writes f f' × PutFaulted effect.text o o') ⊥ ⊥ object
 
 -- the whole effect, or a part of it and why
 abbrev pub Finishes : Effect → FilesState → FilesState → SinkState → SinkState → Result Status Stop → Type 0

@@ -3,11 +3,13 @@ use Rattle.std.specs.Prelude.{ℕ, ◌≡◌, ◌≤◌, List, true, Result, Ok,
 use Rattle.outside.specs.Causes.{Rose}
 use Rattle.outside.specs.Files.{FilesState, SameFiles}
 use Rattle.sc_text.specs.Fault.{file_line}
+use Rattle.command_frame.specs.declared.object.Object.TheVariants as objects
 use Rattle.command_frame.specs.declared.plan.Plan.{Plan}
 use Rattle.command_frame.specs.declared.status.Status.TheVariants.{File}
 use Rattle.command_frame.specs.declared.stop.Stop.{Stop}
 use Rattle.command_frame.specs.declared.stop.Stop.TheVariants as stops
 use Rattle.command_frame.specs.Answer.{Cause, cause_of, paths_in, writes_of}
+use Rattle.command_frame.specs.Objects.{OfFile}
 
 -- nothing was written
 pub record OnlyRead (old new : FilesState) : Type 0 where
@@ -24,16 +26,14 @@ abbrev pub Stops : {Y : Type 0} → FilesState → FilesState → Stop → Resul
 Stops old new stops.Memory decided = Unit {0}
 Stops old new (stops.Refused r) decided = old.told ≡ true → decided ≡ Err (cause_of r)
 Stops old new stops.Usage decided = ⊥
-Stops old new (stops.File line) decided = Faulted old new (string_bytes line) decided
-Stops old new stops.Out decided = ⊥
+Stops old new (stops.Failed object) decided = OfFile (λ line. Faulted old new line decided) object
 
 -- the same whatever is decided
 abbrev pub StopsReading : FilesState → FilesState → Stop → Type 0
 StopsReading old new stops.Memory = Unit {0}
 StopsReading old new (stops.Refused r) = Unit {0}
 StopsReading old new stops.Usage = ⊥
-StopsReading old new (stops.File line) = Rose old.faults new.faults
-StopsReading old new stops.Out = ⊥
+StopsReading old new (stops.Failed object) = OfFile (λ line. Rose old.faults new.faults) object
 
 -- what the function returned, seen by `view`, is what is decided of the files' contents, where they are told
 abbrev pub Gives : {X Y : Type 0} → (X → Y) → FilesState → FilesState → Result X Stop → Result Y Cause → Type 0
@@ -46,7 +46,7 @@ IsLineOf paths line = (path : List ℕ) × Contains paths path × (line ≡ file
 
 -- a stop for a file names one of these paths
 pub record StopNames (paths : List (List ℕ)) (stop : Stop) : Type 0 where
-  pub named : (line : _) → stop ≡ stops.File line → IsLineOf paths (string_bytes line)
+  pub named : (line : _) → stop ≡ stops.Failed (objects.File line) → IsLineOf paths (string_bytes line)
 
 -- the plan writes no other path than these
 pub record PlanNames (paths : List (List ℕ)) (plan : Plan) : Type 0 where

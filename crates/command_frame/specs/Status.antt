@@ -1,7 +1,8 @@
 -- The exit statuses, and which of them come for which reason.
 use Rattle.std.specs.Prelude.{ℕ, Bool, true, false}
 use Rattle.command_frame.specs.declared.status.Status.{Status}
-use Rattle.command_frame.specs.declared.status.Status.TheVariants.{Done, Trap, Usage, Program, Input, TapeFile, Schedule, Budget, Tape, File, Link, Peer, Child, Disagree, NotAlike, OpenedShort, Write, Memory}
+use Rattle.command_frame.specs.declared.status.Status.TheVariants.{Done, Trap, Usage, Program, Input, TapeFile, Schedule, Budget, Tape, File, Link}
+use Rattle.command_frame.specs.declared.status.Status.TheVariants.{Peer, Child, Disagree, NotAlike, OpenedShort, Write, Memory}
 
 abbrev pub code_of : Status → ℕ
 code_of Done = 0
@@ -44,44 +45,23 @@ is_end OpenedShort = false
 is_end Write = false
 is_end Memory = false
 
--- what was read is refused so; a dealer's tape that is too short is a refusal, a run's is an end
-abbrev pub is_refusal : Status → Bool
-is_refusal Done = false
-is_refusal Trap = false
-is_refusal Usage = false
-is_refusal Program = true
-is_refusal Input = true
-is_refusal TapeFile = true
-is_refusal Schedule = true
-is_refusal Budget = false
-is_refusal Tape = true
-is_refusal File = false
-is_refusal Link = false
-is_refusal Peer = false
-is_refusal Child = false
-is_refusal Disagree = false
-is_refusal NotAlike = true
-is_refusal OpenedShort = true
-is_refusal Write = false
-is_refusal Memory = false
-
--- a file or the output failed, or memory ran out: all else is decided by the words and by what the files hold
-abbrev pub is_fault : Status → Bool
-is_fault Done = false
-is_fault Trap = false
-is_fault Usage = false
-is_fault Program = false
-is_fault Input = false
-is_fault TapeFile = false
-is_fault Schedule = false
-is_fault Budget = false
-is_fault Tape = false
-is_fault File = true
-is_fault Link = false
-is_fault Peer = false
-is_fault Child = false
-is_fault Disagree = false
-is_fault NotAlike = false
-is_fault OpenedShort = false
-is_fault Write = true
-is_fault Memory = true
+-- a refusal may have this status, by its cause; a dealer's tape that is too short is a refusal, a run's is an end
+abbrev pub can_refuse : Status → Bool
+can_refuse Done = false
+can_refuse Trap = false
+can_refuse Usage = false
+can_refuse Program = true
+can_refuse Input = true
+can_refuse TapeFile = true
+can_refuse Schedule = true
+can_refuse Budget = false
+can_refuse Tape = true
+can_refuse File = false
+can_refuse Link = false
+can_refuse Peer = true
+can_refuse Child = true
+can_refuse Disagree = true
+can_refuse NotAlike = true
+can_refuse OpenedShort = true
+can_refuse Write = false
+can_refuse Memory = false

@@ -7,39 +7,33 @@ use Rattle.command_frame.specs.declared.status.Status.TheVariants as statuses
 use Rattle.command_frame.specs.declared.stop.Stop.{Stop}
 use Rattle.command_frame.specs.declared.stop.Stop.TheVariants as stops
 use Rattle.command_frame.specs.Answer.{Cause, cause_of, usage}
+use Rattle.command_frame.specs.Objects.{OfFile, line_of_object, status_of_object}
 
 abbrev pub status_of : Stop → Status
 status_of stops.Memory = statuses.Memory
 status_of stops.Usage = statuses.Usage
 status_of (stops.Refused r) = r.status
-status_of (stops.File line) = statuses.File
-status_of stops.Out = statuses.Write
+status_of (stops.Failed object) = status_of_object object
 
 abbrev pub memory_line : List ℕ
 memory_line = fault_line faults.Memory
-
-abbrev pub write_line : List ℕ
-write_line = fault_line faults.Write
 
 abbrev pub line_of : Stop → List ℕ
 line_of stops.Memory = memory_line
 line_of stops.Usage = usage.line
 line_of (stops.Refused r) = string_bytes r.line
-line_of (stops.File line) = string_bytes line
-line_of stops.Out = write_line
+line_of (stops.Failed object) = line_of_object object
 
 -- that this file could not be read or written, or want of memory
 abbrev pub IsFileStop : List ℕ → Stop → Type 0
 IsFileStop path stops.Memory = Unit {0}
 IsFileStop path stops.Usage = ⊥
 IsFileStop path (stops.Refused r) = ⊥
-IsFileStop path (stops.File line) = string_bytes line ≡ file_line path
-IsFileStop path stops.Out = ⊥
+IsFileStop path (stops.Failed object) = OfFile (λ line. line ≡ file_line path) object
 
 -- a refusal for this cause, or want of memory
 abbrev pub IsRefusalFor : Cause → Stop → Type 0
 IsRefusalFor cause stops.Memory = Unit {0}
 IsRefusalFor cause stops.Usage = ⊥
 IsRefusalFor cause (stops.Refused r) = cause_of r ≡ cause
-IsRefusalFor cause (stops.File line) = ⊥
-IsRefusalFor cause stops.Out = ⊥
+IsRefusalFor cause (stops.Failed object) = ⊥

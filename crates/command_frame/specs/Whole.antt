@@ -7,11 +7,13 @@ use Rattle.outside.specs.Causes.{Rose}
 use Rattle.outside.specs.Files.{FilesState, SameFiles, file_at}
 use Rattle.outside.specs.Sink.{SinkState, SameSink, Appends}
 use Rattle.sc_text.specs.Fault.{file_line}
+use Rattle.command_frame.specs.declared.object.Object.TheVariants as objects
 use Rattle.command_frame.specs.declared.status.Status.{Status}
 use Rattle.command_frame.specs.declared.stop.Stop.{Stop}
 use Rattle.command_frame.specs.declared.stop.Stop.TheVariants as stops
 use Rattle.command_frame.specs.Answer.{Answer, Effect, after_writes, cause_of, missing, paths_in}
 use Rattle.command_frame.specs.Finish.{BreaksOff, PutLine, PutPrefix}
+use Rattle.command_frame.specs.Objects.{OfObject, TellsFault}
 use Rattle.command_frame.specs.Reads.{Faulted, IsLineOf}
 use Rattle.command_frame.specs.Status.{is_end}
 use Rattle.command_frame.specs.Stops.{status_of, line_of}
@@ -42,8 +44,9 @@ abbrev pub StopsAt : Answer → FilesState → FilesState → SinkState → Sink
 StopsAt answer f f' o o' stops.Memory = SameSink o o' ⊎ (f.told ≡ true → IsOkAnd answer (λ e. PutPrefix e.text o o'))
 StopsAt answer f f' o o' stops.Usage = ⊥
 StopsAt answer f f' o o' (stops.Refused r) = (f.told ≡ true → answer ≡ Err (cause_of r)) × SameSink o o' × SameFiles f f'
-StopsAt answer f f' o o' (stops.File line) = Faulted f f' (string_bytes line) answer × SameSink o o'
-StopsAt answer f f' o o' stops.Out = OutFaulted o o' × (f.told ≡ true → IsOkAnd answer (λ e. IsCut e f f' o o'))
+StopsAt answer f f' o o' (stops.Failed object) =
+    OfObject
+    (λ line. Faulted f f' line answer × SameSink o o') (OutFaulted o o' × (f.told ≡ true → IsOkAnd answer (λ e. IsCut e f f' o o'))) ⊥ ⊥ object
 
 abbrev pub EndsAs : Answer → FilesState → FilesState → SinkState → SinkState → Result Status Stop → Type 0
 EndsAs answer f f' o o' (Ok status) = (is_end status ≡ true) × (f.told ≡ true → IsOkAnd answer (λ e. IsDone e f f' o o' status))
@@ -55,8 +58,7 @@ Acts ask answer f f' o o' (Ok status) = IsSome ask × EndsAs answer f f' o o' (O
 Acts ask answer f f' o o' (Err stops.Memory) = StopsAt answer f f' o o' stops.Memory
 Acts ask answer f f' o o' (Err stops.Usage) = (ask ≡ None) × SameSink o o' × SameFiles f f'
 Acts ask answer f f' o o' (Err (stops.Refused r)) = IsSome ask × StopsAt answer f f' o o' (stops.Refused r)
-Acts ask answer f f' o o' (Err (stops.File line)) = IsSome ask × StopsAt answer f f' o o' (stops.File line)
-Acts ask answer f f' o o' (Err stops.Out) = IsSome ask × StopsAt answer f f' o o' stops.Out
+Acts ask answer f f' o o' (Err (stops.Failed object)) = IsSome ask × StopsAt answer f f' o o' (stops.Failed object)
 
 -- ---- the same whatever the answer is
 
@@ -64,8 +66,7 @@ abbrev pub StopsAnyhow : FilesState → FilesState → SinkState → SinkState �
 StopsAnyhow f f' o o' stops.Memory = Unit {0}
 StopsAnyhow f f' o o' stops.Usage = ⊥
 StopsAnyhow f f' o o' (stops.Refused r) = SameSink o o' × SameFiles f f'
-StopsAnyhow f f' o o' (stops.File line) = Rose f.faults f'.faults × SameSink o o'
-StopsAnyhow f f' o o' stops.Out = OutFaulted o o'
+StopsAnyhow f f' o o' (stops.Failed object) = OfObject (λ line. Rose f.faults f'.faults × SameSink o o') (OutFaulted o o') ⊥ ⊥ object
 
 abbrev pub EndsAnyhow : FilesState → FilesState → SinkState → SinkState → Result Status Stop → Type 0
 EndsAnyhow f f' o o' (Ok status) = is_end status ≡ true
@@ -76,8 +77,7 @@ ActsAnyhow ask f f' o o' (Ok status) = IsSome ask × (is_end status ≡ true)
 ActsAnyhow ask f f' o o' (Err stops.Memory) = Unit {0}
 ActsAnyhow ask f f' o o' (Err stops.Usage) = (ask ≡ None) × SameSink o o' × SameFiles f f'
 ActsAnyhow ask f f' o o' (Err (stops.Refused r)) = IsSome ask × StopsAnyhow f f' o o' (stops.Refused r)
-ActsAnyhow ask f f' o o' (Err (stops.File line)) = IsSome ask × StopsAnyhow f f' o o' (stops.File line)
-ActsAnyhow ask f f' o o' (Err stops.Out) = IsSome ask × StopsAnyhow f f' o o' stops.Out
+ActsAnyhow ask f f' o o' (Err (stops.Failed object)) = IsSome ask × StopsAnyhow f f' o o' (stops.Failed object)
 
 -- ---- the file that failed
 
@@ -89,7 +89,7 @@ FileFaulted reads written Answers f f' line =
 
 -- where a command stops at a file
 pub record StopsAtFile (reads written : List (List ℕ)) (Answers : Answer → Type 0) (f f' : FilesState) (stop : Stop) : Type 0 where
-  pub named : (line : _) → stop ≡ stops.File line → FileFaulted reads written Answers f f' (string_bytes line)
+  pub named : (line : _) → stop ≡ stops.Failed (objects.File line) → FileFaulted reads written Answers f f' (string_bytes line)
 
 -- ---- what is said on the error stream
 
@@ -107,6 +107,10 @@ status_in (Ok status) = status
 status_in (Err stop) = status_of stop
 
 -- ---- what the caller of the program is told
+
+-- a fault is told: the count of the files or of the output rose, or memory ran out. No other object is reached.
+abbrev pub HasFailed : FilesState → FilesState → SinkState → SinkState → Status → Type 0
+HasFailed f f' o o' given = TellsFault (Rose f.faults f'.faults) (Rose o.faults o'.faults) ⊥ ⊥ given
 
 -- the effect is there whole and nothing is said; or nothing but the refusal's line is there, or a prefix of it where the error stream gave up
 abbrev pub CarriedOut : Answer → FilesState → FilesState → SinkState → SinkState → SinkState → SinkState → Status → Type 0

@@ -4,7 +4,7 @@ ghost use Rattle.command_frame.specs.Answer.{effect_of, writes_of, paths_in};
 ghost use Rattle.command_frame.specs.Finish.{OnlyAmong, WroteAll, StopsWriting, StopsWritingOne, Finishes};
 
 use crate::stop::file_stop;
-use crate::{Plan, PlannedWrite, Status, Stop};
+use crate::{Object, Plan, PlannedWrite, Status, Stop};
 use outside::{FileErr, Files, Sink, put_all};
 use std::alloc::Global;
 
@@ -43,8 +43,8 @@ fn write_files<F: Files>(alloc: Global, files: &mut F, writes: &[PlannedWrite]) 
 
 /// Writes the plan's files in order, then puts its text on `out`, and answers its status.
 ///
-/// `File` where a file could not be written: none behind it was begun and `out` is as before. `Out` where the output
-/// failed: it then holds a prefix of the text. `Memory` at any point.
+/// `Failed` where a file could not be written: none behind it was begun and `out` is as before; or where the output failed: all
+/// files are written, and it holds a prefix of the text. `Memory` at any point.
 pub fn finish_plan<F: Files, O: Sink>(
     alloc: Global,
     files: &mut F,
@@ -58,6 +58,6 @@ pub fn finish_plan<F: Files, O: Sink>(
     match put_all(out, &plan.text) {
         Ok(()) => Ok(plan.status),
         Err(FileErr::Memory) => Err(Stop::Memory),
-        Err(FileErr::Failed) => Err(Stop::Out),
+        Err(FileErr::Failed) => Err(Stop::Failed(Object::Output)),
     }
 }

@@ -5,6 +5,7 @@
 #![tactic(auto)]
 
 mod finish;
+mod object;
 mod plan;
 mod reading;
 mod refusal;
@@ -13,9 +14,10 @@ mod status;
 mod stop;
 
 pub use finish::finish_plan;
+pub use object::Object;
 pub use plan::{Plan, PlannedWrite};
 pub use reading::read_file;
 pub use refusal::Refusal;
 pub use saying::{ended_status, say};
 pub use status::Status;
-pub use stop::Stop;
+pub use stop::{Stop, refused};

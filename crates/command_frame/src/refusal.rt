@@ -1,5 +1,5 @@
 ghost use Rattle.std.specs.Prelude.{◌≡◌, true};
-ghost use Rattle.command_frame.specs.Status.{is_refusal};
+ghost use Rattle.command_frame.specs.Status.{can_refuse};
 
 use crate::Status;
 
@@ -8,5 +8,5 @@ use crate::Status;
 pub struct Refusal {
     pub status: Status,
     pub line: String,
-    pub ghost refuses: { is_refusal status ≡ true },
+    pub ghost refuses: { can_refuse status ≡ true },
 }

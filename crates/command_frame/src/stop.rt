@@ -1,8 +1,9 @@
-ghost use Rattle.std.specs.Prelude.{◌≡◌};
-ghost use Rattle.command_frame.specs.Stops.{status_of, line_of, IsFileStop};
+ghost use Rattle.std.specs.Prelude.{◌≡◌, true, IfOk, IfErr, string_bytes};
+ghost use Rattle.command_frame.specs.Status.{can_refuse};
+ghost use Rattle.command_frame.specs.Stops.{status_of, line_of, IsFileStop, IsRefusalFor};
 ghost use Rattle.command_frame.specs.declared.stop.Stop.TheVariants.{Memory};
 
-use crate::{Refusal, Status};
+use crate::{Object, Refusal, Status};
 use std::alloc::{AllocError, AllocFailed, Global};
 
 /// Why a command stopped before its end.
@@ -13,17 +14,15 @@ pub enum Stop {
     Usage,
     /// What was read is refused.
     Refused(Refusal),
-    /// A file could not be read or written: the line that names it.
-    File(String),
-    /// Standard output failed.
-    Out,
+    /// An object that the command reaches failed.
+    Failed(Object),
 }
 
 // Written out, so that an early exit calls this once.
 impl Drop for Stop {
     fn drop(self) {
         match self {
-            Stop::Memory | Stop::Usage | Stop::Refused(_) | Stop::File(_) | Stop::Out => {}
+            Stop::Memory | Stop::Usage | Stop::Refused(_) | Stop::Failed(_) => {}
         }
     }
 }
@@ -53,8 +52,7 @@ impl Stop {
             Stop::Memory => Status::Memory,
             Stop::Usage => Status::Usage,
             Stop::Refused(refusal) => refusal.status,
-            Stop::File(_) => Status::File,
-            Stop::Out => Status::Write,
+            Stop::Failed(object) => object.status(),
         }
     }
 
@@ -67,8 +65,7 @@ impl Stop {
             Stop::Memory => b"error: memory\n",
             Stop::Usage => b"error: usage\n",
             Stop::Refused(refusal) => refusal.line.as_bytes(),
-            Stop::File(line) => line.as_bytes(),
-            Stop::Out => b"error: write\n",
+            Stop::Failed(object) => object.line(),
         }
     }
 }
@@ -79,7 +76,19 @@ pub fn file_stop(alloc: Global, path: &str) -> Stop
     ensures { IsFileStop path.now result }
 {
     match format!(in alloc; "error: file {path}\n") {
-        Ok(line) => Stop::File(line),
+        Ok(line) => Stop::Failed(Object::File(line)),
+        Err(_) => Stop::Memory,
+    }
+}
+
+/// The stop of a refusal with this status and this line; `Memory` where the line could not be made.
+pub fn refused(status: Status, line: Result<String, AllocError>) -> Stop
+    requires { can_refuse status ≡ true }
+    ensures refusal { IfOk line (λ text. IsRefusalFor (record { status = status; line = string_bytes text }) result) }
+    ensures memory { IfErr line (λ e. result ≡ Memory) }
+{
+    match line {
+        Ok(line) => Stop::Refused(Refusal { status, line }),
         Err(_) => Stop::Memory,
     }
 }

@@ -1,5 +1,6 @@
 -- What the definitions say, beyond the functions.
-use Rattle.std.proofs.Common.{◌≡◌, ◌⊎◌, subst, ◌==◌, ◌&&◌, ℕ, Bool, true, false, refl, inl, inr, List, [], ◌∷◌, length, map, Option, Some, None, option_map, cond, codes, find}
+use Rattle.std.proofs.Common.{◌≡◌, ◌⊎◌, subst, ◌==◌, ◌&&◌, ℕ, Bool, true, false, refl, inl, inr, List, [], ◌∷◌, length, map, Option, Some, None}
+use Rattle.std.proofs.Common.{option_map, cond, codes, find}
 use Rattle.std.specs.Bool.{⊤}
 use Rattle.std.specs.List.{list_all}
 use Rattle.clap.specs.Words.{Row, Shape, Text, built, subcommand_of}

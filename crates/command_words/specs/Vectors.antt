@@ -4,16 +4,23 @@ use Rattle.std.specs.Bool.{⊤}
 use Rattle.clap.specs.Words.{Text}
 use Rattle.clap.proofs.OnLiterals.{clap_on_literals}
 use Rattle.hex.proofs.OnLiterals.{hex_on_literals}
-use Rattle.command_words.specs.Ask.{Ask, Source, run, deal, check, compile, eval, need, map_tape, simulate, twin, load, file, seeded, in_turn, scheduled, shuffled, words_of, named_in, named, matched}
-use Rattle.command_words.specs.Ask.{run_of, deal_of, check_of, compile_of, eval_of, map_of, simulate_of, twin_of, load_of, source_of, seeded_source, order_of, number_or, required_of}
+use Rattle.command_words.specs.Ask.{Ask, Source, run, deal, check, compile, eval, need, map_tape, simulate, twin, load, file, seeded, in_turn}
+use Rattle.command_words.specs.Ask.{scheduled, shuffled, words_of, named_in, named, matched}
+use Rattle.command_words.specs.Ask.{run_of, deal_of, check_of, compile_of, eval_of, map_of, simulate_of, twin_of, load_of, source_of, seeded_source}
+use Rattle.command_words.specs.Ask.{order_of, number_or, required_of}
 use Rattle.command_words.specs.Numbers.{number_of, miner_of, seed_of}
 use Rattle.proto_core.specs.declared.party.Number.TheVariants.{One, Two, Three}
-use Rattle.command_words.specs.Shapes.{secrec_app, viewing_app, program_app, checking_app, clear_app, input_app, run_app, deal_app, check_app, compile_app, evaluation_app, view_app, map_app, simulate_app, twin_app}
-use Rattle.command_words.specs.Shapes.{load_app, command_app, bare_app, run_options, eval_options, map_required, simulate_options, with_options, word_rule, option_rule}
+use Rattle.command_words.specs.Shapes.{secrec_app, viewing_app, program_app, checking_app, clear_app, input_app, run_app, deal_app, check_app}
+use Rattle.command_words.specs.Shapes.{compile_app, evaluation_app, view_app, map_app, simulate_app, twin_app}
+use Rattle.command_words.specs.Shapes.{load_app, command_app, bare_app, run_options, eval_options, map_required, simulate_options, with_options}
+use Rattle.command_words.specs.Shapes.{word_rule, option_rule}
 
 -- opens the definitions, so that they compute at words that are written out
 unfoldable pub words_on_literals : ⊤
-unfolding clap_on_literals hex_on_literals secrec_app viewing_app program_app checking_app clear_app input_app run_app deal_app check_app compile_app evaluation_app view_app map_app simulate_app twin_app load_app command_app bare_app run_options eval_options map_required simulate_options with_options word_rule option_rule words_of named_in named matched run_of deal_of check_of compile_of eval_of map_of simulate_of twin_of load_of source_of seeded_source order_of number_or required_of number_of miner_of seed_of
+unfolding clap_on_literals hex_on_literals secrec_app viewing_app program_app checking_app clear_app input_app run_app deal_app check_app compile_app
+    evaluation_app view_app map_app simulate_app twin_app load_app command_app bare_app run_options eval_options map_required simulate_options
+    with_options word_rule option_rule words_of named_in named matched run_of deal_of check_of compile_of eval_of map_of simulate_of twin_of load_of
+    source_of seeded_source order_of number_or required_of number_of miner_of seed_of
 words_on_literals = tt
 
 -- run p.sc --input i, and then these words
@@ -43,7 +50,8 @@ unfolding words_on_literals
 run_with_budget = refl
 
 abbrev pub seed_bytes : List ℕ
-seed_bytes = 0 ∷ 1 ∷ 2 ∷ 3 ∷ 4 ∷ 5 ∷ 6 ∷ 7 ∷ 8 ∷ 9 ∷ 10 ∷ 11 ∷ 12 ∷ 13 ∷ 14 ∷ 15 ∷ 16 ∷ 17 ∷ 18 ∷ 19 ∷ 20 ∷ 21 ∷ 22 ∷ 23 ∷ 24 ∷ 25 ∷ 26 ∷ 27 ∷ 28 ∷ 29 ∷ 30 ∷ 31 ∷ []
+seed_bytes = 0 ∷ 1 ∷ 2 ∷ 3 ∷ 4 ∷ 5 ∷ 6 ∷ 7 ∷ 8 ∷ 9 ∷ 10 ∷ 11 ∷ 12 ∷ 13 ∷ 14 ∷ 15 ∷ 16 ∷ 17 ∷ 18 ∷ 19 ∷ 20 ∷ 21 ∷ 22 ∷ 23 ∷ 24 ∷ 25 ∷ 26 ∷ 27 ∷ 28 ∷ 29
+    ∷ 30 ∷ 31 ∷ []
 
 run_with_seed : run_with (codes "--seed" ∷ codes "000102030405060708090a0b0c0d0e0f101112131415161718191a1b1c1d1e1f" ∷ [])
     ≡ in_turn_from (seeded seed_bytes 65536) 1000000

@@ -1,6 +1,8 @@
 //! The `clap` command that reads the words.
 ghost use Rattle.std.specs.Prelude.{◌≡◌, IfOk, map};
-ghost use Rattle.command_words.specs.Shapes.{word_rule, option_rule, run_options, run_app, deal_app, check_app, compile_app, eval_options, evaluation_app, view_app, map_required, map_app, simulate_options, simulate_app, twin_app, load_app, bare_app, input_app, clear_app, checking_app, program_app, viewing_app, secrec_app};
+ghost use Rattle.command_words.specs.Shapes.{word_rule, option_rule, run_options, run_app, deal_app, check_app, compile_app, eval_options};
+ghost use Rattle.command_words.specs.Shapes.{evaluation_app, view_app, map_required, map_app, simulate_options, simulate_app, twin_app, load_app};
+ghost use Rattle.command_words.specs.Shapes.{bare_app, input_app, clear_app, checking_app, program_app, viewing_app, secrec_app};
 ghost use Rattle.clap.specs.Words.{App, with_subcommand};
 ghost use Rattle.command_words.specs.Builds.{Builds, GetsOptions, IsLocal};
 

@@ -1,9 +1,11 @@
 //! What a command's words give, once `clap` has matched them.
 ghost use Rattle.std.specs.Prelude.{◌≡◌, option_map, IfOk, string_bytes, codes};
 ghost use Rattle.clap.specs.Words.{found_of, first_of, rows_of};
-ghost use Rattle.command_words.specs.Ask.{required_of, default_budget, number_or, seeded_source, source_of, order_of, run_of, deal_of, check_of, compile_of, eval_of, map_of, simulate_of, twin_of, load_of, named};
+ghost use Rattle.command_words.specs.Ask.{required_of, default_budget, number_or, seeded_source, source_of, order_of, run_of, deal_of, check_of};
+ghost use Rattle.command_words.specs.Ask.{compile_of, eval_of, map_of, simulate_of, twin_of, load_of, named};
 ghost use Rattle.command_words.specs.Numbers.{miner_of};
-ghost use Rattle.command_words.specs.Views.{Reads, text_in, source_ask, order_ask, run_ask, deal_ask, check_ask, compile_ask, eval_ask, map_ask, simulate_ask, twin_ask, load_ask, ask_of};
+ghost use Rattle.command_words.specs.Views.{Reads, text_in, source_ask, order_ask, run_ask, deal_ask, check_ask, compile_ask, eval_ask, map_ask};
+ghost use Rattle.command_words.specs.Views.{simulate_ask, twin_ask, load_ask, ask_of};
 
 use crate::command::{
     CheckWords, Command, CompileWords, DealWords, DeliveryOrder, EvalWords, LoadWords, MapWords,

@@ -1,5 +1,6 @@
 -- The gates compare.
-use Rattle.std.proofs.Common.{◌≡◌, ℕ, ◌+◌, ◌*◌, ◌/◌, ◌%◌, ◌^◌, ◌<◌, ◌≤◌, Some, List, [], ◌∷◌, ◌++◌, length, map, drop, get_or, refl, sym, ◌∙◌, ap, subst, arith, length-append}
+use Rattle.std.proofs.Common.{◌≡◌, ℕ, ◌+◌, ◌*◌, ◌/◌, ◌%◌, ◌^◌, ◌<◌, ◌≤◌, Some, List, [], ◌∷◌, ◌++◌, length, map, drop, get_or, refl, sym, ◌∙◌, ap}
+use Rattle.std.proofs.Common.{subst, arith, length-append}
 use Rattle.std.specs.Prelude.{slice_get}
 use Rattle.std.specs.Int.{w64, bit_not}
 use Rattle.std.proofs.lemmas.List.{append_assoc, drop_more}
@@ -11,7 +12,8 @@ use Rattle.gates.specs.WordTests.{less_test}
 use Rattle.gates.specs.Counts.{Miner, size_of, words_of_all}
 use Rattle.gates.specs.Counts.Miner.{Miner1, Miner2, Miner3}
 use Rattle.gates.proofs.Sizes.{size_of-value, words_of_all-append, FitFrom-append}
-use Rattle.gates.proofs.Columns.{word, Column, TwoColumns, stands, Column-of, Column-same, Column-ext, Column-map, Column-each_two, same_columns, TwoColumns-same, TwoColumns-append, TwoColumns-each_two, first_part, second_part}
+use Rattle.gates.proofs.Columns.{word, Column, TwoColumns, stands, Column-of, Column-same, Column-ext, Column-map, Column-each_two, same_columns}
+use Rattle.gates.proofs.Columns.{TwoColumns-same, TwoColumns-append, TwoColumns-each_two, first_part, second_part}
 use Rattle.gates.proofs.Carries.{carry, carry-lt, SpansDown, down_generate, down_propagate, down_step}
 use Rattle.gates.proofs.Orders.{down_start, less_by_carries}
 use Rattle.bit_extract.specs.Plan.{bits_plan}
@@ -42,9 +44,11 @@ step_law inputs values n next ng np width g p rest less same fit =
     let moved_g = Column-same (stands values (next + 1) fit.2.1) (Column-map (λ x. x / 2 ^ width) less) in
     let both = TwoColumns-same (stands values (next + 2) (ap (λ i. slice_get values i) (omega arith) ∙ fit.2.2.1)) (TwoColumns-append moved_p moved_p) in
     let old = TwoColumns-same (stands values (next + 3) (ap (λ i. slice_get values i) (omega arith) ∙ fit.2.2.2.1)) (TwoColumns-append less same) in
-    let joined = TwoColumns-same (stands values (next + 4) (ap (λ i. slice_get values i) (omega arith) ∙ fit.2.2.2.2.1)) (TwoColumns-each_two xor_ring.mul both old) in
+    let joined = TwoColumns-same (stands values (next + 4) (ap (λ i. slice_get values i) (omega arith) ∙ fit.2.2.2.2.1))
+    (TwoColumns-each_two xor_ring.mul both old) in
     let low = Column-same (stands values (next + 5) (ap (λ i. slice_get values i) (omega arith) ∙ fit.2.2.2.2.2.1)) (first_part joined) in
-    let new_g = Column-same (stands values (next + 6) (ap (λ i. slice_get values i) (omega arith) ∙ fit.2.2.2.2.2.2.1)) (Column-each_two xor_ring.add moved_g low) in
+    let new_g = Column-same (stands values (next + 6) (ap (λ i. slice_get values i) (omega arith) ∙ fit.2.2.2.2.2.2.1))
+    (Column-each_two xor_ring.add moved_g low) in
     let new_p = Column-same (stands values (next + 7) (ap (λ i. slice_get values i) (omega arith) ∙ fit.2.2.2.2.2.2.2.1)) (second_part joined) in
     record {
       both = both.size;
@@ -61,7 +65,8 @@ comparing_law : (inputs values : Values) (n : ℕ) (c : ℕ → ℕ → ℕ) (wi
     → ((k : ℕ) → k < n → SpansDown (c k) width (g k) (p k))
     → FitFrom inputs values next (comparing n next ng np widths)
     → m ≡ next + 8 * length widths
-    → (xs : List ℕ) × (slice_get values m ≡ Some xs) × (r : ℕ → ℕ) × (q : ℕ → ℕ) × Column n (λ k. r k % 2) xs × ((k : ℕ) → k < n → SpansDown (c k) 64 (r k) (q k))
+    → (xs : List ℕ) × (slice_get values m ≡ Some xs) × (r : ℕ → ℕ) × (q : ℕ → ℕ) × Column n (λ k. r k % 2) xs
+    × ((k : ℕ) → k < n → SpansDown (c k) 64 (r k) (q k))
 comparing_law inputs values n c [] width next ng np m g p bound double less same spans fit e = (
   map (λ x. x % 2) (value values ng),
   ap (λ i. slice_get values i) (e ∙ omega arith) ∙ fit.1,
@@ -72,7 +77,8 @@ comparing_law inputs values n c [] width next ng np m g p bound double less same
 )
 comparing_law inputs values n c (count ∷ widths) width next ng np m g p bound double less same spans fit e =
     let step = step_law inputs values n next ng np count g p (comparing n (next + 8) (next + 6) (next + 7) widths) less same fit in
-    comparing_law inputs values n c widths (2 * count) (next + 8) (next + 6) (next + 7) m (λ k. down_generate count (g k) (p k)) (λ k. down_propagate count (p k))
+    comparing_law inputs values n c widths (2 * count) (next + 8) (next + 6) (next + 7) m (λ k. down_generate count (g k) (p k))
+    (λ k. down_propagate count (p k))
     bound double.2 step.less step.same
     (λ k lt. down_step (c k) (bound k) count (g k) (p k) double.1 (subst (λ w. SpansDown (c k) w (g k) (p k)) (sym double.0) (spans k lt)))
     step.fit (e ∙ omega arith)
@@ -92,8 +98,10 @@ start_law inputs values first n a b rest bits fit =
     let left = Column-same (stands values (first + 55) fit.1) (first_part bits) in
     let right = Column-same (stands values (first + 56) (ap (λ i. slice_get values i) (omega arith) ∙ fit.2.1)) (second_part bits) in
     let turned = Column-same (stands values (first + 57) (ap (λ i. slice_get values i) (omega arith) ∙ fit.2.2.1)) (Column-map (bit_not w64) left) in
-    let less = Column-same (stands values (first + 58) (ap (λ i. slice_get values i) (omega arith) ∙ fit.2.2.2.1)) (Column-each_two xor_ring.mul right turned) in
-    let differ = Column-same (stands values (first + 59) (ap (λ i. slice_get values i) (omega arith) ∙ fit.2.2.2.2.1)) (Column-each_two xor_ring.add left right) in
+    let less = Column-same (stands values (first + 58) (ap (λ i. slice_get values i) (omega arith) ∙ fit.2.2.2.1))
+    (Column-each_two xor_ring.mul right turned) in
+    let differ = Column-same (stands values (first + 59) (ap (λ i. slice_get values i) (omega arith) ∙ fit.2.2.2.2.1))
+    (Column-each_two xor_ring.add left right) in
     let same = Column-same (stands values (first + 60) (ap (λ i. slice_get values i) (omega arith) ∙ fit.2.2.2.2.2.1)) (Column-map (bit_not w64) differ) in
     record { less = less; same = same; second = right; fit = subst (λ i. FitFrom inputs values i rest) (omega arith) fit.2.2.2.2.2.2 }
 
@@ -175,8 +183,10 @@ takes_words first u v n inputs values miner size_u size_v fit =
     let joins = comparing n (first + 61) (first + 58) (first + 60) widths in
     let x = extracted_law inputs values first u v n (order_start first n ++ joins) size_u size_v fit in
     let start = start_law inputs values first n (word (value values u)) (word (value values v)) joins x.bits x.fit in
-    added (words_of_all sizes miner (extraction ++ (order_start first n ++ joins))) (words_of_all sizes miner extraction) (words_of_all sizes miner (order_start first n)) (words_of_all sizes miner joins) (bits.words_taken miner (2 * n)) n (words_taken miner n)
-    (words_of_all-append sizes miner extraction (order_start first n ++ joins) ∙ ap (λ k. words_of_all sizes miner extraction + k) (words_of_all-append sizes miner (order_start first n) joins))
+    added (words_of_all sizes miner (extraction ++ (order_start first n ++ joins))) (words_of_all sizes miner extraction)
+    (words_of_all sizes miner (order_start first n)) (words_of_all sizes miner joins) (bits.words_taken miner (2 * n)) n (words_taken miner n)
+    (words_of_all-append sizes miner extraction (order_start first n ++ joins)
+    ∙ ap (λ k. words_of_all sizes miner extraction + k) (words_of_all-append sizes miner (order_start first n) joins))
     (extracted.takes_words (first + 1) first (2 * n) inputs values miner x.size x.bits_fit)
     (start_words (size_of sizes (first + 56)) (size_of-value values (first + 56) ∙ start.second.size))
     (comparing_words inputs values miner n widths (first + 61) (first + 58) (first + 60) start.less.size start.same.size start.fit)

@@ -8,6 +8,7 @@ use Rattle.proto_core.specs.Parties.{receiver_of, is_same}
 use Rattle.proto_core.specs.Strand.{same_link}
 use Rattle.proto_core.proofs.Strands.{same-link_is}
 use Rattle.protocol_model.specs.Network.{Counts, into_counts, none_delivered, one_less, one_more, total}
+use Rattle.protocol_model.proofs.MadeOrders.{total-more}
 use Rattle.counted_net.specs.Cursors.{both}
 use Rattle.counted_net.specs.Nets.{got_of, with_all}
 
@@ -95,14 +96,6 @@ module _ (i : Number) (l : Link) (got : Counts) where
 
 -- ---- totals
 
-pub total_more : (l : Link) (got : Counts) → total (one_more l got) ≡ total got + 1
-total_more Link12 got = omega arith
-total_more Link13 got = omega arith
-total_more Link21 got = omega arith
-total_more Link23 got = omega arith
-total_more Link31 got = omega arith
-total_more Link32 got = omega arith
-
 pub total_few : (x y : Counts) → ((l : Link) → x l ≤ y l) → total x ≤ total y
 total_few x y h = by_link (h Link12) (h Link13) (h Link21) (h Link23) (h Link31) (h Link32)
   where
@@ -115,7 +108,7 @@ total_few x y h = by_link (h Link12) (h Link13) (h Link21) (h Link23) (h Link31)
 pub total_less : (x y : Counts) → ((l : Link) → x l ≤ y l) → (l : Link) → x l < y l → total x < total y
 total_less x y h l lt =
     let few = total_few (one_more l x) y (λ k. at_link k (same_link l k) refl) in
-    let more = total_more l x in
+    let more = total-more l x in
     omega arith
   where
     at_link : (k : Link) (b : Bool) → same_link l k ≡ b → one_more l x k ≤ y k
@@ -151,7 +144,7 @@ with_total : (got : Counts) (links : List Link) → total (with_all got links) �
 with_total got [] = omega arith
 with_total got (k ∷ ks) =
     let rest = with_total (one_more k got) ks in
-    let one = total_more k got in
+    let one = total-more k got in
     omega arith
 
 pub got_total : (links : List Link) → total (got_of links) ≡ length links

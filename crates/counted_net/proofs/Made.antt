@@ -12,9 +12,10 @@ use Rattle.proto_core.specs.Script.{Sends, Takes, sends_on}
 use Rattle.proto_core.specs.Strand.{same_link}
 use Rattle.proto_core.proofs.Beginnings.{append-none}
 use Rattle.proto_core.proofs.Strands.{same-link_is}
-use Rattle.protocol_model.specs.Network.{Counts, Default, Shuffled, all_links, chosen, entry_then, into_counts, is_full, link_at, made_order}
+use Rattle.protocol_model.specs.Network.{Counts, Default, Shuffled, all_links, chosen, entry_then, into_counts, is_full, made_order}
 use Rattle.protocol_model.specs.Network.{none_delivered, one_less, one_more, posted_count, sends_in_all, sent_by, those}
 use Rattle.protocol_model.proofs.NetCounts.{lt_from}
+use Rattle.protocol_model.proofs.Choosing.{in_those, one_longer}
 use Rattle.rand_chacha.specs.ChaCha.{ChaCha, key_of, word_at, next_word}
 use Rattle.tape_file.specs.Seeds.{stream_word}
 use Rattle.counted_net.specs.declared.moves.Scripts.{Scripts}
@@ -23,7 +24,7 @@ use Rattle.counted_net.specs.Scripts.{plain_of}
 use Rattle.counted_net.specs.Answers.{IsNetAnswer}
 use Rattle.counted_net.specs.Nets.{after, full_links, got_of, is_under_way, state_of, HasEnded, NetState}
 use Rattle.counted_net.proofs.Counts.{got_more, got_total, no_fewer, total_few, total_less}
-use Rattle.counted_net.proofs.Walks.{all_walked, full_so, in_those, one_longer, walked_more, walked_none, Walked}
+use Rattle.counted_net.proofs.Walks.{all_walked, full_so, walked_more, walked_none, Walked}
 
 -- ---- what a script sends
 
@@ -70,15 +71,6 @@ sent_no_less (Takes k shape ∷ moves) x y h l =
     by_count (suc n) (suc m) e rest = rest
 
 -- ---- choosing
-
-some_there : (ls : List Link) (k : ℕ) → k < length ls → link_at ls k ≡ None → ⊥
-some_there [] k h e = let f : ⊥ = omega arith in f
-some_there (l ∷ ls) zero h e = cc
-some_there (l ∷ ls) (suc k) h e = some_there ls k (omega arith) e
-
-none_chosen : (word : ℕ) (ls : List Link) → chosen word ls ≡ None → ls ≡ []
-none_chosen word [] e = refl
-none_chosen word (l ∷ ls) e = absurd (some_there (l ∷ ls) (word % length (l ∷ ls)) (omega arith) e)
 
 -- a link that was chosen has a message under way
 chosen_full : (net : NetState) (word : ℕ) (l : Link) → chosen word (full_links net) ≡ Some l → is_under_way net l ≡ true

@@ -4,14 +4,15 @@ use Rattle.std.specs.Prelude.{Option, Some, None}
 use Rattle.proto_core.specs.declared.party.Number.{Number}
 use Rattle.proto_core.specs.declared.party.Number.TheVariants.{One, Two, Three}
 use Rattle.proto_core.specs.declared.link.Link.{Link}
-use Rattle.proto_core.specs.Parties.{receiver_of, sender_of, is_same}
+use Rattle.proto_core.specs.Parties.{receiver_of, sender_of, is_same, of_three}
+use Rattle.proto_core.proofs.Numbers.{same_is}
 use Rattle.protocol_model.specs.Network.{Accepted, Counts, Stalled, at_the_end, into_counts, none_delivered, one_more, or_stalled, posted_count, stands_at}
 use Rattle.counted_net.specs.declared.moves.Move.{Move}
 use Rattle.counted_net.specs.declared.moves.Scripts.{Scripts}
 use Rattle.counted_net.specs.declared.cursor.Cursor.{Cursor}
 use Rattle.counted_net.specs.declared.tally.Tally.{Tally}
 use Rattle.counted_net.specs.declared.miners.Miners.{Miners}
-use Rattle.counted_net.specs.Scripts.{by_number, moves_of}
+use Rattle.counted_net.specs.Scripts.{moves_of}
 use Rattle.counted_net.specs.Cursors.{IsSettled, tally_on, unread_in}
 use Rattle.counted_net.specs.Nets.{cursor_in, got_of, scripts_in, sent_on, state_of, AreSettled, IsNet, NetState}
 use Rattle.counted_net.proofs.Counts.{comes_here, got_few, got_more, into_few, passes_by}
@@ -25,15 +26,9 @@ module _ (s : Scripts) (before later : Miners) (l : Link) where
       → (got : Counts) → AreSettled s got before → AreSettled s (one_more l got) later
   one_receives j to receives others got h i = by_miner (is_same (receiver_of l) i) refl
     where
-      same_number : (a b : Number) → is_same a b ≡ true → a ≡ b
-      same_number One One e = refl
-      same_number Two Two e = refl
-      same_number Three Three e = refl
-      same_number _ _ e = absurd cc
-
       by_miner : (b : Bool) → is_same (receiver_of l) i ≡ b → IsSettled (moves_of s i) (into_counts i (one_more l got)) (cursor_in later i)
       by_miner true e =
-          let here : j ≡ i = sym to ∙ same_number (receiver_of l) i e in
+          let here : j ≡ i = sym to ∙ same_is (receiver_of l) i e in
           subst (λ c. IsSettled (moves_of s i) c (cursor_in later i)) (sym (comes_here i l got e))
           (subst (λ k. IsSettled (moves_of s k) (one_more l (into_counts k got)) (cursor_in later k)) here (receives (into_counts j got) (h j)))
       by_miner false e =
@@ -42,17 +37,17 @@ module _ (s : Scripts) (before later : Miners) (l : Link) where
 
 -- ---- one alone has moved
 
-only_first : (m : Miners) (c : Cursor) (i : Number) → is_same One i ≡ false → by_number c m.two m.three i ≡ cursor_in m i
+only_first : (m : Miners) (c : Cursor) (i : Number) → is_same One i ≡ false → of_three c m.two m.three i ≡ cursor_in m i
 only_first m c One e = absurd cc
 only_first m c Two e = refl
 only_first m c Three e = refl
 
-only_second : (m : Miners) (c : Cursor) (i : Number) → is_same Two i ≡ false → by_number m.one c m.three i ≡ cursor_in m i
+only_second : (m : Miners) (c : Cursor) (i : Number) → is_same Two i ≡ false → of_three m.one c m.three i ≡ cursor_in m i
 only_second m c One e = refl
 only_second m c Two e = absurd cc
 only_second m c Three e = refl
 
-only_third : (m : Miners) (c : Cursor) (i : Number) → is_same Three i ≡ false → by_number m.one m.two c i ≡ cursor_in m i
+only_third : (m : Miners) (c : Cursor) (i : Number) → is_same Three i ≡ false → of_three m.one m.two c i ≡ cursor_in m i
 only_third m c One e = refl
 only_third m c Two e = refl
 only_third m c Three e = absurd cc

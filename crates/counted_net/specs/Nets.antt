@@ -3,7 +3,7 @@ use Rattle.std.specs.Prelude.{◌≡◌, ℕ, Bool, true, false, List, [], ◌�
 use Rattle.std.specs.declared.alloc.Global.{Global}
 use Rattle.proto_core.specs.declared.party.Number.{Number}
 use Rattle.proto_core.specs.declared.link.Link.{Link}
-use Rattle.proto_core.specs.Parties.{sender_of}
+use Rattle.proto_core.specs.Parties.{sender_of, of_three}
 use Rattle.proto_core.specs.Script as script
 use Rattle.protocol_model.specs.Network.{Accepted, Answer, Counts, Stalled, all_links, at_the_end, into_counts, is_full}
 use Rattle.protocol_model.specs.Network.{none_delivered, one_more, posted_count, stands_at, those}
@@ -14,7 +14,7 @@ use Rattle.counted_net.specs.declared.cursor.Cursor.{Cursor}
 use Rattle.counted_net.specs.declared.miners.Miners.{Miners}
 use Rattle.counted_net.specs.declared.delivery.DeliveryErr.{DeliveryErr}
 use Rattle.counted_net.specs.declared.delivery.DeliveryErr.TheVariants as err
-use Rattle.counted_net.specs.Scripts.{by_number, moves_of, plain}
+use Rattle.counted_net.specs.Scripts.{moves_of, plain}
 use Rattle.counted_net.specs.Cursors.{IsSettled, sent_in, tally_on}
 
 pub record NetState : Type 0 where
@@ -29,7 +29,7 @@ abbrev pub state_of : Scripts → List Link → NetState
 state_of s links = record { one = s.one.items; two = s.two.items; three = s.three.items; delivered = links }
 
 abbrev pub scripts_in : NetState → Number → List script.Move
-scripts_in net i = plain (by_number net.one net.two net.three i)
+scripts_in net i = plain (of_three net.one net.two net.three i)
 
 -- how many of each link were delivered
 abbrev pub with_all : Counts → List Link → Counts
@@ -54,7 +54,7 @@ full_links net = those (is_under_way net) all_links
 -- ---- the miners of a net
 
 abbrev pub cursor_in : Miners → Number → Cursor
-cursor_in m i = by_number m.one m.two m.three i
+cursor_in m i = of_three m.one m.two m.three i
 
 abbrev pub sent_on : Miners → Link → ℕ
 sent_on m l = sent_in (cursor_in m (sender_of l)) l

@@ -1,7 +1,7 @@
 -- What each miner sends and takes, in order, by its links alone.
 use Rattle.std.specs.Prelude.{◌≡◌, List, [], map}
 use Rattle.proto_core.specs.declared.party.Number.{Number}
-use Rattle.proto_core.specs.declared.party.Number.TheVariants.{One, Two, Three}
+use Rattle.proto_core.specs.Parties.{of_three}
 use Rattle.proto_core.specs.Script as script
 use Rattle.proto_core.specs.Strand.{Shape, shaped}
 use Rattle.counted_net.specs.declared.moves.Move.{Move}
@@ -16,13 +16,8 @@ link_move (script.Takes l shape) = Takes l
 abbrev pub links_in : List script.Move → List Move
 links_in moves = map link_move moves
 
-abbrev pub by_number : {A : Type 0} → A → A → A → Number → A
-by_number a b c One = a
-by_number a b c Two = b
-by_number a b c Three = c
-
 abbrev pub moves_of : Scripts → Number → List Move
-moves_of s i = by_number s.one.items s.two.items s.three.items i
+moves_of s i = of_three s.one.items s.two.items s.three.items i
 
 -- these are the scripts, but for the shapes
 abbrev pub AreScripts : (Number → List script.Move) → Scripts → Type 0

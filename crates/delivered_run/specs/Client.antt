@@ -3,8 +3,9 @@ use Rattle.std.specs.Prelude.{ℕ, List}
 use Rattle.sc_text.specs.declared.elements.Element.{Element}
 use Rattle.typed_tree.specs.declared.kinds.Shape.{Shape}
 use Rattle.code_places.specs.Places.{form_of}
-use Rattle.joint_code.specs.Telling.{elements, all_added_up}
+use Rattle.code_runs.specs.Telling.{elements_told}
+use Rattle.told_events.specs.Telling.{all_added_up}
 
 -- elements of a value of this shape, of which the three miners have these shares
 abbrev pub handed_elements : Shape → (first second third : List ℕ) → List Element
-handed_elements shape first second third = elements (form_of shape) (all_added_up (form_of shape).element first second third)
+handed_elements shape first second third = elements_told (form_of shape) (all_added_up (form_of shape).element first second third)

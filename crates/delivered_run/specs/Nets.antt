@@ -12,7 +12,7 @@ use Rattle.clear_eval.specs.Offers.{offered_with, part_given}
 use Rattle.verified_code.specs.Steps.{Function}
 use Rattle.driven_nodes.specs.Steps.{Stopped}
 use Rattle.code_places.specs.Places.{Place}
-use Rattle.joint_code.specs.Telling.{told_together}
+use Rattle.told_events.specs.Telling.{told_together}
 use Rattle.miner_core.specs.OwnCode.{Reached}
 use Rattle.miner_core.specs.Story.{Story}
 use Rattle.link_schedule.specs.Answers.{net_walked}

@@ -7,7 +7,8 @@ abbrev pub put_before : List Protection → Option (List Protection) → Option 
 put_before ds None = None
 put_before ds (Some es) = Some (ds ++ es)
 
-pub put_before-with_domain : (ds : List Protection) (d : Protection) (r : Option (List Protection)) → put_before ds (with_domain (Some d) r) ≡ put_before (ds ++ d ∷ []) r
+pub put_before-with_domain : (ds : List Protection) (d : Protection) (r : Option (List Protection))
+    → put_before ds (with_domain (Some d) r) ≡ put_before (ds ++ d ∷ []) r
 put_before-with_domain ds d None = refl
 put_before-with_domain ds d (Some es) = ap Some (sym (append_assoc ds (d ∷ []) es))
 

@@ -5,31 +5,39 @@ use Rattle.std.proofs.Math.Seq.{drop-append_seam, take-append_seam}
 use Rattle.secrec_ast.specs.declared.function.ResultType.{ResultType}
 use Rattle.sc_text.specs.declared.span.Span.{Span}
 use Rattle.secrec_ast.specs.Tree.{Tree}
-use Rattle.secrec_ast.specs.Statements.{StartTree, starts_with_nothing, starts_with_declaration, starts_with_assignment, StepTree, StatementTree, block, empty, branch, choice, while_loop, do_loop, for_loop, breaks, continues, returns, assertion, declaration, assignment, evaluation, StatementTrees, none, also, statements_of}
-use Rattle.domain_types.specs.declared.fault.Fault.{Fault}
+use Rattle.secrec_ast.specs.Statements.{StartTree, starts_with_nothing, starts_with_declaration, starts_with_assignment, StepTree, StatementTree}
+use Rattle.secrec_ast.specs.Statements.{block, empty, branch, choice, while_loop, do_loop, for_loop, breaks, continues, returns, assertion}
+use Rattle.secrec_ast.specs.Statements.{declaration, assignment, evaluation, StatementTrees, none, also, statements_of}
+use Rattle.domain_types.specs.declared.fault.TypeFault.{TypeFault}
 use Rattle.domain_types.specs.Declarations.{Setting}
 use Rattle.domain_types.specs.Scopes.{Variable, Scope, inner, leaving}
-use Rattle.domain_types.specs.StatementTypes.{after, after_all, after_start, statement_faults, block_faults, start_faults, optional_type, optional_faults, step_faults, is_step_typed, for_rule, for_own}
+use Rattle.domain_types.specs.StatementTypes.{after, after_all, after_start, statement_faults, block_faults, start_faults, optional_type}
+use Rattle.domain_types.specs.StatementTypes.{optional_faults, step_faults, is_step_typed, for_rule, for_own}
 use Rattle.domain_types.specs.Reached.{Call, statement_calls, block_calls, start_calls, optional_calls, step_calls}
 use Rattle.domain_types.specs.declared.value_type.ValueType.{ValueType}
-use Rattle.domain_types.specs.Least.{least}
+use Rattle.domain_types.specs.inner.LeastFault.{least}
 use Rattle.domain_types.proofs.Visits.{then_least, then_calls}
 
-pub after_all-more : (w : Setting) (s : Scope) (ts : List StatementTree) (t : StatementTree) → after_all w s (statements_of (ts ++ t ∷ [])) ≡ after w (after_all w s (statements_of ts)) t
+pub after_all-more : (w : Setting) (s : Scope) (ts : List StatementTree) (t : StatementTree)
+    → after_all w s (statements_of (ts ++ t ∷ [])) ≡ after w (after_all w s (statements_of ts)) t
 after_all-more w s [] t = refl
 after_all-more w s (u ∷ us) t = after_all-more w (after w s u) us t
 
-pub block_faults-more : (w : Setting) (r : ResultType) (s : Scope) (ts : List StatementTree) (t : StatementTree) → block_faults w r s (statements_of (ts ++ t ∷ [])) ≡ block_faults w r s (statements_of ts) ++ statement_faults w r (after_all w s (statements_of ts)) t
+pub block_faults-more : (w : Setting) (r : ResultType) (s : Scope) (ts : List StatementTree) (t : StatementTree)
+    → block_faults w r s (statements_of (ts ++ t ∷ [])) ≡ block_faults w r s (statements_of ts) ++ statement_faults w r (after_all w s (statements_of ts)) t
 block_faults-more w r s [] t = append-nil (statement_faults w r s t)
 block_faults-more w r s (u ∷ us) t =
     ap (λ fs. statement_faults w r s u ++ fs) (block_faults-more w r (after w s u) us t)
-    ∙ sym (append_assoc (statement_faults w r s u) (block_faults w r (after w s u) (statements_of us)) (statement_faults w r (after_all w (after w s u) (statements_of us)) t))
+    ∙ sym (append_assoc (statement_faults w r s u) (block_faults w r (after w s u) (statements_of us))
+    (statement_faults w r (after_all w (after w s u) (statements_of us)) t))
 
-pub block_calls-more : (w : Setting) (s : Scope) (ts : List StatementTree) (t : StatementTree) → block_calls w s (statements_of (ts ++ t ∷ [])) ≡ block_calls w s (statements_of ts) ++ statement_calls w (after_all w s (statements_of ts)) t
+pub block_calls-more : (w : Setting) (s : Scope) (ts : List StatementTree) (t : StatementTree)
+    → block_calls w s (statements_of (ts ++ t ∷ [])) ≡ block_calls w s (statements_of ts) ++ statement_calls w (after_all w s (statements_of ts)) t
 block_calls-more w s [] t = append-nil (statement_calls w s t)
 block_calls-more w s (u ∷ us) t =
     ap (λ cs. statement_calls w s u ++ cs) (block_calls-more w (after w s u) us t)
-    ∙ sym (append_assoc (statement_calls w s u) (block_calls w (after w s u) (statements_of us)) (statement_calls w (after_all w (after w s u) (statements_of us)) t))
+    ∙ sym (append_assoc (statement_calls w s u) (block_calls w (after w s u) (statements_of us))
+    (statement_calls w (after_all w (after w s u) (statements_of us)) t))
 
 -- a statement leaves the variables of the blocks around its block
 pub after_outer : (w : Setting) (s : Scope) (t : StatementTree) → (after w s t).outer ≡ s.outer
@@ -78,12 +86,13 @@ after_start_outer w s (starts_with_declaration d) = refl
 after_start_outer w s (starts_with_assignment a) = refl
 
 -- the parts of a `for`, one after another: e0 is the scope in which it begins, v that behind its first part
-pub for_worst : (w : Setting) (r : ResultType) (s e0 v : Scope) (p : Span) (a : StartTree) (e : Option Tree) (b : StepTree) (body : StatementTree) (o f1 f2 f3 f4 f5 : Option Fault) (given : Option ValueType) (typed : Bool) →
+pub for_least_fault : (w : Setting) (r : ResultType) (s e0 v : Scope) (p : Span) (a : StartTree) (e : Option Tree) (b : StepTree)
+    (body : StatementTree) (o f1 f2 f3 f4 f5 : Option TypeFault) (given : Option ValueType) (typed : Bool) →
     e0 ≡ inner s → v ≡ after_start w e0 a → given ≡ optional_type w v e → typed ≡ is_step_typed w v b →
     f1 ≡ least o (start_faults w e0 a) → f2 ≡ least f1 (optional_faults w v e) → f3 ≡ least f2 (step_faults w v b) →
     f4 ≡ least f3 (for_rule e given typed) → f5 ≡ least f4 (statement_faults w r (inner v) body) →
     f5 ≡ least o (statement_faults w r s (for_loop p a e b body))
-for_worst w r s e0 v p a e b body o f1 f2 f3 f4 f5 given typed begins goes given_is typed_is g1 g2 g3 g4 g5 =
+for_least_fault w r s e0 v p a e b body o f1 f2 f3 f4 f5 given typed begins goes given_is typed_is g1 g2 g3 g4 g5 =
     then_least o f4 f5 (start_faults w e0 a ++ optional_faults w v e ++ step_faults w v b ++ own v) (statement_faults w r (inner v) body)
     (then_least o f3 f4 (start_faults w e0 a ++ optional_faults w v e ++ step_faults w v b) (own v)
     (then_least o f2 f3 (start_faults w e0 a ++ optional_faults w v e) (step_faults w v b)
@@ -91,10 +100,10 @@ for_worst w r s e0 v p a e b body o f1 f2 f3 f4 f5 given typed begins goes given
     ∙ ap (λ x. least o (all x v)) begins
     ∙ ap (λ x. least o (all (inner s) x)) (goes ∙ ap (λ x. after_start w x a) begins)
   where
-    own : Scope → List Fault
+    own : Scope → List TypeFault
     own x = for_own w x e (is_step_typed w x b)
 
-    all : Scope → Scope → List Fault
+    all : Scope → Scope → List TypeFault
     all y x = start_faults w y a ++ optional_faults w x e ++ step_faults w x b ++ own x ++ statement_faults w r (inner x) body
 
     condition : f4 ≡ least f3 (own v)

@@ -92,7 +92,8 @@ or_last false true c e = ap (λ z. z || false) e
 or_last false false c e = ap (λ z. z || false) e
 
 -- k went into the set, and x, the same instance, into the list
-pub one_more_seen : (xs : List kept.Instance) (s n : BTreeSet kept.Instance) (k x : kept.Instance) → IsSeen instances.cmp-value.it xs s → Updates instances.cmp-value.it s n k true → instance_seen k ≡ instance_seen x → IsSeen instances.cmp-value.it (xs ++ x ∷ []) n
+pub one_more_seen : (xs : List kept.Instance) (s n : BTreeSet kept.Instance) (k x : kept.Instance) → IsSeen instances.cmp-value.it xs s
+    → Updates instances.cmp-value.it s n k true → instance_seen k ≡ instance_seen x → IsSeen instances.cmp-value.it (xs ++ x ∷ []) n
 one_more_seen xs s n k x old updates same = record { has = each }
   where
     each : (q : kept.Instance) → contains instances.cmp-value.it n q ≡ is_listed (instance_seen q) (map instance_seen (xs ++ x ∷ []))

@@ -23,7 +23,8 @@ number_in-append x [] y = go (bytes_eq x y)
     go false = refl
 number_in-append x (z ∷ zs) y = go (bytes_eq x z) (number_in x zs) (bytes_eq x y) (number_in-append x zs y)
   where
-    go : (b : Bool) (o : Option ℕ) (c : Bool) → number_in x (zs ++ y ∷ []) ≡ behind o (length zs) c → cond b (Some 0) (option_map (λ k. k + 1) (number_in x (zs ++ y ∷ []))) ≡ behind (cond b (Some 0) (option_map (λ k. k + 1) o)) (length (z ∷ zs)) c
+    go : (b : Bool) (o : Option ℕ) (c : Bool) → number_in x (zs ++ y ∷ []) ≡ behind o (length zs) c
+        → cond b (Some 0) (option_map (λ k. k + 1) (number_in x (zs ++ y ∷ []))) ≡ behind (cond b (Some 0) (option_map (λ k. k + 1) o)) (length (z ∷ zs)) c
     go true o c e = refl
     go false (Some k) c e = ap (option_map (λ k. k + 1)) e
     go false None true e = ap (option_map (λ k. k + 1)) e ∙ ap Some (omega arith)
@@ -31,10 +32,12 @@ number_in-append x (z ∷ zs) y = go (bytes_eq x z) (number_in x zs) (bytes_eq x
 
 -- two lists of bytes are tested alike from both sides
 pub bytes_eq-swap : (x y : List ℕ) → bytes_eq x y ≡ bytes_eq y x
-bytes_eq-swap x y = one_answer (bytes_eq x y) (bytes_eq y x) (bytes_eq-Decides x y) ((λ t. sym ((bytes_eq-Decides y x).0 t)), (λ e. (bytes_eq-Decides y x).1 (sym e)))
+bytes_eq-swap x y = one_answer (bytes_eq x y) (bytes_eq y x) (bytes_eq-Decides x y)
+    ((λ t. sym ((bytes_eq-Decides y x).0 t)), (λ e. (bytes_eq-Decides y x).1 (sym e)))
 
 -- what a map has behind a name that it has not had
-pub numbered_more : (names : List (Bor (List ℕ))) (m n : BTreeMap (Bor (List ℕ)) ℕ) (x : Bor (List ℕ)) → IsNumbered names m → found m x.now ≡ None → ((q : List ℕ) → found n q ≡ update bytes_eq (found m) x.now (Some (length names)) q) → IsNumbered (names ++ x ∷ []) n
+pub numbered_more : (names : List (Bor (List ℕ))) (m n : BTreeMap (Bor (List ℕ)) ℕ) (x : Bor (List ℕ)) → IsNumbered names m → found m x.now ≡ None
+    → ((q : List ℕ) → found n q ≡ update bytes_eq (found m) x.now (Some (length names)) q) → IsNumbered (names ++ x ∷ []) n
 numbered_more names m n x old absent updates = record { numbers = each }
   where
     each : (q : List ℕ) → found n q ≡ number_in q (map text_of (names ++ x ∷ []))
@@ -44,14 +47,17 @@ numbered_more names m n x old absent updates = record { numbers = each }
         ∙ sym (number_in-append q (map text_of names) x.now)
         ∙ ap (number_in q) (sym (map-append text_of names (x ∷ [])))
       where
-        go : (b : Bool) (o : Option ℕ) → bytes_eq x.now q ≡ b → number_in q (map text_of names) ≡ o → cond b (Some (length names)) (found m q) ≡ behind o (length (map text_of names)) (bytes_eq q x.now)
-        go true (Some k) e f = let same : x.now ≡ q = (bytes_eq-Decides x.now q).0 e in let here : number_in x.now (map text_of names) ≡ None = sym (old.numbers x.now) ∙ absent in cc
+        go : (b : Bool) (o : Option ℕ) → bytes_eq x.now q ≡ b → number_in q (map text_of names) ≡ o
+            → cond b (Some (length names)) (found m q) ≡ behind o (length (map text_of names)) (bytes_eq q x.now)
+        go true (Some k) e f = let same : x.now ≡ q = (bytes_eq-Decides x.now q).0 e in let here : number_in x.now (map text_of names) ≡ None =
+            sym (old.numbers x.now) ∙ absent in cc
         go true None e f = let swapped : bytes_eq q x.now ≡ true = bytes_eq-swap q x.now ∙ e in rw (swapped, length-map names text_of) refl
         go false (Some k) e f = old.numbers q ∙ f
         go false None e f = let swapped : bytes_eq q x.now ≡ false = bytes_eq-swap q x.now ∙ e in rw swapped (old.numbers q ∙ f)
 
 -- and behind one that it has
-pub numbered_again : (names : List (Bor (List ℕ))) (m : BTreeMap (Bor (List ℕ)) ℕ) (x : Bor (List ℕ)) → IsNumbered names m → (found m x.now ≡ None → ⊥) → IsNumbered (names ++ x ∷ []) m
+pub numbered_again : (names : List (Bor (List ℕ))) (m : BTreeMap (Bor (List ℕ)) ℕ) (x : Bor (List ℕ)) → IsNumbered names m
+    → (found m x.now ≡ None → ⊥) → IsNumbered (names ++ x ∷ []) m
 numbered_again names m x old there = record { numbers = each }
   where
     each : (q : List ℕ) → found m q ≡ number_in q (map text_of (names ++ x ∷ []))
@@ -64,4 +70,5 @@ numbered_again names m x old there = record { numbers = each }
         go : (o : Option ℕ) (b : Bool) → number_in q (map text_of names) ≡ o → bytes_eq q x.now ≡ b → o ≡ behind o (length (map text_of names)) b
         go (Some i) b f e = refl
         go None false f e = refl
-        go None true f e = let same : q ≡ x.now = (bytes_eq-Decides q x.now).0 e in absurd (there (old.numbers x.now ∙ ap (λ z. number_in z (map text_of names)) (sym same) ∙ f))
+        go None true f e = let same : q ≡ x.now = (bytes_eq-Decides q x.now).0 e in
+            absurd (there (old.numbers x.now ∙ ap (λ z. number_in z (map text_of names)) (sym same) ∙ f))

@@ -1,5 +1,6 @@
 -- A function is found by the number of its name.
-use Rattle.std.proofs.Common.{◌≡◌, ℕ, zero, suc, ◌+◌, ◌<◌, length, get_or, List, [], ◌∷◌, refl, sym, ap, ◌∙◌, Option, Some, None, Bool, true, false, cond, arith}
+use Rattle.std.proofs.Common.{◌≡◌, ℕ, zero, suc, ◌+◌, ◌<◌, length, get_or, List, [], ◌∷◌, refl, sym, ap, ◌∙◌, Option, Some, None, Bool, true, false}
+use Rattle.std.proofs.Common.{cond, arith}
 use Rattle.std.specs.Prelude.{map, bytes_eq, option_map}
 use Rattle.std.specs.List.{slice_get}
 use denote.Ref.{Bor}
@@ -12,16 +13,21 @@ pub unnamed : (x : List ℕ) (n : ℕ) (fs : List (Bor Function)) → number_in 
 unnamed x n [] e = refl
 unnamed x n (f ∷ fs) e = go (bytes_eq x (name_of f)) (number_in x (map name_of fs)) e (unnamed x (n + 1) fs)
   where
-    go : (b : Bool) (o : Option ℕ) → cond b (Some 0) (option_map (λ k. k + 1) o) ≡ None → (o ≡ None → function_named x (n + 1) (map tree_at fs) ≡ None) → cond b (Some (defined n (tree_at f))) (function_named x (n + 1) (map tree_at fs)) ≡ None
+    go : (b : Bool) (o : Option ℕ) → cond b (Some 0) (option_map (λ k. k + 1) o) ≡ None
+        → (o ≡ None → function_named x (n + 1) (map tree_at fs) ≡ None)
+        → cond b (Some (defined n (tree_at f))) (function_named x (n + 1) (map tree_at fs)) ≡ None
     go true o e rest = cc
     go false None e rest = rest refl
     go false (Some k) e rest = cc
 
-pub named_at : (x : List ℕ) (n : ℕ) (fs : List (Bor Function)) (k : ℕ) (g : Bor Function) → number_in x (map name_of fs) ≡ Some k → slice_get fs k ≡ Some g → function_named x n (map tree_at fs) ≡ Some (defined (n + k) (tree_at g))
+pub named_at : (x : List ℕ) (n : ℕ) (fs : List (Bor Function)) (k : ℕ) (g : Bor Function) → number_in x (map name_of fs) ≡ Some k
+    → slice_get fs k ≡ Some g → function_named x n (map tree_at fs) ≡ Some (defined (n + k) (tree_at g))
 named_at x n [] k g e i = cc
 named_at x n (f ∷ fs) k g e i = go (bytes_eq x (name_of f)) (number_in x (map name_of fs)) e (λ m. named_at x (n + 1) fs m g)
   where
-    go : (b : Bool) (o : Option ℕ) → cond b (Some 0) (option_map (λ k. k + 1) o) ≡ Some k → ((m : ℕ) → o ≡ Some m → slice_get fs m ≡ Some g → function_named x (n + 1) (map tree_at fs) ≡ Some (defined (n + 1 + m) (tree_at g))) → cond b (Some (defined n (tree_at f))) (function_named x (n + 1) (map tree_at fs)) ≡ Some (defined (n + k) (tree_at g))
+    go : (b : Bool) (o : Option ℕ) → cond b (Some 0) (option_map (λ k. k + 1) o) ≡ Some k
+        → ((m : ℕ) → o ≡ Some m → slice_get fs m ≡ Some g → function_named x (n + 1) (map tree_at fs) ≡ Some (defined (n + 1 + m) (tree_at g)))
+        → cond b (Some (defined n (tree_at f))) (function_named x (n + 1) (map tree_at fs)) ≡ Some (defined (n + k) (tree_at g))
     go true o e rest =
         let zero_is : k ≡ 0 = cc in
         let here : slice_get (f ∷ fs) 0 ≡ Some g = ap (slice_get (f ∷ fs)) (sym zero_is) ∙ i in

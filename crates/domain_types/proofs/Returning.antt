@@ -6,7 +6,8 @@ use Rattle.secrec_ast.specs.declared.statement.Statement.{Statement}
 use Rattle.secrec_ast.specs.Statements.{StatementTree, statement, statements_of}
 use Rattle.domain_types.specs.StatementTypes.{always_returns, one_returns}
 
-one_returns-more : (ts : List StatementTree) (t : StatementTree) → one_returns (statements_of (ts ++ t ∷ [])) ≡ one_returns (statements_of ts) || always_returns t
+one_returns-more : (ts : List StatementTree) (t : StatementTree)
+    → one_returns (statements_of (ts ++ t ∷ [])) ≡ one_returns (statements_of ts) || always_returns t
 one_returns-more [] t = go (always_returns t)
   where
     go : (b : Bool) → b || false ≡ false || b
@@ -18,7 +19,10 @@ one_returns-more (u ∷ us) t = ap (λ b. always_returns u || b) (one_returns-mo
     go true = refl
     go false = refl
 
-pub one_more_returns : (xs : List Statement) (i : ℕ) (x : Statement) → i < length xs → x ≡ get_or xs i x → one_returns (statements_of (map statement (take (i + 1) xs))) ≡ one_returns (statements_of (map statement (take i xs))) || always_returns (statement x)
+pub one_more_returns : (xs : List Statement) (i : ℕ) (x : Statement) → i < length xs → x ≡ get_or xs i x
+    → one_returns (statements_of (map statement (take (i + 1) xs))) ≡ one_returns (statements_of (map statement (take i xs))) || always_returns (statement x)
 one_more_returns xs i x h at =
-    ap (λ l. one_returns (statements_of l)) (ap (map statement) (take_more xs i x h) ∙ map-append statement (take i xs) (get_or xs i x ∷ []) ∙ ap (λ z. map statement (take i xs) ++ statement z ∷ []) (sym at))
+    ap (λ l. one_returns (statements_of l))
+    (ap (map statement) (take_more xs i x h) ∙ map-append statement (take i xs) (get_or xs i x ∷ [])
+    ∙ ap (λ z. map statement (take i xs) ++ statement z ∷ []) (sym at))
     ∙ one_returns-more (map statement (take i xs)) (statement x)

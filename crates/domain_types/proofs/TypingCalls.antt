@@ -10,8 +10,8 @@ use Rattle.secrec_ast.specs.declared.statement.Identifier.{Identifier}
 use Rattle.secrec_ast.specs.declared.function.DomainVariable.{DomainVariable}
 use Rattle.secrec_ast.specs.declared.function.Parameter.{Parameter}
 use Rattle.secrec_ast.specs.Programs.{FunctionTree}
-use Rattle.domain_types.specs.declared.fault.Problem.TheVariants.{UnknownName, TypeMismatch, DomainMix, BadArity}
-use Rattle.domain_types.specs.declared.fault.Fault.{Fault}
+use Rattle.domain_types.specs.declared.fault.TypeProblem.TheVariants.{UnknownName, TypeMismatch, DomainMix, BadArity}
+use Rattle.domain_types.specs.declared.fault.TypeFault.{TypeFault}
 use Rattle.domain_types.specs.declared.value_type.Argument.{Argument}
 use Rattle.domain_types.specs.declared.value_type.Protection.{Protection}
 use Rattle.domain_types.specs.declared.value_type.Protection.TheVariants.{Public, Private}
@@ -21,8 +21,11 @@ use Rattle.domain_types.specs.declared.value_type.ExpressionType.TheVariants.{Va
 use Rattle.domain_types.specs.declared.value_type.BuiltIn.{BuiltIn}
 use Rattle.domain_types.specs.declared.value_type.BuiltIn.TheVariants.{Size, Cat, Sum, BitExtract}
 use Rattle.domain_types.specs.Types.{fault_at, fault_if, of_typed, meet, mix_faults, is_uint64, same_element, store_faults, scalar_of, public_scalar}
-use Rattle.domain_types.specs.Declarations.{Declared, Setting, type_written, Callee, built_in, defined, built_in_named, function_named, callee_or_function, callee}
-use Rattle.domain_types.specs.ExpressionTypes.{array_of, size_faults, cat_faults, sum_faults, bit_extract_faults, built_in_faults, built_in_result, bound_by, with_domain, binding_by, bound_faults, binding_faults, argument_faults, within, defined_faults, result_type, callee_faults, callee_type, call_faults, call_type}
+use Rattle.domain_types.specs.Declarations.{Declared, Setting, type_written, Callee, built_in, defined, built_in_named, function_named}
+use Rattle.domain_types.specs.Declarations.{callee_or_function, callee}
+use Rattle.domain_types.specs.ExpressionTypes.{array_of, size_faults, cat_faults, sum_faults, bit_extract_faults, built_in_faults, built_in_result}
+use Rattle.domain_types.specs.ExpressionTypes.{bound_by, with_domain, binding_by, bound_faults, binding_faults, argument_faults, within}
+use Rattle.domain_types.specs.ExpressionTypes.{defined_faults, result_type, callee_faults, callee_type, call_faults, call_type}
 use Rattle.domain_types.specs.Typing.{Meets, IsBuiltInCall, IsOfKind, AreBound, ParameterTakes, ParametersTake, IsDefinedCall, IsCall}
 use Rattle.domain_types.proofs.TypingSteps.{mapped, followed, not_refused, passes, some_fault, parts, joined, not_so, said, says_nothing}
 use Rattle.domain_types.proofs.TypingRules.{meets, meet_from, no_mix, meeting, same_type, element_same, same_elements, no_store_fault, fits_into, word}
@@ -30,32 +33,39 @@ use Rattle.domain_types.proofs.TypingRules.{meets, meet_from, no_mix, meeting, s
 -- BUILT-IN FUNCTIONS
 
 -- two arrays of one data type
-cat_taken : (p : Span) (a b : ValueType) → fault_if (not (a.array && b.array && same_element a.element b.element)) p TypeMismatch ≡ [] → (a.array ≡ true) × (b.array ≡ true) × (a.element ≡ b.element)
+cat_taken : (p : Span) (a b : ValueType) → fault_if (not (a.array && b.array && same_element a.element b.element)) p TypeMismatch ≡ []
+    → (a.array ≡ true) × (b.array ≡ true) × (a.element ≡ b.element)
 cat_taken p a b h =
-    let all = not-false (a.array && b.array && same_element a.element b.element) (not_so (not (a.array && b.array && same_element a.element b.element)) p TypeMismatch h) in
+    let all = not-false (a.array && b.array && same_element a.element b.element)
+    (not_so (not (a.array && b.array && same_element a.element b.element)) p TypeMismatch h) in
     let both = and_parts (a.array && b.array) (same_element a.element b.element) all in
     let arrays = and_parts a.array b.array both.0 in
     (arrays.0, arrays.1, same_elements a.element b.element both.1)
 
-cat_takes : (p : Span) (a b : ValueType) → a.array ≡ true → b.array ≡ true → a.element ≡ b.element → fault_if (not (a.array && b.array && same_element a.element b.element)) p TypeMismatch ≡ []
+cat_takes : (p : Span) (a b : ValueType) → a.array ≡ true → b.array ≡ true → a.element ≡ b.element
+    → fault_if (not (a.array && b.array && same_element a.element b.element)) p TypeMismatch ≡ []
 cat_takes p a b x y e =
     ap₂ (λ s t. fault_if (not (s && t && same_element a.element b.element)) p TypeMismatch) x y
     ∙ ap (λ t. fault_if (not t) p TypeMismatch) (element_same a.element b.element e)
 
 sum_taken : (p : Span) (a : ValueType) → fault_if (not (a.array && is_uint64 a.element)) p TypeMismatch ≡ [] → (a.array ≡ true) × (a.element ≡ datatype.Uint64)
 sum_taken p a h =
-    let both = and_parts a.array (is_uint64 a.element) (not-false (a.array && is_uint64 a.element) (not_so (not (a.array && is_uint64 a.element)) p TypeMismatch h)) in
+    let both = and_parts a.array (is_uint64 a.element)
+    (not-false (a.array && is_uint64 a.element) (not_so (not (a.array && is_uint64 a.element)) p TypeMismatch h)) in
     (both.0, word a.element both.1)
 
-pub built_in_call : (p : Span) (b : BuiltIn) (gs : List Argument) (t : ValueType) → built_in_faults p b gs ≡ [] → built_in_result b gs ≡ Some t → IsBuiltInCall b gs t
+pub built_in_call : (p : Span) (b : BuiltIn) (gs : List Argument) (t : ValueType) → built_in_faults p b gs ≡ [] → built_in_result b gs ≡ Some t
+    → IsBuiltInCall b gs t
 unfolding size_faults cat_faults sum_faults bit_extract_faults built_in_result
 built_in_call p Size [] t h r = absurd (some_fault (record { place = p; problem = BadArity }) [] h)
-built_in_call p Size (a ∷ []) t h r = (not-false a.given.array (not_so (not a.given.array) p TypeMismatch h), sym (same_Some (public_scalar datatype.Uint64) t r))
+built_in_call p Size (a ∷ []) t h r =
+    (not-false a.given.array (not_so (not a.given.array) p TypeMismatch h), sym (same_Some (public_scalar datatype.Uint64) t r))
 built_in_call p Size (a ∷ b ∷ gs) t h r = absurd (some_fault (record { place = p; problem = BadArity }) [] h)
 built_in_call p Cat [] t h r = absurd (some_fault (record { place = p; problem = BadArity }) [] h)
 built_in_call p Cat (a ∷ []) t h r = absurd (some_fault (record { place = p; problem = BadArity }) [] h)
 built_in_call p Cat (a ∷ b ∷ []) t h r =
-    let hs = parts (fault_if (not (a.given.array && b.given.array && same_element a.given.element b.given.element)) p TypeMismatch) (mix_faults p a.given.domain b.given.domain) h in
+    let hs = parts (fault_if (not (a.given.array && b.given.array && same_element a.given.element b.given.element)) p TypeMismatch)
+    (mix_faults p a.given.domain b.given.domain) h in
     let taken = cat_taken p a.given b.given hs.0 in
     let m = mapped (array_of a.given.element) (meet a.given.domain b.given.domain) t r in (
       taken.0,
@@ -76,7 +86,8 @@ built_in_call p BitExtract (a ∷ []) t h r = (
 )
 built_in_call p BitExtract (a ∷ b ∷ gs) t h r = absurd (some_fault (record { place = p; problem = BadArity }) [] h)
 
-pub built_in_from : (p : Span) (b : BuiltIn) (gs : List Argument) (t : ValueType) → IsBuiltInCall b gs t → (built_in_faults p b gs ≡ []) × (built_in_result b gs ≡ Some t)
+pub built_in_from : (p : Span) (b : BuiltIn) (gs : List Argument) (t : ValueType) → IsBuiltInCall b gs t
+    → (built_in_faults p b gs ≡ []) × (built_in_result b gs ≡ Some t)
 unfolding size_faults cat_faults sum_faults bit_extract_faults built_in_result
 built_in_from p Size [] t h = absurd h
 built_in_from p Size (a ∷ []) t h = (ap (λ s. fault_if (not s) p TypeMismatch) h.0, ap Some (sym h.1))
@@ -84,7 +95,8 @@ built_in_from p Size (a ∷ b ∷ gs) t h = absurd h
 built_in_from p Cat [] t h = absurd h
 built_in_from p Cat (a ∷ []) t h = absurd h
 built_in_from p Cat (a ∷ b ∷ []) t h = (
-  joined (fault_if (not (a.given.array && b.given.array && same_element a.given.element b.given.element)) p TypeMismatch) (mix_faults p a.given.domain b.given.domain)
+  joined (fault_if (not (a.given.array && b.given.array && same_element a.given.element b.given.element)) p TypeMismatch)
+      (mix_faults p a.given.domain b.given.domain)
       (cat_takes p a.given b.given h.0 h.1 h.2)
       (no_mix p a.given.domain b.given.domain t.domain h.5),
   ap (option_map (array_of a.given.element)) (meet_from a.given.domain b.given.domain t.domain h.5)
@@ -104,7 +116,8 @@ built_in_typed p Size gs h = (public_scalar datatype.Uint64, refl)
 built_in_typed p Cat [] h = absurd (some_fault (record { place = p; problem = BadArity }) [] h)
 built_in_typed p Cat (a ∷ []) h = absurd (some_fault (record { place = p; problem = BadArity }) [] h)
 built_in_typed p Cat (a ∷ b ∷ []) h =
-    let hs = parts (fault_if (not (a.given.array && b.given.array && same_element a.given.element b.given.element)) p TypeMismatch) (mix_faults p a.given.domain b.given.domain) h in
+    let hs = parts (fault_if (not (a.given.array && b.given.array && same_element a.given.element b.given.element)) p TypeMismatch)
+    (mix_faults p a.given.domain b.given.domain) h in
     let m = meeting p a.given.domain b.given.domain hs.1 in
     (array_of a.given.element m.0, ap (option_map (array_of a.given.element)) m.1)
 built_in_typed p Cat (a ∷ b ∷ c ∷ gs) h = absurd (some_fault (record { place = p; problem = BadArity }) [] h)
@@ -132,12 +145,14 @@ domain_there : (p : Span) (k : Option Identifier) (o : Option Protection) → bo
 domain_there p k None h = absurd (some_fault (record { place = p; problem = DomainMix }) [] h)
 domain_there p k (Some d) h = (d, refl)
 
-domains_with : (o : Option Protection) (os : Option (List Protection)) (ds : List Protection) → with_domain o os ≡ Some ds → (d : Protection) × (es : List Protection) × (o ≡ Some d) × (os ≡ Some es) × (ds ≡ d ∷ es)
+domains_with : (o : Option Protection) (os : Option (List Protection)) (ds : List Protection) → with_domain o os ≡ Some ds
+    → (d : Protection) × (es : List Protection) × (o ≡ Some d) × (os ≡ Some es) × (ds ≡ d ∷ es)
 domains_with None os ds h = absurd (none-some ds h)
 domains_with (Some d) None ds h = absurd (none-some ds h)
 domains_with (Some d) (Some es) ds h = (d, es, refl, refl, sym (same_Some (d ∷ es) ds h))
 
-are_bound : (p : Span) (vs : List DomainVariable) (ps : List Parameter) (gs : List Argument) (ds : List Protection) → binding_faults p vs ps gs ≡ [] → binding_by vs ps gs ≡ Some ds → AreBound vs ps gs ds
+are_bound : (p : Span) (vs : List DomainVariable) (ps : List Parameter) (gs : List Argument) (ds : List Protection) → binding_faults p vs ps gs ≡ []
+    → binding_by vs ps gs ≡ Some ds → AreBound vs ps gs ds
 are_bound p [] ps gs ds h b = sym (same_Some [] ds b)
 are_bound p (v ∷ vs) ps gs ds h b =
     let hs = parts (bound_faults p v.kind (bound_by v.variable.text ps gs)) (binding_faults p vs ps gs) h in
@@ -146,7 +161,8 @@ are_bound p (v ∷ vs) ps gs ds h b =
     let there : AreBound (v ∷ vs) ps gs (w.0 ∷ w.1) = (w.2, kind_is, are_bound p vs ps gs w.1 hs.1 w.3) in
     subst (AreBound (v ∷ vs) ps gs) (sym w.4) there
 
-bound_from_typing : (p : Span) (vs : List DomainVariable) (ps : List Parameter) (gs : List Argument) (ds : List Protection) → AreBound vs ps gs ds → (binding_faults p vs ps gs ≡ []) × (binding_by vs ps gs ≡ Some ds)
+bound_from_typing : (p : Span) (vs : List DomainVariable) (ps : List Parameter) (gs : List Argument) (ds : List Protection) → AreBound vs ps gs ds
+    → (binding_faults p vs ps gs ≡ []) × (binding_by vs ps gs ≡ Some ds)
 bound_from_typing p [] ps gs ds h = (refl, ap Some (sym h))
 bound_from_typing p (v ∷ vs) ps gs [] h = absurd h
 bound_from_typing p (v ∷ vs) ps gs (d ∷ ds) h =
@@ -156,7 +172,8 @@ bound_from_typing p (v ∷ vs) ps gs (d ∷ ds) h =
       ap₂ with_domain h.0 rest.1,
     )
 
-domains_there : (p : Span) (vs : List DomainVariable) (ps : List Parameter) (gs : List Argument) → binding_faults p vs ps gs ≡ [] → (ds : List Protection) × (binding_by vs ps gs ≡ Some ds)
+domains_there : (p : Span) (vs : List DomainVariable) (ps : List Parameter) (gs : List Argument) → binding_faults p vs ps gs ≡ []
+    → (ds : List Protection) × (binding_by vs ps gs ≡ Some ds)
 domains_there p [] ps gs h = ([], refl)
 domains_there p (v ∷ vs) ps gs h =
     let hs = parts (bound_faults p v.kind (bound_by v.variable.text ps gs)) (binding_faults p vs ps gs) h in
@@ -206,27 +223,32 @@ unfaulted : (d : Declared) (p : Span) (f : FunctionTree) (gs : List Argument) �
 unfolding defined_faults
 unfaulted d p f gs h = go (nat_eq (length f.parameters) (length gs)) refl h
   where
-    own : List Fault
-    own = binding_faults p f.variables f.parameters gs ++ of_typed (binding_by f.variables f.parameters gs) (λ ds. argument_faults (within d f ds) f.parameters gs)
+    own : List TypeFault
+    own = binding_faults p f.variables f.parameters gs
+        ++ of_typed (binding_by f.variables f.parameters gs) (λ ds. argument_faults (within d f ds) f.parameters gs)
 
     go : (b : Bool) → nat_eq (length f.parameters) (length gs) ≡ b → (if b then own else fault_at p BadArity) ≡ [] → Unfaulted d p f gs
     go true n h =
-        let hs = parts (binding_faults p f.variables f.parameters gs) (of_typed (binding_by f.variables f.parameters gs) (λ ds. argument_faults (within d f ds) f.parameters gs)) h in
+        let hs = parts (binding_faults p f.variables f.parameters gs)
+        (of_typed (binding_by f.variables f.parameters gs) (λ ds. argument_faults (within d f ds) f.parameters gs)) h in
         record { count = eqb-true (length f.parameters) (length gs) n; bound = hs.0; taken = hs.1 }
     go false n h = absurd (some_fault (record { place = p; problem = BadArity }) [] h)
 
-pub defined_call : (d : Declared) (p : Span) (f : FunctionTree) (gs : List Argument) (t : ExpressionType) → defined_faults d p f gs ≡ [] → option_and_then (λ ds. result_type (within d f ds) f.returned) (binding_by f.variables f.parameters gs) ≡ Some t → IsDefinedCall d f gs t
+pub defined_call : (d : Declared) (p : Span) (f : FunctionTree) (gs : List Argument) (t : ExpressionType) → defined_faults d p f gs ≡ []
+    → option_and_then (λ ds. result_type (within d f ds) f.returned) (binding_by f.variables f.parameters gs) ≡ Some t → IsDefinedCall d f gs t
 defined_call d p f gs t h r =
     let u = unfaulted d p f gs h in
     let m = followed (λ ds. result_type (within d f ds) f.returned) (binding_by f.variables f.parameters gs) t r in
     record {
       domains = m.0;
       bound = are_bound p f.variables f.parameters gs m.0 u.bound m.1;
-      taken = all_take (within d f m.0) f.parameters gs u.count (said (binding_by f.variables f.parameters gs) (λ ds. argument_faults (within d f ds) f.parameters gs) m.0 m.1 u.taken);
+      taken = all_take (within d f m.0) f.parameters gs u.count
+          (said (binding_by f.variables f.parameters gs) (λ ds. argument_faults (within d f ds) f.parameters gs) m.0 m.1 u.taken);
       gives = m.2;
     }
 
-pub defined_from : (d : Declared) (p : Span) (f : FunctionTree) (gs : List Argument) (t : ExpressionType) → IsDefinedCall d f gs t → (defined_faults d p f gs ≡ []) × (option_and_then (λ ds. result_type (within d f ds) f.returned) (binding_by f.variables f.parameters gs) ≡ Some t)
+pub defined_from : (d : Declared) (p : Span) (f : FunctionTree) (gs : List Argument) (t : ExpressionType) → IsDefinedCall d f gs t
+    → (defined_faults d p f gs ≡ []) × (option_and_then (λ ds. result_type (within d f ds) f.returned) (binding_by f.variables f.parameters gs) ≡ Some t)
 unfolding defined_faults
 defined_from d p f gs t h =
     let b = bound_from_typing p f.variables f.parameters gs h.domains h.bound in
@@ -238,7 +260,8 @@ defined_from d p f gs t h =
       ap (option_and_then (λ ds. result_type (within d f ds) f.returned)) b.1 ∙ h.gives,
     )
 
-pub defined_bound : (d : Declared) (p : Span) (f : FunctionTree) (gs : List Argument) → defined_faults d p f gs ≡ [] → (ds : List Protection) × (binding_by f.variables f.parameters gs ≡ Some ds)
+pub defined_bound : (d : Declared) (p : Span) (f : FunctionTree) (gs : List Argument) → defined_faults d p f gs ≡ []
+    → (ds : List Protection) × (binding_by f.variables f.parameters gs ≡ Some ds)
 defined_bound d p f gs h = domains_there p f.variables f.parameters gs (unfaulted d p f gs h).bound
 
 -- CALLS
@@ -249,7 +272,8 @@ is_call d p (built_in b) gs t h =
     let m = mapped Value (built_in_result b gs) t n.1 in
     (m.0, built_in_call p b gs m.0 n.0 m.1, m.2)
 is_call d p (defined k f) gs t h =
-    let n = not_refused (defined_faults d p f gs) (option_and_then (λ ds. result_type (within d f ds) f.returned) (binding_by f.variables f.parameters gs)) t h in
+    let n = not_refused (defined_faults d p f gs)
+    (option_and_then (λ ds. result_type (within d f ds) f.returned) (binding_by f.variables f.parameters gs)) t h in
     defined_call d p f gs t n.0 n.1
 
 -- a call with a type has no fault
@@ -268,25 +292,30 @@ called d p (defined k f) gs t h =
     let r = defined_from d p f gs t h in
     record {
       faultless = r.0;
-      gives = passes (defined_faults d p f gs) (option_and_then (λ ds. result_type (within d f ds) f.returned) (binding_by f.variables f.parameters gs)) r.0 ∙ r.1;
+      gives = passes (defined_faults d p f gs)
+          (option_and_then (λ ds. result_type (within d f ds) f.returned) (binding_by f.variables f.parameters gs)) r.0 ∙ r.1;
     }
 
 -- what a call with a type is of
-pub known_call : (d : Declared) (p : Span) (o : Option Callee) (gs : Option (List Argument)) (t : ExpressionType) → call_type d p o gs ≡ Some t → (c : Callee) × (hs : List Argument) × (o ≡ Some c) × (gs ≡ Some hs) × (callee_type d p c hs ≡ Some t)
+pub known_call : (d : Declared) (p : Span) (o : Option Callee) (gs : Option (List Argument)) (t : ExpressionType) → call_type d p o gs ≡ Some t
+    → (c : Callee) × (hs : List Argument) × (o ≡ Some c) × (gs ≡ Some hs) × (callee_type d p c hs ≡ Some t)
 unfolding call_type
 known_call d p None gs t h = absurd (none-some t h)
 known_call d p (Some c) gs t h = let f = followed (callee_type d p c) gs t h in (c, f.0, refl, f.1, f.2)
 
 -- where the callee and the arguments are known
-pub call_typed : (d : Declared) (p : Span) (o : Option Callee) (a : Option (List Argument)) (c : Callee) (gs : List Argument) (t : ExpressionType) → o ≡ Some c → a ≡ Some gs → callee_type d p c gs ≡ Some t → call_type d p o a ≡ Some t
+pub call_typed : (d : Declared) (p : Span) (o : Option Callee) (a : Option (List Argument)) (c : Callee) (gs : List Argument) (t : ExpressionType)
+    → o ≡ Some c → a ≡ Some gs → callee_type d p c gs ≡ Some t → call_type d p o a ≡ Some t
 unfolding call_type
 call_typed d p o a c gs t e h n = ap₂ (call_type d p) e h ∙ n
 
-pub call_said : (d : Declared) (p : Span) (o : Option Callee) (a : Option (List Argument)) (c : Callee) (gs : List Argument) → o ≡ Some c → a ≡ Some gs → call_faults d p o a ≡ [] → callee_faults d p c gs ≡ []
+pub call_said : (d : Declared) (p : Span) (o : Option Callee) (a : Option (List Argument)) (c : Callee) (gs : List Argument) → o ≡ Some c
+    → a ≡ Some gs → call_faults d p o a ≡ [] → callee_faults d p c gs ≡ []
 unfolding call_faults
 call_said d p o a c gs e h n = sym (ap₂ (call_faults d p) e h) ∙ n
 
-pub call_says_nothing : (d : Declared) (p : Span) (o : Option Callee) (a : Option (List Argument)) (c : Callee) (gs : List Argument) → o ≡ Some c → a ≡ Some gs → callee_faults d p c gs ≡ [] → call_faults d p o a ≡ []
+pub call_says_nothing : (d : Declared) (p : Span) (o : Option Callee) (a : Option (List Argument)) (c : Callee) (gs : List Argument) → o ≡ Some c
+    → a ≡ Some gs → callee_faults d p c gs ≡ [] → call_faults d p o a ≡ []
 unfolding call_faults
 call_says_nothing d p o a c gs e h n = ap₂ (call_faults d p) e h ∙ n
 
@@ -297,11 +326,14 @@ callee_known d p (Some c) gs h = (c, refl)
 
 -- THE FUNCTION THAT A NAME MEANS
 
-function_there : (x : List ℕ) (n k : ℕ) (fs : List FunctionTree) (g : FunctionTree) → function_named x n fs ≡ Some (defined k g) → (m : ℕ) × (k ≡ n + m) × (slice_get fs m ≡ Some g)
+function_there : (x : List ℕ) (n k : ℕ) (fs : List FunctionTree) (g : FunctionTree) → function_named x n fs ≡ Some (defined k g)
+    → (m : ℕ) × (k ≡ n + m) × (slice_get fs m ≡ Some g)
 function_there x n k [] g e = absurd (none-some (defined k g) e)
 function_there x n k (f ∷ fs) g e = go (bytes_eq x f.function.text) e (function_there x (n + 1) k fs g)
   where
-    go : (b : Bool) → (if b then Some (defined n f) else function_named x (n + 1) fs) ≡ Some (defined k g) → (function_named x (n + 1) fs ≡ Some (defined k g) → (m : ℕ) × (k ≡ n + 1 + m) × (slice_get fs m ≡ Some g)) → (m : ℕ) × (k ≡ n + m) × (slice_get (f ∷ fs) m ≡ Some g)
+    go : (b : Bool) → (if b then Some (defined n f) else function_named x (n + 1) fs) ≡ Some (defined k g)
+        → (function_named x (n + 1) fs ≡ Some (defined k g) → (m : ℕ) × (k ≡ n + 1 + m) × (slice_get fs m ≡ Some g))
+        → (m : ℕ) × (k ≡ n + m) × (slice_get (f ∷ fs) m ≡ Some g)
     go true e rest =
         let here : n ≡ k = cc in
         let same : f ≡ g = cc in
@@ -316,4 +348,5 @@ function_at d x k g e = go (built_in_named d x) e
   where
     go : (o : Option BuiltIn) → callee_or_function d x o ≡ Some (defined k g) → slice_get d.functions k ≡ Some g
     go (Some b) e = cc
-    go None e = let m = function_there x 0 k d.functions g e in let at = m.1 in subst (λ n. slice_get d.functions n ≡ Some g) (sym (let s : k ≡ m.0 = omega arith in s)) m.2
+    go None e = let m = function_there x 0 k d.functions g e in let at = m.1 in
+        subst (λ n. slice_get d.functions n ≡ Some g) (sym (let s : k ≡ m.0 = omega arith in s)) m.2

@@ -6,11 +6,12 @@ use Rattle.std.specs.List.{slice_get}
 use Rattle.std.proofs.lemmas.Option.{none-some, same_Some}
 use Rattle.sc_text.specs.declared.span.Span.{Span}
 use Rattle.secrec_ast.specs.declared.expression.DataType.TheVariants as datatype
-use Rattle.secrec_ast.specs.Tree.{Tree, Trees, number, truth, variable, call, index, parentheses, negation, cast, binary, declassify, argument, publish, none, also}
+use Rattle.secrec_ast.specs.Tree.{Tree, Trees, number, truth, variable, call, index, parentheses, negation, cast, binary, declassify, argument}
+use Rattle.secrec_ast.specs.Tree.{publish, none, also}
 use Rattle.secrec_ast.specs.Heights.{place_of}
 use Rattle.secrec_ast.specs.Programs.{FunctionTree}
-use Rattle.domain_types.specs.declared.fault.Problem.TheVariants.{UnknownName, TypeMismatch, ArgumentPlace}
-use Rattle.domain_types.specs.declared.fault.Fault.{Fault}
+use Rattle.domain_types.specs.declared.fault.TypeProblem.TheVariants.{UnknownName, TypeMismatch, ArgumentPlace}
+use Rattle.domain_types.specs.declared.fault.TypeFault.{TypeFault}
 use Rattle.domain_types.specs.declared.value_type.Argument.{Argument}
 use Rattle.domain_types.specs.declared.value_type.Protection.{Protection}
 use Rattle.domain_types.specs.declared.value_type.ValueType.{ValueType}
@@ -19,14 +20,20 @@ use Rattle.domain_types.specs.declared.value_type.ExpressionType.TheVariants.{Vo
 use Rattle.domain_types.specs.Types.{of_typed, value_of, void_faults, scalar_of, public_scalar}
 use Rattle.domain_types.specs.Declarations.{Declared, Setting, Callee, built_in, defined, callee}
 use Rattle.domain_types.specs.Scopes.{Variable, Scope, variable_named}
-use Rattle.domain_types.specs.ExpressionTypes.{variable_type, variable_faults, operator_faults, operator_type, negation_faults, negation_type, cast_type, declassified, index_faults, index_type, with_argument, built_in_faults, built_in_result, binding_by, within, defined_faults, result_type, callee_faults, callee_type, call_faults, of_two, given_value, nothing_given, type_of, arguments_of, value_type, faults, argument_list_faults, value_faults}
+use Rattle.domain_types.specs.ExpressionTypes.{variable_type, variable_faults, operator_faults, operator_type, negation_faults, negation_type}
+use Rattle.domain_types.specs.ExpressionTypes.{cast_type, declassified, index_faults, index_type, with_argument, built_in_faults, built_in_result}
+use Rattle.domain_types.specs.ExpressionTypes.{binding_by, within, defined_faults, result_type, callee_faults, callee_type, call_faults, of_two}
+use Rattle.domain_types.specs.ExpressionTypes.{given_value, nothing_given, type_of, arguments_of, value_type, faults, argument_list_faults}
+use Rattle.domain_types.specs.ExpressionTypes.{value_faults}
 use Rattle.domain_types.specs.Reached.{Call, binding_of, call_of, calls_of, calls_of_all}
 use Rattle.sc_text.specs.Lists.{Among}
 use Rattle.domain_types.specs.Typing.{HasType, HaveTypes}
 use Rattle.sc_text.proofs.Lists.{among_left, among_right}
 use Rattle.domain_types.proofs.TypingSteps.{there, mapped, followed, paired, valued, passes, some_fault, parts, joined, says_nothing, said}
-use Rattle.domain_types.proofs.TypingRules.{operation, operator_from, no_operator_faults, operator_typed, negated, no_negation_fault, negation_typed, indexable, no_index_fault, indexed_faultless, index_typed}
-use Rattle.domain_types.proofs.TypingCalls.{built_in_typed, defined_bound, is_call, called, known_call, call_typed, call_said, call_says_nothing, callee_known, function_at}
+use Rattle.domain_types.proofs.TypingRules.{operation, operator_from, no_operator_faults, operator_typed, negated, no_negation_fault, negation_typed}
+use Rattle.domain_types.proofs.TypingRules.{indexable, no_index_fault, indexed_faultless, index_typed}
+use Rattle.domain_types.proofs.TypingCalls.{built_in_typed, defined_bound, is_call, called, known_call, call_typed, call_said, call_says_nothing}
+use Rattle.domain_types.proofs.TypingCalls.{callee_known, function_at}
 
 -- THE PREMISES
 
@@ -44,7 +51,8 @@ abbrev pub GiveTypes : Declared → List Call → Type 0
 GiveTypes d cs = (c : Call) → Among c cs → GivesType d c
 
 -- without the first a variable of an unknown domain has no type, and no fault where it's used
-unknown_is_silent : (w : Setting) (s : Scope) (p : Span) (x : List ℕ) (v : Variable) → variable_named s x ≡ Some v → v.held ≡ None → (type_of w s (variable p x) ≡ None) × (faults w s (variable p x) ≡ [])
+unknown_is_silent : (w : Setting) (s : Scope) (p : Span) (x : List ℕ) (v : Variable) → variable_named s x ≡ Some v → v.held ≡ None
+    → (type_of w s (variable p x) ≡ None) × (faults w s (variable p x) ≡ [])
 unknown_is_silent w s p x v e h = (ap (λ o. given_value (variable_type o)) e ∙ ap given_value h, ap (variable_faults p) e)
 
 pub earlier_calls : (d : Declared) (bs cs : List Call) → GiveTypes d (bs ++ cs) → GiveTypes d bs
@@ -55,7 +63,8 @@ later_calls d bs cs g = λ c m. g c (among_right c bs cs m)
 
 -- FROM THE TYPE TO THE RELATION
 
-arguments_with : (p : Span) (v : Option ValueType) (o : Option (List Argument)) (gs : List Argument) → with_argument p v o ≡ Some gs → (t : ValueType) × (hs : List Argument) × (v ≡ Some t) × (o ≡ Some hs) × (gs ≡ record { place = p; given = t } ∷ hs)
+arguments_with : (p : Span) (v : Option ValueType) (o : Option (List Argument)) (gs : List Argument) → with_argument p v o ≡ Some gs
+    → (t : ValueType) × (hs : List Argument) × (v ≡ Some t) × (o ≡ Some hs) × (gs ≡ record { place = p; given = t } ∷ hs)
 arguments_with p None o gs e = absurd (none-some gs e)
 arguments_with p (Some t) None gs e = absurd (none-some gs e)
 arguments_with p (Some t) (Some hs) gs e = (t, hs, refl, refl, sym (same_Some (record { place = p; given = t } ∷ hs) gs e))
@@ -124,7 +133,8 @@ mutual
 -- AND BACK
 
 -- the type of a node of two parts
-of_both : (rule : ValueType → ValueType → Option ValueType) (a b : Option ExpressionType) (x y z : ValueType) → a ≡ Some (Value x) → b ≡ Some (Value y) → rule x y ≡ Some z → given_value (of_two rule (value_of a) (value_of b)) ≡ Some (Value z)
+of_both : (rule : ValueType → ValueType → Option ValueType) (a b : Option ExpressionType) (x y z : ValueType) → a ≡ Some (Value x)
+    → b ≡ Some (Value y) → rule x y ≡ Some z → given_value (of_two rule (value_of a) (value_of b)) ≡ Some (Value z)
 of_both rule a b x y z e h n = ap₂ (λ m k. given_value (of_two rule (value_of m) (value_of k))) e h ∙ ap given_value n
 
 mutual
@@ -135,7 +145,8 @@ mutual
   type_from w s (call p x es) t h =
       call_typed w.declared p (callee w.declared x) (arguments_of w s es) h.0 h.1 t h.2 (types_from w s es h.1 h.3) (called w.declared p h.0 h.1 t h.4).gives
   type_from w s (index p a i) t h =
-      of_both (index_type p (place_of i)) (type_of w s a) (type_of w s i) h.0 h.1 (scalar_of h.0) (type_from w s a (Value h.0) h.2) (type_from w s i (Value h.1) h.3)
+      of_both (index_type p (place_of i)) (type_of w s a) (type_of w s i) h.0 h.1 (scalar_of h.0) (type_from w s a (Value h.0) h.2)
+      (type_from w s i (Value h.1) h.3)
       (index_typed p (place_of i) h.0 h.1 (no_index_fault p (place_of i) h.0 h.1 h.4 h.5))
       ∙ ap Some (sym h.6)
   type_from w s (parentheses p e) t h = ap (λ x. given_value (value_of x)) (type_from w s e (Value h.0) h.1) ∙ ap Some (sym h.2)
@@ -167,10 +178,12 @@ pub value_typed : (w : Setting) (s : Scope) (e : Tree) (x : ValueType) → HasTy
 value_typed w s e x h = ap value_of (type_from w s e (Value x) h)
 
 as_value_faultless : (w : Setting) (s : Scope) (e : Tree) (x : ValueType) → HasType w s e (Value x) → faults w s e ≡ [] → value_faults w s e ≡ []
-as_value_faultless w s e x h n = joined (faults w s e) (void_faults (place_of e) (type_of w s e)) n (ap (void_faults (place_of e)) (type_from w s e (Value x) h))
+as_value_faultless w s e x h n =
+    joined (faults w s e) (void_faults (place_of e) (type_of w s e)) n (ap (void_faults (place_of e)) (type_from w s e (Value x) h))
 
 -- of two parts with types
-both_say : (w : Setting) (s : Scope) (a b : Tree) (say : ValueType → ValueType → List Fault) (x y : ValueType) → HasType w s a (Value x) → HasType w s b (Value y) → say x y ≡ [] → of_typed (value_type w s a) (λ t. of_typed (value_type w s b) (say t)) ≡ []
+both_say : (w : Setting) (s : Scope) (a b : Tree) (say : ValueType → ValueType → List TypeFault) (x y : ValueType) → HasType w s a (Value x)
+    → HasType w s b (Value y) → say x y ≡ [] → of_typed (value_type w s a) (λ t. of_typed (value_type w s b) (say t)) ≡ []
 both_say w s a b say x y ha hb n =
     says_nothing (value_type w s a) (λ t. of_typed (value_type w s b) (say t)) x (value_typed w s a x ha)
     (says_nothing (value_type w s b) (say x) y (value_typed w s b y hb) n)
@@ -187,7 +200,8 @@ mutual
   no_faults w s (call p x es) t h =
       joined (argument_list_faults w s es) (call_faults w.declared p (callee w.declared x) (arguments_of w s es))
       (no_argument_faults w s es h.1 h.3)
-      (call_says_nothing w.declared p (callee w.declared x) (arguments_of w s es) h.0 h.1 h.2 (types_from w s es h.1 h.3) (called w.declared p h.0 h.1 t h.4).faultless)
+      (call_says_nothing w.declared p (callee w.declared x) (arguments_of w s es) h.0 h.1 h.2 (types_from w s es h.1 h.3)
+      (called w.declared p h.0 h.1 t h.4).faultless)
   no_faults w s (index p a i) t h =
       joined (value_faults w s a ++ value_faults w s i) (of_typed (value_type w s a) (λ x. of_typed (value_type w s i) (index_faults p (place_of i) x)))
       (joined (value_faults w s a) (value_faults w s i)
@@ -238,7 +252,8 @@ a_value : (p : Span) (o : Option ExpressionType) (t : ExpressionType) → o ≡ 
 a_value p o Void e h = absurd (some_fault (record { place = p; problem = TypeMismatch }) [] (sym (ap (void_faults p) e) ∙ h))
 a_value p o (Value x) e h = (x, e)
 
-pub variable_held : (s : Scope) (x : List ℕ) (p : Span) → Known s → variable_faults p (variable_named s x) ≡ [] → (v : ValueType) × (variable_type (variable_named s x) ≡ Some v)
+pub variable_held : (s : Scope) (x : List ℕ) (p : Span) → Known s → variable_faults p (variable_named s x) ≡ []
+    → (v : ValueType) × (variable_type (variable_named s x) ≡ Some v)
 variable_held s x p k h = go (variable_named s x) refl h
   where
     go : (o : Option Variable) → variable_named s x ≡ o → variable_faults p o ≡ [] → (v : ValueType) × (variable_type o ≡ Some v)
@@ -246,19 +261,22 @@ variable_held s x p k h = go (variable_named s x) refl h
     go (Some v) e h = there v.held (k x v e)
 
 -- a part without a fault, used as a value
-part_value : (w : Setting) (s : Scope) (e : Tree) → (faults w s e ≡ [] → (t : ExpressionType) × (type_of w s e ≡ Some t)) → value_faults w s e ≡ [] → (x : ValueType) × (type_of w s e ≡ Some (Value x))
+part_value : (w : Setting) (s : Scope) (e : Tree) → (faults w s e ≡ [] → (t : ExpressionType) × (type_of w s e ≡ Some t)) → value_faults w s e ≡ []
+    → (x : ValueType) × (type_of w s e ≡ Some (Value x))
 part_value w s e given h =
     let hs = parts (faults w s e) (void_faults (place_of e) (type_of w s e)) h in
     let t = given hs.0 in
     a_value (place_of e) (type_of w s e) t.0 t.1 hs.1
 
-both_said : (w : Setting) (s : Scope) (a b : Tree) (say : ValueType → ValueType → List Fault) (x y : ValueType) → type_of w s a ≡ Some (Value x) → type_of w s b ≡ Some (Value y) → of_typed (value_type w s a) (λ t. of_typed (value_type w s b) (say t)) ≡ [] → say x y ≡ []
+both_said : (w : Setting) (s : Scope) (a b : Tree) (say : ValueType → ValueType → List TypeFault) (x y : ValueType) → type_of w s a ≡ Some (Value x)
+    → type_of w s b ≡ Some (Value y) → of_typed (value_type w s a) (λ t. of_typed (value_type w s b) (say t)) ≡ [] → say x y ≡ []
 both_said w s a b say x y ha hb n =
     said (value_type w s b) (say x) y (ap value_of hb)
     (said (value_type w s a) (λ t. of_typed (value_type w s b) (say t)) x (ap value_of ha) n)
 
 -- a call without a fault, whose function gives a type
-call_gives : (d : Declared) (p : Span) (x : List ℕ) (o : Option (List Argument)) (c : Callee) (gs : List Argument) → callee d x ≡ Some c → o ≡ Some gs → GiveTypes d (call_of d p (callee d x) o) → callee_faults d p c gs ≡ [] → (t : ExpressionType) × (callee_type d p c gs ≡ Some t)
+call_gives : (d : Declared) (p : Span) (x : List ℕ) (o : Option (List Argument)) (c : Callee) (gs : List Argument) → callee d x ≡ Some c → o ≡ Some gs
+    → GiveTypes d (call_of d p (callee d x) o) → callee_faults d p c gs ≡ [] → (t : ExpressionType) × (callee_type d p c gs ≡ Some t)
 call_gives d p x o (built_in b) gs e a g h =
     let t = built_in_typed p b gs h in
     (Value t.0, passes (built_in_faults p b gs) (option_map Value (built_in_result b gs)) h ∙ ap (option_map Value) t.1)
@@ -275,19 +293,23 @@ call_gives d p x o (defined k f) gs e a g h =
     )
 
 mutual
-  pub typed : (w : Setting) (s : Scope) (e : Tree) → Known s → GiveTypes w.declared (calls_of w s e) → faults w s e ≡ [] → (t : ExpressionType) × (type_of w s e ≡ Some t)
+  pub typed : (w : Setting) (s : Scope) (e : Tree) → Known s → GiveTypes w.declared (calls_of w s e) → faults w s e ≡ []
+      → (t : ExpressionType) × (type_of w s e ≡ Some t)
   typed w s (number p n) k g h = (Value (public_scalar datatype.Uint64), refl)
   typed w s (truth p b) k g h = (Value (public_scalar datatype.Bool), refl)
   typed w s (variable p x) k g h = let v = variable_held s x p k h in (Value v.0, ap (option_map Value) v.1)
   typed w s (call p x es) k g h =
       let hs = parts (argument_list_faults w s es) (call_faults w.declared p (callee w.declared x) (arguments_of w s es)) h in
-      let gs = typed_arguments w s es k (earlier_calls w.declared (calls_of_all w s es) (call_of w.declared p (callee w.declared x) (arguments_of w s es)) g) hs.0 in
+      let gs = typed_arguments w s es k
+      (earlier_calls w.declared (calls_of_all w s es) (call_of w.declared p (callee w.declared x) (arguments_of w s es)) g) hs.0 in
       let c = callee_known w.declared p (callee w.declared x) (arguments_of w s es) hs.1 in
       let own = call_said w.declared p (callee w.declared x) (arguments_of w s es) c.0 gs.0 c.1 gs.1 hs.1 in
-      let t = call_gives w.declared p x (arguments_of w s es) c.0 gs.0 c.1 gs.1 (later_calls w.declared (calls_of_all w s es) (call_of w.declared p (callee w.declared x) (arguments_of w s es)) g) own in
+      let t = call_gives w.declared p x (arguments_of w s es) c.0 gs.0 c.1 gs.1
+      (later_calls w.declared (calls_of_all w s es) (call_of w.declared p (callee w.declared x) (arguments_of w s es)) g) own in
       (t.0, call_typed w.declared p (callee w.declared x) (arguments_of w s es) c.0 gs.0 t.0 c.1 gs.1 t.1)
   typed w s (index p a i) k g h =
-      let hs = parts (value_faults w s a ++ value_faults w s i) (of_typed (value_type w s a) (λ x. of_typed (value_type w s i) (index_faults p (place_of i) x))) h in
+      let hs = parts (value_faults w s a ++ value_faults w s i)
+      (of_typed (value_type w s a) (λ x. of_typed (value_type w s i) (index_faults p (place_of i) x))) h in
       let vs = parts (value_faults w s a) (value_faults w s i) hs.0 in
       let x = part_value w s a (typed w s a k (earlier_calls w.declared (calls_of w s a) (calls_of w s i) g)) vs.0 in
       let y = part_value w s i (typed w s i k (later_calls w.declared (calls_of w s a) (calls_of w s i) g)) vs.1 in
@@ -317,7 +339,8 @@ mutual
   typed w s (argument p x) k g h = absurd (some_fault (record { place = p; problem = ArgumentPlace }) [] h)
   typed w s (publish p x e) k g h = let y = part_value w s e (typed w s e k g) h in (Void, ap (λ o. option_map nothing_given (value_of o)) y.1)
 
-  pub typed_arguments : (w : Setting) (s : Scope) (es : Trees) → Known s → GiveTypes w.declared (calls_of_all w s es) → argument_list_faults w s es ≡ [] → (gs : List Argument) × (arguments_of w s es ≡ Some gs)
+  pub typed_arguments : (w : Setting) (s : Scope) (es : Trees) → Known s → GiveTypes w.declared (calls_of_all w s es)
+      → argument_list_faults w s es ≡ [] → (gs : List Argument) × (arguments_of w s es ≡ Some gs)
   typed_arguments w s none k g h = ([], refl)
   typed_arguments w s (also e es) k g h =
       let hs = parts (value_faults w s e) (argument_list_faults w s es) h in
@@ -325,9 +348,11 @@ mutual
       let rest = typed_arguments w s es k (later_calls w.declared (calls_of w s e) (calls_of_all w s es) g) hs.1 in
       (record { place = place_of e; given = x.0 } ∷ rest.0, ap₂ (λ o hs. with_argument (place_of e) (value_of o) hs) x.1 rest.1)
 
-pub typed_value : (w : Setting) (s : Scope) (e : Tree) → Known s → GiveTypes w.declared (calls_of w s e) → value_faults w s e ≡ [] → (x : ValueType) × HasType w s e (Value x)
+pub typed_value : (w : Setting) (s : Scope) (e : Tree) → Known s → GiveTypes w.declared (calls_of w s e) → value_faults w s e ≡ []
+    → (x : ValueType) × HasType w s e (Value x)
 typed_value w s e k g h = let x = part_value w s e (typed w s e k g) h in (x.0, has_type w s e (Value x.0) x.1)
 
 -- where the premises hold, what has no fault is just what has a type
-pub typed_exactly : (w : Setting) (s : Scope) (e : Tree) → Known s → GiveTypes w.declared (calls_of w s e) → ((t : ExpressionType) × HasType w s e t) ↔ (faults w s e ≡ [])
+pub typed_exactly : (w : Setting) (s : Scope) (e : Tree) → Known s → GiveTypes w.declared (calls_of w s e)
+    → ((t : ExpressionType) × HasType w s e t) ↔ (faults w s e ≡ [])
 typed_exactly w s e k g = (λ h. no_faults w s e h.0 h.1, λ h. let t = typed w s e k g h in (t.0, has_type w s e t.0 t.1))

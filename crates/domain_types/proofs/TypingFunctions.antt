@@ -9,14 +9,16 @@ use Rattle.secrec_ast.specs.declared.function.Parameter.{Parameter}
 use Rattle.secrec_ast.specs.declared.function.ResultType.{ResultType}
 use Rattle.secrec_ast.specs.declared.function.ResultType.TheVariants as returned
 use Rattle.secrec_ast.specs.Programs.{FunctionTree, ItemTree}
-use Rattle.domain_types.specs.declared.fault.Problem.TheVariants.{UnknownName, Twice, TypeMismatch, MissingReturn}
+use Rattle.domain_types.specs.declared.fault.TypeProblem.TheVariants.{UnknownName, Twice, TypeMismatch, MissingReturn}
 use Rattle.domain_types.specs.declared.value_type.ExpressionType.TheVariants.{Value}
 use Rattle.domain_types.specs.Types.{fault_if}
 use Rattle.domain_types.specs.Declarations.{Declared, Setting, type_written, is_known_kind, number_in}
 use Rattle.domain_types.specs.Scopes.{Scope, nothing_known, is_among, twice_faults}
 use Rattle.domain_types.specs.ExpressionTypes.{result_type}
 use Rattle.domain_types.specs.StatementTypes.{domain_faults, one_returns}
-use Rattle.domain_types.specs.FunctionTypes.{with_parameter, with_parameters, parameter_faults, result_faults, way_faults, body_faults, function_faults, protections_of, first_named, hidden_faults, hiding_faults, imported_faults, is_variable, kind_faults, is_in_parameter, domain_variable_faults, domain_variables_faults}
+use Rattle.domain_types.specs.FunctionTypes.{with_parameter, with_parameters, parameter_faults, result_faults, way_faults, body_faults}
+use Rattle.domain_types.specs.FunctionTypes.{function_faults, protections_of, first_named, hidden_faults, hiding_faults, imported_faults, is_variable}
+use Rattle.domain_types.specs.FunctionTypes.{kind_faults, is_in_parameter, domain_variable_faults, domain_variables_faults}
 use Rattle.domain_types.specs.ProgramTypes.{is_one_of}
 use Rattle.domain_types.specs.Reached.{function_calls}
 use Rattle.domain_types.specs.Typing.{AreParameters, GivesResult, IsTypedFunction, IsKnownKind, IsDomainVariable, AreDomainVariables, text_in}
@@ -103,7 +105,8 @@ is_typed_function w f g h =
     record {
       parameters = ps;
       body =
-          are_typed w f.returned (with_parameters w f.parameters nothing_known) f.body.statements (known_parameters w nothing_known f.parameters ps nothing_unknown)
+          are_typed w f.returned (with_parameters w f.parameters nothing_known) f.body.statements
+          (known_parameters w nothing_known f.parameters ps nothing_unknown)
           (known_result w f.returned c.result) g c.body;
       result = gives_result w f f.returned c.result c.ways;
     }
@@ -144,7 +147,8 @@ hides_none x [] h = refl
 hides_none x (y ∷ ys) h =
     one_of (bytes_eq x.text y.text) (number_in x.text (map text_in ys)) ∙ go (bytes_eq x.text y.text) h (hides_none x ys)
   where
-    go : (b : Bool) → hidden_faults x (if b then Some y else first_named x.text ys) ≡ [] → (hiding_faults x ys ≡ [] → is_one_of x.text (map text_in ys) ≡ false) → b || is_some (number_in x.text (map text_in ys)) ≡ false
+    go : (b : Bool) → hidden_faults x (if b then Some y else first_named x.text ys) ≡ []
+        → (hiding_faults x ys ≡ [] → is_one_of x.text (map text_in ys) ≡ false) → b || is_some (number_in x.text (map text_in ys)) ≡ false
     go true e rest = cc
     go false e rest = rest e
 
@@ -155,7 +159,8 @@ no_hiding_faults x (y ∷ ys) h =
     let hs = or_parts (bytes_eq x.text y.text) (is_some named) (sym (one_of (bytes_eq x.text y.text) named) ∙ h) in
     ap (λ b. hidden_faults x (if b then Some y else first_named x.text ys)) hs.0 ∙ no_hiding_faults x ys hs.1
 
-is_domain_variable : (d : Declared) (items : List ItemTree) (ps : List Parameter) (before : List DomainVariable) (v : DomainVariable) → domain_variable_faults d (protections_of items) ps before v ≡ [] → IsDomainVariable d items ps before v
+is_domain_variable : (d : Declared) (items : List ItemTree) (ps : List Parameter) (before : List DomainVariable) (v : DomainVariable)
+    → domain_variable_faults d (protections_of items) ps before v ≡ [] → IsDomainVariable d items ps before v
 is_domain_variable d items ps before v h =
     let first = kind_faults d v.kind in
     let second = fault_if (is_variable v.variable.text before) v.variable.place Twice in
@@ -174,7 +179,8 @@ is_domain_variable d items ps before v h =
       used = not-false (is_in_parameter v.variable.text ps) (not_so (not (is_in_parameter v.variable.text ps)) v.variable.place TypeMismatch five.1);
     }
 
-no_domain_variable_faults : (d : Declared) (items : List ItemTree) (ps : List Parameter) (before : List DomainVariable) (v : DomainVariable) → IsDomainVariable d items ps before v → domain_variable_faults d (protections_of items) ps before v ≡ []
+no_domain_variable_faults : (d : Declared) (items : List ItemTree) (ps : List Parameter) (before : List DomainVariable) (v : DomainVariable)
+    → IsDomainVariable d items ps before v → domain_variable_faults d (protections_of items) ps before v ≡ []
 no_domain_variable_faults d items ps before v h =
     let first = kind_faults d v.kind in
     let second = fault_if (is_variable v.variable.text before) v.variable.place Twice in
@@ -189,13 +195,15 @@ no_domain_variable_faults d items ps before v h =
     (no_hiding_faults v.variable (protections_of items) h.no_domain))
     (ap (λ b. fault_if (not b) v.variable.place TypeMismatch) h.used)
 
-pub are_domain_variables : (d : Declared) (items : List ItemTree) (ps : List Parameter) (before vs : List DomainVariable) → domain_variables_faults d (protections_of items) ps before vs ≡ [] → AreDomainVariables d items ps before vs
+pub are_domain_variables : (d : Declared) (items : List ItemTree) (ps : List Parameter) (before vs : List DomainVariable)
+    → domain_variables_faults d (protections_of items) ps before vs ≡ [] → AreDomainVariables d items ps before vs
 are_domain_variables d items ps before [] h = tt
 are_domain_variables d items ps before (v ∷ vs) h =
     let hs = parts (domain_variable_faults d (protections_of items) ps before v) (domain_variables_faults d (protections_of items) ps (v ∷ before) vs) h in
     (is_domain_variable d items ps before v hs.0, are_domain_variables d items ps (v ∷ before) vs hs.1)
 
-pub no_domain_variables_faults : (d : Declared) (items : List ItemTree) (ps : List Parameter) (before vs : List DomainVariable) → AreDomainVariables d items ps before vs → domain_variables_faults d (protections_of items) ps before vs ≡ []
+pub no_domain_variables_faults : (d : Declared) (items : List ItemTree) (ps : List Parameter) (before vs : List DomainVariable)
+    → AreDomainVariables d items ps before vs → domain_variables_faults d (protections_of items) ps before vs ≡ []
 no_domain_variables_faults d items ps before [] h = refl
 no_domain_variables_faults d items ps before (v ∷ vs) h =
     joined (domain_variable_faults d (protections_of items) ps before v) (domain_variables_faults d (protections_of items) ps (v ∷ before) vs)

@@ -5,17 +5,18 @@ use Rattle.std.specs.List.{slice_get}
 use Rattle.std.proofs.lemmas.Bool.{not-false, or_parts}
 use Rattle.secrec_ast.specs.declared.statement.Identifier.{Identifier}
 use Rattle.secrec_ast.specs.Programs.{FunctionTree, ItemTree, imports, kind, domain, defines, ProgramTree}
-use Rattle.domain_types.specs.declared.fault.Problem.TheVariants.{UnknownName, Twice, NoMain, BadImport}
-use Rattle.domain_types.specs.declared.fault.Fault.{Fault}
+use Rattle.domain_types.specs.declared.fault.TypeProblem.TheVariants.{UnknownName, Twice, NoMain, BadImport}
+use Rattle.domain_types.specs.declared.fault.TypeFault.{TypeFault}
 use Rattle.domain_types.specs.declared.value_type.BuiltIn.{BuiltIn}
 use Rattle.domain_types.specs.Types.{fault_if}
 use Rattle.domain_types.specs.Declarations.{Declared, declared_by, functions_of, is_known_kind, built_in_named}
 use Rattle.domain_types.specs.ExpressionTypes.{within}
 use Rattle.domain_types.specs.FunctionTypes.{function_faults, head_faults}
 use Rattle.sc_text.specs.Lists.{Among}
-use Rattle.domain_types.specs.Least.{least}
+use Rattle.domain_types.specs.inner.LeastFault.{least}
 use Rattle.domain_types.specs.Reached.{function_calls, Instance, Calls, IsChecked, reached}
-use Rattle.domain_types.specs.ProgramTypes.{is_module, is_one_of, more_kinds, more_functions, space_faults, item_faults, items_faults, has_main, declaring_faults, IsFault, declaring, inside, of_head, IsAccepted, IsRefused}
+use Rattle.domain_types.specs.ProgramTypes.{is_module, is_one_of, more_kinds, more_functions, space_faults, item_faults, items_faults, has_main}
+use Rattle.domain_types.specs.ProgramTypes.{declaring_faults, IsFault, declaring, inside, of_head, IsAccepted, IsRefused}
 use Rattle.domain_types.specs.Typing.{IsNew, IsItem, AreItems, IsTypedProgram}
 use Rattle.domain_types.proofs.Laws.{is_least, none_from_least}
 use Rattle.domain_types.proofs.TypingSteps.{parts, joined, not_so}
@@ -84,20 +85,22 @@ no_declaring_faults p h =
 
 -- NO FAULT AT ALL
 
-pub empty_where_none : (fs : List Fault) → ((g : Fault) → Among g fs → ⊥) → fs ≡ []
+pub empty_where_none : (fs : List TypeFault) → ((g : TypeFault) → Among g fs → ⊥) → fs ≡ []
 empty_where_none [] h = refl
 empty_where_none (f ∷ fs) h = absurd (h f (inl refl))
 
-pub none_in_empty : (g : Fault) (fs : List Fault) → fs ≡ [] → Among g fs → ⊥
+pub none_in_empty : (g : TypeFault) (fs : List TypeFault) → fs ≡ [] → Among g fs → ⊥
 none_in_empty g fs e m = subst (Among g) e m
 
 -- each checked function of an accepted program is without fault
-function_faultless : (p : ProgramTree) → IsAccepted p → (i : Instance) (f : FunctionTree) → IsChecked p i → slice_get (functions_of p.items) i.function ≡ Some f → function_faults (within (declared_by p) f i.binding) f ≡ []
+function_faultless : (p : ProgramTree) → IsAccepted p → (i : Instance) (f : FunctionTree) → IsChecked p i
+    → slice_get (functions_of p.items) i.function ≡ Some f → function_faults (within (declared_by p) f i.binding) f ≡ []
 function_faultless p a i f c at =
     empty_where_none (function_faults (within (declared_by p) f i.binding) f) (λ g m. a.faultless g (inside i f g c at m))
 
 -- the functions that it calls are checked too, and so are their results
-calls_give_types : (p : ProgramTree) → IsAccepted p → (i : Instance) (f : FunctionTree) → IsChecked p i → slice_get (functions_of p.items) i.function ≡ Some f → GiveTypes (declared_by p) (function_calls (within (declared_by p) f i.binding) f)
+calls_give_types : (p : ProgramTree) → IsAccepted p → (i : Instance) (f : FunctionTree) → IsChecked p i
+    → slice_get (functions_of p.items) i.function ≡ Some f → GiveTypes (declared_by p) (function_calls (within (declared_by p) f i.binding) f)
 calls_give_types p a i f c at =
     λ call m g ds there bound.
     let made : Calls p i (record { function = call.function; binding = Some ds }) =
@@ -126,10 +129,11 @@ accepted_is_typed p a =
           (empty_where_none (head_faults (declared_by p) p.items f) (λ g m. a.faultless g (of_head i call f g c made at m)));
     }
 
-no_fault : (p : ProgramTree) → IsTypedProgram p → (g : Fault) → IsFault p g → ⊥
+no_fault : (p : ProgramTree) → IsTypedProgram p → (g : TypeFault) → IsFault p g → ⊥
 no_fault p t g (declaring h m) = none_in_empty h (declaring_faults p) (no_declaring_faults p t) m
 no_fault p t g (inside i f h c at m) =
-    none_in_empty h (function_faults (within (declared_by p) f i.binding) f) (no_function_faults (within (declared_by p) f i.binding) f (t.functions i f c at)) m
+    none_in_empty h (function_faults (within (declared_by p) f i.binding) f)
+    (no_function_faults (within (declared_by p) f i.binding) f (t.functions i f c at)) m
 no_fault p t g (of_head i call f h c made at m) =
     none_in_empty h (head_faults (declared_by p) p.items f)
     (no_domain_variables_faults (declared_by p) p.items f.parameters [] f.variables (t.heads i call f c made at)) m
@@ -143,12 +147,12 @@ accepted_exactly p = (accepted_is_typed p, typed_is_accepted p)
 -- WHAT IS TOLD
 
 -- a list of just the faults of a program: where it has a least one, that is told, and where it has none the program is accepted
-abbrev pub HasJustTheFaults : ProgramTree → List Fault → Type 0
-HasJustTheFaults p fs = (g : Fault) → IsFault p g ↔ Among g fs
+abbrev pub HasJustTheFaults : ProgramTree → List TypeFault → Type 0
+HasJustTheFaults p fs = (g : TypeFault) → IsFault p g ↔ Among g fs
 
-pub least_is_told : (p : ProgramTree) (fs : List Fault) (f : Fault) → HasJustTheFaults p fs → least None fs ≡ Some f → IsRefused p f
+pub least_is_told : (p : ProgramTree) (fs : List TypeFault) (f : TypeFault) → HasJustTheFaults p fs → least None fs ≡ Some f → IsRefused p f
 least_is_told p fs f just e =
     let l = is_least fs f e in record { is = (just f).1 l.among; first = λ g h. l.before g ((just g).0 h) }
 
-pub none_is_accepted : (p : ProgramTree) (fs : List Fault) → HasJustTheFaults p fs → least None fs ≡ None → IsAccepted p
+pub none_is_accepted : (p : ProgramTree) (fs : List TypeFault) → HasJustTheFaults p fs → least None fs ≡ None → IsAccepted p
 none_is_accepted p fs just e = record { faultless = λ g h. none_in_empty g fs (none_from_least fs e) ((just g).0 h) }

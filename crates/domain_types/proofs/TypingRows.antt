@@ -13,7 +13,7 @@ use Rattle.secrec_ast.specs.declared.function.ResultType.TheVariants as returned
 use Rattle.secrec_ast.specs.Tree.{variable, binary, declassify, argument, publish}
 use Rattle.secrec_ast.specs.Statements.{StatementTree, declaration, evaluation, statements_of}
 use Rattle.secrec_ast.specs.Programs.{FunctionTree, imports, domain as domain_item, defines, ProgramTree}
-use Rattle.domain_types.specs.declared.fault.Problem.TheVariants.{PrivateToPublic}
+use Rattle.domain_types.specs.declared.fault.TypeProblem.TheVariants.{PrivateToPublic}
 use Rattle.domain_types.specs.declared.value_type.Protection.{Protection}
 use Rattle.domain_types.specs.Declarations.{declared_by}
 use Rattle.domain_types.specs.ExpressionTypes.{within, operator_faults, operator_type}
@@ -51,21 +51,35 @@ main_of ss =
 abbrev program_of : List StatementTree → ProgramTree
 program_of ss =
     record {
-      items = imports (named (at 1 8) (codes "shared3p")) ∷ domain_item (named (at 1 25) (codes "p")) (named (at 1 27) (codes "shared3p")) ∷ defines (main_of ss) ∷ [];
+      items = imports (named (at 1 8) (codes "shared3p")) ∷ domain_item (named (at 1 25) (codes "p")) (named (at 1 27) (codes "shared3p"))
+          ∷ defines (main_of ss) ∷ [];
       end = at 3 2;
     }
 
 -- p uint64 a = argument("a");
 abbrev input : StatementTree
-input = declaration (record { declared = private_word (at 2 1); variable = named (at 2 10) (codes "a"); size = None; value = Some (argument (at 2 14) (codes "a")) })
+input = declaration (record {
+  declared = private_word (at 2 1);
+  variable = named (at 2 10) (codes "a");
+  size = None;
+  value =
+      Some (argument (at 2 14) (codes "a"));
+})
 
 -- publish("c", declassify(a * a));
 abbrev output : StatementTree
-output = evaluation (publish (at 2 29) (codes "c") (declassify (at 2 42) (binary (at 2 53) Multiply (variable (at 2 53) (codes "a")) (variable (at 2 57) (codes "a")))))
+output = evaluation (publish (at 2 29) (codes "c")
+    (declassify (at 2 42) (binary (at 2 53) Multiply (variable (at 2 53) (codes "a")) (variable (at 2 57) (codes "a")))))
 
 -- uint64 c = a;
 abbrev leak : StatementTree
-leak = declaration (record { declared = public_word (at 2 29); variable = named (at 2 36) (codes "c"); size = None; value = Some (variable (at 2 40) (codes "a")) })
+leak = declaration (record {
+  declared = public_word (at 2 29);
+  variable = named (at 2 36) (codes "c");
+  size = None;
+  value =
+      Some (variable (at 2 40) (codes "a"));
+})
 
 abbrev square : List StatementTree
 square = input ∷ output ∷ []
@@ -89,7 +103,8 @@ square_is_typed =
       items = (refl, ((((refl, refl)), refl), ((refl, refl), tt)));
       main = refl;
       functions =
-          λ i f c there. subst (λ g. IsTypedFunction (within (declared_by (program_of square)) g i.binding) g) (only_main i.function f there) (main_typed i.binding);
+          λ i f c there. subst (λ g. IsTypedFunction (within (declared_by (program_of square)) g i.binding) g) (only_main i.function f there)
+          (main_typed i.binding);
       heads = λ i c f checked made there. absurd (calls_nothing i c made);
     }
 
@@ -100,4 +115,5 @@ leaking = input ∷ leak ∷ []
 leak_is_not_typed : IsTypedProgram (program_of leaking) → ⊥
 leak_is_not_typed t =
     (typed_is_accepted (program_of leaking) t).faultless (record { place = at 2 40; problem = PrivateToPublic })
-    (inside (record { function = 0; binding = [] }) (main_of leaking) (record { place = at 2 40; problem = PrivateToPublic }) (plain 0 (main_of leaking) refl refl) refl (inl refl))
+    (inside (record { function = 0; binding = [] }) (main_of leaking) (record { place = at 2 40; problem = PrivateToPublic })
+    (plain 0 (main_of leaking) refl refl) refl (inl refl))

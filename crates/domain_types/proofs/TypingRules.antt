@@ -7,14 +7,17 @@ use Rattle.sc_text.specs.declared.span.Span.{Span}
 use Rattle.secrec_ast.specs.declared.expression.DataType.{DataType}
 use Rattle.secrec_ast.specs.declared.expression.DataType.TheVariants as datatype
 use Rattle.secrec_ast.specs.declared.expression.Operator.{Operator}
-use Rattle.secrec_ast.specs.declared.expression.Operator.TheVariants.{Add, Subtract, Multiply, Divide, Remainder, Equal, NotEqual, Less, LessOrEqual, Greater, GreaterOrEqual, And, Or, Xor, AndAlso, OrElse}
-use Rattle.domain_types.specs.declared.fault.Problem.{Problem}
-use Rattle.domain_types.specs.declared.fault.Problem.TheVariants.{TypeMismatch, PrivateDivision, DomainMix, PrivateIndex}
+use Rattle.secrec_ast.specs.declared.expression.Operator.TheVariants.{Add, Subtract, Multiply, Divide, Remainder, Equal, NotEqual, Less, LessOrEqual}
+use Rattle.secrec_ast.specs.declared.expression.Operator.TheVariants.{Greater, GreaterOrEqual, And, Or, Xor, AndAlso, OrElse}
+use Rattle.domain_types.specs.declared.fault.TypeProblem.{TypeProblem}
+use Rattle.domain_types.specs.declared.fault.TypeProblem.TheVariants.{TypeMismatch, PrivateDivision, DomainMix, PrivateIndex}
 use Rattle.domain_types.specs.declared.value_type.Protection.{Protection}
 use Rattle.domain_types.specs.declared.value_type.Protection.TheVariants.{Public, Private}
 use Rattle.domain_types.specs.declared.value_type.ValueType.{ValueType}
-use Rattle.domain_types.specs.Types.{fault_if, is_private, meet, mix_faults, is_uint64, same_element, same_dimension, flow_faults, store_faults, scalar_faults, scalar_of, public_scalar}
-use Rattle.domain_types.specs.ExpressionTypes.{element_result, is_division, one_private, element_of, operator_faults, result_of, operator_type, negation_faults, negation_type, index_faults, index_type}
+use Rattle.domain_types.specs.Types.{fault_if, is_private, meet, mix_faults, is_uint64, same_element, same_dimension, flow_faults, store_faults}
+use Rattle.domain_types.specs.Types.{scalar_faults, scalar_of, public_scalar}
+use Rattle.domain_types.specs.ExpressionTypes.{element_result, is_division, one_private, element_of, operator_faults, result_of, operator_type}
+use Rattle.domain_types.specs.ExpressionTypes.{negation_faults, negation_type, index_faults, index_type}
 use Rattle.domain_types.specs.Typing.{Meets, GoesTo, FitsInto, OperatesOn, IsOperation, IsPublicScalar}
 use Rattle.domain_types.proofs.TypingSteps.{mapped, followed, not_refused, passes, some_fault, parts, joined, not_so, nothing_if, there}
 
@@ -97,13 +100,15 @@ goes_to p (Private k) (Private m) h = sym (eqb-true k m (not-false (nat_eq k m) 
 
 pub no_store_fault : (p : Span) (wanted given : ValueType) → FitsInto wanted given → store_faults p wanted given ≡ []
 no_store_fault p wanted given h =
-    joined (fault_if (not (same_element wanted.element given.element && same_dimension wanted.array given.array)) p TypeMismatch) (flow_faults p wanted.domain given.domain)
+    joined (fault_if (not (same_element wanted.element given.element && same_dimension wanted.array given.array)) p TypeMismatch)
+    (flow_faults p wanted.domain given.domain)
     (ap₂ (λ a b. fault_if (not (a && b)) p TypeMismatch) (element_same wanted.element given.element h.0) (dimension_same wanted.array given.array h.1))
     (no_flow p wanted.domain given.domain h.2)
 
 pub fits_into : (p : Span) (wanted given : ValueType) → store_faults p wanted given ≡ [] → FitsInto wanted given
 fits_into p wanted given h =
-    let hs = parts (fault_if (not (same_element wanted.element given.element && same_dimension wanted.array given.array)) p TypeMismatch) (flow_faults p wanted.domain given.domain) h in
+    let hs = parts (fault_if (not (same_element wanted.element given.element && same_dimension wanted.array given.array)) p TypeMismatch)
+    (flow_faults p wanted.domain given.domain) h in
     let both =
     and_parts (same_element wanted.element given.element) (same_dimension wanted.array given.array)
     (not-false (same_element wanted.element given.element && same_dimension wanted.array given.array)
@@ -116,12 +121,14 @@ not_private : (d : Protection) → is_private d ≡ false → d ≡ Public
 not_private Public h = refl
 not_private (Private k) h = cc
 
-pub no_scalar_fault : (element : DataType) (problem : Problem) (p : Span) (given : ValueType) → IsPublicScalar element given → scalar_faults element problem p given ≡ []
+pub no_scalar_fault : (element : DataType) (problem : TypeProblem) (p : Span) (given : ValueType) → IsPublicScalar element given
+    → scalar_faults element problem p given ≡ []
 no_scalar_fault element problem p given h =
     ap (scalar_faults element problem p) h
     ∙ ap (λ b. fault_if (not (b && true)) p TypeMismatch ++ []) (element_itself element)
 
-pub public_scalar_from : (element : DataType) (problem : Problem) (p : Span) (given : ValueType) → scalar_faults element problem p given ≡ [] → IsPublicScalar element given
+pub public_scalar_from : (element : DataType) (problem : TypeProblem) (p : Span) (given : ValueType) → scalar_faults element problem p given ≡ []
+    → IsPublicScalar element given
 public_scalar_from element problem p given h =
     let hs = parts (fault_if (not (same_element element given.element && not given.array)) p TypeMismatch) (fault_if (is_private given.domain) p problem) h in
     let both =
@@ -135,7 +142,8 @@ public_scalar_from element problem p given h =
 
 -- OPERATORS
 
-operates : (op : Operator) (a b : DataType) (d : Protection) (r : DataType) → element_result op (is_private d) a b ≡ Some r → is_division op && is_private d ≡ false → (a ≡ b) × OperatesOn op a d r
+operates : (op : Operator) (a b : DataType) (d : Protection) (r : DataType) → element_result op (is_private d) a b ≡ Some r
+    → is_division op && is_private d ≡ false → (a ≡ b) × OperatesOn op a d r
 operates op datatype.Uint64 datatype.Bool d r e n = absurd (none-some r e)
 operates op datatype.Bool datatype.Uint64 d r e n = absurd (none-some r e)
 operates Add datatype.Uint64 datatype.Uint64 d r e n = (refl, (refl, sym (same_Some datatype.Uint64 r e)))
@@ -249,7 +257,8 @@ unfaulted p op a b h =
 pub operation : (p : Span) (op : Operator) (a b z : ValueType) → operator_type p op a b ≡ Some z → IsOperation op a b z
 unfolding operator_type
 operation p op a b z h =
-    let n = not_refused (operator_faults p op a b) (option_and_then (λ element. option_map (result_of a b element) (meet a.domain b.domain)) (element_of op a b)) z h in
+    let n = not_refused (operator_faults p op a b)
+    (option_and_then (λ element. option_map (result_of a b element) (meet a.domain b.domain)) (element_of op a b)) z h in
     let m = followed (λ element. option_map (result_of a b element) (meet a.domain b.domain)) (element_of op a b) z n.1 in
     let k = mapped (result_of a b m.0) (meet a.domain b.domain) z m.2 in
     let u = unfaulted p op a b n.0 in
@@ -261,7 +270,8 @@ operation p op a b z h =
     let o = operates op a.element b.element z.domain z.element made (sym (ap (λ s. is_division op && s) who) ∙ u.undivided) in
     record { same = o.0; meets = met; operates = o.1; dimension = ap (λ t. t.array) k.2 }
 
-no_operator_fault : (p : Span) (op : Operator) (a b z : ValueType) → IsOperation op a b z → (element_of op a b ≡ Some z.element) × (operator_faults p op a b ≡ [])
+no_operator_fault : (p : Span) (op : Operator) (a b z : ValueType) → IsOperation op a b z
+    → (element_of op a b ≡ Some z.element) × (operator_faults p op a b ≡ [])
 unfolding operator_faults
 no_operator_fault p op a b z h =
     let o = operated op a.element z.domain z.element h.operates in

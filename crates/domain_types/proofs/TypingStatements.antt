@@ -13,11 +13,14 @@ use Rattle.secrec_ast.specs.declared.statement.Identifier.{Identifier}
 use Rattle.secrec_ast.specs.declared.function.ResultType.{ResultType}
 use Rattle.secrec_ast.specs.declared.function.ResultType.TheVariants as returned
 use Rattle.secrec_ast.specs.Tree.{Tree, number, truth, variable, call, index, parentheses, negation, cast, binary, declassify, argument, publish}
-use Rattle.secrec_ast.specs.Statements.{DeclarationTree, TargetTree, AssignmentTree, StartTree, starts_with_nothing, starts_with_declaration, starts_with_assignment, StepTree, steps_by_nothing, steps_by_assignment, steps_by_expression, StatementTree, block, empty, branch, choice, while_loop, do_loop, for_loop, breaks, continues, returns, assertion, declaration, assignment, evaluation, StatementTrees, none, also}
+use Rattle.secrec_ast.specs.Statements.{DeclarationTree, TargetTree, AssignmentTree, StartTree, starts_with_nothing, starts_with_declaration}
+use Rattle.secrec_ast.specs.Statements.{starts_with_assignment, StepTree, steps_by_nothing, steps_by_assignment, steps_by_expression, StatementTree}
+use Rattle.secrec_ast.specs.Statements.{block, empty, branch, choice, while_loop, do_loop, for_loop, breaks, continues, returns, assertion}
+use Rattle.secrec_ast.specs.Statements.{declaration, assignment, evaluation, StatementTrees, none, also}
 use Rattle.secrec_ast.specs.Heights.{place_of}
-use Rattle.domain_types.specs.declared.fault.Problem.{Problem}
-use Rattle.domain_types.specs.declared.fault.Problem.TheVariants.{UnknownName, Twice, TypeMismatch, PrivateCondition, PrivateSize, PrivateAssert}
-use Rattle.domain_types.specs.declared.fault.Fault.{Fault}
+use Rattle.domain_types.specs.declared.fault.TypeProblem.{TypeProblem}
+use Rattle.domain_types.specs.declared.fault.TypeProblem.TheVariants.{UnknownName, Twice, TypeMismatch, PrivateCondition, PrivateSize, PrivateAssert}
+use Rattle.domain_types.specs.declared.fault.TypeFault.{TypeFault}
 use Rattle.domain_types.specs.declared.value_type.Protection.{Protection}
 use Rattle.domain_types.specs.declared.value_type.Protection.TheVariants.{Public}
 use Rattle.domain_types.specs.declared.value_type.ValueType.{ValueType}
@@ -26,12 +29,17 @@ use Rattle.domain_types.specs.Types.{fault_at, fault_if, of_typed, scalar_faults
 use Rattle.domain_types.specs.Declarations.{Setting, domain_of, in_domain, type_written}
 use Rattle.domain_types.specs.Scopes.{Variable, Scope, inner, with_variable, variable_in, variable_named, is_among, twice_faults}
 use Rattle.domain_types.specs.ExpressionTypes.{variable_type, variable_faults, index_faults, index_type, of_two, result_type, type_of, value_type, value_faults}
-use Rattle.domain_types.specs.StatementTypes.{test_own, test_faults, domain_faults, is_argument, sized_faults, filled_faults, initial_faults, declared_faults, declaration_faults, variable_declared, target_type, target_faults, assignment_faults, start_faults, after_start, step_faults, is_step_typed, optional_faults, for_own, return_own, after, statement_faults, block_faults}
+use Rattle.domain_types.specs.StatementTypes.{test_own, test_faults, domain_faults, is_argument, sized_faults, filled_faults, initial_faults}
+use Rattle.domain_types.specs.StatementTypes.{declared_faults, declaration_faults, variable_declared, target_type, target_faults, assignment_faults}
+use Rattle.domain_types.specs.StatementTypes.{start_faults, after_start, step_faults, is_step_typed, optional_faults, for_own, return_own, after}
+use Rattle.domain_types.specs.StatementTypes.{statement_faults, block_faults}
 use Rattle.domain_types.specs.Reached.{calls_of, optional_calls, declaration_calls, assignment_calls, start_calls, step_calls, statement_calls, block_calls}
-use Rattle.domain_types.specs.Typing.{HasType, HasFitting, HasPublicScalar, IsInitial, IsDeclaration, IsElement, IsAssignment, IsStart, IsStep, IsOptionalCondition, IsReturn, IsTyped, AreTyped}
+use Rattle.domain_types.specs.Typing.{HasType, HasFitting, HasPublicScalar, IsInitial, IsDeclaration, IsElement, IsAssignment, IsStart, IsStep}
+use Rattle.domain_types.specs.Typing.{IsOptionalCondition, IsReturn, IsTyped, AreTyped}
 use Rattle.domain_types.proofs.TypingSteps.{there, mapped, some_fault, parts, joined, not_so, nothing_if, said, says_nothing}
 use Rattle.domain_types.proofs.TypingRules.{no_store_fault, fits_into, no_scalar_fault, public_scalar_from, indexable, no_index_fault, index_typed}
-use Rattle.domain_types.proofs.TypingExpressions.{Known, GiveTypes, earlier_calls, later_calls, has_type, value_typed, type_from, variable_there, no_faults, no_value_faults, variable_held, typed, typed_value}
+use Rattle.domain_types.proofs.TypingExpressions.{Known, GiveTypes, earlier_calls, later_calls, has_type, value_typed, type_from, variable_there}
+use Rattle.domain_types.proofs.TypingExpressions.{no_faults, no_value_faults, variable_held, typed, typed_value}
 
 -- the result of the function is in a known domain
 abbrev pub KnownResult : Setting → ResultType → Type 0
@@ -39,19 +47,21 @@ KnownResult w r = IsTrue (is_some (result_type w r))
 
 -- WHERE A TYPE IS WANTED
 
-test_typed : (w : Setting) (s : Scope) (problem : Problem) (e : Tree) → Known s → GiveTypes w.declared (calls_of w s e) → test_faults w s problem e ≡ [] → HasPublicScalar w s e datatype.Bool
+test_typed : (w : Setting) (s : Scope) (problem : TypeProblem) (e : Tree) → Known s → GiveTypes w.declared (calls_of w s e)
+    → test_faults w s problem e ≡ [] → HasPublicScalar w s e datatype.Bool
 test_typed w s problem e k g h =
     let hs = parts (value_faults w s e) (test_own w s problem e) h in
     let x = typed_value w s e k g hs.0 in
     let own = said (value_type w s e) (scalar_faults datatype.Bool problem (place_of e)) x.0 (value_typed w s e x.0 x.1) hs.1 in
     subst (λ t. HasType w s e (Value t)) (public_scalar_from datatype.Bool problem (place_of e) x.0 own) x.1
 
-no_test_own : (w : Setting) (s : Scope) (problem : Problem) (e : Tree) → HasPublicScalar w s e datatype.Bool → test_own w s problem e ≡ []
+no_test_own : (w : Setting) (s : Scope) (problem : TypeProblem) (e : Tree) → HasPublicScalar w s e datatype.Bool → test_own w s problem e ≡ []
 no_test_own w s problem e h =
-    says_nothing (value_type w s e) (scalar_faults datatype.Bool problem (place_of e)) (public_scalar datatype.Bool) (value_typed w s e (public_scalar datatype.Bool) h)
+    says_nothing (value_type w s e) (scalar_faults datatype.Bool problem (place_of e)) (public_scalar datatype.Bool)
+    (value_typed w s e (public_scalar datatype.Bool) h)
     (no_scalar_fault datatype.Bool problem (place_of e) (public_scalar datatype.Bool) refl)
 
-no_test_faults : (w : Setting) (s : Scope) (problem : Problem) (e : Tree) → HasPublicScalar w s e datatype.Bool → test_faults w s problem e ≡ []
+no_test_faults : (w : Setting) (s : Scope) (problem : TypeProblem) (e : Tree) → HasPublicScalar w s e datatype.Bool → test_faults w s problem e ≡ []
 no_test_faults w s problem e h =
     joined (value_faults w s e) (test_own w s problem e) (no_value_faults w s e (public_scalar datatype.Bool) h) (no_test_own w s problem e h)
 
@@ -59,7 +69,8 @@ fitting : (w : Setting) (s : Scope) (e : Tree) (t x : ValueType) → HasType w s
 fitting w s e t x h n = (x, h, fits_into (place_of e) t x n)
 
 no_fitting_fault : (w : Setting) (s : Scope) (e : Tree) (t : ValueType) → HasFitting w s e t → of_typed (value_type w s e) (store_faults (place_of e) t) ≡ []
-no_fitting_fault w s e t h = says_nothing (value_type w s e) (store_faults (place_of e) t) h.0 (value_typed w s e h.0 h.1) (no_store_fault (place_of e) t h.0 h.2)
+no_fitting_fault w s e t h =
+    says_nothing (value_type w s e) (store_faults (place_of e) t) h.0 (value_typed w s e h.0 h.1) (no_store_fault (place_of e) t h.0 h.2)
 
 -- WRITTEN TYPES
 
@@ -91,7 +102,8 @@ some_known o a e = ap is_some e
 
 -- DECLARATIONS
 
-size_typed : (w : Setting) (s : Scope) (t : ValueType) (n : Tree) (x : ValueType) → HasType w s n (Value x) → sized_faults (place_of n) t x ≡ [] → (t.array ≡ true) × HasPublicScalar w s n datatype.Uint64
+size_typed : (w : Setting) (s : Scope) (t : ValueType) (n : Tree) (x : ValueType) → HasType w s n (Value x) → sized_faults (place_of n) t x ≡ []
+    → (t.array ≡ true) × HasPublicScalar w s n datatype.Uint64
 unfolding sized_faults
 size_typed w s t n x h e =
     let hs = parts (fault_if (not t.array) (place_of n) TypeMismatch) (scalar_faults datatype.Uint64 PrivateSize (place_of n) x) e in (
@@ -106,15 +118,19 @@ no_size_fault q t a =
     (ap (λ b. fault_if (not b) q TypeMismatch) a)
     (no_scalar_fault datatype.Uint64 PrivateSize q (public_scalar datatype.Uint64) refl)
 
-filled : (q p : Span) (t size value : ValueType) → filled_faults q p t size value ≡ [] → (sized_faults q t size ≡ []) × (store_faults p (scalar_of t) value ≡ [])
+filled : (q p : Span) (t size value : ValueType) → filled_faults q p t size value ≡ []
+    → (sized_faults q t size ≡ []) × (store_faults p (scalar_of t) value ≡ [])
 unfolding filled_faults
 filled q p t size value h = parts (sized_faults q t size) (store_faults p (scalar_of t) value) h
 
-no_filled_fault : (q p : Span) (t size value : ValueType) → sized_faults q t size ≡ [] → store_faults p (scalar_of t) value ≡ [] → filled_faults q p t size value ≡ []
+no_filled_fault : (q p : Span) (t size value : ValueType) → sized_faults q t size ≡ [] → store_faults p (scalar_of t) value ≡ []
+    → filled_faults q p t size value ≡ []
 unfolding filled_faults
 no_filled_fault q p t size value h e = joined (sized_faults q t size) (store_faults p (scalar_of t) value) h e
 
-initial_typed : (w : Setting) (s : Scope) (t : ValueType) (size value : Option Tree) → Known s → GiveTypes w.declared (optional_calls w s size ++ optional_calls w s value) → initial_faults w s size value ≡ [] → declared_faults w s t size value ≡ [] → IsInitial w s t size value
+initial_typed : (w : Setting) (s : Scope) (t : ValueType) (size value : Option Tree) → Known s
+    → GiveTypes w.declared (optional_calls w s size ++ optional_calls w s value) → initial_faults w s size value ≡ []
+    → declared_faults w s t size value ≡ [] → IsInitial w s t size value
 initial_typed w s t None None k g h n = tt
 initial_typed w s t None (Some e) k g h n = go (is_argument e) refl h
   where
@@ -151,11 +167,12 @@ argument_untyped w s (binary p op a b) h = cc
 argument_untyped w s (declassify p e) h = cc
 argument_untyped w s (publish p x e) h = cc
 
-either_empty : (b : Bool) (fs : List Fault) → fs ≡ [] → (if b then [] else fs) ≡ []
+either_empty : (b : Bool) (fs : List TypeFault) → fs ≡ [] → (if b then [] else fs) ≡ []
 either_empty true fs h = refl
 either_empty false fs h = h
 
-no_initial_faults : (w : Setting) (s : Scope) (t : ValueType) (size value : Option Tree) → IsInitial w s t size value → (initial_faults w s size value ≡ []) × (declared_faults w s t size value ≡ [])
+no_initial_faults : (w : Setting) (s : Scope) (t : ValueType) (size value : Option Tree) → IsInitial w s t size value
+    → (initial_faults w s size value ≡ []) × (declared_faults w s t size value ≡ [])
 no_initial_faults w s t None None h = (refl, refl)
 no_initial_faults w s t None (Some e) (inl a) =
     (ap (λ b. if b then [] else value_faults w s e) a, ap (λ o. of_typed o (store_faults (place_of e) t)) (argument_untyped w s e a))
@@ -169,9 +186,11 @@ no_initial_faults w s t (Some n) None h = (
 no_initial_faults w s t (Some n) (Some e) h =
     let f = h.2 in (
       joined (value_faults w s n) (value_faults w s e) (no_value_faults w s n (public_scalar datatype.Uint64) h.1) (no_value_faults w s e f.0 f.1),
-      says_nothing (value_type w s n) (λ z. of_typed (value_type w s e) (filled_faults (place_of n) (place_of e) t z)) (public_scalar datatype.Uint64) (value_typed w s n (public_scalar datatype.Uint64) h.1)
+      says_nothing (value_type w s n) (λ z. of_typed (value_type w s e) (filled_faults (place_of n) (place_of e) t z)) (public_scalar datatype.Uint64)
+          (value_typed w s n (public_scalar datatype.Uint64) h.1)
           (says_nothing (value_type w s e) (filled_faults (place_of n) (place_of e) t (public_scalar datatype.Uint64)) f.0 (value_typed w s e f.0 f.1)
-          (no_filled_fault (place_of n) (place_of e) t (public_scalar datatype.Uint64) f.0 (no_size_fault (place_of n) t h.0) (no_store_fault (place_of e) (scalar_of t) f.0 f.2))),
+          (no_filled_fault (place_of n) (place_of e) t (public_scalar datatype.Uint64) f.0 (no_size_fault (place_of n) t h.0)
+          (no_store_fault (place_of e) (scalar_of t) f.0 f.2))),
     )
 
 -- the parts of a declaration without a fault
@@ -200,7 +219,8 @@ declares w s d h =
       own = said (type_written w d.declared) (λ t. declared_faults w s t d.size d.value) v.0 v.1 hs.1;
     }
 
-is_declaration : (w : Setting) (s : Scope) (d : DeclarationTree) → Known s → GiveTypes w.declared (declaration_calls w s d) → declaration_faults w s d ≡ [] → IsDeclaration w s d
+is_declaration : (w : Setting) (s : Scope) (d : DeclarationTree) → Known s → GiveTypes w.declared (declaration_calls w s d)
+    → declaration_faults w s d ≡ [] → IsDeclaration w s d
 is_declaration w s d k g h =
     let c = declares w s d h in
     record { held = c.held; written = c.written; new = c.new; initial = initial_typed w s c.held d.size d.value k g c.initial c.own }
@@ -235,7 +255,8 @@ record Targets (w : Setting) (s : Scope) (x : Identifier) (i : Option Tree) : Ty
   element : IsElement w s held i wanted
   gives : target_type w s (target x i) ≡ Some wanted
 
-targets : (w : Setting) (s : Scope) (x : Identifier) (i : Option Tree) → Known s → GiveTypes w.declared (optional_calls w s i) → target_faults w s (target x i) ≡ [] → Targets w s x i
+targets : (w : Setting) (s : Scope) (x : Identifier) (i : Option Tree) → Known s → GiveTypes w.declared (optional_calls w s i)
+    → target_faults w s (target x i) ≡ [] → Targets w s x i
 targets w s x None k g h =
     let hs = parts (variable_faults x.place (variable_named s x.text)) [] h in
     let v = variable_held s x.text x.place k hs.0 in record { held = v.0; wanted = v.0; known = v.1; element = refl; gives = v.1 }
@@ -260,7 +281,9 @@ targets w s x (Some i) k g h =
           ∙ index_typed x.place (place_of i) v.0 y.0 (no_index_fault x.place (place_of i) v.0 y.0 r.0 r.1);
     }
 
-target_from : (w : Setting) (s : Scope) (x : Identifier) (i : Option Tree) (held wanted : ValueType) → variable_type (variable_named s x.text) ≡ Some held → IsElement w s held i wanted → (target_faults w s (target x i) ≡ []) × (target_type w s (target x i) ≡ Some wanted)
+target_from : (w : Setting) (s : Scope) (x : Identifier) (i : Option Tree) (held wanted : ValueType)
+    → variable_type (variable_named s x.text) ≡ Some held → IsElement w s held i wanted
+    → (target_faults w s (target x i) ≡ []) × (target_type w s (target x i) ≡ Some wanted)
 target_from w s x None held wanted v h =
     (joined (variable_faults x.place (variable_named s x.text)) [] (variable_there x.place (variable_named s x.text) held v) refl, v ∙ ap Some (sym h))
 target_from w s x (Some i) held wanted v h =
@@ -277,7 +300,8 @@ target_from w s x (Some i) held wanted v h =
           ∙ ap Some (sym h.2),
     )
 
-is_assignment : (w : Setting) (s : Scope) (a : AssignmentTree) → Known s → GiveTypes w.declared (assignment_calls w s a) → assignment_faults w s a ≡ [] → IsAssignment w s a
+is_assignment : (w : Setting) (s : Scope) (a : AssignmentTree) → Known s → GiveTypes w.declared (assignment_calls w s a)
+    → assignment_faults w s a ≡ [] → IsAssignment w s a
 is_assignment w s a k g h =
     let own = of_typed (target_type w s a.target) (λ t. of_typed (value_type w s a.value) (store_faults (place_of a.value) t)) in
     let hs = parts (target_faults w s a.target ++ value_faults w s a.value) own h in
@@ -332,7 +356,8 @@ step_typed w s steps_by_nothing h = refl
 step_typed w s (steps_by_assignment a) h = refl
 step_typed w s (steps_by_expression e) h = some_known (type_of w s e) h.0 (type_from w s e h.0 h.1)
 
-condition_typed : (w : Setting) (s : Scope) (e : Option Tree) (b : Bool) → Known s → GiveTypes w.declared (optional_calls w s e) → b ≡ true → optional_faults w s e ≡ [] → for_own w s e b ≡ [] → IsOptionalCondition w s e
+condition_typed : (w : Setting) (s : Scope) (e : Option Tree) (b : Bool) → Known s → GiveTypes w.declared (optional_calls w s e) → b ≡ true
+    → optional_faults w s e ≡ [] → for_own w s e b ≡ [] → IsOptionalCondition w s e
 condition_typed w s None b k g t h own = tt
 condition_typed w s (Some e) b k g t h own =
     test_typed w s PrivateCondition e k g
@@ -345,7 +370,8 @@ no_condition_faults w s (Some e) true h = (no_value_faults w s e (public_scalar 
 
 -- RETURNS
 
-is_return : (w : Setting) (s : Scope) (p : Span) (r : ResultType) (e : Option Tree) → Known s → KnownResult w r → GiveTypes w.declared (optional_calls w s e) → optional_faults w s e ++ return_own w s p r e ≡ [] → IsReturn w r s e
+is_return : (w : Setting) (s : Scope) (p : Span) (r : ResultType) (e : Option Tree) → Known s → KnownResult w r
+    → GiveTypes w.declared (optional_calls w s e) → optional_faults w s e ++ return_own w s p r e ≡ [] → IsReturn w r s e
 is_return w s p returned.Void None k known g h = tt
 is_return w s p returned.Void (Some e) k known g h =
     let own = of_typed (value_type w s e) (λ t. fault_at p TypeMismatch) in
@@ -365,7 +391,8 @@ is_return w s p (returned.Value t) (Some e) k known g h =
     (said (type_written w t) (λ wanted. of_typed (value_type w s e) (store_faults (place_of e) wanted)) v.0 v.1 hs.1) in
     (v.0, v.1, fitting w s e v.0 x.0 x.1 stored)
 
-no_return_faults : (w : Setting) (s : Scope) (p : Span) (r : ResultType) (e : Option Tree) → IsReturn w r s e → optional_faults w s e ++ return_own w s p r e ≡ []
+no_return_faults : (w : Setting) (s : Scope) (p : Span) (r : ResultType) (e : Option Tree) → IsReturn w r s e
+    → optional_faults w s e ++ return_own w s p r e ≡ []
 no_return_faults w s p returned.Void None h = refl
 no_return_faults w s p returned.Void (Some e) h = absurd h
 no_return_faults w s p (returned.Value t) None h = absurd h
@@ -395,7 +422,8 @@ known_after w r s (assignment a) k h = k
 known_after w r s (evaluation e) k h = k
 
 mutual
-  pub is_typed : (w : Setting) (r : ResultType) (s : Scope) (t : StatementTree) → Known s → KnownResult w r → GiveTypes w.declared (statement_calls w s t) → statement_faults w r s t ≡ [] → IsTyped w r s t
+  pub is_typed : (w : Setting) (r : ResultType) (s : Scope) (t : StatementTree) → Known s → KnownResult w r
+      → GiveTypes w.declared (statement_calls w s t) → statement_faults w r s t ≡ [] → IsTyped w r s t
   is_typed w r s (block p ss) k known g h = are_typed w r (inner s) ss k known g h
   is_typed w r s (empty p) k known g h = tt
   is_typed w r s (branch p e body) k known g h =
@@ -450,7 +478,8 @@ mutual
       let known_behind_it = known_behind_start w (inner s) start k two.0 in
       let stepped = is_step w behind step known_behind_it (later_calls w.declared (c1 ++ c2) c3 g3) three.1 in (
         is_start w (inner s) start k (earlier_calls w.declared c1 c2 g2) two.0,
-        condition_typed w behind e (is_step_typed w behind step) known_behind_it (later_calls w.declared c1 c2 g2) (step_typed w behind step stepped) two.1 four.1,
+        condition_typed w behind e (is_step_typed w behind step) known_behind_it (later_calls w.declared c1 c2 g2)
+            (step_typed w behind step stepped) two.1 four.1,
         stepped,
         is_typed w r (inner behind) body known_behind_it known (later_calls w.declared (c1 ++ c2 ++ c3) c4 g) hs.1,
       )
@@ -462,7 +491,8 @@ mutual
   is_typed w r s (assignment a) k known g h = is_assignment w s a k g h
   is_typed w r s (evaluation e) k known g h = let t = typed w s e k g h in (t.0, has_type w s e t.0 t.1)
 
-  pub are_typed : (w : Setting) (r : ResultType) (s : Scope) (ts : StatementTrees) → Known s → KnownResult w r → GiveTypes w.declared (block_calls w s ts) → block_faults w r s ts ≡ [] → AreTyped w r s ts
+  pub are_typed : (w : Setting) (r : ResultType) (s : Scope) (ts : StatementTrees) → Known s → KnownResult w r
+      → GiveTypes w.declared (block_calls w s ts) → block_faults w r s ts ≡ [] → AreTyped w r s ts
   are_typed w r s none k known g h = tt
   are_typed w r s (also t ts) k known g h =
       let hs = parts (statement_faults w r s t) (block_faults w r (after w s t) ts) h in
@@ -519,8 +549,10 @@ mutual
       (no_statement_faults w r s t h.0) (no_block_faults w r (after w s t) ts h.1)
 
 -- where the variables, the result and the called functions have types, a statement is typed exactly where it has no fault
-pub typed_statement_exactly : (w : Setting) (r : ResultType) (s : Scope) (t : StatementTree) → Known s → KnownResult w r → GiveTypes w.declared (statement_calls w s t) → IsTyped w r s t ↔ (statement_faults w r s t ≡ [])
+pub typed_statement_exactly : (w : Setting) (r : ResultType) (s : Scope) (t : StatementTree) → Known s → KnownResult w r
+    → GiveTypes w.declared (statement_calls w s t) → IsTyped w r s t ↔ (statement_faults w r s t ≡ [])
 typed_statement_exactly w r s t k known g = (no_statement_faults w r s t, is_typed w r s t k known g)
 
-pub typed_block_exactly : (w : Setting) (r : ResultType) (s : Scope) (ts : StatementTrees) → Known s → KnownResult w r → GiveTypes w.declared (block_calls w s ts) → AreTyped w r s ts ↔ (block_faults w r s ts ≡ [])
+pub typed_block_exactly : (w : Setting) (r : ResultType) (s : Scope) (ts : StatementTrees) → Known s → KnownResult w r
+    → GiveTypes w.declared (block_calls w s ts) → AreTyped w r s ts ↔ (block_faults w r s ts ≡ [])
 typed_block_exactly w r s ts k known g = (no_block_faults w r s ts, are_typed w r s ts k known g)

@@ -1,5 +1,6 @@
 -- The work list of a program reaches just the instances that are checked, and finds just the faults of the program.
-use Rattle.std.proofs.Common.{◌≡◌, ℕ, zero, suc, ◌+◌, List, [], ◌∷◌, ◌++◌, ◌⊎◌, inl, inr, refl, sym, ap, ap₂, ◌∙◌, subst, Option, Some, None, Bool, true, false, arith, append-nil, eq-eqb}
+use Rattle.std.proofs.Common.{◌≡◌, ℕ, zero, suc, ◌+◌, List, [], ◌∷◌, ◌++◌, ◌⊎◌, inl, inr, refl, sym, ap, ap₂, ◌∙◌, subst, Option, Some, None, Bool}
+use Rattle.std.proofs.Common.{true, false, arith, append-nil, eq-eqb}
 use Rattle.std.specs.Prelude.{nat_eq, not, ◌||◌, if◌then◌else◌}
 use Rattle.std.specs.List.{slice_get}
 use Rattle.std.proofs.lemmas.Bool.{eqb-true}
@@ -7,18 +8,19 @@ use Rattle.std.proofs.lemmas.Option.{none-some, same_Some}
 use Rattle.secrec_ast.specs.declared.statement.Identifier.{Identifier}
 use Rattle.secrec_ast.specs.declared.function.DomainVariable.{DomainVariable}
 use Rattle.secrec_ast.specs.Programs.{FunctionTree, ProgramTree}
-use Rattle.domain_types.specs.declared.fault.Fault.{Fault}
-use Rattle.domain_types.specs.declared.fault.Problem.TheVariants.{NoMain}
+use Rattle.domain_types.specs.declared.fault.TypeFault.{TypeFault}
+use Rattle.domain_types.specs.declared.fault.TypeProblem.TheVariants.{NoMain}
 use Rattle.domain_types.specs.Types.{fault_if}
 use Rattle.domain_types.specs.Declarations.{Declared, declared_by, functions_of}
 use Rattle.domain_types.specs.ExpressionTypes.{within}
 use Rattle.domain_types.specs.FunctionTypes.{function_faults, protections_of, domain_variables_faults}
 use Rattle.sc_text.specs.Lists.{Among}
-use Rattle.domain_types.specs.Least.{least}
+use Rattle.domain_types.specs.inner.LeastFault.{least}
 use Rattle.domain_types.specs.Reached.{Call, function_calls, Instance, Calls, IsChecked, plain, reached}
 use Rattle.domain_types.specs.ProgramTypes.{is_without, items_faults, has_main, declaring_faults, IsFault, declaring, inside, of_head}
 use Rattle.domain_types.specs.Answer.{AreTheChecked, IsTold}
-use Rattle.domain_types.specs.WorkList.{added, with_plain, plain_instances, of_function, instance_faults, instance_calls, gathered, is_called, heads_faults, IsReached, begins, follows, AreVisited}
+use Rattle.domain_types.specs.inner.WorkList.{added, with_plain, plain_instances, of_function, instance_faults, instance_calls, gathered, is_called}
+use Rattle.domain_types.specs.inner.WorkList.{heads_faults, IsReached, begins, follows, AreVisited}
 use Rattle.sc_text.proofs.Lists.{among_left, among_right, among_parts}
 use Rattle.domain_types.proofs.TypingPrograms.{HasJustTheFaults, least_is_told, none_is_accepted, accepted_is_typed}
 use Rattle.domain_types.proofs.Visits.{then_least}
@@ -49,7 +51,8 @@ plain_comes : (is : List Instance) (n : ℕ) (f : FunctionTree) → f.variables 
 plain_comes is n f v =
     subst (λ (b : Bool). Among (plain_at n) (if b then added is (plain_at n) else is)) (sym (ap is_without v)) (comes (plain_at n) is)
 
-plain_listed : (is : List Instance) (n : ℕ) (fs : List FunctionTree) (k : ℕ) (f : FunctionTree) → slice_get fs k ≡ Some f → f.variables ≡ [] → Among (plain_at (n + k)) (with_plain is n fs)
+plain_listed : (is : List Instance) (n : ℕ) (fs : List FunctionTree) (k : ℕ) (f : FunctionTree) → slice_get fs k ≡ Some f → f.variables ≡ []
+    → Among (plain_at (n + k)) (with_plain is n fs)
 plain_listed is n [] k f e v = absurd (none-some f e)
 plain_listed is n (g ∷ fs) zero f e v =
     let count : n ≡ n + 0 = omega arith in
@@ -93,7 +96,8 @@ plain_source is n (f ∷ fs) i m = further (plain_source (behind_one is n f) (n 
 calls_made : (p : ProgramTree) (i : Instance) (c : Call) → Among c (instance_calls (declared_by p) i) → Calls p i c
 calls_made p i c = go (slice_get (functions_of p.items) i.function) refl
   where
-    go : (o : Option FunctionTree) → slice_get (functions_of p.items) i.function ≡ o → Among c (of_function o (λ f. function_calls (within (declared_by p) f i.binding) f)) → Calls p i c
+    go : (o : Option FunctionTree) → slice_get (functions_of p.items) i.function ≡ o
+        → Among c (of_function o (λ f. function_calls (within (declared_by p) f i.binding) f)) → Calls p i c
     go None e m = absurd m
     go (Some f) e m = record { called_in = f; there = e; calls = m }
 
@@ -123,7 +127,8 @@ pub record IsWorked (d : Declared) (is : List Instance) (test : ℕ → Bool) : 
 listed_if_checked : (p : ProgramTree) (is : List Instance) (test : ℕ → Bool) → IsWorked (declared_by p) is test → (i : Instance) → IsChecked p i → Among i is
 listed_if_checked p is test w i (plain k f at v) =
     let count : 0 + k ≡ k = omega arith in
-    w.visited.starts (plain_at k) (subst (λ (m : ℕ). Among (plain_at m) (plain_instances (declared_by p))) count (plain_listed [] 0 (functions_of p.items) k f at v))
+    w.visited.starts (plain_at k)
+    (subst (λ (m : ℕ). Among (plain_at m) (plain_instances (declared_by p))) count (plain_listed [] 0 (functions_of p.items) k f at v))
 listed_if_checked p is test w i (reached j k ds c made) =
     let call : Call = record { function = k; binding = Some ds } in
     w.visited.followed call ds
@@ -159,10 +164,11 @@ call_of_called k (c ∷ cs) e = go (nat_eq c.function k) refl e (call_of_called 
 
 -- HEADS
 
-heads_there : (d : Declared) (ps : List Identifier) (test : ℕ → Bool) (n : ℕ) (fs : List FunctionTree) (k : ℕ) (f : FunctionTree) (g : Fault) → test (n + k) ≡ true → slice_get fs k ≡ Some f → Among g (domain_variables_faults d ps f.parameters [] f.variables) → Among g (heads_faults d ps test n fs)
+heads_there : (d : Declared) (ps : List Identifier) (test : ℕ → Bool) (n : ℕ) (fs : List FunctionTree) (k : ℕ) (f : FunctionTree) (g : TypeFault)
+    → test (n + k) ≡ true → slice_get fs k ≡ Some f → Among g (domain_variables_faults d ps f.parameters [] f.variables) → Among g (heads_faults d ps test n fs)
 heads_there d ps test n [] k f g t e m = absurd (none-some f e)
 heads_there d ps test n (h ∷ fs) zero f g t e m =
-    let own : List Fault = domain_variables_faults d ps h.parameters [] h.variables in
+    let own : List TypeFault = domain_variables_faults d ps h.parameters [] h.variables in
     let count : n + 0 ≡ n = omega arith in
     let picked : test n ≡ true = ap test (sym count) ∙ t in
     among_left g (if test n then own else []) (heads_faults d ps test (n + 1) fs)
@@ -173,14 +179,15 @@ heads_there d ps test n (h ∷ fs) (suc k) f g t e m =
     among_right g (if test n then domain_variables_faults d ps h.parameters [] h.variables else []) (heads_faults d ps test (n + 1) fs)
     (heads_there d ps test (n + 1) fs k f g (ap test count ∙ t) e m)
 
-record HeadSource (d : Declared) (ps : List Identifier) (test : ℕ → Bool) (n : ℕ) (fs : List FunctionTree) (g : Fault) : Type 0 where
+record HeadSource (d : Declared) (ps : List Identifier) (test : ℕ → Bool) (n : ℕ) (fs : List FunctionTree) (g : TypeFault) : Type 0 where
   place : ℕ
   function : FunctionTree
   picked : test (n + place) ≡ true
   at : slice_get fs place ≡ Some function
   among : Among g (domain_variables_faults d ps function.parameters [] function.variables)
 
-head_source : (d : Declared) (ps : List Identifier) (test : ℕ → Bool) (n : ℕ) (fs : List FunctionTree) (g : Fault) → Among g (heads_faults d ps test n fs) → HeadSource d ps test n fs g
+head_source : (d : Declared) (ps : List Identifier) (test : ℕ → Bool) (n : ℕ) (fs : List FunctionTree) (g : TypeFault)
+    → Among g (heads_faults d ps test n fs) → HeadSource d ps test n fs g
 head_source d ps test n [] g m = absurd m
 head_source d ps test n (h ∷ fs) g m =
     go (among_parts g (if test n then domain_variables_faults d ps h.parameters [] h.variables else []) (heads_faults d ps test (n + 1) fs) m)
@@ -191,7 +198,8 @@ head_source d ps test n (h ∷ fs) g m =
         let count : n + 0 ≡ n = omega arith in record { place = 0; function = h; picked = ap test count ∙ t; at = refl; among = k }
     here false t k = absurd k
 
-    go : Among g (if test n then domain_variables_faults d ps h.parameters [] h.variables else []) ⊎ Among g (heads_faults d ps test (n + 1) fs) → (Among g (heads_faults d ps test (n + 1) fs) → HeadSource d ps test (n + 1) fs g) → HeadSource d ps test n (h ∷ fs) g
+    go : Among g (if test n then domain_variables_faults d ps h.parameters [] h.variables else []) ⊎ Among g (heads_faults d ps test (n + 1) fs)
+        → (Among g (heads_faults d ps test (n + 1) fs) → HeadSource d ps test (n + 1) fs g) → HeadSource d ps test n (h ∷ fs) g
     go (inl k) rest = here (test n) refl k
     go (inr k) rest =
         let s = rest k in
@@ -201,22 +209,25 @@ head_source d ps test n (h ∷ fs) g m =
 -- THE FAULTS
 
 -- all that the checker notes: of the declarations, of the instances that it visits, and of the heads of the functions that these call
-abbrev pub noted : ProgramTree → Declared → List Identifier → List Instance → (ℕ → Bool) → List Fault
+abbrev pub noted : ProgramTree → Declared → List Identifier → List Instance → (ℕ → Bool) → List TypeFault
 noted p d ps is test =
     declaring_faults p ++ gathered (instance_faults d) is ++ heads_faults d ps test 0 d.functions
 
-fault_there : (p : ProgramTree) (i : Instance) (f : FunctionTree) (g : Fault) → slice_get (functions_of p.items) i.function ≡ Some f → Among g (function_faults (within (declared_by p) f i.binding) f) → Among g (instance_faults (declared_by p) i)
+fault_there : (p : ProgramTree) (i : Instance) (f : FunctionTree) (g : TypeFault) → slice_get (functions_of p.items) i.function ≡ Some f
+    → Among g (function_faults (within (declared_by p) f i.binding) f) → Among g (instance_faults (declared_by p) i)
 fault_there p i f g at m =
     subst (λ (o : Option FunctionTree). Among g (of_function o (λ h. function_faults (within (declared_by p) h i.binding) h))) (sym at) m
 
-fault_inside : (p : ProgramTree) (i : Instance) (g : Fault) → IsChecked p i → Among g (instance_faults (declared_by p) i) → IsFault p g
+fault_inside : (p : ProgramTree) (i : Instance) (g : TypeFault) → IsChecked p i → Among g (instance_faults (declared_by p) i) → IsFault p g
 fault_inside p i g c = go (slice_get (functions_of p.items) i.function) refl
   where
-    go : (o : Option FunctionTree) → slice_get (functions_of p.items) i.function ≡ o → Among g (of_function o (λ f. function_faults (within (declared_by p) f i.binding) f)) → IsFault p g
+    go : (o : Option FunctionTree) → slice_get (functions_of p.items) i.function ≡ o
+        → Among g (of_function o (λ f. function_faults (within (declared_by p) f i.binding) f)) → IsFault p g
     go None e m = absurd m
     go (Some f) e m = inside i f g c e m
 
-all_noted : (p : ProgramTree) (is : List Instance) (test : ℕ → Bool) → IsWorked (declared_by p) is test → (g : Fault) → IsFault p g → Among g (noted p (declared_by p) (protections_of p.items) is test)
+all_noted : (p : ProgramTree) (is : List Instance) (test : ℕ → Bool) → IsWorked (declared_by p) is test → (g : TypeFault) → IsFault p g
+    → Among g (noted p (declared_by p) (protections_of p.items) is test)
 all_noted p is test w g (declaring h m) =
     let visits = gathered (instance_faults (declared_by p)) is in
     let heads = heads_faults (declared_by p) (protections_of p.items) test 0 (functions_of p.items) in
@@ -233,11 +244,13 @@ all_noted p is test w g (of_head i call f h c made at m) =
     let listed : Among call (gathered (instance_calls (declared_by p)) is) =
     among_gathered (instance_calls (declared_by p)) i call is (listed_if_checked p is test w i c) (calls_there p i call made) in
     let count : 0 + call.function ≡ call.function = omega arith in
-    let picked : test (0 + call.function) ≡ true = ap test count ∙ w.called call.function ∙ called_told call (gathered (instance_calls (declared_by p)) is) listed in
+    let picked : test (0 + call.function) ≡ true =
+    ap test count ∙ w.called call.function ∙ called_told call (gathered (instance_calls (declared_by p)) is) listed in
     among_right h (declaring_faults p ++ visits) heads
     (heads_there (declared_by p) (protections_of p.items) test 0 (functions_of p.items) call.function f h picked at m)
 
-head_is_fault : (p : ProgramTree) (is : List Instance) (test : ℕ → Bool) → IsWorked (declared_by p) is test → (g : Fault) → Among g (heads_faults (declared_by p) (protections_of p.items) test 0 (functions_of p.items)) → IsFault p g
+head_is_fault : (p : ProgramTree) (is : List Instance) (test : ℕ → Bool) → IsWorked (declared_by p) is test → (g : TypeFault)
+    → Among g (heads_faults (declared_by p) (protections_of p.items) test 0 (functions_of p.items)) → IsFault p g
 head_is_fault p is test w g m =
     let s = head_source (declared_by p) (protections_of p.items) test 0 (functions_of p.items) g m in
     let count : s.place ≡ 0 + s.place = omega arith in
@@ -246,9 +259,11 @@ head_is_fault p is test w g m =
     of_head o.one r.call s.function g (checked_if_reached p o.one (w.visited.reached o.one o.listed)) (calls_made p o.one r.call o.here)
     (ap (slice_get (functions_of p.items)) r.function ∙ s.at) s.among
 
-noted_is_fault : (p : ProgramTree) (is : List Instance) (test : ℕ → Bool) → IsWorked (declared_by p) is test → (g : Fault) → Among g (noted p (declared_by p) (protections_of p.items) is test) → IsFault p g
+noted_is_fault : (p : ProgramTree) (is : List Instance) (test : ℕ → Bool) → IsWorked (declared_by p) is test → (g : TypeFault)
+    → Among g (noted p (declared_by p) (protections_of p.items) is test) → IsFault p g
 noted_is_fault p is test w g m =
-    go (among_parts g (declaring_faults p ++ gathered (instance_faults (declared_by p)) is) (heads_faults (declared_by p) (protections_of p.items) test 0 (functions_of p.items)) m)
+    go (among_parts g (declaring_faults p ++ gathered (instance_faults (declared_by p)) is)
+    (heads_faults (declared_by p) (protections_of p.items) test 0 (functions_of p.items)) m)
   where
     visit : Among g (gathered (instance_faults (declared_by p)) is) → IsFault p g
     visit k =
@@ -259,31 +274,40 @@ noted_is_fault p is test w g m =
     first (inl k) = declaring g k
     first (inr k) = visit k
 
-    go : Among g (declaring_faults p ++ gathered (instance_faults (declared_by p)) is) ⊎ Among g (heads_faults (declared_by p) (protections_of p.items) test 0 (functions_of p.items)) → IsFault p g
+    go : Among g (declaring_faults p ++ gathered (instance_faults (declared_by p)) is)
+        ⊎ Among g (heads_faults (declared_by p) (protections_of p.items) test 0 (functions_of p.items)) → IsFault p g
     go (inl k) = first (among_parts g (declaring_faults p) (gathered (instance_faults (declared_by p)) is) k)
     go (inr k) = head_is_fault p is test w g k
 
-just_noted : (p : ProgramTree) (is : List Instance) (test : ℕ → Bool) → IsWorked (declared_by p) is test → HasJustTheFaults p (noted p (declared_by p) (protections_of p.items) is test)
+just_noted : (p : ProgramTree) (is : List Instance) (test : ℕ → Bool) → IsWorked (declared_by p) is test
+    → HasJustTheFaults p (noted p (declared_by p) (protections_of p.items) is test)
 just_noted p is test w g = (all_noted p is test w g, noted_is_fault p is test w g)
 
 -- WHAT IS TOLD
 
-pub told : (p : ProgramTree) (is : List Instance) (test : ℕ → Bool) → IsWorked (declared_by p) is test → IsTold (least None (noted p (declared_by p) (protections_of p.items) is test)) p
+pub told : (p : ProgramTree) (is : List Instance) (test : ℕ → Bool) → IsWorked (declared_by p) is test
+    → IsTold (least None (noted p (declared_by p) (protections_of p.items) is test)) p
 told p is test w = go (least None (noted p (declared_by p) (protections_of p.items) is test)) refl
   where
-    go : (o : Option Fault) → least None (noted p (declared_by p) (protections_of p.items) is test) ≡ o → IsTold o p
+    go : (o : Option TypeFault) → least None (noted p (declared_by p) (protections_of p.items) is test) ≡ o → IsTold o p
     go None e = accepted_is_typed p (none_is_accepted p (noted p (declared_by p) (protections_of p.items) is test) (just_noted p is test w) e)
     go (Some f) e = least_is_told p (noted p (declared_by p) (protections_of p.items) is test) f (just_noted p is test w) e
 
 -- the fault that is kept behind all: d and ps are what the program declares
-pub last_kept : (p : ProgramTree) (d : Declared) (ps : List Identifier) (is : List Instance) (test : ℕ → Bool) (missing : Bool) (w1 w2 w3 w4 : Option Fault) → d ≡ declared_by p → ps ≡ protections_of p.items → missing ≡ not (has_main d.functions) → w1 ≡ least None (items_faults d [] [] p.items) → w2 ≡ least w1 (fault_if missing p.end NoMain) → w3 ≡ least w2 (gathered (instance_faults d) is) → w4 ≡ least w3 (heads_faults d ps test 0 d.functions) → w4 ≡ least None (noted p (declared_by p) (protections_of p.items) is test)
+pub last_kept : (p : ProgramTree) (d : Declared) (ps : List Identifier) (is : List Instance) (test : ℕ → Bool) (missing : Bool)
+    (w1 w2 w3 w4 : Option TypeFault) → d ≡ declared_by p → ps ≡ protections_of p.items → missing ≡ not (has_main d.functions)
+    → w1 ≡ least None (items_faults d [] [] p.items) → w2 ≡ least w1 (fault_if missing p.end NoMain) → w3 ≡ least w2 (gathered (instance_faults d) is)
+    → w4 ≡ least w3 (heads_faults d ps test 0 d.functions) → w4 ≡ least None (noted p (declared_by p) (protections_of p.items) is test)
 last_kept p d ps is test missing w1 w2 w3 w4 declared protections main first second third fourth =
     let named = items_faults d [] [] p.items in
     let no_main = fault_if (not (has_main d.functions)) p.end NoMain in
     let visits = gathered (instance_faults d) is in
     let heads = heads_faults d ps test 0 d.functions in
-    let main_too : w2 ≡ least None (named ++ no_main) = then_least None w1 w2 named no_main first (second ∙ ap (λ b. least w1 (fault_if b p.end NoMain)) main) in
+    let main_too : w2 ≡ least None (named ++ no_main) =
+    then_least None w1 w2 named no_main first (second ∙ ap (λ b. least w1 (fault_if b p.end NoMain)) main) in
     let visited : w3 ≡ least None (named ++ no_main ++ visits) = then_least None w2 w3 (named ++ no_main) visits main_too third in
     let all : w4 ≡ least None (named ++ no_main ++ visits ++ heads) = then_least None w3 w4 (named ++ no_main ++ visits) heads visited fourth in
     all
-    ∙ ap₂ (λ (e : Declared) (qs : List Identifier). least None (items_faults e [] [] p.items ++ fault_if (not (has_main e.functions)) p.end NoMain ++ gathered (instance_faults e) is ++ heads_faults e qs test 0 e.functions)) declared protections
+    ∙ ap₂ (λ (e : Declared) (qs : List Identifier). least None
+    (items_faults e [] [] p.items ++ fault_if (not (has_main e.functions)) p.end NoMain ++ gathered (instance_faults e) is
+    ++ heads_faults e qs test 0 e.functions)) declared protections

@@ -1,17 +1,19 @@
 -- The work list as it grows: what is listed, and what is visited.
-use Rattle.std.proofs.Common.{◌≡◌, ℕ, zero, suc, ◌+◌, List, [], ◌∷◌, ◌++◌, take, ◌⊎◌, inl, inr, refl, sym, ap, ◌∙◌, subst, subst₂, Option, Some, None, Bool, true, false, arith, append_assoc, append-nil}
+use Rattle.std.proofs.Common.{◌≡◌, ℕ, zero, suc, ◌+◌, List, [], ◌∷◌, ◌++◌, take, ◌⊎◌, inl, inr, refl, sym, ap, ◌∙◌, subst, subst₂, Option, Some, None}
+use Rattle.std.proofs.Common.{Bool, true, false, arith, append_assoc, append-nil}
 use Rattle.std.specs.Prelude.{nat_eq, ◌||◌, if◌then◌else◌}
 use Rattle.std.specs.List.{slice_get}
 use Rattle.std.proofs.lemmas.List.Folds.{list_any-append}
 use Rattle.std.proofs.lemmas.Option.{same_Some}
-use Rattle.domain_types.specs.declared.fault.Fault.{Fault}
+use Rattle.domain_types.specs.declared.fault.TypeFault.{TypeFault}
 use Rattle.domain_types.specs.declared.value_type.Protection.{Protection}
 use Rattle.domain_types.specs.Declarations.{Declared}
 use Rattle.sc_text.specs.Lists.{Among}
-use Rattle.domain_types.specs.Least.{least}
+use Rattle.domain_types.specs.inner.LeastFault.{least}
 use Rattle.domain_types.specs.Reached.{Call, Instance}
 use Rattle.domain_types.specs.Instances.{same_instance, is_listed}
-use Rattle.domain_types.specs.WorkList.{added, with_binding, with_calls, instance_faults, instance_calls, gathered, is_called, IsReached, begins, follows, AreVisited}
+use Rattle.domain_types.specs.inner.WorkList.{added, with_binding, with_calls, instance_faults, instance_calls, gathered, is_called, IsReached}
+use Rattle.domain_types.specs.inner.WorkList.{begins, follows, AreVisited}
 use Rattle.sc_text.proofs.Lists.{among_left, among_right, among_parts}
 use Rattle.domain_types.proofs.Visits.{then_least}
 use Rattle.domain_types.proofs.Listing.{same_instance-Decides}
@@ -110,11 +112,13 @@ grows_by_calls is (c ∷ cs) =
 pub still_there : (j : Instance) (is js : List Instance) → Grows is js → Among j is → Among j js
 still_there j is js g m = subst (Among j) (sym g.1) (among_left j is g.0 m)
 
-binding_taken : (is : List Instance) (k : ℕ) (o : Option (List Protection)) (ds : List Protection) → o ≡ Some ds → Among (record { function = k; binding = ds }) (with_binding is k o)
+binding_taken : (is : List Instance) (k : ℕ) (o : Option (List Protection)) (ds : List Protection) → o ≡ Some ds
+    → Among (record { function = k; binding = ds }) (with_binding is k o)
 binding_taken is k o ds e =
     subst (λ z. Among (record { function = k; binding = ds }) (with_binding is k z)) (sym e) (comes (record { function = k; binding = ds }) is)
 
-call_taken : (is : List Instance) (cs : List Call) (c : Call) (ds : List Protection) → Among c cs → c.binding ≡ Some ds → Among (record { function = c.function; binding = ds }) (with_calls is cs)
+call_taken : (is : List Instance) (cs : List Call) (c : Call) (ds : List Protection) → Among c cs → c.binding ≡ Some ds
+    → Among (record { function = c.function; binding = ds }) (with_calls is cs)
 call_taken is [] c ds m e = absurd m
 call_taken is (d ∷ cs) c ds (inl s) e =
     let next = with_binding is d.function d.binding in
@@ -127,7 +131,8 @@ call_taken is (d ∷ cs) c ds (inr m) e = call_taken (with_binding is d.function
 abbrev call_for : Instance → Call
 call_for i = record { function = i.function; binding = Some i.binding }
 
-binding_came : (is : List Instance) (k : ℕ) (o : Option (List Protection)) (j : Instance) → Among j (with_binding is k o) → Among j is ⊎ (call_for j ≡ record { function = k; binding = o })
+binding_came : (is : List Instance) (k : ℕ) (o : Option (List Protection)) (j : Instance) → Among j (with_binding is k o)
+    → Among j is ⊎ (call_for j ≡ record { function = k; binding = o })
 binding_came is k None j m = inl m
 binding_came is k (Some ds) j m = go (came (record { function = k; binding = ds }) j is m)
   where
@@ -152,7 +157,8 @@ call_came is (c ∷ cs) j m = go (call_came (with_binding is c.function c.bindin
 pub begun : (d : Declared) (start : List Instance) → AreVisited d start [] start
 begun d start = record { starts = λ i m. m; reached = λ i m. begins i m; followed = λ c ds m e. absurd m }
 
-pub one_visited : (d : Declared) (start done is : List Instance) (i : Instance) → AreVisited d start done is → Among i is → AreVisited d start (done ++ i ∷ []) (with_calls is (instance_calls d i))
+pub one_visited : (d : Declared) (start done is : List Instance) (i : Instance) → AreVisited d start done is → Among i is
+    → AreVisited d start (done ++ i ∷ []) (with_calls is (instance_calls d i))
 one_visited d start done is i old there = record { starts = starts; reached = each; followed = followed }
   where
     starts : (j : Instance) → Among j start → Among j (with_calls is (instance_calls d i))
@@ -165,15 +171,19 @@ one_visited d start done is i old there = record { starts = starts; reached = ea
         go (inl n) = old.reached j n
         go (inr n) = follows i j.function j.binding (old.reached i there) n
 
-    followed : (c : Call) (ds : List Protection) → Among c (gathered (instance_calls d) (done ++ i ∷ [])) → c.binding ≡ Some ds → Among (record { function = c.function; binding = ds }) (with_calls is (instance_calls d i))
+    followed : (c : Call) (ds : List Protection) → Among c (gathered (instance_calls d) (done ++ i ∷ [])) → c.binding ≡ Some ds
+        → Among (record { function = c.function; binding = ds }) (with_calls is (instance_calls d i))
     followed c ds m e = go (among_parts c (gathered (instance_calls d) done) (instance_calls d i) (subst (Among c) (gathered-last (instance_calls d) done i) m))
       where
-        go : Among c (gathered (instance_calls d) done) ⊎ Among c (instance_calls d i) → Among (record { function = c.function; binding = ds }) (with_calls is (instance_calls d i))
-        go (inl n) = still_there (record { function = c.function; binding = ds }) is (with_calls is (instance_calls d i)) (grows_by_calls is (instance_calls d i)) (old.followed c ds n e)
+        go : Among c (gathered (instance_calls d) done) ⊎ Among c (instance_calls d i)
+            → Among (record { function = c.function; binding = ds }) (with_calls is (instance_calls d i))
+        go (inl n) = still_there (record { function = c.function; binding = ds }) is (with_calls is (instance_calls d i))
+            (grows_by_calls is (instance_calls d i)) (old.followed c ds n e)
         go (inr n) = call_taken is (instance_calls d i) c ds n e
 
 -- the instance at the place n is visited, and its calls are listed
-one_more_there : (is : List Instance) (n : ℕ) (i : Instance) (rest : List Instance) → slice_get is n ≡ Some i → take (suc n) (is ++ rest) ≡ take n (is ++ rest) ++ i ∷ []
+one_more_there : (is : List Instance) (n : ℕ) (i : Instance) (rest : List Instance) → slice_get is n ≡ Some i
+    → take (suc n) (is ++ rest) ≡ take n (is ++ rest) ++ i ∷ []
 one_more_there [] n i rest e = cc
 one_more_there (j ∷ js) zero i rest e = ap (λ z. z ∷ []) (same_Some j i e)
 one_more_there (j ∷ js) (suc n) i rest e = ap (λ zs. j ∷ zs) (one_more_there js n i rest e)
@@ -183,7 +193,8 @@ still_before [] n i rest e = cc
 still_before (j ∷ js) zero i rest e = refl
 still_before (j ∷ js) (suc n) i rest e = ap (λ zs. j ∷ zs) (still_before js n i rest e)
 
-visited_next : (d : Declared) (n : ℕ) (is js : List Instance) (i : Instance) → slice_get is n ≡ Some i → js ≡ with_calls is (instance_calls d i) → take (n + 1) js ≡ take n is ++ i ∷ []
+visited_next : (d : Declared) (n : ℕ) (is js : List Instance) (i : Instance) → slice_get is n ≡ Some i → js ≡ with_calls is (instance_calls d i)
+    → take (n + 1) js ≡ take n is ++ i ∷ []
 visited_next d n is js i there grown =
     let g = grows_by_calls is (instance_calls d i) in
     let behind : n + 1 ≡ suc n = omega arith in
@@ -194,18 +205,23 @@ among_place [] n i e = cc
 among_place (j ∷ js) zero i e = inl (sym (same_Some j i e))
 among_place (j ∷ js) (suc n) i e = inr (among_place js n i e)
 
-pub next_least : (d : Declared) (n : ℕ) (is js : List Instance) (i : Instance) (o o1 o2 : Option Fault) → slice_get is n ≡ Some i → js ≡ with_calls is (instance_calls d i) → o1 ≡ least o (gathered (instance_faults d) (take n is)) → o2 ≡ least o1 (instance_faults d i) → o2 ≡ least o (gathered (instance_faults d) (take (n + 1) js))
+pub next_least : (d : Declared) (n : ℕ) (is js : List Instance) (i : Instance) (o o1 o2 : Option TypeFault) → slice_get is n ≡ Some i
+    → js ≡ with_calls is (instance_calls d i) → o1 ≡ least o (gathered (instance_faults d) (take n is)) → o2 ≡ least o1 (instance_faults d i)
+    → o2 ≡ least o (gathered (instance_faults d) (take (n + 1) js))
 next_least d n is js i o o1 o2 there grown before here =
     then_least o o1 o2 (gathered (instance_faults d) (take n is)) (instance_faults d i) before here
     ∙ ap (least o) (sym (gathered-last (instance_faults d) (take n is) i))
     ∙ ap (λ zs. least o (gathered (instance_faults d) zs)) (sym (visited_next d n is js i there grown))
 
-pub next_visited : (d : Declared) (start : List Instance) (n : ℕ) (is js : List Instance) (i : Instance) → slice_get is n ≡ Some i → js ≡ with_calls is (instance_calls d i) → AreVisited d start (take n is) is → AreVisited d start (take (n + 1) js) js
+pub next_visited : (d : Declared) (start : List Instance) (n : ℕ) (is js : List Instance) (i : Instance) → slice_get is n ≡ Some i
+    → js ≡ with_calls is (instance_calls d i) → AreVisited d start (take n is) is → AreVisited d start (take (n + 1) js) js
 next_visited d start n is js i there grown old =
     subst₂ (λ done zs. AreVisited d start done zs) (sym (visited_next d n is js i there grown)) (sym grown)
     (one_visited d start (take n is) is i old (among_place is n i there))
 
-pub next_called : (d : Declared) (n : ℕ) (is js : List Instance) (i : Instance) (k : ℕ) (a b : Bool) → slice_get is n ≡ Some i → js ≡ with_calls is (instance_calls d i) → a ≡ is_called k (gathered (instance_calls d) (take n is)) → b ≡ a || is_called k (instance_calls d i) → b ≡ is_called k (gathered (instance_calls d) (take (n + 1) js))
+pub next_called : (d : Declared) (n : ℕ) (is js : List Instance) (i : Instance) (k : ℕ) (a b : Bool) → slice_get is n ≡ Some i
+    → js ≡ with_calls is (instance_calls d i) → a ≡ is_called k (gathered (instance_calls d) (take n is)) → b ≡ a || is_called k (instance_calls d i)
+    → b ≡ is_called k (gathered (instance_calls d) (take (n + 1) js))
 next_called d n is js i k a b there grown before here =
     here
     ∙ ap (λ z. z || is_called k (instance_calls d i)) before

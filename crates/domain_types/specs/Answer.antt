@@ -2,9 +2,9 @@
 use Rattle.std.specs.Prelude.{◌↔◌, List, map, Vec, vec_items, Option, Some, None, Result, Ok, Err}
 use Rattle.std.specs.declared.alloc.Global.{Global}
 use Rattle.secrec_ast.specs.Programs.{ProgramTree}
-use Rattle.domain_types.specs.declared.fault.Fault.{Fault}
-use Rattle.domain_types.specs.declared.type_error.TypeError.{TypeError}
-use Rattle.domain_types.specs.declared.type_error.TypeError.TheVariants.{Refused, Memory}
+use Rattle.domain_types.specs.declared.fault.TypeFault.{TypeFault}
+use Rattle.domain_types.specs.declared.type_err.TypeErr.{TypeErr}
+use Rattle.domain_types.specs.declared.type_err.TypeErr.TheVariants.{Refused, Memory}
 use Rattle.sc_text.specs.Lists.{Among}
 use Rattle.domain_types.specs.declared.instance.Instance.{Instance}
 use Rattle.domain_types.specs.Reached as reached
@@ -18,12 +18,12 @@ abbrev pub AreTheChecked : ProgramTree → List reached.Instance → Type 0
 AreTheChecked p is = (i : reached.Instance) → IsChecked p i ↔ Among i is
 
 -- the fault that is told, if there is one
-abbrev pub IsTold : Option Fault → ProgramTree → Type 0
+abbrev pub IsTold : Option TypeFault → ProgramTree → Type 0
 IsTold None p = IsTypedProgram p
 IsTold (Some f) p = IsRefused p f
 
 -- Ok with the checked instances where the program is typed, else the first fault
-abbrev pub IsVerdict : Result (Vec Instance Global) TypeError → ProgramTree → Type 0
+abbrev pub IsVerdict : Result (Vec Instance Global) TypeErr → ProgramTree → Type 0
 IsVerdict (Ok is) p = IsTypedProgram p × AreTheChecked p (map instance_seen (vec_items is))
 IsVerdict (Err (Refused f)) p = IsRefused p f
 IsVerdict (Err Memory) p = Unit {0}

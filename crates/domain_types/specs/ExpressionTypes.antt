@@ -1,10 +1,12 @@
 -- The type of an expression, and all its faults. Each node's rule is a small definition of its own.
-use Rattle.std.specs.Prelude.{ℕ, Bool, true, false, not, ◌&&◌, ◌||◌, nat_eq, if◌then◌else◌, List, [], ◌∷◌, ◌++◌, length, Option, Some, None, bytes_eq, is_some, option_map, option_and_then}
+use Rattle.std.specs.Prelude.{ℕ, Bool, true, false, not, ◌&&◌, ◌||◌, nat_eq, if◌then◌else◌, List, [], ◌∷◌, ◌++◌, length, Option, Some, None, bytes_eq}
+use Rattle.std.specs.Prelude.{is_some, option_map, option_and_then}
 use Rattle.sc_text.specs.declared.span.Span.{Span}
 use Rattle.secrec_ast.specs.declared.expression.DataType.{DataType}
 use Rattle.secrec_ast.specs.declared.expression.DataType.TheVariants as datatype
 use Rattle.secrec_ast.specs.declared.expression.Operator.{Operator}
-use Rattle.secrec_ast.specs.declared.expression.Operator.TheVariants.{Add, Subtract, Multiply, Divide, Remainder, Equal, NotEqual, Less, LessOrEqual, Greater, GreaterOrEqual, And, Or, Xor, AndAlso, OrElse}
+use Rattle.secrec_ast.specs.declared.expression.Operator.TheVariants.{Add, Subtract, Multiply, Divide, Remainder, Equal, NotEqual, Less, LessOrEqual}
+use Rattle.secrec_ast.specs.declared.expression.Operator.TheVariants.{Greater, GreaterOrEqual, And, Or, Xor, AndAlso, OrElse}
 use Rattle.secrec_ast.specs.declared.statement.Domain.{Domain}
 use Rattle.secrec_ast.specs.declared.statement.Domain.TheVariants as domain
 use Rattle.secrec_ast.specs.declared.statement.Identifier.{Identifier}
@@ -12,11 +14,13 @@ use Rattle.secrec_ast.specs.declared.function.DomainVariable.{DomainVariable}
 use Rattle.secrec_ast.specs.declared.function.Parameter.{Parameter}
 use Rattle.secrec_ast.specs.declared.function.ResultType.{ResultType}
 use Rattle.secrec_ast.specs.declared.function.ResultType.TheVariants as returned
-use Rattle.secrec_ast.specs.Tree.{Tree, Trees, number, truth, variable, call, index, parentheses, negation, cast, binary, declassify, argument, publish, none, also}
+use Rattle.secrec_ast.specs.Tree.{Tree, Trees, number, truth, variable, call, index, parentheses, negation, cast, binary, declassify, argument}
+use Rattle.secrec_ast.specs.Tree.{publish, none, also}
 use Rattle.secrec_ast.specs.Heights.{place_of}
 use Rattle.secrec_ast.specs.Programs.{FunctionTree}
-use Rattle.domain_types.specs.declared.fault.Problem.TheVariants.{UnknownName, TypeMismatch, PrivateIndex, PrivateDivision, DomainMix, BadArity, ArgumentPlace}
-use Rattle.domain_types.specs.declared.fault.Fault.{Fault}
+use Rattle.domain_types.specs.declared.fault.TypeProblem.TheVariants.{UnknownName, TypeMismatch, PrivateIndex, PrivateDivision, DomainMix, BadArity}
+use Rattle.domain_types.specs.declared.fault.TypeProblem.TheVariants.{ArgumentPlace}
+use Rattle.domain_types.specs.declared.fault.TypeFault.{TypeFault}
 use Rattle.domain_types.specs.declared.value_type.Protection.{Protection}
 use Rattle.domain_types.specs.declared.value_type.Protection.TheVariants.{Public, Private}
 use Rattle.domain_types.specs.declared.value_type.ValueType.{ValueType}
@@ -25,7 +29,8 @@ use Rattle.domain_types.specs.declared.value_type.Argument.{Argument}
 use Rattle.domain_types.specs.declared.value_type.ExpressionType.TheVariants.{Void, Value}
 use Rattle.domain_types.specs.declared.value_type.BuiltIn.{BuiltIn}
 use Rattle.domain_types.specs.declared.value_type.BuiltIn.TheVariants.{Size, Cat, Sum, BitExtract}
-use Rattle.domain_types.specs.Types.{fault_at, fault_if, of_typed, unless_refused, value_of, void_faults, is_private, meet, mix_faults, is_uint64, same_element, store_faults, scalar_faults, scalar_of, public_scalar}
+use Rattle.domain_types.specs.Types.{fault_at, fault_if, of_typed, unless_refused, value_of, void_faults, is_private, meet, mix_faults, is_uint64}
+use Rattle.domain_types.specs.Types.{same_element, store_faults, scalar_faults, scalar_of, public_scalar}
 use Rattle.domain_types.specs.Declarations.{Declared, bind, Setting, type_written, Callee, built_in, defined, callee}
 use Rattle.domain_types.specs.Scopes.{Variable, Scope, variable_named}
 
@@ -35,7 +40,7 @@ abbrev pub variable_type : Option Variable → Option ValueType
 variable_type None = None
 variable_type (Some v) = v.held
 
-abbrev pub variable_faults : Span → Option Variable → List Fault
+abbrev pub variable_faults : Span → Option Variable → List TypeFault
 variable_faults p None = fault_at p UnknownName
 variable_faults p (Some v) = []
 
@@ -98,7 +103,7 @@ abbrev pub element_of : Operator → ValueType → ValueType → Option DataType
 element_of op a b = element_result op (one_private a b) a.element b.element
 
 -- the operator's own faults
-unfoldable pub operator_faults : Span → Operator → ValueType → ValueType → List Fault
+unfoldable pub operator_faults : Span → Operator → ValueType → ValueType → List TypeFault
 operator_faults p op a b =
     fault_if (not (is_some (element_of op a b))) p TypeMismatch
     ++ fault_if (is_division op && one_private a b) p PrivateDivision
@@ -115,7 +120,7 @@ operator_type p op a b =
 
 -- NOT, CASTS, DECLASSIFY, INDICES
 
-unfoldable pub negation_faults : Span → ValueType → List Fault
+unfoldable pub negation_faults : Span → ValueType → List TypeFault
 negation_faults p t = fault_if (is_uint64 t.element) p TypeMismatch
 
 unfoldable pub negation_type : Span → ValueType → Option ValueType
@@ -128,7 +133,7 @@ abbrev pub declassified : ValueType → ValueType
 declassified t = record { domain = Public; element = t.element; array = t.array }
 
 -- an array's element; the index begins at q
-unfoldable pub index_faults : Span → Span → ValueType → ValueType → List Fault
+unfoldable pub index_faults : Span → Span → ValueType → ValueType → List TypeFault
 index_faults p q array position =
     fault_if (not array.array) p TypeMismatch ++ scalar_faults datatype.Uint64 PrivateIndex q position
 
@@ -150,25 +155,25 @@ and_argument (Some gs) p None = None
 and_argument (Some gs) p (Some t) = Some (gs ++ record { place = p; given = t } ∷ [])
 
 -- the rules of the built-in functions; p is the call
-unfoldable pub size_faults : Span → List Argument → List Fault
+unfoldable pub size_faults : Span → List Argument → List TypeFault
 size_faults p (a ∷ []) = fault_if (not a.given.array) p TypeMismatch
 size_faults p _ = fault_at p BadArity
 
-unfoldable pub cat_faults : Span → List Argument → List Fault
+unfoldable pub cat_faults : Span → List Argument → List TypeFault
 cat_faults p (a ∷ b ∷ []) =
     fault_if (not (a.given.array && b.given.array && same_element a.given.element b.given.element)) p TypeMismatch
     ++ mix_faults p a.given.domain b.given.domain
 cat_faults p _ = fault_at p BadArity
 
-unfoldable pub sum_faults : Span → List Argument → List Fault
+unfoldable pub sum_faults : Span → List Argument → List TypeFault
 sum_faults p (a ∷ []) = fault_if (not (a.given.array && is_uint64 a.given.element)) p TypeMismatch
 sum_faults p _ = fault_at p BadArity
 
-unfoldable pub bit_extract_faults : Span → List Argument → List Fault
+unfoldable pub bit_extract_faults : Span → List Argument → List TypeFault
 bit_extract_faults p (a ∷ []) = fault_if (not (is_uint64 a.given.element)) p TypeMismatch
 bit_extract_faults p _ = fault_at p BadArity
 
-abbrev pub built_in_faults : Span → BuiltIn → List Argument → List Fault
+abbrev pub built_in_faults : Span → BuiltIn → List Argument → List TypeFault
 built_in_faults p Size gs = size_faults p gs
 built_in_faults p Cat gs = cat_faults p gs
 built_in_faults p Sum gs = sum_faults p gs
@@ -215,18 +220,18 @@ binding_by [] ps gs = Some []
 binding_by (v ∷ vs) ps gs = with_domain (bound_by v.variable.text ps gs) (binding_by vs ps gs)
 
 -- a domain variable with a kind may not be bound to public
-abbrev pub bound_faults : Span → Option Identifier → Option Protection → List Fault
+abbrev pub bound_faults : Span → Option Identifier → Option Protection → List TypeFault
 bound_faults p kind None = fault_at p DomainMix
 bound_faults p (Some k) (Some Public) = fault_at p TypeMismatch
 bound_faults p None (Some Public) = []
 bound_faults p kind (Some (Private m)) = []
 
-abbrev pub binding_faults : Span → List DomainVariable → List Parameter → List Argument → List Fault
+abbrev pub binding_faults : Span → List DomainVariable → List Parameter → List Argument → List TypeFault
 binding_faults p [] ps gs = []
 binding_faults p (v ∷ vs) ps gs = bound_faults p v.kind (bound_by v.variable.text ps gs) ++ binding_faults p vs ps gs
 
 -- each argument goes to its parameter; a parameter of an unknown domain takes any
-abbrev pub argument_faults : Setting → List Parameter → List Argument → List Fault
+abbrev pub argument_faults : Setting → List Parameter → List Argument → List TypeFault
 argument_faults w [] gs = []
 argument_faults w (p ∷ ps) [] = []
 argument_faults w (p ∷ ps) (g ∷ gs) =
@@ -237,7 +242,7 @@ abbrev pub within : Declared → FunctionTree → List Protection → Setting
 within d f ds = record { declared = d; bound = bind f.variables ds }
 
 -- a call of a function of the program; where the number of arguments is wrong nothing else is said
-unfoldable pub defined_faults : Declared → Span → FunctionTree → List Argument → List Fault
+unfoldable pub defined_faults : Declared → Span → FunctionTree → List Argument → List TypeFault
 defined_faults d p f gs =
     if nat_eq (length f.parameters) (length gs) then
     binding_faults p f.variables f.parameters gs
@@ -249,7 +254,7 @@ abbrev pub result_type : Setting → ResultType → Option ExpressionType
 result_type w returned.Void = Some Void
 result_type w (returned.Value t) = option_map Value (type_written w t)
 
-abbrev pub callee_faults : Declared → Span → Callee → List Argument → List Fault
+abbrev pub callee_faults : Declared → Span → Callee → List Argument → List TypeFault
 callee_faults d p (built_in b) gs = built_in_faults p b gs
 callee_faults d p (defined k f) gs = defined_faults d p f gs
 
@@ -262,7 +267,7 @@ abbrev pub callee_type : Declared → Span → Callee → List Argument → Opti
 callee_type d p c gs = unless_refused (callee_faults d p c gs) (callee_result d c gs)
 
 -- an unknown name is said whatever the arguments are
-unfoldable pub call_faults : Declared → Span → Option Callee → Option (List Argument) → List Fault
+unfoldable pub call_faults : Declared → Span → Option Callee → Option (List Argument) → List TypeFault
 call_faults d p None gs = fault_at p UnknownName
 call_faults d p (Some c) gs = of_typed gs (callee_faults d p c)
 
@@ -310,11 +315,11 @@ value_type w s e = value_of (type_of w s e)
 -- THE FAULTS OF AN EXPRESSION: those of its parts, then its own
 
 -- the faults of a part that is used as a value, where these are its own
-abbrev pub as_value : Setting → Scope → Tree → List Fault → List Fault
+abbrev pub as_value : Setting → Scope → Tree → List TypeFault → List TypeFault
 as_value w s e own = own ++ void_faults (place_of e) (type_of w s e)
 
 abbrev mutual
-  pub faults : Setting → Scope → Tree → List Fault
+  pub faults : Setting → Scope → Tree → List TypeFault
   faults w s (number p n) = []
   faults w s (truth p b) = []
   faults w s (variable p x) = variable_faults p (variable_named s x)
@@ -333,10 +338,10 @@ abbrev mutual
   faults w s (argument p x) = fault_at p ArgumentPlace
   faults w s (publish p x e) = as_value w s e (faults w s e)
 
-  pub argument_list_faults : Setting → Scope → Trees → List Fault
+  pub argument_list_faults : Setting → Scope → Trees → List TypeFault
   argument_list_faults w s none = []
   argument_list_faults w s (also e es) = as_value w s e (faults w s e) ++ argument_list_faults w s es
 
 -- an expression that is used as a value
-abbrev pub value_faults : Setting → Scope → Tree → List Fault
+abbrev pub value_faults : Setting → Scope → Tree → List TypeFault
 value_faults w s e = as_value w s e (faults w s e)

@@ -7,8 +7,8 @@ use Rattle.secrec_ast.specs.declared.function.Parameter.{Parameter}
 use Rattle.secrec_ast.specs.declared.function.ResultType.{ResultType}
 use Rattle.secrec_ast.specs.declared.function.ResultType.TheVariants as returned
 use Rattle.secrec_ast.specs.Programs.{FunctionTree, ItemTree, imports, kind, domain, defines}
-use Rattle.domain_types.specs.declared.fault.Problem.TheVariants.{UnknownName, Twice, TypeMismatch, MissingReturn}
-use Rattle.domain_types.specs.declared.fault.Fault.{Fault}
+use Rattle.domain_types.specs.declared.fault.TypeProblem.TheVariants.{UnknownName, Twice, TypeMismatch, MissingReturn}
+use Rattle.domain_types.specs.declared.fault.TypeFault.{TypeFault}
 use Rattle.domain_types.specs.Types.{fault_at, fault_if}
 use Rattle.domain_types.specs.Declarations.{Declared, Setting, type_written, is_known_kind}
 use Rattle.domain_types.specs.Scopes.{Scope, nothing_known, with_variable, twice_faults}
@@ -24,26 +24,26 @@ abbrev pub with_parameters : Setting → List Parameter → Scope → Scope
 with_parameters w [] s = s
 with_parameters w (p ∷ ps) s = with_parameters w ps (with_parameter w p s)
 
-abbrev pub parameter_faults : Setting → Scope → List Parameter → List Fault
+abbrev pub parameter_faults : Setting → Scope → List Parameter → List TypeFault
 parameter_faults w s [] = []
 parameter_faults w s (p ∷ ps) =
     (domain_faults w p.declared.domain ++ twice_faults s p.variable) ++ parameter_faults w (with_parameter w p s) ps
 
 -- THE FUNCTION
 
-abbrev pub result_faults : Setting → ResultType → List Fault
+abbrev pub result_faults : Setting → ResultType → List TypeFault
 result_faults w returned.Void = []
 result_faults w (returned.Value t) = domain_faults w t.domain
 
 -- a function with a result returns on every way
-abbrev pub way_faults : FunctionTree → ResultType → List Fault
+abbrev pub way_faults : FunctionTree → ResultType → List TypeFault
 way_faults f returned.Void = []
 way_faults f (returned.Value t) = fault_if (not (one_returns f.body.statements)) f.function.place MissingReturn
 
-abbrev pub body_faults : Setting → FunctionTree → List Fault
+abbrev pub body_faults : Setting → FunctionTree → List TypeFault
 body_faults w f = block_faults w f.returned (with_parameters w f.parameters nothing_known) f.body.statements
 
-abbrev pub function_faults : Setting → FunctionTree → List Fault
+abbrev pub function_faults : Setting → FunctionTree → List TypeFault
 function_faults w f =
     result_faults w f.returned
     ++ parameter_faults w nothing_known f.parameters
@@ -73,22 +73,22 @@ first_named x (y ∷ ys) = if bytes_eq x y.text then Some y else first_named x y
 
 -- a variable that is called as a kind or a domain: at the later of it and the first of that name. A further one of that name
 -- stands behind the first, so the fault there would be no earlier
-abbrev pub hidden_faults : Identifier → Option Identifier → List Fault
+abbrev pub hidden_faults : Identifier → Option Identifier → List TypeFault
 hidden_faults x None = []
 hidden_faults x (Some y) = fault_at (later_of x.place y.place) Twice
 
-abbrev pub hiding_faults : Identifier → List Identifier → List Fault
+abbrev pub hiding_faults : Identifier → List Identifier → List TypeFault
 hiding_faults x ys = hidden_faults x (first_named x.text ys)
 
 -- the kind `shared3p` of an import stands before all else
-abbrev pub imported_faults : Declared → Identifier → List Fault
+abbrev pub imported_faults : Declared → Identifier → List TypeFault
 imported_faults d x = fault_if (d.shared3p && bytes_eq x.text (codes "shared3p")) x.place Twice
 
 abbrev pub is_variable : List ℕ → List DomainVariable → Bool
 is_variable x [] = false
 is_variable x (v ∷ vs) = bytes_eq x v.variable.text || is_variable x vs
 
-abbrev pub kind_faults : Declared → Option Identifier → List Fault
+abbrev pub kind_faults : Declared → Option Identifier → List TypeFault
 kind_faults d None = []
 kind_faults d (Some k) = fault_if (not (is_known_kind d k.text)) k.place UnknownName
 
@@ -98,7 +98,7 @@ is_in_parameter x [] = false
 is_in_parameter x (p ∷ ps) = is_named x p.declared.domain || is_in_parameter x ps
 
 -- a domain variable behind those before it, in a program with these kinds and domains
-abbrev pub domain_variable_faults : Declared → (protections : List Identifier) → List Parameter → List DomainVariable → DomainVariable → List Fault
+abbrev pub domain_variable_faults : Declared → (protections : List Identifier) → List Parameter → List DomainVariable → DomainVariable → List TypeFault
 domain_variable_faults d protections ps before v =
     kind_faults d v.kind
     ++ fault_if (is_variable v.variable.text before) v.variable.place Twice
@@ -106,10 +106,10 @@ domain_variable_faults d protections ps before v =
     ++ hiding_faults v.variable protections
     ++ fault_if (not (is_in_parameter v.variable.text ps)) v.variable.place TypeMismatch
 
-abbrev pub domain_variables_faults : Declared → (protections : List Identifier) → List Parameter → List DomainVariable → List DomainVariable → List Fault
+abbrev pub domain_variables_faults : Declared → (protections : List Identifier) → List Parameter → List DomainVariable → List DomainVariable → List TypeFault
 domain_variables_faults d protections ps before [] = []
 domain_variables_faults d protections ps before (v ∷ vs) =
     domain_variable_faults d protections ps before v ++ domain_variables_faults d protections ps (v ∷ before) vs
 
-abbrev pub head_faults : Declared → List ItemTree → FunctionTree → List Fault
+abbrev pub head_faults : Declared → List ItemTree → FunctionTree → List TypeFault
 head_faults d items f = domain_variables_faults d (protections_of items) f.parameters [] f.variables

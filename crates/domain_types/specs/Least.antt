@@ -1,12 +1,14 @@
 -- The fault that is told: at the least place, and there of the least number.
-use Rattle.std.specs.Prelude.{◌≡◌, ℕ, ◌≤◌, Bool, ◌||◌, ◌&&◌, nat_eq, nat_lt, nat_le, List, [], ◌∷◌, Option, Some, None, if◌then◌else◌}
+use Rattle.std.specs.Prelude.{◌≡◌, ℕ, ◌≤◌, List}
 use Rattle.sc_text.specs.Lists.{Among}
-use Rattle.domain_types.specs.declared.fault.Problem.{Problem}
-use Rattle.domain_types.specs.declared.fault.Problem.TheVariants.{UnknownName, Twice, TypeMismatch, PrivateCondition, PrivateIndex, PrivateSize, PrivateToPublic, PrivateDivision, PrivateAssert, DomainMix, NoMain, BadImport, BadArity, MissingReturn, ArgumentPlace}
-use Rattle.domain_types.specs.declared.fault.Fault.{Fault}
+use Rattle.domain_types.specs.declared.fault.TypeProblem.{TypeProblem}
+use Rattle.domain_types.specs.declared.fault.TypeProblem.TheVariants.{UnknownName, Twice, TypeMismatch, PrivateCondition, PrivateIndex, PrivateSize}
+use Rattle.domain_types.specs.declared.fault.TypeProblem.TheVariants.{PrivateToPublic, PrivateDivision, PrivateAssert, DomainMix, NoMain, BadImport}
+use Rattle.domain_types.specs.declared.fault.TypeProblem.TheVariants.{BadArity, MissingReturn, ArgumentPlace}
+use Rattle.domain_types.specs.declared.fault.TypeFault.{TypeFault}
 
 -- the number in the code that is printed, D1 to D15
-abbrev pub number_of : Problem → ℕ
+abbrev pub number_of : TypeProblem → ℕ
 number_of UnknownName = 1
 number_of Twice = 2
 number_of TypeMismatch = 3
@@ -24,28 +26,11 @@ number_of MissingReturn = 14
 number_of ArgumentPlace = 15
 
 -- no later line; on the same line no later column; at the same place no greater number
-pub record NotAfter (f g : Fault) : Type 0 where
+pub record NotAfter (f g : TypeFault) : Type 0 where
   pub lines : f.place.line ≤ g.place.line
   pub columns : f.place.line ≡ g.place.line → f.place.column ≤ g.place.column
   pub numbers : f.place.line ≡ g.place.line → f.place.column ≡ g.place.column → number_of f.problem ≤ number_of g.problem
 
-pub record IsLeast (f : Fault) (fs : List Fault) : Type 0 where
+pub record IsLeast (f : TypeFault) (fs : List TypeFault) : Type 0 where
   pub among : Among f fs
-  pub before : (g : Fault) → Among g fs → NotAfter f g
-
--- the same as a computation, which the steps of the checker follow: the least of `o` and the list
-
-abbrev pub is_before : Fault → Fault → Bool
-is_before f g =
-    nat_lt f.place.line g.place.line
-    || (nat_eq f.place.line g.place.line
-    && (nat_lt f.place.column g.place.column
-    || (nat_eq f.place.column g.place.column && nat_le (number_of f.problem) (number_of g.problem))))
-
-abbrev pub lesser : Option Fault → Fault → Option Fault
-lesser None f = Some f
-lesser (Some o) f = if is_before o f then Some o else Some f
-
-abbrev pub least : Option Fault → List Fault → Option Fault
-least o [] = o
-least o (f ∷ fs) = least (lesser o f) fs
+  pub before : (g : TypeFault) → Among g fs → NotAfter f g

@@ -2,10 +2,8 @@ pub mod Types
 pub mod Declarations
 pub mod Index
 pub mod Named
-pub mod Lent
 pub mod Views
 pub mod Scopes
-pub mod Table
 pub mod ExpressionTypes
 pub mod StatementTypes
 pub mod FunctionTypes
@@ -13,8 +11,7 @@ pub mod Least
 pub mod Reached
 pub mod Instances
 pub mod ProgramTypes
-pub mod Walks
-pub mod WorkList
 pub mod Answer
 pub mod Typing
 pub mod Vectors
+pub mod inner

@@ -5,8 +5,8 @@ use Rattle.secrec_ast.specs.declared.statement.Identifier.{Identifier}
 use Rattle.secrec_ast.specs.declared.function.ResultType.{ResultType}
 use Rattle.secrec_ast.specs.declared.function.ResultType.TheVariants as returned
 use Rattle.secrec_ast.specs.Programs.{FunctionTree, ItemTree, imports, kind, domain, defines, ProgramTree}
-use Rattle.domain_types.specs.declared.fault.Problem.TheVariants.{UnknownName, Twice, NoMain, BadImport}
-use Rattle.domain_types.specs.declared.fault.Fault.{Fault}
+use Rattle.domain_types.specs.declared.fault.TypeProblem.TheVariants.{UnknownName, Twice, NoMain, BadImport}
+use Rattle.domain_types.specs.declared.fault.TypeFault.{TypeFault}
 use Rattle.domain_types.specs.Types.{fault_if}
 use Rattle.domain_types.specs.Declarations.{Declared, declared_by, functions_of, number_in, is_known_kind, built_in_named}
 use Rattle.domain_types.specs.ExpressionTypes.{within}
@@ -37,11 +37,11 @@ more_functions fs (domain x k) = fs
 more_functions fs (defines f) = fs ++ f.function.text ∷ []
 
 -- a kind or a domain called as one before it, or as the kind of the import, which stands before all
-abbrev pub space_faults : Declared → (kinds : List (List ℕ)) → Identifier → List Fault
+abbrev pub space_faults : Declared → (kinds : List (List ℕ)) → Identifier → List TypeFault
 space_faults d ks x = fault_if (is_one_of x.text ks || (d.shared3p && bytes_eq x.text (codes "shared3p"))) x.place Twice
 
 -- a declaration behind these kinds and domains, and behind these functions; what a function declares inside is not among these
-abbrev pub item_faults : Declared → (kinds functions : List (List ℕ)) → ItemTree → List Fault
+abbrev pub item_faults : Declared → (kinds functions : List (List ℕ)) → ItemTree → List TypeFault
 item_faults d ks fs (imports x) = fault_if (not (is_module x.text)) x.place BadImport
 item_faults d ks fs (kind x) =
     fault_if (not (bytes_eq x.text (codes "shared3p"))) x.place UnknownName ++ space_faults d ks x
@@ -50,7 +50,7 @@ item_faults d ks fs (domain x k) =
 item_faults d ks fs (defines f) =
     fault_if (is_some (built_in_named d f.function.text) || is_one_of f.function.text fs) f.function.place Twice
 
-abbrev pub items_faults : Declared → (kinds functions : List (List ℕ)) → List ItemTree → List Fault
+abbrev pub items_faults : Declared → (kinds functions : List (List ℕ)) → List ItemTree → List TypeFault
 items_faults d ks fs [] = []
 items_faults d ks fs (i ∷ is) = item_faults d ks fs i ++ items_faults d (more_kinds ks i) (more_functions fs i) is
 
@@ -72,7 +72,7 @@ has_main [] = false
 has_main (f ∷ fs) = is_main f || has_main fs
 
 -- the faults of the declarations themselves, and of a program without `main` at the end of its text
-abbrev pub declaring_faults : ProgramTree → List Fault
+abbrev pub declaring_faults : ProgramTree → List TypeFault
 declaring_faults p =
     items_faults (declared_by p) [] [] p.items ++ fault_if (not (has_main (functions_of p.items))) p.end NoMain
 
@@ -80,20 +80,20 @@ declaring_faults p =
 
 -- those of its declarations; those of each function that is checked, with its domains; and those of the head of each
 -- function that is called there, whether or not that call is refused
-pub data IsFault (p : ProgramTree) : Fault → Type 0 where
-  declaring : (g : Fault) → Among g (declaring_faults p) → IsFault p g
+pub data IsFault (p : ProgramTree) : TypeFault → Type 0 where
+  declaring : (g : TypeFault) → Among g (declaring_faults p) → IsFault p g
   inside :
-      (i : Instance) (f : FunctionTree) (g : Fault) → IsChecked p i → slice_get (functions_of p.items) i.function ≡ Some f →
+      (i : Instance) (f : FunctionTree) (g : TypeFault) → IsChecked p i → slice_get (functions_of p.items) i.function ≡ Some f →
       Among g (function_faults (within (declared_by p) f i.binding) f) → IsFault p g
   of_head :
-      (i : Instance) (c : Call) (f : FunctionTree) (g : Fault) → IsChecked p i → Calls p i c →
+      (i : Instance) (c : Call) (f : FunctionTree) (g : TypeFault) → IsChecked p i → Calls p i c →
       slice_get (functions_of p.items) c.function ≡ Some f → Among g (head_faults (declared_by p) p.items f) → IsFault p g
 
 -- a program is accepted where it has no fault
 pub record IsAccepted (p : ProgramTree) : Type 0 where
-  pub faultless : (g : Fault) → IsFault p g → ⊥
+  pub faultless : (g : TypeFault) → IsFault p g → ⊥
 
 -- the fault that is told: at the least place, and there of the least number
-pub record IsRefused (p : ProgramTree) (g : Fault) : Type 0 where
+pub record IsRefused (p : ProgramTree) (g : TypeFault) : Type 0 where
   pub is : IsFault p g
-  pub first : (h : Fault) → IsFault p h → NotAfter g h
+  pub first : (h : TypeFault) → IsFault p h → NotAfter g h

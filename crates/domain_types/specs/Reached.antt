@@ -4,7 +4,10 @@ use Rattle.std.specs.Prelude.{ℕ, ◌≡◌, List, [], ◌∷◌, ◌++◌, Opt
 use Rattle.std.specs.List.{slice_get}
 use Rattle.secrec_ast.specs.Tree.{Tree, Trees, number, truth, variable, call, index, parentheses, negation, cast, binary, declassify, argument, publish}
 use Rattle.secrec_ast.specs.Tree as Tree'
-use Rattle.secrec_ast.specs.Statements.{DeclarationTree, TargetTree, AssignmentTree, StartTree, starts_with_nothing, starts_with_declaration, starts_with_assignment, StepTree, steps_by_nothing, steps_by_assignment, steps_by_expression, StatementTree, block, empty, branch, choice, while_loop, do_loop, for_loop, breaks, continues, returns, assertion, declaration, assignment, evaluation, StatementTrees}
+use Rattle.secrec_ast.specs.Statements.{DeclarationTree, TargetTree, AssignmentTree, StartTree, starts_with_nothing, starts_with_declaration}
+use Rattle.secrec_ast.specs.Statements.{starts_with_assignment, StepTree, steps_by_nothing, steps_by_assignment, steps_by_expression, StatementTree}
+use Rattle.secrec_ast.specs.Statements.{block, empty, branch, choice, while_loop, do_loop, for_loop, breaks, continues, returns, assertion}
+use Rattle.secrec_ast.specs.Statements.{declaration, assignment, evaluation, StatementTrees}
 use Rattle.secrec_ast.specs.Statements as Statements'
 use Rattle.secrec_ast.specs.Programs.{FunctionTree, ProgramTree}
 use Rattle.sc_text.specs.declared.span.Span.{Span}
@@ -117,4 +120,5 @@ pub record Calls (p : ProgramTree) (i : Instance) (c : Call) : Type 0 where
 -- the least set with all plain functions that is closed under calls
 pub data IsChecked (p : ProgramTree) : Instance → Type 0 where
   plain : (k : ℕ) (f : FunctionTree) → slice_get (functions_of p.items) k ≡ Some f → f.variables ≡ [] → IsChecked p (record { function = k; binding = [] })
-  reached : (i : Instance) (k : ℕ) (ds : List Protection) → IsChecked p i → Calls p i (record { function = k; binding = Some ds }) → IsChecked p (record { function = k; binding = ds })
+  reached : (i : Instance) (k : ℕ) (ds : List Protection) → IsChecked p i → Calls p i (record { function = k; binding = Some ds })
+      → IsChecked p (record { function = k; binding = ds })

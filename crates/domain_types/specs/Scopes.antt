@@ -2,8 +2,8 @@
 use Rattle.std.specs.Prelude.{ℕ, Bool, false, ◌||◌, if◌then◌else◌, List, [], ◌∷◌, ◌++◌, ◌-◌, length, take, drop, Option, Some, None, bytes_eq}
 use Rattle.secrec_ast.specs.declared.statement.Identifier.{Identifier}
 use Rattle.domain_types.specs.declared.value_type.ValueType.{ValueType}
-use Rattle.domain_types.specs.declared.fault.Problem.TheVariants.{Twice}
-use Rattle.domain_types.specs.declared.fault.Fault.{Fault}
+use Rattle.domain_types.specs.declared.fault.TypeProblem.TheVariants.{Twice}
+use Rattle.domain_types.specs.declared.fault.TypeFault.{TypeFault}
 use Rattle.domain_types.specs.Types.{fault_if}
 
 -- a variable; one of an unknown domain has no type
@@ -47,5 +47,5 @@ is_among x [] = false
 is_among x (v ∷ vs) = bytes_eq x v.name || is_among x vs
 
 -- a name that the innermost block has declared already
-abbrev pub twice_faults : Scope → Identifier → List Fault
+abbrev pub twice_faults : Scope → Identifier → List TypeFault
 twice_faults s x = fault_if (is_among x.text s.block) x.place Twice

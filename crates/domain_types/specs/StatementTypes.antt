@@ -7,11 +7,14 @@ use Rattle.secrec_ast.specs.declared.statement.Domain.TheVariants as domain
 use Rattle.secrec_ast.specs.declared.function.ResultType.{ResultType}
 use Rattle.secrec_ast.specs.declared.function.ResultType.TheVariants as returned
 use Rattle.secrec_ast.specs.Tree.{Tree, argument}
-use Rattle.secrec_ast.specs.Statements.{DeclarationTree, TargetTree, AssignmentTree, StartTree, starts_with_nothing, starts_with_declaration, starts_with_assignment, StepTree, steps_by_nothing, steps_by_assignment, steps_by_expression, StatementTree, block, empty, branch, choice, while_loop, do_loop, for_loop, breaks, continues, returns, assertion, declaration, assignment, evaluation, StatementTrees, none, also}
+use Rattle.secrec_ast.specs.Statements.{DeclarationTree, TargetTree, AssignmentTree, StartTree, starts_with_nothing, starts_with_declaration}
+use Rattle.secrec_ast.specs.Statements.{starts_with_assignment, StepTree, steps_by_nothing, steps_by_assignment, steps_by_expression, StatementTree}
+use Rattle.secrec_ast.specs.Statements.{block, empty, branch, choice, while_loop, do_loop, for_loop, breaks, continues, returns, assertion}
+use Rattle.secrec_ast.specs.Statements.{declaration, assignment, evaluation, StatementTrees, none, also}
 use Rattle.secrec_ast.specs.Heights.{place_of}
-use Rattle.domain_types.specs.declared.fault.Problem.{Problem}
-use Rattle.domain_types.specs.declared.fault.Problem.TheVariants.{UnknownName, TypeMismatch, PrivateCondition, PrivateSize, PrivateAssert}
-use Rattle.domain_types.specs.declared.fault.Fault.{Fault}
+use Rattle.domain_types.specs.declared.fault.TypeProblem.{TypeProblem}
+use Rattle.domain_types.specs.declared.fault.TypeProblem.TheVariants.{UnknownName, TypeMismatch, PrivateCondition, PrivateSize, PrivateAssert}
+use Rattle.domain_types.specs.declared.fault.TypeFault.{TypeFault}
 use Rattle.domain_types.specs.declared.value_type.ValueType.{ValueType}
 use Rattle.domain_types.specs.Types.{fault_at, fault_if, of_typed, scalar_faults, store_faults, scalar_of}
 use Rattle.domain_types.specs.Declarations.{Setting, domain_of, type_written}
@@ -21,16 +24,16 @@ use Rattle.domain_types.specs.ExpressionTypes.{variable_type, variable_faults, i
 -- CONDITIONS AND ASSERTIONS
 
 -- a public scalar of type bool is wanted, where a private one is this problem; the part's own faults stand before
-abbrev pub test_own : Setting → Scope → Problem → Tree → List Fault
+abbrev pub test_own : Setting → Scope → TypeProblem → Tree → List TypeFault
 test_own w s problem e = of_typed (value_type w s e) (scalar_faults datatype.Bool problem (place_of e))
 
-abbrev pub test_faults : Setting → Scope → Problem → Tree → List Fault
+abbrev pub test_faults : Setting → Scope → TypeProblem → Tree → List TypeFault
 test_faults w s problem e = value_faults w s e ++ test_own w s problem e
 
 -- DECLARATIONS
 
 -- the name of a domain that is not known
-abbrev pub domain_faults : Setting → Domain → List Fault
+abbrev pub domain_faults : Setting → Domain → List TypeFault
 domain_faults w domain.Public = []
 domain_faults w (domain.Named x) = fault_if (is_none (domain_of w (domain.Named x))) x.place UnknownName
 
@@ -39,22 +42,22 @@ is_argument (argument p x) = true
 is_argument _ = false
 
 -- a size, beginning at q, of a variable of the type t: only arrays have one
-unfoldable pub sized_faults : Span → ValueType → ValueType → List Fault
+unfoldable pub sized_faults : Span → ValueType → ValueType → List TypeFault
 sized_faults q t size = fault_if (not t.array) q TypeMismatch ++ scalar_faults datatype.Uint64 PrivateSize q size
 
 -- a size and then an initialiser, which fills the array and so is a scalar
-unfoldable pub filled_faults : Span → Span → ValueType → ValueType → ValueType → List Fault
+unfoldable pub filled_faults : Span → Span → ValueType → ValueType → ValueType → List TypeFault
 filled_faults q p t size value = sized_faults q t size ++ store_faults p (scalar_of t) value
 
 -- the faults of the size and of the initialiser; `argument` may be the whole initialiser where there is no size
-abbrev pub initial_faults : Setting → Scope → (size value : Option Tree) → List Fault
+abbrev pub initial_faults : Setting → Scope → (size value : Option Tree) → List TypeFault
 initial_faults w s None None = []
 initial_faults w s None (Some e) = if is_argument e then [] else value_faults w s e
 initial_faults w s (Some n) None = value_faults w s n
 initial_faults w s (Some n) (Some e) = value_faults w s n ++ value_faults w s e
 
 -- the declaration's own, where its type, its size and its initialiser have types; an argument has the declared type
-abbrev pub declared_faults : Setting → Scope → ValueType → (size value : Option Tree) → List Fault
+abbrev pub declared_faults : Setting → Scope → ValueType → (size value : Option Tree) → List TypeFault
 declared_faults w s t None None = []
 declared_faults w s t None (Some e) = of_typed (value_type w s e) (store_faults (place_of e) t)
 declared_faults w s t (Some n) None = of_typed (value_type w s n) (sized_faults (place_of n) t)
@@ -62,7 +65,7 @@ declared_faults w s t (Some n) (Some e) =
     of_typed (value_type w s n) (λ size. of_typed (value_type w s e) (filled_faults (place_of n) (place_of e) t size))
 
 -- that a name is unknown or declared twice is said whatever else is wrong
-abbrev pub declaration_faults : Setting → Scope → DeclarationTree → List Fault
+abbrev pub declaration_faults : Setting → Scope → DeclarationTree → List TypeFault
 declaration_faults w s d =
     domain_faults w d.declared.domain
     ++ twice_faults s d.variable
@@ -82,24 +85,24 @@ target_type w s t = indexed t.variable.place (variable_type (variable_named s t.
     indexed p v None = v
     indexed p v (Some i) = of_two (index_type p (place_of i)) v (value_type w s i)
 
-abbrev pub target_faults : Setting → Scope → TargetTree → List Fault
+abbrev pub target_faults : Setting → Scope → TargetTree → List TypeFault
 target_faults w s t =
     variable_faults t.variable.place (variable_named s t.variable.text)
     ++ indexed t.variable.place (variable_type (variable_named s t.variable.text)) t.index
   where
-    indexed : Span → Option ValueType → Option Tree → List Fault
+    indexed : Span → Option ValueType → Option Tree → List TypeFault
     indexed p v None = []
     indexed p v (Some i) =
         value_faults w s i ++ of_typed v (λ a. of_typed (value_type w s i) (index_faults p (place_of i) a))
 
-abbrev pub assignment_faults : Setting → Scope → AssignmentTree → List Fault
+abbrev pub assignment_faults : Setting → Scope → AssignmentTree → List TypeFault
 assignment_faults w s a =
     (target_faults w s a.target ++ value_faults w s a.value)
     ++ of_typed (target_type w s a.target) (λ t. of_typed (value_type w s a.value) (store_faults (place_of a.value) t))
 
 -- THE PARTS OF A `for`
 
-abbrev pub start_faults : Setting → Scope → StartTree → List Fault
+abbrev pub start_faults : Setting → Scope → StartTree → List TypeFault
 start_faults w s starts_with_nothing = []
 start_faults w s (starts_with_declaration d) = declaration_faults w s d
 start_faults w s (starts_with_assignment a) = assignment_faults w s a
@@ -109,7 +112,7 @@ after_start w s starts_with_nothing = s
 after_start w s (starts_with_declaration d) = with_variable (variable_declared w d) s
 after_start w s (starts_with_assignment a) = s
 
-abbrev pub step_faults : Setting → Scope → StepTree → List Fault
+abbrev pub step_faults : Setting → Scope → StepTree → List TypeFault
 step_faults w s steps_by_nothing = []
 step_faults w s (steps_by_assignment a) = assignment_faults w s a
 step_faults w s (steps_by_expression e) = faults w s e
@@ -120,7 +123,7 @@ is_step_typed w s steps_by_nothing = true
 is_step_typed w s (steps_by_assignment a) = true
 is_step_typed w s (steps_by_expression e) = is_some (type_of w s e)
 
-abbrev pub optional_faults : Setting → Scope → Option Tree → List Fault
+abbrev pub optional_faults : Setting → Scope → Option Tree → List TypeFault
 optional_faults w s None = []
 optional_faults w s (Some e) = value_faults w s e
 
@@ -130,25 +133,25 @@ optional_type w s None = None
 optional_type w s (Some e) = value_type w s e
 
 -- the condition of a `for`, which has the given type
-abbrev pub for_rule : Option Tree → Option ValueType → (step_typed : Bool) → List Fault
+abbrev pub for_rule : Option Tree → Option ValueType → (step_typed : Bool) → List TypeFault
 for_rule None t b = []
 for_rule (Some e) t false = []
 for_rule (Some e) t true = of_typed t (scalar_faults datatype.Bool PrivateCondition (place_of e))
 
-abbrev pub for_own : Setting → Scope → Option Tree → (step_typed : Bool) → List Fault
+abbrev pub for_own : Setting → Scope → Option Tree → (step_typed : Bool) → List TypeFault
 for_own w s e b = for_rule e (optional_type w s e) b
 
 -- RETURNS
 
 -- a `return` at p of a value of the given type
-abbrev pub return_rule : Setting → Span → ResultType → Option Tree → Option ValueType → List Fault
+abbrev pub return_rule : Setting → Span → ResultType → Option Tree → Option ValueType → List TypeFault
 return_rule w p returned.Void None given = []
 return_rule w p returned.Void (Some e) given = of_typed given (λ t. fault_at p TypeMismatch)
 return_rule w p (returned.Value t) None given = fault_at p TypeMismatch
 return_rule w p (returned.Value t) (Some e) given =
     of_typed (type_written w t) (λ wanted. of_typed given (store_faults (place_of e) wanted))
 
-abbrev pub return_own : Setting → Scope → Span → ResultType → Option Tree → List Fault
+abbrev pub return_own : Setting → Scope → Span → ResultType → Option Tree → List TypeFault
 return_own w s p r e = return_rule w p r e (optional_type w s e)
 
 -- STATEMENTS
@@ -176,7 +179,7 @@ after_all w s (also t ts) = after_all w (after w s t) ts
 
 -- the faults of a statement in a function with this result; a `for` and each branch or body is a block
 abbrev mutual
-  pub statement_faults : Setting → ResultType → Scope → StatementTree → List Fault
+  pub statement_faults : Setting → ResultType → Scope → StatementTree → List TypeFault
   statement_faults w r s (block p ss) = block_faults w r (inner s) ss
   statement_faults w r s (empty p) = []
   statement_faults w r s (branch p e body) = test_faults w s PrivateCondition e ++ statement_faults w r (inner s) body
@@ -199,7 +202,7 @@ abbrev mutual
   statement_faults w r s (evaluation e) = faults w s e
 
   -- statements in order, each in what is known there
-  pub block_faults : Setting → ResultType → Scope → StatementTrees → List Fault
+  pub block_faults : Setting → ResultType → Scope → StatementTrees → List TypeFault
   block_faults w r s none = []
   block_faults w r s (also t ts) = statement_faults w r s t ++ block_faults w r (after w s t) ts
 

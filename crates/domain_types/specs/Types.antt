@@ -3,9 +3,9 @@ use Rattle.std.specs.Prelude.{Bool, true, false, not, ◌&&◌, nat_eq, if◌the
 use Rattle.sc_text.specs.declared.span.Span.{Span}
 use Rattle.secrec_ast.specs.declared.expression.DataType.{DataType}
 use Rattle.secrec_ast.specs.declared.expression.DataType.TheVariants as datatype
-use Rattle.domain_types.specs.declared.fault.Problem.{Problem}
-use Rattle.domain_types.specs.declared.fault.Problem.TheVariants.{TypeMismatch, PrivateToPublic, DomainMix}
-use Rattle.domain_types.specs.declared.fault.Fault.{Fault}
+use Rattle.domain_types.specs.declared.fault.TypeProblem.{TypeProblem}
+use Rattle.domain_types.specs.declared.fault.TypeProblem.TheVariants.{TypeMismatch, PrivateToPublic, DomainMix}
+use Rattle.domain_types.specs.declared.fault.TypeFault.{TypeFault}
 use Rattle.domain_types.specs.declared.value_type.Protection.{Protection}
 use Rattle.domain_types.specs.declared.value_type.Protection.TheVariants.{Public, Private}
 use Rattle.domain_types.specs.declared.value_type.ValueType.{ValueType}
@@ -13,25 +13,25 @@ use Rattle.domain_types.specs.declared.value_type.ExpressionType.{ExpressionType
 use Rattle.domain_types.specs.declared.value_type.ExpressionType.TheVariants.{Void, Value}
 
 -- one fault
-abbrev pub fault_at : Span → Problem → List Fault
+abbrev pub fault_at : Span → TypeProblem → List TypeFault
 fault_at p problem = record { place = p; problem = problem } ∷ []
 
 -- one fault, where it is so
-abbrev pub fault_if : Bool → Span → Problem → List Fault
+abbrev pub fault_if : Bool → Span → TypeProblem → List TypeFault
 fault_if true p problem = fault_at p problem
 fault_if false p problem = []
 
-abbrev pub is_faultless : List Fault → Bool
+abbrev pub is_faultless : List TypeFault → Bool
 is_faultless [] = true
 is_faultless (f ∷ fs) = false
 
 -- what a node says of a part: nothing where the part has no type
-abbrev pub of_typed : {A : Type 0} → Option A → (A → List Fault) → List Fault
+abbrev pub of_typed : {A : Type 0} → Option A → (A → List TypeFault) → List TypeFault
 of_typed None say = []
 of_typed (Some t) say = say t
 
 -- a node that is refused has no type
-abbrev pub unless_refused : {A : Type 0} → List Fault → Option A → Option A
+abbrev pub unless_refused : {A : Type 0} → List TypeFault → Option A → Option A
 unless_refused fs t = if is_faultless fs then t else None
 
 -- the value that an expression gives: a void call gives none
@@ -41,7 +41,7 @@ value_of (Some Void) = None
 value_of (Some (Value t)) = Some t
 
 -- a void call, beginning at p, where a value is wanted
-abbrev pub void_faults : Span → Option ExpressionType → List Fault
+abbrev pub void_faults : Span → Option ExpressionType → List TypeFault
 void_faults p None = []
 void_faults p (Some Void) = fault_at p TypeMismatch
 void_faults p (Some (Value t)) = []
@@ -57,7 +57,7 @@ meet (Private k) Public = Some (Private k)
 meet (Private k) (Private m) = if nat_eq k m then Some (Private k) else None
 
 -- where an operation has operands of these domains
-abbrev pub mix_faults : Span → Protection → Protection → List Fault
+abbrev pub mix_faults : Span → Protection → Protection → List TypeFault
 mix_faults p (Private k) (Private m) = fault_if (not (nat_eq k m)) p DomainMix
 mix_faults p (Private k) Public = []
 mix_faults p Public d = []
@@ -75,19 +75,19 @@ same_dimension true b = b
 same_dimension false b = not b
 
 -- where a value of the domain `given` goes to a place of the domain `wanted`: a public one may go anywhere
-abbrev pub flow_faults : Span → (wanted given : Protection) → List Fault
+abbrev pub flow_faults : Span → (wanted given : Protection) → List TypeFault
 flow_faults p wanted Public = []
 flow_faults p Public (Private k) = fault_at p PrivateToPublic
 flow_faults p (Private k) (Private m) = fault_if (not (nat_eq k m)) p DomainMix
 
 -- where a value, beginning at p, goes to a variable, a parameter or a result
-abbrev pub store_faults : Span → (wanted given : ValueType) → List Fault
+abbrev pub store_faults : Span → (wanted given : ValueType) → List TypeFault
 store_faults p wanted given =
     fault_if (not (same_element wanted.element given.element && same_dimension wanted.array given.array)) p TypeMismatch
     ++ flow_faults p wanted.domain given.domain
 
 -- a public scalar of this data type is wanted, as a condition, an index, a size or an assertion; a private one is this problem
-abbrev pub scalar_faults : DataType → Problem → Span → ValueType → List Fault
+abbrev pub scalar_faults : DataType → TypeProblem → Span → ValueType → List TypeFault
 scalar_faults element private_one p given =
     fault_if (not (same_element element given.element && not given.array)) p TypeMismatch
     ++ fault_if (is_private given.domain) p private_one

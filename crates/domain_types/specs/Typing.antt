@@ -5,7 +5,8 @@ use Rattle.secrec_ast.specs.declared.expression.DataType.{DataType}
 use Rattle.secrec_ast.specs.declared.expression.DataType.TheVariants.{Uint64}
 use Rattle.secrec_ast.specs.declared.expression.DataType.TheVariants as datatype
 use Rattle.secrec_ast.specs.declared.expression.Operator.{Operator}
-use Rattle.secrec_ast.specs.declared.expression.Operator.TheVariants.{Add, Subtract, Multiply, Divide, Remainder, Equal, NotEqual, Less, LessOrEqual, Greater, GreaterOrEqual, And, Or, Xor, AndAlso, OrElse}
+use Rattle.secrec_ast.specs.declared.expression.Operator.TheVariants.{Add, Subtract, Multiply, Divide, Remainder, Equal, NotEqual, Less, LessOrEqual}
+use Rattle.secrec_ast.specs.declared.expression.Operator.TheVariants.{Greater, GreaterOrEqual, And, Or, Xor, AndAlso, OrElse}
 use Rattle.secrec_ast.specs.declared.statement.Identifier.{Identifier}
 use Rattle.secrec_ast.specs.declared.function.DomainVariable.{DomainVariable}
 use Rattle.secrec_ast.specs.declared.function.Parameter.{Parameter}
@@ -13,7 +14,10 @@ use Rattle.secrec_ast.specs.declared.function.ResultType.{ResultType}
 use Rattle.secrec_ast.specs.declared.function.ResultType.TheVariants as returned
 use Rattle.secrec_ast.specs.Tree.{Tree, Trees, number, truth, variable, call, index, parentheses, negation, cast, binary, declassify, argument, publish}
 use Rattle.secrec_ast.specs.Tree as Tree'
-use Rattle.secrec_ast.specs.Statements.{DeclarationTree, TargetTree, AssignmentTree, StartTree, starts_with_nothing, starts_with_declaration, starts_with_assignment, StepTree, steps_by_nothing, steps_by_assignment, steps_by_expression, StatementTree, block, empty, branch, choice, while_loop, do_loop, for_loop, breaks, continues, returns, assertion, declaration, assignment, evaluation, StatementTrees}
+use Rattle.secrec_ast.specs.Statements.{DeclarationTree, TargetTree, AssignmentTree, StartTree, starts_with_nothing, starts_with_declaration}
+use Rattle.secrec_ast.specs.Statements.{starts_with_assignment, StepTree, steps_by_nothing, steps_by_assignment, steps_by_expression, StatementTree}
+use Rattle.secrec_ast.specs.Statements.{block, empty, branch, choice, while_loop, do_loop, for_loop, breaks, continues, returns, assertion}
+use Rattle.secrec_ast.specs.Statements.{declaration, assignment, evaluation, StatementTrees}
 use Rattle.secrec_ast.specs.Statements as Statements'
 use Rattle.secrec_ast.specs.Heights.{place_of}
 use Rattle.secrec_ast.specs.Programs.{FunctionTree, ItemTree, imports, kind, domain, defines, ProgramTree}
@@ -26,7 +30,8 @@ use Rattle.domain_types.specs.declared.value_type.ExpressionType.TheVariants.{Vo
 use Rattle.domain_types.specs.declared.value_type.BuiltIn.{BuiltIn}
 use Rattle.domain_types.specs.declared.value_type.BuiltIn.TheVariants.{Size, Cat, Sum, BitExtract}
 use Rattle.domain_types.specs.Types.{scalar_of, public_scalar}
-use Rattle.domain_types.specs.Declarations.{Declared, declared_by, functions_of, is_known_kind, built_in_named, Setting, type_written, Callee, built_in, defined, callee}
+use Rattle.domain_types.specs.Declarations.{Declared, declared_by, functions_of, is_known_kind, built_in_named, Setting, type_written, Callee}
+use Rattle.domain_types.specs.Declarations.{built_in, defined, callee}
 use Rattle.domain_types.specs.Scopes.{Scope, nothing_known, inner, variable_named, is_among}
 use Rattle.domain_types.specs.ExpressionTypes.{cast_type, declassified, array_of, bound_by, within, variable_type, result_type}
 use Rattle.domain_types.specs.StatementTypes.{is_argument, after, after_start, one_returns}

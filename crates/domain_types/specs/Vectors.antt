@@ -12,9 +12,10 @@ use Rattle.secrec_ast.specs.Tree.{Tree, Trees, number, truth, variable, call, in
 use Rattle.secrec_ast.specs.Tree as Tree'
 use Rattle.secrec_ast.specs.Statements.{StatementTree, block, branch, returns, assertion, declaration, evaluation, statements_of}
 use Rattle.secrec_ast.specs.Programs.{FunctionTree, ItemTree, imports, domain as domains_item, defines, ProgramTree}
-use Rattle.domain_types.specs.declared.fault.Problem.{Problem}
-use Rattle.domain_types.specs.declared.fault.Problem.TheVariants.{UnknownName, Twice, TypeMismatch, PrivateCondition, PrivateIndex, PrivateSize, PrivateToPublic, PrivateDivision, PrivateAssert, MissingReturn}
-use Rattle.domain_types.specs.declared.fault.Fault.{Fault}
+use Rattle.domain_types.specs.declared.fault.TypeProblem.{TypeProblem}
+use Rattle.domain_types.specs.declared.fault.TypeProblem.TheVariants.{UnknownName, Twice, TypeMismatch, PrivateCondition, PrivateIndex, PrivateSize}
+use Rattle.domain_types.specs.declared.fault.TypeProblem.TheVariants.{PrivateToPublic, PrivateDivision, PrivateAssert, MissingReturn}
+use Rattle.domain_types.specs.declared.fault.TypeFault.{TypeFault}
 use Rattle.domain_types.specs.declared.value_type.Protection.TheVariants.{Public, Private}
 use Rattle.domain_types.specs.Declarations.{declared_by}
 use Rattle.domain_types.specs.ExpressionTypes.{within, operator_faults, operator_type, index_faults, index_type, defined_faults, call_faults, call_type}
@@ -22,7 +23,7 @@ use Rattle.domain_types.specs.StatementTypes.{sized_faults}
 use Rattle.domain_types.specs.FunctionTypes.{function_faults}
 use Rattle.domain_types.specs.Reached.{function_calls}
 use Rattle.domain_types.specs.ProgramTypes.{declaring_faults}
-use Rattle.domain_types.specs.Least.{least}
+use Rattle.domain_types.specs.inner.LeastFault.{least}
 
 -- a place: line and column
 abbrev at : ℕ → ℕ → Span
@@ -61,29 +62,32 @@ main_with ss =
 abbrev program_with : List ItemTree → List StatementTree → ProgramTree
 program_with more ss =
     record {
-      items = (imports (named (at 1 8) (codes "stdlib")) ∷ imports (named (at 1 23) (codes "shared3p")) ∷ domains_item (named (at 1 40) (codes "p")) (named (at 1 42) (codes "shared3p")) ∷ defines (main_with ss) ∷ []) ++ more;
+      items = (imports (named (at 1 8) (codes "stdlib")) ∷ imports (named (at 1 23) (codes "shared3p"))
+          ∷ domains_item (named (at 1 40) (codes "p")) (named (at 1 42) (codes "shared3p")) ∷ defines (main_with ss) ∷ []) ++ more;
       end = at 3 2;
     }
 
-abbrev faults_of : List StatementTree → List Fault
+abbrev faults_of : List StatementTree → List TypeFault
 faults_of ss = declaring_faults (program_with [] ss) ++ function_faults (within (declared_by (program_with [] ss)) (main_with ss) []) (main_with ss)
 
-abbrev told : List StatementTree → Option Fault
+abbrev told : List StatementTree → Option TypeFault
 told ss = least None (faults_of ss)
 
-abbrev fault : ℕ → Problem → Option Fault
+abbrev fault : ℕ → TypeProblem → Option TypeFault
 fault c problem = Some (record { place = at 2 c; problem = problem })
 
 abbrev a_at : ℕ → Tree
 a_at c = variable (at 2 c) (codes "a")
 
 -- p uint64 a = argument("a"); if (a < a) { }
-private_condition : told (input 1 (codes "a") ∷ branch (at 2 29) (binary (at 2 33) Less (a_at 33) (a_at 37)) (block (at 2 40) (statements_of [])) ∷ []) ≡ fault 33 PrivateCondition
+private_condition : told (input 1 (codes "a") ∷ branch (at 2 29) (binary (at 2 33) Less (a_at 33) (a_at 37)) (block (at 2 40) (statements_of []))
+    ∷ []) ≡ fault 33 PrivateCondition
 unfolding operator_faults operator_type
 private_condition = refl
 
 -- p uint64 a = argument("a"); publish("q", a / a);
-private_division : told (input 1 (codes "a") ∷ evaluation (publish (at 2 29) (codes "q") (binary (at 2 42) Divide (a_at 42) (a_at 46))) ∷ []) ≡ fault 42 PrivateDivision
+private_division : told (input 1 (codes "a") ∷ evaluation (publish (at 2 29) (codes "q") (binary (at 2 42) Divide (a_at 42) (a_at 46))) ∷ [])
+    ≡ fault 42 PrivateDivision
 unfolding operator_faults operator_type
 private_division = refl
 
@@ -103,7 +107,8 @@ unfolding sized_faults
 private_size = refl
 
 -- p uint64 a = argument("a"); uint64[[1]] b (2); publish("x", b[a]);
-private_index : told (input 1 (codes "a") ∷ a_array 29 (Some (number (at 2 44) 2)) None ∷ evaluation (publish (at 2 48) (codes "x") (index (at 2 61) (variable (at 2 61) (codes "b")) (a_at 63))) ∷ []) ≡ fault 63 PrivateIndex
+private_index : told (input 1 (codes "a") ∷ a_array 29 (Some (number (at 2 44) 2)) None
+    ∷ evaluation (publish (at 2 48) (codes "x") (index (at 2 61) (variable (at 2 61) (codes "b")) (a_at 63))) ∷ []) ≡ fault 63 PrivateIndex
 unfolding sized_faults index_faults index_type
 private_index = refl
 
@@ -113,16 +118,36 @@ unfolding operator_faults operator_type
 private_assertion = refl
 
 -- p uint64 a = argument("a"); uint64 c = a;
-private_to_public : told (input 1 (codes "a") ∷ declaration (record { declared = public_type (at 2 29) datatype.Uint64 false; variable = named (at 2 36) (codes "c"); size = None; value = Some (a_at 40) }) ∷ []) ≡ fault 40 PrivateToPublic
+private_to_public : told (input 1 (codes "a")
+    ∷ declaration (record {
+      declared = public_type (at 2 29) datatype.Uint64 false;
+      variable = named (at 2 36) (codes "c");
+      size = None;
+      value =
+          Some (a_at 40);
+    }) ∷ []) ≡ fault 40 PrivateToPublic
 private_to_public = refl
 
 -- p uint64 a = argument("a"); p uint64 b = argument("b"); publish("c", declassify(a * b)); has no fault
-product : faults_of (input 1 (codes "a") ∷ input 29 (codes "b") ∷ evaluation (publish (at 2 57) (codes "c") (declassify (at 2 70) (binary (at 2 81) Multiply (a_at 81) (variable (at 2 85) (codes "b"))))) ∷ []) ≡ []
+product : faults_of (input 1 (codes "a") ∷ input 29 (codes "b")
+    ∷ evaluation (publish (at 2 57) (codes "c") (declassify (at 2 70) (binary (at 2 81) Multiply (a_at 81) (variable (at 2 85) (codes "b"))))) ∷ []) ≡ []
 unfolding operator_faults operator_type
 product = refl
 
 -- a name that is declared again and an initialiser of an unknown name: uint64 x; uint64 x = y;
-twice : told (declaration (record { declared = public_type (at 2 1) datatype.Uint64 false; variable = named (at 2 8) (codes "x"); size = None; value = None }) ∷ declaration (record { declared = public_type (at 2 11) datatype.Uint64 false; variable = named (at 2 18) (codes "x"); size = None; value = Some (variable (at 2 22) (codes "y")) }) ∷ []) ≡ fault 18 Twice
+twice : told (declaration (record {
+  declared = public_type (at 2 1) datatype.Uint64 false;
+  variable = named (at 2 8) (codes "x");
+  size = None;
+  value =
+      None;
+}) ∷ declaration (record {
+  declared = public_type (at 2 11) datatype.Uint64 false;
+  variable = named (at 2 18) (codes "x");
+  size =
+      None;
+  value = Some (variable (at 2 22) (codes "y"));
+}) ∷ []) ≡ fault 18 Twice
 twice = refl
 
 -- an unknown function of an unknown name: g(y); and a void call as an operand: 1 + main();
@@ -142,10 +167,15 @@ one_way =
       returned = returned.Value (public_type (at 1 1) datatype.Uint64 false);
       function = named (at 1 8) (codes "f");
       parameters = [];
-      body = record { place = at 1 12; statements = statements_of (branch (at 1 14) (truth (at 1 18) true) (block (at 1 24) (statements_of (returns (at 1 26) (Some (number (at 1 33) 1)) ∷ []))) ∷ []) };
+      body = record {
+        place = at 1 12;
+        statements =
+            statements_of (branch (at 1 14) (truth (at 1 18) true) (block (at 1 24) (statements_of (returns (at 1 26) (Some (number (at 1 33) 1)) ∷ []))) ∷ []);
+      };
     }
 
-missing_return : function_faults (within (declared_by (program_with (defines one_way ∷ []) [])) one_way []) one_way ≡ record { place = at 1 8; problem = MissingReturn } ∷ []
+missing_return : function_faults (within (declared_by (program_with (defines one_way ∷ []) [])) one_way []) one_way
+    ≡ record { place = at 1 8; problem = MissingReturn } ∷ []
 missing_return = refl
 
 -- line 4: template <domain D> D uint64 f(D uint64 x, D uint64 y) { return x + y; }
@@ -158,8 +188,13 @@ sum_template =
       variables = record { variable = named (at 4 18) (codes "D"); kind = None } ∷ [];
       returned = returned.Value (d_type (at 4 21));
       function = named (at 4 30) (codes "f");
-      parameters = record { declared = d_type (at 4 32); variable = named (at 4 41) (codes "x") } ∷ record { declared = d_type (at 4 44); variable = named (at 4 53) (codes "y") } ∷ [];
-      body = record { place = at 4 56; statements = statements_of (returns (at 4 58) (Some (binary (at 4 65) Add (variable (at 4 65) (codes "x")) (variable (at 4 69) (codes "y")))) ∷ []) };
+      parameters = record { declared = d_type (at 4 32); variable = named (at 4 41) (codes "x") }
+          ∷ record { declared = d_type (at 4 44); variable = named (at 4 53) (codes "y") } ∷ [];
+      body = record {
+        place = at 4 56;
+        statements =
+            statements_of (returns (at 4 58) (Some (binary (at 4 65) Add (variable (at 4 65) (codes "x")) (variable (at 4 69) (codes "y")))) ∷ []);
+      };
     }
 
 abbrev f_call : ℕ → Tree → Tree → StatementTree
@@ -169,10 +204,12 @@ f_call c a b = evaluation (call (at 2 c) (codes "f") (Tree'.also a (Tree'.also b
 abbrev two_bindings : List StatementTree
 two_bindings = input 1 (codes "a") ∷ f_call 29 (number (at 2 31) 1) (number (at 2 34) 2) ∷ f_call 38 (a_at 40) (number (at 2 43) 2) ∷ []
 
-reached_twice : function_calls (within (declared_by (program_with (defines sum_template ∷ []) two_bindings)) (main_with two_bindings) []) (main_with two_bindings) ≡ record { function = 1; binding = Some (Public ∷ []) } ∷ record { function = 1; binding = Some (Private 0 ∷ []) } ∷ []
+reached_twice : function_calls (within (declared_by (program_with (defines sum_template ∷ []) two_bindings)) (main_with two_bindings) [])
+    (main_with two_bindings) ≡ record { function = 1; binding = Some (Public ∷ []) } ∷ record { function = 1; binding = Some (Private 0 ∷ []) } ∷ []
 unfolding call_faults call_type defined_faults
 reached_twice = refl
 
-private_instance : function_faults (within (declared_by (program_with (defines sum_template ∷ []) two_bindings)) sum_template (Private 0 ∷ [])) sum_template ≡ []
+private_instance : function_faults (within (declared_by (program_with (defines sum_template ∷ []) two_bindings)) sum_template (Private 0 ∷ []))
+    sum_template ≡ []
 unfolding operator_faults operator_type
 private_instance = refl

@@ -6,16 +6,16 @@ ghost use Rattle.domain_types.specs.Declarations.{defined, callee};
 ghost use Rattle.domain_types.specs.ExpressionTypes.{defined_faults, callee_type, call_faults, call_type};
 ghost use Rattle.domain_types.specs.Reached.{call_of};
 ghost use Rattle.domain_types.specs.Views.{declared};
-ghost use Rattle.domain_types.specs.Walks.{Gives};
+ghost use Rattle.domain_types.specs.inner.Walks.{Gives};
 
 use crate::built_ins::built_in;
 use crate::calls::{Call, Found};
 use crate::declarations::Called;
 use crate::defined_calls::{defined_call, result_type};
-use crate::fault::Problem;
+use crate::fault::TypeProblem;
+use crate::least_fault::note;
 use crate::setting::Setting;
 use crate::value_type::{Argument, ExpressionType};
-use crate::worst::note;
 use sc_text::Span;
 use secrec_ast::Function;
 use std::alloc::AllocError;
@@ -44,7 +44,7 @@ fn call_defined<'p>(
         })?;
         return Ok(None);
     };
-    let binding = defined_call(&mut found.worst, here, place, function, arguments)?;
+    let binding = defined_call(&mut found.least_fault, here, place, function, arguments)?;
     let given = match &binding {
         None => None,
         Some(domains) => {
@@ -81,12 +81,12 @@ pub fn call<'p>(
 {
     match here.declarations.callee(name) {
         None => {
-            note(&mut found.worst, place, Problem::UnknownName);
+            note(&mut found.least_fault, place, TypeProblem::UnknownName);
             Ok(None)
         }
         Some(Called::BuiltIn(function)) => match arguments {
             None => Ok(None),
-            Some(arguments) => match built_in(&mut found.worst, place, function, arguments) {
+            Some(arguments) => match built_in(&mut found.least_fault, place, function, arguments) {
                 None => Ok(None),
                 Some(given) => Ok(Some(ExpressionType::Value(given))),
             },

@@ -1,4 +1,4 @@
-use crate::fault::Fault;
+use crate::fault::TypeFault;
 use crate::value_type::Protection;
 
 /// A call of a function of the program: its number, and the domains of its domain variables where the call is not refused.
@@ -11,6 +11,6 @@ pub struct Call {
 /// What the checker has found so far: the least fault, and the calls of functions of the program.
 #[derive(Drop)]
 pub struct Found {
-    pub worst: Option<Fault>,
+    pub least_fault: Option<TypeFault>,
     pub calls: Vec<Call>,
 }

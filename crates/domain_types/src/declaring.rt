@@ -4,20 +4,21 @@ ghost use Rattle.secrec_ast.specs.Tree.{expression};
 ghost use Rattle.secrec_ast.specs.Statements.{optional, declaration_tree, target_tree, assignment_tree};
 ghost use Rattle.domain_types.specs.Types.{of_typed};
 ghost use Rattle.domain_types.specs.Scopes.{twice_faults, with_variable};
-ghost use Rattle.domain_types.specs.StatementTypes.{domain_faults, is_argument, sized_faults, filled_faults, initial_faults, declared_faults, declaration_faults, variable_declared, target_type, target_faults, assignment_faults};
+ghost use Rattle.domain_types.specs.StatementTypes.{domain_faults, is_argument, sized_faults, filled_faults, initial_faults, declared_faults};
+ghost use Rattle.domain_types.specs.StatementTypes.{declaration_faults, variable_declared, target_type, target_faults, assignment_faults};
 ghost use Rattle.domain_types.specs.Reached.{calls_of, optional_calls, declaration_calls, assignment_calls};
 ghost use Rattle.domain_types.specs.Views.{setting, calls_seen};
-ghost use Rattle.domain_types.specs.Least.{least};
+ghost use Rattle.domain_types.specs.inner.LeastFault.{least};
 
 use crate::calls::Found;
 use crate::expressions::{place_of, value, variable};
-use crate::fault::{Fault, Problem};
+use crate::fault::{TypeFault, TypeProblem};
+use crate::least_fault::note_if;
 use crate::operations::indexing;
 use crate::rules::{scalar, store, store_typed};
 use crate::setting::{Setting, domain, written};
 use crate::value_type::ValueType;
 use crate::variables::Variables;
-use crate::worst::note_if;
 use sc_text::Span;
 use secrec_ast::{
     Assignment, DataType, Declaration, DeclaredType, Domain, Expression, Identifier, Target,
@@ -25,31 +26,35 @@ use secrec_ast::{
 use std::alloc::AllocError;
 
 /// The name of a domain is known.
-pub fn known<'p>(worst: &mut Option<Fault>, here: &Setting<'_, 'p>, written: &'p Domain)
-    ensures { worst.new ≡ least worst.old (domain_faults (setting here.now) written.now) }
+pub fn known<'p>(least_fault: &mut Option<TypeFault>, here: &Setting<'_, 'p>, written: &'p Domain)
+    ensures { least_fault.new ≡ least least_fault.old (domain_faults (setting here.now) written.now) }
 {
     match written {
         Domain::Public => {}
         Domain::Named(name) => {
             note_if(
-                worst,
+                least_fault,
                 domain(here, written).is_none(),
                 name.place,
-                Problem::UnknownName,
+                TypeProblem::UnknownName,
             );
         }
     }
 }
 
 /// The name of a variable is new in the innermost block.
-pub fn is_new<'p>(worst: &mut Option<Fault>, variables: &Variables<'p>, name: &'p Identifier)
-    ensures { worst.new ≡ least worst.old (twice_faults variables.now name.now) }
+pub fn is_new<'p>(
+    least_fault: &mut Option<TypeFault>,
+    variables: &Variables<'p>,
+    name: &'p Identifier,
+)
+    ensures { least_fault.new ≡ least least_fault.old (twice_faults variables.now name.now) }
 {
     note_if(
-        worst,
+        least_fault,
         variables.declares(name.text.as_str()),
         name.place,
-        Problem::Twice,
+        TypeProblem::Twice,
     );
 }
 
@@ -65,54 +70,65 @@ fn is_argument(e: &Expression) -> bool
 // The size of an array of this type, where both have types.
 #[tactic(auto, using(crate::proofs::Faults::appends), unfolding(crate::specs::StatementTypes::sized_faults))]
 fn sized(
-    worst: &mut Option<Fault>,
+    least_fault: &mut Option<TypeFault>,
     place: Span,
     declared: Option<ValueType>,
     size: Option<ValueType>,
 )
-    ensures { worst.new ≡ least worst.old (of_typed declared (λ t. of_typed size (sized_faults place t))) }
+    ensures { least_fault.new ≡ least least_fault.old (of_typed declared (λ t. of_typed size (sized_faults place t))) }
 {
     if let (Some(declared), Some(size)) = (declared, size) {
-        note_if(worst, !declared.array, place, Problem::TypeMismatch);
-        let _ = scalar(worst, DataType::Uint64, Problem::PrivateSize, place, size);
+        note_if(
+            least_fault,
+            !declared.array,
+            place,
+            TypeProblem::TypeMismatch,
+        );
+        let _ = scalar(
+            least_fault,
+            DataType::Uint64,
+            TypeProblem::PrivateSize,
+            place,
+            size,
+        );
     }
 }
 
 // The size of an array of this type, and the scalar that fills it.
 #[tactic(auto, using(crate::proofs::Faults::appends), unfolding(crate::specs::StatementTypes::filled_faults))]
 fn fill(
-    worst: &mut Option<Fault>,
+    least_fault: &mut Option<TypeFault>,
     size_place: Span,
     place: Span,
     declared: ValueType,
     size: ValueType,
     value: ValueType,
 )
-    ensures { worst.new ≡ least worst.old (filled_faults size_place place declared size value) }
+    ensures { least_fault.new ≡ least least_fault.old (filled_faults size_place place declared size value) }
 {
-    sized(worst, size_place, Some(declared), Some(size));
+    sized(least_fault, size_place, Some(declared), Some(size));
     let wanted = ValueType {
         domain: declared.domain,
         element: declared.element,
         array: false,
     };
-    let _ = store(worst, place, wanted, value);
+    let _ = store(least_fault, place, wanted, value);
 }
 
 // The size of an array of this type, and the scalar that fills it, where all have types.
 fn filled(
-    worst: &mut Option<Fault>,
+    least_fault: &mut Option<TypeFault>,
     size_place: Span,
     place: Span,
     declared: Option<ValueType>,
     size: Option<ValueType>,
     value: Option<ValueType>,
 )
-    ensures { worst.new ≡ least worst.old
+    ensures { least_fault.new ≡ least least_fault.old
         (of_typed declared (λ t. of_typed size (λ n. of_typed value (filled_faults size_place place t n)))) }
 {
     if let (Some(declared), Some(size), Some(value)) = (declared, size, value) {
-        fill(worst, size_place, place, declared, size, value);
+        fill(least_fault, size_place, place, declared, size, value);
     }
 }
 
@@ -125,7 +141,7 @@ fn first_value<'p>(
     declared: Option<ValueType>,
     e: &'p Expression,
 ) -> Result<(), AllocError>
-    ensures worst { IfOk result (λ _. found.new.worst ≡ least found.old.worst
+    ensures least_fault { IfOk result (λ _. found.new.least_fault ≡ least found.old.least_fault
         (initial_faults (setting here.now) variables.now None (Some (expression e.now))
         ++ of_typed declared (λ t. declared_faults (setting here.now) variables.now t None (Some (expression e.now))))) }
     ensures calls { IfOk result (λ _. calls_seen found.new.calls.items ≡
@@ -135,7 +151,7 @@ fn first_value<'p>(
         return Ok(());
     }
     let given = value(found, here, variables, e)?;
-    store_typed(&mut found.worst, place_of(e), declared, given);
+    store_typed(&mut found.least_fault, place_of(e), declared, given);
     Ok(())
 }
 
@@ -148,9 +164,10 @@ fn initial<'p>(
     declared: Option<ValueType>,
     declaration: &'p Declaration,
 ) -> Result<(), AllocError>
-    ensures worst { IfOk result (λ _. found.new.worst ≡ least found.old.worst
+    ensures least_fault { IfOk result (λ _. found.new.least_fault ≡ least found.old.least_fault
         (initial_faults (setting here.now) variables.now (declaration_tree declaration.now).size (declaration_tree declaration.now).value
-        ++ of_typed declared (λ t. declared_faults (setting here.now) variables.now t (declaration_tree declaration.now).size (declaration_tree declaration.now).value))) }
+        ++ of_typed declared (λ t. declared_faults (setting here.now) variables.now t
+        (declaration_tree declaration.now).size (declaration_tree declaration.now).value))) }
     ensures calls { IfOk result (λ _. calls_seen found.new.calls.items ≡
         calls_seen found.old.calls.items ++ declaration_calls (setting here.now) variables.now (declaration_tree declaration.now)) }
 {
@@ -159,14 +176,14 @@ fn initial<'p>(
         (None, Some(e)) => first_value(found, here, variables, declared, e),
         (Some(size), None) => {
             let counted = value(found, here, variables, size)?;
-            sized(&mut found.worst, place_of(size), declared, counted);
+            sized(&mut found.least_fault, place_of(size), declared, counted);
             Ok(())
         }
         (Some(size), Some(e)) => {
             let counted = value(found, here, variables, size)?;
             let given = value(found, here, variables, e)?;
             filled(
-                &mut found.worst,
+                &mut found.least_fault,
                 place_of(size),
                 place_of(e),
                 declared,
@@ -186,15 +203,15 @@ pub fn declaration<'p>(
     variables: &mut Variables<'p>,
     declaration: &'p Declaration,
 ) -> Result<(), AllocError>
-    ensures worst { IfOk result (λ _. found.new.worst ≡ least found.old.worst
+    ensures least_fault { IfOk result (λ _. found.new.least_fault ≡ least found.old.least_fault
         (declaration_faults (setting here.now) variables.old (declaration_tree declaration.now))) }
     ensures calls { IfOk result (λ _. calls_seen found.new.calls.items ≡
         calls_seen found.old.calls.items ++ declaration_calls (setting here.now) variables.old (declaration_tree declaration.now)) }
     ensures variables { IfOk result (λ _. variables.new ≡
         with_variable (variable_declared (setting here.now) (declaration_tree declaration.now)) variables.old) }
 {
-    known(&mut found.worst, here, &declaration.declared.domain);
-    is_new(&mut found.worst, variables, &declaration.variable);
+    known(&mut found.least_fault, here, &declaration.declared.domain);
+    is_new(&mut found.least_fault, variables, &declaration.variable);
     let declared = written(here, &declaration.declared);
     initial(found, here, variables, declared, declaration)?;
     variables.declare(declaration.variable.text.as_str(), declared)
@@ -209,14 +226,14 @@ fn target<'p>(
     target: &'p Target,
 ) -> Result<Option<ValueType>, AllocError>
     ensures kind { IfOk result (λ t. t ≡ target_type (setting here.now) variables.now (target_tree target.now)) }
-    ensures worst { IfOk result (λ _. found.new.worst ≡ least found.old.worst
+    ensures least_fault { IfOk result (λ _. found.new.least_fault ≡ least found.old.least_fault
         (target_faults (setting here.now) variables.now (target_tree target.now))) }
     ensures calls { IfOk result (λ _. calls_seen found.new.calls.items ≡
         calls_seen found.old.calls.items ++ optional_calls (setting here.now) variables.now (optional target.now.index)) }
 {
     let place = target.variable.place;
     let held = variable(
-        &mut found.worst,
+        &mut found.least_fault,
         variables,
         place,
         target.variable.text.as_str(),
@@ -225,7 +242,13 @@ fn target<'p>(
         None => Ok(held),
         Some(position) => {
             let counted = value(found, here, variables, position)?;
-            Ok(indexing(&mut found.worst, place, place_of(position), held, counted))
+            Ok(indexing(
+                &mut found.least_fault,
+                place,
+                place_of(position),
+                held,
+                counted,
+            ))
         }
     }
 }
@@ -238,13 +261,18 @@ pub fn assignment<'p>(
     variables: &Variables<'p>,
     assignment: &'p Assignment,
 ) -> Result<(), AllocError>
-    ensures worst { IfOk result (λ _. found.new.worst ≡ least found.old.worst
+    ensures least_fault { IfOk result (λ _. found.new.least_fault ≡ least found.old.least_fault
         (assignment_faults (setting here.now) variables.now (assignment_tree assignment.now))) }
     ensures calls { IfOk result (λ _. calls_seen found.new.calls.items ≡
         calls_seen found.old.calls.items ++ assignment_calls (setting here.now) variables.now (assignment_tree assignment.now)) }
 {
     let wanted = target(found, here, variables, &assignment.target)?;
     let given = value(found, here, variables, &assignment.value)?;
-    store_typed(&mut found.worst, place_of(&assignment.value), wanted, given);
+    store_typed(
+        &mut found.least_fault,
+        place_of(&assignment.value),
+        wanted,
+        given,
+    );
     Ok(())
 }

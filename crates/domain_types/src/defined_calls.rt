@@ -4,14 +4,15 @@ ghost use Rattle.secrec_ast.specs.Programs.{function_tree};
 ghost use Rattle.domain_types.specs.Types.{is_faultless, of_typed, unless_refused};
 ghost use Rattle.domain_types.specs.Declarations.{type_written};
 ghost use Rattle.domain_types.specs.Views.{declared, setting};
-ghost use Rattle.domain_types.specs.ExpressionTypes.{is_named, bound_from, bound_by, bound_faults, binding_faults, binding_by, argument_faults, defined_faults, within, result_type};
-ghost use Rattle.domain_types.specs.Least.{least};
+ghost use Rattle.domain_types.specs.ExpressionTypes.{is_named, bound_from, bound_by, bound_faults, binding_faults, binding_by, argument_faults};
+ghost use Rattle.domain_types.specs.ExpressionTypes.{defined_faults, within, result_type};
+ghost use Rattle.domain_types.specs.inner.LeastFault.{least};
 
-use crate::fault::{Fault, Problem};
+use crate::fault::{TypeFault, TypeProblem};
+use crate::least_fault::note;
 use crate::rules::{meet, store};
 use crate::setting::{Setting, written};
 use crate::value_type::{Argument, ExpressionType, Protection};
-use crate::worst::note;
 use sc_text::Span;
 use secrec_ast::{Domain, DomainVariable, Function, Identifier, Parameter, ResultType};
 use std::alloc::{AllocError, Global};
@@ -51,21 +52,21 @@ fn bound_by(name: &str, parameters: &[Parameter], arguments: &[Argument]) -> Opt
 
 // A domain variable may be bound so.
 fn may_be_bound(
-    worst: &mut Option<Fault>,
+    least_fault: &mut Option<TypeFault>,
     place: Span,
     kind: &Option<Identifier>,
     domain: Option<Protection>,
 ) -> bool
     ensures fits { result ≡ is_faultless (bound_faults place kind.now domain) }
-    ensures worst { worst.new ≡ least worst.old (bound_faults place kind.now domain) }
+    ensures least_fault { least_fault.new ≡ least least_fault.old (bound_faults place kind.now domain) }
 {
     match (kind, domain) {
         (_, None) => {
-            note(worst, place, Problem::DomainMix);
+            note(least_fault, place, TypeProblem::DomainMix);
             false
         }
         (Some(_), Some(Protection::Public)) => {
-            note(worst, place, Problem::TypeMismatch);
+            note(least_fault, place, TypeProblem::TypeMismatch);
             false
         }
         _ => true,
@@ -75,20 +76,20 @@ fn may_be_bound(
 // The domain variables may be bound as the arguments bind them.
 #[tactic(auto, using(crate::proofs::Faults::appends))]
 fn may_all_be_bound(
-    worst: &mut Option<Fault>,
+    least_fault: &mut Option<TypeFault>,
     place: Span,
     variables: &[DomainVariable],
     parameters: &[Parameter],
     arguments: &[Argument],
 ) -> bool
     ensures fits { result ≡ is_faultless (binding_faults place variables.now parameters.now arguments.now) }
-    ensures worst { worst.new ≡ least worst.old (binding_faults place variables.now parameters.now arguments.now) }
+    ensures least_fault { least_fault.new ≡ least least_fault.old (binding_faults place variables.now parameters.now arguments.now) }
 {
     let mut fits = true;
     let mut variables = variables;
     while let Some((variable, more)) = variables.split_first() {
         let domain = bound_by(variable.variable.text.as_str(), parameters, arguments);
-        let good = may_be_bound(worst, place, &variable.kind, domain);
+        let good = may_be_bound(least_fault, place, &variable.kind, domain);
         fits = fits && good;
         variables = more;
     }
@@ -120,13 +121,13 @@ fn binding(
 // Each argument goes to its parameter.
 #[tactic(auto, using(crate::proofs::Faults::appends))]
 fn arguments_fit<'p>(
-    worst: &mut Option<Fault>,
+    least_fault: &mut Option<TypeFault>,
     callee: &Setting<'_, 'p>,
     parameters: &'p [Parameter],
     arguments: &[Argument],
 ) -> bool
     ensures fits { result ≡ is_faultless (argument_faults (setting callee.now) parameters.now arguments.now) }
-    ensures worst { worst.new ≡ least worst.old (argument_faults (setting callee.now) parameters.now arguments.now) }
+    ensures least_fault { least_fault.new ≡ least least_fault.old (argument_faults (setting callee.now) parameters.now arguments.now) }
 {
     let mut fits = true;
     let mut parameters = parameters;
@@ -136,7 +137,7 @@ fn arguments_fit<'p>(
         arguments.split_first(),
     ) {
         if let Some(wanted) = written(callee, &parameter.declared) {
-            let good = store(worst, argument.place, wanted, argument.given);
+            let good = store(least_fault, argument.place, wanted, argument.given);
             fits = fits && good;
         }
         parameters = more;
@@ -148,7 +149,7 @@ fn arguments_fit<'p>(
 /// The rule of a call of a function of the program: the domains of its domain variables, where the call is not refused.
 #[tactic(auto, using(crate::proofs::Faults::appends), unfolding(crate::specs::ExpressionTypes::defined_faults))]
 pub fn defined_call<'p>(
-    worst: &mut Option<Fault>,
+    least_fault: &mut Option<TypeFault>,
     here: &Setting<'_, 'p>,
     place: Span,
     function: &'p Function,
@@ -157,15 +158,15 @@ pub fn defined_call<'p>(
     ensures binding { IfOk result (λ ds. option_map vec_items ds ≡
         unless_refused (defined_faults (declared here.now.declarations.now) place (function_tree function.now) arguments.now)
         (binding_by function.now.variables.items function.now.parameters.items arguments.now)) }
-    ensures worst { IfOk result (λ _. worst.new ≡
-        least worst.old (defined_faults (declared here.now.declarations.now) place (function_tree function.now) arguments.now)) }
+    ensures least_fault { IfOk result (λ _. least_fault.new ≡
+        least least_fault.old (defined_faults (declared here.now.declarations.now) place (function_tree function.now) arguments.now)) }
 {
     if function.parameters.len() != arguments.len() {
-        note(worst, place, Problem::BadArity);
+        note(least_fault, place, TypeProblem::BadArity);
         return Ok(None);
     }
     let bound = may_all_be_bound(
-        worst,
+        least_fault,
         place,
         &function.variables,
         &function.parameters,
@@ -186,7 +187,7 @@ pub fn defined_call<'p>(
         function,
         binding: &domains,
     };
-    let fits = arguments_fit(worst, &callee, &function.parameters, arguments);
+    let fits = arguments_fit(least_fault, &callee, &function.parameters, arguments);
     if bound && fits {
         Ok(Some(domains))
     } else {

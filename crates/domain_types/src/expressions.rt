@@ -5,20 +5,21 @@ ghost use Rattle.secrec_ast.specs.Heights.{place_of};
 ghost use Rattle.domain_types.specs.Types.{value_of, void_faults, public_scalar};
 ghost use Rattle.domain_types.specs.declared.value_type.ExpressionType.TheVariants.{Value};
 ghost use Rattle.domain_types.specs.Scopes.{variable_named};
-ghost use Rattle.domain_types.specs.ExpressionTypes.{variable_type, variable_faults, cast_type, declassified, given_value, nothing_given, and_argument, type_of, value_type, arguments_of, faults, value_faults, argument_list_faults};
+ghost use Rattle.domain_types.specs.ExpressionTypes.{variable_type, variable_faults, cast_type, declassified, given_value, nothing_given};
+ghost use Rattle.domain_types.specs.ExpressionTypes.{and_argument, type_of, value_type, arguments_of, faults, value_faults, argument_list_faults};
 ghost use Rattle.domain_types.specs.Reached.{calls_of, calls_of_all};
 ghost use Rattle.domain_types.specs.Views.{setting};
-ghost use Rattle.domain_types.specs.Walks.{Gives};
-ghost use Rattle.domain_types.specs.Least.{least};
+ghost use Rattle.domain_types.specs.inner.Walks.{Gives};
+ghost use Rattle.domain_types.specs.inner.LeastFault.{least};
 
 use crate::call_rule::call;
 use crate::calls::Found;
-use crate::fault::{Fault, Problem};
+use crate::fault::{TypeFault, TypeProblem};
+use crate::least_fault::note;
 use crate::operations::{indexing, negation, operation};
 use crate::setting::Setting;
 use crate::value_type::{Argument, ExpressionType, Protection, ValueType};
 use crate::variables::Variables;
-use crate::worst::note;
 use sc_text::Span;
 use secrec_ast::{DataType, Expression};
 use std::alloc::AllocError;
@@ -45,17 +46,17 @@ pub fn place_of(e: &Expression) -> Span
 
 /// What an expression that is used as a value gives: a void call there is a fault.
 pub fn used(
-    worst: &mut Option<Fault>,
+    least_fault: &mut Option<TypeFault>,
     place: Span,
     given: Option<ExpressionType>,
 ) -> Option<ValueType>
     ensures kind { result ≡ value_of given }
-    ensures worst { worst.new ≡ least worst.old (void_faults place given) }
+    ensures least_fault { least_fault.new ≡ least least_fault.old (void_faults place given) }
 {
     match given {
         None => None,
         Some(ExpressionType::Void) => {
-            note(worst, place, Problem::TypeMismatch);
+            note(least_fault, place, TypeProblem::TypeMismatch);
             None
         }
         Some(ExpressionType::Value(value)) => Some(value),
@@ -64,17 +65,17 @@ pub fn used(
 
 /// The variable of a name.
 pub fn variable<'p>(
-    worst: &mut Option<Fault>,
+    least_fault: &mut Option<TypeFault>,
     variables: &Variables<'p>,
     place: Span,
     name: &'p str,
 ) -> Option<ValueType>
     ensures kind { result ≡ variable_type (variable_named variables.now name.now) }
-    ensures worst { worst.new ≡ least worst.old (variable_faults place (variable_named variables.now name.now)) }
+    ensures least_fault { least_fault.new ≡ least least_fault.old (variable_faults place (variable_named variables.now name.now)) }
 {
     match variables.find(name) {
         None => {
-            note(worst, place, Problem::UnknownName);
+            note(least_fault, place, TypeProblem::UnknownName);
             None
         }
         Some(held) => held,
@@ -166,7 +167,7 @@ pub fn expression<'p>(
         Expression::Number(_, _) => Ok(scalar(DataType::Uint64)),
         Expression::Truth(_, _) => Ok(scalar(DataType::Bool)),
         Expression::Variable(place, name) => Ok(given(variable(
-            &mut found.worst,
+            &mut found.least_fault,
             variables,
             *place,
             name.as_str(),
@@ -179,7 +180,7 @@ pub fn expression<'p>(
             let held = value(found, here, variables, array)?;
             let counted = value(found, here, variables, position)?;
             let at = place_of(position);
-            Ok(given(indexing(&mut found.worst, *place, at, held, counted)))
+            Ok(given(indexing(&mut found.least_fault, *place, at, held, counted)))
         }
         Expression::Parentheses(_, inner) => {
             let value = value(found, here, variables, inner)?;
@@ -187,7 +188,7 @@ pub fn expression<'p>(
         }
         Expression::Not(place, operand) => {
             let value = value(found, here, variables, operand)?;
-            Ok(given(negation(&mut found.worst, *place, value)))
+            Ok(given(negation(&mut found.least_fault, *place, value)))
         }
         Expression::Cast(_, element, operand) => {
             let value = value(found, here, variables, operand)?;
@@ -196,14 +197,14 @@ pub fn expression<'p>(
         Expression::Binary(place, op, left, right) => {
             let a = value(found, here, variables, left)?;
             let b = value(found, here, variables, right)?;
-            Ok(given(operation(&mut found.worst, *place, *op, a, b)))
+            Ok(given(operation(&mut found.least_fault, *place, *op, a, b)))
         }
         Expression::Declassify(_, operand) => {
             let value = value(found, here, variables, operand)?;
             Ok(given(declassified(value)))
         }
         Expression::Argument(place, _) => {
-            note(&mut found.worst, *place, Problem::ArgumentPlace);
+            note(&mut found.least_fault, *place, TypeProblem::ArgumentPlace);
             Ok(None)
         }
         Expression::Publish(_, _, operand) => {
@@ -226,7 +227,7 @@ pub fn value<'p>(
         (value_faults (setting here.now) variables.now (expression e.now)) (calls_of (setting here.now) variables.now (expression e.now))) }
 {
     let t = expression(found, here, variables, e)?;
-    Ok(used(&mut found.worst, place_of(e), t))
+    Ok(used(&mut found.least_fault, place_of(e), t))
 }
 
 // The arguments of a call, where each has a type.

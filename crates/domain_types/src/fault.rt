@@ -2,7 +2,7 @@ use sc_text::Span;
 
 /// What a program does against the rules of the language.
 #[derive(Clone, Copy)]
-pub enum Problem {
+pub enum TypeProblem {
     /// D1: a variable, function, domain or kind that is not declared.
     UnknownName,
     /// D2: a name that is declared again in its space and block.
@@ -37,7 +37,7 @@ pub enum Problem {
 
 /// A fault of a program: what is wrong, and where.
 #[derive(Clone, Copy)]
-pub struct Fault {
+pub struct TypeFault {
     pub place: Span,
-    pub problem: Problem,
+    pub problem: TypeProblem,
 }

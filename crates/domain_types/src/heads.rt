@@ -1,16 +1,17 @@
 // The faults of a template's head, which needs no binding.
 ghost use Rattle.std.specs.Prelude.{◌≡◌, [], reverse};
 ghost use Rattle.secrec_ast.specs.Programs.{function_tree};
-ghost use Rattle.domain_types.specs.FunctionTypes.{is_earlier, later_of, hiding_faults, kind_faults, is_variable, is_in_parameter, domain_variable_faults, domain_variables_faults};
+ghost use Rattle.domain_types.specs.FunctionTypes.{is_earlier, later_of, hiding_faults, kind_faults, is_variable, is_in_parameter};
+ghost use Rattle.domain_types.specs.FunctionTypes.{domain_variable_faults, domain_variables_faults};
 ghost use Rattle.domain_types.specs.Views.{declared};
-ghost use Rattle.domain_types.specs.Least.{least};
+ghost use Rattle.domain_types.specs.inner.LeastFault.{least};
 
 use crate::declarations::Declarations;
 use crate::defined_calls::is_named;
-use crate::fault::{Fault, Problem};
+use crate::fault::{TypeFault, TypeProblem};
 use crate::items::is_known_kind;
+use crate::least_fault::{note, note_if};
 use crate::protections::Protections;
-use crate::worst::{note, note_if};
 use sc_text::Span;
 use secrec_ast::{DomainVariable, Function, Identifier, Parameter};
 
@@ -31,25 +32,33 @@ fn later_of(first: Span, second: Span) -> Span
 }
 
 // A domain variable is called as no kind or domain.
-fn hides_none<'p>(worst: &mut Option<Fault>, protections: &Protections<'p>, name: &'p Identifier)
-    ensures { worst.new ≡ least worst.old (hiding_faults name.now protections.now) }
+fn hides_none<'p>(
+    least_fault: &mut Option<TypeFault>,
+    protections: &Protections<'p>,
+    name: &'p Identifier,
+)
+    ensures { least_fault.new ≡ least least_fault.old (hiding_faults name.now protections.now) }
 {
     if let Some(first) = protections.first(name.text.as_str()) {
-        note(worst, later_of(name.place, first.place), Problem::Twice);
+        note(
+            least_fault,
+            later_of(name.place, first.place),
+            TypeProblem::Twice,
+        );
     }
 }
 
 // The kind of a domain variable is known.
 fn has_known_kind(
-    worst: &mut Option<Fault>,
+    least_fault: &mut Option<TypeFault>,
     declarations: &Declarations<'_>,
     kind: &Option<Identifier>,
 )
-    ensures { worst.new ≡ least worst.old (kind_faults (declared declarations.now) kind.now) }
+    ensures { least_fault.new ≡ least least_fault.old (kind_faults (declared declarations.now) kind.now) }
 {
     if let Some(kind) = kind {
         let known = is_known_kind(declarations, kind.text.as_str());
-        note_if(worst, !known, kind.place, Problem::UnknownName);
+        note_if(least_fault, !known, kind.place, TypeProblem::UnknownName);
     }
 }
 
@@ -80,41 +89,48 @@ fn is_in_parameter(name: &str, parameters: &[Parameter]) -> bool
 // A domain variable behind others.
 #[tactic(auto, using(crate::proofs::Faults::appends))]
 fn domain_variable<'p>(
-    worst: &mut Option<Fault>,
+    least_fault: &mut Option<TypeFault>,
     declarations: &Declarations<'p>,
     protections: &Protections<'p>,
     parameters: &[Parameter],
     before: &[DomainVariable],
     variable: &'p DomainVariable,
 )
-    ensures { worst.new ≡ least worst.old (domain_variable_faults (declared declarations.now) protections.now parameters.now (reverse before.now) variable.now) }
+    ensures { least_fault.new ≡ least least_fault.old
+        (domain_variable_faults (declared declarations.now) protections.now parameters.now (reverse before.now) variable.now) }
 {
     let name = &variable.variable;
     let text = name.text.as_str();
-    has_known_kind(worst, declarations, &variable.kind);
-    note_if(worst, is_variable(text, before), name.place, Problem::Twice);
+    has_known_kind(least_fault, declarations, &variable.kind);
+    note_if(
+        least_fault,
+        is_variable(text, before),
+        name.place,
+        TypeProblem::Twice,
+    );
     let imported = declarations.shared3p && text == "shared3p";
-    note_if(worst, imported, name.place, Problem::Twice);
-    hides_none(worst, protections, name);
+    note_if(least_fault, imported, name.place, TypeProblem::Twice);
+    hides_none(least_fault, protections, name);
     let used = is_in_parameter(text, parameters);
-    note_if(worst, !used, name.place, Problem::TypeMismatch);
+    note_if(least_fault, !used, name.place, TypeProblem::TypeMismatch);
 }
 
 /// Checks the head of a function: the kinds and the names of its domain variables, and that each stands in a parameter.
 #[tactic(auto, using(crate::proofs::Faults::appends))]
 pub fn head<'p>(
-    worst: &mut Option<Fault>,
+    least_fault: &mut Option<TypeFault>,
     declarations: &Declarations<'p>,
     protections: &Protections<'p>,
     function: &'p Function,
 )
-    ensures { worst.new ≡ least worst.old
-        (domain_variables_faults (declared declarations.now) protections.now (function_tree function.now).parameters [] (function_tree function.now).variables) }
+    ensures { least_fault.new ≡ least least_fault.old
+        (domain_variables_faults (declared declarations.now) protections.now (function_tree function.now).parameters []
+        (function_tree function.now).variables) }
 {
     let variables = function.variables.as_slice();
     for index in 0..variables.len() {
         domain_variable(
-            worst,
+            least_fault,
             declarations,
             protections,
             &function.parameters,

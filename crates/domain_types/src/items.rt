@@ -4,12 +4,12 @@ ghost use Rattle.secrec_ast.specs.Programs.{function_tree, item_tree};
 ghost use Rattle.domain_types.specs.Declarations.{is_known_kind};
 ghost use Rattle.domain_types.specs.ProgramTypes.{is_module, space_faults, item_faults, items_faults, is_main, has_main};
 ghost use Rattle.domain_types.specs.Views.{declared, tree_at};
-ghost use Rattle.domain_types.specs.Least.{least};
+ghost use Rattle.domain_types.specs.inner.LeastFault.{least};
 
 use crate::declarations::Declarations;
-use crate::fault::{Fault, Problem};
+use crate::fault::{TypeFault, TypeProblem};
+use crate::least_fault::note_if;
 use crate::name_index::NameIndex;
-use crate::worst::note_if;
 use secrec_ast::{Function, Identifier, Item, ResultType};
 use std::alloc::{AllocError, Global};
 
@@ -28,48 +28,53 @@ pub fn is_known_kind(declarations: &Declarations<'_>, name: &str) -> bool
 
 // The name of a kind or domain behind others is new.
 fn is_new<'p>(
-    worst: &mut Option<Fault>,
+    least_fault: &mut Option<TypeFault>,
     declarations: &Declarations<'p>,
     kinds: &NameIndex<'p>,
     name: &'p Identifier,
 )
-    ensures { worst.new ≡ least worst.old (space_faults (declared declarations.now) kinds.now name.now) }
+    ensures { least_fault.new ≡ least least_fault.old (space_faults (declared declarations.now) kinds.now name.now) }
 {
     let text = name.text.as_str();
     let twice = kinds.number(text).is_some() || (declarations.shared3p && text == "shared3p");
-    note_if(worst, twice, name.place, Problem::Twice);
+    note_if(least_fault, twice, name.place, TypeProblem::Twice);
 }
 
 // What a declaration does against the rules, behind these kinds and domains and behind these functions.
 #[tactic(auto, using(crate::proofs::Faults::appends))]
 fn item_faults<'p>(
-    worst: &mut Option<Fault>,
+    least_fault: &mut Option<TypeFault>,
     declarations: &Declarations<'p>,
     kinds: &NameIndex<'p>,
     functions: &NameIndex<'p>,
     item: &'p Item,
 )
-    ensures { worst.new ≡ least worst.old (item_faults (declared declarations.now) kinds.now functions.now (item_tree item.now)) }
+    ensures { least_fault.new ≡ least least_fault.old (item_faults (declared declarations.now) kinds.now functions.now (item_tree item.now)) }
 {
     match item {
         Item::Import(name) => {
             let known = is_module(name.text.as_str());
-            note_if(worst, !known, name.place, Problem::BadImport);
+            note_if(least_fault, !known, name.place, TypeProblem::BadImport);
         }
         Item::Kind(name) => {
             let known = name.text.as_str() == "shared3p";
-            note_if(worst, !known, name.place, Problem::UnknownName);
-            is_new(worst, declarations, kinds, name);
+            note_if(least_fault, !known, name.place, TypeProblem::UnknownName);
+            is_new(least_fault, declarations, kinds, name);
         }
         Item::Domain(name, kind) => {
-            is_new(worst, declarations, kinds, name);
+            is_new(least_fault, declarations, kinds, name);
             let known = is_known_kind(declarations, kind.text.as_str());
-            note_if(worst, !known, kind.place, Problem::UnknownName);
+            note_if(least_fault, !known, kind.place, TypeProblem::UnknownName);
         }
         Item::Function(function) => {
             let name = function.function.text.as_str();
             let twice = declarations.built_in(name).is_some() || functions.number(name).is_some();
-            note_if(worst, twice, function.function.place, Problem::Twice);
+            note_if(
+                least_fault,
+                twice,
+                function.function.place,
+                TypeProblem::Twice,
+            );
         }
     }
 }
@@ -78,17 +83,17 @@ fn item_faults<'p>(
 #[tactic(auto, using(crate::proofs::Faults::appends))]
 pub fn items<'p>(
     alloc: Global,
-    worst: &mut Option<Fault>,
+    least_fault: &mut Option<TypeFault>,
     declarations: &Declarations<'p>,
     list: &'p [Item],
 ) -> Result<(), AllocError>
-    ensures { IfOk result (λ _. worst.new ≡ least worst.old (items_faults (declared declarations.now) [] [] (map item_tree list.now))) }
+    ensures { IfOk result (λ _. least_fault.new ≡ least least_fault.old (items_faults (declared declarations.now) [] [] (map item_tree list.now))) }
 {
     let mut kinds = NameIndex::new(alloc);
     let mut functions = NameIndex::new(alloc);
     let mut rest = list;
     while let Some((item, more)) = rest.split_first() {
-        item_faults(worst, declarations, &kinds, &functions, item);
+        item_faults(least_fault, declarations, &kinds, &functions, item);
         match item {
             Item::Import(_) => {}
             Item::Kind(name) => kinds = kinds.with(name.text.as_str())?,

@@ -1,13 +1,14 @@
 // The rules of operators, `!` and indices, on the types of their operands.
 ghost use Rattle.std.specs.Prelude.{◌≡◌, option_map, option_and_then};
 ghost use Rattle.domain_types.specs.Types.{of_typed};
-ghost use Rattle.domain_types.specs.ExpressionTypes.{uint64_result, bool_result, element_result, element_of, is_division, operator_faults, operator_type, negation_faults, negation_type, index_faults, index_type, of_two};
-ghost use Rattle.domain_types.specs.Least.{least};
+ghost use Rattle.domain_types.specs.ExpressionTypes.{uint64_result, bool_result, element_result, element_of, is_division, operator_faults};
+ghost use Rattle.domain_types.specs.ExpressionTypes.{operator_type, negation_faults, negation_type, index_faults, index_type, of_two};
+ghost use Rattle.domain_types.specs.inner.LeastFault.{least};
 
-use crate::fault::{Fault, Problem};
+use crate::fault::{TypeFault, TypeProblem};
+use crate::least_fault::note_if;
 use crate::rules::{is_private, is_uint64, meet, mix, scalar};
 use crate::value_type::ValueType;
-use crate::worst::note_if;
 use sc_text::Span;
 use secrec_ast::{DataType, Operator};
 
@@ -80,21 +81,26 @@ fn is_division(op: Operator) -> bool
 // The rule of an operator.
 #[tactic(auto, using(crate::proofs::Faults::appends), unfolding(crate::specs::ExpressionTypes::operator_faults, crate::specs::ExpressionTypes::operator_type))]
 fn operate(
-    worst: &mut Option<Fault>,
+    least_fault: &mut Option<TypeFault>,
     place: Span,
     op: Operator,
     a: ValueType,
     b: ValueType,
 ) -> Option<ValueType>
     ensures kind { result ≡ operator_type place op a b }
-    ensures worst { worst.new ≡ least worst.old (operator_faults place op a b) }
+    ensures least_fault { least_fault.new ≡ least least_fault.old (operator_faults place op a b) }
 {
     let private_one = is_private(a.domain) || is_private(b.domain);
     let element = element_result(op, private_one, a.element, b.element);
-    note_if(worst, element.is_none(), place, Problem::TypeMismatch);
+    note_if(
+        least_fault,
+        element.is_none(),
+        place,
+        TypeProblem::TypeMismatch,
+    );
     let divides = is_division(op) && private_one;
-    note_if(worst, divides, place, Problem::PrivateDivision);
-    let meets = mix(worst, place, a.domain, b.domain);
+    note_if(least_fault, divides, place, TypeProblem::PrivateDivision);
+    let meets = mix(least_fault, place, a.domain, b.domain);
     if divides || !meets {
         return None;
     }
@@ -108,17 +114,17 @@ fn operate(
 
 /// The rule of an operator, where both operands have types.
 pub fn operation(
-    worst: &mut Option<Fault>,
+    least_fault: &mut Option<TypeFault>,
     place: Span,
     op: Operator,
     a: Option<ValueType>,
     b: Option<ValueType>,
 ) -> Option<ValueType>
     ensures kind { result ≡ of_two (operator_type place op) a b }
-    ensures worst { worst.new ≡ least worst.old (of_typed a (λ t. of_typed b (operator_faults place op t))) }
+    ensures least_fault { least_fault.new ≡ least least_fault.old (of_typed a (λ t. of_typed b (operator_faults place op t))) }
 {
     match (a, b) {
-        (Some(a), Some(b)) => operate(worst, place, op, a, b),
+        (Some(a), Some(b)) => operate(least_fault, place, op, a, b),
         _ => None,
     }
 }
@@ -126,33 +132,39 @@ pub fn operation(
 /// The rule of `!`.
 #[tactic(auto, using(crate::proofs::Faults::appends), unfolding(crate::specs::ExpressionTypes::negation_faults, crate::specs::ExpressionTypes::negation_type))]
 pub fn negation(
-    worst: &mut Option<Fault>,
+    least_fault: &mut Option<TypeFault>,
     place: Span,
     operand: Option<ValueType>,
 ) -> Option<ValueType>
     ensures kind { result ≡ option_and_then (negation_type place) operand }
-    ensures worst { worst.new ≡ least worst.old (of_typed operand (negation_faults place)) }
+    ensures least_fault { least_fault.new ≡ least least_fault.old (of_typed operand (negation_faults place)) }
 {
     let operand = operand?;
     let wrong = is_uint64(operand.element);
-    note_if(worst, wrong, place, Problem::TypeMismatch);
+    note_if(least_fault, wrong, place, TypeProblem::TypeMismatch);
     if wrong { None } else { Some(operand) }
 }
 
 // The rule of an element of an array, whose index begins at `at`.
 #[tactic(auto, using(crate::proofs::Faults::appends), unfolding(crate::specs::ExpressionTypes::index_faults, crate::specs::ExpressionTypes::index_type))]
 fn element(
-    worst: &mut Option<Fault>,
+    least_fault: &mut Option<TypeFault>,
     place: Span,
     at: Span,
     array: ValueType,
     position: ValueType,
 ) -> Option<ValueType>
     ensures kind { result ≡ index_type place at array position }
-    ensures worst { worst.new ≡ least worst.old (index_faults place at array position) }
+    ensures least_fault { least_fault.new ≡ least least_fault.old (index_faults place at array position) }
 {
-    note_if(worst, !array.array, place, Problem::TypeMismatch);
-    let counts = scalar(worst, DataType::Uint64, Problem::PrivateIndex, at, position);
+    note_if(least_fault, !array.array, place, TypeProblem::TypeMismatch);
+    let counts = scalar(
+        least_fault,
+        DataType::Uint64,
+        TypeProblem::PrivateIndex,
+        at,
+        position,
+    );
     if array.array && counts {
         Some(ValueType {
             domain: array.domain,
@@ -166,17 +178,17 @@ fn element(
 
 /// The rule of an element of an array, where both parts have types.
 pub fn indexing(
-    worst: &mut Option<Fault>,
+    least_fault: &mut Option<TypeFault>,
     place: Span,
     at: Span,
     array: Option<ValueType>,
     position: Option<ValueType>,
 ) -> Option<ValueType>
     ensures kind { result ≡ of_two (index_type place at) array position }
-    ensures worst { worst.new ≡ least worst.old (of_typed array (λ t. of_typed position (index_faults place at t))) }
+    ensures least_fault { least_fault.new ≡ least least_fault.old (of_typed array (λ t. of_typed position (index_faults place at t))) }
 {
     match (array, position) {
-        (Some(array), Some(position)) => element(worst, place, at, array, position),
+        (Some(array), Some(position)) => element(least_fault, place, at, array, position),
         _ => None,
     }
 }

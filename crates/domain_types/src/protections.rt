@@ -2,7 +2,7 @@
 ghost use Rattle.std.specs.Prelude.{◌≡◌, ◌++◌, ◌∷◌, [], IfOk, map, option_map};
 ghost use Rattle.secrec_ast.specs.Programs.{item_tree};
 ghost use Rattle.domain_types.specs.FunctionTypes.{protections_of, first_named};
-ghost use Rattle.domain_types.specs.Lent.{identifier_at};
+ghost use Rattle.domain_types.specs.inner.Lent.{identifier_at};
 
 use crate::name_index::NameIndex;
 use secrec_ast::{Identifier, Item};
@@ -30,7 +30,7 @@ impl Drop for Protections<'_> {
 impl<'p> Model for Protections<'p> {
     ghost use Rattle.std.specs.Prelude.{List, map, ◌≡◌};
     ghost use Rattle.secrec_ast.specs.declared.statement.Identifier.{Identifier};
-    ghost use Rattle.domain_types.specs.Lent.{identifier_at, text_at};
+    ghost use Rattle.domain_types.specs.inner.Lent.{identifier_at, text_at};
 
     ghost Value = { List Identifier };
 

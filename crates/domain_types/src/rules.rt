@@ -1,11 +1,12 @@
 // Where a value may go. Each rule notes its faults and says whether there is none.
 ghost use Rattle.std.specs.Prelude.{◌≡◌};
-ghost use Rattle.domain_types.specs.Types.{is_faultless, of_typed, is_private, is_uint64, same_element, same_dimension, meet, mix_faults, flow_faults, store_faults, scalar_faults};
-ghost use Rattle.domain_types.specs.Least.{least};
+ghost use Rattle.domain_types.specs.Types.{is_faultless, of_typed, is_private, is_uint64, same_element, same_dimension, meet, mix_faults};
+ghost use Rattle.domain_types.specs.Types.{flow_faults, store_faults, scalar_faults};
+ghost use Rattle.domain_types.specs.inner.LeastFault.{least};
 
-use crate::fault::{Fault, Problem};
+use crate::fault::{TypeFault, TypeProblem};
+use crate::least_fault::{note, note_if};
 use crate::value_type::{Protection, ValueType};
-use crate::worst::{note, note_if};
 use sc_text::Span;
 use secrec_ast::DataType;
 
@@ -54,13 +55,13 @@ pub fn meet(a: Protection, b: Protection) -> Option<Protection>
 }
 
 /// Operands of these domains meet.
-pub fn mix(worst: &mut Option<Fault>, place: Span, a: Protection, b: Protection) -> bool
+pub fn mix(least_fault: &mut Option<TypeFault>, place: Span, a: Protection, b: Protection) -> bool
     ensures fits { result ≡ is_faultless (mix_faults place a b) }
-    ensures worst { worst.new ≡ least worst.old (mix_faults place a b) }
+    ensures least_fault { least_fault.new ≡ least least_fault.old (mix_faults place a b) }
 {
     match (a, b) {
         (Protection::Private(k), Protection::Private(m)) => {
-            note_if(worst, k != m, place, Problem::DomainMix);
+            note_if(least_fault, k != m, place, TypeProblem::DomainMix);
             k == m
         }
         _ => true,
@@ -68,18 +69,23 @@ pub fn mix(worst: &mut Option<Fault>, place: Span, a: Protection, b: Protection)
 }
 
 // A value of the domain `given` goes where `wanted` is.
-fn flow(worst: &mut Option<Fault>, place: Span, wanted: Protection, given: Protection) -> bool
+fn flow(
+    least_fault: &mut Option<TypeFault>,
+    place: Span,
+    wanted: Protection,
+    given: Protection,
+) -> bool
     ensures fits { result ≡ is_faultless (flow_faults place wanted given) }
-    ensures worst { worst.new ≡ least worst.old (flow_faults place wanted given) }
+    ensures least_fault { least_fault.new ≡ least least_fault.old (flow_faults place wanted given) }
 {
     match (wanted, given) {
         (_, Protection::Public) => true,
         (Protection::Public, Protection::Private(_)) => {
-            note(worst, place, Problem::PrivateToPublic);
+            note(least_fault, place, TypeProblem::PrivateToPublic);
             false
         }
         (Protection::Private(k), Protection::Private(m)) => {
-            note_if(worst, k != m, place, Problem::DomainMix);
+            note_if(least_fault, k != m, place, TypeProblem::DomainMix);
             k == m
         }
     }
@@ -87,46 +93,51 @@ fn flow(worst: &mut Option<Fault>, place: Span, wanted: Protection, given: Prote
 
 /// A value goes to a variable, a parameter or a result.
 #[tactic(auto, using(crate::proofs::Faults::appends))]
-pub fn store(worst: &mut Option<Fault>, place: Span, wanted: ValueType, given: ValueType) -> bool
+pub fn store(
+    least_fault: &mut Option<TypeFault>,
+    place: Span,
+    wanted: ValueType,
+    given: ValueType,
+) -> bool
     ensures fits { result ≡ is_faultless (store_faults place wanted given) }
-    ensures worst { worst.new ≡ least worst.old (store_faults place wanted given) }
+    ensures least_fault { least_fault.new ≡ least least_fault.old (store_faults place wanted given) }
 {
     let same = same_element(wanted.element, given.element)
         && same_dimension(wanted.array, given.array);
-    note_if(worst, !same, place, Problem::TypeMismatch);
-    let flows = flow(worst, place, wanted.domain, given.domain);
+    note_if(least_fault, !same, place, TypeProblem::TypeMismatch);
+    let flows = flow(least_fault, place, wanted.domain, given.domain);
     same && flows
 }
 
 /// A value goes to a variable, a parameter or a result, where both have types.
 pub fn store_typed(
-    worst: &mut Option<Fault>,
+    least_fault: &mut Option<TypeFault>,
     place: Span,
     wanted: Option<ValueType>,
     given: Option<ValueType>,
 )
-    ensures { worst.new ≡ least worst.old (of_typed wanted (λ t. of_typed given (store_faults place t))) }
+    ensures { least_fault.new ≡ least least_fault.old (of_typed wanted (λ t. of_typed given (store_faults place t))) }
 {
     if let (Some(wanted), Some(given)) = (wanted, given) {
-        let _ = store(worst, place, wanted, given);
+        let _ = store(least_fault, place, wanted, given);
     }
 }
 
 /// A public scalar is wanted; a private one is this problem.
 #[tactic(auto, using(crate::proofs::Faults::appends))]
 pub fn scalar(
-    worst: &mut Option<Fault>,
+    least_fault: &mut Option<TypeFault>,
     element: DataType,
-    private_one: Problem,
+    private_one: TypeProblem,
     place: Span,
     given: ValueType,
 ) -> bool
     ensures fits { result ≡ is_faultless (scalar_faults element private_one place given) }
-    ensures worst { worst.new ≡ least worst.old (scalar_faults element private_one place given) }
+    ensures least_fault { least_fault.new ≡ least least_fault.old (scalar_faults element private_one place given) }
 {
     let same = same_element(element, given.element) && !given.array;
-    note_if(worst, !same, place, Problem::TypeMismatch);
+    note_if(least_fault, !same, place, TypeProblem::TypeMismatch);
     let hidden = is_private(given.domain);
-    note_if(worst, hidden, place, private_one);
+    note_if(least_fault, hidden, place, private_one);
     same && !hidden
 }

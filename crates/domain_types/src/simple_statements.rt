@@ -2,20 +2,21 @@
 ghost use Rattle.std.specs.Prelude.{◌≡◌, ◌++◌, IfOk};
 ghost use Rattle.secrec_ast.specs.Tree.{expression};
 ghost use Rattle.secrec_ast.specs.Statements.{optional, start_tree, step_tree};
-ghost use Rattle.domain_types.specs.StatementTypes.{start_faults, after_start, step_faults, is_step_typed, optional_type, optional_faults, for_rule, return_rule};
+ghost use Rattle.domain_types.specs.StatementTypes.{start_faults, after_start, step_faults, is_step_typed, optional_type, optional_faults, for_rule};
+ghost use Rattle.domain_types.specs.StatementTypes.{return_rule};
 ghost use Rattle.domain_types.specs.Reached.{optional_calls, start_calls, step_calls};
 ghost use Rattle.domain_types.specs.Views.{setting, calls_seen};
-ghost use Rattle.domain_types.specs.Least.{least};
+ghost use Rattle.domain_types.specs.inner.LeastFault.{least};
 
 use crate::calls::Found;
 use crate::declaring::{assignment, declaration};
 use crate::expressions::{expression, place_of, value};
-use crate::fault::{Fault, Problem};
+use crate::fault::{TypeFault, TypeProblem};
+use crate::least_fault::note;
 use crate::rules::{scalar, store_typed};
 use crate::setting::{Setting, written};
 use crate::value_type::ValueType;
 use crate::variables::Variables;
-use crate::worst::note;
 use sc_text::Span;
 use secrec_ast::{DataType, Expression, ForStart, ForStep, ResultType};
 use std::alloc::AllocError;
@@ -27,7 +28,8 @@ pub fn start<'p>(
     variables: &mut Variables<'p>,
     start: &'p ForStart,
 ) -> Result<(), AllocError>
-    ensures worst { IfOk result (λ _. found.new.worst ≡ least found.old.worst (start_faults (setting here.now) variables.old (start_tree start.now))) }
+    ensures least_fault { IfOk result
+        (λ _. found.new.least_fault ≡ least found.old.least_fault (start_faults (setting here.now) variables.old (start_tree start.now))) }
     ensures calls { IfOk result (λ _. calls_seen found.new.calls.items ≡
         calls_seen found.old.calls.items ++ start_calls (setting here.now) variables.old (start_tree start.now)) }
     ensures variables { IfOk result (λ _. variables.new ≡ after_start (setting here.now) variables.old (start_tree start.now)) }
@@ -47,7 +49,8 @@ pub fn step<'p>(
     step: &'p ForStep,
 ) -> Result<bool, AllocError>
     ensures typed { IfOk result (λ b. b ≡ is_step_typed (setting here.now) variables.now (step_tree step.now)) }
-    ensures worst { IfOk result (λ _. found.new.worst ≡ least found.old.worst (step_faults (setting here.now) variables.now (step_tree step.now))) }
+    ensures least_fault { IfOk result
+        (λ _. found.new.least_fault ≡ least found.old.least_fault (step_faults (setting here.now) variables.now (step_tree step.now))) }
     ensures calls { IfOk result (λ _. calls_seen found.new.calls.items ≡
         calls_seen found.old.calls.items ++ step_calls (setting here.now) variables.now (step_tree step.now)) }
 {
@@ -72,7 +75,8 @@ pub fn optional_value<'p>(
     e: &'p Option<Expression>,
 ) -> Result<Option<ValueType>, AllocError>
     ensures kind { IfOk result (λ t. t ≡ optional_type (setting here.now) variables.now (optional e.now)) }
-    ensures worst { IfOk result (λ _. found.new.worst ≡ least found.old.worst (optional_faults (setting here.now) variables.now (optional e.now))) }
+    ensures least_fault { IfOk result
+        (λ _. found.new.least_fault ≡ least found.old.least_fault (optional_faults (setting here.now) variables.now (optional e.now))) }
     ensures calls { IfOk result (λ _. calls_seen found.new.calls.items ≡
         calls_seen found.old.calls.items ++ optional_calls (setting here.now) variables.now (optional e.now)) }
 {
@@ -84,18 +88,18 @@ pub fn optional_value<'p>(
 
 /// The rule of the condition of a `for`, whose type is given: nothing is said where the third part has no type.
 pub fn for_condition(
-    worst: &mut Option<Fault>,
+    least_fault: &mut Option<TypeFault>,
     condition: &Option<Expression>,
     given: Option<ValueType>,
     step_typed: bool,
 )
-    ensures { worst.new ≡ least worst.old (for_rule (optional condition.now) given step_typed) }
+    ensures { least_fault.new ≡ least least_fault.old (for_rule (optional condition.now) given step_typed) }
 {
     if let (Some(e), Some(given), true) = (condition, given, step_typed) {
         let _ = scalar(
-            worst,
+            least_fault,
             DataType::Bool,
-            Problem::PrivateCondition,
+            TypeProblem::PrivateCondition,
             place_of(e),
             given,
         );
@@ -104,22 +108,22 @@ pub fn for_condition(
 
 /// The rule of a `return`, whose value has the given type.
 pub fn returning<'p>(
-    worst: &mut Option<Fault>,
+    least_fault: &mut Option<TypeFault>,
     here: &Setting<'_, 'p>,
     place: Span,
     value: &Option<Expression>,
     given: Option<ValueType>,
 )
-    ensures { worst.new ≡ least worst.old (return_rule (setting here.now) place here.now.function.now.result (optional value.now) given) }
+    ensures { least_fault.new ≡ least least_fault.old (return_rule (setting here.now) place here.now.function.now.result (optional value.now) given) }
 {
     match (&here.function.result, value) {
         (ResultType::Void, None) => {}
         (ResultType::Void, Some(_)) => if given.is_some() {
-            note(worst, place, Problem::TypeMismatch);
+            note(least_fault, place, TypeProblem::TypeMismatch);
         },
-        (ResultType::Value(_), None) => note(worst, place, Problem::TypeMismatch),
+        (ResultType::Value(_), None) => note(least_fault, place, TypeProblem::TypeMismatch),
         (ResultType::Value(declared), Some(e)) => {
-            store_typed(worst, place_of(e), written(here, declared), given);
+            store_typed(least_fault, place_of(e), written(here, declared), given);
         }
     }
 }

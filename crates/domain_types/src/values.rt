@@ -4,11 +4,11 @@ ghost use Rattle.secrec_ast.specs.Tree.{expression};
 ghost use Rattle.domain_types.specs.StatementTypes.{test_faults};
 ghost use Rattle.domain_types.specs.Reached.{calls_of};
 ghost use Rattle.domain_types.specs.Views.{setting, calls_seen};
-ghost use Rattle.domain_types.specs.Least.{least};
+ghost use Rattle.domain_types.specs.inner.LeastFault.{least};
 
 use crate::calls::Found;
 use crate::expressions::{place_of, value};
-use crate::fault::Problem;
+use crate::fault::TypeProblem;
 use crate::rules::scalar;
 use crate::setting::Setting;
 use crate::variables::Variables;
@@ -21,16 +21,17 @@ pub fn test<'p>(
     found: &mut Found,
     here: &Setting<'_, 'p>,
     variables: &Variables<'p>,
-    private_one: Problem,
+    private_one: TypeProblem,
     e: &'p Expression,
 ) -> Result<(), AllocError>
-    ensures worst { IfOk result (λ _. found.new.worst ≡ least found.old.worst (test_faults (setting here.now) variables.now private_one (expression e.now))) }
+    ensures least_fault { IfOk result
+        (λ _. found.new.least_fault ≡ least found.old.least_fault (test_faults (setting here.now) variables.now private_one (expression e.now))) }
     ensures calls { IfOk result (λ _. calls_seen found.new.calls.items ≡
         calls_seen found.old.calls.items ++ calls_of (setting here.now) variables.now (expression e.now)) }
 {
     if let Some(given) = value(found, here, variables, e)? {
         let _ = scalar(
-            &mut found.worst,
+            &mut found.least_fault,
             DataType::Bool,
             private_one,
             place_of(e),

@@ -16,7 +16,7 @@ pub struct Latest {
 
 /// A variable, with the one of the same name that it hides.
 #[derive(Clone, Copy)]
-pub struct Entry<'p> {
+pub struct VariableEntry<'p> {
     name: &'p str,
     held: Option<ValueType>,
     hidden: Option<Latest>,
@@ -24,7 +24,7 @@ pub struct Entry<'p> {
 
 /// The variables that are known at a place. Clauses see the scope: the variables of the innermost block and those around it.
 pub struct Variables<'p> {
-    entries: Vec<Entry<'p>>,
+    entries: Vec<VariableEntry<'p>>,
     latest: BTreeMap<&'p str, Latest>,
     // how many entries are of the blocks around the innermost one
     outer: usize,
@@ -48,7 +48,7 @@ impl<'p> Model for Variables<'p> {
 
     ghost Value = { Scope };
 
-    ghost use Rattle.domain_types.specs.Table.{scope_of, IsTable};
+    ghost use Rattle.domain_types.specs.inner.Table.{scope_of, IsTable};
 
     ghost view = { scope_of };
 
@@ -103,7 +103,7 @@ impl<'p> Variables<'p> {
     {
         let number = self.entries.len();
         let hidden = self.latest.get(&name).copied();
-        self.entries.push(Entry { name, held, hidden })?;
+        self.entries.push(VariableEntry { name, held, hidden })?;
         match self.latest.insert(name, Latest { number, held }) {
             Ok(_) => Ok(()),
             Err(_) => {

@@ -7,12 +7,13 @@ ghost use Rattle.domain_types.specs.FunctionTypes.{domain_variables_faults};
 ghost use Rattle.domain_types.specs.ProgramTypes.{is_without};
 ghost use Rattle.domain_types.specs.Views.{declared, tree_at, call_seen, calls_seen};
 ghost use Rattle.domain_types.specs.Instances.{instance_seen};
-ghost use Rattle.domain_types.specs.WorkList.{with_binding, with_calls, with_plain, plain_instances, instance_faults, instance_calls, gathered, is_called, heads_faults, AreVisited};
-ghost use Rattle.domain_types.specs.Least.{least};
+ghost use Rattle.domain_types.specs.inner.WorkList.{with_binding, with_calls, with_plain, plain_instances, instance_faults, instance_calls, gathered};
+ghost use Rattle.domain_types.specs.inner.WorkList.{is_called, heads_faults, AreVisited};
+ghost use Rattle.domain_types.specs.inner.LeastFault.{least};
 
 use crate::calls::{Call, Found};
 use crate::declarations::Declarations;
-use crate::fault::Fault;
+use crate::fault::TypeFault;
 use crate::functions::function;
 use crate::heads::head;
 use crate::instance::Instance;
@@ -55,15 +56,16 @@ fn plain(alloc: Global, functions: &[&Function]) -> Result<WorkList, AllocError>
 // Checks an instance; its calls.
 fn visit<'p>(
     alloc: Global,
-    worst: &mut Option<Fault>,
+    least_fault: &mut Option<TypeFault>,
     declarations: &Declarations<'p>,
     instance: &Instance,
 ) -> Result<Vec<Call>, AllocError>
-    ensures worst { IfOk result (λ _. worst.new ≡ least worst.old (instance_faults (declared declarations.now) (instance_seen instance.now))) }
+    ensures least_fault { IfOk result
+        (λ _. least_fault.new ≡ least least_fault.old (instance_faults (declared declarations.now) (instance_seen instance.now))) }
     ensures calls { IfOk result (λ calls. calls_seen calls.items ≡ instance_calls (declared declarations.now) (instance_seen instance.now)) }
 {
     let mut found = Found {
-        worst: *worst,
+        least_fault: *least_fault,
         calls: Vec::new(alloc),
     };
     if let Some(each) = declarations.functions.get(instance.function) {
@@ -75,8 +77,11 @@ fn visit<'p>(
         };
         function(&mut found, &here)?;
     }
-    let Found { worst: now, calls } = found;
-    *worst = now;
+    let Found {
+        least_fault: now,
+        calls,
+    } = found;
+    *least_fault = now;
     Ok(calls)
 }
 
@@ -111,10 +116,10 @@ fn with_calls(
 /// Checks each plain function, and each instance that a call in a checked one gives.
 pub fn visit_all<'p>(
     alloc: Global,
-    worst: &mut Option<Fault>,
+    least_fault: &mut Option<TypeFault>,
     declarations: &Declarations<'p>,
 ) -> Result<Visits, AllocError>
-    ensures worst { IfOk result (λ v. worst.new ≡ least worst.old (gathered (instance_faults (declared declarations.now)) v.list)) }
+    ensures least_fault { IfOk result (λ v. least_fault.new ≡ least least_fault.old (gathered (instance_faults (declared declarations.now)) v.list)) }
     ensures list { IfOk result (λ v. AreVisited (declared declarations.now) (plain_instances (declared declarations.now)) v.list v.list) }
     ensures called { IfOk result (λ v. (k : ℕ) → contains nat_cmp v.called k ≡ is_called k (gathered (instance_calls (declared declarations.now)) v.list)) }
 {
@@ -122,7 +127,7 @@ pub fn visit_all<'p>(
     let mut called = BTreeSet::new(alloc);
     let mut next = 0;
     while next < list.len() {
-        let calls = visit(alloc, worst, declarations, list.instance(next))?;
+        let calls = visit(alloc, least_fault, declarations, list.instance(next))?;
         list = with_calls(alloc, list, &mut called, &calls)?;
         next += 1;
     }
@@ -131,34 +136,41 @@ pub fn visit_all<'p>(
 
 // Checks the head of a function where it is wanted.
 fn head_if<'p>(
-    worst: &mut Option<Fault>,
+    least_fault: &mut Option<TypeFault>,
     declarations: &Declarations<'p>,
     protections: &Protections<'p>,
     wanted: bool,
     function: &'p Function,
 )
-    ensures { worst.new ≡ least worst.old
-        (if wanted then domain_variables_faults (declared declarations.now) protections.now (function_tree function.now).parameters [] (function_tree function.now).variables else []) }
+    ensures { least_fault.new ≡ least least_fault.old
+        (if wanted then domain_variables_faults (declared declarations.now) protections.now (function_tree function.now).parameters []
+        (function_tree function.now).variables else []) }
 {
     if wanted {
-        head(worst, declarations, protections, function);
+        head(least_fault, declarations, protections, function);
     }
 }
 
 /// Checks the head of each function that is called.
 #[tactic(auto, using(crate::proofs::Faults::appends))]
 pub fn called_heads<'p>(
-    worst: &mut Option<Fault>,
+    least_fault: &mut Option<TypeFault>,
     declarations: &Declarations<'p>,
     protections: &Protections<'p>,
     called: &BTreeSet<usize>,
 )
-    ensures { worst.new ≡ least worst.old
+    ensures { least_fault.new ≡ least least_fault.old
         (heads_faults (declared declarations.now) protections.now (contains nat_cmp called.now) 0 (declared declarations.now).functions) }
 {
     let functions = declarations.functions.as_slice();
     for number in 0..functions.len() {
         let wanted = called.contains(&number);
-        head_if(worst, declarations, protections, wanted, functions[number]);
+        head_if(
+            least_fault,
+            declarations,
+            protections,
+            wanted,
+            functions[number],
+        );
     }
 }

@@ -2,7 +2,7 @@
 ghost use Rattle.std.specs.Prelude.{◌≡◌, ◌<◌, [], IfOk, Some, length, map};
 ghost use Rattle.std.specs.List.{slice_get};
 ghost use Rattle.domain_types.specs.Instances.{instance_seen};
-ghost use Rattle.domain_types.specs.WorkList.{added};
+ghost use Rattle.domain_types.specs.inner.WorkList.{added};
 
 use crate::instance::Instance;
 use crate::value_type::Protection;

@@ -3,17 +3,12 @@ use Rattle.std.proofs.Common.{◌≡◌, ℕ, ◌≤◌, List, [], ◌∷◌, �
 use Rattle.std.proofs.lemmas.List.{drop-drop}
 use Rattle.proto_core.specs.declared.party.Number.{Number}
 use Rattle.proto_core.specs.declared.link.Link.{Link}
-use Rattle.proto_core.specs.Strand.{Strand, Ends, Acts, Waits, then_do}
+use Rattle.proto_core.specs.Strand.{then_do}
 use Rattle.proto_core.specs.Protocol.{Protocol}
-use Rattle.protocol_model.specs.Gates.{Gate, Joined, Local, AreSound, Sized, value_at, operand, needed, gates_strand}
-use Rattle.protocol_model.specs.Runs.{Shares, Tapes, drawn, left, joint_of, after, after_local, run_messages, run_values, Ready}
+use Rattle.proto_core.proofs.Strands.{then-regrouped}
+use Rattle.protocol_model.specs.Gates.{Gate, Joined, Local, AreSound, Sized, nth_value, operand, needed, gates_strand}
+use Rattle.protocol_model.specs.Runs.{Shares, Tapes, drawn, left, gate_joint, after, after_local, run_messages, run_values, Ready}
 use Rattle.protocol_model.proofs.Sizes.{ready-next, ready-local}
-
-then_regrouped :
-    {A B C : Type 0} (s : Strand A) (f : A → Strand B) (g : B → Strand C) → then_do (then_do s f) g ≡ then_do s (λ a. then_do (f a) g)
-then_regrouped (Ends a) f g = refl
-then_regrouped (Acts a s) f g = ap (Acts a) (then_regrouped s f g)
-then_regrouped (Waits l n k) f g = ap (Waits l n) (λ d. λ m. then_regrouped (k m) f g d)
 
 pub gates_then :
     (i : Number) (xs ys : List Gate) (values : List (List ℕ)) (tape : List ℕ) →
@@ -22,13 +17,13 @@ pub gates_then :
 gates_then i [] ys values tape = refl
 gates_then i (Local n f ∷ xs) ys values tape = gates_then i xs ys (values ++ f i values ∷ []) tape
 gates_then i (Joined p n u v ∷ xs) ys values tape =
-    let block = p.strand n i (value_at values u) (operand values v) (take (p.draws n i) tape) in
+    let block = p.strand n i (nth_value values u) (operand values v) (take (p.draws n i) tape) in
     let rest = drop (p.draws n i) tape in
     ap (then_do block)
     (λ d. λ made.
     (gates_then i xs ys (values ++ made) rest
     ∙ ap (λ t. then_do (gates_strand i xs (values ++ made) rest) (λ all. gates_strand i ys all t)) (drop-drop (needed xs i) (p.draws n i) tape)) d)
-    ∙ sym (then_regrouped block _ _)
+    ∙ sym (then-regrouped block _ _)
 
 -- the tapes behind gates
 abbrev pub rest_of_tapes : List Gate → Tapes → Tapes
@@ -46,7 +41,7 @@ pub messages_then :
 messages_then [] ys values tapes l = refl
 messages_then (Local n f ∷ xs) ys values tapes l = messages_then xs ys (after_local f values) tapes l
 messages_then (Joined p n u v ∷ xs) ys values tapes l =
-    let here = p.messages n (joint_of u v values (drawn p n tapes)) l in
+    let here = p.messages n (gate_joint u v values (drawn p n tapes)) l in
     let next = after p n u v values (drawn p n tapes) in
     let first = run_messages xs next (left p n tapes) l in
     let all = run_values xs next (left p n tapes) in

@@ -8,7 +8,7 @@ use Rattle.proto_core.specs.Net.{into, run_of, added, MailBegins, Finishes}
 use Rattle.proto_core.proofs.Beginnings.{begins-append, begins-rest}
 use Rattle.proto_core.proofs.Strands.{run-none, run-took, run-refused, run-then, run-more, told-append}
 use Rattle.proto_core.proofs.Nets.{into-added, into-more}
-use Rattle.protocol_model.specs.Gates.{Gate, Joined, Local, AreSound, AreSilent, value_at, operand, needed, gates_strand}
+use Rattle.protocol_model.specs.Gates.{Gate, Joined, Local, AreSound, AreSilent, nth_value, operand, needed, gates_strand}
 use Rattle.protocol_model.specs.Runs.{Shares, Tapes, Ready, run_messages, nodes_of}
 use Rattle.protocol_model.proofs.GateRuns.{run-finishes}
 use Rattle.protocol_model.proofs.Scripts.{silent_then}
@@ -20,7 +20,7 @@ silent_gates : (i : Number) (gates : List Gate) (values : List (List ℕ)) (tape
 silent_gates i [] values tape h = tt
 silent_gates i (Local n f ∷ gates) values tape h = silent_gates i gates (values ++ f i values ∷ []) tape h
 silent_gates i (Joined p n u v ∷ gates) values tape h =
-    silent_then (p.strand n i (value_at values u) (operand values v) (take (p.draws n i) tape)) _ (h.0 i _ _ _)
+    silent_then (p.strand n i (nth_value values u) (operand values v) (take (p.draws n i) tape)) _ (h.0 i _ _ _)
     (λ made. silent_gates i gates (values ++ made) (drop (p.draws n i) tape) h.1)
 
 silent_run : {A : Type 0} (s : Strand A) (x : Mail) → IsSilent s → told_in (run s x).acts ≡ []

@@ -1,7 +1,7 @@
 -- Turns made of the steps of a run, of which each makes gates; a step that has to know opened words is done again with them.
 use Rattle.std.specs.Prelude.{ℕ, ◌-◌, List, [], length, drop, Option, Some, None}
 use Rattle.proto_core.specs.Strand.{Notice}
-use Rattle.protocol_model.specs.Gates.{Gate, value_at}
+use Rattle.protocol_model.specs.Gates.{Gate, nth_value}
 use Rattle.driven_nodes.specs.Driven.{Turn}
 
 -- what a step comes to
@@ -40,7 +40,7 @@ stand_of (Wants p) = Short p
 
 -- the value that was made last
 abbrev pub last_of : List (List ℕ) → List ℕ
-last_of values = value_at values (length values - 1)
+last_of values = nth_value values (length values - 1)
 
 -- the gates of a place that another one behind it has besides
 abbrev pub gained : {X : Type 0} → (before after : List X) → List X

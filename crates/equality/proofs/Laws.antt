@@ -1,5 +1,6 @@
 -- The gates test for zero.
-use Rattle.std.proofs.Common.{◌≡◌, ℕ, ◌+◌, ◌*◌, ◌/◌, ◌%◌, ◌^◌, ◌<◌, ◌≤◌, Some, List, [], ◌∷◌, ◌++◌, length, map, drop, get_or, refl, sym, ◌∙◌, ap, subst, arith, true}
+use Rattle.std.proofs.Common.{◌≡◌, ℕ, ◌+◌, ◌*◌, ◌/◌, ◌%◌, ◌^◌, ◌<◌, ◌≤◌, Some, List, [], ◌∷◌, ◌++◌, length, map, drop, get_or, refl, sym, ◌∙◌, ap}
+use Rattle.std.proofs.Common.{subst, arith, true}
 use Rattle.std.specs.Prelude.{slice_get}
 use Rattle.std.specs.Int.{w64, bit_not}
 use Rattle.share_ring.specs.Rings.{add_ring, xor_ring}
@@ -61,17 +62,19 @@ tests_for_zero first difference inputs values fit =
     let differing = Column-same (stands values (first + 2) fit.2.1) (Column-each_two xor_ring.add both.0 both.1) in
     let same = Column-same (stands values (first + 2 + 1) fit.2.2.1) (Column-map (bit_not w64) differing) in
     let end =
-    joining_law inputs values n (λ k. bit_not w64 (xor_ring.add (word (value values first) k) (word (value values (first + 1)) k))) shifts 64 (first + 2 + 1) (first + 16)
+    joining_law inputs values n (λ k. bit_not w64 (xor_ring.add (word (value values first) k) (word (value values (first + 1)) k))) shifts 64
+    (first + 2 + 1) (first + 16)
     (λ k. bit_not w64 (xor_ring.add (word (value values first) k) (word (value values (first + 1)) k)))
     (refl, (refl, (refl, (refl, (refl, (refl, refl)))))) (omega arith) same (λ k lt. (λ ones. ones, λ ones. ones)) fit.2.2.2 (omega arith) in
     let is_difference = λ (k : ℕ) (lt : k < n).
     ap (λ l. word l k) (sym split.join) ∙ (Column-each_two add_ring.sub both.0 both.1).words k lt in
     let tested = λ (k : ℕ) (lt : k < n).
     equal_by_ones (word (value values first) k) (word (value values (first + 1)) k) (end.2 k)
-    (split.words k 0 (omega (arith, both.0.size))) (split.other_words k 0 (omega (arith, both.1.size)))
+    (split.words k) (split.other_words k)
     (end.4 k lt).0 (end.4 k lt).1
     ∙ ap zero_test (sym (is_difference k lt)) in
-    end.1 ∙ ap Some (same_columns n (λ k. zero_test (word us k)) end.0 (map zero_test us) (Column-ext tested end.3) (Column-map zero_test (Column-of n us refl)))
+    end.1 ∙ ap Some (same_columns n (λ k. zero_test (word us k)) end.0 (map zero_test us) (Column-ext tested end.3)
+    (Column-map zero_test (Column-of n us refl)))
 
 -- ---- the words that the gates take
 
@@ -99,7 +102,8 @@ takes_words first difference n inputs values miner size fit =
     let differing = Column-same (stands values (first + 2) fit.2.1) (Column-each_two xor_ring.add both.0 both.1) in
     let same = Column-same (stands values (first + 2 + 1) fit.2.2.1) (Column-map (bit_not w64) differing) in
     let rest = joining_words inputs values miner n shifts (first + 2 + 1) same.size fit.2.2.2 in
-    ap (λ k. words_of_split miner k + (0 + (0 + words_of_all (map length values) miner (joining (first + 2 + 1) shifts)))) (size_of-value values difference ∙ size)
+    ap (λ k. words_of_split miner k + (0 + (0 + words_of_all (map length values) miner (joining (first + 2 + 1) shifts))))
+    (size_of-value values difference ∙ size)
     ∙ ap (λ k. words_of_split miner n + k) (omega (arith, rest)) ∙ total miner n
 
 -- ---- as the contract says it

@@ -1,9 +1,10 @@
 -- The readings of arguments and of what stands behind a name.
-use Rattle.std.proofs.Common.{◌≡◌, ℕ, zero, suc, ◌<◌, ◌≤◌, List, [], ◌∷◌, ◌++◌, ◌⊎◌, inl, inr, refl, sym, ap, ◌∙◌, subst, append_assoc, append-nil, Ok, Some, None, length, arith, Bool, true, false, cond}
+use Rattle.std.proofs.Common.{◌≡◌, ℕ, zero, suc, ◌<◌, ◌≤◌, List, [], ◌∷◌, ◌++◌, ◌⊎◌, inl, inr, refl, sym, ap, ◌∙◌, subst, append_assoc, append-nil}
+use Rattle.std.proofs.Common.{Ok, Some, None, length, arith, Bool, true, false, cond}
 use Rattle.sc_text.specs.declared.span.Span.{Span}
 use Rattle.secrec_lexer.specs.Tokens.{is_sign, IsEnded}
 use Rattle.secrec_lexer.specs.declared.sign.Sign.TheVariants as signs
-use Rattle.secrec_lexer.specs.declared.token.Kind.TheVariants as kinds
+use Rattle.secrec_lexer.specs.declared.token.TokenKind.TheVariants as kinds
 use Rattle.secrec_lexer.specs.declared.token.Token.{Token}
 use Rattle.secrec_ast.specs.Tree.{Tree, Trees, variable, call, none, also}
 use Rattle.secrec_ast.specs.Heights.{height}
@@ -12,7 +13,8 @@ use Rattle.expression_parser.specs.Grammar.{IsExpression, AreArguments, AreMore,
 use Rattle.expression_parser.specs.Follow.{goes_on, Free}
 use Rattle.expression_parser.specs.Steps.{Outcome, ◌>>=◌, expect, least, more, more_at, some_arguments, arguments, call_behind, after_name}
 use Rattle.expression_parser.proofs.Reading.{Good, Reads, Then, Only, Stops, cons_head, bind_reads, pure_reads, reads_as}
-use Rattle.expression_parser.proofs.Tokens.{Any, origin, any_stops, good_ended, good_shorter, head_kind, is_sign-true, is_sign-false, token_then, Closing, closing, closes, sign_stops, closing_is, is_closing}
+use Rattle.expression_parser.proofs.Tokens.{Any, origin, any_stops, good_ended, good_shorter, head_kind, is_sign-true, is_sign-false, token_then}
+use Rattle.expression_parser.proofs.Tokens.{Closing, closing, closes, sign_stops, closing_is, is_closing}
 use Rattle.expression_parser.proofs.Nodes.{Low, Lows, tall, leaf, leaf_token, first_token}
 
 -- a closing parenthesis stands behind
@@ -43,9 +45,11 @@ module _ (h : ℕ) (inner : List Token → Outcome Tree)
     comma_up c s v =
         let b = v.5 in
         let d = b.5 in
-        subst (λ z. AreMore z s) (sym d.5.0) (v.1, v.2, v.3, (v.0, v.4), (b.1, b.2, b.3, b.4, subst (AreMore d.0) (sym (d.3 ∙ ap (λ l. d.1 ++ l) d.5.1 ∙ append-nil d.1)) d.4))
+        subst (λ z. AreMore z s) (sym d.5.0)
+        (v.1, v.2, v.3, (v.0, v.4), (b.1, b.2, b.3, b.4, subst (AreMore d.0) (sym (d.3 ∙ ap (λ l. d.1 ++ l) d.5.1 ∙ append-nil d.1)) d.4))
 
-    comma_down : (c : Trees) (s m m2 : List Token) (x : Token) → x.kind ≡ kinds.Sign signs.Comma → AreMore c s → Stops (IsClose c) m → s ++ m ≡ x ∷ m2 → CommaPhrase c s
+    comma_down : (c : Trees) (s m m2 : List Token) (x : Token) → x.kind ≡ kinds.Sign signs.Comma → AreMore c s → Stops (IsClose c) m → s ++ m ≡ x ∷ m2
+        → CommaPhrase c s
     unfolding CommaPhrase CommaBody
     comma_down none s [] m2 x k v st eq = absurd st
     comma_down none s (y ∷ m) m2 x k v st eq =
@@ -63,7 +67,8 @@ module _ (h : ℕ) (inner : List Token → Outcome Tree)
 
     done_reads : (x : Token) (m : List Token) → (x.kind ≡ kinds.Sign signs.Comma → ⊥) → Good AreMore (Lows h) IsClose (x ∷ m) none (x ∷ m)
     done_reads x m k =
-        reads_as (Only none) AreMore (Lows h) Any IsClose x (λ c s v. subst (λ z. AreMore z s) (sym v.0) v.1) (λ c s m' m2 v st eq. done_down c s m' m2 x k v eq) (λ c m' st. any_stops (IsClose c) [] m' st) (x ∷ m) m (Ok (none, x ∷ m)) refl
+        reads_as (Only none) AreMore (Lows h) Any IsClose x (λ c s v. subst (λ z. AreMore z s) (sym v.0) v.1)
+        (λ c s m' m2 v st eq. done_down c s m' m2 x k v eq) (λ c m' st. any_stops (IsClose c) [] m' st) (x ∷ m) m (Ok (none, x ∷ m)) refl
         (pure_reads (Lows h) Any (x ∷ m) x m none refl (omega arith))
 
     more_first : (c : Trees) (e : Tree) (t m : List Token) → AreMore c t → Stops (IsClose c) m → Stops (Free loosest e) (t ++ m)
@@ -81,7 +86,8 @@ module _ (h : ℕ) (inner : List Token → Outcome Tree)
         let at : t ≡ v.1 = v.3 ∙ ap (λ l. v.1 ++ l) v.5.1 ∙ append-nil v.1 in
         subst (λ l. Stops (Free loosest e) (l ++ m)) (sym at) (more_first v.0 e v.1 m v.4 (closed c v.0 m st))
 
-    comma_body_reads : (e : Tree) → height e ≤ h → (w : List Token) (o : Outcome Trees) → Reads AreMore (Lows h) IsClose w o → Reads (CommaBody e) (Lows h) IsClose w (o >>= λ es. Ok (also e es.0, es.1))
+    comma_body_reads : (e : Tree) → height e ≤ h → (w : List Token) (o : Outcome Trees) → Reads AreMore (Lows h) IsClose w o
+        → Reads (CommaBody e) (Lows h) IsClose w (o >>= λ es. Ok (also e es.0, es.1))
     unfolding CommaBody
     comma_body_reads e low w o r =
         bind_reads AreMore (Lows h) IsClose (λ es. Only (also e es)) (Lows h) IsClose
@@ -93,7 +99,9 @@ module _ (h : ℕ) (inner : List Token → Outcome Tree)
         (λ es r g. let f = g.fits in pure_reads (Lows h) IsClose r g.x g.m (also e es) g.rest (omega arith))
 
     -- an argument, and those after it
-    one_reads : (again : List Token → Outcome Trees) (w : List Token) → IsEnded w → ((r : List Token) → IsEnded r → length r ≤ length w → 0 < h → Reads AreMore (Lows h) IsClose r (again r)) → Reads (Then (IsExpression loosest) CommaBody) (Lows h) IsClose w (inner w >>= λ e. again e.1 >>= λ es. Ok (also e.0 es.0, es.1))
+    one_reads : (again : List Token → Outcome Trees) (w : List Token) → IsEnded w
+        → ((r : List Token) → IsEnded r → length r ≤ length w → 0 < h → Reads AreMore (Lows h) IsClose r (again r))
+        → Reads (Then (IsExpression loosest) CommaBody) (Lows h) IsClose w (inner w >>= λ e. again e.1 >>= λ es. Ok (also e.0 es.0, es.1))
     one_reads again w en k =
         bind_reads (IsExpression loosest) (Low h) (Free loosest) CommaBody (Lows h) IsClose
         (λ e c t v f. unfold CommaBody in (let f2 = subst (Lows h) v.5.0 f in omega arith))
@@ -103,24 +111,33 @@ module _ (h : ℕ) (inner : List Token → Outcome Tree)
         w (inner w) (λ e. again e.1 >>= λ es. Ok (also e.0 es.0, es.1)) (reads_inner w en)
         (λ e r g. comma_body_reads e g.fits r (again r) (let low = g.fits in let up = tall e in k r (good_ended g en) (good_shorter g) (omega arith)))
 
-    more_reads_at : (n : ℕ) (x : Token) (m : List Token) → 0 < h → IsEnded (x ∷ m) → ((r : List Token) → IsEnded r → length r ≤ length m → Reads AreMore (Lows h) IsClose r (more inner n r)) → Reads AreMore (Lows h) IsClose (x ∷ m) (more_at inner (more inner n) x m)
-    more_reads_at n x m room en ih = go (is_sign signs.Comma x) refl
+    more_reads_at : (n : ℕ) (x : Token) (m : List Token) → 0 < h → IsEnded (x ∷ m)
+        → ((r : List Token) → IsEnded r → length r ≤ length m → Reads AreMore (Lows h) IsClose r (more inner n r))
+        → Reads AreMore (Lows h) IsClose (x ∷ m) (more_at inner (more inner n) x m)
+    more_reads_at n x m max_height en ih = go (is_sign signs.Comma x) refl
       where
-        go : (b : Bool) → is_sign signs.Comma x ≡ b → Reads AreMore (Lows h) IsClose (x ∷ m) (cond b (inner m >>= λ e. more inner n e.1 >>= λ es. Ok (also e.0 es.0, es.1)) (Ok (none, x ∷ m)))
+        go : (b : Bool) → is_sign signs.Comma x ≡ b
+            → Reads AreMore (Lows h) IsClose (x ∷ m) (cond b (inner m >>= λ e. more inner n e.1 >>= λ es. Ok (also e.0 es.0, es.1)) (Ok (none, x ∷ m)))
         go true t =
             let k = is_sign-true signs.Comma x t in
             let o = inner m >>= λ e. more inner n e.1 >>= λ es. Ok (also e.0 es.0, es.1) in
-            reads_as CommaPhrase AreMore (Lows h) IsClose IsClose x comma_up (λ c s m' m2 v st eq. comma_down c s m' m2 x k v st eq) (λ c m' st. st) (x ∷ m) m o refl
+            reads_as CommaPhrase AreMore (Lows h) IsClose IsClose x comma_up (λ c s m' m2 v st eq. comma_down c s m' m2 x k v st eq) (λ c m' st. st)
+            (x ∷ m) m o refl
             (unfold CommaPhrase in token_then (kinds.Sign signs.Comma) (λ q. Then (IsExpression loosest) CommaBody) (Lows h) IsClose refl
-            (λ q. (also leaf none, leaf_token ∷ [], (leaf, leaf_token ∷ [], [], refl, refl, unfold CommaBody in (none, [], [], refl, refl, (refl, refl))), omega arith))
+            (λ q. (
+              also leaf none,
+              leaf_token ∷ [],
+              (leaf, leaf_token ∷ [], [], refl, refl, unfold CommaBody in (none, [], [], refl, refl, (refl, refl))),
+              omega arith,
+            ))
             x m o k en (λ en2. one_reads (more inner n) m en2 (λ r enr le room2. ih r enr le)))
         go false t = done_reads x m (is_sign-false signs.Comma x t)
 
     more_reads : (n : ℕ) (w : List Token) → 0 < h → length w ≤ n → IsEnded w → Reads AreMore (Lows h) IsClose w (more inner n w)
     unfolding more
-    more_reads n [] room le en = cc
-    more_reads zero (x ∷ m) room le en = absurd (omega arith)
-    more_reads (suc n) (x ∷ m) room le en = more_reads_at n x m room en (λ r enr le2. more_reads n r room (omega arith) enr)
+    more_reads n [] max_height le en = cc
+    more_reads zero (x ∷ m) max_height le en = absurd (omega arith)
+    more_reads (suc n) (x ∷ m) max_height le en = more_reads_at n x m max_height en (λ r enr le2. more_reads n r max_height (omega arith) enr)
 
     SomeArguments : Trees → Phrase
     SomeArguments = Then (IsExpression loosest) CommaBody
@@ -131,7 +148,8 @@ module _ (h : ℕ) (inner : List Token → Outcome Tree)
         let d = v.5 in
         subst (λ z. AreArguments z s) (sym d.5.0) (v.1, v.2, v.3, v.4, subst (AreMore d.0) (sym (d.3 ∙ ap (λ l. d.1 ++ l) d.5.1 ∙ append-nil d.1)) d.4)
 
-    some_down : (c : Trees) (s m m2 : List Token) (x : Token) → (x.kind ≡ kinds.Sign signs.RightParenthesis → ⊥) → AreArguments c s → Stops (IsClose c) m → s ++ m ≡ x ∷ m2 → SomeArguments c s
+    some_down : (c : Trees) (s m m2 : List Token) (x : Token) → (x.kind ≡ kinds.Sign signs.RightParenthesis → ⊥) → AreArguments c s
+        → Stops (IsClose c) m → s ++ m ≡ x ∷ m2 → SomeArguments c s
     unfolding SomeArguments CommaBody
     some_down none s [] m2 x k v st eq = absurd st
     some_down none s (y ∷ m) m2 x k v st eq = absurd (k (ap (λ (t : Token). t.kind) (sym (cons_head (ap (λ l. l ++ y ∷ m) (sym v) ∙ eq))) ∙ st))
@@ -143,19 +161,25 @@ module _ (h : ℕ) (inner : List Token → Outcome Tree)
         let f = first_token loosest e v.0 (v.1 ++ m) m2 x v.3 (sym (append_assoc v.0 v.1 m) ∙ ap (λ l. l ++ m) (sym v.2) ∙ eq) in
         let g : None ≡ Some f.0 = ap least (sym k) ∙ f.1 in cc
 
-    some_reads : (x : Token) (m : List Token) → (x.kind ≡ kinds.Sign signs.RightParenthesis → ⊥) → IsEnded (x ∷ m) → Reads AreArguments (Lows h) IsClose (x ∷ m) (some_arguments inner (x ∷ m))
+    some_reads : (x : Token) (m : List Token) → (x.kind ≡ kinds.Sign signs.RightParenthesis → ⊥) → IsEnded (x ∷ m)
+        → Reads AreArguments (Lows h) IsClose (x ∷ m) (some_arguments inner (x ∷ m))
     some_reads x m k en =
-        reads_as SomeArguments AreArguments (Lows h) IsClose IsClose x some_up (λ c s m' m2 v st eq. some_down c s m' m2 x k v st eq) (λ c m' st. st) (x ∷ m) m (some_arguments inner (x ∷ m)) refl
-        (unfold SomeArguments in one_reads (λ r. more inner (length r) r) (x ∷ m) en (λ r enr le room. more_reads (length r) r room (omega arith) enr))
+        reads_as SomeArguments AreArguments (Lows h) IsClose IsClose x some_up (λ c s m' m2 v st eq. some_down c s m' m2 x k v st eq) (λ c m' st. st)
+        (x ∷ m) m (some_arguments inner (x ∷ m)) refl
+        (unfold SomeArguments in one_reads (λ r. more inner (length r) r) (x ∷ m) en
+        (λ r enr le max_height. more_reads (length r) r max_height (omega arith) enr))
 
     arguments_reads : (w : List Token) → IsEnded w → Reads AreArguments (Lows h) IsClose w (arguments inner w)
     unfolding arguments
     arguments_reads [] en = cc
     arguments_reads (x ∷ m) en = go (is_sign signs.RightParenthesis x) refl
       where
-        go : (b : Bool) → is_sign signs.RightParenthesis x ≡ b → Reads AreArguments (Lows h) IsClose (x ∷ m) (cond b (Ok (none, x ∷ m)) (some_arguments inner (x ∷ m)))
+        go : (b : Bool) → is_sign signs.RightParenthesis x ≡ b
+            → Reads AreArguments (Lows h) IsClose (x ∷ m) (cond b (Ok (none, x ∷ m)) (some_arguments inner (x ∷ m)))
         go true t =
-            reads_as (Only none) AreArguments (Lows h) Any IsClose x (λ c s v. subst (λ z. AreArguments z s) (sym v.0) v.1) (λ c s m' m2 v st eq. none_down c s m' m2 x (is_sign-true signs.RightParenthesis x t) v eq) (λ c m' st. any_stops (IsClose c) [] m' st) (x ∷ m) m (Ok (none, x ∷ m)) refl
+            reads_as (Only none) AreArguments (Lows h) Any IsClose x (λ c s v. subst (λ z. AreArguments z s) (sym v.0) v.1)
+            (λ c s m' m2 v st eq. none_down c s m' m2 x (is_sign-true signs.RightParenthesis x t) v eq)
+            (λ c m' st. any_stops (IsClose c) [] m' st) (x ∷ m) m (Ok (none, x ∷ m)) refl
             (pure_reads (Lows h) Any (x ∷ m) x m none refl (omega arith))
         go false t = some_reads x m (is_sign-false signs.RightParenthesis x t) en
 
@@ -181,26 +205,37 @@ module _ (h : ℕ) (inner : List Token → Outcome Tree)
     NameTail : Span → List ℕ → Tree → Phrase
     NameTail p bytes c ts = Only (variable p bytes) c ts ⊎ CallTail p bytes c ts
 
-    after_name_call : (p : Span) (bytes : List ℕ) (y : Token) (m : List Token) → is_sign signs.LeftParenthesis y ≡ true → IsEnded (y ∷ m) → Reads (NameTail p bytes) (Low (suc h)) FreeName (y ∷ m) (call_behind inner p bytes m)
+    after_name_call : (p : Span) (bytes : List ℕ) (y : Token) (m : List Token) → is_sign signs.LeftParenthesis y ≡ true → IsEnded (y ∷ m)
+        → Reads (NameTail p bytes) (Low (suc h)) FreeName (y ∷ m) (call_behind inner p bytes m)
     unfolding NameTail CallTail
     after_name_call p bytes y m test en =
         let close = token origin (kinds.Sign signs.RightParenthesis) in
-        reads_as (CallTail p bytes) (NameTail p bytes) (Low (suc h)) Any FreeName y (λ c s v. inr v) (λ c s m' m2 u st eq. go c s m' m2 u st eq) (λ c m' st. any_stops (FreeName c) [] m' st) (y ∷ m) m (call_behind inner p bytes m) refl
+        reads_as (CallTail p bytes) (NameTail p bytes) (Low (suc h)) Any FreeName y (λ c s v. inr v) (λ c s m' m2 u st eq. go c s m' m2 u st eq)
+        (λ c m' st. any_stops (FreeName c) [] m' st) (y ∷ m) m (call_behind inner p bytes m) refl
         (token_then (kinds.Sign signs.LeftParenthesis) (λ q. CallBody p bytes) (Low (suc h)) Any refl
-        (λ q. (call p bytes none, close ∷ [], unfold CallBody in (none, [], close ∷ [], refl, refl, closes signs.RightParenthesis (call p bytes none)), omega arith))
+        (λ q. (
+          call p bytes none,
+          close ∷ [],
+          unfold CallBody in
+              (none, [], close ∷ [], refl, refl, closes signs.RightParenthesis (call p bytes none)),
+          omega arith,
+        ))
         y m (call_behind inner p bytes m) (is_sign-true signs.LeftParenthesis y test) en (λ en2. call_body_reads p bytes m en2))
       where
         go : (c : Tree) (s m' m2 : List Token) → NameTail p bytes c s → Stops (FreeName c) m' → s ++ m' ≡ y ∷ m2 → CallTail p bytes c s
         go c s [] m2 (inl u) st eq = absurd st
         go c s (z ∷ m') m2 (inl u) st eq =
-            let f : is_sign signs.LeftParenthesis y ≡ false = ap (is_sign signs.LeftParenthesis) (sym (cons_head (ap (λ l. l ++ z ∷ m') (sym u.1) ∙ eq))) ∙ st in
+            let f : is_sign signs.LeftParenthesis y ≡ false =
+            ap (is_sign signs.LeftParenthesis) (sym (cons_head (ap (λ l. l ++ z ∷ m') (sym u.1) ∙ eq))) ∙ st in
             let g : true ≡ false = sym test ∙ f in cc
         go c s m' m2 (inr u) st eq = u
 
-    after_name_alone : (p : Span) (bytes : List ℕ) (y : Token) (m : List Token) → (y.kind ≡ kinds.Sign signs.LeftParenthesis → ⊥) → Good (NameTail p bytes) (Low (suc h)) FreeName (y ∷ m) (variable p bytes) (y ∷ m)
+    after_name_alone : (p : Span) (bytes : List ℕ) (y : Token) (m : List Token) → (y.kind ≡ kinds.Sign signs.LeftParenthesis → ⊥)
+        → Good (NameTail p bytes) (Low (suc h)) FreeName (y ∷ m) (variable p bytes) (y ∷ m)
     unfolding NameTail CallTail
     after_name_alone p bytes y m k =
-        reads_as (Only (variable p bytes)) (NameTail p bytes) (Low (suc h)) Any FreeName y (λ c s v. inl v) (λ c s m' m2 u st eq. go c s m' m2 u eq) (λ c m' st. any_stops (FreeName c) [] m' st) (y ∷ m) m (Ok (variable p bytes, y ∷ m)) refl
+        reads_as (Only (variable p bytes)) (NameTail p bytes) (Low (suc h)) Any FreeName y (λ c s v. inl v) (λ c s m' m2 u st eq. go c s m' m2 u eq)
+        (λ c m' st. any_stops (FreeName c) [] m' st) (y ∷ m) m (Ok (variable p bytes, y ∷ m)) refl
         (pure_reads (Low (suc h)) Any (y ∷ m) y m (variable p bytes) refl (omega arith))
       where
         go : (c : Tree) (s m' m2 : List Token) → NameTail p bytes c s → s ++ m' ≡ y ∷ m2 → Only (variable p bytes) c s
@@ -212,7 +247,8 @@ module _ (h : ℕ) (inner : List Token → Outcome Tree)
     after_name_reads p bytes [] en = cc
     after_name_reads p bytes (y ∷ m) en = go (is_sign signs.LeftParenthesis y) refl
       where
-        go : (b : Bool) → is_sign signs.LeftParenthesis y ≡ b → Reads (NameTail p bytes) (Low (suc h)) FreeName (y ∷ m) (cond b (call_behind inner p bytes m) (Ok (variable p bytes, y ∷ m)))
+        go : (b : Bool) → is_sign signs.LeftParenthesis y ≡ b
+            → Reads (NameTail p bytes) (Low (suc h)) FreeName (y ∷ m) (cond b (call_behind inner p bytes m) (Ok (variable p bytes, y ∷ m)))
         go true t = after_name_call p bytes y m t en
         go false t = after_name_alone p bytes y m (is_sign-false signs.LeftParenthesis y t)
 
@@ -220,7 +256,10 @@ module _ (h : ℕ) (inner : List Token → Outcome Tree)
     NamePhrase bytes = Then (λ p. one_at p (kinds.Name bytes)) (λ p. NameTail p bytes)
 
     -- a name, and what follows it: a variable or a call
-    pub name_cases : (bytes : List ℕ) (c : Tree) (s : List Token) → NamePhrase bytes c s → ((p : Span) × (c ≡ variable p bytes) × one_at p (kinds.Name bytes) s) ⊎ ((p : Span) × (es : Trees) × (c ≡ call p bytes es) × (one_at p (kinds.Name bytes) then sign signs.LeftParenthesis then AreArguments es then sign signs.RightParenthesis) s)
+    pub name_cases : (bytes : List ℕ) (c : Tree) (s : List Token) → NamePhrase bytes c s
+        → ((p : Span) × (c ≡ variable p bytes) × one_at p (kinds.Name bytes) s)
+        ⊎ ((p : Span) × (es : Trees) × (c ≡ call p bytes es)
+        × (one_at p (kinds.Name bytes) then sign signs.LeftParenthesis then AreArguments es then sign signs.RightParenthesis) s)
     unfolding NamePhrase NameTail CallTail CallBody
     name_cases bytes c s (p, s1, t1, e, o, inl u) =
         inl (p, u.0, e ∙ ap (λ l. l ++ t1) o ∙ ap (λ l. token p (kinds.Name bytes) ∷ l) u.1)
@@ -233,14 +272,17 @@ module _ (h : ℕ) (inner : List Token → Outcome Tree)
     unfolding NamePhrase NameTail
     variable_named p bytes s v = (p, s, [], sym (append-nil s), v, inl (refl, refl))
 
-    pub call_named : (p : Span) (bytes : List ℕ) (es : Trees) (s : List Token) → (one_at p (kinds.Name bytes) then sign signs.LeftParenthesis then AreArguments es then sign signs.RightParenthesis) s → NamePhrase bytes (call p bytes es) s
+    pub call_named : (p : Span) (bytes : List ℕ) (es : Trees) (s : List Token)
+        → (one_at p (kinds.Name bytes) then sign signs.LeftParenthesis then AreArguments es then sign signs.RightParenthesis) s
+        → NamePhrase bytes (call p bytes es) s
     unfolding NamePhrase NameTail CallTail CallBody
     call_named p bytes es s u =
         let b = u.4 in
         let d = b.4 in
         (p, u.0, u.1, u.2, u.3, inr (b.3.0, b.0, b.1, b.2, b.3.1, (es, d.0, d.1, d.2, d.3, is_closing signs.RightParenthesis (call p bytes es) d.1 d.4)))
 
-    pub name_reads : (bytes : List ℕ) (x : Token) (m : List Token) → x.kind ≡ kinds.Name bytes → IsEnded (x ∷ m) → Reads (NamePhrase bytes) (Low (suc h)) FreeName (x ∷ m) (after_name inner x.place bytes m)
+    pub name_reads : (bytes : List ℕ) (x : Token) (m : List Token) → x.kind ≡ kinds.Name bytes → IsEnded (x ∷ m)
+        → Reads (NamePhrase bytes) (Low (suc h)) FreeName (x ∷ m) (after_name inner x.place bytes m)
     unfolding NamePhrase
     name_reads bytes x m k en =
         token_then (kinds.Name bytes) (λ p. NameTail p bytes) (Low (suc h)) FreeName refl

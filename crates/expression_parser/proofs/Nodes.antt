@@ -1,18 +1,19 @@
 -- What every expression begins with, and the readings of what stands in brackets.
-use Rattle.std.proofs.Common.{◌≡◌, ℕ, suc, ◌<◌, ◌≤◌, List, [], ◌∷◌, ◌++◌, inl, refl, sym, ap, ◌∙◌, subst, append-nil, Ok, Option, Some, None, arith, Bool, true, false, cond}
+use Rattle.std.proofs.Common.{◌≡◌, ℕ, suc, ◌<◌, ◌≤◌, List, [], ◌∷◌, ◌++◌, inl, refl, sym, ap, ◌∙◌, subst, append-nil, Ok, Option, Some, None, arith}
+use Rattle.std.proofs.Common.{Bool, true, false, cond}
 use Rattle.std.specs.Prelude.{nat_lt}
 use Rattle.std.proofs.lemmas.Bool.{ltb-true, ltb-false}
 use Rattle.sc_text.specs.declared.span.Span.{Span}
 use Rattle.secrec_lexer.specs.Tokens.{IsEnded}
 use Rattle.secrec_lexer.specs.declared.sign.Sign.{Sign}
 use Rattle.secrec_lexer.specs.declared.sign.Sign.TheVariants as signs
-use Rattle.secrec_lexer.specs.declared.token.Kind.{Kind}
-use Rattle.secrec_lexer.specs.declared.token.Kind.TheVariants as kinds
+use Rattle.secrec_lexer.specs.declared.token.TokenKind.{TokenKind}
+use Rattle.secrec_lexer.specs.declared.token.TokenKind.TheVariants as kinds
 use Rattle.secrec_lexer.specs.declared.token.Token.{Token}
 use Rattle.secrec_ast.specs.Tree.{Tree, Trees, number, truth, variable, call, index, parentheses, negation, cast, binary, declassify, argument, publish}
 use Rattle.secrec_ast.specs.Heights.{height, heights}
-use Rattle.expression_parser.specs.declared.problem.Problem.{Problem}
-use Rattle.expression_parser.specs.declared.problem.Problem.TheVariants.{Unexpected, TooHigh}
+use Rattle.expression_parser.specs.declared.problem.ParseProblem.{ParseProblem}
+use Rattle.expression_parser.specs.declared.problem.ParseProblem.TheVariants.{Unexpected, TooHigh}
 use Rattle.expression_parser.specs.Phrases.{Phrase, token, sign, ◌then◌}
 use Rattle.expression_parser.specs.Grammar.{IsExpression, level, loosest, unary}
 use Rattle.expression_parser.specs.Follow.{goes_on, Free}
@@ -50,14 +51,15 @@ leaf_token = token origin (kinds.Number 0)
 -- every expression begins with a token of which it has at least the least height
 pub record Begins (k : ℕ) (c : Tree) (s : List Token) : Type 0 where
   pub place : Span
-  pub kind : Kind
+  pub kind : TokenKind
   pub behind : List Token
   pub split : s ≡ token place kind ∷ behind
   pub n : ℕ
   pub low : least kind ≡ Some n
   pub fits : n ≤ height c
 
-begins_so : (k : ℕ) (c : Tree) (s t t2 : List Token) (p : Span) (kind : Kind) (n : ℕ) → s ≡ t ++ t2 → t ≡ token p kind ∷ [] → least kind ≡ Some n → n ≤ height c → Begins k c s
+begins_so : (k : ℕ) (c : Tree) (s t t2 : List Token) (p : Span) (kind : TokenKind) (n : ℕ) → s ≡ t ++ t2 → t ≡ token p kind ∷ [] → least kind ≡ Some n
+    → n ≤ height c → Begins k c s
 begins_so k c s t t2 p kind n e o l f = record {
   place = p;
   kind = kind;
@@ -119,7 +121,8 @@ begins k (publish p x e) s v =
     begins_so k (publish p x e) s v.0 v.1 p (kinds.Sign signs.Publish) 2 v.2 v.3 refl (omega arith)
 
 -- the first token of a text that begins with an expression
-pub first_token : (k : ℕ) (c : Tree) (s m m2 : List Token) (x : Token) → IsExpression k c s → s ++ m ≡ x ∷ m2 → (n : ℕ) × (least x.kind ≡ Some n) × (n ≤ height c)
+pub first_token : (k : ℕ) (c : Tree) (s m m2 : List Token) (x : Token) → IsExpression k c s → s ++ m ≡ x ∷ m2
+    → (n : ℕ) × (least x.kind ≡ Some n) × (n ≤ height c)
 first_token k c s m m2 x v eq =
     let b = begins k c s v in
     let f = head_kind s b.behind m m2 b.place b.kind x b.split eq in
@@ -152,7 +155,13 @@ begun_sign signs.Declassify x n e l =
     record {
       tree = declassify x.place leaf;
       behind = start ∷ leaf_token ∷ close ∷ [];
-      here = λ k. (x ∷ [], start ∷ leaf_token ∷ close ∷ [], refl, ap (λ z. token x.place z ∷ []) e, (start ∷ [], leaf_token ∷ close ∷ [], refl, (origin, refl), (leaf_token ∷ [], close ∷ [], refl, refl, (origin, refl))));
+      here = λ k. (
+        x ∷ [],
+        start ∷ leaf_token ∷ close ∷ [],
+        refl,
+        ap (λ z. token x.place z ∷ []) e,
+        (start ∷ [], leaf_token ∷ close ∷ [], refl, (origin, refl), (leaf_token ∷ [], close ∷ [], refl, refl, (origin, refl))),
+      );
     }
 begun_sign signs.Argument x n e l =
     let start = token origin (kinds.Sign signs.LeftParenthesis) in
@@ -161,7 +170,13 @@ begun_sign signs.Argument x n e l =
     record {
       tree = argument x.place [];
       behind = start ∷ name ∷ close ∷ [];
-      here = λ k. (x ∷ [], start ∷ name ∷ close ∷ [], refl, ap (λ z. token x.place z ∷ []) e, (start ∷ [], name ∷ close ∷ [], refl, (origin, refl), (name ∷ [], close ∷ [], refl, (origin, refl), (origin, refl))));
+      here = λ k. (
+        x ∷ [],
+        start ∷ name ∷ close ∷ [],
+        refl,
+        ap (λ z. token x.place z ∷ []) e,
+        (start ∷ [], name ∷ close ∷ [], refl, (origin, refl), (name ∷ [], close ∷ [], refl, (origin, refl), (origin, refl))),
+      );
     }
 begun_sign signs.Publish x n e l =
     let start = token origin (kinds.Sign signs.LeftParenthesis) in
@@ -171,11 +186,29 @@ begun_sign signs.Publish x n e l =
     record {
       tree = publish x.place [] leaf;
       behind = start ∷ name ∷ comma ∷ leaf_token ∷ close ∷ [];
-      here = λ k. (x ∷ [], start ∷ name ∷ comma ∷ leaf_token ∷ close ∷ [], refl, ap (λ z. token x.place z ∷ []) e, (start ∷ [], name ∷ comma ∷ leaf_token ∷ close ∷ [], refl, (origin, refl), (name ∷ [], comma ∷ leaf_token ∷ close ∷ [], refl, (origin, refl), (comma ∷ [], leaf_token ∷ close ∷ [], refl, (origin, refl), (leaf_token ∷ [], close ∷ [], refl, refl, (origin, refl))))));
+      here = λ k. (
+        x ∷ [],
+        start ∷ name ∷ comma ∷ leaf_token ∷ close ∷ [],
+        refl,
+        ap (λ z. token x.place z ∷ []) e,
+        (
+          start ∷ [],
+          name ∷ comma ∷ leaf_token ∷ close ∷ [],
+          refl,
+          (origin, refl),
+          (
+            name ∷ [],
+            comma ∷ leaf_token ∷ close ∷ [],
+            refl,
+            (origin, refl),
+            (comma ∷ [], leaf_token ∷ close ∷ [], refl, (origin, refl), (leaf_token ∷ [], close ∷ [], refl, refl, (origin, refl))),
+          ),
+        ),
+      );
     }
 begun_sign other x n e l = cc
 
-pub begun : (kind : Kind) (x : Token) (n : ℕ) → x.kind ≡ kind → least kind ≡ Some n → Begun x
+pub begun : (kind : TokenKind) (x : Token) (n : ℕ) → x.kind ≡ kind → least kind ≡ Some n → Begun x
 begun (kinds.Name bytes) x n e l = record { tree = variable x.place bytes; behind = []; here = λ k. ap (λ z. token x.place z ∷ []) e }
 begun (kinds.Number i) x n e l = record { tree = number x.place i; behind = []; here = λ k. ap (λ z. token x.place z ∷ []) e }
 begun (kinds.Text bytes) x n e l = cc
@@ -183,10 +216,11 @@ begun (kinds.Sign s) x n e l = begun_sign s x n e l
 begun kinds.End x n e l = cc
 
 -- no expression of at most this height begins with the token
-pub start_bad : (k room : ℕ) (x : Token) (m : List Token) (p : Problem) → why_not room (least x.kind) ≡ Some p → Bad (IsExpression k) (Low room) (Free k) (x ∷ m) p (x ∷ m)
-start_bad k room x m p e = go (least x.kind) refl e
+pub start_bad : (k max_height : ℕ) (x : Token) (m : List Token) (p : ParseProblem) → why_not max_height (least x.kind) ≡ Some p
+    → Bad (IsExpression k) (Low max_height) (Free k) (x ∷ m) p (x ∷ m)
+start_bad k max_height x m p e = go (least x.kind) refl e
   where
-    unexpected : least x.kind ≡ None → Bad (IsExpression k) (Low room) (Free k) (x ∷ m) Unexpected (x ∷ m)
+    unexpected : least x.kind ≡ None → Bad (IsExpression k) (Low max_height) (Free k) (x ∷ m) Unexpected (x ∷ m)
     unexpected none_is = record {
       s = [];
       x = x;
@@ -198,7 +232,7 @@ start_bad k room x m p e = go (least x.kind) refl e
       begun = tt;
     }
 
-    too_high : (n : ℕ) → least x.kind ≡ Some n → room < n → Bad (IsExpression k) (Low room) (Free k) (x ∷ m) TooHigh (x ∷ m)
+    too_high : (n : ℕ) → least x.kind ≡ Some n → max_height < n → Bad (IsExpression k) (Low max_height) (Free k) (x ∷ m) TooHigh (x ∷ m)
     too_high n is lt =
         let b = begun x.kind x n refl is in
         record {
@@ -217,29 +251,30 @@ start_bad k room x m p e = go (least x.kind) refl e
           begun = (b.tree, b.behind, b.here k);
         }
 
-    at : (n : ℕ) (b : Bool) → least x.kind ≡ Some n → nat_lt room n ≡ b → cond b (Some TooHigh) None ≡ Some p → Bad (IsExpression k) (Low room) (Free k) (x ∷ m) p (x ∷ m)
+    at : (n : ℕ) (b : Bool) → least x.kind ≡ Some n → nat_lt max_height n ≡ b → cond b (Some TooHigh) None ≡ Some p
+        → Bad (IsExpression k) (Low max_height) (Free k) (x ∷ m) p (x ∷ m)
     at n true is lt e =
         let f : TooHigh ≡ p = cc in
-        subst (λ q. Bad (IsExpression k) (Low room) (Free k) (x ∷ m) q (x ∷ m)) f (too_high n is (ltb-true room n lt))
+        subst (λ q. Bad (IsExpression k) (Low max_height) (Free k) (x ∷ m) q (x ∷ m)) f (too_high n is (ltb-true max_height n lt))
     at n false is lt e = cc
 
-    go : (o : Option ℕ) → least x.kind ≡ o → why_not room o ≡ Some p → Bad (IsExpression k) (Low room) (Free k) (x ∷ m) p (x ∷ m)
+    go : (o : Option ℕ) → least x.kind ≡ o → why_not max_height o ≡ Some p → Bad (IsExpression k) (Low max_height) (Free k) (x ∷ m) p (x ∷ m)
     go None is e =
         let f : Unexpected ≡ p = cc in
-        subst (λ q. Bad (IsExpression k) (Low room) (Free k) (x ∷ m) q (x ∷ m)) f (unexpected is)
-    go (Some n) is e = at n (nat_lt room n) is refl e
+        subst (λ q. Bad (IsExpression k) (Low max_height) (Free k) (x ∷ m) q (x ∷ m)) f (unexpected is)
+    go (Some n) is e = at n (nat_lt max_height n) is refl e
 
 -- where one does, there is room for the least one
-pub start_fits : (room : ℕ) (o : Option ℕ) → why_not room o ≡ None → (n : ℕ) × (o ≡ Some n) × (n ≤ room)
-start_fits room None e = cc
-start_fits room (Some n) e = go (nat_lt room n) refl e
+pub start_fits : (max_height : ℕ) (o : Option ℕ) → why_not max_height o ≡ None → (n : ℕ) × (o ≡ Some n) × (n ≤ max_height)
+start_fits max_height None e = cc
+start_fits max_height (Some n) e = go (nat_lt max_height n) refl e
   where
-    go : (b : Bool) → nat_lt room n ≡ b → cond b (Some TooHigh) None ≡ None → (i : ℕ) × (Some n ≡ Some i) × (i ≤ room)
+    go : (b : Bool) → nat_lt max_height n ≡ b → cond b (Some TooHigh) None ≡ None → (i : ℕ) × (Some n ≡ Some i) × (i ≤ max_height)
     go true t e = cc
-    go false t e = (n, refl, ltb-false room n t)
+    go false t e = (n, refl, ltb-false max_height n t)
 
 -- no expression is lower than a leaf
-pub least_positive : (kind : Kind) (n : ℕ) → least kind ≡ Some n → 0 < n
+pub least_positive : (kind : TokenKind) (n : ℕ) → least kind ≡ Some n → 0 < n
 least_positive kind n e = go kind e
   where
     sign_go : (s : Sign) → least_of_sign s ≡ Some n → 0 < n
@@ -252,7 +287,7 @@ least_positive kind n e = go kind e
     sign_go signs.Publish e = let f : 2 ≡ n = cc in omega arith
     sign_go other e = cc
 
-    go : (kind : Kind) → least kind ≡ Some n → 0 < n
+    go : (kind : TokenKind) → least kind ≡ Some n → 0 < n
     go (kinds.Name bytes) e = let f : 1 ≡ n = cc in omega arith
     go (kinds.Number i) e = let f : 1 ≡ n = cc in omega arith
     go (kinds.Text bytes) e = cc
@@ -286,7 +321,9 @@ module _ (h : ℕ) (inner operand : List Token → Outcome Tree)
     (reads_inner : (w : List Token) → IsEnded w → Reads (IsExpression loosest) (Low h) (Free loosest) w (inner w))
     (reads_operand : (w : List Token) → IsEnded w → Reads (IsExpression unary) (Low h) (Free unary) w (operand w))
   where
-    pub enclosed_reads : (s : Sign) (f : Tree → Tree) → goes_on loosest (kinds.Sign s) ≡ false → ((e : Tree) → height (f e) ≤ suc h → height e ≤ h) → ((e : Tree) → height e ≤ h → height (f e) ≤ suc h) → (w : List Token) → IsEnded w → Reads (Enclosed s f) (Low (suc h)) Any w (inner w >>= λ e. expect s e.1 >>= λ q. Ok (f e.0, q.1))
+    pub enclosed_reads : (s : Sign) (f : Tree → Tree) → goes_on loosest (kinds.Sign s) ≡ false → ((e : Tree) → height (f e) ≤ suc h → height e ≤ h)
+        → ((e : Tree) → height e ≤ h → height (f e) ≤ suc h) → (w : List Token) → IsEnded w
+        → Reads (Enclosed s f) (Low (suc h)) Any w (inner w >>= λ e. expect s e.1 >>= λ q. Ok (f e.0, q.1))
     enclosed_reads s f free down up w en =
         bind_reads (IsExpression loosest) (Low h) (Free loosest) (λ e. Closing s (f e)) (Low (suc h)) Any
         (λ e c t v fits. down e (subst (Low (suc h)) v.5.0 fits))
@@ -297,10 +334,15 @@ module _ (h : ℕ) (inner operand : List Token → Outcome Tree)
         (λ e r g. closing s (Low (suc h)) (f e) (up e g.fits) r (good_ended g en))
 
     pub enclosed_alive : (s : Sign) (f : Tree → Tree) → 1 ≤ h → ((e : Tree) → height e ≤ h → height (f e) ≤ suc h) → Alive (Enclosed s f) (Low (suc h))
-    enclosed_alive s f room up =
-        (f leaf, leaf_token ∷ token origin (kinds.Sign s) ∷ [], (leaf, leaf_token ∷ [], token origin (kinds.Sign s) ∷ [], refl, refl, closes s (f leaf)), up leaf room)
+    enclosed_alive s f max_height up = (
+      f leaf,
+      leaf_token ∷ token origin (kinds.Sign s) ∷ [],
+      (leaf, leaf_token ∷ [], token origin (kinds.Sign s) ∷ [], refl, refl, closes s (f leaf)),
+      up leaf max_height,
+    )
 
-    pub made_reads : (f : Tree → Tree) → ((e : Tree) → height (f e) ≤ suc h → height e ≤ h) → ((e : Tree) → height e ≤ h → height (f e) ≤ suc h) → (w : List Token) → IsEnded w → Reads (Made f) (Low (suc h)) (Free unary) w (operand w >>= λ e. Ok (f e.0, e.1))
+    pub made_reads : (f : Tree → Tree) → ((e : Tree) → height (f e) ≤ suc h → height e ≤ h) → ((e : Tree) → height e ≤ h → height (f e) ≤ suc h)
+        → (w : List Token) → IsEnded w → Reads (Made f) (Low (suc h)) (Free unary) w (operand w >>= λ e. Ok (f e.0, e.1))
     made_reads f down up w en =
         bind_reads (IsExpression unary) (Low h) (Free unary) (λ e. Only (f e)) (Low (suc h)) (Free unary)
         (λ e c t v fits. down e (subst (Low (suc h)) v.0 fits))
@@ -315,4 +357,4 @@ module _ (h : ℕ) (inner operand : List Token → Outcome Tree)
         same e c (x ∷ m) st = st
 
     pub made_alive : (f : Tree → Tree) → 1 ≤ h → ((e : Tree) → height e ≤ h → height (f e) ≤ suc h) → Alive (Made f) (Low (suc h))
-    made_alive f room up = (f leaf, leaf_token ∷ [], (leaf, leaf_token ∷ [], [], refl, refl, (refl, refl)), up leaf room)
+    made_alive f max_height up = (f leaf, leaf_token ∷ [], (leaf, leaf_token ∷ [], [], refl, refl, (refl, refl)), up leaf max_height)

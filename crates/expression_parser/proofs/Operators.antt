@@ -4,8 +4,8 @@ use Rattle.std.specs.Prelude.{nat_eq, nat_le}
 use Rattle.std.proofs.lemmas.Bool.{eqb-true, leb-true, leb-false, le-leb}
 use Rattle.secrec_lexer.specs.declared.sign.Sign.{Sign}
 use Rattle.secrec_lexer.specs.declared.sign.Sign.TheVariants as signs
-use Rattle.secrec_lexer.specs.declared.token.Kind.{Kind}
-use Rattle.secrec_lexer.specs.declared.token.Kind.TheVariants as kinds
+use Rattle.secrec_lexer.specs.declared.token.TokenKind.{TokenKind}
+use Rattle.secrec_lexer.specs.declared.token.TokenKind.TheVariants as kinds
 use Rattle.secrec_ast.specs.declared.expression.Operator.{Operator}
 use Rattle.secrec_ast.specs.declared.expression.Operator.TheVariants as operators
 use Rattle.expression_parser.specs.Grammar.{sign_of, operator_of, level}
@@ -112,7 +112,7 @@ same_sign a b e =
     let f : Some a ≡ Some b = sym (operator_of-sign_of a) ∙ ap operator_of e ∙ operator_of-sign_of b in
     cc
 
-operator_at-some : (kind : Kind) (op : Operator) → operator_at kind ≡ Some op → kind ≡ kinds.Sign (sign_of op)
+operator_at-some : (kind : TokenKind) (op : Operator) → operator_at kind ≡ Some op → kind ≡ kinds.Sign (sign_of op)
 operator_at-some (kinds.Sign s) op e = ap kinds.Sign (operator_of-some s op e)
 operator_at-some (kinds.Name bytes) op e = cc
 operator_at-some (kinds.Number n) op e = cc
@@ -128,7 +128,7 @@ at_level-some k (Some op2) op e = go (nat_eq (level op2) k) refl e
     go false t e = cc
 
 -- what is told to be an operator of a level is one
-pub operator_is : (k : ℕ) (kind : Kind) (op : Operator) → at_level k (operator_at kind) ≡ Some op → (kind ≡ kinds.Sign (sign_of op)) × (level op ≡ k)
+pub operator_is : (k : ℕ) (kind : TokenKind) (op : Operator) → at_level k (operator_at kind) ≡ Some op → (kind ≡ kinds.Sign (sign_of op)) × (level op ≡ k)
 operator_is k kind op e =
     let f = at_level-some k (operator_at kind) op e in
     (operator_at-some kind op f.0, f.1)
@@ -159,7 +159,7 @@ sign_tighter k signs.LeftBracket f = f
 sign_tighter k s f = operator_tighter k (operator_of s) f
 
 -- what may stand behind a level may stand behind a tighter one
-pub tighter : (k : ℕ) (kind : Kind) → goes_on (suc k) kind ≡ false → goes_on k kind ≡ false
+pub tighter : (k : ℕ) (kind : TokenKind) → goes_on (suc k) kind ≡ false → goes_on k kind ≡ false
 tighter k (kinds.Sign s) f = sign_tighter k s f
 tighter k (kinds.Name bytes) f = refl
 tighter k (kinds.Number n) f = refl

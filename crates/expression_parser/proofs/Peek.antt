@@ -1,7 +1,7 @@
 -- The same reading under another name, where the next two tokens are known.
 use Rattle.std.proofs.Common.{◌≡◌, List, [], ◌∷◌, ◌++◌, ◌⊎◌, inl, inr, refl, sym, ap, ◌∙◌, subst, Ok, Err}
-use Rattle.expression_parser.specs.declared.problem.Problem.{Problem}
-use Rattle.expression_parser.specs.declared.problem.Problem.TheVariants.{Unexpected, TooHigh}
+use Rattle.expression_parser.specs.declared.problem.ParseProblem.{ParseProblem}
+use Rattle.expression_parser.specs.declared.problem.ParseProblem.TheVariants.{Unexpected, TooHigh}
 use Rattle.secrec_lexer.specs.declared.token.Token.{Token}
 use Rattle.expression_parser.specs.Phrases.{Phrase}
 use Rattle.expression_parser.specs.Steps.{Outcome}
@@ -24,21 +24,23 @@ module _ {C : Type 0} (V W : C → Phrase) (Fits : C → Type 0) (F G : C → To
     (some : (c : C) → V c [] → ⊥)
   where
     -- the fault does not stand at x
-    not_first : (p : Problem) (w r : List Token) (g : Bad V Fits F w p r) → g.s ≡ [] → g.x ≡ x → ⊥
+    not_first : (p : ParseProblem) (w r : List Token) (g : Bad V Fits F w p r) → g.s ≡ [] → g.x ≡ x → ⊥
     not_first p w r g e f =
         let a = alive in
         g.never a.0 (x ∷ a.1) (a.2 ∷ []) (a.1 ++ a.2 ∷ []) a.3 (low p a.4) a.5
         (ap (λ u. u ∷ (a.1 ++ a.2 ∷ [])) (sym f) ∙ ap (λ s. s ++ g.x ∷ (a.1 ++ a.2 ∷ [])) (sym e))
       where
-        low : (p : Problem) → Fits alive.0 → Allowed p (Fits alive.0)
+        low : (p : ParseProblem) → Fits alive.0 → Allowed p (Fits alive.0)
         low Unexpected h = tt
         low TooHigh h = h
 
-    begun_peek : (p : Problem) (s : List Token) (z : Token) → Begun p ((b : C) × (t : List Token) × V b (s ++ z ∷ t)) → Begun p ((b : C) × (t : List Token) × W b (s ++ z ∷ t))
+    begun_peek : (p : ParseProblem) (s : List Token) (z : Token) → Begun p ((b : C) × (t : List Token) × V b (s ++ z ∷ t))
+        → Begun p ((b : C) × (t : List Token) × W b (s ++ z ∷ t))
     begun_peek Unexpected s z v = tt
     begun_peek TooHigh s z v = (v.0, v.1, up v.0 (s ++ z ∷ v.1) v.2)
 
-    before_peek : (s : List Token) → (s ≡ []) ⊎ ((b : C) × (t : List Token) × V b (s ++ t) × Fits b) → (s ≡ []) ⊎ ((b : C) × (t : List Token) × W b (s ++ t) × Fits b)
+    before_peek : (s : List Token) → (s ≡ []) ⊎ ((b : C) × (t : List Token) × V b (s ++ t) × Fits b)
+        → (s ≡ []) ⊎ ((b : C) × (t : List Token) × W b (s ++ t) × Fits b)
     before_peek s (inl e) = inl e
     before_peek s (inr v) = inr (v.0, v.1, up v.0 (s ++ v.1) v.2, v.3)
 
@@ -54,7 +56,8 @@ module _ {C : Type 0} (V W : C → Phrase) (Fits : C → Type 0) (F G : C → To
       only = λ b s' m' m2 v st eq. go b s' m' m2 v st eq (two_heads g.s g.x x y g.m m m2 (sym (g.split ∙ ap (λ l. g.s ++ l) g.rest) ∙ e));
     }
       where
-        go : (b : C) (s' m' m2 : List Token) → W b s' → Stops (G b) m' → s' ++ m' ≡ g.s ++ g.x ∷ m2 → ((g.s ≡ []) ⊎ ((k : List Token) × (g.s ++ g.x ∷ m2 ≡ x ∷ y ∷ k))) → (b ≡ o.0) × (s' ≡ g.s)
+        go : (b : C) (s' m' m2 : List Token) → W b s' → Stops (G b) m' → s' ++ m' ≡ g.s ++ g.x ∷ m2
+            → ((g.s ≡ []) ⊎ ((k : List Token) × (g.s ++ g.x ∷ m2 ≡ x ∷ y ∷ k))) → (b ≡ o.0) × (s' ≡ g.s)
         go b s' m' m2 v st eq (inl z) = absurd (some o.0 (subst (V o.0) z g.here))
         go b s' m' m2 v st eq (inr h) = g.only b s' m' m2 (down b s' m' h.0 v st (eq ∙ h.1)) (stop b m' st) eq
     reads_peek w m (Err o) e g = record {
@@ -71,6 +74,7 @@ module _ {C : Type 0} (V W : C → Phrase) (Fits : C → Type 0) (F G : C → To
         head_is : g.s ≡ [] → g.x ≡ x
         head_is z = cons_head (ap (λ l. l ++ g.x ∷ g.m) (sym z) ∙ sym g.split ∙ e)
 
-        go : (b : C) (s' m' m2 : List Token) → W b s' → Allowed o.0 (Fits b) → Stops (G b) m' → s' ++ m' ≡ g.s ++ g.x ∷ m2 → ((g.s ≡ []) ⊎ ((k : List Token) × (g.s ++ g.x ∷ m2 ≡ x ∷ y ∷ k))) → ⊥
+        go : (b : C) (s' m' m2 : List Token) → W b s' → Allowed o.0 (Fits b) → Stops (G b) m' → s' ++ m' ≡ g.s ++ g.x ∷ m2
+            → ((g.s ≡ []) ⊎ ((k : List Token) × (g.s ++ g.x ∷ m2 ≡ x ∷ y ∷ k))) → ⊥
         go b s' m' m2 v al st eq (inl z) = not_first o.0 w o.1 g z (head_is z)
         go b s' m' m2 v al st eq (inr h) = g.never b s' m' m2 (down b s' m' h.0 v st (eq ∙ h.1)) al (stop b m' st) eq

@@ -1,16 +1,16 @@
 -- What it means that a step of a parser reads a phrase, and how steps compose.
 use Rattle.std.proofs.Common.{◌≡◌, List, [], ◌∷◌, ◌++◌, ◌⊎◌, inl, inr, refl, sym, ap, ◌∙◌, subst, append_assoc, Ok, Err}
 use Rattle.secrec_lexer.specs.declared.token.Token.{Token}
-use Rattle.expression_parser.specs.declared.problem.Problem.{Problem}
-use Rattle.expression_parser.specs.declared.problem.Problem.TheVariants.{Unexpected, TooHigh}
+use Rattle.expression_parser.specs.declared.problem.ParseProblem.{ParseProblem}
+use Rattle.expression_parser.specs.declared.problem.ParseProblem.TheVariants.{Unexpected, TooHigh}
 use Rattle.expression_parser.specs.Phrases.{Phrase}
 use Rattle.expression_parser.specs.Steps.{Outcome, ◌>>=◌}
 
-abbrev pub Allowed : Problem → Type 0 → Type 0
+abbrev pub Allowed : ParseProblem → Type 0 → Type 0
 Allowed Unexpected P = Unit {0}
 Allowed TooHigh P = P
 
-abbrev pub Begun : Problem → Type 0 → Type 0
+abbrev pub Begun : ParseProblem → Type 0 → Type 0
 Begun Unexpected P = Unit {0}
 Begun TooHigh P = P
 
@@ -29,7 +29,7 @@ pub record Good {A : Type 0} (W : A → Phrase) (Fits : A → Type 0) (F : A →
   pub fits : Fits a
   pub only : (b : A) (s' m' m2 : List Token) → W b s' → Stops (F b) m' → s' ++ m' ≡ s ++ x ∷ m2 → (b ≡ a) × (s' ≡ s)
 
-pub record Bad {A : Type 0} (W : A → Phrase) (Fits : A → Type 0) (F : A → Token → Type 0) (w : List Token) (p : Problem) (r : List Token) : Type 0 where
+pub record Bad {A : Type 0} (W : A → Phrase) (Fits : A → Type 0) (F : A → Token → Type 0) (w : List Token) (p : ParseProblem) (r : List Token) : Type 0 where
   pub s : List Token
   pub x : Token
   pub m : List Token
@@ -68,12 +68,14 @@ module _ {A C : Type 0} (W1 : A → Phrase) (Fits1 : A → Type 0) (F1 : A → T
     (full : (a : A) (s : List Token) → W1 a s → Fits1 a → (c : C) × (t : List Token) × W2 a c t × Fits2 c)
     (wide : (a : A) (s : List Token) → W1 a s → (c : C) × (t : List Token) × W2 a c t)
   where
-    allowed : (p : Problem) (a : A) (c : C) (t : List Token) → W2 a c t → Allowed p (Fits2 c) → Allowed p (Fits1 a)
+    allowed : (p : ParseProblem) (a : A) (c : C) (t : List Token) → W2 a c t → Allowed p (Fits2 c) → Allowed p (Fits1 a)
     allowed Unexpected a c t w h = tt
     allowed TooHigh a c t w h = down a c t w h
 
     -- the first part of another reading is the part that was read
-    same_front : (w r1 : List Token) (a : A) → (g : Good W1 Fits1 F1 w a r1) → (s2 : List Token) (y : Token) (m2 : List Token) → r1 ≡ s2 ++ y ∷ m2 → (b : A) (c : C) (t1 t2 m' m3 : List Token) → W1 b t1 → W2 b c t2 → Stops (F2 c) m' → (t1 ++ t2) ++ m' ≡ (g.s ++ s2) ++ y ∷ m3 → (b ≡ a) × (t1 ≡ g.s) × (t2 ++ m' ≡ s2 ++ y ∷ m3)
+    same_front : (w r1 : List Token) (a : A) → (g : Good W1 Fits1 F1 w a r1) → (s2 : List Token) (y : Token) (m2 : List Token) → r1 ≡ s2 ++ y ∷ m2
+        → (b : A) (c : C) (t1 t2 m' m3 : List Token) → W1 b t1 → W2 b c t2 → Stops (F2 c) m' → (t1 ++ t2) ++ m' ≡ (g.s ++ s2) ++ y ∷ m3
+        → (b ≡ a) × (t1 ≡ g.s) × (t2 ++ m' ≡ s2 ++ y ∷ m3)
     same_front w r1 a g s2 y m2 e b c t1 t2 m' m3 w1 w2 st eq =
         let h = same_head s2 y g.x m2 g.m m3 (sym e ∙ g.rest) in
         let eq1 : t1 ++ (t2 ++ m') ≡ g.s ++ (s2 ++ y ∷ m3) = sym (append_assoc t1 t2 m') ∙ eq ∙ append_assoc g.s s2 (y ∷ m3) in
@@ -97,29 +99,33 @@ module _ {A C : Type 0} (W1 : A → Phrase) (Fits1 : A → Type 0) (F1 : A → T
           (o.0, v.3 ∙ ap (λ l. l ++ v.2) f.1 ∙ ap (λ l. g.s ++ l) o.1);
     }
 
-    before_two : (s1 s2 : List Token) (a : A) → W1 a s1 → Fits1 a → (s2 ≡ []) ⊎ ((c : C) × (t : List Token) × W2 a c (s2 ++ t) × Fits2 c) → (s1 ++ s2 ≡ []) ⊎ ((c : C) × (t : List Token) × Then W1 W2 c ((s1 ++ s2) ++ t) × Fits2 c)
+    before_two : (s1 s2 : List Token) (a : A) → W1 a s1 → Fits1 a → (s2 ≡ []) ⊎ ((c : C) × (t : List Token) × W2 a c (s2 ++ t) × Fits2 c)
+        → (s1 ++ s2 ≡ []) ⊎ ((c : C) × (t : List Token) × Then W1 W2 c ((s1 ++ s2) ++ t) × Fits2 c)
     before_two s1 s2 a h f (inl e) =
         let u = full a s1 h f in
         inr (u.0, u.1, (a, s1, u.1, append_assoc s1 s2 u.1 ∙ ap (λ l. s1 ++ (l ++ u.1)) e, h, u.2), u.3)
     before_two s1 s2 a h f (inr v) = inr (v.0, v.1, (a, s1, s2 ++ v.1, append_assoc s1 s2 v.1, h, v.2), v.3)
 
-    before_one : (s : List Token) → (s ≡ []) ⊎ ((a : A) × (t : List Token) × W1 a (s ++ t) × Fits1 a) → (s ≡ []) ⊎ ((c : C) × (t : List Token) × Then W1 W2 c (s ++ t) × Fits2 c)
+    before_one : (s : List Token) → (s ≡ []) ⊎ ((a : A) × (t : List Token) × W1 a (s ++ t) × Fits1 a)
+        → (s ≡ []) ⊎ ((c : C) × (t : List Token) × Then W1 W2 c (s ++ t) × Fits2 c)
     before_one s (inl e) = inl e
     before_one s (inr v) =
         let u = full v.0 (s ++ v.1) v.2 v.3 in
         inr (u.0, v.1 ++ u.1, (v.0, s ++ v.1, u.1, sym (append_assoc s v.1 u.1), v.2, u.2), u.3)
 
-    begun_two : (p : Problem) (s1 s2 : List Token) (x : Token) (a : A) → W1 a s1 → Begun p ((c : C) × (t : List Token) × W2 a c (s2 ++ x ∷ t)) → Begun p ((c : C) × (t : List Token) × Then W1 W2 c ((s1 ++ s2) ++ x ∷ t))
+    begun_two : (p : ParseProblem) (s1 s2 : List Token) (x : Token) (a : A) → W1 a s1 → Begun p ((c : C) × (t : List Token) × W2 a c (s2 ++ x ∷ t))
+        → Begun p ((c : C) × (t : List Token) × Then W1 W2 c ((s1 ++ s2) ++ x ∷ t))
     begun_two Unexpected s1 s2 x a h v = tt
     begun_two TooHigh s1 s2 x a h v = (v.0, v.1, (a, s1, s2 ++ x ∷ v.1, append_assoc s1 s2 (x ∷ v.1), h, v.2))
 
-    begun_one : (p : Problem) (s : List Token) (x : Token) → Begun p ((a : A) × (t : List Token) × W1 a (s ++ x ∷ t)) → Begun p ((c : C) × (t : List Token) × Then W1 W2 c (s ++ x ∷ t))
+    begun_one : (p : ParseProblem) (s : List Token) (x : Token) → Begun p ((a : A) × (t : List Token) × W1 a (s ++ x ∷ t))
+        → Begun p ((c : C) × (t : List Token) × Then W1 W2 c (s ++ x ∷ t))
     begun_one Unexpected s x v = tt
     begun_one TooHigh s x v =
         let u = wide v.0 (s ++ x ∷ v.1) v.2 in
         (u.0, v.1 ++ u.1, (v.0, s ++ x ∷ v.1, u.1, sym (append_assoc s (x ∷ v.1) u.1), v.2, u.2))
 
-    good_bad : (w r1 r2 : List Token) (a : A) (p : Problem) → Good W1 Fits1 F1 w a r1 → Bad (W2 a) Fits2 F2 r1 p r2 → Bad (Then W1 W2) Fits2 F2 w p r2
+    good_bad : (w r1 r2 : List Token) (a : A) (p : ParseProblem) → Good W1 Fits1 F1 w a r1 → Bad (W2 a) Fits2 F2 r1 p r2 → Bad (Then W1 W2) Fits2 F2 w p r2
     good_bad w r1 r2 a p g h = record {
       s = g.s ++ h.s;
       x = h.x;
@@ -134,7 +140,7 @@ module _ {A C : Type 0} (W1 : A → Phrase) (Fits1 : A → Type 0) (F1 : A → T
       begun = begun_two p g.s h.s h.x a g.here h.begun;
     }
 
-    pub bad_one : (w r : List Token) (p : Problem) → Bad W1 Fits1 F1 w p r → Bad (Then W1 W2) Fits2 F2 w p r
+    pub bad_one : (w r : List Token) (p : ParseProblem) → Bad W1 Fits1 F1 w p r → Bad (Then W1 W2) Fits2 F2 w p r
     bad_one w r p h = record {
       s = h.s;
       x = h.x;
@@ -152,7 +158,8 @@ module _ {A C : Type 0} (W1 : A → Phrase) (Fits1 : A → Type 0) (F1 : A → T
     second w r1 a (Ok o) g h = good_good w r1 o.1 a o.0 g h
     second w r1 a (Err e) g h = good_bad w r1 e.1 a e.0 g h
 
-    pub bind_reads : (w : List Token) (o : Outcome A) (f : A × List Token → Outcome C) → Reads W1 Fits1 F1 w o → ((a : A) (r : List Token) → Good W1 Fits1 F1 w a r → Reads (W2 a) Fits2 F2 r (f (a, r))) → Reads (Then W1 W2) Fits2 F2 w (o >>= f)
+    pub bind_reads : (w : List Token) (o : Outcome A) (f : A × List Token → Outcome C) → Reads W1 Fits1 F1 w o
+        → ((a : A) (r : List Token) → Good W1 Fits1 F1 w a r → Reads (W2 a) Fits2 F2 r (f (a, r))) → Reads (Then W1 W2) Fits2 F2 w (o >>= f)
     bind_reads w (Ok o) f h k = second w o.1 o.0 (f o) h (k o.0 o.1 h)
     bind_reads w (Err e) f h k = bad_one w e.1 e.0 h
 
@@ -160,7 +167,8 @@ module _ {A C : Type 0} (W1 : A → Phrase) (Fits1 : A → Type 0) (F1 : A → T
 abbrev pub Only : {C : Type 0} → C → C → Phrase
 Only c b ts = (b ≡ c) × (ts ≡ [])
 
-pub pure_reads : {C : Type 0} (Fits : C → Type 0) (F : C → Token → Type 0) (w : List Token) (x : Token) (m : List Token) (c : C) → w ≡ x ∷ m → Fits c → Good (Only c) Fits F w c w
+pub pure_reads : {C : Type 0} (Fits : C → Type 0) (F : C → Token → Type 0) (w : List Token) (x : Token) (m : List Token) (c : C) → w ≡ x ∷ m → Fits c
+    → Good (Only c) Fits F w c w
 pure_reads Fits F w x m c e f = record {
   s = [];
   x = x;
@@ -178,15 +186,17 @@ module _ {C : Type 0} (V W : C → Phrase) (Fits : C → Type 0) (F G : C → To
     (down : (c : C) (s m m2 : List Token) → W c s → Stops (G c) m → s ++ m ≡ x ∷ m2 → V c s)
     (stop : (c : C) (m : List Token) → Stops (G c) m → Stops (F c) m)
   where
-    before_as : (s : List Token) → (s ≡ []) ⊎ ((b : C) × (t : List Token) × V b (s ++ t) × Fits b) → (s ≡ []) ⊎ ((b : C) × (t : List Token) × W b (s ++ t) × Fits b)
+    before_as : (s : List Token) → (s ≡ []) ⊎ ((b : C) × (t : List Token) × V b (s ++ t) × Fits b)
+        → (s ≡ []) ⊎ ((b : C) × (t : List Token) × W b (s ++ t) × Fits b)
     before_as s (inl e) = inl e
     before_as s (inr v) = inr (v.0, v.1, up v.0 (s ++ v.1) v.2, v.3)
 
-    begun_as : (p : Problem) (s : List Token) → Begun p ((b : C) × (t : List Token) × V b (s ++ t)) → Begun p ((b : C) × (t : List Token) × W b (s ++ t))
+    begun_as : (p : ParseProblem) (s : List Token) → Begun p ((b : C) × (t : List Token) × V b (s ++ t)) → Begun p ((b : C) × (t : List Token) × W b (s ++ t))
     begun_as Unexpected s v = tt
     begun_as TooHigh s v = (v.0, v.1, up v.0 (s ++ v.1) v.2)
 
-    begun_cons : (p : Problem) (s : List Token) (y : Token) → Begun p ((b : C) × (t : List Token) × V b (s ++ y ∷ t)) → Begun p ((b : C) × (t : List Token) × W b (s ++ y ∷ t))
+    begun_cons : (p : ParseProblem) (s : List Token) (y : Token) → Begun p ((b : C) × (t : List Token) × V b (s ++ y ∷ t))
+        → Begun p ((b : C) × (t : List Token) × W b (s ++ y ∷ t))
     begun_cons Unexpected s y v = tt
     begun_cons TooHigh s y v = (v.0, v.1, up v.0 (s ++ y ∷ v.1) v.2)
 

@@ -8,10 +8,11 @@ use Rattle.secrec_lexer.specs.declared.token.Token.{Token}
 use Rattle.secrec_ast.specs.declared.expression.Operator.{Operator}
 use Rattle.secrec_ast.specs.Tree.{Tree, Trees, none, also, binary, trees_of}
 use Rattle.secrec_ast.specs.Heights.{height, heights, place_of}
-use Rattle.expression_parser.specs.declared.problem.Problem.{Problem}
-use Rattle.expression_parser.specs.declared.problem.Problem.TheVariants.{Unexpected, TooHigh}
+use Rattle.expression_parser.specs.declared.problem.ParseProblem.{ParseProblem}
+use Rattle.expression_parser.specs.declared.problem.ParseProblem.TheVariants.{Unexpected, TooHigh}
 use Rattle.expression_parser.specs.Grammar.{loosest, unary}
-use Rattle.expression_parser.specs.Steps.{Outcome, ◌>>=◌, unless, unary_at, unary_of, climb, at_level, operator_at, grow_at, grow, at_most, more, more_at, join, front}
+use Rattle.expression_parser.specs.Steps.{Outcome, ◌>>=◌, unless, unary_at, unary_of, climb, at_level, operator_at, grow_at, grow, at_most, more}
+use Rattle.expression_parser.specs.Steps.{more_at, join, front}
 use Rattle.expression_parser.proofs.Levels.{nowhere}
 
 unary_zero : (f g f2 g2 : List Token → Outcome Tree) (w : List Token) → unary_of 0 f g w ≡ unary_of 0 f2 g2 w
@@ -21,7 +22,7 @@ unary_zero f g f2 g2 (x ∷ m) =
     let p = nowhere x.kind in
     ap (λ o. unless o (x ∷ m) (unary_at 0 f g x m)) p.1 ∙ sym (ap (λ o. unless o (x ∷ m) (unary_at 0 f2 g2 x m)) p.1)
 
-climb_zero : (lower : ℕ → List Token → Outcome Tree) (k : ℕ) (w : List Token) → (e : Problem × List Token) × (climb 0 lower k w ≡ Err e)
+climb_zero : (lower : ℕ → List Token → Outcome Tree) (k : ℕ) (w : List Token) → (e : ParseProblem × List Token) × (climb 0 lower k w ≡ Err e)
 unfolding climb unary_of
 climb_zero lower zero [] = ((Unexpected, []), refl)
 climb_zero lower zero (x ∷ m) =
@@ -54,17 +55,20 @@ at_most_grow (suc r) (suc k) w e =
     ∙ ap (λ n. climb (suc r) (at_most r) (suc k - 1) w >>= λ a. grow (suc k) (suc r) (at_most n (suc k - 1)) (length a.1) a.0 a.1) d
 
 -- one more operator of this level, and its right operand
-pub grow_goes : (k room : ℕ) (operand : List Token → Outcome Tree) (n : ℕ) (a : Tree) (w : List Token) (x : Token) (m : List Token) (op : Operator) (b : Tree) (r : List Token) → w ≡ x ∷ m → at_level k (operator_at x.kind) ≡ Some op → height a < room → operand m ≡ Ok (b, r) → length w ≤ n → grow k room operand n a w ≡ grow k room operand (n - 1) (binary (place_of a) op a b) r
+pub grow_goes : (k max_height : ℕ) (operand : List Token → Outcome Tree) (n : ℕ) (a : Tree) (w : List Token) (x : Token) (m : List Token)
+    (op : Operator) (b : Tree) (r : List Token) → w ≡ x ∷ m → at_level k (operator_at x.kind) ≡ Some op → height a < max_height
+    → operand m ≡ Ok (b, r) → length w ≤ n → grow k max_height operand n a w ≡ grow k max_height operand (n - 1) (binary (place_of a) op a b) r
 unfolding grow
-grow_goes k room operand n a [] x m op b r e f h g le = cc
-grow_goes k room operand zero a (y ∷ l) x m op b r e f h g le = absurd (omega arith)
-grow_goes k room operand (suc n) a (y ∷ l) x m op b r e f h g le =
+grow_goes k max_height operand n a [] x m op b r e f h g le = cc
+grow_goes k max_height operand zero a (y ∷ l) x m op b r e f h g le = absurd (omega arith)
+grow_goes k max_height operand (suc n) a (y ∷ l) x m op b r e f h g le =
     let d : n ≡ suc n - 1 = omega arith in
-    ap (grow k room operand (suc n) a) e
-    ∙ ap (λ o. grow_at room operand (grow k room operand n) a o x m) f
-    ∙ ap (λ z. cond z (Err (TooHigh, x ∷ m)) (operand m >>= λ b. grow k room operand n (binary (place_of a) op a b.0) b.1)) (lt-leb room (height a) h)
-    ∙ ap (λ o. o >>= λ b. grow k room operand n (binary (place_of a) op a b.0) b.1) g
-    ∙ ap (λ z. grow k room operand z (binary (place_of a) op a b) r) d
+    ap (grow k max_height operand (suc n) a) e
+    ∙ ap (λ o. grow_at max_height operand (grow k max_height operand n) a o x m) f
+    ∙ ap (λ z. cond z (Err (TooHigh, x ∷ m)) (operand m >>= λ b. grow k max_height operand n (binary (place_of a) op a b.0) b.1))
+    (lt-leb max_height (height a) h)
+    ∙ ap (λ o. o >>= λ b. grow k max_height operand n (binary (place_of a) op a b.0) b.1) g
+    ∙ ap (λ z. grow k max_height operand z (binary (place_of a) op a b) r) d
 
 pub heights_more : (ts : List Tree) (t : Tree) → heights (trees_of (ts ++ t ∷ [])) ≡ max (heights (trees_of ts)) (height t)
 heights_more [] t = omega arith
@@ -84,7 +88,8 @@ more_empty inner ts zero w e = ap (λ z. Ok (z, w)) (join_none ts)
 more_empty inner ts (suc n) [] e = ap (λ z. Ok (z, [])) (join_none ts)
 more_empty inner ts (suc n) (x ∷ m) e = absurd (omega arith)
 
-pub more_stop : (inner : List Token → Outcome Tree) (ts : List Tree) (n : ℕ) (w : List Token) (x : Token) (m : List Token) → w ≡ x ∷ m → is_sign signs.Comma x ≡ false → front ts (more inner n w) ≡ Ok (trees_of ts, w)
+pub more_stop : (inner : List Token → Outcome Tree) (ts : List Tree) (n : ℕ) (w : List Token) (x : Token) (m : List Token) → w ≡ x ∷ m
+    → is_sign signs.Comma x ≡ false → front ts (more inner n w) ≡ Ok (trees_of ts, w)
 unfolding more
 more_stop inner ts zero w x m e other = ap (λ z. Ok (z, w)) (join_none ts)
 more_stop inner ts (suc n) [] x m e other = cc
@@ -94,7 +99,8 @@ more_stop inner ts (suc n) (y ∷ l) x m e other =
     ap (λ b. front ts (cond b (inner l >>= λ e. more inner n e.1 >>= λ es. Ok (also e.0 es.0, es.1)) (Ok (none, y ∷ l)))) g
     ∙ ap (λ z. Ok (z, y ∷ l)) (join_none ts)
 
-comma_at : (inner : List Token → Outcome Tree) (again : List Token → Outcome Trees) (ts : List Tree) (x : Token) (m r : List Token) (t : Tree) → is_sign signs.Comma x ≡ true → inner m ≡ Ok (t, r) → front ts (more_at inner again x m) ≡ front (ts ++ t ∷ []) (again r)
+comma_at : (inner : List Token → Outcome Tree) (again : List Token → Outcome Trees) (ts : List Tree) (x : Token) (m r : List Token) (t : Tree)
+    → is_sign signs.Comma x ≡ true → inner m ≡ Ok (t, r) → front ts (more_at inner again x m) ≡ front (ts ++ t ∷ []) (again r)
 comma_at inner again ts x m r t e h =
     ap (λ b. front ts (cond b (inner m >>= λ e. again e.1 >>= λ es. Ok (also e.0 es.0, es.1)) (Ok (none, x ∷ m)))) e
     ∙ ap (λ z. front ts (z >>= λ e. again e.1 >>= λ es. Ok (also e.0 es.0, es.1))) h
@@ -104,7 +110,8 @@ comma_at inner again ts x m r t e h =
     go (Ok o) = ap (λ z. Ok (z, o.1)) (sym (join_more ts t o.0))
     go (Err o) = refl
 
-pub more_comma : (inner : List Token → Outcome Tree) (ts : List Tree) (n : ℕ) (w : List Token) (x : Token) (m r : List Token) (t : Tree) → w ≡ x ∷ m → is_sign signs.Comma x ≡ true → inner m ≡ Ok (t, r) → length w ≤ n → front ts (more inner n w) ≡ front (ts ++ t ∷ []) (more inner (n - 1) r)
+pub more_comma : (inner : List Token → Outcome Tree) (ts : List Tree) (n : ℕ) (w : List Token) (x : Token) (m r : List Token) (t : Tree) → w ≡ x ∷ m
+    → is_sign signs.Comma x ≡ true → inner m ≡ Ok (t, r) → length w ≤ n → front ts (more inner n w) ≡ front (ts ++ t ∷ []) (more inner (n - 1) r)
 unfolding more
 more_comma inner ts n [] x m r t e k h le = cc
 more_comma inner ts zero (y ∷ l) x m r t e k h le = absurd (omega arith)

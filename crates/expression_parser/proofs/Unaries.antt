@@ -1,29 +1,33 @@
 -- The readings of indexes, casts and negations.
-use Rattle.std.proofs.Common.{◌≡◌, ℕ, suc, ◌+◌, ◌≤◌, List, [], ◌∷◌, ◌++◌, ◌⊎◌, inl, inr, refl, sym, ap, ◌∙◌, subst, append_assoc, append-nil, Ok, Option, Some, None, arith, Bool, true, false, cond}
+use Rattle.std.proofs.Common.{◌≡◌, ℕ, suc, ◌+◌, ◌≤◌, List, [], ◌∷◌, ◌++◌, ◌⊎◌, inl, inr, refl, sym, ap, ◌∙◌, subst, append_assoc, append-nil, Ok}
+use Rattle.std.proofs.Common.{Option, Some, None, arith, Bool, true, false, cond}
 use Rattle.std.specs.Prelude.{max, nat_le, ◌&&◌, ◌||◌}
 use Rattle.std.proofs.lemmas.Bool.{leb-true, leb-false}
 use Rattle.sc_text.specs.declared.span.Span.{Span}
 use Rattle.secrec_lexer.specs.Tokens.{is_sign, IsEnded}
 use Rattle.secrec_lexer.specs.declared.sign.Sign.{Sign}
 use Rattle.secrec_lexer.specs.declared.sign.Sign.TheVariants as signs
-use Rattle.secrec_lexer.specs.declared.token.Kind.TheVariants as kinds
+use Rattle.secrec_lexer.specs.declared.token.TokenKind.TheVariants as kinds
 use Rattle.secrec_lexer.specs.declared.token.Token.{Token}
 use Rattle.secrec_ast.specs.declared.expression.DataType.{DataType}
 use Rattle.secrec_ast.specs.declared.expression.DataType.TheVariants as types
 use Rattle.secrec_ast.specs.declared.expression.Operator.{Operator}
 use Rattle.secrec_ast.specs.Tree.{Tree, number, truth, variable, call, index, parentheses, negation, cast, binary, declassify, argument, publish}
 use Rattle.secrec_ast.specs.Heights.{height, place_of}
-use Rattle.expression_parser.specs.declared.problem.Problem.{Problem}
-use Rattle.expression_parser.specs.declared.problem.Problem.TheVariants.{TooHigh}
+use Rattle.expression_parser.specs.declared.problem.ParseProblem.{ParseProblem}
+use Rattle.expression_parser.specs.declared.problem.ParseProblem.TheVariants.{TooHigh}
 use Rattle.expression_parser.specs.Phrases.{Phrase, token, sign_at, sign}
 use Rattle.expression_parser.specs.Grammar.{IsDataType, IsPrimary, IsExpression, level, loosest, unary}
 use Rattle.expression_parser.specs.Follow.{goes_on, Free}
-use Rattle.expression_parser.specs.Steps.{Outcome, ◌>>=◌, expect, least, why_not, unless, data_type, data_type_at, begins_data_type, primary, indexed, index_behind, postfix, negation_behind, cast_behind, unary_at, unary_of}
+use Rattle.expression_parser.specs.Steps.{Outcome, ◌>>=◌, expect, least, why_not, unless, data_type, data_type_at, begins_data_type, primary, indexed}
+use Rattle.expression_parser.specs.Steps.{index_behind, postfix, negation_behind, cast_behind, unary_at, unary_of}
 use Rattle.expression_parser.proofs.Reading.{Good, Bad, Reads, Then, Only, Stops, cons_head, cons_tail, bind_reads, pure_reads, reads_as}
 use Rattle.expression_parser.proofs.Peek.{reads_peek}
-use Rattle.expression_parser.proofs.Tokens.{Any, All, Alive, origin, choose, any_stops, ended_cons, good_ended, after_kind, head_kind, is_sign-true, is_sign-false, token_then, sign_then}
+use Rattle.expression_parser.proofs.Tokens.{Any, All, Alive, origin, choose, any_stops, ended_cons, good_ended, after_kind, head_kind, is_sign-true}
+use Rattle.expression_parser.proofs.Tokens.{is_sign-false, token_then, sign_then}
 use Rattle.expression_parser.proofs.Operators.{level_positive}
-use Rattle.expression_parser.proofs.Nodes.{Low, tall, leaf, leaf_token, begins, first_token, start_bad, start_fits, Enclosed, enclosed_is, is_enclosed, enclosed_reads, enclosed_alive, Made, made_is, is_made, made_reads, made_alive}
+use Rattle.expression_parser.proofs.Nodes.{Low, tall, leaf, leaf_token, begins, first_token, start_bad, start_fits, Enclosed, enclosed_is}
+use Rattle.expression_parser.proofs.Nodes.{is_enclosed, enclosed_reads, enclosed_alive, Made, made_is, is_made, made_reads, made_alive}
 use Rattle.expression_parser.proofs.Arguments.{FreeName}
 use Rattle.expression_parser.proofs.Primaries.{Primary, first_kind, headed, primary_reads}
 
@@ -87,7 +91,8 @@ postfix_down (index p a i) s v =
     let w = v.1 in
     let u = w.2 in
     let r = u.4 in
-    subst (λ z. PostfixPhrase (index z a i) s) (sym w.1) (a, u.0, u.1, u.2, (w.0, u.3), inr (r.3.0, r.0, r.1, r.2, r.3.1, is_enclosed signs.RightBracket (index (place_of a) a) i r.1 r.4))
+    subst (λ z. PostfixPhrase (index z a i) s) (sym w.1)
+    (a, u.0, u.1, u.2, (w.0, u.3), inr (r.3.0, r.0, r.1, r.2, r.3.1, is_enclosed signs.RightBracket (index (place_of a) a) i r.1 r.4))
 postfix_down (number p n) s v = alone (number p n) s tt v.1
 postfix_down (truth p b) s v = alone (truth p b) s tt v.1
 postfix_down (variable p x) s v = alone (variable p x) s tt v.1
@@ -136,7 +141,8 @@ one_type types.Bool types.Uint64 x v (inr w) =
     let f : kinds.Sign signs.Uint ≡ kinds.Sign signs.Bool = sym (sign_kind signs.Uint x w) ∙ sign_kind signs.Bool x v in cc
 
 -- a token that spells a type
-type_good : (t : DataType) (x : Token) (m : List Token) (k : Sign) → x.kind ≡ kinds.Sign k → IsDataType t (x ∷ []) → IsEnded (x ∷ m) → Good IsDataType All Any (x ∷ m) t m
+type_good : (t : DataType) (x : Token) (m : List Token) (k : Sign) → x.kind ≡ kinds.Sign k → IsDataType t (x ∷ []) → IsEnded (x ∷ m)
+    → Good IsDataType All Any (x ∷ m) t m
 type_good t x m k e here en =
     let c = ended_cons m (after_kind x m (kinds.Sign k) en e refl) in
     record {
@@ -173,7 +179,8 @@ pub data_type_reads : (w : List Token) → IsEnded w → Reads IsDataType All An
 data_type_reads [] en = cc
 data_type_reads (x ∷ m) en = one_of (is_sign signs.Uint64 x) (is_sign signs.Uint x) (is_sign signs.Bool x) refl refl refl
   where
-    one_of : (a b c : Bool) → is_sign signs.Uint64 x ≡ a → is_sign signs.Uint x ≡ b → is_sign signs.Bool x ≡ c → Reads IsDataType All Any (x ∷ m) (data_type_at (cond a (Some types.Uint64) (cond b (Some types.Uint64) (cond c (Some types.Bool) None))) x m)
+    one_of : (a b c : Bool) → is_sign signs.Uint64 x ≡ a → is_sign signs.Uint x ≡ b → is_sign signs.Bool x ≡ c
+        → Reads IsDataType All Any (x ∷ m) (data_type_at (cond a (Some types.Uint64) (cond b (Some types.Uint64) (cond c (Some types.Bool) None))) x m)
     one_of true b c f g i =
         let k = is_sign-true signs.Uint64 x f in
         type_good types.Uint64 x m signs.Uint64 k (inl (sign_here signs.Uint64 x k)) en
@@ -184,7 +191,8 @@ data_type_reads (x ∷ m) en = one_of (is_sign signs.Uint64 x) (is_sign signs.Ui
         let k = is_sign-true signs.Bool x i in
         type_good types.Bool x m signs.Bool k (sign_here signs.Bool x k) en
     one_of false false false f g i =
-        let untyped : begins_data_type (x ∷ m) ≡ false = ap (λ a. a || is_sign signs.Uint x || is_sign signs.Bool x) f ∙ ap (λ b. b || is_sign signs.Bool x) g ∙ i in
+        let untyped : begins_data_type (x ∷ m) ≡ false = ap (λ a. a || is_sign signs.Uint x || is_sign signs.Bool x) f
+        ∙ ap (λ b. b || is_sign signs.Bool x) g ∙ i in
         record {
           s = [];
           x = x;
@@ -243,7 +251,8 @@ unary_cases (argument p x) s v = inl (tt, v)
 unary_cases (publish p x e) s v = inl (tt, v)
 
 -- what begins with a sign or keyword: its kind
-pub sign_head : (k : Sign) (W : Span → Tree → Phrase) (c : Tree) (s m m2 : List Token) (x : Token) → Then (λ p. sign_at p k) W c s → s ++ m ≡ x ∷ m2 → x.kind ≡ kinds.Sign k
+pub sign_head : (k : Sign) (W : Span → Tree → Phrase) (c : Tree) (s m m2 : List Token) (x : Token) → Then (λ p. sign_at p k) W c s → s ++ m ≡ x ∷ m2
+    → x.kind ≡ kinds.Sign k
 sign_head k W c s m m2 x v eq = sym (head_kind s v.2 m m2 v.0 (kinds.Sign k) x (v.3 ∙ ap (λ l. l ++ v.2) v.4) eq)
 
 no_exclamation : (c : Tree) → first_kind c ≡ kinds.Sign signs.Exclamation → ⊥
@@ -258,11 +267,13 @@ postfix_no_exclamation c s m m2 x v eq k =
     no_exclamation p.0 (headed p.0 p.1 (p.2 ++ m) m2 x p.4 (sym (append_assoc p.1 p.2 m) ∙ ap (λ l. l ++ m) (sym p.3) ∙ eq) ∙ k)
 
 -- behind the parenthesis that a primary begins with stands an expression
-primary_second : (c : Tree) (s m m2 : List Token) (x y : Token) → Primary c s → first_kind c ≡ kinds.Sign signs.LeftParenthesis → s ++ m ≡ x ∷ y ∷ m2 → (n : ℕ) × (least y.kind ≡ Some n)
+primary_second : (c : Tree) (s m m2 : List Token) (x y : Token) → Primary c s → first_kind c ≡ kinds.Sign signs.LeftParenthesis → s ++ m ≡ x ∷ y ∷ m2
+    → (n : ℕ) × (least y.kind ≡ Some n)
 primary_second (parentheses p e) s m m2 x y v k eq =
     let w = v.1 in
     let u = w.4 in
-    let whole : s ≡ token p (kinds.Sign signs.LeftParenthesis) ∷ (u.0 ++ u.1) = w.2 ∙ ap (λ l. l ++ w.1) w.3 ∙ ap (λ l. token p (kinds.Sign signs.LeftParenthesis) ∷ l) u.2 in
+    let whole : s ≡ token p (kinds.Sign signs.LeftParenthesis) ∷ (u.0 ++ u.1) =
+    w.2 ∙ ap (λ l. l ++ w.1) w.3 ∙ ap (λ l. token p (kinds.Sign signs.LeftParenthesis) ∷ l) u.2 in
     let rest : (u.0 ++ u.1) ++ m ≡ y ∷ m2 = cons_tail (ap (λ l. l ++ m) (sym whole) ∙ eq) in
     let f = first_token loosest e u.0 (u.1 ++ m) m2 y u.3 (sym (append_assoc u.0 u.1 m) ∙ rest) in
     (f.0, f.1)
@@ -271,7 +282,8 @@ primary_second (truth p false) s m m2 x y v k eq = cc
 primary_second c s m m2 x y v k eq = cc
 
 -- so a type does not
-postfix_no_type : (c : Tree) (s m m2 : List Token) (x y : Token) → Postfix c s → s ++ m ≡ x ∷ y ∷ m2 → x.kind ≡ kinds.Sign signs.LeftParenthesis → least y.kind ≡ None → ⊥
+postfix_no_type : (c : Tree) (s m m2 : List Token) (x y : Token) → Postfix c s → s ++ m ≡ x ∷ y ∷ m2 → x.kind ≡ kinds.Sign signs.LeftParenthesis
+    → least y.kind ≡ None → ⊥
 unfolding PostfixPhrase
 postfix_no_type c s m m2 x y v eq k unstarted =
     let p = postfix_down c s v in
@@ -284,7 +296,8 @@ postfix_no_type c s m m2 x y v eq k unstarted =
 type_least : (y : Token) (n : List Token) → begins_data_type (y ∷ n) ≡ true → least y.kind ≡ None
 type_least y n e = one_of (is_sign signs.Uint64 y) (is_sign signs.Uint y) (is_sign signs.Bool y) refl refl refl (e)
   where
-    one_of : (a b c : Bool) → is_sign signs.Uint64 y ≡ a → is_sign signs.Uint y ≡ b → is_sign signs.Bool y ≡ c → (is_sign signs.Uint64 y || is_sign signs.Uint y || is_sign signs.Bool y) ≡ true → least y.kind ≡ None
+    one_of : (a b c : Bool) → is_sign signs.Uint64 y ≡ a → is_sign signs.Uint y ≡ b → is_sign signs.Bool y ≡ c
+        → (is_sign signs.Uint64 y || is_sign signs.Uint y || is_sign signs.Bool y) ≡ true → least y.kind ≡ None
     one_of true b c f g i t = ap least (is_sign-true signs.Uint64 y f)
     one_of false true c f g i t = ap least (is_sign-true signs.Uint y g)
     one_of false false true f g i t = ap least (is_sign-true signs.Bool y i)
@@ -297,7 +310,8 @@ cast_second : (c : Tree) (s m m2 : List Token) (x y : Token) → CastPhrase c s 
 unfolding CastPhrase TypeBody
 cast_second c s m m2 x y v eq =
     let w = v.5 in
-    let whole : s ≡ token v.0 (kinds.Sign signs.LeftParenthesis) ∷ (w.1 ++ w.2) = v.3 ∙ ap (λ l. l ++ v.2) v.4 ∙ ap (λ l. token v.0 (kinds.Sign signs.LeftParenthesis) ∷ l) w.3 in
+    let whole : s ≡ token v.0 (kinds.Sign signs.LeftParenthesis) ∷ (w.1 ++ w.2) =
+    v.3 ∙ ap (λ l. l ++ v.2) v.4 ∙ ap (λ l. token v.0 (kinds.Sign signs.LeftParenthesis) ∷ l) w.3 in
     let rest : (w.1 ++ w.2) ++ m ≡ y ∷ m2 = cons_tail (ap (λ l. l ++ m) (sym whole) ∙ eq) in
     type_told w.0 w.1 (w.2 ++ m) m2 y w.4 (sym (append_assoc w.1 w.2 m) ∙ rest)
 
@@ -325,7 +339,8 @@ module _ (h : ℕ) (inner operand : List Token → Outcome Tree)
         let b = enclosed_is signs.RightBracket (index (place_of a) a) c u.2 u.5 in
         let e : height c ≡ 1 + max (height a) (height b.0) = ap height b.1 in omega arith
 
-    index_too_high : (a : Tree) (x : Token) (m : List Token) → x.kind ≡ kinds.Sign signs.LeftBracket → suc h ≤ height a → Bad (IndexTail a) (Low (suc h)) (Free unary) (x ∷ m) TooHigh (x ∷ m)
+    index_too_high : (a : Tree) (x : Token) (m : List Token) → x.kind ≡ kinds.Sign signs.LeftBracket → suc h ≤ height a
+        → Bad (IndexTail a) (Low (suc h)) (Free unary) (x ∷ m) TooHigh (x ∷ m)
     unfolding IndexTail IndexTrail
     index_too_high a x m k le = record {
       s = [];
@@ -335,7 +350,19 @@ module _ (h : ℕ) (inner operand : List Token → Outcome Tree)
       rest = refl;
       before = inl refl;
       never = λ c s' m' m2 v al st eq. never c s' m' m2 v al st eq;
-      begun = (index (place_of a) a leaf, leaf_token ∷ token origin (kinds.Sign signs.RightBracket) ∷ [], inr (x.place, x ∷ [], leaf_token ∷ token origin (kinds.Sign signs.RightBracket) ∷ [], refl, ap (λ z. token x.place z ∷ []) k, is_enclosed signs.RightBracket (index (place_of a) a) leaf (leaf_token ∷ token origin (kinds.Sign signs.RightBracket) ∷ []) (leaf_token ∷ [], token origin (kinds.Sign signs.RightBracket) ∷ [], refl, refl, (origin, refl))));
+      begun = (
+        index (place_of a) a leaf,
+        leaf_token ∷ token origin (kinds.Sign signs.RightBracket) ∷ [],
+        inr (
+          x.place,
+          x ∷ [],
+          leaf_token ∷ token origin (kinds.Sign signs.RightBracket) ∷ [],
+          refl,
+          ap (λ z. token x.place z ∷ []) k,
+          is_enclosed signs.RightBracket (index (place_of a) a) leaf (leaf_token ∷ token origin (kinds.Sign signs.RightBracket) ∷ [])
+              (leaf_token ∷ [], token origin (kinds.Sign signs.RightBracket) ∷ [], refl, refl, (origin, refl)),
+        ),
+      );
     }
       where
         never : (c : Tree) (s' m' m2 : List Token) → IndexTail a c s' → height c ≤ suc h → Stops (Free unary c) m' → s' ++ m' ≡ x ∷ m2 → ⊥
@@ -349,15 +376,18 @@ module _ (h : ℕ) (inner operand : List Token → Outcome Tree)
             let e : height c ≡ 1 + max (height a) (height b.0) = ap height b.1 in
             absurd (omega arith)
 
-    index_reads : (a : Tree) (x : Token) (m : List Token) → x.kind ≡ kinds.Sign signs.LeftBracket → height a ≤ h → IsEnded (x ∷ m) → Reads (IndexTail a) (Low (suc h)) (Free unary) (x ∷ m) (index_behind inner a m)
+    index_reads : (a : Tree) (x : Token) (m : List Token) → x.kind ≡ kinds.Sign signs.LeftBracket → height a ≤ h → IsEnded (x ∷ m)
+        → Reads (IndexTail a) (Low (suc h)) (Free unary) (x ∷ m) (index_behind inner a m)
     unfolding IndexTail IndexTrail
     index_reads a x m k low en =
         let one_a = tall a in
-        reads_as (IndexTrail a) (IndexTail a) (Low (suc h)) Any (Free unary) x (λ c s v. inr v) (λ c s m' m2 v st eq. down c s m' m2 v st eq) (λ c m' st. any_stops (Free unary c) [] m' st) (x ∷ m) m (index_behind inner a m) refl
+        reads_as (IndexTrail a) (IndexTail a) (Low (suc h)) Any (Free unary) x (λ c s v. inr v) (λ c s m' m2 v st eq. down c s m' m2 v st eq)
+        (λ c m' st. any_stops (Free unary c) [] m' st) (x ∷ m) m (index_behind inner a m) refl
         (token_then (kinds.Sign signs.LeftBracket) (λ q. Enclosed signs.RightBracket (index (place_of a) a)) (Low (suc h)) Any refl
         (λ q. enclosed_alive h inner operand reads_inner reads_operand signs.RightBracket (index (place_of a) a) (omega arith) (λ e f. omega arith))
         x m (index_behind inner a m) k en
-        (λ en2. enclosed_reads h inner operand reads_inner reads_operand signs.RightBracket (index (place_of a) a) refl (λ e f. omega arith) (λ e f. omega arith) m en2))
+        (λ en2. enclosed_reads h inner operand reads_inner reads_operand signs.RightBracket (index (place_of a) a) refl (λ e f. omega arith)
+        (λ e f. omega arith) m en2))
       where
         down : (c : Tree) (s m' m2 : List Token) → IndexTail a c s → Stops (Free unary c) m' → s ++ m' ≡ x ∷ m2 → IndexTrail a c s
         down c s [] m2 (inl u) st eq = absurd st
@@ -367,10 +397,12 @@ module _ (h : ℕ) (inner operand : List Token → Outcome Tree)
             cc
         down c s m' m2 (inr u) st eq = u
 
-    no_index : (a : Tree) (x : Token) (m : List Token) → (x.kind ≡ kinds.Sign signs.LeftBracket → ⊥) → height a ≤ suc h → Good (IndexTail a) (Low (suc h)) (Free unary) (x ∷ m) a (x ∷ m)
+    no_index : (a : Tree) (x : Token) (m : List Token) → (x.kind ≡ kinds.Sign signs.LeftBracket → ⊥) → height a ≤ suc h
+        → Good (IndexTail a) (Low (suc h)) (Free unary) (x ∷ m) a (x ∷ m)
     unfolding IndexTail IndexTrail
     no_index a x m k low =
-        reads_as (Only a) (IndexTail a) (Low (suc h)) Any (Free unary) x (λ c s v. inl v) (λ c s m' m2 v st eq. down c s m' m2 v eq) (λ c m' st. any_stops (Free unary c) [] m' st) (x ∷ m) m (Ok (a, x ∷ m)) refl
+        reads_as (Only a) (IndexTail a) (Low (suc h)) Any (Free unary) x (λ c s v. inl v) (λ c s m' m2 v st eq. down c s m' m2 v eq)
+        (λ c m' st. any_stops (Free unary c) [] m' st) (x ∷ m) m (Ok (a, x ∷ m)) refl
         (pure_reads (Low (suc h)) Any (x ∷ m) x m a refl low)
       where
         down : (c : Tree) (s m' m2 : List Token) → IndexTail a c s → s ++ m' ≡ x ∷ m2 → Only a c s
@@ -389,10 +421,12 @@ module _ (h : ℕ) (inner operand : List Token → Outcome Tree)
         (λ lt. let less = leb-false (suc h) (height a) lt in index_reads a x m k (omega arith) en))
         (λ f. no_index a x m (is_sign-false signs.LeftBracket x f) low)
 
-    postfix_reads : (x : Token) (m : List Token) → why_not (suc h) (least x.kind) ≡ None → IsEnded (x ∷ m) → Reads Postfix (Low (suc h)) (Free unary) (x ∷ m) (postfix (suc h) inner (x ∷ m))
+    postfix_reads : (x : Token) (m : List Token) → why_not (suc h) (least x.kind) ≡ None → IsEnded (x ∷ m)
+        → Reads Postfix (Low (suc h)) (Free unary) (x ∷ m) (postfix (suc h) inner (x ∷ m))
     unfolding PostfixPhrase IndexTail IndexTrail
     postfix_reads x m fits en =
-        reads_as PostfixPhrase Postfix (Low (suc h)) (Free unary) (Free unary) x postfix_up (λ c s m' m2 v st eq. postfix_down c s v) (λ c m' st. st) (x ∷ m) m (postfix (suc h) inner (x ∷ m)) refl
+        reads_as PostfixPhrase Postfix (Low (suc h)) (Free unary) (Free unary) x postfix_up (λ c s m' m2 v st eq. postfix_down c s v) (λ c m' st. st)
+        (x ∷ m) m (postfix (suc h) inner (x ∷ m)) refl
         (bind_reads Primary (Low (suc h)) FreeName IndexTail (Low (suc h)) (Free unary)
         (λ a c t v low. let up = index_high a c t v in omega arith)
         first
@@ -405,11 +439,13 @@ module _ (h : ℕ) (inner operand : List Token → Outcome Tree)
         first a c t m (inl u) st = subst (λ l. Stops (FreeName a) (l ++ m)) (sym u.1) (free_name c a m st)
         first a c t m (inr u) st = subst (λ l. Stops (FreeName a) (l ++ m)) (sym (u.3 ∙ ap (λ l. l ++ u.2) u.4)) refl
 
-    negation_reads : 1 ≤ h → (x : Token) (m : List Token) → x.kind ≡ kinds.Sign signs.Exclamation → IsEnded (x ∷ m) → Reads (IsExpression unary) (Low (suc h)) (Free unary) (x ∷ m) (negation_behind operand x.place m)
-    negation_reads room x m k en =
-        reads_as NegationPhrase (IsExpression unary) (Low (suc h)) (Free unary) (Free unary) x negation_up (λ c s m' m2 v st eq. down c s m' m2 (unary_cases c s v) eq) (λ c m' st. st) (x ∷ m) m (negation_behind operand x.place m) refl
+    negation_reads : 1 ≤ h → (x : Token) (m : List Token) → x.kind ≡ kinds.Sign signs.Exclamation → IsEnded (x ∷ m)
+        → Reads (IsExpression unary) (Low (suc h)) (Free unary) (x ∷ m) (negation_behind operand x.place m)
+    negation_reads max_height x m k en =
+        reads_as NegationPhrase (IsExpression unary) (Low (suc h)) (Free unary) (Free unary) x negation_up
+        (λ c s m' m2 v st eq. down c s m' m2 (unary_cases c s v) eq) (λ c m' st. st) (x ∷ m) m (negation_behind operand x.place m) refl
         (unfold NegationPhrase in token_then (kinds.Sign signs.Exclamation) (λ p. Made (negation p)) (Low (suc h)) (Free unary) refl
-        (λ p. made_alive h inner operand reads_inner reads_operand (negation p) room (λ e f. omega arith))
+        (λ p. made_alive h inner operand reads_inner reads_operand (negation p) max_height (λ e f. omega arith))
         x m (negation_behind operand x.place m) k en
         (λ en2. made_reads h inner operand reads_inner reads_operand (negation x.place) (λ e f. omega arith) (λ e f. omega arith) m en2))
       where
@@ -419,40 +455,42 @@ module _ (h : ℕ) (inner operand : List Token → Outcome Tree)
         down c s m' m2 (inr (inr u)) eq = absurd (exclamation_or_parenthesis x k (cast_first c s m' m2 x u eq))
 
     cast_tail_alive : 1 ≤ h → (p : Span) (t : DataType) → Alive (Then (λ q. sign_at q signs.RightParenthesis) (λ q. Made (cast p t))) (Low (suc h))
-    cast_tail_alive room p t =
+    cast_tail_alive max_height p t =
         let close = token origin (kinds.Sign signs.RightParenthesis) in
-        let a = made_alive h inner operand reads_inner reads_operand (cast p t) room (λ e f. omega arith) in
+        let a = made_alive h inner operand reads_inner reads_operand (cast p t) max_height (λ e f. omega arith) in
         (a.0, close ∷ a.1, (origin, close ∷ [], a.1, refl, refl, a.2), a.3)
 
     type_body_alive : 1 ≤ h → (p : Span) → Alive (TypeBody p) (Low (suc h))
     unfolding TypeBody
-    type_body_alive room p =
+    type_body_alive max_height p =
         let word = token origin (kinds.Sign signs.Uint64) in
-        let a = cast_tail_alive room p types.Uint64 in
+        let a = cast_tail_alive max_height p types.Uint64 in
         (a.0, word ∷ a.1, (types.Uint64, word ∷ [], a.1, refl, inl (origin, refl), a.2), a.3)
 
     type_body_reads : 1 ≤ h → (p : Span) (w : List Token) → IsEnded w → Reads (TypeBody p) (Low (suc h)) (Free unary) w (cast_behind operand p w)
     unfolding TypeBody
-    type_body_reads room p w en =
+    type_body_reads max_height p w en =
         bind_reads IsDataType All Any (λ t. Then (λ q. sign_at q signs.RightParenthesis) (λ q. Made (cast p t))) (Low (suc h)) (Free unary)
         (λ t c s v f. tt)
         (λ t c s m v st. any_stops (Free unary c) s m st)
-        (λ t s v f. cast_tail_alive room p t)
-        (λ t s v. let a = cast_tail_alive room p t in (a.0, a.1, a.2))
+        (λ t s v f. cast_tail_alive max_height p t)
+        (λ t s v. let a = cast_tail_alive max_height p t in (a.0, a.1, a.2))
         w (data_type w) (λ t. expect signs.RightParenthesis t.1 >>= λ q. operand q.1 >>= λ e. Ok (cast p t.0 e.0, e.1)) (data_type_reads w en)
         (λ t r g. sign_then signs.RightParenthesis (Made (cast p t)) (Low (suc h)) (Free unary)
-        (made_alive h inner operand reads_inner reads_operand (cast p t) room (λ e f. omega arith))
+        (made_alive h inner operand reads_inner reads_operand (cast p t) max_height (λ e f. omega arith))
         r (λ q. operand q.1 >>= λ e. Ok (cast p t e.0, e.1)) (good_ended g en)
         (λ q r2 enr. made_reads h inner operand reads_inner reads_operand (cast p t) (λ e f. omega arith) (λ e f. omega arith) r2 enr))
 
-    cast_reads : 1 ≤ h → (x y : Token) (m : List Token) → x.kind ≡ kinds.Sign signs.LeftParenthesis → begins_data_type (y ∷ m) ≡ true → IsEnded (x ∷ y ∷ m) → Reads (IsExpression unary) (Low (suc h)) (Free unary) (x ∷ y ∷ m) (cast_behind operand x.place (y ∷ m))
+    cast_reads : 1 ≤ h → (x y : Token) (m : List Token) → x.kind ≡ kinds.Sign signs.LeftParenthesis → begins_data_type (y ∷ m) ≡ true
+        → IsEnded (x ∷ y ∷ m) → Reads (IsExpression unary) (Low (suc h)) (Free unary) (x ∷ y ∷ m) (cast_behind operand x.place (y ∷ m))
     unfolding CastPhrase
-    cast_reads room x y m k types en =
-        reads_peek CastPhrase (IsExpression unary) (Low (suc h)) (Free unary) (Free unary) x y cast_up (λ c s m' m2 v st eq. down c s m' m2 (unary_cases c s v) eq) (λ c m' st. st)
-        (alive (type_body_alive room x.place)) some (x ∷ y ∷ m) m (cast_behind operand x.place (y ∷ m)) refl
-        (token_then (kinds.Sign signs.LeftParenthesis) TypeBody (Low (suc h)) (Free unary) refl (type_body_alive room)
+    cast_reads max_height x y m k types en =
+        reads_peek CastPhrase (IsExpression unary) (Low (suc h)) (Free unary) (Free unary) x y cast_up
+        (λ c s m' m2 v st eq. down c s m' m2 (unary_cases c s v) eq) (λ c m' st. st)
+        (alive (type_body_alive max_height x.place)) some (x ∷ y ∷ m) m (cast_behind operand x.place (y ∷ m)) refl
+        (token_then (kinds.Sign signs.LeftParenthesis) TypeBody (Low (suc h)) (Free unary) refl (type_body_alive max_height)
         x (y ∷ m) (cast_behind operand x.place (y ∷ m)) k en
-        (λ en2. type_body_reads room x.place (y ∷ m) en2))
+        (λ en2. type_body_reads max_height x.place (y ∷ m) en2))
       where
         down : (c : Tree) (s m' m2 : List Token) → Postfix c s ⊎ (NegationPhrase c s ⊎ CastPhrase c s) → s ++ m' ≡ x ∷ y ∷ m2 → CastPhrase c s
         down c s m' m2 (inl u) eq = absurd (postfix_no_type c s m' m2 x y u eq k (type_least y m types))
@@ -466,10 +504,28 @@ module _ (h : ℕ) (inner operand : List Token → Outcome Tree)
         some c v = let f : [] ≡ token v.0 (kinds.Sign signs.LeftParenthesis) ∷ v.2 = v.3 ∙ ap (λ l. l ++ v.2) v.4 in cc
 
     -- a parenthesis, and no type behind it
-    bracketed_reads : 1 ≤ h → (x y : Token) (m : List Token) → why_not (suc h) (least x.kind) ≡ None → x.kind ≡ kinds.Sign signs.LeftParenthesis → begins_data_type (y ∷ m) ≡ false → IsEnded (x ∷ y ∷ m) → Reads (IsExpression unary) (Low (suc h)) (Free unary) (x ∷ y ∷ m) (postfix (suc h) inner (x ∷ y ∷ m))
-    bracketed_reads room x y m fits k no_type en =
-        reads_peek Postfix (IsExpression unary) (Low (suc h)) (Free unary) (Free unary) x y (λ c s v. v.1) (λ c s m' m2 v st eq. down c s m' m2 (unary_cases c s v) eq) (λ c m' st. st)
-        (parentheses x.place leaf, leaf_token ∷ token origin (kinds.Sign signs.RightParenthesis) ∷ [], token origin kinds.End, (tt, (x ∷ [], leaf_token ∷ token origin (kinds.Sign signs.RightParenthesis) ∷ [], refl, ap (λ z. token x.place z ∷ []) k, (leaf_token ∷ [], token origin (kinds.Sign signs.RightParenthesis) ∷ [], refl, refl, (origin, refl)))), omega arith, refl)
+    bracketed_reads : 1 ≤ h → (x y : Token) (m : List Token) → why_not (suc h) (least x.kind) ≡ None → x.kind ≡ kinds.Sign signs.LeftParenthesis
+        → begins_data_type (y ∷ m) ≡ false → IsEnded (x ∷ y ∷ m)
+        → Reads (IsExpression unary) (Low (suc h)) (Free unary) (x ∷ y ∷ m) (postfix (suc h) inner (x ∷ y ∷ m))
+    bracketed_reads max_height x y m fits k no_type en =
+        reads_peek Postfix (IsExpression unary) (Low (suc h)) (Free unary) (Free unary) x y (λ c s v. v.1)
+        (λ c s m' m2 v st eq. down c s m' m2 (unary_cases c s v) eq) (λ c m' st. st) (
+          parentheses x.place leaf,
+          leaf_token ∷ token origin (kinds.Sign signs.RightParenthesis) ∷ [],
+          token origin kinds.End,
+          (
+            tt,
+            (
+              x ∷ [],
+              leaf_token ∷ token origin (kinds.Sign signs.RightParenthesis) ∷ [],
+              refl,
+              ap (λ z. token x.place z ∷ []) k,
+              (leaf_token ∷ [], token origin (kinds.Sign signs.RightParenthesis) ∷ [], refl, refl, (origin, refl)),
+            ),
+          ),
+          omega arith,
+          refl,
+        )
         some (x ∷ y ∷ m) m (postfix (suc h) inner (x ∷ y ∷ m)) refl
         (postfix_reads x (y ∷ m) fits en)
       where
@@ -484,9 +540,12 @@ module _ (h : ℕ) (inner operand : List Token → Outcome Tree)
         some c v = let b = begins unary c [] v.1 in let f = b.split in cc
 
     -- no parenthesis and no negation
-    plain_reads : (x : Token) (m : List Token) → why_not (suc h) (least x.kind) ≡ None → (x.kind ≡ kinds.Sign signs.Exclamation → ⊥) → (x.kind ≡ kinds.Sign signs.LeftParenthesis → ⊥) → IsEnded (x ∷ m) → Reads (IsExpression unary) (Low (suc h)) (Free unary) (x ∷ m) (postfix (suc h) inner (x ∷ m))
+    plain_reads : (x : Token) (m : List Token) → why_not (suc h) (least x.kind) ≡ None → (x.kind ≡ kinds.Sign signs.Exclamation → ⊥)
+        → (x.kind ≡ kinds.Sign signs.LeftParenthesis → ⊥) → IsEnded (x ∷ m)
+        → Reads (IsExpression unary) (Low (suc h)) (Free unary) (x ∷ m) (postfix (suc h) inner (x ∷ m))
     plain_reads x m fits k1 k2 en =
-        reads_as Postfix (IsExpression unary) (Low (suc h)) (Free unary) (Free unary) x (λ c s v. v.1) (λ c s m' m2 v st eq. down c s m' m2 (unary_cases c s v) eq) (λ c m' st. st) (x ∷ m) m (postfix (suc h) inner (x ∷ m)) refl
+        reads_as Postfix (IsExpression unary) (Low (suc h)) (Free unary) (Free unary) x (λ c s v. v.1)
+        (λ c s m' m2 v st eq. down c s m' m2 (unary_cases c s v) eq) (λ c m' st. st) (x ∷ m) m (postfix (suc h) inner (x ∷ m)) refl
         (postfix_reads x m fits en)
       where
         down : (c : Tree) (s m' m2 : List Token) → Postfix c s ⊎ (NegationPhrase c s ⊎ CastPhrase c s) → s ++ m' ≡ x ∷ m2 → Postfix c s
@@ -494,36 +553,40 @@ module _ (h : ℕ) (inner operand : List Token → Outcome Tree)
         down c s m' m2 (inr (inl u)) eq = absurd (k1 (negation_first c s m' m2 x u eq))
         down c s m' m2 (inr (inr u)) eq = absurd (k2 (cast_first c s m' m2 x u eq))
 
-    room_under : (s : Sign) (x : Token) → x.kind ≡ kinds.Sign s → least (kinds.Sign s) ≡ Some 2 → why_not (suc h) (least x.kind) ≡ None → 1 ≤ h
-    room_under s x k two fits =
+    one_fits_under : (s : Sign) (x : Token) → x.kind ≡ kinds.Sign s → least (kinds.Sign s) ≡ Some 2 → why_not (suc h) (least x.kind) ≡ None → 1 ≤ h
+    one_fits_under s x k two fits =
         let f = start_fits (suc h) (least x.kind) fits in
         let g : Some 2 ≡ Some f.0 = sym two ∙ ap least (sym k) ∙ f.1 in
         let same : 2 ≡ f.0 = cc in
         let low = f.2 in
         omega arith
 
-    unary_at_reads : (x : Token) (m : List Token) → why_not (suc h) (least x.kind) ≡ None → IsEnded (x ∷ m) → Reads (IsExpression unary) (Low (suc h)) (Free unary) (x ∷ m) (unary_at (suc h) inner operand x m)
+    unary_at_reads : (x : Token) (m : List Token) → why_not (suc h) (least x.kind) ≡ None → IsEnded (x ∷ m)
+        → Reads (IsExpression unary) (Low (suc h)) (Free unary) (x ∷ m) (unary_at (suc h) inner operand x m)
     unary_at_reads x m fits en =
         choose (IsExpression unary) (Low (suc h)) (Free unary) (x ∷ m) (is_sign signs.Exclamation x) _ _
-        (λ t. let k = is_sign-true signs.Exclamation x t in negation_reads (room_under signs.Exclamation x k refl fits) x m k en)
+        (λ t. let k = is_sign-true signs.Exclamation x t in negation_reads (one_fits_under signs.Exclamation x k refl fits) x m k en)
         (λ f. go (is_sign signs.LeftParenthesis x) refl (is_sign-false signs.Exclamation x f) m en)
       where
-        go : (b : Bool) → is_sign signs.LeftParenthesis x ≡ b → (x.kind ≡ kinds.Sign signs.Exclamation → ⊥) → (m : List Token) → IsEnded (x ∷ m) → Reads (IsExpression unary) (Low (suc h)) (Free unary) (x ∷ m) (cond (b && begins_data_type m) (cast_behind operand x.place m) (postfix (suc h) inner (x ∷ m)))
+        go : (b : Bool) → is_sign signs.LeftParenthesis x ≡ b → (x.kind ≡ kinds.Sign signs.Exclamation → ⊥) → (m : List Token) → IsEnded (x ∷ m)
+            → Reads (IsExpression unary) (Low (suc h)) (Free unary) (x ∷ m)
+            (cond (b && begins_data_type m) (cast_behind operand x.place m) (postfix (suc h) inner (x ∷ m)))
         go false f k m en = plain_reads x m fits k (is_sign-false signs.LeftParenthesis x f) en
         go true t k [] en =
             let e = after_kind x [] (kinds.Sign signs.LeftParenthesis) en (is_sign-true signs.LeftParenthesis x t) refl in cc
         go true t k (y ∷ m) en =
             let k2 = is_sign-true signs.LeftParenthesis x t in
-            let room = room_under signs.LeftParenthesis x k2 refl fits in
+            let max_height = one_fits_under signs.LeftParenthesis x k2 refl fits in
             choose (IsExpression unary) (Low (suc h)) (Free unary) (x ∷ y ∷ m) (begins_data_type (y ∷ m)) _ _
-            (λ told. cast_reads room x y m k2 told en)
-            (λ no_type. bracketed_reads room x y m fits k2 no_type en)
+            (λ told. cast_reads max_height x y m k2 told en)
+            (λ no_type. bracketed_reads max_height x y m fits k2 no_type en)
 
     pub unary_reads : (w : List Token) → IsEnded w → Reads (IsExpression unary) (Low (suc h)) (Free unary) w (unary_of (suc h) inner operand w)
     unfolding unary_of
     unary_reads [] en = cc
     unary_reads (x ∷ m) en = go (why_not (suc h) (least x.kind)) refl
       where
-        go : (o : Option Problem) → why_not (suc h) (least x.kind) ≡ o → Reads (IsExpression unary) (Low (suc h)) (Free unary) (x ∷ m) (unless o (x ∷ m) (unary_at (suc h) inner operand x m))
+        go : (o : Option ParseProblem) → why_not (suc h) (least x.kind) ≡ o
+            → Reads (IsExpression unary) (Low (suc h)) (Free unary) (x ∷ m) (unless o (x ∷ m) (unary_at (suc h) inner operand x m))
         go None e = unary_at_reads x m e en
         go (Some p) e = start_bad unary (suc h) x m p e

@@ -2,8 +2,8 @@
 use Rattle.std.specs.Prelude.{◌≡◌, ℕ, Bool, true, false, Option, Some, None, nat_le}
 use Rattle.secrec_lexer.specs.declared.sign.Sign.{Sign}
 use Rattle.secrec_lexer.specs.declared.sign.Sign.TheVariants as signs
-use Rattle.secrec_lexer.specs.declared.token.Kind.{Kind}
-use Rattle.secrec_lexer.specs.declared.token.Kind.TheVariants as kinds
+use Rattle.secrec_lexer.specs.declared.token.TokenKind.{TokenKind}
+use Rattle.secrec_lexer.specs.declared.token.TokenKind.TheVariants as kinds
 use Rattle.secrec_lexer.specs.declared.token.Token.{Token}
 use Rattle.secrec_ast.specs.declared.expression.Operator.{Operator}
 use Rattle.secrec_ast.specs.Tree.{Tree}
@@ -19,7 +19,7 @@ sign_goes_on k signs.LeftBracket = true
 sign_goes_on k s = operator_goes_on k (operator_of s)
 
 -- an opening parenthesis or bracket, or an operator of this level or a tighter one
-abbrev pub goes_on : ℕ → Kind → Bool
+abbrev pub goes_on : ℕ → TokenKind → Bool
 goes_on k (kinds.Sign s) = sign_goes_on k s
 goes_on k (kinds.Name bytes) = false
 goes_on k (kinds.Number n) = false

@@ -2,12 +2,13 @@
 use Rattle.std.specs.Prelude.{◌≡◌, ℕ, ◌-◌, ◌≤◌, true, false, Option, Some, None, ◌⊎◌}
 use Rattle.secrec_lexer.specs.declared.sign.Sign.{Sign}
 use Rattle.secrec_lexer.specs.declared.sign.Sign.TheVariants as signs
-use Rattle.secrec_lexer.specs.declared.token.Kind.TheVariants as kinds
+use Rattle.secrec_lexer.specs.declared.token.TokenKind.TheVariants as kinds
 use Rattle.secrec_ast.specs.declared.expression.DataType.{DataType}
 use Rattle.secrec_ast.specs.declared.expression.DataType.TheVariants as types
 use Rattle.secrec_ast.specs.declared.expression.Operator.{Operator}
 use Rattle.secrec_ast.specs.declared.expression.Operator.TheVariants as operators
-use Rattle.secrec_ast.specs.Tree.{Tree, Trees, number, truth, variable, call, index, parentheses, negation, cast, binary, declassify, argument, publish, none, also}
+use Rattle.secrec_ast.specs.Tree.{Tree, Trees, number, truth, variable, call, index, parentheses, negation, cast, binary, declassify, argument}
+use Rattle.secrec_ast.specs.Tree.{publish, none, also}
 use Rattle.secrec_ast.specs.Heights.{place_of}
 use Rattle.expression_parser.specs.Phrases.{Phrase, nothing, one_at, one, sign_at, sign, ◌then◌}
 
@@ -119,7 +120,8 @@ abbrev mutual
   IsExpression k (argument p x) ts =
       (sign_at p signs.Argument then sign signs.LeftParenthesis then one (kinds.Text x) then sign signs.RightParenthesis) ts
   IsExpression k (publish p x e) ts =
-      (sign_at p signs.Publish then sign signs.LeftParenthesis then one (kinds.Text x) then sign signs.Comma then IsExpression loosest e then sign signs.RightParenthesis) ts
+      (sign_at p signs.Publish then sign signs.LeftParenthesis then one (kinds.Text x) then sign signs.Comma then IsExpression loosest e then sign
+      signs.RightParenthesis) ts
 
   -- the arguments of a call
   pub AreArguments : Trees → Phrase

@@ -2,24 +2,24 @@
 use Rattle.std.specs.Prelude.{◌≡◌, List, [], ◌∷◌, ◌++◌}
 use Rattle.sc_text.specs.declared.span.Span.{Span}
 use Rattle.secrec_lexer.specs.declared.sign.Sign.{Sign}
-use Rattle.secrec_lexer.specs.declared.token.Kind.{Kind}
-use Rattle.secrec_lexer.specs.declared.token.Kind.TheVariants as kinds
+use Rattle.secrec_lexer.specs.declared.token.TokenKind.{TokenKind}
+use Rattle.secrec_lexer.specs.declared.token.TokenKind.TheVariants as kinds
 use Rattle.secrec_lexer.specs.declared.token.Token.{Token}
 
 abbrev pub Phrase : Type 1
 Phrase = List Token → Type 0
 
-abbrev pub token : Span → Kind → Token
+abbrev pub token : Span → TokenKind → Token
 token place kind = record { place = place; kind = kind }
 
 abbrev pub nothing : Phrase
 nothing ts = ts ≡ []
 
 -- one token: at this place, and at any place
-abbrev pub one_at : Span → Kind → Phrase
+abbrev pub one_at : Span → TokenKind → Phrase
 one_at place kind ts = ts ≡ token place kind ∷ []
 
-abbrev pub one : Kind → Phrase
+abbrev pub one : TokenKind → Phrase
 one kind ts = (place : Span) × one_at place kind ts
 
 -- a sign or a keyword

@@ -1,25 +1,27 @@
 -- The steps of the parser as functions on lists of tokens.
-use Rattle.std.specs.Prelude.{ℕ, zero, suc, Bool, true, false, ◌||◌, ◌&&◌, List, [], ◌∷◌, length, Result, Ok, Err, Option, Some, None, nat_eq, nat_le, nat_lt, if◌then◌else◌}
+use Rattle.std.specs.Prelude.{ℕ, zero, suc, Bool, true, false, ◌||◌, ◌&&◌, List, [], ◌∷◌, length, Result, Ok, Err, Option, Some, None, nat_eq, nat_le}
+use Rattle.std.specs.Prelude.{nat_lt, if◌then◌else◌}
 use Rattle.sc_text.specs.declared.span.Span.{Span}
 use Rattle.secrec_lexer.specs.Tokens.{is_sign}
 use Rattle.secrec_lexer.specs.declared.sign.Sign.{Sign}
 use Rattle.secrec_lexer.specs.declared.sign.Sign.TheVariants as signs
-use Rattle.secrec_lexer.specs.declared.token.Kind.{Kind}
-use Rattle.secrec_lexer.specs.declared.token.Kind.TheVariants as kinds
+use Rattle.secrec_lexer.specs.declared.token.TokenKind.{TokenKind}
+use Rattle.secrec_lexer.specs.declared.token.TokenKind.TheVariants as kinds
 use Rattle.secrec_lexer.specs.declared.token.Token.{Token}
 use Rattle.secrec_ast.specs.declared.expression.DataType.{DataType}
 use Rattle.secrec_ast.specs.declared.expression.DataType.TheVariants as types
 use Rattle.secrec_ast.specs.declared.expression.Operator.{Operator}
 use Rattle.secrec_ast.specs.declared.statement.Identifier.{Identifier}
-use Rattle.secrec_ast.specs.Tree.{Tree, Trees, number, truth, variable, call, index, parentheses, negation, cast, binary, declassify, argument, publish, none, also}
+use Rattle.secrec_ast.specs.Tree.{Tree, Trees, number, truth, variable, call, index, parentheses, negation, cast, binary, declassify, argument}
+use Rattle.secrec_ast.specs.Tree.{publish, none, also}
 use Rattle.secrec_ast.specs.Heights.{height, place_of}
-use Rattle.expression_parser.specs.declared.problem.Problem.{Problem}
-use Rattle.expression_parser.specs.declared.problem.Problem.TheVariants.{Unexpected, TooHigh}
+use Rattle.expression_parser.specs.declared.problem.ParseProblem.{ParseProblem}
+use Rattle.expression_parser.specs.declared.problem.ParseProblem.TheVariants.{Unexpected, TooHigh}
 use Rattle.expression_parser.specs.Grammar.{operator_of, level, loosest, unary}
 
 -- what was read and the tokens behind it, or what is wrong and the tokens from there on
 abbrev pub Outcome : Type 0 → Type 0
-Outcome A = Result (A × List Token) (Problem × List Token)
+Outcome A = Result (A × List Token) (ParseProblem × List Token)
 
 infixl 10 ◌>>=◌
 abbrev pub ◌>>=◌ : {A C : Type 0} → Outcome A → (A × List Token → Outcome C) → Outcome C
@@ -32,7 +34,7 @@ expect s [] = Err (Unexpected, [])
 expect s (x ∷ m) = if is_sign s x then Ok (x.place, m) else Err (Unexpected, x ∷ m)
 
 -- a string
-abbrev pub text_of : Kind → Token → List Token → Outcome (List ℕ)
+abbrev pub text_of : TokenKind → Token → List Token → Outcome (List ℕ)
 text_of (kinds.Text bytes) x m = Ok (bytes, m)
 text_of (kinds.Name bytes) x m = Err (Unexpected, x ∷ m)
 text_of (kinds.Number n) x m = Err (Unexpected, x ∷ m)
@@ -44,7 +46,7 @@ text [] = Err (Unexpected, [])
 text (x ∷ m) = text_of x.kind x m
 
 -- a name
-abbrev pub identifier_of : Kind → Token → List Token → Outcome Identifier
+abbrev pub identifier_of : TokenKind → Token → List Token → Outcome Identifier
 identifier_of (kinds.Name bytes) x m = Ok (record { place = x.place; text = bytes }, m)
 identifier_of (kinds.Text bytes) x m = Err (Unexpected, x ∷ m)
 identifier_of (kinds.Number n) x m = Err (Unexpected, x ∷ m)
@@ -87,7 +89,7 @@ least_of_sign signs.Declassify = Some 2
 least_of_sign signs.Publish = Some 2
 least_of_sign other = None
 
-abbrev pub least : Kind → Option ℕ
+abbrev pub least : TokenKind → Option ℕ
 least (kinds.Name bytes) = Some 1
 least (kinds.Number n) = Some 1
 least (kinds.Text bytes) = None
@@ -95,11 +97,11 @@ least (kinds.Sign s) = least_of_sign s
 least kinds.End = None
 
 -- why no expression of at most this height begins with a token of which that is the least height
-abbrev pub why_not : ℕ → Option ℕ → Option Problem
-why_not room None = Some Unexpected
-why_not room (Some n) = if nat_lt room n then Some TooHigh else None
+abbrev pub why_not : ℕ → Option ℕ → Option ParseProblem
+why_not max_height None = Some Unexpected
+why_not max_height (Some n) = if nat_lt max_height n then Some TooHigh else None
 
-abbrev pub unless : Option Problem → List Token → Outcome Tree → Outcome Tree
+abbrev pub unless : Option ParseProblem → List Token → Outcome Tree → Outcome Tree
 unless (Some problem) w o = Err (problem, w)
 unless None w o = o
 
@@ -157,7 +159,7 @@ signed inner x m =
     else if is_sign signs.Publish x then publish_behind inner x.place m
     else Err (Unexpected, x ∷ m)
 
-abbrev pub primary_at : (List Token → Outcome Tree) → Kind → Token → List Token → Outcome Tree
+abbrev pub primary_at : (List Token → Outcome Tree) → TokenKind → Token → List Token → Outcome Tree
 primary_at inner (kinds.Number n) x m = Ok (number x.place n, m)
 primary_at inner (kinds.Name bytes) x m = after_name inner x.place bytes m
 primary_at inner (kinds.Text bytes) x m = Err (Unexpected, x ∷ m)
@@ -173,12 +175,12 @@ abbrev pub index_behind : (List Token → Outcome Tree) → Tree → List Token 
 index_behind inner a w = inner w >>= λ i. expect signs.RightBracket i.1 >>= λ q. Ok (index (place_of a) a i.0, q.1)
 
 unfoldable pub indexed : ℕ → (List Token → Outcome Tree) → Tree → List Token → Outcome Tree
-indexed room inner a [] = Ok (a, [])
-indexed room inner a (x ∷ m) =
-    if is_sign signs.LeftBracket x then (if nat_le room (height a) then Err (TooHigh, x ∷ m) else index_behind inner a m) else Ok (a, x ∷ m)
+indexed max_height inner a [] = Ok (a, [])
+indexed max_height inner a (x ∷ m) =
+    if is_sign signs.LeftBracket x then (if nat_le max_height (height a) then Err (TooHigh, x ∷ m) else index_behind inner a m) else Ok (a, x ∷ m)
 
 abbrev pub postfix : ℕ → (List Token → Outcome Tree) → List Token → Outcome Tree
-postfix room inner w = primary inner w >>= λ a. indexed room inner a.0 a.1
+postfix max_height inner w = primary inner w >>= λ a. indexed max_height inner a.0 a.1
 
 -- an expression with no operator between two operands outside brackets
 abbrev pub negation_behind : (List Token → Outcome Tree) → Span → List Token → Outcome Tree
@@ -188,17 +190,17 @@ abbrev pub cast_behind : (List Token → Outcome Tree) → Span → List Token �
 cast_behind operand p w = data_type w >>= λ t. expect signs.RightParenthesis t.1 >>= λ q. operand q.1 >>= λ e. Ok (cast p t.0 e.0, e.1)
 
 abbrev pub unary_at : ℕ → (inner operand : List Token → Outcome Tree) → Token → List Token → Outcome Tree
-unary_at room inner operand x m =
+unary_at max_height inner operand x m =
     if is_sign signs.Exclamation x then negation_behind operand x.place m
     else if is_sign signs.LeftParenthesis x && begins_data_type m then cast_behind operand x.place m
-    else postfix room inner (x ∷ m)
+    else postfix max_height inner (x ∷ m)
 
 unfoldable pub unary_of : ℕ → (inner operand : List Token → Outcome Tree) → List Token → Outcome Tree
-unary_of room inner operand [] = Err (Unexpected, [])
-unary_of room inner operand (x ∷ m) = unless (why_not room (least x.kind)) (x ∷ m) (unary_at room inner operand x m)
+unary_of max_height inner operand [] = Err (Unexpected, [])
+unary_of max_height inner operand (x ∷ m) = unless (why_not max_height (least x.kind)) (x ∷ m) (unary_at max_height inner operand x m)
 
 -- the operator that a token is
-abbrev pub operator_at : Kind → Option Operator
+abbrev pub operator_at : TokenKind → Option Operator
 operator_at (kinds.Sign s) = operator_of s
 operator_at (kinds.Name bytes) = None
 operator_at (kinds.Number n) = None
@@ -212,20 +214,20 @@ at_level k (Some op) = if nat_eq (level op) k then Some op else None
 
 -- a left operand, and the operators of a level behind it, where the whole may be of this height
 abbrev pub grow_at : ℕ → (List Token → Outcome Tree) → (Tree → List Token → Outcome Tree) → Tree → Option Operator → Token → List Token → Outcome Tree
-grow_at room operand again a None x m = Ok (a, x ∷ m)
-grow_at room operand again a (Some op) x m =
-    if nat_le room (height a) then Err (TooHigh, x ∷ m) else (operand m >>= λ b. again (binary (place_of a) op a b.0) b.1)
+grow_at max_height operand again a None x m = Ok (a, x ∷ m)
+grow_at max_height operand again a (Some op) x m =
+    if nat_le max_height (height a) then Err (TooHigh, x ∷ m) else (operand m >>= λ b. again (binary (place_of a) op a b.0) b.1)
 
 unfoldable pub grow : ℕ → ℕ → (List Token → Outcome Tree) → ℕ → Tree → List Token → Outcome Tree
-grow k room operand zero a w = Ok (a, w)
-grow k room operand (suc n) a [] = Ok (a, [])
-grow k room operand (suc n) a (x ∷ m) =
-    grow_at room operand (grow k room operand n) a (at_level k (operator_at x.kind)) x m
+grow k max_height operand zero a w = Ok (a, w)
+grow k max_height operand (suc n) a [] = Ok (a, [])
+grow k max_height operand (suc n) a (x ∷ m) =
+    grow_at max_height operand (grow k max_height operand n) a (at_level k (operator_at x.kind)) x m
 
 -- the levels, where what lies a node below is read by `lower`
 unfoldable pub climb : ℕ → (ℕ → List Token → Outcome Tree) → ℕ → List Token → Outcome Tree
-climb room lower zero w = unary_of room (lower loosest) (lower unary) w
-climb room lower (suc k) w = climb room lower k w >>= λ a. grow (suc k) room (lower k) (length a.1) a.0 a.1
+climb max_height lower zero w = unary_of max_height (lower loosest) (lower unary) w
+climb max_height lower (suc k) w = climb max_height lower k w >>= λ a. grow (suc k) max_height (lower k) (length a.1) a.0 a.1
 
 -- an expression of at most this height, whose operators outside brackets bind at this level or tighter
 unfoldable pub at_most : ℕ → ℕ → List Token → Outcome Tree

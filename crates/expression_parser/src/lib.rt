@@ -16,6 +16,6 @@ mod token;
 pub use behind::{both, boxed, closed};
 pub use parse::expression;
 pub use parsed::{Parsed, binary};
-pub use problem::Problem;
+pub use problem::ParseProblem;
 pub use stopped::{Read, Stopped};
 pub use token::{begins_data_type, data_type, expect, identifier};

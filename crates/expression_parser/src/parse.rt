@@ -1,7 +1,9 @@
-// Recursive descent: each function reads one phrase, where `room` is the height that the whole may have.
+// Recursive descent: each function reads one phrase, where `max_height` is the height that the whole may have.
 
 ghost use Rattle.std.specs.Prelude.{◌≡◌, ◌-◌, ◌<◌, ◌≤◌, ◌∷◌, length, IfOk};
-ghost use Rattle.expression_parser.specs.Steps.{at_most, unary_of, negation_behind, cast_behind, postfix, indexed, primary, signed, parentheses_behind, declassify_behind, argument_behind, publish_behind, after_name, arguments, more, front, grow};
+ghost use Rattle.expression_parser.specs.Steps.{at_most, unary_of, negation_behind, cast_behind, postfix, indexed, primary, signed};
+ghost use Rattle.expression_parser.specs.Steps.{parentheses_behind, declassify_behind, argument_behind, publish_behind, after_name, arguments, more};
+ghost use Rattle.expression_parser.specs.Steps.{front, grow};
 ghost use Rattle.secrec_lexer.specs.Tokens.{IsEnded};
 ghost use Rattle.expression_parser.specs.Answer.{Answers};
 ghost use Rattle.expression_parser.specs.Given.{Gives, tree_of, tree_height, list_of, trees_height, trees_in};
@@ -10,10 +12,10 @@ use crate::behind::{both, closed};
 use crate::parsed::{Parsed, ParsedTrees, added, below, binary, element, leaf, no_trees};
 use crate::sign::{operator_at, why_not};
 use crate::token::{begins_data_type, data_type, expect, text};
-use crate::{Problem, Read, Stopped};
+use crate::{ParseProblem, Read, Stopped};
 use sc_text::{Name, Span};
 use secrec_ast::Expression;
-use secrec_lexer::{Kind, Sign, Token};
+use secrec_lexer::{Sign, Token, TokenKind};
 use std::alloc::Global;
 
 // The levels of operators: 0 for what has none between two operands outside brackets.
@@ -27,31 +29,31 @@ const LOOSEST: u8 = 9;
 /// unexpected where no expression of any height begins so, and else the tree is too high. Where memory runs out it says so.
 ///
 /// Recursive descent with one level of operators over another. It goes over the tokens once and looks one token ahead; no
-/// more than 16 * (room + 1) calls nest.
-pub fn expression<'a>(alloc: Global, tokens: &'a [Token], room: u8) -> Read<'a, Parsed>
+/// more than 16 * (max_height + 1) calls nest.
+pub fn expression<'a>(alloc: Global, tokens: &'a [Token], max_height: u8) -> Read<'a, Parsed>
     // What the grammar says of the tokens.
-    ensures answer { IsEnded tokens.now → Answers (λ x. (tree_of x.0, x.1.now)) room tokens.now result }
-    ensures height { IfOk result (λ x. (x.0.height ≡ tree_height x.0) × (x.0.height ≤ room)) }
+    ensures answer { IsEnded tokens.now → Answers (λ x. (tree_of x.0, x.1.now)) max_height tokens.now result }
+    ensures height { IfOk result (λ x. (x.0.height ≡ tree_height x.0) × (x.0.height ≤ max_height)) }
     ensures shorter { IfOk result (λ x. length x.1.now < length tokens.now) }
     // The same as a function of the tokens, for the parsers of what expressions stand in.
-    ensures step { Gives (λ x. (tree_of x.0, x.1.now)) result (at_most room 9 tokens.now) }
+    ensures step { Gives (λ x. (tree_of x.0, x.1.now)) result (at_most max_height 9 tokens.now) }
 {
-    operators(alloc, tokens, room, LOOSEST)
+    operators(alloc, tokens, max_height, LOOSEST)
 }
 
 #[cycle(expressions)]
 #[tactic(auto, using(crate::proofs::Turns::at_most_unary, crate::proofs::Turns::at_most_grow))]
-fn operators<'a>(alloc: Global, tokens: &'a [Token], room: u8, level: u8) -> Read<'a, Parsed>
+fn operators<'a>(alloc: Global, tokens: &'a [Token], max_height: u8, level: u8) -> Read<'a, Parsed>
     requires { level ≤ 9 }
-    ensures step { Gives (λ x. (tree_of x.0, x.1.now)) result (at_most room level tokens.now) }
-    ensures height { IfOk result (λ x. (x.0.height ≡ tree_height x.0) × (x.0.height ≤ room)) }
+    ensures step { Gives (λ x. (tree_of x.0, x.1.now)) result (at_most max_height level tokens.now) }
+    ensures height { IfOk result (λ x. (x.0.height ≡ tree_height x.0) × (x.0.height ≤ max_height)) }
     ensures shorter { IfOk result (λ x. length x.1.now < length tokens.now) }
 {
     if level == UNARY {
-        unary(alloc, tokens, room)
+        unary(alloc, tokens, max_height)
     } else {
-        let (left, rest) = operators(alloc, tokens, room, level - 1)?;
-        grow(alloc, left, rest, room, level)
+        let (left, rest) = operators(alloc, tokens, max_height, level - 1)?;
+        grow(alloc, left, rest, max_height, level)
     }
 }
 
@@ -62,13 +64,14 @@ fn grow<'a>(
     alloc: Global,
     left: Parsed,
     tokens: &'a [Token],
-    room: u8,
+    max_height: u8,
     level: u8,
 ) -> Read<'a, Parsed>
     requires level { (0 < level) × (level ≤ 9) }
-    requires height { (left.height ≡ tree_height left) × (left.height ≤ room) }
-    ensures step { Gives (λ x. (tree_of x.0, x.1.now)) result (grow level room (at_most (room - 1) (level - 1)) (length tokens.now) (tree_of left) tokens.now) }
-    ensures height { IfOk result (λ x. (x.0.height ≡ tree_height x.0) × (x.0.height ≤ room)) }
+    requires height { (left.height ≡ tree_height left) × (left.height ≤ max_height) }
+    ensures step { Gives (λ x. (tree_of x.0, x.1.now)) result
+        (grow level max_height (at_most (max_height - 1) (level - 1)) (length tokens.now) (tree_of left) tokens.now) }
+    ensures height { IfOk result (λ x. (x.0.height ≡ tree_height x.0) × (x.0.height ≤ max_height)) }
     ensures shorter { IfOk result (λ x. length x.1.now ≤ length tokens.now) }
 {
     let mut left = left;
@@ -80,11 +83,11 @@ fn grow<'a>(
         let Some(operator) = operator_at(level, &token.kind) else {
             return Ok((left, rest));
         };
-        if room <= left.height {
+        if max_height <= left.height {
             drop(left);
-            return Err(Stopped::At(Problem::TooHigh, rest));
+            return Err(Stopped::At(ParseProblem::TooHigh, rest));
         }
-        let right = operators(alloc, behind, room - 1, level - 1);
+        let right = operators(alloc, behind, max_height - 1, level - 1);
         let ((first, second), behind) = both(left, right)?;
         left = binary(alloc, operator, first, second)?;
         rest = behind;
@@ -93,35 +96,35 @@ fn grow<'a>(
 
 #[cycle(expressions)]
 #[tactic(auto, unfolding(crate::specs::Steps::unary_of))]
-fn unary<'a>(alloc: Global, tokens: &'a [Token], room: u8) -> Read<'a, Parsed>
-    ensures step { Gives (λ x. (tree_of x.0, x.1.now)) result (unary_of room (at_most (room - 1) 9) (at_most (room - 1) 0) tokens.now) }
-    ensures height { IfOk result (λ x. (x.0.height ≡ tree_height x.0) × (x.0.height ≤ room)) }
+fn unary<'a>(alloc: Global, tokens: &'a [Token], max_height: u8) -> Read<'a, Parsed>
+    ensures step { Gives (λ x. (tree_of x.0, x.1.now)) result (unary_of max_height (at_most (max_height - 1) 9) (at_most (max_height - 1) 0) tokens.now) }
+    ensures height { IfOk result (λ x. (x.0.height ≡ tree_height x.0) × (x.0.height ≤ max_height)) }
     ensures shorter { IfOk result (λ x. length x.1.now < length tokens.now) }
 {
     let Some((token, rest)) = tokens.split_first() else {
-        return Err(Stopped::At(Problem::Unexpected, tokens));
+        return Err(Stopped::At(ParseProblem::Unexpected, tokens));
     };
-    if let Some(problem) = why_not(room, &token.kind) {
+    if let Some(problem) = why_not(max_height, &token.kind) {
         return Err(Stopped::At(problem, tokens));
     }
     if token.is(Sign::Exclamation) {
-        negation(alloc, token.place, rest, room)
+        negation(alloc, token.place, rest, max_height)
     } else if token.is(Sign::LeftParenthesis) && begins_data_type(rest) {
-        cast(alloc, token.place, rest, room)
+        cast(alloc, token.place, rest, max_height)
     } else {
-        postfix(alloc, tokens, room)
+        postfix(alloc, tokens, max_height)
     }
 }
 
 // What stands behind `!`.
 #[cycle(expressions)]
-fn negation<'a>(alloc: Global, place: Span, tokens: &'a [Token], room: u8) -> Read<'a, Parsed>
-    requires { 0 < room }
-    ensures step { Gives (λ x. (tree_of x.0, x.1.now)) result (negation_behind (at_most (room - 1) 0) place tokens.now) }
-    ensures height { IfOk result (λ x. (x.0.height ≡ tree_height x.0) × (x.0.height ≤ room)) }
+fn negation<'a>(alloc: Global, place: Span, tokens: &'a [Token], max_height: u8) -> Read<'a, Parsed>
+    requires { 0 < max_height }
+    ensures step { Gives (λ x. (tree_of x.0, x.1.now)) result (negation_behind (at_most (max_height - 1) 0) place tokens.now) }
+    ensures height { IfOk result (λ x. (x.0.height ≡ tree_height x.0) × (x.0.height ≤ max_height)) }
     ensures shorter { IfOk result (λ x. length x.1.now < length tokens.now) }
 {
-    let operand = operators(alloc, tokens, room - 1, UNARY);
+    let operand = operators(alloc, tokens, max_height - 1, UNARY);
     let ((operand, height), rest) = below(alloc, operand)?;
     let tree = Expression::Not(place, operand);
     Ok((Parsed { tree, height }, rest))
@@ -129,15 +132,15 @@ fn negation<'a>(alloc: Global, place: Span, tokens: &'a [Token], room: u8) -> Re
 
 // What stands behind the parenthesis of a cast.
 #[cycle(expressions)]
-fn cast<'a>(alloc: Global, place: Span, tokens: &'a [Token], room: u8) -> Read<'a, Parsed>
-    requires { 0 < room }
-    ensures step { Gives (λ x. (tree_of x.0, x.1.now)) result (cast_behind (at_most (room - 1) 0) place tokens.now) }
-    ensures height { IfOk result (λ x. (x.0.height ≡ tree_height x.0) × (x.0.height ≤ room)) }
+fn cast<'a>(alloc: Global, place: Span, tokens: &'a [Token], max_height: u8) -> Read<'a, Parsed>
+    requires { 0 < max_height }
+    ensures step { Gives (λ x. (tree_of x.0, x.1.now)) result (cast_behind (at_most (max_height - 1) 0) place tokens.now) }
+    ensures height { IfOk result (λ x. (x.0.height ≡ tree_height x.0) × (x.0.height ≤ max_height)) }
     ensures shorter { IfOk result (λ x. length x.1.now < length tokens.now) }
 {
     let (data_type, rest) = data_type(tokens)?;
     let (_, rest) = expect(Sign::RightParenthesis, rest)?;
-    let operand = operators(alloc, rest, room - 1, UNARY);
+    let operand = operators(alloc, rest, max_height - 1, UNARY);
     let ((operand, height), rest) = below(alloc, operand)?;
     let tree = Expression::Cast(place, data_type, operand);
     Ok((Parsed { tree, height }, rest))
@@ -146,24 +149,24 @@ fn cast<'a>(alloc: Global, place: Span, tokens: &'a [Token], room: u8) -> Read<'
 // A primary, and an index behind it if there is one.
 #[cycle(expressions)]
 #[tactic(auto, unfolding(crate::specs::Steps::indexed))]
-fn postfix<'a>(alloc: Global, tokens: &'a [Token], room: u8) -> Read<'a, Parsed>
-    requires { 0 < room }
-    ensures step { Gives (λ x. (tree_of x.0, x.1.now)) result (postfix room (at_most (room - 1) 9) tokens.now) }
-    ensures height { IfOk result (λ x. (x.0.height ≡ tree_height x.0) × (x.0.height ≤ room)) }
+fn postfix<'a>(alloc: Global, tokens: &'a [Token], max_height: u8) -> Read<'a, Parsed>
+    requires { 0 < max_height }
+    ensures step { Gives (λ x. (tree_of x.0, x.1.now)) result (postfix max_height (at_most (max_height - 1) 9) tokens.now) }
+    ensures height { IfOk result (λ x. (x.0.height ≡ tree_height x.0) × (x.0.height ≤ max_height)) }
     ensures shorter { IfOk result (λ x. length x.1.now < length tokens.now) }
 {
-    let (array, rest) = primary(alloc, tokens, room)?;
+    let (array, rest) = primary(alloc, tokens, max_height)?;
     let Some((token, behind)) = rest.split_first() else {
         return Ok((array, rest));
     };
     if !token.is(Sign::LeftBracket) {
         return Ok((array, rest));
     }
-    if room <= array.height {
+    if max_height <= array.height {
         drop(array);
-        return Err(Stopped::At(Problem::TooHigh, rest));
+        return Err(Stopped::At(ParseProblem::TooHigh, rest));
     }
-    let position = operators(alloc, behind, room - 1, LOOSEST);
+    let position = operators(alloc, behind, max_height - 1, LOOSEST);
     let (parts, behind) = both(array, position)?;
     let ((array, position), behind) = closed(parts, expect(Sign::RightBracket, behind))?;
     Ok((element(alloc, array, position)?, behind))
@@ -171,20 +174,20 @@ fn postfix<'a>(alloc: Global, tokens: &'a [Token], room: u8) -> Read<'a, Parsed>
 
 #[cycle(expressions)]
 #[tactic(auto, unfolding(crate::specs::Steps::primary))]
-fn primary<'a>(alloc: Global, tokens: &'a [Token], room: u8) -> Read<'a, Parsed>
-    requires { 0 < room }
-    ensures step { Gives (λ x. (tree_of x.0, x.1.now)) result (primary (at_most (room - 1) 9) tokens.now) }
-    ensures height { IfOk result (λ x. (x.0.height ≡ tree_height x.0) × (x.0.height ≤ room)) }
+fn primary<'a>(alloc: Global, tokens: &'a [Token], max_height: u8) -> Read<'a, Parsed>
+    requires { 0 < max_height }
+    ensures step { Gives (λ x. (tree_of x.0, x.1.now)) result (primary (at_most (max_height - 1) 9) tokens.now) }
+    ensures height { IfOk result (λ x. (x.0.height ≡ tree_height x.0) × (x.0.height ≤ max_height)) }
     ensures shorter { IfOk result (λ x. length x.1.now < length tokens.now) }
 {
     let Some((token, rest)) = tokens.split_first() else {
-        return Err(Stopped::At(Problem::Unexpected, tokens));
+        return Err(Stopped::At(ParseProblem::Unexpected, tokens));
     };
     match &token.kind {
-        Kind::Number(word) => Ok((leaf(Expression::Number(token.place, *word)), rest)),
-        Kind::Name(name) => after_name(alloc, token.place, name, rest, room),
-        Kind::Sign(_) => signed(alloc, token, tokens, rest, room),
-        Kind::Text(_) | Kind::End => Err(Stopped::At(Problem::Unexpected, tokens)),
+        TokenKind::Number(word) => Ok((leaf(Expression::Number(token.place, *word)), rest)),
+        TokenKind::Name(name) => after_name(alloc, token.place, name, rest, max_height),
+        TokenKind::Sign(_) => signed(alloc, token, tokens, rest, max_height),
+        TokenKind::Text(_) | TokenKind::End => Err(Stopped::At(ParseProblem::Unexpected, tokens)),
     }
 }
 
@@ -196,12 +199,12 @@ fn signed<'a>(
     token: &'a Token,
     tokens: &'a [Token],
     rest: &'a [Token],
-    room: u8,
+    max_height: u8,
 ) -> Read<'a, Parsed>
-    requires room { 0 < room }
+    requires max_height { 0 < max_height }
     requires front { tokens.now ≡ token.now ∷ rest.now }
-    ensures step { Gives (λ x. (tree_of x.0, x.1.now)) result (signed (at_most (room - 1) 9) token.now rest.now) }
-    ensures height { IfOk result (λ x. (x.0.height ≡ tree_height x.0) × (x.0.height ≤ room)) }
+    ensures step { Gives (λ x. (tree_of x.0, x.1.now)) result (signed (at_most (max_height - 1) 9) token.now rest.now) }
+    ensures height { IfOk result (λ x. (x.0.height ≡ tree_height x.0) × (x.0.height ≤ max_height)) }
     ensures shorter { IfOk result (λ x. length x.1.now < length tokens.now) }
 {
     let place = token.place;
@@ -210,27 +213,32 @@ fn signed<'a>(
     } else if token.is(Sign::False) {
         Ok((leaf(Expression::Truth(place, false)), rest))
     } else if token.is(Sign::LeftParenthesis) {
-        parentheses(alloc, place, rest, room)
+        parentheses(alloc, place, rest, max_height)
     } else if token.is(Sign::Declassify) {
-        declassify(alloc, place, rest, room)
+        declassify(alloc, place, rest, max_height)
     } else if token.is(Sign::Argument) {
         argument(alloc, place, rest)
     } else if token.is(Sign::Publish) {
-        publish(alloc, place, rest, room)
+        publish(alloc, place, rest, max_height)
     } else {
-        Err(Stopped::At(Problem::Unexpected, tokens))
+        Err(Stopped::At(ParseProblem::Unexpected, tokens))
     }
 }
 
 // What stands behind an opening parenthesis.
 #[cycle(expressions)]
-fn parentheses<'a>(alloc: Global, place: Span, tokens: &'a [Token], room: u8) -> Read<'a, Parsed>
-    requires { 0 < room }
-    ensures step { Gives (λ x. (tree_of x.0, x.1.now)) result (parentheses_behind (at_most (room - 1) 9) place tokens.now) }
-    ensures height { IfOk result (λ x. (x.0.height ≡ tree_height x.0) × (x.0.height ≤ room)) }
+fn parentheses<'a>(
+    alloc: Global,
+    place: Span,
+    tokens: &'a [Token],
+    max_height: u8,
+) -> Read<'a, Parsed>
+    requires { 0 < max_height }
+    ensures step { Gives (λ x. (tree_of x.0, x.1.now)) result (parentheses_behind (at_most (max_height - 1) 9) place tokens.now) }
+    ensures height { IfOk result (λ x. (x.0.height ≡ tree_height x.0) × (x.0.height ≤ max_height)) }
     ensures shorter { IfOk result (λ x. length x.1.now < length tokens.now) }
 {
-    let (inner, rest) = operators(alloc, tokens, room - 1, LOOSEST)?;
+    let (inner, rest) = operators(alloc, tokens, max_height - 1, LOOSEST)?;
     let inner = closed(inner, expect(Sign::RightParenthesis, rest));
     let ((inner, height), rest) = below(alloc, inner)?;
     let tree = Expression::Parentheses(place, inner);
@@ -239,14 +247,19 @@ fn parentheses<'a>(alloc: Global, place: Span, tokens: &'a [Token], room: u8) ->
 
 // What stands behind `declassify`.
 #[cycle(expressions)]
-fn declassify<'a>(alloc: Global, place: Span, tokens: &'a [Token], room: u8) -> Read<'a, Parsed>
-    requires { 0 < room }
-    ensures step { Gives (λ x. (tree_of x.0, x.1.now)) result (declassify_behind (at_most (room - 1) 9) place tokens.now) }
-    ensures height { IfOk result (λ x. (x.0.height ≡ tree_height x.0) × (x.0.height ≤ room)) }
+fn declassify<'a>(
+    alloc: Global,
+    place: Span,
+    tokens: &'a [Token],
+    max_height: u8,
+) -> Read<'a, Parsed>
+    requires { 0 < max_height }
+    ensures step { Gives (λ x. (tree_of x.0, x.1.now)) result (declassify_behind (at_most (max_height - 1) 9) place tokens.now) }
+    ensures height { IfOk result (λ x. (x.0.height ≡ tree_height x.0) × (x.0.height ≤ max_height)) }
     ensures shorter { IfOk result (λ x. length x.1.now < length tokens.now) }
 {
     let (_, rest) = expect(Sign::LeftParenthesis, tokens)?;
-    let (inner, rest) = operators(alloc, rest, room - 1, LOOSEST)?;
+    let (inner, rest) = operators(alloc, rest, max_height - 1, LOOSEST)?;
     let inner = closed(inner, expect(Sign::RightParenthesis, rest));
     let ((inner, height), rest) = below(alloc, inner)?;
     let tree = Expression::Declassify(place, inner);
@@ -267,16 +280,16 @@ fn argument<'a>(alloc: Global, place: Span, tokens: &'a [Token]) -> Read<'a, Par
 
 // What stands behind `publish`.
 #[cycle(expressions)]
-fn publish<'a>(alloc: Global, place: Span, tokens: &'a [Token], room: u8) -> Read<'a, Parsed>
-    requires { 0 < room }
-    ensures step { Gives (λ x. (tree_of x.0, x.1.now)) result (publish_behind (at_most (room - 1) 9) place tokens.now) }
-    ensures height { IfOk result (λ x. (x.0.height ≡ tree_height x.0) × (x.0.height ≤ room)) }
+fn publish<'a>(alloc: Global, place: Span, tokens: &'a [Token], max_height: u8) -> Read<'a, Parsed>
+    requires { 0 < max_height }
+    ensures step { Gives (λ x. (tree_of x.0, x.1.now)) result (publish_behind (at_most (max_height - 1) 9) place tokens.now) }
+    ensures height { IfOk result (λ x. (x.0.height ≡ tree_height x.0) × (x.0.height ≤ max_height)) }
     ensures shorter { IfOk result (λ x. length x.1.now < length tokens.now) }
 {
     let (_, rest) = expect(Sign::LeftParenthesis, tokens)?;
     let (name, rest) = text(alloc, rest)?;
     let (name, rest) = closed(name, expect(Sign::Comma, rest))?;
-    let inner = operators(alloc, rest, room - 1, LOOSEST);
+    let inner = operators(alloc, rest, max_height - 1, LOOSEST);
     let ((name, inner), rest) = both(name, below(alloc, inner))?;
     let ((name, (inner, height)), rest) = closed(
         (name, inner),
@@ -294,20 +307,20 @@ fn after_name<'a>(
     place: Span,
     name: &Name,
     tokens: &'a [Token],
-    room: u8,
+    max_height: u8,
 ) -> Read<'a, Parsed>
-    requires { 0 < room }
-    ensures step { Gives (λ x. (tree_of x.0, x.1.now)) result (after_name (at_most (room - 1) 9) place name.now tokens.now) }
-    ensures height { IfOk result (λ x. (x.0.height ≡ tree_height x.0) × (x.0.height ≤ room)) }
+    requires { 0 < max_height }
+    ensures step { Gives (λ x. (tree_of x.0, x.1.now)) result (after_name (at_most (max_height - 1) 9) place name.now tokens.now) }
+    ensures height { IfOk result (λ x. (x.0.height ≡ tree_height x.0) × (x.0.height ≤ max_height)) }
     ensures shorter { IfOk result (λ x. length x.1.now ≤ length tokens.now) }
 {
     let Some((token, rest)) = tokens.split_first() else {
-        return Err(Stopped::At(Problem::Unexpected, tokens));
+        return Err(Stopped::At(ParseProblem::Unexpected, tokens));
     };
     if !token.is(Sign::LeftParenthesis) {
         return Ok((leaf(Expression::Variable(place, name.copy(alloc)?)), tokens));
     }
-    let (found, rest) = arguments(alloc, rest, room)?;
+    let (found, rest) = arguments(alloc, rest, max_height)?;
     let (found, rest) = closed(found, expect(Sign::RightParenthesis, rest))?;
     let height = found.height + 1;
     let tree = Expression::Call(place, name.copy(alloc)?, found.trees);
@@ -316,21 +329,21 @@ fn after_name<'a>(
 
 #[cycle(expressions)]
 #[tactic(auto, unfolding(crate::specs::Steps::arguments))]
-fn arguments<'a>(alloc: Global, tokens: &'a [Token], room: u8) -> Read<'a, ParsedTrees>
-    requires { 0 < room }
-    ensures step { Gives (λ x. (trees_in x.0, x.1.now)) result (arguments (at_most (room - 1) 9) tokens.now) }
-    ensures height { IfOk result (λ x. (x.0.height ≡ trees_height x.0) × (x.0.height < room)) }
+fn arguments<'a>(alloc: Global, tokens: &'a [Token], max_height: u8) -> Read<'a, ParsedTrees>
+    requires { 0 < max_height }
+    ensures step { Gives (λ x. (trees_in x.0, x.1.now)) result (arguments (at_most (max_height - 1) 9) tokens.now) }
+    ensures height { IfOk result (λ x. (x.0.height ≡ trees_height x.0) × (x.0.height < max_height)) }
     ensures shorter { IfOk result (λ x. length x.1.now ≤ length tokens.now) }
 {
     let Some((token, _)) = tokens.split_first() else {
-        return Err(Stopped::At(Problem::Unexpected, tokens));
+        return Err(Stopped::At(ParseProblem::Unexpected, tokens));
     };
     if token.is(Sign::RightParenthesis) {
         return Ok((no_trees(alloc), tokens));
     }
-    let (first, rest) = operators(alloc, tokens, room - 1, LOOSEST)?;
+    let (first, rest) = operators(alloc, tokens, max_height - 1, LOOSEST)?;
     let found = added(no_trees(alloc), first)?;
-    more(alloc, found, rest, room)
+    more(alloc, found, rest, max_height)
 }
 
 // The arguments behind those that were found.
@@ -340,12 +353,12 @@ fn more<'a>(
     alloc: Global,
     found: ParsedTrees,
     tokens: &'a [Token],
-    room: u8,
+    max_height: u8,
 ) -> Read<'a, ParsedTrees>
-    requires room { 0 < room }
-    requires height { (found.height ≡ trees_height found) × (found.height < room) }
-    ensures step { Gives (λ x. (trees_in x.0, x.1.now)) result (front (list_of found) (more (at_most (room - 1) 9) (length tokens.now) tokens.now)) }
-    ensures height { IfOk result (λ x. (x.0.height ≡ trees_height x.0) × (x.0.height < room)) }
+    requires max_height { 0 < max_height }
+    requires height { (found.height ≡ trees_height found) × (found.height < max_height) }
+    ensures step { Gives (λ x. (trees_in x.0, x.1.now)) result (front (list_of found) (more (at_most (max_height - 1) 9) (length tokens.now) tokens.now)) }
+    ensures height { IfOk result (λ x. (x.0.height ≡ trees_height x.0) × (x.0.height < max_height)) }
     ensures shorter { IfOk result (λ x. length x.1.now ≤ length tokens.now) }
 {
     let mut found = found;
@@ -357,7 +370,7 @@ fn more<'a>(
         if !token.is(Sign::Comma) {
             return Ok((found, rest));
         }
-        let next = operators(alloc, behind, room - 1, LOOSEST);
+        let next = operators(alloc, behind, max_height - 1, LOOSEST);
         let ((before, next), behind) = both(found, next)?;
         found = added(before, next)?;
         rest = behind;

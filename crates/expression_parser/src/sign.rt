@@ -2,9 +2,9 @@ ghost use Rattle.std.specs.Prelude.{◌≡◌, ◌<◌, IfNone};
 ghost use Rattle.expression_parser.specs.Grammar.{operator_of, level};
 ghost use Rattle.expression_parser.specs.Steps.{least_of_sign, least, why_not, operator_at, at_level};
 
-use crate::Problem;
+use crate::ParseProblem;
 use secrec_ast::Operator;
-use secrec_lexer::{Kind, Sign};
+use secrec_lexer::{Sign, TokenKind};
 
 fn least_of_sign(sign: Sign) -> Option<u8>
     ensures { result ≡ least_of_sign sign }
@@ -16,26 +16,26 @@ fn least_of_sign(sign: Sign) -> Option<u8>
     }
 }
 
-fn least_height(kind: &Kind) -> Option<u8>
+fn least_height(kind: &TokenKind) -> Option<u8>
     ensures { result ≡ least kind.now }
 {
     match kind {
-        Kind::Name(_) | Kind::Number(_) => Some(1),
-        Kind::Sign(sign) => least_of_sign(*sign),
-        Kind::Text(_) | Kind::End => None,
+        TokenKind::Name(_) | TokenKind::Number(_) => Some(1),
+        TokenKind::Sign(sign) => least_of_sign(*sign),
+        TokenKind::Text(_) | TokenKind::End => None,
     }
 }
 
 // Why no expression of at most this height begins with such a token.
-pub fn why_not(room: u8, kind: &Kind) -> Option<Problem>
-    ensures problem { result ≡ why_not room (least kind.now) }
-    ensures room { IfNone result (0 < room) }
+pub fn why_not(max_height: u8, kind: &TokenKind) -> Option<ParseProblem>
+    ensures problem { result ≡ why_not max_height (least kind.now) }
+    ensures max_height { IfNone result (0 < max_height) }
 {
     match least_height(kind) {
-        None => Some(Problem::Unexpected),
+        None => Some(ParseProblem::Unexpected),
         Some(least) => {
-            if room < least {
-                Some(Problem::TooHigh)
+            if max_height < least {
+                Some(ParseProblem::TooHigh)
             } else {
                 None
             }
@@ -84,10 +84,10 @@ fn level(operator: Operator) -> u8
 }
 
 // The operator that such a token is, if it is of this level.
-pub fn operator_at(wanted: u8, kind: &Kind) -> Option<Operator>
+pub fn operator_at(wanted: u8, kind: &TokenKind) -> Option<Operator>
     ensures { result ≡ at_level wanted (operator_at kind.now) }
 {
-    let Kind::Sign(sign) = kind else {
+    let TokenKind::Sign(sign) = kind else {
         return None;
     };
     match operator_of(*sign) {

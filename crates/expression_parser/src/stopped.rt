@@ -1,4 +1,4 @@
-use crate::Problem;
+use crate::ParseProblem;
 use secrec_lexer::Token;
 use std::alloc::{AllocError, AllocFailed};
 
@@ -6,7 +6,7 @@ use std::alloc::{AllocError, AllocFailed};
 #[derive(Drop)]
 pub enum Stopped<'a> {
     Memory,
-    At(Problem, &'a [Token]),
+    At(ParseProblem, &'a [Token]),
 }
 
 /// A phrase that was read, and the tokens behind it.

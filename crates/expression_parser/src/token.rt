@@ -2,10 +2,10 @@ ghost use Rattle.std.specs.Prelude.{◌≡◌, ◌<◌, length, IfOk};
 ghost use Rattle.expression_parser.specs.Steps.{expect, text, identifier, data_type, data_type_of, begins_data_type};
 ghost use Rattle.expression_parser.specs.Given.{Gives};
 
-use crate::{Problem, Read, Stopped};
+use crate::{ParseProblem, Read, Stopped};
 use sc_text::{Name, Span};
 use secrec_ast::{DataType, Identifier};
-use secrec_lexer::{Kind, Sign, Token};
+use secrec_lexer::{Sign, Token, TokenKind};
 use std::alloc::Global;
 
 /// A sign or keyword: its place.
@@ -14,12 +14,12 @@ pub fn expect<'a>(sign: Sign, tokens: &'a [Token]) -> Read<'a, Span>
     ensures shorter { IfOk result (λ x. length x.1.now < length tokens.now) }
 {
     let Some((token, rest)) = tokens.split_first() else {
-        return Err(Stopped::At(Problem::Unexpected, tokens));
+        return Err(Stopped::At(ParseProblem::Unexpected, tokens));
     };
     if token.is(sign) {
         Ok((token.place, rest))
     } else {
-        Err(Stopped::At(Problem::Unexpected, tokens))
+        Err(Stopped::At(ParseProblem::Unexpected, tokens))
     }
 }
 
@@ -29,15 +29,15 @@ pub fn identifier<'a>(alloc: Global, tokens: &'a [Token]) -> Read<'a, Identifier
     ensures shorter { IfOk result (λ x. length x.1.now < length tokens.now) }
 {
     let Some((token, rest)) = tokens.split_first() else {
-        return Err(Stopped::At(Problem::Unexpected, tokens));
+        return Err(Stopped::At(ParseProblem::Unexpected, tokens));
     };
     match &token.kind {
-        Kind::Name(name) => {
+        TokenKind::Name(name) => {
             let text = name.copy(alloc)?;
             let place = token.place;
             Ok((Identifier { place, text }, rest))
         }
-        _ => Err(Stopped::At(Problem::Unexpected, tokens)),
+        _ => Err(Stopped::At(ParseProblem::Unexpected, tokens)),
     }
 }
 
@@ -47,14 +47,14 @@ pub fn text<'a>(alloc: Global, tokens: &'a [Token]) -> Read<'a, Name>
     ensures shorter { IfOk result (λ x. length x.1.now < length tokens.now) }
 {
     let Some((token, rest)) = tokens.split_first() else {
-        return Err(Stopped::At(Problem::Unexpected, tokens));
+        return Err(Stopped::At(ParseProblem::Unexpected, tokens));
     };
     match &token.kind {
-        Kind::Text(text) => {
+        TokenKind::Text(text) => {
             let text = text.copy(alloc)?;
             Ok((text, rest))
         }
-        _ => Err(Stopped::At(Problem::Unexpected, tokens)),
+        _ => Err(Stopped::At(ParseProblem::Unexpected, tokens)),
     }
 }
 
@@ -78,11 +78,11 @@ pub fn data_type<'a>(tokens: &'a [Token]) -> Read<'a, DataType>
     ensures shorter { IfOk result (λ x. length x.1.now < length tokens.now) }
 {
     let Some((token, rest)) = tokens.split_first() else {
-        return Err(Stopped::At(Problem::Unexpected, tokens));
+        return Err(Stopped::At(ParseProblem::Unexpected, tokens));
     };
     match data_type_of(token) {
         Some(data_type) => Ok((data_type, rest)),
-        None => Err(Stopped::At(Problem::Unexpected, tokens)),
+        None => Err(Stopped::At(ParseProblem::Unexpected, tokens)),
     }
 }
 

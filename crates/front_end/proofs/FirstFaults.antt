@@ -5,8 +5,8 @@ use Rattle.sc_text.specs.declared.span.Span.{Span}
 use Rattle.secrec_lexer.specs.declared.token.Token.{Token}
 use Rattle.secrec_ast.specs.Programs.{ProgramTree}
 use Rattle.secrec_ast.specs.Heights.{program_height}
-use Rattle.expression_parser.specs.declared.problem.Problem.{Problem}
-use Rattle.expression_parser.specs.declared.problem.Problem.TheVariants.{Unexpected, TooHigh}
+use Rattle.expression_parser.specs.declared.problem.ParseProblem.{ParseProblem}
+use Rattle.expression_parser.specs.declared.problem.ParseProblem.TheVariants.{Unexpected, TooHigh}
 use Rattle.expression_parser.proofs.Reading.{cons_head, cons_tail}
 use Rattle.secrec_parser.specs.Grammar.{IsProgram}
 use Rattle.secrec_parser.specs.FirstFault.{Begins, IsCause, IsFirstFault}
@@ -34,13 +34,14 @@ cuts (z ∷ b) c (w ∷ d) e x y h = behind (cons_head h) (cuts b c d e x y (con
     behind s (inr (inl o)) = inr (inl (o.0, ap₂ (λ u us. u ∷ us) (sym s) o.1))
     behind s (inr (inr o)) = inr (inr (o.0, ap₂ (λ u us. u ∷ us) s o.1))
 
-same_cause : (p q : Problem) (ts : List Token) → IsCause p ts → IsCause q ts → p ≡ q
+same_cause : (p q : ParseProblem) (ts : List Token) → IsCause p ts → IsCause q ts → p ≡ q
 same_cause Unexpected Unexpected ts a b = refl
 same_cause Unexpected TooHigh ts a b = absurd (a b)
 same_cause TooHigh Unexpected ts a b = absurd (b a)
 same_cause TooHigh TooHigh ts a b = refl
 
-pub one_first_fault : (limit : ℕ) (ts : List Token) (p q : Problem) (s t : Span) → IsFirstFault limit ts p s → IsFirstFault limit ts q t → (p ≡ q) × (s ≡ t)
+pub one_first_fault : (limit : ℕ) (ts : List Token) (p q : ParseProblem) (s t : Span) → IsFirstFault limit ts p s → IsFirstFault limit ts q t
+    → (p ≡ q) × (s ≡ t)
 one_first_fault limit ts p q s t f g = go (cuts f.before f.behind g.before g.behind f.fault g.fault (sym f.split ∙ g.split))
   where
     go : Ordered f.before g.before f.fault g.fault → (p ≡ q) × (s ≡ t)
@@ -50,6 +51,7 @@ one_first_fault limit ts p q s t f g = go (cuts f.before f.behind g.before g.beh
     go (inr (inl o)) = absurd (f.here (begins_before limit (f.before ++ f.fault ∷ []) o.0 (subst (Begins limit) o.1 g.begins)))
     go (inr (inr o)) = absurd (g.here (begins_before limit (g.before ++ g.fault ∷ []) o.0 (subst (Begins limit) o.1 f.begins)))
 
-pub faultless_where_spelled : (limit : ℕ) (ts : List Token) (p : Problem) (s : Span) (tree : ProgramTree) → IsFirstFault limit ts p s → IsProgram tree ts → program_height tree ≤ limit → ⊥
+pub faultless_where_spelled : (limit : ℕ) (ts : List Token) (p : ParseProblem) (s : Span) (tree : ProgramTree) → IsFirstFault limit ts p s
+    → IsProgram tree ts → program_height tree ≤ limit → ⊥
 faultless_where_spelled limit ts p s tree f spelled low =
     f.here (tree, f.behind, subst (IsProgram tree) (f.split ∙ sym (append_assoc f.before (f.fault ∷ []) f.behind)) spelled, low)

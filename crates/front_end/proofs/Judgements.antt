@@ -12,15 +12,15 @@ use Rattle.secrec_lexer.specs.Lexis as lexis
 use Rattle.secrec_ast.specs.declared.program.Program.{Program}
 use Rattle.secrec_ast.specs.Programs.{ProgramTree, program_tree}
 use Rattle.secrec_ast.specs.Heights.{program_height}
-use Rattle.expression_parser.specs.declared.problem.Problem as syntax
+use Rattle.expression_parser.specs.declared.problem.ParseProblem as syntax
 use Rattle.secrec_parser.specs.declared.parse_err.ParseErr.{ParseErr}
 use Rattle.secrec_parser.specs.declared.parse_err.ParseErr.TheVariants as parsing
 use Rattle.secrec_parser.specs.Grammar.{IsProgram}
 use Rattle.secrec_parser.specs.FirstFault.{height_limit, IsFirstFault}
 use Rattle.secrec_parser.specs.Answer.{IsTree, RefusesAtFault}
-use Rattle.domain_types.specs.declared.fault.Fault.{Fault}
-use Rattle.domain_types.specs.declared.type_error.TypeError.{TypeError}
-use Rattle.domain_types.specs.declared.type_error.TypeError.TheVariants as typing
+use Rattle.domain_types.specs.declared.fault.TypeFault.{TypeFault}
+use Rattle.domain_types.specs.declared.type_err.TypeErr.{TypeErr}
+use Rattle.domain_types.specs.declared.type_err.TypeErr.TheVariants as typing
 use Rattle.domain_types.specs.ProgramTypes.{IsRefused}
 use Rattle.domain_types.specs.Typing.{IsTypedProgram}
 use Rattle.domain_types.specs.Answer.{IsVerdict}
@@ -28,7 +28,7 @@ use Rattle.front_end.specs.declared.program_fault.ProgramFault.{ProgramFault}
 use Rattle.front_end.specs.declared.program_err.ProgramErr.{ProgramErr}
 use Rattle.front_end.specs.Judgement.{syntax_fault, Spells, IsRefusedText, of_tokens, of_grammar, of_types, Judged, IsJudged}
 use Rattle.front_end.specs.Answer.{IsAnswer, IsJust}
-use Rattle.front_end.specs.Refusals.{lexer_error, parser_error, type_fault, type_error}
+use Rattle.front_end.specs.Refusals.{lexer_error, parser_error, type_fault, type_err}
 use Rattle.front_end.proofs.FirstFaults.{one_first_fault, faultless_where_spelled}
 use Rattle.front_end.proofs.TypeFaults.{one_type_fault, faultless_where_typed}
 
@@ -74,7 +74,8 @@ pub has_just :
     HasJust bytes tokens
 has_just bytes tokens has just accepted = record { has = has; just = just; accepted = accepted }
 
-pub unparsed : (bytes : List ℕ) (tokens : List Token) (e : ParseErr) → HasTokens bytes tokens → RefusesAtFault height_limit tokens (Err e) → IsAnswer bytes (Err (parser_error e))
+pub unparsed : (bytes : List ℕ) (tokens : List Token) (e : ParseErr) → HasTokens bytes tokens → RefusesAtFault height_limit tokens (Err e)
+    → IsAnswer bytes (Err (parser_error e))
 unparsed bytes tokens parsing.Memory has r = tt
 unparsed bytes tokens (parsing.Refused problem place) has r = of_grammar tokens problem place has r
 
@@ -94,7 +95,7 @@ unparsed_only bytes tokens (parsing.Refused problem place) h r (Err told) j = ap
     go f (of_tokens fault spot told) = absurd (h.accepted fault spot told)
     go f (of_grammar ts p s has first) =
         let same = one_first_fault height_limit tokens p problem s place (subst (λ w. IsFirstFault height_limit w p s) (sym (h.just ts has)) first) r in
-        ap₂ (λ (q : syntax.Problem) (t : Span). record { fault = syntax_fault q; place = t }) same.0 same.1
+        ap₂ (λ (q : syntax.ParseProblem) (t : Span). record { fault = syntax_fault q; place = t }) same.0 same.1
     go f (of_types tree g spells told) =
         absurd (faultless_where_spelled height_limit tokens problem place tree r (spelled_by bytes tokens h tree spells) spells.low)
 
@@ -123,26 +124,27 @@ same_tree : (bytes : List ℕ) (tree other : ProgramTree) → SpellsJust bytes t
 same_tree bytes tree other h s = h.just other (spelled_by bytes h.tokens h.lexed other s) s.low
 
 -- where the text spells a tree, it is refused by the type rules or not at all
-refused_by_rules : (bytes : List ℕ) (tree : ProgramTree) → SpellsJust bytes tree → (f : ProgramFault) → IsRefusedText bytes f → (g : Fault) × (f ≡ type_fault g) × IsRefused tree g
+refused_by_rules : (bytes : List ℕ) (tree : ProgramTree) → SpellsJust bytes tree → (f : ProgramFault) → IsRefusedText bytes f
+    → (g : TypeFault) × (f ≡ type_fault g) × IsRefused tree g
 refused_by_rules bytes tree h f (of_tokens fault place told) = absurd (h.lexed.accepted fault place told)
 refused_by_rules bytes tree h f (of_grammar ts p s has first) =
     absurd (faultless_where_spelled height_limit ts p s tree first (subst (IsProgram tree) (h.lexed.just ts has) h.spelled) h.low)
 refused_by_rules bytes tree h f (of_types other g s told) =
     (g, refl, subst (λ t. IsRefused t g) (sym (same_tree bytes tree other h s)) told)
 
-pub untyped : (bytes : List ℕ) (tree : ProgramTree) (e : TypeError) → SpellsJust bytes tree → IsVerdict (Err e) tree → IsAnswer bytes (Err (type_error e))
+pub untyped : (bytes : List ℕ) (tree : ProgramTree) (e : TypeErr) → SpellsJust bytes tree → IsVerdict (Err e) tree → IsAnswer bytes (Err (type_err e))
 untyped bytes tree typing.Memory h r = tt
 untyped bytes tree (typing.Refused fault) h r = of_types tree fault (spells bytes tree h) r
 
 pub untyped_only :
-    (bytes : List ℕ) (tree : ProgramTree) (e : TypeError) → SpellsJust bytes tree → IsVerdict (Err e) tree →
-    (judged : Judged) → IsJudged bytes judged → IsJust (Err (type_error e)) judged
+    (bytes : List ℕ) (tree : ProgramTree) (e : TypeErr) → SpellsJust bytes tree → IsVerdict (Err e) tree →
+    (judged : Judged) → IsJudged bytes judged → IsJust (Err (type_err e)) judged
 untyped_only bytes tree typing.Memory h r judged j = tt
 untyped_only bytes tree (typing.Refused fault) h r (Ok other) j =
     absurd (faultless_where_typed tree fault r (subst IsTypedProgram (sym (same_tree bytes tree other h j.spells)) j.typed))
 untyped_only bytes tree (typing.Refused fault) h r (Err told) j =
     let o = refused_by_rules bytes tree h told j in
-    rw o.1 (ap (λ (g : Fault). Err (type_fault g)) (one_type_fault tree o.0 fault o.2 r))
+    rw o.1 (ap (λ (g : TypeFault). Err (type_fault g)) (one_type_fault tree o.0 fault o.2 r))
 
 pub typed_only :
     (bytes : List ℕ) (program : Program) → SpellsJust bytes (program_tree program) → IsTypedProgram (program_tree program) →

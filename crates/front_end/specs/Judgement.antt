@@ -10,23 +10,23 @@ use Rattle.secrec_lexer.specs.Lexis.{HasTokens}
 use Rattle.secrec_lexer.specs.Lexis as lexis
 use Rattle.secrec_ast.specs.Programs.{ProgramTree}
 use Rattle.secrec_ast.specs.Heights.{program_height}
-use Rattle.expression_parser.specs.declared.problem.Problem as syntax
-use Rattle.expression_parser.specs.declared.problem.Problem.TheVariants.{Unexpected, TooHigh}
+use Rattle.expression_parser.specs.declared.problem.ParseProblem as syntax
+use Rattle.expression_parser.specs.declared.problem.ParseProblem.TheVariants.{Unexpected, TooHigh}
 use Rattle.secrec_parser.specs.Grammar.{IsProgram}
 use Rattle.secrec_parser.specs.FirstFault.{height_limit, IsFirstFault}
-use Rattle.domain_types.specs.declared.fault.Problem as rule
-use Rattle.domain_types.specs.declared.fault.Problem.TheVariants as rules
-use Rattle.domain_types.specs.declared.fault.Fault.{Fault}
+use Rattle.domain_types.specs.declared.fault.TypeProblem as rule
+use Rattle.domain_types.specs.declared.fault.TypeProblem.TheVariants as rules
+use Rattle.domain_types.specs.declared.fault.TypeFault.{TypeFault}
 use Rattle.domain_types.specs.ProgramTypes as types
 use Rattle.domain_types.specs.Typing.{IsTypedProgram}
 use Rattle.front_end.specs.declared.program_fault.ProgramFault.{ProgramFault}
 
 -- the faults of the grammar and of the type rules, by the names that they are printed for
-abbrev pub syntax_fault : syntax.Problem → PlacedFault
+abbrev pub syntax_fault : syntax.ParseProblem → PlacedFault
 syntax_fault Unexpected = placed.Unexpected
 syntax_fault TooHigh = placed.TooDeep
 
-abbrev pub rule_fault : rule.Problem → PlacedFault
+abbrev pub rule_fault : rule.TypeProblem → PlacedFault
 rule_fault rules.UnknownName = placed.UnknownName
 rule_fault rules.Twice = placed.Twice
 rule_fault rules.TypeMismatch = placed.TypeMismatch
@@ -58,9 +58,9 @@ pub record IsProgramText (bytes : List ℕ) (tree : ProgramTree) : Type 0 where
 -- a text is refused for its first fault: of its tokens, else of the grammar, else of the type rules
 pub data IsRefusedText (bytes : List ℕ) : ProgramFault → Type 0 where
   of_tokens : (fault : LexFault) (place : Span) → lexis.IsRefused bytes fault place → IsRefusedText bytes (record { fault = placed_fault fault; place = place })
-  of_grammar : (tokens : List Token) (problem : syntax.Problem) (place : Span) → HasTokens bytes tokens → IsFirstFault height_limit tokens problem place
+  of_grammar : (tokens : List Token) (problem : syntax.ParseProblem) (place : Span) → HasTokens bytes tokens → IsFirstFault height_limit tokens problem place
       → IsRefusedText bytes (record { fault = syntax_fault problem; place = place })
-  of_types : (tree : ProgramTree) (fault : Fault) → Spells bytes tree → types.IsRefused tree fault
+  of_types : (tree : ProgramTree) (fault : TypeFault) → Spells bytes tree → types.IsRefused tree fault
       → IsRefusedText bytes (record { fault = rule_fault fault.problem; place = fault.place })
 
 abbrev pub Judged : Type 0

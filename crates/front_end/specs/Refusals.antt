@@ -8,9 +8,9 @@ use Rattle.secrec_lexer.specs.declared.lex_err.LexErr.TheVariants as lexing
 use Rattle.secrec_lexer.specs.Faults.{placed_fault}
 use Rattle.secrec_parser.specs.declared.parse_err.ParseErr.{ParseErr}
 use Rattle.secrec_parser.specs.declared.parse_err.ParseErr.TheVariants as parsing
-use Rattle.domain_types.specs.declared.fault.Fault as types
-use Rattle.domain_types.specs.declared.type_error.TypeError.{TypeError}
-use Rattle.domain_types.specs.declared.type_error.TypeError.TheVariants as typing
+use Rattle.domain_types.specs.declared.fault.TypeFault as types
+use Rattle.domain_types.specs.declared.type_err.TypeErr.{TypeErr}
+use Rattle.domain_types.specs.declared.type_err.TypeErr.TheVariants as typing
 use Rattle.front_end.specs.declared.program_fault.ProgramFault.{ProgramFault}
 use Rattle.front_end.specs.declared.program_err.ProgramErr.{ProgramErr}
 use Rattle.front_end.specs.declared.program_err.ProgramErr.TheVariants.{Memory, Refused}
@@ -30,12 +30,12 @@ parser_error parsing.Memory = Memory
 parser_error (parsing.Refused problem place) = refused (syntax_fault problem) place
 
 -- of the checker of types
-abbrev pub type_fault : types.Fault → ProgramFault
+abbrev pub type_fault : types.TypeFault → ProgramFault
 type_fault f = record { fault = rule_fault f.problem; place = f.place }
 
-abbrev pub type_error : TypeError → ProgramErr
-type_error typing.Memory = Memory
-type_error (typing.Refused fault) = Refused (type_fault fault)
+abbrev pub type_err : TypeErr → ProgramErr
+type_err typing.Memory = Memory
+type_err (typing.Refused fault) = Refused (type_fault fault)
 
 -- the fault whose line a command says
 abbrev pub fault_said : ProgramErr → Fault

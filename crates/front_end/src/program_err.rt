@@ -1,8 +1,8 @@
 ghost use Rattle.std.specs.Prelude.{◌≡◌};
-ghost use Rattle.front_end.specs.Refusals.{refused, lexer_error, parser_error, type_error, fault_said};
+ghost use Rattle.front_end.specs.Refusals.{refused, lexer_error, parser_error, type_err, fault_said};
 
 use crate::program_fault::{ProgramFault, of_grammar};
-use domain_types::TypeError;
+use domain_types::TypeErr;
 use sc_text::{Fault, PlacedFault, Span};
 use secrec_lexer::LexErr;
 use secrec_parser::ParseErr;
@@ -45,13 +45,13 @@ impl From<ParseErr> for ProgramErr {
     }
 }
 
-impl From<TypeError> for ProgramErr {
-    ghost from_gives = { λ error given. given ≡ type_error error };
+impl From<TypeErr> for ProgramErr {
+    ghost from_gives = { λ error given. given ≡ type_err error };
 
-    fn from(error: TypeError) -> Self {
+    fn from(error: TypeErr) -> Self {
         match error {
-            TypeError::Memory => ProgramErr::Memory,
-            TypeError::Refused(fault) => ProgramErr::Refused(fault.into()),
+            TypeErr::Memory => ProgramErr::Memory,
+            TypeErr::Refused(fault) => ProgramErr::Refused(fault.into()),
         }
     }
 }

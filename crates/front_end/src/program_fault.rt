@@ -2,8 +2,8 @@ ghost use Rattle.std.specs.Prelude.{◌≡◌};
 ghost use Rattle.front_end.specs.Judgement.{syntax_fault, rule_fault};
 ghost use Rattle.front_end.specs.Refusals.{type_fault};
 
-use domain_types::Problem as RuleProblem;
-use expression_parser::Problem as SyntaxProblem;
+use domain_types::TypeProblem;
+use expression_parser::ParseProblem;
 use sc_text::{PlacedFault, Span};
 
 /// What is wrong with a program, and where.
@@ -14,10 +14,10 @@ pub struct ProgramFault {
 }
 
 /// The fault of the type rules, by the name that it is printed for.
-impl From<domain_types::Fault> for ProgramFault {
+impl From<domain_types::TypeFault> for ProgramFault {
     ghost from_gives = { λ fault given. given ≡ type_fault fault };
 
-    fn from(fault: domain_types::Fault) -> Self {
+    fn from(fault: domain_types::TypeFault) -> Self {
         ProgramFault {
             fault: of_rules(fault.problem),
             place: fault.place,
@@ -26,34 +26,34 @@ impl From<domain_types::Fault> for ProgramFault {
 }
 
 // What a problem of the grammar is printed for.
-pub(crate) fn of_grammar(problem: SyntaxProblem) -> PlacedFault
+pub(crate) fn of_grammar(problem: ParseProblem) -> PlacedFault
     ensures { result ≡ syntax_fault problem }
 {
     match problem {
-        SyntaxProblem::Unexpected => PlacedFault::Unexpected,
-        SyntaxProblem::TooHigh => PlacedFault::TooDeep,
+        ParseProblem::Unexpected => PlacedFault::Unexpected,
+        ParseProblem::TooHigh => PlacedFault::TooDeep,
     }
 }
 
 // What a problem of the type rules is printed for.
-fn of_rules(problem: RuleProblem) -> PlacedFault
+fn of_rules(problem: TypeProblem) -> PlacedFault
     ensures { result ≡ rule_fault problem }
 {
     match problem {
-        RuleProblem::UnknownName => PlacedFault::UnknownName,
-        RuleProblem::Twice => PlacedFault::Twice,
-        RuleProblem::TypeMismatch => PlacedFault::TypeMismatch,
-        RuleProblem::PrivateCondition => PlacedFault::PrivateCondition,
-        RuleProblem::PrivateIndex => PlacedFault::PrivateIndex,
-        RuleProblem::PrivateSize => PlacedFault::PrivateSize,
-        RuleProblem::PrivateToPublic => PlacedFault::PrivateToPublic,
-        RuleProblem::PrivateDivision => PlacedFault::PrivateDivision,
-        RuleProblem::PrivateAssert => PlacedFault::PrivateAssert,
-        RuleProblem::DomainMix => PlacedFault::DomainMix,
-        RuleProblem::NoMain => PlacedFault::NoMain,
-        RuleProblem::BadImport => PlacedFault::BadImport,
-        RuleProblem::BadArity => PlacedFault::BadArity,
-        RuleProblem::MissingReturn => PlacedFault::MissingReturn,
-        RuleProblem::ArgumentPlace => PlacedFault::ArgumentPlace,
+        TypeProblem::UnknownName => PlacedFault::UnknownName,
+        TypeProblem::Twice => PlacedFault::Twice,
+        TypeProblem::TypeMismatch => PlacedFault::TypeMismatch,
+        TypeProblem::PrivateCondition => PlacedFault::PrivateCondition,
+        TypeProblem::PrivateIndex => PlacedFault::PrivateIndex,
+        TypeProblem::PrivateSize => PlacedFault::PrivateSize,
+        TypeProblem::PrivateToPublic => PlacedFault::PrivateToPublic,
+        TypeProblem::PrivateDivision => PlacedFault::PrivateDivision,
+        TypeProblem::PrivateAssert => PlacedFault::PrivateAssert,
+        TypeProblem::DomainMix => PlacedFault::DomainMix,
+        TypeProblem::NoMain => PlacedFault::NoMain,
+        TypeProblem::BadImport => PlacedFault::BadImport,
+        TypeProblem::BadArity => PlacedFault::BadArity,
+        TypeProblem::MissingReturn => PlacedFault::MissingReturn,
+        TypeProblem::ArgumentPlace => PlacedFault::ArgumentPlace,
     }
 }

@@ -9,7 +9,7 @@ use Rattle.gates.specs.declared.gate.Gate.TheVariants as gates
 use Rattle.gates.specs.Clear.{first_word}
 use Rattle.typed_tree.specs.Shapes.{shape_of}
 use Rattle.language_model.specs.Effects.{World, ◌>>=◌, test, gate}
-use Rattle.language_model.specs.Values.{Secrecy, Plain, Private, Value, size, seen, seen_of, ring_for}
+use Rattle.language_model.specs.Values.{Secrecy, Plain, Private, Value, size, visible_words, seen_of, ring_for}
 use Rattle.language_model.specs.Operations.{charged, largest, not_too_large, number_of, made_private, joined_from, joined, position, element_at}
 use Rattle.language_model.specs.Operations.{element_from, element_of_array}
 use Rattle.language_model.specs.Operations.{with_element_from, with_element, filled_from, filled}
@@ -163,8 +163,8 @@ module _ (w : World) (d : Dealt) where
     with_element_from_suits : (a : Secrecy) (i : ℕ) → i < size v → Suits w d (facts_of v ++ facts_of x) none_of
         (with_element_from a v i x) none_of facts_of IsProper
     with_element_from_suits Plain i inside =
-        shown_suits w d (facts_of v ++ facts_of x) v.shape (set v.words i (first_word (seen x)))
-        (set_below bound_here i (first_word (seen x)) v.words (seen_low x.secrecy) p.range) (set_small i (first_word (seen x)))
+        shown_suits w d (facts_of v ++ facts_of x) v.shape (set v.words i (first_word (visible_words x)))
+        (set_below bound_here i (first_word (visible_words x)) v.words (seen_low x.secrecy) p.range) (set_small i (first_word (visible_words x)))
     with_element_from_suits (Private k) i inside =
         let ring = ring_for v.shape.element in
         let all = facts_of v ++ facts_of x in

@@ -1,6 +1,7 @@
 -- Rows with two operands.
 use Rattle.std.proofs.Common.{◌≡◌, ℕ, ◌<◌, ◌^◌, List, [], ◌∷◌, ◌++◌, length, Bool, true, false, refl, sym, ap, ◌∙◌, subst, arith}
 use Rattle.std.proofs.lemmas.Bool.{eqb-true}
+use Rattle.shared_gates.proofs.Models.{length-each_two}
 use Rattle.sc_text.specs.declared.end.TrapKind.TheVariants as trap
 use Rattle.secrec_ast.specs.declared.expression.DataType.{DataType}
 use Rattle.secrec_ast.specs.declared.expression.DataType.TheVariants.{Uint64}
@@ -16,7 +17,7 @@ use Rattle.typed_tree.specs.declared.operators.Operands.{Operands}
 use Rattle.typed_tree.specs.declared.operators.Operands.TheVariants.{Scalars, ArrayAndScalar, ScalarAndArray, Arrays}
 use Rattle.typed_tree.specs.Operators.{element_made}
 use Rattle.language_model.specs.Effects.{World}
-use Rattle.language_model.specs.Values.{Secrecy, Plain, Private, Value, is_secret, size, seen, ring_for}
+use Rattle.language_model.specs.Values.{Secrecy, Plain, Private, Value, is_secret, size, visible_words, ring_for}
 use Rattle.language_model.specs.Words as W
 use Rattle.language_model.specs.Operations.{words_of_operator, is_scalar_left, is_scalar_right, is_product, result_shape, private_result, product_with}
 use Rattle.language_model.specs.Operations.{combined_from, operator_traps, operated}
@@ -27,7 +28,7 @@ use Rattle.gate_laws.proofs.Effects.{Tell, suits_bind, suits_with, test_suits, d
 use Rattle.gate_laws.proofs.Gains.{fact, gate_suits}
 use Rattle.gate_laws.proofs.Singles.{mulpub_gain}
 use Rattle.gate_laws.proofs.Parts.{tell_same, tell_first, stretched_words, charged_suits, number_as, number_suits, stretched_suits, given_as, shown_suits}
-use Rattle.gate_laws.proofs.Ranges.{two_same, two_lengths, replicate_below, length_replicated, first_below}
+use Rattle.gate_laws.proofs.Ranges.{two_same, replicate_below, length_replicated, first_below}
 use Rattle.gate_laws.proofs.Meanings.{two_ext, two_swapped, and_bits, operator_range, some_bound}
 use Rattle.gate_laws.proofs.Operators.{in_terms, operator_suits}
 
@@ -100,7 +101,7 @@ module _ (op : BinaryOperator) (ds : Operands) (x y : Value) (h : OperandsSuit o
   result_small alike =
       let left = left_size ds h.left_single in
       let right = right_size ds h.right_single alike in
-      subst (λ n. n < 2 ^ 64) (sym (two_lengths (W.meaning op) (W.left_words ds x y) (W.right_words ds x y) (left ∙ sym right) ∙ left)) (size_small ds)
+      subst (λ n. n < 2 ^ 64) (sym (length-each_two (W.meaning op) (W.left_words ds x y) (W.right_words ds x y) (left ∙ sym right) ∙ left)) (size_small ds)
 
   left_one : is_scalar_left ds ≡ true → length x.words ≡ 1
   left_one e = h.left_single (go ds e)
@@ -271,5 +272,5 @@ operated_suits w d line op ds x y h =
     suits_bind w d
     (charged_suits w d fs (operator_traps line op ds x y) (W.result_size ds x y) (W.are_alike ds x y ≡ true)
     (suits_bind w d (test_suits w d fs (W.are_alike ds x y) trap.Length line) (λ _ alike.
-    suits_with w d (test_suits w d fs (W.may_divide op (seen y)) trap.Div line) (λ _ _. tell_same []) (λ _ _. alike)))) (λ _ alike.
+    suits_with w d (test_suits w d fs (W.may_divide op (visible_words y)) trap.Div line) (λ _ _. tell_same []) (λ _ _. alike)))) (λ _ alike.
     combined_suits w d op ds x y h alike x.secrecy y.secrecy h.secrecy)

@@ -14,14 +14,10 @@ use Rattle.shared_gates.specs.Computed.{opened_by_gate, opened_values}
 use Rattle.shared_plans.specs.GateRuns.{GateRun, IsWellFormed, value_count}
 use Rattle.shared_plans.specs.Outcomes.{OpensNone, Follows}
 use Rattle.shared_plans.proofs.KindedPlans.{kind-behind}
-use Rattle.shared_plans.proofs.PlanRuns.{longer-formed, words-then}
+use Rattle.shared_plans.proofs.PlanRuns.{longer-formed, words-then, made-then}
 use Rattle.language_model.specs.Effects.{World, Stage, gate, planned}
 use Rattle.gate_laws.specs.Facts.{handed_by_gate, handed_values, Handed, Fact, Stands, AllStand, Dealt, run_at, IsAt, Comes, Suits}
 use Rattle.gate_laws.proofs.Effects.{Any}
-
-pub made_split : (xs ys : List Gate) → made_by_all (xs ++ ys) ≡ made_by_all xs + made_by_all ys
-made_split [] ys = omega arith
-made_split (g ∷ xs) ys = let h = made_split xs ys in omega arith
 
 pub opened_split : (values : Values) (xs ys : List Gate) → opened_values values (xs ++ ys) ≡ opened_values values xs ++ opened_values values ys
 opened_split values [] ys = refl
@@ -72,7 +68,7 @@ module _ (w : World) (d : Dealt) where
     added_at at follows none owed =
         record {
           formed = longer-formed run gs own taken at.formed follows;
-          made = let e = made_split s.gates gs in omega (arith, at.made);
+          made = let e = made-then s.gates gs in omega (arith, at.made);
           drawn = λ i. let more = words-then run gs own taken at.formed follows i in omega (arith, at.drawn i, owed (miner_of i));
           answers = at.answers;
           handed = λ values fit.

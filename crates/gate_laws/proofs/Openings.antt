@@ -11,6 +11,7 @@ use Rattle.secrec_ast.specs.declared.expression.DataType.TheVariants as datatype
 use Rattle.proto_core.specs.declared.party.Number.{Number}
 use Rattle.proto_core.specs.Lists.{AreWords}
 use Rattle.protocol_model.specs.Gates.{needed}
+use Rattle.protocol_model.proofs.Sizes.{needed-append}
 use Rattle.gates.specs.declared.ring_kind.RingKind.{RingKind}
 use Rattle.gates.specs.declared.gate.Gate.{Gate}
 use Rattle.gates.specs.declared.gate.Gate.TheVariants.{Open}
@@ -22,18 +23,19 @@ use Rattle.shared_gates.specs.Kinds.{AllKinded}
 use Rattle.shared_gates.specs.Model.{run_gates, sizes_made, miner_of}
 use Rattle.shared_gates.specs.Computed.{opened_values}
 use Rattle.shared_gates.proofs.Drawn.{drawn-counted}
+use Rattle.shared_gates.proofs.GatesBehind.{suits-then, gates-then}
 use Rattle.shared_plans.specs.GateRuns.{GateRun, IsWellFormed, dealt_sizes, value_count, value_sizes, then_gates, model_gates, words_drawn}
 use Rattle.shared_plans.proofs.KindedPlans.{shared-grown, kind-behind, kinded-append}
-use Rattle.shared_plans.proofs.GateLists.{suits-then, gates-then, all-kinded-still}
-use Rattle.shared_plans.proofs.RunLists.{needed-then}
+use Rattle.shared_plans.proofs.GateLists.{all-kinded-still}
 use Rattle.shared_plans.proofs.GateRunLaws.{run-needs}
+use Rattle.shared_plans.proofs.PlanRuns.{made-then}
 use Rattle.language_model.specs.Effects.{World, Source, Clear, Answers, Stage, Short, Effect, ◌>>=◌, carry, done, gate, emit, answer, show, words_each}
 use Rattle.language_model.specs.Values.{Secrecy, Plain, Private, Value, plain, size, ring_for, elements_of}
 use Rattle.language_model.specs.Operations.{read_answer, revealed, opened_from, declassified}
 use Rattle.gate_laws.specs.Facts.{handed_values, Handed, and_told, InRange, IsProper, drawn_by, none_of, Fact, Stands, facts_of, Dealt, run_at, IsAt}
 use Rattle.gate_laws.specs.Facts.{Grows, Comes, ComesAt, Suits}
 use Rattle.gate_laws.proofs.Effects.{Tell, suits_bind, suits_owed, draw_suits}
-use Rattle.gate_laws.proofs.Gains.{fact, made_split, opened_split, handed_split}
+use Rattle.gate_laws.proofs.Gains.{fact, opened_split, handed_split}
 use Rattle.gate_laws.proofs.Singles.{stands_inside, stands_size}
 use Rattle.gate_laws.proofs.Parts.{tell_same, tell_first, range_words, plain_charge, number_suits, itself_suits}
 use Rattle.gate_laws.proofs.Operators.{same_each}
@@ -60,7 +62,7 @@ module _ (r : GateRun) (good : IsWellFormed r) (u : ℕ) (ring : RingKind) (us :
       let enough : 0 + made_by_all r.gates ≤ length r.kinds = omega arith in
       let start : value_count r ≡ 0 + made_by_all r.gates = omega arith in
       let both = length-append r.kinds known in
-      let made = made_split r.gates opening in
+      let made = made-then r.gates opening in
       record {
         dealt_held = good.dealt_held;
         dealt_sized = good.dealt_sized;
@@ -80,7 +82,7 @@ module _ (r : GateRun) (good : IsWellFormed r) (u : ℕ) (ring : RingKind) (us :
       let own : words_of_all (value_sizes r ++ new) (miner_of i) opening ≡ length us = omega (arith, size) in
       sym (run-needs (then_gates r opening known) opening_formed i)
       ∙ ap (λ gates. needed gates i) (gates-then r.dealt (dealt_sizes r) [] r.gates opening)
-      ∙ needed-then (model_gates r) plan i
+      ∙ needed-append (model_gates r) plan i
       ∙ ap (λ k. k + needed plan i) (run-needs r good i)
       ∙ ap (λ k. words_drawn r i + k) (drawn-counted r.dealt (dealt_sizes r) (value_sizes r) opening i (inside, tt) ∙ own)
 
@@ -98,7 +100,7 @@ read_length : (e : DataType) (words : List ℕ) → length (read_answer e words)
 read_length Uint64 words = refl
 read_length datatype.Bool words = length-map words (λ x. x % 2)
 
-read_same : (e : DataType) (words : List ℕ) → InRange e words → read_answer e words ≡ words
+pub read_same : (e : DataType) (words : List ℕ) → InRange e words → read_answer e words ≡ words
 read_same Uint64 words h = refl
 read_same datatype.Bool words h = map_itself 2 (λ x. x % 2) words (λ x lt. omega (arith, lt)) h
 
@@ -135,7 +137,7 @@ module _ (w : World) (d : Dealt) (v : Value) (p : IsProper v) (u : ℕ) where
     grown t e = record { gates = Open ring u ∷ []; own = Known ∷ []; more_gates = e; more_kinds = refl }
 
     made_one : s.made + 1 ≡ made_by_all (s.gates ++ Open ring u ∷ [])
-    made_one = let e = made_split s.gates (Open ring u ∷ []) in omega (arith, at.made)
+    made_one = let e = made-then s.gates (Open ring u ∷ []) in omega (arith, at.made)
 
     none_handed : (values : Values) → handed_values values s.gates ≡ handed_values values (s.gates ++ Open ring u ∷ [])
     none_handed values = sym (append-nil (handed_values values s.gates)) ∙ sym (handed_split values s.gates (Open ring u ∷ []))

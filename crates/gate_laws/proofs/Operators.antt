@@ -1,6 +1,7 @@
 -- The gates of operators between private operands.
 use Rattle.std.proofs.Common.{◌≡◌, ℕ, ◌*◌, ◌<◌, ◌^◌, List, [], ◌∷◌, length, map, true, false, refl, sym, ap, ◌∙◌, subst, arith}
 use Rattle.std.specs.Prelude.{nat_eq, nat_lt, replicate}
+use Rattle.shared_gates.proofs.Models.{length-each_two}
 use Rattle.share_ring.specs.Rings.{add_ring, xor_ring}
 use Rattle.gates.specs.declared.ring_kind.RingKind.{RingKind}
 use Rattle.gates.specs.declared.ring_kind.RingKind.TheVariants.{Arithmetic, Boolean}
@@ -32,7 +33,7 @@ use Rattle.gate_laws.proofs.Gains.{fact, gate_suits, planned_suits}
 use Rattle.gate_laws.proofs.Singles.{add_gain, sub_gain, mul_gain, xor_gain, and_gain}
 use Rattle.gate_laws.proofs.Plans.{zero_gain, less_gain}
 use Rattle.gate_laws.proofs.Parts.{tell_first, const_suits}
-use Rattle.gate_laws.proofs.Ranges.{Below, two_same, two_lengths, two_below, replicate_below, length_replicated, below_more, truth_below}
+use Rattle.gate_laws.proofs.Ranges.{Below, two_same, two_below, replicate_below, length_replicated, below_more, truth_below}
 use Rattle.gate_laws.proofs.Meanings.{map_two, two_of_two, two_ext, two_swapped, equal_word, less_word, flipped_truth, at_most_word, flips, xor_bits}
 use Rattle.gate_laws.proofs.Meanings.{and_bits, or_bits}
 use Rattle.gate_laws.proofs.Meanings.{differ_bits, equal_bits, xor_low}
@@ -89,7 +90,7 @@ module _ (w : World) (d : Dealt) where
           (Any {A = ℕ})
       equal_suits =
           let ds = each_two add_ring.sub us vs in
-          let size : length ds ≡ n = two_lengths add_ring.sub us vs same ∙ left in
+          let size : length ds ≡ n = length-each_two add_ring.sub us vs same ∙ left in
           suits_bind w d
           (gate_suits w d fs (drawn_by (words_for_equality n)) (λ m. 0 * length us) (drawn_by (words_for_equality n)) (gates.Sub u v) Arithmetic ds
           (λ m. omega arith) refl
@@ -125,7 +126,7 @@ module _ (w : World) (d : Dealt) where
           suits_bind w d h (λ k _.
           in_terms (map_two flipped f us vs ∙ two_ext (λ x y. flipped (f x y)) g us vs e)
           (flip_suits (fact k Boolean (each_two f us vs) ∷ fs) none_of n k (each_two f us vs) (tell_first (fact k Boolean (each_two f us vs)) fs)
-          (two_lengths f us vs same ∙ left)
+          (length-each_two f us vs same ∙ left)
           (two_below (2 ^ 64) 2 f us vs (omega arith) (λ x y a b. low x y) p q)))
 
       word_suits : (op : WordOperator) → has_gates (Words op) ≡ true
@@ -186,7 +187,8 @@ module _ (w : World) (d : Dealt) where
           (gate_suits w d (fact one Boolean one_words ∷ (fact both Boolean both_words ∷ fs)) none_of (λ m. 0 * length one_words) none_of
           (gates.Xor one both) Boolean
           (each_two xor_ring.add one_words both_words) (λ m. omega arith) refl
-          (λ r good facts. xor_gain r good one both one_words both_words (two_lengths xor_ring.add us vs same ∙ sym (two_lengths xor_ring.mul us vs same))
+          (λ r good facts. xor_gain r good one both one_words both_words
+          (length-each_two xor_ring.add us vs same ∙ sym (length-each_two xor_ring.mul us vs same))
           facts.0 facts.1.0))))
 
       none_each : (m : Miner) → drawn_by (words_each 0) m ≡ none_of m
@@ -205,7 +207,7 @@ module _ (w : World) (d : Dealt) where
           let xs = each_two xor_ring.add us vs in
           suits_bind w d (xor_suits fs (drawn_by (words_each 0)) none_of t none_each) (λ k _.
           in_terms (map_two flipped xor_ring.add us vs ∙ two_same 2 (λ x y. flipped (xor_ring.add x y)) (truth_meaning truth.Equal) us vs equal_bits p q)
-          (flip_suits (fact k Boolean xs ∷ fs) none_of n k xs (tell_first (fact k Boolean xs) fs) (two_lengths xor_ring.add us vs same ∙ left)
+          (flip_suits (fact k Boolean xs ∷ fs) none_of n k xs (tell_first (fact k Boolean xs) fs) (length-each_two xor_ring.add us vs same ∙ left)
           (two_below 2 2 xor_ring.add us vs (omega arith) xor_low p q)))
 
     -- ---- all of them

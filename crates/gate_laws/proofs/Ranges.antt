@@ -53,11 +53,6 @@ map_itself a f [] h p = refl
 map_itself a f (x ∷ xs) h p =
     ap (λ z. z ∷ map f xs) (h x (below_head a x xs p)) ∙ ap (λ z. x ∷ z) (map_itself a f xs h (below_tail a x xs p))
 
-pub two_lengths : (f : ℕ → ℕ → ℕ) (xs ys : List ℕ) → length xs ≡ length ys → length (each_two f xs ys) ≡ length xs
-two_lengths f [] ys h = refl
-two_lengths f (x ∷ xs) [] h = absurd (omega (arith, h))
-two_lengths f (x ∷ xs) (y ∷ ys) h = let e = two_lengths f xs ys (omega (arith, h)) in omega (arith, e)
-
 pub replicate_below : (b n x : ℕ) → x < b → Below b (replicate n x)
 replicate_below b zero x h = below_none b (omega (arith, h))
 replicate_below b (suc n) x h = below_cons b x (replicate n x) h (replicate_below b n x h)

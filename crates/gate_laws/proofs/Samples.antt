@@ -1,6 +1,7 @@
 -- Code for which all that the law asks is there: a private input is doubled, opened and published.
-use Rattle.std.proofs.Common.{◌≡◌, ℕ, zero, suc, ◌+◌, ◌<◌, ◌^◌, List, [], ◌∷◌, length, Option, Some, None, true, false, refl, sym, ap, subst, arith, inl, inr}
+use Rattle.std.proofs.Common.{◌≡◌, ℕ, zero, suc, ◌+◌, ◌<◌, ◌^◌, List, [], ◌∷◌, length, Some, None, true, false, refl, sym, ap, subst, arith, inl, inr}
 use Rattle.std.specs.Prelude.{slice_get}
+use Rattle.std.proofs.lemmas.Option.{none-some, same_Some}
 use Rattle.secrec_ast.specs.declared.expression.DataType.TheVariants.{Uint64}
 use Rattle.share_ring.specs.Rings.{add_ring}
 use Rattle.proto_core.specs.declared.party.Number.{Number}
@@ -25,7 +26,7 @@ use Rattle.gate_laws.specs.Laws.{MayRun, IsDealing, GatesSuit}
 use Rattle.gate_laws.proofs.Ranges.{one_below}
 use Rattle.gate_laws.proofs.Walks.{make_suited_gates}
 
-hidden_number : Kind
+unfoldable pub hidden_number : Kind
 hidden_number = record { secret = true; element = Uint64; array = false }
 
 main_steps : List Step
@@ -40,23 +41,13 @@ code = main_function ∷ []
 -- ---- the code
 
 -- what holds of each step of a list holds of one at a place
-abbrev AllOf : (Step → Type 0) → List Step → Type 0
+abbrev pub AllOf : (Step → Type 0) → List Step → Type 0
 AllOf P [] = Unit {0}
 AllOf P (i ∷ is) = P i × AllOf P is
 
-no_step : {A : Type 0} {a : A} → ◌≡◌ {A = Option A} None (Some a) → ⊥
-no_step e = cc
-
-same_step : {A : Type 0} {a b : A} → ◌≡◌ {A = Option A} (Some a) (Some b) → a ≡ b
-same_step {A = A} {a = a} e = ap or_this e
-  where
-    or_this : Option A → A
-    or_this None = a
-    or_this (Some x) = x
-
-of_place : (P : Step → Type 0) (is : List Step) → AllOf P is → (place : ℕ) (i : Step) → slice_get is place ≡ Some i → P i
-of_place P [] h place i e = absurd (no_step e)
-of_place P (j ∷ is) h zero i e = subst P (same_step e) h.0
+pub of_place : (P : Step → Type 0) (is : List Step) → AllOf P is → (place : ℕ) (i : Step) → slice_get is place ≡ Some i → P i
+of_place P [] h place i e = absurd (none-some _ e)
+of_place P (j ∷ is) h zero i e = subst P (same_Some _ _ e) h.0
 of_place P (j ∷ is) h (suc place) i e = of_place P is h.1 place i e
 
 is_main : (P : Function → Type 0) → P main_function → (f : Function) → IsIn code f → P f
@@ -64,8 +55,8 @@ unfolding code
 is_main P h f x = go x.0 x.1
   where
     go : (g : ℕ) → slice_get (main_function ∷ []) g ≡ Some f → P f
-    go zero e = subst P (same_step e) h
-    go (suc g) e = absurd (no_step e)
+    go zero e = subst P (same_Some _ _ e) h
+    go (suc g) e = absurd (none-some _ e)
 
 main_fits : IsFitting code main_function
 unfolding main_function main_steps hidden_number
@@ -84,11 +75,11 @@ main_fits =
     goes (suc zero) i e h = omega arith
     goes (suc (suc zero)) i e h = omega arith
     goes (suc (suc (suc zero))) i e h = omega arith
-    goes (suc (suc (suc (suc zero)))) i e h = absurd (ends (ap is_return (same_step e)) h)
+    goes (suc (suc (suc (suc zero)))) i e h = absurd (ends (ap is_return (same_Some _ _ e)) h)
       where
         ends : true ≡ is_return i → is_return i ≡ false → ⊥
         ends a b = cc
-    goes (suc (suc (suc (suc (suc place))))) i e h = absurd (no_step e)
+    goes (suc (suc (suc (suc (suc place))))) i e h = absurd (none-some _ e)
 
 main_takes : (place : ℕ) (i : Step) → slice_get main_function.steps place ≡ Some i → StepTakes main_function.kinds i
 unfolding main_function main_steps hidden_number
@@ -100,18 +91,18 @@ main_takes =
 
 -- ---- what is dealt: 5, of which the first miner has all
 
-input : Given
+unfoldable pub input : Given
 input = record { text = 120 ∷ []; secret = true; shape = shape_of Uint64 false; words = 5 ∷ [] }
 
 world : Source → World
 world source = record { dealer = 2; lengths = words_each 2; source = source; inputs = input ∷ [] }
 
-shares : Number → Values
+unfoldable pub shares : Number → Values
 shares One = (5 ∷ []) ∷ []
 shares Two = (0 ∷ []) ∷ []
 shares Three = (0 ∷ []) ∷ []
 
-dealt : Dealt
+unfoldable pub dealt : Dealt
 dealt = record { inputs = (5 ∷ []) ∷ []; kinds = Shared Arithmetic ∷ []; shares = shares }
 
 may_run : (source : Source) → MayRun (world source) dealt code
@@ -153,7 +144,7 @@ first_shared = record { sizes = sizes; words = words; sum = sums }
     sums zero lt = refl
     sums (suc k) lt = absurd (omega (arith, lt))
 
-is_dealing : IsDealing dealt
+pub is_dealing : IsDealing dealt
 unfolding dealt shares
 is_dealing = record { held = held; sized = sized }
   where

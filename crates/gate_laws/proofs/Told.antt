@@ -2,6 +2,7 @@
 use Rattle.std.proofs.Common.{◌≡◌, ℕ, ◌<◌, List, [], ◌∷◌, length, Option, Some, None, Bool, true, false, refl, subst, arith, append-nil, ◌++◌, ap, sym, ◌∙◌}
 use Rattle.std.specs.Prelude.{bytes_eq, if◌then◌else◌}
 use Rattle.std.proofs.lemmas.Bool.{and_parts}
+use Rattle.std.proofs.lemmas.Option.{none-some}
 use Rattle.sc_text.specs.declared.end.Ending.TheVariants as ending
 use Rattle.sc_text.specs.declared.end.TrapKind.TheVariants as trap
 use Rattle.sc_text.specs.declared.event.Event.TheVariants as event
@@ -21,12 +22,12 @@ use Rattle.gates.proofs.Sizes.{FitFrom-append}
 use Rattle.shared_gates.specs.Shares.{Kind, Shared}
 use Rattle.shared_gates.specs.Model.{miner_of}
 use Rattle.shared_gates.specs.Computed.{opened_values}
-use Rattle.shared_plans.proofs.PlanRuns.{longer-formed, words-then}
+use Rattle.shared_plans.proofs.PlanRuns.{longer-formed, words-then, made-then}
 use Rattle.gate_laws.specs.Facts.{bound, IsProper, handed_values, Handed, and_handed, drawn_by, none_of, Fact, facts_of, Dealt, run_at, Suits}
 use Rattle.gate_laws.specs.Offers.{IsOffered, AreOffered}
 use Rattle.gate_laws.proofs.Effects.{Tell, Any, NoFacts, suits_bind, suits_again, suits_with, suits_done, suits_end, charge_suits, test_suits, emit_suits}
 use Rattle.gate_laws.proofs.Effects.{draw_suits}
-use Rattle.gate_laws.proofs.Gains.{fact, gate_from, made_split, opened_split, handed_split}
+use Rattle.gate_laws.proofs.Gains.{fact, gate_from, opened_split, handed_split}
 use Rattle.gate_laws.proofs.Singles.{result_follows, input_gain}
 use Rattle.gate_laws.proofs.Parts.{tell_same, tell_none, tell_first, charged_suits, plain_charge, number_suits, given_suits, shown_suits}
 use Rattle.gate_laws.proofs.Ranges.{one_below}
@@ -66,7 +67,7 @@ module _ (w : World) (d : Dealt) where
                 grown = record { gates = gs; own = own; more_gates = refl; more_kinds = refl };
                 stage = record {
                   formed = longer-formed run gs own taken at.formed follows;
-                  made = let e = made_split s.gates gs in omega (arith, at.made);
+                  made = let e = made-then s.gates gs in omega (arith, at.made);
                   drawn = λ i.
                       let more = words-then run gs own taken at.formed follows i in
                       let owed = same_each (size v) (miner_of i) in
@@ -139,10 +140,7 @@ module _ (w : World) (d : Dealt) where
       (and_parts (same_truth x.0.secret secret) (same_shape x.0.shape shape) declared).0))
 
   offered_there : (k : ℕ) (text : List ℕ) (xs : List Given) (x : Given × ℕ) → AreOffered d k xs → input_from k text xs ≡ Some x → IsOffered d x.0 x.1
-  offered_there k text [] x h e = absurd (none_some x e)
-    where
-      none_some : (x : Given × ℕ) → ◌≡◌ {A = Option (Given × ℕ)} None (Some x) → ⊥
-      none_some x e = cc
+  offered_there k text [] x h e = absurd (none-some x e)
   offered_there k text (y ∷ ys) x h e = go (bytes_eq text y.text) e (offered_there (behind y k) text ys x h.1)
     where
       found : (a b : Given × ℕ) → IsOffered d a.0 a.1 → ◌≡◌ {A = Option (Given × ℕ)} (Some a) (Some b) → IsOffered d b.0 b.1

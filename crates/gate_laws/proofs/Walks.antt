@@ -21,16 +21,6 @@ use Rattle.gate_laws.specs.Machines.{MachineStands, ArrivesAt}
 use Rattle.gate_laws.specs.Laws.{MayRun, IsDealing, StepsKeepStanding, GatesSuit, RunsMakeSuitedGates}
 use Rattle.gate_laws.proofs.Steps.{act, start_stands}
 
-none_some : {A : Type 0} {a : A} → ◌≡◌ {A = Option A} None (Some a) → ⊥
-none_some e = cc
-
-same_some : {A : Type 0} {a b : A} → ◌≡◌ {A = Option A} (Some a) (Some b) → a ≡ b
-same_some {A = A} {a = a} e = ap or_this e
-  where
-    or_this : Option A → A
-    or_this None = a
-    or_this (Some x) = x
-
 pub keep_standing : (w : World) (d : Dealt) (c : List Function) → StepsKeepStanding w d c
 keep_standing w d c may m h kinds s at stands =
     let there = next_there w c may.fitting may.singles m h in

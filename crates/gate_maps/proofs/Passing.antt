@@ -5,15 +5,15 @@ use Rattle.std.proofs.lemmas.List.{take_all, length-take-le}
 use Rattle.proto_core.specs.declared.party.Number.{Number}
 use Rattle.proto_core.specs.declared.party.Number.TheVariants.{One, Two, Three}
 use Rattle.proto_core.specs.Protocol.{Joint, Protocol}
-use Rattle.protocol_model.specs.Gates.{Joined, Local, operand, needed, sizes_of}
+use Rattle.protocol_model.specs.Gates.{Joined, Local, operand, needed}
 use Rattle.protocol_model.specs.Gates as model
-use Rattle.protocol_model.specs.Runs.{Shares, Tapes, drawn, left, joint_of, after, after_local, run_values}
+use Rattle.protocol_model.specs.Runs.{Shares, Tapes, drawn, left, gate_joint, after, after_local, run_values}
 use Rattle.gates.specs.declared.gate.Gate.{Gate}
 use Rattle.gates.specs.Clear.{Values, value}
 use Rattle.gates.specs.Counts.{size_of}
 use Rattle.shared_gates.specs.LocalGates.{local_share, IsLocal}
 use Rattle.shared_gates.specs.Model.{size_made, SizesSuit}
-use Rattle.shared_gates.proofs.Models.{size-value, value_at-value}
+use Rattle.shared_gates.proofs.Models.{size-value, nth_value-value}
 use Rattle.joint_run.specs.declared.exchanged.Exchanged.{Exchanged}
 use Rattle.joint_run.specs.declared.joint_err.JointErr.{JointErr}
 use Rattle.joint_run.specs.declared.joint_err.JointErr.TheVariants.{Memory}
@@ -46,12 +46,12 @@ local-first FromView i size f gates shares rest k = refl
 joined-first :
     (way : Way) (i : Number) (p : Protocol) (n u : ℕ) (v : Option ℕ) (gates : List model.Gate) (shares : Shares) (rest : Tapes) (k : Number) →
     gates_map way i (Joined p n u v ∷ gates) shares rest k
-    ≡ block_map way p n i (joint_of u v shares (drawn p n rest)) k
-    ++ gates_map way i gates (after p n u v shares (real_words way p n i (joint_of u v shares (drawn p n rest)))) (left p n rest) k
+    ≡ block_map way p n i (gate_joint u v shares (drawn p n rest)) k
+    ++ gates_map way i gates (after p n u v shares (real_words way p n i (gate_joint u v shares (drawn p n rest)))) (left p n rest) k
 joined-first ToView i p n u v gates shares rest k = refl
 joined-first FromView i p n u v gates shares rest k = refl
 
-same_for : {A : Type 0} (f g : Number → A) → ((i : Number) → f i ≡ g i) → f ≡ g
+pub same_for : {A : Type 0} (f g : Number → A) → ((i : Number) → f i ≡ g i) → f ≡ g
 same_for f g h = λ d. λ i. h i d
 
 -- ---- what a run of one gate makes
@@ -168,11 +168,11 @@ module _ (map : ViewMap) (dealt : Number → Values) (gate : Gate) (s : Stand) w
 
     second-is : (v : Option ℕ) (i : Number) → second_value (s.shares i) v ≡ operand (s.shares i) v
     second-is None i = refl
-    second-is (Some v) i = sym (value_at-value (s.shares i) v)
+    second-is (Some v) i = sym (nth_value-value (s.shares i) v)
 
-    same : (words : Tapes) → operands_of x s.shares words ≡ joint_of x.u x.v s.shares words
+    same : (words : Tapes) → operands_of x s.shares words ≡ gate_joint x.u x.v s.shares words
     same words =
-        same_joint (operands_of x s.shares words) (joint_of x.u x.v s.shares words) (λ i. sym (value_at-value (s.shares i) x.u))
+        same_joint (operands_of x s.shares words) (gate_joint x.u x.v s.shares words) (λ i. sym (nth_value-value (s.shares i) x.u))
         (λ i. second-is x.v i) (λ i. refl)
 
     pub exchange-needs : (k : Number) → (protocol_of x.exchange).draws n k ≡ needed (gate_on dealt s.shares gate ∷ []) k
@@ -218,7 +218,7 @@ module _ (map : ViewMap) (dealt : Number → Values) (gate : Gate) (s : Stand) w
     exchange-passes words t runs real len made rest =
         record {
           whole = λ gates k.
-              let J : Joint = joint_of x.u x.v s.shares (drawn p n s.rest) in
+              let J : Joint = gate_joint x.u x.v s.shares (drawn p n s.rest) in
               ap (λ (g : model.Gate). s.made k ++ gates_map map.way map.miner (g ∷ gates) s.shares s.rest k) is
               ∙ ap (λ w. s.made k ++ w) (joined-first map.way map.miner p n x.u x.v gates s.shares s.rest k)
               ∙ ap

@@ -1,16 +1,15 @@
 -- A list of gates, gate by gate: the words that were made and those that the rest makes are always the whole.
-use Rattle.std.proofs.Common.{◌≡◌, ℕ, suc, ◌+◌, ◌<◌, ◌≤◌, get_or, List, [], ◌∷◌, ◌++◌, length, drop, refl, sym, ◌∙◌, ap, subst, arith, length-drop}
-use Rattle.std.proofs.Math.Seq.{drop-cons}
+use Rattle.std.proofs.Common.{◌≡◌, ℕ, ◌+◌, ◌≤◌, List, [], ◌∷◌, ◌++◌, length, drop, refl, sym, ◌∙◌, ap, subst, arith, length-drop}
 use Rattle.proto_core.specs.declared.party.Number.{Number}
 use Rattle.proto_core.specs.declared.party.Number.TheVariants.{One}
 use Rattle.protocol_model.specs.Gates.{needed, sizes_of}
 use Rattle.protocol_model.specs.Gates as model
 use Rattle.protocol_model.specs.Runs.{Shares, Tapes}
+use Rattle.protocol_model.proofs.Sizes.{needed-append}
 use Rattle.gates.specs.declared.gate.Gate.{Gate}
 use Rattle.gates.specs.Clear.{Values}
 use Rattle.shared_gates.specs.Model.{AllSizesSuit, sizes_made, run_gates}
 use Rattle.joint_run.specs.JointRuns.{dealt_sizes, IsEven, CanRun}
-use Rattle.joint_run.proofs.InSteps.{both-needed}
 use Rattle.gate_maps.specs.declared.way.Way.{Way}
 use Rattle.gate_maps.specs.declared.way.Way.TheVariants.{ToView, FromView}
 use Rattle.gate_maps.specs.declared.way.ViewMap.{ViewMap}
@@ -35,15 +34,6 @@ pub record Walked (map : ViewMap) (dealt : Number → Values) (gates : List Gate
       whole_with map s (gates_on dealt s.shares later) k
       ≡ run_map map dealt gates tapes k
   pub can : CanRun dealt gates tapes → CanFinish dealt later s
-
-pub next-gate :
-    (gates : List Gate) (place : ℕ) (gate : Gate) → place < length gates → gate ≡ get_or gates place gate →
-    drop place gates ≡ gate ∷ drop (place + 1) gates
-next-gate gates place gate below is =
-    let next : suc place ≡ place + 1 = omega arith in
-    drop-cons gates place gate below
-    ∙ ap (λ (g : Gate). g ∷ drop (suc place) gates) (sym is)
-    ∙ ap (λ n. gate ∷ drop n gates) next
 
 none-first : (way : Way) (i : Number) (shares : Shares) (rest : Tapes) (k : Number) → gates_map way i [] shares rest k ≡ rest k
 none-first ToView i shares rest k = refl
@@ -79,7 +69,7 @@ module _ (map : ViewMap) (dealt : Number → Values) (gates : List Gate) (tapes 
               let both : needed (gates_on dealt s.shares (gate ∷ later)) k
               ≡ needed (gate_on dealt s.shares gate ∷ []) k
               + needed (run_gates dealt (dealt_sizes dealt) (dealt_sizes s.shares ++ sizes_made (dealt_sizes dealt) (dealt_sizes s.shares) gate) later) k =
-              both-needed (gate_on dealt s.shares gate ∷ [])
+              needed-append (gate_on dealt s.shares gate ∷ [])
               (run_gates dealt (dealt_sizes dealt) (dealt_sizes s.shares ++ sizes_made (dealt_sizes dealt) (dealt_sizes s.shares) gate) later) k in
               let all : needed (gates_on dealt s.shares (gate ∷ later)) k ≤ length (s.rest k) = h.reach k in
               omega arith;
@@ -104,7 +94,7 @@ module _ (map : ViewMap) (dealt : Number → Values) (gates : List Gate) (tapes 
                 reach = λ k.
                     let both : needed (gates_on dealt s.shares (gate ∷ later)) k
                     ≡ needed (gate_on dealt s.shares gate ∷ []) k + needed (run_gates dealt ds sizes later) k =
-                    both-needed (gate_on dealt s.shares gate ∷ []) (run_gates dealt ds sizes later) k in
+                    needed-append (gate_on dealt s.shares gate ∷ []) (run_gates dealt ds sizes later) k in
                     let all : needed (gates_on dealt s.shares (gate ∷ later)) k ≤ length (s.rest k) = h.reach k in
                     let less : length (t.rest k) ≡ length (drop (needed (gate_on dealt s.shares gate ∷ []) k) (s.rest k)) =
                     ap length (passes.left k) in

@@ -6,7 +6,6 @@ ghost use Rattle.joint_run.specs.Three.{each_of, joint};
 ghost use Rattle.joint_run.specs.Exchanges.{protocol_of, IsSized};
 ghost use Rattle.gate_maps.specs.Maps.{block_map};
 
-use crate::cut::cut;
 use crate::made::MadeTapes;
 use crate::row::view_row;
 use crate::way::ViewMap;
@@ -53,7 +52,7 @@ pub fn map_gate(
     let mut rest = operands;
     while rest.len() > 0 {
         let m = rest.len().min(BLOCK_LEN as usize);
-        let (block, behind) = cut(rest, exchange, m);
+        let (block, behind) = rest.split(exchange, m);
         push_block(map, exchange, &block, &mut made)?;
         rest = behind;
     }

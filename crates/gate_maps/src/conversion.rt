@@ -5,11 +5,12 @@ ghost use Rattle.joint_run.specs.Three.{joint};
 ghost use Rattle.joint_run.specs.Exchanges.{IsSized};
 ghost use Rattle.gate_maps.specs.Maps.{block_map};
 
-use crate::bits::{flipped_bits, masked_bits, xored_bits};
+use crate::bits::flipped_bits;
 use crate::own::{AllThree, own};
 use crate::way::{ViewMap, Way};
 use joint_run::Operands;
 use proto_core::{Block, Msg, Number};
+use share_convert::{masked_bits, xored_bits};
 use share_ring::{AddRing, XorRing};
 
 /// Four fields, one after another.

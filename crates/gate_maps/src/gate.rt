@@ -3,9 +3,8 @@ ghost use Rattle.std.specs.Prelude.{◌≡◌, ◌≤◌, [], ◌++◌, length, 
 ghost use Rattle.proto_core.specs.declared.party.Number.{Number as NumberValue};
 ghost use Rattle.gates.specs.Clear.{value};
 ghost use Rattle.blocked_protocol.specs.Blocked.{blocked};
-ghost use Rattle.joint_run.specs.Three.{of_three, each_of, joint, values_of};
+ghost use Rattle.joint_run.specs.Three.{each_of, values_of};
 ghost use Rattle.joint_run.specs.Exchanges.{protocol_of};
-ghost use Rattle.joint_run.specs.Steps.{second_value};
 ghost use Rattle.joint_run.specs.JointRuns.{IsEven};
 ghost use Rattle.joint_run.specs.GateByGate.{RefusesGate};
 ghost use Rattle.joint_run.specs.declared.joint_err.JointErr.TheVariants.{Memory};
@@ -16,9 +15,9 @@ use crate::blockwise::map_gate;
 use crate::made::MadeTapes;
 use crate::taking::take_words;
 use crate::way::{ViewMap, Way};
-use gates::{Gate, Values};
+use gates::Gate;
 use joint_run::{
-    Exchanged, JointErr, JointRun, Operands, Own, SharedValues, Tapes, Transcript, as_exchanged,
+    Exchanged, JointErr, JointRun, SharedValues, Tapes, Transcript, as_exchanged, operands,
     run_gate, suits,
 };
 use std::alloc::Global;
@@ -35,47 +34,6 @@ pub struct Placed<'g> {
 pub struct Passing<'a> {
     pub rest: Tapes<'a>,
     pub made: MadeTapes,
-}
-
-/// The words of the second operand, none where there is no such operand.
-fn second_value(values: &Values, number: Option<u64>) -> &[u64]
-    ensures { result.now ≡ second_value values.now number }
-{
-    match number {
-        Some(number) => values.value(number),
-        None => &[],
-    }
-}
-
-/// The operands of a gate in the miners' shares, with these words.
-fn operands<'s>(
-    gate: Exchanged,
-    shares: &'s SharedValues,
-    first: &'s [u64],
-    second: &'s [u64],
-    third: &'s [u64],
-) -> Operands<'s>
-    ensures u { (i : NumberValue) → (joint result).u i ≡ value (values_of shares.now i) gate.u }
-    ensures v { (i : NumberValue) → (joint result).v i ≡ second_value (values_of shares.now i) gate.v }
-    ensures words { (i : NumberValue) → (joint result).words i ≡ of_three first.now second.now third.now i }
-{
-    Operands {
-        first: Own {
-            u: shares.first.value(gate.u),
-            v: second_value(&shares.first, gate.v),
-            words: first,
-        },
-        second: Own {
-            u: shares.second.value(gate.u),
-            v: second_value(&shares.second, gate.v),
-            words: second,
-        },
-        third: Own {
-            u: shares.third.value(gate.u),
-            v: second_value(&shares.third, gate.v),
-            words: third,
-        },
-    }
 }
 
 /// A gate's words off the tapes, and what they are mapped to, which is put behind what was made before.

@@ -7,7 +7,6 @@
 mod bits;
 mod blockwise;
 mod conversion;
-mod cut;
 mod gate;
 mod made;
 mod own;

@@ -1,7 +1,8 @@
 // The words that a map makes.
 ghost use Rattle.std.specs.Prelude.{◌≡◌, [], ◌++◌, OnOk};
 ghost use Rattle.proto_core.specs.declared.party.Number.{Number as NumberValue};
-ghost use Rattle.joint_run.specs.Three.{of_three, each_of};
+ghost use Rattle.proto_core.specs.Parties.{of_three};
+ghost use Rattle.joint_run.specs.Three.{each_of};
 
 use joint_run::Tapes;
 use std::alloc::{AllocError, Global};

@@ -9,7 +9,7 @@ use Rattle.proto_core.specs.Protocol.{Protocol}
 use Rattle.proto_core.specs.Strand.{Strand, Ends, then_do}
 use Rattle.proto_core.proofs.MessageFields.{take-front}
 use Rattle.protocol_model.specs.Gates as model
-use Rattle.protocol_model.specs.Gates.{Joined, Local, value_at, operand, sizes_of, needed, gates_strand}
+use Rattle.protocol_model.specs.Gates.{Joined, Local, nth_value, operand, sizes_of, needed, gates_strand}
 use Rattle.gates.specs.Blocks.{block_sizes}
 use Rattle.gates.specs.declared.gate.Gate.{Gate}
 use Rattle.gates.specs.declared.gate.Gate.TheVariants.{Mul, And, Split, Conv, Open, Result}
@@ -18,7 +18,7 @@ use Rattle.gates.specs.Clear.{Values, value}
 use Rattle.blocked_protocol.specs.Blocked.{joined, emptied, no_elements, blocks_strand, Blockable}
 use Rattle.shared_gates.specs.LocalGates.{local_share, IsLocal}
 use Rattle.shared_gates.specs.Model.{SizesSuit}
-use Rattle.shared_gates.proofs.Models.{value_at-value, size-value}
+use Rattle.shared_gates.proofs.Models.{nth_value-value, size-value}
 use Rattle.joint_run.specs.declared.exchange.Exchange.{Exchange}
 use Rattle.joint_run.specs.declared.exchange.Exchange.TheVariants.{Product, Splitting, Conversion, Opening, Resharing}
 use Rattle.joint_run.specs.declared.exchanged.Exchanged.{Exchanged}
@@ -142,7 +142,7 @@ joined-start e n xs h = joined-emptied ((protocol_of e).made 0) xs (made-count e
 
 operand-is : (values : Values) (v : Option ℕ) → operand values v ≡ second_value values v
 operand-is values None = refl
-operand-is values (Some v) = value_at-value values v
+operand-is values (Some v) = nth_value-value values v
 
 module _ (i : Number) (dealt values : Values) (tape : List ℕ) (gate : Gate) (gates : List Gate) where
   abbrev goes : Bool → Strand Halted
@@ -189,10 +189,10 @@ module _ (i : Number) (dealt values : Values) (tape : List ℕ) (gate : Gate) (g
         let all : length u ≡ length u - 0 = omega arith in
         ap goes can
         ∙ ap by_gate (exchanged-gate (λ k. dealt) (sizes_of dealt) (sizes_of values) gate x is)
-        ∙ then-assoc (blocks_strand p (block_sizes n) i (value_at values x.u) (operand values x.v) (take (p.draws n i) tape)) (λ made. Ends (values ++ made))
+        ∙ then-assoc (blocks_strand p (block_sizes n) i (nth_value values x.u) (operand values x.v) (take (p.draws n i) tape)) (λ made. Ends (values ++ made))
         (λ all. own_gates i dealt gates all (drop (p.draws n i + 0) tape))
-        ∙ ap (λ m. blocks n (value_at values x.u) (operand values x.v) m) (nothing-more (p.draws n i))
-        ∙ ap (λ w. blocks n w (operand values x.v) (p.draws n i)) (value_at-value values x.u)
+        ∙ ap (λ m. blocks n (nth_value values x.u) (operand values x.v) m) (nothing-more (p.draws n i))
+        ∙ ap (λ w. blocks n w (operand values x.v) (p.draws n i)) (nth_value-value values x.u)
         ∙ ap (λ w. blocks n u w (p.draws n i)) (operand-is values x.v)
         ∙ ap (λ m. blocks m u v (p.draws m i)) size
         ∙ then-same (HaveSizes (p.made (length u))) (blocks_strand p (block_sizes (length u)) i u v (take (p.draws (length u) i) tape)) _ _

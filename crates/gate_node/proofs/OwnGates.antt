@@ -6,7 +6,7 @@ use Rattle.std.proofs.lemmas.List.{drop-drop}
 use Rattle.proto_core.specs.declared.party.Number.{Number}
 use Rattle.proto_core.specs.Strand.{Strand, Ends, then_do}
 use Rattle.protocol_model.specs.Gates as model
-use Rattle.protocol_model.specs.Gates.{Joined, Local, value_at, operand, sizes_of, needed, gates_strand}
+use Rattle.protocol_model.specs.Gates.{Joined, Local, nth_value, operand, sizes_of, needed, gates_strand}
 use Rattle.protocol_model.proofs.Sizes.{sizes-append}
 use Rattle.gates.specs.Blocks.{block_sizes}
 use Rattle.gates.specs.declared.ring_kind.RingKind.TheVariants.{Arithmetic, Boolean}
@@ -38,9 +38,9 @@ gates-apart :
     (i : Number) (g : model.Gate) (gates : List model.Gate) (values : Values) (tape : List ℕ) →
     gates_strand i (g ∷ gates) values tape ≡ then_do (gates_strand i (g ∷ []) values tape) (λ all. gates_strand i gates all (drop (needed (g ∷ []) i) tape))
 gates-apart i (Joined p n u v) gates values tape =
-    ap (λ k. then_do (p.strand n i (value_at values u) (operand values v) (take (p.draws n i) tape)) (λ made. gates_strand i gates (values ++ made) (drop k tape)))
+    ap (λ k. then_do (p.strand n i (nth_value values u) (operand values v) (take (p.draws n i) tape)) (λ made. gates_strand i gates (values ++ made) (drop k tape)))
     (sym (nothing-more (p.draws n i)))
-    ∙ sym (then-assoc (p.strand n i (value_at values u) (operand values v) (take (p.draws n i) tape)) (λ made. Ends (values ++ made))
+    ∙ sym (then-assoc (p.strand n i (nth_value values u) (operand values v) (take (p.draws n i) tape)) (λ made. Ends (values ++ made))
     (λ all. gates_strand i gates all (drop (needed (Joined p n u v ∷ []) i) tape)))
 gates-apart i (Local n f) gates values tape = refl
 
@@ -53,7 +53,7 @@ module _ (i : Number) (dealt values : Values) (tape : List ℕ) where
   joined-makes : (e : Exchange) (n u : ℕ) (v : Option ℕ) → MakesSizes ((protocol_of e).made n) (Joined (blocked (protocol_of e)) n u v)
   joined-makes e n u v =
       always-then (HaveSizes ((protocol_of e).made n)) (HaveSizes (sizes_of values ++ (protocol_of e).made n))
-      (blocks_strand (protocol_of e) (block_sizes n) i (value_at values u) (operand values v) (take ((blocked (protocol_of e)).draws n i) tape))
+      (blocks_strand (protocol_of e) (block_sizes n) i (nth_value values u) (operand values v) (take ((blocked (protocol_of e)).draws n i) tape))
       (λ made. Ends (values ++ made)) (gate-sized e n i _ _ _)
       (λ made same. sizes-append values made ∙ ap (λ s. sizes_of values ++ s) same)
 

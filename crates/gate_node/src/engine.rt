@@ -53,6 +53,16 @@ fn second_value(values: &Values, number: Option<u64>) -> &[u64]
 }
 
 impl<P: Party> Engine<P> {
+    /// Whether no gate is at work. It is looked at first, since what a gate has at work is large, and moved as often as it is gone on with.
+    fn is_idle(&self) -> bool
+        ensures { result ≡ true → self.now.work ≡ Work.Idle }
+    {
+        match &self.work {
+            Work::Idle => true,
+            Work::Between(_) | Work::Within(..) | Work::Halt => false,
+        }
+    }
+
     /// The next block of the gate at work begins; behind the last, the gate's shares become values.
     fn next_block(&mut self, running: Running) -> Result<(), AllocError>
         requires idle { self.old.work ≡ Work.Idle }
@@ -192,10 +202,12 @@ impl<P: Party> Engine<P> {
         ensures kept { OnOk result (Keeps self.old self.new) }
     {
         loop {
-            let stand = self.finish()?;
-            match stand {
-                Stand::Through => {}
-                Stand::Waits(_) | Stand::Stuck => return Ok(stand),
+            if !self.is_idle() {
+                let stand = self.finish()?;
+                match stand {
+                    Stand::Through => {}
+                    Stand::Waits(_) | Stand::Stuck => return Ok(stand),
+                }
             }
             if !self.begin_gate()? {
                 return Ok(Stand::Through);

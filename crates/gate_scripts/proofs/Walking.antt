@@ -1,6 +1,5 @@
 -- A list of gates, gate by gate: the moves so far and those of the gates that are left are always the whole.
-use Rattle.std.proofs.Common.{◌≡◌, ℕ, suc, ◌+◌, ◌<◌, get_or, List, [], ◌∷◌, ◌++◌, Option, length, drop, sym, ◌∙◌, ap, subst, arith, append_assoc, append-nil}
-use Rattle.std.proofs.Math.Seq.{drop-cons}
+use Rattle.std.proofs.Common.{◌≡◌, ℕ, ◌+◌, List, [], ◌∷◌, ◌++◌, Option, length, sym, ◌∙◌, ap, subst, append_assoc, append-nil}
 use Rattle.std.specs.List.{repeat}
 use Rattle.proto_core.specs.declared.party.Number.{Number}
 use Rattle.protocol_model.specs.Gates.{gates_script}
@@ -23,15 +22,6 @@ pub record Walked (dealt : List ℕ) (gates later : List Gate) (kept : List (Opt
   pub are : AreKept sizes kept
   pub fit : SizesFit dealt sizes later
   pub whole : (shares : Number → Values) (i : Number) → moves i ++ run_links shares dealt sizes later i ≡ run_links shares dealt [] gates i
-
-pub next-gate :
-    (gates : List Gate) (place : ℕ) (gate : Gate) → place < length gates → gate ≡ get_or gates place gate →
-    drop place gates ≡ gate ∷ drop (place + 1) gates
-next-gate gates place gate below is =
-    let next : suc place ≡ place + 1 = omega arith in
-    drop-cons gates place gate below
-    ∙ ap (λ (g : Gate). g ∷ drop (suc place) gates) (sym is)
-    ∙ ap (λ n. gate ∷ drop n gates) next
 
 module _ (dealt : List ℕ) (gates : List Gate) where
   -- no gate yet

@@ -12,7 +12,8 @@ sum-last_block (suc rest) = omega arith
 
 -- the blocks hold all elements
 pub sum-block_sizes : (n : ℕ) → sum (block_sizes n) ≡ n
-sum-block_sizes n = sum_by-append (λ x. x) (replicate (n / 512) 512) (last_block (n % 512)) ∙ ap (λ k. k + sum (last_block (n % 512))) (sum_by-replicate (λ x. x) (n / 512) 512) ∙ ap (λ k. n / 512 * 512 + k) (sum-last_block (n % 512)) ∙ omega arith
+sum-block_sizes n = sum_by-append (λ x. x) (replicate (n / 512) 512) (last_block (n % 512))
+    ∙ ap (λ k. k + sum (last_block (n % 512))) (sum_by-replicate (λ x. x) (n / 512) 512) ∙ ap (λ k. n / 512 * 512 + k) (sum-last_block (n % 512)) ∙ omega arith
 
 length-last_block : (rest k : ℕ) → (rest ≡ 0 → k ≡ 0) → (0 < rest → k ≡ 1) → k ≡ length (last_block rest)
 length-last_block zero k none one = none refl

@@ -121,7 +121,8 @@ module _ (c : ℕ → ℕ) (none : c 0 ≡ 0) (bound : (k : ℕ) → c k < 2) wh
   up_propagated : (s p j q : ℕ) → j < 64 → bit_at (shifted_up s p) j ≡ q → bit_at (up_propagate s p) j ≡ min (bit_at p j) q
   up_propagated s p j q lt e = bit_at-anded p (shifted_up s p) j lt ∙ ap (min (bit_at p j)) e
 
-  low_block : (s g p j : ℕ) → j < 64 → j < s → SpansUp c s g p → c (j + 1) ≡ carried (bit_at (up_generate s g p) j) (bit_at (up_propagate s p) j) (c (j + 1 - 2 * s))
+  low_block : (s g p j : ℕ) → j < 64 → j < s → SpansUp c s g p
+      → c (j + 1) ≡ carried (bit_at (up_generate s g p) j) (bit_at (up_propagate s p) j) (c (j + 1 - 2 * s))
   low_block s g p j lt low spans =
       let start : j + 1 - s ≡ 0 = omega arith in
       let start_2 : j + 1 - 2 * s ≡ 0 = omega arith in
@@ -131,22 +132,26 @@ module _ (c : ℕ → ℕ) (none : c 0 ≡ 0) (bound : (k : ℕ) → c k < 2) wh
       let p_is : bit_at (up_propagate s p) j ≡ min (bit_at p j) 0 = up_propagated s p j 0 lt (bit_at-shifted_in s p j lt low) in
       let old = spans j lt in
       let g_bit = bit_at-lt g j in
-      final (c (j + 1)) (bit_at g j) (bit_at p j) (c (j + 1 - s)) (bit_at (up_generate s g p) j) (bit_at (up_propagate s p) j) (c (j + 1 - 2 * s)) old comes_in g_is p_is comes_in_2 g_bit
+      final (c (j + 1)) (bit_at g j) (bit_at p j) (c (j + 1 - s)) (bit_at (up_generate s g p) j) (bit_at (up_propagate s p) j)
+      (c (j + 1 - 2 * s)) old comes_in g_is p_is comes_in_2 g_bit
     where
       final : (out a b i a2 b2 i2 : ℕ) → out ≡ carried a b i → i ≡ 0 → a2 ≡ carried a b 0 → b2 ≡ min b 0 → i2 ≡ 0 → a < 2 → out ≡ carried a2 b2 i2
       final out a b i a2 b2 i2 e1 e2 e3 e4 e5 h = omega arith
 
-  high_block : (s g p j : ℕ) → j < 64 → s ≤ j → SpansUp c s g p → c (j + 1) ≡ carried (bit_at (up_generate s g p) j) (bit_at (up_propagate s p) j) (c (j + 1 - 2 * s))
+  high_block : (s g p j : ℕ) → j < 64 → s ≤ j → SpansUp c s g p
+      → c (j + 1) ≡ carried (bit_at (up_generate s g p) j) (bit_at (up_propagate s p) j) (c (j + 1 - 2 * s))
   high_block s g p j lt high spans =
       let k = j - s in
       let below : j - s < 64 = omega arith in
-      let g_is : bit_at (up_generate s g p) j ≡ carried (bit_at g j) (bit_at p j) (bit_at g (j - s)) = up_generated s g p j _ lt (bit_at-shifted_up s g j lt high) in
+      let g_is : bit_at (up_generate s g p) j ≡ carried (bit_at g j) (bit_at p j) (bit_at g (j - s)) =
+      up_generated s g p j _ lt (bit_at-shifted_up s g j lt high) in
       let p_is : bit_at (up_propagate s p) j ≡ min (bit_at p j) (bit_at p (j - s)) = up_propagated s p j _ lt (bit_at-shifted_up s p j lt high) in
       let at_low : c (j + 1 - s) ≡ c (j - s + 1) = ap c (omega arith) in
       let at_start : c (j - s + 1 - s) ≡ c (j + 1 - 2 * s) = ap c (omega arith) in
       spans j lt
       ∙ ap (carried (bit_at g j) (bit_at p j)) (at_low ∙ spans (j - s) below ∙ ap (carried (bit_at g (j - s)) (bit_at p (j - s))) at_start)
-      ∙ carried_twice (bit_at g j) (bit_at p j) (bit_at g (j - s)) (bit_at p (j - s)) (c (j + 1 - 2 * s)) (bit_at-lt g j) (bit_at-lt p j) (bit_at-lt g (j - s)) (bit_at-lt p (j - s)) (bound (j + 1 - 2 * s))
+      ∙ carried_twice (bit_at g j) (bit_at p j) (bit_at g (j - s)) (bit_at p (j - s)) (c (j + 1 - 2 * s)) (bit_at-lt g j) (bit_at-lt p j)
+      (bit_at-lt g (j - s)) (bit_at-lt p (j - s)) (bound (j + 1 - 2 * s))
       ∙ ap (λ n. carried n (min (bit_at p j) (bit_at p (j - s))) (c (j + 1 - 2 * s))) (sym g_is)
       ∙ ap (λ n. carried (bit_at (up_generate s g p) j) n (c (j + 1 - 2 * s))) (sym p_is)
 
@@ -193,7 +198,8 @@ down_step c bound s g p pos spans j le =
     let middle : c (s + j) ≡ c (j + s) = ap c (omega arith) in
     last ∙ spans (s + j) upper
     ∙ ap (carried (bit_at g (s + j)) (bit_at p (s + j))) (middle ∙ spans j lower)
-    ∙ carried_twice (bit_at g (s + j)) (bit_at p (s + j)) (bit_at g j) (bit_at p j) (c j) (bit_at-lt g (s + j)) (bit_at-lt p (s + j)) (bit_at-lt g j) (bit_at-lt p j) (bound j)
+    ∙ carried_twice (bit_at g (s + j)) (bit_at p (s + j)) (bit_at g j) (bit_at p j) (c j) (bit_at-lt g (s + j)) (bit_at-lt p (s + j)) (bit_at-lt g j)
+    (bit_at-lt p j) (bound j)
     ∙ ap (λ n. carried n (min (bit_at p (s + j)) (bit_at p j)) (c j)) (sym (down_generated s g p j lt))
     ∙ ap (λ n. carried (bit_at (down_generate s g p) j) n (c j)) (sym (down_propagated s p j lt))
 
@@ -227,7 +233,8 @@ carry_in x y g j lt is =
 -- the bits of two words, each with the carry into it, are those of their sum
 pub sum_by_carries : (x y g p : ℕ) → SpansUp (carry x y) 64 g p → xor_ring.add (xor_ring.add x y) (shifted_up 1 g) ≡ add_ring.add x y
 sum_by_carries x y g p spans =
-    same_from_bits_below 64 (xor_ring.add (xor_ring.add x y) (shifted_up 1 g)) (add_ring.add x y) (mod_below (bit_xor (xor_ring.add x y) (shifted_up 1 g)) (2 ^ 64) (pow_pos 64)) (mod_below (x + y) (2 ^ 64) (pow_pos 64))
+    same_from_bits_below 64 (xor_ring.add (xor_ring.add x y) (shifted_up 1 g)) (add_ring.add x y)
+    (mod_below (bit_xor (xor_ring.add x y) (shifted_up 1 g)) (2 ^ 64) (pow_pos 64)) (mod_below (x + y) (2 ^ 64) (pow_pos 64))
     (λ j lt.
     bit_at-xored (xor_ring.add x y) (shifted_up 1 g) j lt
     ∙ ap (λ n. (n + bit_at (shifted_up 1 g) j) % 2) (bit_at-xored x y j lt)

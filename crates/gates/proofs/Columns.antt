@@ -1,5 +1,6 @@
 -- Values of n words, word by word: what gates make of them.
-use Rattle.std.proofs.Common.{◌≡◌, ℕ, ◌+◌, ◌<◌, Bool, true, false, Some, List, [], ◌++◌, length, map, take, drop, get_or, refl, sym, ◌∙◌, ap, arith, length-drop, length-append}
+use Rattle.std.proofs.Common.{◌≡◌, ℕ, ◌+◌, ◌<◌, Bool, true, false, Some, List, [], ◌++◌, length, map, take, drop, get_or, refl, sym, ◌∙◌, ap, arith}
+use Rattle.std.proofs.Common.{length-drop, length-append}
 use Rattle.std.specs.Prelude.{slice_get}
 use Rattle.std.specs.List.{zip}
 use Rattle.std.proofs.lemmas.List.{get_or-map, length-map, get_or-take, get_or-drop, length-take-le, get_or_append_left, get_or-append-add, ext_get_or}
@@ -80,7 +81,8 @@ TwoColumns-append {n = n} {xs = xs} {ys = ys} c d =
       second = λ k lt. ap (λ m. word (xs ++ ys) (m + k)) (sym c.size) ∙ get_or-append-add xs ys k 0 ∙ d.words k lt;
     }
 
-pub TwoColumns-each_two : {n : ℕ} {f g u v : ℕ → ℕ} {xs ys : List ℕ} (h : ℕ → ℕ → ℕ) → TwoColumns n f g xs → TwoColumns n u v ys → TwoColumns n (λ k. h (f k) (u k)) (λ k. h (g k) (v k)) (each_two h xs ys)
+pub TwoColumns-each_two : {n : ℕ} {f g u v : ℕ → ℕ} {xs ys : List ℕ} (h : ℕ → ℕ → ℕ) → TwoColumns n f g xs → TwoColumns n u v ys
+    → TwoColumns n (λ k. h (f k) (u k)) (λ k. h (g k) (v k)) (each_two h xs ys)
 TwoColumns-each_two {n = n} {f = f} {g = g} {u = u} {v = v} {xs = xs} {ys = ys} h c d =
     let whole = Column-each_two h (Column-of (n + n) xs c.size) (Column-of (n + n) ys d.size) in
     record {
@@ -102,7 +104,8 @@ second_part {n = n} {xs = xs} c =
 
 -- ---- what is split
 
-pub Column-split : {n : ℕ} {f : ℕ → ℕ} {us xs ys : List ℕ} (negated : Bool) → IsSplit negated us xs ys → Column n f us → Column n (word xs) xs × Column n (word ys) ys
+pub Column-split : {n : ℕ} {f : ℕ → ℕ} {us xs ys : List ℕ} (negated : Bool) → IsSplit negated us xs ys → Column n f us
+    → Column n (word xs) xs × Column n (word ys) ys
 Column-split {n = n} {us = us} {xs = xs} {ys = ys} false split c =
     let long : length xs ≡ n = sizes add_ring.add split.join split.same_size c.size in
     (Column-of n xs long, Column-of n ys (sym split.same_size ∙ long))

@@ -1,14 +1,17 @@
 -- Values behind those that fit change nothing, and evaluation gives values that fit.
-use Rattle.std.proofs.Common.{◌≡◌, ℕ, zero, suc, ◌+◌, ◌-◌, ◌%◌, ◌^◌, ◌<◌, ◌≤◌, Bool, true, false, Some, List, [], ◌∷◌, ◌++◌, length, refl, sym, ◌∙◌, ap, subst, arith, append_assoc, length-append}
+use Rattle.std.proofs.Common.{◌≡◌, ℕ, zero, suc, ◌+◌, ◌-◌, ◌%◌, ◌^◌, ◌<◌, ◌≤◌, Bool, true, false, Some, List, [], ◌∷◌, ◌++◌, length, refl, sym, ◌∙◌}
+use Rattle.std.proofs.Common.{ap, subst, inl, inr, arith, append_assoc, length-append}
 use Rattle.std.specs.Prelude.{slice_get}
-use Rattle.std.proofs.lemmas.List.{get_or_append_left, length-replicate, get_or-replicate, append-nil}
-use Rattle.std.proofs.lemmas.List.Elements.{All-from_get_or}
+use Rattle.std.proofs.lemmas.List.{get_or_append_left, get_or_past, length-replicate, get_or-replicate, append-nil}
+use Rattle.std.proofs.lemmas.Bool.{cases_lt}
 use Rattle.std.proofs.lemmas.Nat.{mod_below, pow_pos}
 use Rattle.share_ring.specs.Rings.{add_ring}
 use Rattle.gates.specs.declared.gate.Gate.{Gate}
-use Rattle.gates.specs.declared.gate.Gate.TheVariants.{Input, Const, Add, Sub, MulPub, Mul, Xor, And, Not, Shl, Shr, Low, Cat, Part, Put, Rep, Spread, Sum, Split, Conv, Open, Result}
+use Rattle.gates.specs.declared.gate.Gate.TheVariants.{Input, Const, Add, Sub, MulPub, Mul, Xor, And, Not, Shl, Shr, Low, Cat, Part, Put, Rep, Spread}
+use Rattle.gates.specs.declared.gate.Gate.TheVariants.{Sum, Split, Conv, Open, Result}
 use Rattle.gates.specs.Counts.{made_by, made_by_all}
-use Rattle.gates.specs.Clear.{Values, value, clear_value, each_two, AreWords, IsSplit, AreOperands, Suits, Makes, FitFrom, Fit}
+use Rattle.share_ring.specs.Words.{AreWords}
+use Rattle.gates.specs.Clear.{Values, value, clear_value, each_two, IsSplit, AreOperands, Suits, Makes, FitFrom, Fit}
 use Rattle.gates.specs.Evaluated.{unmasked, masks_for, made, evaluated, SplitsWords, AllSuit}
 use Rattle.gates.proofs.Columns.{word, Column, stands, Column-of, Column-ext, Column-each_two, same_columns}
 
@@ -44,7 +47,8 @@ module _ (values more : Values) where
         same_size = ap length (still u (omega (arith, s.first))) ∙ s.same_size ∙ sym (ap length (still v (omega (arith, s.second))));
       }
 
-  two-grown : (f : ℕ → ℕ → ℕ) (next u v : ℕ) → next ≤ length values → AreOperands values next u v → each_two f (value (values ++ more) u) (value (values ++ more) v) ≡ each_two f (value values u) (value values v)
+  two-grown : (f : ℕ → ℕ → ℕ) (next u v : ℕ) → next ≤ length values → AreOperands values next u v
+      → each_two f (value (values ++ more) u) (value (values ++ more) v) ≡ each_two f (value values u) (value values v)
   two-grown f next u v le s =
       ap (λ xs. each_two f xs (value (values ++ more) v)) (still u (omega (arith, s.first)))
       ∙ ap (λ ys. each_two f (value values u) ys) (still v (omega (arith, s.second)))
@@ -63,7 +67,8 @@ module _ (values more : Values) where
   Suits-grown inputs next (And u v) le s = operands-grown next u v le s
   Suits-grown inputs next (Cat u v) le s = s
   Suits-grown inputs next (Part u from count) le s = (s.0, subst (λ n. from + count ≤ n) (sym (one-grown length next u le s.0)) s.1)
-  Suits-grown inputs next (Put u index v) le s = (s.0, s.1, subst (λ n. index < n) (sym (one-grown length next u le s.0)) s.2, one-grown length next v le s.1 ∙ s.3)
+  Suits-grown inputs next (Put u index v) le s =
+      (s.0, s.1, subst (λ n. index < n) (sym (one-grown length next u le s.0)) s.2, one-grown length next v le s.1 ∙ s.3)
   Suits-grown inputs next (Rep u count) le s = (s.0, one-grown length next u le s.0 ∙ s.1)
   Suits-grown inputs next (Not u) le s = s
   Suits-grown inputs next (Shl u count) le s = s
@@ -76,7 +81,8 @@ module _ (values more : Values) where
   Suits-grown inputs next (Open ring u) le s = s
   Suits-grown inputs next (Result ring u) le s = s
 
-  pub clear_value-grown : (inputs : Values) (next : ℕ) (gate : Gate) → next ≤ length values → Suits inputs values next gate → clear_value inputs (values ++ more) gate ≡ clear_value inputs values gate
+  pub clear_value-grown : (inputs : Values) (next : ℕ) (gate : Gate) → next ≤ length values → Suits inputs values next gate
+      → clear_value inputs (values ++ more) gate ≡ clear_value inputs values gate
   clear_value-grown inputs next (Input k) le s = refl
   clear_value-grown inputs next (Const list) le s = refl
   clear_value-grown inputs next (Add u v) le s = two-grown _ next u v le s
@@ -85,7 +91,8 @@ module _ (values more : Values) where
   clear_value-grown inputs next (Mul u v) le s = two-grown _ next u v le s
   clear_value-grown inputs next (Xor u v) le s = two-grown _ next u v le s
   clear_value-grown inputs next (And u v) le s = two-grown _ next u v le s
-  clear_value-grown inputs next (Cat u v) le s = ap (λ xs. xs ++ value (values ++ more) v) (still u (omega (arith, s.0))) ∙ ap (λ ys. value values u ++ ys) (still v (omega (arith, s.1)))
+  clear_value-grown inputs next (Cat u v) le s = ap (λ xs. xs ++ value (values ++ more) v) (still u (omega (arith, s.0)))
+      ∙ ap (λ ys. value values u ++ ys) (still v (omega (arith, s.1)))
   clear_value-grown inputs next (Part u from count) le s = one-grown (λ xs. clear_value inputs (xs ∷ []) (Part 0 from count)) next u le s.0
   clear_value-grown inputs next (Put u index v) le s =
       ap (λ xs. clear_value inputs (xs ∷ value (values ++ more) v ∷ []) (Put 0 index 1)) (still u (omega (arith, s.0)))
@@ -112,7 +119,8 @@ module _ (values more : Values) where
   IsSplit-same negated {us} {us'} {xs} {xs'} {ys} {ys'} e1 e2 e3 split =
       subst (λ l. IsSplit negated us' xs' l) e3 (subst (λ l. IsSplit negated us' l ys) e2 (subst (λ l. IsSplit negated l xs ys) e1 split))
 
-  pub Makes-grown : (inputs : Values) (next : ℕ) (gate : Gate) → next ≤ length values → Suits inputs values next gate → Makes inputs values next gate → Makes inputs (values ++ more) next gate
+  pub Makes-grown : (inputs : Values) (next : ℕ) (gate : Gate) → next ≤ length values → Suits inputs values next gate → Makes inputs values next gate
+      → Makes inputs (values ++ more) next gate
   Makes-grown inputs next (Split u negated) le s h = (
     stays_there next h.0,
     stays_there (next + 1) h.1,
@@ -122,7 +130,8 @@ module _ (values more : Values) where
   Makes-grown inputs next gate le s h = slice_get-append values more next _ h ∙ ap Some (sym (clear_value-grown inputs next gate le s))
 
   -- values that fit go on to fit where more stand behind them
-  pub FitFrom-grown : (inputs : Values) (next : ℕ) (gates : List Gate) → next + made_by_all gates ≤ length values → FitFrom inputs values next gates → FitFrom inputs (values ++ more) next gates
+  pub FitFrom-grown : (inputs : Values) (next : ℕ) (gates : List Gate) → next + made_by_all gates ≤ length values → FitFrom inputs values next gates
+      → FitFrom inputs (values ++ more) next gates
   FitFrom-grown inputs next [] le fit = tt
   FitFrom-grown inputs next (gate ∷ gates) le fit =
       let here : next ≤ length values = omega arith in
@@ -141,9 +150,11 @@ masks-column : (m : ℕ) (us : List ℕ) → Column (length us) (λ _. m) (masks
 masks-column m us = record { size = length-replicate (length us) m; words = λ k lt. get_or-replicate (length us) k m 0 lt }
 
 words-of : (n : ℕ) (f : ℕ → ℕ) (xs : List ℕ) → Column n f xs → ((k : ℕ) → f k < 2 ^ 64) → AreWords xs
-words-of n f xs c small =
-    All-from_get_or (λ x. x < 2 ^ 64) xs 0
-    (λ i lt. let within : i < n = omega (arith, c.size) in subst (λ x. x < 2 ^ 64) (sym (c.words i within)) (small i))
+words-of n f xs c small k =
+    elim (cases_lt k n) as (λ d. word xs k < 2 ^ 64) [
+      | inl below ↦ subst (λ x. x < 2 ^ 64) (sym (c.words k below)) (small k)
+      | inr past ↦ subst (λ x. x < 2 ^ 64) (sym (get_or_past xs k 0 (omega (arith, c.size)))) (pow_pos 64)
+    ]
 
 -- a Split by masks is a Split
 pub is_split : (negated : Bool) (m : ℕ) (us : List ℕ) → m < 2 ^ 64 → AreWords us → IsSplit negated us (unmasked negated us (masks_for m us)) (masks_for m us)
@@ -158,7 +169,7 @@ is_split false m us hm words =
       other_words = words-of n _ _ masks (λ k. hm);
       join =
           same_columns n (word us) (each_two add_ring.add (each_two add_ring.sub us (masks_for m us)) (masks_for m us)) us
-          (Column-ext (λ k lt. back_masked (word us k) m (words k 0 lt) hm) (Column-each_two add_ring.add rest masks)) column;
+          (Column-ext (λ k lt. back_masked (word us k) m (words k) hm) (Column-each_two add_ring.add rest masks)) column;
     }
 is_split true m us hm words =
     let n = length us in
@@ -171,14 +182,15 @@ is_split true m us hm words =
       other_words = words-of n _ _ masks (λ k. hm);
       join =
           same_columns n (word us) (each_two add_ring.sub (each_two add_ring.add us (masks_for m us)) (masks_for m us)) us
-          (Column-ext (λ k lt. back_negated (word us k) m (words k 0 lt) hm) (Column-each_two add_ring.sub rest masks)) column;
+          (Column-ext (λ k lt. back_negated (word us k) m (words k) hm) (Column-each_two add_ring.sub rest masks)) column;
     }
 
 at_number : (values : Values) (m : ℕ) {xs : List ℕ} → slice_get values m ≡ Some xs → slice_get values m ≡ Some (value values m)
 at_number values m e = e ∙ ap Some (sym (stands values m e))
 
 -- the values that a gate makes are right where they come to stand
-pub Makes-made : (mask : ℕ) → mask < 2 ^ 64 → (inputs values : Values) (gate : Gate) → Suits inputs values (length values) gate → SplitsWords values gate → Makes inputs (values ++ made mask inputs values gate) (length values) gate
+pub Makes-made : (mask : ℕ) → mask < 2 ^ 64 → (inputs values : Values) (gate : Gate) → Suits inputs values (length values) gate
+    → SplitsWords values gate → Makes inputs (values ++ made mask inputs values gate) (length values) gate
 Makes-made mask small inputs values (Split u negated) s words =
     let us = value values u in
     let ys = masks_for mask us in
@@ -188,12 +200,15 @@ Makes-made mask small inputs values (Split u negated) s words =
     let grown = values ++ xs ∷ ys ∷ [] in (
       at_number grown (length values) first,
       at_number grown (length values + 1) second,
-      IsSplit-same values (xs ∷ ys ∷ []) negated (sym (still values (xs ∷ ys ∷ []) u s)) (sym (stands grown (length values) first)) (sym (stands grown (length values + 1) second)) (is_split negated mask us small words),
+      IsSplit-same values (xs ∷ ys ∷ []) negated (sym (still values (xs ∷ ys ∷ []) u s)) (sym (stands grown (length values) first))
+          (sym (stands grown (length values + 1) second)) (is_split negated mask us small words),
     )
 Makes-made mask small inputs values (Low u) s words =
-    slice_get-at values (clear_value inputs values (Low u)) [] ∙ ap Some (sym (clear_value-grown values (clear_value inputs values (Low u) ∷ []) inputs (length values) (Low u) (omega arith) s))
+    slice_get-at values (clear_value inputs values (Low u)) []
+    ∙ ap Some (sym (clear_value-grown values (clear_value inputs values (Low u) ∷ []) inputs (length values) (Low u) (omega arith) s))
 Makes-made mask small inputs values gate s words =
-    slice_get-at values (clear_value inputs values gate) [] ∙ ap Some (sym (clear_value-grown values (clear_value inputs values gate ∷ []) inputs (length values) gate (omega arith) s))
+    slice_get-at values (clear_value inputs values gate) []
+    ∙ ap Some (sym (clear_value-grown values (clear_value inputs values gate ∷ []) inputs (length values) gate (omega arith) s))
 
 length-made : (mask : ℕ) (inputs values : Values) (gate : Gate) → length (made mask inputs values gate) ≡ made_by gate
 length-made mask inputs values (Split u negated) = refl
@@ -209,7 +224,8 @@ evaluated-grows mask inputs values (gate ∷ gates) =
     (made mask inputs values gate ++ rest.0, rest.1 ∙ append_assoc values (made mask inputs values gate) rest.0)
 
 -- where each gate suits the values before it, evaluation gives values that fit
-pub evaluated_fits : (mask : ℕ) → mask < 2 ^ 64 → (inputs values : Values) (gates : List Gate) → AllSuit mask inputs values gates → FitFrom inputs (evaluated mask inputs values gates) (length values) gates
+pub evaluated_fits : (mask : ℕ) → mask < 2 ^ 64 → (inputs values : Values) (gates : List Gate) → AllSuit mask inputs values gates
+    → FitFrom inputs (evaluated mask inputs values gates) (length values) gates
 evaluated_fits mask small inputs values [] suit = tt
 evaluated_fits mask small inputs values (gate ∷ gates) suit =
     let new = made mask inputs values gate in
@@ -220,10 +236,12 @@ evaluated_fits mask small inputs values (gate ∷ gates) suit =
     let within : length values ≤ length (values ++ new) = omega (arith, length-append values new) in
     let suits_all = Suits-grown (values ++ new) rest.0 inputs (length values) gate within suits_new in
     let makes_all = Makes-grown (values ++ new) rest.0 inputs (length values) gate within suits_new makes_new in
-    let count : length (values ++ new) ≡ length values + made_by gate = length-append values new ∙ ap (λ n. length values + n) (length-made mask inputs values gate) in (
+    let count : length (values ++ new) ≡ length values + made_by gate =
+    length-append values new ∙ ap (λ n. length values + n) (length-made mask inputs values gate) in (
       subst (λ all. Suits inputs all (length values) gate) (sym rest.1) suits_all,
       subst (λ all. Makes inputs all (length values) gate) (sym rest.1) makes_all,
-      subst (λ next. FitFrom inputs (evaluated mask inputs (values ++ new) gates) next gates) count (evaluated_fits mask small inputs (values ++ new) gates suit.2),
+      subst (λ next. FitFrom inputs (evaluated mask inputs (values ++ new) gates) next gates) count
+          (evaluated_fits mask small inputs (values ++ new) gates suit.2),
     )
 
 length-evaluated : (mask : ℕ) (inputs values : Values) (gates : List Gate) → length (evaluated mask inputs values gates) ≡ length values + made_by_all gates
@@ -232,6 +250,7 @@ length-evaluated mask inputs values (gate ∷ gates) =
     let new = made mask inputs values gate in
     omega (arith, length-evaluated mask inputs (values ++ new) gates, length-append values new, length-made mask inputs values gate)
 
-pub evaluated_run_fits : (mask : ℕ) → mask < 2 ^ 64 → (inputs : Values) (gates : List Gate) → AllSuit mask inputs [] gates → Fit inputs gates (evaluated mask inputs [] gates)
+pub evaluated_run_fits : (mask : ℕ) → mask < 2 ^ 64 → (inputs : Values) (gates : List Gate) → AllSuit mask inputs [] gates
+    → Fit inputs gates (evaluated mask inputs [] gates)
 evaluated_run_fits mask small inputs gates suit =
     record { fit = evaluated_fits mask small inputs [] gates suit; count = length-evaluated mask inputs [] gates ∙ omega arith }

@@ -25,14 +25,17 @@ bit_at-same x y j lt = bit_at-not (xor_ring.add x y) j (xored_word x y) lt ∙ a
 pub down_start : (a b : ℕ) → a < 2 ^ 64 → SpansDown (carry (bit_not w64 a) b) 1 (xor_ring.mul b (bit_not w64 a)) (bit_not w64 (xor_ring.add a b))
 down_start a b h j le =
     let lt : j < 64 = omega arith in
-    final (bit_at a j) (bit_at b j) (bit_at (bit_not w64 a) j) (bit_at (xor_ring.mul b (bit_not w64 a)) j) (bit_at (bit_not w64 (xor_ring.add a b)) j) (carry (bit_not w64 a) b j) (carry (bit_not w64 a) b (j + 1))
+    final (bit_at a j) (bit_at b j) (bit_at (bit_not w64 a) j) (bit_at (xor_ring.mul b (bit_not w64 a)) j) (bit_at (bit_not w64 (xor_ring.add a b)) j)
+    (carry (bit_not w64 a) b j) (carry (bit_not w64 a) b (j + 1))
     (bit_at-lt a j) (bit_at-lt b j) (bit_at-not a j h lt) (bit_at-anded b (bit_not w64 a) j lt) (bit_at-same a b j lt) (carry_more (bit_not w64 a) b j)
   where
-    final : (a b n g p c out : ℕ) → a < 2 → b < 2 → n ≡ 1 - a → g ≡ min b n → p ≡ 1 - (a + b) % 2 → out ≡ carried (min n b) ((n + b) % 2) c → out ≡ carried g p c
+    final : (a b n g p c out : ℕ) → a < 2 → b < 2 → n ≡ 1 - a → g ≡ min b n → p ≡ 1 - (a + b) % 2 → out ≡ carried (min n b) ((n + b) % 2) c
+        → out ≡ carried g p c
     final a b n g p c out ha hb e1 e2 e3 e4 = omega arith
 
 less_is : (a b t : ℕ) → (a < b → t ≡ 1) → (b ≤ a → t ≡ 0) → t ≡ less_test a b
-less_is a b t yes_ no_ = elim (cases_lt a b) as (λ _. t ≡ less_test a b) [ inl lt ↦ grind (arith, nat_tests, yes_ lt) | inr ge ↦ grind (arith, nat_tests, no_ ge) ]
+less_is a b t yes_ no_ = elim (cases_lt a b) as
+    (λ _. t ≡ less_test a b) [ inl lt ↦ grind (arith, nat_tests, yes_ lt) | inr ge ↦ grind (arith, nat_tests, no_ ge) ]
 
 last_carry : (a b : ℕ) → a < 2 ^ 64 → b < 2 ^ 64 → carry (bit_not w64 a) b 64 ≡ less_test a b
 last_carry a b ha hb =
@@ -71,7 +74,9 @@ AllOnes-from_folded s p le ones j lt =
       | inl low ↦ (both_ones (bit_at p j) (bit_at p (s + j)) (bit_at-lt p j) (bit_at-lt p (s + j)) (sym (bit_at-folded s p j (omega arith)) ∙ ones j low)).0
       | inr high ↦ let below : j - s < s = omega arith in
           let within : j - s < 64 = omega arith in
-          ap (bit_at p) (omega arith) ∙ (both_ones (bit_at p (j - s)) (bit_at p (s + (j - s))) (bit_at-lt p (j - s)) (bit_at-lt p (s + (j - s))) (sym (bit_at-folded s p (j - s) within) ∙ ones (j - s) below)).1
+          ap (bit_at p) (omega arith) ∙
+          (both_ones (bit_at p (j - s)) (bit_at p (s + (j - s))) (bit_at-lt p (j - s)) (bit_at-lt p (s + (j - s)))
+          (sym (bit_at-folded s p (j - s) within) ∙ ones (j - s) below)).1
     ]
 
 same_word : (x y : ℕ) → x < 2 ^ 64 → y < 2 ^ 64 → AllOnes (bit_not w64 (xor_ring.add x y)) 64 → x ≡ y
@@ -95,7 +100,8 @@ zero_test_is (suc d) t yes_ no_ = no_ (omega arith) ∙ nonzero d
     nonzero d = grind (arith, nat_tests)
 
 -- where the bits of p all are 1 exactly where the two words have the same bits, bit 0 tells whether their difference is 0
-pub equal_by_ones : (x y p : ℕ) → x < 2 ^ 64 → y < 2 ^ 64 → (AllOnes p 1 → AllOnes (bit_not w64 (xor_ring.add x y)) 64) → (AllOnes (bit_not w64 (xor_ring.add x y)) 64 → AllOnes p 1) → p % 2 ≡ zero_test (add_ring.sub x y)
+pub equal_by_ones : (x y p : ℕ) → x < 2 ^ 64 → y < 2 ^ 64 → (AllOnes p 1 → AllOnes (bit_not w64 (xor_ring.add x y)) 64)
+    → (AllOnes (bit_not w64 (xor_ring.add x y)) 64 → AllOnes p 1) → p % 2 ≡ zero_test (add_ring.sub x y)
 equal_by_ones x y p hx hy down up =
     zero_test_is (add_ring.sub x y) (p % 2)
     (λ e. let same : x ≡ y = omega arith in

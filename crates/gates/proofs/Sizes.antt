@@ -10,12 +10,14 @@ size_of-value [] u = refl
 size_of-value (xs ∷ values) zero = refl
 size_of-value (xs ∷ values) (suc u) = size_of-value values u
 
-pub words_of_all-append : (sizes : List ℕ) (miner : Miner) (xs ys : List Gate) → words_of_all sizes miner (xs ++ ys) ≡ words_of_all sizes miner xs + words_of_all sizes miner ys
+pub words_of_all-append : (sizes : List ℕ) (miner : Miner) (xs ys : List Gate)
+    → words_of_all sizes miner (xs ++ ys) ≡ words_of_all sizes miner xs + words_of_all sizes miner ys
 words_of_all-append sizes miner [] ys = omega arith
 words_of_all-append sizes miner (gate ∷ xs) ys = ap (λ n. words_of sizes miner gate + n) (words_of_all-append sizes miner xs ys) ∙ omega arith
 
 -- what fits two rows of gates fits each
-pub FitFrom-append : (inputs values : Values) (next : ℕ) (xs ys : List Gate) → FitFrom inputs values next (xs ++ ys) → FitFrom inputs values next xs × FitFrom inputs values (next + made_by_all xs) ys
+pub FitFrom-append : (inputs values : Values) (next : ℕ) (xs ys : List Gate) → FitFrom inputs values next (xs ++ ys)
+    → FitFrom inputs values next xs × FitFrom inputs values (next + made_by_all xs) ys
 FitFrom-append inputs values next [] ys fit = (tt, rw add-zero fit)
 FitFrom-append inputs values next (gate ∷ xs) ys fit =
     let rest = FitFrom-append inputs values (next + made_by gate) xs ys fit.2 in

@@ -1,5 +1,6 @@
 -- Steps of the loops that evaluate gates.
-use Rattle.std.proofs.Common.{◌≡◌, ℕ, zero, suc, ◌+◌, ◌-◌, ◌*◌, ◌/◌, ◌%◌, ◌^◌, ◌<◌, ◌≤◌, List, [], ◌∷◌, ◌++◌, length, map, take, drop, set, get_or, refl, sym, ◌∙◌, ap, arith, append_assoc, length-drop}
+use Rattle.std.proofs.Common.{◌≡◌, ℕ, zero, suc, ◌+◌, ◌-◌, ◌*◌, ◌/◌, ◌%◌, ◌^◌, ◌<◌, ◌≤◌, List, [], ◌∷◌, ◌++◌, length, map, take, drop, set, get_or}
+use Rattle.std.proofs.Common.{refl, sym, ◌∙◌, ap, arith, append_assoc, length-drop}
 use Rattle.std.specs.Prelude.{min}
 use Rattle.std.specs.List.{zip, flat_map, range_with_len}
 use Rattle.std.specs.Int.{bit_at}
@@ -20,7 +21,8 @@ word-each_two f (x ∷ xs) (y ∷ ys) (suc i) h k = word-each_two f xs ys i (ome
 word-each_two f [] ys i h k = absurd (omega arith)
 word-each_two f (x ∷ xs) [] i h k = absurd (omega arith)
 
-pub take_each_two_more : (f : ℕ → ℕ → ℕ) (xs ys : List ℕ) (i : ℕ) → i < length xs → i < length ys → take (i + 1) (each_two f xs ys) ≡ take i (each_two f xs ys) ++ f (get_or xs i 0) (get_or ys i 0) ∷ []
+pub take_each_two_more : (f : ℕ → ℕ → ℕ) (xs ys : List ℕ) (i : ℕ) → i < length xs → i < length ys
+    → take (i + 1) (each_two f xs ys) ≡ take i (each_two f xs ys) ++ f (get_or xs i 0) (get_or ys i 0) ∷ []
 take_each_two_more f xs ys i h k =
     let within : i < length (each_two f xs ys) = omega (arith, length-each_two f xs ys) in
     take_more (each_two f xs ys) i 0 within ∙ ap (λ w. take i (each_two f xs ys) ++ w ∷ []) (word-each_two f xs ys i h k)
@@ -35,7 +37,8 @@ pub ruleset each_two_steps = (take_each_two_more, take_each_two_all)
 pub shifted_out_up : (x count : ℕ) → 64 ≤ count → 0 ≡ x * 2 ^ count % 2 ^ 64
 shifted_out_up x count le =
     let split : count ≡ count - 64 + 64 = omega arith in
-    sym (ap (λ n. x * 2 ^ n % 2 ^ 64) split ∙ ap (λ n. x * n % 2 ^ 64) (pow-add 2 (count - 64) 64) ∙ ap (λ n. n % 2 ^ 64) (regroup x (2 ^ (count - 64)) (2 ^ 64)) ∙ add-mul-mod_self_right 0 (x * 2 ^ (count - 64)) (2 ^ 64))
+    sym (ap (λ n. x * 2 ^ n % 2 ^ 64) split ∙ ap (λ n. x * n % 2 ^ 64) (pow-add 2 (count - 64) 64)
+    ∙ ap (λ n. n % 2 ^ 64) (regroup x (2 ^ (count - 64)) (2 ^ 64)) ∙ add-mul-mod_self_right 0 (x * 2 ^ (count - 64)) (2 ^ 64))
   where
     regroup : (a b c : ℕ) → a * (b * c) ≡ 0 + a * b * c
     regroup a b c = grind arith

@@ -1,15 +1,18 @@
 -- What gates mean on clear values: which values fit a list of gates.
 --
 -- A value is a list of words; the values of a run are a list, each at its number.
-use Rattle.std.specs.Prelude.{◌≡◌, ℕ, ◌+◌, ◌*◌, ◌/◌, ◌^◌, ◌%◌, ◌<◌, ◌≤◌, List, [], ◌∷◌, ◌++◌, Bool, true, false, Some, All, length, map, take, drop, set, sum, replicate, slice_get, get_or}
+use Rattle.std.specs.Prelude.{◌≡◌, ℕ, ◌+◌, ◌*◌, ◌/◌, ◌^◌, ◌%◌, ◌<◌, ◌≤◌, List, [], ◌∷◌, ◌++◌, Bool, true, false, Some, length, map, take, drop, set}
+use Rattle.std.specs.Prelude.{sum, replicate, slice_get, get_or}
 use Rattle.std.specs.List.{zip, flat_map, range_with_len}
 use Rattle.std.specs.Int.{w64, bit_at, bit_not}
 use Rattle.share_ring.specs.Ring.{Ring}
 use Rattle.share_ring.specs.Rings.{add_ring, xor_ring}
+use Rattle.share_ring.specs.Words.{AreWords}
 use Rattle.gates.specs.declared.ring_kind.RingKind.{RingKind}
 use Rattle.gates.specs.declared.ring_kind.RingKind.TheVariants.{Arithmetic, Boolean}
 use Rattle.gates.specs.declared.gate.Gate.{Gate}
-use Rattle.gates.specs.declared.gate.Gate.TheVariants.{Input, Const, Add, Sub, MulPub, Mul, Xor, And, Not, Shl, Shr, Low, Cat, Part, Put, Rep, Spread, Sum, Split, Conv, Open, Result}
+use Rattle.gates.specs.declared.gate.Gate.TheVariants.{Input, Const, Add, Sub, MulPub, Mul, Xor, And, Not, Shl, Shr, Low, Cat, Part, Put, Rep, Spread}
+use Rattle.gates.specs.declared.gate.Gate.TheVariants.{Sum, Split, Conv, Open, Result}
 use Rattle.gates.specs.Counts.{made_by, made_by_all}
 
 abbrev pub Values : Type 0
@@ -22,9 +25,6 @@ value values u = get_or values u []
 abbrev pub ring_of : RingKind → Ring
 ring_of Arithmetic = add_ring
 ring_of Boolean = xor_ring
-
-abbrev pub AreWords : List ℕ → Type 0
-AreWords xs = All (λ x. x < 2 ^ 64) xs
 
 -- f of the two words at each index
 abbrev pub each_two : (ℕ → ℕ → ℕ) → List ℕ → List ℕ → List ℕ
@@ -63,15 +63,15 @@ clear_value inputs values (Open ring u) = value values u
 clear_value inputs values (Result ring u) = value values u
 
 -- two values that a Split may make of a third: they add up to it, or, negated, their difference is it
-abbrev pub joined : Bool → List ℕ → List ℕ → List ℕ
-joined false xs ys = each_two add_ring.add xs ys
-joined true xs ys = each_two add_ring.sub xs ys
+abbrev pub rejoined : Bool → List ℕ → List ℕ → List ℕ
+rejoined false xs ys = each_two add_ring.add xs ys
+rejoined true xs ys = each_two add_ring.sub xs ys
 
 pub record IsSplit (negated : Bool) (us xs ys : List ℕ) : Type 0 where
   pub same_size : length xs ≡ length ys
   pub words : AreWords xs
   pub other_words : AreWords ys
-  pub join : joined negated xs ys ≡ us
+  pub join : rejoined negated xs ys ≡ us
 
 -- operands stand before the gate, whose own number is next, and two of them have equally many words where it takes them together
 abbrev pub IsOperand : ℕ → ℕ → Type 0

@@ -1,9 +1,10 @@
 -- Evaluation: the values of a list of gates, made one after another.
 use Rattle.std.specs.Prelude.{ℕ, List, [], ◌∷◌, ◌++◌, Bool, true, false, length, replicate}
 use Rattle.share_ring.specs.Rings.{add_ring}
+use Rattle.share_ring.specs.Words.{AreWords}
 use Rattle.gates.specs.declared.gate.Gate.{Gate}
 use Rattle.gates.specs.declared.gate.Gate.TheVariants.{Split}
-use Rattle.gates.specs.Clear.{Values, value, clear_value, each_two, AreWords, Suits}
+use Rattle.gates.specs.Clear.{Values, value, clear_value, each_two, Suits}
 
 -- the first of two values that a Split may make where the second are these masks
 abbrev pub unmasked : Bool → List ℕ → List ℕ → List ℕ

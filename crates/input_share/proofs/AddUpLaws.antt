@@ -36,7 +36,7 @@ module _ {r : Ring} (laws : RingLaws r) where
       ap (λ n. n ∷ sums_of r d1s d2s (left_of r xs d1s d2s)) (masks_and_left x d1 d2 (words 0 x (omega arith)))
       ∙ ap (λ l. x ∷ l) (sums_of-left_of xs d1s d2s (omega arith) (omega arith) (λ k d h. words (suc k) d (omega arith)))
 
-ring_laws : (t : DataType) → RingLaws (ring_of t)
+pub ring_laws : (t : DataType) → RingLaws (ring_of t)
 ring_laws data_type.Uint64 = add_ring_laws
 ring_laws data_type.Bool = xor_ring_laws
 
@@ -64,6 +64,7 @@ add_up [] words fit enough = refl
 add_up (e ∷ es) words fit enough =
     let need : need_of (e ∷ es) ≡ draws_of e + need_of es = sum_by-cons draws_of e es in
     let rest : length (drop (draws_of e) words) ≡ length words - draws_of e = length-drop (draws_of e) words in
-    ap (λ l. l ∷ all_together (dealt_entries One es (drop (draws_of e) words)) (dealt_entries Two es (drop (draws_of e) words)) (dealt_entries Three es (drop (draws_of e) words)))
+    ap (λ l. l ∷ all_together (dealt_entries One es (drop (draws_of e) words)) (dealt_entries Two es (drop (draws_of e) words))
+    (dealt_entries Three es (drop (draws_of e) words)))
     (together-part_of e.domain e.value words (omega arith) (fit 0 e (omega arith)))
     ∙ ap (λ l. elements_of e.value ∷ l) (add_up es (drop (draws_of e) words) (λ k d h. fit (suc k) d (omega arith)) (omega arith))

@@ -37,9 +37,10 @@ length-share_of : (miner : Number) (r : Ring) (xs words : List ℕ) → 2 * leng
 length-share_of One r xs words enough = length-first_masks (length xs) words enough
 length-share_of Two r xs words enough = length-second_masks (length xs) words enough
 length-share_of Three r xs words enough =
-    length-left_of r xs (first_masks (length xs) words) (second_masks (length xs) words) (length-first_masks (length xs) words enough) (length-second_masks (length xs) words enough)
+    length-left_of r xs (first_masks (length xs) words) (second_masks (length xs) words) (length-first_masks (length xs) words enough)
+    (length-second_masks (length xs) words enough)
 
-size_of-shape_of : (v : Value) → size_of (shape_of v) ≡ count_of v
+pub size_of-shape_of : (v : Value) → size_of (shape_of v) ≡ count_of v
 size_of-shape_of (value.Number n) = refl
 size_of-shape_of (value.Truth b) = refl
 size_of-shape_of (value.Numbers ns) = refl
@@ -63,8 +64,10 @@ dealt-form miner before [] dealt words same good = tt
 dealt-form miner before (e ∷ es) dealt words same good =
     let mine = dealt_entry miner e words in
     let names : map name_of (before ++ e ∷ []) ≡ map share_name_of (dealt ++ mine ∷ []) =
-    map-append name_of before (e ∷ []) ∙ ap (λ (ns : List (List ℕ)). ns ++ e.name ∷ []) same ∙ sym (map-append share_name_of dealt (mine ∷ [])) in
-    (rw (← same, part_count-part_of miner e.domain e.value words) good.0, dealt-form miner (before ++ e ∷ []) es (dealt ++ mine ∷ []) (drop (draws_of e) words) names good.1)
+    map-append name_of before (e ∷ []) ∙ ap (λ (ns : List (List ℕ)). ns ++ e.name ∷ []) same ∙ sym (map-append share_name_of dealt (mine ∷ [])) in (
+      rw (← same, part_count-part_of miner e.domain e.value words) good.0,
+      dealt-form miner (before ++ e ∷ []) es (dealt ++ mine ∷ []) (drop (draws_of e) words) names good.1,
+    )
 
 dealt-whole : (miner : Number) (es : List Entry) (words : List ℕ) → need_of es ≤ length words → All IsWhole (dealt_entries miner es words)
 dealt-whole miner [] words enough = λ k d h. absurd (omega arith)
@@ -75,7 +78,8 @@ dealt-whole miner (e ∷ es) words enough =
     (part_of-whole miner e.domain e.value words (omega arith)) (dealt-whole miner es (drop (draws_of e) words) (omega arith))
 
 -- what is dealt of good inputs
-pub dealt-writable : (miner : Number) (inputs : List Entry) (words : List ℕ) → AreInputs inputs → need_of inputs ≤ length words → AreWritable (dealt_entries miner inputs words)
+pub dealt-writable : (miner : Number) (inputs : List Entry) (words : List ℕ) → AreInputs inputs → need_of inputs ≤ length words
+    → AreWritable (dealt_entries miner inputs words)
 dealt-writable miner inputs words good enough = record {
   form = dealt-form miner [] inputs [] words refl good;
   whole = dealt-whole miner inputs words enough;

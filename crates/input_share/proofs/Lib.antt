@@ -6,3 +6,4 @@ pub mod WrittenLaws
 pub mod ShapeLaws
 pub mod RoundTrip
 pub mod FormLaws
+pub mod OfWords

@@ -19,7 +19,8 @@ use Rattle.input_share.specs.declared.entry.Part.TheVariants.{Public, Private}
 use Rattle.input_share.specs.declared.entry.ShareEntry.{ShareEntry}
 use Rattle.input_share.specs.ShareFile.{MinerFile}
 use Rattle.input_share.specs.Written.{part_data, entry_data, file_data}
-use Rattle.input_share.specs.Reading.{share_entry_of, share_name_of, share_within_limit, part_count, wanted_miner, file_in, read_share_of, share_count_of, IsWhole, IsWholePart, AreWritable}
+use Rattle.input_share.specs.Reading.{share_entry_of, share_name_of, share_within_limit, part_count, wanted_miner, file_in, read_share_of}
+use Rattle.input_share.specs.Reading.{share_count_of, IsWhole, IsWholePart, AreWritable}
 
 -- an entry
 entry_of-data : (place : ℕ) (earlier : List (List ℕ)) (name : List ℕ) (p : Part) → new_name earlier name ≡ Some name → IsWholePart p → part_count p ≤ 65536
@@ -28,10 +29,18 @@ unfolding share_entry_of share_within_limit domain_of
 entry_of-data place earlier name (Public v) fresh whole short = rw (fresh, type_of-data (type_of v), value_of-data v, le-ltb 65536 (count_of v) short) refl
 entry_of-data place earlier name (Private s) fresh whole short =
     let same = eq-eqb (length s.words) (size_of s.shape) whole in
-    rw (fresh, type_of-data s.data_type, shape_of-data s.shape, all_in-map number_in number_data (λ n. refl) s.words, same, le-ltb 65536 (size_of s.shape) short) refl
+    rw (
+      fresh,
+      type_of-data s.data_type,
+      shape_of-data s.shape,
+      all_in-map number_in number_data (λ n. refl) s.words,
+      same,
+      le-ltb 65536 (size_of s.shape) short,
+    ) refl
 
 -- the entries behind those that were read before
-entries_after-data : (before es : List ShareEntry) → AreEntries share_name_of share_count_of before es → All IsWhole es → entries_after share_entry_of share_name_of before (items_of (map entry_data es)) ≡ Ok (before ++ es)
+entries_after-data : (before es : List ShareEntry) → AreEntries share_name_of share_count_of before es → All IsWhole es
+    → entries_after share_entry_of share_name_of before (items_of (map entry_data es)) ≡ Ok (before ++ es)
 entries_after-data before [] good whole = ap Ok (sym (append-nil before))
 entries_after-data before (e ∷ es) good whole =
     let here = entry_of-data (length before) (map share_name_of before) e.name e.part good.0.fresh (whole 0 e (omega arith)) good.0.short in

@@ -7,3 +7,4 @@ pub mod Written
 pub mod Reading
 pub mod Shapes
 pub mod Vectors
+pub mod OfWords

@@ -3,6 +3,7 @@
 #![tactic(auto)]
 
 mod add_up;
+mod bounds;
 mod dealing;
 mod entry;
 mod forms;
@@ -13,6 +14,7 @@ mod values;
 mod writing;
 
 pub use add_up::shares_add_up;
+pub use bounds::read_entries_are_of_words;
 pub use dealing::{DealErr, Dealt, deal, draws, need};
 pub use entry::{Part, ShareEntry, Shared};
 pub use forms::dealt_files_are_writable;

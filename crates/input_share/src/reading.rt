@@ -5,7 +5,9 @@ ghost use Rattle.value_file.specs.Input.{entries_after, IsEntry};
 ghost use Rattle.value_file.specs.Values.{size_of};
 ghost use Rattle.value_file.specs.Reads.{Reads};
 ghost use Rattle.value_file.specs.declared.read_err.ReadErr.TheVariants.{BadField};
-ghost use Rattle.input_share.specs.Reading.{file_in, lens_in, miner_in, miner_of, numbers_in, of_length, part_of, part_count, private_part_of, read_share_of, share_count_of, share_entry_of, share_in, share_name_of, AreWritable, IsWhole, IsWholePart};
+ghost use Rattle.input_share.specs.Reading.{file_in, lens_in, miner_in, miner_of, numbers_in, of_length, part_of, part_count, private_part_of};
+ghost use Rattle.input_share.specs.Reading.{read_share_of, share_count_of, share_entry_of, share_in, share_name_of, AreWritable, IsWhole};
+ghost use Rattle.input_share.specs.Reading.{IsWholePart};
 
 use crate::entry::{Part, ShareEntry, Shared};
 use crate::share_file::ShareFile;

@@ -154,7 +154,8 @@ joined-assoc (x ∷ xs) (y ∷ ys) (z ∷ zs) =
 -- what is done of a gate, and what is left
 pub record Left (two : Bool) (p : Protocol) (n : ℕ) (j : Joint) (before now : Transcript) (made : Outputs) (left : ℕ) (rest : Joint) : Type 0 where
   pub sized : IsSized p left rest
-  pub sent : (l : Link) → carried now.traffic l ++ blocks_messages p (block_sizes left) rest l ≡ carried before.traffic l ++ blocks_messages p (block_sizes n) j l
+  pub sent : (l : Link) → carried now.traffic l ++ blocks_messages p (block_sizes left) rest l
+      ≡ carried before.traffic l ++ blocks_messages p (block_sizes n) j l
   pub learnt : now.opened.items ++ blocks_opened p (block_sizes left) rest ≡ before.opened.items ++ blocks_opened p (block_sizes n) j
   pub words : (i : Number) → joined (words_of two made i) (blocks_output p (block_sizes left) rest i) ≡ blocks_output p (block_sizes n) j i
 

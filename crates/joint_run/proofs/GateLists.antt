@@ -4,14 +4,16 @@ use Rattle.proto_core.specs.declared.party.Number.{Number}
 use Rattle.proto_core.specs.declared.party.Number.TheVariants.{One, Two, Three}
 use Rattle.protocol_model.specs.Gates.{needed, sizes_of}
 use Rattle.protocol_model.specs.Runs.{Tapes}
+use Rattle.protocol_model.proofs.Sizes.{needed-append}
 use Rattle.gates.specs.declared.gate.Gate.{Gate}
 use Rattle.gates.specs.Clear.{Values}
 use Rattle.shared_gates.specs.Model.{SizesSuit, sizes_made, run_gate, run_gates}
+use Rattle.shared_gates.proofs.GatesBehind.{gates-then, sizes-then, suits-then}
 use Rattle.joint_run.specs.declared.joint_err.JointErr.{JointErr}
 use Rattle.joint_run.specs.RunState.{RunState, begun, behind}
-use Rattle.joint_run.specs.JointRuns.{dealt_sizes, IsEven, words_for, sizes_behind, words_for_next, IsRun, IsAt, EarlierReach, IsUnsuited, EndsTape, Refuses}
+use Rattle.joint_run.specs.JointRuns.{dealt_sizes, IsEven, words_for, sizes_behind, words_for_next, IsAt, EarlierReach, IsUnsuited, EndsTape, Refuses}
 use Rattle.joint_run.specs.GateByGate.{HaveSizes, own_sizes, Through, draws_for, left_of, RunsGate, DoesNotSuit, Ends, RefusesGate}
-use Rattle.joint_run.proofs.InSteps.{same_state, both-behind, both-needed, both-gates, both-sizes, both-suit}
+use Rattle.joint_run.proofs.InSteps.{same_state, both-behind}
 
 module _ (dealt : Number → Values) (tapes : Tapes) where
   pub none-through : IsEven dealt → (s : RunState) → s ≡ begun tapes → Through dealt [] tapes s
@@ -41,7 +43,7 @@ module _ (dealt : Number → Values) (tapes : Tapes) where
         let ds = dealt_sizes dealt in
         let gs = run_gates dealt ds [] before in
         let next = run_gate dealt ds (sizes_behind dealt before) gate in
-        let all : run_gates dealt ds [] (before ++ gate ∷ []) ≡ gs ++ next ∷ [] = both-gates dealt ds [] before (gate ∷ []) in
+        let all : run_gates dealt ds [] (before ++ gate ∷ []) ≡ gs ++ next ∷ [] = gates-then dealt ds [] before (gate ∷ []) in
         let suits = subst (λ sizes. SizesSuit ds sizes gate) own-sizes runs.suits in
         record {
           run =
@@ -49,13 +51,13 @@ module _ (dealt : Number → Values) (tapes : Tapes) where
                 can =
                     record {
                       even = through.run.can.even;
-                      suit = both-suit ds [] before (gate ∷ []) through.run.can.suit (suits, tt);
+                      suit = suits-then ds [] before (gate ∷ []) through.run.can.suit (suits, tt);
                       reach = λ i.
                           let here : words_for dealt before i ≤ length (tapes i) = through.run.can.reach i in
                           let more : needed (next ∷ []) i ≤ length (s.tapes i) =
                           subst (λ sizes. needed (run_gate dealt ds sizes gate ∷ []) i ≤ length (s.tapes i)) own-sizes (runs.reach i) in
                           let len : length (s.tapes i) ≡ length (tapes i) - words_for dealt before i = tape-left i in
-                          let both : needed (gs ++ next ∷ []) i ≡ words_for dealt before i + needed (next ∷ []) i = both-needed gs (next ∷ []) i in
+                          let both : needed (gs ++ next ∷ []) i ≡ words_for dealt before i + needed (next ∷ []) i = needed-append gs (next ∷ []) i in
                           let le : needed (gs ++ next ∷ []) i ≤ length (tapes i) = omega arith in
                           subst (λ g. needed g i ≤ length (tapes i)) (sym all) le;
                     };
@@ -69,7 +71,7 @@ module _ (dealt : Number → Values) (tapes : Tapes) where
           sizes = λ i.
               runs.sizes i
               ∙ ap (λ sizes. sizes ++ sizes_made ds sizes gate) own-sizes
-              ∙ sym (both-sizes ds [] before (gate ∷ []));
+              ∙ sym (sizes-then ds [] before (gate ∷ []));
         }
 
     -- or it is refused
@@ -99,7 +101,8 @@ module _ (dealt : Number → Values) (tapes : Tapes) where
           let same : draws_for dealt s gate i ≡ words_for_next dealt before gate i = draws-are i in
           omega arith
 
-      earlier : (miner : Number) → EarlierReach (draws_for dealt s gate) (left_of s) miner → EarlierReach (λ k. words_for dealt before k + words_for_next dealt before gate k) (λ k. length (tapes k)) miner
+      earlier : (miner : Number) → EarlierReach (draws_for dealt s gate) (left_of s) miner
+          → EarlierReach (λ k. words_for dealt before k + words_for_next dealt before gate k) (λ k. length (tapes k)) miner
       earlier One h = tt
       earlier Two h = reaches One h
       earlier Three h = (reaches One h.0, reaches Two h.1)

@@ -8,7 +8,7 @@ use Rattle.proto_core.specs.Protocol.{Joint, Protocol}
 use Rattle.proto_core.proofs.Beginnings.{append-none}
 use Rattle.protocol_model.specs.Gates.{Joined, Local, operand, needed, sizes_of}
 use Rattle.protocol_model.specs.Gates as model
-use Rattle.protocol_model.specs.Runs.{drawn, joint_of}
+use Rattle.protocol_model.specs.Runs.{drawn, gate_joint}
 use Rattle.protocol_model.proofs.Sizes.{sizes-append}
 use Rattle.gates.specs.declared.ring_kind.RingKind.{RingKind}
 use Rattle.gates.specs.declared.ring_kind.RingKind.TheVariants.{Arithmetic, Boolean}
@@ -18,7 +18,7 @@ use Rattle.gates.specs.Clear.{Values, value}
 use Rattle.gates.specs.Counts.{size_of}
 use Rattle.shared_gates.specs.LocalGates.{local_share, IsLocal}
 use Rattle.shared_gates.specs.Model.{size_made, sizes_made, SizesSuit, run_gate}
-use Rattle.shared_gates.proofs.Models.{size-value, value_at-value, local-size}
+use Rattle.shared_gates.proofs.Models.{size-value, nth_value-value, local-size}
 use Rattle.joint_run.specs.declared.exchange.Exchange.{Exchange}
 use Rattle.joint_run.specs.declared.exchange.Exchange.TheVariants.{Product, Splitting, Conversion, Opening, Resharing}
 use Rattle.joint_run.specs.declared.exchanged.Exchanged.{Exchanged}
@@ -152,17 +152,17 @@ module _ (dealt : Number → Values) (ds sizes : List ℕ) where
       n = size_in x s
 
       j : Joint
-      j = joint_of x.u x.v s.shares (drawn p n s.tapes)
+      j = gate_joint x.u x.v s.shares (drawn p n s.tapes)
 
       size : n ≡ size_of sizes x.u
       size = size-value (s.shares One) x.u ∙ ap (λ k. size_of k x.u) (sym here)
 
       second-is : (v : Option ℕ) (i : Number) → second_value (s.shares i) v ≡ operand (s.shares i) v
       second-is None i = refl
-      second-is (Some v) i = sym (value_at-value (s.shares i) v)
+      second-is (Some v) i = sym (nth_value-value (s.shares i) v)
 
       same : joint_in x s ≡ j
-      same = same_joint (joint_in x s) j (λ i. sym (value_at-value (s.shares i) x.u)) (λ i. second-is x.v i) (λ i. refl)
+      same = same_joint (joint_in x s) j (λ i. sym (nth_value-value (s.shares i) x.u)) (λ i. second-is x.v i) (λ i. refl)
 
   -- ---- what it draws
 
@@ -217,7 +217,8 @@ module _ (dealt : Number → Values) (ds sizes : List ℕ) where
 
 -- ---- a gate that can be run
 
-module _ (dealt : Number → Values) (even : IsEven dealt) (gate : Gate) (s t : RunState) (same : HaveSizes (own_sizes s) s) (suits : SizesSuit (dealt_sizes dealt) (own_sizes s) gate) where
+module _ (dealt : Number → Values) (even : IsEven dealt) (gate : Gate) (s t : RunState) (same : HaveSizes (own_sizes s) s)
+    (suits : SizesSuit (dealt_sizes dealt) (own_sizes s) gate) where
   pub local-runs : IsLocal gate → AddsLocal dealt gate s t → RunsGate dealt gate s t
   local-runs local adds =
       record {

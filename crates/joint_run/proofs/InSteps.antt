@@ -1,14 +1,11 @@
 -- The joint run of some gates and then of others is the joint run of all of them.
-use Rattle.std.proofs.Common.{◌≡◌, ℕ, ◌+◌, List, [], ◌∷◌, ◌++◌, drop, refl, sym, ◌∙◌, ap, append_assoc, add_assoc, add-zero, zero-add}
+use Rattle.std.proofs.Common.{◌≡◌, ◌+◌, List, [], ◌∷◌, ◌++◌, drop, refl, sym, ◌∙◌, ap, append_assoc, add-zero}
 use Rattle.std.proofs.lemmas.List.{drop-drop}
 use Rattle.proto_core.specs.declared.party.Number.{Number}
 use Rattle.proto_core.specs.declared.link.Link.{Link}
 use Rattle.proto_core.proofs.Beginnings.{append-none}
 use Rattle.protocol_model.specs.Gates.{Gate, Joined, Local, needed}
-use Rattle.protocol_model.specs.Runs.{Tapes, drawn, left, joint_of, after, after_local, run_messages, run_values, run_opened}
-use Rattle.gates.specs.Clear.{Values}
-use Rattle.gates.specs.declared.gate.Gate as clear
-use Rattle.shared_gates.specs.Model.{sizes_made, AllSizesSuit, run_gate, run_gates, sizes_after}
+use Rattle.protocol_model.specs.Runs.{Tapes, drawn, left, gate_joint, after, after_local, run_messages, run_values, run_opened}
 use Rattle.joint_run.specs.RunState.{RunState, behind}
 
 pub same_state :
@@ -27,7 +24,7 @@ first-behind (Local n f) gates s =
     (λ l. ap (λ m. m ++ run_messages gates (after_local f s.shares) s.tapes l) (sym (append-none (s.messages l))))
     (ap (λ w. w ++ run_opened gates (after_local f s.shares) s.tapes) (sym (append-none s.opened)))
 first-behind (Joined p n u v) gates s =
-    let j = joint_of u v s.shares (drawn p n s.tapes) in
+    let j = gate_joint u v s.shares (drawn p n s.tapes) in
     let next = after p n u v s.shares (drawn p n s.tapes) in
     let tapes : Tapes = λ i. drop (p.draws n i + 0) (s.tapes i) in
     let same : left p n s.tapes ≡ tapes = λ d. λ i. ap (λ k. drop k (s.tapes i)) (sym (add-zero (p.draws n i))) d in
@@ -50,30 +47,3 @@ both-behind (gate ∷ xs) ys s =
     first-behind gate (xs ++ ys) s
     ∙ both-behind xs ys (behind (gate ∷ []) s)
     ∙ ap (behind ys) (sym (first-behind gate xs s))
-
-pub both-needed : (xs ys : List Gate) (i : Number) → needed (xs ++ ys) i ≡ needed xs i + needed ys i
-both-needed [] ys i = sym (zero-add (needed ys i))
-both-needed (Local n f ∷ xs) ys i = both-needed xs ys i
-both-needed (Joined p n u v ∷ xs) ys i =
-    ap (λ k. p.draws n i + k) (both-needed xs ys i) ∙ sym (add_assoc (p.draws n i) (needed xs i) (needed ys i))
-
--- ---- lists of gates on clear values
-
-module _ (dealt : Number → Values) (ds : List ℕ) where
-  pub both-gates :
-      (sizes : List ℕ) (xs ys : List clear.Gate) →
-      run_gates dealt ds sizes (xs ++ ys) ≡ run_gates dealt ds sizes xs ++ run_gates dealt ds (sizes_after ds sizes xs) ys
-  both-gates sizes [] ys = refl
-  both-gates sizes (gate ∷ xs) ys =
-      ap (λ gates. run_gate dealt ds sizes gate ∷ gates) (both-gates (sizes ++ sizes_made ds sizes gate) xs ys)
-
-module _ (ds : List ℕ) where
-  pub both-sizes : (sizes : List ℕ) (xs ys : List clear.Gate) → sizes_after ds sizes (xs ++ ys) ≡ sizes_after ds (sizes_after ds sizes xs) ys
-  both-sizes sizes [] ys = refl
-  both-sizes sizes (gate ∷ xs) ys = both-sizes (sizes ++ sizes_made ds sizes gate) xs ys
-
-  pub both-suit :
-      (sizes : List ℕ) (xs ys : List clear.Gate) → AllSizesSuit ds sizes xs → AllSizesSuit ds (sizes_after ds sizes xs) ys →
-      AllSizesSuit ds sizes (xs ++ ys)
-  both-suit sizes [] ys suit later = later
-  both-suit sizes (gate ∷ xs) ys suit later = (suit.0, both-suit (sizes ++ sizes_made ds sizes gate) xs ys suit.1 later)

@@ -26,6 +26,3 @@ all-same (x ∷ xs) (y ∷ ys) count same =
 
 pub same-at : (xs ys : Values) → sizes_of xs ≡ sizes_of ys → (k : ℕ) → length (value xs k) ≡ length (value ys k)
 same-at xs ys e k = size-value xs k ∙ ap (λ s. size_of s k) e ∙ sym (size-value ys k)
-
-pub same-count : (xs ys : Values) → sizes_of xs ≡ sizes_of ys → length xs ≡ length ys
-same-count xs ys e = sym (length-sizes xs) ∙ ap length e ∙ length-sizes ys

@@ -1,19 +1,14 @@
 -- What each of the three miners has, and what each of the six links carried.
 use Rattle.std.specs.Prelude.{ℕ, List}
 use Rattle.proto_core.specs.declared.party.Number.{Number}
-use Rattle.proto_core.specs.declared.party.Number.TheVariants.{One, Two, Three}
 use Rattle.proto_core.specs.declared.link.Link.{Link}
 use Rattle.proto_core.specs.declared.link.Link.TheVariants.{Link12, Link13, Link21, Link23, Link31, Link32}
+use Rattle.proto_core.specs.Parties.{of_three}
 use Rattle.proto_core.specs.Protocol.{Joint}
 use Rattle.joint_run.specs.declared.traffic.Traffic.{Traffic}
 use Rattle.joint_run.specs.declared.outputs.Shared.{Shared}
 use Rattle.joint_run.specs.declared.shares.SharedValues.{SharedValues}
 use Rattle.joint_run.specs.Parts.{ThreeLists, Parts}
-
-abbrev pub of_three : {A : Type 0} → A → A → A → Number → A
-of_three x y z One = x
-of_three x y z Two = y
-of_three x y z Three = z
 
 abbrev pub on_links : {A : Type 0} → (on12 on13 on21 on23 on31 on32 : A) → Link → A
 on_links a b c d e f Link12 = a

@@ -30,7 +30,7 @@ pub use joint_err::JointErr;
 pub use local::local_share;
 pub use operands::{Operands, Own};
 pub use outputs::{Outputs, Shared};
-pub use run::JointRun;
+pub use run::{JointRun, operands};
 pub use shares::SharedValues;
 pub use step::run_gate;
 pub use suiting::suits;

@@ -72,7 +72,7 @@ impl<'a> Operands<'a> {
     }
 
     /// What belongs to the first m elements, and what is behind them.
-    pub(crate) fn split(self, exchange: Exchange, m: usize) -> (Operands<'a>, Operands<'a>)
+    pub fn split(self, exchange: Exchange, m: usize) -> (Operands<'a>, Operands<'a>)
         requires { HasEnough (protocol_of exchange) m (joint self) }
         ensures front { IsFront (protocol_of exchange) m (joint self.entry) (joint result.0) }
         ensures behind { IsBehind (protocol_of exchange) m (joint self.entry) (joint result.1) }

@@ -1,7 +1,8 @@
 // The miners' shares of what one gate makes.
 ghost use Rattle.std.specs.Prelude.{◌≡◌, [], ◌++◌, OnOk};
 ghost use Rattle.proto_core.specs.declared.party.Number.{Number as NumberValue};
-ghost use Rattle.joint_run.specs.Three.{of_three, share_of};
+ghost use Rattle.proto_core.specs.Parties.{of_three};
+ghost use Rattle.joint_run.specs.Three.{share_of};
 
 use gates::Words;
 use std::alloc::{AllocError, Global};

@@ -3,7 +3,8 @@ ghost use Rattle.std.specs.Prelude.{◌≡◌, ◌++◌, OnOk};
 ghost use Rattle.proto_core.specs.declared.party.Number.{Number as NumberValue};
 ghost use Rattle.proto_core.specs.declared.link.Link.{Link as LinkValue};
 ghost use Rattle.gates.specs.Clear.{value};
-ghost use Rattle.joint_run.specs.Three.{of_three, each_of, joint, values_of};
+ghost use Rattle.proto_core.specs.Parties.{of_three};
+ghost use Rattle.joint_run.specs.Three.{each_of, joint, values_of};
 ghost use Rattle.joint_run.specs.Adding.{words_of};
 ghost use Rattle.joint_run.specs.RunState.{begun};
 ghost use Rattle.joint_run.specs.States.{state_of};
@@ -72,8 +73,8 @@ fn second_value(values: &Values, number: Option<u64>) -> &[u64]
     }
 }
 
-/// The operands of a gate in the miners' shares, with words that they drew.
-fn operands<'s>(
+/// The operands of a gate in the miners' shares, with these words.
+pub fn operands<'s>(
     gate: Exchanged,
     shares: &'s SharedValues,
     first: &'s [u64],

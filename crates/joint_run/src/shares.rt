@@ -1,7 +1,8 @@
 // Shares of numbered values, at each of the three miners.
 ghost use Rattle.std.specs.Prelude.{◌≡◌, [], ◌∷◌, ◌++◌, OnOk};
 ghost use Rattle.proto_core.specs.declared.party.Number.{Number as NumberValue};
-ghost use Rattle.joint_run.specs.Three.{of_three, values_of};
+ghost use Rattle.proto_core.specs.Parties.{of_three};
+ghost use Rattle.joint_run.specs.Three.{values_of};
 
 use gates::{Values, Words};
 use proto_core::Number;

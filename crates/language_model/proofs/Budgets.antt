@@ -64,11 +64,28 @@ module _ (w : World) (budget k : ℕ) where
 
   -- a report says what the last stage has
   goes_on : (t : Stage) (r : Run Value) (a : Report) → a.events ≡ t.events → a.opened ≡ t.opened → a.gates ≡ t.gates → Exceeds k t r → IsBeginning a (report' r)
-  goes_on t (Ok x) a e o g h = record { events = subst (λ z. Begins z x.1.events) (sym e) h.events; opened = subst (λ z. Begins z x.1.opened) (sym o) h.opened; gates = subst (λ z. Begins z x.1.gates) (sym g) h.gates }
-  goes_on t (Err x) a e o g h = record { events = subst (λ z. Begins z x.1.events) (sym e) h.events; opened = subst (λ z. Begins z x.1.opened) (sym o) h.opened; gates = subst (λ z. Begins z x.1.gates) (sym g) h.gates }
+  goes_on t (Ok x) a e o g h =
+      record {
+        events = subst (λ z. Begins z x.1.events) (sym e) h.events;
+        opened = subst (λ z. Begins z x.1.opened) (sym o) h.opened;
+        gates =
+            subst (λ z. Begins z x.1.gates) (sym g) h.gates;
+      }
+  goes_on t (Err x) a e o g h =
+      record {
+        events = subst (λ z. Begins z x.1.events) (sym e) h.events;
+        opened = subst (λ z. Begins z x.1.opened) (sym o) h.opened;
+        gates =
+            subst (λ z. Begins z x.1.gates) (sym g) h.gates;
+      }
 
   begins_so : (a b : Report) → b ≡ a → IsBeginning a b
-  begins_so a b e = record { events = begins_none a.events b.events (ap (λ z. z.events) e); opened = begins_none a.opened b.opened (ap (λ z. z.opened) e); gates = begins_none a.gates b.gates (ap (λ z. z.gates) e) }
+  begins_so a b e = record {
+    events = begins_none a.events b.events (ap (λ z. z.events) e);
+    opened =
+        begins_none a.opened b.opened (ap (λ z. z.opened) e);
+    gates = begins_none a.gates b.gates (ap (λ z. z.gates) e);
+  }
 
   reports_begin : (r r' : Run Value) → Follows k r r' → IsBeginning (report r) (report' r')
   reports_begin (Ok x) r' h = begins_so (report (Ok x)) (report' r') (reports_same (Ok x) r' h refl)
@@ -84,7 +101,8 @@ module _ (w : World) (budget k : ℕ) where
       follows : Follows k (main_of w p (beginning budget answers)) (main_of w p (beginning (budget + k) answers))
       follows = (program_steady w (budget + 1) (budget + k + 1) p).from (beginning budget answers) k (omega arith) (omega arith)
 
-      go : (c : Bool) → Beside budget k (cond c (report (main_of w p (beginning budget answers))) (not_dealt w)) (cond c (report' (main_of w p (beginning (budget + k) answers))) (not_dealt w))
+      go : (c : Bool) → Beside budget k (cond c (report (main_of w p (beginning budget answers))) (not_dealt w))
+          (cond c (report' (main_of w p (beginning (budget + k) answers))) (not_dealt w))
       go true = record {
         same = reports_same (main_of w p (beginning budget answers)) (main_of w p (beginning (budget + k) answers)) follows;
         dearer = reports_dearer (main_of w p (beginning budget answers)) (main_of w p (beginning (budget + k) answers)) follows;
@@ -94,7 +112,8 @@ module _ (w : World) (budget k : ℕ) where
 
 -- ---- any two budgets
 
-module _ (runs : ℕ → Report) (beside_more : (budget k : ℕ) → Beside budget k (runs budget) (runs (budget + k))) (kept : (budget : ℕ) → (runs budget).cost ≤ budget) where
+module _ (runs : ℕ → Report) (beside_more : (budget k : ℕ) → Beside budget k (runs budget) (runs (budget + k)))
+    (kept : (budget : ℕ) → (runs budget).cost ≤ budget) where
   beside_any : (less more : ℕ) → less ≤ more → Beside less (more - less) (runs less) (runs more)
   beside_any less more l =
       let same : less + (more - less) ≡ more = omega arith in
@@ -123,7 +142,8 @@ module _ (runs : ℕ → Report) (beside_more : (budget k : ℕ) → Beside budg
 runs_of : World → TypedProgramTree → List ℕ → ℕ → Report
 runs_of w p answers budget = evaluated w p budget answers
 
-beside_of : (w : World) (p : TypedProgramTree) (answers : List ℕ) (budget k : ℕ) → Beside budget k (runs_of w p answers budget) (runs_of w p answers (budget + k))
+beside_of : (w : World) (p : TypedProgramTree) (answers : List ℕ) (budget k : ℕ)
+    → Beside budget k (runs_of w p answers budget) (runs_of w p answers (budget + k))
 unfolding runs_of
 beside_of w p answers budget k = beside w budget k p answers
 
@@ -131,14 +151,20 @@ kept_of : (w : World) (p : TypedProgramTree) (answers : List ℕ) (budget : ℕ)
 unfolding runs_of
 kept_of w p answers budget = cost_kept w p budget answers
 
-pub budgets_same : (w : World) (p : TypedProgramTree) (budget other : ℕ) (answers : List ℕ) → (evaluated w p budget answers).stop ≢ Ended Budget → (evaluated w p budget answers).cost ≤ other → evaluated w p other answers ≡ evaluated w p budget answers
+pub budgets_same : (w : World) (p : TypedProgramTree) (budget other : ℕ) (answers : List ℕ) → (evaluated w p budget answers).stop ≢ Ended Budget
+    → (evaluated w p budget answers).cost ≤ other → evaluated w p other answers ≡ evaluated w p budget answers
 unfolding runs_of
-budgets_same w p budget other answers n l = runs_same (runs_of w p answers) (beside_of w p answers) (kept_of w p answers) budget other (isnt_budget (evaluated w p budget answers).stop n) l
+budgets_same w p budget other answers n l =
+    runs_same (runs_of w p answers) (beside_of w p answers) (kept_of w p answers) budget other (isnt_budget (evaluated w p budget answers).stop n) l
 
-pub budgets_stop : (w : World) (p : TypedProgramTree) (budget other : ℕ) (answers : List ℕ) → (evaluated w p budget answers).stop ≢ Ended Budget → other < (evaluated w p budget answers).cost → (evaluated w p other answers).stop ≡ Ended Budget
+pub budgets_stop : (w : World) (p : TypedProgramTree) (budget other : ℕ) (answers : List ℕ) → (evaluated w p budget answers).stop ≢ Ended Budget
+    → other < (evaluated w p budget answers).cost → (evaluated w p other answers).stop ≡ Ended Budget
 unfolding runs_of
-budgets_stop w p budget other answers n l = is_budget_if (evaluated w p other answers).stop (runs_stop (runs_of w p answers) (beside_of w p answers) (kept_of w p answers) budget other (isnt_budget (evaluated w p budget answers).stop n) l)
+budgets_stop w p budget other answers n l =
+    is_budget_if (evaluated w p other answers).stop
+    (runs_stop (runs_of w p answers) (beside_of w p answers) (kept_of w p answers) budget other (isnt_budget (evaluated w p budget answers).stop n) l)
 
-pub budgets_begin : (w : World) (p : TypedProgramTree) (less more : ℕ) (answers : List ℕ) → less ≤ more → IsBeginning (evaluated w p less answers) (evaluated w p more answers)
+pub budgets_begin : (w : World) (p : TypedProgramTree) (less more : ℕ) (answers : List ℕ) → less ≤ more
+    → IsBeginning (evaluated w p less answers) (evaluated w p more answers)
 unfolding runs_of
 budgets_begin w p less more answers l = (beside_any (runs_of w p answers) (beside_of w p answers) (kept_of w p answers) less more l).begins

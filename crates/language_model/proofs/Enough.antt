@@ -12,7 +12,9 @@ use Rattle.language_model.specs.Evaluation.{Frame, Flow, turns, repeats}
 use Rattle.language_model.specs.Tapes.{AtMost, lacks_words}
 use Rattle.language_model.proofs.Loops.{IsFlow, turns_flow, repeats_flow}
 use Rattle.language_model.proofs.Walk.{IsLaw, main_of, program_holds}
-use Rattle.language_model.proofs.Onward.{stage_of, at_most_then, Onward, onward_bind, onward_done, onward_end, onward_charge, onward_test, onward_draw, onward_gate, onward_number, onward_gates, onward_emit, onward_answers, onward_show, onward_turns, onward_repeats}
+use Rattle.language_model.proofs.Onward.{stage_of, at_most_then, Onward, onward_bind, onward_done, onward_end, onward_charge, onward_test}
+use Rattle.language_model.proofs.Onward.{onward_draw, onward_gate, onward_number, onward_gates, onward_emit, onward_answers, onward_show}
+use Rattle.language_model.proofs.Onward.{onward_turns, onward_repeats}
 
 abbrev pub lacks : {A : Type 0} → Run A → Bool
 lacks (Ok x) = false
@@ -24,14 +26,16 @@ pub record Enough (w w' : World) {A : Type 0} (m m' : Effect A) : Type 0 where
   pub longer : (s : Stage) → lacks (m s) ≡ false → AtMost (stage_of (m s)).drawn w'.lengths → m' s ≡ m s
   pub neither : (s : Stage) → lacks (m s) ≡ false → lacks (m' s) ≡ false → m' s ≡ m s
 
-enough_bind : {w w' : World} {A B : Type 0} {m m' : Effect A} {f f' : A → Effect B} → Enough w w' m m' → ((a : A) → Enough w w' (f a) (f' a)) → Enough w w' (m >>= f) (m' >>= f')
+enough_bind : {w w' : World} {A B : Type 0} {m m' : Effect A} {f f' : A → Effect B} → Enough w w' m m' → ((a : A) → Enough w w' (f a) (f' a))
+    → Enough w w' (m >>= f) (m' >>= f')
 enough_bind {w = w} {w' = w'} {A = A} {m = m} {m' = m'} {f = f} {f' = f'} h j = record {
   before = onward_bind h.before (λ a. (j a).before);
   longer = λ s. longer_on s (m s) (h.longer s);
   neither = λ s. neither_on s (m s) (m' s) (h.neither s);
 }
   where
-    longer_on : (s : Stage) (r : Run A) → (lacks r ≡ false → AtMost (stage_of r).drawn w'.lengths → m' s ≡ r) → lacks (carry r f) ≡ false → AtMost (stage_of (carry r f)).drawn w'.lengths → carry (m' s) f' ≡ carry r f
+    longer_on : (s : Stage) (r : Run A) → (lacks r ≡ false → AtMost (stage_of r).drawn w'.lengths → m' s ≡ r) → lacks (carry r f) ≡ false
+        → AtMost (stage_of (carry r f)).drawn w'.lengths → carry (m' s) f' ≡ carry r f
     longer_on s (Ok x) h n a =
         let grown = ((j x.0).before.from x.1).drawn in
         ap (λ z. carry z f') (h refl (at_most_then x.1.drawn (stage_of (f x.0 x.1)).drawn w'.lengths grown a)) ∙ (j x.0).longer x.1 n a
@@ -41,7 +45,8 @@ enough_bind {w = w} {w' = w'} {A = A} {m = m} {m' = m'} {f = f} {f' = f'} h j = 
     first_had (Ok x) n = refl
     first_had (Err e) n = n
 
-    neither_on : (s : Stage) (r r' : Run A) → (lacks r ≡ false → lacks r' ≡ false → r' ≡ r) → lacks (carry r f) ≡ false → lacks (carry r' f') ≡ false → carry r' f' ≡ carry r f
+    neither_on : (s : Stage) (r r' : Run A) → (lacks r ≡ false → lacks r' ≡ false → r' ≡ r) → lacks (carry r f) ≡ false → lacks (carry r' f') ≡ false
+        → carry r' f' ≡ carry r f
     neither_on s (Ok x) r' h n n' =
         let same : r' ≡ Ok x = h refl (first_had r' n') in
         ap (λ z. carry z f') same ∙ (j x.0).neither x.1 n (subst (λ z. lacks (carry z f') ≡ false) same n')
@@ -53,10 +58,12 @@ enough_same h = record { before = h; longer = λ s n a. refl; neither = λ s n n
 
 -- ---- words are drawn
 
-fits_had : {B : Type 0} (owner : TapeOwner) (need have : ℕ) (f : Unit {0} → Effect B) (s : Stage) → lacks (carry (fits owner need have s) f) ≡ false → carry (fits owner need have s) f ≡ f tt s
+fits_had : {B : Type 0} (owner : TapeOwner) (need have : ℕ) (f : Unit {0} → Effect B) (s : Stage) → lacks (carry (fits owner need have s) f) ≡ false
+    → carry (fits owner need have s) f ≡ f tt s
 fits_had {B = B} owner need have f s = go (nat_le need have)
   where
-    go : (c : Bool) → lacks (carry {A = Unit {0}} (cond c (Ok (tt, s)) (Err (Ended (Tape owner need have), s))) f) ≡ false → ◌≡◌ {A = Run B} (carry {A = Unit {0}} (cond c (Ok (tt, s)) (Err (Ended (Tape owner need have), s))) f) (f tt s)
+    go : (c : Bool) → lacks (carry {A = Unit {0}} (cond c (Ok (tt, s)) (Err (Ended (Tape owner need have), s))) f) ≡ false
+        → ◌≡◌ {A = Run B} (carry {A = Unit {0}} (cond c (Ok (tt, s)) (Err (Ended (Tape owner need have), s))) f) (f tt s)
     go true n = refl
     go false n = cc
 
@@ -76,14 +83,17 @@ module _ (w : World) (n : Words) (s : Stage) where
   draw_has : AtMost (with_more s.drawn n) w.lengths → draw w n s ≡ drawn
   unfolding third second drawn
   draw_has a =
-      fits_has Miner1 (s.drawn.first + n.first) w.lengths.first (λ _. second) s a.0 ∙ fits_has Miner2 (s.drawn.second + n.second) w.lengths.second (λ _. third) s a.1 ∙ fits_has Miner3 (s.drawn.third + n.third) w.lengths.third (λ _. take_words n) s a.2
+      fits_has Miner1 (s.drawn.first + n.first) w.lengths.first (λ _. second) s a.0
+      ∙ fits_has Miner2 (s.drawn.second + n.second) w.lengths.second (λ _. third) s a.1
+      ∙ fits_has Miner3 (s.drawn.third + n.third) w.lengths.third (λ _. take_words n) s a.2
 
   draw_had : lacks (draw w n s) ≡ false → draw w n s ≡ drawn
   unfolding third second drawn
   draw_had h =
       let one : draw w n s ≡ second s = fits_had Miner1 (s.drawn.first + n.first) w.lengths.first (λ _. second) s h in
       let two : second s ≡ third s = fits_had Miner2 (s.drawn.second + n.second) w.lengths.second (λ _. third) s (subst (λ z. lacks z ≡ false) one h) in
-      let three : third s ≡ drawn = fits_had Miner3 (s.drawn.third + n.third) w.lengths.third (λ _. take_words n) s (subst (λ z. lacks z ≡ false) (one ∙ two) h) in
+      let three : third s ≡ drawn = fits_had Miner3 (s.drawn.third + n.third) w.lengths.third (λ _. take_words n) s
+      (subst (λ z. lacks z ≡ false) (one ∙ two) h) in
       one ∙ two ∙ three
 
 enough_draw : (w w' : World) (n : Words) → Enough w w' (draw w n) (draw w' n)
@@ -101,9 +111,18 @@ is_enough w w' A m m' = Enough w w' m m'
 
 enough_flow : (w w' : World) → IsFlow (is_enough w w')
 unfolding is_enough
-enough_flow w w' = record { bind = enough_bind; on_done = λ a. enough_same (onward_done a); on_end = λ e. enough_same (onward_end e); on_charge = λ n. enough_same (onward_charge n) }
+enough_flow w w' = record {
+  bind = enough_bind;
+  on_done = λ a. enough_same (onward_done a);
+  on_end = λ e. enough_same (onward_end e);
+  on_charge =
+      λ n. enough_same (onward_charge n);
+}
 
-enough_turns : (w w' : World) {condition condition' : Frame → Effect Value} {step step' body body' : Frame → Effect Flow} → ((fr : Frame) → Enough w w' (condition fr) (condition' fr)) → ((fr : Frame) → Enough w w' (step fr) (step' fr)) → ((fr : Frame) → Enough w w' (body fr) (body' fr)) → (fr : Frame) → Enough w w' (λ s. turns (s.left + 1) condition step body fr s) (λ s. turns (s.left + 1) condition' step' body' fr s)
+enough_turns : (w w' : World) {condition condition' : Frame → Effect Value} {step step' body body' : Frame → Effect Flow}
+    → ((fr : Frame) → Enough w w' (condition fr) (condition' fr)) → ((fr : Frame) → Enough w w' (step fr) (step' fr))
+    → ((fr : Frame) → Enough w w' (body fr) (body' fr)) → (fr : Frame)
+    → Enough w w' (λ s. turns (s.left + 1) condition step body fr s) (λ s. turns (s.left + 1) condition' step' body' fr s)
 unfolding is_enough
 enough_turns w w' hc hs hb fr = record {
   before = onward_turns w (λ f. (hc f).before) (λ f. (hs f).before) (λ f. (hb f).before) fr;
@@ -111,7 +130,9 @@ enough_turns w w' hc hs hb fr = record {
   neither = λ s. (turns_flow (is_enough w w') (enough_flow w w') (s.left + 1) hc hs hb fr).neither s;
 }
 
-enough_repeats : (w w' : World) {condition condition' : Frame → Effect Value} {body body' : Frame → Effect Flow} → ((fr : Frame) → Enough w w' (condition fr) (condition' fr)) → ((fr : Frame) → Enough w w' (body fr) (body' fr)) → (fr : Frame) → Enough w w' (λ s. repeats (s.left + 1) condition body fr s) (λ s. repeats (s.left + 1) condition' body' fr s)
+enough_repeats : (w w' : World) {condition condition' : Frame → Effect Value} {body body' : Frame → Effect Flow}
+    → ((fr : Frame) → Enough w w' (condition fr) (condition' fr)) → ((fr : Frame) → Enough w w' (body fr) (body' fr)) → (fr : Frame)
+    → Enough w w' (λ s. repeats (s.left + 1) condition body fr s) (λ s. repeats (s.left + 1) condition' body' fr s)
 unfolding is_enough
 enough_repeats w w' hc hb fr = record {
   before = onward_repeats w (λ f. (hc f).before) (λ f. (hb f).before) fr;

@@ -22,7 +22,8 @@ keeps : (w : World) (p : TypedProgramTree) (budget : ℕ) (answers : List ℕ) �
 keeps w p budget answers = go (nat_le (dealing w) w.dealer) refl
   where
     go : (c : Bool) → nat_le (dealing w) w.dealer ≡ c → Keeps w budget (cond c (report_of w budget (main_of w p (beginning budget answers))) (not_dealt w))
-    go true e = report_keeps w budget (main_of w p (beginning budget answers)) (leb-true _ _ e) (((program_onward w p).from (beginning budget answers)).tapes (omega arith, omega arith, omega arith))
+    go true e = report_keeps w budget (main_of w p (beginning budget answers)) (leb-true _ _ e)
+        (((program_onward w p).from (beginning budget answers)).tapes (omega arith, omega arith, omega arith))
     go false e = record { cost = omega arith; words = record { dealt = omega arith; drawn = (omega arith, omega arith, omega arith) } }
 
 pub cost_kept : (w : World) (p : TypedProgramTree) (budget : ℕ) (answers : List ℕ) → (evaluated w p budget answers).cost ≤ budget

@@ -28,15 +28,20 @@ module _ (P : (A : Type 0) → Effect A → Effect A → Type 0) (flow : IsFlow 
   turned_flows (stops fr) f f' h = flow.on_done (goes fr)
   turned_flows (returns v) f f' h = flow.on_done (returns v)
 
-  pub turns_flow : (n : ℕ) {condition condition' : Frame → Effect Value} {step step' body body' : Frame → Effect Flow} → ((fr : Frame) → P _ (condition fr) (condition' fr)) → ((fr : Frame) → P _ (step fr) (step' fr)) → ((fr : Frame) → P _ (body fr) (body' fr)) → (fr : Frame) → P _ (turns n condition step body fr) (turns n condition' step' body' fr)
+  pub turns_flow : (n : ℕ) {condition condition' : Frame → Effect Value} {step step' body body' : Frame → Effect Flow}
+      → ((fr : Frame) → P _ (condition fr) (condition' fr)) → ((fr : Frame) → P _ (step fr) (step' fr)) → ((fr : Frame) → P _ (body fr) (body' fr))
+      → (fr : Frame) → P _ (turns n condition step body fr) (turns n condition' step' body' fr)
   unfolding turns
   turns_flow zero hc hs hb fr = flow.on_end Budget
   turns_flow (suc n) hc hs hb fr =
       flow.bind (hc fr) (λ v. flow.bind (tested_flows v) (λ t. either_flows t
       (flow.bind (hb fr) (λ g. turned_flows g _ _ (λ f. flow.bind (hs f) (λ h. turned_flows h _ _ (turns_flow n hc hs hb))))) (flow.on_done (goes fr))))
 
-  pub repeats_flow : (n : ℕ) {condition condition' : Frame → Effect Value} {body body' : Frame → Effect Flow} → ((fr : Frame) → P _ (condition fr) (condition' fr)) → ((fr : Frame) → P _ (body fr) (body' fr)) → (fr : Frame) → P _ (repeats n condition body fr) (repeats n condition' body' fr)
+  pub repeats_flow : (n : ℕ) {condition condition' : Frame → Effect Value} {body body' : Frame → Effect Flow}
+      → ((fr : Frame) → P _ (condition fr) (condition' fr)) → ((fr : Frame) → P _ (body fr) (body' fr)) → (fr : Frame)
+      → P _ (repeats n condition body fr) (repeats n condition' body' fr)
   unfolding repeats
   repeats_flow zero hc hb fr = flow.on_end Budget
   repeats_flow (suc n) hc hb fr =
-      flow.bind (hb fr) (λ g. turned_flows g _ _ (λ f. flow.bind (hc f) (λ v. flow.bind (tested_flows v) (λ t. either_flows t (repeats_flow n hc hb f) (flow.on_done (goes f))))))
+      flow.bind (hb fr) (λ g. turned_flows g _ _
+      (λ f. flow.bind (hc f) (λ v. flow.bind (tested_flows v) (λ t. either_flows t (repeats_flow n hc hb f) (flow.on_done (goes f))))))

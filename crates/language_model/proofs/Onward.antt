@@ -10,7 +10,8 @@ use Rattle.sc_text.specs.declared.end.TapeOwner.TheVariants.{Miner1, Miner2, Min
 use Rattle.sc_text.specs.declared.event.Event.{Event}
 use Rattle.gates.specs.declared.gate.Gate.{Gate}
 use Rattle.typed_tree.specs.Programs.{TypedProgramTree}
-use Rattle.language_model.specs.Effects.{Words, World, Stage, Ended, Short, Run, Effect, ◌>>=◌, carry, done, end, charge, test, with_more, fits, draw, gate, next_number, put_gates, emit, next_answers, show}
+use Rattle.language_model.specs.Effects.{Words, World, Stage, Ended, Short, Run, Effect, ◌>>=◌, carry, done, end, charge, test, with_more, fits, draw}
+use Rattle.language_model.specs.Effects.{gate, next_number, put_gates, emit, next_answers, show}
 use Rattle.language_model.specs.Beginnings.{Begins}
 use Rattle.language_model.specs.Tapes.{AtMost}
 use Rattle.language_model.specs.Values.{Value}
@@ -44,14 +45,32 @@ pub record Went (w : World) (s u : Stage) : Type 0 where
 
 went_same : (w : World) (s u : Stage) → u.left ≤ s.left → u.drawn ≡ s.drawn → u.events ≡ s.events → u.opened ≡ s.opened → u.gates ≡ s.gates → Went w s u
 went_same w s u l d e o g =
-    record { left = l; drawn = (omega (arith, ap (λ z. z.first) d), omega (arith, ap (λ z. z.second) d), omega (arith, ap (λ z. z.third) d)); tapes = λ h. (omega (arith, h, ap (λ z. z.first) d), omega (arith, h, ap (λ z. z.second) d), omega (arith, h, ap (λ z. z.third) d)); events = begins_none s.events u.events e; opened = begins_none s.opened u.opened o; gates = begins_none s.gates u.gates g }
+    record {
+      left = l;
+      drawn = (omega (arith, ap (λ z. z.first) d), omega (arith, ap (λ z. z.second) d), omega (arith, ap (λ z. z.third) d));
+      tapes =
+          λ h. (omega (arith, h, ap (λ z. z.first) d), omega (arith, h, ap (λ z. z.second) d), omega (arith, h, ap (λ z. z.third) d));
+      events =
+          begins_none s.events u.events e;
+      opened = begins_none s.opened u.opened o;
+      gates = begins_none s.gates u.gates g;
+    }
 
 went_none : (w : World) (s : Stage) → Went w s s
 went_none w s = went_same w s s (omega arith) refl refl refl refl
 
 pub went_then : (w : World) (s t u : Stage) → Went w s t → Went w t u → Went w s u
 went_then w s t u a b =
-    record { left = omega (arith, a.left, b.left); drawn = at_most_then s.drawn t.drawn u.drawn a.drawn b.drawn; tapes = λ h. b.tapes (a.tapes h); events = begins_then s.events t.events u.events a.events b.events; opened = begins_then s.opened t.opened u.opened a.opened b.opened; gates = begins_then s.gates t.gates u.gates a.gates b.gates }
+    record {
+      left = omega (arith, a.left, b.left);
+      drawn = at_most_then s.drawn t.drawn u.drawn a.drawn b.drawn;
+      tapes =
+          λ h. b.tapes (a.tapes h);
+      events = begins_then s.events t.events u.events a.events b.events;
+      opened =
+          begins_then s.opened t.opened u.opened a.opened b.opened;
+      gates = begins_then s.gates t.gates u.gates a.gates b.gates;
+    }
 
 pub record Onward (w : World) {A : Type 0} (m : Effect A) : Type 0 where
   pub from : (s : Stage) → Went w s (stage_of (m s))
@@ -75,7 +94,10 @@ went_if w s false a b h k = k
 
 pub onward_charge : {w : World} (n : ℕ) → Onward w (charge n)
 onward_charge {w = w} n =
-    record { from = λ s. went_if w s (nat_le n s.left) (Ok (tt, record s { left = s.left - n })) (Err (Ended Budget, s)) (went_same w s (record s { left = s.left - n }) (omega arith) refl refl refl refl) (went_none w s) }
+    record {
+      from = λ s. went_if w s (nat_le n s.left) (Ok (tt, record s { left = s.left - n })) (Err (Ended Budget, s))
+          (went_same w s (record s { left = s.left - n }) (omega arith) refl refl refl refl) (went_none w s);
+    }
 
 pub onward_test : {w : World} (b : Bool) (kind : TrapKind) (line : ℕ) → Onward w (test b kind line)
 onward_test {w = w} true kind line = record { from = λ s. went_none w s }
@@ -83,7 +105,8 @@ onward_test {w = w} false kind line = record { from = λ s. went_none w s }
 
 -- ---- words are drawn where the tapes have them
 
-fits_then : {B : Type 0} (w : World) (owner : TapeOwner) (need have : ℕ) (f : Unit {0} → Effect B) (s : Stage) → (need ≤ have → Went w s (stage_of (f tt s))) → Went w s (stage_of (carry (fits owner need have s) f))
+fits_then : {B : Type 0} (w : World) (owner : TapeOwner) (need have : ℕ) (f : Unit {0} → Effect B) (s : Stage)
+    → (need ≤ have → Went w s (stage_of (f tt s))) → Went w s (stage_of (carry (fits owner need have s) f))
 fits_then w owner need have f s k = go (nat_le need have) refl
   where
     go : (c : Bool) → nat_le need have ≡ c → Went w s (stage_of (carry (cond c (Ok (tt, s)) (Err (Ended (Tape owner need have), s))) f))
@@ -92,34 +115,90 @@ fits_then w owner need have f s k = go (nat_le need have) refl
 
 pub onward_draw : (w : World) (n : Words) → Onward w (draw w n)
 onward_draw w n = record {
-  from = λ s. fits_then w Miner1 (s.drawn.first + n.first) w.lengths.first _ s (λ a. fits_then w Miner2 (s.drawn.second + n.second) w.lengths.second _ s (λ b. fits_then w Miner3 (s.drawn.third + n.third) w.lengths.third _ s (λ c. drawn s a b c)));
+  from = λ s. fits_then w Miner1 (s.drawn.first + n.first) w.lengths.first _ s
+      (λ a. fits_then w Miner2 (s.drawn.second + n.second) w.lengths.second _ s
+      (λ b. fits_then w Miner3 (s.drawn.third + n.third) w.lengths.third _ s (λ c. drawn s a b c)));
 }
   where
-    drawn : (s : Stage) → s.drawn.first + n.first ≤ w.lengths.first → s.drawn.second + n.second ≤ w.lengths.second → s.drawn.third + n.third ≤ w.lengths.third → Went w s (record s { drawn = with_more s.drawn n })
-    drawn s a b c = record { left = omega arith; drawn = (omega arith, omega arith, omega arith); tapes = λ h. (a, b, c); events = begins_none s.events s.events refl; opened = begins_none s.opened s.opened refl; gates = begins_none s.gates s.gates refl }
+    drawn : (s : Stage) → s.drawn.first + n.first ≤ w.lengths.first → s.drawn.second + n.second ≤ w.lengths.second
+        → s.drawn.third + n.third ≤ w.lengths.third → Went w s (record s { drawn = with_more s.drawn n })
+    drawn s a b c = record {
+      left = omega arith;
+      drawn = (omega arith, omega arith, omega arith);
+      tapes = λ h. (a, b, c);
+      events =
+          begins_none s.events s.events refl;
+      opened = begins_none s.opened s.opened refl;
+      gates = begins_none s.gates s.gates refl;
+    }
 
 -- ---- gates, and what is told
 
 pub onward_gate : {w : World} (g : Gate) → Onward w (gate g)
-onward_gate {w = w} g = record { from = λ s. record { left = omega arith; drawn = at_most_same s.drawn; tapes = λ h. h; events = begins_none s.events s.events refl; opened = begins_none s.opened s.opened refl; gates = (g ∷ [], refl) } }
+onward_gate {w = w} g = record {
+  from =
+      λ s. record {
+        left = omega arith;
+        drawn = at_most_same s.drawn;
+        tapes = λ h. h;
+        events = begins_none s.events s.events refl;
+        opened =
+            begins_none s.opened s.opened refl;
+        gates = (g ∷ [], refl);
+      };
+}
 
 pub onward_number : {w : World} → Onward w next_number
 onward_number {w = w} = record { from = λ s. went_none w s }
 
 pub onward_gates : {w : World} (gs : List Gate) → Onward w (put_gates gs)
-onward_gates {w = w} gs = record { from = λ s. record { left = omega arith; drawn = at_most_same s.drawn; tapes = λ h. h; events = begins_none s.events s.events refl; opened = begins_none s.opened s.opened refl; gates = (gs, refl) } }
+onward_gates {w = w} gs = record {
+  from =
+      λ s. record {
+        left = omega arith;
+        drawn = at_most_same s.drawn;
+        tapes = λ h. h;
+        events = begins_none s.events s.events refl;
+        opened =
+            begins_none s.opened s.opened refl;
+        gates = (gs, refl);
+      };
+}
 
 pub onward_emit : {w : World} (e : Event) → Onward w (emit e)
 onward_emit {w = w} e =
-    record { from = λ s. record { left = omega arith; drawn = at_most_same s.drawn; tapes = λ h. h; events = (e ∷ [], refl); opened = begins_none s.opened s.opened refl; gates = begins_none s.gates s.gates refl } }
+    record {
+      from = λ s. record {
+        left = omega arith;
+        drawn = at_most_same s.drawn;
+        tapes = λ h. h;
+        events = (e ∷ [], refl);
+        opened =
+            begins_none s.opened s.opened refl;
+        gates = begins_none s.gates s.gates refl;
+      };
+    }
 
 pub onward_answers : {w : World} (n : ℕ) → Onward w (next_answers n)
 onward_answers {w = w} n =
-    record { from = λ s. went_if w s (nat_le n (length s.answers)) (Ok (take n s.answers, record s { answers = drop n s.answers })) (Err (Short, s)) (went_same w s (record s { answers = drop n s.answers }) (omega arith) refl refl refl refl) (went_none w s) }
+    record {
+      from = λ s. went_if w s (nat_le n (length s.answers)) (Ok (take n s.answers, record s { answers = drop n s.answers })) (Err (Short, s))
+          (went_same w s (record s { answers = drop n s.answers }) (omega arith) refl refl refl refl) (went_none w s);
+    }
 
 pub onward_show : {w : World} (words : List ℕ) → Onward w (show words)
 onward_show {w = w} words =
-    record { from = λ s. record { left = omega arith; drawn = at_most_same s.drawn; tapes = λ h. h; events = begins_none s.events s.events refl; opened = (words, refl); gates = begins_none s.gates s.gates refl } }
+    record {
+      from = λ s. record {
+        left = omega arith;
+        drawn = at_most_same s.drawn;
+        tapes = λ h. h;
+        events =
+            begins_none s.events s.events refl;
+        opened = (words, refl);
+        gates = begins_none s.gates s.gates refl;
+      };
+    }
 
 -- ---- whole programs
 
@@ -130,18 +209,23 @@ onward_flow : (w : World) → IsFlow (is_onward w)
 unfolding is_onward
 onward_flow w = record { bind = onward_bind; on_done = onward_done; on_end = onward_end; on_charge = onward_charge }
 
-pub turns_onward : (w : World) (n : ℕ) (condition : Frame → Effect Value) (step body : Frame → Effect Flow) → ((fr : Frame) → Onward w (condition fr)) → ((fr : Frame) → Onward w (step fr)) → ((fr : Frame) → Onward w (body fr)) → (fr : Frame) → Onward w (turns n condition step body fr)
+pub turns_onward : (w : World) (n : ℕ) (condition : Frame → Effect Value) (step body : Frame → Effect Flow) → ((fr : Frame) → Onward w (condition fr))
+    → ((fr : Frame) → Onward w (step fr)) → ((fr : Frame) → Onward w (body fr)) → (fr : Frame) → Onward w (turns n condition step body fr)
 unfolding is_onward
-turns_onward w n c st b hc hs hb fr = turns_flow (is_onward w) (onward_flow w) n {condition = c} {condition' = c} {step = st} {step' = st} {body = b} {body' = b} hc hs hb fr
+turns_onward w n c st b hc hs hb fr =
+    turns_flow (is_onward w) (onward_flow w) n {condition = c} {condition' = c} {step = st} {step' = st} {body = b} {body' = b} hc hs hb fr
 
-pub repeats_onward : (w : World) (n : ℕ) (condition : Frame → Effect Value) (body : Frame → Effect Flow) → ((fr : Frame) → Onward w (condition fr)) → ((fr : Frame) → Onward w (body fr)) → (fr : Frame) → Onward w (repeats n condition body fr)
+pub repeats_onward : (w : World) (n : ℕ) (condition : Frame → Effect Value) (body : Frame → Effect Flow) → ((fr : Frame) → Onward w (condition fr))
+    → ((fr : Frame) → Onward w (body fr)) → (fr : Frame) → Onward w (repeats n condition body fr)
 unfolding is_onward
 repeats_onward w n c b hc hb fr = repeats_flow (is_onward w) (onward_flow w) n {condition = c} {condition' = c} {body = b} {body' = b} hc hb fr
 
-pub onward_turns : (w : World) {condition : Frame → Effect Value} {step body : Frame → Effect Flow} → ((fr : Frame) → Onward w (condition fr)) → ((fr : Frame) → Onward w (step fr)) → ((fr : Frame) → Onward w (body fr)) → (fr : Frame) → Onward w (λ s. turns (s.left + 1) condition step body fr s)
+pub onward_turns : (w : World) {condition : Frame → Effect Value} {step body : Frame → Effect Flow} → ((fr : Frame) → Onward w (condition fr))
+    → ((fr : Frame) → Onward w (step fr)) → ((fr : Frame) → Onward w (body fr)) → (fr : Frame) → Onward w (λ s. turns (s.left + 1) condition step body fr s)
 onward_turns w hc hs hb fr = record { from = λ s. (turns_onward w (s.left + 1) _ _ _ hc hs hb fr).from s }
 
-pub onward_repeats : (w : World) {condition : Frame → Effect Value} {body : Frame → Effect Flow} → ((fr : Frame) → Onward w (condition fr)) → ((fr : Frame) → Onward w (body fr)) → (fr : Frame) → Onward w (λ s. repeats (s.left + 1) condition body fr s)
+pub onward_repeats : (w : World) {condition : Frame → Effect Value} {body : Frame → Effect Flow} → ((fr : Frame) → Onward w (condition fr))
+    → ((fr : Frame) → Onward w (body fr)) → (fr : Frame) → Onward w (λ s. repeats (s.left + 1) condition body fr s)
 onward_repeats w hc hb fr = record { from = λ s. (repeats_onward w (s.left + 1) _ _ hc hb fr).from s }
 
 pub onward_law : (w : World) → IsLaw w w (is_onward w)

@@ -10,13 +10,16 @@ use Rattle.sc_text.specs.declared.end.TapeOwner.TheVariants.{Miner1, Miner2, Min
 use Rattle.sc_text.specs.declared.event.Event.{Event}
 use Rattle.gates.specs.declared.gate.Gate.{Gate}
 use Rattle.typed_tree.specs.Programs.{TypedProgramTree}
-use Rattle.language_model.specs.Effects.{Words, World, Stage, Stop, Ended, Short, Run, Effect, ◌>>=◌, carry, done, end, charge, test, fits, draw, gate, next_number, put_gates, emit, next_answers, show}
+use Rattle.language_model.specs.Effects.{Words, World, Stage, Stop, Ended, Short, Run, Effect, ◌>>=◌, carry, done, end, charge, test, fits, draw}
+use Rattle.language_model.specs.Effects.{gate, next_number, put_gates, emit, next_answers, show}
 use Rattle.language_model.specs.Values.{Value, is_true}
 use Rattle.language_model.specs.Operations.{tested}
 use Rattle.language_model.specs.Evaluation.{Frame, either, Flow, goes, returns, stops, skips, turned, turns, repeats}
 use Rattle.language_model.specs.Beginnings.{Begins}
 use Rattle.language_model.proofs.Walk.{IsLaw, main_of, program_holds}
-use Rattle.language_model.proofs.Onward.{stage_of, begins_none, begins_then, Onward, onward_bind, onward_done, onward_end, onward_charge, onward_test, onward_draw, onward_gate, onward_number, onward_gates, onward_emit, onward_answers, onward_show, turns_onward, repeats_onward, onward_turns, onward_repeats}
+use Rattle.language_model.proofs.Onward.{stage_of, begins_none, begins_then, Onward, onward_bind, onward_done, onward_end, onward_charge, onward_test}
+use Rattle.language_model.proofs.Onward.{onward_draw, onward_gate, onward_number, onward_gates, onward_emit, onward_answers, onward_show}
+use Rattle.language_model.proofs.Onward.{turns_onward, repeats_onward, onward_turns, onward_repeats}
 
 -- the same place in a run with so much more budget
 abbrev pub later : ℕ → Stage → Stage
@@ -67,15 +70,22 @@ past_of k (Err e) l = go (is_budget e.0)
     go true = tt
     go false = l
 
-exceeds_then : {A B : Type 0} (w : World) (k : ℕ) (t : Stage) (r : Run A) (f : A → Effect B) → ((a : A) → Onward w (f a)) → Exceeds k t r → Exceeds k t (carry r f)
+exceeds_then : {A B : Type 0} (w : World) (k : ℕ) (t : Stage) (r : Run A) (f : A → Effect B) → ((a : A) → Onward w (f a)) → Exceeds k t r
+    → Exceeds k t (carry r f)
 exceeds_then w k t (Ok x) f o h =
     let went = (o x.0).from x.1 in
     let u = stage_of (f x.0 x.1) in
-    record { past = past_of k (f x.0 x.1) (omega (arith, went.left, h.past)); events = begins_then t.events x.1.events u.events h.events went.events; opened = begins_then t.opened x.1.opened u.opened h.opened went.opened; gates = begins_then t.gates x.1.gates u.gates h.gates went.gates }
+    record {
+      past = past_of k (f x.0 x.1) (omega (arith, went.left, h.past));
+      events = begins_then t.events x.1.events u.events h.events went.events;
+      opened = begins_then t.opened x.1.opened u.opened h.opened went.opened;
+      gates = begins_then t.gates x.1.gates u.gates h.gates went.gates;
+    }
 exceeds_then w k t (Err e) f o h = record { past = h.past; events = h.events; opened = h.opened; gates = h.gates }
 
 -- what follows needs to agree only where the first part came to its end
-follows_then : {A B : Type 0} (w : World) (k : ℕ) (r r' : Run A) (f f' : A → Effect B) → ((a : A) → Onward w (f' a)) → Follows k r r' → ((a : A) (t : Stage) → r ≡ Ok (a, t) → Follows k (f a t) (f' a (later k t))) → Follows k (carry r f) (carry r' f')
+follows_then : {A B : Type 0} (w : World) (k : ℕ) (r r' : Run A) (f f' : A → Effect B) → ((a : A) → Onward w (f' a)) → Follows k r r'
+    → ((a : A) (t : Stage) → r ≡ Ok (a, t) → Follows k (f a t) (f' a (later k t))) → Follows k (carry r f) (carry r' f')
 follows_then w k (Ok x) r' f f' o h j = subst (λ z. Follows k (f x.0 x.1) (carry z f')) (sym h) (j x.0 x.1 refl)
 follows_then {A = A} {B = B} w k (Err e) r' f f' o h j = go (is_budget e.0) h
   where
@@ -83,11 +93,13 @@ follows_then {A = A} {B = B} w k (Err e) r' f f' o h j = go (is_budget e.0) h
     go true h = exceeds_then w k e.1 r' f' o h
     go false h = ap (λ z. carry z f') h
 
-steady_bind : {w : World} {n n' : ℕ} {A B : Type 0} {m m' : Effect A} {f f' : A → Effect B} → Steady w n n' m m' → ((a : A) → Steady w n n' (f a) (f' a)) → Steady w n n' (m >>= f) (m' >>= f')
+steady_bind : {w : World} {n n' : ℕ} {A B : Type 0} {m m' : Effect A} {f f' : A → Effect B} → Steady w n n' m m'
+    → ((a : A) → Steady w n n' (f a) (f' a)) → Steady w n n' (m >>= f) (m' >>= f')
 steady_bind {w = w} {n = n} {n' = n'} {A = A} {m = m} {m' = m'} {f = f} {f' = f'} h j = record {
   before = onward_bind h.before (λ a. (j a).before);
   after = onward_bind h.after (λ a. (j a).after);
-  from = λ s k l l'. follows_then w k (m s) (m' (later k s)) f f' (λ a. (j a).after) (h.from s k l l') (λ a t e. (j a).from t k (lower s k t a e l) (lower_too s k t a e l'));
+  from = λ s k l l'. follows_then w k (m s) (m' (later k s)) f f' (λ a. (j a).after) (h.from s k l l')
+      (λ a t e. (j a).from t k (lower s k t a e l) (lower_too s k t a e l'));
 }
   where
     fallen : (s t : Stage) (a : A) → m s ≡ Ok (a, t) → t.left ≤ s.left
@@ -111,7 +123,13 @@ stops_so : (A : Type 0) (k : ℕ) (e : Stop) (s : Stage) → Follows {A = A} k (
 stops_so A k e s = go (is_budget e) refl
   where
     go : (c : Bool) → is_budget e ≡ c → FollowsEnd {A = A} c k (e, s) (Err (e, later k s))
-    go true q = record { past = subst (λ z. PastEnd z k (later k s)) (sym q) tt; events = begins_none s.events s.events refl; opened = begins_none s.opened s.opened refl; gates = begins_none s.gates s.gates refl }
+    go true q = record {
+      past = subst (λ z. PastEnd z k (later k s)) (sym q) tt;
+      events = begins_none s.events s.events refl;
+      opened =
+          begins_none s.opened s.opened refl;
+      gates = begins_none s.gates s.gates refl;
+    }
     go false q = refl
 
 steady_end : {w : World} {n n' : ℕ} {A : Type 0} (e : Ending) → Steady w n n' (end {A = A} e) (end {A = A} e)
@@ -120,7 +138,9 @@ steady_end e = record { before = onward_end e; after = onward_end e; from = λ s
 charge_follows : (n k : ℕ) (s : Stage) → Follows k (charge n s) (charge n (later k s))
 charge_follows n k s = go (nat_le n s.left) (nat_le n (s.left + k)) refl refl
   where
-    go : (c c' : Bool) → nat_le n s.left ≡ c → nat_le n (s.left + k) ≡ c' → Follows {A = Unit {0}} k (cond c (Ok (tt, record s { left = s.left - n })) (Err (Ended Budget, s))) (cond c' (Ok (tt, record s { left = s.left + k - n })) (Err (Ended Budget, later k s)))
+    go : (c c' : Bool) → nat_le n s.left ≡ c → nat_le n (s.left + k) ≡ c'
+        → Follows {A = Unit {0}} k (cond c (Ok (tt, record s { left = s.left - n })) (Err (Ended Budget, s)))
+        (cond c' (Ok (tt, record s { left = s.left + k - n })) (Err (Ended Budget, later k s)))
     go true true e e' =
         let l : n ≤ s.left = leb-true n s.left e in
         let same : s.left + k - n ≡ s.left - n + k = omega arith in
@@ -132,7 +152,13 @@ charge_follows n k s = go (nat_le n s.left) (nat_le n (s.left + k)) refl refl
     go false true e e' =
         let g : s.left < n = leb-false n s.left e in
         let l : n ≤ s.left + k = leb-true n (s.left + k) e' in
-        record { past = omega arith; events = begins_none s.events s.events refl; opened = begins_none s.opened s.opened refl; gates = begins_none s.gates s.gates refl }
+        record {
+          past = omega arith;
+          events = begins_none s.events s.events refl;
+          opened = begins_none s.opened s.opened refl;
+          gates =
+              begins_none s.gates s.gates refl;
+        }
     go false false e e' = stops_so (Unit {0}) k (Ended Budget) s
 
 steady_charge : {w : World} {n n' : ℕ} (c : ℕ) → Steady w n n' (charge c) (charge c)
@@ -142,10 +168,12 @@ steady_test : {w : World} {n n' : ℕ} (b : Bool) (kind : TrapKind) (line : ℕ)
 steady_test true kind line = record { before = onward_test true kind line; after = onward_test true kind line; from = λ s k l l'. refl }
 steady_test false kind line = record { before = onward_test false kind line; after = onward_test false kind line; from = λ s k l l'. refl }
 
-fits_follow : {B : Type 0} (k : ℕ) (owner : TapeOwner) (need have : ℕ) (f f' : Unit {0} → Effect B) (s : Stage) → Follows k (f tt s) (f' tt (later k s)) → Follows k (carry (fits owner need have s) f) (carry (fits owner need have (later k s)) f')
+fits_follow : {B : Type 0} (k : ℕ) (owner : TapeOwner) (need have : ℕ) (f f' : Unit {0} → Effect B) (s : Stage)
+    → Follows k (f tt s) (f' tt (later k s)) → Follows k (carry (fits owner need have s) f) (carry (fits owner need have (later k s)) f')
 fits_follow k owner need have f f' s h = go (nat_le need have)
   where
-    go : (c : Bool) → Follows k (carry (cond c (Ok (tt, s)) (Err (Ended (Tape owner need have), s))) f) (carry (cond c (Ok (tt, later k s)) (Err (Ended (Tape owner need have), later k s))) f')
+    go : (c : Bool) → Follows k (carry (cond c (Ok (tt, s)) (Err (Ended (Tape owner need have), s))) f)
+        (carry (cond c (Ok (tt, later k s)) (Err (Ended (Tape owner need have), later k s))) f')
     go true = h
     go false = refl
 
@@ -153,7 +181,8 @@ steady_draw : (w : World) {n n' : ℕ} (c : Words) → Steady w n n' (draw w c) 
 steady_draw w c = record {
   before = onward_draw w c;
   after = onward_draw w c;
-  from = λ s k l l'. fits_follow k Miner1 (s.drawn.first + c.first) w.lengths.first _ _ s (fits_follow k Miner2 (s.drawn.second + c.second) w.lengths.second _ _ s (fits_follow k Miner3 (s.drawn.third + c.third) w.lengths.third _ _ s refl));
+  from = λ s k l l'. fits_follow k Miner1 (s.drawn.first + c.first) w.lengths.first _ _ s
+      (fits_follow k Miner2 (s.drawn.second + c.second) w.lengths.second _ _ s (fits_follow k Miner3 (s.drawn.third + c.third) w.lengths.third _ _ s refl));
 }
 
 steady_gate : {w : World} {n n' : ℕ} (g : Gate) → Steady w n n' (gate g) (gate g)
@@ -174,7 +203,9 @@ steady_show words = record { before = onward_show words; after = onward_show wor
 steady_answers : {w : World} {n n' : ℕ} (c : ℕ) → Steady w n n' (next_answers c) (next_answers c)
 steady_answers c = record { before = onward_answers c; after = onward_answers c; from = λ s k l l'. go s k (nat_le c (length s.answers)) }
   where
-    go : (s : Stage) (k : ℕ) (b : Bool) → Follows k (cond b (Ok (take c s.answers, record s { answers = drop c s.answers })) (Err (Short, s))) (cond b (Ok (take c s.answers, record s { answers = drop c s.answers; left = s.left + k })) (Err (Short, later k s)))
+    go : (s : Stage) (k : ℕ) (b : Bool)
+        → Follows k (cond b (Ok (take c s.answers, record s { answers = drop c s.answers })) (Err (Short, s)))
+        (cond b (Ok (take c s.answers, record s { answers = drop c s.answers; left = s.left + k })) (Err (Short, later k s)))
     go s k true = refl
     go s k false = refl
 
@@ -183,18 +214,22 @@ steady_answers c = record { before = onward_answers c; after = onward_answers c;
 tested_falls : (v : Value) (s : Stage) (b : Bool) (t : Stage) → tested v s ≡ Ok (b, t) → t.left < s.left
 tested_falls v s b t e = go (nat_le 1 s.left) refl e
   where
-    go : (c : Bool) → nat_le 1 s.left ≡ c → ◌≡◌ {A = Run Bool} (carry {A = Unit {0}} (cond c (Ok (tt, record s { left = s.left - 1 })) (Err (Ended Budget, s))) (λ _. done (is_true v))) (Ok (b, t)) → t.left < s.left
+    go : (c : Bool) → nat_le 1 s.left ≡ c
+        → ◌≡◌ {A = Run Bool} (carry {A = Unit {0}} (cond c (Ok (tt, record s { left = s.left - 1 })) (Err (Ended Budget, s))) (λ _. done (is_true v)))
+        (Ok (b, t)) → t.left < s.left
     go true q e =
         let l : 1 ≤ s.left = leb-true 1 s.left q in
         let f : s.left - 1 ≡ t.left = ap (λ z. (stage_of z).left) e in
         omega arith
     go false q e = cc
 
-steady_tested : {w : World} {n n' : ℕ} {A : Type 0} (v : Value) (f f' : Bool → Effect A) → ((b : Bool) → Steady w n n' (f b) (f' b)) → Steady w (suc n) (suc n') (tested v >>= f) (tested v >>= f')
+steady_tested : {w : World} {n n' : ℕ} {A : Type 0} (v : Value) (f f' : Bool → Effect A) → ((b : Bool) → Steady w n n' (f b) (f' b))
+    → Steady w (suc n) (suc n') (tested v >>= f) (tested v >>= f')
 steady_tested {w = w} {n = n} {n' = n'} v f f' h = record {
   before = onward_bind test_onward (λ b. (h b).before);
   after = onward_bind test_onward (λ b. (h b).after);
-  from = λ s k l l'. follows_then w k (tested v s) (tested v (later k s)) f f' (λ b. (h b).after) (test_follows s k) (λ b t e. (h b).from t k (lower s b t e l) (lower_too s k b t e l'));
+  from = λ s k l l'. follows_then w k (tested v s) (tested v (later k s)) f f' (λ b. (h b).after) (test_follows s k)
+      (λ b t e. (h b).from t k (lower s b t e l) (lower_too s k b t e l'));
 }
   where
     test_onward : Onward w (tested v)
@@ -209,11 +244,13 @@ steady_tested {w = w} {n = n} {n' = n'} v f f' h = record {
     lower_too : (s : Stage) (k : ℕ) (b : Bool) (t : Stage) → tested v s ≡ Ok (b, t) → s.left + k < suc n' → t.left + k < n'
     lower_too s k b t e l = omega (arith, tested_falls v s b t e)
 
-steady_either : {w : World} {n n' : ℕ} {A : Type 0} (b : Bool) {m m' q q' : Effect A} → Steady w n n' m m' → Steady w n n' q q' → Steady w n n' (either b m q) (either b m' q')
+steady_either : {w : World} {n n' : ℕ} {A : Type 0} (b : Bool) {m m' q q' : Effect A} → Steady w n n' m m' → Steady w n n' q q'
+    → Steady w n n' (either b m q) (either b m' q')
 steady_either true h j = h
 steady_either false h j = j
 
-steady_turned : {w : World} {n n' : ℕ} (g : Flow) (f f' : Frame → Effect Flow) → ((fr : Frame) → Steady w n n' (f fr) (f' fr)) → Steady w n n' (turned g f) (turned g f')
+steady_turned : {w : World} {n n' : ℕ} (g : Flow) (f f' : Frame → Effect Flow) → ((fr : Frame) → Steady w n n' (f fr) (f' fr))
+    → Steady w n n' (turned g f) (turned g f')
 steady_turned (goes fr) f f' h = h fr
 steady_turned (skips fr) f f' h = h fr
 steady_turned (stops fr) f f' h = steady_done (goes fr)
@@ -226,7 +263,12 @@ module _ (w : World) (condition condition' : Frame → Effect Value) (step step'
     turn : (fr : Frame) → Steady w n n' (body fr) (body' fr)
 
   loop_less : (n n' p p' : ℕ) → p ≤ n → p' ≤ n' → IsSteadyLoop n n' → IsSteadyLoop p p'
-  loop_less n n' p p' i j h = record { tests = λ fr. steady_less p p' i j (h.tests fr); steps = λ fr. steady_less p p' i j (h.steps fr); turn = λ fr. steady_less p p' i j (h.turn fr) }
+  loop_less n n' p p' i j h = record {
+    tests = λ fr. steady_less p p' i j (h.tests fr);
+    steps = λ fr. steady_less p p' i j (h.steps fr);
+    turn =
+        λ fr. steady_less p p' i j (h.turn fr);
+  }
 
   turns_steady : (n n' : ℕ) → IsSteadyLoop n n' → (fr : Frame) → Steady w n n' (turns n condition step body fr) (turns n' condition' step' body' fr)
   unfolding turns
@@ -243,7 +285,8 @@ module _ (w : World) (condition condition' : Frame → Effect Value) (step step'
   turns_steady (suc n) (suc n') h fr =
       let less = loop_less (suc n) (suc n') n n' (omega arith) (omega arith) h in
       steady_bind (h.tests fr) (λ v. steady_tested v _ _ (λ t. steady_either t
-      (steady_bind (less.turn fr) (λ g. steady_turned g _ _ (λ f. steady_bind (less.steps f) (λ q. steady_turned q _ _ (turns_steady n n' less))))) (steady_done (goes fr))))
+      (steady_bind (less.turn fr) (λ g. steady_turned g _ _ (λ f. steady_bind (less.steps f) (λ q. steady_turned q _ _ (turns_steady n n' less)))))
+      (steady_done (goes fr))))
 
   repeats_steady : (n n' : ℕ) → IsSteadyLoop n n' → (fr : Frame) → Steady w n n' (repeats n condition body fr) (repeats n' condition' body' fr)
   unfolding repeats
@@ -259,20 +302,30 @@ module _ (w : World) (condition condition' : Frame → Effect Value) (step step'
   }
   repeats_steady (suc n) (suc n') h fr =
       let less = loop_less (suc n) (suc n') n n' (omega arith) (omega arith) h in
-      steady_bind (h.turn fr) (λ g. steady_turned g _ _ (λ f. steady_bind (h.tests f) (λ v. steady_tested v _ _ (λ t. steady_either t (repeats_steady n n' less f) (steady_done (goes f))))))
+      steady_bind (h.turn fr) (λ g. steady_turned g _ _
+      (λ f. steady_bind (h.tests f) (λ v. steady_tested v _ _ (λ t. steady_either t (repeats_steady n n' less f) (steady_done (goes f))))))
 
-steady_turns : {w : World} {n n' : ℕ} {condition condition' : Frame → Effect Value} {step step' body body' : Frame → Effect Flow} → ((fr : Frame) → Steady w n n' (condition fr) (condition' fr)) → ((fr : Frame) → Steady w n n' (step fr) (step' fr)) → ((fr : Frame) → Steady w n n' (body fr) (body' fr)) → (fr : Frame) → Steady w n n' (λ s. turns (s.left + 1) condition step body fr s) (λ s. turns (s.left + 1) condition' step' body' fr s)
+steady_turns : {w : World} {n n' : ℕ} {condition condition' : Frame → Effect Value} {step step' body body' : Frame → Effect Flow}
+    → ((fr : Frame) → Steady w n n' (condition fr) (condition' fr)) → ((fr : Frame) → Steady w n n' (step fr) (step' fr))
+    → ((fr : Frame) → Steady w n n' (body fr) (body' fr)) → (fr : Frame)
+    → Steady w n n' (λ s. turns (s.left + 1) condition step body fr s) (λ s. turns (s.left + 1) condition' step' body' fr s)
 steady_turns {w = w} {n = n} {n' = n'} {condition = c} {condition' = c'} {step = st} {step' = st'} {body = b} {body' = b'} hc hs hb fr = record {
   before = onward_turns w (λ f. (hc f).before) (λ f. (hs f).before) (λ f. (hb f).before) fr;
   after = onward_turns w (λ f. (hc f).after) (λ f. (hs f).after) (λ f. (hb f).after) fr;
-  from = λ s k l l'. (turns_steady w c c' st st' b b' (s.left + 1) (s.left + k + 1) (loop_less w c c' st st' b b' n n' (s.left + 1) (s.left + k + 1) (omega arith) (omega arith) (record { tests = hc; steps = hs; turn = hb })) fr).from s k (omega arith) (omega arith);
+  from = λ s k l l'. (turns_steady w c c' st st' b b' (s.left + 1) (s.left + k + 1)
+      (loop_less w c c' st st' b b' n n' (s.left + 1) (s.left + k + 1) (omega arith) (omega arith) (record { tests = hc; steps = hs; turn = hb }))
+      fr).from s k (omega arith) (omega arith);
 }
 
-steady_repeats : {w : World} {n n' : ℕ} {condition condition' : Frame → Effect Value} {body body' : Frame → Effect Flow} → ((fr : Frame) → Steady w n n' (condition fr) (condition' fr)) → ((fr : Frame) → Steady w n n' (body fr) (body' fr)) → (fr : Frame) → Steady w n n' (λ s. repeats (s.left + 1) condition body fr s) (λ s. repeats (s.left + 1) condition' body' fr s)
+steady_repeats : {w : World} {n n' : ℕ} {condition condition' : Frame → Effect Value} {body body' : Frame → Effect Flow}
+    → ((fr : Frame) → Steady w n n' (condition fr) (condition' fr)) → ((fr : Frame) → Steady w n n' (body fr) (body' fr)) → (fr : Frame)
+    → Steady w n n' (λ s. repeats (s.left + 1) condition body fr s) (λ s. repeats (s.left + 1) condition' body' fr s)
 steady_repeats {w = w} {n = n} {n' = n'} {condition = c} {condition' = c'} {body = b} {body' = b'} hc hb fr = record {
   before = onward_repeats w (λ f. (hc f).before) (λ f. (hb f).before) fr;
   after = onward_repeats w (λ f. (hc f).after) (λ f. (hb f).after) fr;
-  from = λ s k l l'. (repeats_steady w c c' b b' b b' (s.left + 1) (s.left + k + 1) (loop_less w c c' b b' b b' n n' (s.left + 1) (s.left + k + 1) (omega arith) (omega arith) (record { tests = hc; steps = hb; turn = hb })) fr).from s k (omega arith) (omega arith);
+  from = λ s k l l'. (repeats_steady w c c' b b' b b' (s.left + 1) (s.left + k + 1)
+      (loop_less w c c' b b' b b' n n' (s.left + 1) (s.left + k + 1) (omega arith) (omega arith) (record { tests = hc; steps = hb; turn = hb }))
+      fr).from s k (omega arith) (omega arith);
 }
 
 -- ---- whole programs

@@ -38,37 +38,47 @@ module _ (w w' : World) (source : w.source ≡ w'.source) (inputs : w.inputs ≡
   report_dealt (Ok x) = refl
   report_dealt (Err e) = refl
 
-  tapes_same : lacks_words (evaluated w p budget answers).stop ≡ false → HasWords w' (evaluated w p budget answers) → evaluated w' p budget answers ≡ evaluated w p budget answers
+  tapes_same : lacks_words (evaluated w p budget answers).stop ≡ false → HasWords w' (evaluated w p budget answers)
+      → evaluated w' p budget answers ≡ evaluated w p budget answers
   tapes_same = go (nat_le (dealing w) w.dealer) (nat_le (dealing w') w'.dealer) refl
     where
-      go : (c c' : Bool) → nat_le (dealing w') w'.dealer ≡ c' → lacks_words (Reported c w).stop ≡ false → HasWords w' (Reported c w) → Reported c' w' ≡ Reported c w
+      go : (c c' : Bool) → nat_le (dealing w') w'.dealer ≡ c' → lacks_words (Reported c w).stop ≡ false → HasWords w' (Reported c w)
+          → Reported c' w' ≡ Reported c w
       go true true e n h =
-          let same : run w' ≡ run w = (program_enough w w' source inputs p).longer (beginning budget answers) (report_had w (run w) n) (report_drawn w (run w) h.drawn) in
+          let same : run w' ≡ run w = (program_enough w w' source inputs p).longer (beginning budget answers) (report_had w (run w) n)
+          (report_drawn w (run w) h.drawn) in
           ap (report_of w' budget) same ∙ same_report (run w)
       go true false e n h =
           let more : w'.dealer < dealing w' = leb-false (dealing w') w'.dealer e in
           absurd (omega (arith, more, h.dealt, report_dealt (run w), same_dealing))
       go false c' e n h = cc
 
-  tapes_neither : lacks_words (evaluated w p budget answers).stop ≡ false → lacks_words (evaluated w' p budget answers).stop ≡ false → evaluated w' p budget answers ≡ evaluated w p budget answers
+  tapes_neither : lacks_words (evaluated w p budget answers).stop ≡ false → lacks_words (evaluated w' p budget answers).stop ≡ false
+      → evaluated w' p budget answers ≡ evaluated w p budget answers
   tapes_neither = go (nat_le (dealing w) w.dealer) (nat_le (dealing w') w'.dealer)
     where
       go : (c c' : Bool) → lacks_words (Reported c w).stop ≡ false → lacks_words (Reported c' w').stop ≡ false → Reported c' w' ≡ Reported c w
       go true true n n' =
-          let same : run w' ≡ run w = (program_enough w w' source inputs p).neither (beginning budget answers) (report_had w (run w) n) (report_had w' (run w') n') in
+          let same : run w' ≡ run w = (program_enough w w' source inputs p).neither (beginning budget answers) (report_had w (run w) n)
+          (report_had w' (run w') n') in
           ap (report_of w' budget) same ∙ same_report (run w)
       go true false n n' = cc
       go false c' n n' = cc
 
-  tapes_stop : lacks_words (evaluated w p budget answers).stop ≡ false → ¬ (HasWords w' (evaluated w p budget answers)) → lacks_words (evaluated w' p budget answers).stop ≡ true
+  tapes_stop : lacks_words (evaluated w p budget answers).stop ≡ false → ¬ (HasWords w' (evaluated w p budget answers))
+      → lacks_words (evaluated w' p budget answers).stop ≡ true
   tapes_stop n few = go (lacks_words (evaluated w' p budget answers).stop) refl
     where
       go : (c : Bool) → lacks_words (evaluated w' p budget answers).stop ≡ c → lacks_words (evaluated w' p budget answers).stop ≡ true
       go true q = q
       go false q = absurd (few (subst (HasWords w') (tapes_neither n q) (words_kept w' p budget answers)))
 
-pub enough_words : (w w' : World) (p : TypedProgramTree) (budget : ℕ) (answers : List ℕ) → w.source ≡ w'.source → w.inputs ≡ w'.inputs → lacks_words (evaluated w p budget answers).stop ≡ false → HasWords w' (evaluated w p budget answers) → evaluated w' p budget answers ≡ evaluated w p budget answers
+pub enough_words : (w w' : World) (p : TypedProgramTree) (budget : ℕ) (answers : List ℕ) → w.source ≡ w'.source → w.inputs ≡ w'.inputs
+    → lacks_words (evaluated w p budget answers).stop ≡ false → HasWords w' (evaluated w p budget answers)
+    → evaluated w' p budget answers ≡ evaluated w p budget answers
 enough_words w w' p budget answers source inputs n h = tapes_same w w' source inputs p budget answers n h
 
-pub too_few_words : (w w' : World) (p : TypedProgramTree) (budget : ℕ) (answers : List ℕ) → w.source ≡ w'.source → w.inputs ≡ w'.inputs → lacks_words (evaluated w p budget answers).stop ≡ false → ¬ (HasWords w' (evaluated w p budget answers)) → lacks_words (evaluated w' p budget answers).stop ≡ true
+pub too_few_words : (w w' : World) (p : TypedProgramTree) (budget : ℕ) (answers : List ℕ) → w.source ≡ w'.source → w.inputs ≡ w'.inputs
+    → lacks_words (evaluated w p budget answers).stop ≡ false → ¬ (HasWords w' (evaluated w p budget answers))
+    → lacks_words (evaluated w' p budget answers).stop ≡ true
 too_few_words w w' p budget answers source inputs n h = tapes_stop w w' source inputs p budget answers n h

@@ -27,19 +27,33 @@ use Rattle.typed_tree.specs.declared.operators.Operands.TheVariants.{Scalars}
 use Rattle.typed_tree.specs.declared.operators.Cast.{Cast}
 use Rattle.typed_tree.specs.declared.operators.Cast.TheVariants.{WordToWord, WordToBool, BoolToWord, BoolToBool}
 use Rattle.typed_tree.specs.declared.operators.Connective.{Connective}
-use Rattle.typed_tree.specs.Tree.{TypedTree, TypedTrees, word_node, truth_node, slot_node, call_node, size_node, cat_node, sum_node, bits_node, element_node, not_node, cast_node, binary_node, cut_node, declassify_node}
+use Rattle.typed_tree.specs.Tree.{TypedTree, TypedTrees, word_node, truth_node, slot_node, call_node, size_node, cat_node, sum_node, bits_node}
+use Rattle.typed_tree.specs.Tree.{element_node, not_node, cast_node, binary_node, cut_node, declassify_node}
 use Rattle.typed_tree.specs.Tree as Tree'
-use Rattle.typed_tree.specs.Commands.{Command, Commands, empty_command, block_command, if_command, loop_command, do_command, break_command, continue_command, return_command, assert_command, store_command, default_command, fill_command, input_command, element_command, publish_command, evaluate_command}
+use Rattle.typed_tree.specs.Commands.{Command, Commands, empty_command, block_command, if_command, loop_command, do_command, break_command}
+use Rattle.typed_tree.specs.Commands.{continue_command, return_command, assert_command, store_command, default_command, fill_command, input_command}
+use Rattle.typed_tree.specs.Commands.{element_command, publish_command, evaluate_command}
 use Rattle.typed_tree.specs.Commands as Commands'
 use Rattle.typed_tree.specs.Programs.{TypedFunctionTree, TypedProgramTree}
 use Rattle.reached_instances.specs.declared.instance.BoundDomain.{BoundDomain}
 use Rattle.reached_instances.specs.Domains.{Setting, domains}
 use Rattle.typed_tree.specs.Shapes.{shape_of}
-use Rattle.language_model.specs.Effects.{Words, World, Given, Source, Clear, Answers, Effect, ◌>>=◌, done, end, charge, test, draw, gate, next_number, put_gates, planned, emit, next_answers, answer, show}
-use Rattle.language_model.specs.Values.{Secrecy, Plain, Private, Value, plain, hidden, size, seen, default_words, elements_of}
+use Rattle.language_model.specs.Effects.{Words, World, Given, Source, Clear, Answers, Effect, ◌>>=◌, done, end, charge, test, draw, gate, next_number}
+use Rattle.language_model.specs.Effects.{put_gates, planned, emit, next_answers, answer, show}
+use Rattle.language_model.specs.Values.{Secrecy, Plain, Private, Value, plain, hidden, size, visible_words, default_words, elements_of}
 use Rattle.language_model.specs.Words.{flipped, result_size, result_words, are_alike, may_divide}
-use Rattle.language_model.specs.Operations.{charged, is_classified, words_of_operator, is_scalar_left, is_scalar_right, result_shape, made_private, read_answer, words_for_bits, number_from, number_of, classified_from, wanted, revealed, opened_from, declassified, stretched, flip, equal_gates, less_gates, word_gates, bool_gates, operator_gates, private_result, product_with, combined_from, operator_traps, operated, operation, negated_from, negated, cast_gates, changed, cast_from, cast_to, size_told, summed_from, summed, bits_from, bits_extracted, joined_from, joined, element_from, element_of_array, with_element_from, with_element, filled_from, filled, handed_over, published, tested, asserted}
-use Rattle.language_model.specs.Evaluation.{Frame, put, Calls, gives_private, slot_is_private, slots_of, bound_at, next_is_private, behind_next, connective, decides, truth_value, slot_shape, entered, result_of, place_in, array_elements, given_value, asked_for, input_from, input_named, either, cut_short, not_cut_short, value, arguments, Flow, goes, returns, stops, skips, then_do, turns, repeats, Place, stored, execute, execute_all, body_of, call_at, deepest}
+use Rattle.language_model.specs.Operations.{charged, is_classified, words_of_operator, is_scalar_left, is_scalar_right, result_shape, made_private}
+use Rattle.language_model.specs.Operations.{read_answer, words_for_bits, number_from, number_of, classified_from, wanted, revealed, opened_from}
+use Rattle.language_model.specs.Operations.{declassified, stretched, flip, equal_gates, less_gates, word_gates, bool_gates, operator_gates}
+use Rattle.language_model.specs.Operations.{private_result, product_with, combined_from, operator_traps, operated, operation, negated_from, negated}
+use Rattle.language_model.specs.Operations.{cast_gates, changed, cast_from, cast_to, size_told, summed_from, summed, bits_from, bits_extracted}
+use Rattle.language_model.specs.Operations.{joined_from, joined, element_from, element_of_array, with_element_from, with_element, filled_from, filled}
+use Rattle.language_model.specs.Operations.{handed_over, published, tested, asserted}
+use Rattle.language_model.specs.Evaluation.{Frame, put, Calls, gives_private, slot_is_private, slots_of, bound_at, next_is_private, behind_next}
+use Rattle.language_model.specs.Evaluation.{connective, decides, truth_value, slot_shape, entered, result_of, place_in, array_elements, given_value}
+use Rattle.language_model.specs.Evaluation.{asked_for, input_from, input_named, either, cut_short, not_cut_short, value, arguments, Flow, goes}
+use Rattle.language_model.specs.Evaluation.{returns, stops, skips, then_do, turns, repeats, StatementContext, stored, execute, execute_all, body_of}
+use Rattle.language_model.specs.Evaluation.{call_at, deepest}
 
 -- the steps, under two worlds with the same inputs and answers
 pub record IsLaw (w w' : World) (P : (A : Type 0) → Effect A → Effect A → Type 0) : Type 1 where
@@ -57,8 +71,12 @@ pub record IsLaw (w w' : World) (P : (A : Type 0) → Effect A → Effect A → 
   pub on_emit : (e : Event) → P _ (emit e) (emit e)
   pub on_answers : (n : ℕ) → P _ (next_answers n) (next_answers n)
   pub on_show : (words : List ℕ) → P _ (show words) (show words)
-  pub on_turns : {condition condition' : Frame → Effect Value} {step step' body body' : Frame → Effect Flow} → ((fr : Frame) → P _ (condition fr) (condition' fr)) → ((fr : Frame) → P _ (step fr) (step' fr)) → ((fr : Frame) → P _ (body fr) (body' fr)) → (fr : Frame) → P _ (λ s. turns (s.left + 1) condition step body fr s) (λ s. turns (s.left + 1) condition' step' body' fr s)
-  pub on_repeats : {condition condition' : Frame → Effect Value} {body body' : Frame → Effect Flow} → ((fr : Frame) → P _ (condition fr) (condition' fr)) → ((fr : Frame) → P _ (body fr) (body' fr)) → (fr : Frame) → P _ (λ s. repeats (s.left + 1) condition body fr s) (λ s. repeats (s.left + 1) condition' body' fr s)
+  pub on_turns : {condition condition' : Frame → Effect Value} {step step' body body' : Frame → Effect Flow}
+      → ((fr : Frame) → P _ (condition fr) (condition' fr)) → ((fr : Frame) → P _ (step fr) (step' fr)) → ((fr : Frame) → P _ (body fr) (body' fr))
+      → (fr : Frame) → P _ (λ s. turns (s.left + 1) condition step body fr s) (λ s. turns (s.left + 1) condition' step' body' fr s)
+  pub on_repeats : {condition condition' : Frame → Effect Value} {body body' : Frame → Effect Flow}
+      → ((fr : Frame) → P _ (condition fr) (condition' fr)) → ((fr : Frame) → P _ (body fr) (body' fr)) → (fr : Frame)
+      → P _ (λ s. repeats (s.left + 1) condition body fr s) (λ s. repeats (s.left + 1) condition' body' fr s)
 
 -- a program's run
 abbrev pub main_of : World → TypedProgramTree → Effect Value
@@ -99,7 +117,9 @@ module _ (w w' : World) (P : (A : Type 0) → Effect A → Effect A → Type 0) 
   pub revealed_holds : (v : Value) → P _ (revealed w v) (revealed w' v)
   revealed_holds v =
       law.bind (subst (λ o. P _ (answer w.source v.words) (answer o v.words)) law.source (answer_holds w.source v.words)) (λ words.
-      law.bind (law.on_show (read_answer v.shape.element words)) (λ _. law.bind (law.on_emit (event.Open (elements_of (plain v.shape (read_answer v.shape.element words))))) (λ _. law.on_done (plain v.shape (read_answer v.shape.element words)))))
+      law.bind (law.on_show (read_answer v.shape.element words))
+      (λ _. law.bind (law.on_emit (event.Open (elements_of (plain v.shape (read_answer v.shape.element words)))))
+      (λ _. law.on_done (plain v.shape (read_answer v.shape.element words)))))
 
   pub opened_holds : (x : Secrecy) (v : Value) → P _ (opened_from w x v) (opened_from w' x v)
   opened_holds Plain v = law.on_done v
@@ -154,10 +174,13 @@ module _ (w w' : World) (P : (A : Type 0) → Effect A → Effect A → Type 0) 
       law.bind (stretched_holds (is_scalar_left ds) n j) (λ u. law.bind (stretched_holds (is_scalar_right ds) n k) (λ v.
       law.bind (operator_gates_hold op n u v) (λ r. made_holds (result_shape op ds) (result_words op ds x y) r))))))
 
-  pub product_holds : (op : BinaryOperator) (ds : Operands) (scalar : Bool) (x : Value) (known words : List ℕ) → P _ (product_with op ds scalar x known words) (product_with op ds scalar x known words)
-  product_holds op ds scalar x known words = law.bind (number_holds x) (λ j. law.bind (stretched_holds scalar _ j) (λ u. law.bind (law.on_gate _) (λ r. law.on_done _)))
+  pub product_holds : (op : BinaryOperator) (ds : Operands) (scalar : Bool) (x : Value) (known words : List ℕ)
+      → P _ (product_with op ds scalar x known words) (product_with op ds scalar x known words)
+  product_holds op ds scalar x known words =
+      law.bind (number_holds x) (λ j. law.bind (stretched_holds scalar _ j) (λ u. law.bind (law.on_gate _) (λ r. law.on_done _)))
 
-  pub combined_holds : (a b : Secrecy) (op : BinaryOperator) (ds : Operands) (x y : Value) → P _ (combined_from a b w op ds x y) (combined_from a b w' op ds x y)
+  pub combined_holds : (a b : Secrecy) (op : BinaryOperator) (ds : Operands) (x y : Value)
+      → P _ (combined_from a b w op ds x y) (combined_from a b w' op ds x y)
   combined_holds Plain Plain op ds x y = law.on_done _
   combined_holds (Private j) (Private k) op ds x y = private_result_holds op ds x y
   combined_holds (Private j) Plain op ds x y = product_holds op ds _ x _ _
@@ -165,10 +188,13 @@ module _ (w w' : World) (P : (A : Type 0) → Effect A → Effect A → Type 0) 
 
   pub operated_holds : (line : ℕ) (op : BinaryOperator) (ds : Operands) (x y : Value) → P _ (operated w line op ds x y) (operated w' line op ds x y)
   operated_holds line op ds x y =
-      law.bind (charged_holds (operator_traps line op ds x y) (result_size ds x y) (law.bind (law.on_test (are_alike ds x y) trap.Length line) (λ _. law.on_test (may_divide op (seen y)) trap.Div line))) (λ _. combined_holds x.secrecy y.secrecy op ds x y)
+      law.bind (charged_holds (operator_traps line op ds x y) (result_size ds x y)
+      (law.bind (law.on_test (are_alike ds x y) trap.Length line) (λ _. law.on_test (may_divide op (visible_words y)) trap.Div line)))
+      (λ _. combined_holds x.secrecy y.secrecy op ds x y)
 
   pub operation_holds : (line : ℕ) (op : BinaryOperator) (ds : Operands) (x y : Value) → P _ (operation w line op ds x y) (operation w' line op ds x y)
-  operation_holds line op ds x y = law.bind (wanted_holds (is_classified op x y) x) (λ a. law.bind (wanted_holds (is_classified op y x) y) (λ b. operated_holds line op ds a b))
+  operation_holds line op ds x y =
+      law.bind (wanted_holds (is_classified op x y) x) (λ a. law.bind (wanted_holds (is_classified op y x) y) (λ b. operated_holds line op ds a b))
 
   pub negated_from_holds : (x : Secrecy) (v : Value) → P _ (negated_from x v) (negated_from x v)
   negated_from_holds Plain v = law.on_done _
@@ -210,7 +236,10 @@ module _ (w w' : World) (P : (A : Type 0) → Effect A → Effect A → Type 0) 
   pub bits_from_holds : (x : Secrecy) (v : Value) → P _ (bits_from w x v) (bits_from w' x v)
   bits_from_holds Plain v = law.on_done _
   bits_from_holds (Private k) v =
-      law.bind (law.on_draw (words_for_bits (size v))) (λ _. law.bind (number_holds v) (λ u. law.bind (planned_holds (λ first. bits_plan first u (size v))) (λ b. law.bind (law.on_gate (Spread b)) (λ r. made_holds (shape_of datatype.Bool true) (flat_map bits_of v.words) r))))
+      law.bind (law.on_draw (words_for_bits (size v)))
+      (λ _. law.bind (number_holds v)
+      (λ u. law.bind (planned_holds (λ first. bits_plan first u (size v)))
+      (λ b. law.bind (law.on_gate (Spread b)) (λ r. made_holds (shape_of datatype.Bool true) (flat_map bits_of v.words) r))))
 
   pub bits_holds : (line : ℕ) (v : Value) → P _ (bits_extracted w line v) (bits_extracted w' line v)
   bits_holds line v = law.bind (charged_holds _ _ (law.on_test _ _ _)) (λ _. bits_from_holds v.secrecy v)
@@ -271,9 +300,11 @@ module _ (w w' : World) (P : (A : Type 0) → Effect A → Effect A → Type 0) 
   asked_holds secret shape line None = law.bind (law.on_charge 1) (λ _. law.on_end _)
   asked_holds secret shape line (Some x) = law.bind (charged_holds _ _ (law.on_test _ _ _)) (λ _. given_holds secret x.0 x.1)
 
-  pub input_holds : (secret : Bool) (shape : Shape) (line : ℕ) (text : List ℕ) → P _ (asked_for secret shape line (input_named w text)) (asked_for secret shape line (input_named w' text))
+  pub input_holds : (secret : Bool) (shape : Shape) (line : ℕ) (text : List ℕ)
+      → P _ (asked_for secret shape line (input_named w text)) (asked_for secret shape line (input_named w' text))
   input_holds secret shape line text =
-      subst (λ xs. P _ (asked_for secret shape line (input_named w text)) (asked_for secret shape line (input_from 0 text xs))) law.inputs (asked_holds secret shape line (input_named w text))
+      subst (λ xs. P _ (asked_for secret shape line (input_named w text)) (asked_for secret shape line (input_from 0 text xs))) law.inputs
+      (asked_holds secret shape line (input_named w text))
 
   -- ---- EXPRESSIONS
 
@@ -304,21 +335,29 @@ module _ (w w' : World) (P : (A : Type 0) → Effect A → Effect A → Type 0) 
       value_holds here (size_node e) fr = law.bind (value_holds here e fr) size_holds
       value_holds here (cat_node line a b) fr =
           let secret = gives_private here (cat_node line a b) in
-          law.bind (value_holds here a fr) (λ x. law.bind (wanted_holds secret x) (λ u. law.bind (value_holds here b fr) (λ y. law.bind (wanted_holds secret y) (λ v. joined_holds line u v))))
+          law.bind (value_holds here a fr)
+          (λ x. law.bind (wanted_holds secret x)
+          (λ u. law.bind (value_holds here b fr) (λ y. law.bind (wanted_holds secret y) (λ v. joined_holds line u v))))
       value_holds here (sum_node e) fr = law.bind (value_holds here e fr) summed_holds
       value_holds here (bits_node line e) fr = law.bind (value_holds here e fr) (bits_holds line)
       value_holds here (element_node line a i) fr = law.bind (value_holds here a fr) (λ x. law.bind (value_holds here i fr) (λ j. element_holds line x j))
       value_holds here (not_node e) fr = law.bind (value_holds here e fr) negated_holds
       value_holds here (cast_node c e) fr = law.bind (value_holds here e fr) (cast_holds c)
-      value_holds here (binary_node line op ds a b) fr = law.bind (value_holds here a fr) (λ x. law.bind (value_holds here b fr) (λ y. operation_holds line op ds x y))
+      value_holds here (binary_node line op ds a b) fr =
+          law.bind (value_holds here a fr) (λ x. law.bind (value_holds here b fr) (λ y. operation_holds line op ds x y))
       value_holds here (cut_node c a b) fr =
-          law.bind (value_holds here a fr) (λ x. either_holds (gives_private here a) (not_cut_short_holds c x _ _ (value_holds here b fr)) (cut_short_holds c (gives_private here b) x _ _ (value_holds here b fr)))
+          law.bind (value_holds here a fr)
+          (λ x. either_holds (gives_private here a) (not_cut_short_holds c x _ _ (value_holds here b fr))
+          (cut_short_holds c (gives_private here b) x _ _ (value_holds here b fr)))
       value_holds here (declassify_node e) fr = law.bind (value_holds here e fr) declassified_holds
 
-      arguments_hold : (here : Setting) (bs : List BoundDomain) (ss : List Slot) (es : TypedTrees) (fr : Frame) → P _ (arguments w calls here bs ss es fr) (arguments w' calls' here bs ss es fr)
+      arguments_hold : (here : Setting) (bs : List BoundDomain) (ss : List Slot) (es : TypedTrees) (fr : Frame)
+          → P _ (arguments w calls here bs ss es fr) (arguments w' calls' here bs ss es fr)
       arguments_hold here bs ss Tree'.none fr = law.on_done _
       arguments_hold here bs ss (Tree'.also e es) fr =
-          law.bind (value_holds here e fr) (λ x. law.bind (wanted_holds (next_is_private bs ss) x) (λ a. law.bind (arguments_hold here bs (behind_next ss) es fr) (λ xs. law.on_done (a ∷ xs))))
+          law.bind (value_holds here e fr)
+          (λ x. law.bind (wanted_holds (next_is_private bs ss) x)
+          (λ a. law.bind (arguments_hold here bs (behind_next ss) es fr) (λ xs. law.on_done (a ∷ xs))))
 
     -- ---- STATEMENTS
 
@@ -329,12 +368,13 @@ module _ (w w' : World) (P : (A : Type 0) → Effect A → Effect A → Type 0) 
     then_holds (skips fr) f f' h = law.on_done _
 
     stored_holds : (here : Setting) (k : ℕ) (x : Value) (fr : Frame) → P _ (stored here k x fr) (stored here k x fr)
-    stored_holds here k x fr = law.bind (wanted_holds (slot_is_private here k) x) (λ v. law.bind (untrapped_holds (size v)) (λ _. law.on_done (goes (put k v fr))))
+    stored_holds here k x fr = law.bind (wanted_holds (slot_is_private here k) x)
+        (λ v. law.bind (untrapped_holds (size v)) (λ _. law.on_done (goes (put k v fr))))
 
     mutual
       unfolding execute execute_all
 
-      execute_holds : (at : Place) (c : Command) (fr : Frame) → P _ (execute w calls at c fr) (execute w' calls' at c fr)
+      execute_holds : (at : StatementContext) (c : Command) (fr : Frame) → P _ (execute w calls at c fr) (execute w' calls' at c fr)
       execute_holds at empty_command fr = law.on_done _
       execute_holds at (block_command cs) fr = execute_all_holds at cs fr
       execute_holds at (if_command e a b) fr =
@@ -344,23 +384,31 @@ module _ (w w' : World) (P : (A : Type 0) → Effect A → Effect A → Type 0) 
       execute_holds at break_command fr = law.on_done _
       execute_holds at continue_command fr = law.on_done _
       execute_holds at (return_command None) fr = law.on_done _
-      execute_holds at (return_command (Some e)) fr = law.bind (value_holds at.here e fr) (λ x. law.bind (wanted_holds at.secret_result x) (λ v. law.on_done (returns v)))
+      execute_holds at (return_command (Some e)) fr =
+          law.bind (value_holds at.here e fr) (λ x. law.bind (wanted_holds at.secret_result x) (λ v. law.on_done (returns v)))
       execute_holds at (assert_command line e) fr = law.bind (value_holds at.here e fr) (λ v. law.bind (asserted_holds line v) (λ _. law.on_done (goes fr)))
       execute_holds at (store_command k e) fr = law.bind (value_holds at.here e fr) (λ x. stored_holds at.here k x fr)
       execute_holds at (default_command k) fr = stored_holds at.here k (plain (slot_shape at.here k) (default_words (slot_shape at.here k).array)) fr
       execute_holds at (fill_command line k n e) fr =
-          law.bind (value_holds at.here n fr) (λ m. law.bind (value_holds at.here e fr) (λ x. law.bind (wanted_holds (slot_is_private at.here k) x) (λ a. law.bind (filled_holds line m a) (λ v. law.on_done (goes (put k v fr))))))
-      execute_holds at (input_command line k text) fr = law.bind (input_holds (slot_is_private at.here k) (slot_shape at.here k) line text) (λ x. stored_holds at.here k x fr)
+          law.bind (value_holds at.here n fr)
+          (λ m. law.bind (value_holds at.here e fr)
+          (λ x. law.bind (wanted_holds (slot_is_private at.here k) x) (λ a. law.bind (filled_holds line m a) (λ v. law.on_done (goes (put k v fr))))))
+      execute_holds at (input_command line k text) fr =
+          law.bind (input_holds (slot_is_private at.here k) (slot_shape at.here k) line text) (λ x. stored_holds at.here k x fr)
       execute_holds at (element_command line k i e) fr =
-          law.bind (value_holds at.here i fr) (λ j. law.bind (value_holds at.here e fr) (λ x. law.bind (wanted_holds (slot_is_private at.here k) x) (λ a. law.bind (with_element_holds line (fr k) j a) (λ v. law.on_done (goes (put k v fr))))))
+          law.bind (value_holds at.here i fr)
+          (λ j. law.bind (value_holds at.here e fr)
+          (λ x. law.bind (wanted_holds (slot_is_private at.here k) x)
+          (λ a. law.bind (with_element_holds line (fr k) j a) (λ v. law.on_done (goes (put k v fr))))))
       execute_holds at (publish_command text e) fr = law.bind (value_holds at.here e fr) (λ v. law.bind (published_holds text v) (λ _. law.on_done (goes fr)))
       execute_holds at (evaluate_command e) fr = law.bind (value_holds at.here e fr) (λ _. law.on_done (goes fr))
 
-      execute_all_holds : (at : Place) (cs : Commands) (fr : Frame) → P _ (execute_all w calls at cs fr) (execute_all w' calls' at cs fr)
+      execute_all_holds : (at : StatementContext) (cs : Commands) (fr : Frame) → P _ (execute_all w calls at cs fr) (execute_all w' calls' at cs fr)
       execute_all_holds at Commands'.none fr = law.on_done _
       execute_all_holds at (Commands'.also c cs) fr = law.bind (execute_holds at c fr) (λ g. then_holds g _ _ (execute_all_holds at cs))
 
-    body_holds : (fs : List TypedFunctionTree) (f : Option TypedFunctionTree) (bs : List BoundDomain) (xs : List Value) → P _ (body_of w calls fs f bs xs) (body_of w' calls' fs f bs xs)
+    body_holds : (fs : List TypedFunctionTree) (f : Option TypedFunctionTree) (bs : List BoundDomain) (xs : List Value)
+        → P _ (body_of w calls fs f bs xs) (body_of w' calls' fs f bs xs)
     body_holds fs None bs xs = law.on_done _
     body_holds fs (Some f) bs xs = law.bind (execute_all_holds (place_in fs f bs) f.body (entered bs f.slots xs)) (λ g. law.on_done (result_of g))
 
@@ -370,7 +418,8 @@ module _ (w w' : World) (P : (A : Type 0) → Effect A → Effect A → Type 0) 
   unfolding call_at
   calls_hold fs zero line k bs xs = law.bind (law.on_charge 1) (λ _. law.on_end _)
   calls_hold fs (suc d) line k bs xs =
-      law.bind (law.on_charge 1) (λ _. law.bind (law.on_charge (sum (map array_elements xs))) (λ _. body_holds (call_at w fs d) (call_at w' fs d) (calls_hold fs d) fs (slice_get fs k) bs xs))
+      law.bind (law.on_charge 1) (λ _. law.bind (law.on_charge (sum (map array_elements xs)))
+      (λ _. body_holds (call_at w fs d) (call_at w' fs d) (calls_hold fs d) fs (slice_get fs k) bs xs))
 
   pub program_holds : (p : TypedProgramTree) → P _ (main_of w p) (main_of w' p)
   program_holds p = body_holds _ _ (calls_hold p.functions (deepest - 1)) p.functions (slice_get p.functions 0) [] []

@@ -1,5 +1,6 @@
 -- Evaluation: what a typed program does, expression by expression and statement by statement.
-use Rattle.std.specs.Prelude.{ℕ, zero, suc, ◌+◌, Bool, true, false, not, ◌&&◌, nat_eq, if◌then◌else◌, List, [], ◌∷◌, length, map, sum, Option, Some, None, bytes_eq}
+use Rattle.std.specs.Prelude.{ℕ, zero, suc, ◌+◌, Bool, true, false, not, ◌&&◌, nat_eq, if◌then◌else◌, List, [], ◌∷◌, length, map, sum, Option, Some}
+use Rattle.std.specs.Prelude.{None, bytes_eq}
 use Rattle.std.specs.List.{slice_get}
 use Rattle.sc_text.specs.declared.end.Ending.TheVariants as ending
 use Rattle.sc_text.specs.declared.end.TrapKind.TheVariants as trap
@@ -14,9 +15,12 @@ use Rattle.typed_tree.specs.declared.operators.BinaryOperator.TheVariants as bin
 use Rattle.typed_tree.specs.declared.operators.Operands.TheVariants.{Scalars}
 use Rattle.typed_tree.specs.declared.operators.Connective.{Connective}
 use Rattle.typed_tree.specs.declared.operators.Connective.TheVariants.{AndAlso, OrElse}
-use Rattle.typed_tree.specs.Tree.{TypedTree, TypedTrees, word_node, truth_node, slot_node, call_node, size_node, cat_node, sum_node, bits_node, element_node, not_node, cast_node, binary_node, cut_node, declassify_node}
+use Rattle.typed_tree.specs.Tree.{TypedTree, TypedTrees, word_node, truth_node, slot_node, call_node, size_node, cat_node, sum_node, bits_node}
+use Rattle.typed_tree.specs.Tree.{element_node, not_node, cast_node, binary_node, cut_node, declassify_node}
 use Rattle.typed_tree.specs.Tree as Tree'
-use Rattle.typed_tree.specs.Commands.{Command, Commands, empty_command, block_command, if_command, loop_command, do_command, break_command, continue_command, return_command, assert_command, store_command, default_command, fill_command, input_command, element_command, publish_command, evaluate_command}
+use Rattle.typed_tree.specs.Commands.{Command, Commands, empty_command, block_command, if_command, loop_command, do_command, break_command}
+use Rattle.typed_tree.specs.Commands.{continue_command, return_command, assert_command, store_command, default_command, fill_command, input_command}
+use Rattle.typed_tree.specs.Commands.{element_command, publish_command, evaluate_command}
 use Rattle.typed_tree.specs.Commands as Commands'
 use Rattle.typed_tree.specs.Programs.{TypedFunctionTree}
 use Rattle.reached_instances.specs.declared.instance.BoundDomain.{BoundDomain}
@@ -27,7 +31,8 @@ use Rattle.typed_tree.specs.Shapes.{shape_of}
 use Rattle.language_model.specs.Effects.{World, Given, Effect, ◌>>=◌, done, end, charge, test, gate}
 use Rattle.language_model.specs.Values.{Value, plain, never_stored, size, default_words}
 use Rattle.language_model.specs.Words.{truth_word}
-use Rattle.language_model.specs.Operations.{charged, no_traps, made_private, wanted, declassified, operation, negated, cast_to, size_told, summed, bits_extracted, joined, element_of_array, with_element, filled, published, tested, asserted}
+use Rattle.language_model.specs.Operations.{charged, no_traps, made_private, wanted, declassified, operation, negated, cast_to, size_told, summed}
+use Rattle.language_model.specs.Operations.{bits_extracted, joined, element_of_array, with_element, filled, published, tested, asserted}
 
 -- the values in a function's slots
 abbrev pub Frame : Type 0
@@ -241,7 +246,7 @@ repeats (suc n) condition body fr = do
   turned g (λ f. condition f >>= λ v. tested v >>= λ t. either t (repeats n condition body f) (done (goes f)))
 
 -- where a statement stands: in a body of a function whose result is private or not
-pub record Place : Type 0 where
+pub record StatementContext : Type 0 where
   pub here : Setting
   pub secret_result : Bool
 
@@ -260,7 +265,7 @@ stored here k x fr = do
   done (goes (put k v fr))
 
 unfoldable mutual
-  pub execute : World → Calls → Place → Command → Frame → Effect Flow
+  pub execute : World → Calls → StatementContext → Command → Frame → Effect Flow
   execute w calls at empty_command fr = done (goes fr)
   execute w calls at (block_command cs) fr = execute_all w calls at cs fr
   execute w calls at (if_command e a b) fr = do
@@ -309,7 +314,7 @@ unfoldable mutual
     _ ← value w calls at.here e fr
     done (goes fr)
 
-  pub execute_all : World → Calls → Place → Commands → Frame → Effect Flow
+  pub execute_all : World → Calls → StatementContext → Commands → Frame → Effect Flow
   execute_all w calls at Commands'.none fr = done (goes fr)
   execute_all w calls at (Commands'.also c cs) fr = do
     g ← execute w calls at c fr
@@ -333,7 +338,7 @@ result_of (returns v) = v
 result_of (stops fr) = nothing
 result_of (skips fr) = nothing
 
-abbrev pub place_in : List TypedFunctionTree → TypedFunctionTree → List BoundDomain → Place
+abbrev pub place_in : List TypedFunctionTree → TypedFunctionTree → List BoundDomain → StatementContext
 place_in fs f b =
     record {
       here = record { functions = fs; slots = f.slots; binding = b };

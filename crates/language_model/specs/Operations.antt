@@ -2,7 +2,8 @@
 --
 -- A charged operation charges 1, tests for its traps, charges what its result has of elements beyond the first, has its random words
 -- compared with the tapes, and then makes its gates.
-use Rattle.std.specs.Prelude.{ℕ, ◌+◌, ◌*◌, ◌-◌, Bool, true, false, not, ◌&&◌, nat_le, nat_lt, List, [], ◌∷◌, ◌++◌, Some, None, length, map, replicate, set, sum, ◌%◌, ◌^◌, get_or}
+use Rattle.std.specs.Prelude.{ℕ, ◌+◌, ◌*◌, ◌-◌, Bool, true, false, not, ◌&&◌, nat_le, nat_lt, List, [], ◌∷◌, ◌++◌, Some, None, length, map, replicate}
+use Rattle.std.specs.Prelude.{set, sum, ◌%◌, ◌^◌, get_or}
 use Rattle.std.specs.List.{flat_map}
 use Rattle.sc_text.specs.declared.end.TrapKind.TheVariants as trap
 use Rattle.sc_text.specs.declared.event.Event.TheVariants as event
@@ -28,7 +29,7 @@ use Rattle.typed_tree.specs.declared.operators.Cast.TheVariants.{WordToWord, Wor
 use Rattle.typed_tree.specs.Operators.{element_made}
 use Rattle.typed_tree.specs.Shapes.{shape_of}
 use Rattle.language_model.specs.Effects.{Words, World, Effect, ◌>>=◌, done, charge, test, words_each, draw, gate, planned, next_number, emit, answer, show}
-use Rattle.language_model.specs.Values.{Secrecy, Plain, Private, Value, plain, hidden, is_secret, size, seen, is_true, ring_for, elements_of}
+use Rattle.language_model.specs.Values.{Secrecy, Plain, Private, Value, plain, hidden, is_secret, size, visible_words, is_true, ring_for, elements_of}
 use Rattle.language_model.specs.Words as W
 
 -- ---- THE PARTS OF AN OPERATION
@@ -236,7 +237,7 @@ combined_from Plain (Private k) w op ds x y = product_with op ds (is_scalar_righ
 abbrev pub operator_traps : ℕ → BinaryOperator → Operands → Value → Value → Effect (Unit {0})
 operator_traps line op ds x y = do
   _ ← test (W.are_alike ds x y) trap.Length line
-  test (W.may_divide op (seen y)) trap.Div line
+  test (W.may_divide op (visible_words y)) trap.Div line
 
 -- both operands are classified as they are wanted
 abbrev pub operated : World → ℕ → BinaryOperator → Operands → Value → Value → Effect Value
@@ -355,7 +356,7 @@ joined line x y = do
   joined_from x.secrecy y.secrecy x y
 
 abbrev pub position : Value → ℕ
-position i = first_word (seen i)
+position i = first_word (visible_words i)
 
 abbrev pub element_at : List ℕ → ℕ → ℕ
 element_at words i = get_or words i 0
@@ -374,7 +375,7 @@ element_of_array line v i = do
   element_from v.secrecy v (position i)
 
 abbrev pub with_element_from : Secrecy → Value → ℕ → Value → Effect Value
-with_element_from Plain v i x = done (plain v.shape (set v.words i (first_word (seen x))))
+with_element_from Plain v i x = done (plain v.shape (set v.words i (first_word (visible_words x))))
 with_element_from (Private k) v i x = do
   u ← number_of v
   e ← number_of x

@@ -40,11 +40,11 @@ abbrev pub seen_of : Secrecy → List ℕ → List ℕ
 seen_of Plain words = words
 seen_of (Private k) words = []
 
-abbrev pub seen : Value → List ℕ
-seen v = seen_of v.secrecy v.words
+abbrev pub visible_words : Value → List ℕ
+visible_words v = seen_of v.secrecy v.words
 
 abbrev pub is_true : Value → Bool
-is_true v = not (first_word (seen v) == 0)
+is_true v = not (first_word (visible_words v) == 0)
 
 -- 0, false or the empty array
 abbrev pub default_words : (array : Bool) → List ℕ

@@ -14,7 +14,7 @@ use Rattle.gates.specs.declared.ring_kind.RingKind.TheVariants.{Arithmetic, Bool
 use Rattle.typed_tree.specs.declared.kinds.Slot.{Slot}
 use Rattle.typed_tree.specs.declared.kinds.SlotDomain.{SlotDomain}
 use Rattle.typed_tree.specs.declared.kinds.SlotDomain.TheVariants as domain
-use Rattle.typed_tree.specs.declared.function.Given.TheVariants as given
+use Rattle.typed_tree.specs.declared.function.Returned.TheVariants as given
 use Rattle.typed_tree.specs.declared.operators.WordOperator.{WordOperator}
 use Rattle.typed_tree.specs.declared.operators.WordOperator.TheVariants as word
 use Rattle.typed_tree.specs.declared.operators.BoolOperator.TheVariants as truth
@@ -22,8 +22,10 @@ use Rattle.typed_tree.specs.declared.operators.BinaryOperator.TheVariants as ope
 use Rattle.typed_tree.specs.declared.operators.Operands.TheVariants.{Scalars, Arrays}
 use Rattle.typed_tree.specs.declared.operators.Connective.TheVariants.{AndAlso}
 use Rattle.typed_tree.specs.declared.operators.Cast.TheVariants.{WordToBool, BoolToWord}
-use Rattle.typed_tree.specs.Tree.{TypedTree, word_node, truth_node, slot_node, call_node, bits_node, element_node, cast_node, binary_node, cut_node, declassify_node, typed_trees_of}
-use Rattle.typed_tree.specs.Commands.{Command, commands_of, empty_command, block_command, if_command, loop_command, do_command, return_command, continue_command, assert_command, store_command, default_command, fill_command, input_command, publish_command}
+use Rattle.typed_tree.specs.Tree.{TypedTree, word_node, truth_node, slot_node, call_node, bits_node, element_node, cast_node, binary_node, cut_node}
+use Rattle.typed_tree.specs.Tree.{declassify_node, typed_trees_of}
+use Rattle.typed_tree.specs.Commands.{Command, commands_of, empty_command, block_command, if_command, loop_command, do_command, return_command}
+use Rattle.typed_tree.specs.Commands.{continue_command, assert_command, store_command, default_command, fill_command, input_command, publish_command}
 use Rattle.typed_tree.specs.Programs.{TypedFunctionTree, TypedProgramTree}
 use Rattle.typed_tree.specs.Shapes.{shape_of}
 use Rattle.language_model.specs.Effects.{Words, words_each, Given, Stop, Ended, Short}
@@ -92,7 +94,18 @@ about_two c = program (word_in private ∷ word_in private ∷ []) (ask 0 (codes
 abbrev sum_of_two : TypedProgramTree
 sum_of_two = about_two (tell (codes "s") (declassify_node (words word.Add (slot_node 0) (slot_node 1))))
 
-sum_told : eval sum_of_two (two 18446744073709551615 2) 1000000 ≡ record { stop = Ended ending.Done; cost = 7; dealt = 4; drawn = words_each 1; events = Open (Word 1 ∷ []) ∷ Publish (codes "s") (Word 1 ∷ []) ∷ []; opened = 1 ∷ []; gates = gate.Input 0 ∷ gate.Input 1 ∷ gate.Add 0 1 ∷ gate.Open Arithmetic 2 ∷ [] }
+sum_told : eval sum_of_two (two 18446744073709551615 2) 1000000
+    ≡ record {
+      stop = Ended ending.Done;
+      cost = 7;
+      dealt = 4;
+      drawn = words_each 1;
+      events =
+          Open (Word 1 ∷ []) ∷ Publish (codes "s") (Word 1 ∷ []) ∷ [];
+      opened = 1 ∷ [];
+      gates =
+          gate.Input 0 ∷ gate.Input 1 ∷ gate.Add 0 1 ∷ gate.Open Arithmetic 2 ∷ [];
+    }
 unfolding value arguments turns repeats execute execute_all call_at
 sum_told = refl
 
@@ -107,12 +120,14 @@ unfolding value arguments turns repeats execute execute_all call_at
 sum_without_words = refl
 
 -- the dealer's is one word short: nothing is needed, and nothing has run
-sum_not_dealt : eval sum_of_two (record (two 6 7) { dealer = 3 }) 1000000 ≡ record { stop = Ended (ending.Tape owner.Dealer 4 3); cost = 0; dealt = 0; drawn = words_each 0; events = []; opened = []; gates = [] }
+sum_not_dealt : eval sum_of_two (record (two 6 7) { dealer = 3 }) 1000000
+    ≡ record { stop = Ended (ending.Tape owner.Dealer 4 3); cost = 0; dealt = 0; drawn = words_each 0; events = []; opened = []; gates = [] }
 unfolding value arguments turns repeats execute execute_all call_at
 sum_not_dealt = refl
 
 -- one who knows what was opened sees the same run
-sum_blind : blind sum_of_two (two 18446744073709551615 2) (1 ∷ 5 ∷ []) 1000000 ≡ record (eval sum_of_two (two 18446744073709551615 2) 1000000) { events = Open (Word 1 ∷ []) ∷ Publish (codes "s") (Word 1 ∷ []) ∷ [] }
+sum_blind : blind sum_of_two (two 18446744073709551615 2) (1 ∷ 5 ∷ []) 1000000
+    ≡ record (eval sum_of_two (two 18446744073709551615 2) 1000000) { events = Open (Word 1 ∷ []) ∷ Publish (codes "s") (Word 1 ∷ []) ∷ [] }
 unfolding value arguments turns repeats execute execute_all call_at
 sum_blind = refl
 
@@ -123,26 +138,50 @@ sum_blind_short = refl
 -- p uint64 c = a * b; publish("c", c);
 abbrev product_for_the_client : TypedProgramTree
 product_for_the_client =
-    program (word_in private ∷ word_in private ∷ word_in private ∷ []) (ask 0 (codes "a") ∷ ask 1 (codes "b") ∷ store_command 2 (words word.Multiply (slot_node 0) (slot_node 1)) ∷ tell (codes "c") (slot_node 2) ∷ [])
+    program (word_in private ∷ word_in private ∷ word_in private ∷ [])
+    (ask 0 (codes "a") ∷ ask 1 (codes "b") ∷ store_command 2 (words word.Multiply (slot_node 0) (slot_node 1)) ∷ tell (codes "c") (slot_node 2) ∷ [])
 
-product_told : eval product_for_the_client (two 6 7) 1000000 ≡ record { stop = Ended ending.Done; cost = 7; dealt = 4; drawn = words_each 4; events = Publish (codes "c") (Word 42 ∷ []) ∷ []; opened = []; gates = gate.Input 0 ∷ gate.Input 1 ∷ gate.Mul 0 1 ∷ gate.Result Arithmetic 2 ∷ [] }
+product_told : eval product_for_the_client (two 6 7) 1000000
+    ≡ record {
+      stop = Ended ending.Done;
+      cost = 7;
+      dealt = 4;
+      drawn = words_each 4;
+      events = Publish (codes "c") (Word 42 ∷ []) ∷ [];
+      opened =
+          [];
+      gates = gate.Input 0 ∷ gate.Input 1 ∷ gate.Mul 0 1 ∷ gate.Result Arithmetic 2 ∷ [];
+    }
 unfolding value arguments turns repeats execute execute_all call_at
 product_told = refl
 
 -- p uint64[[1]] a = argument("a"); uint64[[1]] c = declassify(a * a); publish("c", c);
 abbrev squares : TypedProgramTree
 squares =
-    program (words_in private ∷ words_in domain.Public ∷ []) (ask 0 (codes "a") ∷ store_command 1 (declassify_node (binary_node 2 (operator.Words word.Multiply) Arrays (slot_node 0) (slot_node 0))) ∷ tell (codes "c") (slot_node 1) ∷ [])
+    program (words_in private ∷ words_in domain.Public ∷ [])
+    (ask 0 (codes "a") ∷ store_command 1 (declassify_node (binary_node 2 (operator.Words word.Multiply) Arrays (slot_node 0) (slot_node 0)))
+    ∷ tell (codes "c") (slot_node 1) ∷ [])
 
 -- of no elements
-no_squares : eval squares (offered (secret_words (codes "a") [] ∷ [])) 1000000 ≡ record { stop = Ended ending.Done; cost = 6; dealt = 0; drawn = words_each 0; events = Open [] ∷ Publish (codes "c") [] ∷ []; opened = []; gates = gate.Input 0 ∷ gate.Mul 0 0 ∷ gate.Open Arithmetic 1 ∷ [] }
+no_squares : eval squares (offered (secret_words (codes "a") [] ∷ [])) 1000000
+    ≡ record {
+      stop = Ended ending.Done;
+      cost = 6;
+      dealt = 0;
+      drawn = words_each 0;
+      events = Open [] ∷ Publish (codes "c") [] ∷ [];
+      opened =
+          [];
+      gates = gate.Input 0 ∷ gate.Mul 0 0 ∷ gate.Open Arithmetic 1 ∷ [];
+    }
 unfolding value arguments turns repeats execute execute_all call_at
 no_squares = refl
 
 -- and of 513, without the publication
 abbrev unpublished_squares : TypedProgramTree
 unpublished_squares =
-    program (words_in private ∷ words_in domain.Public ∷ []) (ask 0 (codes "a") ∷ store_command 1 (declassify_node (binary_node 2 (operator.Words word.Multiply) Arrays (slot_node 0) (slot_node 0))) ∷ [])
+    program (words_in private ∷ words_in domain.Public ∷ [])
+    (ask 0 (codes "a") ∷ store_command 1 (declassify_node (binary_node 2 (operator.Words word.Multiply) Arrays (slot_node 0) (slot_node 0))) ∷ [])
 
 many_squares_cost : (eval unpublished_squares (offered (secret_words (codes "a") (replicate 513 3) ∷ [])) 1000000).cost ≡ 2565
 unfolding value arguments turns repeats execute execute_all call_at
@@ -155,7 +194,9 @@ many_squares_need = refl
 -- bool e = declassify(a == b); publish("e", e);
 abbrev equality : TypedProgramTree
 equality =
-    program (word_in private ∷ word_in private ∷ bool_in domain.Public ∷ []) (ask 0 (codes "a") ∷ ask 1 (codes "b") ∷ store_command 2 (declassify_node (words word.Equal (slot_node 0) (slot_node 1))) ∷ tell (codes "e") (slot_node 2) ∷ [])
+    program (word_in private ∷ word_in private ∷ bool_in domain.Public ∷ [])
+    (ask 0 (codes "a") ∷ ask 1 (codes "b") ∷ store_command 2 (declassify_node (words word.Equal (slot_node 0) (slot_node 1)))
+    ∷ tell (codes "e") (slot_node 2) ∷ [])
 
 different : (eval equality (two 0 18446744073709551615) 1000000).events ≡ Open (Truth false ∷ []) ∷ Publish (codes "e") (Truth false ∷ []) ∷ []
 unfolding value arguments turns repeats execute execute_all call_at
@@ -223,7 +264,17 @@ to_bool_need = refl
 abbrev to_number : TypedProgramTree
 to_number = program (bool_in private ∷ []) (ask 0 (codes "b") ∷ tell (codes "n") (declassify_node (cast_node BoolToWord (slot_node 0))) ∷ [])
 
-true_is_one : eval to_number (offered (secret_bool (codes "b") 1 ∷ [])) 1000000 ≡ record { stop = Ended ending.Done; cost = 5; dealt = 2; drawn = three_words 5 2 2; events = Open (Word 1 ∷ []) ∷ Publish (codes "n") (Word 1 ∷ []) ∷ []; opened = 1 ∷ []; gates = gate.Input 0 ∷ gate.Conv 0 ∷ gate.Open Arithmetic 1 ∷ [] }
+true_is_one : eval to_number (offered (secret_bool (codes "b") 1 ∷ [])) 1000000
+    ≡ record {
+      stop = Ended ending.Done;
+      cost = 5;
+      dealt = 2;
+      drawn = three_words 5 2 2;
+      events =
+          Open (Word 1 ∷ []) ∷ Publish (codes "n") (Word 1 ∷ []) ∷ [];
+      opened = 1 ∷ [];
+      gates = gate.Input 0 ∷ gate.Conv 0 ∷ gate.Open Arithmetic 1 ∷ [];
+    }
 unfolding value arguments turns repeats execute execute_all call_at
 true_is_one = refl
 
@@ -246,27 +297,63 @@ bits_need = refl
 -- p bool a, b; publish("o", declassify(a | b));
 abbrev either_bool : TypedProgramTree
 either_bool =
-    program (bool_in private ∷ bool_in private ∷ []) (ask 0 (codes "a") ∷ ask 1 (codes "b") ∷ tell (codes "o") (declassify_node (binary_node 2 (operator.Bools truth.Or) Scalars (slot_node 0) (slot_node 1))) ∷ [])
+    program (bool_in private ∷ bool_in private ∷ [])
+    (ask 0 (codes "a") ∷ ask 1 (codes "b")
+    ∷ tell (codes "o") (declassify_node (binary_node 2 (operator.Bools truth.Or) Scalars (slot_node 0) (slot_node 1))) ∷ [])
 
-either_told : eval either_bool (offered (secret_bool (codes "a") 1 ∷ secret_bool (codes "b") 0 ∷ [])) 1000000 ≡ record { stop = Ended ending.Done; cost = 7; dealt = 4; drawn = words_each 4; events = Open (Truth true ∷ []) ∷ Publish (codes "o") (Truth true ∷ []) ∷ []; opened = 1 ∷ []; gates = gate.Input 0 ∷ gate.Input 1 ∷ gate.And 0 1 ∷ gate.Xor 0 1 ∷ gate.Xor 3 2 ∷ gate.Open Boolean 4 ∷ [] }
+either_told : eval either_bool (offered (secret_bool (codes "a") 1 ∷ secret_bool (codes "b") 0 ∷ [])) 1000000
+    ≡ record {
+      stop = Ended ending.Done;
+      cost = 7;
+      dealt = 4;
+      drawn = words_each 4;
+      events =
+          Open (Truth true ∷ []) ∷ Publish (codes "o") (Truth true ∷ []) ∷ [];
+      opened = 1 ∷ [];
+      gates =
+          gate.Input 0 ∷ gate.Input 1 ∷ gate.And 0 1 ∷ gate.Xor 0 1 ∷ gate.Xor 3 2 ∷ gate.Open Boolean 4 ∷ [];
+    }
 unfolding value arguments turns repeats execute execute_all call_at
 either_told = refl
 
 -- p uint64 k = a + 3; publish("k", declassify(k)); the 3 is classified
 abbrev with_three : TypedProgramTree
 with_three =
-    program (word_in private ∷ word_in private ∷ []) (ask 0 (codes "a") ∷ store_command 1 (words word.Add (slot_node 0) (word_node 3)) ∷ tell (codes "k") (declassify_node (slot_node 1)) ∷ [])
+    program (word_in private ∷ word_in private ∷ [])
+    (ask 0 (codes "a") ∷ store_command 1 (words word.Add (slot_node 0) (word_node 3)) ∷ tell (codes "k") (declassify_node (slot_node 1)) ∷ [])
 
-with_three_told : eval with_three (one 4) 1000000 ≡ record { stop = Ended ending.Done; cost = 7; dealt = 2; drawn = words_each 1; events = Open (Word 7 ∷ []) ∷ Publish (codes "k") (Word 7 ∷ []) ∷ []; opened = 7 ∷ []; gates = gate.Input 0 ∷ gate.Const (3 ∷ []) ∷ gate.Add 0 1 ∷ gate.Open Arithmetic 2 ∷ [] }
+with_three_told : eval with_three (one 4) 1000000
+    ≡ record {
+      stop = Ended ending.Done;
+      cost = 7;
+      dealt = 2;
+      drawn = words_each 1;
+      events =
+          Open (Word 7 ∷ []) ∷ Publish (codes "k") (Word 7 ∷ []) ∷ [];
+      opened = 7 ∷ [];
+      gates =
+          gate.Input 0 ∷ gate.Const (3 ∷ []) ∷ gate.Add 0 1 ∷ gate.Open Arithmetic 2 ∷ [];
+    }
 unfolding value arguments turns repeats execute execute_all call_at
 with_three_told = refl
 
 -- uint64 x = declassify(a); uint64 y = declassify(a); where the third miner's tape has one word
 abbrev opened_twice : TypedProgramTree
 opened_twice =
-    program (word_in private ∷ word_in domain.Public ∷ word_in domain.Public ∷ []) (ask 0 (codes "a") ∷ store_command 1 (declassify_node (slot_node 0)) ∷ store_command 2 (declassify_node (slot_node 0)) ∷ [])
+    program (word_in private ∷ word_in domain.Public ∷ word_in domain.Public ∷ [])
+    (ask 0 (codes "a") ∷ store_command 1 (declassify_node (slot_node 0)) ∷ store_command 2 (declassify_node (slot_node 0)) ∷ [])
 
-second_opening_ends : eval opened_twice (record (one 6) { lengths = three_words 2 2 1 }) 1000000 ≡ record { stop = Ended (ending.Tape owner.Miner3 2 1); cost = 5; dealt = 2; drawn = words_each 1; events = Open (Word 6 ∷ []) ∷ []; opened = 6 ∷ []; gates = gate.Input 0 ∷ gate.Open Arithmetic 0 ∷ [] }
+second_opening_ends : eval opened_twice (record (one 6) { lengths = three_words 2 2 1 }) 1000000
+    ≡ record {
+      stop = Ended (ending.Tape owner.Miner3 2 1);
+      cost = 5;
+      dealt = 2;
+      drawn = words_each 1;
+      events = Open (Word 6 ∷ []) ∷ [];
+      opened =
+          6 ∷ [];
+      gates = gate.Input 0 ∷ gate.Open Arithmetic 0 ∷ [];
+    }
 unfolding value arguments turns repeats execute execute_all call_at
 second_opening_ends = refl
 
@@ -281,7 +368,10 @@ public_words n = replicate n (word_in domain.Public)
 -- uint64 n = declassify(a); while (n != 0) { n = n - 1; } publish("n", n);
 abbrev counting_down : TypedProgramTree
 counting_down =
-    program (word_in private ∷ word_in domain.Public ∷ []) (ask 0 (codes "a") ∷ store_command 1 (declassify_node (slot_node 0)) ∷ loop_command (words word.NotEqual (slot_node 1) (word_node 0)) empty_command (block_command (commands_of (store_command 1 (words word.Subtract (slot_node 1) (word_node 1)) ∷ []))) ∷ tell (codes "n") (slot_node 1) ∷ [])
+    program (word_in private ∷ word_in domain.Public ∷ [])
+    (ask 0 (codes "a") ∷ store_command 1 (declassify_node (slot_node 0))
+    ∷ loop_command (words word.NotEqual (slot_node 1) (word_node 0)) empty_command
+    (block_command (commands_of (store_command 1 (words word.Subtract (slot_node 1) (word_node 1)) ∷ []))) ∷ tell (codes "n") (slot_node 1) ∷ [])
 
 counted_down : (eval counting_down (one 2) 15).events ≡ Open (Word 2 ∷ []) ∷ Publish (codes "n") (Word 0 ∷ []) ∷ []
 unfolding value arguments turns repeats execute execute_all call_at
@@ -302,16 +392,24 @@ one_less_cost = refl
 -- uint64 i = 0; for (i = 0; i < 3; i++) { } publish("i", i);
 abbrev counting_up : TypedProgramTree
 counting_up =
-    program (public_words 1) (store_command 0 (word_node 0) ∷ block_command (commands_of (store_command 0 (word_node 0) ∷ loop_command (words word.Less (slot_node 0) (word_node 3)) (store_command 0 (words word.Add (slot_node 0) (word_node 1))) (block_command (commands_of [])) ∷ [])) ∷ tell (codes "i") (slot_node 0) ∷ [])
+    program (public_words 1) (store_command 0 (word_node 0)
+    ∷ block_command (commands_of
+    (store_command 0 (word_node 0) ∷ loop_command (words word.Less (slot_node 0) (word_node 3))
+    (store_command 0 (words word.Add (slot_node 0) (word_node 1))) (block_command (commands_of [])) ∷ [])) ∷ tell (codes "i") (slot_node 0) ∷ [])
 
-counted_up : eval counting_up no_inputs 1000000 ≡ record { stop = Ended ending.Done; cost = 17; dealt = 0; drawn = words_each 0; events = Publish (codes "i") (Word 3 ∷ []) ∷ []; opened = []; gates = [] }
+counted_up : eval counting_up no_inputs 1000000
+    ≡ record { stop = Ended ending.Done; cost = 17; dealt = 0; drawn = words_each 0; events = Publish (codes "i") (Word 3 ∷ []) ∷ []; opened = []; gates = [] }
 unfolding value arguments turns repeats execute execute_all call_at
 counted_up = refl
 
 -- uint64 i; do { i = i + 1; if (i == 2) continue; } while (i < 3); publish("i", i);
 abbrev repeating : TypedProgramTree
 repeating =
-    program (public_words 1) (default_command 0 ∷ do_command (block_command (commands_of (store_command 0 (words word.Add (slot_node 0) (word_node 1)) ∷ if_command (words word.Equal (slot_node 0) (word_node 2)) continue_command empty_command ∷ []))) (words word.Less (slot_node 0) (word_node 3)) ∷ tell (codes "i") (slot_node 0) ∷ [])
+    program (public_words 1) (default_command 0
+    ∷ do_command (block_command
+    (commands_of (store_command 0 (words word.Add (slot_node 0) (word_node 1))
+    ∷ if_command (words word.Equal (slot_node 0) (word_node 2)) continue_command empty_command ∷ [])))
+    (words word.Less (slot_node 0) (word_node 3)) ∷ tell (codes "i") (slot_node 0) ∷ [])
 
 repeated : (eval repeating no_inputs 1000000).events ≡ Publish (codes "i") (Word 3 ∷ []) ∷ []
 unfolding value arguments turns repeats execute execute_all call_at
@@ -325,9 +423,21 @@ repeated_cost = refl
 -- bool x = false && (1 / 0 == 0); publish("x", x);
 abbrev cut : TypedProgramTree
 cut =
-    program (bool_in domain.Public ∷ []) (store_command 0 (cut_node AndAlso (truth_node false) (words word.Equal (words word.Divide (word_node 1) (word_node 0)) (word_node 0))) ∷ tell (codes "x") (slot_node 0) ∷ [])
+    program (bool_in domain.Public ∷ [])
+    (store_command 0 (cut_node AndAlso (truth_node false) (words word.Equal (words word.Divide (word_node 1) (word_node 0)) (word_node 0)))
+    ∷ tell (codes "x") (slot_node 0) ∷ [])
 
-cut_told : eval cut no_inputs 1000000 ≡ record { stop = Ended ending.Done; cost = 3; dealt = 0; drawn = words_each 0; events = Publish (codes "x") (Truth false ∷ []) ∷ []; opened = []; gates = [] }
+cut_told : eval cut no_inputs 1000000
+    ≡ record {
+      stop = Ended ending.Done;
+      cost = 3;
+      dealt = 0;
+      drawn = words_each 0;
+      events = Publish (codes "x") (Truth false ∷ []) ∷ [];
+      opened =
+          [];
+      gates = [];
+    }
 unfolding value arguments turns repeats execute execute_all call_at
 cut_told = refl
 
@@ -335,9 +445,20 @@ cut_told = refl
 
 -- uint64 z = 0; publish("one", 1); publish("q", 7 / z);
 abbrev dividing : TypedProgramTree
-dividing = program (public_words 1) (store_command 0 (word_node 0) ∷ tell (codes "one") (word_node 1) ∷ tell (codes "q") (words word.Divide (word_node 7) (slot_node 0)) ∷ [])
+dividing = program (public_words 1)
+    (store_command 0 (word_node 0) ∷ tell (codes "one") (word_node 1) ∷ tell (codes "q") (words word.Divide (word_node 7) (slot_node 0)) ∷ [])
 
-by_zero : eval dividing no_inputs 1000000 ≡ record { stop = Ended (ending.Trap trap.Div 2); cost = 3; dealt = 0; drawn = words_each 0; events = Publish (codes "one") (Word 1 ∷ []) ∷ []; opened = []; gates = [] }
+by_zero : eval dividing no_inputs 1000000
+    ≡ record {
+      stop = Ended (ending.Trap trap.Div 2);
+      cost = 3;
+      dealt = 0;
+      drawn = words_each 0;
+      events =
+          Publish (codes "one") (Word 1 ∷ []) ∷ [];
+      opened = [];
+      gates = [];
+    }
 unfolding value arguments turns repeats execute execute_all call_at
 by_zero = refl
 
@@ -345,12 +466,19 @@ abbrev stop_and_cost : Report → Stop × ℕ
 stop_and_cost r = (r.stop, r.cost)
 
 -- uint64[[1]] a (5); publish("x", a[5]);
-past_the_end : stop_and_cost (eval (program (words_in domain.Public ∷ []) (fill_command 2 0 (word_node 5) (word_node 0) ∷ tell (codes "x") (element_node 2 (slot_node 0) (word_node 5)) ∷ [])) no_inputs 1000000) ≡ (Ended (ending.Trap trap.Index 2), 6)
+past_the_end : stop_and_cost
+    (eval (program (words_in domain.Public ∷ [])
+    (fill_command 2 0 (word_node 5) (word_node 0) ∷ tell (codes "x") (element_node 2 (slot_node 0) (word_node 5)) ∷ [])) no_inputs 1000000)
+    ≡ (Ended (ending.Trap trap.Index 2), 6)
 unfolding value arguments turns repeats execute execute_all call_at
 past_the_end = refl
 
 -- uint64[[1]] a (2); uint64[[1]] b (3); publish("x", a + b);
-of_two_sizes : stop_and_cost (eval (program (words_in domain.Public ∷ words_in domain.Public ∷ []) (fill_command 2 0 (word_node 2) (word_node 0) ∷ fill_command 2 1 (word_node 3) (word_node 0) ∷ tell (codes "x") (binary_node 2 (operator.Words word.Add) Arrays (slot_node 0) (slot_node 1)) ∷ [])) no_inputs 1000000) ≡ (Ended (ending.Trap trap.Length 2), 6)
+of_two_sizes : stop_and_cost
+    (eval (program (words_in domain.Public ∷ words_in domain.Public ∷ [])
+    (fill_command 2 0 (word_node 2) (word_node 0) ∷ fill_command 2 1 (word_node 3) (word_node 0)
+    ∷ tell (codes "x") (binary_node 2 (operator.Words word.Add) Arrays (slot_node 0) (slot_node 1)) ∷ [])) no_inputs 1000000)
+    ≡ (Ended (ending.Trap trap.Length 2), 6)
 unfolding value arguments turns repeats execute execute_all call_at
 of_two_sizes = refl
 
@@ -360,21 +488,34 @@ unfolding value arguments turns repeats execute execute_all call_at
 not_given = refl
 
 -- uint64[[1]] a (1048577);
-too_large : stop_and_cost (eval (program (words_in domain.Public ∷ []) (fill_command 2 0 (word_node 1048577) (word_node 0) ∷ [])) no_inputs 1000000) ≡ (Ended (ending.Trap trap.Large 2), 1)
+too_large : stop_and_cost (eval (program (words_in domain.Public ∷ []) (fill_command 2 0 (word_node 1048577) (word_node 0) ∷ [])) no_inputs 1000000)
+    ≡ (Ended (ending.Trap trap.Large 2), 1)
 unfolding value arguments turns repeats execute execute_all call_at
 too_large = refl
 
 -- assert(1 == 2);
-asserting : stop_and_cost (eval (program [] (assert_command 2 (words word.Equal (word_node 1) (word_node 2)) ∷ [])) no_inputs 1000000) ≡ (Ended (ending.Trap trap.Assert 2), 2)
+asserting : stop_and_cost (eval (program [] (assert_command 2 (words word.Equal (word_node 1) (word_node 2)) ∷ [])) no_inputs 1000000)
+    ≡ (Ended (ending.Trap trap.Assert 2), 2)
 unfolding value arguments turns repeats execute execute_all call_at
 asserting = refl
 
 -- uint64 f(uint64 n) { return f(n); } is called
 abbrev for_ever : TypedFunctionTree
 for_ever =
-    record { name = codes "f"; variables = 0; parameters = 1; slots = public_words 1; given = given.Value (word_in domain.Public); body = commands_of (return_command (Some (call_node 1 1 (typed_trees_of (slot_node 0 ∷ [])))) ∷ []); size = 0 }
+    record {
+      name = codes "f";
+      variables = 0;
+      parameters = 1;
+      slots = public_words 1;
+      given = given.Value (word_in domain.Public);
+      body =
+          commands_of (return_command (Some (call_node 1 1 (typed_trees_of (slot_node 0 ∷ [])))) ∷ []);
+      size = 0;
+    }
 
-too_deep : stop_and_cost (eval (record { functions = main_with [] (tell (codes "x") (call_node 2 1 (typed_trees_of (word_node 0 ∷ []))) ∷ []) ∷ for_ever ∷ [] }) no_inputs 1000000) ≡ (Ended (ending.Trap trap.Depth 1), 64)
+too_deep : stop_and_cost (eval
+    (record { functions = main_with [] (tell (codes "x") (call_node 2 1 (typed_trees_of (word_node 0 ∷ []))) ∷ []) ∷ for_ever ∷ [] }) no_inputs
+    1000000) ≡ (Ended (ending.Trap trap.Depth 1), 64)
 unfolding value arguments turns repeats execute execute_all call_at
 too_deep = refl
 
@@ -383,13 +524,38 @@ too_deep = refl
 -- template <domain D> D uint64 f(D uint64 x, D uint64 y) { return x + y; }
 abbrev adding : TypedFunctionTree
 adding =
-    record { name = codes "f"; variables = 1; parameters = 2; slots = word_in (domain.Variable 0) ∷ word_in (domain.Variable 0) ∷ []; given = given.Value (word_in (domain.Variable 0)); body = commands_of (return_command (Some (binary_node 2 (operator.Words word.Add) Scalars (slot_node 0) (slot_node 1))) ∷ []); size = 0 }
+    record {
+      name = codes "f";
+      variables = 1;
+      parameters = 2;
+      slots = word_in (domain.Variable 0) ∷ word_in (domain.Variable 0) ∷ [];
+      given =
+          given.Value (word_in (domain.Variable 0));
+      body =
+          commands_of (return_command (Some (binary_node 2 (operator.Words word.Add) Scalars (slot_node 0) (slot_node 1))) ∷ []);
+      size = 0;
+    }
 
 -- p uint64 a = argument("a"); uint64 k = f(1, 2); publish("r", declassify(f(a, k)));
 abbrev both_bindings : TypedProgramTree
 both_bindings =
-    record { functions = main_with (word_in private ∷ word_in domain.Public ∷ []) (ask 0 (codes "a") ∷ store_command 1 (call_node 3 1 (typed_trees_of (word_node 1 ∷ word_node 2 ∷ []))) ∷ tell (codes "r") (declassify_node (call_node 3 1 (typed_trees_of (slot_node 0 ∷ slot_node 1 ∷ [])))) ∷ []) ∷ adding ∷ [] }
+    record {
+      functions = main_with (word_in private ∷ word_in domain.Public ∷ [])
+          (ask 0 (codes "a") ∷ store_command 1 (call_node 3 1 (typed_trees_of (word_node 1 ∷ word_node 2 ∷ [])))
+          ∷ tell (codes "r") (declassify_node (call_node 3 1 (typed_trees_of (slot_node 0 ∷ slot_node 1 ∷ [])))) ∷ []) ∷ adding ∷ [];
+    }
 
-both_told : eval both_bindings (one 4) 1000000 ≡ record { stop = Ended ending.Done; cost = 10; dealt = 2; drawn = words_each 1; events = Open (Word 7 ∷ []) ∷ Publish (codes "r") (Word 7 ∷ []) ∷ []; opened = 7 ∷ []; gates = gate.Input 0 ∷ gate.Const (3 ∷ []) ∷ gate.Add 0 1 ∷ gate.Open Arithmetic 2 ∷ [] }
+both_told : eval both_bindings (one 4) 1000000
+    ≡ record {
+      stop = Ended ending.Done;
+      cost = 10;
+      dealt = 2;
+      drawn = words_each 1;
+      events =
+          Open (Word 7 ∷ []) ∷ Publish (codes "r") (Word 7 ∷ []) ∷ [];
+      opened = 7 ∷ [];
+      gates =
+          gate.Input 0 ∷ gate.Const (3 ∷ []) ∷ gate.Add 0 1 ∷ gate.Open Arithmetic 2 ∷ [];
+    }
 unfolding value arguments turns repeats execute execute_all call_at
 both_told = refl

@@ -6,7 +6,7 @@ ghost use Rattle.value_file.specs.Input.{AreInputs};
 ghost use Rattle.value_file.specs.PublicFile.{IsWritable};
 
 use crate::sources::typed;
-use clear_eval::{BlindError, Report, blind, eval};
+use clear_eval::{BlindErr, Report, blind, eval};
 use std::alloc::{AllocError, Global};
 use typed_tree::TypedProgram;
 use value_file::{Inputs, PublicPart, public_part, read};
@@ -157,8 +157,8 @@ fn tell_blind(
     write!(text, "blind {answers:?}\n")?;
     match blind(alloc, program, part, answers, 10, [2, 1, 1, 1]) {
         Ok(report) => tell_report(text, &report),
-        Err(BlindError::OpenedShort { have }) => write!(text, "short {have}\n"),
-        Err(BlindError::Memory) => Err(AllocError),
+        Err(BlindErr::OpenedShort { have }) => write!(text, "short {have}\n"),
+        Err(BlindErr::Memory) => Err(AllocError),
     }
 }
 

@@ -1,5 +1,5 @@
 // Texts, and their tokens.
-use secrec_lexer::{Kind, Sign, Token, lex};
+use secrec_lexer::{Sign, Token, TokenKind, lex};
 use std::alloc::{AllocError, Global};
 
 // Every sign and keyword, in order.
@@ -67,11 +67,11 @@ const SIGNS: [Sign; 58] = [
 // A token and the line and column where it begins.
 fn add_token(text: &mut String, token: &Token) -> Result<(), AllocError> {
     match &token.kind {
-        Kind::Name(name) => write!(text, "{}", name.as_str())?,
-        Kind::Number(number) => write!(text, "{number}")?,
-        Kind::Text(name) => write!(text, "text {}", name.as_str())?,
-        Kind::Sign(_) => text.push_str("sign")?,
-        Kind::End => text.push_str("end")?,
+        TokenKind::Name(name) => write!(text, "{}", name.as_str())?,
+        TokenKind::Number(number) => write!(text, "{number}")?,
+        TokenKind::Text(name) => write!(text, "text {}", name.as_str())?,
+        TokenKind::Sign(_) => text.push_str("sign")?,
+        TokenKind::End => text.push_str("end")?,
     }
     write!(text, "@{}:{} ", token.place.line, token.place.column)
 }

@@ -1,11 +1,11 @@
 // The typed tree of a program with a template, and a program that has none.
 use crate::sources::program;
-use name_resolution::{ResolveError, resolve};
+use name_resolution::{ResolveErr, resolve};
 use program_typing::type_program;
 use secrec_ast::{DataType, Program};
 use std::alloc::{AllocError, Global};
 use typed_tree::{
-    Given, Slot, SlotDomain, TypedExpression, TypedFunction, TypedProgram, TypedStatement,
+    Returned, Slot, SlotDomain, TypedExpression, TypedFunction, TypedProgram, TypedStatement,
 };
 
 // Line 2 fills an array whose size is asked for in line 3.
@@ -29,10 +29,10 @@ fn tell_slot(text: &mut String, slot: Slot) -> Result<(), AllocError> {
 }
 
 // What a function gives back.
-fn tell_given(text: &mut String, given: Given) -> Result<(), AllocError> {
-    match given {
-        Given::Nothing => text.push_str("nothing"),
-        Given::Value(slot) => tell_slot(text, slot),
+fn tell_returned(text: &mut String, returned: Returned) -> Result<(), AllocError> {
+    match returned {
+        Returned::Nothing => text.push_str("nothing"),
+        Returned::Value(slot) => tell_slot(text, slot),
     }
 }
 
@@ -65,7 +65,7 @@ fn tell_function(text: &mut String, function: &TypedFunction) -> Result<(), Allo
         function.size,
         function.parameters
     )?;
-    tell_given(text, function.given)?;
+    tell_returned(text, function.given)?;
     text.push_str(": ")?;
     tell_first(text, &function.body)
 }
@@ -89,8 +89,8 @@ fn tell_typed(alloc: Global, text: &mut String, program: &Program) -> Result<(),
 fn tell_unresolved(alloc: Global, text: &mut String, program: &Program) -> Result<(), AllocError> {
     match resolve(alloc, program) {
         Ok(_) => text.push_str("x is resolved\n"),
-        Err(ResolveError::Unresolved) => text.push_str("x is not resolved\n"),
-        Err(ResolveError::Memory) => Err(AllocError),
+        Err(ResolveErr::Unresolved) => text.push_str("x is not resolved\n"),
+        Err(ResolveErr::Memory) => Err(AllocError),
     }
 }
 

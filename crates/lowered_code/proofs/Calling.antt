@@ -3,8 +3,8 @@ use Rattle.std.proofs.Common.{◌≡◌, ℕ, ◌≤◌, List, ◌++◌, length,
 use Rattle.std.proofs.Common.{arith}
 use Rattle.std.proofs.lemmas.List.{length-map, take-append-le, take-map}
 use Rattle.typed_tree.specs.declared.kinds.Shape.{Shape}
-use Rattle.typed_tree.specs.declared.function.Given.{Given}
-use Rattle.typed_tree.specs.declared.function.Given.TheVariants.{Nothing, Value}
+use Rattle.typed_tree.specs.declared.function.Returned.{Returned}
+use Rattle.typed_tree.specs.declared.function.Returned.TheVariants.{Nothing, Value}
 use Rattle.typed_tree.specs.Programs.{TypedFunctionTree}
 use Rattle.reached_instances.specs.declared.instance.BoundDomain.{BoundDomain}
 use Rattle.reached_instances.specs.Domains.{given_domain, call_domain}
@@ -35,13 +35,13 @@ module _ (number : Numbers) (fs : List TypedFunctionTree) where
       ∙ take-map (slot_kind b) f.parameters f.slots
 
   module _ (ks : List Kind) (t : ℕ) where
-    value_given : (b : List BoundDomain) (g : Given) (s : Shape) → shape_given g ≡ Some s
+    value_given : (b : List BoundDomain) (g : Returned) (s : Shape) → shape_given g ≡ Some s
         → HasKind ks t (kind_of (is_private (given_domain b g)) (returned_shape g))
         → ResultFits ks (Some t) (given_kind b g)
     value_given b Nothing s e h = absurd (none_some e)
     value_given b (Value v) s e h = (slot_kind b v, refl, h)
 
-    given_or_not : (b : List BoundDomain) (g : Given) → HasKind ks t (kind_of (is_private (given_domain b g)) (returned_shape g))
+    given_or_not : (b : List BoundDomain) (g : Returned) → HasKind ks t (kind_of (is_private (given_domain b g)) (returned_shape g))
         → ResultFits ks (given_at g t) (given_kind b g)
     given_or_not b Nothing h = tt
     given_or_not b (Value v) h = (slot_kind b v, refl, h)

@@ -8,8 +8,8 @@ use Rattle.secrec_ast.specs.declared.expression.DataType.TheVariants.{Uint64}
 use Rattle.secrec_ast.specs.declared.expression.DataType.TheVariants as datatype
 use Rattle.typed_tree.specs.declared.kinds.Shape.{Shape}
 use Rattle.typed_tree.specs.declared.kinds.Slot.{Slot}
-use Rattle.typed_tree.specs.declared.function.Given.{Given}
-use Rattle.typed_tree.specs.declared.function.Given.TheVariants.{Nothing, Value}
+use Rattle.typed_tree.specs.declared.function.Returned.{Returned}
+use Rattle.typed_tree.specs.declared.function.Returned.TheVariants.{Nothing, Value}
 use Rattle.typed_tree.specs.Tree.{TypedTree}
 use Rattle.typed_tree.specs.Commands.{Command, Commands, empty_command, block_command, if_command, loop_command, do_command, break_command, continue_command}
 use Rattle.typed_tree.specs.Commands.{return_command, assert_command, store_command, default_command, fill_command, input_command, element_command}
@@ -17,7 +17,7 @@ use Rattle.typed_tree.specs.Commands.{publish_command, evaluate_command}
 use Rattle.typed_tree.specs.Commands as Commands'
 use Rattle.reached_instances.specs.declared.instance.BoundDomain.{BoundDomain}
 use Rattle.reached_instances.specs.Domains.{Setting, domain, domain_under, slot_domain, given_domain}
-use Rattle.language_model.specs.Evaluation.{Place, is_private, gives_private, slot_is_private, slot_shape, shape_at}
+use Rattle.language_model.specs.Evaluation.{StatementContext, is_private, gives_private, slot_is_private, slot_shape, shape_at}
 use Rattle.bytecode.specs.declared.kind.Kind.{Kind}
 use Rattle.verified_code.specs.Steps.{Step, Function, Store, Fill, Put, Publish, Assert, Branch, Return}
 use Rattle.code_model.specs.Fit.{MayStand, IsFit, IsFitCommand, AreFitCommands}
@@ -49,25 +49,25 @@ module _ (number : Numbers) (c : List Function) (ks : List Kind) (count : ℕ) (
   abbrev pub DefaultsStand : Type 0
   DefaultsStand = (s : Shape) → 0 < length here.slots → HasKind ks (length here.slots + shape_number s) (kind_of false s)
 
-  abbrev given_here : Given → Option Kind
+  abbrev given_here : Returned → Option Kind
   given_here g = given_kind here.binding g
 
   -- in a function that gives this back
-  abbrev pub at : Given → Place
+  abbrev pub at : Returned → StatementContext
   at g = record { here = here; secret_result = is_private (given_domain here.binding g) }
 
   module _ (Known : ℕ → List BoundDomain → Type 0) (slots : SlotsStand number c ks None count here) (defaults : DefaultsStand)
       (known : (k : ℕ) (b : List BoundDomain) → Known k b → IsCallee number c ks None count here k b) where
-    abbrev Right : Given → List Step → Type 0
+    abbrev Right : Returned → List Step → Type 0
     Right g = AllRight c ks (given_here g) count
 
-    abbrev Ends : Given → ℕ → List Step → Type 0
+    abbrev Ends : Returned → ℕ → List Step → Type 0
     Ends g = RightAt c ks (given_here g) count
 
-    both : (g : Given) (a b : List Step) → Right g a → Right g b → Right g (a ++ b)
+    both : (g : Returned) (a b : List Step) → Right g a → Right g b → Right g (a ++ b)
     both g a b h k = both_right c ks (given_here g) count a b h k
 
-    expression : (g : Given) (e : TypedTree) (s : Shape) → Gives here e (Some s) → IsFit Known here e
+    expression : (g : Returned) (e : TypedTree) (s : Shape) → Gives here e (Some s) → IsFit Known here e
         → ExpressionRight number c ks (given_here g) count here Known known slots e
     expression g e s h f = expression_right number c ks (given_here g) count here Known known slots e s h f
 
@@ -98,7 +98,7 @@ module _ (number : Numbers) (c : List Function) (ks : List Kind) (count : ℕ) (
     -- ---- VALUES THAT ARE STORED OR GIVEN BACK
 
     -- one expression, the classification of its value, and the step that reads it
-    stored : (g : Given) (t pc : ℕ) (w : Bool) (e : TypedTree) (s : Shape) (last : ℕ → Step) → Gives here e (Some s) → IsFit Known here e
+    stored : (g : Returned) (t pc : ℕ) (w : Bool) (e : TypedTree) (s : Shape) (last : ℕ → Step) → Gives here e (Some s) → IsFit Known here e
         → MayStand (gives_private here e) w → Stands ks t (private_kind_in here e ∷ expression_kinds here e)
         → ((r : ℕ) → HasKind ks r (kind_of w s) → IsRight c ks (given_here g) count (last r))
         → Ends g pc (expression_code number here (t + 1) pc e ++ behind_classifying w (gives_private here e) t (t + 1) last)
@@ -112,7 +112,7 @@ module _ (number : Numbers) (c : List Function) (ks : List Kind) (count : ℕ) (
         (i (picked (lacks w (gives_private here e)) t (t + 1)) (picked_kind c ks (given_here g) count w (gives_private here e) s t (t + 1) m v p)))
 
     -- a size or an index before it
-    indexed : (g : Given) (t pc : ℕ) (w : Bool) (n e : TypedTree) (s : Shape) (last : ℕ → Step) → IsPublicScalar here Uint64 n → IsFit Known here n
+    indexed : (g : Returned) (t pc : ℕ) (w : Bool) (n e : TypedTree) (s : Shape) (last : ℕ → Step) → IsPublicScalar here Uint64 n → IsFit Known here n
         → Gives here e (Some s) → IsFit Known here e → MayStand (gives_private here e) w
         → Stands ks t (private_kind_in here e ∷ (expression_kinds here n ++ expression_kinds here e))
         → ((r : ℕ) → HasKind ks (t + 1) (public_scalar Uint64) → HasKind ks r (kind_of w s) → IsRight c ks (given_here g) count (last r))
@@ -138,7 +138,8 @@ module _ (number : Numbers) (c : List Function) (ks : List Kind) (count : ℕ) (
         (i (picked (lacks w (gives_private here e)) t u) (public_at (t + 1) n Uint64 hn first)
         (picked_kind c ks (given_here g) count w (gives_private here e) s t u m v p))))
 
-    returned : (g : Given) (o : Option TypedTree) (inside : Bool) → IsReturned here g o → IsFitCommand Known (at g) inside (return_command o) → (t x y pc : ℕ)
+    returned : (g : Returned) (o : Option TypedTree) (inside : Bool) → IsReturned here g o → IsFitCommand Known (at g) inside (return_command o)
+        → (t x y pc : ℕ)
         → Stands ks t (command_kinds here (return_command o)) → Ends g pc (command_code number (at g) t x y pc (return_command o))
     returned Nothing None inside h f t x y pc stands l = (refl, tt)
     returned Nothing (Some e) inside h f t x y pc stands l = absurd h
@@ -149,7 +150,7 @@ module _ (number : Numbers) (c : List Function) (ks : List Kind) (count : ℕ) (
 
     -- ---- STATEMENTS
 
-    behind_one : (g : Given) (e : TypedTree) (s : Shape) (i : Step) → Gives here e (Some s) → IsFit Known here e → (t pc : ℕ)
+    behind_one : (g : Returned) (e : TypedTree) (s : Shape) (i : Step) → Gives here e (Some s) → IsFit Known here e → (t pc : ℕ)
         → Stands ks t (expression_kinds here e) → IsRight c ks (given_here g) count i → Ends g pc (expression_code number here t pc e ++ i ∷ [])
     behind_one g e s i h f t pc stands k l =
         let ce = expression_code number here t pc e in
@@ -160,7 +161,7 @@ module _ (number : Numbers) (c : List Function) (ks : List Kind) (count : ℕ) (
     second_part t u a b n e p stands = let place : u ≡ t + length a = omega (arith, e, p) in stands_right u a place stands
 
     mutual
-      pub command_right : (g : Given) (inside : Bool) (x : Command) → IsWellTypedCommand here g inside x → IsFitCommand Known (at g) inside x
+      pub command_right : (g : Returned) (inside : Bool) (x : Command) → IsWellTypedCommand here g inside x → IsFitCommand Known (at g) inside x
           → (t out over pc : ℕ) → out < count → over < count → Stands ks t (command_kinds here x) → Ends g pc (command_code number (at g) t out over pc x)
       command_right g inside empty_command h f t out over pc o v stands l = tt
       command_right g inside (block_command cs) h f t out over pc o v stands l = commands_right g inside cs h f t out over pc o v stands l
@@ -261,7 +262,7 @@ module _ (number : Numbers) (c : List Function) (ks : List Kind) (count : ℕ) (
       command_right g inside (evaluate_command e) h f t out over pc o v stands l =
           unread_right number c ks (given_here g) count here Known known slots e h.0 h.1 f t pc stands l
 
-      pub commands_right : (g : Given) (inside : Bool) (cs : Commands) → AreWellTypedCommands here g inside cs → AreFitCommands Known (at g) inside cs
+      pub commands_right : (g : Returned) (inside : Bool) (cs : Commands) → AreWellTypedCommands here g inside cs → AreFitCommands Known (at g) inside cs
           → (t out over pc : ℕ) → out < count → over < count → Stands ks t (commands_kinds here cs) → Ends g pc (commands_code number (at g) t out over pc cs)
       commands_right g inside Commands'.none h f t out over pc o v stands l = tt
       commands_right g inside (Commands'.also x cs) h f t out over pc o v stands l =

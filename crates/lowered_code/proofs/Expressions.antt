@@ -19,7 +19,7 @@ use Rattle.typed_tree.specs.Tree as Tree'
 use Rattle.typed_tree.specs.Programs.{TypedFunctionTree}
 use Rattle.reached_instances.specs.declared.instance.BoundDomain.{BoundDomain}
 use Rattle.reached_instances.specs.declared.instance.BoundDomain.TheVariants.{Public, Private}
-use Rattle.reached_instances.specs.Domains.{Setting, domain, domains, domain_under, slot_domain, joined}
+use Rattle.reached_instances.specs.Domains.{Setting, domain, domains, domain_under, slot_domain, joined_domain}
 use Rattle.language_model.specs.Operations.{cast_shape}
 use Rattle.language_model.specs.Words.{truth_word}
 use Rattle.language_model.specs.Evaluation.{is_private, gives_private, slots_of, bound_at, connective, shape_at, either}
@@ -106,7 +106,7 @@ module _ (number : Numbers) (c : List Function) (ks : List Kind) (gives : Option
         let ce = expression_code number here t pc e in
         both_right c ks gives count ce (i ∷ []) (h (within_left count pc ce (i ∷ []) l)) (k, tt)
 
-    public_joined : (da db : BoundDomain) → is_private da ≡ false → is_private (joined da db) ≡ is_private db
+    public_joined : (da db : BoundDomain) → is_private da ≡ false → is_private (joined_domain da db) ≡ is_private db
     public_joined Public db e = refl
     public_joined (Private k) db e = absurd (clash (sym e))
 
@@ -178,7 +178,7 @@ module _ (number : Numbers) (c : List Function) (ks : List Kind) (gives : Option
           behind_one (t + 1) pc e (Size t (t + 1)) (expression_right e _ h.1 f (t + 1) pc (one e stands))
           (gives_private here e, h.0, value_at here (t + 1) e _ h.1 (one e stands), stands_first stands) l
       expression_right (cat_node line a b) s h f t pc stands l =
-          let g = is_private (joined (domain here a) (domain here b)) in
+          let g = is_private (joined_domain (domain here a) (domain here b)) in
           cat_right c ks gives count t (t + 3 + width a) pc line g (gives_private here a) (gives_private here b) h.0 (expression_code number here (t + 3) pc a)
           (λ p. expression_code number here (t + 3 + width a) p b) (left_may (domain here a) (domain here b)) (right_may (domain here a) (domain here b))
           (expression_right a _ h.1 f.0 (t + 3) pc (left_of a b stands)) (λ p. expression_right b _ h.2 f.1 (t + 3 + width a) p (right_of a b stands))

@@ -4,8 +4,8 @@ use Rattle.std.specs.List.{slice_get}
 use Rattle.std.proofs.lemmas.Option.{slice_get_within}
 use Rattle.typed_tree.specs.declared.kinds.Shape.{Shape}
 use Rattle.typed_tree.specs.declared.kinds.Slot.{Slot}
-use Rattle.typed_tree.specs.declared.function.Given.{Given}
-use Rattle.typed_tree.specs.declared.function.Given.TheVariants.{Nothing, Value}
+use Rattle.typed_tree.specs.declared.function.Returned.{Returned}
+use Rattle.typed_tree.specs.declared.function.Returned.TheVariants.{Nothing, Value}
 use Rattle.typed_tree.specs.Tree.{TypedTree, TypedTrees, word_node, truth_node, slot_node, call_node, size_node, cat_node, sum_node, bits_node, element_node}
 use Rattle.typed_tree.specs.Tree.{not_node, cast_node, binary_node, cut_node, declassify_node}
 use Rattle.typed_tree.specs.Tree as Tree'
@@ -23,7 +23,7 @@ use Rattle.reached_instances.specs.Domains.{Setting, domain, domains, domain_und
 use Rattle.reached_instances.specs.Instances.{Instance}
 use Rattle.reached_instances.specs.Calls.{called, main_of}
 use Rattle.reached_instances.specs.Reached.{IsReachedList}
-use Rattle.language_model.specs.Evaluation.{Place, is_private, bound_at, slots_of}
+use Rattle.language_model.specs.Evaluation.{StatementContext, is_private, bound_at, slots_of}
 use Rattle.code_model.specs.Fit as fit
 use Rattle.code_model.specs.Fit.{MayStand, IsFit, AreFit, FitsSlot, IsFitCommand, AreFitCommands, IsThere, IsFitAlone, IsFitProgram, the_main, gives_value}
 use Rattle.code_model.proofs.Means.{means}
@@ -89,18 +89,18 @@ module _ (here : Setting) where
         (goes_may (domain here e) (domain_under here.binding s.domain) h.1),
   )
 
-  module _ (given : Given) where
-    abbrev at : Place
+  module _ (given : Returned) where
+    abbrev at : StatementContext
     at = record { here = here; secret_result = is_private (given_domain here.binding given) }
 
-  return_fits : (g : Given) (o : Option TypedTree) → typed.IsReturned here g o → (inside : Bool) → IsFitCommand There (at g) inside (return_command o)
+  return_fits : (g : Returned) (o : Option TypedTree) → typed.IsReturned here g o → (inside : Bool) → IsFitCommand There (at g) inside (return_command o)
   return_fits Nothing None h inside = refl
   return_fits Nothing (Some e) h inside = absurd h
   return_fits (Value s) None h inside = absurd h
   return_fits (Value s) (Some e) h inside = (expression_fits e _ h.0, goes_may (domain here e) (domain_under here.binding s.domain) h.1)
 
   mutual
-    command_fits : (g : Given) (inside : Bool) (c : Command) → IsWellTypedCommand here g inside c → IsFitCommand There (at g) inside c
+    command_fits : (g : Returned) (inside : Bool) (c : Command) → IsWellTypedCommand here g inside c → IsFitCommand There (at g) inside c
     command_fits g inside empty_command h = tt
     command_fits g inside (block_command cs) h = commands_fit g inside cs h
     command_fits g inside (if_command e a b) h = (expression_fits e _ h.0.0, command_fits g inside a h.1, command_fits g inside b h.2)
@@ -118,7 +118,7 @@ module _ (here : Setting) where
     command_fits g inside (publish_command text e) h = expression_fits e _ h.1
     command_fits g inside (evaluate_command e) h = expression_fits e _ h.1
 
-    commands_fit : (g : Given) (inside : Bool) (cs : Commands) → AreWellTypedCommands here g inside cs → AreFitCommands There (at g) inside cs
+    commands_fit : (g : Returned) (inside : Bool) (cs : Commands) → AreWellTypedCommands here g inside cs → AreFitCommands There (at g) inside cs
     commands_fit g inside Commands'.none h = tt
     commands_fit g inside (Commands'.also c cs) h = (command_fits g inside c h.0, commands_fit g inside cs h.1)
 
@@ -147,7 +147,7 @@ mutual
   same_one Commands'.none = refl
   same_one (Commands'.also c cs) = ap₂ ◌||◌ (same_always c) (same_one cs)
 
-returns : (g : Given) (body : Commands) → GivesBack g body → gives_value g ≡ true → fit.one_returns body ≡ true
+returns : (g : Returned) (body : Commands) → GivesBack g body → gives_value g ≡ true → fit.one_returns body ≡ true
 returns Nothing body h e = absurd (clash e)
 returns (Value s) body h e = sym (same_one body) ∙ h
 

@@ -17,11 +17,11 @@ use Rattle.typed_tree.specs.Tree.{TypedTree, truth_node}
 use Rattle.typed_tree.specs.Commands.{Command, none, also, empty_command, block_command, if_command, loop_command, do_command, break_command, continue_command}
 use Rattle.typed_tree.specs.Commands.{return_command, assert_command, store_command, default_command, fill_command, input_command, element_command}
 use Rattle.typed_tree.specs.Commands.{publish_command, evaluate_command}
-use Rattle.name_resolution.specs.Scopes.{Place, declaring, entering, behind_block}
+use Rattle.name_resolution.specs.Scopes.{FunctionScope, declaring, entering, behind_block}
 use Rattle.name_resolution.specs.Sizes.{nodes, nodes_all, optional_nodes, declaration_nodes, assignment_nodes, start_nodes, step_nodes, statement_nodes}
 use Rattle.name_resolution.specs.Sizes.{statements_nodes}
 use Rattle.name_resolution.specs.Values.{value, values, called, call_made}
-use Rattle.name_resolution.specs.Resolving.{Resolving, ◌>>=◌, carry, done, reading, next_slot, declare, closed, in_block, tree_in, value_at, expression}
+use Rattle.name_resolution.specs.Resolving.{Resolving, ◌>>=◌, carry, done, reading, next_slot, declare, closed, in_block, tree_in, resolved_value, expression}
 use Rattle.name_resolution.specs.Resolving.{known_at, named}
 use Rattle.name_resolution.specs.Bodies.{tree_in_call, calling, evaluated, default_of, from_value, initial, declared, assigned_to, assigned, started, stepped}
 use Rattle.name_resolution.specs.Bodies.{condition_of, returned, looped, resolved, resolved_all}
@@ -32,19 +32,19 @@ use Rattle.lowered_code.proofs.Registers.{called_width, value_width, values_widt
 
 -- what is made and the slots that are declared, together, are at most n more
 pub record Takes {A : Type 0} (measure : A → ℕ) (n : ℕ) (m : Resolving A) : Type 0 where
-  pub from : (s : Place) (a : A) (q : Place) → m s ≡ Some (a, q) → measure a + length q.slots ≤ n + length s.slots
+  pub from : (s : FunctionScope) (a : A) (q : FunctionScope) → m s ≡ Some (a, q) → measure a + length q.slots ≤ n + length s.slots
 
-abbrev pub pair_of : {A : Type 0} → A → Place → A × Place
+abbrev pub pair_of : {A : Type 0} → A → FunctionScope → A × FunctionScope
 pair_of a p = (a, p)
 
-pair_is : {A : Type 0} (a b : A) (p q : Place) → Some (pair_of a p) ≡ Some (pair_of b q) → (a ≡ b) × (p ≡ q)
+pair_is : {A : Type 0} (a b : A) (p q : FunctionScope) → Some (pair_of a p) ≡ Some (pair_of b q) → (a ≡ b) × (p ≡ q)
 pair_is a b p q e = let same : pair_of a p ≡ pair_of b q = cc in (ap (λ z. z.0) same, ap (λ z. z.1) same)
 
-takes_as : {A : Type 0} (measure : A → ℕ) (n : ℕ) (a b : A) (p q : Place) → Some (pair_of a p) ≡ Some (pair_of b q) → measure a + length p.slots ≤ n
+takes_as : {A : Type 0} (measure : A → ℕ) (n : ℕ) (a b : A) (p q : FunctionScope) → Some (pair_of a p) ≡ Some (pair_of b q) → measure a + length p.slots ≤ n
     → measure b + length q.slots ≤ n
 takes_as measure n a b p q e h =
     let same = pair_is a b p q e in
-    subst (λ z. measure z + length q.slots ≤ n) same.0 (subst (λ (z : Place). measure a + length z.slots ≤ n) same.1 h)
+    subst (λ z. measure z + length q.slots ≤ n) same.0 (subst (λ (z : FunctionScope). measure a + length z.slots ≤ n) same.1 h)
 
 takes_done : {A : Type 0} (measure : A → ℕ) (n : ℕ) (a : A) → measure a ≤ n → Takes measure n (done a)
 takes_done measure n a h =
@@ -60,18 +60,20 @@ takes_bind : {A B : Type 0} (first : A → ℕ) (second : B → ℕ) (n k : ℕ)
     → ((a : A) → Takes second (k + first a) (f a)) → Takes second (n + k) (m >>= f)
 takes_bind {A = A} {B = B} first second n k m f h g = record { from = λ s b q e. go s b q (m s) refl e }
   where
-    go : (s : Place) (b : B) (q : Place) (o : Option (A × Place)) → m s ≡ o → carry o f ≡ Some (b, q) → second b + length q.slots ≤ n + k + length s.slots
+    go : (s : FunctionScope) (b : B) (q : FunctionScope) (o : Option (A × FunctionScope)) → m s ≡ o → carry o f ≡ Some (b, q)
+        → second b + length q.slots ≤ n + k + length s.slots
     go s b q None t e = cc
     go s b q (Some r) t e =
         let one = h.from s r.0 r.1 t in
         let two = (g r.0).from r.1 b q e in
         omega (arith, one, two)
 
-takes_reading : {A : Type 0} (measure : A → ℕ) (n : ℕ) (f : Place → Option A) → ((s : Place) (a : A) → f s ≡ Some a → measure a ≤ n) → Takes measure n
+takes_reading : {A : Type 0} (measure : A → ℕ) (n : ℕ) (f : FunctionScope → Option A) → ((s : FunctionScope) (a : A) → f s ≡ Some a → measure a ≤ n)
+    → Takes measure n
     (reading f)
 takes_reading {A = A} measure n f h = record { from = λ s b q e. go s b q (f s) refl e }
   where
-    go : (s : Place) (b : A) (q : Place) (o : Option A) → f s ≡ o → option_map (λ a. pair_of a s) o ≡ Some (b, q)
+    go : (s : FunctionScope) (b : A) (q : FunctionScope) (o : Option A) → f s ≡ o → option_map (λ a. pair_of a s) o ≡ Some (b, q)
         → measure b + length q.slots ≤ n + length s.slots
     go s b q None t e = cc
     go s b q (Some a) t e =
@@ -82,7 +84,7 @@ takes_reading {A = A} measure n f h = record { from = λ s b q e. go s b q (f s)
 takes_block : {A : Type 0} (measure : A → ℕ) (n : ℕ) (m : Resolving A) → Takes measure n m → Takes measure n (in_block m)
 takes_block {A = A} measure n m h = record { from = λ s b q e. go s b q (m (entering s)) refl e }
   where
-    go : (s : Place) (b : A) (q : Place) (o : Option (A × Place)) → m (entering s) ≡ o → closed s o ≡ Some (b, q)
+    go : (s : FunctionScope) (b : A) (q : FunctionScope) (o : Option (A × FunctionScope)) → m (entering s) ≡ o → closed s o ≡ Some (b, q)
         → measure b + length q.slots ≤ n + length s.slots
     go s b q None t e = cc
     go s b q (Some r) t e = takes_as measure (n + length s.slots) r.0 b (behind_block s r.1) q e (h.from (entering s) r.0 r.1 t)
@@ -94,9 +96,9 @@ abbrev behind : TypedTree → ℕ
 behind t = width t + 1
 
 expression_takes : (d : Declared) (e : Tree) → Takes behind (nodes e + nodes e) (expression d e)
-expression_takes d e = takes_reading behind (nodes e + nodes e) (value_at d e) read
+expression_takes d e = takes_reading behind (nodes e + nodes e) (resolved_value d e) read
   where
-    read : (s : Place) (t : TypedTree) → value_at d e s ≡ Some t → width t + 1 ≤ nodes e + nodes e
+    read : (s : FunctionScope) (t : TypedTree) → resolved_value d e s ≡ Some t → width t + 1 ≤ nodes e + nodes e
     read s t h =
         let m = mapped tree_in (value d s.scope e) t h in
         subst (λ z. width z + 1 ≤ nodes e + nodes e) m.is (value_width d s.scope e m.part m.there)
@@ -104,7 +106,7 @@ expression_takes d e = takes_reading behind (nodes e + nodes e) (value_at d e) r
 calling_takes : (d : Declared) (line : ℕ) (x : List ℕ) (es : Trees) → Takes behind (2 + (nodes_all es + nodes_all es)) (reading (calling d line x es))
 calling_takes d line x es = takes_reading behind (2 + (nodes_all es + nodes_all es)) (calling d line x es) read
   where
-    read : (s : Place) (t : TypedTree) → calling d line x es s ≡ Some t → width t + 1 ≤ 2 + (nodes_all es + nodes_all es)
+    read : (s : FunctionScope) (t : TypedTree) → calling d line x es s ≡ Some t → width t + 1 ≤ 2 + (nodes_all es + nodes_all es)
     read s t h =
         let m = mapped tree_in_call (call_made d s.scope line x es) t h in
         let b = both_there (called line) (callee d x) (values d s.scope es) m.part m.there in

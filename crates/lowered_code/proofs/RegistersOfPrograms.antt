@@ -9,14 +9,14 @@ use Rattle.secrec_ast.specs.declared.function.Parameter.{Parameter}
 use Rattle.secrec_ast.specs.Programs.{FunctionTree, ProgramTree}
 use Rattle.domain_types.specs.Declarations.{Declared, declared_by}
 use Rattle.typed_tree.specs.declared.kinds.Slot.{Slot}
-use Rattle.typed_tree.specs.declared.function.Given.{Given}
-use Rattle.typed_tree.specs.declared.function.Given.TheVariants.{Nothing, Value}
+use Rattle.typed_tree.specs.declared.function.Returned.{Returned}
+use Rattle.typed_tree.specs.declared.function.Returned.TheVariants.{Nothing, Value}
 use Rattle.typed_tree.specs.Programs.{TypedFunctionTree, TypedProgramTree}
 use Rattle.name_resolution.specs.Functions.{slots_written, given_back, with_parameters, function_made, function_from, function_behind, typed_function}
 use Rattle.name_resolution.specs.Functions.{and_functions, typed_functions, with_functions, program_of, typed_of}
 use Rattle.name_resolution.specs.Order.{reached}
 use Rattle.name_resolution.specs.Bodies.{resolved_all}
-use Rattle.name_resolution.specs.Scopes.{Place, no_place, declaring}
+use Rattle.name_resolution.specs.Scopes.{FunctionScope, no_place, declaring}
 use Rattle.name_resolution.specs.Sizes.{statements_nodes, function_nodes, counted, size_of}
 use Rattle.name_resolution.proofs.SoundValues.{mapped, both_there, then_there, some_is}
 use Rattle.reached_instances.specs.declared.instance.BoundDomain.{BoundDomain}
@@ -37,7 +37,7 @@ use Rattle.lowered_code.proofs.RegistersOfBodies.{statements_take}
 
 -- ---- FUNCTIONS
 
-parameter_slots : (ps : List Parameter) (s : Place) → length (with_parameters ps s).slots ≡ length ps + length s.slots
+parameter_slots : (ps : List Parameter) (s : FunctionScope) → length (with_parameters ps s).slots ≡ length ps + length s.slots
 parameter_slots [] s = omega arith
 parameter_slots (p ∷ ps) s =
     let rest = parameter_slots ps (declaring p.variable p.declared s) in
@@ -85,7 +85,7 @@ few_defaults : (ss : List Slot) → length (defaults_behind ss) ≤ 4
 few_defaults [] = omega arith
 few_defaults (s ∷ ss) = omega arith
 
-one_last : (b : List BoundDomain) (g : Given) → length (last_kinds b g) ≤ 1
+one_last : (b : List BoundDomain) (g : Returned) → length (last_kinds b g) ≤ 1
 one_last b Nothing = omega arith
 one_last b (Value s) = omega arith
 

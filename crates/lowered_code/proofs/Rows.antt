@@ -10,7 +10,7 @@ use Rattle.typed_tree.specs.declared.operators.Connective.{Connective}
 use Rattle.typed_tree.specs.declared.operators.Connective.TheVariants.{AndAlso, OrElse}
 use Rattle.typed_tree.specs.Shapes.{shape_of}
 use Rattle.reached_instances.specs.declared.instance.BoundDomain.{BoundDomain}
-use Rattle.reached_instances.specs.Domains.{joined}
+use Rattle.reached_instances.specs.Domains.{joined_domain}
 use Rattle.language_model.specs.Words.{truth_word}
 use Rattle.language_model.specs.Operations.{is_product, result_shape}
 use Rattle.language_model.specs.Evaluation.{is_private}
@@ -63,12 +63,12 @@ module _ (c : List Function) (ks : List Kind) (gives : Option Kind) (count : ℕ
       classifying_right c ks gives count (mixes op ga gb) e a t r (λ m. subst (λ g. HasKind ks r (kind g e a)) (mixing_public op ga gb m) h) (λ m. k)
 
   pub binary_right : (t u pc line : ℕ) (op : BinaryOperator) (ds : Operands) (da db : BoundDomain) (ca : List Step) (cb : ℕ → List Step)
-      → MayOperate op (joined da db) → RightAt pc ca → RightAnywhere cb
+      → MayOperate op (joined_domain da db) → RightAt pc ca → RightAnywhere cb
       → HasKind ks (t + 3) (kind (is_private da) (operand_element op) (left_array ds))
       → HasKind ks u (kind (is_private db) (operand_element op) (right_array ds))
       → HasKind ks (t + 1) (kind true (operand_element op) (left_array ds))
       → HasKind ks (t + 2) (kind true (operand_element op) (right_array ds))
-      → HasKind ks t (kind_of (is_private (joined da db)) (result_shape op ds))
+      → HasKind ks t (kind_of (is_private (joined_domain da db)) (result_shape op ds))
       → RightAt pc (binary_code t u pc line op ds (is_private da) (is_private db) ca cb)
   binary_right t u pc line op ds da db ca cb m ra rb ha hb h1 h2 h l =
       let ga = is_private da in
@@ -79,7 +79,7 @@ module _ (c : List Function) (ks : List Kind) (gives : Option Kind) (count : ℕ
         behind_mixing op gb ga,
         picked_or (mixes op ga gb) ga e (left_array ds) (t + 1) (t + 3) ha h1,
         picked_or (mixes op gb ga) gb e (right_array ds) (t + 2) u hb h2,
-        secrecy_fits op ga gb (λ p. private_allowed op (joined da db) m (joined_private da db ∙ p)),
+        secrecy_fits op ga gb (λ p. private_allowed op (joined_domain da db) m (joined_private da db ∙ p)),
         subst (λ g. HasKind ks t (kind_of g (result_shape op ds))) (joined_private da db ∙ sym (mixed_or op ga gb)) h,
       ) in
       let p = pc + length ca in

@@ -9,15 +9,15 @@ use Rattle.typed_tree.specs.declared.operators.WordOperator.TheVariants as word
 use Rattle.typed_tree.specs.declared.operators.BoolOperator.TheVariants as truth
 use Rattle.typed_tree.specs.declared.operators.BinaryOperator.{BinaryOperator}
 use Rattle.typed_tree.specs.declared.operators.BinaryOperator.TheVariants.{Words, Bools}
-use Rattle.typed_tree.specs.declared.function.Given.{Given}
-use Rattle.typed_tree.specs.declared.function.Given.TheVariants.{Nothing, Value}
+use Rattle.typed_tree.specs.declared.function.Returned.{Returned}
+use Rattle.typed_tree.specs.declared.function.Returned.TheVariants.{Nothing, Value}
 use Rattle.typed_tree.specs.Operators.{element_made}
 use Rattle.typed_tree.specs.Shapes.{shape_of}
 use Rattle.typed_tree.specs.Tree.{TypedTree, word_node, truth_node, slot_node, call_node, size_node, cat_node, sum_node, bits_node, element_node}
 use Rattle.typed_tree.specs.Tree.{not_node, cast_node, binary_node, cut_node, declassify_node}
 use Rattle.reached_instances.specs.declared.instance.BoundDomain.{BoundDomain}
 use Rattle.reached_instances.specs.declared.instance.BoundDomain.TheVariants.{Public, Private}
-use Rattle.reached_instances.specs.Domains.{Setting, joined}
+use Rattle.reached_instances.specs.Domains.{Setting, joined_domain}
 use Rattle.language_model.specs.Operations.{is_product, result_shape, cast_shape}
 use Rattle.language_model.specs.Evaluation.{is_private, gives_private, shape_at}
 use Rattle.bytecode.specs.declared.kind.Kind.{Kind}
@@ -45,7 +45,7 @@ result_is op ArrayAndScalar = refl
 result_is op ScalarAndArray = refl
 result_is op Arrays = refl
 
-returned_is : (g : Given) (s : Shape) → shape_given g ≡ Some s → returned_shape g ≡ s
+returned_is : (g : Returned) (s : Shape) → shape_given g ≡ Some s → returned_shape g ≡ s
 returned_is Nothing s e = absurd (none_some e)
 returned_is (Value v) s e = same_some v.shape s e
 
@@ -95,15 +95,15 @@ goes_may Public w h = λ e. absurd (clash e)
 goes_may (Private k) Public h = absurd h
 goes_may (Private k) (Private m) h = λ e. refl
 
-pub joined_private : (a b : BoundDomain) → is_private (joined a b) ≡ (is_private a || is_private b)
+pub joined_private : (a b : BoundDomain) → is_private (joined_domain a b) ≡ (is_private a || is_private b)
 joined_private Public b = refl
 joined_private (Private k) b = refl
 
-pub left_may : (a b : BoundDomain) → MayStand (is_private a) (is_private (joined a b))
+pub left_may : (a b : BoundDomain) → MayStand (is_private a) (is_private (joined_domain a b))
 left_may Public b = λ e. absurd (clash e)
 left_may (Private k) b = λ e. refl
 
-pub right_may : (a b : BoundDomain) → MayStand (is_private b) (is_private (joined a b))
+pub right_may : (a b : BoundDomain) → MayStand (is_private b) (is_private (joined_domain a b))
 right_may Public b = λ e. e
 right_may (Private k) b = λ e. refl
 

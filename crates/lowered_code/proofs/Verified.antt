@@ -11,8 +11,8 @@ use Rattle.secrec_ast.specs.declared.expression.DataType.TheVariants as datatype
 use Rattle.typed_tree.specs.Shapes.{shape_of}
 use Rattle.typed_tree.specs.declared.kinds.Shape.{Shape}
 use Rattle.typed_tree.specs.declared.kinds.Slot.{Slot}
-use Rattle.typed_tree.specs.declared.function.Given.{Given}
-use Rattle.typed_tree.specs.declared.function.Given.TheVariants.{Nothing, Value}
+use Rattle.typed_tree.specs.declared.function.Returned.{Returned}
+use Rattle.typed_tree.specs.declared.function.Returned.TheVariants.{Nothing, Value}
 use Rattle.typed_tree.specs.Programs.{TypedFunctionTree, TypedProgramTree}
 use Rattle.reached_instances.specs.declared.instance.BoundDomain.{BoundDomain}
 use Rattle.reached_instances.specs.Domains.{Setting}
@@ -127,12 +127,12 @@ module _ (number : Numbers) (c : List Function) (fs : List TypedFunctionTree) (f
   slots_stand : (k : ℕ) (s : Slot) → slice_get f.slots k ≡ Some s → HasKind own.kinds k (slot_kind b s)
   slots_stand k s there = front (map (slot_kind b) f.slots) behind_slots k (slot_kind b s) (mapped (slot_kind b) f.slots k s there)
 
-  last_right : (g : Given) → Stands own.kinds last_register (last_kinds b g)
+  last_right : (g : Returned) → Stands own.kinds last_register (last_kinds b g)
       → IsRight c own.kinds (given_kind b g) (length own.steps) (last_step g last_register)
   last_right Nothing h = refl
   last_right (Value s) h = (slot_kind b s, refl, stands_first h)
 
-  last_is_return : (g : Given) (r : ℕ) → is_return (last_step g r) ≡ true
+  last_is_return : (g : Returned) (r : ℕ) → is_return (last_step g r) ≡ true
   last_is_return Nothing r = refl
   last_is_return (Value s) r = refl
 

@@ -4,20 +4,20 @@ use Rattle.std.specs.Prelude.{map}
 use Rattle.std.proofs.lemmas.List.{map-append, length-map, length_push}
 use Rattle.bytecode.specs.declared.kind.Kind.{Kind}
 use Rattle.verified_code.specs.Steps.{Step}
-use Rattle.lowered_expressions.specs.Built.{Piece, whole, Built, with_kind, with_steps, with_code}
+use Rattle.lowered_expressions.specs.Built.{BodyPiece, whole, Built, with_kind, with_steps, with_code}
 
-abbrev pub body_of : List Kind → List Piece → Built
+abbrev pub body_of : List Kind → List BodyPiece → Built
 body_of ks ps = record { kinds = ks; pieces = ps }
 
 pub then_code : (b : Built) (k l : List Kind) (c d : List Step) → with_code (with_code b k c) l d ≡ with_code b (k ++ l) (c ++ d)
 then_code b k l c d =
     ap₂ body_of (append_assoc b.kinds k l)
-    (append_assoc b.pieces (map whole c) (map whole d) ∙ ap (λ (z : List Piece). b.pieces ++ z) (sym (map-append whole c d)))
+    (append_assoc b.pieces (map whole c) (map whole d) ∙ ap (λ (z : List BodyPiece). b.pieces ++ z) (sym (map-append whole c d)))
 
 pub then_steps : (b : Built) (k : List Kind) (c d : List Step) → with_steps (with_code b k c) d ≡ with_code b k (c ++ d)
 then_steps b k c d =
     ap (body_of (b.kinds ++ k))
-    (append_assoc b.pieces (map whole c) (map whole d) ∙ ap (λ (z : List Piece). b.pieces ++ z) (sym (map-append whole c d)))
+    (append_assoc b.pieces (map whole c) (map whole d) ∙ ap (λ (z : List BodyPiece). b.pieces ++ z) (sym (map-append whole c d)))
 
 pub kind_then : (b : Built) (k : Kind) (ks : List Kind) (c : List Step) → with_code (with_kind b k) ks c ≡ with_code b (k ∷ ks) c
 kind_then b k ks c = ap (λ (z : List Kind). body_of z (b.pieces ++ map whole c)) (append_assoc b.kinds (k ∷ []) ks)

@@ -6,15 +6,15 @@ use Rattle.typed_tree.specs.declared.operators.Connective.{Connective}
 use Rattle.bytecode.specs.declared.kind.Kind.{Kind}
 use Rattle.verified_code.specs.Steps.{Step, Branch}
 use Rattle.code_model.specs.Expressions.{deciding}
-use Rattle.lowered_expressions.specs.Built.{Piece, whole, Built, with_step, with_code}
+use Rattle.lowered_expressions.specs.Built.{BodyPiece, whole, Built, with_step, with_code}
 use Rattle.lowered_expressions.specs.Parts.{cut_end, cut_closed, cut_rest}
 use Rattle.lowered_expressions.proofs.Building.{body_of}
 
 -- a piece that was held is set, once what stands behind it is known
-pub set_behind : (ps : List Piece) (x y : Piece) (m e : List Piece) → slice_set (((ps ++ x ∷ []) ++ m) ++ e) (length ps) y ≡ ps ++ y ∷ (m ++ e)
+pub set_behind : (ps : List BodyPiece) (x y : BodyPiece) (m e : List BodyPiece) → slice_set (((ps ++ x ∷ []) ++ m) ++ e) (length ps) y ≡ ps ++ y ∷ (m ++ e)
 set_behind ps x y m e =
     let flat : ((ps ++ x ∷ []) ++ m) ++ e ≡ ps ++ x ∷ (m ++ e) = simp append_assoc in
-    ap (λ (z : List Piece). slice_set z (length ps) y) flat ∙ set_at ps x (m ++ e) y (length ps) refl
+    ap (λ (z : List BodyPiece). slice_set z (length ps) y) flat ∙ set_at ps x (m ++ e) y (length ps) refl
 
 pub cut_made : (b d f g : Built) (held : Step) (kb : List Kind) (cb : (t pc : ℕ) → List Step) (c : Connective) (secret : Bool) (to value branch : ℕ)
     → d ≡ with_step b held → f ≡ with_code d kb (cb (length d.kinds) (length d.pieces)) → g ≡ cut_closed f c secret to value branch
@@ -44,4 +44,4 @@ cut_made b d f g held kb cb c secret to value branch e h i v at =
     ∙ ap (λ (z : ℕ). body_of f.kinds (slice_set (f.pieces ++ map whole tail) z set)) at
     ∙ ap (λ (z : Built). body_of z.kinds (slice_set (z.pieces ++ map whole tail) p set)) q
     ∙ ap (body_of (b.kinds ++ kb)) (set_behind b.pieces (whole held) set (map whole code) (map whole tail))
-    ∙ ap (λ (z : List Piece). body_of (b.kinds ++ kb) (b.pieces ++ set ∷ z)) (sym (map-append whole code tail))
+    ∙ ap (λ (z : List BodyPiece). body_of (b.kinds ++ kb) (b.pieces ++ set ∷ z)) (sym (map-append whole code tail))

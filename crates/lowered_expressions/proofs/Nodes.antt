@@ -16,7 +16,8 @@ use Rattle.lowered_expressions.proofs.Building.{Begun, begun_one, two_parts, ste
 pub element_made : (b d f g h : Built) (k : Kind) (ka kb : List Kind) (ca cb : (t pc : ℕ) → List Step) (line to from at w : ℕ) → d ≡ with_kind b k
     → f ≡ with_code d ka (ca (length d.kinds) (length d.pieces)) → g ≡ with_code f kb (cb (length f.kinds) (length f.pieces))
     → h ≡ with_step g (At line to from at) → to ≡ length b.kinds → from ≡ length d.kinds → at ≡ length f.kinds → length ka ≡ w
-    → h ≡ with_code b (k ∷ (ka ++ kb)) (element_code (length b.kinds) (length b.kinds + 1 + w) (length b.pieces) line (ca (length b.kinds + 1) (length b.pieces))
+    → h ≡ with_code b (k ∷ (ka ++ kb))
+    (element_code (length b.kinds) (length b.kinds + 1 + w) (length b.pieces) line (ca (length b.kinds + 1) (length b.pieces))
     (cb (length b.kinds + 1 + w)))
 element_made b d f g h k ka kb ca cb line to from at w one first second last to_is from_is at_is many =
     let begun = begun_one b d k one in
@@ -36,7 +37,8 @@ pub cat_made : (b d f g h : Built) (ks : List Kind) (ka kb : List Kind) (ca cb :
     → g ≡ with_code f kb (cb (length f.kinds) (length f.pieces) ++ classifying r two (length f.kinds))
     → h ≡ with_step g (Cat line to left right) → to ≡ length b.kinds → one ≡ to + 1 → two ≡ to + 2
     → left ≡ picked l one (length d.kinds) → right ≡ picked r two (length f.kinds) → length ka ≡ w
-    → h ≡ with_code b (ks ++ (ka ++ kb)) (cat_code (length b.kinds) (length b.kinds + 3 + w) (length b.pieces) line l r (ca (length b.kinds + 3) (length b.pieces))
+    → h ≡ with_code b (ks ++ (ka ++ kb))
+    (cat_code (length b.kinds) (length b.kinds + 3 + w) (length b.pieces) line l r (ca (length b.kinds + 3) (length b.pieces))
     (cb (length b.kinds + 3 + w)))
 cat_made b d f g h ks ka kb ca cb l r line to one two left right w begun first second last to_is one_is two_is left_is right_is many =
     let t = length b.kinds in

@@ -4,15 +4,15 @@ use Rattle.bytecode.specs.declared.kind.Kind.{Kind}
 use Rattle.verified_code.specs.Steps.{Step}
 
 -- a step, or a jump whose place isn't known yet: where a break or a continue of the loop around it leads
-pub data Piece : Type 0 where
-  whole : Step → Piece
-  break_jump : Piece
-  continue_jump : Piece
+pub data BodyPiece : Type 0 where
+  whole : Step → BodyPiece
+  break_jump : BodyPiece
+  continue_jump : BodyPiece
 
 -- the kinds of the registers and the pieces so far
 pub record Built : Type 0 where
   pub kinds : List Kind
-  pub pieces : List Piece
+  pub pieces : List BodyPiece
 
 -- one more register
 abbrev pub with_kind : Built → Kind → Built

@@ -7,11 +7,11 @@ use Rattle.code_model.specs.Expressions.{Numbers}
 use Rattle.code_model.specs.Programs.{numbers_in}
 use Rattle.lowered_expressions.specs.declared.step.Step as declared
 use Rattle.lowered_expressions.specs.declared.step.Step.TheVariants as steps
-use Rattle.lowered_expressions.specs.declared.step.Piece as pieces
-use Rattle.lowered_expressions.specs.declared.step.Piece.TheVariants as kept
+use Rattle.lowered_expressions.specs.declared.step.BodyPiece as pieces
+use Rattle.lowered_expressions.specs.declared.step.BodyPiece.TheVariants as kept
 use Rattle.lowered_expressions.specs.declared.body.Body as bodies
 use Rattle.lowered_expressions.specs.declared.around.Around as arounds
-use Rattle.lowered_expressions.specs.Built.{Piece, whole, break_jump, continue_jump, Built}
+use Rattle.lowered_expressions.specs.Built.{BodyPiece, whole, break_jump, continue_jump, Built}
 
 abbrev pub step_seen : declared.Step → S.Step
 step_seen (steps.Literal d e n) = S.Literal d e n
@@ -38,7 +38,7 @@ step_seen (steps.Call line f d arguments) = S.Call line f d arguments.items
 step_seen (steps.Return r) = S.Return r
 step_seen steps.ReturnNone = S.ReturnNone
 
-abbrev pub piece_seen : pieces.Piece → Piece
+abbrev pub piece_seen : pieces.BodyPiece → BodyPiece
 piece_seen (kept.Whole i) = whole (step_seen i)
 piece_seen kept.Break = break_jump
 piece_seen kept.Continue = continue_jump

@@ -3,7 +3,7 @@ ghost use Rattle.std.specs.Prelude.{◌≡◌, ◌<◌, IfOk, OnOk, length};
 ghost use Rattle.lowered_expressions.specs.Built.{with_kind, with_step, with_step_at};
 ghost use Rattle.lowered_expressions.specs.Views.{built, step_seen};
 
-use crate::step::{Piece, Step};
+use crate::step::{BodyPiece, Step};
 use bytecode::Kind;
 use std::alloc::AllocError;
 
@@ -12,7 +12,7 @@ use std::alloc::AllocError;
 pub struct Body<'p> {
     /// The kinds of its registers.
     pub registers: Vec<Kind>,
-    pub pieces: Vec<Piece<'p>>,
+    pub pieces: Vec<BodyPiece<'p>>,
 }
 
 impl<'p> Body<'p> {
@@ -44,7 +44,7 @@ impl<'p> Body<'p> {
     pub fn push(&mut self, step: Step<'p>) -> Result<(), AllocError>
         ensures { OnOk result (built self.new ≡ with_step (built self.old) (step_seen step.entry)) }
     {
-        self.pieces.push(Piece::Whole(step))?;
+        self.pieces.push(BodyPiece::Whole(step))?;
         Ok(())
     }
 
@@ -53,6 +53,6 @@ impl<'p> Body<'p> {
         requires { place < length (built self.old).pieces }
         ensures { built self.new ≡ with_step_at (built self.old) place (step_seen step.entry) }
     {
-        self.pieces[place] = Piece::Whole(step);
+        self.pieces[place] = BodyPiece::Whole(step);
     }
 }

@@ -14,7 +14,7 @@ use reached_instances::{
     BoundDomain, Instance, Setting, binding_of, domain_under, domains, slot_domain,
 };
 use std::alloc::{AllocError, Global};
-use typed_tree::{Given, Slot, TypedExpression};
+use typed_tree::{Returned, Slot, TypedExpression};
 
 /// What a call of a function with these arguments binds its domain variables to.
 pub fn bound_at(
@@ -65,8 +65,8 @@ pub fn given_to(here: &Setting<'_>, function: usize, to: usize) -> Option<usize>
     ensures { result ≡ result_at (slice_get (setting here.now).functions function) to }
 {
     match here.functions.get(function)?.given {
-        Given::Nothing => None,
-        Given::Value(_) => Some(to),
+        Returned::Nothing => None,
+        Returned::Value(_) => Some(to),
     }
 }
 

@@ -7,7 +7,7 @@ ghost use Rattle.lowered_expressions.specs.Parts.{one_step, cut_closed};
 ghost use Rattle.lowered_expressions.specs.Views.{built, step_seen};
 
 use crate::body::Body;
-use crate::operands::{Operand, wanted};
+use crate::operands::{WantedOperand, wanted};
 use crate::step::Step;
 use crate::words::{deciding, truth_word};
 use secrec_ast::DataType;
@@ -52,8 +52,8 @@ pub fn close_binary(
     body: &mut Body<'_>,
     operation: Operation,
     to: usize,
-    left: Operand,
-    right: Operand,
+    left: WantedOperand,
+    right: WantedOperand,
 ) -> Result<(), AllocError>
     ensures { OnOk result (built body.new ≡ with_steps (built body.old)
         (classifying left.lacks left.classified left.value ++ (classifying right.lacks right.classified right.value

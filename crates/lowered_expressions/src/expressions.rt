@@ -15,55 +15,52 @@ use crate::body::Body;
 use crate::calling::{bound_at, next_is_private, number_of, slots_of};
 use crate::closing::{One, Operation, close_binary, close_cut, one_step};
 use crate::kinds::{gives_private, kind, kind_of, private_kind};
-use crate::operands::{Operand, wanted};
+use crate::operands::{WantedOperand, wanted};
 use crate::step::Step;
 use crate::words::{lacks, mixes, operator_of, scalar, truth_word};
 use bytecode::Kind;
 use reached_instances::BoundDomain;
 use secrec_ast::DataType;
-use std::alloc::{AllocError, Global};
+use std::alloc::AllocError;
 use typed_tree::{BinaryOperator, Connective, Operands, Slot, TypedExpression};
 
 /// Puts the registers and the code of an expression behind a body: its value stands in the first of them. An error comes where memory
 /// runs short.
 #[cycle(expressions)]
 pub fn expression(
-    alloc: Global,
     body: &mut Body<'_>,
     around: &Around<'_>,
     e: &TypedExpression,
 ) -> Result<(), AllocError>
     ensures { OnOk result (built body.new ≡ with_expression (numbers_of around.now) (here_of around.now) (built body.old) (typed_tree e.now)) }
 {
-    let kind = kind(alloc, &around.here, e)?;
+    let kind = kind(around.alloc, &around.here, e)?;
     match e {
         TypedExpression::Word(word) => literal(body, kind, *word),
         TypedExpression::Truth(truth) => literal(body, kind, truth_word(*truth)),
         TypedExpression::Variable(slot) => variable(body, kind, *slot),
         TypedExpression::Call(line, function, list) => {
-            read_call(alloc, body, around, kind, *line, *function, list)
+            read_call(body, around, kind, *line, *function, list)
         }
-        TypedExpression::Size(x) => one(alloc, body, around, kind, One::Size, x),
-        TypedExpression::Cat(line, a, b) => cat(alloc, body, around, kind, *line, a, b),
-        TypedExpression::Sum(x) => one(alloc, body, around, kind, One::Sum, x),
-        TypedExpression::BitExtract(line, x) => {
-            one(alloc, body, around, kind, One::Bits(*line), x)
-        }
-        TypedExpression::Element(line, a, i) => element(alloc, body, around, kind, *line, a, i),
-        TypedExpression::Not(x) => one(alloc, body, around, kind, One::Not, x),
-        TypedExpression::Cast(cast, x) => one(alloc, body, around, kind, One::Cast(*cast), x),
+        TypedExpression::Size(x) => one(body, around, kind, One::Size, x),
+        TypedExpression::Cat(line, a, b) => cat(body, around, kind, *line, a, b),
+        TypedExpression::Sum(x) => one(body, around, kind, One::Sum, x),
+        TypedExpression::BitExtract(line, x) => { one(body, around, kind, One::Bits(*line), x) }
+        TypedExpression::Element(line, a, i) => element(body, around, kind, *line, a, i),
+        TypedExpression::Not(x) => one(body, around, kind, One::Not, x),
+        TypedExpression::Cast(cast, x) => one(body, around, kind, One::Cast(*cast), x),
         TypedExpression::Binary(line, operator, operands, a, b) => {
             let operation = Operation {
                 line: *line,
                 operator: *operator,
                 operands: *operands,
             };
-            binary(alloc, body, around, kind, operation, a, b)
+            binary(body, around, kind, operation, a, b)
         }
         TypedExpression::CutShort(connective, a, b) => {
-            cut(alloc, body, around, kind, *connective, a, b)
+            cut(body, around, kind, *connective, a, b)
         }
-        TypedExpression::Declassify(x) => one(alloc, body, around, kind, One::Declassify, x),
+        TypedExpression::Declassify(x) => one(body, around, kind, One::Declassify, x),
     }
 }
 
@@ -91,7 +88,6 @@ fn variable(body: &mut Body<'_>, kind: Kind, slot: usize) -> Result<(), AllocErr
 /// stands then. An error comes where memory runs short.
 #[cycle(expressions)]
 pub fn operand(
-    alloc: Global,
     body: &mut Body<'_>,
     around: &Around<'_>,
     private: bool,
@@ -103,12 +99,12 @@ pub fn operand(
     ensures register { IfOk result (λ r. r ≡
         picked (lacks private (gives_private (here_of around.now) (typed_tree e.now))) classified (length (built body.old).kinds)) }
 {
-    let given = gives_private(alloc, &around.here, e)?;
+    let given = gives_private(around.alloc, &around.here, e)?;
     let value = body.next_register();
-    expression(alloc, body, around, e)?;
+    expression(body, around, e)?;
     wanted(
         body,
-        Operand {
+        WantedOperand {
             lacks: lacks(private, given),
             classified,
             value,
@@ -119,7 +115,6 @@ pub fn operand(
 // An operation on one operand.
 #[cycle(expressions)]
 fn one(
-    alloc: Global,
     body: &mut Body<'_>,
     around: &Around<'_>,
     kind: Kind,
@@ -132,14 +127,13 @@ fn one(
 {
     let to = body.fresh(kind)?;
     let source = body.next_register();
-    expression(alloc, body, around, x)?;
+    expression(body, around, x)?;
     body.push(one_step(one, to, source))
 }
 
 // An element of an array.
 #[cycle(expressions)]
 fn element(
-    alloc: Global,
     body: &mut Body<'_>,
     around: &Around<'_>,
     kind: Kind,
@@ -153,9 +147,9 @@ fn element(
 {
     let to = body.fresh(kind)?;
     let from = body.next_register();
-    expression(alloc, body, around, array)?;
+    expression(body, around, array)?;
     let at = body.next_register();
-    expression(alloc, body, around, index)?;
+    expression(body, around, index)?;
     body.push(Step::At {
         line,
         to,
@@ -167,7 +161,6 @@ fn element(
 // An array and another behind it, each classified right behind its code.
 #[cycle(expressions)]
 fn cat(
-    alloc: Global,
     body: &mut Body<'_>,
     around: &Around<'_>,
     kind: Kind,
@@ -182,8 +175,8 @@ fn cat(
     let to = body.fresh(kind)?;
     let first = body.fresh(private_kind(&around.here, a))?;
     let second = body.fresh(private_kind(&around.here, b))?;
-    let left = operand(alloc, body, around, kind.secret, first, a)?;
-    let right = operand(alloc, body, around, kind.secret, second, b)?;
+    let left = operand(body, around, kind.secret, first, a)?;
+    let right = operand(body, around, kind.secret, second, b)?;
     body.push(Step::Cat {
         line,
         to,
@@ -195,7 +188,6 @@ fn cat(
 // An operation on two operands.
 #[cycle(expressions)]
 fn binary(
-    alloc: Global,
     body: &mut Body<'_>,
     around: &Around<'_>,
     kind: Kind,
@@ -211,14 +203,13 @@ fn binary(
     let to = body.fresh(kind)?;
     body.fresh(private_kind(&around.here, a))?;
     body.fresh(private_kind(&around.here, b))?;
-    expression(alloc, body, around, a)?;
-    both(alloc, body, around, to, operation, a, b)
+    expression(body, around, a)?;
+    both(body, around, to, operation, a, b)
 }
 
 // The right operand of an operation, the left one's code being there, and its step.
 #[cycle(expressions)]
 fn both(
-    alloc: Global,
     body: &mut Body<'_>,
     around: &Around<'_>,
     to: usize,
@@ -232,16 +223,16 @@ fn both(
         (gives_private (here_of around.now) (typed_tree a.now)) (gives_private (here_of around.now) (typed_tree b.now))
         (λ p. expression_code (numbers_of around.now) (here_of around.now) (length (built body.old).kinds) p (typed_tree b.now)))) }
 {
-    let left = gives_private(alloc, &around.here, a)?;
-    let right = gives_private(alloc, &around.here, b)?;
+    let left = gives_private(around.alloc, &around.here, a)?;
+    let right = gives_private(around.alloc, &around.here, b)?;
     let value = body.next_register();
-    expression(alloc, body, around, b)?;
-    let left_operand = Operand {
+    expression(body, around, b)?;
+    let left_operand = WantedOperand {
         lacks: mixes(operation.operator, left, right),
         classified: to + 1,
         value: to + 3,
     };
-    let right_operand = Operand {
+    let right_operand = WantedOperand {
         lacks: mixes(operation.operator, right, left),
         classified: to + 2,
         value,
@@ -252,7 +243,6 @@ fn both(
 // A connective: an operation on both operands where the left one is private.
 #[cycle(expressions)]
 fn cut(
-    alloc: Global,
     body: &mut Body<'_>,
     around: &Around<'_>,
     kind: Kind,
@@ -264,27 +254,26 @@ fn cut(
     ensures { OnOk result (built body.new ≡ with_expression (numbers_of around.now) (here_of around.now) (built body.old)
         (cut_node connective (typed_tree a.now) (typed_tree b.now))) }
 {
-    let secret = gives_private(alloc, &around.here, a)?;
+    let secret = gives_private(around.alloc, &around.here, a)?;
     let to = body.fresh(kind)?;
     body.fresh(kind_of(secret, scalar(DataType::Bool)))?;
     body.fresh(kind_of(true, scalar(DataType::Bool)))?;
-    expression(alloc, body, around, a)?;
+    expression(body, around, a)?;
     if secret {
         let operation = Operation {
             line: 0,
             operator: BinaryOperator::Bools(operator_of(connective)),
             operands: Operands::Scalars,
         };
-        both(alloc, body, around, to, operation, a, b)
+        both(body, around, to, operation, a, b)
     } else {
-        cut_short(alloc, body, around, to, connective, a, b)
+        cut_short(body, around, to, connective, a, b)
     }
 }
 
 // The right operand of a connective whose left one is public, and may decide alone.
 #[cycle(expressions)]
 fn cut_short(
-    alloc: Global,
     body: &mut Body<'_>,
     around: &Around<'_>,
     to: usize,
@@ -298,18 +287,17 @@ fn cut_short(
         (gives_private (here_of around.now) (typed_tree b.now))
         (λ p. expression_code (numbers_of around.now) (here_of around.now) (length (built body.old).kinds) p (typed_tree b.now)))) }
 {
-    let secret = gives_private(alloc, &around.here, b)?;
+    let secret = gives_private(around.alloc, &around.here, b)?;
     let branch = body.next_place();
     body.push(Step::ReturnNone)?;
     let value = body.next_register();
-    expression(alloc, body, around, b)?;
+    expression(body, around, b)?;
     close_cut(body, connective, secret, to, value, branch)
 }
 
 // A call whose value is read.
 #[cycle(expressions)]
 fn read_call(
-    alloc: Global,
     body: &mut Body<'_>,
     around: &Around<'_>,
     kind: Kind,
@@ -322,14 +310,13 @@ fn read_call(
         (call_node line function (typed_trees_of (map typed_tree list.now.items)))) }
 {
     let to = body.fresh(kind)?;
-    call(alloc, body, around, line, function, Some(to), list)
+    call(body, around, line, function, Some(to), list)
 }
 
 /// Puts the code of a call's arguments and the call behind a body; what it gives goes to a register, if there is one. An error
 /// comes where memory runs short.
 #[cycle(expressions)]
 pub fn call(
-    alloc: Global,
     body: &mut Body<'_>,
     around: &Around<'_>,
     line: u32,
@@ -340,9 +327,9 @@ pub fn call(
     ensures { OnOk result (built body.new ≡ with_call (numbers_of around.now) (here_of around.now) (built body.old) line function to
         (typed_trees_of (map typed_tree list.now.items))) }
 {
-    let binding = bound_at(alloc, &around.here, function, list)?;
+    let binding = bound_at(around.alloc, &around.here, function, list)?;
     let slots = slots_of(&around.here, function);
-    let arguments = arguments(alloc, body, around, &binding, slots, list)?;
+    let arguments = arguments(body, around, &binding, slots, list)?;
     let function = number_of(around, function, binding);
     body.push(Step::Call {
         line,
@@ -355,7 +342,6 @@ pub fn call(
 // The arguments of a call, one after another; the registers where they stand.
 #[cycle(expressions)]
 fn arguments(
-    alloc: Global,
     body: &mut Body<'_>,
     around: &Around<'_>,
     binding: &[BoundDomain],
@@ -369,10 +355,10 @@ fn arguments(
     ensures registers { IfOk result (λ places. places.items ≡ arguments_places (numbers_of around.now) (here_of around.now) binding.now slots.now
         (length (built body.old).kinds) (typed_trees_of (map typed_tree list.now.items))) }
 {
-    let mut registers = Vec::new(alloc);
+    let mut registers = Vec::new(around.alloc);
     for e in list {
         let private = next_is_private(binding, slots, registers.len());
-        let register = argument(alloc, body, around, private, e)?;
+        let register = argument(body, around, private, e)?;
         registers.push(register)?;
     }
     Ok(registers)
@@ -382,7 +368,6 @@ fn arguments(
 /// where it stands then. An error comes where memory runs short.
 #[cycle(expressions)]
 pub fn argument(
-    alloc: Global,
     body: &mut Body<'_>,
     around: &Around<'_>,
     private: bool,
@@ -397,5 +382,5 @@ pub fn argument(
         (length (built body.old).kinds) (length (built body.old).kinds + 1)) }
 {
     let classified = body.fresh(private_kind(&around.here, e))?;
-    operand(alloc, body, around, private, classified, e)
+    operand(body, around, private, classified, e)
 }

@@ -13,15 +13,15 @@ use bytecode::Kind;
 use reached_instances::{Setting, domain};
 use secrec_ast::DataType;
 use std::alloc::{AllocError, Global};
-use typed_tree::{Given, Shape, TypedExpression, TypedFunction};
+use typed_tree::{Returned, Shape, TypedExpression, TypedFunction};
 
 // The shape of what a function gives back; where it gives nothing, that of a number.
-fn returned_shape(given: Given) -> Shape
+fn returned_shape(given: Returned) -> Shape
     ensures { result ≡ returned_shape given }
 {
     match given {
-        Given::Nothing => scalar(DataType::Uint64),
-        Given::Value(slot) => slot.shape,
+        Returned::Nothing => scalar(DataType::Uint64),
+        Returned::Value(slot) => slot.shape,
     }
 }
 

@@ -16,6 +16,6 @@ pub use body::Body;
 pub use calling::{given_to, slot_is_private};
 pub use expressions::{argument, call, expression, operand};
 pub use kinds::{kind, kind_of, private_kind, slot_shape};
-pub use operands::{Operand, is_private, wanted};
-pub use step::{Piece, Step};
+pub use operands::{WantedOperand, is_private, wanted};
+pub use step::{BodyPiece, Step};
 pub use words::lacks;

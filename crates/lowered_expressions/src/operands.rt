@@ -12,7 +12,7 @@ use std::alloc::AllocError;
 
 /// The register of an operand's value, that of its classification, and whether it lacks it.
 #[derive(Clone, Copy)]
-pub struct Operand {
+pub struct WantedOperand {
     pub lacks: bool,
     pub classified: usize,
     pub value: usize,
@@ -29,7 +29,7 @@ pub fn is_private(domain: BoundDomain) -> bool
 }
 
 /// Classifies an operand where it lacks that; the register where it stands then.
-pub fn wanted(body: &mut Body<'_>, operand: Operand) -> Result<usize, AllocError>
+pub fn wanted(body: &mut Body<'_>, operand: WantedOperand) -> Result<usize, AllocError>
     ensures built { OnOk result (built body.new ≡
         with_steps (built body.old) (classifying operand.lacks operand.classified operand.value)) }
     ensures register { IfOk result (λ r. r ≡ picked operand.lacks operand.classified operand.value) }

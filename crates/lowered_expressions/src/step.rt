@@ -121,7 +121,7 @@ pub enum Step<'p> {
 
 /// A piece of a body that is being made: a step, or a jump behind or to the loop around it, of which the place isn't known yet.
 #[derive(Drop)]
-pub enum Piece<'p> {
+pub enum BodyPiece<'p> {
     Whole(Step<'p>),
     Break,
     Continue,

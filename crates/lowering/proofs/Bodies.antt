@@ -12,9 +12,9 @@ use Rattle.code_model.specs.Expressions.{Numbers}
 use Rattle.code_model.specs.Commands.{defaults_behind, first_free, commands_width, commands_kinds, commands_code}
 use Rattle.code_model.specs.Programs.{given_kind, last_kinds, last_step, body_end, function_code}
 use Rattle.code_model.proofs.Widths.{commands_registers}
-use Rattle.lowered_expressions.specs.Built.{Piece, whole, Built}
+use Rattle.lowered_expressions.specs.Built.{BodyPiece, whole, Built}
 use Rattle.lowered_expressions.proofs.Building.{body_of}
-use Rattle.lowering.specs.Pieces.{placed, commands_pieces, with_commands, with_last}
+use Rattle.lowering.specs.inner.Pieces.{placed, commands_pieces, with_commands, with_last}
 use Rattle.lowering.proofs.Placed.{commands_placed}
 
 abbrev pub function_of : ℕ → Option Kind → List Kind → List Step → Function
@@ -54,7 +54,7 @@ function_made number fs f b registers b1 b2 end steps first e1 at_end e2 made =
     made
     ∙ ap (λ (z : Built). map (placed end end) z.pieces) e2
     ∙ map-append (placed end end) b1.pieces (whole (last_step f.given (length b1.kinds)) ∷ [])
-    ∙ ap₂ (λ (x : List Piece) (y : ℕ). map (placed end end) x ++ last_step f.given y ∷ []) (ap (λ (z : Built). z.pieces) q1) r
+    ∙ ap₂ (λ (x : List BodyPiece) (y : ℕ). map (placed end end) x ++ last_step f.given y ∷ []) (ap (λ (z : Built). z.pieces) q1) r
     ∙ ap (λ (x : List Step). x ++ last ∷ []) (commands_placed number at end end ff 0 f.body)
     ∙ ap (λ (x : ℕ). commands_code number at ff x x 0 f.body ++ last ∷ []) stop in
     ap₂ (λ (x : List Kind) (y : List Step). function_of f.parameters (given_kind b f.given) x y) kinds code

@@ -4,13 +4,13 @@ use Rattle.std.specs.Prelude.{map, slice_set}
 use Rattle.std.proofs.lemmas.List.{length-map}
 use Rattle.bytecode.specs.declared.kind.Kind.{Kind}
 use Rattle.verified_code.specs.Steps.{Step, Branch, Jump, ReturnNone}
-use Rattle.lowered_expressions.specs.Built.{Piece, whole, Built, with_step, with_step_at, with_code}
+use Rattle.lowered_expressions.specs.Built.{BodyPiece, whole, Built, with_step, with_step_at, with_code}
 use Rattle.lowered_expressions.proofs.Building.{body_of}
-use Rattle.lowering.specs.Pieces.{with_pieces, if_pieces}
+use Rattle.lowering.specs.inner.Pieces.{with_pieces, if_pieces}
 use Rattle.lowering.proofs.Behind.{registers_behind, places_behind, registers_step, places_step, two_writes}
 
 -- lists of pieces one behind another
-behind_all : (b0 b1 b2 b3 b4 b5 : Built) (ke k1 k2 : List Kind) (c : List Step) (a b : List Piece) → b1 ≡ with_code b0 ke c → b2 ≡ with_step b1 ReturnNone
+behind_all : (b0 b1 b2 b3 b4 b5 : Built) (ke k1 k2 : List Kind) (c : List Step) (a b : List BodyPiece) → b1 ≡ with_code b0 ke c → b2 ≡ with_step b1 ReturnNone
     → b3 ≡ with_pieces b2 k1 a → b4 ≡ with_step b3 ReturnNone → b5 ≡ with_pieces b4 k2 b
     → b5 ≡ body_of (b0.kinds ++ (ke ++ (k1 ++ k2)))
     (((((b0.pieces ++ map whole c) ++ whole ReturnNone ∷ []) ++ a) ++ whole ReturnNone ∷ []) ++ b)
@@ -21,7 +21,7 @@ behind_all b0 b1 b2 b3 b4 b5 ke k1 k2 c a b e1 e2 e3 e4 e5 =
     ∙ ap (λ (z : Built). with_pieces z k1 a) (e2 ∙ ap (λ (z : Built). with_step z ReturnNone) e1)))
     ∙ ap (λ (z : List Kind). body_of z (((((b0.pieces ++ map whole c) ++ whole ReturnNone ∷ []) ++ a) ++ whole ReturnNone ∷ []) ++ b)) kinds
 
-pub if_made : (b0 b1 b2 b3 b4 b5 b6 b7 : Built) (ke k1 k2 : List Kind) (ce : (t pc : ℕ) → List Step) (a b : (t pc : ℕ) → List Piece)
+pub if_made : (b0 b1 b2 b3 b4 b5 b6 b7 : Built) (ke k1 k2 : List Kind) (ce : (t pc : ℕ) → List Step) (a b : (t pc : ℕ) → List BodyPiece)
     (w w1 condition branch jump target end : ℕ)
     → b1 ≡ with_code b0 ke (ce (length b0.kinds) (length b0.pieces)) → b2 ≡ with_step b1 ReturnNone
     → b3 ≡ with_pieces b2 k1 (a (length b2.kinds) (length b2.pieces)) → b4 ≡ with_step b3 ReturnNone
@@ -30,7 +30,8 @@ pub if_made : (b0 b1 b2 b3 b4 b5 b6 b7 : Built) (ke k1 k2 : List Kind) (ce : (t 
     → jump ≡ length b3.pieces → target ≡ length b4.pieces → end ≡ length b5.pieces
     → b7 ≡ with_pieces b0 (ke ++ (k1 ++ k2)) (if_pieces (length b0.pieces) (length b0.kinds) (ce (length b0.kinds) (length b0.pieces))
     (a (length b0.kinds + w)) (b (length b0.kinds + w + w1)))
-if_made b0 b1 b2 b3 b4 b5 b6 b7 ke k1 k2 ce a b w w1 condition branch jump target end e1 e2 e3 e4 e5 e6 e7 many many1 at_condition at_branch at_jump at_target at_end =
+if_made b0 b1 b2 b3 b4 b5 b6 b7 ke k1 k2 ce a b w w1 condition branch jump target end e1 e2 e3 e4 e5 e6 e7 many many1 at_condition at_branch at_jump
+    at_target at_end =
     let t = length b0.kinds in
     let pc = length b0.pieces in
     let c = ce t pc in

@@ -11,7 +11,7 @@ use Rattle.lowered_expressions.specs.Built.{Built, with_kind, with_step, with_co
 use Rattle.lowered_expressions.proofs.Building.{begun_one, two_parts, stepped}
 use Rattle.lowering.specs.declared.commands.Pair.{Pair}
 use Rattle.lowering.specs.declared.commands.Pair.TheVariants as pairs
-use Rattle.lowering.specs.Leaves.{pair_step, pair_command, with_leaf}
+use Rattle.lowering.specs.inner.Leaves.{pair_step, pair_command, with_leaf}
 
 -- one step behind code and a classification, which reads the register where the value stands
 pub pushed : (b f g : Built) (ks : List Kind) (c d : List Step) (last : ℕ → Step) (r s : ℕ) → f ≡ with_code b ks (c ++ d) → g ≡ with_step f (last r)
@@ -21,7 +21,8 @@ pushed b f g ks c d last r s e h same =
     ∙ ap (with_code b ks) (append_assoc c d (last s ∷ []))
 
 -- a number and a value, and the step that reads both
-pub pair_made : (b d f g h : Built) (k : Kind) (kn ke : List Kind) (cn ce : (t pc : ℕ) → List Step) (l : Bool) (classified first second w : ℕ) (last : ℕ → ℕ → Step)
+pub pair_made : (b d f g h : Built) (k : Kind) (kn ke : List Kind) (cn ce : (t pc : ℕ) → List Step) (l : Bool) (classified first second w : ℕ)
+    (last : ℕ → ℕ → Step)
     → d ≡ with_kind b k → f ≡ with_code d kn (cn (length d.kinds) (length d.pieces))
     → g ≡ with_code f ke (ce (length f.kinds) (length f.pieces) ++ classifying l classified (length f.kinds))
     → h ≡ with_step g (last first second) → classified ≡ length b.kinds → first ≡ length d.kinds → second ≡ picked l classified (length f.kinds)

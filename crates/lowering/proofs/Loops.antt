@@ -5,7 +5,7 @@ use Rattle.std.proofs.lemmas.List.{length-map, map-append, set_at}
 use Rattle.typed_tree.specs.Tree.{TypedTree}
 use Rattle.typed_tree.specs.Commands.{Command, also, none, loop_command, do_command}
 use Rattle.reached_instances.specs.Domains.{Setting}
-use Rattle.language_model.specs.Evaluation.{Place}
+use Rattle.language_model.specs.Evaluation.{StatementContext}
 use Rattle.bytecode.specs.declared.kind.Kind.{Kind}
 use Rattle.verified_code.specs.Steps.{Step, Branch, Jump, ReturnNone}
 use Rattle.code_model.specs.Kinds.{expression_kinds}
@@ -13,37 +13,37 @@ use Rattle.code_model.specs.Expressions.{Numbers, expression_code}
 use Rattle.code_model.specs.Commands.{command_width, command_kinds, command_code}
 use Rattle.code_model.proofs.Lengths.{expression_length, command_length}
 use Rattle.code_model.proofs.Widths.{commands_registers}
-use Rattle.lowered_expressions.specs.Built.{Piece, whole, Built, with_step, with_step_at}
+use Rattle.lowered_expressions.specs.Built.{BodyPiece, whole, Built, with_step, with_step_at}
 use Rattle.lowered_expressions.specs.Parts.{with_expression}
 use Rattle.lowered_expressions.proofs.Building.{body_of}
-use Rattle.lowering.specs.Pieces.{placed, settled, settled_part, command_pieces, with_pieces, with_settled, with_command}
+use Rattle.lowering.specs.inner.Pieces.{placed, settled, settled_part, command_pieces, with_pieces, with_settled, with_command}
 use Rattle.lowering.proofs.SettledParts.{part_between}
 use Rattle.lowering.proofs.Placed.{settled_placed, command_placed, command_as_long}
 use Rattle.lowering.proofs.Behind.{registers_behind, places_behind, registers_step, places_step}
 
 -- the pieces of a loop's parts, settled, are the loop's code
-loop_same : (p : List Piece) (x y z : ℕ) (j : Step) (a s : List Piece) (e : List Step) (i : Step) (ca cs : List Step) → map (placed x y) a ≡ ca
+loop_same : (p : List BodyPiece) (x y z : ℕ) (j : Step) (a s : List BodyPiece) (e : List Step) (i : Step) (ca cs : List Step) → map (placed x y) a ≡ ca
     → map (placed x z) s ≡ cs
     → p ++ (whole j ∷ (map (settled x y) a ++ (map (settled x z) s ++ (map whole e ++ whole i ∷ []))))
     ≡ p ++ map whole (j ∷ (ca ++ (cs ++ (e ++ i ∷ []))))
 loop_same p x y z j a s e i ca cs ea es =
-    ap (λ (l : List Piece). p ++ whole j ∷ l)
-    (ap₂ (λ (u v : List Piece). u ++ (v ++ (map whole e ++ whole i ∷ []))) (settled_placed x y a ∙ ap (map whole) ea)
+    ap (λ (l : List BodyPiece). p ++ whole j ∷ l)
+    (ap₂ (λ (u v : List BodyPiece). u ++ (v ++ (map whole e ++ whole i ∷ []))) (settled_placed x y a ∙ ap (map whole) ea)
     (settled_placed x z s ∙ ap (map whole) es)
-    ∙ ap (λ (l : List Piece). map whole ca ++ (map whole cs ++ l)) (sym (map-append whole e (i ∷ [])))
-    ∙ ap (λ (l : List Piece). map whole ca ++ l) (sym (map-append whole cs (e ++ i ∷ [])))
+    ∙ ap (λ (l : List BodyPiece). map whole ca ++ (map whole cs ++ l)) (sym (map-append whole e (i ∷ [])))
+    ∙ ap (λ (l : List BodyPiece). map whole ca ++ l) (sym (map-append whole cs (e ++ i ∷ [])))
     ∙ sym (map-append whole ca (cs ++ (e ++ i ∷ []))))
 
-do_same : (p : List Piece) (x y : ℕ) (a : List Piece) (e : List Step) (i : Step) (ca : List Step) → map (placed x y) a ≡ ca
+do_same : (p : List BodyPiece) (x y : ℕ) (a : List BodyPiece) (e : List Step) (i : Step) (ca : List Step) → map (placed x y) a ≡ ca
     → p ++ (map (settled x y) a ++ (map whole e ++ whole i ∷ [])) ≡ p ++ map whole (ca ++ (e ++ i ∷ []))
 do_same p x y a e i ca ea =
-    ap (λ (l : List Piece). p ++ l)
-    (ap (λ (u : List Piece). u ++ (map whole e ++ whole i ∷ [])) (settled_placed x y a ∙ ap (map whole) ea)
-    ∙ ap (λ (l : List Piece). map whole ca ++ l) (sym (map-append whole e (i ∷ [])))
+    ap (λ (l : List BodyPiece). p ++ l)
+    (ap (λ (u : List BodyPiece). u ++ (map whole e ++ whole i ∷ [])) (settled_placed x y a ∙ ap (map whole) ea)
+    ∙ ap (λ (l : List BodyPiece). map whole ca ++ l) (sym (map-append whole e (i ∷ [])))
     ∙ sym (map-append whole ca (e ++ i ∷ [])))
 
 -- two parts of a loop settled, once the jump in front of them is set
-two_settled : (p a s r : List Piece) (held j : Piece) (at first second : ℕ) (n m x y z : ℕ) → at ≡ length p → first ≡ length p + 1 → n ≡ length a
+two_settled : (p a s r : List BodyPiece) (held j : BodyPiece) (at first second : ℕ) (n m x y z : ℕ) → at ≡ length p → first ≡ length p + 1 → n ≡ length a
     → second ≡ length p + 1 + length a → m ≡ length s
     → settled_part x z second m (settled_part x y first n (slice_set (p ++ held ∷ (a ++ (s ++ r))) at j))
     ≡ p ++ (j ∷ (map (settled x y) a ++ (map (settled x z) s ++ r)))
@@ -55,14 +55,14 @@ two_settled p a s r held j at first second n m x y z at_is first_is n_is second_
     let nm = length-map a (settled x y) in
     let nb = length-append front more in
     let two : second ≡ length (front ++ more) = omega (arith, second_is, nf, nm, nb) in
-    ap (λ (l : List Piece). settled_part x z second m (settled_part x y first n l))
+    ap (λ (l : List BodyPiece). settled_part x z second m (settled_part x y first n l))
     (set_at p held (a ++ (s ++ r)) j at (sym at_is) ∙ sym (append_assoc p (j ∷ []) (a ++ (s ++ r))))
     ∙ ap (settled_part x z second m) (part_between x y front a (s ++ r) first n one n_is ∙ sym (append_assoc front more (s ++ r)))
     ∙ part_between x z (front ++ more) s r second m two m_is
     ∙ append_assoc front more (map (settled x z) s ++ r)
     ∙ append_assoc p (j ∷ []) (more ++ (map (settled x z) s ++ r))
 
-one_settled : (p a r : List Piece) (first n x y : ℕ) → first ≡ length p → n ≡ length a
+one_settled : (p a r : List BodyPiece) (first n x y : ℕ) → first ≡ length p → n ≡ length a
     → settled_part x y first n ((p ++ a) ++ r) ≡ p ++ (map (settled x y) a ++ r)
 one_settled p a r first n x y first_is n_is =
     ap (settled_part x y first n) (append_assoc p a r) ∙ part_between x y p a r first n first_is n_is
@@ -72,13 +72,13 @@ command_registers here c =
     let one = commands_registers here (also c none) in
     omega (arith, one, length-append (command_kinds here c) [])
 
-flat_loop : (p a s m e : List Piece) (h : Piece) → ((((p ++ h ∷ []) ++ a) ++ s) ++ m) ++ e ≡ p ++ h ∷ (a ++ (s ++ (m ++ e)))
+flat_loop : (p a s m e : List BodyPiece) (h : BodyPiece) → ((((p ++ h ∷ []) ++ a) ++ s) ++ m) ++ e ≡ p ++ h ∷ (a ++ (s ++ (m ++ e)))
 flat_loop p a s m e h = simp append_assoc
 
 flat_kinds : (p a s m : List Kind) → ((p ++ a) ++ s) ++ m ≡ p ++ (a ++ (s ++ m))
 flat_kinds p a s m = simp append_assoc
 
-module _ (number : Numbers) (at : Place) (e : TypedTree) where
+module _ (number : Numbers) (at : StatementContext) (e : TypedTree) where
   pub loop_made : (step body : Command) (b0 b1 b2 b3 b4 b5 b6 b7 b8 : Built) (jump start onward test condition end n m : ℕ)
       → b1 ≡ with_step b0 ReturnNone
       → b2 ≡ with_command number at b1 body → b3 ≡ with_command number at b2 step
@@ -87,7 +87,8 @@ module _ (number : Numbers) (at : Place) (e : TypedTree) where
       → jump ≡ length b0.pieces → start ≡ length b1.pieces → onward ≡ length b2.pieces → test ≡ length b3.pieces
       → condition ≡ length b3.kinds → end ≡ length b5.pieces → n ≡ onward - start → m ≡ test - onward
       → b8 ≡ with_command number at b0 (loop_command e step body)
-  loop_made step body b0 b1 b2 b3 b4 b5 b6 b7 b8 jump start onward test condition end n m e1 e2 e3 e4 e5 e6 e7 e8 at_jump at_start at_onward at_test at_condition at_end n_is m_is =
+  loop_made step body b0 b1 b2 b3 b4 b5 b6 b7 b8 jump start onward test condition end n m e1 e2 e3 e4 e5 e6 e7 e8 at_jump at_start at_onward at_test
+      at_condition at_end n_is m_is =
       let here = at.here in
       let t = length b0.kinds in
       let pc = length b0.pieces in

@@ -6,28 +6,28 @@ use Rattle.typed_tree.specs.Commands.{Command, Commands, empty_command, block_co
 use Rattle.typed_tree.specs.Commands.{return_command, assert_command, store_command, default_command, fill_command, input_command, element_command}
 use Rattle.typed_tree.specs.Commands.{publish_command, evaluate_command}
 use Rattle.typed_tree.specs.Commands as Commands'
-use Rattle.language_model.specs.Evaluation.{Place}
+use Rattle.language_model.specs.Evaluation.{StatementContext}
 use Rattle.verified_code.specs.Steps.{Step, Branch, Jump}
 use Rattle.code_model.specs.Kinds.{width}
 use Rattle.code_model.specs.Expressions.{Numbers, expression_code}
 use Rattle.code_model.specs.Commands.{command_width, command_code, commands_code, if_code}
 use Rattle.code_model.proofs.Lengths.{command_length}
-use Rattle.lowered_expressions.specs.Built.{Piece, whole}
-use Rattle.lowering.specs.Pieces.{placed, settled, command_pieces, commands_pieces, if_pieces}
+use Rattle.lowered_expressions.specs.Built.{BodyPiece, whole}
+use Rattle.lowering.specs.inner.Pieces.{placed, settled, command_pieces, commands_pieces, if_pieces}
 
 pub placed_whole : (x y : ℕ) (is : List Step) → map (placed x y) (map whole is) ≡ is
 placed_whole x y [] = refl
 placed_whole x y (i ∷ is) = ap (λ (z : List Step). i ∷ z) (placed_whole x y is)
 
-pub settled_placed : (x y : ℕ) (ps : List Piece) → map (settled x y) ps ≡ map whole (map (placed x y) ps)
+pub settled_placed : (x y : ℕ) (ps : List BodyPiece) → map (settled x y) ps ≡ map whole (map (placed x y) ps)
 settled_placed x y [] = refl
-settled_placed x y (p ∷ ps) = ap (λ (z : List Piece). settled x y p ∷ z) (settled_placed x y ps)
+settled_placed x y (p ∷ ps) = ap (λ (z : List BodyPiece). settled x y p ∷ z) (settled_placed x y ps)
 
 -- as long as what it becomes
-same_length : (x y : ℕ) (ps : List Piece) (is : List Step) → map (placed x y) ps ≡ is → length ps ≡ length is
+same_length : (x y : ℕ) (ps : List BodyPiece) (is : List Step) → map (placed x y) ps ≡ is → length ps ≡ length is
 same_length x y ps is e = sym (length-map ps (placed x y)) ∙ ap length e
 
-if_placed : (x y pc t : ℕ) (test : List Step) (a b : ℕ → List Piece) (ca cb : ℕ → List Step) → ((p : ℕ) → map (placed x y) (a p) ≡ ca p)
+if_placed : (x y pc t : ℕ) (test : List Step) (a b : ℕ → List BodyPiece) (ca cb : ℕ → List Step) → ((p : ℕ) → map (placed x y) (a p) ≡ ca p)
     → ((p : ℕ) → map (placed x y) (b p) ≡ cb p) → map (placed x y) (if_pieces pc t test a b) ≡ if_code pc t test ca cb
 if_placed x y pc t test a b ca cb ea eb =
     let pa = pc + length test + 1 in
@@ -44,7 +44,7 @@ if_placed x y pc t test a b ca cb ea eb =
     ∙ ap₂ (λ (u v : List Step). test ++ Branch t false pb' ∷ (u ++ (Jump (pb' + length (b pb')) ∷ v))) (ea pa) (eb pb')
     ∙ ap (λ (z : ℕ). test ++ Branch t false pb' ∷ (ca pa ++ (Jump z ∷ cb pb'))) end
 
-module _ (number : Numbers) (at : Place) (x y : ℕ) where
+module _ (number : Numbers) (at : StatementContext) (x y : ℕ) where
   mutual
     pub command_placed : (t pc : ℕ) (c : Command) → map (placed x y) (command_pieces number at t pc c) ≡ command_code number at t x y pc c
     command_placed t pc empty_command = refl

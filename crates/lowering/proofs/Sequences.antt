@@ -2,13 +2,13 @@
 use Rattle.std.proofs.Common.{◌≡◌, ℕ, ◌+◌, List, [], ◌∷◌, ◌++◌, length, sym, ap, ap₂, ◌∙◌, arith, append_assoc, append-nil, length-append}
 use Rattle.typed_tree.specs.Commands.{Command, commands_of}
 use Rattle.reached_instances.specs.Domains.{Setting}
-use Rattle.language_model.specs.Evaluation.{Place}
+use Rattle.language_model.specs.Evaluation.{StatementContext}
 use Rattle.bytecode.specs.declared.kind.Kind.{Kind}
 use Rattle.code_model.specs.Expressions.{Numbers}
 use Rattle.code_model.specs.Commands.{command_width, commands_width, command_kinds, commands_kinds}
 use Rattle.code_model.proofs.Widths.{commands_registers}
-use Rattle.lowered_expressions.specs.Built.{Piece, Built}
-use Rattle.lowering.specs.Pieces.{command_pieces, commands_pieces, with_pieces, with_command, with_commands}
+use Rattle.lowered_expressions.specs.Built.{BodyPiece, Built}
+use Rattle.lowering.specs.inner.Pieces.{command_pieces, commands_pieces, with_pieces, with_command, with_commands}
 use Rattle.lowering.proofs.Behind.{then_pieces, registers_behind, places_behind}
 
 kinds_more : (here : Setting) (cs : List Command) (c : Command) → commands_kinds here (commands_of (cs ++ c ∷ []))
@@ -18,7 +18,7 @@ kinds_more here (d ∷ cs) c =
     ap (λ (z : List Kind). command_kinds here d ++ z) (kinds_more here cs c)
     ∙ sym (append_assoc (command_kinds here d) (commands_kinds here (commands_of cs)) (command_kinds here c))
 
-module _ (number : Numbers) (at : Place) where
+module _ (number : Numbers) (at : StatementContext) where
   pieces_more : (cs : List Command) (c : Command) (t pc u p : ℕ) → t + commands_width (commands_of cs) ≡ u
       → pc + length (commands_pieces number at t pc (commands_of cs)) ≡ p
       → commands_pieces number at t pc (commands_of (cs ++ c ∷ [])) ≡ commands_pieces number at t pc (commands_of cs) ++ command_pieces number at u p c
@@ -33,11 +33,11 @@ module _ (number : Numbers) (at : Place) where
       let rest = commands_pieces number at t2 p2 (commands_of cs) in
       let same : t2 + commands_width (commands_of cs) ≡ u = omega (arith, e) in
       let place : p2 + length rest ≡ p = omega (arith, f, length-append own rest) in
-      ap (λ (z : List Piece). own ++ z) (pieces_more cs c t2 p2 u p same place)
+      ap (λ (z : List BodyPiece). own ++ z) (pieces_more cs c t2 p2 u p same place)
       ∙ sym (append_assoc own rest (command_pieces number at u p c))
 
   pub commands_begin : (b : Built) → b ≡ with_commands number at b (commands_of [])
-  commands_begin b = sym (ap₂ (λ (k : List Kind) (p : List Piece). record { kinds = k; pieces = p }) (append-nil b.kinds) (append-nil b.pieces))
+  commands_begin b = sym (ap₂ (λ (k : List Kind) (p : List BodyPiece). record { kinds = k; pieces = p }) (append-nil b.kinds) (append-nil b.pieces))
 
   pub commands_more : (b d f : Built) (cs : List Command) (c : Command) → d ≡ with_commands number at b (commands_of cs)
       → f ≡ with_command number at d c → f ≡ with_commands number at b (commands_of (cs ++ c ∷ []))

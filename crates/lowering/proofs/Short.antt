@@ -165,7 +165,8 @@ just_of_code TooLarge code j =
 
 -- ---- REFUSALS THAT ARE HANDED ON
 
-just_here : {X Y Z : Type 0} (e : LowerErr) (numbers : Y → List Number) (f : Z → Y) (g : X → Z) (xs : List X) (i : ℕ) (d : X) → i < length xs → d ≡ get_or xs i d
+just_here : {X Y Z : Type 0} (e : LowerErr) (numbers : Y → List Number) (f : Z → Y) (g : X → Z) (xs : List X) (i : ℕ) (d : X) → i < length xs
+    → d ≡ get_or xs i d
     → IsJust e (numbers (f (g d))) → IsJust e (numbers (get_or (map f (map g xs)) i (f (g d))))
 just_here e numbers f g xs i d l same j =
     let within : i < length (map g xs) = omega (arith, l, length-map xs g) in
@@ -173,7 +174,8 @@ just_here e numbers f g xs i d l same j =
     subst (λ y. IsJust e (numbers y)) (sym at) j
 
 -- of the element at a place, as it is seen
-pub just_seen : {X Y Z : Type 0} (e : LowerErr) (numbers : Y → List Number) (f : Z → Y) (g : X → Z) (xs : List X) (i : ℕ) (d : X) → i < length xs → d ≡ get_or xs i d
+pub just_seen : {X Y Z : Type 0} (e : LowerErr) (numbers : Y → List Number) (f : Z → Y) (g : X → Z) (xs : List X) (i : ℕ) (d : X) → i < length xs
+    → d ≡ get_or xs i d
     → IsJust e (numbers (f (g d))) → IsJust e (flat_map numbers (map f (map g xs)))
 just_seen e numbers f g xs i d l same j =
     let within : i < length (map f (map g xs)) = omega (arith, l, length-map xs g, length-map (map g xs) f) in

@@ -1,5 +1,2 @@
-pub mod Pieces
-pub mod Leaves
-pub mod Views
 pub mod Narrow
-pub mod Naming
+pub mod inner

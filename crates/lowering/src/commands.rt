@@ -1,28 +1,28 @@
 // The code of statements without others in them.
 ghost use Rattle.std.specs.Prelude.{◌≡◌, ◌<◌, OnOk};
 ghost use Rattle.typed_tree.specs.Tree.{typed_tree};
-ghost use Rattle.typed_tree.specs.Commands.{assert_command, default_command, evaluate_command, input_command, optional_tree, publish_command, return_command, store_command};
+ghost use Rattle.typed_tree.specs.Commands.{assert_command, default_command, evaluate_command, input_command, optional_tree, publish_command};
+ghost use Rattle.typed_tree.specs.Commands.{return_command, store_command};
 ghost use Rattle.code_model.specs.Commands.{shape_number};
 ghost use Rattle.lowered_expressions.specs.Views.{built, here_of, numbers_of, step_seen};
-ghost use Rattle.lowering.specs.Leaves.{pair_command, pair_step, with_leaf};
-ghost use Rattle.lowering.specs.Pieces.{with_command};
-ghost use Rattle.lowering.specs.Views.{numbers_at, place_seen};
+ghost use Rattle.lowering.specs.inner.Leaves.{pair_command, pair_step, with_leaf};
+ghost use Rattle.lowering.specs.inner.Pieces.{with_command};
+ghost use Rattle.lowering.specs.inner.Views.{numbers_at, place_seen};
 
-use crate::place::Place;
+use crate::place::LoweringContext;
 use lowered_expressions::{
-    Around, Body, Operand, Step, argument, call, expression, given_to, kind, kind_of, lacks,
+    Around, Body, Step, WantedOperand, argument, call, expression, given_to, kind, kind_of, lacks,
     operand, private_kind, slot_is_private, slot_shape, wanted,
 };
 use sc_text::Name;
 use secrec_ast::DataType;
-use std::alloc::{AllocError, Global};
+use std::alloc::AllocError;
 use typed_tree::{Shape, TypedExpression};
 
 /// `return`, with a value or without. An error comes where memory runs short, here as in what follows.
 pub fn returning(
-    alloc: Global,
     body: &mut Body<'_>,
-    at: &Place<'_>,
+    at: &LoweringContext<'_>,
     e: &Option<TypedExpression>,
 ) -> Result<(), AllocError>
     ensures { OnOk result (built body.new ≡
@@ -31,13 +31,12 @@ pub fn returning(
     let Some(e) = e else {
         return body.push(Step::ReturnNone);
     };
-    let source = argument(alloc, body, &at.around, at.secret_result, e)?;
+    let source = argument(body, &at.around, at.secret_result, e)?;
     body.push(Step::Return { source })
 }
 
 /// An assertion.
 pub fn assertion(
-    alloc: Global,
     body: &mut Body<'_>,
     around: &Around<'_>,
     line: u32,
@@ -47,13 +46,12 @@ pub fn assertion(
         with_leaf (numbers_of around.now) (here_of around.now) (built body.old) (assert_command line (typed_tree e.now))) }
 {
     let condition = body.next_register();
-    expression(alloc, body, around, e)?;
+    expression(body, around, e)?;
     body.push(Step::Assert { line, condition })
 }
 
 /// A value that is given to the client, under a name.
 pub fn publishing<'p>(
-    alloc: Global,
     body: &mut Body<'p>,
     around: &Around<'_>,
     text: &'p Name,
@@ -63,13 +61,12 @@ pub fn publishing<'p>(
         with_leaf (numbers_of around.now) (here_of around.now) (built body.old) (publish_command text.now (typed_tree e.now))) }
 {
     let source = body.next_register();
-    expression(alloc, body, around, e)?;
+    expression(body, around, e)?;
     body.push(Step::Publish { text, source })
 }
 
 /// A value that is stored in a slot.
 pub fn store(
-    alloc: Global,
     body: &mut Body<'_>,
     around: &Around<'_>,
     slot: usize,
@@ -79,7 +76,7 @@ pub fn store(
         with_leaf (numbers_of around.now) (here_of around.now) (built body.old) (store_command slot (typed_tree e.now))) }
 {
     let private = slot_is_private(&around.here, slot);
-    let source = argument(alloc, body, around, private, e)?;
+    let source = argument(body, around, private, e)?;
     body.push(Step::Store { to: slot, source })
 }
 
@@ -109,7 +106,7 @@ pub fn default_store(
     let classified = body.fresh(kind_of(true, shape))?;
     let source = wanted(
         body,
-        Operand {
+        WantedOperand {
             lacks: lacks(slot_is_private(here, slot), false),
             classified,
             value: here.slots.len() + shape_number(shape),
@@ -174,7 +171,6 @@ fn pair_step<'p>(pair: Pair, line: u32, slot: usize, number: usize, value: usize
 
 /// A number and a value with which an array in a slot is filled, or one of its elements is written.
 pub fn pair_store(
-    alloc: Global,
     body: &mut Body<'_>,
     around: &Around<'_>,
     pair: Pair,
@@ -189,14 +185,13 @@ pub fn pair_store(
     let private = slot_is_private(&around.here, slot);
     let classified = body.fresh(private_kind(&around.here, e))?;
     let first = body.next_register();
-    expression(alloc, body, around, number)?;
-    let second = operand(alloc, body, around, private, classified, e)?;
+    expression(body, around, number)?;
+    let second = operand(body, around, private, classified, e)?;
     body.push(pair_step(pair, line, slot, first, second))
 }
 
 /// An expression that is evaluated for what it does: a call has a register for what it gives only if it gives something.
 pub fn unread(
-    alloc: Global,
     body: &mut Body<'_>,
     around: &Around<'_>,
     e: &TypedExpression,
@@ -205,9 +200,9 @@ pub fn unread(
         with_leaf (numbers_of around.now) (here_of around.now) (built body.old) (evaluate_command (typed_tree e.now))) }
 {
     let TypedExpression::Call(line, function, list) = e else {
-        return expression(alloc, body, around, e);
+        return expression(body, around, e);
     };
-    let own = body.fresh(kind(alloc, &around.here, e)?)?;
+    let own = body.fresh(kind(around.alloc, &around.here, e)?)?;
     let to = given_to(&around.here, *function, own);
-    call(alloc, body, around, *line, *function, to, list)
+    call(body, around, *line, *function, to, list)
 }

@@ -6,17 +6,17 @@ ghost use Rattle.code_model.specs.Kinds.{kind_of, slot_kind};
 ghost use Rattle.typed_tree.specs.Shapes.{shape_of};
 ghost use Rattle.code_model.specs.Programs.{function_code, given_kind, nothing_code};
 ghost use Rattle.lowered_expressions.specs.Views.{built, here_of, numbers_of, piece_seen, step_seen};
-ghost use Rattle.lowering.specs.Pieces.{placed, with_last};
-ghost use Rattle.lowering.specs.Views.{function_seen};
+ghost use Rattle.lowering.specs.inner.Pieces.{placed, with_last};
+ghost use Rattle.lowering.specs.inner.Views.{function_seen};
 
-use crate::place::Place;
+use crate::place::LoweringContext;
 use crate::statements::statements;
 use bytecode::Kind;
-use lowered_expressions::{Around, Body, Piece, Step, is_private, kind_of};
+use lowered_expressions::{Around, Body, BodyPiece, Step, is_private, kind_of};
 use reached_instances::{BoundDomain, domain_under, given_domain};
 use secrec_ast::DataType;
 use std::alloc::{AllocError, Global};
-use typed_tree::{Given, Shape, Slot, TypedFunction};
+use typed_tree::{Returned, Shape, Slot, TypedFunction};
 
 /// The code of a function, with numbers as large as they come.
 #[derive(Drop)]
@@ -35,12 +35,12 @@ fn slot_kind(binding: &[BoundDomain], slot: Slot) -> Kind
 }
 
 // The kind of what a function gives back, if anything.
-fn given_kind(binding: &[BoundDomain], given: Given) -> Option<Kind>
+fn given_kind(binding: &[BoundDomain], given: Returned) -> Option<Kind>
     ensures { result ≡ given_kind binding.now given }
 {
     match given {
-        Given::Nothing => None,
-        Given::Value(slot) => Some(slot_kind(binding, slot)),
+        Returned::Nothing => None,
+        Returned::Value(slot) => Some(slot_kind(binding, slot)),
     }
 }
 
@@ -93,12 +93,16 @@ fn first_registers(
 }
 
 // The last step: nothing is given back, or a register that nothing writes.
-fn push_last(body: &mut Body<'_>, binding: &[BoundDomain], given: Given) -> Result<(), AllocError>
+fn push_last(
+    body: &mut Body<'_>,
+    binding: &[BoundDomain],
+    given: Returned,
+) -> Result<(), AllocError>
     ensures { OnOk result (built body.new ≡ with_last (built body.old) binding.now given) }
 {
     match given {
-        Given::Nothing => body.push(Step::ReturnNone),
-        Given::Value(slot) => {
+        Returned::Nothing => body.push(Step::ReturnNone),
+        Returned::Value(slot) => {
             let source = body.fresh(slot_kind(binding, slot))?;
             body.push(Step::Return { source })
         }
@@ -106,19 +110,19 @@ fn push_last(body: &mut Body<'_>, binding: &[BoundDomain], given: Given) -> Resu
 }
 
 // The step of a piece, where breaks and continues lead to a place.
-fn placed<'p>(piece: Piece<'p>, end: usize) -> Step<'p>
+fn placed<'p>(piece: BodyPiece<'p>, end: usize) -> Step<'p>
     ensures { step_seen result ≡ placed end end (piece_seen piece.entry) }
 {
     match piece {
-        Piece::Whole(step) => step,
-        Piece::Break | Piece::Continue => Step::Jump { target: end },
+        BodyPiece::Whole(step) => step,
+        BodyPiece::Break | BodyPiece::Continue => Step::Jump { target: end },
     }
 }
 
 // The steps of pieces.
 fn all_placed<'p>(
     alloc: Global,
-    pieces: Vec<Piece<'p>>,
+    pieces: Vec<BodyPiece<'p>>,
     end: usize,
 ) -> Result<Vec<Step<'p>>, AllocError>
     ensures { IfOk result (λ steps. map step_seen steps.items ≡ map (placed end end) (map piece_seen pieces.entry.items)) }
@@ -133,7 +137,6 @@ fn all_placed<'p>(
 /// The code of a function under a binding: its slots are the first registers; a break outside of a loop would lead behind the body. An
 /// error comes where memory runs short.
 pub fn function_steps<'p>(
-    alloc: Global,
     around: &Around<'_>,
     function: &'p TypedFunction,
 ) -> Result<FunctionSteps<'p>, AllocError>
@@ -142,20 +145,20 @@ pub fn function_steps<'p>(
         (typed_function_tree function.now) (here_of around.now).binding) }
 {
     let binding = around.here.binding;
-    let at = Place {
+    let at = LoweringContext {
         around: *around,
         secret_result: is_private(given_domain(binding, function.given)),
     };
-    let registers = first_registers(alloc, binding, &function.slots)?;
+    let registers = first_registers(around.alloc, binding, &function.slots)?;
     let mut body = Body {
         registers,
-        pieces: Vec::new(alloc),
+        pieces: Vec::new(around.alloc),
     };
-    statements(alloc, &mut body, &at, &function.body)?;
+    statements(&mut body, &at, &function.body)?;
     let end = body.next_place();
     push_last(&mut body, binding, function.given)?;
     let Body { registers, pieces } = body;
-    let steps = all_placed(alloc, pieces, end)?;
+    let steps = all_placed(around.alloc, pieces, end)?;
     Ok(FunctionSteps {
         parameters: function.parameters,
         gives: given_kind(binding, function.given),

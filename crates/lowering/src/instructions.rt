@@ -5,14 +5,14 @@ ghost use Rattle.bytecode.specs.InMemory.{operator_byte, raw_function, raw_instr
 ghost use Rattle.bytecode.specs.Written.{body_numbers, head_numbers, instruction_numbers};
 ghost use Rattle.raw_steps.specs.Instructions.{instruction, operator_number, raw_function as raw_of, register_or_nowhere, truth_number, word_number};
 ghost use Rattle.lowered_expressions.specs.Views.{step_seen};
-ghost use Rattle.lowering.specs.Naming.{texts};
+ghost use Rattle.lowering.specs.inner.Naming.{texts};
 ghost use Rattle.lowering.specs.Narrow.{IsJust, are_short, capped, capped_instruction, is_short};
-ghost use Rattle.lowering.specs.Views.{function_seen};
+ghost use Rattle.lowering.specs.inner.Views.{function_seen};
 
 use crate::errors::LowerErr;
 use crate::functions::FunctionSteps;
 use crate::naming::{Names, place_among};
-use bytecode::{Function, FunctionPlace, Instruction, NamePlace, Register, Target};
+use bytecode::{CodeFunction, FunctionPlace, Instruction, JumpTarget, NamePlace, Register};
 use lowered_expressions::Step;
 use std::alloc::{AllocError, Global};
 use typed_tree::{BinaryOperator, BoolOperator, WordOperator};
@@ -37,10 +37,10 @@ fn register(number: usize) -> Register
     Register(short(number))
 }
 
-fn place_target(number: usize) -> Target
+fn place_target(number: usize) -> JumpTarget
     ensures { result.0 ≡ capped number }
 {
-    Target(short(number))
+    JumpTarget(short(number))
 }
 
 fn name_place(number: usize) -> NamePlace
@@ -392,7 +392,7 @@ pub fn function(
     alloc: Global,
     names: &Names<'_>,
     steps: &FunctionSteps<'_>,
-) -> Result<Function, LowerErr>
+) -> Result<CodeFunction, LowerErr>
     ensures code { IfOk result (λ f. raw_function f ≡ raw_of (texts names.now) (function_seen steps.now)) }
     ensures refused { IfErr result (λ e. IsJust e
         (head_numbers (raw_of (texts names.now) (function_seen steps.now)) ++ body_numbers (raw_of (texts names.now) (function_seen steps.now)))) }
@@ -402,7 +402,7 @@ pub fn function(
     }
     let registers = Vec::from_slice(alloc, &steps.registers)?;
     let body = instructions(alloc, names, &steps.steps)?;
-    Ok(Function {
+    Ok(CodeFunction {
         parameters: short(steps.parameters),
         gives: steps.gives,
         registers,

@@ -3,8 +3,8 @@ ghost use Rattle.std.specs.Prelude.{◌≡◌, ◌++◌, ◌∷◌, [], IfOk, On
 ghost use Rattle.std.specs.List.{flat_map};
 ghost use Rattle.raw_steps.specs.Instructions.{names_of, naming, naming_all, place_among, step_names};
 ghost use Rattle.lowered_expressions.specs.Views.{step_seen};
-ghost use Rattle.lowering.specs.Naming.{AreSame, texts};
-ghost use Rattle.lowering.specs.Views.{function_seen};
+ghost use Rattle.lowering.specs.inner.Naming.{AreSame, texts};
+ghost use Rattle.lowering.specs.inner.Views.{function_seen};
 
 use crate::functions::FunctionSteps;
 use indexmap::IndexSet;

@@ -7,15 +7,15 @@ ghost use Rattle.typed_tree.specs.Programs.{typed_program_tree};
 ghost use Rattle.reached_instances.specs.Instances.{instance_seen};
 ghost use Rattle.code_model.specs.Programs.{code_of, instance_code, numbers_in};
 ghost use Rattle.raw_steps.specs.Instructions.{raw_code_of, raw_function as raw_of};
-ghost use Rattle.lowering.specs.Naming.{AreSame, texts};
+ghost use Rattle.lowering.specs.inner.Naming.{AreSame, texts};
 ghost use Rattle.lowering.specs.Narrow.{IsJustOfSome, IsJustRefusal};
-ghost use Rattle.lowering.specs.Views.{function_seen};
+ghost use Rattle.lowering.specs.inner.Views.{function_seen};
 
 use crate::errors::LowerErr;
 use crate::functions::{FunctionSteps, function_steps, nothing_steps};
 use crate::instructions::function;
 use crate::naming::{Names, names_of};
-use bytecode::{Code, Function};
+use bytecode::{Code, CodeFunction};
 use lowered_expressions::Around;
 use reached_instances::{Instance, ReachedInstances, Setting};
 use std::alloc::{AllocError, Global};
@@ -35,6 +35,7 @@ fn instance_steps<'p>(
         return Ok(nothing_steps(alloc));
     };
     let around = Around {
+        alloc,
         here: Setting {
             functions: &program.functions,
             slots: &function.slots,
@@ -42,7 +43,7 @@ fn instance_steps<'p>(
         },
         instances,
     };
-    function_steps(alloc, &around, function)
+    function_steps(&around, function)
 }
 
 fn push_steps<'p>(
@@ -71,7 +72,10 @@ fn all_steps<'p>(
     Ok(all)
 }
 
-fn push_function(functions: &mut Vec<Function>, function: Function) -> Result<(), AllocError>
+fn push_function(
+    functions: &mut Vec<CodeFunction>,
+    function: CodeFunction,
+) -> Result<(), AllocError>
     ensures { OnOk result (map raw_function functions.new.items ≡ map raw_function functions.old.items ++ raw_function function ∷ []) }
 {
     functions.push(function)?;
@@ -83,7 +87,7 @@ fn all_functions(
     alloc: Global,
     names: &Names<'_>,
     all: &[FunctionSteps<'_>],
-) -> Result<Vec<Function>, LowerErr>
+) -> Result<Vec<CodeFunction>, LowerErr>
     ensures code { IfOk result (λ functions. map raw_function functions.items ≡ map (raw_of (texts names.now)) (map function_seen all.now)) }
     ensures refused { IfErr result (λ e. IsJustOfSome e (map (raw_of (texts names.now)) (map function_seen all.now))) }
 {

@@ -1,13 +1,13 @@
 // Where the breaks and continues of a loop lead.
 ghost use Rattle.std.specs.Prelude.{◌≡◌, ◌+◌, ◌-◌, ◌<◌, ◌≤◌, OnOk, length};
 ghost use Rattle.lowered_expressions.specs.Views.{built, piece_seen};
-ghost use Rattle.lowering.specs.Pieces.{settled_part, with_piece, with_settled};
+ghost use Rattle.lowering.specs.inner.Pieces.{settled_part, with_piece, with_settled};
 
-use lowered_expressions::{Body, Piece, Step};
+use lowered_expressions::{Body, BodyPiece, Step};
 use std::alloc::AllocError;
 
 /// One more piece behind a body.
-pub fn push<'p>(body: &mut Body<'p>, piece: Piece<'p>) -> Result<(), AllocError>
+pub fn push<'p>(body: &mut Body<'p>, piece: BodyPiece<'p>) -> Result<(), AllocError>
     ensures { OnOk result (built body.new ≡ with_piece (built body.old) (piece_seen piece.entry)) }
 {
     body.pieces.push(piece)?;
@@ -20,9 +20,9 @@ fn settle_one(body: &mut Body<'_>, place: usize, break_to: usize, continue_to: u
     ensures { built body.new ≡ with_settled (built body.old) place 1 break_to continue_to }
 {
     match body.pieces[place] {
-        Piece::Whole(_) => {}
-        Piece::Break => body.set(place, Step::Jump { target: break_to }),
-        Piece::Continue => body.set(
+        BodyPiece::Whole(_) => {}
+        BodyPiece::Break => body.set(place, Step::Jump { target: break_to }),
+        BodyPiece::Continue => body.set(
             place,
             Step::Jump {
                 target: continue_to,

@@ -3,74 +3,63 @@ ghost use Rattle.std.specs.Prelude.{◌≡◌, OnOk, map};
 ghost use Rattle.typed_tree.specs.Tree.{typed_tree};
 ghost use Rattle.typed_tree.specs.Commands.{command, commands_of, do_command, if_command, loop_command};
 ghost use Rattle.lowered_expressions.specs.Views.{built};
-ghost use Rattle.lowering.specs.Pieces.{with_command, with_commands};
-ghost use Rattle.lowering.specs.Views.{numbers_at, place_seen};
+ghost use Rattle.lowering.specs.inner.Pieces.{with_command, with_commands};
+ghost use Rattle.lowering.specs.inner.Views.{numbers_at, place_seen};
 
 use crate::commands::{
     Pair, assertion, default_store, input, pair_store, publishing, returning, store, unread,
 };
-use crate::place::Place;
+use crate::place::LoweringContext;
 use crate::settling::{push, settle};
-use lowered_expressions::{Body, Piece, Step, expression};
-use std::alloc::{AllocError, Global};
+use lowered_expressions::{Body, BodyPiece, Step, expression};
+use std::alloc::AllocError;
 use typed_tree::{TypedExpression, TypedStatement};
 
 /// Puts the registers and the code of a statement behind a body. An error comes where memory runs short.
 #[cycle(statements)]
 fn statement<'p>(
-    alloc: Global,
     body: &mut Body<'p>,
-    at: &Place<'_>,
+    at: &LoweringContext<'_>,
     s: &'p TypedStatement,
 ) -> Result<(), AllocError>
     ensures { OnOk result (built body.new ≡ with_command (numbers_at at.now) (place_seen at.now) (built body.old) (command s.now)) }
 {
     match s {
         TypedStatement::Empty => Ok(()),
-        TypedStatement::Block(list) => statements(alloc, body, at, list),
-        TypedStatement::If(e, first, second) => choice(alloc, body, at, e, first, second),
-        TypedStatement::Loop(e, step, repeated) => turns(alloc, body, at, e, step, repeated),
-        TypedStatement::DoWhile(repeated, e) => repeats(alloc, body, at, repeated, e),
-        TypedStatement::Break => push(body, Piece::Break),
-        TypedStatement::Continue => push(body, Piece::Continue),
-        TypedStatement::Return(e) => returning(alloc, body, at, e),
-        TypedStatement::Assert(line, e) => assertion(alloc, body, &at.around, *line, e),
-        TypedStatement::Store(slot, e) => store(alloc, body, &at.around, *slot, e),
+        TypedStatement::Block(list) => statements(body, at, list),
+        TypedStatement::If(e, first, second) => choice(body, at, e, first, second),
+        TypedStatement::Loop(e, step, repeated) => turns(body, at, e, step, repeated),
+        TypedStatement::DoWhile(repeated, e) => repeats(body, at, repeated, e),
+        TypedStatement::Break => push(body, BodyPiece::Break),
+        TypedStatement::Continue => push(body, BodyPiece::Continue),
+        TypedStatement::Return(e) => returning(body, at, e),
+        TypedStatement::Assert(line, e) => assertion(body, &at.around, *line, e),
+        TypedStatement::Store(slot, e) => store(body, &at.around, *slot, e),
         TypedStatement::StoreDefault(slot) => default_store(body, &at.around, *slot),
         TypedStatement::Fill(line, slot, size, e) => {
-            pair_store(alloc, body, &at.around, Pair::Fill, *line, *slot, size, e)
+            pair_store(body, &at.around, Pair::Fill, *line, *slot, size, e)
         }
         TypedStatement::Input(line, slot, text) => { input(body, &at.around, *line, *slot, text) }
         TypedStatement::StoreElement(line, slot, position, e) => {
-            pair_store(
-                alloc,
-                body,
-                &at.around,
-                Pair::Put,
-                *line,
-                *slot,
-                position,
-                e,
-            )
+            pair_store(body, &at.around, Pair::Put, *line, *slot, position, e)
         }
-        TypedStatement::Publish(text, e) => publishing(alloc, body, &at.around, text, e),
-        TypedStatement::Evaluate(e) => unread(alloc, body, &at.around, e),
+        TypedStatement::Publish(text, e) => publishing(body, &at.around, text, e),
+        TypedStatement::Evaluate(e) => unread(body, &at.around, e),
     }
 }
 
 /// Likewise for statements one after another.
 #[cycle(statements)]
 pub fn statements<'p>(
-    alloc: Global,
     body: &mut Body<'p>,
-    at: &Place<'_>,
+    at: &LoweringContext<'_>,
     list: &'p Vec<TypedStatement>,
 ) -> Result<(), AllocError>
     ensures { OnOk result (built body.new ≡
         with_commands (numbers_at at.now) (place_seen at.now) (built body.old) (commands_of (map command list.now.items))) }
 {
     for each in list {
-        statement(alloc, body, at, each)?;
+        statement(body, at, each)?;
     }
     Ok(())
 }
@@ -78,9 +67,8 @@ pub fn statements<'p>(
 // The one statement or the other.
 #[cycle(statements)]
 fn choice<'p>(
-    alloc: Global,
     body: &mut Body<'p>,
-    at: &Place<'_>,
+    at: &LoweringContext<'_>,
     e: &TypedExpression,
     first: &'p TypedStatement,
     second: &'p TypedStatement,
@@ -89,14 +77,14 @@ fn choice<'p>(
         (if_command (typed_tree e.now) (command first.now) (command second.now))) }
 {
     let condition = body.next_register();
-    expression(alloc, body, &at.around, e)?;
+    expression(body, &at.around, e)?;
     let branch = body.next_place();
     body.push(Step::ReturnNone)?;
-    statement(alloc, body, at, first)?;
+    statement(body, at, first)?;
     let jump = body.next_place();
     body.push(Step::ReturnNone)?;
     let target = body.next_place();
-    statement(alloc, body, at, second)?;
+    statement(body, at, second)?;
     let end = body.next_place();
     body.set(
         branch,
@@ -113,9 +101,8 @@ fn choice<'p>(
 // A loop: its test stands behind the body and the step.
 #[cycle(statements)]
 fn turns<'p>(
-    alloc: Global,
     body: &mut Body<'p>,
-    at: &Place<'_>,
+    at: &LoweringContext<'_>,
     e: &TypedExpression,
     step: &'p TypedStatement,
     repeated: &'p TypedStatement,
@@ -126,12 +113,12 @@ fn turns<'p>(
     let jump = body.next_place();
     body.push(Step::ReturnNone)?;
     let start = body.next_place();
-    statement(alloc, body, at, repeated)?;
+    statement(body, at, repeated)?;
     let onward = body.next_place();
-    statement(alloc, body, at, step)?;
+    statement(body, at, step)?;
     let test = body.next_place();
     let condition = body.next_register();
-    expression(alloc, body, &at.around, e)?;
+    expression(body, &at.around, e)?;
     body.push(Step::Branch {
         condition,
         value: true,
@@ -147,9 +134,8 @@ fn turns<'p>(
 // A loop whose test stands behind each turn.
 #[cycle(statements)]
 fn repeats<'p>(
-    alloc: Global,
     body: &mut Body<'p>,
-    at: &Place<'_>,
+    at: &LoweringContext<'_>,
     repeated: &'p TypedStatement,
     e: &TypedExpression,
 ) -> Result<(), AllocError>
@@ -157,10 +143,10 @@ fn repeats<'p>(
         (do_command (command repeated.now) (typed_tree e.now))) }
 {
     let start = body.next_place();
-    statement(alloc, body, at, repeated)?;
+    statement(body, at, repeated)?;
     let test = body.next_place();
     let condition = body.next_register();
-    expression(alloc, body, &at.around, e)?;
+    expression(body, &at.around, e)?;
     body.push(Step::Branch {
         condition,
         value: true,

@@ -12,13 +12,13 @@ use Rattle.proto_core.specs.Protocol.{Protocol}
 use Rattle.proto_core.proofs.Beginnings.{append-none}
 use Rattle.std.proofs.Math.Seq.{drop-append_seam}
 use Rattle.proto_core.proofs.Nodes.{into-is, mail-previous, mail-next}
-use Rattle.protocol_model.specs.Gates.{Joined, needed, sizes_of, value_at, operand}
+use Rattle.protocol_model.specs.Gates.{Joined, needed, sizes_of, nth_value, operand}
 use Rattle.protocol_model.specs.Runs.{drawn}
 use Rattle.gates.specs.Blocks.{block_sizes}
 use Rattle.gates.specs.declared.gate.Gate.{Gate}
 use Rattle.gates.specs.Clear.{value}
 use Rattle.blocked_protocol.specs.Blocked.{blocked, blocks_received}
-use Rattle.shared_gates.proofs.Models.{value_at-value, size-value}
+use Rattle.shared_gates.proofs.Models.{nth_value-value, size-value}
 use Rattle.joint_run.specs.Steps.{IsExchanged}
 use Rattle.joint_run.proofs.GateSteps.{exchanged-gate}
 use Rattle.joint_run.specs.declared.exchanged.Exchanged.{Exchanged}
@@ -98,13 +98,13 @@ module _ {P : Type 0} (i : Number) (s : Simulator P) (x : Exchanged) where
 
   abbrev made : Mail
   made =
-      (blocked p).received n i (value_at s.node.values x.u) (operand s.node.values x.v) (drawn (blocked p) n (each_of s.tapes))
+      (blocked p).received n i (nth_value s.node.values x.u) (operand s.node.values x.v) (drawn (blocked p) n (each_of s.tapes))
       (take (p.opens n) s.opened.now)
 
   made-is : made ≡ gate_mail p i source
   made-is =
       ap (λ w. blocks_received p (block_sizes n) i w (operand s.node.values x.v) (drawn (blocked p) n (each_of s.tapes)) source.opened)
-      (value_at-value s.node.values x.u)
+      (nth_value-value s.node.values x.u)
       ∙ blocks-any_second x.exchange (block_sizes n) i u (operand s.node.values x.v) [] (drawn (blocked p) n (each_of s.tapes)) source.opened
       ∙ ap (λ w. blocks_received p (block_sizes n) i u [] w source.opened) (sym (each-drawn p n s.tapes))
 

@@ -9,7 +9,7 @@ use Rattle.proto_core.specs.Net.{into, mail_of}
 use Rattle.proto_core.specs.Protocol.{Protocol}
 use Rattle.proto_core.proofs.Beginnings.{append-none}
 use Rattle.proto_core.proofs.Nodes.{into-is, mail-previous, mail-next, mail-none}
-use Rattle.protocol_model.specs.Gates.{Joined, Local, value_at, operand, sizes_of, needed, gates_strand}
+use Rattle.protocol_model.specs.Gates.{Joined, Local, nth_value, operand, sizes_of, needed, gates_strand}
 use Rattle.protocol_model.specs.Gates as model
 use Rattle.protocol_model.specs.Runs.{Tapes, drawn}
 use Rattle.protocol_model.specs.Views.{blocks_at_end, made_messages, made_values}
@@ -91,16 +91,16 @@ module _ (i : Number) (own : List (List ℕ)) (opened : List ℕ) (tapes : Tapes
     words = drawn whole n tapes
 
     abbrev strand : Strand (List (List ℕ))
-    strand = whole.strand n i (value_at own u) (operand own v) (words i)
+    strand = whole.strand n i (nth_value own u) (operand own v) (words i)
 
     abbrev mail : Mail
-    mail = whole.received n i (value_at own u) (operand own v) words (take (whole.opens n) opened)
+    mail = whole.received n i (nth_value own u) (operand own v) words (take (whole.opens n) opened)
 
     joined-takes : TakesAll strand (into i mail)
     joined-takes =
         let all : (k : Number) → length (words k) ≡ (protocol_of e).draws (total (block_sizes n)) k =
         λ k. length-take-le (whole.draws n k) (tapes k) (reach k) ∙ ap (λ m. whole.draws m k) (sym (block_sizes-cut n)) in
-        blocks-take e (block_sizes n) i (value_at own u) (operand own v) words (take (whole.opens n) opened) all
+        blocks-take e (block_sizes n) i (nth_value own u) (operand own v) words (take (whole.opens n) opened) all
 
     pub joined-ends : EndsAs (Joined whole n u v)
     joined-ends =
@@ -113,7 +113,7 @@ module _ (i : Number) (own : List (List ℕ)) (opened : List ℕ) (tapes : Tapes
         let made : List (List ℕ) = blocks_at_end (run strand (into i mail)).left in
         sizes-append own made
         ∙ ap (λ s. sizes_of own ++ s)
-        (always-run (HaveSizes ((protocol_of e).made n)) strand (into i mail) made (gate-sized e n i (value_at own u) (operand own v) (words i))
+        (always-run (HaveSizes ((protocol_of e).made n)) strand (into i mail) made (gate-sized e n i (nth_value own u) (operand own v) (words i))
         (ends-at strand (into i mail) joined-takes).left)
 
   pub local-ends : (n : ℕ) (f : Number → List (List ℕ) → List ℕ) → EndsAs (Local n f)

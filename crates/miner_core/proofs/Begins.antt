@@ -21,13 +21,12 @@ use Rattle.block_steps.specs.Outcomes.{mail_left}
 use Rattle.gate_node.specs.OwnGates.{then_gates}
 use Rattle.gate_node.specs.Nodes as node
 use Rattle.gate_node.specs.declared.engine.Engine as gates
-use Rattle.joint_code.specs.declared.progress.Turned.{Turned}
-use Rattle.joint_code.specs.declared.progress.Turned.TheVariants as turned
-use Rattle.joint_code.specs.declared.speech.Speech.{Speech}
-use Rattle.joint_code.specs.declared.telling.Told as told
-use Rattle.joint_code.specs.Views.{went_as, went_to, speech_seen}
-use Rattle.joint_code.proofs.Acting.{stage_went}
-use Rattle.joint_code.proofs.Places.{gates_grow, wants_keep, wants_tell_none}
+use Rattle.code_turns.specs.declared.outcome.Turned.{Turned}
+use Rattle.code_turns.specs.declared.outcome.Turned.TheVariants as turned
+use Rattle.code_turns.specs.declared.speech.Speech.{Speech}
+use Rattle.code_turns.specs.declared.telling.Told as told
+use Rattle.code_turns.specs.Views.{went_as, went_to, speech_seen}
+use Rattle.code_turns.proofs.Places.{gates_grow, stage_went, wants_keep, wants_tell_none}
 use Rattle.miner_core.specs.declared.engine.At.TheVariants as at
 use Rattle.miner_core.specs.declared.engine.Engine.{Engine}
 use Rattle.miner_core.specs.OwnCode.{tell_and_go_on, gates_between, led_by, own_code}

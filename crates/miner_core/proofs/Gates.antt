@@ -6,7 +6,7 @@ use Rattle.gates.specs.Clear.{Values}
 use Rattle.driven_nodes.specs.Driven.{telling}
 use Rattle.driven_nodes.specs.Steps.{stand_of, last_of}
 use Rattle.code_places.specs.Places.{Place, step_told}
-use Rattle.joint_code.specs.Views.{went_to}
+use Rattle.code_turns.specs.Views.{went_to}
 use Rattle.block_steps.specs.Outcomes.{outcome_of, mail_left}
 use Rattle.block_steps.proofs.Behind.{outcome-then}
 use Rattle.gate_node.specs.OwnGates.{Halted, Whole, Stuck}

@@ -6,7 +6,7 @@ use Rattle.proto_core.specs.Script.{IsSilent}
 use Rattle.proto_core.specs.Net.{added, nothing}
 use Rattle.proto_core.proofs.Beginnings.{append-none}
 use Rattle.proto_core.proofs.Strands.{run-none, run-took, run-refused, run-added, run-then_do, told-append}
-use Rattle.protocol_model.specs.Gates.{Joined, Local, AreSilent, value_at, operand, sizes_of, gates_strand}
+use Rattle.protocol_model.specs.Gates.{Joined, Local, AreSilent, nth_value, operand, sizes_of, gates_strand}
 use Rattle.protocol_model.specs.Gates as model
 use Rattle.protocol_model.proofs.Scripts.{silent_then}
 use Rattle.gates.specs.declared.gate.Gate.{Gate}
@@ -28,7 +28,7 @@ silent_gates : (i : Number) (gates : List model.Gate) (values : Values) (tape : 
 silent_gates i [] values tape h = tt
 silent_gates i (Local n f ∷ gates) values tape h = silent_gates i gates (values ++ f i values ∷ []) tape h
 silent_gates i (Joined p n u v ∷ gates) values tape h =
-    silent_then (p.strand n i (value_at values u) (operand values v) (take (p.draws n i) tape)) _ (h.0 i _ _ _)
+    silent_then (p.strand n i (nth_value values u) (operand values v) (take (p.draws n i) tape)) _ (h.0 i _ _ _)
     (λ made. silent_gates i gates (values ++ made) (drop (p.draws n i) tape) h.1)
 
 pub silent_own : (i : Number) (dealt : Values) (gates : List Gate) (values : Values) (tape : List ℕ) → IsSilent (own_gates i dealt gates values tape)

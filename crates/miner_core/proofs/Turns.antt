@@ -21,12 +21,12 @@ use Rattle.gate_node.specs.Nodes as node
 use Rattle.gate_node.specs.declared.stand.Stand.{Stand}
 use Rattle.gate_node.specs.declared.stand.Stand.TheVariants as stand
 use Rattle.gate_node.proofs.Always.{then-all}
-use Rattle.joint_code.specs.declared.progress.Turned.{Turned}
-use Rattle.joint_code.specs.declared.progress.Turned.TheVariants as turned
-use Rattle.joint_code.specs.declared.speech.Speech.{Speech}
-use Rattle.joint_code.specs.declared.telling.Told as told
-use Rattle.joint_code.specs.Views.{went_as, went_to, speech_seen}
-use Rattle.joint_code.proofs.Acting.{stage_went}
+use Rattle.code_turns.specs.declared.outcome.Turned.{Turned}
+use Rattle.code_turns.specs.declared.outcome.Turned.TheVariants as turned
+use Rattle.code_turns.specs.declared.speech.Speech.{Speech}
+use Rattle.code_turns.specs.declared.telling.Told as told
+use Rattle.code_turns.specs.Views.{went_as, went_to, speech_seen}
+use Rattle.code_turns.proofs.Places.{stage_went}
 use Rattle.miner_core.specs.declared.engine.At.{At}
 use Rattle.miner_core.specs.declared.engine.At.TheVariants as at
 use Rattle.miner_core.specs.declared.engine.Engine.{Engine}

@@ -17,11 +17,11 @@ use Rattle.gate_node.specs.Nodes as node
 use Rattle.gate_node.specs.declared.engine.Engine as gates
 use Rattle.gate_node.specs.declared.stand.Stand as at_gates
 use Rattle.gate_node.specs.declared.stand.Stand.TheVariants as stand
-use Rattle.joint_code.specs.Views.{place_in, went_to}
-use Rattle.joint_code.specs.declared.progress.Turned.{Turned}
-use Rattle.joint_code.specs.declared.progress.Turned.TheVariants as turned
-use Rattle.joint_code.specs.declared.speech.Speech.{Speech}
-use Rattle.joint_code.specs.declared.telling.Told.{Told}
+use Rattle.code_turns.specs.Views.{place_in, went_to}
+use Rattle.code_turns.specs.declared.outcome.Turned.{Turned}
+use Rattle.code_turns.specs.declared.outcome.Turned.TheVariants as turned
+use Rattle.code_turns.specs.declared.speech.Speech.{Speech}
+use Rattle.code_turns.specs.declared.telling.Told.{Told}
 use Rattle.miner_core.specs.declared.engine.At.{At}
 use Rattle.miner_core.specs.declared.engine.At.TheVariants as at
 use Rattle.miner_core.specs.declared.engine.Engine.{Engine}

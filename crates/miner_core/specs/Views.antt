@@ -8,9 +8,9 @@ use Rattle.verified_code.specs.Steps.{Function}
 use Rattle.value_steps.specs.Views.{given_seen, lengths_seen}
 use Rattle.value_steps.specs.declared.stage.Stage as reached
 use Rattle.code_places.specs.Places.{form_of, where_made}
-use Rattle.joint_code.specs.declared.speech.Speech.{Speech}
-use Rattle.joint_code.specs.declared.telling.Told.{Told}
-use Rattle.joint_code.specs.Views.{speech_seen}
+use Rattle.code_turns.specs.declared.speech.Speech.{Speech}
+use Rattle.code_turns.specs.declared.telling.Told.{Told}
+use Rattle.code_turns.specs.Views.{speech_seen}
 use Rattle.miner_core.specs.declared.task.Task.{Task}
 use Rattle.miner_core.specs.declared.notice.Notice.{Notice}
 use Rattle.miner_core.specs.declared.notice.Notice.TheVariants as notice

@@ -9,10 +9,9 @@ ghost use Rattle.miner_core.specs.Story.{Story, Follows, Leads, story_of, receiv
 use crate::answer::{End, MinerErr, Step};
 use crate::engine::{At, Engine};
 use crate::task::Task;
-use code_machine::start;
+use code_machine::{beginning, most_steps, start};
 use gate_node::{GateNode, Stand};
 use gates::Values;
-use joint_code::{beginning, most_steps};
 use proto_core::{Link, Msg, Party};
 use sc_text::Ending;
 use std::alloc::{AllocError, Global};

@@ -1,6 +1,6 @@
 ghost use Rattle.std.specs.Prelude.{◌≡◌, ◌<◌, true, false, IfOk, OnOk, Ok};
 ghost use Rattle.gate_node.specs.Nodes as node;
-ghost use Rattle.joint_code.specs.declared.progress.Turned.TheVariants.{Short};
+ghost use Rattle.code_turns.specs.declared.outcome.Turned.TheVariants.{Short};
 ghost use Rattle.miner_core.specs.declared.engine.At.TheVariants.{Ready, Again};
 ghost use Rattle.miner_core.specs.Engines.{engine_left, engine_outcome, engine_told, IsSound, IsThrough, IsOver, Rests, Keeps, KeepsLinks, GoesOn, acting, led_to, measure};
 
@@ -8,8 +8,8 @@ use crate::notice::{Notice, tell};
 use crate::stepping::{gates_from, step_told};
 use crate::task::Task;
 use code_machine::{Machine, marked, rewind};
+use code_turns::{Speech, Told, Turned, last_words, next_speech, told_yet};
 use gate_node::{GateNode, Stand};
-use joint_code::{Speech, Told, Turned, last_words, next_speech, told_yet};
 use proto_core::Party;
 use sc_text::Ending;
 use std::alloc::{AllocError, Global};

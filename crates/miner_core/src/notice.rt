@@ -1,9 +1,9 @@
 // What a miner tells.
 ghost use Rattle.std.specs.Prelude.{◌≡◌, ◌++◌, IfOk, OnOk, map};
-ghost use Rattle.joint_code.specs.Views.{speech_seen};
+ghost use Rattle.code_turns.specs.Views.{speech_seen};
 ghost use Rattle.miner_core.specs.Views.{notice_seen, if_any, told_since};
 
-use joint_code::{Speech, Told, words_behind};
+use code_turns::{Speech, Told, words_behind};
 use sc_text::Name;
 use std::alloc::{AllocError, Global};
 use typed_tree::Shape;

@@ -2,13 +2,13 @@
 ghost use Rattle.std.specs.Prelude.{◌≡◌, ◌≤◌, [], IfOk, drop, length};
 ghost use Rattle.code_machine.specs.Standing.{Stands};
 ghost use Rattle.code_places.specs.Places.{step_told};
-ghost use Rattle.joint_code.specs.Views.{place_in, went_to};
+ghost use Rattle.code_turns.specs.Views.{place_in, went_to};
 ghost use Rattle.miner_core.specs.Views.{task_world, task_code};
 
 use crate::task::Task;
 use code_machine::{Machine, step};
+use code_turns::{Turned, given_back, lent, turned};
 use gates::Gate;
-use joint_code::{Turned, given_back, lent, turned};
 use std::alloc::{AllocError, Global};
 use value_steps::Stage;
 

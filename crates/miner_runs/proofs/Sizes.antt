@@ -5,11 +5,11 @@ use Rattle.proto_core.specs.Strand.{Ends, then_do}
 use Rattle.protocol_model.specs.Gates.{sizes_of, needed, gates_strand}
 use Rattle.protocol_model.specs.Runs.{Shares, Tapes, Ready, run_values}
 use Rattle.gates.specs.declared.gate.Gate.{Gate}
-use Rattle.gates.specs.declared.gate.Gate.TheVariants.{Mul, And, Split, Conv, Open, Result}
 use Rattle.gates.specs.Clear.{Values}
 use Rattle.shared_gates.specs.Model.{sizes_made, AllSizesSuit, run_gates, sizes_after}
 use Rattle.shared_gates.proofs.Models.{gates-sound}
-use Rattle.shared_plans.proofs.RunLists.{sizes_behind, values-sized}
+use Rattle.shared_plans.proofs.RunLists.{values-sized}
+use Rattle.shared_plans.proofs.GateRunLaws.{model-sizes}
 use Rattle.gate_laws.specs.Facts.{Dealt}
 use Rattle.gate_node.specs.OwnGates.{Whole, own_gates}
 use Rattle.gate_node.proofs.OwnGates.{its-part}
@@ -26,24 +26,12 @@ suits_back ds sizes (g ∷ xs) ys h = suits_back ds (sizes ++ sizes_made ds size
 
 -- ---- THE SIZES BEHIND GATES
 
-model_sizes :
-    (dealt : Number → Values) (ds sizes : List ℕ) (gates : List Gate) →
-    sizes_behind (run_gates dealt ds sizes gates) sizes ≡ sizes_after ds sizes gates
-model_sizes dealt ds sizes [] = refl
-model_sizes dealt ds sizes (Mul u v ∷ gates) = model_sizes dealt ds (sizes ++ sizes_made ds sizes (Mul u v)) gates
-model_sizes dealt ds sizes (And u v ∷ gates) = model_sizes dealt ds (sizes ++ sizes_made ds sizes (And u v)) gates
-model_sizes dealt ds sizes (Split u negated ∷ gates) = model_sizes dealt ds (sizes ++ sizes_made ds sizes (Split u negated)) gates
-model_sizes dealt ds sizes (Conv u ∷ gates) = model_sizes dealt ds (sizes ++ sizes_made ds sizes (Conv u)) gates
-model_sizes dealt ds sizes (Open ring u ∷ gates) = model_sizes dealt ds (sizes ++ sizes_made ds sizes (Open ring u)) gates
-model_sizes dealt ds sizes (Result ring u ∷ gates) = model_sizes dealt ds (sizes ++ sizes_made ds sizes (Result ring u)) gates
-model_sizes dealt ds sizes (gate ∷ gates) = model_sizes dealt ds (sizes ++ sizes_made ds sizes gate) gates
-
 pub run_sizes :
     (dealt : Number → Values) (ds sizes : List ℕ) (gates : List Gate) (values : Shares) (tapes : Tapes) →
     Ready (run_gates dealt ds sizes gates) values tapes → ((i : Number) → sizes_of (values i) ≡ sizes) → (i : Number) →
     sizes_of (run_values (run_gates dealt ds sizes gates) values tapes i) ≡ sizes_after ds sizes gates
 run_sizes dealt ds sizes gates values tapes ready same i =
-    values-sized (run_gates dealt ds sizes gates) values tapes sizes (gates-sound dealt ds sizes gates) ready same i ∙ model_sizes dealt ds sizes gates
+    values-sized (run_gates dealt ds sizes gates) values tapes sizes (gates-sound dealt ds sizes gates) ready same i ∙ model-sizes dealt ds sizes gates
 
 -- ---- A MINER'S OWN GATES
 

@@ -13,7 +13,7 @@ use Rattle.protocol_model.proofs.GateRuns.{run-finishes}
 use Rattle.gates.specs.declared.gate.Gate.{Gate}
 use Rattle.gates.specs.Clear.{Values}
 use Rattle.shared_gates.specs.Model.{AllSizesSuit, sizes_after}
-use Rattle.shared_plans.proofs.GateLists.{sizes-then}
+use Rattle.shared_gates.proofs.GatesBehind.{sizes-then}
 use Rattle.language_model.specs.Effects.{World}
 use Rattle.verified_code.specs.Steps.{Function}
 use Rattle.gate_laws.specs.Facts.{Dealt}

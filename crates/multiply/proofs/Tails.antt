@@ -24,7 +24,8 @@ module _ (r : Ring) (n : ℕ) where
   started u v words after out e s =
       subst (λ k. after ≡ masked r k u v words) e (same_held after (masked r (length u) u v words) s.u_masked s.v_masked s.mask)
 
-  pub passed : (before : Held) (message : List ℕ) (after : Held) (out : List ℕ) → length before.mask ≡ n → Crosses r before message after out → after ≡ crossed r n before message
+  pub passed : (before : Held) (message : List ℕ) (after : Held) (out : List ℕ) → length before.mask ≡ n → Crosses r before message after out
+      → after ≡ crossed r n before message
   passed before message after out e s =
       subst (λ k. after ≡ crossed r k before message) e (same_held after (crossed r (length before.mask) before message) s.u s.v s.mask)
 

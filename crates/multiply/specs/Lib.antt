@@ -4,6 +4,5 @@ pub mod ProductLaws
 pub mod Multiplying
 pub mod MultiplyingLaws
 pub mod Steps
-pub mod Together
 pub mod Parts
 pub mod Vectors

@@ -128,8 +128,14 @@ module _ {r : Ring} (laws : RingLaws r) where
         (i : Number) →
         run (strands_of (mul_protocol r) n j i) (mail_of i (j.words (previous_of i) ∷ factors_of r n j (previous_of i) ∷ []) []) ≡ done_of i
     whole-at i =
-        whole-run r n i (j.u i) (j.v i) (j.words i) (j.words (previous_of i)) (factors_of r n j (previous_of i)) (fits.words (previous_of i)) (length-factors r n j (previous_of i))
-        ∙ ap (λ x. record { acts = Sent (to_next i) (j.words i) ∷ Sent (to_next i) x ∷ []; left = Ends (product r n (held_of n j i) (factors_of r n j (previous_of i)) ∷ []); unread = nothing }) (factors-held n j i)
+        whole-run r n i (j.u i) (j.v i) (j.words i) (j.words (previous_of i)) (factors_of r n j (previous_of i)) (fits.words (previous_of i))
+        (length-factors r n j (previous_of i))
+        ∙ ap (λ x. record {
+          acts = Sent (to_next i) (j.words i) ∷ Sent (to_next i) x ∷ [];
+          left =
+              Ends (product r n (held_of n j i) (factors_of r n j (previous_of i)) ∷ []);
+          unread = nothing;
+        }) (factors-held n j i)
         ∙ ap (λ x. record { acts = sends_of i; left = Ends (x ∷ []); unread = nothing }) (product-held n j i)
 
     half-at : (i : Number) → (run (strands_of (mul_protocol r) n j i) (mail_of i (j.words (previous_of i) ∷ []) [])).acts ≡ sends_of i

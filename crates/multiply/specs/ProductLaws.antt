@@ -5,9 +5,9 @@ use Rattle.share_ring.proofs.Sums.{products_of_three}
 use Rattle.proto_core.specs.Lists.{at, each, part}
 use Rattle.proto_core.specs.Elementwise.{plus, minus}
 use Rattle.proto_core.specs.Resharing.{reshared, sum_of_three}
-use Rattle.proto_core.proofs.Each.{length-each, at-each, each-ext, each_none, each_more}
+use Rattle.proto_core.proofs.Each.{length-each, at-each, each-ext}
 use Rattle.proto_core.proofs.Parts.{at-part, two_first, two_second}
-use Rattle.proto_core.proofs.ElementwiseLaws.{length-plus, length-minus, minus-plus, plus-minus}
+use Rattle.proto_core.proofs.ElementwiseLaws.{minus-plus, plus-minus}
 use Rattle.proto_core.proofs.ResharingLaws.{length-reshared}
 use Rattle.multiply.specs.Products.{times, cross}
 use Rattle.multiply.specs.MulStrand.{product}
@@ -42,7 +42,8 @@ module _ {r : Ring} (laws : RingLaws r) where
       let x = reshared r n u a ga in
       let y = reshared r n v b gb in
       let first : minus r n (plus r n u a) ga ≡ part n 0 (x ++ y) = minus-plus r n u a ga ∙ sym (two_first n x y (length-reshared r n u a ga)) in
-      let second : minus r n (plus r n v b) gb ≡ part n 1 (x ++ y) = minus-plus r n v b gb ∙ sym (two_second n x y (length-reshared r n u a ga) (length-reshared r n v b gb)) in
+      let second : minus r n (plus r n v b) gb ≡ part n 1 (x ++ y) =
+      minus-plus r n v b gb ∙ sym (two_second n x y (length-reshared r n u a ga) (length-reshared r n v b gb)) in
       plus-minus laws n _ c gc
       ∙ ap (λ w. reshared r n (cross r n w (minus r n (plus r n v b) gb) (part n 0 got) (part n 1 got)) c gc) first
       ∙ ap (λ w. reshared r n (cross r n (part n 0 (x ++ y)) w (part n 0 got) (part n 1 got)) c gc) second
@@ -76,9 +77,3 @@ cross-fields r n u v mask got =
     let first : at (part n 0 got) k ≡ at got k = at-part n 0 got k h ∙ ap (at got) (omega arith) in
     let second : at (part n 1 got) k ≡ at got (n + k) = at-part n 1 got k h ∙ ap (at got) (omega arith) in
     simp (at-each, h, first, second))
-
-pub ruleset plus_steps = (length-each, each_none, each_more, plus-field, length-plus)
-
-pub ruleset minus_steps = (length-each, each_none, each_more, minus-field, length-minus)
-
-pub ruleset cross_steps = (length-each, each_none, each_more, cross-fields, length-plus)

@@ -7,7 +7,7 @@ use Rattle.proto_core.specs.Lists.{each, part}
 use Rattle.proto_core.specs.Protocol.{Joint}
 use Rattle.proto_core.specs.Resharing.{reshared, sum_of_three}
 use Rattle.multiply.specs.Products.{times, cross}
-use Rattle.multiply.specs.Together.{of_three}
+use Rattle.proto_core.specs.Parties.{of_three}
 use Rattle.multiply.specs.Multiplying.{mul_messages, product_of}
 
 six_times_seven : Joint

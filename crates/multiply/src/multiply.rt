@@ -2,7 +2,7 @@ ghost use Rattle.std.specs.Prelude.{◌≡◌, ◌*◌, ◌≤◌, ◌↔◌, �
 ghost use Rattle.proto_core.specs.Refusals.{WrongLength};
 ghost use Rattle.multiply.specs.Steps.{Starts, Crosses, Multiplied};
 
-use crate::arithmetic::{add_field, masked_products, take_field};
+use crate::arithmetic::{add_field, add_products, take_field};
 use proto_core::{Block, Msg, Party, Refused};
 use share_ring::ShareRing;
 use std::marker::{Model, PhantomData};
@@ -60,20 +60,20 @@ impl<R: ShareRing, P: Party> Mul<R, P, Masked> {
     {
         let n = u.len();
         let to_next = Msg::from_words(words);
-        (
-            Mul {
-                u: add_field(u, words, 0),
-                v: add_field(v, words, 1),
-                mask: to_next.field(2, n),
-                of: PhantomData,
-            },
-            to_next,
-        )
+        let mut miner = Mul {
+            u: u.copy(),
+            v: v.copy(),
+            mask: to_next.field(2, n),
+            of: PhantomData,
+        };
+        add_field(&mut miner.u, words, 0);
+        add_field(&mut miner.v, words, 1);
+        (miner, to_next)
     }
 
     /// Takes the previous miner's 3n masks. The message, both masked factors, is for the next miner. A message of a
     /// wrong length is refused.
-    pub fn got(self, msg: &Msg) -> Result<(Mul<R, P, Crossed>, Msg), Refused<Self>>
+    pub fn got(mut self, msg: &Msg) -> Result<(Mul<R, P, Crossed>, Msg), Refused<Self>>
         ensures taken { IsOk result ↔ (length msg.now ≡ 3 * length self.mask) }
         ensures ok { IfOk result (λ x. Crosses R.ring self msg.now x.0 x.1) }
         ensures err { IfErr result (WrongLength self (3 * length self.mask) (length msg.now)) }
@@ -83,16 +83,16 @@ impl<R: ShareRing, P: Party> Mul<R, P, Masked> {
             return Err(Refused::wrong_length(self, 3 * n, msg.len()));
         }
         let words = msg.words();
-        let u = take_field(&self.u, words, 0);
-        let v = take_field(&self.v, words, 1);
-        let mask = take_field(&self.mask, words, 2);
-        let mut to_next = Msg::from_block(&u);
-        to_next.append_block(&v);
+        take_field(&mut self.u, words, 0);
+        take_field(&mut self.v, words, 1);
+        take_field(&mut self.mask, words, 2);
+        let mut to_next = Msg::from_block(&self.u);
+        to_next.append_block(&self.v);
         Ok((
             Mul {
-                u,
-                v,
-                mask,
+                u: self.u,
+                v: self.v,
+                mask: self.mask,
                 of: PhantomData,
             },
             to_next,
@@ -103,7 +103,7 @@ impl<R: ShareRing, P: Party> Mul<R, P, Masked> {
 impl<R: ShareRing, P: Party> Mul<R, P, Crossed> {
     /// Takes the previous miner's two masked factors, and answers the party's share of the product. A message of a
     /// wrong length is refused.
-    pub fn got(self, msg: &Msg) -> Result<Block<R, P>, Refused<Self>>
+    pub fn got(mut self, msg: &Msg) -> Result<Block<R, P>, Refused<Self>>
         ensures taken { IsOk result ↔ (length msg.now ≡ 2 * length self.mask) }
         ensures ok { IfOk result (λ share. Multiplied R.ring self msg.now share) }
         ensures err { IfErr result (WrongLength self (2 * length self.mask) (length msg.now)) }
@@ -112,6 +112,7 @@ impl<R: ShareRing, P: Party> Mul<R, P, Crossed> {
         if msg.len() != 2 * n {
             return Err(Refused::wrong_length(self, 2 * n, msg.len()));
         }
-        Ok(masked_products(&self.u, &self.v, &self.mask, msg.words()))
+        add_products(&mut self.mask, &self.u, &self.v, msg.words());
+        Ok(self.mask)
     }
 }

@@ -2,7 +2,7 @@ ghost use Rattle.std.specs.Prelude.{◌≡◌, ◌*◌, length};
 ghost use Rattle.proto_core.specs.declared.party.Number.TheVariants.{One, Two, Three};
 ghost use Rattle.proto_core.specs.Resharing.{sum_of_three};
 ghost use Rattle.multiply.specs.Products.{times};
-ghost use Rattle.multiply.specs.Together.{joint_of};
+ghost use Rattle.proto_core.specs.Joints.{joint_of_two};
 ghost use Rattle.multiply.specs.Parts.{IsPart};
 
 use crate::multiply::Mul;
@@ -42,13 +42,16 @@ pub fn multiply_together<R: ShareRing>(
     requires v3 { length third.v.now ≡ length first.u.now }
     requires words3 { length third.words.now ≡ 3 * length first.u.now }
     ensures part1 { IsPart R.ring (length first.entry.u.now) One
-        (joint_of first.entry.u.now second.entry.u.now third.entry.u.now first.entry.v.now second.entry.v.now third.entry.v.now first.entry.words.now second.entry.words.now third.entry.words.now)
+        (joint_of_two first.entry.u.now second.entry.u.now third.entry.u.now first.entry.v.now second.entry.v.now third.entry.v.now
+        first.entry.words.now second.entry.words.now third.entry.words.now)
         result.0.masks result.0.factors result.0.share }
     ensures part2 { IsPart R.ring (length first.entry.u.now) Two
-        (joint_of first.entry.u.now second.entry.u.now third.entry.u.now first.entry.v.now second.entry.v.now third.entry.v.now first.entry.words.now second.entry.words.now third.entry.words.now)
+        (joint_of_two first.entry.u.now second.entry.u.now third.entry.u.now first.entry.v.now second.entry.v.now third.entry.v.now
+        first.entry.words.now second.entry.words.now third.entry.words.now)
         result.1.masks result.1.factors result.1.share }
     ensures part3 { IsPart R.ring (length first.entry.u.now) Three
-        (joint_of first.entry.u.now second.entry.u.now third.entry.u.now first.entry.v.now second.entry.v.now third.entry.v.now first.entry.words.now second.entry.words.now third.entry.words.now)
+        (joint_of_two first.entry.u.now second.entry.u.now third.entry.u.now first.entry.v.now second.entry.v.now third.entry.v.now
+        first.entry.words.now second.entry.words.now third.entry.words.now)
         result.2.masks result.2.factors result.2.share }
     ensures value { sum_of_three R.ring (length first.entry.u.now) result.0.share result.1.share result.2.share
         ≡ times R.ring (length first.entry.u.now) (sum_of_three R.ring (length first.entry.u.now) first.entry.u.now second.entry.u.now third.entry.u.now)

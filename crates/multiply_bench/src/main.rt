@@ -68,33 +68,21 @@ fn multiply_block(
         Block::from_words(&miners.third.u[from..to]),
         Block::from_words(&miners.third.v[from..to]),
     );
-    let (miner1, masks1) = Mul::<AddRing, P1, _>::start(
-        &u1,
-        &v1,
-        &miners.first.tape[3 * from..3 * to],
-    );
-    let (miner2, masks2) = Mul::<AddRing, P2, _>::start(
-        &u2,
-        &v2,
-        &miners.second.tape[3 * from..3 * to],
-    );
-    let (miner3, masks3) = Mul::<AddRing, P3, _>::start(
-        &u3,
-        &v3,
-        &miners.third.tape[3 * from..3 * to],
-    );
-    let (miner1, factors1) = miner1.got(&masks3).unwrap();
-    let (miner2, factors2) = miner2.got(&masks1).unwrap();
-    let (miner3, factors3) = miner3.got(&masks2).unwrap();
+    let begun1 = Mul::<AddRing, P1, _>::start(&u1, &v1, &miners.first.tape[3 * from..3 * to]);
+    let begun2 = Mul::<AddRing, P2, _>::start(&u2, &v2, &miners.second.tape[3 * from..3 * to]);
+    let begun3 = Mul::<AddRing, P3, _>::start(&u3, &v3, &miners.third.tape[3 * from..3 * to]);
+    let crossed1 = begun1.0.got(&begun3.1).unwrap();
+    let crossed2 = begun2.0.got(&begun1.1).unwrap();
+    let crossed3 = begun3.0.got(&begun2.1).unwrap();
     products
         .first
-        .extend_from_slice(miner1.got(&factors3).unwrap().words())?;
+        .extend_from_slice(crossed1.0.got(&crossed3.1).unwrap().words())?;
     products
         .second
-        .extend_from_slice(miner2.got(&factors1).unwrap().words())?;
+        .extend_from_slice(crossed2.0.got(&crossed1.1).unwrap().words())?;
     products
         .third
-        .extend_from_slice(miner3.got(&factors2).unwrap().words())?;
+        .extend_from_slice(crossed3.0.got(&crossed2.1).unwrap().words())?;
     Ok(())
 }
 

@@ -3,7 +3,7 @@ use Rattle.std.proofs.Common.{◌≡◌, ℕ, ◌-◌, ◌≤◌, List, ◌++◌
 use Rattle.std.proofs.lemmas.List.{length-append}
 use Rattle.std.proofs.Math.Seq.{drop-append_seam, take-append_seam}
 use Rattle.secrec_ast.specs.declared.statement.DeclaredType.{DeclaredType}
-use Rattle.name_resolution.specs.Scopes.{Variable, Scope, Place, leaving, entering, behind_block, left}
+use Rattle.name_resolution.specs.Scopes.{Variable, Scope, FunctionScope, leaving, entering, behind_block, left}
 use Rattle.name_resolution.specs.Resolving.{Resolving, closed, in_block}
 use Rattle.name_resolution.proofs.Sequences.{place_made}
 
@@ -25,21 +25,23 @@ leaving_inner s x o =
     count = let l = length-append s.block s.outer in omega arith
 
 -- a block of s begins at e and ends at r; k is what `enter` told, and n is where `leave` leads
-pub block_fits : (s e r : Place) (k : ℕ) → e ≡ entering s → k ≡ length s.scope.outer → r.scope.outer ≡ e.scope.outer → k ≤ length r.scope.outer
+pub block_fits : (s e r : FunctionScope) (k : ℕ) → e ≡ entering s → k ≡ length s.scope.outer → r.scope.outer ≡ e.scope.outer → k ≤ length r.scope.outer
 block_fits s e r k begins count outer =
     let l = length-append s.scope.block s.scope.outer in
-    let m = ap length (outer ∙ ap (λ (p : Place). p.scope.outer) begins) in
+    let m = ap length (outer ∙ ap (λ (p : FunctionScope). p.scope.outer) begins) in
     omega arith
 
-pub block_left : (s e r n : Place) (k : ℕ) → e ≡ entering s → k ≡ length s.scope.outer → r.scope.outer ≡ e.scope.outer → n ≡ left k r → n ≡ behind_block s r
+pub block_left : (s e r n : FunctionScope) (k : ℕ) → e ≡ entering s → k ≡ length s.scope.outer → r.scope.outer ≡ e.scope.outer → n ≡ left k r
+    → n ≡ behind_block s r
 block_left s e r n k begins count outer ends =
     ends
     ∙ ap (λ j. left j r) count
-    ∙ ap (λ (x : Scope). placed x r.slots) (leaving_inner s.scope r.scope (outer ∙ ap (λ (p : Place). p.scope.outer) begins))
+    ∙ ap (λ (x : Scope). placed x r.slots) (leaving_inner s.scope r.scope (outer ∙ ap (λ (p : FunctionScope). p.scope.outer) begins))
   where
-    placed : Scope → List DeclaredType → Place
+    placed : Scope → List DeclaredType → FunctionScope
     placed x l = record { scope = x; slots = l }
 
-pub block_made : {A : Type 0} (m : Resolving A) (s e r n : Place) (k : ℕ) (a : A) → e ≡ entering s → k ≡ length s.scope.outer → m e ≡ Some (place_made a r) → r.scope.outer ≡ e.scope.outer → n ≡ left k r → in_block m s ≡ Some (place_made a n)
+pub block_made : {A : Type 0} (m : Resolving A) (s e r n : FunctionScope) (k : ℕ) (a : A) → e ≡ entering s → k ≡ length s.scope.outer
+    → m e ≡ Some (place_made a r) → r.scope.outer ≡ e.scope.outer → n ≡ left k r → in_block m s ≡ Some (place_made a n)
 block_made m s e r n k a begins count made outer ends =
-    ap (closed s) (ap m (sym begins) ∙ made) ∙ ap (λ (p : Place). Some (place_made a p)) (sym (block_left s e r n k begins count outer ends))
+    ap (closed s) (ap m (sym begins) ∙ made) ∙ ap (λ (p : FunctionScope). Some (place_made a p)) (sym (block_left s e r n k begins count outer ends))

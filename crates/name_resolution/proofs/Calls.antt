@@ -15,10 +15,12 @@ pub named_trees : (fs : List (Bor Function)) → map function_name (map tree_at 
 named_trees [] = refl
 named_trees (f ∷ fs) = ap (λ l. name_of f ∷ l) (named_trees fs)
 
-pub called_in_all_more : (d : Declared) (fs : List FunctionTree) (ts : List Tree) (t : Tree) → called_in_all d fs (trees_of (ts ++ t ∷ [])) ≡ called_in d (called_in_all d fs (trees_of ts)) t
+pub called_in_all_more : (d : Declared) (fs : List FunctionTree) (ts : List Tree) (t : Tree)
+    → called_in_all d fs (trees_of (ts ++ t ∷ [])) ≡ called_in d (called_in_all d fs (trees_of ts)) t
 called_in_all_more d fs [] t = refl
 called_in_all_more d fs (u ∷ us) t = called_in_all_more d (called_in d fs u) us t
 
-pub called_by_all_more : (d : Declared) (fs : List FunctionTree) (ts : List StatementTree) (t : StatementTree) → called_by_all d fs (statements_of (ts ++ t ∷ [])) ≡ called_by d (called_by_all d fs (statements_of ts)) t
+pub called_by_all_more : (d : Declared) (fs : List FunctionTree) (ts : List StatementTree) (t : StatementTree)
+    → called_by_all d fs (statements_of (ts ++ t ∷ [])) ≡ called_by d (called_by_all d fs (statements_of ts)) t
 called_by_all_more d fs [] t = refl
 called_by_all_more d fs (u ∷ us) t = called_by_all_more d (called_by d fs u) us t

@@ -27,20 +27,26 @@ all-more one all also puts empty more [] a bs b e f =
     ∙ ap (of_both also (Some b)) empty
     ∙ puts b []
     ∙ ap (λ l. Some (l ++ b ∷ [])) n
-all-more {A} {B} one all also puts empty more (x ∷ xs) a bs b e f = more x (xs ++ a ∷ []) ∙ go (one x) (all xs) bs (all-more one all also puts empty more xs a) (sym (more x xs) ∙ e)
+all-more {A} {B} one all also puts empty more (x ∷ xs) a bs b e f =
+    more x (xs ++ a ∷ []) ∙ go (one x) (all xs) bs (all-more one all also puts empty more xs a) (sym (more x xs) ∙ e)
   where
-    go : (o : Option B) (os : Option (List B)) (cs : List B) → ((ds : List B) (d : B) → os ≡ Some ds → one a ≡ Some d → all (xs ++ a ∷ []) ≡ Some (ds ++ d ∷ [])) → of_both also o os ≡ Some cs → of_both also o (all (xs ++ a ∷ [])) ≡ Some (cs ++ b ∷ [])
+    go : (o : Option B) (os : Option (List B)) (cs : List B)
+        → ((ds : List B) (d : B) → os ≡ Some ds → one a ≡ Some d → all (xs ++ a ∷ []) ≡ Some (ds ++ d ∷ [])) → of_both also o os ≡ Some cs
+        → of_both also o (all (xs ++ a ∷ [])) ≡ Some (cs ++ b ∷ [])
     go None os cs rest g = cc
     go (Some c) None cs rest g = cc
     go (Some c) (Some ds) cs rest g =
         let h : c ∷ ds ≡ cs = let k = sym (puts c ds) ∙ g in cc in
         ap (of_both also (Some c)) (rest ds b refl f) ∙ puts c (ds ++ b ∷ []) ∙ ap (λ l. Some (l ++ b ∷ [])) h
 
-pub values-more : (d : Declared) (s : Scope) (ts : List Tree) (t : Tree) (vs : List TypedValue) (v : TypedValue) → values d s (trees_of ts) ≡ Some vs → value d s t ≡ Some v → values d s (trees_of (ts ++ t ∷ [])) ≡ Some (vs ++ v ∷ [])
+pub values-more : (d : Declared) (s : Scope) (ts : List Tree) (t : Tree) (vs : List TypedValue) (v : TypedValue) → values d s (trees_of ts) ≡ Some vs
+    → value d s t ≡ Some v → values d s (trees_of (ts ++ t ∷ [])) ≡ Some (vs ++ v ∷ [])
 values-more d s = all-more (value d s) (λ ts. values d s (trees_of ts)) and_values (λ v vs. refl) refl (λ t ts. refl)
 
-pub slots_written_more : (d : Declared) (vs : List DomainVariable) (ts : List DeclaredType) (t : DeclaredType) (ss : List Slot) (s : Slot) → slots_written d vs ts ≡ Some ss → slot_written d vs t ≡ Some s → slots_written d vs (ts ++ t ∷ []) ≡ Some (ss ++ s ∷ [])
+pub slots_written_more : (d : Declared) (vs : List DomainVariable) (ts : List DeclaredType) (t : DeclaredType) (ss : List Slot) (s : Slot)
+    → slots_written d vs ts ≡ Some ss → slot_written d vs t ≡ Some s → slots_written d vs (ts ++ t ∷ []) ≡ Some (ss ++ s ∷ [])
 slots_written_more d vs = all-more (slot_written d vs) (slots_written d vs) and_slots (λ s ss. refl) refl (λ t ts. refl)
 
-pub typed_functions_more : (d : Declared) (fs : List FunctionTree) (f : FunctionTree) (ts : List TypedFunctionTree) (t : TypedFunctionTree) → typed_functions d fs ≡ Some ts → typed_function d f ≡ Some t → typed_functions d (fs ++ f ∷ []) ≡ Some (ts ++ t ∷ [])
+pub typed_functions_more : (d : Declared) (fs : List FunctionTree) (f : FunctionTree) (ts : List TypedFunctionTree) (t : TypedFunctionTree)
+    → typed_functions d fs ≡ Some ts → typed_function d f ≡ Some t → typed_functions d (fs ++ f ∷ []) ≡ Some (ts ++ t ∷ [])
 typed_functions_more d = all-more (typed_function d) (typed_functions d) and_functions (λ f fs. refl) refl (λ f fs. refl)

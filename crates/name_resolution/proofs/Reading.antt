@@ -14,6 +14,7 @@ there_at [] n x within e = absurd (omega arith)
 there_at (y ∷ ys) zero x within e = ap Some (sym e)
 there_at (y ∷ ys) (suc n) x within e = there_at ys n x (omega arith) e
 
-pub copied_is : {A : Type 0} (r : Option (Bor A)) (xs : List A) (n : ℕ) (Here : Bor A → Type 0) → IfSome r (λ x. x.now ≡ get_or xs n x.now) → MatchOption r (length xs ≤ n) (λ x. n < length xs × Here x) → option_copied r ≡ slice_get xs n
+pub copied_is : {A : Type 0} (r : Option (Bor A)) (xs : List A) (n : ℕ) (Here : Bor A → Type 0) → IfSome r (λ x. x.now ≡ get_or xs n x.now)
+    → MatchOption r (length xs ≤ n) (λ x. n < length xs × Here x) → option_copied r ≡ slice_get xs n
 copied_is None xs n Here i m = sym (past_end xs n m)
 copied_is (Some x) xs n Here i m = sym (there_at xs n x.now m.0 i)

@@ -8,49 +8,58 @@ use Rattle.secrec_ast.specs.declared.expression.DataType.TheVariants as datatype
 use Rattle.secrec_ast.specs.declared.statement.Identifier.{Identifier}
 use Rattle.secrec_ast.specs.declared.statement.DeclaredType.{DeclaredType}
 use Rattle.secrec_ast.specs.Tree.{Tree, Trees, number, truth, variable, call, index, parentheses, negation, cast, binary, declassify, argument, publish}
-use Rattle.secrec_ast.specs.Statements.{DeclarationTree, TargetTree, AssignmentTree, StartTree, starts_with_nothing, starts_with_declaration, starts_with_assignment, StepTree, steps_by_nothing, steps_by_assignment, steps_by_expression, StatementTree, block, empty, branch, choice, while_loop, do_loop, for_loop, breaks, continues, returns, assertion, declaration, assignment, evaluation, StatementTrees}
+use Rattle.secrec_ast.specs.Statements.{DeclarationTree, TargetTree, AssignmentTree, StartTree, starts_with_nothing, starts_with_declaration}
+use Rattle.secrec_ast.specs.Statements.{starts_with_assignment, StepTree, steps_by_nothing, steps_by_assignment, steps_by_expression, StatementTree}
+use Rattle.secrec_ast.specs.Statements.{block, empty, branch, choice, while_loop, do_loop, for_loop, breaks, continues, returns, assertion}
+use Rattle.secrec_ast.specs.Statements.{declaration, assignment, evaluation, StatementTrees}
 use Rattle.secrec_ast.specs.Statements as Statements'
 use Rattle.domain_types.specs.Declarations.{Declared, callee}
 use Rattle.name_resolution.specs.declared.variables.Known.{Known}
 use Rattle.typed_tree.specs.Tree.{TypedTree, truth_node}
-use Rattle.typed_tree.specs.Commands.{Command, Commands, none, also, empty_command, block_command, if_command, loop_command, do_command, break_command, continue_command, return_command, assert_command, store_command, default_command, fill_command, input_command, element_command, publish_command, evaluate_command}
-use Rattle.name_resolution.specs.Scopes.{Place, known_of, variable_named, declaring, entering, behind_block}
+use Rattle.typed_tree.specs.Commands.{Command, Commands, none, also, empty_command, block_command, if_command, loop_command, do_command}
+use Rattle.typed_tree.specs.Commands.{break_command, continue_command, return_command, assert_command, store_command, default_command, fill_command}
+use Rattle.typed_tree.specs.Commands.{input_command, element_command, publish_command, evaluate_command}
+use Rattle.name_resolution.specs.Scopes.{FunctionScope, known_of, variable_named, declaring, entering, behind_block}
 use Rattle.name_resolution.specs.Values.{value, values, called, call_made}
-use Rattle.name_resolution.specs.Resolving.{Resolving, ◌>>=◌, carry, done, reading, closed, in_block, tree_in, value_at, expression, known_at, named}
-use Rattle.name_resolution.specs.Bodies.{tree_in_call, calling, evaluated, default_of, from_value, initial, declared, assigned_to, assigned, started, stepped, condition_of, returned, looped, resolved, resolved_all}
+use Rattle.name_resolution.specs.Resolving.{Resolving, ◌>>=◌, carry, done, reading, closed, in_block, tree_in, resolved_value, expression, known_at, named}
+use Rattle.name_resolution.specs.Bodies.{tree_in_call, calling, evaluated, default_of, from_value, initial, declared, assigned_to, assigned, started}
+use Rattle.name_resolution.specs.Bodies.{stepped, condition_of, returned, looped, resolved, resolved_all}
 use Rattle.typed_tree.specs.Sound.{IsSoundTree, IsSoundCommand, AreSoundCommands}
-use Rattle.name_resolution.proofs.SoundValues.{mapped, both_there, arities, AreBelow, below_more, below_append, below_named, sound_value, sound_values, sound_called}
+use Rattle.name_resolution.proofs.SoundValues.{mapped, both_there, arities, AreBelow, below_more, below_append, below_named, sound_value}
+use Rattle.name_resolution.proofs.SoundValues.{sound_values, sound_called}
 
 -- each variable that is known has a slot
-pub record IsPlace (s : Place) : Type 0 where
+pub record IsPlace (s : FunctionScope) : Type 0 where
   pub block : AreBelow (length s.slots) s.scope.block
   pub outer : AreBelow (length s.slots) s.scope.outer
 
 -- a step ends at such a place, with as many slots or more, and what it makes is so in all functions with so many slots or more
-pub record Ends {A : Type 0} (P : ℕ → A → Type 0) (s : Place) (a : A) (p : Place) : Type 0 where
+pub record Ends {A : Type 0} (P : ℕ → A → Type 0) (s : FunctionScope) (a : A) (p : FunctionScope) : Type 0 where
   pub place : IsPlace p
   pub longer : length s.slots ≤ length p.slots
   pub made : (n : ℕ) → length p.slots ≤ n → P n a
 
 pub record Yields {A : Type 0} (m : Resolving A) (P : ℕ → A → Type 0) : Type 0 where
-  pub from : (s : Place) (a : A) (p : Place) → IsPlace s → m s ≡ Some (a, p) → Ends P s a p
+  pub from : (s : FunctionScope) (a : A) (p : FunctionScope) → IsPlace s → m s ≡ Some (a, p) → Ends P s a p
 
-abbrev pub pair_of : {A : Type 0} → A → Place → A × Place
+abbrev pub pair_of : {A : Type 0} → A → FunctionScope → A × FunctionScope
 pair_of a p = (a, p)
 
-pair_is : {A : Type 0} (a b : A) (p q : Place) → Some (pair_of a p) ≡ Some (pair_of b q) → (a ≡ b) × (p ≡ q)
+pair_is : {A : Type 0} (a b : A) (p q : FunctionScope) → Some (pair_of a p) ≡ Some (pair_of b q) → (a ≡ b) × (p ≡ q)
 pair_is a b p q e = let same : pair_of a p ≡ pair_of b q = cc in (ap (λ z. z.0) same, ap (λ z. z.1) same)
 
-ends_as : {A : Type 0} (P : ℕ → A → Type 0) (s : Place) (a b : A) (p q : Place) → Some (pair_of a p) ≡ Some (pair_of b q) → Ends P s a p → Ends P s b q
+ends_as : {A : Type 0} (P : ℕ → A → Type 0) (s : FunctionScope) (a b : A) (p q : FunctionScope) → Some (pair_of a p) ≡ Some (pair_of b q)
+    → Ends P s a p → Ends P s b q
 ends_as P s a b p q e h = let same = pair_is a b p q e in subst (λ z. Ends P s z q) same.0 (subst (λ z. Ends P s a z) same.1 h)
 
 pub yields_done : {A : Type 0} (a : A) (P : ℕ → A → Type 0) → ((n : ℕ) → P n a) → Yields (done a) P
 yields_done a P h = record { from = λ s b p is e. ends_as P s a b s p e (record { place = is; longer = omega arith; made = λ n l. h n }) }
 
-pub yields_bind : {A B : Type 0} (m : Resolving A) (f : A → Resolving B) (P : ℕ → A → Type 0) (Q : ℕ → B → Type 0) → Yields m P → ((a : A) → Yields (f a) (λ n b. P n a → Q n b)) → Yields (m >>= f) Q
+pub yields_bind : {A B : Type 0} (m : Resolving A) (f : A → Resolving B) (P : ℕ → A → Type 0) (Q : ℕ → B → Type 0) → Yields m P
+    → ((a : A) → Yields (f a) (λ n b. P n a → Q n b)) → Yields (m >>= f) Q
 yields_bind {A} {B} m f P Q first then = record { from = λ s b q is e. go s b q is (m s) refl e }
   where
-    go : (s : Place) (b : B) (q : Place) → IsPlace s → (o : Option (A × Place)) → m s ≡ o → carry o f ≡ Some (b, q) → Ends Q s b q
+    go : (s : FunctionScope) (b : B) (q : FunctionScope) → IsPlace s → (o : Option (A × FunctionScope)) → m s ≡ o → carry o f ≡ Some (b, q) → Ends Q s b q
     go s b q is None h e = cc
     go s b q is (Some r) h e =
         let one = first.from s r.0 r.1 is h in
@@ -62,21 +71,24 @@ yields_bind {A} {B} m f P Q first then = record { from = λ s b q is e. go s b q
         }
 
 -- what is read at a place
-pub yields_reading : {A : Type 0} (f : Place → Option A) (P : ℕ → A → Type 0) → ((s : Place) (a : A) → IsPlace s → f s ≡ Some a → (n : ℕ) → length s.slots ≤ n → P n a) → Yields (reading f) P
+pub yields_reading : {A : Type 0} (f : FunctionScope → Option A) (P : ℕ → A → Type 0)
+    → ((s : FunctionScope) (a : A) → IsPlace s → f s ≡ Some a → (n : ℕ) → length s.slots ≤ n → P n a) → Yields (reading f) P
 yields_reading {A} f P h = record { from = λ s b p is e. go s b p is (f s) refl e }
   where
-    go : (s : Place) (b : A) (p : Place) → IsPlace s → (o : Option A) → f s ≡ o → option_map (λ a. pair_of a s) o ≡ Some (b, p) → Ends P s b p
+    go : (s : FunctionScope) (b : A) (p : FunctionScope) → IsPlace s → (o : Option A) → f s ≡ o → option_map (λ a. pair_of a s) o ≡ Some (b, p) → Ends P s b p
     go s b p is None g e = cc
     go s b p is (Some a) g e = ends_as P s a b s p e (record { place = is; longer = omega arith; made = λ n l. h s a is g n l })
 
-known_below : (s : Place) → IsPlace s → (n : ℕ) → length s.slots ≤ n → AreBelow n (s.scope.block ++ s.scope.outer)
-known_below s is n l = below_append n s.scope.block s.scope.outer (below_more (length s.slots) n s.scope.block l is.block) (below_more (length s.slots) n s.scope.outer l is.outer)
+known_below : (s : FunctionScope) → IsPlace s → (n : ℕ) → length s.slots ≤ n → AreBelow n (s.scope.block ++ s.scope.outer)
+known_below s is n l = below_append n s.scope.block s.scope.outer (below_more (length s.slots) n s.scope.block l is.block)
+    (below_more (length s.slots) n s.scope.outer l is.outer)
 
 -- a block
 pub yields_block : {A : Type 0} (m : Resolving A) (P : ℕ → A → Type 0) → Yields m P → Yields (in_block m) P
 yields_block {A} m P h = record { from = λ s b p is e. go s b p is (m (entering s)) refl e }
   where
-    go : (s : Place) (b : A) (p : Place) → IsPlace s → (o : Option (A × Place)) → m (entering s) ≡ o → closed s o ≡ Some (b, p) → Ends P s b p
+    go : (s : FunctionScope) (b : A) (p : FunctionScope) → IsPlace s → (o : Option (A × FunctionScope)) → m (entering s) ≡ o
+        → closed s o ≡ Some (b, p) → Ends P s b p
     go s b p is None g e = cc
     go s b p is (Some r) g e =
         let in_it : IsPlace (entering s) = record { block = tt; outer = below_append (length s.slots) s.scope.block s.scope.outer is.block is.outer } in
@@ -104,9 +116,9 @@ abbrev pub Commands_in : Declared → ℕ → Commands → Type 0
 Commands_in d n cs = AreSoundCommands n (arities d) cs
 
 pub expression_yields : (d : Declared) (e : Tree) → Yields (expression d e) (Tree_in d)
-expression_yields d e = yields_reading (value_at d e) (Tree_in d) read
+expression_yields d e = yields_reading (resolved_value d e) (Tree_in d) read
   where
-    read : (s : Place) (t : TypedTree) → IsPlace s → value_at d e s ≡ Some t → (n : ℕ) → length s.slots ≤ n → Tree_in d n t
+    read : (s : FunctionScope) (t : TypedTree) → IsPlace s → resolved_value d e s ≡ Some t → (n : ℕ) → length s.slots ≤ n → Tree_in d n t
     read s t is h n l =
         let m = mapped tree_in (value d s.scope e) t h in
         subst (Tree_in d n) m.is (sound_value n d s.scope (known_below s is n l) e m.part m.there)
@@ -114,7 +126,7 @@ expression_yields d e = yields_reading (value_at d e) (Tree_in d) read
 named_yields : (d : Declared) (x : List ℕ) → Yields (named x) (λ n k. k.slot < n)
 named_yields d x = yields_reading (known_at x) (λ n k. k.slot < n) read
   where
-    read : (s : Place) (k : Known) → IsPlace s → known_at x s ≡ Some k → (n : ℕ) → length s.slots ≤ n → k.slot < n
+    read : (s : FunctionScope) (k : Known) → IsPlace s → known_at x s ≡ Some k → (n : ℕ) → length s.slots ≤ n → k.slot < n
     read s k is h n l =
         let m = mapped known_of (variable_named s.scope x) k h in
         subst (λ (z : Known). z.slot < n) m.is (below_named n x (s.scope.block ++ s.scope.outer) m.part (known_below s is n l) m.there)
@@ -122,15 +134,18 @@ named_yields d x = yields_reading (known_at x) (λ n k. k.slot < n) read
 calling_yields : (d : Declared) (line : ℕ) (x : List ℕ) (es : Trees) → Yields (reading (calling d line x es)) (Tree_in d)
 calling_yields d line x es = yields_reading (calling d line x es) (Tree_in d) read
   where
-    read : (s : Place) (t : TypedTree) → IsPlace s → calling d line x es s ≡ Some t → (n : ℕ) → length s.slots ≤ n → Tree_in d n t
+    read : (s : FunctionScope) (t : TypedTree) → IsPlace s → calling d line x es s ≡ Some t → (n : ℕ) → length s.slots ≤ n → Tree_in d n t
     read s t is h n l =
         let m = mapped tree_in_call (call_made d s.scope line x es) t h in
         let b = both_there (called line) (callee d x) (values d s.scope es) m.part m.there in
-        subst (Tree_in d n) m.is (sound_called n d line x b.left b.right m.part b.left_there (sound_values n d s.scope (known_below s is n l) es b.right b.right_there) b.is)
+        subst (Tree_in d n) m.is (sound_called n d line x b.left b.right m.part b.left_there
+        (sound_values n d s.scope (known_below s is n l) es b.right b.right_there) b.is)
 
 -- one expression, and a statement made of it
-one_yields : (d : Declared) (e : Tree) (make : TypedTree → Command) → ((n : ℕ) (t : TypedTree) → Tree_in d n t → Command_in d n (make t)) → Yields (expression d e >>= λ v. done (make v)) (Command_in d)
-one_yields d e make h = yields_bind (expression d e) (λ v. done (make v)) (Tree_in d) (Command_in d) (expression_yields d e) (λ v. yields_done (make v) (λ n c. Tree_in d n v → Command_in d n c) (λ n t. h n v t))
+one_yields : (d : Declared) (e : Tree) (make : TypedTree → Command) → ((n : ℕ) (t : TypedTree) → Tree_in d n t → Command_in d n (make t))
+    → Yields (expression d e >>= λ v. done (make v)) (Command_in d)
+one_yields d e make h = yields_bind (expression d e) (λ v. done (make v)) (Tree_in d) (Command_in d) (expression_yields d e)
+    (λ v. yields_done (make v) (λ n c. Tree_in d n v → Command_in d n c) (λ n t. h n v t))
 
 evaluate_yields : (d : Declared) (e : Tree) → Yields (expression d e >>= λ v. done (evaluate_command v)) (Command_in d)
 evaluate_yields d e = one_yields d e evaluate_command (λ n t s. s)
@@ -139,7 +154,9 @@ pub evaluated_yields : (d : Declared) (e : Tree) → Yields (evaluated d e) (Com
 evaluated_yields d (number p w) = evaluate_yields d (number p w)
 evaluated_yields d (truth p w) = evaluate_yields d (truth p w)
 evaluated_yields d (variable p x) = evaluate_yields d (variable p x)
-evaluated_yields d (call p x es) = yields_bind (reading (calling d p.line x es)) (λ v. done (evaluate_command v)) (Tree_in d) (Command_in d) (calling_yields d p.line x es) (λ v. yields_done (evaluate_command v) (λ n c. Tree_in d n v → Command_in d n c) (λ n t. t))
+evaluated_yields d (call p x es) =
+    yields_bind (reading (calling d p.line x es)) (λ v. done (evaluate_command v)) (Tree_in d) (Command_in d) (calling_yields d p.line x es)
+    (λ v. yields_done (evaluate_command v) (λ n c. Tree_in d n v → Command_in d n c) (λ n t. t))
 evaluated_yields d (index p a i) = evaluate_yields d (index p a i)
 evaluated_yields d (parentheses p e) = evaluate_yields d (parentheses p e)
 evaluated_yields d (negation p e) = evaluate_yields d (negation p e)
@@ -155,7 +172,8 @@ abbrev pub If_there : Declared → ℕ → ℕ → Command → Type 0
 If_there d k n c = k < n → Command_in d n c
 
 store_yields : (d : Declared) (k : ℕ) (e : Tree) → Yields (expression d e >>= λ v. done (store_command k v)) (If_there d k)
-store_yields d k e = yields_bind (expression d e) (λ v. done (store_command k v)) (Tree_in d) (If_there d k) (expression_yields d e) (λ v. yields_done (store_command k v) (λ n c. Tree_in d n v → If_there d k n c) (λ n t h. (h, t)))
+store_yields d k e = yields_bind (expression d e) (λ v. done (store_command k v)) (Tree_in d) (If_there d k) (expression_yields d e)
+    (λ v. yields_done (store_command k v) (λ n c. Tree_in d n v → If_there d k n c) (λ n t h. (h, t)))
 
 from_value_yields : (d : Declared) (k : ℕ) (e : Tree) → Yields (from_value d k e) (If_there d k)
 from_value_yields d k (number p w) = store_yields d k (number p w)
@@ -186,7 +204,7 @@ initial_yields d line k element (Some m) (Some e) =
     (λ v. yields_bind (expression d e) (λ w. done (fill_command line k v w)) (Tree_in d) (λ n c. Tree_in d n v → If_there d k n c) (expression_yields d e)
     (λ w. yields_done (fill_command line k v w) (λ n c. Tree_in d n w → Tree_in d n v → If_there d k n c) (λ n u t h. (h, t, u))))
 
-pub declaring_place : (x : Identifier) (t : DeclaredType) (s : Place) → IsPlace s → IsPlace (declaring x t s)
+pub declaring_place : (x : Identifier) (t : DeclaredType) (s : FunctionScope) → IsPlace s → IsPlace (declaring x t s)
 declaring_place x t s is =
     let more = length-append s.slots (t ∷ []) in
     record {
@@ -197,7 +215,9 @@ declaring_place x t s is =
 pub declared_yields : (d : Declared) (t : DeclarationTree) → Yields (declared d t) (Command_in d)
 declared_yields d t = record { from = λ s c q is e. go s c q is (initial d t.declared.place.line (length s.slots) t.declared.element t.size t.value s) refl e }
   where
-    go : (s : Place) (c : Command) (q : Place) → IsPlace s → (o : Option (Command × Place)) → initial d t.declared.place.line (length s.slots) t.declared.element t.size t.value s ≡ o → carry o (λ b p. Some (pair_of b (declaring t.variable t.declared p))) ≡ Some (c, q) → Ends (Command_in d) s c q
+    go : (s : FunctionScope) (c : Command) (q : FunctionScope) → IsPlace s → (o : Option (Command × FunctionScope))
+        → initial d t.declared.place.line (length s.slots) t.declared.element t.size t.value s ≡ o
+        → carry o (λ b p. Some (pair_of b (declaring t.variable t.declared p))) ≡ Some (c, q) → Ends (Command_in d) s c q
     go s c q is None h e = cc
     go s c q is (Some r) h e =
         let ends = (initial_yields d t.declared.place.line (length s.slots) t.declared.element t.size t.value).from s r.0 r.1 is h in
@@ -219,7 +239,8 @@ assigned_to_yields d line k (Some i) e =
 
 assigned_yields : (d : Declared) (a : AssignmentTree) → Yields (assigned d a) (Command_in d)
 assigned_yields d a =
-    yields_bind (named a.target.variable.text) (λ x. assigned_to d a.target.variable.place.line x.slot a.target.index a.value) (λ n k. k.slot < n) (Command_in d)
+    yields_bind (named a.target.variable.text) (λ x. assigned_to d a.target.variable.place.line x.slot a.target.index a.value) (λ n k. k.slot < n)
+    (Command_in d)
     (named_yields d a.target.variable.text)
     (λ x. assigned_to_later x)
   where
@@ -246,13 +267,19 @@ returned_yields : (d : Declared) (e : Option Tree) → Yields (returned d e) (Co
 returned_yields d None = yields_done (return_command None) (Command_in d) (λ n. tt)
 returned_yields d (Some e) = one_yields d e (λ v. return_command (Some v)) (λ n t s. s)
 
-looped_yields : (d : Declared) (a : StartTree) (e : Option Tree) (b : StepTree) (body : Resolving Command) → Yields body (Command_in d) → Yields (looped d a e b body) (Command_in d)
+looped_yields : (d : Declared) (a : StartTree) (e : Option Tree) (b : StepTree) (body : Resolving Command) → Yields body (Command_in d)
+    → Yields (looped d a e b body) (Command_in d)
 looped_yields d a e b body inside =
-    yields_bind (started d a) (λ x. condition_of d e >>= λ v. stepped d b >>= λ y. in_block body >>= λ z. done (whole x v y z)) (Command_in d) (Command_in d) (started_yields d a)
-    (λ x. yields_bind (condition_of d e) (λ v. stepped d b >>= λ y. in_block body >>= λ z. done (whole x v y z)) (Tree_in d) (λ n c. Command_in d n x → Command_in d n c) (condition_yields d e)
-    (λ v. yields_bind (stepped d b) (λ y. in_block body >>= λ z. done (whole x v y z)) (Command_in d) (λ n c. Tree_in d n v → Command_in d n x → Command_in d n c) (stepped_yields d b)
-    (λ y. yields_bind (in_block body) (λ z. done (whole x v y z)) (Command_in d) (λ n c. Command_in d n y → Tree_in d n v → Command_in d n x → Command_in d n c) (yields_block body (Command_in d) inside)
-    (λ z. yields_done (whole x v y z) (λ n c. Command_in d n z → Command_in d n y → Tree_in d n v → Command_in d n x → Command_in d n c) (λ n hz hy hv hx. (hx, ((hv, hy, hz), tt)))))))
+    yields_bind (started d a) (λ x. condition_of d e >>= λ v. stepped d b >>= λ y. in_block body >>= λ z. done (whole x v y z)) (Command_in d)
+    (Command_in d) (started_yields d a)
+    (λ x. yields_bind (condition_of d e) (λ v. stepped d b >>= λ y. in_block body >>= λ z. done (whole x v y z)) (Tree_in d)
+    (λ n c. Command_in d n x → Command_in d n c) (condition_yields d e)
+    (λ v. yields_bind (stepped d b) (λ y. in_block body >>= λ z. done (whole x v y z)) (Command_in d)
+    (λ n c. Tree_in d n v → Command_in d n x → Command_in d n c) (stepped_yields d b)
+    (λ y. yields_bind (in_block body) (λ z. done (whole x v y z)) (Command_in d) (λ n c. Command_in d n y → Tree_in d n v → Command_in d n x
+    → Command_in d n c) (yields_block body (Command_in d) inside)
+    (λ z. yields_done (whole x v y z) (λ n c. Command_in d n z → Command_in d n y → Tree_in d n v → Command_in d n x → Command_in d n c)
+    (λ n hz hy hv hx. (hx, ((hv, hy, hz), tt)))))))
   where
     whole : Command → TypedTree → Command → Command → Command
     whole x v y z = block_command (also x (also (loop_command v y z) none))
@@ -260,20 +287,26 @@ looped_yields d a e b body inside =
 -- STATEMENTS
 
 -- an expression and one block, and a statement made of both
-test_yields : (d : Declared) (e : Tree) (m : Resolving Command) (make : TypedTree → Command → Command) → ((n : ℕ) (v : TypedTree) (c : Command) → Tree_in d n v → Command_in d n c → Command_in d n (make v c)) → Yields m (Command_in d) → Yields (expression d e >>= λ v. in_block m >>= λ c. done (make v c)) (Command_in d)
+test_yields : (d : Declared) (e : Tree) (m : Resolving Command) (make : TypedTree → Command → Command)
+    → ((n : ℕ) (v : TypedTree) (c : Command) → Tree_in d n v → Command_in d n c → Command_in d n (make v c)) → Yields m (Command_in d)
+    → Yields (expression d e >>= λ v. in_block m >>= λ c. done (make v c)) (Command_in d)
 test_yields d e m make h inside =
     yields_bind (expression d e) (λ v. in_block m >>= λ c. done (make v c)) (Tree_in d) (Command_in d) (expression_yields d e)
     (λ v. yields_bind (in_block m) (λ c. done (make v c)) (Command_in d) (λ n b. Tree_in d n v → Command_in d n b) (yields_block m (Command_in d) inside)
     (λ c. yields_done (make v c) (λ n b. Command_in d n c → Tree_in d n v → Command_in d n b) (λ n hc hv. h n v c hv hc)))
 
-choice_yields : (d : Declared) (e : Tree) (m k : Resolving Command) → Yields m (Command_in d) → Yields k (Command_in d) → Yields (expression d e >>= λ v. in_block m >>= λ b. in_block k >>= λ c. done (if_command v b c)) (Command_in d)
+choice_yields : (d : Declared) (e : Tree) (m k : Resolving Command) → Yields m (Command_in d) → Yields k (Command_in d)
+    → Yields (expression d e >>= λ v. in_block m >>= λ b. in_block k >>= λ c. done (if_command v b c)) (Command_in d)
 choice_yields d e m k inside otherwise =
     yields_bind (expression d e) (λ v. in_block m >>= λ b. in_block k >>= λ c. done (if_command v b c)) (Tree_in d) (Command_in d) (expression_yields d e)
-    (λ v. yields_bind (in_block m) (λ b. in_block k >>= λ c. done (if_command v b c)) (Command_in d) (λ n r. Tree_in d n v → Command_in d n r) (yields_block m (Command_in d) inside)
-    (λ b. yields_bind (in_block k) (λ c. done (if_command v b c)) (Command_in d) (λ n r. Command_in d n b → Tree_in d n v → Command_in d n r) (yields_block k (Command_in d) otherwise)
+    (λ v. yields_bind (in_block m) (λ b. in_block k >>= λ c. done (if_command v b c)) (Command_in d) (λ n r. Tree_in d n v → Command_in d n r)
+    (yields_block m (Command_in d) inside)
+    (λ b. yields_bind (in_block k) (λ c. done (if_command v b c)) (Command_in d) (λ n r. Command_in d n b → Tree_in d n v → Command_in d n r)
+    (yields_block k (Command_in d) otherwise)
     (λ c. yields_done (if_command v b c) (λ n r. Command_in d n c → Command_in d n b → Tree_in d n v → Command_in d n r) (λ n hc hb hv. (hv, hb, hc)))))
 
-do_yields : (d : Declared) (e : Tree) (m : Resolving Command) → Yields m (Command_in d) → Yields (in_block m >>= λ b. expression d e >>= λ v. done (do_command b v)) (Command_in d)
+do_yields : (d : Declared) (e : Tree) (m : Resolving Command) → Yields m (Command_in d)
+    → Yields (in_block m >>= λ b. expression d e >>= λ v. done (do_command b v)) (Command_in d)
 do_yields d e m inside =
     yields_bind (in_block m) (λ b. expression d e >>= λ v. done (do_command b v)) (Command_in d) (Command_in d) (yields_block m (Command_in d) inside)
     (λ b. yields_bind (expression d e) (λ v. done (do_command b v)) (Tree_in d) (λ n r. Command_in d n b → Command_in d n r) (expression_yields d e)
@@ -282,14 +315,19 @@ do_yields d e m inside =
 mutual
   pub resolved_yields : (d : Declared) (t : StatementTree) → Yields (resolved d t) (Command_in d)
   resolved_yields d (block p ss) =
-      yields_bind (in_block (resolved_all d ss)) (λ cs. done (block_command cs)) (Commands_in d) (Command_in d) (yields_block (resolved_all d ss) (Commands_in d) (resolved_all_yields d ss))
+      yields_bind (in_block (resolved_all d ss)) (λ cs. done (block_command cs)) (Commands_in d) (Command_in d)
+      (yields_block (resolved_all d ss) (Commands_in d) (resolved_all_yields d ss))
       (λ cs. yields_done (block_command cs) (λ n c. Commands_in d n cs → Command_in d n c) (λ n h. h))
   resolved_yields d (empty p) = yields_done empty_command (Command_in d) (λ n. tt)
-  resolved_yields d (branch p e body) = test_yields d e (resolved d body) (λ v c. if_command v c empty_command) (λ n v c hv hc. (hv, hc, tt)) (resolved_yields d body)
-  resolved_yields d (choice p e body otherwise) = choice_yields d e (resolved d body) (resolved d otherwise) (resolved_yields d body) (resolved_yields d otherwise)
-  resolved_yields d (while_loop p e body) = test_yields d e (resolved d body) (λ v c. loop_command v empty_command c) (λ n v c hv hc. (hv, tt, hc)) (resolved_yields d body)
+  resolved_yields d (branch p e body) =
+      test_yields d e (resolved d body) (λ v c. if_command v c empty_command) (λ n v c hv hc. (hv, hc, tt)) (resolved_yields d body)
+  resolved_yields d (choice p e body otherwise) =
+      choice_yields d e (resolved d body) (resolved d otherwise) (resolved_yields d body) (resolved_yields d otherwise)
+  resolved_yields d (while_loop p e body) =
+      test_yields d e (resolved d body) (λ v c. loop_command v empty_command c) (λ n v c hv hc. (hv, tt, hc)) (resolved_yields d body)
   resolved_yields d (do_loop p body e) = do_yields d e (resolved d body) (resolved_yields d body)
-  resolved_yields d (for_loop p a e b body) = yields_block (looped d a e b (resolved d body)) (Command_in d) (looped_yields d a e b (resolved d body) (resolved_yields d body))
+  resolved_yields d (for_loop p a e b body) =
+      yields_block (looped d a e b (resolved d body)) (Command_in d) (looped_yields d a e b (resolved d body) (resolved_yields d body))
   resolved_yields d (breaks p) = yields_done break_command (Command_in d) (λ n. tt)
   resolved_yields d (continues p) = yields_done continue_command (Command_in d) (λ n. tt)
   resolved_yields d (returns p e) = returned_yields d e

@@ -8,11 +8,12 @@ use Rattle.secrec_ast.specs.declared.function.Parameter.{Parameter}
 use Rattle.secrec_ast.specs.Programs.{FunctionTree, ProgramTree}
 use Rattle.domain_types.specs.Declarations.{Declared, declared_by}
 use Rattle.typed_tree.specs.declared.kinds.Slot.{Slot}
-use Rattle.name_resolution.specs.Scopes.{Place, no_place, declaring}
+use Rattle.name_resolution.specs.Scopes.{FunctionScope, no_place, declaring}
 use Rattle.name_resolution.specs.Bodies.{resolved_all}
 use Rattle.typed_tree.specs.Programs.{TypedFunctionTree, TypedProgramTree}
 use Rattle.name_resolution.specs.Order.{reached}
-use Rattle.name_resolution.specs.Functions.{slot_written, slots_written, and_slots, given_back, with_parameters, function_from, function_made, function_behind, typed_function, and_functions, typed_functions, with_functions, program_of, typed_of}
+use Rattle.name_resolution.specs.Functions.{slot_written, slots_written, and_slots, given_back, with_parameters, function_from, function_made}
+use Rattle.name_resolution.specs.Functions.{function_behind, typed_function, and_functions, typed_functions, with_functions, program_of, typed_of}
 use Rattle.typed_tree.specs.Sound.{parameters_of, IsSoundFunction, AreSoundFunctions, IsSound}
 use Rattle.name_resolution.proofs.SoundValues.{mapped, both_there, then_there, some_is, arity, arities}
 use Rattle.name_resolution.proofs.SoundBodies.{IsPlace, declaring_place, resolved_all_yields}
@@ -26,23 +27,25 @@ slots_count d vs (t ∷ ts) ss e =
     omega arith
 
 -- the parameters take the first slots
-parameters_place : (ps : List Parameter) (s : Place) → IsPlace s → IsPlace (with_parameters ps s)
+parameters_place : (ps : List Parameter) (s : FunctionScope) → IsPlace s → IsPlace (with_parameters ps s)
 parameters_place [] s is = is
 parameters_place (p ∷ ps) s is = parameters_place ps (declaring p.variable p.declared s) (declaring_place p.variable p.declared s is)
 
-parameters_count : (ps : List Parameter) (s : Place) → length (with_parameters ps s).slots ≡ length s.slots + length ps
+parameters_count : (ps : List Parameter) (s : FunctionScope) → length (with_parameters ps s).slots ≡ length s.slots + length ps
 parameters_count [] s = omega arith
 parameters_count (p ∷ ps) s =
     let more = length-append s.slots (p.declared ∷ []) in
     let rest = parameters_count ps (declaring p.variable p.declared s) in
     omega arith
 
-pub sound_function : (d : Declared) (f : FunctionTree) (t : TypedFunctionTree) → typed_function d f ≡ Some t → IsSoundFunction (arities d) t × (t.parameters ≡ arity f)
+pub sound_function : (d : Declared) (f : FunctionTree) (t : TypedFunctionTree) → typed_function d f ≡ Some t
+    → IsSoundFunction (arities d) t × (t.parameters ≡ arity f)
 sound_function d f t e =
     let start = with_parameters f.parameters no_place in
     let r = then_there (function_behind d f) (resolved_all d f.body.statements start) t e in
     let at = r.part.1 in
-    let ends = (resolved_all_yields d f.body.statements).from start r.part.0 at (parameters_place f.parameters no_place (record { block = tt; outer = tt })) r.there in
+    let ends = (resolved_all_yields d f.body.statements).from start r.part.0 at
+    (parameters_place f.parameters no_place (record { block = tt; outer = tt })) r.there in
     let m = both_there (function_from f r.part.0) (slots_written d f.variables at.slots) (given_back d f.variables f.returned) t r.is in
     let count = slots_count d f.variables at.slots m.left m.left_there in
     let first = parameters_count f.parameters no_place in
@@ -50,7 +53,8 @@ sound_function d f t e =
     subst (λ (z : TypedFunctionTree). IsSoundFunction (arities d) z × (z.parameters ≡ arity f)) (some_is (function_made f r.part.0 m.left m.right) t m.is)
     (record { parameters = omega arith; body = ends.made (length m.left) (omega arith) }, refl)
 
-sound_functions : (d : Declared) (fs : List FunctionTree) (ts : List TypedFunctionTree) → typed_functions d fs ≡ Some ts → AreSoundFunctions (arities d) ts × (map parameters_of ts ≡ map arity fs)
+sound_functions : (d : Declared) (fs : List FunctionTree) (ts : List TypedFunctionTree) → typed_functions d fs ≡ Some ts
+    → AreSoundFunctions (arities d) ts × (map parameters_of ts ≡ map arity fs)
 sound_functions d [] ts e = subst (λ (z : List TypedFunctionTree). AreSoundFunctions (arities d) z × (map parameters_of z ≡ [])) (some_is [] ts e) (tt, refl)
 sound_functions d (f ∷ fs) ts e =
     let m = both_there and_functions (typed_function d f) (typed_functions d fs) ts e in

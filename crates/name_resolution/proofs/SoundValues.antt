@@ -1,5 +1,6 @@
 -- Typed expressions name only slots that are known and functions that are there.
-use Rattle.std.proofs.Common.{◌≡◌, ℕ, suc, ◌+◌, ◌<◌, ◌≤◌, List, [], ◌∷◌, ◌++◌, length, refl, sym, ap, ◌∙◌, subst, Option, Some, None, Bool, true, false, cond, arith}
+use Rattle.std.proofs.Common.{◌≡◌, ℕ, suc, ◌+◌, ◌<◌, ◌≤◌, List, [], ◌∷◌, ◌++◌, length, refl, sym, ap, ◌∙◌, subst, Option, Some, None, Bool, true}
+use Rattle.std.proofs.Common.{false, cond, arith}
 use Rattle.std.specs.Prelude.{map, bytes_eq, nat_eq, option_map, option_and_then}
 use Rattle.std.specs.List.{slice_get}
 use Rattle.std.proofs.lemmas.Option.{slice_get-map}
@@ -14,7 +15,9 @@ use Rattle.typed_tree.specs.declared.operators.Connective.{Connective}
 use Rattle.typed_tree.specs.Tree.{call_node, typed_trees_of}
 use Rattle.typed_tree.specs.Operators.{operator_on, operands_of, may_cut_short}
 use Rattle.name_resolution.specs.Scopes.{Variable, Scope, variable_in, variable_named}
-use Rattle.name_resolution.specs.Values.{TypedValue, TypedCall, of_both, variable_value, element_value, negated, cast_value, declassified_value, operation_node, operation_made, operation, gives_value, with_shape, value_given, shape_returned, tree_of_value, built_in_value, called, and_values, value, values}
+use Rattle.name_resolution.specs.Values.{TypedValue, TypedCall, of_both, variable_value, element_value, negated, cast_value, declassified_value}
+use Rattle.name_resolution.specs.Values.{operation_node, operation_made, operation, gives_value, with_shape, value_given, shape_returned}
+use Rattle.name_resolution.specs.Values.{tree_of_value, built_in_value, called, and_values, value, values}
 use Rattle.typed_tree.specs.Sound.{count_of, IsSoundTree, AreSoundTrees}
 
 -- WHAT IS THERE
@@ -60,11 +63,14 @@ arity f = length f.parameters
 abbrev pub arities : Declared → List ℕ
 arities d = map arity d.functions
 
-function_there : (x : List ℕ) (n : ℕ) (fs : List FunctionTree) (k : ℕ) (f : FunctionTree) → function_named x n fs ≡ Some (defined k f) → (m : ℕ) × (k ≡ n + m) × (slice_get fs m ≡ Some f)
+function_there : (x : List ℕ) (n : ℕ) (fs : List FunctionTree) (k : ℕ) (f : FunctionTree) → function_named x n fs ≡ Some (defined k f)
+    → (m : ℕ) × (k ≡ n + m) × (slice_get fs m ≡ Some f)
 function_there x n [] k f e = cc
 function_there x n (g ∷ gs) k f e = go (bytes_eq x g.function.text) e (function_there x (n + 1) gs k f)
   where
-    go : (b : Bool) → cond b (Some (defined n g)) (function_named x (n + 1) gs) ≡ Some (defined k f) → (function_named x (n + 1) gs ≡ Some (defined k f) → (m : ℕ) × (k ≡ n + 1 + m) × (slice_get gs m ≡ Some f)) → (m : ℕ) × (k ≡ n + m) × (slice_get (g ∷ gs) m ≡ Some f)
+    go : (b : Bool) → cond b (Some (defined n g)) (function_named x (n + 1) gs) ≡ Some (defined k f)
+        → (function_named x (n + 1) gs ≡ Some (defined k f) → (m : ℕ) × (k ≡ n + 1 + m) × (slice_get gs m ≡ Some f))
+        → (m : ℕ) × (k ≡ n + m) × (slice_get (g ∷ gs) m ≡ Some f)
     go true h rest =
         let same : defined n g ≡ defined k f = cc in
         let first : n ≡ k = cc in
@@ -129,7 +135,8 @@ as_value : (n : ℕ) (d : Declared) (v w : TypedValue) → SoundValue n d v → 
 as_value n d v w s e = subst (SoundValue n d) e s
 
 -- a built-in call
-sound_built_in : (n : ℕ) (d : Declared) (line : ℕ) (b : BuiltIn) (vs : List TypedValue) (v : TypedValue) → SoundValues n d vs → built_in_value line b vs ≡ Some v → SoundValue n d v
+sound_built_in : (n : ℕ) (d : Declared) (line : ℕ) (b : BuiltIn) (vs : List TypedValue) (v : TypedValue) → SoundValues n d vs
+    → built_in_value line b vs ≡ Some v → SoundValue n d v
 sound_built_in n d line Size [] v s e = cc
 sound_built_in n d line Size (a ∷ []) v s e = as_value n d _ v s.0 (some_is _ v e)
 sound_built_in n d line Size (a ∷ b ∷ vs) v s e = cc
@@ -144,7 +151,8 @@ sound_built_in n d line BitExtract [] v s e = cc
 sound_built_in n d line BitExtract (a ∷ []) v s e = as_value n d _ v s.0 (some_is _ v e)
 sound_built_in n d line BitExtract (a ∷ b ∷ vs) v s e = cc
 
-pub sound_called : (n : ℕ) (d : Declared) (line : ℕ) (x : List ℕ) (k : Callee) (vs : List TypedValue) (c : TypedCall) → callee d x ≡ Some k → SoundValues n d vs → called line k vs ≡ Some c → IsSoundTree n (arities d) c.tree
+pub sound_called : (n : ℕ) (d : Declared) (line : ℕ) (x : List ℕ) (k : Callee) (vs : List TypedValue) (c : TypedCall) → callee d x ≡ Some k
+    → SoundValues n d vs → called line k vs ≡ Some c → IsSoundTree n (arities d) c.tree
 sound_called n d line x (built_in b) vs c h s e =
     let m = mapped gives_value (built_in_value line b vs) c e in
     subst (λ (z : TypedCall). IsSoundTree n (arities d) z.tree) m.is (sound_built_in n d line b vs m.part s m.there)
@@ -160,7 +168,8 @@ sound_called n d line x (defined k f) vs c h s e = go (nat_eq (length f.paramete
         subst (λ (z : TypedCall). IsSoundTree n (arities d) z.tree) (some_is made c g)
         (slice_get-map arity d.functions k ∙ ap (option_map arity) (callee_there d x k f h) ∙ ap Some (same ∙ sym (count_trees vs)), sound_trees n d vs s)
 
-sound_operation : (n : ℕ) (d : Declared) (line : ℕ) (op : BinaryOperator) (a b : TypedValue) (c : Option Connective) → SoundValue n d a → SoundValue n d b → IsSoundTree n (arities d) (operation_node line op a b c)
+sound_operation : (n : ℕ) (d : Declared) (line : ℕ) (op : BinaryOperator) (a b : TypedValue) (c : Option Connective) → SoundValue n d a
+    → SoundValue n d b → IsSoundTree n (arities d) (operation_node line op a b c)
 sound_operation n d line op a b None s t = (s, t)
 sound_operation n d line op a b (Some c) s t = (s, t)
 
@@ -189,14 +198,16 @@ mutual
   sound_value n d s b (binary p op a c) v h =
       let m = both_there (operation p.line op) (value d s a) (value d s c) v h in
       let o = mapped (operation_made p.line op m.left m.right) (operator_on op m.left.shape.element m.right.shape.element) v m.is in
-      as_value n d _ v (sound_operation n d p.line o.part m.left m.right (may_cut_short op (operands_of m.left.shape.array m.right.shape.array)) (sound_value n d s b a m.left m.left_there) (sound_value n d s b c m.right m.right_there)) o.is
+      as_value n d _ v (sound_operation n d p.line o.part m.left m.right (may_cut_short op (operands_of m.left.shape.array m.right.shape.array))
+      (sound_value n d s b a m.left m.left_there) (sound_value n d s b c m.right m.right_there)) o.is
   sound_value n d s b (declassify p e) v h =
       let m = mapped declassified_value (value d s e) v h in
       as_value n d _ v (sound_value n d s b e m.part m.there) m.is
   sound_value n d s b (argument p x) v h = cc
   sound_value n d s b (publish p x e) v h = cc
 
-  pub sound_values : (n : ℕ) (d : Declared) (s : Scope) → AreBelow n (s.block ++ s.outer) → (es : Trees) (vs : List TypedValue) → values d s es ≡ Some vs → SoundValues n d vs
+  pub sound_values : (n : ℕ) (d : Declared) (s : Scope) → AreBelow n (s.block ++ s.outer) → (es : Trees) (vs : List TypedValue)
+      → values d s es ≡ Some vs → SoundValues n d vs
   sound_values n d s b Tree'.none vs h = subst (SoundValues n d) (some_is [] vs h) tt
   sound_values n d s b (Tree'.also e es) vs h =
       let m = both_there and_values (value d s e) (values d s es) vs h in

@@ -4,12 +4,17 @@ use Rattle.secrec_ast.specs.declared.expression.DataType.{DataType}
 use Rattle.secrec_ast.specs.declared.expression.DataType.TheVariants.{Uint64}
 use Rattle.secrec_ast.specs.declared.expression.DataType.TheVariants as datatype
 use Rattle.secrec_ast.specs.Tree.{Tree, Trees, call, argument, publish}
-use Rattle.secrec_ast.specs.Statements.{DeclarationTree, TargetTree, AssignmentTree, StartTree, starts_with_nothing, starts_with_declaration, starts_with_assignment, StepTree, steps_by_nothing, steps_by_assignment, steps_by_expression, StatementTree, block, empty, branch, choice, while_loop, do_loop, for_loop, breaks, continues, returns, assertion, declaration, assignment, evaluation, StatementTrees}
+use Rattle.secrec_ast.specs.Statements.{DeclarationTree, TargetTree, AssignmentTree, StartTree, starts_with_nothing, starts_with_declaration}
+use Rattle.secrec_ast.specs.Statements.{starts_with_assignment, StepTree, steps_by_nothing, steps_by_assignment, steps_by_expression, StatementTree}
+use Rattle.secrec_ast.specs.Statements.{block, empty, branch, choice, while_loop, do_loop, for_loop, breaks, continues, returns, assertion}
+use Rattle.secrec_ast.specs.Statements.{declaration, assignment, evaluation, StatementTrees}
 use Rattle.secrec_ast.specs.Statements as Statements'
 use Rattle.domain_types.specs.Declarations.{Declared}
 use Rattle.typed_tree.specs.Tree.{TypedTree, word_node, truth_node}
-use Rattle.typed_tree.specs.Commands.{Command, Commands, none, also, empty_command, block_command, if_command, loop_command, do_command, break_command, continue_command, return_command, assert_command, store_command, default_command, fill_command, input_command, element_command, publish_command, evaluate_command}
-use Rattle.name_resolution.specs.Scopes.{Place}
+use Rattle.typed_tree.specs.Commands.{Command, Commands, none, also, empty_command, block_command, if_command, loop_command, do_command}
+use Rattle.typed_tree.specs.Commands.{break_command, continue_command, return_command, assert_command, store_command, default_command, fill_command}
+use Rattle.typed_tree.specs.Commands.{input_command, element_command, publish_command, evaluate_command}
+use Rattle.name_resolution.specs.Scopes.{FunctionScope}
 use Rattle.name_resolution.specs.Values.{TypedCall, call_made}
 use Rattle.name_resolution.specs.Resolving.{Resolving, ◌>>=◌, done, reading, next_slot, declare, in_block, expression, named}
 
@@ -18,7 +23,7 @@ use Rattle.name_resolution.specs.Resolving.{Resolving, ◌>>=◌, done, reading,
 abbrev pub tree_in_call : TypedCall → TypedTree
 tree_in_call c = c.tree
 
-abbrev pub calling : Declared → ℕ → List ℕ → Trees → Place → Option TypedTree
+abbrev pub calling : Declared → ℕ → List ℕ → Trees → FunctionScope → Option TypedTree
 calling d line x es s = option_map tree_in_call (call_made d s.scope line x es)
 
 -- what is published is told by its name; a call may give nothing

@@ -12,10 +12,10 @@ use Rattle.domain_types.specs.Declarations.{Declared, declared_by, number_in}
 use Rattle.typed_tree.specs.declared.kinds.SlotDomain.{SlotDomain}
 use Rattle.typed_tree.specs.declared.kinds.SlotDomain.TheVariants.{Public, Private, Variable}
 use Rattle.typed_tree.specs.declared.kinds.Slot.{Slot}
-use Rattle.typed_tree.specs.declared.function.Given.{Given}
-use Rattle.typed_tree.specs.declared.function.Given.TheVariants.{Nothing, Value}
+use Rattle.typed_tree.specs.declared.function.Returned.{Returned}
+use Rattle.typed_tree.specs.declared.function.Returned.TheVariants.{Nothing, Value}
 use Rattle.typed_tree.specs.Commands.{Commands}
-use Rattle.name_resolution.specs.Scopes.{Place, no_place, declaring, shape_written}
+use Rattle.name_resolution.specs.Scopes.{FunctionScope, no_place, declaring, shape_written}
 use Rattle.name_resolution.specs.Values.{of_both}
 use Rattle.name_resolution.specs.Bodies.{resolved_all}
 use Rattle.typed_tree.specs.Programs.{TypedFunctionTree, TypedProgramTree}
@@ -51,18 +51,18 @@ abbrev pub slots_written : Declared → List DomainVariable → List DeclaredTyp
 slots_written d vs [] = Some []
 slots_written d vs (t ∷ ts) = of_both and_slots (slot_written d vs t) (slots_written d vs ts)
 
-abbrev pub given_back : Declared → List DomainVariable → ResultType → Option Given
+abbrev pub given_back : Declared → List DomainVariable → ResultType → Option Returned
 given_back d vs result.Void = Some Nothing
 given_back d vs (result.Value t) = option_map Value (slot_written d vs t)
 
 -- FUNCTIONS
 
 -- the parameters are the first slots, and belong to the body's block
-abbrev pub with_parameters : List Parameter → Place → Place
+abbrev pub with_parameters : List Parameter → FunctionScope → FunctionScope
 with_parameters [] s = s
 with_parameters (p ∷ ps) s = with_parameters ps (declaring p.variable p.declared s)
 
-abbrev pub function_made : FunctionTree → Commands → List Slot → Given → TypedFunctionTree
+abbrev pub function_made : FunctionTree → Commands → List Slot → Returned → TypedFunctionTree
 function_made f body slots given =
     record {
       name = f.function.text;
@@ -74,10 +74,10 @@ function_made f body slots given =
       size = size_of f;
     }
 
-abbrev pub function_from : FunctionTree → Commands → List Slot → Given → Option TypedFunctionTree
+abbrev pub function_from : FunctionTree → Commands → List Slot → Returned → Option TypedFunctionTree
 function_from f body slots given = Some (function_made f body slots given)
 
-abbrev pub function_behind : Declared → FunctionTree → Commands × Place → Option TypedFunctionTree
+abbrev pub function_behind : Declared → FunctionTree → Commands × FunctionScope → Option TypedFunctionTree
 function_behind d f r = of_both (function_from f r.0) (slots_written d f.variables r.1.slots) (given_back d f.variables f.returned)
 
 abbrev pub typed_function : Declared → FunctionTree → Option TypedFunctionTree

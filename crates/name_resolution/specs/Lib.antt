@@ -1,5 +1,4 @@
 pub mod Scopes
-pub mod Table
 pub mod Values
 pub mod Resolving
 pub mod Bodies
@@ -7,5 +6,5 @@ pub mod Order
 pub mod Sizes
 pub mod Functions
 pub mod Vectors
-pub mod Views
 pub mod Answer
+pub mod inner

@@ -6,13 +6,13 @@ use Rattle.secrec_ast.specs.Tree.{Tree}
 use Rattle.domain_types.specs.Declarations.{Declared}
 use Rattle.name_resolution.specs.declared.variables.Known.{Known}
 use Rattle.typed_tree.specs.Tree.{TypedTree}
-use Rattle.name_resolution.specs.Scopes.{Place, known_of, variable_named, declaring, entering, behind_block}
+use Rattle.name_resolution.specs.Scopes.{FunctionScope, known_of, variable_named, declaring, entering, behind_block}
 use Rattle.name_resolution.specs.Values.{TypedValue, value}
 
 abbrev pub Resolving : Type 0 → Type 0
-Resolving A = Place → Option (A × Place)
+Resolving A = FunctionScope → Option (A × FunctionScope)
 
-abbrev pub carry : {A B : Type 0} → Option (A × Place) → (A → Resolving B) → Option (B × Place)
+abbrev pub carry : {A B : Type 0} → Option (A × FunctionScope) → (A → Resolving B) → Option (B × FunctionScope)
 carry None f = None
 carry (Some r) f = f r.0 r.1
 
@@ -24,7 +24,7 @@ abbrev pub done : {A : Type 0} → A → Resolving A
 done a s = Some (a, s)
 
 -- what is read at a place leaves it
-abbrev pub reading : {A : Type 0} → (Place → Option A) → Resolving A
+abbrev pub reading : {A : Type 0} → (FunctionScope → Option A) → Resolving A
 reading f s = option_map (λ a. (a, s)) (f s)
 
 -- the number of the next slot
@@ -35,7 +35,7 @@ abbrev pub declare : Identifier → DeclaredType → Resolving (Unit {0})
 declare x t s = Some (tt, declaring x t s)
 
 -- a block
-abbrev pub closed : {A : Type 0} → Place → Option (A × Place) → Option (A × Place)
+abbrev pub closed : {A : Type 0} → FunctionScope → Option (A × FunctionScope) → Option (A × FunctionScope)
 closed s None = None
 closed s (Some r) = Some (r.0, behind_block s r.1)
 
@@ -45,14 +45,14 @@ in_block m s = closed s (m (entering s))
 abbrev pub tree_in : TypedValue → TypedTree
 tree_in v = v.tree
 
-abbrev pub value_at : Declared → Tree → Place → Option TypedTree
-value_at d e s = option_map tree_in (value d s.scope e)
+abbrev pub resolved_value : Declared → Tree → FunctionScope → Option TypedTree
+resolved_value d e s = option_map tree_in (value d s.scope e)
 
 -- an expression that gives a value
 abbrev pub expression : Declared → Tree → Resolving TypedTree
-expression d e = reading (value_at d e)
+expression d e = reading (resolved_value d e)
 
-abbrev pub known_at : List ℕ → Place → Option Known
+abbrev pub known_at : List ℕ → FunctionScope → Option Known
 known_at x s = option_map known_of (variable_named s.scope x)
 
 -- the variable of a name

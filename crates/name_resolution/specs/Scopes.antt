@@ -41,18 +41,18 @@ abbrev pub variable_named : Scope → List ℕ → Option Variable
 variable_named s x = variable_in x (s.block ++ s.outer)
 
 -- where a piece of a function stands: what is known there, and the types of the slots that were declared before it
-pub record Place : Type 0 where
+pub record FunctionScope : Type 0 where
   pub scope : Scope
   pub slots : List DeclaredType
 
-abbrev pub no_place : Place
+abbrev pub no_place : FunctionScope
 no_place = record { scope = nothing_known; slots = [] }
 
 abbrev pub shape_written : DeclaredType → Shape
 shape_written t = record { element = t.element; array = t.array }
 
 -- behind a declaration, which takes the next slot
-abbrev pub declaring : Identifier → DeclaredType → Place → Place
+abbrev pub declaring : Identifier → DeclaredType → FunctionScope → FunctionScope
 declaring x t s =
     record {
       scope = with_variable (record { name = x.text; known = record { slot = length s.slots; shape = shape_written t } }) s.scope;
@@ -60,12 +60,12 @@ declaring x t s =
     }
 
 -- inside a block that begins here, and behind it, where the slots of the block stay
-abbrev pub entering : Place → Place
+abbrev pub entering : FunctionScope → FunctionScope
 entering s = record { scope = inner s.scope; slots = s.slots }
 
-abbrev pub behind_block : Place → Place → Place
+abbrev pub behind_block : FunctionScope → FunctionScope → FunctionScope
 behind_block before inside = record { scope = before.scope; slots = inside.slots }
 
 -- the same as a computation: n variables were outside of the block around this one
-abbrev pub left : ℕ → Place → Place
+abbrev pub left : ℕ → FunctionScope → FunctionScope
 left n s = record { scope = leaving n s.scope; slots = s.slots }

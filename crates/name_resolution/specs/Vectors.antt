@@ -15,14 +15,15 @@ use Rattle.secrec_ast.specs.Programs.{FunctionTree, imports, domain as domains_i
 use Rattle.typed_tree.specs.declared.kinds.SlotDomain.TheVariants.{Public, Private, Variable}
 use Rattle.typed_tree.specs.declared.kinds.SlotDomain.{SlotDomain}
 use Rattle.typed_tree.specs.declared.kinds.Slot.{Slot}
-use Rattle.typed_tree.specs.declared.function.Given.TheVariants.{Nothing, Value}
+use Rattle.typed_tree.specs.declared.function.Returned.TheVariants.{Nothing, Value}
 use Rattle.typed_tree.specs.declared.operators.WordOperator.TheVariants as word
 use Rattle.typed_tree.specs.declared.operators.BoolOperator.TheVariants as bool
 use Rattle.typed_tree.specs.declared.operators.BinaryOperator.TheVariants.{Words, Bools}
 use Rattle.typed_tree.specs.declared.operators.Operands.TheVariants.{Scalars, ArrayAndScalar}
 use Rattle.typed_tree.specs.declared.operators.Connective.TheVariants as connective
 use Rattle.typed_tree.specs.Tree.{word_node, truth_node, slot_node, call_node, binary_node, cut_node, declassify_node, typed_trees_of}
-use Rattle.typed_tree.specs.Commands.{Command, block_command, return_command, default_command, store_command, input_command, publish_command, evaluate_command, commands_of}
+use Rattle.typed_tree.specs.Commands.{Command, block_command, return_command, default_command, store_command, input_command, publish_command}
+use Rattle.typed_tree.specs.Commands.{evaluate_command, commands_of}
 use Rattle.typed_tree.specs.Programs.{TypedFunctionTree, TypedProgramTree}
 use Rattle.name_resolution.specs.Functions.{typed_of}
 
@@ -74,15 +75,37 @@ abbrev program : List TypedFunctionTree → Option TypedProgramTree
 program fs = Some (record { functions = fs })
 
 -- p uint64 a = argument("a"); publish("c", declassify(a * a));
-product : typed_of (program_of (main_with (declares (scalar_in in_p datatype.Uint64) (codes "a") (Some (argument (at 2) (codes "a"))) ∷ evaluation (publish (at 2) (codes "c") (declassify (at 2) (binary (at 2) Multiply (read (codes "a")) (read (codes "a"))))) ∷ []) ∷ [])) ≡ program (typed_main (slot (Private 0) datatype.Uint64 false ∷ []) (input_command 2 0 (codes "a") ∷ publish_command (codes "c") (declassify_node (binary_node 2 (Words word.Multiply) Scalars (slot_node 0) (slot_node 0))) ∷ []) 10 ∷ [])
+product : typed_of (program_of
+    (main_with (declares (scalar_in in_p datatype.Uint64) (codes "a") (Some (argument (at 2) (codes "a")))
+    ∷ evaluation (publish (at 2) (codes "c") (declassify (at 2) (binary (at 2) Multiply (read (codes "a")) (read (codes "a"))))) ∷ []) ∷ []))
+    ≡ program (typed_main (slot (Private 0) datatype.Uint64 false ∷ [])
+    (input_command 2 0 (codes "a")
+    ∷ publish_command (codes "c") (declassify_node (binary_node 2 (Words word.Multiply) Scalars (slot_node 0) (slot_node 0))) ∷ []) 10 ∷ [])
 product = refl
 
 -- uint64 x; { bool x = true; publish("i", x && x); } x = x + x;
-hiding : typed_of (program_of (main_with (declares (scalar_in domain.Public datatype.Uint64) (codes "x") None ∷ block (at 2) (statements_of (declares (scalar_in domain.Public datatype.Bool) (codes "x") (Some (truth (at 2) true)) ∷ evaluation (publish (at 2) (codes "i") (binary (at 2) AndAlso (read (codes "x")) (read (codes "x")))) ∷ [])) ∷ assignment (record { target = record { variable = named (codes "x"); index = None }; value = binary (at 2) Add (read (codes "x")) (read (codes "x")) }) ∷ []) ∷ [])) ≡ program (typed_main (slot Public datatype.Uint64 false ∷ slot Public datatype.Bool false ∷ []) (default_command 0 ∷ block_command (commands_of (store_command 1 (truth_node true) ∷ publish_command (codes "i") (cut_node connective.AndAlso (slot_node 1) (slot_node 1)) ∷ [])) ∷ store_command 0 (binary_node 2 (Words word.Add) Scalars (slot_node 0) (slot_node 0)) ∷ []) 16 ∷ [])
+hiding : typed_of (program_of
+    (main_with (declares (scalar_in domain.Public datatype.Uint64) (codes "x") None
+    ∷ block (at 2) (statements_of
+    (declares (scalar_in domain.Public datatype.Bool) (codes "x") (Some (truth (at 2) true))
+    ∷ evaluation (publish (at 2) (codes "i") (binary (at 2) AndAlso (read (codes "x")) (read (codes "x")))) ∷ []))
+    ∷ assignment (record {
+      target = record { variable = named (codes "x"); index = None };
+      value =
+          binary (at 2) Add (read (codes "x")) (read (codes "x"));
+    }) ∷ []) ∷ []))
+    ≡ program (typed_main (slot Public datatype.Uint64 false ∷ slot Public datatype.Bool false ∷ [])
+    (default_command 0 ∷ block_command
+    (commands_of (store_command 1 (truth_node true) ∷ publish_command (codes "i") (cut_node connective.AndAlso (slot_node 1) (slot_node 1)) ∷ []))
+    ∷ store_command 0 (binary_node 2 (Words word.Add) Scalars (slot_node 0) (slot_node 0)) ∷ []) 16 ∷ [])
 hiding = refl
 
 -- bool[[1]] b; b && true: between an array and a scalar nothing is cut short
-both_read : typed_of (program_of (main_with (declares (record { place = at 2; domain = domain.Public; element = datatype.Bool; array = true }) (codes "b") None ∷ evaluation (binary (at 2) AndAlso (read (codes "b")) (truth (at 2) true)) ∷ []) ∷ [])) ≡ program (typed_main (slot Public datatype.Bool true ∷ []) (default_command 0 ∷ evaluate_command (binary_node 2 (Bools bool.And) ArrayAndScalar (slot_node 0) (truth_node true)) ∷ []) 7 ∷ [])
+both_read : typed_of (program_of
+    (main_with (declares (record { place = at 2; domain = domain.Public; element = datatype.Bool; array = true }) (codes "b") None
+    ∷ evaluation (binary (at 2) AndAlso (read (codes "b")) (truth (at 2) true)) ∷ []) ∷ []))
+    ≡ program (typed_main (slot Public datatype.Bool true ∷ [])
+    (default_command 0 ∷ evaluate_command (binary_node 2 (Bools bool.And) ArrayAndScalar (slot_node 0) (truth_node true)) ∷ []) 7 ∷ [])
 both_read = refl
 
 -- template <domain D> D uint64 f(D uint64 x) { return x; }
@@ -112,7 +135,12 @@ abbrev calls : List ℕ → Tree → Tree
 calls f e = call (at 2) f (trees_of (e ∷ []))
 
 -- g(f(1)); f(2); with g before f in the text, and h that nothing calls: f is called first, and each stands there once
-first_called : typed_of (program_of (template (codes "g") ∷ template (codes "f") ∷ template (codes "h") ∷ main_with (evaluation (calls (codes "g") (calls (codes "f") (number (at 2) 1))) ∷ evaluation (calls (codes "f") (number (at 2) 2)) ∷ []) ∷ [])) ≡ program (typed_main [] (evaluate_command (call_node 2 2 (typed_trees_of (call_node 2 1 (typed_trees_of (word_node 1 ∷ [])) ∷ []))) ∷ evaluate_command (call_node 2 1 (typed_trees_of (word_node 2 ∷ []))) ∷ []) 9 ∷ typed_template (codes "f") ∷ typed_template (codes "g") ∷ [])
+first_called : typed_of (program_of
+    (template (codes "g") ∷ template (codes "f") ∷ template (codes "h")
+    ∷ main_with (evaluation (calls (codes "g") (calls (codes "f") (number (at 2) 1))) ∷ evaluation (calls (codes "f") (number (at 2) 2)) ∷ []) ∷ []))
+    ≡ program (typed_main []
+    (evaluate_command (call_node 2 2 (typed_trees_of (call_node 2 1 (typed_trees_of (word_node 1 ∷ [])) ∷ [])))
+    ∷ evaluate_command (call_node 2 1 (typed_trees_of (word_node 2 ∷ []))) ∷ []) 9 ∷ typed_template (codes "f") ∷ typed_template (codes "g") ∷ [])
 first_called = refl
 
 -- x; where nothing declares x

@@ -6,17 +6,17 @@ use secrec_ast::Function;
 use std::alloc::{AllocError, Global};
 
 /// The functions that have been called so far, in the order in which they were first called.
-pub struct Found<'p> {
+pub struct CalledFunctions<'p> {
     pub names: NameIndex<'p>,
     pub functions: Vec<&'p Function>,
     ghost named: { names ≡ map name_of functions.items },
 }
 
 // Written out, so that an early exit calls this once, and doesn't take the list apart in its place.
-impl Drop for Found<'_> {
+impl Drop for CalledFunctions<'_> {
     fn drop(self) {
         match self {
-            Found {
+            CalledFunctions {
                 names: _,
                 functions: _,
             } => {}
@@ -24,18 +24,18 @@ impl Drop for Found<'_> {
     }
 }
 
-impl<'p> Found<'p> {
+impl<'p> CalledFunctions<'p> {
     ghost use Rattle.std.specs.Prelude.{[], IfOk};
     ghost use Rattle.domain_types.specs.Declarations.{callee};
     ghost use Rattle.domain_types.specs.Views.{declared};
     ghost use Rattle.name_resolution.specs.Order.{with_callee};
-    ghost use Rattle.name_resolution.specs.Views.{found_seen};
+    ghost use Rattle.name_resolution.specs.inner.Views.{found_seen};
 
     /// No functions.
-    pub fn new(alloc: Global) -> Found<'p>
+    pub fn new(alloc: Global) -> CalledFunctions<'p>
         ensures { found_seen result ≡ [] }
     {
-        Found {
+        CalledFunctions {
             names: NameIndex::new(alloc),
             functions: Vec::new(alloc),
         }
@@ -47,7 +47,7 @@ impl<'p> Found<'p> {
         self,
         declarations: &Declarations<'p>,
         name: &'p str,
-    ) -> Result<Found<'p>, AllocError>
+    ) -> Result<CalledFunctions<'p>, AllocError>
         ensures { IfOk result (λ f. found_seen f ≡ with_callee (found_seen self.entry) name.now (callee (declared declarations.now) name.now)) }
     {
         match declarations.callee(name) {
@@ -55,13 +55,13 @@ impl<'p> Found<'p> {
                 if self.names.number(name).is_some() {
                     return Ok(self);
                 }
-                let Found {
+                let CalledFunctions {
                     names,
                     mut functions,
                 } = self;
                 let names = names.with(function.function.text.as_str())?;
                 functions.push(function)?;
-                Ok(Found { names, functions })
+                Ok(CalledFunctions { names, functions })
             }
             Some(Called::BuiltIn(_)) | None => Ok(self),
         }
@@ -71,7 +71,7 @@ impl<'p> Found<'p> {
     pub fn into_declarations(self, declarations: Declarations<'p>) -> Declarations<'p>
         ensures { declared result ≡ record (declared declarations.entry) { functions = found_seen self.entry } }
     {
-        let Found { names, functions } = self;
+        let CalledFunctions { names, functions } = self;
         declarations.with_functions(names, functions)
     }
 }

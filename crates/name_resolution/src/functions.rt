@@ -2,20 +2,21 @@
 ghost use Rattle.std.specs.Prelude.{◌≡◌, ◌<◌, length, IfOk, MatchOption, map};
 ghost use Rattle.secrec_ast.specs.Programs.{function_tree};
 ghost use Rattle.domain_types.specs.Views.{declared, tree_at};
-ghost use Rattle.name_resolution.specs.Functions.{variable_number, slot_domain, slot_written, slots_written, given_back, with_parameters, typed_function, typed_functions};
+ghost use Rattle.name_resolution.specs.Functions.{variable_number, slot_domain, slot_written, slots_written, given_back, with_parameters};
+ghost use Rattle.name_resolution.specs.Functions.{typed_function, typed_functions};
 ghost use Rattle.typed_tree.specs.Programs.{typed_function_tree};
 ghost use Rattle.name_resolution.specs.Answer.{Answers};
-ghost use Rattle.name_resolution.specs.Views.{place_seen, type_at, slots_seen, functions_seen};
+ghost use Rattle.name_resolution.specs.inner.Views.{place_seen, type_at, slots_seen, functions_seen};
 
-use crate::place::Place;
-use crate::resolve_error::ResolveError;
+use crate::place::FunctionScope;
+use crate::resolve_err::ResolveErr;
 use crate::sizes::size_of;
 use crate::statements::statements;
 use crate::values::shape_written;
 use domain_types::Declarations;
 use secrec_ast::{DeclaredType, Domain, DomainVariable, Function, Parameter, ResultType};
 use std::alloc::{AllocError, Global};
-use typed_tree::{Given, Slot, SlotDomain, TypedFunction};
+use typed_tree::{Returned, Slot, SlotDomain, TypedFunction};
 
 // The number of a domain variable.
 fn variable_number(name: &str, variables: &[DomainVariable]) -> Option<usize>
@@ -78,14 +79,14 @@ fn slots_written<'p>(
     declarations: &Declarations<'p>,
     variables: &'p [DomainVariable],
     types: &Vec<&'p DeclaredType>,
-) -> Result<Vec<Slot>, ResolveError>
+) -> Result<Vec<Slot>, ResolveErr>
     ensures { Answers slots_seen result (slots_written (declared declarations.now) variables.now (map type_at types.now.items)) }
 {
     let mut slots = Vec::new(alloc);
     for each in types {
         match slot_written(declarations, variables, *each) {
             Some(slot) => slots.push(slot)?,
-            None => return Err(ResolveError::Unresolved),
+            None => return Err(ResolveErr::Unresolved),
         }
     }
     Ok(slots)
@@ -95,20 +96,20 @@ fn given_back<'p>(
     declarations: &Declarations<'p>,
     variables: &'p [DomainVariable],
     returned: &'p ResultType,
-) -> Result<Given, ResolveError>
+) -> Result<Returned, ResolveErr>
     ensures { Answers (λ g. g) result (given_back (declared declarations.now) variables.now returned.now) }
 {
     match returned {
-        ResultType::Void => Ok(Given::Nothing),
+        ResultType::Void => Ok(Returned::Nothing),
         ResultType::Value(written) => match slot_written(declarations, variables, written) {
-            Some(slot) => Ok(Given::Value(slot)),
-            None => Err(ResolveError::Unresolved),
+            Some(slot) => Ok(Returned::Value(slot)),
+            None => Err(ResolveErr::Unresolved),
         },
     }
 }
 
 // Declares the parameters, which are the first slots.
-fn parameters<'p>(place: &mut Place<'p>, list: &'p [Parameter]) -> Result<(), AllocError>
+fn parameters<'p>(place: &mut FunctionScope<'p>, list: &'p [Parameter]) -> Result<(), AllocError>
     ensures { IfOk result (λ _. place_seen place.new ≡ with_parameters list.now (place_seen place.old)) }
 {
     let mut list = list;
@@ -124,10 +125,10 @@ pub fn typed_function<'p>(
     alloc: Global,
     declarations: &Declarations<'p>,
     function: &'p Function,
-) -> Result<TypedFunction, ResolveError>
+) -> Result<TypedFunction, ResolveErr>
     ensures { Answers typed_function_tree result (typed_function (declared declarations.now) (function_tree function.now)) }
 {
-    let mut place = Place::new(alloc);
+    let mut place = FunctionScope::new(alloc);
     parameters(&mut place, &function.parameters)?;
     let body = statements(alloc, declarations, &mut place, &function.body.statements)?;
     let slots = slots_written(alloc, declarations, &function.variables, &place.slots)?;
@@ -147,7 +148,7 @@ pub fn typed_function<'p>(
 pub fn typed_functions<'p>(
     alloc: Global,
     declarations: &Declarations<'p>,
-) -> Result<Vec<TypedFunction>, ResolveError>
+) -> Result<Vec<TypedFunction>, ResolveErr>
     ensures { Answers functions_seen result (typed_functions (declared declarations.now) (map tree_at declarations.now.functions.items)) }
 {
     let mut made = Vec::new(alloc);

@@ -8,7 +8,7 @@ mod functions;
 mod order;
 mod place;
 mod program;
-mod resolve_error;
+mod resolve_err;
 mod simple_statements;
 mod sizes;
 mod statements;
@@ -16,4 +16,4 @@ mod values;
 mod variables;
 
 pub use program::resolve;
-pub use resolve_error::ResolveError;
+pub use resolve_err::ResolveErr;

@@ -3,10 +3,11 @@ ghost use Rattle.std.specs.Prelude.{◌≡◌, IfOk, map, option_map};
 ghost use Rattle.secrec_ast.specs.Tree.{expression, trees_of};
 ghost use Rattle.secrec_ast.specs.Statements.{statement, statements_of, optional, declaration_tree, assignment_tree, start_tree, step_tree};
 ghost use Rattle.domain_types.specs.Views.{declared, tree_at};
-ghost use Rattle.name_resolution.specs.Order.{called_in, called_in_all, called_in_optional, called_in_declaration, called_in_assignment, called_in_start, called_in_step, called_by, called_by_all, read_one, reached};
-ghost use Rattle.name_resolution.specs.Views.{found_seen};
+ghost use Rattle.name_resolution.specs.Order.{called_in, called_in_all, called_in_optional, called_in_declaration, called_in_assignment};
+ghost use Rattle.name_resolution.specs.Order.{called_in_start, called_in_step, called_by, called_by_all, read_one, reached};
+ghost use Rattle.name_resolution.specs.inner.Views.{found_seen};
 
-use crate::found::Found;
+use crate::found::CalledFunctions;
 use domain_types::Declarations;
 use secrec_ast::{Assignment, Declaration, Expression, ForStart, ForStep, Function, Statement};
 use std::alloc::{AllocError, Global};
@@ -14,10 +15,10 @@ use std::alloc::{AllocError, Global};
 // These functions and those that an expression calls.
 #[cycle(expressions)]
 fn in_expression<'p>(
-    found: Found<'p>,
+    found: CalledFunctions<'p>,
     declarations: &Declarations<'p>,
     e: &'p Expression,
-) -> Result<Found<'p>, AllocError>
+) -> Result<CalledFunctions<'p>, AllocError>
     ensures { IfOk result (λ f. found_seen f ≡ called_in (declared declarations.now) (found_seen found.entry) (expression e.now)) }
 {
     match e {
@@ -43,10 +44,10 @@ fn in_expression<'p>(
 
 #[cycle(expressions)]
 fn in_expressions<'p>(
-    found: Found<'p>,
+    found: CalledFunctions<'p>,
     declarations: &Declarations<'p>,
     list: &'p Vec<Expression>,
-) -> Result<Found<'p>, AllocError>
+) -> Result<CalledFunctions<'p>, AllocError>
     ensures { IfOk result (λ f. found_seen f ≡ called_in_all (declared declarations.now) (found_seen found.entry) (trees_of (map expression list.now.items))) }
 {
     let mut found = found;
@@ -57,10 +58,10 @@ fn in_expressions<'p>(
 }
 
 fn in_optional<'p>(
-    found: Found<'p>,
+    found: CalledFunctions<'p>,
     declarations: &Declarations<'p>,
     e: &'p Option<Expression>,
-) -> Result<Found<'p>, AllocError>
+) -> Result<CalledFunctions<'p>, AllocError>
     ensures { IfOk result (λ f. found_seen f ≡ called_in_optional (declared declarations.now) (found_seen found.entry) (optional e.now)) }
 {
     match e {
@@ -70,10 +71,10 @@ fn in_optional<'p>(
 }
 
 fn in_declaration<'p>(
-    found: Found<'p>,
+    found: CalledFunctions<'p>,
     declarations: &Declarations<'p>,
     d: &'p Declaration,
-) -> Result<Found<'p>, AllocError>
+) -> Result<CalledFunctions<'p>, AllocError>
     ensures { IfOk result (λ f. found_seen f ≡ called_in_declaration (declared declarations.now) (found_seen found.entry) (declaration_tree d.now)) }
 {
     let found = in_optional(found, declarations, &d.size)?;
@@ -81,10 +82,10 @@ fn in_declaration<'p>(
 }
 
 fn in_assignment<'p>(
-    found: Found<'p>,
+    found: CalledFunctions<'p>,
     declarations: &Declarations<'p>,
     a: &'p Assignment,
-) -> Result<Found<'p>, AllocError>
+) -> Result<CalledFunctions<'p>, AllocError>
     ensures { IfOk result (λ f. found_seen f ≡ called_in_assignment (declared declarations.now) (found_seen found.entry) (assignment_tree a.now)) }
 {
     let found = in_optional(found, declarations, &a.target.index)?;
@@ -92,10 +93,10 @@ fn in_assignment<'p>(
 }
 
 fn in_start<'p>(
-    found: Found<'p>,
+    found: CalledFunctions<'p>,
     declarations: &Declarations<'p>,
     start: &'p ForStart,
-) -> Result<Found<'p>, AllocError>
+) -> Result<CalledFunctions<'p>, AllocError>
     ensures { IfOk result (λ f. found_seen f ≡ called_in_start (declared declarations.now) (found_seen found.entry) (start_tree start.now)) }
 {
     match start {
@@ -106,10 +107,10 @@ fn in_start<'p>(
 }
 
 fn in_step<'p>(
-    found: Found<'p>,
+    found: CalledFunctions<'p>,
     declarations: &Declarations<'p>,
     step: &'p ForStep,
-) -> Result<Found<'p>, AllocError>
+) -> Result<CalledFunctions<'p>, AllocError>
     ensures { IfOk result (λ f. found_seen f ≡ called_in_step (declared declarations.now) (found_seen found.entry) (step_tree step.now)) }
 {
     match step {
@@ -122,10 +123,10 @@ fn in_step<'p>(
 // These functions and those that a statement calls.
 #[cycle(statements)]
 fn in_statement<'p>(
-    found: Found<'p>,
+    found: CalledFunctions<'p>,
     declarations: &Declarations<'p>,
     s: &'p Statement,
-) -> Result<Found<'p>, AllocError>
+) -> Result<CalledFunctions<'p>, AllocError>
     ensures { IfOk result (λ f. found_seen f ≡ called_by (declared declarations.now) (found_seen found.entry) (statement s.now)) }
 {
     match s {
@@ -159,11 +160,12 @@ fn in_statement<'p>(
 
 #[cycle(statements)]
 fn in_statements<'p>(
-    found: Found<'p>,
+    found: CalledFunctions<'p>,
     declarations: &Declarations<'p>,
     list: &'p Vec<Statement>,
-) -> Result<Found<'p>, AllocError>
-    ensures { IfOk result (λ f. found_seen f ≡ called_by_all (declared declarations.now) (found_seen found.entry) (statements_of (map statement list.now.items))) }
+) -> Result<CalledFunctions<'p>, AllocError>
+    ensures { IfOk result (λ f. found_seen f
+        ≡ called_by_all (declared declarations.now) (found_seen found.entry) (statements_of (map statement list.now.items))) }
 {
     let mut found = found;
     for each in list {
@@ -174,10 +176,10 @@ fn in_statements<'p>(
 
 // These functions and those that one of them calls.
 fn read_one<'p>(
-    found: Found<'p>,
+    found: CalledFunctions<'p>,
     declarations: &Declarations<'p>,
     function: Option<&'p Function>,
-) -> Result<Found<'p>, AllocError>
+) -> Result<CalledFunctions<'p>, AllocError>
     ensures { IfOk result (λ f. found_seen f ≡ read_one (declared declarations.now) (found_seen found.entry) (option_map tree_at function.entry)) }
 {
     match function {
@@ -187,10 +189,13 @@ fn read_one<'p>(
 }
 
 /// The functions that are reached from `main`.
-pub fn reached<'p>(alloc: Global, declarations: &Declarations<'p>) -> Result<Found<'p>, AllocError>
+pub fn reached<'p>(
+    alloc: Global,
+    declarations: &Declarations<'p>,
+) -> Result<CalledFunctions<'p>, AllocError>
     ensures { IfOk result (λ f. found_seen f ≡ reached (declared declarations.now)) }
 {
-    let mut found = Found::new(alloc).with_callee(declarations, "main")?;
+    let mut found = CalledFunctions::new(alloc).with_callee(declarations, "main")?;
     for number in 0..declarations.functions.len() {
         let next = found.functions.get(number).copied();
         found = read_one(found, declarations, next)?;

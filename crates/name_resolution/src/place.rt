@@ -1,7 +1,7 @@
 // Where a piece of a function stands.
 ghost use Rattle.std.specs.Prelude.{◌≡◌, ◌≤◌, length, IfOk};
 ghost use Rattle.name_resolution.specs.Scopes.{no_place, declaring, entering, left};
-ghost use Rattle.name_resolution.specs.Views.{place_seen};
+ghost use Rattle.name_resolution.specs.inner.Views.{place_seen};
 
 use crate::values::shape_written;
 use crate::variables::{Known, Variables};
@@ -9,16 +9,16 @@ use secrec_ast::{DeclaredType, Identifier};
 use std::alloc::{AllocError, Global};
 
 /// The variables that are known at a place of a function, and the types of the slots that were declared before it.
-pub struct Place<'p> {
+pub struct FunctionScope<'p> {
     pub variables: Variables<'p>,
     pub slots: Vec<&'p DeclaredType>,
 }
 
 // Written out, as that of `Variables`.
-impl Drop for Place<'_> {
+impl Drop for FunctionScope<'_> {
     fn drop(self) {
         match self {
-            Place {
+            FunctionScope {
                 variables: _,
                 slots: _,
             } => {}
@@ -26,12 +26,12 @@ impl Drop for Place<'_> {
     }
 }
 
-impl<'p> Place<'p> {
+impl<'p> FunctionScope<'p> {
     /// Where nothing has been declared.
-    pub fn new(alloc: Global) -> Place<'p>
+    pub fn new(alloc: Global) -> FunctionScope<'p>
         ensures { place_seen result ≡ no_place }
     {
-        Place {
+        FunctionScope {
             variables: Variables::new(alloc),
             slots: Vec::new(alloc),
         }

@@ -8,7 +8,7 @@ ghost use Rattle.typed_tree.specs.Sound.{IsSound};
 
 use crate::functions::typed_functions;
 use crate::order::reached;
-use crate::resolve_error::ResolveError;
+use crate::resolve_err::ResolveErr;
 use domain_types::collect;
 use secrec_ast::Program;
 use std::alloc::Global;
@@ -20,7 +20,7 @@ use typed_tree::TypedProgram;
 ///
 /// `Unresolved` comes only where the program has no typed tree, and `Memory` where memory runs short. `type_program` of the crate
 /// `program_typing` asks the checker first, and then never finds a program unresolved.
-pub fn resolve(alloc: Global, program: &Program) -> Result<TypedProgram, ResolveError>
+pub fn resolve(alloc: Global, program: &Program) -> Result<TypedProgram, ResolveErr>
     ensures exact { Answers typed_program_tree result (typed_of (program_tree program.now)) }
     ensures sound { IfOk result (λ t. IsSound (typed_program_tree t)) }
 {

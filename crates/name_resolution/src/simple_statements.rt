@@ -5,13 +5,14 @@ ghost use Rattle.secrec_ast.specs.Statements.{optional, declaration_tree, assign
 ghost use Rattle.domain_types.specs.Views.{declared};
 ghost use Rattle.typed_tree.specs.Tree.{typed_tree};
 ghost use Rattle.typed_tree.specs.Commands.{command};
-ghost use Rattle.name_resolution.specs.Resolving.{value_at, known_at};
-ghost use Rattle.name_resolution.specs.Bodies.{evaluated, default_of, from_value, initial, declared as declared_at, assigned_to, assigned, started, stepped, condition_of, returned};
+ghost use Rattle.name_resolution.specs.Resolving.{resolved_value, known_at};
+ghost use Rattle.name_resolution.specs.Bodies.{evaluated, default_of, from_value, initial, declared as declared_at, assigned_to, assigned, started};
+ghost use Rattle.name_resolution.specs.Bodies.{stepped, condition_of, returned};
 ghost use Rattle.name_resolution.specs.Answer.{Answers};
-ghost use Rattle.name_resolution.specs.Views.{place_seen, with_place};
+ghost use Rattle.name_resolution.specs.inner.Views.{place_seen, with_place};
 
-use crate::place::Place;
-use crate::resolve_error::ResolveError;
+use crate::place::FunctionScope;
+use crate::resolve_err::ResolveErr;
 use crate::values::{call, value};
 use crate::variables::Known;
 use domain_types::Declarations;
@@ -23,22 +24,22 @@ use typed_tree::{TypedExpression, TypedStatement};
 pub fn expression<'p>(
     alloc: Global,
     declarations: &Declarations<'p>,
-    place: &Place<'p>,
+    place: &FunctionScope<'p>,
     e: &'p Expression,
-) -> Result<TypedExpression, ResolveError>
-    ensures { Answers typed_tree result (value_at (declared declarations.now) (expression e.now) (place_seen place.now)) }
+) -> Result<TypedExpression, ResolveErr>
+    ensures { Answers typed_tree result (resolved_value (declared declarations.now) (expression e.now) (place_seen place.now)) }
 {
     let value = value(alloc, declarations, &place.variables, e)?;
     Ok(value.tree)
 }
 
 // The variable of a name.
-fn named<'p>(place: &Place<'p>, name: &'p str) -> Result<Known, ResolveError>
+fn named<'p>(place: &FunctionScope<'p>, name: &'p str) -> Result<Known, ResolveErr>
     ensures { Answers (λ k. k) result (known_at name.now (place_seen place.now)) }
 {
     match place.variables.find(name) {
         Some(known) => Ok(known),
-        None => Err(ResolveError::Unresolved),
+        None => Err(ResolveErr::Unresolved),
     }
 }
 
@@ -46,9 +47,9 @@ fn named<'p>(place: &Place<'p>, name: &'p str) -> Result<Known, ResolveError>
 pub fn evaluated<'p>(
     alloc: Global,
     declarations: &Declarations<'p>,
-    place: &Place<'p>,
+    place: &FunctionScope<'p>,
     e: &'p Expression,
-) -> Result<TypedStatement, ResolveError>
+) -> Result<TypedStatement, ResolveErr>
     ensures { Answers (with_place command (place_seen place.now)) result (evaluated (declared declarations.now) (expression e.now) (place_seen place.now)) }
 {
     match e {
@@ -88,11 +89,12 @@ fn default_of(element: DataType) -> TypedExpression
 fn from_value<'p>(
     alloc: Global,
     declarations: &Declarations<'p>,
-    place: &Place<'p>,
+    place: &FunctionScope<'p>,
     slot: usize,
     e: &'p Expression,
-) -> Result<TypedStatement, ResolveError>
-    ensures { Answers (with_place command (place_seen place.now)) result (from_value (declared declarations.now) slot (expression e.now) (place_seen place.now)) }
+) -> Result<TypedStatement, ResolveErr>
+    ensures { Answers (with_place command (place_seen place.now)) result
+        (from_value (declared declarations.now) slot (expression e.now) (place_seen place.now)) }
 {
     match e {
         Expression::Argument(at, name) => {
@@ -109,12 +111,13 @@ fn from_value<'p>(
 fn initial<'p>(
     alloc: Global,
     declarations: &Declarations<'p>,
-    place: &Place<'p>,
+    place: &FunctionScope<'p>,
     slot: usize,
     d: &'p Declaration,
-) -> Result<TypedStatement, ResolveError>
+) -> Result<TypedStatement, ResolveErr>
     ensures { Answers (with_place command (place_seen place.now)) result
-        (initial (declared declarations.now) d.now.declared.place.line slot d.now.declared.element (optional d.now.size) (optional d.now.value) (place_seen place.now)) }
+        (initial (declared declarations.now) d.now.declared.place.line slot d.now.declared.element (optional d.now.size) (optional d.now.value)
+        (place_seen place.now)) }
 {
     let line = d.declared.place.line;
     match (&d.size, &d.value) {
@@ -136,10 +139,11 @@ fn initial<'p>(
 pub fn declared<'p>(
     alloc: Global,
     declarations: &Declarations<'p>,
-    place: &mut Place<'p>,
+    place: &mut FunctionScope<'p>,
     d: &'p Declaration,
-) -> Result<TypedStatement, ResolveError>
-    ensures made { Answers (with_place command (place_seen place.new)) result (declared_at (declared declarations.now) (declaration_tree d.now) (place_seen place.old)) }
+) -> Result<TypedStatement, ResolveErr>
+    ensures made { Answers (with_place command (place_seen place.new)) result
+        (declared_at (declared declarations.now) (declaration_tree d.now) (place_seen place.old)) }
     ensures outer { IfOk result (λ _. (place_seen place.new).scope.outer ≡ (place_seen place.old).scope.outer) }
 {
     let slot = place.slots.len();
@@ -152,12 +156,13 @@ pub fn declared<'p>(
 fn assigned_to<'p>(
     alloc: Global,
     declarations: &Declarations<'p>,
-    place: &Place<'p>,
+    place: &FunctionScope<'p>,
     slot: usize,
     a: &'p Assignment,
-) -> Result<TypedStatement, ResolveError>
+) -> Result<TypedStatement, ResolveErr>
     ensures { Answers (with_place command (place_seen place.now)) result
-        (assigned_to (declared declarations.now) a.now.target.variable.place.line slot (optional a.now.target.index) (expression a.now.value) (place_seen place.now)) }
+        (assigned_to (declared declarations.now) a.now.target.variable.place.line slot (optional a.now.target.index) (expression a.now.value)
+        (place_seen place.now)) }
 {
     match &a.target.index {
         None => {
@@ -177,9 +182,9 @@ fn assigned_to<'p>(
 pub fn assigned<'p>(
     alloc: Global,
     declarations: &Declarations<'p>,
-    place: &Place<'p>,
+    place: &FunctionScope<'p>,
     a: &'p Assignment,
-) -> Result<TypedStatement, ResolveError>
+) -> Result<TypedStatement, ResolveErr>
     ensures { Answers (with_place command (place_seen place.now)) result (assigned (declared declarations.now) (assignment_tree a.now) (place_seen place.now)) }
 {
     let known = named(place, a.target.variable.text.as_str())?;
@@ -190,10 +195,11 @@ pub fn assigned<'p>(
 pub fn started<'p>(
     alloc: Global,
     declarations: &Declarations<'p>,
-    place: &mut Place<'p>,
+    place: &mut FunctionScope<'p>,
     start: &'p ForStart,
-) -> Result<TypedStatement, ResolveError>
-    ensures made { Answers (with_place command (place_seen place.new)) result (started (declared declarations.now) (start_tree start.now) (place_seen place.old)) }
+) -> Result<TypedStatement, ResolveErr>
+    ensures made { Answers (with_place command (place_seen place.new)) result
+        (started (declared declarations.now) (start_tree start.now) (place_seen place.old)) }
     ensures outer { IfOk result (λ _. (place_seen place.new).scope.outer ≡ (place_seen place.old).scope.outer) }
 {
     match start {
@@ -207,9 +213,9 @@ pub fn started<'p>(
 pub fn stepped<'p>(
     alloc: Global,
     declarations: &Declarations<'p>,
-    place: &Place<'p>,
+    place: &FunctionScope<'p>,
     step: &'p ForStep,
-) -> Result<TypedStatement, ResolveError>
+) -> Result<TypedStatement, ResolveErr>
     ensures { Answers (with_place command (place_seen place.now)) result (stepped (declared declarations.now) (step_tree step.now) (place_seen place.now)) }
 {
     match step {
@@ -223,9 +229,9 @@ pub fn stepped<'p>(
 pub fn condition_of<'p>(
     alloc: Global,
     declarations: &Declarations<'p>,
-    place: &Place<'p>,
+    place: &FunctionScope<'p>,
     e: &'p Option<Expression>,
-) -> Result<TypedExpression, ResolveError>
+) -> Result<TypedExpression, ResolveErr>
     ensures { Answers (with_place typed_tree (place_seen place.now)) result (condition_of (declared declarations.now) (optional e.now) (place_seen place.now)) }
 {
     match e {
@@ -238,9 +244,9 @@ pub fn condition_of<'p>(
 pub fn returned<'p>(
     alloc: Global,
     declarations: &Declarations<'p>,
-    place: &Place<'p>,
+    place: &FunctionScope<'p>,
     e: &'p Option<Expression>,
-) -> Result<TypedStatement, ResolveError>
+) -> Result<TypedStatement, ResolveErr>
     ensures { Answers (with_place command (place_seen place.now)) result (returned (declared declarations.now) (optional e.now) (place_seen place.now)) }
 {
     match e {

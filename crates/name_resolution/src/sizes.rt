@@ -3,7 +3,8 @@ ghost use Rattle.std.specs.Prelude.{ℕ, ◌≡◌, ◌+◌, length, map};
 ghost use Rattle.secrec_ast.specs.Tree.{expression, trees_of};
 ghost use Rattle.secrec_ast.specs.Statements.{statement, statements_of, optional, declaration_tree, assignment_tree, start_tree, step_tree};
 ghost use Rattle.secrec_ast.specs.Programs.{function_tree};
-ghost use Rattle.name_resolution.specs.Sizes.{nodes, nodes_all, optional_nodes, declaration_nodes, assignment_nodes, start_nodes, step_nodes, statement_nodes, statements_nodes, counted, size_of};
+ghost use Rattle.name_resolution.specs.Sizes.{nodes, nodes_all, optional_nodes, declaration_nodes, assignment_nodes, start_nodes, step_nodes};
+ghost use Rattle.name_resolution.specs.Sizes.{statement_nodes, statements_nodes, counted, size_of};
 
 use secrec_ast::{Assignment, Declaration, Expression, ForStart, ForStep, Function, Statement};
 

@@ -6,10 +6,10 @@ ghost use Rattle.typed_tree.specs.Commands.{command};
 ghost use Rattle.name_resolution.specs.Resolving.{in_block};
 ghost use Rattle.name_resolution.specs.Bodies.{looped, resolved, resolved_all};
 ghost use Rattle.name_resolution.specs.Answer.{Answers};
-ghost use Rattle.name_resolution.specs.Views.{place_seen, with_place, command_in, commands_seen};
+ghost use Rattle.name_resolution.specs.inner.Views.{place_seen, with_place, command_in, commands_seen};
 
-use crate::place::Place;
-use crate::resolve_error::ResolveError;
+use crate::place::FunctionScope;
+use crate::resolve_err::ResolveErr;
 use crate::simple_statements::{
     assigned, condition_of, declared, evaluated, expression, returned, started, stepped,
 };
@@ -23,9 +23,9 @@ use typed_tree::TypedStatement;
 pub fn statements<'p>(
     alloc: Global,
     declarations: &Declarations<'p>,
-    place: &mut Place<'p>,
+    place: &mut FunctionScope<'p>,
     list: &'p Vec<Statement>,
-) -> Result<Vec<TypedStatement>, ResolveError>
+) -> Result<Vec<TypedStatement>, ResolveErr>
     ensures made { Answers (with_place commands_seen (place_seen place.new)) result
         (resolved_all (declared declarations.now) (statements_of (map statement list.now.items)) (place_seen place.old)) }
     ensures outer { IfOk result (λ _. (place_seen place.new).scope.outer ≡ (place_seen place.old).scope.outer) }
@@ -43,9 +43,9 @@ pub fn statements<'p>(
 pub fn statement<'p>(
     alloc: Global,
     declarations: &Declarations<'p>,
-    place: &mut Place<'p>,
+    place: &mut FunctionScope<'p>,
     s: &'p Statement,
-) -> Result<TypedStatement, ResolveError>
+) -> Result<TypedStatement, ResolveErr>
     ensures made { Answers (with_place command (place_seen place.new)) result (resolved (declared declarations.now) (statement s.now) (place_seen place.old)) }
     ensures outer { IfOk result (λ _. (place_seen place.new).scope.outer ≡ (place_seen place.old).scope.outer) }
 {
@@ -104,9 +104,9 @@ pub fn statement<'p>(
 fn inside<'p>(
     alloc: Global,
     declarations: &Declarations<'p>,
-    place: &mut Place<'p>,
+    place: &mut FunctionScope<'p>,
     s: &'p Statement,
-) -> Result<Box<TypedStatement>, ResolveError>
+) -> Result<Box<TypedStatement>, ResolveErr>
     ensures made { Answers (with_place command_in (place_seen place.new)) result
         (in_block (resolved (declared declarations.now) (statement s.now)) (place_seen place.old)) }
     ensures outer { IfOk result (λ _. (place_seen place.new).scope.outer ≡ (place_seen place.old).scope.outer) }
@@ -122,14 +122,15 @@ fn inside<'p>(
 fn looped<'p>(
     alloc: Global,
     declarations: &Declarations<'p>,
-    place: &mut Place<'p>,
+    place: &mut FunctionScope<'p>,
     start: &'p ForStart,
     e: &'p Option<Expression>,
     step: &'p ForStep,
     body: &'p Statement,
-) -> Result<TypedStatement, ResolveError>
+) -> Result<TypedStatement, ResolveErr>
     ensures made { Answers (with_place command (place_seen place.new)) result
-        (looped (declared declarations.now) (start_tree start.now) (optional e.now) (step_tree step.now) (resolved (declared declarations.now) (statement body.now)) (place_seen place.old)) }
+        (looped (declared declarations.now) (start_tree start.now) (optional e.now) (step_tree step.now)
+        (resolved (declared declarations.now) (statement body.now)) (place_seen place.old)) }
     ensures outer { IfOk result (λ _. (place_seen place.new).scope.outer ≡ (place_seen place.old).scope.outer) }
 {
     let start = started(alloc, declarations, place, start)?;

@@ -7,12 +7,14 @@ ghost use Rattle.domain_types.specs.Views.{declared};
 ghost use Rattle.typed_tree.specs.Tree.{typed_tree};
 ghost use Rattle.name_resolution.specs.Scopes.{variable_named, shape_written};
 ghost use Rattle.typed_tree.specs.Operators.{operands_of, may_cut_short};
-ghost use Rattle.name_resolution.specs.Values.{made, of_both, only, pair, variable_value, element_value, negated, cast_value, declassified_value, operation_node, operation, shape_returned, tree_of_value, built_in_value, called, value, values, call_made};
+ghost use Rattle.name_resolution.specs.Values.{made, of_both, only, pair, variable_value, element_value, negated, cast_value, declassified_value};
+ghost use Rattle.name_resolution.specs.Values.{operation_node, operation, shape_returned, tree_of_value, built_in_value, called, value, values};
+ghost use Rattle.name_resolution.specs.Values.{call_made};
 ghost use Rattle.name_resolution.specs.Answer.{Answers};
-ghost use Rattle.name_resolution.specs.Views.{valued, values_seen, pair_seen, call_seen};
+ghost use Rattle.name_resolution.specs.inner.Views.{valued, values_seen, pair_seen, call_seen};
 
 use crate::choosing::{cast_between, may_cut_short, operands_of, operator_on};
-use crate::resolve_error::ResolveError;
+use crate::resolve_err::ResolveErr;
 use crate::variables::Variables;
 use domain_types::{BuiltIn, Called, Declarations};
 use secrec_ast::{DataType, DeclaredType, Expression, Function, Operator, ResultType};
@@ -45,7 +47,7 @@ fn scalar(tree: TypedExpression, element: DataType) -> Valued
     }
 }
 
-fn variable<'p>(variables: &Variables<'p>, name: &'p str) -> Result<Valued, ResolveError>
+fn variable<'p>(variables: &Variables<'p>, name: &'p str) -> Result<Valued, ResolveErr>
     ensures { Answers valued result (option_map variable_value (variable_named variables.now name.now)) }
 {
     match variables.find(name) {
@@ -53,16 +55,11 @@ fn variable<'p>(variables: &Variables<'p>, name: &'p str) -> Result<Valued, Reso
             tree: TypedExpression::Variable(known.slot),
             shape: known.shape,
         }),
-        None => Err(ResolveError::Unresolved),
+        None => Err(ResolveErr::Unresolved),
     }
 }
 
-fn element(
-    alloc: Global,
-    line: u32,
-    array: Valued,
-    position: Valued,
-) -> Result<Valued, ResolveError>
+fn element(alloc: Global, line: u32, array: Valued, position: Valued) -> Result<Valued, ResolveErr>
     ensures { Answers valued result (element_value line (valued array) (valued position)) }
 {
     let position = Box::new(alloc, position.tree)?;
@@ -71,7 +68,7 @@ fn element(
     Ok(scalar(TypedExpression::Element(line, array, position), element))
 }
 
-fn negated(alloc: Global, operand: Valued) -> Result<Valued, ResolveError>
+fn negated(alloc: Global, operand: Valued) -> Result<Valued, ResolveErr>
     ensures { Answers valued result (Some (negated (valued operand))) }
 {
     let shape = operand.shape;
@@ -79,7 +76,7 @@ fn negated(alloc: Global, operand: Valued) -> Result<Valued, ResolveError>
     Ok(Valued { tree, shape })
 }
 
-fn cast(alloc: Global, element: DataType, operand: Valued) -> Result<Valued, ResolveError>
+fn cast(alloc: Global, element: DataType, operand: Valued) -> Result<Valued, ResolveErr>
     ensures { Answers valued result (Some (cast_value element (valued operand))) }
 {
     let shape = operand.shape;
@@ -94,7 +91,7 @@ fn cast(alloc: Global, element: DataType, operand: Valued) -> Result<Valued, Res
     })
 }
 
-fn declassified(alloc: Global, operand: Valued) -> Result<Valued, ResolveError>
+fn declassified(alloc: Global, operand: Valued) -> Result<Valued, ResolveErr>
     ensures { Answers valued result (Some (declassified_value (valued operand))) }
 {
     let shape = operand.shape;
@@ -129,11 +126,11 @@ fn operation(
     sign: Operator,
     left: Valued,
     right: Valued,
-) -> Result<Valued, ResolveError>
+) -> Result<Valued, ResolveErr>
     ensures { Answers valued result (operation line sign (valued left) (valued right)) }
 {
     match operator_on(sign, left.shape.element, right.shape.element) {
-        None => Err(ResolveError::Unresolved),
+        None => Err(ResolveErr::Unresolved),
         Some(operator) => {
             let shape = Shape {
                 element: operator.result(),
@@ -165,7 +162,7 @@ fn shape_returned(returned: &ResultType) -> Option<Shape>
 }
 
 // The one value.
-fn only(values: Vec<Valued>) -> Result<Valued, ResolveError>
+fn only(values: Vec<Valued>) -> Result<Valued, ResolveErr>
     ensures { Answers valued result (only (map valued values.items)) }
 {
     let mut values = values;
@@ -173,14 +170,14 @@ fn only(values: Vec<Valued>) -> Result<Valued, ResolveError>
         Some(value) => if values.is_empty() {
             Ok(value)
         } else {
-            Err(ResolveError::Unresolved)
+            Err(ResolveErr::Unresolved)
         },
-        None => Err(ResolveError::Unresolved),
+        None => Err(ResolveErr::Unresolved),
     }
 }
 
 // The two values.
-fn pair(values: Vec<Valued>) -> Result<(Valued, Valued), ResolveError>
+fn pair(values: Vec<Valued>) -> Result<(Valued, Valued), ResolveErr>
     ensures { Answers pair_seen result (pair (map valued values.items)) }
 {
     let mut values = values;
@@ -189,7 +186,7 @@ fn pair(values: Vec<Valued>) -> Result<(Valued, Valued), ResolveError>
             let first = only(values)?;
             Ok((first, second))
         }
-        None => Err(ResolveError::Unresolved),
+        None => Err(ResolveErr::Unresolved),
     }
 }
 
@@ -198,7 +195,7 @@ fn built_in(
     line: u32,
     function: BuiltIn,
     arguments: Vec<Valued>,
-) -> Result<Valued, ResolveError>
+) -> Result<Valued, ResolveErr>
     ensures { Answers valued result (built_in_value line function (map valued arguments.items)) }
 {
     match function {
@@ -254,11 +251,11 @@ fn defined_call(
     number: usize,
     function: &Function,
     arguments: Vec<Valued>,
-) -> Result<CallMade, ResolveError>
+) -> Result<CallMade, ResolveErr>
     ensures { Answers call_seen result (called line (defined number (function_tree function.now)) (map valued arguments.items)) }
 {
     if function.parameters.len() != arguments.len() {
-        return Err(ResolveError::Unresolved);
+        return Err(ResolveErr::Unresolved);
     }
     let trees = trees(alloc, arguments)?;
     Ok(CallMade {
@@ -273,11 +270,11 @@ fn called<'p>(
     line: u32,
     name: &'p str,
     arguments: Vec<Valued>,
-) -> Result<CallMade, ResolveError>
+) -> Result<CallMade, ResolveErr>
     ensures { Answers call_seen result (of_both (called line) (callee (declared declarations.now) name.now) (Some (map valued arguments.items))) }
 {
     match declarations.callee(name) {
-        None => Err(ResolveError::Unresolved),
+        None => Err(ResolveErr::Unresolved),
         Some(Called::BuiltIn(function)) => {
             let value = built_in(alloc, line, function, arguments)?;
             Ok(CallMade {
@@ -298,7 +295,7 @@ pub fn value<'p>(
     declarations: &Declarations<'p>,
     variables: &Variables<'p>,
     e: &'p Expression,
-) -> Result<Valued, ResolveError>
+) -> Result<Valued, ResolveErr>
     ensures { Answers valued result (value (declared declarations.now) variables.now (expression e.now)) }
 {
     match e {
@@ -321,7 +318,7 @@ pub fn value<'p>(
                     tree: made.tree,
                     shape,
                 }),
-                None => Err(ResolveError::Unresolved),
+                None => Err(ResolveErr::Unresolved),
             }
         }
         Expression::Index(place, array, position) => {
@@ -347,7 +344,7 @@ pub fn value<'p>(
             let operand = value(alloc, declarations, variables, operand)?;
             declassified(alloc, operand)
         }
-        Expression::Argument(_, _) | Expression::Publish(_, _, _) => Err(ResolveError::Unresolved),
+        Expression::Argument(_, _) | Expression::Publish(_, _, _) => Err(ResolveErr::Unresolved),
     }
 }
 
@@ -358,7 +355,7 @@ fn values<'p>(
     declarations: &Declarations<'p>,
     variables: &Variables<'p>,
     list: &'p Vec<Expression>,
-) -> Result<Vec<Valued>, ResolveError>
+) -> Result<Vec<Valued>, ResolveErr>
     ensures { Answers values_seen result (values (declared declarations.now) variables.now (trees_of (map expression list.now.items))) }
 {
     let mut found = Vec::new(alloc);
@@ -378,7 +375,7 @@ pub fn call<'p>(
     line: u32,
     name: &'p str,
     arguments: &'p Vec<Expression>,
-) -> Result<CallMade, ResolveError>
+) -> Result<CallMade, ResolveErr>
     ensures { Answers call_seen result (call_made (declared declarations.now) variables.now line name.now (trees_of (map expression arguments.now.items))) }
 {
     let values = values(alloc, declarations, variables, arguments)?;

@@ -23,7 +23,7 @@ pub struct Latest {
 
 /// A variable, with the one of the same name that it hides.
 #[derive(Clone, Copy)]
-pub struct Entry<'p> {
+pub struct VariableEntry<'p> {
     name: &'p str,
     known: Known,
     hidden: Option<Latest>,
@@ -31,7 +31,7 @@ pub struct Entry<'p> {
 
 /// The variables that are known at a place. Clauses see the scope: the variables of the innermost block and those around it.
 pub struct Variables<'p> {
-    entries: Vec<Entry<'p>>,
+    entries: Vec<VariableEntry<'p>>,
     latest: BTreeMap<&'p str, Latest>,
     // how many entries are of the blocks around the innermost one
     outer: usize,
@@ -55,7 +55,7 @@ impl<'p> Model for Variables<'p> {
 
     ghost Value = { Scope };
 
-    ghost use Rattle.name_resolution.specs.Table.{scope_of, IsTable};
+    ghost use Rattle.name_resolution.specs.inner.Table.{scope_of, IsTable};
 
     ghost view = { scope_of };
 
@@ -100,7 +100,7 @@ impl<'p> Variables<'p> {
     {
         let number = self.entries.len();
         let hidden = self.latest.get(&name).copied();
-        self.entries.push(Entry {
+        self.entries.push(VariableEntry {
             name,
             known,
             hidden,

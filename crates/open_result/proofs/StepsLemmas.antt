@@ -29,7 +29,8 @@ module _ (r : Ring) (i : Number) where
   pub masked_waits : (state : List ℕ × List ℕ) → left_masked r i state ≡ Waits (from_previous i) (one_field (length state.0)) (after_masked r i state)
   masked_waits state = refl
 
-  pub from_previous_waits : (state : List ℕ × List ℕ) → left_from_previous r i state ≡ Waits (from_previous i) (one_field (length state.0)) (after_from_previous r i state)
+  pub from_previous_waits : (state : List ℕ × List ℕ)
+      → left_from_previous r i state ≡ Waits (from_previous i) (one_field (length state.0)) (after_from_previous r i state)
   from_previous_waits state = refl
 
   pub from_next_waits : (state : List ℕ × List ℕ) → left_from_next r i state ≡ Waits (from_next i) (one_field (length state.0)) (after_from_next r state)

@@ -14,7 +14,8 @@ use Rattle.proto_core.specs.Protocol.{Joint, Fits, with_words, strands_of, AreMe
 use Rattle.proto_core.specs.Resharing.{reshared, reshared_of, sum_of_three}
 use Rattle.proto_core.proofs.Beginnings.{append-none}
 use Rattle.proto_core.proofs.MessageFields.{accepts-one_words}
-use Rattle.proto_core.proofs.ResharingLaws.{length-sum_of_three, AreWords-sum_of_three, length-reshared, AreWords-reshared, reshared-twice, left_over, swap_last, swap_first, swap_ends, sum-reshared}
+use Rattle.proto_core.proofs.ResharingLaws.{length-sum_of_three, AreWords-sum_of_three, length-reshared, AreWords-reshared, reshared-twice, left_over}
+use Rattle.proto_core.proofs.ResharingLaws.{swap_last, swap_first, swap_ends, sum-reshared}
 use Rattle.reshare.specs.Resharing.{one_field}
 use Rattle.open_result.specs.Opening.{open_protocol, open_script, open_strand, open_messages, open_tape, open_received, left_of_opened, opened_words, Opens}
 use Rattle.open_result.specs.OpeningRuns.{open-run, open-finishes}
@@ -128,23 +129,28 @@ module _ {r : Ring} (laws : RingLaws r) where
   tape-tape n Three j fits Two = refl
   tape-tape n Three j fits Three = refl
 
-  seen :
+  open-seen :
       (n : ℕ) (j : Joint) (i : Number) (l : Link) → receiver_of l ≡ i →
       open_messages r n j l ≡ open_received r n i (j.u i) (open_tape r n i j) (opened_words r n j) l
-  seen n j i l h = subst (λ k. open_messages r n j l ≡ open_received r n k (j.u k) (open_tape r n k j) (opened_words r n j) l) h (at_link l)
+  open-seen n j i l h = subst (λ k. open_messages r n j l ≡ open_received r n k (j.u k) (open_tape r n k j) (opened_words r n j) l) h (at_link l)
     where
-      left : (x y z : List ℕ) → length z ≡ n → AreWords z → opened_words r n j ≡ sum_of_three r n x y z → z ∷ [] ≡ left_of_opened r n (opened_words r n j) x y ∷ []
+      left : (x y z : List ℕ) → length z ≡ n → AreWords z → opened_words r n j ≡ sum_of_three r n x y z
+          → z ∷ [] ≡ left_of_opened r n (opened_words r n j) x y ∷ []
       left x y z e words is = ap (λ l. l ∷ []) (sym (left_over laws n x y z (opened_words r n j) e words is))
 
-      at_link : (l : Link) → open_messages r n j l ≡ open_received r n (receiver_of l) (j.u (receiver_of l)) (open_tape r n (receiver_of l) j) (opened_words r n j) l
+      at_link : (l : Link) → open_messages r n j l
+          ≡ open_received r n (receiver_of l) (j.u (receiver_of l)) (open_tape r n (receiver_of l) j) (opened_words r n j) l
       at_link =
           elim [
             | Link12 ↦ refl
             | Link23 ↦ refl
             | Link31 ↦ refl
-            | Link21 ↦ left (reshared_of r n j One) (reshared_of r n j Three) (reshared_of r n j Two) (length-reshared r n _ _ _) (AreWords-reshared laws n _ _ _) (swap_last laws n _ _ _)
-            | Link32 ↦ left (reshared_of r n j Two) (reshared_of r n j One) (reshared_of r n j Three) (length-reshared r n _ _ _) (AreWords-reshared laws n _ _ _) (swap_first laws n _ _ _)
-            | Link13 ↦ left (reshared_of r n j Three) (reshared_of r n j Two) (reshared_of r n j One) (length-reshared r n _ _ _) (AreWords-reshared laws n _ _ _) (swap_ends laws n _ _ _)
+            | Link21 ↦ left (reshared_of r n j One) (reshared_of r n j Three) (reshared_of r n j Two) (length-reshared r n _ _ _)
+                (AreWords-reshared laws n _ _ _) (swap_last laws n _ _ _)
+            | Link32 ↦ left (reshared_of r n j Two) (reshared_of r n j One) (reshared_of r n j Three) (length-reshared r n _ _ _)
+                (AreWords-reshared laws n _ _ _) (swap_first laws n _ _ _)
+            | Link13 ↦ left (reshared_of r n j Three) (reshared_of r n j Two) (reshared_of r n j One) (length-reshared r n _ _ _)
+                (AreWords-reshared laws n _ _ _) (swap_ends laws n _ _ _)
           ]
 
   pub open-private : Private (open_protocol r)
@@ -155,7 +161,7 @@ module _ {r : Ring} (laws : RingLaws r) where
         back_kept = tape-kept;
         back_tape = tape-tape;
         tape_back = tape-tape;
-        seen = λ n i j fits l h. seen n j i l h;
+        seen = λ n i j fits l h. open-seen n j i l h;
       }
 
   pub opens : (n : ℕ) (j : Joint) → Opens r n j

@@ -75,7 +75,8 @@ module _ (r : Ring) (n : ℕ) (j : Joint) (words : (i : Number) → length (j.wo
   second_round Two = ap (λ m. (run (nodes Two) m).acts) (into-is Two (posted nodes nothing)) ∙ run-mask r n Two _ _ _ (words One)
   second_round Three = ap (λ m. (run (nodes Three) m).acts) (into-is Three (posted nodes nothing)) ∙ run-mask r n Three _ _ _ (words Two)
 
-  sent_all : (opened : List ℕ) (l : Link) → on_link l (done (sender_of l) (j.words (sender_of l)) (reshared_of r n j (sender_of l)) opened).acts ≡ open_messages r n j l
+  sent_all : (opened : List ℕ) (l : Link)
+      → on_link l (done (sender_of l) (j.words (sender_of l)) (reshared_of r n j (sender_of l)) opened).acts ≡ open_messages r n j l
   sent_all opened = elim [ Link12 ↦ refl | Link13 ↦ refl | Link21 ↦ refl | Link23 ↦ refl | Link31 ↦ refl | Link32 ↦ refl ]
 
   sent_second : (l : Link) → on_link l (sends_of (sender_of l) (j.words (sender_of l)) (reshared_of r n j (sender_of l))) ≡ open_messages r n j l

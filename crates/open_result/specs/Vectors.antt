@@ -8,7 +8,7 @@ use Rattle.proto_core.specs.Protocol.{Joint}
 use Rattle.proto_core.specs.Resharing.{reshared, sum_of_three}
 use Rattle.proto_core.specs.Strand.{Sent, Opened, Strand, Ends, run}
 use Rattle.proto_core.specs.Net.{into, mail_of}
-use Rattle.reshare.specs.Joints.{joint_of}
+use Rattle.proto_core.specs.Joints.{joint_of}
 use Rattle.open_result.specs.Opening.{open_strand, open_masked, open_messages, open_tape, open_received, opened_words}
 
 -- ---- 13, dealt by words that are 0, with masks that are 0

@@ -1,6 +1,6 @@
 ghost use Rattle.std.specs.Prelude.{◌≡◌, length};
 ghost use Rattle.proto_core.specs.declared.party.Number.TheVariants.{One, Two, Three};
-ghost use Rattle.reshare.specs.Joints.{joint_of};
+ghost use Rattle.proto_core.specs.Joints.{joint_of};
 ghost use Rattle.open_result.specs.Parts.{IsPart};
 
 use crate::open::Open;

@@ -9,8 +9,8 @@ use Rattle.std.proofs.lemmas.List.{length-take}
 use Rattle.std.proofs.lemmas.List.Sums.{count_by-le-length}
 use Rattle.sc_text.specs.Name.{is_name, is_name_byte, IsName}
 use Rattle.secrec_lexer.specs.declared.sign.Sign.{Sign}
-use Rattle.secrec_lexer.specs.declared.token.Kind.{Kind}
-use Rattle.secrec_lexer.specs.declared.token.Kind.TheVariants as kinds
+use Rattle.secrec_lexer.specs.declared.token.TokenKind.{TokenKind}
+use Rattle.secrec_lexer.specs.declared.token.TokenKind.TheVariants as kinds
 use Rattle.secrec_lexer.specs.declared.token.Token.{Token}
 use Rattle.secrec_lexer.specs.declared.lex_err.LexFault.TheVariants as faults
 use Rattle.secrec_lexer.specs.declared.piece.Piece.{Piece}
@@ -23,7 +23,7 @@ use Rattle.secrec_lexer.specs.Lexis.{Lexes, ended, blank, lexeme, HasTokens}
 use Rattle.writable_code.specs.Sources.{IsPlace}
 
 -- a string is a name
-abbrev pub IsText : Kind → Type 0
+abbrev pub IsText : TokenKind → Type 0
 IsText (kinds.Name x) = Unit {0}
 IsText (kinds.Number n) = Unit {0}
 IsText (kinds.Text x) = IsName x

@@ -2,8 +2,8 @@
 use Rattle.std.proofs.Common.{◌≡◌, ℕ, ◌-◌, List, [], ◌∷◌, inl, inr, sym, subst, Option, Some, None, Bool, true, false}
 use Rattle.sc_text.specs.declared.span.Span.{Span}
 use Rattle.sc_text.specs.Name.{IsName}
-use Rattle.secrec_lexer.specs.declared.token.Kind.{Kind}
-use Rattle.secrec_lexer.specs.declared.token.Kind.TheVariants as kinds
+use Rattle.secrec_lexer.specs.declared.token.TokenKind.{TokenKind}
+use Rattle.secrec_lexer.specs.declared.token.TokenKind.TheVariants as kinds
 use Rattle.secrec_lexer.specs.declared.token.Token.{Token}
 use Rattle.secrec_lexer.specs.declared.sign.Sign.TheVariants as signs
 use Rattle.secrec_ast.specs.Tree.{Tree, Trees, number, truth, variable, call, index, parentheses, negation, cast, binary, declassify, argument, publish}
@@ -12,7 +12,8 @@ use Rattle.secrec_ast.specs.declared.statement.Identifier.{Identifier}
 use Rattle.secrec_ast.specs.Heights.{place_of}
 use Rattle.secrec_ast.specs.Tree as Tree'
 use Rattle.secrec_ast.specs.Statements.{DeclarationTree, TargetTree, AssignmentTree, StartTree, starts_with_nothing, starts_with_declaration}
-use Rattle.secrec_ast.specs.Statements.{starts_with_assignment, StepTree, steps_by_nothing, steps_by_assignment, steps_by_expression, StatementTree, block, empty}
+use Rattle.secrec_ast.specs.Statements.{starts_with_assignment, StepTree, steps_by_nothing, steps_by_assignment, steps_by_expression, StatementTree}
+use Rattle.secrec_ast.specs.Statements.{block, empty}
 use Rattle.secrec_ast.specs.Statements.{branch, choice, while_loop, do_loop, for_loop, breaks, continues, returns, assertion, declaration, assignment}
 use Rattle.secrec_ast.specs.Statements.{evaluation, StatementTrees}
 use Rattle.secrec_ast.specs.Statements as Statements'
@@ -51,14 +52,14 @@ first_of P Q ts h w = (parts P Q ts h w).0
 rest_of : (P Q : Phrase) (ts : List Token) → (P then Q) ts → AreSaid ts → Spelled Q
 rest_of P Q ts h w = (parts P Q ts h w).1
 
-placed_at : (p : Span) (k : Kind) (ts : List Token) → one_at p k ts → AreSaid ts → IsPlace p
+placed_at : (p : Span) (k : TokenKind) (ts : List Token) → one_at p k ts → AreSaid ts → IsPlace p
 placed_at p k ts h w = (subst AreSaid h w).0.0
 
 name_in : (x : List ℕ) (ts : List Token) → one (kinds.Text x) ts → AreSaid ts → IsName x
 name_in x ts h w = (subst AreSaid h.1 w).0.1
 
 -- the place of the token with which a phrase begins
-begins_at : (p : Span) (k : Kind) (Q : Phrase) (ts : List Token) → (one_at p k then Q) ts → AreSaid ts → IsPlace p
+begins_at : (p : Span) (k : TokenKind) (Q : Phrase) (ts : List Token) → (one_at p k then Q) ts → AreSaid ts → IsPlace p
 begins_at p k Q ts h w = let a = first_of (one_at p k) Q ts h w in placed_at p k a.tokens a.phrase a.said
 
 -- EXPRESSIONS

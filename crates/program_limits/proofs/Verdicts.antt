@@ -4,16 +4,17 @@ use Rattle.typed_tree.specs.Programs.{TypedProgramTree}
 use Rattle.reached_instances.specs.Instances.{Instance}
 use Rattle.reached_instances.specs.Reached.{IsReachedList}
 use Rattle.reached_instances.proofs.ReachedLists.{is_the_only_list}
-use Rattle.program_limits.specs.declared.limit_error.LimitError.{LimitError}
-use Rattle.program_limits.specs.declared.limit_error.LimitError.TheVariants.{TooManyInstances, ProgramTooLarge, FunctionTooLarge, Memory}
+use Rattle.program_limits.specs.declared.limit_err.LimitErr.{LimitErr}
+use Rattle.program_limits.specs.declared.limit_err.LimitErr.TheVariants.{TooManyInstances, ProgramTooLarge, FunctionTooLarge, Memory}
 use Rattle.program_limits.specs.Limits.{refusal, IsVerdict}
 use Rattle.program_limits.specs.Answer.{IsJust}
 
-pub verdict_known : (p : TypedProgramTree) (list : List Instance) (known refused : Option LimitError) → IsReachedList p list → known ≡ refusal p list → IsVerdict p refused → refused ≡ known
+pub verdict_known : (p : TypedProgramTree) (list : List Instance) (known refused : Option LimitErr) → IsReachedList p list → known ≡ refusal p list
+    → IsVerdict p refused → refused ≡ known
 verdict_known p list known refused reached is v =
     sym v.is ∙ ap (refusal p) (is_the_only_list p v.list list v.reached reached) ∙ sym is
 
-pub just_this : (error : LimitError) (refused : Option LimitError) → refused ≡ Some error → IsJust (Err error) refused
+pub just_this : (error : LimitErr) (refused : Option LimitErr) → refused ≡ Some error → IsJust (Err error) refused
 just_this (TooManyInstances count) refused is = is
 just_this (ProgramTooLarge size) refused is = is
 just_this (FunctionTooLarge size) refused is = is

@@ -5,8 +5,8 @@ use Rattle.typed_tree.specs.Programs.{TypedFunctionTree, TypedProgramTree}
 use Rattle.reached_instances.specs.Instances.{Instance}
 use Rattle.reached_instances.specs.Reached.{IsReachedList}
 use Rattle.reached_instances.specs.Templates.{is_of_template}
-use Rattle.program_limits.specs.declared.limit_error.LimitError.{LimitError}
-use Rattle.program_limits.specs.declared.limit_error.LimitError.TheVariants.{TooManyInstances, ProgramTooLarge, FunctionTooLarge}
+use Rattle.program_limits.specs.declared.limit_err.LimitErr.{LimitErr}
+use Rattle.program_limits.specs.declared.limit_err.LimitErr.TheVariants.{TooManyInstances, ProgramTooLarge, FunctionTooLarge}
 
 -- counted up to the largest number of 64 bits
 abbrev pub counted : ℕ → ℕ
@@ -32,17 +32,17 @@ abbrev pub is_too_large : ℕ → Bool
 is_too_large size = nat_lt 4095 size
 
 -- so many instances of templates and these sizes: what there is too much of, the first of three
-abbrev pub refusal_for : (templates : ℕ) → (sizes : List ℕ) → Option LimitError
+abbrev pub refusal_for : (templates : ℕ) → (sizes : List ℕ) → Option LimitErr
 refusal_for templates sizes =
     if nat_lt 1024 templates then Some (TooManyInstances templates)
     else if nat_lt 65535 (sum sizes) then Some (ProgramTooLarge (counted (sum sizes)))
     else option_map (λ size. FunctionTooLarge size) (find is_too_large sizes)
 
-abbrev pub refusal : TypedProgramTree → List Instance → Option LimitError
+abbrev pub refusal : TypedProgramTree → List Instance → Option LimitErr
 refusal p list = refusal_for (templates p list) (sizes p list)
 
 -- THE VERDICT on a program: the refusal of the instances that it reaches, if there is one
-pub record IsVerdict (p : TypedProgramTree) (refused : Option LimitError) : Type 0 where
+pub record IsVerdict (p : TypedProgramTree) (refused : Option LimitErr) : Type 0 where
   pub list : List Instance
   pub reached : IsReachedList p list
   pub is : refusal p list ≡ refused

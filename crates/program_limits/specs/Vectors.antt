@@ -1,6 +1,6 @@
 -- Sizes and what they come to, worked out by hand.
 use Rattle.std.specs.Prelude.{◌≡◌, [], ◌∷◌, ◌++◌, replicate, Some, None, refl}
-use Rattle.program_limits.specs.declared.limit_error.LimitError.TheVariants.{TooManyInstances, ProgramTooLarge, FunctionTooLarge}
+use Rattle.program_limits.specs.declared.limit_err.LimitErr.TheVariants.{TooManyInstances, ProgramTooLarge, FunctionTooLarge}
 use Rattle.program_limits.specs.Limits.{refusal_for}
 
 -- each at its limit

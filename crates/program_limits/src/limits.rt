@@ -2,11 +2,11 @@
 ghost use Rattle.std.specs.Prelude.{◌≡◌, Option};
 ghost use Rattle.typed_tree.specs.Programs.{typed_program_tree};
 ghost use Rattle.reached_instances.specs.Views.{instances_seen};
-ghost use Rattle.program_limits.specs.declared.limit_error.LimitError.{LimitError};
+ghost use Rattle.program_limits.specs.declared.limit_err.LimitErr.{LimitErr};
 ghost use Rattle.program_limits.specs.Limits.{refusal, IsVerdict};
 ghost use Rattle.program_limits.specs.Answer.{IsAnswer, IsJust};
 
-use crate::limit_error::LimitError;
+use crate::limit_err::LimitErr;
 use crate::sizes::{first_too_large, total_size};
 use reached_instances::{Instance, reached_instances, template_count};
 use std::alloc::Global;
@@ -19,19 +19,19 @@ const MOST_INSTANCES: u64 = 1_024;
 const LARGEST_PROGRAM: u64 = 65_535;
 
 // Why a program that reaches these instances is refused, if it is.
-fn refusal(program: &TypedProgram, instances: &[Instance]) -> Option<LimitError>
+fn refusal(program: &TypedProgram, instances: &[Instance]) -> Option<LimitErr>
     ensures { result ≡ refusal (typed_program_tree program.now) (instances_seen instances.now) }
 {
     let count = template_count(instances, program) as u64;
     if count > MOST_INSTANCES {
-        return Some(LimitError::TooManyInstances { count });
+        return Some(LimitErr::TooManyInstances { count });
     }
     let size = total_size(program, instances);
     if size > LARGEST_PROGRAM {
-        return Some(LimitError::ProgramTooLarge { size });
+        return Some(LimitErr::ProgramTooLarge { size });
     }
     let size = first_too_large(program, instances)?;
-    Some(LimitError::FunctionTooLarge { size })
+    Some(LimitErr::FunctionTooLarge { size })
 }
 
 /// Whether a program keeps to the limits: it may reach 1,024 instances of templates, all instances that it reaches, `main` among
@@ -39,11 +39,11 @@ fn refusal(program: &TypedProgram, instances: &[Instance]) -> Option<LimitError>
 ///
 /// It is refused for the first of these that it breaks, in this order; of the functions that are too large, the first in the
 /// order of the reached instances counts. `Memory` comes where memory runs short.
-pub fn check_limits(alloc: Global, program: &TypedProgram) -> Result<(), LimitError>
+pub fn check_limits(alloc: Global, program: &TypedProgram) -> Result<(), LimitErr>
     // What is answered is the verdict on the program.
     ensures answer { IsAnswer (typed_program_tree program.now) result }
     // A program has no other, unless memory ran out.
-    ensures only { (refused : Option LimitError) → IsVerdict (typed_program_tree program.now) refused → IsJust result refused }
+    ensures only { (refused : Option LimitErr) → IsVerdict (typed_program_tree program.now) refused → IsJust result refused }
 {
     let instances = reached_instances(alloc, program)?;
     match refusal(program, instances.as_slice()) {

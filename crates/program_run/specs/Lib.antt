@@ -2,4 +2,3 @@ pub mod Accepted
 pub mod Codes
 pub mod Miners
 pub mod Reports
-pub mod Shares

@@ -1,5 +1,6 @@
-//! A program, run by three miners on shares of its inputs: what they open and publish, and how they end, is what evaluation in the clear
-//! does with tapes of these lengths.
+//! What a program and its inputs are to three miners: its code, each miner's shares, and what a run of theirs tells.
+//!
+//! A law says that three miners who run the code on these shares open and publish what evaluation in the clear does, and end as it does.
 #![tactic(auto)]
 
 mod compiling;
@@ -11,5 +12,5 @@ mod words;
 pub use compiling::compile_program;
 pub use dealt::own_shares;
 pub use laws::accepted_programs_run_on_shares;
-pub use running::{RunReport, lengths, run_program, undealt};
+pub use running::{RunReport, lengths, undealt};
 pub use words::{see_entries, see_words};

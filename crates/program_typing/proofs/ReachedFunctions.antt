@@ -1,5 +1,6 @@
 -- The functions that are reached: each stands there once, and so does each function that one of them calls.
-use Rattle.std.proofs.Common.{◌≡◌, ℕ, zero, suc, ◌+◌, ◌<◌, ◌≤◌, ◌⊎◌, inl, inr, List, [], ◌∷◌, ◌++◌, length, get_or, refl, sym, ap, ap₂, ◌∙◌, subst, Option, Some, None, Bool, true, false, cond, is_some, arith}
+use Rattle.std.proofs.Common.{◌≡◌, ℕ, zero, suc, ◌+◌, ◌<◌, ◌≤◌, ◌⊎◌, inl, inr, List, [], ◌∷◌, ◌++◌, length, get_or, refl, sym, ap, ap₂, ◌∙◌, subst}
+use Rattle.std.proofs.Common.{Option, Some, None, Bool, true, false, cond, is_some, arith}
 use Rattle.std.specs.Prelude.{map, codes, bytes_eq, option_map, ◌||◌}
 use Rattle.std.specs.List.{slice_get, list_any, IsDistinct}
 use Rattle.std.specs.Cmp.{IsEquivalence}
@@ -11,14 +12,19 @@ use Rattle.std.proofs.lemmas.Map.Keys.{IsDistinct-push}
 use Rattle.std.proofs.lemmas.Map.Made.{length-le_from_is_member}
 use Rattle.secrec_ast.specs.Tree.{Tree, Trees, number, truth, variable, call, index, parentheses, negation, cast, binary, declassify, argument, publish}
 use Rattle.secrec_ast.specs.Tree as Tree'
-use Rattle.secrec_ast.specs.Statements.{DeclarationTree, TargetTree, AssignmentTree, StartTree, starts_with_nothing, starts_with_declaration, starts_with_assignment, StepTree, steps_by_nothing, steps_by_assignment, steps_by_expression, StatementTree, block, empty, branch, choice, while_loop, do_loop, for_loop, breaks, continues, returns, assertion, declaration, assignment, evaluation, StatementTrees}
+use Rattle.secrec_ast.specs.Statements.{DeclarationTree, TargetTree, AssignmentTree, StartTree, starts_with_nothing, starts_with_declaration}
+use Rattle.secrec_ast.specs.Statements.{starts_with_assignment, StepTree, steps_by_nothing, steps_by_assignment, steps_by_expression, StatementTree}
+use Rattle.secrec_ast.specs.Statements.{block, empty, branch, choice, while_loop, do_loop, for_loop, breaks, continues, returns, assertion}
+use Rattle.secrec_ast.specs.Statements.{declaration, assignment, evaluation, StatementTrees}
 use Rattle.secrec_ast.specs.Statements as Statements'
 use Rattle.secrec_ast.specs.Programs.{FunctionTree}
 use Rattle.domain_types.specs.declared.value_type.BuiltIn.{BuiltIn}
 use Rattle.domain_types.specs.Declarations.{Declared, Callee, built_in, defined, built_in_named, function_named, callee_or_function, callee, number_in}
 use Rattle.sc_text.specs.Lists.{Among}
 use Rattle.domain_types.proofs.Names.{bytes_eq-swap}
-use Rattle.name_resolution.specs.Order.{function_name, is_found, with_callee, called_in, called_in_all, called_in_optional, called_in_declaration, called_in_assignment, called_in_start, called_in_step, called_by, called_by_all, read_one, known_after, reached}
+use Rattle.name_resolution.specs.Order.{function_name, is_found, with_callee, called_in, called_in_all, called_in_optional, called_in_declaration}
+use Rattle.name_resolution.specs.Order.{called_in_assignment, called_in_start, called_in_step, called_by, called_by_all, read_one, known_after}
+use Rattle.name_resolution.specs.Order.{reached}
 use Rattle.name_resolution.specs.Functions.{with_functions}
 use Rattle.name_resolution.proofs.SoundValues.{some_is, callee_there}
 use Rattle.program_typing.proofs.TreesOfValues.{Agrees, Agree, names_in, names_in_all}
@@ -35,7 +41,8 @@ with_more : (d : Declared) (fs : List FunctionTree) (xs ys : List (List ℕ)) �
 with_more d fs [] ys = refl
 with_more d fs (x ∷ xs) ys = with_more d (with_callee fs x (callee d x)) xs ys
 
-then_with : (d : Declared) (fs gs hs : List FunctionTree) (xs ys : List (List ℕ)) → gs ≡ with_names d fs xs → hs ≡ with_names d gs ys → hs ≡ with_names d fs (xs ++ ys)
+then_with : (d : Declared) (fs gs hs : List FunctionTree) (xs ys : List (List ℕ)) → gs ≡ with_names d fs xs → hs ≡ with_names d gs ys
+    → hs ≡ with_names d fs (xs ++ ys)
 then_with d fs gs hs xs ys e f = f ∙ ap (λ l. with_names d l ys) e ∙ sym (with_more d fs xs ys)
 
 mutual
@@ -59,7 +66,8 @@ mutual
   in_values : (d : Declared) (fs : List FunctionTree) (es : Trees) → called_in_all d fs es ≡ with_names d fs (names_in_all es)
   in_values d fs Tree'.none = refl
   in_values d fs (Tree'.also e es) =
-      then_with d fs (called_in d fs e) (called_in_all d (called_in d fs e) es) (names_in e) (names_in_all es) (in_value d fs e) (in_values d (called_in d fs e) es)
+      then_with d fs (called_in d fs e) (called_in_all d (called_in d fs e) es) (names_in e) (names_in_all es) (in_value d fs e)
+      (in_values d (called_in d fs e) es)
 
 in_optional : (d : Declared) (fs : List FunctionTree) (e : Option Tree) → called_in_optional d fs e ≡ with_names d fs (names_in_optional e)
 in_optional d fs None = refl
@@ -68,7 +76,8 @@ in_optional d fs (Some e) = in_value d fs e
 in_declaration : (d : Declared) (fs : List FunctionTree) (t : DeclarationTree) → called_in_declaration d fs t ≡ with_names d fs (names_in_declaration t)
 in_declaration d fs t =
     let gs = called_in_optional d fs t.size in
-    then_with d fs gs (called_in_optional d gs t.value) (names_in_optional t.size) (names_in_optional t.value) (in_optional d fs t.size) (in_optional d gs t.value)
+    then_with d fs gs (called_in_optional d gs t.value) (names_in_optional t.size) (names_in_optional t.value) (in_optional d fs t.size)
+    (in_optional d gs t.value)
 
 in_assignment : (d : Declared) (fs : List FunctionTree) (t : AssignmentTree) → called_in_assignment d fs t ≡ with_names d fs (names_in_assignment t)
 in_assignment d fs t =
@@ -96,7 +105,8 @@ mutual
       let gs = called_in d fs e in
       let hs = called_by d (called_in d fs e) body in
       then_with d fs gs (called_by d hs otherwise) (names_in e) (read_by body ++ read_by otherwise) (in_value d fs e)
-      (then_with d gs hs (called_by d hs otherwise) (read_by body) (read_by otherwise) (in_statement d (called_in d fs e) body) (in_statement d (called_by d (called_in d fs e) body) otherwise))
+      (then_with d gs hs (called_by d hs otherwise) (read_by body) (read_by otherwise) (in_statement d (called_in d fs e) body)
+      (in_statement d (called_by d (called_in d fs e) body) otherwise))
   in_statement d fs (while_loop p e body) =
       let gs = called_by d fs body in
       then_with d fs gs (called_in d gs e) (read_by body) (names_in e) (in_statement d fs body) (in_value d gs e)
@@ -141,7 +151,8 @@ each_at P (g ∷ gs) zero f a e = let same : g ≡ f = cc in subst P same a.0
 each_at P (g ∷ gs) (suc k) f a e = each_at P gs k f a.1 e
 
 -- a list keeps what a further callee keeps
-keeps_callee : (Q : List FunctionTree → Type 0) (fs : List FunctionTree) (x : List ℕ) (c : Option Callee) → Q fs → ((n : ℕ) (f : FunctionTree) → c ≡ Some (defined n f) → is_found x fs ≡ false → Q (fs ++ f ∷ [])) → Q (with_callee fs x c)
+keeps_callee : (Q : List FunctionTree → Type 0) (fs : List FunctionTree) (x : List ℕ) (c : Option Callee) → Q fs
+    → ((n : ℕ) (f : FunctionTree) → c ≡ Some (defined n f) → is_found x fs ≡ false → Q (fs ++ f ∷ [])) → Q (with_callee fs x c)
 keeps_callee Q fs x None q h = q
 keeps_callee Q fs x (Some (built_in b)) q h = q
 keeps_callee Q fs x (Some (defined n f)) q h = go (is_found x fs) refl
@@ -150,7 +161,9 @@ keeps_callee Q fs x (Some (defined n f)) q h = go (is_found x fs) refl
     go true e = q
     go false e = h n f refl e
 
-keeps_names : (Q : List FunctionTree → Type 0) (d : Declared) (fs : List FunctionTree) (xs : List (List ℕ)) → Q fs → ((gs : List FunctionTree) (x : List ℕ) (n : ℕ) (f : FunctionTree) → Q gs → Among x xs → callee d x ≡ Some (defined n f) → is_found x gs ≡ false → Q (gs ++ f ∷ [])) → Q (with_names d fs xs)
+keeps_names : (Q : List FunctionTree → Type 0) (d : Declared) (fs : List FunctionTree) (xs : List (List ℕ)) → Q fs
+    → ((gs : List FunctionTree) (x : List ℕ) (n : ℕ) (f : FunctionTree) → Q gs → Among x xs → callee d x ≡ Some (defined n f) → is_found x gs ≡ false
+    → Q (gs ++ f ∷ [])) → Q (with_names d fs xs)
 keeps_names Q d fs [] q h = q
 keeps_names Q d fs (x ∷ xs) q h =
     keeps_names Q d (with_callee fs x (callee d x)) xs (keeps_callee Q fs x (callee d x) q (λ n f e a. h fs x n f q (inl refl) e a))
@@ -175,7 +188,8 @@ named_function : (x : List ℕ) (n : ℕ) (fs : List FunctionTree) (k : ℕ) (f 
 named_function x n [] k f e = cc
 named_function x n (g ∷ gs) k f e = go (bytes_eq x g.function.text) refl e (named_function x (n + 1) gs k f)
   where
-    go : (b : Bool) → bytes_eq x g.function.text ≡ b → cond b (Some (defined n g)) (function_named x (n + 1) gs) ≡ Some (defined k f) → (function_named x (n + 1) gs ≡ Some (defined k f) → x ≡ f.function.text) → x ≡ f.function.text
+    go : (b : Bool) → bytes_eq x g.function.text ≡ b → cond b (Some (defined n g)) (function_named x (n + 1) gs) ≡ Some (defined k f)
+        → (function_named x (n + 1) gs ≡ Some (defined k f) → x ≡ f.function.text) → x ≡ f.function.text
     go true t h rest =
         let same : defined n g ≡ defined k f = cc in
         let there : g ≡ f = cc in
@@ -201,7 +215,8 @@ found_any : (x : List ℕ) (fs : List FunctionTree) → is_found x fs ≡ list_a
 found_any x [] = refl
 found_any x (f ∷ fs) = go (bytes_eq x f.function.text) (number_in x (map function_name fs)) (found_any x fs)
   where
-    go : (b : Bool) (o : Option ℕ) → is_some o ≡ list_any (bytes_eq x) (map function_name fs) → is_some (cond b (Some 0) (option_map (λ k. k + 1) o)) ≡ (b || list_any (bytes_eq x) (map function_name fs))
+    go : (b : Bool) (o : Option ℕ) → is_some o ≡ list_any (bytes_eq x) (map function_name fs)
+        → is_some (cond b (Some 0) (option_map (λ k. k + 1) o)) ≡ (b || list_any (bytes_eq x) (map function_name fs))
     go true o h = refl
     go false None h = h
     go false (Some k) h = h
@@ -259,14 +274,16 @@ at_extended fs gs k f h e = ap (λ l. slice_get l k) h.is ∙ further fs h.more 
     further (x ∷ xs) ys (suc i) q = further xs ys i q
 
 -- each name is found behind its callee
-found_with : (d : Declared) (fs : List FunctionTree) (x : List ℕ) (n : ℕ) (f : FunctionTree) → callee d x ≡ Some (defined n f) → is_found x (with_callee fs x (callee d x)) ≡ true
+found_with : (d : Declared) (fs : List FunctionTree) (x : List ℕ) (n : ℕ) (f : FunctionTree) → callee d x ≡ Some (defined n f)
+    → is_found x (with_callee fs x (callee d x)) ≡ true
 found_with d fs x n f e = ap (λ c. is_found x (with_callee fs x c)) e ∙ go (is_found x fs) refl
   where
     go : (b : Bool) → is_found x fs ≡ b → is_found x (cond b fs (fs ++ f ∷ [])) ≡ true
     go true h = h
     go false h = found_last x fs f (callee_name d x n f e)
 
-found_names : (d : Declared) (fs : List FunctionTree) (xs : List (List ℕ)) (x : List ℕ) (n : ℕ) (f : FunctionTree) → Among x xs → callee d x ≡ Some (defined n f) → is_found x (with_names d fs xs) ≡ true
+found_names : (d : Declared) (fs : List FunctionTree) (xs : List (List ℕ)) (x : List ℕ) (n : ℕ) (f : FunctionTree) → Among x xs
+    → callee d x ≡ Some (defined n f) → is_found x (with_names d fs xs) ≡ true
 found_names d fs [] x n f m e = absurd m
 found_names d fs (y ∷ ys) x n f (inl m) e =
     let gs = with_callee fs y (callee d y) in
@@ -280,12 +297,15 @@ pub record IsList (d : Declared) (fs : List FunctionTree) : Type 0 where
   pub named : Each (IsNamed d) fs
   pub distinct : IsDistinct bytes_eq (map function_name fs)
 
-list_push : (d : Declared) (gs : List FunctionTree) (x : List ℕ) (n : ℕ) (f : FunctionTree) → IsList d gs → callee d x ≡ Some (defined n f) → is_found x gs ≡ false → IsList d (gs ++ f ∷ [])
+list_push : (d : Declared) (gs : List FunctionTree) (x : List ℕ) (n : ℕ) (f : FunctionTree) → IsList d gs → callee d x ≡ Some (defined n f)
+    → is_found x gs ≡ false → IsList d (gs ++ f ∷ [])
 list_push d gs x n f h e a =
-    let absent : list_any (bytes_eq f.function.text) (map function_name gs) ≡ false = sym (found_any f.function.text gs) ∙ ap (λ t. is_found t gs) (sym (callee_name d x n f e)) ∙ a in
+    let absent : list_any (bytes_eq f.function.text) (map function_name gs) ≡ false =
+    sym (found_any f.function.text gs) ∙ ap (λ t. is_found t gs) (sym (callee_name d x n f e)) ∙ a in
     record {
       named = each_push (IsNamed d) gs f h.named (is_named d x n f e);
-      distinct = subst (IsDistinct bytes_eq) (sym (map-append function_name gs (f ∷ []))) (IsDistinct-push texts (map function_name gs) f.function.text h.distinct absent);
+      distinct = subst (IsDistinct bytes_eq) (sym (map-append function_name gs (f ∷ [])))
+          (IsDistinct-push texts (map function_name gs) f.function.text h.distinct absent);
     }
 
 list_names : (d : Declared) (fs : List FunctionTree) (xs : List (List ℕ)) → IsList d fs → IsList d (with_names d fs xs)
@@ -301,18 +321,24 @@ list_known d (suc n) = go (slice_get (known_after d n) n) (list_known d n)
   where
     go : (o : Option FunctionTree) → IsList d (known_after d n) → IsList d (read_one d (known_after d n) o)
     go None h = h
-    go (Some f) h = subst (IsList d) (sym (in_statements d (known_after d n) f.body.statements)) (list_names d (known_after d n) (read_by_all f.body.statements) h)
+    go (Some f) h = subst (IsList d) (sym (in_statements d (known_after d n) f.body.statements))
+        (list_names d (known_after d n) (read_by_all f.body.statements) h)
 
-any_at : (x : List ℕ) (fs : List FunctionTree) (k : ℕ) (f : FunctionTree) → slice_get fs k ≡ Some f → bytes_eq x f.function.text ≡ true → list_any (bytes_eq x) (map function_name fs) ≡ true
+any_at : (x : List ℕ) (fs : List FunctionTree) (k : ℕ) (f : FunctionTree) → slice_get fs k ≡ Some f → bytes_eq x f.function.text ≡ true
+    → list_any (bytes_eq x) (map function_name fs) ≡ true
 any_at x [] k f e t = cc
-any_at x (g ∷ gs) zero f e t = let same : g ≡ f = cc in or_left (bytes_eq x g.function.text) (list_any (bytes_eq x) (map function_name gs)) (ap (λ z. bytes_eq x z.function.text) same ∙ t)
+any_at x (g ∷ gs) zero f e t = let same : g ≡ f = cc in
+    or_left (bytes_eq x g.function.text) (list_any (bytes_eq x) (map function_name gs)) (ap (λ z. bytes_eq x z.function.text) same ∙ t)
 any_at x (g ∷ gs) (suc k) f e t = or_right (bytes_eq x g.function.text) (list_any (bytes_eq x) (map function_name gs)) (any_at x gs k f e t)
 
-named_there : (d : Declared) (x : List ℕ) (fs : List FunctionTree) → Each (IsNamed d) fs → list_any (bytes_eq x) (map function_name fs) ≡ true → list_any (bytes_eq x) (map function_name d.functions) ≡ true
+named_there : (d : Declared) (x : List ℕ) (fs : List FunctionTree) → Each (IsNamed d) fs → list_any (bytes_eq x) (map function_name fs) ≡ true
+    → list_any (bytes_eq x) (map function_name d.functions) ≡ true
 named_there d x [] a e = cc
 named_there d x (f ∷ fs) a e = go (bytes_eq x f.function.text) refl e (named_there d x fs a.1)
   where
-    go : (b : Bool) → bytes_eq x f.function.text ≡ b → (b || list_any (bytes_eq x) (map function_name fs)) ≡ true → (list_any (bytes_eq x) (map function_name fs) ≡ true → list_any (bytes_eq x) (map function_name d.functions) ≡ true) → list_any (bytes_eq x) (map function_name d.functions) ≡ true
+    go : (b : Bool) → bytes_eq x f.function.text ≡ b → (b || list_any (bytes_eq x) (map function_name fs)) ≡ true
+        → (list_any (bytes_eq x) (map function_name fs) ≡ true → list_any (bytes_eq x) (map function_name d.functions) ≡ true)
+        → list_any (bytes_eq x) (map function_name d.functions) ≡ true
     go true t h rest = any_at x d.functions a.0.0 f (callee_there d f.function.text a.0.0 f a.0.1) t
     go false t h rest = rest h
 
@@ -334,7 +360,10 @@ pub extends_read : (d : Declared) (fs : List FunctionTree) (f : FunctionTree) �
 extends_read d fs f = subst (Extends fs) (sym (in_statements d fs f.body.statements)) (extends_names d fs (read_by_all f.body.statements))
 
 closed_read : (d : Declared) (fs : List FunctionTree) (f : FunctionTree) → Closed d f (read_one d fs (Some f))
-closed_read d fs f = record { found = λ x n g m e. ap (is_found x) (in_statements d fs f.body.statements) ∙ found_names d fs (read_by_all f.body.statements) x n g ((same_names_all f.body.statements x).0 m) e }
+closed_read d fs f = record {
+  found = λ x n g m e. ap (is_found x) (in_statements d fs f.body.statements)
+      ∙ found_names d fs (read_by_all f.body.statements) x n g ((same_names_all f.body.statements x).0 m) e;
+}
 
 up_to : (i n : ℕ) → i < suc n → (i < n) ⊎ (i ≡ n)
 up_to zero zero l = inr refl
@@ -361,7 +390,8 @@ read_before d (suc n) i f l e = go (slice_get fs n) refl e (up_to i n l) (read_b
         let still = at_extended fs (read_one d fs (Some k)) i (get_or fs i f) (extends_read d fs k) here in
         here ∙ sym still ∙ g
 
-    go : (o : Option FunctionTree) → slice_get fs n ≡ o → slice_get (read_one d fs o) i ≡ Some f → (i < n) ⊎ (i ≡ n) → (i < n → slice_get fs i ≡ Some f → Closed d f fs) → Closed d f (read_one d fs o)
+    go : (o : Option FunctionTree) → slice_get fs n ≡ o → slice_get (read_one d fs o) i ≡ Some f → (i < n) ⊎ (i ≡ n)
+        → (i < n → slice_get fs i ≡ Some f → Closed d f fs) → Closed d f (read_one d fs o)
     go None h g (inl m) rest = rest m g
     go None h g (inr q) rest = let no : Some f ≡ None = sym g ∙ ap (slice_get fs) q ∙ h in cc
     go (Some k) h g (inl m) rest = closed_extended d f fs (read_one d fs (Some k)) (extends_read d fs k) (rest m (place k h (inl m) g))
@@ -376,7 +406,9 @@ closed_reached d k f e =
     read_before d (length d.functions) k f (omega arith) e
 
 -- what holds of `main`, and of each function that is called where it holds
-pub each_known : (P : FunctionTree → Type 0) (d : Declared) → ((n : ℕ) (f : FunctionTree) → callee d (codes "main") ≡ Some (defined n f) → P f) → ((f : FunctionTree) → P f → (x : List ℕ) (n : ℕ) (g : FunctionTree) → Among x (names_by_all f.body.statements) → callee d x ≡ Some (defined n g) → P g) → (n : ℕ) → Each P (known_after d n)
+pub each_known : (P : FunctionTree → Type 0) (d : Declared) → ((n : ℕ) (f : FunctionTree) → callee d (codes "main") ≡ Some (defined n f) → P f)
+    → ((f : FunctionTree) → P f → (x : List ℕ) (n : ℕ) (g : FunctionTree) → Among x (names_by_all f.body.statements) → callee d x ≡ Some (defined n g)
+    → P g) → (n : ℕ) → Each P (known_after d n)
 each_known P d first further zero = keeps_callee (Each P) [] (codes "main") (callee d (codes "main")) tt (λ n f e a. (first n f e, tt))
 each_known P d first further (suc n) = go (slice_get (known_after d n) n) refl (each_known P d first further n)
   where
@@ -389,11 +421,14 @@ each_known P d first further (suc n) = go (slice_get (known_after d n) n) refl (
 
 -- A NAME MEANS THE SAME FUNCTION THERE
 
-named_again : (d : Declared) (x : List ℕ) (n m : ℕ) (f : FunctionTree) (fs : List FunctionTree) → callee d x ≡ Some (defined n f) → Each (IsNamed d) fs → is_found x fs ≡ true → (k : ℕ) × (function_named x m fs ≡ Some (defined k f))
+named_again : (d : Declared) (x : List ℕ) (n m : ℕ) (f : FunctionTree) (fs : List FunctionTree) → callee d x ≡ Some (defined n f)
+    → Each (IsNamed d) fs → is_found x fs ≡ true → (k : ℕ) × (function_named x m fs ≡ Some (defined k f))
 named_again d x n m f [] e a t = cc
 named_again d x n m f (g ∷ gs) e a t = go (bytes_eq x g.function.text) refl (sym (found_any x (g ∷ gs)) ∙ t) (named_again d x n (m + 1) f gs e a.1)
   where
-    go : (b : Bool) → bytes_eq x g.function.text ≡ b → (b || list_any (bytes_eq x) (map function_name gs)) ≡ true → (is_found x gs ≡ true → (k : ℕ) × (function_named x (m + 1) gs ≡ Some (defined k f))) → (k : ℕ) × (cond b (Some (defined m g)) (function_named x (m + 1) gs) ≡ Some (defined k f))
+    go : (b : Bool) → bytes_eq x g.function.text ≡ b → (b || list_any (bytes_eq x) (map function_name gs)) ≡ true
+        → (is_found x gs ≡ true → (k : ℕ) × (function_named x (m + 1) gs ≡ Some (defined k f)))
+        → (k : ℕ) × (cond b (Some (defined m g)) (function_named x (m + 1) gs) ≡ Some (defined k f))
     go true h q rest =
         let both : Some (defined a.0.0 g) ≡ Some (defined n f) = sym a.0.1 ∙ ap (callee d) (sym (text_is x g.function.text h)) ∙ e in
         let one : defined a.0.0 g ≡ defined n f = cc in
@@ -409,11 +444,13 @@ no_function x n (f ∷ fs) b e = go (bytes_eq x f.function.text) e (no_function 
     go true h rest = let other : defined n f ≡ built_in b = cc in cc
     go false h rest = rest h
 
-same_built_in : (d k : Declared) (x : List ℕ) (o : Option BuiltIn) (b : BuiltIn) → callee_or_function d x o ≡ Some (built_in b) → callee_or_function k x o ≡ Some (built_in b)
+same_built_in : (d k : Declared) (x : List ℕ) (o : Option BuiltIn) (b : BuiltIn) → callee_or_function d x o ≡ Some (built_in b)
+    → callee_or_function k x o ≡ Some (built_in b)
 same_built_in d k x (Some c) b e = e
 same_built_in d k x None b e = absurd (no_function x 0 d.functions b e)
 
-found_agrees : (d : Declared) (fs : List FunctionTree) (x : List ℕ) → Each (IsNamed d) fs → ((n : ℕ) (f : FunctionTree) → callee d x ≡ Some (defined n f) → is_found x fs ≡ true) → Agrees d (with_functions d fs) x
+found_agrees : (d : Declared) (fs : List FunctionTree) (x : List ℕ) → Each (IsNamed d) fs
+    → ((n : ℕ) (f : FunctionTree) → callee d x ≡ Some (defined n f) → is_found x fs ≡ true) → Agrees d (with_functions d fs) x
 found_agrees d fs x a h = record { defined = function; built_in = λ b e. same_built_in d (with_functions d fs) x (built_in_named d x) b e }
   where
     function : (n : ℕ) (f : FunctionTree) → callee d x ≡ Some (defined n f) → (m : ℕ) × (callee (with_functions d fs) x ≡ Some (defined m f))
@@ -421,5 +458,6 @@ found_agrees d fs x a h = record { defined = function; built_in = λ b e. same_b
         let r = named_again d x n 0 f fs e a (h n f e) in
         (r.0, ap (callee_or_function (with_functions d fs) x) (no_built_in d x (built_in_named d x) n f e) ∙ r.1)
 
-pub reached_agree : (d : Declared) (k : ℕ) (f : FunctionTree) → slice_get (reached d) k ≡ Some f → Agree d (with_functions d (reached d)) (names_by_all f.body.statements)
+pub reached_agree : (d : Declared) (k : ℕ) (f : FunctionTree) → slice_get (reached d) k ≡ Some f
+    → Agree d (with_functions d (reached d)) (names_by_all f.body.statements)
 reached_agree d k f e = λ x m. found_agrees d (reached d) x (list_known d (length d.functions)).named (λ n g c. (closed_reached d k f e).found x n g m c)

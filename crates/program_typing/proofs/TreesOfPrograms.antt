@@ -1,5 +1,6 @@
 -- Each program that is typed has a typed tree.
-use Rattle.std.proofs.Common.{◌≡◌, ℕ, zero, suc, ◌+◌, List, [], ◌∷◌, ◌++◌, length, refl, sym, ap, ap₂, ◌∙◌, Option, Some, None, Bool, true, false, cond, is_some}
+use Rattle.std.proofs.Common.{◌≡◌, ℕ, zero, suc, ◌+◌, List, [], ◌∷◌, ◌++◌, length, refl, sym, ap, ap₂, ◌∙◌, Option, Some, None, Bool, true, false}
+use Rattle.std.proofs.Common.{cond, is_some}
 use Rattle.std.specs.Prelude.{codes, bytes_eq, option_map, ◌&&◌, ◌||◌}
 use Rattle.std.specs.List.{slice_get}
 use Rattle.std.proofs.lemmas.Bool.{and_parts}
@@ -52,13 +53,15 @@ some_at_last : (o : Option ℕ) (n : ℕ) → is_some (behind o n true) ≡ true
 some_at_last (Some k) n = refl
 some_at_last None n = refl
 
-no_further_main : (d : Declared) (items : List ItemTree) (ks fs : List (List ℕ)) → AreItems d ks fs items → is_one_of main_text fs ≡ true → has_main (functions_of items) ≡ true → ⊥
+no_further_main : (d : Declared) (items : List ItemTree) (ks fs : List (List ℕ)) → AreItems d ks fs items → is_one_of main_text fs ≡ true
+    → has_main (functions_of items) ≡ true → ⊥
 no_further_main d [] ks fs h m t = cc
 no_further_main d (imports x ∷ items) ks fs h m t = no_further_main d items ks fs h.1 m t
 no_further_main d (kind x ∷ items) ks fs h m t = no_further_main d items (ks ++ x.text ∷ []) fs h.1 m t
 no_further_main d (domain x k ∷ items) ks fs h m t = no_further_main d items (ks ++ x.text ∷ []) fs h.1 m t
 no_further_main d (defines f ∷ items) ks fs h m t =
-    go (is_main f) refl t (no_further_main d items ks (fs ++ f.function.text ∷ []) h.1 (ap is_some (number_in-append main_text fs f.function.text) ∙ still_some (number_in main_text fs) (length fs) (bytes_eq main_text f.function.text) m))
+    go (is_main f) refl t (no_further_main d items ks (fs ++ f.function.text ∷ []) h.1
+    (ap is_some (number_in-append main_text fs f.function.text) ∙ still_some (number_in main_text fs) (length fs) (bytes_eq main_text f.function.text) m))
   where
     go : (b : Bool) → is_main f ≡ b → (b || has_main (functions_of items)) ≡ true → (has_main (functions_of items) ≡ true → ⊥) → ⊥
     go true q r rest =
@@ -67,7 +70,8 @@ no_further_main d (defines f ∷ items) ks fs h m t =
     go false q r rest = rest r
 
 -- the first function of that name is the one
-pub main_is_main : (d : Declared) (items : List ItemTree) (ks fs : List (List ℕ)) (n k : ℕ) (f : FunctionTree) → AreItems d ks fs items → has_main (functions_of items) ≡ true → function_named main_text n (functions_of items) ≡ Some (defined k f) → is_main f ≡ true
+pub main_is_main : (d : Declared) (items : List ItemTree) (ks fs : List (List ℕ)) (n k : ℕ) (f : FunctionTree) → AreItems d ks fs items
+    → has_main (functions_of items) ≡ true → function_named main_text n (functions_of items) ≡ Some (defined k f) → is_main f ≡ true
 main_is_main d [] ks fs n k f h t e = cc
 main_is_main d (imports x ∷ items) ks fs n k f h t e = main_is_main d items ks fs n k f h.1 t e
 main_is_main d (kind x ∷ items) ks fs n k f h t e = main_is_main d items (ks ++ x.text ∷ []) fs n k f h.1 t e
@@ -81,7 +85,10 @@ main_is_main d (defines g ∷ items) ks fs n k f h t e =
         ∙ ap (λ b. is_some (behind (number_in main_text fs) (length fs) b)) q
         ∙ some_at_last (number_in main_text fs) (length fs)
 
-    go : (b c : Bool) → bytes_eq main_text g.function.text ≡ b → is_main g ≡ c → (c || has_main (functions_of items)) ≡ true → cond b (Some (defined n g)) (function_named main_text (n + 1) (functions_of items)) ≡ Some (defined k f) → (has_main (functions_of items) ≡ true → function_named main_text (n + 1) (functions_of items) ≡ Some (defined k f) → is_main f ≡ true) → is_main f ≡ true
+    go : (b c : Bool) → bytes_eq main_text g.function.text ≡ b → is_main g ≡ c → (c || has_main (functions_of items)) ≡ true
+        → cond b (Some (defined n g)) (function_named main_text (n + 1) (functions_of items)) ≡ Some (defined k f)
+        → (has_main (functions_of items) ≡ true → function_named main_text (n + 1) (functions_of items) ≡ Some (defined k f) → is_main f ≡ true)
+        → is_main f ≡ true
     go true true q m r s rest =
         let one : defined n g ≡ defined k f = cc in
         let same : g ≡ f = cc in
@@ -112,7 +119,8 @@ main_checked p t n f e =
       there = there;
     }
 
-called_checked : (p : ProgramTree) → IsTypedProgram p → (f : FunctionTree) → IsCheckedFunction p f → (x : List ℕ) (n : ℕ) (g : FunctionTree) → Among x (names_by_all f.body.statements) → callee (declared_by p) x ≡ Some (defined n g) → IsCheckedFunction p g
+called_checked : (p : ProgramTree) → IsTypedProgram p → (f : FunctionTree) → IsCheckedFunction p f → (x : List ℕ) (n : ℕ) (g : FunctionTree)
+    → Among x (names_by_all f.body.statements) → callee (declared_by p) x ≡ Some (defined n g) → IsCheckedFunction p g
 called_checked p t f c x n g m e =
     let d = declared_by p in
     let i : Instance = record { function = c.number; binding = c.domains } in
@@ -132,7 +140,9 @@ reached_are_checked p t =
 
 -- ALL HAVE TYPED TREES
 
-all_there : (k : Declared) (fs : List FunctionTree) → ((i : ℕ) (f : FunctionTree) → slice_get fs i ≡ Some f → (t : TypedFunctionTree) × (typed_function k f ≡ Some t)) → (ts : List TypedFunctionTree) × (typed_functions k fs ≡ Some ts)
+all_there : (k : Declared) (fs : List FunctionTree)
+    → ((i : ℕ) (f : FunctionTree) → slice_get fs i ≡ Some f → (t : TypedFunctionTree) × (typed_function k f ≡ Some t))
+    → (ts : List TypedFunctionTree) × (typed_functions k fs ≡ Some ts)
 all_there k [] h = ([], refl)
 all_there k (f ∷ fs) h =
     let one = h zero f refl in
@@ -144,7 +154,8 @@ typed_has_tree p t =
     let all = all_there (with_functions (declared_by p) (reached (declared_by p))) (reached (declared_by p)) each in
     (program_of all.0, ap (option_map program_of) all.1)
   where
-    each : (i : ℕ) (f : FunctionTree) → slice_get (reached (declared_by p)) i ≡ Some f → (u : TypedFunctionTree) × (typed_function (with_functions (declared_by p) (reached (declared_by p))) f ≡ Some u)
+    each : (i : ℕ) (f : FunctionTree) → slice_get (reached (declared_by p)) i ≡ Some f
+        → (u : TypedFunctionTree) × (typed_function (with_functions (declared_by p) (reached (declared_by p))) f ≡ Some u)
     each i f e =
         let c = each_at (IsCheckedFunction p) (reached (declared_by p)) i f (reached_are_checked p t) e in
         let typed = t.functions (record { function = c.number; binding = c.domains }) f c.checked c.there in

@@ -1,12 +1,14 @@
 -- An expression that has a type has a typed tree, whose shape is that of its type.
-use Rattle.std.proofs.Common.{◌≡◌, ℕ, List, [], ◌∷◌, ◌++◌, inl, length, refl, sym, ap, ap₂, ◌∙◌, subst, Option, Some, None, Bool, true, false, cond, eq-eqb, arith}
+use Rattle.std.proofs.Common.{◌≡◌, ℕ, List, [], ◌∷◌, ◌++◌, inl, length, refl, sym, ap, ap₂, ◌∙◌, subst, Option, Some, None, Bool, true, false, cond}
+use Rattle.std.proofs.Common.{eq-eqb, arith}
 use Rattle.std.specs.Prelude.{map, bytes_eq, option_map, option_and_then, ◌||◌}
 use Rattle.sc_text.specs.declared.span.Span.{Span}
 use Rattle.secrec_ast.specs.declared.expression.DataType.{DataType}
 use Rattle.secrec_ast.specs.declared.expression.DataType.TheVariants.{Uint64}
 use Rattle.secrec_ast.specs.declared.expression.DataType.TheVariants as datatype
 use Rattle.secrec_ast.specs.declared.expression.Operator.{Operator}
-use Rattle.secrec_ast.specs.declared.expression.Operator.TheVariants.{Add, Subtract, Multiply, Divide, Remainder, Equal, NotEqual, Less, LessOrEqual, Greater, GreaterOrEqual, And, Or, Xor, AndAlso, OrElse}
+use Rattle.secrec_ast.specs.declared.expression.Operator.TheVariants.{Add, Subtract, Multiply, Divide, Remainder, Equal, NotEqual, Less, LessOrEqual}
+use Rattle.secrec_ast.specs.declared.expression.Operator.TheVariants.{Greater, GreaterOrEqual, And, Or, Xor, AndAlso, OrElse}
 use Rattle.secrec_ast.specs.declared.function.Parameter.{Parameter}
 use Rattle.secrec_ast.specs.declared.function.ResultType.{ResultType}
 use Rattle.secrec_ast.specs.declared.function.ResultType.TheVariants as returned
@@ -34,7 +36,9 @@ use Rattle.typed_tree.specs.declared.operators.BinaryOperator.TheVariants.{Words
 use Rattle.typed_tree.specs.Tree.{word_node, truth_node, call_node, size_node, cat_node, sum_node, bits_node, element_node, typed_trees_of}
 use Rattle.typed_tree.specs.Operators.{operator_on, element_made}
 use Rattle.name_resolution.specs.Scopes.{Variable, Scope, variable_in, variable_named, shape_written}
-use Rattle.name_resolution.specs.Values.{TypedValue, TypedCall, made, of_both, variable_value, element_value, negated, cast_value, declassified_value, operation_made, operation, gives_value, with_shape, value_given, shape_returned, tree_of_value, built_in_value, called, and_values, value, values, call_made}
+use Rattle.name_resolution.specs.Values.{TypedValue, TypedCall, made, of_both, variable_value, element_value, negated, cast_value, declassified_value}
+use Rattle.name_resolution.specs.Values.{operation_made, operation, gives_value, with_shape, value_given, shape_returned, tree_of_value}
+use Rattle.name_resolution.specs.Values.{built_in_value, called, and_values, value, values, call_made}
 use Rattle.name_resolution.proofs.SoundValues.{mapped}
 
 -- WHAT IS MADE
@@ -100,18 +104,21 @@ pub record Names (o : Option Variable) (t : ValueType) : Type 0 where
   pub element : variable.known.shape.element ≡ t.element
   pub array : variable.known.shape.array ≡ t.array
 
-names_in_list : (x : List ℕ) (vs : List checked.Variable) (us : List Variable) (t : ValueType) → SameVariables vs us → variable_type (checked.variable_in x vs) ≡ Some t → Names (variable_in x us) t
+names_in_list : (x : List ℕ) (vs : List checked.Variable) (us : List Variable) (t : ValueType) → SameVariables vs us
+    → variable_type (checked.variable_in x vs) ≡ Some t → Names (variable_in x us) t
 names_in_list x [] us t m e = cc
 names_in_list x (v ∷ vs) [] t m e = absurd m
 names_in_list x (v ∷ vs) (u ∷ us) t m e = go (bytes_eq x v.name) (bytes_eq x u.name) (ap (bytes_eq x) m.0.name) e (names_in_list x vs us t m.1)
   where
-    go : (b c : Bool) → b ≡ c → variable_type (cond b (Some v) (checked.variable_in x vs)) ≡ Some t → (variable_type (checked.variable_in x vs) ≡ Some t → Names (variable_in x us) t) → Names (cond c (Some u) (variable_in x us)) t
+    go : (b c : Bool) → b ≡ c → variable_type (cond b (Some v) (checked.variable_in x vs)) ≡ Some t
+        → (variable_type (checked.variable_in x vs) ≡ Some t → Names (variable_in x us) t) → Names (cond c (Some u) (variable_in x us)) t
     go true true q h rest = record { variable = u; there = refl; element = m.0.element t h; array = m.0.array t h }
     go true false q h rest = cc
     go false true q h rest = cc
     go false false q h rest = rest h
 
-pub names_same : (s : checked.Scope) (u : Scope) (x : List ℕ) (t : ValueType) → Same s u → variable_type (checked.variable_named s x) ≡ Some t → Names (variable_named u x) t
+pub names_same : (s : checked.Scope) (u : Scope) (x : List ℕ) (t : ValueType) → Same s u → variable_type (checked.variable_named s x) ≡ Some t
+    → Names (variable_named u x) t
 names_same s u x t m e = names_in_list x (s.block ++ s.outer) (u.block ++ u.outer) t (same_append s.block s.outer u.block u.outer m.block m.outer) e
 
 -- CALLS
@@ -150,7 +157,8 @@ abbrev mutual
   names_in_all Tree'.none = []
   names_in_all (Tree'.also e es) = names_in e ++ names_in_all es
 
-built_in_makes : (line : ℕ) (b : BuiltIn) (gs : List Argument) (vs : List TypedValue) (t : ValueType) → SameShapes vs gs → IsBuiltInCall b gs t → Makes (built_in_value line b vs) t
+built_in_makes : (line : ℕ) (b : BuiltIn) (gs : List Argument) (vs : List TypedValue) (t : ValueType) → SameShapes vs gs → IsBuiltInCall b gs t
+    → Makes (built_in_value line b vs) t
 built_in_makes line Size [] vs t s h = absurd h
 built_in_makes line Size (a ∷ []) [] t s h = absurd s
 built_in_makes line Size (a ∷ []) (v ∷ []) t s h =
@@ -174,11 +182,18 @@ built_in_makes line Sum (a ∷ b ∷ gs) vs t s h = absurd h
 built_in_makes line BitExtract [] vs t s h = absurd h
 built_in_makes line BitExtract (a ∷ []) [] t s h = absurd s
 built_in_makes line BitExtract (a ∷ []) (v ∷ []) t s h =
-    record { value = made (bits_node line v.tree) datatype.Bool true; there = refl; element = sym (ap (λ z. z.element) h.1); array = sym (ap (λ z. z.array) h.1) }
+    record {
+      value = made (bits_node line v.tree) datatype.Bool true;
+      there = refl;
+      element = sym (ap (λ z. z.element) h.1);
+      array =
+          sym (ap (λ z. z.array) h.1);
+    }
 built_in_makes line BitExtract (a ∷ []) (v ∷ u ∷ vs) t s h = absurd s.2
 built_in_makes line BitExtract (a ∷ b ∷ gs) vs t s h = absurd h
 
-taken_count : (w : Setting) (ps : List Parameter) (gs : List Argument) (vs : List TypedValue) → ParametersTake w ps gs → SameShapes vs gs → length ps ≡ length vs
+taken_count : (w : Setting) (ps : List Parameter) (gs : List Argument) (vs : List TypedValue) → ParametersTake w ps gs → SameShapes vs gs
+    → length ps ≡ length vs
 taken_count w [] [] [] h s = refl
 taken_count w [] [] (v ∷ vs) h s = absurd s
 taken_count w [] (g ∷ gs) vs h s = absurd h
@@ -186,7 +201,8 @@ taken_count w (p ∷ ps) [] vs h s = absurd h
 taken_count w (p ∷ ps) (g ∷ gs) [] h s = absurd s
 taken_count w (p ∷ ps) (g ∷ gs) (v ∷ vs) h s = let more = taken_count w ps gs vs h.1 s.2 in omega arith
 
-returned_makes : (w : Setting) (c : TypedCall) (r : ResultType) (v : ValueType) → c.gives ≡ shape_returned r → result_type w r ≡ Some (Value v) → Makes (value_given c) v
+returned_makes : (w : Setting) (c : TypedCall) (r : ResultType) (v : ValueType) → c.gives ≡ shape_returned r → result_type w r ≡ Some (Value v)
+    → Makes (value_given c) v
 returned_makes w c returned.Void v g e = let no : Void ≡ Value v = cc in cc
 returned_makes w c (returned.Value r) v g e =
     let m = mapped Value (type_written w r) (Value v) e in
@@ -199,7 +215,8 @@ returned_makes w c (returned.Value r) v g e =
       array = ap (λ z. z.array) same;
     }
 
-call_gives : (d k : Declared) (x : List ℕ) (line : ℕ) (c : Callee) (vs : List TypedValue) (gs : List Argument) (t : ExpressionType) → Agrees d k x → callee d x ≡ Some c → SameShapes vs gs → IsCall d c gs t → (e : Callee) × (callee k x ≡ Some e) × Gives (called line e vs) t
+call_gives : (d k : Declared) (x : List ℕ) (line : ℕ) (c : Callee) (vs : List TypedValue) (gs : List Argument) (t : ExpressionType) → Agrees d k x
+    → callee d x ≡ Some c → SameShapes vs gs → IsCall d c gs t → (e : Callee) × (callee k x ≡ Some e) × Gives (called line e vs) t
 call_gives d k x line (built_in b) vs gs t a e s h =
     let m = built_in_makes line b gs vs h.0 s h.1 in (
       built_in b,
@@ -232,7 +249,8 @@ call_gives d k x line (defined n f) vs gs t a e s h =
 
 -- OPERATORS
 
-operator_makes : (op : Operator) (t : DataType) (d : Protection) (r : DataType) → OperatesOn op t d r → (b : BinaryOperator) × (operator_on op t t ≡ Some b) × (element_made b ≡ r)
+operator_makes : (op : Operator) (t : DataType) (d : Protection) (r : DataType) → OperatesOn op t d r
+    → (b : BinaryOperator) × (operator_on op t t ≡ Some b) × (element_made b ≡ r)
 operator_makes Add Uint64 d r h = (Words word.Add, refl, sym h.1)
 operator_makes Add datatype.Bool d r h = let no = h.0 in cc
 operator_makes Subtract Uint64 d r h = (Words word.Subtract, refl, sym h.1)
@@ -269,7 +287,9 @@ operator_makes OrElse datatype.Bool d r h = (Bools truth_of.Or, refl, sym h.1)
 -- EXPRESSIONS
 
 -- a call, which may be void, of arguments that are there
-call_from : (w : Setting) (k : Declared) (s : checked.Scope) (u : Scope) (line : ℕ) (x : List ℕ) (es : Trees) (t : ExpressionType) → Agrees w.declared k x → (h : (c : Callee) × (gs : List Argument) × (callee w.declared x ≡ Some c) × HaveTypes w s es gs × IsCall w.declared c gs t) → MakesAll (values k u es) h.1 → Gives (of_both (called line) (callee k x) (values k u es)) t
+call_from : (w : Setting) (k : Declared) (s : checked.Scope) (u : Scope) (line : ℕ) (x : List ℕ) (es : Trees) (t : ExpressionType)
+    → Agrees w.declared k x → (h : (c : Callee) × (gs : List Argument) × (callee w.declared x ≡ Some c) × HaveTypes w s es gs
+    × IsCall w.declared c gs t) → MakesAll (values k u es) h.1 → Gives (of_both (called line) (callee k x) (values k u es)) t
 call_from w k s u line x es t a h vs =
     let c = call_gives w.declared k x line h.0 vs.values h.1 t a h.2 vs.same h.4 in
     let g = c.2 in
@@ -279,14 +299,18 @@ agrees_last : (d k : Declared) (xs : List (List ℕ)) (x : List ℕ) → Agree d
 agrees_last d k xs x a = a x (among_right x xs (x ∷ []) (inl refl))
 
 mutual
-  pub value_makes : (w : Setting) (k : Declared) (s : checked.Scope) (u : Scope) → Same s u → (e : Tree) (v : ValueType) → Agree w.declared k (names_in e) → HasType w s e (Value v) → Makes (value k u e) v
+  pub value_makes : (w : Setting) (k : Declared) (s : checked.Scope) (u : Scope) → Same s u → (e : Tree) (v : ValueType)
+      → Agree w.declared k (names_in e) → HasType w s e (Value v) → Makes (value k u e) v
   value_makes w k s u m (number p n) v a h =
-      makes_as (Some (made (word_node n) Uint64 false)) (public_scalar Uint64) v (record { value = made (word_node n) Uint64 false; there = refl; element = refl; array = refl }) h
+      makes_as (Some (made (word_node n) Uint64 false)) (public_scalar Uint64) v
+      (record { value = made (word_node n) Uint64 false; there = refl; element = refl; array = refl }) h
   value_makes w k s u m (truth p b) v a h =
-      makes_as (Some (made (truth_node b) datatype.Bool false)) (public_scalar datatype.Bool) v (record { value = made (truth_node b) datatype.Bool false; there = refl; element = refl; array = refl }) h
+      makes_as (Some (made (truth_node b) datatype.Bool false)) (public_scalar datatype.Bool) v
+      (record { value = made (truth_node b) datatype.Bool false; there = refl; element = refl; array = refl }) h
   value_makes w k s u m (variable p x) v a h =
       let n = names_same s u x h.0 m h.1 in
-      makes_as (value k u (variable p x)) h.0 v (record { value = variable_value n.variable; there = ap (option_map variable_value) n.there; element = n.element; array = n.array }) h.2
+      makes_as (value k u (variable p x)) h.0 v
+      (record { value = variable_value n.variable; there = ap (option_map variable_value) n.there; element = n.element; array = n.array }) h.2
   value_makes w k s u m (call p x es) v a h =
       let vs = values_make w k s u m es h.1 (agree_left w.declared k (names_in_all es) (x ∷ []) a) h.3 in
       let c = call_from w k s u p.line x es (Value v) (agrees_last w.declared k (names_in_all es) x a) h vs in
@@ -295,14 +319,23 @@ mutual
   value_makes w k s u m (index p b i) v a h =
       let x = value_makes w k s u m b h.0 (agree_left w.declared k (names_in b) (names_in i) a) h.2 in
       let y = value_makes w k s u m i h.1 (agree_right w.declared k (names_in b) (names_in i) a) h.3 in
-      makes_as (value k u (index p b i)) (scalar_of h.0) v (record { value = made (element_node p.line x.value.tree y.value.tree) x.value.shape.element false; there = ap₂ (of_both (element_value p.line)) x.there y.there; element = x.element; array = refl }) h.6
+      makes_as (value k u (index p b i)) (scalar_of h.0) v
+      (record {
+        value = made (element_node p.line x.value.tree y.value.tree) x.value.shape.element false;
+        there =
+            ap₂ (of_both (element_value p.line)) x.there y.there;
+        element = x.element;
+        array = refl;
+      }) h.6
   value_makes w k s u m (parentheses p e) v a h = makes_as (value k u e) h.0 v (value_makes w k s u m e h.0 a h.1) h.2
   value_makes w k s u m (negation p e) v a h =
       let x = value_makes w k s u m e h.0 a h.1 in
-      makes_as (value k u (negation p e)) h.0 v (record { value = negated x.value; there = ap (option_map negated) x.there; element = x.element; array = x.array }) h.3
+      makes_as (value k u (negation p e)) h.0 v
+      (record { value = negated x.value; there = ap (option_map negated) x.there; element = x.element; array = x.array }) h.3
   value_makes w k s u m (cast p t e) v a h =
       let x = value_makes w k s u m e h.0 a h.1 in
-      makes_as (value k u (cast p t e)) (cast_type t h.0) v (record { value = cast_value t x.value; there = ap (option_map (cast_value t)) x.there; element = refl; array = x.array }) h.2
+      makes_as (value k u (cast p t e)) (cast_type t h.0) v
+      (record { value = cast_value t x.value; there = ap (option_map (cast_value t)) x.there; element = refl; array = x.array }) h.2
   value_makes w k s u m (binary p op b c) v a h =
       let x = value_makes w k s u m b h.0 (agree_left w.declared k (names_in b) (names_in c) a) h.3 in
       let y = value_makes w k s u m c h.1 (agree_right w.declared k (names_in b) (names_in c) a) h.4 in
@@ -316,11 +349,13 @@ mutual
       }) h.6
   value_makes w k s u m (declassify p e) v a h =
       let x = value_makes w k s u m e h.0 a h.1 in
-      makes_as (value k u (declassify p e)) (declassified h.0) v (record { value = declassified_value x.value; there = ap (option_map declassified_value) x.there; element = x.element; array = x.array }) h.2
+      makes_as (value k u (declassify p e)) (declassified h.0) v
+      (record { value = declassified_value x.value; there = ap (option_map declassified_value) x.there; element = x.element; array = x.array }) h.2
   value_makes w k s u m (argument p x) v a h = absurd h
   value_makes w k s u m (publish p x e) v a h = let no : Value v ≡ Void = h.2 in cc
 
-  pub values_make : (w : Setting) (k : Declared) (s : checked.Scope) (u : Scope) → Same s u → (es : Trees) (gs : List Argument) → Agree w.declared k (names_in_all es) → HaveTypes w s es gs → MakesAll (values k u es) gs
+  pub values_make : (w : Setting) (k : Declared) (s : checked.Scope) (u : Scope) → Same s u → (es : Trees) (gs : List Argument)
+      → Agree w.declared k (names_in_all es) → HaveTypes w s es gs → MakesAll (values k u es) gs
   values_make w k s u m Tree'.none gs a h = record { values = []; there = refl; same = subst (SameShapes []) (sym h) tt }
   values_make w k s u m (Tree'.also e es) [] a h = absurd h
   values_make w k s u m (Tree'.also e es) (g ∷ gs) a h =
@@ -328,6 +363,8 @@ mutual
       let y = values_make w k s u m es gs (agree_right w.declared k (names_in e) (names_in_all es) a) h.2 in
       record { values = x.value ∷ y.values; there = ap₂ (of_both and_values) x.there y.there; same = (x.element, x.array, y.same) }
 
-pub call_makes : (w : Setting) (k : Declared) (s : checked.Scope) (u : Scope) → Same s u → (p : Span) (x : List ℕ) (es : Trees) (t : ExpressionType) → Agree w.declared k (names_in (call p x es)) → HasType w s (call p x es) t → Gives (call_made k u p.line x es) t
+pub call_makes : (w : Setting) (k : Declared) (s : checked.Scope) (u : Scope) → Same s u → (p : Span) (x : List ℕ) (es : Trees) (t : ExpressionType)
+    → Agree w.declared k (names_in (call p x es)) → HasType w s (call p x es) t → Gives (call_made k u p.line x es) t
 call_makes w k s u m p x es t a h =
-    call_from w k s u p.line x es t (agrees_last w.declared k (names_in_all es) x a) h (values_make w k s u m es h.1 (agree_left w.declared k (names_in_all es) (x ∷ []) a) h.3)
+    call_from w k s u p.line x es t (agrees_last w.declared k (names_in_all es) x a) h
+    (values_make w k s u m es h.1 (agree_left w.declared k (names_in_all es) (x ∷ []) a) h.3)

@@ -1,8 +1,8 @@
 -- What `type_program` answers.
 use Rattle.std.specs.Prelude.{◌≡◌, Some, Result, Ok, Err}
 use Rattle.secrec_ast.specs.Programs.{ProgramTree}
-use Rattle.domain_types.specs.declared.type_error.TypeError.{TypeError}
-use Rattle.domain_types.specs.declared.type_error.TypeError.TheVariants.{Refused, Memory}
+use Rattle.domain_types.specs.declared.type_err.TypeErr.{TypeErr}
+use Rattle.domain_types.specs.declared.type_err.TypeErr.TheVariants.{Refused, Memory}
 use Rattle.domain_types.specs.ProgramTypes.{IsRefused}
 use Rattle.domain_types.specs.Typing.{IsTypedProgram}
 use Rattle.typed_tree.specs.declared.function.TypedProgram.{TypedProgram}
@@ -11,7 +11,7 @@ use Rattle.name_resolution.specs.Functions.{typed_of}
 use Rattle.typed_tree.specs.Sound.{IsSound}
 
 -- the typed tree of a program that is typed, which names only what is there; else the first fault
-abbrev pub IsTypedAnswer : Result TypedProgram TypeError → ProgramTree → Type 0
+abbrev pub IsTypedAnswer : Result TypedProgram TypeErr → ProgramTree → Type 0
 IsTypedAnswer (Ok t) p = IsTypedProgram p × (typed_of p ≡ Some (typed_program_tree t)) × IsSound (typed_program_tree t)
 IsTypedAnswer (Err (Refused f)) p = IsRefused p f
 IsTypedAnswer (Err Memory) p = Unit {0}

@@ -7,8 +7,8 @@ ghost use Rattle.typed_tree.specs.Sound.{IsSound};
 ghost use Rattle.name_resolution.specs.Functions.{typed_of};
 ghost use Rattle.program_typing.specs.Answer.{IsTypedAnswer};
 
-use domain_types::{TypeError, check};
-use name_resolution::{ResolveError, resolve};
+use domain_types::{TypeErr, check};
+use name_resolution::{ResolveErr, resolve};
 use secrec_ast::Program;
 use std::alloc::{AllocError, Global};
 use typed_tree::TypedProgram;
@@ -22,8 +22,8 @@ pub fn checked_tree(alloc: Global, program: &Program) -> Result<TypedProgram, Al
 {
     match resolve(alloc, program) {
         Ok(typed) => Ok(typed),
-        Err(ResolveError::Memory) => Err(AllocError),
-        Err(ResolveError::Unresolved) => unreachable!(),
+        Err(ResolveErr::Memory) => Err(AllocError),
+        Err(ResolveErr::Unresolved) => unreachable!(),
     }
 }
 
@@ -31,7 +31,7 @@ pub fn checked_tree(alloc: Global, program: &Program) -> Result<TypedProgram, Al
 ///
 /// `Refused` comes with the program's first fault exactly where `check` refuses it, and `Memory` where memory runs short. Each
 /// program that is accepted has a typed tree, so none is left without one for another reason.
-pub fn type_program(alloc: Global, program: &Program) -> Result<TypedProgram, TypeError>
+pub fn type_program(alloc: Global, program: &Program) -> Result<TypedProgram, TypeErr>
     ensures { IsTypedAnswer result (program_tree program.now) }
 {
     let _ = check(alloc, program)?;

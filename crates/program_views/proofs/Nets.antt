@@ -1,6 +1,5 @@
 -- What a delivery of a program's run comes to is counted, and is the same for inputs that are alike.
-use Rattle.std.proofs.Common.{◌≡◌, ℕ, ◌≤◌, Bool, true, false, if◌then◌else◌, List, [], ◌∷◌, refl, sym, ap, ◌∙◌, subst, arith}
-use Rattle.std.specs.Prelude.{nat_le}
+use Rattle.std.proofs.Common.{◌≡◌, ℕ, Bool, true, false, if◌then◌else◌, List, [], ◌∷◌, refl, sym, ap, ◌∙◌, subst, arith}
 use Rattle.proto_core.specs.declared.party.Number.{Number}
 use Rattle.proto_core.specs.declared.party.Number.TheVariants.{One, Two, Three}
 use Rattle.proto_core.specs.declared.link.Link.{Link}
@@ -29,7 +28,7 @@ use Rattle.view_model.specs.Dealing.{dealt_to, private_sizes, hidden_sizes}
 use Rattle.view_model.specs.TapeMaps.{miners_of, no_values, gates_dealt, is_dealt, AreTapes, CanRun}
 use Rattle.view_model.specs.Seen.{seen_by}
 use Rattle.view_model.proofs.DealtSizes.{sizes_hidden}
-use Rattle.view_model.proofs.Corresponding.{sound, ready_with}
+use Rattle.view_model.proofs.Corresponding.{sound, ready_with, le_from}
 use Rattle.view_model.proofs.Coming.{come_is_seen}
 use Rattle.program_views.specs.Views.{lengths_of, run_on, told_run, nothing_seen, seen_of, scripts_of}
 use Rattle.program_views.specs.TapeMaps.{AreAlike}
@@ -37,9 +36,6 @@ use Rattle.program_views.specs.Laws.{IsGivenTo, NetIsCounted, NetsAreCounted, Ne
 use Rattle.program_views.proofs.Undealt.{no_gates}
 use Rattle.program_views.proofs.Blind.{same_course_exactly}
 use Rattle.program_views.proofs.Simulated.{can_run}
-
-le_from : (a b : ℕ) → nat_le a b ≡ true → a ≤ b
-le_from a b h = grind arith
 
 -- ---- THE NET OF ONE RUN
 

@@ -1,5 +1,5 @@
 -- What a miner sees of a program's run is what the simulator makes.
-use Rattle.std.proofs.Common.{◌≡◌, ℕ, ◌≤◌, Bool, true, false, if◌then◌else◌, List, [], ◌∷◌, ◌++◌, length, take, refl, sym, ap, ◌∙◌, arith}
+use Rattle.std.proofs.Common.{◌≡◌, ℕ, ◌≤◌, Bool, true, false, if◌then◌else◌, List, [], ◌∷◌, ◌++◌, length, take, refl, sym, ap, ◌∙◌}
 use Rattle.std.specs.Prelude.{nat_le}
 use Rattle.proto_core.specs.declared.party.Number.{Number}
 use Rattle.proto_core.specs.declared.party.Number.TheVariants.{One, Two, Three}
@@ -23,7 +23,7 @@ use Rattle.clear_eval.specs.Offers.{offered}
 use Rattle.blind_evaluation.specs.Courses.{TakeSameCourse}
 use Rattle.view_model.specs.TapeMaps.{miners_of, gates_dealt, is_dealt, to_simulated, AreTapes, SameLengths, CanRun}
 use Rattle.view_model.specs.Seen.{seen_by, made_for, opened_by_all}
-use Rattle.view_model.proofs.Corresponding.{correspond}
+use Rattle.view_model.proofs.Corresponding.{correspond, le_from}
 use Rattle.view_model.proofs.Simulated.{seen_is_made}
 use Rattle.code_inputs.specs.Inputs.{dealt_of}
 use Rattle.code_inputs.proofs.Running.{evaluation_suits}
@@ -34,9 +34,6 @@ use Rattle.program_views.proofs.Given.{given_so, need_known}
 use Rattle.program_views.proofs.Dealt.{reaches, opens_its_words, draws_its_words}
 use Rattle.program_views.proofs.Undealt.{none_drawn}
 use Rattle.program_views.proofs.Blind.{takes_same_course, same_course_exactly, is_ended, same_view, gives_view}
-
-le_from : (a b : ℕ) → nat_le a b ≡ true → a ≤ b
-le_from a b h = grind arith
 
 pub same_lengths : (t s : FourTapes) → SameLengths t s → lengths_of t ≡ lengths_of s
 same_lengths t s h =

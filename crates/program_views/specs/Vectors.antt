@@ -16,7 +16,7 @@ use Rattle.value_file.specs.Public.{part_of}
 use Rattle.tape_file.specs.Tapes.{FourTapes}
 use Rattle.typed_tree.specs.declared.kinds.Slot.{Slot}
 use Rattle.typed_tree.specs.declared.kinds.SlotDomain.TheVariants as domain
-use Rattle.typed_tree.specs.declared.function.Given.TheVariants.{Nothing}
+use Rattle.typed_tree.specs.declared.function.Returned.TheVariants.{Nothing}
 use Rattle.typed_tree.specs.declared.operators.WordOperator.TheVariants.{Add}
 use Rattle.typed_tree.specs.declared.operators.BinaryOperator.TheVariants.{Words}
 use Rattle.typed_tree.specs.declared.operators.Operands.TheVariants.{Scalars}

@@ -1,4 +1,6 @@
 pub mod Each
+pub mod Numbers
+pub mod Edits
 pub mod Parts
 pub mod MessageFields
 pub mod MessageListsLemmas

@@ -5,20 +5,20 @@ use Rattle.std.proofs.Math.Seq.{take-append_seam, drop-append_seam}
 use Rattle.std.proofs.lemmas.List.{append-nil}
 use Rattle.proto_core.specs.Strand.{Field, Words, Bits, Shape, shaped, accepts, has_bits, is_bit}
 
-both_true : (a b : Bool) → a ≡ true → b ≡ true → (a && b) ≡ true
+pub both_true : (a b : Bool) → a ≡ true → b ≡ true → (a && b) ≡ true
 both_true true true h k = refl
 both_true true false h k = k
 both_true false b h k = h
 
-first_true : (a b : Bool) → (a && b) ≡ true → a ≡ true
+pub first_true : (a b : Bool) → (a && b) ≡ true → a ≡ true
 first_true true b h = refl
 first_true false b h = h
 
-second_true : (a b : Bool) → (a && b) ≡ true → b ≡ true
+pub second_true : (a b : Bool) → (a && b) ≡ true → b ≡ true
 second_true true b h = h
 second_true false b h = cc
 
-equal_test : (a b : ℕ) → a ≡ b → (a == b) ≡ true
+pub equal_test : (a b : ℕ) → a ≡ b → (a == b) ≡ true
 equal_test a b h = grind arith
 
 equal_from : (a b : ℕ) → (a == b) ≡ true → a ≡ b
@@ -38,7 +38,8 @@ pub accepts-none : (n : ℕ) → accepts (shaped n []) [] ≡ true
 accepts-none n = both_true _ _ (equal_test 0 (0 * n) (omega arith)) refl
 
 -- n words in front
-pub accepts-words : (n : ℕ) (fields : List Field) (xs ys : List ℕ) → length xs ≡ n → accepts (shaped n fields) ys ≡ true → accepts (shaped n (Words ∷ fields)) (xs ++ ys) ≡ true
+pub accepts-words : (n : ℕ) (fields : List Field) (xs ys : List ℕ) → length xs ≡ n → accepts (shaped n fields) ys ≡ true
+    → accepts (shaped n (Words ∷ fields)) (xs ++ ys) ≡ true
 accepts-words n fields xs ys len rest =
     let size : length ys ≡ length fields * n = accepted-length (shaped n fields) ys rest in
     both_true _ _
@@ -46,7 +47,8 @@ accepts-words n fields xs ys len rest =
     (ap (has_bits n fields) (drop-front n xs ys len) ∙ second_true _ _ rest)
 
 -- n bits in front
-pub accepts-bits : (n : ℕ) (fields : List Field) (xs ys : List ℕ) → length xs ≡ n → list_all is_bit xs ≡ true → accepts (shaped n fields) ys ≡ true → accepts (shaped n (Bits ∷ fields)) (xs ++ ys) ≡ true
+pub accepts-bits : (n : ℕ) (fields : List Field) (xs ys : List ℕ) → length xs ≡ n → list_all is_bit xs ≡ true → accepts (shaped n fields) ys ≡ true
+    → accepts (shaped n (Bits ∷ fields)) (xs ++ ys) ≡ true
 accepts-bits n fields xs ys len bits rest =
     let size : length ys ≡ length fields * n = accepted-length (shaped n fields) ys rest in
     both_true _ _

@@ -1,5 +1,6 @@
 -- Messages kept as words and ends.
-use Rattle.std.proofs.Common.{◌≡◌, ℕ, zero, suc, ◌+◌, ◌-◌, ◌<◌, ◌≤◌, List, [], ◌∷◌, ◌++◌, length, take, drop, map, get_or, refl, sym, ◌∙◌, ap, arith, length-append, length-drop, inl, inr}
+use Rattle.std.proofs.Common.{◌≡◌, ℕ, zero, suc, ◌+◌, ◌-◌, ◌<◌, ◌≤◌, List, [], ◌∷◌, ◌++◌, length, take, drop, map, get_or, refl, sym, ◌∙◌, ap, arith}
+use Rattle.std.proofs.Common.{length-append, length-drop, inl, inr}
 use Rattle.std.specs.Prelude.{slice_get, Some, None}
 use Rattle.std.specs.List.{range_with_len}
 use Rattle.std.proofs.Math.Seq.{take-length, drop-append_seam}
@@ -105,7 +106,8 @@ AreEnds-push ends words m is short =
     let more : length (ends ++ length (words ++ m) ∷ []) ≡ suc (length ends) = omega (arith, length-append ends (length (words ++ m) ∷ [])) in
     record {
       pieces = λ k h.
-          elim (cases_lt k (length ends)) as (λ c. IsPiece (start_of (ends ++ length (words ++ m) ∷ []) k) (at (ends ++ length (words ++ m) ∷ []) k) (length (words ++ m))) [
+          elim (cases_lt k (length ends)) as
+          (λ c. IsPiece (start_of (ends ++ length (words ++ m) ∷ []) k) (at (ends ++ length (words ++ m) ∷ []) k) (length (words ++ m))) [
             | inl below ↦
                 let old = is.pieces k below in
                 let starts = start-ends ends words m k (omega arith) in

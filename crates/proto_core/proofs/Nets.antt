@@ -5,8 +5,10 @@ use Rattle.proto_core.specs.declared.link.Link.{Link}
 use Rattle.proto_core.specs.Parties.{sender_of, receiver_of, is_same}
 use Rattle.proto_core.specs.Strand.{same_link, Mail, Strand, run, then_do, on_link, Begins, Agree, IsEnded}
 use Rattle.proto_core.specs.Net.{added, into, run_of, posted, under_way, delivered, all_delivered, opened_by, rounds, nothing, MailBegins, Finishes}
-use Rattle.proto_core.proofs.Beginnings.{begins-self, begins-append, begins-trans, begins-both, begins-under, append-none, begins-agree, agree-shorter, begins-next, agree_none}
-use Rattle.proto_core.proofs.Strands.{MailAgrees, run-more, run-most, run-agree, run-then, then-begins, followed, on_link-append, begins-on_link, begins-opened, agree-on_link}
+use Rattle.proto_core.proofs.Beginnings.{begins-self, begins-append, begins-trans, begins-both, begins-under, append-none, begins-agree}
+use Rattle.proto_core.proofs.Beginnings.{agree-shorter, begins-next, agree_none}
+use Rattle.proto_core.proofs.Strands.{MailAgrees, run-more, run-most, run-agree, run-then, then-begins, followed, on_link-append, begins-on_link}
+use Rattle.proto_core.proofs.Strands.{begins-opened, agree-on_link}
 
 module _ {A : Type 0} (nodes : Number → Strand A) where
   pub into-more : (i : Number) (x y : Mail) → MailBegins x y → MailBegins (into i x) (into i y)
@@ -24,7 +26,8 @@ module _ {A : Type 0} (nodes : Number → Strand A) where
       [ true ↦ begins-next (mail j) (posted nodes mail j) (full j) (h j) (k j) | false ↦ h j ]
 
   -- any order of deliveries, complete or not, stays within a mail that covers what is sent with it
-  pub orders-begin : (full : Mail) → MailBegins (posted nodes full) full → (order : List Link) (mail : Mail) → MailBegins mail full → MailBegins (all_delivered nodes mail order) full
+  pub orders-begin : (full : Mail) → MailBegins (posted nodes full) full → (order : List Link) (mail : Mail) → MailBegins mail full
+      → MailBegins (all_delivered nodes mail order) full
   orders-begin full k [] mail h = h
   orders-begin full k (l ∷ ls) mail h =
       orders-begin full k ls (delivered nodes mail l)
@@ -47,7 +50,8 @@ module _ {A : Type 0} (nodes : Number → Strand A) where
   covers full outputs f l = subst (λ v. Begins v (full l)) (sym (f.sent l)) (begins-self (full l))
 
   -- every schedule, complete or not, gives a beginning of the full run
-  pub schedule-begins : (full : Mail) (outputs : Number → A) → Finishes nodes full outputs → (order : List Link) → MailBegins (all_delivered nodes nothing order) full
+  pub schedule-begins : (full : Mail) (outputs : Number → A) → Finishes nodes full outputs → (order : List Link)
+      → MailBegins (all_delivered nodes nothing order) full
   schedule-begins full outputs f order = orders-begin full (covers full outputs f) order nothing (λ l. tt)
 
   -- no deadlock: where no message is under way, all have come
@@ -64,13 +68,17 @@ module _ {A : Type 0} (nodes : Number → Strand A) where
   pub nodes-agree : (full mail : Mail) (outputs : Number → A) → Finishes nodes full outputs → MailBegins mail (posted nodes mail) → MailAgrees mail full
   nodes-agree full mail outputs f h l = agree-shorter (full l) (rounds nodes f.count nothing l) (mail l) (f.all l) (rounds-agree mail h f.count l)
 
-  pub nodes-sent : (full mail : Mail) (outputs : Number → A) → Finishes nodes full outputs → MailBegins mail (posted nodes mail) → MailBegins (posted nodes mail) full
+  pub nodes-sent : (full mail : Mail) (outputs : Number → A) → Finishes nodes full outputs → MailBegins mail (posted nodes mail)
+      → MailBegins (posted nodes mail) full
   nodes-sent full mail outputs f h l =
       subst (λ v. Begins (posted nodes mail l) v) (f.sent l)
-      (begins-on_link l _ _ (run-most (nodes (sender_of l)) _ _ (into-agree (sender_of l) mail full (nodes-agree full mail outputs f h)) (ended-is full outputs f (sender_of l))))
+      (begins-on_link l _ _ (run-most (nodes (sender_of l)) _ _ (into-agree (sender_of l) mail full (nodes-agree full mail outputs f h))
+      (ended-is full outputs f (sender_of l))))
 
-  pub nodes-opened : (full mail : Mail) (outputs : Number → A) → Finishes nodes full outputs → MailBegins mail (posted nodes mail) → (i : Number) → Begins (opened_by nodes mail i) (opened_by nodes full i)
-  nodes-opened full mail outputs f h i = begins-opened _ _ (run-most (nodes i) _ _ (into-agree i mail full (nodes-agree full mail outputs f h)) (ended-is full outputs f i))
+  pub nodes-opened : (full mail : Mail) (outputs : Number → A) → Finishes nodes full outputs → MailBegins mail (posted nodes mail) → (i : Number)
+      → Begins (opened_by nodes mail i) (opened_by nodes full i)
+  nodes-opened full mail outputs f h i =
+      begins-opened _ _ (run-most (nodes i) _ _ (into-agree i mail full (nodes-agree full mail outputs f h)) (ended-is full outputs f i))
 
 -- ---- one protocol after another
 
@@ -84,7 +92,8 @@ pub into-added : (i : Number) (x y : Mail) → into i (added x y) ≡ added (int
 into-added i x y = λ d. λ l. at_link l d
   where
     at_link : (l : Link) → into i (added x y) l ≡ added (into i x) (into i y) l
-    at_link l = elim (is_same (receiver_of l) i) as (λ b. (if b then x l ++ y l else []) ≡ (if b then x l else []) ++ (if b then y l else [])) [ true ↦ refl | false ↦ refl ]
+    at_link l = elim (is_same (receiver_of l) i) as (λ b. (if b then x l ++ y l else []) ≡ (if b then x l else []) ++ (if b then y l else []))
+        [ true ↦ refl | false ↦ refl ]
 
 module _ {A B : Type 0} (first : Number → Strand A) (next : Number → A → Strand B) (full : Mail) (outputs : Number → A) (f : Finishes first full outputs) where
   abbrev pub both : Number → Strand B

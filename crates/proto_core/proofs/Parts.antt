@@ -1,5 +1,6 @@
 -- Fields one after another.
-use Rattle.std.proofs.Common.{◌≡◌, ℕ, suc, ◌+◌, ◌-◌, ◌*◌, ◌<◌, ◌≤◌, ◌^◌, List, ◌++◌, length, take, drop, refl, sym, ◌∙◌, ap, inl, inr, arith, length-drop, take-append-drop, append_assoc}
+use Rattle.std.proofs.Common.{◌≡◌, ℕ, suc, ◌+◌, ◌-◌, ◌*◌, ◌<◌, ◌≤◌, ◌^◌, List, ◌++◌, length, take, drop, refl, sym, ◌∙◌, ap, inl, inr, arith}
+use Rattle.std.proofs.Common.{length-drop, take-append-drop, append_assoc}
 use Rattle.std.proofs.lemmas.List.{get_or_append_left, get_or-append_right, get_or-take, get_or-drop, length-take-le}
 use Rattle.std.proofs.lemmas.Bool.{cases_lt}
 use Rattle.proto_core.specs.Lists.{at, each, part, AreWords}
@@ -67,7 +68,8 @@ pub parts_of_three : (n : ℕ) (xs : List ℕ) → length xs ≡ 3 * n → part 
 parts_of_three n xs e =
     let rest : length (drop n xs) ≡ 2 * n = omega (arith, length-drop n xs) in
     let le : n ≤ length xs = omega arith in
-    ap (λ l. part n 0 xs ++ l) (ap (λ l. l ++ part n 2 xs) (part-drop n 0 xs) ∙ ap (λ l. part n 0 (drop n xs) ++ l) (part-drop n 1 xs) ∙ parts_of_two n (drop n xs) rest)
+    ap (λ l. part n 0 xs ++ l) (ap (λ l. l ++ part n 2 xs) (part-drop n 0 xs) ∙ ap (λ l. part n 0 (drop n xs) ++ l) (part-drop n 1 xs)
+    ∙ parts_of_two n (drop n xs) rest)
     ∙ ap (λ l. l ++ drop n xs) (part-take n xs le) ∙ take-append-drop n xs
 
 -- two fields, and the three of two fields before a third

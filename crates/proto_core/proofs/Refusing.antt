@@ -65,7 +65,7 @@ pub wrong_length_is_told :
 wrong_length_is_told before s want m refused size h =
     fault_by_length s m (λ e. h.differs (e ∙ sym size)) ∙ ap (λ k. Some (BadLength k (length m))) (sym size) ∙ ap Some (sym h.cause)
 
-bit_test : (x : ℕ) → x < 2 → is_bit x ≡ true
+pub bit_test : (x : ℕ) → x < 2 → is_bit x ≡ true
 bit_test x h = grind arith
 
 no_bit_test : (x : ℕ) → 1 < x → is_bit x ≡ false

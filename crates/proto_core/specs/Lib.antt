@@ -4,6 +4,7 @@ pub mod Strand
 pub mod Net
 pub mod Script
 pub mod Protocol
+pub mod Joints
 pub mod Refusals
 pub mod Standing
 pub mod MessageLists

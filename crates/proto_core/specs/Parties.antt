@@ -15,6 +15,12 @@ previous_of One = Three
 previous_of Two = One
 previous_of Three = Two
 
+-- what each of the three has
+abbrev pub of_three : {A : Type 0} → A → A → A → Number → A
+of_three x y z One = x
+of_three x y z Two = y
+of_three x y z Three = z
+
 abbrev pub count_of : Number → ℕ
 count_of One = 1
 count_of Two = 2

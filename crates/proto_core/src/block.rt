@@ -1,4 +1,4 @@
-ghost use Rattle.std.specs.Prelude.{◌≡◌, ◌+◌, ◌<◌, ◌≤◌, ◌↔◌, ℕ, List, [], ◌∷◌, ◌++◌, length, take, slice_index, slice_get, IsTrue, MatchResult};
+ghost use Rattle.std.specs.Prelude.{◌≡◌, ◌+◌, ◌<◌, ◌≤◌, ◌↔◌, ℕ, List, [], ◌∷◌, ◌++◌, length, take, slice_index, slice_set, slice_get, IsTrue, MatchResult};
 
 use crate::share::Share;
 use std::marker::{Model, PhantomData};
@@ -122,6 +122,15 @@ impl<R, P> Block<R, P> {
     {
         let words = &self.words[..self.len];
         words[at]
+    }
+
+    /// Puts a word in the place of the one at an index.
+    pub fn set_word(&mut self, at: usize, word: u64)
+        requires { at < length self.old }
+        ensures { self.new ≡ slice_set self.old at word }
+    {
+        let words = &mut self.words[..self.len];
+        words[at] = word;
     }
 
     /// The share at an index; `None` past the end.

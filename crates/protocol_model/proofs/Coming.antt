@@ -18,7 +18,8 @@ none_below k h = absurd (omega arith)
 
 -- ---- the message under way is the next of the run
 
-next-comes : (l : Link) (xs ys rest : List (List ℕ)) (more : List Arrival) → Begins ys (xs ++ rest) → length xs < length ys → oldest_then l (next_after xs ys) more ≡ oldest_then l rest more
+next-comes : (l : Link) (xs ys rest : List (List ℕ)) (more : List Arrival) → Begins ys (xs ++ rest) → length xs < length ys
+    → oldest_then l (next_after xs ys) more ≡ oldest_then l rest more
 next-comes l [] [] rest more b h = none_below 0 h
 next-comes l [] (y ∷ ys) [] more b h = absurd b
 next-comes l [] (y ∷ ys) (r ∷ rs) more b h = ap (λ m. record { link = l; message = m } ∷ more) b.0
@@ -48,14 +49,16 @@ module _ {A : Type 0} (nodes : Number → Strand A) (full : Mail) (outputs : Num
       subst (λ v. Begins (posted nodes mail l) v) (sym (h l))
       (begins-trans _ _ _ (posted-more nodes mail full (parted-begins mail rest h) l) (covers nodes full outputs f l))
 
-  parted-next : (mail rest : Mail) (l : Link) → Parted mail rest full → length (mail l) < length (posted nodes mail l) → Parted (delivered nodes mail l) (taken l rest) full
+  parted-next : (mail rest : Mail) (l : Link) → Parted mail rest full → length (mail l) < length (posted nodes mail l)
+      → Parted (delivered nodes mail l) (taken l rest) full
   parted-next mail rest l h lt k = by_link (same_link l k) refl
     where
       by_link : (b : Bool) → same_link l k ≡ b → delivered nodes mail l k ++ taken l rest k ≡ full k
       by_link true e =
           let same : l ≡ k = same-link_is l k e in
           ap (λ b. (if b then mail k ++ under_way nodes mail k else mail k) ++ (if b then rest_of (rest k) else rest k)) e
-          ∙ next-leaves (mail k) (posted nodes mail k) (rest k) (posted-within mail rest h k) (subst (λ v. length (mail v) < length (posted nodes mail v)) same lt)
+          ∙ next-leaves (mail k) (posted nodes mail k) (rest k) (posted-within mail rest h k)
+          (subst (λ v. length (mail v) < length (posted nodes mail v)) same lt)
           ∙ h k
       by_link false e = ap (λ b. (if b then mail k ++ under_way nodes mail k else mail k) ++ (if b then rest_of (rest k) else rest k)) e ∙ h k
 
@@ -74,7 +77,8 @@ module _ {A : Type 0} (nodes : Number → Strand A) (full : Mail) (outputs : Num
     pub goes-on : walked nodes entry mail (l ∷ ls) ≡ Accepted → walked nodes (entry + 1) (delivered nodes mail l) ls ≡ Accepted
     goes-on e = sym (ap (go_on (walked nodes (entry + 1) (delivered nodes mail l) ls)) (passes e)) ∙ e
 
-  pub come : (i : Number) (order : List Link) (entry : ℕ) (mail rest : Mail) → Parted mail rest full → walked nodes entry mail order ≡ Accepted → arrived nodes i mail order ≡ arrivals i rest order
+  pub come : (i : Number) (order : List Link) (entry : ℕ) (mail rest : Mail) → Parted mail rest full → walked nodes entry mail order ≡ Accepted
+      → arrived nodes i mail order ≡ arrivals i rest order
   come i [] entry mail rest h e = refl
   come i (l ∷ ls) entry mail rest h e =
       let lt : length (mail l) < length (posted nodes mail l) = lt_from _ _ (passes entry mail l ls e) in

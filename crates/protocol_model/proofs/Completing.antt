@@ -10,6 +10,7 @@ use Rattle.proto_core.specs.Net.{added, into, run_of, posted, delivered, all_del
 use Rattle.proto_core.proofs.Beginnings.{begins-rest, append-none}
 use Rattle.proto_core.proofs.Strands.{run-none, run-took, run-refused, run-added, run-ended, followed}
 use Rattle.proto_core.proofs.Nets.{into-more, covers, orders-begin}
+use Rattle.proto_core.proofs.Numbers.{same_itself}
 use Rattle.protocol_model.specs.Network.{Accepted, Stalled, or_stalled, at_the_end, waits_for, walked}
 use Rattle.protocol_model.specs.Arrivals.{to_come}
 use Rattle.protocol_model.specs.Complete.{IsComplete, IsThrough}
@@ -24,7 +25,8 @@ not_waiting (Ends a) mail e = tt
 not_waiting (Acts a s) mail e = not_waiting s mail e
 not_waiting (Waits l n k) mail e = by_mail (mail l) refl (λ m g. not_waiting (k m) (taken l mail) g)
   where
-    by_mail : (xs : List (List ℕ)) → mail l ≡ xs → ((m : List ℕ) → waits_for (run (k m) (taken l mail)).left ≡ None → IsEnded (run (k m) (taken l mail)).left) → IsEnded (run (Waits l n k) mail).left
+    by_mail : (xs : List (List ℕ)) → mail l ≡ xs
+        → ((m : List ℕ) → waits_for (run (k m) (taken l mail)).left ≡ None → IsEnded (run (k m) (taken l mail)).left) → IsEnded (run (Waits l n k) mail).left
     by_mail [] x more = none_waits l (sym (ap (λ r. waits_for r.left) (run-none l n k mail x)) ∙ e)
     by_mail (m ∷ ms) x more = by_shape (accepts n m) refl
       where
@@ -78,7 +80,8 @@ module _ {A : Type 0} (nodes : Number → Strand A) (full : Mail) (outputs : Num
             elim (is_same (receiver_of l) i) as (λ b. (if b then full l else []) ≡ (if b then mail l else []) ++ (if b then rest l else []))
             [ true ↦ sym (begins-rest (mail l) (full l) (begins l)) | false ↦ refl ]
 
-    whole : (i : Number) → run_of nodes full i ≡ followed (run_of nodes mail i) (run (run_of nodes mail i).left (added (run_of nodes mail i).unread (into i rest)))
+    whole : (i : Number) → run_of nodes full i
+        ≡ followed (run_of nodes mail i) (run (run_of nodes mail i).left (added (run_of nodes mail i).unread (into i rest)))
     whole i = ap (run (nodes i)) (parts-into i) ∙ run-added (nodes i) (into i mail) (into i rest)
 
     -- from its end on a miner only leaves mail unread
@@ -88,12 +91,7 @@ module _ {A : Type 0} (nodes : Number → Strand A) (full : Mail) (outputs : Num
     end-of (Waits l n k) h m = absurd h
 
     into-receiver : (l : Link) → into (receiver_of l) rest l ≡ rest l
-    into-receiver l = ap (λ b. if b then rest l else []) (same (receiver_of l))
-      where
-        same : (k : Number) → is_same k k ≡ true
-        same One = refl
-        same Two = refl
-        same Three = refl
+    into-receiver l = ap (λ b. if b then rest l else []) (same_itself (receiver_of l))
 
     module _ (i : Number) (ended : IsEnded (run_of nodes mail i).left) where
       same-acts : (run_of nodes full i).acts ≡ (run_of nodes mail i).acts

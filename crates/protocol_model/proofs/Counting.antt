@@ -2,7 +2,8 @@
 use Rattle.std.proofs.Common.{◌≡◌, ℕ, zero, suc, pred, ◌+◌, Bool, true, false, if◌then◌else◌, List, [], ◌∷◌, ◌++◌, length, refl, sym, ◌∙◌, ap, subst, arith}
 use Rattle.std.specs.Prelude.{Option, Some}
 use Rattle.proto_core.specs.declared.link.Link.{Link}
-use Rattle.proto_core.specs.Strand.{same_link, Sent, Opened, Told, Mail, Strand, Ends, Acts, Waits, rest_of, taken, run, then_do, on_link, Begins, IsEnded, accepts}
+use Rattle.proto_core.specs.Strand.{same_link, Sent, Opened, Told, Mail, Strand, Ends, Acts, Waits, rest_of, taken, run, then_do, on_link, Begins}
+use Rattle.proto_core.specs.Strand.{IsEnded, accepts}
 use Rattle.proto_core.specs.Net.{added, MailBegins}
 use Rattle.proto_core.specs.Script.{Move, Sends, Takes, Moves}
 use Rattle.proto_core.proofs.Strands.{run-none, run-took, run-refused, taken-added}
@@ -18,10 +19,13 @@ counts-taken l mail = λ d. λ k. at_link k d
     rest_length (x ∷ xs) = refl
 
     at_link : (k : Link) → counts (taken l mail) k ≡ one_less l (counts mail) k
-    at_link k = elim (same_link l k) as (λ b. length (if b then rest_of (mail k) else mail k) ≡ (if b then pred (length (mail k)) else length (mail k))) [ true ↦ rest_length (mail k) | false ↦ refl ]
+    at_link k = elim (same_link l k) as
+        (λ b. length (if b then rest_of (mail k) else mail k) ≡ (if b then pred (length (mail k)) else length (mail k)))
+        [ true ↦ rest_length (mail k) | false ↦ refl ]
 
 taken-begins : (l : Link) (x y : Mail) → MailBegins x y → MailBegins (taken l x) (taken l y)
-taken-begins l x y h k = elim (same_link l k) as (λ b. Begins (if b then rest_of (x k) else x k) (if b then rest_of (y k) else y k)) [ true ↦ rest_begins (x k) (y k) (h k) | false ↦ h k ]
+taken-begins l x y h k = elim (same_link l k) as (λ b. Begins (if b then rest_of (x k) else x k) (if b then rest_of (y k) else y k))
+    [ true ↦ rest_begins (x k) (y k) (h k) | false ↦ h k ]
   where
     rest_begins : (xs ys : List (List ℕ)) → Begins xs ys → Begins (rest_of xs) (rest_of ys)
     rest_begins [] ys e = tt
@@ -46,7 +50,8 @@ along-counted (Acts (Sent k m) s) (Sends j n ∷ moves) mail full h b =
     let rest = along-counted s moves mail full h.2 b in
     record {
       sent = λ l.
-          elim (same_link l k) as (λ t. length (if t then m ∷ on_link l (run s mail).acts else on_link l (run s mail).acts) ≡ (if t then 1 else 0) + sent_by moves (counts mail) l)
+          elim (same_link l k) as (λ t. length (if t then m ∷ on_link l (run s mail).acts else on_link l (run s mail).acts)
+          ≡ (if t then 1 else 0) + sent_by moves (counts mail) l)
           [ true ↦ ap suc (rest.sent l) ∙ omega arith | false ↦ rest.sent l ∙ omega arith ]
           ∙ ap (λ v. (if same_link l v then 1 else 0) + sent_by moves (counts mail) l) (sym h.0);
       waits = rest.waits;
@@ -57,7 +62,8 @@ along-counted {A} (Waits k n f) (Takes j size ∷ moves) mail full h b =
     subst (λ v. StandsAs (Waits k n f) (Takes v size ∷ moves) mail) (sym h.0)
     (by_mail (mail k) (full k) refl refl h.2 (b k) (λ m g. along-counted (f m) moves (taken k mail) (taken k full) g (taken-begins k mail full b)))
   where
-    by_mail : (xs ys : List (List ℕ)) → mail k ≡ xs → full k ≡ ys → OldestIs (full k) n (λ m. MovesAlong (f m) moves (taken k full)) → Begins (mail k) (full k) →
+    by_mail : (xs ys : List (List ℕ)) → mail k ≡ xs → full k ≡ ys → OldestIs (full k) n (λ m. MovesAlong (f m) moves (taken k full))
+        → Begins (mail k) (full k) →
         ((m : List ℕ) → MovesAlong (f m) moves (taken k full) → StandsAs (f m) moves (taken k mail)) →
         StandsAs (Waits k n f) (Takes k size ∷ moves) mail
     by_mail [] ys x y o b more =
@@ -102,13 +108,15 @@ moves-along (Waits k n f) (Sends j size ∷ moves) full h e = absurd h
 moves-along (Waits k n f) (Takes j size ∷ moves) full h e =
     (h.0, h.1, by_mail (full k) refl (λ m g e2. moves-along (f m) moves (taken k full) (h.2 m g) e2))
   where
-    by_mail : (ys : List (List ℕ)) → full k ≡ ys → ((m : List ℕ) → accepts n m ≡ true → IsEnded (run (f m) (taken k full)).left → MovesAlong (f m) moves (taken k full)) →
+    by_mail : (ys : List (List ℕ)) → full k ≡ ys
+        → ((m : List ℕ) → accepts n m ≡ true → IsEnded (run (f m) (taken k full)).left → MovesAlong (f m) moves (taken k full)) →
         OldestIs (full k) n (λ m. MovesAlong (f m) moves (taken k full))
     by_mail [] y more = absurd (subst (λ v. IsEnded v.left) (run-none k n f full y) e)
     by_mail (m ∷ ms) y more = by_shape (accepts n m) refl
       where
         by_shape : (t : Bool) → accepts n m ≡ t → OldestIs (full k) n (λ v. MovesAlong (f v) moves (taken k full))
-        by_shape true t = subst (λ v. OldestIs v n (λ w. MovesAlong (f w) moves (taken k full))) (sym y) (t, more m t (subst (λ v. IsEnded v.left) (run-took k n f full m ms y t) e))
+        by_shape true t = subst (λ v. OldestIs v n (λ w. MovesAlong (f w) moves (taken k full))) (sym y)
+            (t, more m t (subst (λ v. IsEnded v.left) (run-took k n f full m ms y t) e))
         by_shape false t = absurd (subst (λ v. IsEnded v.left) (run-refused k n f full m ms y t) e)
 
 -- the moves of one after the other, of which the second begins with what the first ended with
@@ -131,7 +139,8 @@ along-then (Waits k n c) f (Takes j size ∷ moves) second x y a h e g =
     (h.0, h.1, by_mail (x k) refl h.2 (λ m p q r. along-then (c m) f moves second (taken k x) y a p q r))
   where
     by_mail : (xs : List (List ℕ)) → x k ≡ xs → OldestIs (x k) n (λ m. MovesAlong (c m) moves (taken k x)) →
-        ((m : List ℕ) → MovesAlong (c m) moves (taken k x) → (run (c m) (taken k x)).left ≡ Ends a → MovesAlong (f a) second (added (run (c m) (taken k x)).unread y) →
+        ((m : List ℕ) → MovesAlong (c m) moves (taken k x) → (run (c m) (taken k x)).left ≡ Ends a
+        → MovesAlong (f a) second (added (run (c m) (taken k x)).unread y) →
         MovesAlong (then_do (c m) f) (moves ++ second) (added (taken k x) y)) →
         OldestIs (added x y k) n (λ m. MovesAlong (then_do (c m) f) (moves ++ second) (taken k (added x y)))
     by_mail [] p o more = absurd (subst (λ v. OldestIs v n (λ m. MovesAlong (c m) moves (taken k x))) p o)

@@ -1,5 +1,6 @@
 -- Three miners that do the same gates come to the end, with the joint run's messages, values and opened words.
-use Rattle.std.proofs.Common.{◌≡◌, ℕ, suc, ◌+◌, ◌≤◌, true, false, if◌then◌else◌, List, [], ◌∷◌, ◌++◌, length, take, drop, refl, sym, ◌∙◌, ap, subst, arith, length-append}
+use Rattle.std.proofs.Common.{◌≡◌, ℕ, suc, ◌+◌, ◌≤◌, true, false, if◌then◌else◌, List, [], ◌∷◌, ◌++◌, length, take, drop, refl, sym, ◌∙◌, ap, subst}
+use Rattle.std.proofs.Common.{arith, length-append}
 use Rattle.std.specs.Prelude.{Some}
 use Rattle.std.proofs.lemmas.List.{length-take-le, length-drop}
 use Rattle.proto_core.specs.declared.party.Number.{Number}
@@ -11,10 +12,10 @@ use Rattle.proto_core.specs.Net.{into, run_of, nothing, opened_by, Finishes}
 use Rattle.proto_core.specs.Protocol.{AreMessages, Protocol, Fits, strands_of}
 use Rattle.proto_core.proofs.Strands.{opened-append}
 use Rattle.proto_core.proofs.Nets.{finishes-both, run-both}
-use Rattle.protocol_model.specs.Gates.{Gate, Joined, Local, value_at, operand, size_at, HasSize, sizes_of, Sized, AreSound, needed, gates_strand, gates_script}
-use Rattle.protocol_model.specs.Runs.{Shares, Tapes, drawn, left, joint_of, after, after_local, run_messages, run_values, run_opened, nodes_of, Ready}
+use Rattle.protocol_model.specs.Gates.{Gate, Joined, Local, nth_value, operand, size_at, HasSize, sizes_of, Sized, AreSound, needed, gates_strand, gates_script}
+use Rattle.protocol_model.specs.Runs.{Shares, Tapes, drawn, left, gate_joint, after, after_local, run_messages, run_values, run_opened, nodes_of, Ready}
 use Rattle.protocol_model.proofs.Scripts.{moves-then}
-use Rattle.protocol_model.proofs.Sizes.{value_at-sized, operand-sized, sizes-append, block-fits, ready-next, ready-local}
+use Rattle.protocol_model.proofs.Sizes.{nth_value-sized, operand-sized, sizes-append, block-fits, ready-next, ready-local}
 
 pub into-nothing : (i : Number) → into i nothing ≡ nothing
 into-nothing i = λ d. λ l. at_link l d
@@ -35,7 +36,7 @@ run-finishes [] values tapes sound ready =
 run-finishes (Local n f ∷ gates) values tapes sound ready =
     run-finishes gates (after_local f values) tapes sound (ready-local n f gates values tapes ready)
 run-finishes (Joined p n u v ∷ gates) values tapes sound ready =
-    let j = joint_of u v values (drawn p n tapes) in
+    let j = gate_joint u v values (drawn p n tapes) in
     let next = after p n u v values (drawn p n tapes) in
     finishes-both (strands_of p n j) (goes_on p n gates values tapes) (p.messages n j) (p.output n j)
     (sound.0.finishes n j (block-fits p n u v gates values tapes ready))
@@ -50,7 +51,7 @@ run-opens [] values tapes sound ready i = refl
 run-opens (Local n f ∷ gates) values tapes sound ready i =
     run-opens gates (after_local f values) tapes sound (ready-local n f gates values tapes ready) i
 run-opens (Joined p n u v ∷ gates) values tapes sound ready i =
-    let j = joint_of u v values (drawn p n tapes) in
+    let j = gate_joint u v values (drawn p n tapes) in
     let next = after p n u v values (drawn p n tapes) in
     let fits : Fits p n j = block-fits p n u v gates values tapes ready in
     let later = run_messages gates next (left p n tapes) in
@@ -73,10 +74,10 @@ gates-move i (Local n f ∷ gates) sizes values tape sound sized same reach =
     ∙ ap (λ k. sizes ++ k ∷ []) (sized.0 i values same))
     reach
 gates-move i (Joined p n u v ∷ gates) sizes values tape sound sized same reach =
-    let a : length (value_at values u) ≡ n = value_at-sized values u n (subst (λ s. size_at s u ≡ Some n) (sym same) sized.0) in
+    let a : length (nth_value values u) ≡ n = nth_value-sized values u n (subst (λ s. size_at s u ≡ Some n) (sym same) sized.0) in
     let b : length (operand values v) ≡ p.second n = operand-sized values v (p.second n) (subst (λ s. HasSize s v (p.second n)) (sym same) sized.1) in
     let c : length (take (p.draws n i) tape) ≡ p.draws n i = length-take-le (p.draws n i) tape (omega arith) in
-    moves-then (λ blocks. sizes_of blocks ≡ p.made n) (p.strand n i (value_at values u) (operand values v) (take (p.draws n i) tape))
+    moves-then (λ blocks. sizes_of blocks ≡ p.made n) (p.strand n i (nth_value values u) (operand values v) (take (p.draws n i) tape))
     (λ made. gates_strand i gates (values ++ made) (drop (p.draws n i) tape)) (p.script n i) (gates_script i gates)
     (sound.0.moves n i _ _ _ a b c) (sound.0.sizes n i _ _ _ a b c)
     (λ made e. gates-move i gates (sizes ++ p.made n) (values ++ made) (drop (p.draws n i) tape) sound.1 sized.2
@@ -86,7 +87,8 @@ gates-move i (Joined p n u v ∷ gates) sizes values tape sound sized same reach
 pub sends_on-append : (l : Link) (xs ys : List Move) → sends_on l (xs ++ ys) ≡ sends_on l xs ++ sends_on l ys
 sends_on-append l [] ys = refl
 sends_on-append l (Sends k shape ∷ xs) ys =
-    elim (same_link l k) as (λ b. (if b then shape ∷ sends_on l (xs ++ ys) else sends_on l (xs ++ ys)) ≡ (if b then shape ∷ sends_on l xs else sends_on l xs) ++ sends_on l ys)
+    elim (same_link l k) as (λ b. (if b then shape ∷ sends_on l (xs ++ ys) else sends_on l (xs ++ ys))
+    ≡ (if b then shape ∷ sends_on l xs else sends_on l xs) ++ sends_on l ys)
     [ true ↦ ap (λ v. shape ∷ v) (sends_on-append l xs ys) | false ↦ sends_on-append l xs ys ]
 sends_on-append l (Takes k shape ∷ xs) ys = sends_on-append l xs ys
 
@@ -104,7 +106,7 @@ run-counted [] values tapes sound ready l = refl
 run-counted (Local n f ∷ gates) values tapes sound ready l =
     run-counted gates (after_local f values) tapes sound (ready-local n f gates values tapes ready) l
 run-counted (Joined p n u v ∷ gates) values tapes sound ready l =
-    let j = joint_of u v values (drawn p n tapes) in
+    let j = gate_joint u v values (drawn p n tapes) in
     let next = after p n u v values (drawn p n tapes) in
     let here : length (p.messages n j l) ≡ length (sends_on l (p.script n (sender_of l))) =
     messages-length _ _ (sound.0.messages n j (block-fits p n u v gates values tapes ready) l) in

@@ -1,9 +1,9 @@
 -- The map of the tapes has an inverse on both sides, and what a miner receives is made of the mapped tapes.
-use Rattle.std.proofs.Common.{◌≡◌, ℕ, ◌+◌, ◌≤◌, Bool, true, false, if◌then◌else◌, List, [], ◌∷◌, ◌++◌, length, take, drop, refl, sym, ◌∙◌, ap, subst, arith, length-append}
+use Rattle.std.proofs.Common.{◌≡◌, ℕ, ◌+◌, ◌≤◌, Bool, true, false, if◌then◌else◌, List, [], ◌∷◌, ◌++◌, length, take, drop, refl, sym, ◌∙◌, ap, subst}
+use Rattle.std.proofs.Common.{arith, length-append}
 use Rattle.std.specs.Prelude.{Option}
 use Rattle.std.proofs.lemmas.List.{length-drop, take-append-drop}
 use Rattle.proto_core.specs.declared.party.Number.{Number}
-use Rattle.proto_core.specs.declared.party.Number.TheVariants.{One, Two, Three}
 use Rattle.proto_core.specs.declared.link.Link.{Link}
 use Rattle.proto_core.specs.Parties.{receiver_of, is_same}
 use Rattle.proto_core.specs.Lists.{AreWords}
@@ -12,8 +12,9 @@ use Rattle.proto_core.specs.Net.{into}
 use Rattle.proto_core.specs.Protocol.{Joint, Protocol, Fits, Sound, Private, strands_of, with_words}
 use Rattle.proto_core.proofs.Parts.{AreWords-append}
 use Rattle.proto_core.proofs.MessageFields.{take-front, drop-front}
-use Rattle.protocol_model.specs.Gates.{Gate, Joined, Local, value_at, operand, AreSound, ArePrivate, needed}
-use Rattle.protocol_model.specs.Runs.{Shares, Tapes, drawn, left, joint_of, after, after_local, run_messages, run_opened, Ready}
+use Rattle.proto_core.proofs.Numbers.{same_is, same_itself}
+use Rattle.protocol_model.specs.Gates.{Gate, Joined, Local, nth_value, operand, AreSound, ArePrivate, needed}
+use Rattle.protocol_model.specs.Runs.{Shares, Tapes, drawn, left, gate_joint, after, after_local, run_messages, run_opened, Ready}
 use Rattle.protocol_model.specs.Views.{to_view, found, from_view, made_mail, made_blocks, blocks_at_end, made_messages, made_values, MadeBy}
 use Rattle.protocol_model.proofs.Sizes.{block-fits, ready-after, ready-next, ready-local}
 
@@ -39,7 +40,7 @@ to_view-length i [] values tapes sound private ready m = refl
 to_view-length i (Local n f ∷ gates) values tapes sound private ready m =
     to_view-length i gates (after_local f values) tapes sound private (ready-local n f gates values tapes ready) m
 to_view-length i (Joined p n u v ∷ gates) values tapes sound private ready m =
-    let j = joint_of u v values (drawn p n tapes) in
+    let j = gate_joint u v values (drawn p n tapes) in
     front-length p n gates tapes m (p.tape n i j m) _ (ready.tapes_reach m)
     ((private.0.kept n i j (block-fits p n u v gates values tapes ready)).words m)
     (to_view-length i gates (after p n u v values (drawn p n tapes)) (left p n tapes) sound.1 private.1 (ready-next p n u v gates values tapes ready sound.0) m)
@@ -51,7 +52,7 @@ to_view-words i [] values tapes sound private ready m = ready.tapes_are_words m
 to_view-words i (Local n f ∷ gates) values tapes sound private ready m =
     to_view-words i gates (after_local f values) tapes sound private (ready-local n f gates values tapes ready) m
 to_view-words i (Joined p n u v ∷ gates) values tapes sound private ready m =
-    let j = joint_of u v values (drawn p n tapes) in
+    let j = gate_joint u v values (drawn p n tapes) in
     AreWords-append (p.tape n i j m) _
     ((private.0.kept n i j (block-fits p n u v gates values tapes ready)).are_words m)
     (to_view-words i gates (after p n u v values (drawn p n tapes)) (left p n tapes) sound.1 private.1 (ready-next p n u v gates values tapes ready sound.0) m)
@@ -63,7 +64,7 @@ to_view-own i [] values tapes sound private ready = refl
 to_view-own i (Local n f ∷ gates) values tapes sound private ready =
     to_view-own i gates (after_local f values) tapes sound private (ready-local n f gates values tapes ready)
 to_view-own i (Joined p n u v ∷ gates) values tapes sound private ready =
-    let j = joint_of u v values (drawn p n tapes) in
+    let j = gate_joint u v values (drawn p n tapes) in
     let next = after p n u v values (drawn p n tapes) in
     ap (λ w. w ++ to_view i gates next (left p n tapes) i) (private.0.own n i j (block-fits p n u v gates values tapes ready))
     ∙ ap (λ w. drawn p n tapes i ++ w) (to_view-own i gates next (left p n tapes) sound.1 private.1 (ready-next p n u v gates values tapes ready sound.0))
@@ -78,7 +79,7 @@ from-to_view i [] values tapes sound private ready = refl
 from-to_view i (Local n f ∷ gates) values tapes sound private ready =
     from-to_view i gates (after_local f values) tapes sound private (ready-local n f gates values tapes ready)
 from-to_view i (Joined p n u v ∷ gates) values tapes sound private ready =
-    let j = joint_of u v values (drawn p n tapes) in
+    let j = gate_joint u v values (drawn p n tapes) in
     let fits : Fits p n j = block-fits p n u v gates values tapes ready in
     let next = after p n u v values (drawn p n tapes) in
     let mapped : Tapes = λ m. p.tape n i j m in
@@ -87,7 +88,7 @@ from-to_view i (Joined p n u v ∷ gates) values tapes sound private ready =
     let front : drawn p n whole ≡ mapped = same_tapes _ _ (λ m. take-front _ (mapped m) (later m) ((private.0.kept n i j fits).words m)) in
     let rest : left p n whole ≡ later = same_tapes _ _ (λ m. drop-front _ (mapped m) (later m) ((private.0.kept n i j fits).words m)) in
     let words : found i p n u v values whole ≡ drawn p n tapes =
-    same_tapes _ _ (λ m. ap (λ w. p.back n i (joint_of u v values w) m) front ∙ private.0.back_tape n i j fits m) in
+    same_tapes _ _ (λ m. ap (λ w. p.back n i (gate_joint u v values w) m) front ∙ private.0.back_tape n i j fits m) in
     same_tapes _ _
     (λ m.
     ap (λ w. w m ++ from_view i gates (after p n u v values w) (left p n whole) m) words
@@ -101,7 +102,7 @@ found-ready :
     Ready (Joined p n u v ∷ gates) values mapped →
     Ready gates (after p n u v values (found i p n u v values mapped)) (left p n mapped)
 found-ready i p n u v gates values mapped sound private ready =
-    let j = joint_of u v values (drawn p n mapped) in
+    let j = gate_joint u v values (drawn p n mapped) in
     let fits : Fits p n j = block-fits p n u v gates values mapped ready in
     ready-after p n u v gates values mapped ready (found i p n u v values mapped)
     (λ m. sound.blocks n (with_words j (p.back n i j)) (private.back_kept n i j fits) m)
@@ -113,7 +114,7 @@ to-from_view i [] values mapped sound private ready = refl
 to-from_view i (Local n f ∷ gates) values mapped sound private ready =
     to-from_view i gates (after_local f values) mapped sound private (ready-local n f gates values mapped ready)
 to-from_view i (Joined p n u v ∷ gates) values mapped sound private ready =
-    let j = joint_of u v values (drawn p n mapped) in
+    let j = gate_joint u v values (drawn p n mapped) in
     let fits : Fits p n j = block-fits p n u v gates values mapped ready in
     let real : Tapes = found i p n u v values mapped in
     let next = after p n u v values real in
@@ -123,9 +124,9 @@ to-from_view i (Joined p n u v ∷ gates) values mapped sound private ready =
     let rest : left p n whole ≡ later = same_tapes _ _ (λ m. drop-front _ (real m) (later m) ((private.0.back_kept n i j fits).words m)) in
     same_tapes _ _
     (λ m.
-    ap (λ w. p.tape n i (joint_of u v values w) m ++ to_view i gates (after p n u v values w) (left p n whole) m) front
-    ∙ ap (λ l. p.tape n i (joint_of u v values real) m ++ to_view i gates next l m) rest
-    ∙ ap (λ l. p.tape n i (joint_of u v values real) m ++ l m)
+    ap (λ w. p.tape n i (gate_joint u v values w) m ++ to_view i gates (after p n u v values w) (left p n whole) m) front
+    ∙ ap (λ l. p.tape n i (gate_joint u v values real) m ++ to_view i gates next l m) rest
+    ∙ ap (λ l. p.tape n i (gate_joint u v values real) m ++ l m)
     (to-from_view i gates next (left p n mapped) sound.1 private.1 (found-ready i p n u v gates values mapped sound.0 private.0 ready))
     ∙ ap (λ w. w ++ left p n mapped m) (private.0.tape_back n i j fits m)
     ∙ take-append-drop (p.draws n m) (mapped m))
@@ -137,7 +138,7 @@ from_view-length i [] values mapped sound private ready m = refl
 from_view-length i (Local n f ∷ gates) values mapped sound private ready m =
     from_view-length i gates (after_local f values) mapped sound private (ready-local n f gates values mapped ready) m
 from_view-length i (Joined p n u v ∷ gates) values mapped sound private ready m =
-    let j = joint_of u v values (drawn p n mapped) in
+    let j = gate_joint u v values (drawn p n mapped) in
     front-length p n gates mapped m (p.back n i j m) _ (ready.tapes_reach m)
     ((private.0.back_kept n i j (block-fits p n u v gates values mapped ready)).words m)
     (from_view-length i gates (after p n u v values (found i p n u v values mapped)) (left p n mapped) sound.1 private.1
@@ -150,7 +151,7 @@ from_view-words i [] values mapped sound private ready m = ready.tapes_are_words
 from_view-words i (Local n f ∷ gates) values mapped sound private ready m =
     from_view-words i gates (after_local f values) mapped sound private (ready-local n f gates values mapped ready) m
 from_view-words i (Joined p n u v ∷ gates) values mapped sound private ready m =
-    let j = joint_of u v values (drawn p n mapped) in
+    let j = gate_joint u v values (drawn p n mapped) in
     AreWords-append (p.back n i j m) _
     ((private.0.back_kept n i j (block-fits p n u v gates values mapped ready)).are_words m)
     (from_view-words i gates (after p n u v values (found i p n u v values mapped)) (left p n mapped) sound.1 private.1
@@ -161,19 +162,8 @@ from_view-words i (Joined p n u v ∷ gates) values mapped sound private ready m
 into-own : (i : Number) (mail : Mail) (l : Link) → receiver_of l ≡ i → into i mail l ≡ mail l
 into-own i mail l h = subst (λ k. into k mail l ≡ mail l) h (at_link l)
   where
-    same : (k : Number) → is_same k k ≡ true
-    same One = refl
-    same Two = refl
-    same Three = refl
-
     at_link : (l : Link) → into (receiver_of l) mail l ≡ mail l
-    at_link l = ap (λ b. if b then mail l else []) (same (receiver_of l))
-
-same_is : (i k : Number) → is_same i k ≡ true → i ≡ k
-same_is One One h = refl
-same_is Two Two h = refl
-same_is Three Three h = refl
-same_is _ _ h = cc
+    at_link l = ap (λ b. if b then mail l else []) (same_itself (receiver_of l))
 
 same_into : (i : Number) (x y : Mail) → ((l : Link) → receiver_of l ≡ i → x l ≡ y l) → into i x ≡ into i y
 same_into i x y h = λ d. λ l. at_link l (is_same (receiver_of l) i) refl d
@@ -183,15 +173,16 @@ same_into i x y h = λ d. λ l. at_link l (is_same (receiver_of l) i) refl d
     at_link l false e = ap (λ b. if b then x l else []) e ∙ sym (ap (λ b. if b then y l else []) e)
 
 -- a block, made of the miner's own shares, the opened words and the mapped ones
-module _ (i : Number) (p : Protocol) (n u : ℕ) (v : Option ℕ) (values : Shares) (words : Tapes) (later : List ℕ) (sound : Sound p) (private : Private p) (fits : Fits p n (joint_of u v values words)) where
+module _ (i : Number) (p : Protocol) (n u : ℕ) (v : Option ℕ) (values : Shares) (words : Tapes) (later : List ℕ) (sound : Sound p)
+    (private : Private p) (fits : Fits p n (gate_joint u v values words)) where
   abbrev j : Joint
-  j = joint_of u v values words
+  j = gate_joint u v values words
 
   abbrev opened : List ℕ
   opened = p.opened n j ++ later
 
   abbrev made : Mail
-  made = p.received n i (value_at (values i) u) (operand (values i) v) (p.tape n i j) (take (p.opens n) opened)
+  made = p.received n i (nth_value (values i) u) (operand (values i) v) (p.tape n i j) (take (p.opens n) opened)
 
   made-opened : take (p.opens n) opened ≡ p.opened n j
   made-opened = take-front (p.opens n) (p.opened n j) later (sound.opens n j fits)
@@ -199,15 +190,15 @@ module _ (i : Number) (p : Protocol) (n u : ℕ) (v : Option ℕ) (values : Shar
   made-seen : (l : Link) → receiver_of l ≡ i → p.messages n j l ≡ made l
   made-seen l h =
       private.seen n i j fits l h
-      ∙ sym (ap (λ o. p.received n i (value_at (values i) u) (operand (values i) v) (p.tape n i j) o l) made-opened)
+      ∙ sym (ap (λ o. p.received n i (nth_value (values i) u) (operand (values i) v) (p.tape n i j) o l) made-opened)
 
   made-mail : into i (p.messages n j) ≡ into i made
   made-mail = same_into i (p.messages n j) made made-seen
 
   made-blocks :
-      blocks_at_end (run (p.strand n i (value_at (values i) u) (operand (values i) v) (p.tape n i j i)) (into i made)).left ≡ p.output n j i
+      blocks_at_end (run (p.strand n i (nth_value (values i) u) (operand (values i) v) (p.tape n i j i)) (into i made)).left ≡ p.output n j i
   made-blocks =
-      ap (λ w. blocks_at_end (run (p.strand n i (value_at (values i) u) (operand (values i) v) w) (into i made)).left) (private.own n i j fits)
+      ap (λ w. blocks_at_end (run (p.strand n i (nth_value (values i) u) (operand (values i) v) w) (into i made)).left) (private.own n i j fits)
       ∙ ap (λ m. blocks_at_end (run (strands_of p n j i) m).left) (sym made-mail)
       ∙ ap blocks_at_end ((sound.finishes n j fits).ended i)
 
@@ -219,7 +210,7 @@ run-made i (Local n f ∷ gates) values tapes sound private ready =
     let rest = run-made i gates (after_local f values) tapes sound private (ready-local n f gates values tapes ready) in
     record { messages = λ l h. rest.messages l h; shares = rest.shares }
 run-made i (Joined p n u v ∷ gates) values tapes sound private ready =
-    let j = joint_of u v values (drawn p n tapes) in
+    let j = gate_joint u v values (drawn p n tapes) in
     let fits : Fits p n j = block-fits p n u v gates values tapes ready in
     let next = after p n u v values (drawn p n tapes) in
     let mapped : Tapes = λ m. p.tape n i j m in
@@ -231,16 +222,17 @@ run-made i (Joined p n u v ∷ gates) values tapes sound private ready =
     let opened_all : List ℕ = p.opened n j ++ opened_later in
     let o : drop (p.opens n) opened_all ≡ opened_later = drop-front (p.opens n) (p.opened n j) opened_later (sound.0.opens n j fits) in
     let blocks : made_blocks i p n u v (values i) opened_all whole ≡ p.output n j i =
-    ap (λ w. blocks_at_end (run (p.strand n i (value_at (values i) u) (operand (values i) v) (w i)) (into i (p.received n i (value_at (values i) u) (operand (values i) v) w (take (p.opens n) opened_all)))).left) front
+    ap (λ w. blocks_at_end (run (p.strand n i (nth_value (values i) u) (operand (values i) v) (w i))
+    (into i (p.received n i (nth_value (values i) u) (operand (values i) v) w (take (p.opens n) opened_all)))).left) front
     ∙ made-blocks i p n u v values (drawn p n tapes) opened_later sound.0 private.0 fits in
-    let mail : Mail = p.received n i (value_at (values i) u) (operand (values i) v) mapped (take (p.opens n) opened_all) in
+    let mail : Mail = p.received n i (nth_value (values i) u) (operand (values i) v) mapped (take (p.opens n) opened_all) in
     let hyp = run-made i gates next (left p n tapes) sound.1 private.1 (ready-next p n u v gates values tapes ready sound.0) in
     record {
       messages = λ l h.
           ap (λ m. m ++ run_messages gates next (left p n tapes) l)
           (made-seen i p n u v values (drawn p n tapes) opened_later sound.0 private.0 fits l h
           ∙ sym (into-own i mail l h)
-          ∙ ap (λ w. into i (p.received n i (value_at (values i) u) (operand (values i) v) w (take (p.opens n) opened_all)) l) (sym front))
+          ∙ ap (λ w. into i (p.received n i (nth_value (values i) u) (operand (values i) v) w (take (p.opens n) opened_all)) l) (sym front))
           ∙ ap (λ m. made_mail i p n u v (values i) opened_all whole l ++ m)
           (hyp.messages l h
           ∙ ap (λ b. made_messages i gates (values i ++ b) opened_later later l) (sym blocks)

@@ -4,6 +4,7 @@ pub mod GateRuns
 pub mod GateViews
 pub mod Counting
 pub mod NetCounts
+pub mod Choosing
 pub mod MadeOrders
 pub mod Coming
 pub mod Completing

@@ -10,33 +10,20 @@ use Rattle.protocol_model.specs.Along.{MovesAlong}
 use Rattle.proto_core.specs.Net.{into, run_of, posted, delivered, MailBegins, Finishes}
 use Rattle.proto_core.proofs.Beginnings.{begins-both}
 use Rattle.proto_core.proofs.Nets.{nothing-under_way, delivered-begins}
-use Rattle.protocol_model.specs.Network.{Accepted, EmptyLink, waits_for, at_the_end, Counts, one_more, into_counts, stands_at, posted_count, counted, all_links, those, is_full, link_at, chosen, entry_then, made_order, total}
+use Rattle.protocol_model.specs.Network.{Accepted, EmptyLink, waits_for, at_the_end, Counts, one_more, into_counts, stands_at, posted_count, counted}
+use Rattle.protocol_model.specs.Network.{all_links, those, is_full, link_at, chosen, entry_then, made_order, total}
 use Rattle.protocol_model.specs.Network.{counts}
 use Rattle.protocol_model.proofs.NetCounts.{posted-counted, stood-counted, counts-delivered, posted-begins, lt_from}
+use Rattle.protocol_model.proofs.Choosing.{in_those}
 
 -- ---- choosing
 
-in_those : (p : Link → Bool) (ls : List Link) (k : ℕ) (l : Link) → link_at (those p ls) k ≡ Some l → p l ≡ true
-in_those p [] k l h = none_some h
-  where
-    none_some : {P : Type 0} → None ≡ Some l → P
-    none_some e = cc
-in_those p (x ∷ xs) k l h = by_test (p x) refl (λ i g. in_those p xs i l g)
-  where
-    by_test : (b : Bool) → p x ≡ b → ((i : ℕ) → link_at (those p xs) i ≡ Some l → p l ≡ true) → p l ≡ true
-    by_test false e more = more k (sym (ap (λ b. link_at (if b then x ∷ those p xs else those p xs) k) e) ∙ h)
-    by_test true e more = by_place k (sym (ap (λ b. link_at (if b then x ∷ those p xs else those p xs) k) e) ∙ h)
-      where
-        by_place : (k : ℕ) → link_at (x ∷ those p xs) k ≡ Some l → p l ≡ true
-        by_place zero g = let same : x ≡ l = cc in ap p (sym same) ∙ e
-        by_place (suc k) g = more k g
-
-some_there : (ls : List Link) (k : ℕ) → k < length ls → link_at ls k ≡ None → ⊥
+pub some_there : (ls : List Link) (k : ℕ) → k < length ls → link_at ls k ≡ None → ⊥
 some_there [] k h e = let f : ⊥ = omega arith in f
 some_there (l ∷ ls) zero h e = cc
 some_there (l ∷ ls) (suc k) h e = some_there ls k (omega arith) e
 
-none_chosen : (word : ℕ) (ls : List Link) → chosen word ls ≡ None → ls ≡ []
+pub none_chosen : (word : ℕ) (ls : List Link) → chosen word ls ≡ None → ls ≡ []
 none_chosen word [] e = refl
 none_chosen word (l ∷ ls) e = absurd (some_there (l ∷ ls) (word % length (l ∷ ls)) (omega arith) e)
 
@@ -69,7 +56,7 @@ none_full p h l =
 
 -- ---- totals
 
-total-more : (l : Link) (got : Counts) → total (one_more l got) ≡ total got + 1
+pub total-more : (l : Link) (got : Counts) → total (one_more l got) ≡ total got + 1
 total-more Link12 got = omega arith
 total-more Link13 got = omega arith
 total-more Link21 got = omega arith
@@ -82,7 +69,8 @@ total-same : (x y : Counts) → ((l : Link) → x l ≤ y l) → total y ≤ tot
 total-same x y h t l =
     by_link (h Link12) (h Link13) (h Link21) (h Link23) (h Link31) (h Link32) l
   where
-    by_link : x Link12 ≤ y Link12 → x Link13 ≤ y Link13 → x Link21 ≤ y Link21 → x Link23 ≤ y Link23 → x Link31 ≤ y Link31 → x Link32 ≤ y Link32 → (l : Link) → x l ≡ y l
+    by_link : x Link12 ≤ y Link12 → x Link13 ≤ y Link13 → x Link21 ≤ y Link21 → x Link23 ≤ y Link23 → x Link31 ≤ y Link31 → x Link32 ≤ y Link32
+        → (l : Link) → x l ≡ y l
     by_link a b c d e f Link12 = omega arith
     by_link a b c d e f Link13 = omega arith
     by_link a b c d e f Link21 = omega arith
@@ -90,7 +78,7 @@ total-same x y h t l =
     by_link a b c d e f Link31 = omega arith
     by_link a b c d e f Link32 = omega arith
 
-begins-length : (xs ys : List (List ℕ)) → Begins xs ys → length xs ≤ length ys
+pub begins-length : (xs ys : List (List ℕ)) → Begins xs ys → length xs ≤ length ys
 begins-length [] ys h = omega arith
 begins-length (x ∷ xs) [] h = absurd h
 begins-length (x ∷ xs) (y ∷ ys) h = let l = begins-length xs ys h.1 in omega arith
@@ -107,9 +95,11 @@ not_lt a b h = grind arith
 
 -- ---- acceptance
 
-module _ {A : Type 0} (nodes : Number → Strand A) (scripts : Number → List Move) (full : Mail) (outputs : Number → A) (f : Finishes nodes full outputs) (moves : (i : Number) → MovesAlong (nodes i) (scripts i) (into i full)) where
+module _ {A : Type 0} (nodes : Number → Strand A) (scripts : Number → List Move) (full : Mail) (outputs : Number → A)
+    (f : Finishes nodes full outputs) (moves : (i : Number) → MovesAlong (nodes i) (scripts i) (into i full)) where
   -- where all has come, none waits
-  all-ended : (mail : Mail) → MailBegins mail full → ((l : Link) → mail l ≡ full l) → at_the_end (λ i. stands_at (scripts i) (into_counts i (counts mail))) ≡ Accepted
+  all-ended : (mail : Mail) → MailBegins mail full → ((l : Link) → mail l ≡ full l)
+      → at_the_end (λ i. stands_at (scripts i) (into_counts i (counts mail))) ≡ Accepted
   all-ended mail h same =
       let is : mail ≡ full = λ d. λ l. same l d in
       ap at_the_end (λ d. λ i. ended i d)
@@ -132,11 +122,14 @@ module _ {A : Type 0} (nodes : Number → Strand A) (scripts : Number → List M
       begins-own (x ∷ xs) = (refl, begins-own xs)
 
       same_length : (l : Link) → length (full l) ≤ length (mail l)
-      same_length l = let e : counts mail l ≡ counts full l = total-same (counts mail) (counts full) (λ k. begins-length (mail k) (full k) (h k)) (omega arith) l in omega arith
+      same_length l = let e : counts mail l ≡ counts full l =
+          total-same (counts mail) (counts full) (λ k. begins-length (mail k) (full k) (h k)) (omega arith) l in omega arith
   made-accepted words (suc fuel) entry mail h t =
       by_choice (chosen (words entry) (those (is_full scripts (counts mail)) all_links)) refl
-      (λ l lt. made-accepted words fuel (entry + 1) (delivered nodes mail l) (delivered-begins nodes mail full l h (posted-begins nodes scripts full outputs f moves mail h))
-      (let n : total (counts (delivered nodes mail l)) ≡ total (counts mail) + 1 = ap total (counts-delivered nodes mail l lt) ∙ total-more l (counts mail) in omega arith))
+      (λ l lt. made-accepted words fuel (entry + 1) (delivered nodes mail l)
+      (delivered-begins nodes mail full l h (posted-begins nodes scripts full outputs f moves mail h))
+      (let n : total (counts (delivered nodes mail l)) ≡ total (counts mail) + 1 =
+      ap total (counts-delivered nodes mail l lt) ∙ total-more l (counts mail) in omega arith))
     where
       order : Option Link → List Link
       order choice = entry_then choice (λ l. made_order scripts words fuel (entry + 1) (one_more l (counts mail)))
@@ -144,7 +137,8 @@ module _ {A : Type 0} (nodes : Number → Strand A) (scripts : Number → List M
       by_choice :
           (choice : Option Link) → chosen (words entry) (those (is_full scripts (counts mail)) all_links) ≡ choice →
           ((l : Link) → length (mail l) < length (posted nodes mail l) →
-          counted scripts (entry + 1) (counts (delivered nodes mail l)) (made_order scripts words fuel (entry + 1) (counts (delivered nodes mail l))) ≡ Accepted) →
+          counted scripts (entry + 1) (counts (delivered nodes mail l)) (made_order scripts words fuel (entry + 1) (counts (delivered nodes mail l)))
+          ≡ Accepted) →
           counted scripts entry (counts mail) (made_order scripts words (suc fuel) entry (counts mail)) ≡ Accepted
       by_choice None e more =
           ap (λ c. counted scripts entry (counts mail) (order c)) e
@@ -162,6 +156,7 @@ module _ {A : Type 0} (nodes : Number → Strand A) (scripts : Number → List M
           let here : counts mail l < posted_count scripts (counts mail) l = lt_from _ _ test in
           let lt : length (mail l) < length (posted nodes mail l) = omega arith in
           ap (λ c. counted scripts entry (counts mail) (order c)) e
-          ∙ ap (λ b. if b then counted scripts (entry + 1) (one_more l (counts mail)) (made_order scripts words fuel (entry + 1) (one_more l (counts mail))) else EmptyLink entry l (posted_count scripts (counts mail) l)) test
+          ∙ ap (λ b. if b then counted scripts (entry + 1) (one_more l (counts mail))
+          (made_order scripts words fuel (entry + 1) (one_more l (counts mail))) else EmptyLink entry l (posted_count scripts (counts mail) l)) test
           ∙ ap (λ c. counted scripts (entry + 1) c (made_order scripts words fuel (entry + 1) c)) (sym (counts-delivered nodes mail l lt))
           ∙ more l lt

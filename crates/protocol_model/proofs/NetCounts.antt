@@ -27,7 +27,8 @@ lt_from a b h = grind arith
 -- how many messages are sent on a link, after any schedule, is said by the scripts and by how many came on each
 pub posted-counted :
     {A : Type 0} (nodes : Number → Strand A) (scripts : Number → List Move) (full mail : Mail) (outputs : Number → A) → Finishes nodes full outputs →
-    ((i : Number) → MovesAlong (nodes i) (scripts i) (into i full)) → MailBegins mail full → (l : Link) → length (posted nodes mail l) ≡ posted_count scripts (counts mail) l
+    ((i : Number) → MovesAlong (nodes i) (scripts i) (into i full)) → MailBegins mail full → (l : Link)
+    → length (posted nodes mail l) ≡ posted_count scripts (counts mail) l
 posted-counted nodes scripts full mail outputs f moves h l =
     let i = sender_of l in
     (along-counted (nodes i) (scripts i) (into i mail) (into i full) (moves i) (into-more nodes i mail full h)).sent l
@@ -69,7 +70,8 @@ counts-delivered nodes mail l h = λ d. λ k. at_link k (same_link l k) refl d
         ∙ sym (ap (λ b. if b then length (mail k) + 1 else length (mail k)) e)
 
 -- what three miners that finish do with a schedule is what the counts say
-module _ {A : Type 0} (nodes : Number → Strand A) (scripts : Number → List Move) (full : Mail) (outputs : Number → A) (f : Finishes nodes full outputs) (moves : (i : Number) → MovesAlong (nodes i) (scripts i) (into i full)) where
+module _ {A : Type 0} (nodes : Number → Strand A) (scripts : Number → List Move) (full : Mail) (outputs : Number → A)
+    (f : Finishes nodes full outputs) (moves : (i : Number) → MovesAlong (nodes i) (scripts i) (into i full)) where
   pub posted-begins : (mail : Mail) → MailBegins mail full → MailBegins (posted nodes mail) full
   posted-begins mail h l = begins-trans _ _ _ (posted-more nodes mail full h l) (covers nodes full outputs f l)
 
@@ -84,15 +86,18 @@ module _ {A : Type 0} (nodes : Number → Strand A) (scripts : Number → List M
     where
       by_test :
           (b : Bool) → nat_lt (length (mail l)) (length (posted nodes mail l)) ≡ b → length (posted nodes mail l) ≡ posted_count scripts (counts mail) l →
-          (length (mail l) < length (posted nodes mail l) → walked nodes (entry + 1) (delivered nodes mail l) ls ≡ counted scripts (entry + 1) (counts (delivered nodes mail l)) ls) →
+          (length (mail l) < length (posted nodes mail l)
+          → walked nodes (entry + 1) (delivered nodes mail l) ls ≡ counted scripts (entry + 1) (counts (delivered nodes mail l)) ls) →
           walked nodes entry mail (l ∷ ls) ≡ counted scripts entry (counts mail) (l ∷ ls)
       by_test true e n more =
           let lt : length (mail l) < length (posted nodes mail l) = lt_from _ _ e in
           ap (λ b. if b then walked nodes (entry + 1) (delivered nodes mail l) ls else EmptyLink entry l (length (posted nodes mail l))) e
           ∙ more lt
           ∙ ap (λ c. counted scripts (entry + 1) c ls) (counts-delivered nodes mail l lt)
-          ∙ sym (ap (λ b. if b then counted scripts (entry + 1) (one_more l (counts mail)) ls else EmptyLink entry l (posted_count scripts (counts mail) l)) (ap (nat_lt (length (mail l))) (sym n) ∙ e))
+          ∙ sym (ap (λ b. if b then counted scripts (entry + 1) (one_more l (counts mail)) ls else EmptyLink entry l
+          (posted_count scripts (counts mail) l)) (ap (nat_lt (length (mail l))) (sym n) ∙ e))
       by_test false e n more =
           ap (λ b. if b then walked nodes (entry + 1) (delivered nodes mail l) ls else EmptyLink entry l (length (posted nodes mail l))) e
           ∙ ap (EmptyLink entry l) n
-          ∙ sym (ap (λ b. if b then counted scripts (entry + 1) (one_more l (counts mail)) ls else EmptyLink entry l (posted_count scripts (counts mail) l)) (ap (nat_lt (length (mail l))) (sym n) ∙ e))
+          ∙ sym (ap (λ b. if b then counted scripts (entry + 1) (one_more l (counts mail)) ls else EmptyLink entry l
+          (posted_count scripts (counts mail) l)) (ap (nat_lt (length (mail l))) (sym n) ∙ e))

@@ -10,9 +10,9 @@ use Rattle.proto_core.specs.Strand.{Shape, accepts, Mail, Strand, Ends, Acts, Wa
 use Rattle.proto_core.specs.Script.{EndsWith}
 use Rattle.proto_core.proofs.Beginnings.{append-none}
 use Rattle.proto_core.proofs.Strands.{run-none, run-took, run-refused}
-use Rattle.protocol_model.specs.Gates.{Gate, Joined, Local, AreSound, Sized, HasSize, value_at, operand, size_at, sizes_of, needed, gates_strand}
+use Rattle.protocol_model.specs.Gates.{Gate, Joined, Local, AreSound, Sized, HasSize, nth_value, operand, size_at, sizes_of, needed, gates_strand}
 use Rattle.protocol_model.specs.Slots.{made_by, IsOwn}
-use Rattle.protocol_model.proofs.Sizes.{value_at-sized, operand-sized, sizes-append}
+use Rattle.protocol_model.proofs.Sizes.{nth_value-sized, operand-sized, sizes-append}
 
 -- ---- what holds at the ends of strands
 
@@ -42,7 +42,7 @@ ends_mapped P Q (Ends a) f h = f a h
 ends_mapped P Q (Acts act s) f h = ends_mapped P Q s f h
 ends_mapped P Q (Waits l n k) f h = λ m o. ends_mapped P Q (k m) f (h m o)
 
-ends_then :
+pub ends_then :
     {A B : Type 0} (P : A → Type 0) (Q : B → Type 0) (s : Strand A) (f : A → Strand B) → EndsWith P s →
     ((a : A) → P a → EndsWith Q (f a)) → EndsWith Q (then_do s f)
 ends_then P Q (Ends a) f h more = more a h
@@ -82,7 +82,7 @@ grows i (Local n f ∷ gates) values tape =
     ends_mapped _ _ (gates_strand i gates (values ++ f i values ∷ []) tape) (λ all h. grown_on values (f i values ∷ []) all h)
     (grows i gates (values ++ f i values ∷ []) tape)
 grows i (Joined p n u v ∷ gates) values tape =
-    let block = p.strand n i (value_at values u) (operand values v) (take (p.draws n i) tape) in
+    let block = p.strand n i (nth_value values u) (operand values v) (take (p.draws n i) tape) in
     let rest = drop (p.draws n i) tape in
     ends_then (λ made. Unit {0}) (Grown values) block (λ made. gates_strand i gates (values ++ made) rest) (ends_anyhow block)
     (λ made h.
@@ -102,11 +102,11 @@ grows_by i (Local n f ∷ gates) sizes values tape sound sized same reach =
     ∙ ap (λ k. sizes ++ k ∷ []) (sized.0 i values same))
     reach)
 grows_by i (Joined p n u v ∷ gates) sizes values tape sound sized same reach =
-    let a : length (value_at values u) ≡ n = value_at-sized values u n (subst (λ s. size_at s u ≡ Some n) (sym same) sized.0) in
+    let a : length (nth_value values u) ≡ n = nth_value-sized values u n (subst (λ s. size_at s u ≡ Some n) (sym same) sized.0) in
     let b : length (operand values v) ≡ p.second n =
     operand-sized values v (p.second n) (subst (λ s. HasSize s v (p.second n)) (sym same) sized.1) in
     let c : length (take (p.draws n i) tape) ≡ p.draws n i = length-take-le (p.draws n i) tape (omega arith) in
-    let block = p.strand n i (value_at values u) (operand values v) (take (p.draws n i) tape) in
+    let block = p.strand n i (nth_value values u) (operand values v) (take (p.draws n i) tape) in
     let rest = drop (p.draws n i) tape in
     ends_then (λ made. map length made ≡ p.made n) (λ all. Behind values all (length (p.made n) + made_by gates)) block
     (λ made. gates_strand i gates (values ++ made) rest) (sound.0.sizes n i _ _ _ a b c)
@@ -123,28 +123,28 @@ grows_by i (Joined p n u v ∷ gates) sizes values tape sound sized same reach =
 below_zero : {P : Type 0} (k : ℕ) → k < 0 → P
 below_zero k h = absurd (omega arith)
 
-value_before : (xs ys : List (List ℕ)) (k : ℕ) → k < length xs → value_at (xs ++ ys) k ≡ value_at xs k
+value_before : (xs ys : List (List ℕ)) (k : ℕ) → k < length xs → nth_value (xs ++ ys) k ≡ nth_value xs k
 value_before [] ys k h = below_zero k h
 value_before (x ∷ xs) ys zero h = refl
 value_before (x ∷ xs) ys (suc k) h = value_before xs ys k (omega arith)
 
-value_past : (xs : List (List ℕ)) (k : ℕ) → length xs ≤ k → value_at xs k ≡ []
+value_past : (xs : List (List ℕ)) (k : ℕ) → length xs ≤ k → nth_value xs k ≡ []
 value_past [] k h = refl
 value_past (x ∷ xs) zero h = below_zero (length xs) (omega arith)
 value_past (x ∷ xs) (suc k) h = value_past xs k (omega arith)
 
 module _ (i : Number) (gates : List Gate) (values all : List (List ℕ)) (tape : List ℕ) (mail : Mail) (k : ℕ)
     (ends : (run (gates_strand i gates values tape) mail).left ≡ Ends all) where
-  pub values_before_stay : k < length values → value_at all k ≡ value_at values k
+  pub values_before_stay : k < length values → nth_value all k ≡ nth_value values k
   values_before_stay below =
       let h = of_run_end (Grown values) (gates_strand i gates values tape) mail all (grows i gates values tape) ends in
-      ap (λ v. value_at v k) h.1 ∙ value_before values h.0 k below
+      ap (λ v. nth_value v k) h.1 ∙ value_before values h.0 k below
 
   pub other_values_stay :
       AreSound gates → Sized gates (sizes_of values) → needed gates i ≤ length tape → (IsOwn (length values) gates k → ⊥) →
-      value_at all k ≡ value_at values k
+      nth_value all k ≡ nth_value values k
   other_values_stay sound sized reach other =
-      elim (cases_lt k (length values)) as (λ c. value_at all k ≡ value_at values k)
+      elim (cases_lt k (length values)) as (λ c. nth_value all k ≡ nth_value values k)
       [ inl below ↦ values_before_stay below | inr above ↦ by_end above (cases_lt k (length values + made_by gates)) ]
     where
       h : Behind values all (made_by gates)
@@ -152,10 +152,10 @@ module _ (i : Number) (gates : List Gate) (values all : List (List ℕ)) (tape :
           of_run_end (λ v. Behind values v (made_by gates)) (gates_strand i gates values tape) mail all
           (grows_by i gates (sizes_of values) values tape sound sized refl reach) ends
 
-      by_end : length values ≤ k → (k < length values + made_by gates) ⊎ (length values + made_by gates ≤ k) → value_at all k ≡ value_at values k
+      by_end : length values ≤ k → (k < length values + made_by gates) ⊎ (length values + made_by gates ≤ k) → nth_value all k ≡ nth_value values k
       by_end above (inl below) = absurd (other (above, below))
       by_end above (inr past) =
           let n = length-append values h.more in
-          ap (λ v. value_at v k) h.parts
+          ap (λ v. nth_value v k) h.parts
           ∙ value_past (values ++ h.more) k (omega (arith, h.len))
           ∙ sym (value_past values k above)

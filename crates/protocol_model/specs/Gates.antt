@@ -12,14 +12,14 @@ pub data Gate : Type 0 where
   Local : (size : ℕ) → (Number → List (List ℕ) → List ℕ) → Gate
 
 -- the value of a number, counted from 0
-abbrev pub value_at : List (List ℕ) → ℕ → List ℕ
-value_at [] k = []
-value_at (x ∷ xs) zero = x
-value_at (x ∷ xs) (suc k) = value_at xs k
+abbrev pub nth_value : List (List ℕ) → ℕ → List ℕ
+nth_value [] k = []
+nth_value (x ∷ xs) zero = x
+nth_value (x ∷ xs) (suc k) = nth_value xs k
 
 abbrev pub operand : List (List ℕ) → Option ℕ → List ℕ
 operand values None = []
-operand values (Some k) = value_at values k
+operand values (Some k) = nth_value values k
 
 -- ---- sizes
 
@@ -75,7 +75,7 @@ needed (Local n f ∷ gates) i = needed gates i
 abbrev pub gates_strand : Number → List Gate → (values : List (List ℕ)) → (tape : List ℕ) → Strand (List (List ℕ))
 gates_strand i [] values tape = Ends values
 gates_strand i (Joined p n u v ∷ gates) values tape =
-    then_do (p.strand n i (value_at values u) (operand values v) (take (p.draws n i) tape))
+    then_do (p.strand n i (nth_value values u) (operand values v) (take (p.draws n i) tape))
     (λ made. gates_strand i gates (values ++ made) (drop (p.draws n i) tape))
 gates_strand i (Local n f ∷ gates) values tape = gates_strand i gates (values ++ f i values ∷ []) tape
 

@@ -5,7 +5,7 @@ use Rattle.proto_core.specs.Lists.{AreWords}
 use Rattle.proto_core.specs.Strand.{Mail, Strand}
 use Rattle.proto_core.specs.Net.{Finishes, opened_by}
 use Rattle.proto_core.specs.Protocol.{Joint, Protocol}
-use Rattle.protocol_model.specs.Gates.{Gate, Joined, Local, value_at, operand, sizes_of, Sized, needed, gates_strand}
+use Rattle.protocol_model.specs.Gates.{Gate, Joined, Local, nth_value, operand, sizes_of, Sized, needed, gates_strand}
 
 -- each miner's shares of the values so far, and each miner's tape
 abbrev pub Shares : Type 0
@@ -21,11 +21,11 @@ drawn p n tapes i = take (p.draws n i) (tapes i)
 abbrev pub left : Protocol → ℕ → Tapes → Tapes
 left p n tapes i = drop (p.draws n i) (tapes i)
 
-abbrev pub joint_of : ℕ → Option ℕ → Shares → Tapes → Joint
-joint_of u v values words = record { u = λ i. value_at (values i) u; v = λ i. operand (values i) v; words = words }
+abbrev pub gate_joint : ℕ → Option ℕ → Shares → Tapes → Joint
+gate_joint u v values words = record { u = λ i. nth_value (values i) u; v = λ i. operand (values i) v; words = words }
 
 abbrev pub after : Protocol → ℕ → ℕ → Option ℕ → Shares → Tapes → Shares
-after p n u v values words i = values i ++ p.output n (joint_of u v values words) i
+after p n u v values words i = values i ++ p.output n (gate_joint u v values words) i
 
 abbrev pub after_local : (Number → List (List ℕ) → List ℕ) → Shares → Shares
 after_local f values i = values i ++ f i (values i) ∷ []
@@ -34,7 +34,7 @@ after_local f values i = values i ++ f i (values i) ∷ []
 abbrev pub run_messages : List Gate → Shares → Tapes → Mail
 run_messages [] values tapes l = []
 run_messages (Joined p n u v ∷ gates) values tapes l =
-    p.messages n (joint_of u v values (drawn p n tapes)) l
+    p.messages n (gate_joint u v values (drawn p n tapes)) l
     ++ run_messages gates (after p n u v values (drawn p n tapes)) (left p n tapes) l
 run_messages (Local n f ∷ gates) values tapes l = run_messages gates (after_local f values) tapes l
 
@@ -48,7 +48,7 @@ run_values (Local n f ∷ gates) values tapes = run_values gates (after_local f 
 abbrev pub run_opened : List Gate → Shares → Tapes → List ℕ
 run_opened [] values tapes = []
 run_opened (Joined p n u v ∷ gates) values tapes =
-    p.opened n (joint_of u v values (drawn p n tapes))
+    p.opened n (gate_joint u v values (drawn p n tapes))
     ++ run_opened gates (after p n u v values (drawn p n tapes)) (left p n tapes)
 run_opened (Local n f ∷ gates) values tapes = run_opened gates (after_local f values) tapes
 

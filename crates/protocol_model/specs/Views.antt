@@ -7,8 +7,8 @@ use Rattle.proto_core.specs.Lists.{AreWords}
 use Rattle.proto_core.specs.Strand.{Mail, Ends, Acts, Waits, Strand, run}
 use Rattle.proto_core.specs.Net.{into}
 use Rattle.proto_core.specs.Protocol.{Protocol}
-use Rattle.protocol_model.specs.Gates.{Gate, Joined, Local, value_at, operand}
-use Rattle.protocol_model.specs.Runs.{Shares, Tapes, drawn, left, joint_of, after, after_local, run_messages, run_values, run_opened}
+use Rattle.protocol_model.specs.Gates.{Gate, Joined, Local, nth_value, operand}
+use Rattle.protocol_model.specs.Runs.{Shares, Tapes, drawn, left, gate_joint, after, after_local, run_messages, run_values, run_opened}
 
 -- ---- the map of the tapes
 
@@ -16,13 +16,13 @@ use Rattle.protocol_model.specs.Runs.{Shares, Tapes, drawn, left, joint_of, afte
 abbrev pub to_view : Number → List Gate → Shares → Tapes → Tapes
 to_view i [] values tapes m = tapes m
 to_view i (Joined p n u v ∷ gates) values tapes m =
-    p.tape n i (joint_of u v values (drawn p n tapes)) m
+    p.tape n i (gate_joint u v values (drawn p n tapes)) m
     ++ to_view i gates (after p n u v values (drawn p n tapes)) (left p n tapes) m
 to_view i (Local n f ∷ gates) values tapes m = to_view i gates (after_local f values) tapes m
 
 -- the words of a block that these mapped words come from
 abbrev pub found : Number → Protocol → ℕ → ℕ → Option ℕ → Shares → Tapes → Tapes
-found i p n u v values mapped m = p.back n i (joint_of u v values (drawn p n mapped)) m
+found i p n u v values mapped m = p.back n i (gate_joint u v values (drawn p n mapped)) m
 
 -- the way back: each block's words, and the shares that they make, before the next block's
 abbrev pub from_view : Number → List Gate → Shares → Tapes → Tapes
@@ -37,7 +37,7 @@ from_view i (Local n f ∷ gates) values mapped m = from_view i gates (after_loc
 -- the messages that a block brings miner i
 abbrev pub made_mail : Number → Protocol → ℕ → ℕ → Option ℕ → List (List ℕ) → List ℕ → Tapes → Mail
 made_mail i p n u v own opened mapped =
-    into i (p.received n i (value_at own u) (operand own v) (drawn p n mapped) (take (p.opens n) opened))
+    into i (p.received n i (nth_value own u) (operand own v) (drawn p n mapped) (take (p.opens n) opened))
 
 abbrev pub blocks_at_end : Strand (List (List ℕ)) → List (List ℕ)
 blocks_at_end (Ends blocks) = blocks
@@ -48,7 +48,7 @@ blocks_at_end (Waits l shape k) = []
 abbrev pub made_blocks : Number → Protocol → ℕ → ℕ → Option ℕ → List (List ℕ) → List ℕ → Tapes → List (List ℕ)
 made_blocks i p n u v own opened mapped =
     blocks_at_end
-    (run (p.strand n i (value_at own u) (operand own v) (drawn p n mapped i)) (made_mail i p n u v own opened mapped)).left
+    (run (p.strand n i (nth_value own u) (operand own v) (drawn p n mapped i)) (made_mail i p n u v own opened mapped)).left
 
 -- all messages that come to miner i
 abbrev pub made_messages : Number → List Gate → (own : List (List ℕ)) → (opened : List ℕ) → Tapes → Mail

@@ -7,7 +7,7 @@ ghost use Rattle.proto_core.specs.Strand.{Begins, Ends, Mail, Strand, run};
 ghost use Rattle.protocol_model.specs.Along.{MovesAlong};
 ghost use Rattle.protocol_model.specs.Arrivals.{arrivals, arrived, to_come};
 ghost use Rattle.protocol_model.specs.Complete.{IsComplete};
-ghost use Rattle.protocol_model.specs.Gates.{Gate, AreSound, ArePrivate, Sized, gates_script, gates_strand, needed, sizes_of, value_at};
+ghost use Rattle.protocol_model.specs.Gates.{Gate, AreSound, ArePrivate, Sized, gates_script, gates_strand, needed, sizes_of, nth_value};
 ghost use Rattle.protocol_model.specs.Network.{Accepted, Default, Delivery, Shuffled, counted, counts, made_order, net, order_of, total, walked};
 ghost use Rattle.protocol_model.specs.Runs.{Shares, Tapes, Ready, RunTogether, nodes_of, run_messages};
 ghost use Rattle.protocol_model.specs.Schedules.{AnyOrder, ThreeNodes};
@@ -64,7 +64,8 @@ pub fn gates_move_along_their_scripts()
 /// miners' moves along the run and by how many messages were delivered on each link before: for any nodes that finish, from
 /// any state; and of a list of gates by its scripts.
 pub fn schedules_are_counted()
-    ensures any_state { (nodes : Number → Strand (List (List ℕ))) (scripts : Number → List Move) (full : Mail) (outputs : Number → List (List ℕ)) (order : List Link) (entry : ℕ) (mail : Mail) →
+    ensures any_state { (nodes : Number → Strand (List (List ℕ))) (scripts : Number → List Move) (full : Mail) (outputs : Number → List (List ℕ))
+        (order : List Link) (entry : ℕ) (mail : Mail) →
         Finishes nodes full outputs → ((i : Number) → MovesAlong (nodes i) (scripts i) (into i full)) → MailBegins mail full →
         walked nodes entry mail order ≡ counted scripts entry (counts mail) order }
     ensures gates { (gates : List Gate) (values : Shares) (tapes : Tapes) (delivery : Delivery) →
@@ -76,7 +77,8 @@ pub fn schedules_are_counted()
 /// Law: an order that is made of words, as long as messages are under way, is accepted from any state; so are the default
 /// delivery and every shuffled one of a list of gates.
 pub fn made_orders_are_accepted()
-    ensures any_state { (nodes : Number → Strand (List (List ℕ))) (scripts : Number → List Move) (full : Mail) (outputs : Number → List (List ℕ)) (words : ℕ → ℕ) (fuel entry : ℕ) (mail : Mail) →
+    ensures any_state { (nodes : Number → Strand (List (List ℕ))) (scripts : Number → List Move) (full : Mail) (outputs : Number → List (List ℕ))
+        (words : ℕ → ℕ) (fuel entry : ℕ) (mail : Mail) →
         Finishes nodes full outputs → ((i : Number) → MovesAlong (nodes i) (scripts i) (into i full)) → MailBegins mail full →
         total (counts full) ≤ total (counts mail) + fuel →
         counted scripts entry (counts mail) (made_order scripts words fuel entry (counts mail)) ≡ Accepted }
@@ -97,7 +99,8 @@ pub fn accepted_orders_are_complete()
 /// Law: what comes to a miner, entry by entry of an accepted schedule, are the messages of the full run that were still to come,
 /// each link's in order: the schedule decides of their order alone.
 pub fn messages_come_in_order()
-    ensures { (nodes : Number → Strand (List (List ℕ))) (full : Mail) (outputs : Number → List (List ℕ)) (order : List Link) (entry : ℕ) (mail : Mail) (i : Number) →
+    ensures { (nodes : Number → Strand (List (List ℕ))) (full : Mail) (outputs : Number → List (List ℕ)) (order : List Link) (entry : ℕ) (mail : Mail)
+        (i : Number) →
         Finishes nodes full outputs → MailBegins mail full → walked nodes entry mail order ≡ Accepted →
         arrived nodes i mail order ≡ arrivals i (to_come full mail) order }
 {}
@@ -107,9 +110,9 @@ pub fn messages_come_in_order()
 pub fn gates_keep_other_values()
     ensures before { (i : Number) (gates : List Gate) (values all : List (List ℕ)) (tape : List ℕ) (mail : Mail) (number : ℕ) →
         (run (gates_strand i gates values tape) mail).left ≡ Ends all → number < length values →
-        value_at all number ≡ value_at values number }
+        nth_value all number ≡ nth_value values number }
     ensures others { (i : Number) (gates : List Gate) (values all : List (List ℕ)) (tape : List ℕ) (mail : Mail) (number : ℕ) →
         (run (gates_strand i gates values tape) mail).left ≡ Ends all →
         AreSound gates → Sized gates (sizes_of values) → needed gates i ≤ length tape → (IsOwn (length values) gates number → ⊥) →
-        value_at all number ≡ value_at values number }
+        nth_value all number ≡ nth_value values number }
 {}

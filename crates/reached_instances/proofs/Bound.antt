@@ -1,11 +1,15 @@
 -- What is called is there, and each of its domain variables is bound.
-use Rattle.std.proofs.Common.{◌≡◌, ℕ, zero, suc, ◌<◌, List, [], ◌∷◌, ◌++◌, length, ◌⊎◌, inl, inr, refl, sym, ◌∙◌, subst, Option, Some, None, arith, length-append}
+use Rattle.std.proofs.Common.{◌≡◌, ℕ, zero, suc, ◌<◌, List, [], ◌∷◌, ◌++◌, length, ◌⊎◌, inl, inr, refl, sym, ◌∙◌, subst, Option, Some, None, arith}
+use Rattle.std.proofs.Common.{length-append}
 use Rattle.std.specs.Prelude.{All}
 use Rattle.std.specs.List.{slice_get}
 use Rattle.typed_tree.specs.declared.kinds.Slot.{Slot}
-use Rattle.typed_tree.specs.Tree.{TypedTree, TypedTrees, word_node, truth_node, slot_node, call_node, size_node, cat_node, sum_node, bits_node, element_node, not_node, cast_node, binary_node, cut_node, declassify_node}
+use Rattle.typed_tree.specs.Tree.{TypedTree, TypedTrees, word_node, truth_node, slot_node, call_node, size_node, cat_node, sum_node, bits_node}
+use Rattle.typed_tree.specs.Tree.{element_node, not_node, cast_node, binary_node, cut_node, declassify_node}
 use Rattle.typed_tree.specs.Tree as Tree'
-use Rattle.typed_tree.specs.Commands.{Command, Commands, empty_command, block_command, if_command, loop_command, do_command, break_command, continue_command, return_command, assert_command, store_command, default_command, fill_command, input_command, element_command, publish_command, evaluate_command}
+use Rattle.typed_tree.specs.Commands.{Command, Commands, empty_command, block_command, if_command, loop_command, do_command, break_command}
+use Rattle.typed_tree.specs.Commands.{continue_command, return_command, assert_command, store_command, default_command, fill_command, input_command}
+use Rattle.typed_tree.specs.Commands.{element_command, publish_command, evaluate_command}
 use Rattle.typed_tree.specs.Commands as Commands'
 use Rattle.typed_tree.specs.Programs.{TypedFunctionTree, TypedProgramTree}
 use Rattle.sc_text.specs.Lists.{Among}
@@ -51,7 +55,9 @@ mutual
   calls_bound w (word_node n) = none_bound w.functions
   calls_bound w (truth_node b) = none_bound w.functions
   calls_bound w (slot_node k) = none_bound w.functions
-  calls_bound w (call_node line k es) = both_bound w.functions (calls_of_all w es) (called k (slice_get w.functions k) (domains w es)) (all_calls_bound w es) (called_bound w.functions k (domains w es))
+  calls_bound w (call_node line k es) =
+      both_bound w.functions (calls_of_all w es) (called k (slice_get w.functions k) (domains w es)) (all_calls_bound w es)
+      (called_bound w.functions k (domains w es))
   calls_bound w (size_node e) = calls_bound w e
   calls_bound w (cat_node line a b) = both_bound w.functions (calls w a) (calls w b) (calls_bound w a) (calls_bound w b)
   calls_bound w (sum_node e) = calls_bound w e
@@ -71,14 +77,16 @@ optional_bound : (w : Setting) (e : Option TypedTree) → AreBoundIn w.functions
 optional_bound w None = none_bound w.functions
 optional_bound w (Some e) = calls_bound w e
 
-three_bound : (fs : List TypedFunctionTree) (is js ks : List Instance) → AreBoundIn fs is → AreBoundIn fs js → AreBoundIn fs ks → AreBoundIn fs (is ++ (js ++ ks))
+three_bound : (fs : List TypedFunctionTree) (is js ks : List Instance) → AreBoundIn fs is → AreBoundIn fs js → AreBoundIn fs ks
+    → AreBoundIn fs (is ++ (js ++ ks))
 three_bound fs is js ks a b c = both_bound fs is (js ++ ks) a (both_bound fs js ks b c)
 
 mutual
   command_bound : (w : Setting) (c : Command) → AreBoundIn w.functions (command_calls w c)
   command_bound w empty_command = none_bound w.functions
   command_bound w (block_command cs) = commands_bound w cs
-  command_bound w (if_command e a b) = three_bound w.functions (calls w e) (command_calls w a) (command_calls w b) (calls_bound w e) (command_bound w a) (command_bound w b)
+  command_bound w (if_command e a b) =
+      three_bound w.functions (calls w e) (command_calls w a) (command_calls w b) (calls_bound w e) (command_bound w a) (command_bound w b)
   command_bound w (loop_command e step body) =
       three_bound w.functions (command_calls w body) (command_calls w step) (calls w e) (command_bound w body) (command_bound w step) (calls_bound w e)
   command_bound w (do_command body e) = both_bound w.functions (command_calls w body) (calls w e) (command_bound w body) (calls_bound w e)

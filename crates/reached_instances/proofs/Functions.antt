@@ -6,7 +6,8 @@ use Rattle.std.proofs.lemmas.Option.{slice_get-map, slice_get_read, slice_get_pa
 use Rattle.typed_tree.specs.declared.function.TypedFunction.{TypedFunction}
 use Rattle.typed_tree.specs.Programs.{typed_function_tree}
 
-pub the_function : (fs : List TypedFunction) (k : ℕ) (f : TypedFunction) → k < length fs → f ≡ get_or fs k f → slice_get (map typed_function_tree fs) k ≡ Some (typed_function_tree f)
+pub the_function : (fs : List TypedFunction) (k : ℕ) (f : TypedFunction) → k < length fs → f ≡ get_or fs k f
+    → slice_get (map typed_function_tree fs) k ≡ Some (typed_function_tree f)
 the_function fs k f within is = slice_get-map typed_function_tree fs k ∙ ap (option_map typed_function_tree) (slice_get_read fs (length fs) k f refl within is)
 
 pub no_function : (fs : List TypedFunction) (k : ℕ) → length fs ≤ k → slice_get (map typed_function_tree fs) k ≡ None

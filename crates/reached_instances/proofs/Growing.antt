@@ -11,17 +11,22 @@ use Rattle.reached_instances.specs.Calls.{calls, calls_of_all, command_calls, co
 pub map_one : {A B : Type 0} (f : A → B) (xs : List A) (x : A) → map f (xs ++ x ∷ []) ≡ map f xs ++ f x ∷ []
 map_one f xs x = map-append f xs (x ∷ [])
 
-pub domains_more : (w : Setting) (ts : List TypedTree) (t : TypedTree) → domains w (typed_trees_of (ts ++ t ∷ [])) ≡ domains w (typed_trees_of ts) ++ domain w t ∷ []
+pub domains_more : (w : Setting) (ts : List TypedTree) (t : TypedTree)
+    → domains w (typed_trees_of (ts ++ t ∷ [])) ≡ domains w (typed_trees_of ts) ++ domain w t ∷ []
 domains_more w [] t = refl
 domains_more w (u ∷ us) t = ap (λ l. domain w u ∷ l) (domains_more w us t)
 
-pub calls_of_all_more : (w : Setting) (ts : List TypedTree) (t : TypedTree) → calls_of_all w (typed_trees_of (ts ++ t ∷ [])) ≡ calls_of_all w (typed_trees_of ts) ++ calls w t
+pub calls_of_all_more : (w : Setting) (ts : List TypedTree) (t : TypedTree)
+    → calls_of_all w (typed_trees_of (ts ++ t ∷ [])) ≡ calls_of_all w (typed_trees_of ts) ++ calls w t
 calls_of_all_more w [] t = append-nil (calls w t)
-calls_of_all_more w (u ∷ us) t = ap (λ l. calls w u ++ l) (calls_of_all_more w us t) ∙ sym (append_assoc (calls w u) (calls_of_all w (typed_trees_of us)) (calls w t))
+calls_of_all_more w (u ∷ us) t =
+    ap (λ l. calls w u ++ l) (calls_of_all_more w us t) ∙ sym (append_assoc (calls w u) (calls_of_all w (typed_trees_of us)) (calls w t))
 
-pub commands_calls_more : (w : Setting) (cs : List Command) (c : Command) → commands_calls w (commands_of (cs ++ c ∷ [])) ≡ commands_calls w (commands_of cs) ++ command_calls w c
+pub commands_calls_more : (w : Setting) (cs : List Command) (c : Command)
+    → commands_calls w (commands_of (cs ++ c ∷ [])) ≡ commands_calls w (commands_of cs) ++ command_calls w c
 commands_calls_more w [] c = append-nil (command_calls w c)
-commands_calls_more w (d ∷ ds) c = ap (λ l. command_calls w d ++ l) (commands_calls_more w ds c) ∙ sym (append_assoc (command_calls w d) (commands_calls w (commands_of ds)) (command_calls w c))
+commands_calls_more w (d ∷ ds) c = ap (λ l. command_calls w d ++ l) (commands_calls_more w ds c)
+    ∙ sym (append_assoc (command_calls w d) (commands_calls w (commands_of ds)) (command_calls w c))
 
 -- what two parts call, one after the other
 pub then_calls : (a b c : List Instance) (xs ys : List Instance) → b ≡ a ++ xs → c ≡ b ++ ys → c ≡ a ++ (xs ++ ys)

@@ -33,10 +33,12 @@ listed_told : (k : kept.Instance) (ks : List kept.Instance) → list_any (instan
 listed_told k [] = refl
 listed_told k (q ∷ qs) = ap₂ (λ a b. a || b) (instances_told k q) (listed_told k qs)
 
-pub key_listed : (ks : List kept.Instance) (k : kept.Instance) → map instance_seen (insert_key instances.eq-value.it ks k) ≡ listing (map instance_seen ks) (instance_seen k)
+pub key_listed : (ks : List kept.Instance) (k : kept.Instance)
+    → map instance_seen (insert_key instances.eq-value.it ks k) ≡ listing (map instance_seen ks) (instance_seen k)
 key_listed ks k = go (list_any (instances.eq-value.it k) ks) (listed_told k ks)
   where
-    go : (b : Bool) → b ≡ is_listed (instance_seen k) (map instance_seen ks) → map instance_seen (if b then ks else ks ++ k ∷ []) ≡ listing (map instance_seen ks) (instance_seen k)
+    go : (b : Bool) → b ≡ is_listed (instance_seen k) (map instance_seen ks)
+        → map instance_seen (if b then ks else ks ++ k ∷ []) ≡ listing (map instance_seen ks) (instance_seen k)
     go true e = ap (λ (t : Bool). if t then map instance_seen ks else map instance_seen ks ++ instance_seen k ∷ []) e
     go false e =
         map_one instance_seen ks k

@@ -1,5 +1,6 @@
 -- Lists of reached instances: how they are found, and that there is one at most.
-use Rattle.std.proofs.Common.{◌≡◌, ℕ, zero, suc, ◌+◌, ◌<◌, ◌≤◌, List, [], ◌∷◌, ◌++◌, take, drop, length, ◌⊎◌, inl, inr, refl, sym, ap, ◌∙◌, subst, Option, Some, None, arith, append_assoc, append-nil}
+use Rattle.std.proofs.Common.{◌≡◌, ℕ, zero, suc, ◌+◌, ◌<◌, ◌≤◌, List, [], ◌∷◌, ◌++◌, take, drop, length, ◌⊎◌, inl, inr, refl, sym, ap, ◌∙◌, subst}
+use Rattle.std.proofs.Common.{Option, Some, None, arith, append_assoc, append-nil}
 use Rattle.std.specs.List.{slice_get, flat_map}
 use Rattle.std.proofs.lemmas.Bool.{cases_lt}
 use Rattle.std.proofs.lemmas.List.{take-append-drop, take-append-le, take_all}
@@ -29,7 +30,8 @@ listed_after-append p xs ys =
 pub begun : (p : TypedProgramTree) → firsts (main_of p) ≡ listed_after p []
 begun p = ap firsts (sym (append-nil (main_of p)))
 
-one_more_there : (is : List Instance) (n : ℕ) (i : Instance) (rest : List Instance) → slice_get is n ≡ Some i → take (suc n) (is ++ rest) ≡ take n (is ++ rest) ++ i ∷ []
+one_more_there : (is : List Instance) (n : ℕ) (i : Instance) (rest : List Instance) → slice_get is n ≡ Some i
+    → take (suc n) (is ++ rest) ≡ take n (is ++ rest) ++ i ∷ []
 one_more_there [] n i rest e = cc
 one_more_there (j ∷ js) zero i rest e = ap (λ z. z ∷ []) (same_Some j i e)
 one_more_there (j ∷ js) (suc n) i rest e = ap (λ zs. j ∷ zs) (one_more_there js n i rest e)
@@ -44,7 +46,8 @@ among_place [] n i e = cc
 among_place (j ∷ js) zero i e = inl (sym (same_Some j i e))
 among_place (j ∷ js) (suc n) i e = inr (among_place js n i e)
 
-read_next : (p : TypedProgramTree) (n : ℕ) (is js : List Instance) (i : Instance) → slice_get is n ≡ Some i → js ≡ listing_all is (called_by p i) → take (n + 1) js ≡ take n is ++ i ∷ []
+read_next : (p : TypedProgramTree) (n : ℕ) (is js : List Instance) (i : Instance) → slice_get is n ≡ Some i → js ≡ listing_all is (called_by p i)
+    → take (n + 1) js ≡ take n is ++ i ∷ []
 read_next p n is js i there grown =
     let g = all_grow is (called_by p i) in
     let behind : n + 1 ≡ suc n = omega arith in
@@ -62,7 +65,8 @@ read_none p is e = record { in_order = e ∙ begun p; reached = λ i m. from_mai
     from_main i (inl m) = absurd m
     from_main i (inr m) = begins i m
 
-pub read_more : (p : TypedProgramTree) (n : ℕ) (is js : List Instance) (i : Instance) → slice_get is n ≡ Some i → js ≡ listing_all is (called_by p i) → IsReadTo p n is → IsReadTo p (n + 1) js
+pub read_more : (p : TypedProgramTree) (n : ℕ) (is js : List Instance) (i : Instance) → slice_get is n ≡ Some i → js ≡ listing_all is (called_by p i)
+    → IsReadTo p n is → IsReadTo p (n + 1) js
 read_more p n is js i there grown old = record { in_order = order; reached = each }
   where
     order : js ≡ listed_after p (take (n + 1) js)
@@ -95,7 +99,8 @@ pub has_each_once : (p : TypedProgramTree) → HasEachOnce p
 has_each_once p is r = subst IsEachOnce (sym r.in_order) (all_once [] (main_of p ++ flat_map (called_by p) is) tt)
 
 -- where all that has been called has been read, all that is reached has been called
-reached_is_listed : (p : TypedProgramTree) (done : List Instance) → ((i : Instance) → Among i (listed_after p done) → Among i done) → (i : Instance) → IsReached p i → Among i (listed_after p done)
+reached_is_listed : (p : TypedProgramTree) (done : List Instance) → ((i : Instance) → Among i (listed_after p done) → Among i done) → (i : Instance)
+    → IsReached p i → Among i (listed_after p done)
 reached_is_listed p done closed i (begins j m) =
     all_come [] (main_of p ++ flat_map (called_by p) done) j (among_left j (main_of p) (flat_map (called_by p) done) m)
 reached_is_listed p done closed i (follows j k r m) =
@@ -139,7 +144,8 @@ goes_on p is n r below = go (cases_lt n (length listed))
         let same : length is ≡ length listed = ap length (e ∙ append-nil listed) in
         omega arith
     stops (x ∷ rest) e l =
-        let read : (i : Instance) → Among i listed → Among i (take n is) = λ i m. subst (λ z. Among i (take n z)) (sym e) (among_take n listed (x ∷ rest) i l m) in
+        let read : (i : Instance) → Among i listed → Among i (take n is) =
+        λ i m. subst (λ z. Among i (take n z)) (sym e) (among_take n listed (x ∷ rest) i l m) in
         let there : Among x is = subst (Among x) (sym e) (among_right x listed (x ∷ rest) (inl refl)) in
         let again : Among x listed = reached_is_listed p (take n is) read x (r.reached x there) in
         apart listed (x ∷ rest) x (subst IsEachOnce e (has_each_once p is r)) again (inl refl)
@@ -155,7 +161,8 @@ next_is p is n r below =
     let room : suc n ≤ length (listed_after p (take n is)) = omega arith in
     ap (take (suc n)) g.1 ∙ take-append-le (suc n) (listed_after p (take n is)) g.0 room
 
-agree : (p : TypedProgramTree) (is js : List Instance) → IsReachedList p is → IsReachedList p js → (n : ℕ) → n ≤ length is → n ≤ length js → take n is ≡ take n js
+agree : (p : TypedProgramTree) (is js : List Instance) → IsReachedList p is → IsReachedList p js → (n : ℕ) → n ≤ length is → n ≤ length js
+    → take n is ≡ take n js
 agree p is js r q zero a b = refl
 agree p is js r q (suc n) a b =
     let a' : n < length is = omega arith in
@@ -172,7 +179,8 @@ not_longer p is js r q = go (cases_lt (length is) (length js))
         let itself : length is ≤ length is = omega arith in
         let below : length is ≤ length js = omega arith in
         let all = take_all (length is) is itself in
-        let listed : listed_after p (take (length is) js) ≡ is = ap (listed_after p) (sym (agree p is js r q (length is) itself below) ∙ all) ∙ sym r.in_order in
+        let listed : listed_after p (take (length is) js) ≡ is = ap (listed_after p) (sym (agree p is js r q (length is) itself below) ∙ all)
+        ∙ sym r.in_order in
         let more = goes_on p js (length is) q l in
         let same = ap length listed in
         omega arith

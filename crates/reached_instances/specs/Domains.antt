@@ -4,9 +4,10 @@ use Rattle.std.specs.List.{slice_get}
 use Rattle.typed_tree.specs.declared.kinds.SlotDomain.{SlotDomain}
 use Rattle.typed_tree.specs.declared.kinds.SlotDomain.TheVariants as slot
 use Rattle.typed_tree.specs.declared.kinds.Slot.{Slot}
-use Rattle.typed_tree.specs.declared.function.Given.{Given}
-use Rattle.typed_tree.specs.declared.function.Given.TheVariants.{Nothing, Value}
-use Rattle.typed_tree.specs.Tree.{TypedTree, TypedTrees, word_node, truth_node, slot_node, call_node, size_node, cat_node, sum_node, bits_node, element_node, not_node, cast_node, binary_node, cut_node, declassify_node}
+use Rattle.typed_tree.specs.declared.function.Returned.{Returned}
+use Rattle.typed_tree.specs.declared.function.Returned.TheVariants.{Nothing, Value}
+use Rattle.typed_tree.specs.Tree.{TypedTree, TypedTrees, word_node, truth_node, slot_node, call_node, size_node, cat_node, sum_node, bits_node}
+use Rattle.typed_tree.specs.Tree.{element_node, not_node, cast_node, binary_node, cut_node, declassify_node}
 use Rattle.typed_tree.specs.Tree as Tree'
 use Rattle.typed_tree.specs.Programs.{TypedFunctionTree}
 use Rattle.reached_instances.specs.declared.instance.BoundDomain.{BoundDomain}
@@ -19,9 +20,9 @@ domain_under b (slot.Private k) = Private k
 domain_under b (slot.Variable v) = unwrap_or (slice_get b v) Public
 
 -- of two together: private where one of them is. Where the checker accepts, two private ones are the same
-abbrev pub joined : BoundDomain → BoundDomain → BoundDomain
-joined Public d = d
-joined (Private k) d = Private k
+abbrev pub joined_domain : BoundDomain → BoundDomain → BoundDomain
+joined_domain Public d = d
+joined_domain (Private k) d = Private k
 
 -- WHAT A CALL BINDS
 
@@ -34,7 +35,7 @@ is_variable v (slot.Variable u) = nat_eq u v
 abbrev pub bound_to : ℕ → List Slot → List BoundDomain → BoundDomain
 bound_to v [] ds = Public
 bound_to v (s ∷ ss) [] = Public
-bound_to v (s ∷ ss) (d ∷ ds) = if is_variable v s.domain then joined d (bound_to v ss ds) else bound_to v ss ds
+bound_to v (s ∷ ss) (d ∷ ds) = if is_variable v s.domain then joined_domain d (bound_to v ss ds) else bound_to v ss ds
 
 -- the domain variables below n
 abbrev pub bound_below : ℕ → List Slot → List BoundDomain → List BoundDomain
@@ -57,7 +58,7 @@ abbrev pub slot_domain : List BoundDomain → Option Slot → BoundDomain
 slot_domain b None = Public
 slot_domain b (Some s) = domain_under b s.domain
 
-abbrev pub given_domain : List BoundDomain → Given → BoundDomain
+abbrev pub given_domain : List BoundDomain → Returned → BoundDomain
 given_domain b Nothing = Public
 given_domain b (Value s) = domain_under b s.domain
 
@@ -73,14 +74,14 @@ abbrev mutual
   domain w (slot_node k) = slot_domain w.binding (slice_get w.slots k)
   domain w (call_node line k es) = call_domain (slice_get w.functions k) (domains w es)
   domain w (size_node e) = Public
-  domain w (cat_node line a b) = joined (domain w a) (domain w b)
+  domain w (cat_node line a b) = joined_domain (domain w a) (domain w b)
   domain w (sum_node e) = domain w e
   domain w (bits_node line e) = domain w e
   domain w (element_node line a i) = domain w a
   domain w (not_node e) = domain w e
   domain w (cast_node c e) = domain w e
-  domain w (binary_node line op ds a b) = joined (domain w a) (domain w b)
-  domain w (cut_node c a b) = joined (domain w a) (domain w b)
+  domain w (binary_node line op ds a b) = joined_domain (domain w a) (domain w b)
+  domain w (cut_node c a b) = joined_domain (domain w a) (domain w b)
   domain w (declassify_node e) = Public
 
   pub domains : Setting → TypedTrees → List BoundDomain

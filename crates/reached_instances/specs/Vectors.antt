@@ -5,8 +5,8 @@ use Rattle.secrec_ast.specs.declared.expression.DataType.TheVariants.{Uint64}
 use Rattle.typed_tree.specs.declared.kinds.SlotDomain.{SlotDomain}
 use Rattle.typed_tree.specs.declared.kinds.SlotDomain.TheVariants as slot
 use Rattle.typed_tree.specs.declared.kinds.Slot.{Slot}
-use Rattle.typed_tree.specs.declared.function.Given.{Given}
-use Rattle.typed_tree.specs.declared.function.Given.TheVariants.{Nothing, Value}
+use Rattle.typed_tree.specs.declared.function.Returned.{Returned}
+use Rattle.typed_tree.specs.declared.function.Returned.TheVariants.{Nothing, Value}
 use Rattle.typed_tree.specs.declared.operators.WordOperator.TheVariants.{Add}
 use Rattle.typed_tree.specs.declared.operators.BinaryOperator.TheVariants.{Words}
 use Rattle.typed_tree.specs.declared.operators.Operands.TheVariants.{Scalars}
@@ -28,7 +28,7 @@ abbrev word : SlotDomain → Slot
 word d = record { domain = d; shape = record { element = Uint64; array = false } }
 
 -- a function with these parameters and no other slots
-abbrev function_of : (variables parameters : ℕ) → List Slot → Given → List Command → TypedFunctionTree
+abbrev function_of : (variables parameters : ℕ) → List Slot → Returned → List Command → TypedFunctionTree
 function_of variables parameters slots given body =
     record {
       name = codes "f";
@@ -85,7 +85,8 @@ first_of_two : binding_of (two_variables_with []) (Private 1 ∷ Private 3 ∷ P
 first_of_two = refl
 
 -- an argument at a parameter that is public, or in a domain, binds nothing
-other_parameters : binding_of (function_of 1 3 (word slot.Public ∷ word (slot.Private 2) ∷ word (slot.Variable 0) ∷ []) Nothing []) (Public ∷ Private 2 ∷ Public ∷ []) ≡ Public ∷ []
+other_parameters : binding_of (function_of 1 3 (word slot.Public ∷ word (slot.Private 2) ∷ word (slot.Variable 0) ∷ []) Nothing [])
+    (Public ∷ Private 2 ∷ Public ∷ []) ≡ Public ∷ []
 other_parameters = refl
 
 -- WHO MAY SEE
@@ -144,25 +145,37 @@ each_binding_once = refl
 abbrev arguments_first_list : List Instance
 arguments_first_list = instance_of 0 [] ∷ instance_of 2 (Private 0 ∷ []) ∷ instance_of 2 (Public ∷ []) ∷ instance_of 1 (Private 0 ∷ Public ∷ []) ∷ []
 
-arguments_first : following (program (main_with (evaluate_command (calling 1 (calling 2 (slot_node 1 ∷ []) ∷ word_node 1 ∷ calling 2 (word_node 2 ∷ []) ∷ [])) ∷ []) ∷ two_variables_with [] ∷ template_with [] ∷ [])) arguments_first_list ≡ arguments_first_list
+arguments_first : following (program
+    (main_with (evaluate_command (calling 1 (calling 2 (slot_node 1 ∷ []) ∷ word_node 1 ∷ calling 2 (word_node 2 ∷ []) ∷ [])) ∷ [])
+    ∷ two_variables_with [] ∷ template_with [] ∷ [])) arguments_first_list ≡ arguments_first_list
 arguments_first = refl
 
 -- main: f(a); f(1); and f: g(x); g under what f is bound to, behind all that main calls
 abbrev under_own_variable_list : List Instance
-under_own_variable_list = instance_of 0 [] ∷ instance_of 1 (Private 0 ∷ []) ∷ instance_of 1 (Public ∷ []) ∷ instance_of 2 (Private 0 ∷ []) ∷ instance_of 2 (Public ∷ []) ∷ []
+under_own_variable_list = instance_of 0 [] ∷ instance_of 1 (Private 0 ∷ []) ∷ instance_of 1 (Public ∷ []) ∷ instance_of 2 (Private 0 ∷ [])
+    ∷ instance_of 2 (Public ∷ []) ∷ []
 
-under_own_variable : following (program (main_with (calls_one 1 (slot_node 1) ∷ calls_one 1 (word_node 1) ∷ []) ∷ template_with (calls_one 2 (slot_node 0) ∷ []) ∷ template_with [] ∷ [])) under_own_variable_list ≡ under_own_variable_list
+under_own_variable : following
+    (program (main_with (calls_one 1 (slot_node 1) ∷ calls_one 1 (word_node 1) ∷ []) ∷ template_with (calls_one 2 (slot_node 0) ∷ [])
+    ∷ template_with [] ∷ [])) under_own_variable_list ≡ under_own_variable_list
 under_own_variable = refl
 
 -- main: f(a, 1, 1); and f: f(y, x, x); two bindings that call one another
 abbrev swapping_list : List Instance
 swapping_list = instance_of 0 [] ∷ instance_of 1 (Private 0 ∷ Public ∷ []) ∷ instance_of 1 (Public ∷ Private 0 ∷ []) ∷ []
 
-swapping : following (program (main_with (evaluate_command (calling 1 (slot_node 1 ∷ word_node 1 ∷ word_node 1 ∷ [])) ∷ []) ∷ two_variables_with (evaluate_command (calling 1 (slot_node 1 ∷ slot_node 0 ∷ slot_node 0 ∷ [])) ∷ []) ∷ [])) swapping_list ≡ swapping_list
+swapping : following (program
+    (main_with (evaluate_command (calling 1 (slot_node 1 ∷ word_node 1 ∷ word_node 1 ∷ [])) ∷ [])
+    ∷ two_variables_with (evaluate_command (calling 1 (slot_node 1 ∷ slot_node 0 ∷ slot_node 0 ∷ [])) ∷ []) ∷ [])) swapping_list ≡ swapping_list
 swapping = refl
 
 -- for (; f(x) ..; g(x)) h(x); then do h(x); while (g(x)); and a fill of size g(x) with f(x)
-in_reading_order : called_by (program (main_with (loop_command (calling 1 (slot_node 0 ∷ [])) (calls_one 2 (slot_node 0)) (calls_one 3 (slot_node 0)) ∷ do_command (calls_one 3 (slot_node 0)) (calling 2 (slot_node 0 ∷ [])) ∷ fill_command 2 0 (calling 2 (slot_node 0 ∷ [])) (calling 1 (slot_node 0 ∷ [])) ∷ []) ∷ template_with [] ∷ template_with [] ∷ template_with [] ∷ [])) (instance_of 0 []) ≡ instance_of 3 (Public ∷ []) ∷ instance_of 2 (Public ∷ []) ∷ instance_of 1 (Public ∷ []) ∷ instance_of 3 (Public ∷ []) ∷ instance_of 2 (Public ∷ []) ∷ instance_of 2 (Public ∷ []) ∷ instance_of 1 (Public ∷ []) ∷ []
+in_reading_order : called_by
+    (program (main_with (loop_command (calling 1 (slot_node 0 ∷ [])) (calls_one 2 (slot_node 0)) (calls_one 3 (slot_node 0))
+    ∷ do_command (calls_one 3 (slot_node 0)) (calling 2 (slot_node 0 ∷ []))
+    ∷ fill_command 2 0 (calling 2 (slot_node 0 ∷ [])) (calling 1 (slot_node 0 ∷ [])) ∷ []) ∷ template_with [] ∷ template_with [] ∷ template_with []
+    ∷ [])) (instance_of 0 []) ≡ instance_of 3 (Public ∷ []) ∷ instance_of 2 (Public ∷ []) ∷ instance_of 1 (Public ∷ []) ∷ instance_of 3 (Public ∷ [])
+    ∷ instance_of 2 (Public ∷ []) ∷ instance_of 2 (Public ∷ []) ∷ instance_of 1 (Public ∷ []) ∷ []
 in_reading_order = refl
 
 -- a function that nothing but itself calls may stand in a list that goes on so, but it is not reached

@@ -4,7 +4,7 @@ ghost use Rattle.typed_tree.specs.Programs.{typed_function_tree};
 ghost use Rattle.reached_instances.specs.Domains.{is_variable, bound_to, binding_of};
 
 use crate::instance::BoundDomain;
-use crate::setting::joined;
+use crate::setting::joined_domain;
 use std::alloc::{AllocError, Global};
 use typed_tree::{Slot, SlotDomain, TypedFunction};
 
@@ -30,7 +30,7 @@ fn bound_to(variable: usize, slots: &[Slot], arguments: &[BoundDomain]) -> Bound
         arguments.split_first(),
     ) {
         if is_variable(variable, slot.domain) {
-            bound = joined(bound, *argument);
+            bound = joined_domain(bound, *argument);
         }
         slots = more;
         arguments = others;

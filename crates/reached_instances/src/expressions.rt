@@ -9,7 +9,7 @@ ghost use Rattle.reached_instances.specs.Views.{setting, instances_seen};
 
 use crate::binding::binding_of;
 use crate::instance::{BoundDomain, Instance};
-use crate::setting::{Setting, given_domain, joined, slot_domain};
+use crate::setting::{Setting, given_domain, joined_domain, slot_domain};
 use std::alloc::{AllocError, Global};
 use typed_tree::{TypedExpression, TypedFunction};
 
@@ -72,7 +72,7 @@ pub fn expression(
         | TypedExpression::CutShort(_, left, right) => {
             let left = expression(alloc, found, here, left)?;
             let right = expression(alloc, found, here, right)?;
-            Ok(joined(left, right))
+            Ok(joined_domain(left, right))
         }
     }
 }

@@ -8,7 +8,7 @@ ghost use Rattle.reached_instances.specs.Views.{setting};
 
 use crate::binding::binding_of;
 use crate::instance::BoundDomain;
-use crate::setting::{Setting, given_domain, joined, slot_domain};
+use crate::setting::{Setting, given_domain, joined_domain, slot_domain};
 use std::alloc::{AllocError, Global};
 use typed_tree::{TypedExpression, TypedFunction};
 
@@ -60,7 +60,7 @@ pub fn domain(
         | TypedExpression::CutShort(_, left, right) => {
             let left = domain(alloc, here, left)?;
             let right = domain(alloc, here, right)?;
-            Ok(joined(left, right))
+            Ok(joined_domain(left, right))
         }
     }
 }

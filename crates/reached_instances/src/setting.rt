@@ -1,10 +1,10 @@
 ghost use Rattle.std.specs.Prelude.{◌≡◌};
 ghost use Rattle.std.specs.List.{slice_get};
-ghost use Rattle.reached_instances.specs.Domains.{domain_under, slot_domain, given_domain, joined};
+ghost use Rattle.reached_instances.specs.Domains.{domain_under, slot_domain, given_domain, joined_domain};
 ghost use Rattle.reached_instances.specs.Views.{setting};
 
 use crate::instance::BoundDomain;
-use typed_tree::{Given, Slot, SlotDomain, TypedFunction};
+use typed_tree::{Returned, Slot, SlotDomain, TypedFunction};
 
 /// Where an expression stands: in a function of these that has these slots, whose domain variables are so bound.
 #[derive(Clone, Copy)]
@@ -36,18 +36,18 @@ pub fn slot_domain(here: &Setting<'_>, number: usize) -> BoundDomain
 }
 
 /// Who may see what a function gives back.
-pub fn given_domain(binding: &[BoundDomain], given: Given) -> BoundDomain
+pub fn given_domain(binding: &[BoundDomain], given: Returned) -> BoundDomain
     ensures { result ≡ given_domain binding.now given }
 {
     match given {
-        Given::Nothing => BoundDomain::Public,
-        Given::Value(slot) => domain_under(binding, slot.domain),
+        Returned::Nothing => BoundDomain::Public,
+        Returned::Value(slot) => domain_under(binding, slot.domain),
     }
 }
 
 /// Who may see what two operands give: where one of them is private, it decides.
-pub fn joined(left: BoundDomain, right: BoundDomain) -> BoundDomain
-    ensures { result ≡ joined left right }
+pub fn joined_domain(left: BoundDomain, right: BoundDomain) -> BoundDomain
+    ensures { result ≡ joined_domain left right }
 {
     match left {
         BoundDomain::Public => right,

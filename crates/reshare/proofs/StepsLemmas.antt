@@ -11,7 +11,7 @@ use Rattle.proto_core.specs.Strand.{Sent, Ends, Acts, Waits}
 use Rattle.reshare.specs.Resharing.{one_field, reshare_strand, reshare_messages, reshare_output}
 use Rattle.reshare.specs.ResharingRuns.{reshare-run}
 use Rattle.reshare.specs.ResharingLaws.{reshares}
-use Rattle.reshare.specs.Joints.{of_three}
+use Rattle.proto_core.specs.Parties.{of_three}
 use Rattle.reshare.specs.Parts.{IsPart}
 use Rattle.reshare.specs.Steps.{left_sent, after_sent, Reshared}
 

@@ -1,4 +1,3 @@
-pub mod Joints
 pub mod Resharing
 pub mod ResharingRuns
 pub mod ResharingLaws

@@ -28,7 +28,8 @@ sizes :
     EndsWith (λ blocks. map length blocks ≡ n ∷ []) (reshare_strand r n i u words)
 sizes r n i u words = λ m h. ap (λ k. k ∷ []) (length-reshared r n u words m)
 
-messages : (r : Ring) (n : ℕ) (j : Joint) → Fits (reshare_protocol r) n j → (l : Link) → AreMessages (sends_on l (reshare_script n (sender_of l))) (reshare_messages j l)
+messages : (r : Ring) (n : ℕ) (j : Joint) → Fits (reshare_protocol r) n j → (l : Link)
+    → AreMessages (sends_on l (reshare_script n (sender_of l))) (reshare_messages j l)
 messages r n j fits =
     elim [
       | Link12 ↦ (mask One, tt)
@@ -42,8 +43,8 @@ messages r n j fits =
     mask : (i : Number) → IsMessage (one_field n) (j.words i)
     mask i = record { shape = accepts-one_words n (j.words i) (fits.words i); words = fits.are_words i }
 
-seen : (j : Joint) (i : Number) (l : Link) → receiver_of l ≡ i → reshare_messages j l ≡ reshare_received i j.words l
-seen j i l h = subst (λ k. reshare_messages j l ≡ reshare_received k j.words l) h (at_link l)
+reshare-seen : (j : Joint) (i : Number) (l : Link) → receiver_of l ≡ i → reshare_messages j l ≡ reshare_received i j.words l
+reshare-seen j i l h = subst (λ k. reshare_messages j l ≡ reshare_received k j.words l) h (at_link l)
   where
     at_link : (l : Link) → reshare_messages j l ≡ reshare_received (receiver_of l) j.words l
     at_link = elim [ Link12 ↦ refl | Link13 ↦ refl | Link21 ↦ refl | Link23 ↦ refl | Link31 ↦ refl | Link32 ↦ refl ]
@@ -56,7 +57,7 @@ reshare-private r =
       back_kept = λ n i j fits. fits;
       back_tape = λ n i j fits m. refl;
       tape_back = λ n i j fits m. refl;
-      seen = λ n i j fits l h. seen j i l h;
+      seen = λ n i j fits l h. reshare-seen j i l h;
     }
 
 module _ {r : Ring} (laws : RingLaws r) where

@@ -32,7 +32,8 @@ module _ (r : Ring) (n : ℕ) (j : Joint) (words : (i : Number) → length (j.wo
       ≡ record { acts = Sent (to_next i) (j.words i) ∷ []; left = Ends (reshare_output r n j i); unread = nothing }
   reshare-run One = ap (run (reshare_strand r n One (j.u One) (j.words One))) (into-is One (reshare_messages j)) ∙ run-reshare r n One _ _ _ (words Three)
   reshare-run Two = ap (run (reshare_strand r n Two (j.u Two) (j.words Two))) (into-is Two (reshare_messages j)) ∙ run-reshare r n Two _ _ _ (words One)
-  reshare-run Three = ap (run (reshare_strand r n Three (j.u Three) (j.words Three))) (into-is Three (reshare_messages j)) ∙ run-reshare r n Three _ _ _ (words Two)
+  reshare-run Three = ap (run (reshare_strand r n Three (j.u Three) (j.words Three))) (into-is Three (reshare_messages j))
+      ∙ run-reshare r n Three _ _ _ (words Two)
 
   sent_all : (l : Link) → on_link l (Sent (to_next (sender_of l)) (j.words (sender_of l)) ∷ []) ≡ reshare_messages j l
   sent_all = elim [ Link12 ↦ refl | Link13 ↦ refl | Link21 ↦ refl | Link23 ↦ refl | Link31 ↦ refl | Link32 ↦ refl ]

@@ -8,7 +8,7 @@ use Rattle.proto_core.specs.Protocol.{Joint, strands_of}
 use Rattle.proto_core.specs.Resharing.{reshared}
 use Rattle.proto_core.specs.Strand.{Sent, Strand, Ends, run}
 use Rattle.proto_core.specs.Net.{into, mail_of, nothing, posted}
-use Rattle.reshare.specs.Joints.{joint_of}
+use Rattle.proto_core.specs.Joints.{joint_of}
 use Rattle.reshare.specs.Resharing.{reshare_messages, reshare_output, reshare_protocol, reshare_received, reshare_sent, reshare_strand}
 
 -- ---- the shares 0, 0, 42 of a product, with words that are 0: nothing changes

@@ -1,7 +1,7 @@
 ghost use Rattle.std.specs.Prelude.{◌≡◌, length};
 ghost use Rattle.proto_core.specs.declared.party.Number.TheVariants.{One, Two, Three};
 ghost use Rattle.proto_core.specs.Resharing.{sum_of_three};
-ghost use Rattle.reshare.specs.Joints.{joint_of};
+ghost use Rattle.proto_core.specs.Joints.{joint_of};
 ghost use Rattle.reshare.specs.Parts.{IsPart};
 
 use crate::resharing::Reshare;

@@ -6,20 +6,20 @@ use Rattle.command_frame.specs.Answer.{Answer, Cause, missing}
 use Rattle.command_frame.specs.Status.{is_refusal}
 use Rattle.secrec_ast.specs.Programs.{ProgramTree}
 use Rattle.typed_tree.specs.Programs.{TypedProgramTree}
-use Rattle.program_limits.specs.declared.limit_error.LimitError.{LimitError}
+use Rattle.program_limits.specs.declared.limit_err.LimitErr.{LimitErr}
 use Rattle.run_engine.specs.Judging.{Sized, IsSized, Finding, FoundAt, its_program}
 use Rattle.run_engine.specs.Programs.{program_at, small_enough, too_large, tree_at}
 use Rattle.run_engine.specs.Runs.{HoldsProgram, HoldsBadProgram, HoldsTyped, HoldsLarge, ProgramRefused, bad_text, too_large as size_refused}
 use Rattle.run_engine.proofs.Refusals.{TreeRead, steps, not_missing, refusing, status_in_answer, status_of_cause, tree_cases}
 use Rattle.run_engine.proofs.Sizes.{size_found}
 
-large_status : (error : LimitError) → status_of_cause (too_large error) ≡ statuses.Program
+large_status : (error : LimitErr) → status_of_cause (too_large error) ≡ statuses.Program
 unfolding too_large
 large_status error = refl
 
 -- an accepted program is there that is too large
 abbrev pub HoldsSomeLarge : List ℕ → Contents → Type 0
-HoldsSomeLarge path files = (error : LimitError) × HoldsLarge path files error
+HoldsSomeLarge path files = (error : LimitErr) × HoldsLarge path files error
 
 -- a program that is small enough was read, or why it wasn't
 abbrev pub ProgramRead : Contents → List ℕ → Result TypedProgramTree Cause → Type 0

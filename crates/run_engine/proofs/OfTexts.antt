@@ -6,8 +6,8 @@ use Rattle.outside.specs.Files.{Contents, FilesState, file_at}
 use Rattle.secrec_ast.specs.Programs.{ProgramTree}
 use Rattle.typed_tree.specs.Programs.{TypedProgramTree}
 use Rattle.name_resolution.specs.Functions.{typed_of}
-use Rattle.program_limits.specs.declared.limit_error.LimitError.{LimitError}
-use Rattle.program_limits.specs.declared.limit_error.LimitError.TheVariants.{TooManyInstances, ProgramTooLarge, FunctionTooLarge, Memory}
+use Rattle.program_limits.specs.declared.limit_err.LimitErr.{LimitErr}
+use Rattle.program_limits.specs.declared.limit_err.LimitErr.TheVariants.{TooManyInstances, ProgramTooLarge, FunctionTooLarge, Memory}
 use Rattle.program_limits.specs.Answer.{IsAnswer}
 use Rattle.front_end.specs.Judgement.{Judged, IsJudged}
 use Rattle.command_frame.specs.declared.stop.Stop.{Stop}
@@ -92,12 +92,12 @@ module _ (bytes : List ℕ) (tree : ProgramTree) (p : TypedProgramTree) (typed :
   unfolding program_in
   small_in found h is only = rw (is, small_known tree p typed only found.sized (sized_so found h is)) refl
 
-  large_in : (found : Finding) (error : LimitError) → IsFoundOf bytes found → accepted found.judged ≡ Ok tree → OnlyVerdict p (Some error)
+  large_in : (found : Finding) (error : LimitErr) → IsFoundOf bytes found → accepted found.judged ≡ Ok tree → OnlyVerdict p (Some error)
       → program_in found ≡ Err (too_large error)
   unfolding program_in
   large_in found error h is only = rw (is, large_known tree p error typed only found.sized (sized_so found h is)) refl
 
-  pub large_stops : (found : Finding) (error : LimitError) (stop : Stop) → IsRefusalFor (too_large error) stop → (error ≡ Memory → stop ≡ stops.Memory)
+  pub large_stops : (found : Finding) (error : LimitErr) (stop : Stop) → IsRefusalFor (too_large error) stop → (error ≡ Memory → stop ≡ stops.Memory)
       → IsFoundOf bytes found → accepted found.judged ≡ Ok tree → JustVerdict p error → StopsSo stop (program_in found)
   large_stops found (TooManyInstances count) stop for memory h is only = refuses_so stop (program_in found) for (large_in found (TooManyInstances count) h is only)
   large_stops found (ProgramTooLarge size) stop for memory h is only = refuses_so stop (program_in found) for (large_in found (ProgramTooLarge size) h is only)
@@ -119,7 +119,7 @@ sized_found bytes tree sized all is (judged, h) =
       },
     )
 
-pub large_found : (bytes : List ℕ) (tree : ProgramTree) (p : TypedProgramTree) (error : LimitError) (stop : Stop) → (error ≡ Memory → stop ≡ stops.Memory)
+pub large_found : (bytes : List ℕ) (tree : ProgramTree) (p : TypedProgramTree) (error : LimitErr) (stop : Stop) → (error ≡ Memory → stop ≡ stops.Memory)
     → AllAccept bytes tree → typed_of tree ≡ Some p → IsAnswer p (Err error) → IsJudgedSo bytes → NotForMemory stop → IsFoundSo bytes
 large_found bytes tree p (TooManyInstances count) stop memory all typed verdict has told = sized_found bytes tree (Err (TooManyInstances count)) all (p, typed, verdict) has
 large_found bytes tree p (ProgramTooLarge size) stop memory all typed verdict has told = sized_found bytes tree (Err (ProgramTooLarge size)) all (p, typed, verdict) has

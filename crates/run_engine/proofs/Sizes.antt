@@ -4,7 +4,7 @@ use Rattle.outside.specs.Files.{Contents}
 use Rattle.secrec_ast.specs.Programs.{ProgramTree}
 use Rattle.typed_tree.specs.Programs.{TypedProgramTree}
 use Rattle.name_resolution.specs.Functions.{typed_of}
-use Rattle.program_limits.specs.declared.limit_error.LimitError.{LimitError}
+use Rattle.program_limits.specs.declared.limit_err.LimitErr.{LimitErr}
 use Rattle.program_limits.specs.Answer.{IsJust}
 use Rattle.program_limits.specs.Limits.{IsVerdict}
 use Rattle.front_end.specs.Judgement.{Judged}
@@ -18,13 +18,13 @@ use Rattle.run_engine.proofs.Judged.{any_size}
 -- ---- a program has one size
 
 -- what there is too much of in it
-abbrev pub OnlyVerdict : TypedProgramTree → Option LimitError → Type 0
-OnlyVerdict p known = (refused : Option LimitError) → IsVerdict p refused → refused ≡ known
+abbrev pub OnlyVerdict : TypedProgramTree → Option LimitErr → Type 0
+OnlyVerdict p known = (refused : Option LimitErr) → IsVerdict p refused → refused ≡ known
 
 same_there : {A : Type 0} (o : Option A) (a b : A) → o ≡ Some a → o ≡ Some b → b ≡ a
 same_there o a b is other = let both : Some b ≡ Some a = sym other ∙ is in cc
 
-of_this : (tree : ProgramTree) (p q : TypedProgramTree) (refused : Option LimitError) → typed_of tree ≡ Some p → typed_of tree ≡ Some q → IsVerdict q refused → IsVerdict p refused
+of_this : (tree : ProgramTree) (p q : TypedProgramTree) (refused : Option LimitErr) → typed_of tree ≡ Some p → typed_of tree ≡ Some q → IsVerdict q refused → IsVerdict p refused
 of_this tree p q refused typed other v = subst (λ (x : TypedProgramTree). IsVerdict x refused) (same_there (typed_of tree) p q typed other) v
 
 pub small_known : (tree : ProgramTree) (p : TypedProgramTree) → typed_of tree ≡ Some p → OnlyVerdict p None → (sized : Sized) → IsSized tree sized → sized ≡ Ok p
@@ -33,7 +33,7 @@ small_known tree p typed only (Err error) (q, other, verdict) =
     let wrong : Some error ≡ None = only (Some error) (of_this tree p q (Some error) typed other verdict) in
     absurd cc
 
-pub large_known : (tree : ProgramTree) (p : TypedProgramTree) (error : LimitError) → typed_of tree ≡ Some p → OnlyVerdict p (Some error) → (sized : Sized) → IsSized tree sized → sized ≡ Err error
+pub large_known : (tree : ProgramTree) (p : TypedProgramTree) (error : LimitErr) → typed_of tree ≡ Some p → OnlyVerdict p (Some error) → (sized : Sized) → IsSized tree sized → sized ≡ Err error
 large_known tree p error typed only (Ok q) (other, within) =
     let wrong : None ≡ Some error = only None (of_this tree p q None typed other within) in
     absurd cc
@@ -75,5 +75,5 @@ pub is_refused : (files : Contents) (path : List ℕ) (fault : ProgramFault) →
 is_refused files path fault at = record { judged = at; sized = tt; reached = tt }
 
 -- and nothing else than this
-abbrev pub JustVerdict : TypedProgramTree → LimitError → Type 0
-JustVerdict p error = (refused : Option LimitError) → IsVerdict p refused → IsJust (Err error) refused
+abbrev pub JustVerdict : TypedProgramTree → LimitErr → Type 0
+JustVerdict p error = (refused : Option LimitErr) → IsVerdict p refused → IsJust (Err error) refused

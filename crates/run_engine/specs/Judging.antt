@@ -3,7 +3,7 @@ use Rattle.std.specs.Prelude.{◌≡◌, ℕ, List, true, Option, Some, None, Re
 use Rattle.secrec_ast.specs.Programs.{ProgramTree}
 use Rattle.typed_tree.specs.Programs.{TypedProgramTree}
 use Rattle.name_resolution.specs.Functions.{typed_of}
-use Rattle.program_limits.specs.declared.limit_error.LimitError.{LimitError}
+use Rattle.program_limits.specs.declared.limit_err.LimitErr.{LimitErr}
 use Rattle.program_limits.specs.Limits.{IsVerdict, IsWithinLimits}
 use Rattle.reached_instances.specs.Instances.{Instance}
 use Rattle.reached_instances.specs.Reached.{IsReachedList}
@@ -19,7 +19,7 @@ JudgedAt (Some path) files judged = (bytes : List ℕ) → file_at files path �
 
 -- an accepted program as it is run: its typed tree, or what there is too much of in it
 abbrev pub Sized : Type 0
-Sized = Result TypedProgramTree LimitError
+Sized = Result TypedProgramTree LimitErr
 
 abbrev pub IsSized : ProgramTree → Sized → Type 0
 IsSized tree (Ok program) = (typed_of tree ≡ Some program) × IsWithinLimits program

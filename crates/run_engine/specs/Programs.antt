@@ -9,7 +9,7 @@ use Rattle.front_end.specs.Judgement.{Judged}
 use Rattle.command_frame.specs.declared.status.Status.TheVariants.{Program}
 use Rattle.command_frame.specs.Answer.{Cause, ◌>>=◌, bytes_at}
 use Rattle.typed_tree.specs.Programs.{TypedProgramTree}
-use Rattle.program_limits.specs.declared.limit_error.LimitError.{LimitError}
+use Rattle.program_limits.specs.declared.limit_err.LimitErr.{LimitErr}
 use Rattle.program_limits.specs.Refusals.{fault_said}
 use Rattle.run_engine.specs.Judging.{Finding, Sized}
 
@@ -26,7 +26,7 @@ unfoldable pub tree_at : Judged → Contents → List ℕ → Result ProgramTree
 tree_at judged files path = bytes_at files path >>= λ bytes. accepted judged
 
 -- the refusal of an accepted program for what there is too much of in it
-unfoldable pub too_large : LimitError → Cause
+unfoldable pub too_large : LimitErr → Cause
 too_large error = record { status = Program; line = fault_line (fault_said error) }
 
 abbrev pub small_enough : Sized → Result TypedProgramTree Cause

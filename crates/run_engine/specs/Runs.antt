@@ -13,7 +13,7 @@ use Rattle.schedule_file.specs.Reading.{links_of}
 use Rattle.typed_tree.specs.Programs.{TypedProgramTree}
 use Rattle.input_share.specs.Dealing.{need_of}
 use Rattle.name_resolution.specs.Functions.{typed_of}
-use Rattle.program_limits.specs.declared.limit_error.LimitError.{LimitError}
+use Rattle.program_limits.specs.declared.limit_err.LimitErr.{LimitErr}
 use Rattle.program_limits.specs.Limits.{IsVerdict, IsWithinLimits}
 use Rattle.tape_file.specs.Format.{read_of as tapes_read_of}
 use Rattle.tape_file.specs.Tapes.{FourTapes}
@@ -71,7 +71,7 @@ pub record HoldsBadProgram (path : List ℕ) (files : Contents) : Type 0 where
   pub refused : IsRefusedText bytes fault
 
 -- an accepted program is there that has too much of something
-pub record HoldsLarge (path : List ℕ) (files : Contents) (error : LimitError) : Type 0 where
+pub record HoldsLarge (path : List ℕ) (files : Contents) (error : LimitErr) : Type 0 where
   pub tree : ProgramTree
   pub held : HoldsProgram path files tree
   pub program : TypedProgramTree
@@ -85,7 +85,7 @@ Evaluates asked ask = (asked ≡ Some (eval ask)) ⊎ (asked ≡ Some (need ask)
 -- why a program is refused with this status, by each command that reads one: its text, or what there is too much of in it
 pub data ProgramRefused (path : List ℕ) (files : Contents) (status : Status) : Type 0 where
   bad_text : status ≡ Program → HoldsBadProgram path files → ProgramRefused path files status
-  too_large : status ≡ Program → (error : LimitError) → HoldsLarge path files error → ProgramRefused path files status
+  too_large : status ≡ Program → (error : LimitErr) → HoldsLarge path files error → ProgramRefused path files status
 
 -- why `eval` or `need` is refused with this status: the first file that is there and not as it must be
 pub data EvalRefused (ask : EvalAsk) (files : Contents) (status : Status) : Type 0 where

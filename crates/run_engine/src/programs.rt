@@ -19,7 +19,7 @@ use crate::readers::refusal_of;
 use command_frame::{Status, Stop, read_file};
 use front_end::{ProgramErr, ProgramFault, read_program};
 use outside::Files;
-use program_limits::{LimitError, check_limits};
+use program_limits::{LimitErr, check_limits};
 use program_typing::checked_tree;
 use sc_text::Fault;
 use secrec_ast::Program;
@@ -40,12 +40,12 @@ fn program_stop(alloc: Global, fault: ProgramFault) -> Stop
 
 // Why an accepted program is too large.
 #[tactic(auto, unfolding(crate::specs::Programs::too_large))]
-fn size_stop(alloc: Global, error: LimitError) -> Stop
+fn size_stop(alloc: Global, error: LimitErr) -> Stop
     ensures refusal { IsRefusalFor (too_large error) result }
-    ensures memory { error ≡ LimitError.Memory → result ≡ Stop.Memory }
+    ensures memory { error ≡ LimitErr.Memory → result ≡ Stop.Memory }
 {
     match error {
-        LimitError::Memory => Stop::Memory,
+        LimitErr::Memory => Stop::Memory,
         _ => refusal_of(alloc, Status::Program, &error.into()),
     }
 }

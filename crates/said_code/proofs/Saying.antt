@@ -10,8 +10,8 @@ use Rattle.typed_tree.specs.declared.operators.BinaryOperator.TheVariants as bin
 use Rattle.typed_tree.specs.declared.operators.Operands.{Operands}
 use Rattle.typed_tree.specs.declared.operators.Operands.TheVariants.{Scalars}
 use Rattle.typed_tree.specs.declared.operators.Connective.{Connective}
-use Rattle.typed_tree.specs.declared.function.Given.{Given}
-use Rattle.typed_tree.specs.declared.function.Given.TheVariants.{Nothing, Value}
+use Rattle.typed_tree.specs.declared.function.Returned.{Returned}
+use Rattle.typed_tree.specs.declared.function.Returned.TheVariants.{Nothing, Value}
 use Rattle.typed_tree.specs.Tree.{TypedTree, TypedTrees, word_node, truth_node, slot_node, call_node, size_node, cat_node, sum_node, bits_node, element_node}
 use Rattle.typed_tree.specs.Tree.{not_node, cast_node, binary_node, cut_node, declassify_node}
 use Rattle.typed_tree.specs.Tree as Tree'
@@ -24,7 +24,8 @@ use Rattle.reached_instances.specs.declared.instance.BoundDomain.{BoundDomain}
 use Rattle.reached_instances.specs.Domains.{Setting, domains}
 use Rattle.reached_instances.specs.Instances.{Instance}
 use Rattle.language_model.specs.Words.{truth_word}
-use Rattle.language_model.specs.Evaluation.{Place, place_in, gives_private, slot_is_private, slot_shape, bound_at, slots_of, next_is_private, behind_next}
+use Rattle.language_model.specs.Evaluation.{StatementContext, place_in, gives_private, slot_is_private, slot_shape, bound_at, slots_of}
+use Rattle.language_model.specs.Evaluation.{next_is_private, behind_next}
 use Rattle.language_model.specs.Evaluation.{connective, either}
 use Rattle.verified_code.specs.Steps.{Step, Function, Literal, Move, Store, Binary, Not, Cast, Classify, Fill, At, Put, Size, Cat, Sum, Bits, Declassify}
 use Rattle.verified_code.specs.Steps.{Argument, Publish, Assert, Branch, Jump, Call, Return, ReturnNone}
@@ -207,7 +208,7 @@ module _ (is_word is_line : ℕ → Bool) (is_text : List ℕ → Bool) where
 
     -- ---- STATEMENTS
 
-    module _ (number : Numbers) (at : Place) where
+    module _ (number : Numbers) (at : StatementContext) where
       abbrev code_of_tree : (t pc : ℕ) → TypedTree → List Step
       code_of_tree t pc e = expression_code number at.here t pc e
 
@@ -288,7 +289,7 @@ module _ (is_word is_line : ℕ → Bool) (is_text : List ℕ → Bool) where
 
     -- ---- FUNCTIONS
 
-    last_says : (g : Given) (r : ℕ) → Says (last_step g r)
+    last_says : (g : Returned) (r : ℕ) → Says (last_step g r)
     last_says Nothing r = tt
     last_says (Value s) r = tt
 

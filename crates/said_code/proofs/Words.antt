@@ -3,8 +3,8 @@ use Rattle.std.proofs.Common.{◌≡◌, ◌^◌, List, [], ◌∷◌, Option, S
 use Rattle.std.proofs.lemmas.Bool.{lt-ltb}
 use Rattle.typed_tree.specs.declared.kinds.Shape.{Shape}
 use Rattle.typed_tree.specs.declared.kinds.Slot.{Slot}
-use Rattle.typed_tree.specs.declared.function.Given.{Given}
-use Rattle.typed_tree.specs.declared.function.Given.TheVariants.{Nothing, Value}
+use Rattle.typed_tree.specs.declared.function.Returned.{Returned}
+use Rattle.typed_tree.specs.declared.function.Returned.TheVariants.{Nothing, Value}
 use Rattle.typed_tree.specs.Tree.{TypedTree, TypedTrees, word_node, truth_node, slot_node, call_node, size_node, cat_node, sum_node, bits_node, element_node}
 use Rattle.typed_tree.specs.Tree.{not_node, cast_node, binary_node, cut_node, declassify_node}
 use Rattle.typed_tree.specs.Tree as Tree'
@@ -52,13 +52,13 @@ module _ (here : Setting) where
     trees_say b (s ∷ ss) Tree'.none h = tt
     trees_say b (s ∷ ss) (Tree'.also e es) h = (tree_says e _ h.0, trees_say b ss es h.2)
 
-  returned_says : (g : Given) (o : Option TypedTree) → IsReturned here g o → OptionSays is_word any_number any_text o
+  returned_says : (g : Returned) (o : Option TypedTree) → IsReturned here g o → OptionSays is_word any_number any_text o
   returned_says g None h = tt
   returned_says Nothing (Some e) h = absurd h
   returned_says (Value s) (Some e) h = tree_says e _ h.0
 
   mutual
-    command_says : (g : Given) (inside : Bool) (c : Command) → IsWellTypedCommand here g inside c → Does c
+    command_says : (g : Returned) (inside : Bool) (c : Command) → IsWellTypedCommand here g inside c → Does c
     command_says g inside empty_command h = tt
     command_says g inside (block_command cs) h = commands_say g inside cs h
     command_says g inside (if_command e a b) h = (tree_says e _ h.0.0, command_says g inside a h.1, command_says g inside b h.2)
@@ -76,7 +76,7 @@ module _ (here : Setting) where
     command_says g inside (publish_command text e) h = (refl, tree_says e _ h.1)
     command_says g inside (evaluate_command e) h = tree_says e _ h.1
 
-    pub commands_say : (g : Given) (inside : Bool) (cs : Commands) → AreWellTypedCommands here g inside cs → CommandsSay is_word any_number any_text cs
+    pub commands_say : (g : Returned) (inside : Bool) (cs : Commands) → AreWellTypedCommands here g inside cs → CommandsSay is_word any_number any_text cs
     commands_say g inside Commands'.none h = tt
     commands_say g inside (Commands'.also c cs) h = (command_says g inside c h.0, commands_say g inside cs h.1)
 

@@ -76,7 +76,6 @@ unfoldable pub fault_text : Fault → List ℕ
 fault_text faults.Usage = codes "usage"
 fault_text (faults.Placed fault span) = placed_code fault ++ codes " " ++ span_text span
 fault_text (faults.Counted fault count) = counted_code fault ++ codes " " ++ decimal count
-fault_text (faults.NotYet place) = codes "X4 " ++ span_text place
 fault_text (faults.Input fault) = input_fault_text fault
 fault_text (faults.BadView line) = codes "V1 line " ++ decimal line
 fault_text (faults.BadTape place) = codes "Q1 place " ++ decimal place

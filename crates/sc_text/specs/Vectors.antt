@@ -36,17 +36,14 @@ pub short_tape : end_line (record { how = endings.Tape owners.Miner3 1 0; cost =
 unfolding end_line ending_text owner_digit digits
 short_tape = refl
 
-pub widest_need : end_line (record { how = endings.Tape owners.Dealer (2 ^ 128 - 1) 1; cost = 2 ^ 64 - 1 }) ≡ codes "end tape 0 need 340282366920938463463374607431768211455 have 1 cost 18446744073709551615\n"
+pub widest_need : end_line (record { how = endings.Tape owners.Dealer (2 ^ 128 - 1) 1; cost = 2 ^ 64 - 1 })
+    ≡ codes "end tape 0 need 340282366920938463463374607431768211455 have 1 cost 18446744073709551615\n"
 unfolding end_line ending_text owner_digit digits
 widest_need = refl
 
 pub private_condition : fault_line (faults.Placed placed.PrivateCondition (record { line = 2; column = 33 })) ≡ codes "error: D4 line 2 column 33\n"
 unfolding fault_line fault_text placed_code span_text digits
 private_condition = refl
-
-pub cannot_run_yet : fault_line (faults.NotYet (record { line = 1; column = 1 })) ≡ codes "error: X4 line 1 column 1\n"
-unfolding fault_line fault_text span_text digits
-cannot_run_yet = refl
 
 pub bad_value : fault_line (faults.Input (inputs.BadField 0 fields.Value)) ≡ codes "error: I2 entry 0 value\n"
 unfolding fault_line fault_text input_fault_text field_word digits

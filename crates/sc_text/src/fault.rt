@@ -13,8 +13,6 @@ pub enum Fault {
     Placed { fault: PlacedFault, span: Span },
     /// X1 to X3: the program has too many of something, and how many.
     Counted { fault: CountedFault, count: u64 },
-    /// X4: a program with a part that can't be run yet, which begins there.
-    NotYet { place: Span },
     /// I1 to I3: an input, public or share file is wrong.
     Input(InputFault),
     /// V1: a line of a view file or of a file of opened values is wrong.
@@ -40,7 +38,6 @@ impl Drop for Fault {
             Fault::Usage
             | Fault::Placed { fault: _, span: _ }
             | Fault::Counted { fault: _, count: _ }
-            | Fault::NotYet { place: _ }
             | Fault::Input(_)
             | Fault::BadView { line: _ }
             | Fault::BadTape { place: _ }
@@ -62,7 +59,6 @@ fn write_text<W: fmt::Write>(fault: &Fault, f: &mut fmt::Formatter<W>) -> fmt::R
         Fault::Usage => f.write_str("usage"),
         Fault::Placed { fault, span } => write!(f, "{fault} {span}"),
         Fault::Counted { fault, count } => write!(f, "{fault} {count}"),
-        Fault::NotYet { place } => write!(f, "X4 {place}"),
         Fault::Input(fault) => write!(f, "{fault}"),
         Fault::BadView { line } => write!(f, "V1 line {line}"),
         Fault::BadTape { place } => write!(f, "Q1 place {place}"),

@@ -3,7 +3,8 @@ use Rattle.std.proofs.Common.{◌≡◌, ℕ, ◌+◌, ◌<◌, List, [], ◌∷
 use Rattle.std.specs.Prelude.{map}
 use Rattle.std.proofs.lemmas.List.{map-append, take_more}
 
-pub one_more : {E T : Type 0} (f : E → T) (xs ys : List E) (i : ℕ) (x y : E) → i < length xs → y ≡ get_or xs i y → f x ≡ f y → map f ys ≡ map f (take i xs) → map f (ys ++ x ∷ []) ≡ map f (take (i + 1) xs)
+pub one_more : {E T : Type 0} (f : E → T) (xs ys : List E) (i : ℕ) (x y : E) → i < length xs → y ≡ get_or xs i y → f x ≡ f y
+    → map f ys ≡ map f (take i xs) → map f (ys ++ x ∷ []) ≡ map f (take (i + 1) xs)
 one_more f xs ys i x y h at same so_far =
     map-append f ys (x ∷ [])
     ∙ ap (λ l. l ++ f x ∷ []) so_far

@@ -13,7 +13,8 @@ use Rattle.secrec_ast.specs.declared.statement.ForStart.TheVariants as ForStart'
 use Rattle.secrec_ast.specs.declared.statement.ForStep.{ForStep}
 use Rattle.secrec_ast.specs.declared.statement.ForStep.TheVariants as ForStep'
 use Rattle.secrec_ast.specs.declared.statement.Statement.{Statement}
-use Rattle.secrec_ast.specs.declared.statement.Statement.TheOpen.{Statement-F, Block, Empty, If, While, DoWhile, For, Break, Continue, Return, Assert, Declaration as Declares, Assignment as Assigns, Expression as Evaluates}
+use Rattle.secrec_ast.specs.declared.statement.Statement.TheOpen.{Statement-F, Block, Empty, If, While, DoWhile, For, Break, Continue, Return, Assert}
+use Rattle.secrec_ast.specs.declared.statement.Statement.TheOpen.{Declaration as Declares, Assignment as Assigns, Expression as Evaluates}
 use Rattle.secrec_ast.specs.declared.statement.Statement.TheFolds.{fold-Statement}
 use Rattle.secrec_ast.specs.Tree.{Tree, variable, index, expression}
 

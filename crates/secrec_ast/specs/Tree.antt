@@ -4,7 +4,8 @@ use Rattle.sc_text.specs.declared.span.Span.{Span}
 use Rattle.secrec_ast.specs.declared.expression.DataType.{DataType}
 use Rattle.secrec_ast.specs.declared.expression.Operator.{Operator}
 use Rattle.secrec_ast.specs.declared.expression.Expression.{Expression}
-use Rattle.secrec_ast.specs.declared.expression.Expression.TheOpen.{Expression-F, Number, Truth, Variable, Call, Index, Parentheses, Not, Cast, Binary, Declassify, Argument, Publish}
+use Rattle.secrec_ast.specs.declared.expression.Expression.TheOpen.{Expression-F, Number, Truth, Variable, Call, Index, Parentheses, Not, Cast}
+use Rattle.secrec_ast.specs.declared.expression.Expression.TheOpen.{Binary, Declassify, Argument, Publish}
 use Rattle.secrec_ast.specs.declared.expression.Expression.TheFolds.{fold-Expression}
 
 mutual

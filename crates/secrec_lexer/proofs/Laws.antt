@@ -2,7 +2,7 @@
 use Rattle.std.proofs.Common.{◌≤◌, zero, suc, ◌-◌, ◌⊎◌, inl, inr, ◌≡◌, ℕ, ◌+◌, ◌<◌, List, ◌∷◌, refl, sym, ap, ◌∙◌, subst, length, drop, arith, Result, Ok, Err}
 use Rattle.std.proofs.lemmas.Bool.{cases_lt}
 use Rattle.sc_text.specs.declared.span.Span.{Span}
-use Rattle.secrec_lexer.specs.declared.token.Kind.{Kind}
+use Rattle.secrec_lexer.specs.declared.token.TokenKind.{TokenKind}
 use Rattle.secrec_lexer.specs.declared.token.Token.{Token}
 use Rattle.secrec_lexer.specs.declared.lex_err.LexFault.{LexFault}
 use Rattle.secrec_lexer.specs.declared.lex_err.LexFault.TheVariants as faults
@@ -10,10 +10,12 @@ use Rattle.secrec_lexer.specs.declared.lex_err.LexErr.{LexErr}
 use Rattle.secrec_lexer.specs.declared.lex_err.LexErr.TheVariants.{Memory, Refused}
 use Rattle.secrec_lexer.specs.declared.piece.Piece.{Piece}
 use Rattle.secrec_lexer.specs.declared.piece.Piece.TheVariants.{End, Blank, Lexeme, Fault}
-use Rattle.secrec_lexer.specs.Pieces.{first, IsWithin}
+use Rattle.secrec_lexer.specs.Pieces.{first}
+use Rattle.secrec_lexer.specs.inner.Extents.{IsWithin}
 use Rattle.secrec_lexer.proofs.Turns.{found_within}
 use Rattle.secrec_lexer.specs.Places.{place_at}
-use Rattle.secrec_lexer.specs.Lexis.{Lexes, ended, blank, lexeme, Refuses, here, behind_blank, behind_lexeme, HasTokens, IsRefused, too_long, within, IsAnswer, IsTokens, IsRefusal, token_at, IsDecided}
+use Rattle.secrec_lexer.specs.Lexis.{Lexes, ended, blank, lexeme, Refuses, here, behind_blank, behind_lexeme, HasTokens, IsRefused, too_long, within}
+use Rattle.secrec_lexer.specs.Lexis.{IsAnswer, IsTokens, IsRefusal, token_at, IsDecided}
 
 -- what a piece is: its number of bytes, and its token
 size_of : Piece → ℕ
@@ -28,28 +30,28 @@ same_size found piece other e f = ap size_of (sym f ∙ e)
 end_or_blank : (found : Piece) (size : ℕ) → found ≡ End → found ≡ Blank size → ⊥
 end_or_blank found size e f = cc
 
-end_or_lexeme : (found : Piece) (kind : Kind) (size : ℕ) → found ≡ End → found ≡ Lexeme kind size → ⊥
+end_or_lexeme : (found : Piece) (kind : TokenKind) (size : ℕ) → found ≡ End → found ≡ Lexeme kind size → ⊥
 end_or_lexeme found kind size e f = cc
 
 end_or_fault : (found : Piece) (fault : LexFault) (before : ℕ) → found ≡ End → found ≡ Fault fault before → ⊥
 end_or_fault found fault before e f = cc
 
-blank_or_lexeme : (found : Piece) (size other : ℕ) (kind : Kind) → found ≡ Blank size → found ≡ Lexeme kind other → ⊥
+blank_or_lexeme : (found : Piece) (size other : ℕ) (kind : TokenKind) → found ≡ Blank size → found ≡ Lexeme kind other → ⊥
 blank_or_lexeme found size other kind e f = cc
 
 blank_or_fault : (found : Piece) (size before : ℕ) (fault : LexFault) → found ≡ Blank size → found ≡ Fault fault before → ⊥
 blank_or_fault found size before fault e f = cc
 
-lexeme_or_fault : (found : Piece) (kind : Kind) (size before : ℕ) (fault : LexFault) → found ≡ Lexeme kind size → found ≡ Fault fault before → ⊥
+lexeme_or_fault : (found : Piece) (kind : TokenKind) (size before : ℕ) (fault : LexFault) → found ≡ Lexeme kind size → found ≡ Fault fault before → ⊥
 lexeme_or_fault found kind size before fault e f = cc
 
 same_blank : (found : Piece) (size other : ℕ) → found ≡ Blank size → found ≡ Blank other → other ≡ size
 same_blank found size other e f = cc
 
-same_lexeme : (found : Piece) (kind like : Kind) (size other : ℕ) → found ≡ Lexeme kind size → found ≡ Lexeme like other → other ≡ size
+same_lexeme : (found : Piece) (kind like : TokenKind) (size other : ℕ) → found ≡ Lexeme kind size → found ≡ Lexeme like other → other ≡ size
 same_lexeme found kind like size other e f = cc
 
-same_kind : (found : Piece) (kind like : Kind) (size other : ℕ) → found ≡ Lexeme kind size → found ≡ Lexeme like other → kind ≡ like
+same_kind : (found : Piece) (kind like : TokenKind) (size other : ℕ) → found ≡ Lexeme kind size → found ≡ Lexeme like other → kind ≡ like
 same_kind found kind like size other e f = cc
 
 same_fault : (found : Piece) (fault like : LexFault) (before other : ℕ) → found ≡ Fault fault before → found ≡ Fault like other → fault ≡ like
@@ -89,7 +91,8 @@ no_fault text {offset = o} {fault = x} {place = p} (lexeme kind size e g) (behin
     no_fault text g (subst (λ n. Refuses text (o + n) x p) (same_lexeme (first (drop o text)) kind like size other e f) h)
 
 -- from an offset on there is one first fault, at one place
-one_fault : (text : List ℕ) {offset : ℕ} {fault other : LexFault} {place spot : Span} → Refuses text offset fault place → Refuses text offset other spot → (fault ≡ other) × (place ≡ spot)
+one_fault : (text : List ℕ) {offset : ℕ} {fault other : LexFault} {place spot : Span} → Refuses text offset fault place
+    → Refuses text offset other spot → (fault ≡ other) × (place ≡ spot)
 one_fault text {offset = o} {fault = x} {other = y} (here before e) (here behind f) =
     (same_fault (first (drop o text)) x y before behind e f, ap (λ n. place_at text (o + n)) (same_before (first (drop o text)) x y before behind e f))
 one_fault text {offset = o} {fault = x} (here before e) (behind_blank size f h) = absurd (blank_or_fault (first (drop o text)) size before x f e)
@@ -110,18 +113,21 @@ pub not_both : (text : List ℕ) (tokens : List Token) (fault : LexFault) (place
 not_both text tokens _ _ g (too_long long) = let short = g.0 in omega arith
 not_both text tokens fault place g (within short h) = no_fault text g.1 h
 
-pub one_refusal : (text : List ℕ) (fault other : LexFault) (place spot : Span) → IsRefused text fault place → IsRefused text other spot → (fault ≡ other) × (place ≡ spot)
+pub one_refusal : (text : List ℕ) (fault other : LexFault) (place spot : Span) → IsRefused text fault place → IsRefused text other spot
+    → (fault ≡ other) × (place ≡ spot)
 one_refusal text _ _ _ _ (too_long long) (too_long longer) = (refl, refl)
 one_refusal text _ other _ spot (too_long long) (within short h) = absurd (omega arith)
 one_refusal text fault _ place _ (within short h) (too_long long) = absurd (omega arith)
 one_refusal text fault other place spot (within short g) (within shorter h) = one_fault text g h
 
-pub only_tokens : (text : List ℕ) (answer : Result (List Token) LexErr) → IsAnswer text answer → (tokens : List Token) → HasTokens text tokens → IsTokens answer tokens
+pub only_tokens : (text : List ℕ) (answer : Result (List Token) LexErr) → IsAnswer text answer → (tokens : List Token) → HasTokens text tokens
+    → IsTokens answer tokens
 only_tokens text (Ok found) h tokens g = one_list text found tokens h g
 only_tokens text (Err Memory) h tokens g = tt
 only_tokens text (Err (Refused fault place)) h tokens g = not_both text tokens fault place g h
 
-pub only_refusal : (text : List ℕ) (answer : Result (List Token) LexErr) → IsAnswer text answer → (fault : LexFault) (place : Span) → IsRefused text fault place → IsRefusal answer fault place
+pub only_refusal : (text : List ℕ) (answer : Result (List Token) LexErr) → IsAnswer text answer → (fault : LexFault) (place : Span)
+    → IsRefused text fault place → IsRefusal answer fault place
 only_refusal text (Ok found) h fault place g = not_both text found fault place h g
 only_refusal text (Err Memory) h fault place g = tt
 only_refusal text (Err (Refused other spot)) h fault place g = one_refusal text other fault spot place h g
@@ -133,7 +139,8 @@ is_too_long text place long e = subst (IsRefused text faults.TooLong) (sym e) (t
 abbrev Decides : List ℕ → ℕ → Type 0
 Decides text offset = ((tokens : List Token) × Lexes text offset tokens) ⊎ ((fault : LexFault) × (place : Span) × Refuses text offset fault place)
 
-behind : (text : List ℕ) (offset : ℕ) (piece : Piece) → first (drop offset text) ≡ piece → IsWithin piece (length text - offset) → ((size : ℕ) → 0 < size → size ≤ length text - offset → Decides text (offset + size)) → Decides text offset
+behind : (text : List ℕ) (offset : ℕ) (piece : Piece) → first (drop offset text) ≡ piece → IsWithin piece (length text - offset)
+    → ((size : ℕ) → 0 < size → size ≤ length text - offset → Decides text (offset + size)) → Decides text offset
 behind text offset End e h k = inl (_, ended e)
 behind text offset (Blank size) e h k =
     elim (k size h.0 h.1) [

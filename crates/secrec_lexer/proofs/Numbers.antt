@@ -56,12 +56,15 @@ spelled_told radix digits h =
 choose : (test : Bool) (value : ℕ) → test ≡ false → cond test (Some value) None ≡ None
 choose test value e = rw e
 
-as_read : {E : Type 0} (radix : ℕ) (digits : List ℕ) (found : Result ℕ E) → OkIff found (IsNumeral radix digits × (digits_value radix digits < 2 ^ 64)) (digits_value radix digits) → result_ok found ≡ number_spelled radix digits
+as_read : {E : Type 0} (radix : ℕ) (digits : List ℕ) (found : Result ℕ E)
+    → OkIff found (IsNumeral radix digits × (digits_value radix digits < 2 ^ 64)) (digits_value radix digits) → result_ok found ≡ number_spelled radix digits
 as_read radix digits (Ok value) h = rw (spelled_told radix digits h.0, h.1)
-as_read radix digits (Err e) h = sym (choose (is_spelled radix digits) (digits_value radix digits) (not_true (is_spelled radix digits) (λ g. h (spelled_holds radix digits g))))
+as_read radix digits (Err e) h =
+    sym (choose (is_spelled radix digits) (digits_value radix digits) (not_true (is_spelled radix digits) (λ g. h (spelled_holds radix digits g))))
 
 -- what is read of digits that have no sign
-pub number_read : {E : Type 0} (radix : ℕ) (digits : List ℕ) (found : Result ℕ E) → IsTrue (list_all is_name_byte digits) → ParsesUnsigned 64 radix digits found → result_ok found ≡ number_spelled radix digits
+pub number_read : {E : Type 0} (radix : ℕ) (digits : List ℕ) (found : Result ℕ E) → IsTrue (list_all is_name_byte digits)
+    → ParsesUnsigned 64 radix digits found → result_ok found ≡ number_spelled radix digits
 number_read radix digits found names h =
     let P : List ℕ → Type 0 = λ ds. OkIff found (IsNumeral radix ds × (digits_value radix ds < 2 ^ 64)) (digits_value radix ds) in
     as_read radix digits found (subst P (without_plus digits names) h)

@@ -1,5 +1,6 @@
 -- Places behind more and more bytes.
-use Rattle.std.proofs.Common.{◌≡◌, ℕ, ◌+◌, ◌-◌, ◌≤◌, List, [], ◌∷◌, ◌++◌, refl, sym, ap, ◌∙◌, append_assoc, append-nil, length, arith, Bool, true, false, cond, length-drop}
+use Rattle.std.proofs.Common.{◌≡◌, ℕ, ◌+◌, ◌-◌, ◌≤◌, List, [], ◌∷◌, ◌++◌, refl, sym, ap, ◌∙◌, append_assoc, append-nil, length, arith, Bool, true}
+use Rattle.std.proofs.Common.{false, cond, length-drop}
 use Rattle.std.specs.Prelude.{not}
 use Rattle.std.specs.List.{fold, count_by, suffix_len, prefix_len}
 use Rattle.std.proofs.lemmas.List.{reverse-append}
@@ -17,7 +18,8 @@ column_is bytes =
 count-push : (before : List ℕ) (byte : ℕ) → count_by is_newline (before ++ byte ∷ []) ≡ count_by is_newline before + cond (is_newline byte) 1 0
 count-push before byte = fold-append (λ n x. n + cond (is_newline x) 1 0) 0 before (byte ∷ [])
 
-suffix-push : (before : List ℕ) (byte : ℕ) → suffix_len (λ b. not (is_newline b)) (before ++ byte ∷ []) ≡ cond (not (is_newline byte)) (1 + suffix_len (λ b. not (is_newline b)) before) 0
+suffix-push : (before : List ℕ) (byte : ℕ)
+    → suffix_len (λ b. not (is_newline b)) (before ++ byte ∷ []) ≡ cond (not (is_newline byte)) (1 + suffix_len (λ b. not (is_newline b)) before) 0
 suffix-push before byte = ap (prefix_len (λ b. not (is_newline b))) (reverse-append before (byte ∷ []))
 
 span_is : (place : Span) (line column : ℕ) → place.line ≡ line → place.column ≡ column → place ≡ record { line = line; column = column }
@@ -29,7 +31,10 @@ span_is place line column f g =
 pub place_behind-push : (before : List ℕ) (byte : ℕ) → place_behind (before ++ byte ∷ []) ≡ next_place (place_behind before) byte
 place_behind-push before byte = go (is_newline byte) refl
   where
-    go : (test : Bool) → is_newline byte ≡ test → place_behind (before ++ byte ∷ []) ≡ cond test (record { line = (place_behind before).line + 1; column = 1 }) (record { line = (place_behind before).line; column = (place_behind before).column + 1 })
+    go : (test : Bool) → is_newline byte ≡ test
+        → place_behind (before ++ byte ∷ [])
+        ≡ cond test (record { line = (place_behind before).line + 1; column = 1 })
+        (record { line = (place_behind before).line; column = (place_behind before).column + 1 })
     go true e =
         let lines = rw e at (count-push before byte) in
         let columns = rw e at (suffix-push before byte) in
@@ -37,7 +42,8 @@ place_behind-push before byte = go (is_newline byte) refl
     go false e =
         let lines = rw e at (count-push before byte) in
         let columns = rw e at (suffix-push before byte) in
-        span_is (place_behind (before ++ byte ∷ [])) (place_behind before).line ((place_behind before).column + 1) (omega arith) (omega (arith, column_is (before ++ byte ∷ []), column_is before))
+        span_is (place_behind (before ++ byte ∷ [])) (place_behind before).line ((place_behind before).column + 1) (omega arith)
+        (omega (arith, column_is (before ++ byte ∷ []), column_is before))
 
 -- the place behind more bytes
 pub place_behind-append : (before bytes : List ℕ) → place_behind (before ++ bytes) ≡ fold next_place (place_behind before) bytes

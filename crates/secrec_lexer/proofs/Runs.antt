@@ -1,5 +1,6 @@
 -- Runs of letters, digits and `_`, and the end of a comment.
-use Rattle.std.proofs.Common.{◌≡◌, ℕ, zero, suc, ◌+◌, ◌<◌, List, [], ◌∷◌, refl, sym, ap, ◌∙◌, length, take, drop, arith, Bool, true, false, Option, Some, None, cond, Result, Ok, Err, get_or, add-one, ◌-◌, length-drop}
+use Rattle.std.proofs.Common.{◌≡◌, ℕ, zero, suc, ◌+◌, ◌<◌, List, [], ◌∷◌, refl, sym, ap, ◌∙◌, length, take, drop, arith, Bool, true, false, Option}
+use Rattle.std.proofs.Common.{Some, None, cond, Result, Ok, Err, get_or, add-one, ◌-◌, length-drop}
 use Rattle.std.specs.Prelude.{codes, option_map, IsTrue, MatchResult, IsOk}
 use Rattle.std.specs.List.{list_all, prefix_len}
 use Rattle.std.specs.Str.{IsAscii, IsUtf8}
@@ -29,7 +30,8 @@ pub IsUtf8-names : (bytes : List ℕ) → IsTrue (list_all is_name_byte bytes) �
 IsUtf8-names bytes h = IsUtf8-from_ascii bytes (names_are_ascii bytes h)
 
 -- what is text is read as such
-pub read_text : {T E : Type 0} (P : T → Type 0) (Q : E → Type 0) (bytes : List ℕ) (found : Result T E) → MatchResult found P (λ e. ¬ (IsUtf8 bytes) × Q e) → IsUtf8 bytes → IsOk found
+pub read_text : {T E : Type 0} (P : T → Type 0) (Q : E → Type 0) (bytes : List ℕ) (found : Result T E)
+    → MatchResult found P (λ e. ¬ (IsUtf8 bytes) × Q e) → IsUtf8 bytes → IsOk found
 read_text P Q bytes (Ok text) h utf8 = refl
 read_text P Q bytes (Err e) h utf8 = absurd (h.0 utf8)
 
@@ -41,7 +43,8 @@ pub list_all-name_run : (bytes : List ℕ) → IsTrue (list_all is_name_byte (na
 list_all-name_run [] = refl
 list_all-name_run (byte ∷ more) = go (is_name_byte byte) refl (list_all-name_run more)
   where
-    go : (b : Bool) → is_name_byte byte ≡ b → list_all is_name_byte (name_run more) ≡ true → list_all is_name_byte (take (cond b (1 + prefix_len is_name_byte more) 0) (byte ∷ more)) ≡ true
+    go : (b : Bool) → is_name_byte byte ≡ b → list_all is_name_byte (name_run more) ≡ true
+        → list_all is_name_byte (take (cond b (1 + prefix_len is_name_byte more) 0) (byte ∷ more)) ≡ true
     go true e h = rw (take_one_more (prefix_len is_name_byte more) byte more, e) h
     go false e h = refl
 
@@ -57,11 +60,13 @@ pub size_to_close-here : (bytes : List ℕ) → begins bytes (codes "*/") ≡ tr
 size_to_close-here [] h = cc
 size_to_close-here (byte ∷ more) h = rw h
 
-pub size_to_close-next : (byte : ℕ) (more : List ℕ) → begins (byte ∷ more) (codes "*/") ≡ false → size_to_close (byte ∷ more) ≡ option_map (λ size. size + 1) (size_to_close more)
+pub size_to_close-next : (byte : ℕ) (more : List ℕ) → begins (byte ∷ more) (codes "*/") ≡ false
+    → size_to_close (byte ∷ more) ≡ option_map (λ size. size + 1) (size_to_close more)
 size_to_close-next byte more h = rw h
 
 -- one byte further
-pub size_to_close-drop : (bytes : List ℕ) (at : ℕ) → at < length bytes → begins (drop at bytes) (codes "*/") ≡ false → option_map (λ size. size + at) (size_to_close (drop at bytes)) ≡ option_map (λ size. size + (at + 1)) (size_to_close (drop (at + 1) bytes))
+pub size_to_close-drop : (bytes : List ℕ) (at : ℕ) → at < length bytes → begins (drop at bytes) (codes "*/") ≡ false
+    → option_map (λ size. size + at) (size_to_close (drop at bytes)) ≡ option_map (λ size. size + (at + 1)) (size_to_close (drop (at + 1) bytes))
 size_to_close-drop bytes at h e =
     let d : drop at bytes ≡ get_or bytes at 0 ∷ drop (at + 1) bytes = rw add-one (drop-cons bytes at 0 h) in
     let f : begins (get_or bytes at 0 ∷ drop (at + 1) bytes) (codes "*/") ≡ false = ap (λ w. begins w (codes "*/")) (sym d) ∙ e in

@@ -6,8 +6,8 @@ use denote.Enum.Declared.{tag_of}
 use Rattle.secrec_lexer.specs.contracts.sign.Sign.{the_type}
 use Rattle.secrec_lexer.specs.declared.sign.Sign.{Sign}
 use Rattle.secrec_lexer.specs.declared.sign.Sign.TheVariants as signs
-use Rattle.secrec_lexer.specs.declared.token.Kind.{Kind}
-use Rattle.secrec_lexer.specs.declared.token.Kind.TheVariants as kinds
+use Rattle.secrec_lexer.specs.declared.token.TokenKind.{TokenKind}
+use Rattle.secrec_lexer.specs.declared.token.TokenKind.TheVariants as kinds
 use Rattle.secrec_lexer.specs.Tokens.{number, kind_is}
 
 -- a sign's number is its place in the declaration
@@ -137,7 +137,7 @@ kind_is-itself signs.Publish = refl
 kind_is-itself signs.Declassify = refl
 
 -- what is told to be a sign is that sign
-pub kind_is-true : (sign : Sign) (kind : Kind) → kind_is sign kind ≡ true → kind ≡ kinds.Sign sign
+pub kind_is-true : (sign : Sign) (kind : TokenKind) → kind_is sign kind ≡ true → kind ≡ kinds.Sign sign
 kind_is-true sign (kinds.Name bytes) e = cc
 kind_is-true sign (kinds.Number value) e = cc
 kind_is-true sign (kinds.Text bytes) e = cc
@@ -145,7 +145,7 @@ kind_is-true sign (kinds.Sign other) e = ap kinds.Sign (sym (number_one sign oth
 kind_is-true sign kinds.End e = cc
 
 -- what is told not to be a sign is not that sign
-pub kind_is-false : (sign : Sign) (kind : Kind) → kind_is sign kind ≡ false → kind ≡ kinds.Sign sign → ⊥
+pub kind_is-false : (sign : Sign) (kind : TokenKind) → kind_is sign kind ≡ false → kind ≡ kinds.Sign sign → ⊥
 kind_is-false sign kind e f =
     let g : kind_is sign (kinds.Sign sign) ≡ false = ap (kind_is sign) (sym f) ∙ e in
     let h = kind_is-itself sign in cc

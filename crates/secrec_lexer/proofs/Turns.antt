@@ -1,11 +1,12 @@
 -- One turn of the lexer: whatever completes the rest completes the whole.
-use Rattle.std.proofs.Common.{◌≡◌, ℕ, ◌+◌, ◌-◌, ◌≤◌, List, [], ◌∷◌, ◌++◌, refl, sym, ap, ◌∙◌, subst, append_assoc, length, take, drop, arith, true, Result, Ok, Err, length-drop, length-take, take-add}
+use Rattle.std.proofs.Common.{◌≡◌, ℕ, ◌+◌, ◌-◌, ◌≤◌, List, [], ◌∷◌, ◌++◌, refl, sym, ap, ◌∙◌, subst, append_assoc, length, take, drop, arith, true}
+use Rattle.std.proofs.Common.{Result, Ok, Err, length-drop, length-take, take-add}
 use Rattle.std.specs.Prelude.{not, IfOk, IfErr}
 use Rattle.std.specs.List.{list_all, fold}
 use Rattle.std.proofs.lemmas.List.Folds.{list_all-append}
 use Rattle.sc_text.specs.declared.span.Span.{Span}
-use Rattle.secrec_lexer.specs.declared.token.Kind.{Kind}
-use Rattle.secrec_lexer.specs.declared.token.Kind.TheVariants as kinds
+use Rattle.secrec_lexer.specs.declared.token.TokenKind.{TokenKind}
+use Rattle.secrec_lexer.specs.declared.token.TokenKind.TheVariants as kinds
 use Rattle.secrec_lexer.specs.declared.token.Token.{Token}
 use Rattle.secrec_lexer.specs.declared.lex_err.LexFault.{LexFault}
 use Rattle.secrec_lexer.specs.declared.lex_err.LexErr.{LexErr}
@@ -13,7 +14,8 @@ use Rattle.secrec_lexer.specs.declared.lex_err.LexErr.TheVariants.{Memory}
 use Rattle.secrec_lexer.specs.declared.piece.Piece.{Piece}
 use Rattle.secrec_lexer.specs.declared.piece.Piece.TheVariants.{End, Blank, Lexeme, Fault}
 use Rattle.secrec_lexer.specs.Tokens.{is_end}
-use Rattle.secrec_lexer.specs.Pieces.{first, IsWithin}
+use Rattle.secrec_lexer.specs.Pieces.{first}
+use Rattle.secrec_lexer.specs.inner.Extents.{IsWithin}
 use Rattle.secrec_lexer.specs.Places.{place_behind, place_at, next_place}
 use Rattle.secrec_lexer.specs.Lexis.{Lexes, ended, blank, lexeme, Refuses, here, behind_blank, behind_lexeme, IsRefused, within, IsAnswer, token_at}
 use Rattle.secrec_lexer.proofs.Runs.{rest_from}
@@ -32,7 +34,8 @@ pub record IsCut (text : List ℕ) (offset : ℕ) (place : Span) (tokens : List 
   pub refused : (fault : LexFault) (spot : Span) → Refuses text offset fault spot → Refuses text 0 fault spot
 
 -- what was found in the rest of the text
-pub at_offset : (text : List ℕ) (offset : ℕ) (found piece : Piece) → found ≡ first (take (length text - offset) (drop offset text)) → found ≡ piece → first (drop offset text) ≡ piece
+pub at_offset : (text : List ℕ) (offset : ℕ) (found piece : Piece) → found ≡ first (take (length text - offset) (drop offset text)) → found ≡ piece
+    → first (drop offset text) ≡ piece
 at_offset text offset found piece e f = ap first (sym (rest_from text offset)) ∙ sym e ∙ f
 
 -- the place behind some bytes more
@@ -40,13 +43,15 @@ place_at-more : (text : List ℕ) (offset size : ℕ) → place_at text (offset 
 unfolding place_at
 place_at-more text offset size = ap place_behind (take-add offset size text) ∙ place_behind-append (take offset text) (take size (drop offset text))
 
-pub place_moved : (text : List ℕ) (offset size : ℕ) (place next : Span) → place ≡ place_at text offset → next ≡ fold next_place place (take size (take (length text - offset) (drop offset text))) → next ≡ place_at text (offset + size)
+pub place_moved : (text : List ℕ) (offset size : ℕ) (place next : Span) → place ≡ place_at text offset
+    → next ≡ fold next_place place (take size (take (length text - offset) (drop offset text))) → next ≡ place_at text (offset + size)
 place_moved text offset size place next e f =
     f ∙ ap (λ bytes. fold next_place place (take size bytes)) (rest_from text offset)
     ∙ ap (λ p. fold next_place p (take size (drop offset text))) e ∙ sym (place_at-more text offset size)
 
 pub found_within : (text : List ℕ) (offset : ℕ) (piece : Piece) → first (drop offset text) ≡ piece → IsWithin piece (length text - offset)
-found_within text offset piece e = subst (λ n. IsWithin piece n) (length-drop offset text) (subst (λ p. IsWithin p (length (drop offset text))) e (first_within (drop offset text)))
+found_within text offset piece e =
+    subst (λ n. IsWithin piece n) (length-drop offset text) (subst (λ p. IsWithin p (length (drop offset text))) e (first_within (drop offset text)))
 
 line_within : (text : List ℕ) (offset : ℕ) (place : Span) → place ≡ place_at text offset → place.line ≤ offset + 1
 unfolding place_at
@@ -68,7 +73,8 @@ cut_start text place e = record {
   refused = λ fault spot h. h;
 }
 
-pub cut_blank : (text : List ℕ) (offset size : ℕ) (place next : Span) (tokens : List Token) → IsCut text offset place tokens → first (drop offset text) ≡ Blank size → next ≡ place_at text (offset + size) → IsCut text (offset + size) next tokens
+pub cut_blank : (text : List ℕ) (offset size : ℕ) (place next : Span) (tokens : List Token) → IsCut text offset place tokens
+    → first (drop offset text) ≡ Blank size → next ≡ place_at text (offset + size) → IsCut text (offset + size) next tokens
 cut_blank text offset size place next tokens h e f =
     let size_within = found_within text offset (Blank size) e in
     record {
@@ -81,7 +87,9 @@ cut_blank text offset size place next tokens h e f =
       refused = λ fault spot k. h.refused fault spot (behind_blank size e k);
     }
 
-pub cut_lexeme : (text : List ℕ) (offset size : ℕ) (place next : Span) (tokens : List Token) (kind : Kind) → IsCut text offset place tokens → first (drop offset text) ≡ Lexeme kind size → next ≡ place_at text (offset + size) → IsCut text (offset + size) next (tokens ++ record { place = place; kind = kind } ∷ [])
+pub cut_lexeme : (text : List ℕ) (offset size : ℕ) (place next : Span) (tokens : List Token) (kind : TokenKind) → IsCut text offset place tokens
+    → first (drop offset text) ≡ Lexeme kind size → next ≡ place_at text (offset + size)
+    → IsCut text (offset + size) next (tokens ++ record { place = place; kind = kind } ∷ [])
 cut_lexeme text offset size place next tokens kind h e f =
     let size_within = found_within text offset (Lexeme kind size) e in
     let token : Token = record { place = place; kind = kind } in
@@ -98,10 +106,14 @@ cut_lexeme text offset size place next tokens kind h e f =
       refused = λ fault spot k. h.refused fault spot (behind_lexeme kind size e k);
     }
 
-pub cut_fault : (text : List ℕ) (offset before : ℕ) (place spot : Span) (tokens : List Token) (fault : LexFault) → length text ≤ 1048576 → IsCut text offset place tokens → first (drop offset text) ≡ Fault fault before → spot ≡ place_at text (offset + before) → IsRefused text fault spot
-cut_fault text offset before place spot tokens fault short h e f = within short (h.refused fault spot (subst (Refuses text offset fault) (sym f) (here before e)))
+pub cut_fault : (text : List ℕ) (offset before : ℕ) (place spot : Span) (tokens : List Token) (fault : LexFault) → length text ≤ 1048576
+    → IsCut text offset place tokens → first (drop offset text) ≡ Fault fault before → spot ≡ place_at text (offset + before) → IsRefused text fault spot
+cut_fault text offset before place spot tokens fault short h e f =
+    within short (h.refused fault spot (subst (Refuses text offset fault) (sym f) (here before e)))
 
-pub cut_end : (text : List ℕ) (offset : ℕ) (place : Span) (tokens : List Token) (answer : Result (List Token) LexErr) → length text ≤ 1048576 → IsCut text offset place tokens → first (drop offset text) ≡ End → IfOk answer (λ found. found ≡ tokens ++ record { place = place; kind = kinds.End } ∷ []) → IfErr answer (λ error. error ≡ Memory) → IsAnswer text answer
+pub cut_end : (text : List ℕ) (offset : ℕ) (place : Span) (tokens : List Token) (answer : Result (List Token) LexErr) → length text ≤ 1048576
+    → IsCut text offset place tokens → first (drop offset text) ≡ End
+    → IfOk answer (λ found. found ≡ tokens ++ record { place = place; kind = kinds.End } ∷ []) → IfErr answer (λ error. error ≡ Memory) → IsAnswer text answer
 cut_end text offset place tokens (Ok found) short h e ok err =
     let is_token = ap (λ p. let t : Token = record { place = p; kind = kinds.End } in t) (sym h.placed) in
     (short, subst (Lexes text 0) (sym ok) (h.lexed _ (subst (λ t. Lexes text offset (t ∷ [])) is_token (ended e))))

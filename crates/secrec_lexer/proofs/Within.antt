@@ -1,5 +1,6 @@
 -- Each piece lies within the text, and takes some of it.
-use Rattle.std.proofs.Common.{◌≡◌, ℕ, suc, ◌+◌, ◌<◌, ◌≤◌, List, [], ◌∷◌, refl, sym, subst, length, drop, arith, true, false, Option, Some, None, length-drop, add-one}
+use Rattle.std.proofs.Common.{◌≡◌, ℕ, suc, ◌+◌, ◌<◌, ◌≤◌, List, [], ◌∷◌, refl, sym, subst, length, drop, arith, true, false, Option, Some, None}
+use Rattle.std.proofs.Common.{length-drop, add-one}
 use Rattle.std.specs.Prelude.{◌==◌, nat_eq, codes, option_map, not}
 use Rattle.std.specs.Char.{is_ascii_digit}
 use Rattle.std.proofs.lemmas.List.Folds.{length-prefix_len}
@@ -9,7 +10,8 @@ use Rattle.secrec_lexer.specs.declared.sign.Sign.{Sign}
 use Rattle.secrec_lexer.specs.declared.piece.Piece.{Piece}
 use Rattle.secrec_lexer.specs.Bytes.{is_blank, is_newline, name_run, first_line, begins, size_to_close}
 use Rattle.secrec_lexer.specs.Signs.{single_sign, longer_sign, keyword}
-use Rattle.secrec_lexer.specs.Pieces.{comment, word_value, number, word, text, longest, sign, first, IsWithin}
+use Rattle.secrec_lexer.specs.Pieces.{comment, word_value, number, word, text, longest, sign, first}
+use Rattle.secrec_lexer.specs.inner.Extents.{IsWithin}
 use Rattle.std.proofs.lemmas.Bool.{eqb-true}
 use Rattle.secrec_lexer.proofs.Choices.{and_left, and_right, split}
 
@@ -89,24 +91,30 @@ sign_within : (found : Option Sign) (byte : ℕ) (more : List ℕ) → IsWithin 
 sign_within None byte more = omega arith
 sign_within (Some first) byte more = longest_within first byte more
 
-comment_begun : (byte : ℕ) (more : List ℕ) → begins (byte ∷ more) (codes "/*") ≡ true → IsWithin (comment (size_to_close (drop 2 (byte ∷ more)))) (length (byte ∷ more))
+comment_begun : (byte : ℕ) (more : List ℕ) → begins (byte ∷ more) (codes "/*") ≡ true
+    → IsWithin (comment (size_to_close (drop 2 (byte ∷ more)))) (length (byte ∷ more))
 comment_begun byte more e =
     let some = two 47 42 byte more e in
     let size : length (drop 1 more) + 2 ≡ suc (length more) = omega (arith, length-drop 1 more) in
-    subst (IsWithin (comment (size_to_close (drop 1 more)))) size (comment_within (length (drop 1 more)) (size_to_close (drop 1 more)) (size_to_close-le (drop 1 more)))
+    subst (IsWithin (comment (size_to_close (drop 1 more)))) size
+    (comment_within (length (drop 1 more)) (size_to_close (drop 1 more)) (size_to_close-le (drop 1 more)))
 
-number_begun : (byte : ℕ) (more : List ℕ) → is_ascii_digit byte ≡ true → IsWithin (number (word_value (name_run (byte ∷ more))) (length (name_run (byte ∷ more)))) (length (byte ∷ more))
+number_begun : (byte : ℕ) (more : List ℕ) → is_ascii_digit byte ≡ true
+    → IsWithin (number (word_value (name_run (byte ∷ more))) (length (name_run (byte ∷ more)))) (length (byte ∷ more))
 number_begun byte more e =
-    number_within (suc (length more)) (length (name_run (byte ∷ more))) (word_value (name_run (byte ∷ more))) (name_run-some byte more (digit_in_name byte e)) (name_run-le (byte ∷ more))
+    number_within (suc (length more)) (length (name_run (byte ∷ more))) (word_value (name_run (byte ∷ more)))
+    (name_run-some byte more (digit_in_name byte e)) (name_run-le (byte ∷ more))
 
 -- a comment that is answered lies within the text
-pub comment_lies : (bytes : List ℕ) (byte : ℕ) (more : List ℕ) (piece : Piece) → bytes ≡ byte ∷ more → begins bytes (codes "/*") ≡ true → piece ≡ comment (size_to_close (drop 2 bytes)) → IsWithin piece (length bytes)
+pub comment_lies : (bytes : List ℕ) (byte : ℕ) (more : List ℕ) (piece : Piece) → bytes ≡ byte ∷ more → begins bytes (codes "/*") ≡ true
+    → piece ≡ comment (size_to_close (drop 2 bytes)) → IsWithin piece (length bytes)
 comment_lies bytes byte more piece e =
     let P : List ℕ → Type 0 = λ w. begins w (codes "/*") ≡ true → piece ≡ comment (size_to_close (drop 2 w)) → IsWithin piece (length w) in
     subst P (sym e) (λ begun is. rw is (comment_begun byte more begun))
 
 -- a number that is answered lies within the text
-pub number_lies : (bytes run : List ℕ) (byte : ℕ) (more : List ℕ) (piece : Piece) → bytes ≡ byte ∷ more → run ≡ name_run bytes → is_ascii_digit byte ≡ true → piece ≡ number (word_value run) (length run) → IsWithin piece (length bytes)
+pub number_lies : (bytes run : List ℕ) (byte : ℕ) (more : List ℕ) (piece : Piece) → bytes ≡ byte ∷ more → run ≡ name_run bytes
+    → is_ascii_digit byte ≡ true → piece ≡ number (word_value run) (length run) → IsWithin piece (length bytes)
 number_lies bytes run byte more piece e =
     let P : List ℕ → Type 0 = λ w. run ≡ name_run w → is_ascii_digit byte ≡ true → piece ≡ number (word_value run) (length run) → IsWithin piece (length w) in
     subst P (sym e) (λ f digit is. rw (is, f) (number_begun byte more digit))
@@ -126,7 +134,8 @@ first_within (byte ∷ more) =
     split P (is_ascii_digit byte) _ _
     (λ e. number_begun byte more e) (λ digit.
     split P (is_name_byte byte) _ _
-    (λ e. word_within (suc (length more)) (name_run (byte ∷ more)) (keyword (name_run (byte ∷ more))) (name_run-some byte more e) (name_run-le (byte ∷ more))) (λ name.
+    (λ e. word_within (suc (length more)) (name_run (byte ∷ more)) (keyword (name_run (byte ∷ more))) (name_run-some byte more e)
+    (name_run-le (byte ∷ more))) (λ name.
     split P (byte == 34) _ _
     (λ e. text_within (suc (length more)) (name_run more) (drop (length (name_run more)) more) (let h = run_and_rest more in omega arith))
     (λ quote. sign_within (single_sign byte) byte more))))))

@@ -1,8 +1,8 @@
 -- The tokens of a text, and its first fault: piece after piece.
 use Rattle.std.specs.Prelude.{◌≡◌, ◌⊎◌, ℕ, ◌+◌, ◌<◌, ◌≤◌, List, [], ◌∷◌, length, drop, Result, Ok, Err}
 use Rattle.sc_text.specs.declared.span.Span.{Span}
-use Rattle.secrec_lexer.specs.declared.token.Kind.{Kind}
-use Rattle.secrec_lexer.specs.declared.token.Kind.TheVariants as kinds
+use Rattle.secrec_lexer.specs.declared.token.TokenKind.{TokenKind}
+use Rattle.secrec_lexer.specs.declared.token.TokenKind.TheVariants as kinds
 use Rattle.secrec_lexer.specs.declared.token.Token.{Token}
 use Rattle.secrec_lexer.specs.declared.lex_err.LexFault.{LexFault}
 use Rattle.secrec_lexer.specs.declared.lex_err.LexFault.TheVariants as faults
@@ -13,20 +13,24 @@ use Rattle.secrec_lexer.specs.Pieces.{first}
 use Rattle.secrec_lexer.specs.Places.{place_at}
 
 -- a token whose first byte has this offset
-abbrev pub token_at : List ℕ → ℕ → Kind → Token
+abbrev pub token_at : List ℕ → ℕ → TokenKind → Token
 token_at text offset kind = record { place = place_at text offset; kind = kind }
 
 -- From this offset on the text has these tokens.
 pub data Lexes (text : List ℕ) : ℕ → List Token → Type 0 where
   ended : {offset : ℕ} → first (drop offset text) ≡ End → Lexes text offset (token_at text offset kinds.End ∷ [])
   blank : {offset : ℕ} {tokens : List Token} (size : ℕ) → first (drop offset text) ≡ Blank size → Lexes text (offset + size) tokens → Lexes text offset tokens
-  lexeme : {offset : ℕ} {tokens : List Token} (kind : Kind) (size : ℕ) → first (drop offset text) ≡ Lexeme kind size → Lexes text (offset + size) tokens → Lexes text offset (token_at text offset kind ∷ tokens)
+  lexeme : {offset : ℕ} {tokens : List Token} (kind : TokenKind) (size : ℕ) → first (drop offset text) ≡ Lexeme kind size
+      → Lexes text (offset + size) tokens → Lexes text offset (token_at text offset kind ∷ tokens)
 
 -- From this offset on the first fault of the text is this one, at this place.
 pub data Refuses (text : List ℕ) : ℕ → LexFault → Span → Type 0 where
-  here : {offset : ℕ} {fault : LexFault} (before : ℕ) → first (drop offset text) ≡ Fault fault before → Refuses text offset fault (place_at text (offset + before))
-  behind_blank : {offset : ℕ} {fault : LexFault} {place : Span} (size : ℕ) → first (drop offset text) ≡ Blank size → Refuses text (offset + size) fault place → Refuses text offset fault place
-  behind_lexeme : {offset : ℕ} {fault : LexFault} {place : Span} (kind : Kind) (size : ℕ) → first (drop offset text) ≡ Lexeme kind size → Refuses text (offset + size) fault place → Refuses text offset fault place
+  here : {offset : ℕ} {fault : LexFault} (before : ℕ) → first (drop offset text) ≡ Fault fault before
+      → Refuses text offset fault (place_at text (offset + before))
+  behind_blank : {offset : ℕ} {fault : LexFault} {place : Span} (size : ℕ) → first (drop offset text) ≡ Blank size
+      → Refuses text (offset + size) fault place → Refuses text offset fault place
+  behind_lexeme : {offset : ℕ} {fault : LexFault} {place : Span} (kind : TokenKind) (size : ℕ) → first (drop offset text) ≡ Lexeme kind size
+      → Refuses text (offset + size) fault place → Refuses text offset fault place
 
 -- the text has these tokens, and is not too long
 abbrev pub HasTokens : List ℕ → List Token → Type 0

@@ -6,3 +6,4 @@ pub mod Places
 pub mod Signs
 pub mod Tokens
 pub mod Vectors
+pub mod inner

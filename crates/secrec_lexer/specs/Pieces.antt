@@ -1,17 +1,16 @@
 -- What stands at the front of a text.
-use Rattle.std.specs.Prelude.{◌≡◌, ◌<◌, ◌≤◌, false, ℕ, ◌+◌, ◌^◌, ◌==◌, ◌&&◌, nat_lt, List, [], ◌∷◌, length, drop, Option, Some, None, codes, if◌then◌else◌}
+use Rattle.std.specs.Prelude.{ℕ, ◌+◌, ◌^◌, ◌==◌, ◌&&◌, nat_lt, List, [], ◌∷◌, length, drop, Option, Some, None, codes, if◌then◌else◌}
 use Rattle.std.specs.List.{list_all}
 use Rattle.std.specs.Char.{is_ascii_digit, is_digit}
 use Rattle.std.specs.Str.Parse.{digits_value}
 use Rattle.sc_text.specs.Name.{is_name, is_name_byte}
 use Rattle.secrec_lexer.specs.declared.sign.Sign.{Sign}
-use Rattle.secrec_lexer.specs.declared.token.Kind.TheVariants as kinds
+use Rattle.secrec_lexer.specs.declared.token.TokenKind.TheVariants as kinds
 use Rattle.secrec_lexer.specs.declared.lex_err.LexFault.TheVariants as faults
 use Rattle.secrec_lexer.specs.declared.piece.Piece.{Piece}
 use Rattle.secrec_lexer.specs.declared.piece.Piece.TheVariants.{End, Blank, Lexeme, Fault}
 use Rattle.secrec_lexer.specs.Bytes.{is_blank, name_run, first_line, begins, size_to_close}
 use Rattle.secrec_lexer.specs.Signs.{single_sign, longer_sign, keyword}
-use Rattle.secrec_lexer.specs.Tokens.{is_end}
 
 -- Each piece goes with its number of bytes, and a fault with the number of bytes before it.
 
@@ -69,10 +68,3 @@ first (byte ∷ more) =
     else if is_name_byte byte then word (keyword (name_run (byte ∷ more))) (name_run (byte ∷ more))
     else if byte == 34 then text (name_run more) (drop (length (name_run more)) more)
     else sign (single_sign byte) byte more
-
--- a piece lies within so many bytes, and takes some unless the text ends or is refused there
-abbrev pub IsWithin : Piece → ℕ → Type 0
-IsWithin End bytes = Unit {0}
-IsWithin (Blank size) bytes = (0 < size) × (size ≤ bytes)
-IsWithin (Lexeme kind size) bytes = (0 < size) × (size ≤ bytes) × (is_end kind ≡ false)
-IsWithin (Fault fault before) bytes = before ≤ bytes

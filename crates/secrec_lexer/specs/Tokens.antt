@@ -2,8 +2,8 @@
 use Rattle.std.specs.Prelude.{ℕ, Bool, true, false, ◌&&◌, not, nat_eq, IsTrue, List, [], ◌∷◌}
 use Rattle.secrec_lexer.specs.declared.sign.Sign.{Sign}
 use Rattle.secrec_lexer.specs.declared.sign.Sign.TheVariants as signs
-use Rattle.secrec_lexer.specs.declared.token.Kind.{Kind}
-use Rattle.secrec_lexer.specs.declared.token.Kind.TheVariants as kinds
+use Rattle.secrec_lexer.specs.declared.token.TokenKind.{TokenKind}
+use Rattle.secrec_lexer.specs.declared.token.TokenKind.TheVariants as kinds
 use Rattle.secrec_lexer.specs.declared.token.Token.{Token}
 
 -- signs and keywords, in the order of their declaration
@@ -68,7 +68,7 @@ number signs.Publish = 56
 number signs.Declassify = 57
 
 -- whether this sign is what a token is
-abbrev pub kind_is : Sign → Kind → Bool
+abbrev pub kind_is : Sign → TokenKind → Bool
 kind_is sign (kinds.Name bytes) = false
 kind_is sign (kinds.Number value) = false
 kind_is sign (kinds.Text bytes) = false
@@ -80,7 +80,7 @@ abbrev pub is_sign : Sign → Token → Bool
 is_sign sign token = kind_is sign token.kind
 
 -- whether it is the end of the text
-abbrev pub is_end : Kind → Bool
+abbrev pub is_end : TokenKind → Bool
 is_end (kinds.Name bytes) = false
 is_end (kinds.Number value) = false
 is_end (kinds.Text bytes) = false

@@ -2,7 +2,7 @@
 use Rattle.std.specs.Prelude.{◌≡◌, ◌^◌, ◌-◌, [], ◌∷◌, ◌++◌, codes, map, replicate}
 use Rattle.std.proofs.Common.{refl, lit≤}
 use Rattle.secrec_lexer.specs.declared.sign.Sign.TheVariants as signs
-use Rattle.secrec_lexer.specs.declared.token.Kind.TheVariants as kinds
+use Rattle.secrec_lexer.specs.declared.token.TokenKind.TheVariants as kinds
 use Rattle.secrec_lexer.specs.declared.lex_err.LexFault.TheVariants as faults
 use Rattle.secrec_lexer.specs.declared.piece.Piece.TheVariants.{End, Blank, Lexeme, Fault}
 use Rattle.secrec_lexer.specs.Pieces.{first}
@@ -193,8 +193,11 @@ tokens_of_a_text : HasTokens (codes "a<=\n1")
     ∷ record { place = record { line = 2; column = 2 }; kind = kinds.End }
     ∷ [])
 unfolding single_sign keyword is_name place_at
-tokens_of_a_text =
-    (lit≤ tt, lexeme (kinds.Name (codes "a")) 1 refl (lexeme (kinds.Sign signs.LessOrEqual) 2 refl (blank 1 refl (lexeme (kinds.Number 1) 1 refl (ended refl)))))
+tokens_of_a_text = (
+  lit≤ tt,
+  lexeme (kinds.Name (codes "a")) 1 refl
+      (lexeme (kinds.Sign signs.LessOrEqual) 2 refl (blank 1 refl (lexeme (kinds.Number 1) 1 refl (ended refl)))),
+)
 
 -- a text that is refused at its second piece
 refusal_of_a_text : IsRefused (codes "1 \"a!@") faults.BadByte (record { line = 1; column = 5 })

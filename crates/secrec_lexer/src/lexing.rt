@@ -4,13 +4,13 @@ ghost use Rattle.sc_text.specs.declared.span.Span.{Span};
 ghost use Rattle.secrec_lexer.specs.declared.token.Token.{Token};
 ghost use Rattle.secrec_lexer.specs.declared.lex_err.LexFault.{LexFault};
 ghost use Rattle.secrec_lexer.specs.declared.lex_err.LexErr.TheVariants.{Memory};
-ghost use Rattle.secrec_lexer.specs.declared.token.Kind.TheVariants.{End as EndOfText};
+ghost use Rattle.secrec_lexer.specs.declared.token.TokenKind.TheVariants.{End as EndOfText};
 ghost use Rattle.secrec_lexer.specs.Tokens.{is_end};
 ghost use Rattle.secrec_lexer.specs.Lexis.{HasTokens, IsRefused, IsDecided, IsAnswer, IsTokens, IsRefusal};
 
 use crate::piece::{Piece, first};
 use crate::place::{moved, place_at, start};
-use crate::{Kind, LexErr, LexFault, Token, Tokens};
+use crate::{LexErr, LexFault, Token, TokenKind, Tokens};
 use sc_text::Span;
 use std::alloc::Global;
 
@@ -24,7 +24,7 @@ fn with_end(mut tokens: Vec<Token>, place: Span) -> Result<Tokens, LexErr>
 {
     tokens.push(Token {
         place,
-        kind: Kind::End,
+        kind: TokenKind::End,
     })?;
     Ok(Tokens::new(tokens))
 }

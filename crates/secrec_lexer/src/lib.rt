@@ -20,4 +20,4 @@ mod token;
 pub use lex_err::{LexErr, LexFault};
 pub use lexing::lex;
 pub use sign::Sign;
-pub use token::{Kind, Token, Tokens};
+pub use token::{Token, TokenKind, Tokens};

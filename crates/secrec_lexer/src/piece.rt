@@ -3,12 +3,13 @@ ghost use Rattle.std.specs.List.{list_all};
 ghost use Rattle.sc_text.specs.Name.{is_name_byte};
 ghost use Rattle.secrec_lexer.specs.Bytes.{begins, size_to_close, name_run};
 ghost use Rattle.secrec_lexer.specs.Signs.{single_sign, keyword};
-ghost use Rattle.secrec_lexer.specs.Pieces.{comment, number, word_value, word, text, sign, first, IsWithin};
+ghost use Rattle.secrec_lexer.specs.Pieces.{comment, number, word_value, word, text, sign, first};
+ghost use Rattle.secrec_lexer.specs.inner.Extents.{IsWithin};
 
 use crate::bytes::{as_text, is_blank, is_name_byte, line_size, name_run, size_to_close};
 use crate::number::word_value;
 use crate::spelling::{keyword, longer_sign, single_sign};
-use crate::{Kind, LexFault};
+use crate::{LexFault, TokenKind};
 use sc_text::Name;
 use std::alloc::{AllocError, Global};
 
@@ -20,7 +21,7 @@ pub enum Piece {
     /// A blank or a comment of so many bytes.
     Blank(usize),
     /// A token of so many bytes.
-    Lexeme(Kind, usize),
+    Lexeme(TokenKind, usize),
     /// A fault behind so many bytes.
     Fault(LexFault, usize),
 }
@@ -41,7 +42,7 @@ fn number(word: &[u8]) -> Piece
     ensures { result ≡ number (word_value word.now) (length word.now) }
 {
     match word_value(word) {
-        Some(value) => Piece::Lexeme(Kind::Number(value), word.len()),
+        Some(value) => Piece::Lexeme(TokenKind::Number(value), word.len()),
         None => Piece::Fault(LexFault::BadNumber, 0),
     }
 }
@@ -52,10 +53,10 @@ fn word(alloc: Global, bytes: &[u8]) -> Result<Piece, AllocError>
 {
     let word = as_text(bytes);
     if let Some(sign) = keyword(word) {
-        return Ok(Piece::Lexeme(Kind::Sign(sign), bytes.len()));
+        return Ok(Piece::Lexeme(TokenKind::Sign(sign), bytes.len()));
     }
     match Name::from_str(alloc, word)? {
-        Some(name) => Ok(Piece::Lexeme(Kind::Name(name), bytes.len())),
+        Some(name) => Ok(Piece::Lexeme(TokenKind::Name(name), bytes.len())),
         None => Ok(Piece::Fault(LexFault::BadName, 0)),
     }
 }
@@ -68,7 +69,7 @@ fn text(alloc: Global, bytes: &[u8], behind: &[u8]) -> Result<Piece, AllocError>
 {
     match behind.first() {
         Some(b'"') => match Name::from_str(alloc, as_text(bytes))? {
-            Some(name) => Ok(Piece::Lexeme(Kind::Text(name), bytes.len() + 2)),
+            Some(name) => Ok(Piece::Lexeme(TokenKind::Text(name), bytes.len() + 2)),
             None => Ok(Piece::Fault(LexFault::BadName, 0)),
         },
         Some(b'\n') | None => Ok(Piece::Fault(LexFault::OpenText, 0)),
@@ -83,8 +84,8 @@ fn sign(byte: u8, more: &[u8]) -> Piece
         return Piece::Fault(LexFault::BadByte, 0);
     };
     match longer_sign(sign, byte, more) {
-        Some(longer) => Piece::Lexeme(Kind::Sign(longer), 2),
-        None => Piece::Lexeme(Kind::Sign(sign), 1),
+        Some(longer) => Piece::Lexeme(TokenKind::Sign(longer), 2),
+        None => Piece::Lexeme(TokenKind::Sign(sign), 1),
     }
 }
 

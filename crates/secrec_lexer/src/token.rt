@@ -8,7 +8,7 @@ use std::marker::Model;
 
 /// What a token is.
 #[derive(Drop)]
-pub enum Kind {
+pub enum TokenKind {
     /// An identifier that is no keyword.
     Name(Name),
     /// A number, decimal or hexadecimal.
@@ -25,7 +25,7 @@ pub enum Kind {
 #[derive(Drop)]
 pub struct Token {
     pub place: Span,
-    pub kind: Kind,
+    pub kind: TokenKind,
 }
 
 impl Token {
@@ -34,7 +34,7 @@ impl Token {
         ensures { result ≡ is_sign sign self.now }
     {
         match self.kind {
-            Kind::Sign(other) => sign as u8 == other as u8,
+            TokenKind::Sign(other) => sign as u8 == other as u8,
             _ => false,
         }
     }

@@ -1,12 +1,13 @@
 -- Readings of assignments, and of what may be one or an expression.
-use Rattle.std.proofs.Common.{◌≡◌, ℕ, suc, ◌+◌, ◌-◌, ◌≤◌, List, [], ◌∷◌, ◌++◌, inl, inr, refl, sym, ap, ◌∙◌, subst, append_assoc, append-nil, Ok, Err, Bool, true, false, cond, Option, Some, None, arith}
+use Rattle.std.proofs.Common.{◌≡◌, ℕ, suc, ◌+◌, ◌-◌, ◌≤◌, List, [], ◌∷◌, ◌++◌, inl, inr, refl, sym, ap, ◌∙◌, subst, append_assoc, append-nil, Ok, Err}
+use Rattle.std.proofs.Common.{Bool, true, false, cond, Option, Some, None, arith}
 use Rattle.std.specs.Prelude.{nat_lt, max}
 use Rattle.std.proofs.lemmas.Bool.{ltb-true, ltb-false}
 use Rattle.sc_text.specs.declared.span.Span.{Span}
 use Rattle.secrec_lexer.specs.declared.sign.Sign.{Sign}
 use Rattle.secrec_lexer.specs.declared.sign.Sign.TheVariants as signs
-use Rattle.secrec_lexer.specs.declared.token.Kind.{Kind}
-use Rattle.secrec_lexer.specs.declared.token.Kind.TheVariants as kinds
+use Rattle.secrec_lexer.specs.declared.token.TokenKind.{TokenKind}
+use Rattle.secrec_lexer.specs.declared.token.TokenKind.TheVariants as kinds
 use Rattle.secrec_lexer.specs.declared.token.Token.{Token}
 use Rattle.secrec_lexer.specs.Tokens.{is_sign, IsEnded}
 use Rattle.secrec_ast.specs.declared.expression.Operator.{Operator}
@@ -15,7 +16,7 @@ use Rattle.secrec_ast.specs.declared.statement.Identifier.{Identifier}
 use Rattle.secrec_ast.specs.Tree.{Tree, number, variable, index}
 use Rattle.secrec_ast.specs.Statements.{TargetTree, AssignmentTree, target_of}
 use Rattle.secrec_ast.specs.Heights.{height, optional_height, target_height, assignment_height}
-use Rattle.expression_parser.specs.declared.problem.Problem.TheVariants.{TooHigh}
+use Rattle.expression_parser.specs.declared.problem.ParseProblem.TheVariants.{TooHigh}
 use Rattle.expression_parser.specs.Phrases.{Phrase, token, nothing, one_at, sign, ◌then◌}
 use Rattle.expression_parser.specs.Grammar.{IsExpression, loosest}
 use Rattle.expression_parser.specs.Follow.{goes_on, Free}
@@ -28,8 +29,9 @@ use Rattle.secrec_parser.specs.declared.assignment.Update.{Update}
 use Rattle.secrec_parser.specs.declared.assignment.Update.TheVariants as updates
 use Rattle.secrec_parser.specs.Sugar.{held_in, held, updated}
 use Rattle.secrec_parser.specs.Grammar.{identifier, bracketed, optional, compound, stepping, IsTarget, IsAssigned, IsAssignment}
-use Rattle.secrec_parser.specs.Steps.{operand, update_of, updates_by, is_update, least_height, value_by, assigned_by, assigned, target_index, assignment_step, ActionTree, assigns, evaluates, assigns_to, action}
-use Rattle.secrec_parser.specs.Steps as steps
+use Rattle.secrec_parser.specs.inner.Steps.{operand, update_of, updates_by, is_update, least_height, value_by, assigned_by, assigned, target_index}
+use Rattle.secrec_parser.specs.inner.Steps.{assignment_step, ActionTree, assigns, evaluates, assigns_to, action}
+use Rattle.secrec_parser.specs.inner.Steps as steps
 use Rattle.secrec_parser.proofs.Clashes.{none_some}
 use Rattle.secrec_parser.proofs.Targets.{target_of_height}
 use Rattle.secrec_parser.proofs.Made.{Made, Both, reads_same, seq, made, known}
@@ -54,7 +56,7 @@ update_sign x u e = go x.kind refl e
     at : (s : Sign) (v : Update) → x.kind ≡ kinds.Sign s → IsUpdate v s → Some v ≡ Some u → (s : Sign) × (x.kind ≡ kinds.Sign s) × IsUpdate u s
     at s v k i f = (s, k, subst (λ z. IsUpdate z s) (some_is v u f) i)
 
-    go : (k : Kind) → x.kind ≡ k → update_of (token x.place k) ≡ Some u → (s : Sign) × (x.kind ≡ kinds.Sign s) × IsUpdate u s
+    go : (k : TokenKind) → x.kind ≡ k → update_of (token x.place k) ≡ Some u → (s : Sign) × (x.kind ≡ kinds.Sign s) × IsUpdate u s
     go (kinds.Sign signs.Assign) k f = at signs.Assign updates.Plain k refl f
     go (kinds.Sign signs.PlusAssign) k f = at signs.PlusAssign (updates.Compound operators.Add) k (λ p. (p, refl)) f
     go (kinds.Sign signs.MinusAssign) k f = at signs.MinusAssign (updates.Compound operators.Subtract) k (λ p. (p, refl)) f
@@ -66,7 +68,8 @@ update_sign x u e = go x.kind refl e
     go (kinds.Sign signs.Decrement) k f = at signs.Decrement (updates.Step operators.Subtract) k (λ p. (p, refl)) f
     go k e f = absurd (none_some u f)
 
-compound_is : (op : Operator) (s : List Token) → compound op s → (q : Span) × (k : Sign) × (s ≡ token q (kinds.Sign k) ∷ []) × (update_of (token q (kinds.Sign k)) ≡ Some (updates.Compound op))
+compound_is : (op : Operator) (s : List Token) → compound op s → (q : Span) × (k : Sign) × (s ≡ token q (kinds.Sign k) ∷ [])
+    × (update_of (token q (kinds.Sign k)) ≡ Some (updates.Compound op))
 compound_is operators.Add s v = (v.0, signs.PlusAssign, v.1, refl)
 compound_is operators.Subtract s v = (v.0, signs.MinusAssign, v.1, refl)
 compound_is operators.Multiply s v = (v.0, signs.StarAssign, v.1, refl)
@@ -75,7 +78,8 @@ compound_is operators.Or s v = (v.0, signs.BarAssign, v.1, refl)
 compound_is operators.Xor s v = (v.0, signs.CaretAssign, v.1, refl)
 compound_is op s v = absurd v
 
-stepping_is : (op : Operator) (s : List Token) → stepping op s → (q : Span) × (k : Sign) × (s ≡ token q (kinds.Sign k) ∷ []) × (update_of (token q (kinds.Sign k)) ≡ Some (updates.Step op))
+stepping_is : (op : Operator) (s : List Token) → stepping op s → (q : Span) × (k : Sign) × (s ≡ token q (kinds.Sign k) ∷ [])
+    × (update_of (token q (kinds.Sign k)) ≡ Some (updates.Step op))
 stepping_is operators.Add s v = (v.0, signs.Increment, v.1, refl)
 stepping_is operators.Subtract s v = (v.0, signs.Decrement, v.1, refl)
 stepping_is op s v = absurd v
@@ -91,11 +95,12 @@ by_up updates.Plain t v ts b = inl b
 by_up (updates.Compound op) t v ts b = inr (inl (op, b.0, b.1, b.2))
 by_up (updates.Step op) t v ts b = inr (inr (op, b.0, b.1))
 
-update_at : (x : Token) (q : Span) (k : Kind) (u : Option Update) → token q k ≡ x → update_of (token q k) ≡ u → update_of x ≡ u
+update_at : (x : Token) (q : Span) (k : TokenKind) (u : Option Update) → token q k ≡ x → update_of (token q k) ≡ u → update_of x ≡ u
 update_at x q k u e f = ap update_of (sym e) ∙ f
 
 -- the next token says by which
-pub by_down : (t : TargetTree) (v : Tree) (s m m2 : List Token) (x : Token) → IsAssigned t v s → s ++ m ≡ x ∷ m2 → (u : Update) × (update_of x ≡ Some u) × By u t v s
+pub by_down : (t : TargetTree) (v : Tree) (s m m2 : List Token) (x : Token) → IsAssigned t v s → s ++ m ≡ x ∷ m2
+    → (u : Update) × (update_of x ≡ Some u) × By u t v s
 by_down t v s m m2 x (inl b) eq =
     let q = b.3 in
     let e : token q.0 (kinds.Sign signs.Assign) ≡ x = cons_head (sym (ap (λ l. l ++ m) (b.2 ∙ ap (λ l. l ++ b.1) q.1)) ∙ eq) in
@@ -142,8 +147,11 @@ by_alive t x updates.Plain e =
     let s = update_sign x updates.Plain e in
     (leaf, leaf_token ∷ [], (x ∷ [], leaf_token ∷ [], refl, is_one (kinds.Sign signs.Assign) x (s.1 ∙ ap kinds.Sign s.2), refl))
 by_alive t x (updates.Compound op) e =
-    let s = update_sign x (updates.Compound op) e in
-    (updated t op leaf, leaf_token ∷ [], (leaf, refl, (x ∷ [], leaf_token ∷ [], refl, subst (λ z. compound op (token x.place z ∷ [])) (sym s.1) (s.2 x.place), refl)))
+    let s = update_sign x (updates.Compound op) e in (
+      updated t op leaf,
+      leaf_token ∷ [],
+      (leaf, refl, (x ∷ [], leaf_token ∷ [], refl, subst (λ z. compound op (token x.place z ∷ [])) (sym s.1) (s.2 x.place), refl)),
+    )
 by_alive t x (updates.Step op) e =
     let s = update_sign x (updates.Step op) e in
     (updated t op (number t.variable.place 1), [], (refl, subst (λ z. stepping op (token x.place z ∷ [])) (sym s.1) (s.2 x.place)))
@@ -160,7 +168,8 @@ abbrev assigning : TargetTree → Tree → AssignmentTree
 assigning t v = record { target = t; value = v }
 
 -- in front of this sign
-module _ (end : Sign) (free : (e : Tree) (x : Token) → x.kind ≡ kinds.Sign end → Free loosest e x) (no_update : (p : Span) → update_of (token p (kinds.Sign end)) ≡ None) where
+module _ (end : Sign) (free : (e : Tree) (x : Token) → x.kind ≡ kinds.Sign end → Free loosest e x)
+    (no_update : (p : Span) → update_of (token p (kinds.Sign end)) ≡ None) where
   end_stop : {C : Type 0} (c : C) (e : Tree) (m : List Token) → Stops (Before end c) m → Stops (Free loosest e) m
   end_stop c e [] st = st
   end_stop c e (y ∷ m) st = free e y st
@@ -168,40 +177,48 @@ module _ (end : Sign) (free : (e : Tree) (x : Token) → x.kind ≡ kinds.Sign e
   pub no_update_at : (x : Token) → x.kind ≡ kinds.Sign end → update_of x ≡ None
   no_update_at x k = ap (λ z. update_of (token x.place z)) k ∙ no_update x.place
 
-  module _ (room : ℕ) (t : TargetTree) (x : Token) (m : List Token) (en : IsEnded (x ∷ m)) where
+  module _ (max_height : ℕ) (t : TargetTree) (x : Token) (m : List Token) (en : IsEnded (x ∷ m)) where
     abbrev To : (u : Update) → AssignmentTree → Phrase
     To u a ts = (a.target ≡ t) × By u t a.value ts
 
     -- `=`
-    plain_reads : x.kind ≡ kinds.Sign signs.Assign → least_height (target_height t) updates.Plain ≤ room → Reads (To updates.Plain) (LowAssignment room) (Before end) (x ∷ m) (operand (room - 1) m >>= λ v. Ok (assigning t v.0, v.1))
+    plain_reads : x.kind ≡ kinds.Sign signs.Assign → least_height (target_height t) updates.Plain ≤ max_height
+        → Reads (To updates.Plain) (LowAssignment max_height) (Before end) (x ∷ m) (operand (max_height - 1) m >>= λ v. Ok (assigning t v.0, v.1))
     plain_reads k enough =
-        reads_same (Made (λ (v : Span × Tree). assigning t v.1) (Both (λ p. one_at p (kinds.Sign signs.Assign)) (λ p. IsExpression loosest))) (To updates.Plain) (LowAssignment room) (Before end) (Before end)
+        reads_same (Made (λ (v : Span × Tree). assigning t v.1) (Both (λ p. one_at p (kinds.Sign signs.Assign)) (λ p. IsExpression loosest)))
+        (To updates.Plain) (LowAssignment max_height) (Before end) (Before end)
         (λ c s v. let w = v.2 in subst (λ z. To updates.Plain z s) (sym v.1) (refl, (w.0, w.1, w.2, (v.0.0, w.3), w.4)))
         (λ c s v. let w = v.1 in ((w.3.0, c.value), ap (λ z. assigning z c.value) v.0, (w.0, w.1, w.2, w.3.1, w.4)))
         (λ c m' st. st) (x ∷ m) _
-        (known (kinds.Sign signs.Assign) (λ p. IsExpression loosest) (λ p v. assigning t v) (LowAssignment room) (Before end) refl
+        (known (kinds.Sign signs.Assign) (λ p. IsExpression loosest) (λ p v. assigning t v) (LowAssignment max_height) (Before end) refl
         (λ p. (leaf, leaf_token ∷ [], refl, omega (arith, enough)))
         x m _ k en (λ en2.
-        made (IsExpression loosest) (Low (room - 1)) (Free loosest) (λ v. assigning t v) (LowAssignment room) (Before end)
+        made (IsExpression loosest) (Low (max_height - 1)) (Free loosest) (λ v. assigning t v) (LowAssignment max_height) (Before end)
         (λ v f. omega (arith, f)) (λ v f. omega (arith, f, enough)) (λ v m' st. end_stop (assigning t v) v m' st)
-        m (operand (room - 1) m) (operand_reads (room - 1) m en2)))
+        m (operand (max_height - 1) m) (operand_reads (max_height - 1) m en2)))
 
     -- an operator and `=`
-    compound_reads : (op : Operator) (k : Sign) → x.kind ≡ kinds.Sign k → ((p : Span) → compound op (token p (kinds.Sign k) ∷ [])) → least_height (target_height t) (updates.Compound op) ≤ room → Reads (To (updates.Compound op)) (LowAssignment room) (Before end) (x ∷ m) (operand (room - 2) m >>= λ e. Ok (assigning t (updated t op e.0), e.1))
+    compound_reads : (op : Operator) (k : Sign) → x.kind ≡ kinds.Sign k → ((p : Span) → compound op (token p (kinds.Sign k) ∷ []))
+        → least_height (target_height t) (updates.Compound op) ≤ max_height
+        → Reads (To (updates.Compound op)) (LowAssignment max_height) (Before end) (x ∷ m)
+        (operand (max_height - 2) m >>= λ e. Ok (assigning t (updated t op e.0), e.1))
     compound_reads op k is all enough =
         let h = held_height t in
-        reads_as (Made (λ (v : Span × Tree). assigning t (updated t op v.1)) (Both (λ p. one_at p (kinds.Sign k)) (λ p. IsExpression loosest))) (To (updates.Compound op)) (LowAssignment room) (Before end) (Before end) x
-        (λ c s v. let w = v.2 in subst (λ z. To (updates.Compound op) z s) (sym v.1) (refl, (v.0.1, refl, (w.0, w.1, w.2, subst (compound op) (sym w.3) (all v.0.0), w.4))))
+        reads_as (Made (λ (v : Span × Tree). assigning t (updated t op v.1)) (Both (λ p. one_at p (kinds.Sign k)) (λ p. IsExpression loosest)))
+        (To (updates.Compound op)) (LowAssignment max_height) (Before end) (Before end) x
+        (λ c s v. let w = v.2 in subst (λ z. To (updates.Compound op) z s) (sym v.1)
+        (refl, (v.0.1, refl, (w.0, w.1, w.2, subst (compound op) (sym w.3) (all v.0.0), w.4))))
         (λ c s m' m2 v st eq. down c s m' m2 v eq)
         (λ c m' st. st) (x ∷ m) m _ refl
-        (known (kinds.Sign k) (λ p. IsExpression loosest) (λ p v. assigning t (updated t op v)) (LowAssignment room) (Before end) refl
+        (known (kinds.Sign k) (λ p. IsExpression loosest) (λ p v. assigning t (updated t op v)) (LowAssignment max_height) (Before end) refl
         (λ p. (leaf, leaf_token ∷ [], refl, omega (arith, enough, h)))
         x m _ is en (λ en2.
-        made (IsExpression loosest) (Low (room - 2)) (Free loosest) (λ v. assigning t (updated t op v)) (LowAssignment room) (Before end)
+        made (IsExpression loosest) (Low (max_height - 2)) (Free loosest) (λ v. assigning t (updated t op v)) (LowAssignment max_height) (Before end)
         (λ v f. omega (arith, f, h)) (λ v f. omega (arith, f, enough, h)) (λ v m' st. end_stop (assigning t (updated t op v)) v m' st)
-        m (operand (room - 2) m) (operand_reads (room - 2) m en2)))
+        m (operand (max_height - 2) m) (operand_reads (max_height - 2) m en2)))
       where
-        down : (c : AssignmentTree) (s m' m2 : List Token) → To (updates.Compound op) c s → s ++ m' ≡ x ∷ m2 → Made (λ (v : Span × Tree). assigning t (updated t op v.1)) (Both (λ p. one_at p (kinds.Sign k)) (λ p. IsExpression loosest)) c s
+        down : (c : AssignmentTree) (s m' m2 : List Token) → To (updates.Compound op) c s → s ++ m' ≡ x ∷ m2
+            → Made (λ (v : Span × Tree). assigning t (updated t op v.1)) (Both (λ p. one_at p (kinds.Sign k)) (λ p. IsExpression loosest)) c s
         down c s m' m2 v eq =
             let b = v.1 in
             let w = b.2 in
@@ -212,60 +229,71 @@ module _ (end : Sign) (free : (e : Tree) (x : Token) → x.kind ≡ kinds.Sign e
             ((q.0, b.0), c_is, (w.0, w.1, w.2, q.2 ∙ ap (λ z. token q.0 z ∷ []) same, w.4))
 
     -- `++` and `--`
-    step_reads : (op : Operator) (k : Sign) → x.kind ≡ kinds.Sign k → ((p : Span) → stepping op (token p (kinds.Sign k) ∷ [])) → least_height (target_height t) (updates.Step op) ≤ room → Good (To (updates.Step op)) (LowAssignment room) (Before end) (x ∷ m) (assigning t (updated t op (number t.variable.place 1))) m
+    step_reads : (op : Operator) (k : Sign) → x.kind ≡ kinds.Sign k → ((p : Span) → stepping op (token p (kinds.Sign k) ∷ []))
+        → least_height (target_height t) (updates.Step op) ≤ max_height
+        → Good (To (updates.Step op)) (LowAssignment max_height) (Before end) (x ∷ m) (assigning t (updated t op (number t.variable.place 1))) m
     step_reads op k is all enough =
         let h = held_height t in
-        one_reads (To (updates.Step op)) (LowAssignment room) (Before end) x m (assigning t (updated t op (number t.variable.place 1))) (after_kind x m (kinds.Sign k) en is refl)
+        one_reads (To (updates.Step op)) (LowAssignment max_height) (Before end) x m (assigning t (updated t op (number t.variable.place 1)))
+        (after_kind x m (kinds.Sign k) en is refl)
         (refl, (refl, subst (λ z. stepping op (token x.place z ∷ [])) (sym is) (all x.place)))
         (omega (arith, enough, h)) only
       where
-        only : (c : AssignmentTree) (s m' m2 : List Token) → To (updates.Step op) c s → Stops (Before end c) m' → s ++ m' ≡ x ∷ m2 → (c ≡ assigning t (updated t op (number t.variable.place 1))) × (s ≡ x ∷ [])
+        only : (c : AssignmentTree) (s m' m2 : List Token) → To (updates.Step op) c s → Stops (Before end c) m' → s ++ m' ≡ x ∷ m2
+            → (c ≡ assigning t (updated t op (number t.variable.place 1))) × (s ≡ x ∷ [])
         only c s m' m2 v st eq =
             let q = stepping_is op s v.1.1 in
             let e : token q.0 (kinds.Sign q.1) ≡ x = cons_head (sym (ap (λ l. l ++ m') q.2) ∙ eq) in
             (ap (λ z. assigning z c.value) v.0 ∙ ap (assigning t) v.1.0, q.2 ∙ ap (λ z. z ∷ []) e)
 
-    value_reads : (u : Update) → update_of x ≡ Some u → least_height (target_height t) u ≤ room → Reads (To u) (LowAssignment room) (Before end) (x ∷ m) (value_by room t u m >>= λ v. Ok (assigning t v.0, v.1))
+    value_reads : (u : Update) → update_of x ≡ Some u → least_height (target_height t) u ≤ max_height
+        → Reads (To u) (LowAssignment max_height) (Before end) (x ∷ m) (value_by max_height t u m >>= λ v. Ok (assigning t v.0, v.1))
     value_reads updates.Plain e enough =
         let s = update_sign x updates.Plain e in
         plain_reads (s.1 ∙ ap kinds.Sign s.2) enough
     value_reads (updates.Compound op) e enough =
         let s = update_sign x (updates.Compound op) e in
-        subst (Reads (To (updates.Compound op)) (LowAssignment room) (Before end) (x ∷ m)) (sym (bind_bind (operand (room - 2) m) (λ e. Ok (updated t op e.0, e.1)) (λ v. Ok (assigning t v.0, v.1)))) (compound_reads op s.0 s.1 s.2 enough)
+        subst (Reads (To (updates.Compound op)) (LowAssignment max_height) (Before end) (x ∷ m))
+        (sym (bind_bind (operand (max_height - 2) m) (λ e. Ok (updated t op e.0, e.1)) (λ v. Ok (assigning t v.0, v.1))))
+        (compound_reads op s.0 s.1 s.2 enough)
     value_reads (updates.Step op) e enough =
         let s = update_sign x (updates.Step op) e in
         step_reads op s.0 s.1 s.2 enough
 
-    updated_reads : (u : Update) → update_of x ≡ Some u → (b : Bool) → nat_lt room (least_height (target_height t) u) ≡ b → Reads (AssignedTo t) (LowAssignment room) (Before end) (x ∷ m) (cond b (Err (TooHigh, x ∷ m)) (value_by room t u m >>= λ v. Ok (assigning t v.0, v.1)))
+    updated_reads : (u : Update) → update_of x ≡ Some u → (b : Bool) → nat_lt max_height (least_height (target_height t) u) ≡ b
+        → Reads (AssignedTo t) (LowAssignment max_height) (Before end) (x ∷ m)
+        (cond b (Err (TooHigh, x ∷ m)) (value_by max_height t u m >>= λ v. Ok (assigning t v.0, v.1)))
     updated_reads u e true lt =
-        too_high (AssignedTo t) (LowAssignment room) (Before end) x m
+        too_high (AssignedTo t) (LowAssignment max_height) (Before end) x m
         (λ c s m' m2 v fits st eq.
         let b = by_height u t c.value s (by_this u t c.value s m' m2 x e v.1 eq) in
-        let l = ltb-true room (least_height (target_height t) u) lt in
+        let l = ltb-true max_height (least_height (target_height t) u) lt in
         let f = ap target_height v.0 in
         omega (arith, b, l, f, fits))
         (let a = by_alive t x u e in (assigning t a.0, a.1, (refl, by_up u t a.0 (x ∷ a.1) a.2)))
     updated_reads u e false lt =
-        reads_as (To u) (AssignedTo t) (LowAssignment room) (Before end) (Before end) x
+        reads_as (To u) (AssignedTo t) (LowAssignment max_height) (Before end) (Before end) x
         (λ c s v. (v.0, by_up u t c.value s v.1))
         (λ c s m' m2 v st eq. (v.0, by_this u t c.value s m' m2 x e v.1 eq))
-        (λ c m' st. st) (x ∷ m) m _ refl (value_reads u e (ltb-false room (least_height (target_height t) u) lt))
+        (λ c m' st. st) (x ∷ m) m _ refl (value_reads u e (ltb-false max_height (least_height (target_height t) u) lt))
 
-    assigned_head : Reads (AssignedTo t) (LowAssignment room) (Before end) (x ∷ m) (assigned_by room t (update_of x) x m)
+    assigned_head : Reads (AssignedTo t) (LowAssignment max_height) (Before end) (x ∷ m) (assigned_by max_height t (update_of x) x m)
     assigned_head = go (update_of x) refl
       where
-        go : (o : Option Update) → update_of x ≡ o → Reads (AssignedTo t) (LowAssignment room) (Before end) (x ∷ m) (assigned_by room t o x m)
+        go : (o : Option Update) → update_of x ≡ o → Reads (AssignedTo t) (LowAssignment max_height) (Before end) (x ∷ m) (assigned_by max_height t o x m)
         go None e =
-            unexpected (AssignedTo t) (LowAssignment room) (Before end) x m
+            unexpected (AssignedTo t) (LowAssignment max_height) (Before end) x m
             (λ c s m' m2 v st eq. let d = by_down t c.value s m' m2 x v.1 eq in let f : Some d.0 ≡ None = sym d.1 ∙ e in cc)
-        go (Some u) e = updated_reads u e (nat_lt room (least_height (target_height t) u)) refl
+        go (Some u) e = updated_reads u e (nat_lt max_height (least_height (target_height t) u)) refl
 
-  pub assigned_reads : (room : ℕ) (t : TargetTree) (w : List Token) → IsEnded w → Reads (AssignedTo t) (LowAssignment room) (Before end) w (assigned room t w)
-  assigned_reads room t [] en = cc
-  assigned_reads room t (x ∷ m) en = assigned_head room t x m en
+  pub assigned_reads : (max_height : ℕ) (t : TargetTree) (w : List Token) → IsEnded w
+      → Reads (AssignedTo t) (LowAssignment max_height) (Before end) w (assigned max_height t w)
+  assigned_reads max_height t [] en = cc
+  assigned_reads max_height t (x ∷ m) en = assigned_head max_height t x m en
 
   -- an update may stand behind an expression and a target
-  assigned_first : (t : TargetTree) (v : Tree) (s m : List Token) → IsAssigned t v s → (x : Token) × (l : List Token) × (s ++ m ≡ x ∷ l) × (u : Update) × (update_of x ≡ Some u)
+  assigned_first : (t : TargetTree) (v : Tree) (s m : List Token) → IsAssigned t v s
+      → (x : Token) × (l : List Token) × (s ++ m ≡ x ∷ l) × (u : Update) × (update_of x ≡ Some u)
   assigned_first t v [] m b = absurd (empty t v b)
     where
       empty : (t : TargetTree) (v : Tree) → IsAssigned t v [] → ⊥
@@ -280,7 +308,8 @@ pub alive_by : (t : TargetTree) (x : Token) (u : Update) → update_of x ≡ Som
 alive_by t x u e = let a = by_alive t x u e in (a.0, a.1, by_up u t a.0 (x ∷ a.1) a.2)
 
 -- an update goes on with no expression
-update_goes_on : (k : Kind) (p : Span) (u : Update) → update_of (token p k) ≡ Some u → (goes_on loosest k ≡ false) × (is_sign signs.LeftBracket (token p k) ≡ false)
+update_goes_on : (k : TokenKind) (p : Span) (u : Update) → update_of (token p k) ≡ Some u
+    → (goes_on loosest k ≡ false) × (is_sign signs.LeftBracket (token p k) ≡ false)
 update_goes_on (kinds.Sign signs.Assign) p u e = (refl, refl)
 update_goes_on (kinds.Sign signs.PlusAssign) p u e = (refl, refl)
 update_goes_on (kinds.Sign signs.MinusAssign) p u e = (refl, refl)
@@ -295,28 +324,44 @@ update_goes_on k p u e = absurd (none_some u e)
 -- Whole assignments
 
 abbrev pub LowIndex : ℕ → Option Tree → Type 0
-LowIndex room i = 2 + optional_height i ≤ room
+LowIndex max_height i = 2 + optional_height i ≤ max_height
 
-pub target_index_reads : (room : ℕ) → 2 ≤ room → (w : List Token) → IsEnded w → Reads (optional bracketed) (LowIndex room) NoBracket w (target_index room w)
-target_index_reads room two [] en = cc
-target_index_reads room two (x ∷ m) en = go (is_sign signs.LeftBracket x) refl
+pub target_index_reads : (max_height : ℕ) → 2 ≤ max_height → (w : List Token) → IsEnded w
+    → Reads (optional bracketed) (LowIndex max_height) NoBracket w (target_index max_height w)
+target_index_reads max_height two [] en = cc
+target_index_reads max_height two (x ∷ m) en = go (is_sign signs.LeftBracket x) refl
   where
-    some : is_sign signs.LeftBracket x ≡ true → (b : Bool) → nat_lt room 3 ≡ b → Reads (optional bracketed) (LowIndex room) NoBracket (x ∷ m) (cond b (Err (TooHigh, x ∷ m)) (steps.bracketed (room - 2) (x ∷ m) >>= λ e. Ok (Some e.0, e.1)))
+    some : is_sign signs.LeftBracket x ≡ true → (b : Bool) → nat_lt max_height 3 ≡ b
+        → Reads (optional bracketed) (LowIndex max_height) NoBracket (x ∷ m)
+        (cond b (Err (TooHigh, x ∷ m)) (steps.bracketed (max_height - 2) (x ∷ m) >>= λ e. Ok (Some e.0, e.1)))
     some t true z =
-        let n = ltb-true room 3 z in
-        optional_high bracketed (LowIndex room) NoBracket x m (clash (is_sign signs.LeftBracket x) t)
-        (λ e l. no_height e (omega arith))
-        (leaf, leaf_token ∷ lone signs.RightBracket, (x ∷ [], leaf_token ∷ lone signs.RightBracket, refl, is_one (kinds.Sign signs.LeftBracket) x (is_sign-true signs.LeftBracket x t), (leaf_token ∷ [], lone signs.RightBracket, refl, refl, (origin, refl))))
+        let n = ltb-true max_height 3 z in
+        optional_high bracketed (LowIndex max_height) NoBracket x m (clash (is_sign signs.LeftBracket x) t)
+        (λ e l. no_height e (omega arith)) (
+          leaf,
+          leaf_token ∷ lone signs.RightBracket,
+          (
+            x ∷ [],
+            leaf_token ∷ lone signs.RightBracket,
+            refl,
+            is_one (kinds.Sign signs.LeftBracket) x (is_sign-true signs.LeftBracket x t),
+            (leaf_token ∷ [], lone signs.RightBracket, refl, refl, (origin, refl)),
+          ),
+        )
     some t false z =
-        let n = ltb-false room 3 z in
-        some_reads bracketed (Low (room - 2)) Any (LowIndex room) NoBracket (λ e l. omega (arith, l)) (λ e l. omega (arith, l, n)) (λ e m' st. any_stops (λ y. is_sign signs.LeftBracket y ≡ false) [] m' st) x m (steps.bracketed (room - 2) (x ∷ m))
-        (clash (is_sign signs.LeftBracket x) t) (bracketed_reads (room - 2) (omega arith) (x ∷ m) en)
+        let n = ltb-false max_height 3 z in
+        some_reads bracketed (Low (max_height - 2)) Any (LowIndex max_height) NoBracket (λ e l. omega (arith, l)) (λ e l. omega (arith, l, n))
+        (λ e m' st. any_stops (λ y. is_sign signs.LeftBracket y ≡ false) [] m' st) x m (steps.bracketed (max_height - 2) (x ∷ m))
+        (clash (is_sign signs.LeftBracket x) t) (bracketed_reads (max_height - 2) (omega arith) (x ∷ m) en)
 
-    go : (b : Bool) → is_sign signs.LeftBracket x ≡ b → Reads (optional bracketed) (LowIndex room) NoBracket (x ∷ m) (cond b (cond (nat_lt room 3) (Err (TooHigh, x ∷ m)) (steps.bracketed (room - 2) (x ∷ m) >>= λ e. Ok (Some e.0, e.1))) (Ok (None, x ∷ m)))
-    go true t = some t (nat_lt room 3) refl
+    go : (b : Bool) → is_sign signs.LeftBracket x ≡ b
+        → Reads (optional bracketed) (LowIndex max_height) NoBracket (x ∷ m)
+        (cond b (cond (nat_lt max_height 3) (Err (TooHigh, x ∷ m)) (steps.bracketed (max_height - 2) (x ∷ m) >>= λ e. Ok (Some e.0, e.1))) (Ok (None, x ∷ m)))
+    go true t = some t (nat_lt max_height 3) refl
     go false t =
-        none_reads bracketed (LowIndex room) NoBracket x m (omega arith)
-        (λ e s m' m2 v eq. is_sign-false signs.LeftBracket x t (sign_head signs.LeftBracket (IsExpression loosest e then sign signs.RightBracket) s m' m2 x v eq))
+        none_reads bracketed (LowIndex max_height) NoBracket x m (omega arith)
+        (λ e s m' m2 v eq. is_sign-false signs.LeftBracket x t
+        (sign_head signs.LeftBracket (IsExpression loosest e then sign signs.RightBracket) s m' m2 x v eq))
 
 abbrev target_at : Identifier → Option Tree → TargetTree
 target_at x i = record { variable = x; index = i }
@@ -346,33 +391,44 @@ whole_up c s v =
 
 whole_down : (c : AssignmentTree) (s : List Token) → IsAssignment c s → Whole c s
 whole_down c s v =
-    let u = v.3 in
-    ((c.target.variable, (c.target.index, c)), refl, (u.0, u.1 ++ v.1, v.2 ∙ ap (λ l. l ++ v.1) u.2 ∙ append_assoc u.0 u.1 v.1, u.3, (u.1, v.1, refl, u.4, (refl, v.4))))
+    let u = v.3 in (
+      (c.target.variable, (c.target.index, c)),
+      refl,
+      (u.0, u.1 ++ v.1, v.2 ∙ ap (λ l. l ++ v.1) u.2 ∙ append_assoc u.0 u.1 v.1, u.3, (u.1, v.1, refl, u.4, (refl, v.4))),
+    )
 
 -- in front of this sign
-module _ (end : Sign) (free : (e : Tree) (x : Token) → x.kind ≡ kinds.Sign end → Free loosest e x) (no_update : (p : Span) → update_of (token p (kinds.Sign end)) ≡ None) where
+module _ (end : Sign) (free : (e : Tree) (x : Token) → x.kind ≡ kinds.Sign end → Free loosest e x)
+    (no_update : (p : Span) → update_of (token p (kinds.Sign end)) ≡ None) where
   index_first : (x : Identifier) (i : Option Tree) (a : AssignmentTree) (s m : List Token) → AssignedTo (target_at x i) a s → Stops (NoBracket i) (s ++ m)
   index_first x i a s m v =
       let f = assigned_first end free no_update (target_at x i) a.value s m v.1 in
       subst (Stops (NoBracket i)) (sym f.2) (update_goes_on f.0.kind f.0.place f.3 f.4).1
 
-  pub assignment_reads : (room : ℕ) → 2 ≤ room → (w : List Token) → IsEnded w → Reads IsAssignment (LowAssignment room) (Before end) w (assignment_step room w)
+  pub assignment_reads : (max_height : ℕ) → 2 ≤ max_height → (w : List Token) → IsEnded w
+      → Reads IsAssignment (LowAssignment max_height) (Before end) w (assignment_step max_height w)
   unfolding assignment_step
-  assignment_reads room two w en =
-      reads_same Whole IsAssignment (LowAssignment room) (Before end) (Before end) whole_up whole_down (λ c m st. st) w _
-      (seq identifier All Any Rest (λ x v. v.1) (LowAssignment room) (Before end)
+  assignment_reads max_height two w en =
+      reads_same Whole IsAssignment (LowAssignment max_height) (Before end) (Before end) whole_up whole_down (λ c m st. st) w _
+      (seq identifier All Any Rest (λ x v. v.1) (LowAssignment max_height) (Before end)
       (λ x v s u f. tt)
       (λ x v s m u st. any_stops (λ y. y.kind ≡ kinds.Sign end) s m st)
-      (λ x s u. ((None, record { target = target_at x None; value = leaf }), equals_token ∷ leaf_token ∷ [], ([], equals_token ∷ leaf_token ∷ [], refl, refl, gets_leaf (target_at x None)), λ f. omega (arith, two)))
+      (λ x s u. (
+        (None, record { target = target_at x None; value = leaf }),
+        equals_token ∷ leaf_token ∷ [],
+        ([], equals_token ∷ leaf_token ∷ [], refl, refl, gets_leaf (target_at x None)),
+        λ f. omega (arith, two),
+      ))
       w (expressions.identifier w) _ (identifier_reads w en) (λ x r is g.
-      seq (optional bracketed) (LowIndex room) NoBracket (λ i. AssignedTo (target_at x i)) (λ i a. a) (LowAssignment room) (Before end)
+      seq (optional bracketed) (LowIndex max_height) NoBracket (λ i. AssignedTo (target_at x i)) (λ i a. a) (LowAssignment max_height) (Before end)
       (λ i a s u f. let e = ap target_height u.0 in omega (arith, e, f))
       (λ i a s m u st. index_first x i a s m u)
       (λ i s u. (record { target = target_at x i; value = leaf }, equals_token ∷ leaf_token ∷ [], gets_leaf (target_at x i), λ f. omega (arith, f)))
-      r (target_index room r) _ (target_index_reads room two r (good_ended g en)) (λ i r2 is2 g2.
-      reads_same (AssignedTo (target_at x i)) (Made (λ (a : AssignmentTree). a) (AssignedTo (target_at x i))) (LowAssignment room) (Before end) (Before end)
+      r (target_index max_height r) _ (target_index_reads max_height two r (good_ended g en)) (λ i r2 is2 g2.
+      reads_same (AssignedTo (target_at x i)) (Made (λ (a : AssignmentTree). a) (AssignedTo (target_at x i))) (LowAssignment max_height) (Before end)
+      (Before end)
       (λ c s v. (c, refl, v)) (λ c s v. subst (λ z. AssignedTo (target_at x i) z s) (sym v.1) v.2) (λ c m st. st) r2 _
-      (assigned_reads end free no_update room (target_at x i) r2 (good_ended g2 (good_ended g en))))))
+      (assigned_reads end free no_update max_height (target_at x i) r2 (good_ended g2 (good_ended g en))))))
 
 -- Assignments and expressions
 
@@ -402,9 +458,9 @@ abbrev pub IsAction : ActionTree → Phrase
 IsAction (assigns a) ts = IsAssignment a ts
 IsAction (evaluates e) ts = IsExpression loosest e ts
 
-abbrev pub LowAction : (h room : ℕ) → ActionTree → Type 0
-LowAction h room (assigns a) = assignment_height a ≤ room
-LowAction h room (evaluates e) = height e ≤ h
+abbrev pub LowAction : (h max_height : ℕ) → ActionTree → Type 0
+LowAction h max_height (assigns a) = assignment_height a ≤ max_height
+LowAction h max_height (evaluates e) = height e ≤ h
 
 -- what stands behind the expression that an action begins with
 abbrev Tail : Tree → ActionTree → Phrase
@@ -422,8 +478,9 @@ tail_down (assigns a) s v = (held a.target, v.0, v.1, v.2, target_expression a.t
 tail_down (evaluates d) s v = (d, s, [], sym (append-nil s), v, (refl, refl))
 
 -- in front of this sign
-module _ (end : Sign) (free : (e : Tree) (x : Token) → x.kind ≡ kinds.Sign end → Free loosest e x) (no_update : (p : Span) → update_of (token p (kinds.Sign end)) ≡ None) (h room : ℕ) (near : room ≤ suc h) where
-  tail_low : (e : Tree) (c : ActionTree) (s : List Token) → Tail e c s → LowAction h room c → Low h e
+module _ (end : Sign) (free : (e : Tree) (x : Token) → x.kind ≡ kinds.Sign end → Free loosest e x)
+    (no_update : (p : Span) → update_of (token p (kinds.Sign end)) ≡ None) (h max_height : ℕ) (near : max_height ≤ suc h) where
+  tail_low : (e : Tree) (c : ActionTree) (s : List Token) → Tail e c s → LowAction h max_height c → Low h e
   tail_low e (assigns a) s v f = let t = target_of_height e a.target v.0 in omega (arith, t, f, near)
   tail_low e (evaluates d) s v f = let t = ap height v.0 in omega (arith, t, f)
 
@@ -435,21 +492,24 @@ module _ (end : Sign) (free : (e : Tree) (x : Token) → x.kind ≡ kinds.Sign e
   tail_first e (evaluates d) s (y ∷ m) v st = subst (λ l. Stops (Free loosest e) (l ++ y ∷ m)) (sym v.1) (free e y st)
 
   -- nothing but the end stands behind an expression that is evaluated
-  no_end : (e d : Tree) (s m m2 : List Token) (x : Token) (u : Update) → update_of x ≡ Some u → Tail e (evaluates d) s → Stops (Before end (evaluates d)) m → s ++ m ≡ x ∷ m2 → ⊥
+  no_end : (e d : Tree) (s m m2 : List Token) (x : Token) (u : Update) → update_of x ≡ Some u → Tail e (evaluates d) s
+      → Stops (Before end (evaluates d)) m → s ++ m ≡ x ∷ m2 → ⊥
   no_end e d s m m2 x u f v st eq =
       let k = subst (Stops (Before end (evaluates d))) (ap (λ l. l ++ m) (sym v.1) ∙ eq) st in
       let g : None ≡ Some u = sym (no_update_at end free no_update x k) ∙ f in
       cc
 
-  tail_target : (e : Tree) (x : Token) (m : List Token) (u : Update) → update_of x ≡ Some u → IsEnded (x ∷ m) → (o : Option TargetTree) → target_of e ≡ o → Reads (Tail e) (LowAction h room) (Before end) (x ∷ m) (assigns_to room o (x ∷ m))
-  tail_target e x m u f en None t = unexpected (Tail e) (LowAction h room) (Before end) x m go
+  tail_target : (e : Tree) (x : Token) (m : List Token) (u : Update) → update_of x ≡ Some u → IsEnded (x ∷ m) → (o : Option TargetTree)
+      → target_of e ≡ o → Reads (Tail e) (LowAction h max_height) (Before end) (x ∷ m) (assigns_to max_height o (x ∷ m))
+  tail_target e x m u f en None t = unexpected (Tail e) (LowAction h max_height) (Before end) x m go
     where
       go : (c : ActionTree) (s m' m2 : List Token) → Tail e c s → Stops (Before end c) m' → s ++ m' ≡ x ∷ m2 → ⊥
       go (assigns a) s m' m2 v st eq = let g : None ≡ Some a.target = sym t ∙ v.0 in cc
       go (evaluates d) s m' m2 v st eq = no_end e d s m' m2 x u f v st eq
   tail_target e x m u f en (Some t) is =
-      reads_as (Made assigns (AssignedTo t)) (Tail e) (LowAction h room) (Before end) (Before end) x up down (λ c m' st. st) (x ∷ m) m _ refl
-      (made (AssignedTo t) (LowAssignment room) (Before end) assigns (LowAction h room) (Before end) (λ a l. l) (λ a l. l) same (x ∷ m) (assigned room t (x ∷ m)) (assigned_reads end free no_update room t (x ∷ m) en))
+      reads_as (Made assigns (AssignedTo t)) (Tail e) (LowAction h max_height) (Before end) (Before end) x up down (λ c m' st. st) (x ∷ m) m _ refl
+      (made (AssignedTo t) (LowAssignment max_height) (Before end) assigns (LowAction h max_height) (Before end) (λ a l. l) (λ a l. l) same (x ∷ m)
+      (assigned max_height t (x ∷ m)) (assigned_reads end free no_update max_height t (x ∷ m) en))
     where
       same : (a : AssignmentTree) (m : List Token) → Stops (Before end (assigns a)) m → Stops (Before end a) m
       same a [] st = st
@@ -467,13 +527,16 @@ module _ (end : Sign) (free : (e : Tree) (x : Token) → x.kind ≡ kinds.Sign e
           (a, refl, (g, subst (λ z. IsAssigned z a.value s) g v.1))
       down (evaluates d) s m' m2 v st eq = absurd (no_end e d s m' m2 x u f v st eq)
 
-  tail_reads : (e : Tree) (w : List Token) → Low h e → IsEnded w → Reads (Tail e) (LowAction h room) (Before end) w (cond (is_update w) (assigns_to room (target_of e) w) (Ok (evaluates e, w)))
+  tail_reads : (e : Tree) (w : List Token) → Low h e → IsEnded w
+      → Reads (Tail e) (LowAction h max_height) (Before end) w (cond (is_update w) (assigns_to max_height (target_of e) w) (Ok (evaluates e, w)))
   tail_reads e [] low en = cc
   tail_reads e (x ∷ m) low en = go (update_of x) refl
     where
-      go : (o : Option Update) → update_of x ≡ o → Reads (Tail e) (LowAction h room) (Before end) (x ∷ m) (cond (updates_by o) (assigns_to room (target_of e) (x ∷ m)) (Ok (evaluates e, x ∷ m)))
+      go : (o : Option Update) → update_of x ≡ o
+          → Reads (Tail e) (LowAction h max_height) (Before end) (x ∷ m)
+          (cond (updates_by o) (assigns_to max_height (target_of e) (x ∷ m)) (Ok (evaluates e, x ∷ m)))
       go (Some u) f = tail_target e x m u f en (target_of e) refl
-      go None f = nothing_reads (Tail e) (LowAction h room) (Before end) x m (evaluates e) (refl, refl) low only
+      go None f = nothing_reads (Tail e) (LowAction h max_height) (Before end) x m (evaluates e) (refl, refl) low only
         where
           only : (c : ActionTree) (s m' m2 : List Token) → Tail e c s → Stops (Before end c) m' → s ++ m' ≡ x ∷ m2 → (c ≡ evaluates e) × (s ≡ [])
           only (assigns a) s m' m2 v st eq =
@@ -482,11 +545,11 @@ module _ (end : Sign) (free : (e : Tree) (x : Token) → x.kind ≡ kinds.Sign e
               cc
           only (evaluates d) s m' m2 v st eq = (ap evaluates v.0, v.1)
 
-  pub action_reads : (w : List Token) → IsEnded w → Reads IsAction (LowAction h room) (Before end) w (action h room w)
+  pub action_reads : (w : List Token) → IsEnded w → Reads IsAction (LowAction h max_height) (Before end) w (action h max_height w)
   unfolding action
   action_reads w en =
-      reads_same (Then (IsExpression loosest) Tail) IsAction (LowAction h room) (Before end) (Before end) tail_up tail_down (λ c m st. st) w _
-      (bind_reads (IsExpression loosest) (Low h) (Free loosest) Tail (LowAction h room) (Before end) tail_low tail_first
+      reads_same (Then (IsExpression loosest) Tail) IsAction (LowAction h max_height) (Before end) (Before end) tail_up tail_down (λ c m st. st) w _
+      (bind_reads (IsExpression loosest) (Low h) (Free loosest) Tail (LowAction h max_height) (Before end) tail_low tail_first
       (λ e s v f. (evaluates e, [], (refl, refl), f))
       (λ e s v. (evaluates e, [], (refl, refl)))
       w (operand h w) _ (operand_reads h w en) (λ e r g. tail_reads e r g.fits (good_ended g en)))

@@ -3,11 +3,12 @@ use Rattle.std.proofs.Common.{◌≡◌, ℕ, ◌-◌, ◌≤◌, List, [], ◌�
 use Rattle.sc_text.specs.declared.span.Span.{Span}
 use Rattle.secrec_lexer.specs.declared.sign.Sign.{Sign}
 use Rattle.secrec_lexer.specs.declared.sign.Sign.TheVariants as signs
-use Rattle.secrec_lexer.specs.declared.token.Kind.TheVariants as kinds
+use Rattle.secrec_lexer.specs.declared.token.TokenKind.TheVariants as kinds
 use Rattle.secrec_lexer.specs.declared.token.Token.{Token}
 use Rattle.secrec_lexer.specs.Tokens.{IsEnded}
 use Rattle.secrec_ast.specs.Tree.{Tree}
-use Rattle.secrec_ast.specs.Statements.{starts_with_nothing, steps_by_nothing, StatementTree, StatementTrees, statements_of, block, empty, while_loop, do_loop, for_loop}
+use Rattle.secrec_ast.specs.Statements.{starts_with_nothing, steps_by_nothing, StatementTree, StatementTrees, statements_of, block, empty, while_loop}
+use Rattle.secrec_ast.specs.Statements.{do_loop, for_loop}
 use Rattle.secrec_ast.specs.Statements as statements
 use Rattle.secrec_ast.specs.Heights.{statement_heights}
 use Rattle.expression_parser.specs.Phrases.{Phrase, sign_at, sign, ◌then◌}
@@ -16,8 +17,8 @@ use Rattle.expression_parser.proofs.Reading.{Reads, Stops}
 use Rattle.expression_parser.proofs.Tokens.{Any, origin, any_stops, good_ended, is_sign-true, is_sign-false}
 use Rattle.expression_parser.proofs.Nodes.{Low, leaf}
 use Rattle.secrec_parser.specs.Grammar.{parenthesised, IsStatement, AreStatements, AreAll}
-use Rattle.secrec_parser.specs.Steps.{Inner, leader_of, listed, at_sign, braced, while_step, do_behind, do_step, for_step}
-use Rattle.secrec_parser.specs.Steps as steps
+use Rattle.secrec_parser.specs.inner.Steps.{Inner, leader_of, listed, at_sign, braced, while_step, do_behind, do_step, for_step}
+use Rattle.secrec_parser.specs.inner.Steps as steps
 use Rattle.secrec_parser.proofs.Made.{Made, Both, reads_same, seq, made, sign_seq, sign_end}
 use Rattle.secrec_parser.proofs.TypeReadings.{lone}
 use Rattle.secrec_parser.proofs.Declarations.{parenthesised_reads, last_sign_first, sign_first}
@@ -29,29 +30,31 @@ use Rattle.secrec_parser.proofs.Statements.{LowStatement, Follow, keyword_reads,
 
 -- Loops, where what reads their bodies is given
 
-module _ (room : ℕ) (two : 2 ≤ room) (inside : Bool) (inner : Inner)
-    (reads_inner : (w : List Token) → IsEnded w → Reads (IsStatement true) (LowStatement (room - 1)) Follow w (inner w))
+module _ (max_height : ℕ) (two : 2 ≤ max_height) (inside : Bool) (inner : Inner)
+    (reads_inner : (w : List Token) → IsEnded w → Reads (IsStatement true) (LowStatement (max_height - 1)) Follow w (inner w))
   where
     abbrev Guarded : Tree × StatementTree → Phrase
     Guarded = Both parenthesised (λ e. IsStatement true)
 
-    while_down : (c : StatementTree) (s : List Token) → family_of c ≡ 3 → IsStatement inside c s → (p : Span) × (b : Tree × StatementTree) × (c ≡ while_loop p b.0 b.1) × (sign_at p signs.While then Guarded b) s
+    while_down : (c : StatementTree) (s : List Token) → family_of c ≡ 3 → IsStatement inside c s
+        → (p : Span) × (b : Tree × StatementTree) × (c ≡ while_loop p b.0 b.1) × (sign_at p signs.While then Guarded b) s
     while_down (while_loop p e b) s f v = (p, (e, b), refl, v)
     while_down c s f v = absurd (omega (arith, f))
 
-    pub while_reads : (x : Token) (m : List Token) → x.kind ≡ kinds.Sign signs.While → family (leader_of inside x) ≡ 3 → IsEnded (x ∷ m) → Reads (IsStatement inside) (LowStatement room) Follow (x ∷ m) (while_step (room - 1) inner x.place m)
+    pub while_reads : (x : Token) (m : List Token) → x.kind ≡ kinds.Sign signs.While → family (leader_of inside x) ≡ 3 → IsEnded (x ∷ m)
+        → Reads (IsStatement inside) (LowStatement max_height) Follow (x ∷ m) (while_step (max_height - 1) inner x.place m)
     unfolding while_step
     while_reads x m k fam en =
-        keyword_reads inside room signs.While 3 Guarded (λ p b. while_loop p b.0 b.1) Follow refl (λ p b s v. v) while_down follow_same
+        keyword_reads inside max_height signs.While 3 Guarded (λ p b. while_loop p b.0 b.1) Follow refl (λ p b s v. v) while_down follow_same
         (λ p. ((leaf, empty origin), parens ++ lone signs.Semicolon, (parens, lone signs.Semicolon, refl, are_parens, refl), omega (arith, two)))
         x m _ k fam en (λ en2.
-        seq parenthesised (Low (room - 1)) Any (λ e. IsStatement true) (λ e s. while_loop x.place e s) (LowStatement room) Follow
+        seq parenthesised (Low (max_height - 1)) Any (λ e. IsStatement true) (λ e s. while_loop x.place e s) (LowStatement max_height) Follow
         (λ e s t u f. omega (arith, f))
         (λ e s t m u st. any_stops (Follow (while_loop x.place e s)) t m st)
         (λ e s u. (empty origin, lone signs.Semicolon, refl, λ f. omega (arith, f, two)))
-        m (steps.parenthesised (room - 1) m) _ (parenthesised_reads (room - 1) (omega (arith, two)) m en2) (λ e r is g.
+        m (steps.parenthesised (max_height - 1) m) _ (parenthesised_reads (max_height - 1) (omega (arith, two)) m en2) (λ e r is g.
         let low = g.fits in
-        made (IsStatement true) (LowStatement (room - 1)) Follow (λ s. while_loop x.place e s) (LowStatement room) Follow
+        made (IsStatement true) (LowStatement (max_height - 1)) Follow (λ s. while_loop x.place e s) (LowStatement max_height) Follow
         (λ s f. omega (arith, f)) (λ s f. omega (arith, f, low, two)) (λ s m st. follow_through (while_loop x.place e s) s m (λ c. c) st)
         r (inner r) (reads_inner r (good_ended g en2))))
 
@@ -61,57 +64,71 @@ module _ (room : ℕ) (two : 2 ≤ room) (inside : Bool) (inner : Inner)
     abbrev Repeated : StatementTree × (Tree × Unit {0}) → Phrase
     Repeated = Both (IsStatement true) Ended
 
-    do_down : (c : StatementTree) (s : List Token) → family_of c ≡ 4 → IsStatement inside c s → (p : Span) × (b : StatementTree × (Tree × Unit {0})) × (c ≡ do_loop p b.0 b.1.0) × (sign_at p signs.Do then Repeated b) s
+    do_down : (c : StatementTree) (s : List Token) → family_of c ≡ 4 → IsStatement inside c s
+        → (p : Span) × (b : StatementTree × (Tree × Unit {0})) × (c ≡ do_loop p b.0 b.1.0) × (sign_at p signs.Do then Repeated b) s
     do_down (do_loop p b e) s f v = (p, (b, (e, tt)), refl, v)
     do_down c s f v = absurd (omega (arith, f))
 
     ended : Ended (empty origin) (leaf, tt) (lone signs.While ++ parens ++ lone signs.Semicolon)
     ended = (lone signs.While, parens ++ lone signs.Semicolon, refl, (origin, refl), (parens, lone signs.Semicolon, refl, are_parens, (origin, refl)))
 
-    pub do_reads : (x : Token) (m : List Token) → x.kind ≡ kinds.Sign signs.Do → family (leader_of inside x) ≡ 4 → IsEnded (x ∷ m) → Reads (IsStatement inside) (LowStatement room) Follow (x ∷ m) (do_step (room - 1) inner x.place m)
+    pub do_reads : (x : Token) (m : List Token) → x.kind ≡ kinds.Sign signs.Do → family (leader_of inside x) ≡ 4 → IsEnded (x ∷ m)
+        → Reads (IsStatement inside) (LowStatement max_height) Follow (x ∷ m) (do_step (max_height - 1) inner x.place m)
     unfolding do_step do_behind
     do_reads x m k fam en =
-        keyword_reads inside room signs.Do 4 Repeated (λ p b. do_loop p b.0 b.1.0) Any refl (λ p b s v. v) do_down follow_any
-        (λ p. ((empty origin, (leaf, tt)), lone signs.Semicolon ++ lone signs.While ++ parens ++ lone signs.Semicolon, (lone signs.Semicolon, lone signs.While ++ parens ++ lone signs.Semicolon, refl, refl, ended), omega (arith, two)))
+        keyword_reads inside max_height signs.Do 4 Repeated (λ p b. do_loop p b.0 b.1.0) Any refl (λ p b s v. v) do_down follow_any
+        (λ p. (
+          (empty origin, (leaf, tt)),
+          lone signs.Semicolon ++ lone signs.While ++ parens ++ lone signs.Semicolon,
+          (lone signs.Semicolon, lone signs.While ++ parens ++ lone signs.Semicolon, refl, refl, ended),
+          omega (arith, two),
+        ))
         x m _ k fam en (λ en2.
-        seq (IsStatement true) (LowStatement (room - 1)) Follow Ended (λ s v. do_loop x.place s v.0) (LowStatement room) Any
+        seq (IsStatement true) (LowStatement (max_height - 1)) Follow Ended (λ s v. do_loop x.place s v.0) (LowStatement max_height) Any
         (λ s v t u f. omega (arith, f))
         (λ s v t m u st. sign_first (Follow s) signs.While (Both parenthesised (λ e (u : Unit {0}). sign signs.Semicolon) v) t m (λ q k. cc) u)
         (λ s t u. ((leaf, tt), lone signs.While ++ parens ++ lone signs.Semicolon, ended, λ f. omega (arith, f, two)))
         m (inner m) _ (reads_inner m en2) (λ s r is g.
         let low = g.fits in
         let en3 = good_ended g en2 in
-        sign_seq signs.While (Both parenthesised (λ e (u : Unit {0}). sign signs.Semicolon)) (λ v. do_loop x.place s v.0) (LowStatement room) Any
+        sign_seq signs.While (Both parenthesised (λ e (u : Unit {0}). sign signs.Semicolon)) (λ v. do_loop x.place s v.0) (LowStatement max_height) Any
         ((leaf, tt), parens ++ lone signs.Semicolon, (parens, lone signs.Semicolon, refl, are_parens, (origin, refl)), omega (arith, low, two))
         r _ en3 (λ q r2 en4.
-        seq parenthesised (Low (room - 1)) Any (λ e (u : Unit {0}). sign signs.Semicolon) (λ e u. do_loop x.place s e) (LowStatement room) Any
+        seq parenthesised (Low (max_height - 1)) Any (λ e (u : Unit {0}). sign signs.Semicolon) (λ e u. do_loop x.place s e) (LowStatement max_height) Any
         (λ e u t v f. omega (arith, f))
         (λ e u t m v st. any_stops (λ y. Unit {0}) t m st)
         (λ e t u. (tt, lone signs.Semicolon, (origin, refl), λ f. omega (arith, f, low, two)))
-        r2 (steps.parenthesised (room - 1) r2) _ (parenthesised_reads (room - 1) (omega (arith, two)) r2 en4) (λ e r3 is3 g3.
+        r2 (steps.parenthesised (max_height - 1) r2) _ (parenthesised_reads (max_height - 1) (omega (arith, two)) r2 en4) (λ e r3 is3 g3.
         let low2 = g3.fits in
-        sign_end signs.Semicolon (do_loop x.place s e) (LowStatement room) (omega (arith, low, low2, two)) r3 (good_ended g3 en4)))))
+        sign_end signs.Semicolon (do_loop x.place s e) (LowStatement max_height) (omega (arith, low, low2, two)) r3 (good_ended g3 en4)))))
 
     abbrev Headed : HeadingParts × StatementTree → Phrase
     Headed = Both IsHeading (λ h. IsStatement true)
 
-    for_down : (c : StatementTree) (s : List Token) → family_of c ≡ 5 → IsStatement inside c s → (p : Span) × (b : HeadingParts × StatementTree) × (c ≡ for_loop p b.0.0 b.0.1 b.0.2 b.1) × (sign_at p signs.For then Headed b) s
+    for_down : (c : StatementTree) (s : List Token) → family_of c ≡ 5 → IsStatement inside c s
+        → (p : Span) × (b : HeadingParts × StatementTree) × (c ≡ for_loop p b.0.0 b.0.1 b.0.2 b.1) × (sign_at p signs.For then Headed b) s
     for_down (for_loop p a e b t) s f v = (p, ((a, e, b), t), refl, v)
     for_down c s f v = absurd (omega (arith, f))
 
-    pub for_reads : (x : Token) (m : List Token) → x.kind ≡ kinds.Sign signs.For → family (leader_of inside x) ≡ 5 → IsEnded (x ∷ m) → Reads (IsStatement inside) (LowStatement room) Follow (x ∷ m) (for_step (room - 1) inner x.place m)
+    pub for_reads : (x : Token) (m : List Token) → x.kind ≡ kinds.Sign signs.For → family (leader_of inside x) ≡ 5 → IsEnded (x ∷ m)
+        → Reads (IsStatement inside) (LowStatement max_height) Follow (x ∷ m) (for_step (max_height - 1) inner x.place m)
     unfolding for_step
     for_reads x m k fam en =
-        keyword_reads inside room signs.For 5 Headed (λ p b. for_loop p b.0.0 b.0.1 b.0.2 b.1) Follow refl (λ p b s v. v) for_down follow_same
-        (λ p. (((starts_with_nothing, None, steps_by_nothing), empty origin), heads ++ lone signs.Semicolon, (heads, lone signs.Semicolon, refl, are_heads, refl), omega (arith, two)))
+        keyword_reads inside max_height signs.For 5 Headed (λ p b. for_loop p b.0.0 b.0.1 b.0.2 b.1) Follow refl (λ p b s v. v) for_down follow_same
+        (λ p. (
+          ((starts_with_nothing, None, steps_by_nothing), empty origin),
+          heads ++ lone signs.Semicolon,
+          (heads, lone signs.Semicolon, refl, are_heads, refl),
+          omega (arith, two),
+        ))
         x m _ k fam en (λ en2.
-        seq IsHeading (LowHeading (room - 1)) Any (λ h. IsStatement true) (λ h s. for_loop x.place h.0 h.1 h.2 s) (LowStatement room) Follow
+        seq IsHeading (LowHeading (max_height - 1)) Any (λ h. IsStatement true) (λ h s. for_loop x.place h.0 h.1 h.2 s) (LowStatement max_height) Follow
         (λ h s t u f. omega (arith, f))
         (λ h s t m u st. any_stops (Follow (for_loop x.place h.0 h.1 h.2 s)) t m st)
         (λ h s u. (empty origin, lone signs.Semicolon, refl, λ f. omega (arith, f, two)))
-        m (steps.heading (room - 1) m) _ (heading_reads (room - 1) (omega (arith, two)) m en2) (λ h r is g.
+        m (steps.heading (max_height - 1) m) _ (heading_reads (max_height - 1) (omega (arith, two)) m en2) (λ h r is g.
         let low = g.fits in
-        made (IsStatement true) (LowStatement (room - 1)) Follow (λ s. for_loop x.place h.0 h.1 h.2 s) (LowStatement room) Follow
+        made (IsStatement true) (LowStatement (max_height - 1)) Follow (λ s. for_loop x.place h.0 h.1 h.2 s) (LowStatement max_height) Follow
         (λ s f. omega (arith, f)) (λ s f. omega (arith, f, low, two)) (λ s m st. follow_through (for_loop x.place h.0 h.1 h.2 s) s m (λ c. c) st)
         r (inner r) (reads_inner r (good_ended g en2))))
 
@@ -170,9 +187,12 @@ module _ (h : ℕ) (inside : Bool) (inner : Inner)
     before_close a [] st = st
     before_close a (y ∷ m) st = λ k. let f : kinds.Sign signs.RightBrace ≡ kinds.Sign signs.Else = sym st ∙ k in cc
 
-    all_reads : (w : List Token) → IsEnded w → Reads (Made (λ zs. [] ++ zs) (λ zs ts. Unit {0} × AreAll (IsStatement inside) zs ts)) (LowStatements h) (λ zs x. Close x) w (listed (λ found w. at_sign signs.RightBrace w) inner [] w)
+    all_reads : (w : List Token) → IsEnded w
+        → Reads (Made (λ zs. [] ++ zs) (λ zs ts. Unit {0} × AreAll (IsStatement inside) zs ts)) (LowStatements h) (λ zs x. Close x) w
+        (listed (λ found w. at_sign signs.RightBrace w) inner [] w)
     all_reads w en =
-        listed_reads (IsStatement inside) (LowStatement h) Follow (LowStatements h) Close (λ ss. Unit {0}) (λ found w. at_sign signs.RightBrace w) inner reads_inner
+        listed_reads (IsStatement inside) (LowStatement h) Follow (LowStatements h) Close (λ ss. Unit {0})
+        (λ found w. at_sign signs.RightBrace w) inner reads_inner
         (low_part h) (low_more h) after_statement before_close (statement_some inside)
         (λ found x m t a zs s m' m2 b v eq. no_starter x signs.RightBrace (is_sign-true signs.RightBrace x t) refl (starts inside a s m' m2 x v eq))
         (λ found x m t e. is_sign-false signs.RightBrace x t e) (λ found x m a t b. tt)
@@ -184,15 +204,19 @@ module _ (h : ℕ) (inside : Bool) (inner : Inner)
     abbrev pub Filled : List StatementTree × Unit {0} → Phrase
     Filled = Both Statements (λ ss (u : Unit {0}). sign signs.RightBrace)
 
-    statements_reads : (w : List Token) → IsEnded w → Reads Statements (LowStatements h) (λ zs x. Close x) w (listed (λ found w. at_sign signs.RightBrace w) inner [] w)
+    statements_reads : (w : List Token) → IsEnded w
+        → Reads Statements (LowStatements h) (λ zs x. Close x) w (listed (λ found w. at_sign signs.RightBrace w) inner [] w)
     statements_reads w en =
-        reads_same (Made (λ zs. [] ++ zs) (λ zs ts. Unit {0} × AreAll (IsStatement inside) zs ts)) Statements (LowStatements h) (λ zs x. Close x) (λ zs x. Close x)
+        reads_same (Made (λ zs. [] ++ zs) (λ zs ts. Unit {0} × AreAll (IsStatement inside) zs ts)) Statements (LowStatements h) (λ zs x. Close x)
+        (λ zs x. Close x)
         (λ c s v. subst (λ z. Statements z s) (sym v.1) (all_up inside v.0 s v.2.1))
         (λ c s v. (c, refl, (tt, all_down inside c s v)))
         (λ c m st. st) w _ (all_reads w en)
 
     -- statements and their closing brace
-    pub braced_reads : (w : List Token) → IsEnded w → Reads (Made (λ (v : List StatementTree × Unit {0}). v.0) (Both (λ ss ts. AreStatements inside (statements_of ss) ts) (λ ss (u : Unit {0}). sign signs.RightBrace))) (LowStatements h) Any w (braced inner w)
+    pub braced_reads : (w : List Token) → IsEnded w
+        → Reads (Made (λ (v : List StatementTree × Unit {0}). v.0)
+        (Both (λ ss ts. AreStatements inside (statements_of ss) ts) (λ ss (u : Unit {0}). sign signs.RightBrace))) (LowStatements h) Any w (braced inner w)
     braced_reads w en =
         seq Statements (LowStatements h) (λ zs x. Close x) (λ ss (u : Unit {0}). sign signs.RightBrace) (λ ss u. ss) (LowStatements h) Any
         (λ ss u t v f. f)
@@ -201,13 +225,14 @@ module _ (h : ℕ) (inside : Bool) (inner : Inner)
         w (listed (λ found w. at_sign signs.RightBrace w) inner [] w) _ (statements_reads w en) (λ ss r is g.
         sign_end signs.RightBrace ss (LowStatements h) g.fits r (good_ended g en))
 
-module _ (room : ℕ) (one : 1 ≤ room) (inside : Bool) (inner : Inner)
-    (reads_inner : (w : List Token) → IsEnded w → Reads (IsStatement inside) (LowStatement (room - 1)) Follow w (inner w))
+module _ (max_height : ℕ) (one : 1 ≤ max_height) (inside : Bool) (inner : Inner)
+    (reads_inner : (w : List Token) → IsEnded w → Reads (IsStatement inside) (LowStatement (max_height - 1)) Follow w (inner w))
   where
     abbrev In : List StatementTree × Unit {0} → Phrase
     In = Both (λ ss ts. AreStatements inside (statements_of ss) ts) (λ ss (u : Unit {0}). sign signs.RightBrace)
 
-    block_down : (c : StatementTree) (s : List Token) → family_of c ≡ 0 → IsStatement inside c s → (p : Span) × (b : List StatementTree × Unit {0}) × (c ≡ block p (statements_of b.0)) × (sign_at p signs.LeftBrace then In b) s
+    block_down : (c : StatementTree) (s : List Token) → family_of c ≡ 0 → IsStatement inside c s
+        → (p : Span) × (b : List StatementTree × Unit {0}) × (c ≡ block p (statements_of b.0)) × (sign_at p signs.LeftBrace then In b) s
     block_down (block p ss) s f v = (
       p,
       (listed_of ss, tt),
@@ -216,15 +241,18 @@ module _ (room : ℕ) (one : 1 ≤ room) (inside : Bool) (inner : Inner)
     )
     block_down c s f v = absurd (omega (arith, f))
 
-    pub block_reads : (x : Token) (m : List Token) → x.kind ≡ kinds.Sign signs.LeftBrace → family (leader_of inside x) ≡ 0 → IsEnded (x ∷ m) → Reads (IsStatement inside) (LowStatement room) Follow (x ∷ m) (braced inner m >>= λ ss. Ok (block x.place (statements_of ss.0), ss.1))
+    pub block_reads : (x : Token) (m : List Token) → x.kind ≡ kinds.Sign signs.LeftBrace → family (leader_of inside x) ≡ 0 → IsEnded (x ∷ m)
+        → Reads (IsStatement inside) (LowStatement max_height) Follow (x ∷ m) (braced inner m >>= λ ss. Ok (block x.place (statements_of ss.0), ss.1))
     block_reads x m k fam en =
-        keyword_reads inside room signs.LeftBrace 0 In (λ p b. block p (statements_of b.0)) Any refl (λ p b s v. v) block_down follow_any
+        keyword_reads inside max_height signs.LeftBrace 0 In (λ p b. block p (statements_of b.0)) Any refl (λ p b s v. v) block_down follow_any
         (λ p. (([], tt), lone signs.RightBrace, ([], lone signs.RightBrace, refl, refl, (origin, refl)), omega (arith, one)))
         x m _ k fam en (λ en2.
-        reads_same (Made (λ ss. block x.place (statements_of ss)) (Made (λ (v : List StatementTree × Unit {0}). v.0) In)) (Made (λ b. block x.place (statements_of b.0)) In) (LowStatement room) Any Any
+        reads_same (Made (λ ss. block x.place (statements_of ss)) (Made (λ (v : List StatementTree × Unit {0}). v.0) In))
+        (Made (λ b. block x.place (statements_of b.0)) In) (LowStatement max_height) Any Any
         (λ c s v. (v.2.0, v.1 ∙ ap (λ ss. block x.place (statements_of ss)) v.2.1, v.2.2))
         (λ c s v. (v.0.0, v.1, (v.0, refl, v.2)))
         (λ c m st. st) m _
-        (made (Made (λ (v : List StatementTree × Unit {0}). v.0) In) (LowStatements (room - 1)) Any (λ ss. block x.place (statements_of ss)) (LowStatement room) Any
+        (made (Made (λ (v : List StatementTree × Unit {0}). v.0) In) (LowStatements (max_height - 1)) Any (λ ss. block x.place (statements_of ss))
+        (LowStatement max_height) Any
         (λ ss f. omega (arith, f)) (λ ss f. omega (arith, f, one)) (λ ss m st. any_stops (λ y. Unit {0}) [] m st)
-        m (braced inner m) (braced_reads (room - 1) inside inner reads_inner m en2)))
+        m (braced inner m) (braced_reads (max_height - 1) inside inner reads_inner m en2)))

@@ -1,12 +1,13 @@
 -- Readings of expressions in their places, and of declarations.
-use Rattle.std.proofs.Common.{◌≡◌, ℕ, suc, ◌<◌, ◌≤◌, List, [], ◌∷◌, ◌++◌, refl, sym, ap, ◌∙◌, subst, Ok, Err, Bool, true, false, cond, Option, Some, None, arith}
+use Rattle.std.proofs.Common.{◌≡◌, ℕ, suc, ◌<◌, ◌≤◌, List, [], ◌∷◌, ◌++◌, refl, sym, ap, ◌∙◌, subst, Ok, Err, Bool, true, false, cond, Option, Some}
+use Rattle.std.proofs.Common.{None, arith}
 use Rattle.std.specs.Prelude.{nat_eq}
 use Rattle.std.proofs.lemmas.Bool.{eqb-true, eqb-false}
 use Rattle.sc_text.specs.declared.span.Span.{Span}
 use Rattle.secrec_lexer.specs.declared.sign.Sign.{Sign}
 use Rattle.secrec_lexer.specs.declared.sign.Sign.TheVariants as signs
-use Rattle.secrec_lexer.specs.declared.token.Kind.{Kind}
-use Rattle.secrec_lexer.specs.declared.token.Kind.TheVariants as kinds
+use Rattle.secrec_lexer.specs.declared.token.TokenKind.{TokenKind}
+use Rattle.secrec_lexer.specs.declared.token.TokenKind.TheVariants as kinds
 use Rattle.secrec_lexer.specs.declared.token.Token.{Token}
 use Rattle.secrec_lexer.specs.Tokens.{is_sign, IsEnded}
 use Rattle.secrec_ast.specs.declared.statement.Identifier.{Identifier}
@@ -14,7 +15,7 @@ use Rattle.secrec_ast.specs.declared.statement.DeclaredType.{DeclaredType}
 use Rattle.secrec_ast.specs.Tree.{Tree}
 use Rattle.secrec_ast.specs.Statements.{DeclarationTree}
 use Rattle.secrec_ast.specs.Heights.{height, optional_height, declaration_height}
-use Rattle.expression_parser.specs.declared.problem.Problem.TheVariants.{TooHigh}
+use Rattle.expression_parser.specs.declared.problem.ParseProblem.TheVariants.{TooHigh}
 use Rattle.expression_parser.specs.Phrases.{Phrase, token, sign, ◌then◌}
 use Rattle.expression_parser.specs.Grammar.{IsExpression, loosest}
 use Rattle.expression_parser.specs.Follow.{goes_on, Free}
@@ -25,8 +26,8 @@ use Rattle.expression_parser.proofs.Tokens.{Any, All, origin, any_stops, good_en
 use Rattle.expression_parser.proofs.Nodes.{Low, tall, leaf, leaf_token}
 use Rattle.expression_parser.proofs.Levels.{at_most_reads}
 use Rattle.secrec_parser.specs.Grammar.{identifier, parenthesised, bracketed, initialiser, optional, IsType, IsDeclaration}
-use Rattle.secrec_parser.specs.Steps.{operand, at_sign, size, optional_operand, declared_type, declaration_step}
-use Rattle.secrec_parser.specs.Steps as steps
+use Rattle.secrec_parser.specs.inner.Steps.{operand, at_sign, size, optional_operand, declared_type, declaration_step}
+use Rattle.secrec_parser.specs.inner.Steps as steps
 use Rattle.secrec_parser.proofs.Made.{Made, Both, reads_same, seq, made, sign_seq, sign_end}
 use Rattle.secrec_parser.proofs.Heads.{some_reads, none_reads, optional_high}
 use Rattle.secrec_parser.proofs.TypeReadings.{is_one, NoBracket, lone, type_reads, identifier_reads}
@@ -43,7 +44,8 @@ abbrev pub Before : {C : Type 0} → Sign → C → Token → Type 0
 Before s c x = x.kind ≡ kinds.Sign s
 
 -- what begins with a sign may stand where that sign may
-pub sign_first : (F : Token → Type 0) (s : Sign) (P : Phrase) (t m : List Token) → ((q : Span) → F (token q (kinds.Sign s))) → (sign s then P) t → Stops F (t ++ m)
+pub sign_first : (F : Token → Type 0) (s : Sign) (P : Phrase) (t m : List Token) → ((q : Span) → F (token q (kinds.Sign s))) → (sign s then P) t
+    → Stops F (t ++ m)
 sign_first F s P t m f v =
     let q = v.3 in
     subst (λ l. Stops F (l ++ m)) (sym (v.2 ∙ ap (λ l. l ++ v.1) q.1)) (f q.0)
@@ -70,9 +72,10 @@ module _ (first last : Sign) (free : (e : Tree) (q : Span) → Free loosest e (t
   Closed : Tree × Unit {0} → Phrase
   Closed = Both (IsExpression loosest) (λ e (u : Unit {0}). sign last)
 
-  pub between_reads : 0 < h → (w : List Token) → IsEnded w → Reads Between (Low h) Any w (expect first w >>= λ a. operand h a.1 >>= λ e. expect last e.1 >>= λ b. Ok (e.0, b.1))
+  pub between_reads : 0 < h → (w : List Token) → IsEnded w
+      → Reads Between (Low h) Any w (expect first w >>= λ a. operand h a.1 >>= λ e. expect last e.1 >>= λ b. Ok (e.0, b.1))
   unfolding Closed
-  between_reads room w en =
+  between_reads max_height w en =
       reads_same (Made (λ (v : Tree × Unit {0}). v.0) (λ v. sign first then Closed v)) Between (Low h) Any Any
       (λ c s v. subst (λ z. Between z s) (sym v.1) v.2)
       (λ c s v. ((c, tt), refl, v))
@@ -114,31 +117,47 @@ pub size_reads : (h : ℕ) (w : List Token) → IsEnded w → Reads (optional pa
 size_reads h [] en = cc
 size_reads h (x ∷ m) en = go (is_sign signs.LeftParenthesis x) refl
   where
-    some : is_sign signs.LeftParenthesis x ≡ true → (b : Bool) → nat_eq h 0 ≡ b → Reads (optional parenthesised) (LowOption h) NoParenthesis (x ∷ m) (cond b (Err (TooHigh, x ∷ m)) (steps.parenthesised h (x ∷ m) >>= λ e. Ok (Some e.0, e.1)))
+    some : is_sign signs.LeftParenthesis x ≡ true → (b : Bool) → nat_eq h 0 ≡ b
+        → Reads (optional parenthesised) (LowOption h) NoParenthesis (x ∷ m)
+        (cond b (Err (TooHigh, x ∷ m)) (steps.parenthesised h (x ∷ m) >>= λ e. Ok (Some e.0, e.1)))
     some t true z =
         let n = eqb-true h 0 z in
         optional_high parenthesised (LowOption h) NoParenthesis x m (clash (is_sign signs.LeftParenthesis x) t)
-        (λ e l. no_height e (omega arith))
-        (leaf, leaf_token ∷ lone signs.RightParenthesis, (x ∷ [], leaf_token ∷ lone signs.RightParenthesis, refl, is_one (kinds.Sign signs.LeftParenthesis) x (is_sign-true signs.LeftParenthesis x t), (leaf_token ∷ [], lone signs.RightParenthesis, refl, refl, (origin, refl))))
+        (λ e l. no_height e (omega arith)) (
+          leaf,
+          leaf_token ∷ lone signs.RightParenthesis,
+          (
+            x ∷ [],
+            leaf_token ∷ lone signs.RightParenthesis,
+            refl,
+            is_one (kinds.Sign signs.LeftParenthesis) x (is_sign-true signs.LeftParenthesis x t),
+            (leaf_token ∷ [], lone signs.RightParenthesis, refl, refl, (origin, refl)),
+          ),
+        )
     some t false z =
         let n = eqb-false h 0 z in
-        some_reads parenthesised (Low h) Any (LowOption h) NoParenthesis (λ e l. l) (λ e l. l) (λ e m' st. any_stops (λ y. is_sign signs.LeftParenthesis y ≡ false) [] m' st) x m (steps.parenthesised h (x ∷ m))
+        some_reads parenthesised (Low h) Any (LowOption h) NoParenthesis (λ e l. l) (λ e l. l)
+        (λ e m' st. any_stops (λ y. is_sign signs.LeftParenthesis y ≡ false) [] m' st) x m (steps.parenthesised h (x ∷ m))
         (clash (is_sign signs.LeftParenthesis x) t) (parenthesised_reads h (omega arith) (x ∷ m) en)
 
-    go : (b : Bool) → is_sign signs.LeftParenthesis x ≡ b → Reads (optional parenthesised) (LowOption h) NoParenthesis (x ∷ m) (cond b (cond (nat_eq h 0) (Err (TooHigh, x ∷ m)) (steps.parenthesised h (x ∷ m) >>= λ e. Ok (Some e.0, e.1))) (Ok (None, x ∷ m)))
+    go : (b : Bool) → is_sign signs.LeftParenthesis x ≡ b
+        → Reads (optional parenthesised) (LowOption h) NoParenthesis (x ∷ m)
+        (cond b (cond (nat_eq h 0) (Err (TooHigh, x ∷ m)) (steps.parenthesised h (x ∷ m) >>= λ e. Ok (Some e.0, e.1))) (Ok (None, x ∷ m)))
     go true t = some t (nat_eq h 0) refl
     go false t =
         none_reads parenthesised (LowOption h) NoParenthesis x m (omega arith)
-        (λ e s m' m2 v eq. is_sign-false signs.LeftParenthesis x t (sign_head signs.LeftParenthesis (IsExpression loosest e then sign signs.RightParenthesis) s m' m2 x v eq))
+        (λ e s m' m2 v eq. is_sign-false signs.LeftParenthesis x t
+        (sign_head signs.LeftParenthesis (IsExpression loosest e then sign signs.RightParenthesis) s m' m2 x v eq))
 
 -- the value behind `=`, in front of this sign
-module _ (h : ℕ) (end : Sign) (free : (e : Tree) (x : Token) → x.kind ≡ kinds.Sign end → Free loosest e x) (no_assign : (x : Token) → x.kind ≡ kinds.Sign end → is_sign signs.Assign x ≡ false) where
+module _ (h : ℕ) (end : Sign) (free : (e : Tree) (x : Token) → x.kind ≡ kinds.Sign end → Free loosest e x)
+    (no_assign : (x : Token) → x.kind ≡ kinds.Sign end → is_sign signs.Assign x ≡ false) where
   free_stop : (e : Tree) (m : List Token) → Stops (Before end e) m → Stops (Free loosest e) m
   free_stop e [] st = st
   free_stop e (y ∷ m) st = free e y st
 
   equals_reads : 0 < h → (w : List Token) → IsEnded w → Reads initialiser (Low h) (Before end) w (expect signs.Assign w >>= λ a. operand h a.1)
-  equals_reads room w en =
+  equals_reads max_height w en =
       reads_same (Made (λ (e : Tree). e) (λ e. sign signs.Assign then IsExpression loosest e)) initialiser (Low h) (Before end) (Before end)
       (λ c s v. subst (λ z. initialiser z s) (sym v.1) v.2)
       (λ c s v. (c, refl, v))
@@ -156,7 +175,9 @@ module _ (h : ℕ) (end : Sign) (free : (e : Tree) (x : Token) → x.kind ≡ ki
   initialiser_reads [] en = cc
   initialiser_reads (x ∷ m) en = go (is_sign signs.Assign x) refl
     where
-      some : is_sign signs.Assign x ≡ true → (b : Bool) → nat_eq h 0 ≡ b → Reads (optional initialiser) (LowOption h) (Before end) (x ∷ m) (cond b (Err (TooHigh, x ∷ m)) (expect signs.Assign (x ∷ m) >>= λ a. operand h a.1 >>= λ e. Ok (Some e.0, e.1)))
+      some : is_sign signs.Assign x ≡ true → (b : Bool) → nat_eq h 0 ≡ b
+          → Reads (optional initialiser) (LowOption h) (Before end) (x ∷ m)
+          (cond b (Err (TooHigh, x ∷ m)) (expect signs.Assign (x ∷ m) >>= λ a. operand h a.1 >>= λ e. Ok (Some e.0, e.1)))
       some t true z =
           let n = eqb-true h 0 z in
           optional_high initialiser (LowOption h) (Before end) x m (no_sign None x t)
@@ -164,15 +185,20 @@ module _ (h : ℕ) (end : Sign) (free : (e : Tree) (x : Token) → x.kind ≡ ki
           (leaf, leaf_token ∷ [], (x ∷ [], leaf_token ∷ [], refl, is_one (kinds.Sign signs.Assign) x (is_sign-true signs.Assign x t), refl))
       some t false z =
           let n = eqb-false h 0 z in
-          subst (Reads (optional initialiser) (LowOption h) (Before end) (x ∷ m)) (bind_bind (expect signs.Assign (x ∷ m)) (λ a. operand h a.1) (λ e. Ok (Some e.0, e.1)))
-          (some_reads initialiser (Low h) (Before end) (LowOption h) (Before end) (λ e l. l) (λ e l. l) (λ e m' st. same e m' st) x m (expect signs.Assign (x ∷ m) >>= λ a. operand h a.1)
+          subst (Reads (optional initialiser) (LowOption h) (Before end) (x ∷ m))
+          (bind_bind (expect signs.Assign (x ∷ m)) (λ a. operand h a.1) (λ e. Ok (Some e.0, e.1)))
+          (some_reads initialiser (Low h) (Before end) (LowOption h) (Before end) (λ e l. l) (λ e l. l) (λ e m' st. same e m' st) x m
+          (expect signs.Assign (x ∷ m) >>= λ a. operand h a.1)
           (no_sign None x t) (equals_reads (omega arith) (x ∷ m) en))
         where
           same : (e : Tree) (m : List Token) → Stops (λ y. y.kind ≡ kinds.Sign end) m → Stops (Before end e) m
           same e [] st = st
           same e (y ∷ m) st = st
 
-      go : (b : Bool) → is_sign signs.Assign x ≡ b → Reads (optional initialiser) (LowOption h) (Before end) (x ∷ m) (cond b (cond (nat_eq h 0) (Err (TooHigh, x ∷ m)) (expect signs.Assign (x ∷ m) >>= λ a. operand h a.1 >>= λ e. Ok (Some e.0, e.1))) (Ok (None, x ∷ m)))
+      go : (b : Bool) → is_sign signs.Assign x ≡ b
+          → Reads (optional initialiser) (LowOption h) (Before end) (x ∷ m)
+          (cond b (cond (nat_eq h 0) (Err (TooHigh, x ∷ m)) (expect signs.Assign (x ∷ m) >>= λ a. operand h a.1 >>= λ e. Ok (Some e.0, e.1)))
+          (Ok (None, x ∷ m)))
       go true t = some t (nat_eq h 0) refl
       go false t =
           none_reads initialiser (LowOption h) (Before end) x m (omega arith)
@@ -186,7 +212,7 @@ LowDeclaration h d = declaration_height d ≤ h
 abbrev pub Semicolon : {C : Type 0} → C → Token → Type 0
 Semicolon c x = x.kind ≡ kinds.Sign signs.Semicolon
 
-pub kind_free : (e : Tree) (k : Kind) (x : Token) → goes_on loosest k ≡ false → x.kind ≡ k → Free loosest e x
+pub kind_free : (e : Tree) (k : TokenKind) (x : Token) → goes_on loosest k ≡ false → x.kind ≡ k → Free loosest e x
 kind_free e k x f is = ap (goes_on loosest) is ∙ f
 
 pub semicolon_free : (e : Tree) (x : Token) → x.kind ≡ kinds.Sign signs.Semicolon → Free loosest e x
@@ -195,7 +221,7 @@ semicolon_free e x k = kind_free e (kinds.Sign signs.Semicolon) x refl k
 pub parenthesis_free : (e : Tree) (x : Token) → x.kind ≡ kinds.Sign signs.RightParenthesis → Free loosest e x
 parenthesis_free e x k = kind_free e (kinds.Sign signs.RightParenthesis) x refl k
 
-other_sign : (s : Sign) (x : Token) (k : Kind) → x.kind ≡ k → is_sign s (token x.place k) ≡ false → is_sign s x ≡ false
+other_sign : (s : Sign) (x : Token) (k : TokenKind) → x.kind ≡ k → is_sign s (token x.place k) ≡ false → is_sign s x ≡ false
 other_sign s x k e f = ap (λ z. is_sign s (token x.place z)) e ∙ f
 
 pub semicolon_assign : (x : Token) → x.kind ≡ kinds.Sign signs.Semicolon → is_sign signs.Assign x ≡ false
@@ -213,7 +239,8 @@ some_name = record { place = origin; text = [] }
 abbrev pub name_token : Token
 name_token = token origin (kinds.Name [])
 
-size_first : (s v : Option Tree) (t m : List Token) → optional initialiser v t → Stops (λ x. x.kind ≡ kinds.Sign signs.Semicolon) m → Stops (NoParenthesis s) (t ++ m)
+size_first : (s v : Option Tree) (t m : List Token) → optional initialiser v t → Stops (λ x. x.kind ≡ kinds.Sign signs.Semicolon) m
+    → Stops (NoParenthesis s) (t ++ m)
 size_first s None t [] v st = absurd st
 size_first s None t (y ∷ m) v st =
     subst (λ l. Stops (NoParenthesis s) (l ++ y ∷ m)) (sym v) (other_sign signs.LeftParenthesis y (kinds.Sign signs.Semicolon) st refl)
@@ -239,7 +266,8 @@ declaration_reads h w en =
     (λ x v s m u st. any_stops (λ y. y.kind ≡ kinds.Sign signs.Semicolon) s m st)
     (λ x s u. ((None, None), [], ([], [], refl, refl, refl), λ f. omega arith))
     r (expressions.identifier r) _ (identifier_reads r (good_ended g en)) (λ x r2 is2 g2.
-    seq (optional parenthesised) (LowOption h) NoParenthesis (λ s. optional initialiser) (λ s v. declared_as (t, (x, (s, v)))) (LowDeclaration (suc h)) Semicolon
+    seq (optional parenthesised) (LowOption h) NoParenthesis (λ s. optional initialiser) (λ s v. declared_as (t, (x, (s, v))))
+    (LowDeclaration (suc h)) Semicolon
     (λ s v ts u f. omega (arith, f))
     (λ s v ts m u st. size_first s v ts m u st)
     (λ s ts u. (None, [], refl, λ f. omega (arith, f)))

@@ -1,12 +1,13 @@
 -- Readings of the parentheses of a `for`, and of what may be left out before a semicolon.
-use Rattle.std.proofs.Common.{◌≡◌, ℕ, suc, ◌-◌, ◌≤◌, List, [], ◌∷◌, ◌++◌, ◌⊎◌, inl, inr, refl, sym, ap, ◌∙◌, subst, append_assoc, Ok, Err, Bool, true, false, cond, Option, Some, None, arith}
+use Rattle.std.proofs.Common.{◌≡◌, ℕ, suc, ◌-◌, ◌≤◌, List, [], ◌∷◌, ◌++◌, ◌⊎◌, inl, inr, refl, sym, ap, ◌∙◌, subst, append_assoc, Ok, Err, Bool, true}
+use Rattle.std.proofs.Common.{false, cond, Option, Some, None, arith}
 use Rattle.std.specs.Prelude.{nat_lt, max}
 use Rattle.std.proofs.lemmas.Bool.{ltb-true, ltb-false}
 use Rattle.sc_text.specs.declared.span.Span.{Span}
 use Rattle.secrec_lexer.specs.declared.sign.Sign.{Sign}
 use Rattle.secrec_lexer.specs.declared.sign.Sign.TheVariants as signs
-use Rattle.secrec_lexer.specs.declared.token.Kind.{Kind}
-use Rattle.secrec_lexer.specs.declared.token.Kind.TheVariants as kinds
+use Rattle.secrec_lexer.specs.declared.token.TokenKind.{TokenKind}
+use Rattle.secrec_lexer.specs.declared.token.TokenKind.TheVariants as kinds
 use Rattle.secrec_lexer.specs.declared.token.Token.{Token}
 use Rattle.secrec_lexer.specs.Tokens.{is_sign, IsEnded}
 use Rattle.secrec_ast.specs.declared.expression.DataType.TheVariants as types
@@ -14,9 +15,10 @@ use Rattle.secrec_ast.specs.declared.statement.Identifier.{Identifier}
 use Rattle.secrec_ast.specs.declared.statement.Domain.TheVariants as domains
 use Rattle.secrec_ast.specs.declared.statement.DeclaredType.{DeclaredType}
 use Rattle.secrec_ast.specs.Tree.{Tree}
-use Rattle.secrec_ast.specs.Statements.{DeclarationTree, TargetTree, AssignmentTree, StartTree, starts_with_nothing, starts_with_declaration, starts_with_assignment, StepTree, steps_by_nothing, steps_by_assignment, steps_by_expression}
+use Rattle.secrec_ast.specs.Statements.{DeclarationTree, TargetTree, AssignmentTree, StartTree, starts_with_nothing, starts_with_declaration}
+use Rattle.secrec_ast.specs.Statements.{starts_with_assignment, StepTree, steps_by_nothing, steps_by_assignment, steps_by_expression}
 use Rattle.secrec_ast.specs.Heights.{optional_height, assignment_height, start_height, step_height}
-use Rattle.expression_parser.specs.declared.problem.Problem.TheVariants.{Unexpected, TooHigh}
+use Rattle.expression_parser.specs.declared.problem.ParseProblem.TheVariants.{Unexpected, TooHigh}
 use Rattle.expression_parser.specs.Phrases.{Phrase, token, one, sign, ◌then◌}
 use Rattle.expression_parser.specs.Grammar.{IsExpression, loosest}
 use Rattle.expression_parser.specs.Follow.{Free}
@@ -29,13 +31,16 @@ use Rattle.expression_parser.proofs.Nodes.{Low, tall, leaf, leaf_token, first_to
 use Rattle.secrec_parser.specs.declared.assignment.Update.{Update}
 use Rattle.secrec_parser.specs.declared.assignment.Update.TheVariants as updates
 use Rattle.secrec_parser.specs.Grammar.{identifier, optional, IsDeclaration, IsAssignment, IsStart, IsStep, heading}
-use Rattle.secrec_parser.specs.Steps.{operand, optional_operand, is_type, is_named_type, declares, update_of, declaration_step, assignment_step, target_index, assigned, assigned_by, ActionTree, assigns, evaluates, action, start_step, step_of, last_step, start_part, test_part, last_part}
-use Rattle.secrec_parser.specs.Steps as steps
+use Rattle.secrec_parser.specs.inner.Steps.{operand, optional_operand, is_type, is_named_type, declares, update_of, declaration_step, assignment_step}
+use Rattle.secrec_parser.specs.inner.Steps.{target_index, assigned, assigned_by, ActionTree, assigns, evaluates, action, start_step, step_of}
+use Rattle.secrec_parser.specs.inner.Steps.{last_step, start_part, test_part, last_part}
+use Rattle.secrec_parser.specs.inner.Steps as steps
 use Rattle.secrec_parser.proofs.Clashes.{false_true}
 use Rattle.secrec_parser.proofs.Made.{Made, Both, reads_same, seq, made, sign_seq, sign_end}
 use Rattle.secrec_parser.proofs.Heads.{nothing_reads, unexpected, some_reads, none_reads}
 use Rattle.secrec_parser.proofs.TypeReadings.{is_one, lone}
-use Rattle.secrec_parser.proofs.Declarations.{operand_reads, Before, last_sign_first, clash, LowOption, LowDeclaration, Semicolon, semicolon_free, parenthesis_free, declaration_reads, some_name, name_token}
+use Rattle.secrec_parser.proofs.Declarations.{operand_reads, Before, last_sign_first, clash, LowOption, LowDeclaration, Semicolon, semicolon_free}
+use Rattle.secrec_parser.proofs.Declarations.{parenthesis_free, declaration_reads, some_name, name_token}
 use Rattle.secrec_parser.proofs.Assignments.{alive_by, gets_leaf, equals_token, LowAssignment, assignment_reads, IsAction, LowAction, action_reads}
 use Rattle.secrec_parser.proofs.Leaders.{begins_type, declared_kind, front}
 use Rattle.secrec_parser.proofs.Names.{declaration_second, assignment_second, second_fault}
@@ -50,7 +55,8 @@ optional_reads h (x ∷ m) en = go (is_sign signs.Semicolon x) refl
     stop e [] st = st
     stop e (y ∷ m) st = semicolon_free e y st
 
-    go : (b : Bool) → is_sign signs.Semicolon x ≡ b → Reads (optional (IsExpression loosest)) (LowOption h) Semicolon (x ∷ m) (cond b (Ok (None, x ∷ m)) (operand h (x ∷ m) >>= λ e. Ok (Some e.0, e.1)))
+    go : (b : Bool) → is_sign signs.Semicolon x ≡ b
+        → Reads (optional (IsExpression loosest)) (LowOption h) Semicolon (x ∷ m) (cond b (Ok (None, x ∷ m)) (operand h (x ∷ m) >>= λ e. Ok (Some e.0, e.1)))
     go true t =
         none_reads (IsExpression loosest) (LowOption h) Semicolon x m (omega arith)
         (λ e s m' m2 v eq.
@@ -70,7 +76,8 @@ optional_low h = omega arith
 pub test_reads : (h : ℕ) (w : List Token) → IsEnded w → Reads TestPart (LowOption h) Any w (test_part h w)
 unfolding test_part
 test_reads h w en =
-    reads_same (Made (λ (v : Option Tree × Unit {0}). v.0) (Both (optional (IsExpression loosest)) (λ e (u : Unit {0}). sign signs.Semicolon))) TestPart (LowOption h) Any Any
+    reads_same (Made (λ (v : Option Tree × Unit {0}). v.0) (Both (optional (IsExpression loosest)) (λ e (u : Unit {0}). sign signs.Semicolon)))
+    TestPart (LowOption h) Any Any
     (λ c s v. subst (λ z. TestPart z s) (sym v.1) v.2)
     (λ c s v. ((c, tt), refl, v))
     (λ c m st. st) w _
@@ -82,7 +89,7 @@ test_reads h w en =
 
 -- The first part
 
-update_no_type : (k : Kind) (p : Span) (u : Update) → update_of (token p k) ≡ Some u → is_type (token p k) ≡ false
+update_no_type : (k : TokenKind) (p : Span) (u : Update) → update_of (token p k) ≡ Some u → is_type (token p k) ≡ false
 update_no_type (kinds.Sign signs.Uint64) p u e = cc
 update_no_type (kinds.Sign signs.Uint) p u e = cc
 update_no_type (kinds.Sign signs.Bool) p u e = cc
@@ -135,11 +142,17 @@ abbrev set_by : Token → List ℕ → AssignmentTree
 set_by x text = record { target = record { variable = record { place = x.place; text = text }; index = None }; value = leaf }
 
 is_set_by : (x : Token) (text : List ℕ) → x.kind ≡ kinds.Name text → IsAssignment (set_by x text) (x ∷ equals_token ∷ leaf_token ∷ [])
-is_set_by x text k =
-    (x ∷ [], equals_token ∷ leaf_token ∷ [], refl, (x ∷ [], [], refl, ap (λ z. token x.place z ∷ []) k, refl), (gets_leaf (record { variable = record { place = x.place; text = text }; index = None })).1)
+is_set_by x text k = (
+  x ∷ [],
+  equals_token ∷ leaf_token ∷ [],
+  refl,
+  (x ∷ [], [], refl, ap (λ z. token x.place z ∷ []) k, refl),
+  (gets_leaf (record { variable = record { place = x.place; text = text }; index = None })).1,
+)
 
 module _ (h : ℕ) (one : 1 ≤ h) where
-  declared_reads : (w : List Token) → IsEnded w → Reads (Made starts_with_declaration IsDeclaration) (LowStart h) Semicolon w (declaration_step (h - 1) w >>= λ d. Ok (starts_with_declaration d.0, d.1))
+  declared_reads : (w : List Token) → IsEnded w
+      → Reads (Made starts_with_declaration IsDeclaration) (LowStart h) Semicolon w (declaration_step (h - 1) w >>= λ d. Ok (starts_with_declaration d.0, d.1))
   declared_reads w en =
       made IsDeclaration (LowDeclaration (suc (h - 1))) Semicolon starts_with_declaration (LowStart h) Semicolon
       (λ d l. omega (arith, l)) (λ d l. omega (arith, l, one)) same w (declaration_step (h - 1) w) (declaration_reads (h - 1) w en)
@@ -148,7 +161,8 @@ module _ (h : ℕ) (one : 1 ≤ h) where
       same d [] st = st
       same d (y ∷ m) st = st
 
-  set_reads : 2 ≤ h → (w : List Token) → IsEnded w → Reads (Made starts_with_assignment IsAssignment) (LowStart h) Semicolon w (assignment_step h w >>= λ a. Ok (starts_with_assignment a.0, a.1))
+  set_reads : 2 ≤ h → (w : List Token) → IsEnded w
+      → Reads (Made starts_with_assignment IsAssignment) (LowStart h) Semicolon w (assignment_step h w >>= λ a. Ok (starts_with_assignment a.0, a.1))
   set_reads two w en =
       made IsAssignment (LowAssignment h) (Before signs.Semicolon) starts_with_assignment (LowStart h) Semicolon
       (λ a l. l) (λ a l. l) same w (assignment_step h w) (assignment_reads signs.Semicolon semicolon_free (λ p. refl) h two w en)
@@ -167,9 +181,11 @@ module _ (h : ℕ) (one : 1 ≤ h) where
   at_end c s m m2 x n st eq = subst (Stops (Semicolon c)) (ap (λ l. l ++ m) (sym n) ∙ eq) st
 
   -- a declaration that begins with a sign
-  signed_reads : (x : Token) (m : List Token) (s : Sign) → x.kind ≡ kinds.Sign s → is_sign signs.Semicolon x ≡ false → IsEnded (x ∷ m) → Reads IsStart (LowStart h) Semicolon (x ∷ m) (declaration_step (h - 1) (x ∷ m) >>= λ d. Ok (starts_with_declaration d.0, d.1))
+  signed_reads : (x : Token) (m : List Token) (s : Sign) → x.kind ≡ kinds.Sign s → is_sign signs.Semicolon x ≡ false → IsEnded (x ∷ m)
+      → Reads IsStart (LowStart h) Semicolon (x ∷ m) (declaration_step (h - 1) (x ∷ m) >>= λ d. Ok (starts_with_declaration d.0, d.1))
   signed_reads x m k is other en =
-      reads_as (Made starts_with_declaration IsDeclaration) IsStart (LowStart h) Semicolon Semicolon x declared_up down (λ c m' st. st) (x ∷ m) m _ refl (declared_reads (x ∷ m) en)
+      reads_as (Made starts_with_declaration IsDeclaration) IsStart (LowStart h) Semicolon Semicolon x declared_up down (λ c m' st. st)
+      (x ∷ m) m _ refl (declared_reads (x ∷ m) en)
     where
       down : (c : StartTree) (s m' m2 : List Token) → IsStart c s → Stops (Semicolon c) m' → s ++ m' ≡ x ∷ m2 → Made starts_with_declaration IsDeclaration c s
       down starts_with_nothing s m' m2 v st eq = absurd (is_sign-false signs.Semicolon x other (at_end starts_with_nothing s m' m2 x v st eq))
@@ -177,7 +193,8 @@ module _ (h : ℕ) (one : 1 ≤ h) where
       down (starts_with_assignment a) s m' m2 v st eq = absurd (no_start x k a.target.variable.text (assignment_head a s m' m2 x v eq) is)
 
   -- nothing that begins a first part
-  no_start_reads : (x : Token) (m : List Token) → is_sign signs.Semicolon x ≡ false → (begins_type x.kind ≡ true → ⊥) → ((text : List ℕ) → x.kind ≡ kinds.Name text → ⊥) → Bad IsStart (LowStart h) Semicolon (x ∷ m) Unexpected (x ∷ m)
+  no_start_reads : (x : Token) (m : List Token) → is_sign signs.Semicolon x ≡ false → (begins_type x.kind ≡ true → ⊥)
+      → ((text : List ℕ) → x.kind ≡ kinds.Name text → ⊥) → Bad IsStart (LowStart h) Semicolon (x ∷ m) Unexpected (x ∷ m)
   no_start_reads x m other no_type no_name = unexpected IsStart (LowStart h) Semicolon x m never
     where
       never : (c : StartTree) (s m' m2 : List Token) → IsStart c s → Stops (Semicolon c) m' → s ++ m' ≡ x ∷ m2 → ⊥
@@ -189,14 +206,22 @@ module _ (h : ℕ) (one : 1 ≤ h) where
   named_end x text k f = let g : kinds.Name text ≡ kinds.Sign signs.Semicolon = sym k ∙ f in cc
 
   -- a declaration that begins with a name
-  named_declared : (x y : Token) (n : List Token) (text : List ℕ) → x.kind ≡ kinds.Name text → is_type y ≡ true → IsEnded (x ∷ y ∷ n) → Reads IsStart (LowStart h) Semicolon (x ∷ y ∷ n) (declaration_step (h - 1) (x ∷ y ∷ n) >>= λ d. Ok (starts_with_declaration d.0, d.1))
+  named_declared : (x y : Token) (n : List Token) (text : List ℕ) → x.kind ≡ kinds.Name text → is_type y ≡ true → IsEnded (x ∷ y ∷ n)
+      → Reads IsStart (LowStart h) Semicolon (x ∷ y ∷ n) (declaration_step (h - 1) (x ∷ y ∷ n) >>= λ d. Ok (starts_with_declaration d.0, d.1))
   named_declared x y n text k t en =
-      reads_peek (Made starts_with_declaration IsDeclaration) IsStart (LowStart h) Semicolon Semicolon x y declared_up down (λ c m' st. st)
-      (starts_with_declaration (declared_by x text), uint_token ∷ name_token ∷ [], semicolon_token, (declared_by x text, refl, is_declared_by x text k), one, refl)
+      reads_peek (Made starts_with_declaration IsDeclaration) IsStart (LowStart h) Semicolon Semicolon x y declared_up down (λ c m' st. st) (
+        starts_with_declaration (declared_by x text),
+        uint_token ∷ name_token ∷ [],
+        semicolon_token,
+        (declared_by x text, refl, is_declared_by x text k),
+        one,
+        refl,
+      )
       (λ c v. declaration_some v.0 v.2)
       (x ∷ y ∷ n) n _ refl (declared_reads (x ∷ y ∷ n) en)
     where
-      down : (c : StartTree) (s m' m2 : List Token) → IsStart c s → Stops (Semicolon c) m' → s ++ m' ≡ x ∷ y ∷ m2 → Made starts_with_declaration IsDeclaration c s
+      down : (c : StartTree) (s m' m2 : List Token) → IsStart c s → Stops (Semicolon c) m' → s ++ m' ≡ x ∷ y ∷ m2
+          → Made starts_with_declaration IsDeclaration c s
       down starts_with_nothing s m' m2 v st eq = absurd (named_end x text k (at_end starts_with_nothing s m' (y ∷ m2) x v st eq))
       down (starts_with_declaration d) s m' m2 v st eq = (d, refl, v)
       down (starts_with_assignment a) s m' m2 v st eq = absurd (no_second (assignment_second a s m' m2 x y v eq))
@@ -206,7 +231,8 @@ module _ (h : ℕ) (one : 1 ≤ h) where
           no_second (inr f) = let g = update_no_type y.kind y.place f.0 f.1 in cc
 
   -- an assignment
-  named_set : 2 ≤ h → (x y : Token) (n : List Token) (text : List ℕ) → x.kind ≡ kinds.Name text → is_type y ≡ false → IsEnded (x ∷ y ∷ n) → Reads IsStart (LowStart h) Semicolon (x ∷ y ∷ n) (assignment_step h (x ∷ y ∷ n) >>= λ a. Ok (starts_with_assignment a.0, a.1))
+  named_set : 2 ≤ h → (x y : Token) (n : List Token) (text : List ℕ) → x.kind ≡ kinds.Name text → is_type y ≡ false → IsEnded (x ∷ y ∷ n)
+      → Reads IsStart (LowStart h) Semicolon (x ∷ y ∷ n) (assignment_step h (x ∷ y ∷ n) >>= λ a. Ok (starts_with_assignment a.0, a.1))
   named_set two x y n text k t en =
       reads_peek (Made starts_with_assignment IsAssignment) IsStart (LowStart h) Semicolon Semicolon x y set_up down (λ c m' st. st)
       (starts_with_assignment (set_by x text), equals_token ∷ leaf_token ∷ [], semicolon_token, (set_by x text, refl, is_set_by x text k), two, refl)
@@ -233,7 +259,8 @@ module _ (x y : Token) (n : List Token) (text : List ℕ) (k : x.kind ≡ kinds.
   plain_is (starts_with_declaration d) s m m2 v l st eq = clash (is_type y) (declaration_second d s m m2 x y text v eq k) t
   plain_is (starts_with_assignment a) s m m2 v l st eq = tall_assignment a l
 
-  plain_never : (y.kind ≡ kinds.Sign signs.LeftBracket → ⊥) → update_of y ≡ None → (c : StartTree) (s m m2 : List Token) → IsStart c s → Stops (Semicolon c) m → s ++ m ≡ x ∷ y ∷ m2 → ⊥
+  plain_never : (y.kind ≡ kinds.Sign signs.LeftBracket → ⊥) → update_of y ≡ None → (c : StartTree) (s m m2 : List Token) → IsStart c s
+      → Stops (Semicolon c) m → s ++ m ≡ x ∷ y ∷ m2 → ⊥
   plain_never no_index no_update starts_with_nothing s m m2 v st eq =
       let f = subst (Stops (Semicolon starts_with_nothing)) (ap (λ l. l ++ m) (sym v) ∙ eq) st in
       let g : kinds.Name text ≡ kinds.Sign signs.Semicolon = sym k ∙ f in cc
@@ -263,7 +290,19 @@ module _ (x y : Token) (n : List Token) (text : List ℕ) (k : x.kind ≡ kinds.
       x ∷ y ∷ leaf_token ∷ lone signs.RightBracket,
       equals_token ∷ leaf_token ∷ [],
       refl,
-      (x ∷ [], y ∷ leaf_token ∷ lone signs.RightBracket, refl, name_here, (y ∷ [], leaf_token ∷ lone signs.RightBracket, refl, is_one (kinds.Sign signs.LeftBracket) y f, (leaf_token ∷ [], lone signs.RightBracket, refl, refl, (origin, refl)))),
+      (
+        x ∷ [],
+        y ∷ leaf_token ∷ lone signs.RightBracket,
+        refl,
+        name_here,
+        (
+          y ∷ [],
+          leaf_token ∷ lone signs.RightBracket,
+          refl,
+          is_one (kinds.Sign signs.LeftBracket) y f,
+          (leaf_token ∷ [], lone signs.RightBracket, refl, refl, (origin, refl)),
+        ),
+      ),
       inl (equals_token ∷ [], leaf_token ∷ [], refl, (origin, refl), refl),
     ),
   )
@@ -276,17 +315,24 @@ module _ (x y : Token) (n : List Token) (text : List ℕ) (k : x.kind ≡ kinds.
   plain_assigned : (u : Update) → update_of y ≡ Some u → Bad IsStart (LowStart 1) Semicolon (x ∷ y ∷ n) TooHigh (y ∷ n)
   plain_assigned u f = second_fault IsStart (LowStart 1) Semicolon x y n TooHigh plain_before plain_is (update_begun u f)
 
-  plain_by : (o : Option Update) → update_of y ≡ o → (y.kind ≡ kinds.Sign signs.LeftBracket → ⊥) → Reads IsStart (LowStart 1) Semicolon (x ∷ y ∷ n) (assigned_by 1 plain o y n >>= λ a. Ok (starts_with_assignment a.0, a.1))
+  plain_by : (o : Option Update) → update_of y ≡ o → (y.kind ≡ kinds.Sign signs.LeftBracket → ⊥)
+      → Reads IsStart (LowStart 1) Semicolon (x ∷ y ∷ n) (assigned_by 1 plain o y n >>= λ a. Ok (starts_with_assignment a.0, a.1))
   plain_by None f no_index =
       second_fault IsStart (LowStart 1) Semicolon x y n Unexpected plain_before (λ c s m m2 v al st eq. plain_never no_index f c s m m2 v st eq) tt
   plain_by (Some updates.Plain) f no_index = plain_assigned updates.Plain f
   plain_by (Some (updates.Compound op)) f no_index = plain_assigned (updates.Compound op) f
   plain_by (Some (updates.Step op)) f no_index = plain_assigned (updates.Step op) f
 
-  plain_reads : Reads IsStart (LowStart 1) Semicolon (x ∷ y ∷ n) (target_index 1 (y ∷ n) >>= λ i. assigned 1 (record { variable = record { place = x.place; text = text }; index = i.0 }) i.1 >>= λ a. Ok (starts_with_assignment a.0, a.1))
+  plain_reads : Reads IsStart (LowStart 1) Semicolon (x ∷ y ∷ n)
+      (target_index 1 (y ∷ n) >>= λ i. assigned 1 (record { variable = record { place = x.place; text = text }; index = i.0 }) i.1 >>= λ a. Ok
+      (starts_with_assignment a.0, a.1))
   plain_reads = go (is_sign signs.LeftBracket y) refl
     where
-      go : (b : Bool) → is_sign signs.LeftBracket y ≡ b → Reads IsStart (LowStart 1) Semicolon (x ∷ y ∷ n) (cond b (cond (nat_lt 1 3) (Err (TooHigh, y ∷ n)) (steps.bracketed (1 - 2) (y ∷ n) >>= λ e. Ok (Some e.0, e.1))) (Ok (None, y ∷ n)) >>= λ i. assigned 1 (record { variable = record { place = x.place; text = text }; index = i.0 }) i.1 >>= λ a. Ok (starts_with_assignment a.0, a.1))
+      go : (b : Bool) → is_sign signs.LeftBracket y ≡ b
+          → Reads IsStart (LowStart 1) Semicolon (x ∷ y ∷ n)
+          (cond b (cond (nat_lt 1 3) (Err (TooHigh, y ∷ n)) (steps.bracketed (1 - 2) (y ∷ n) >>= λ e. Ok (Some e.0, e.1)))
+          (Ok (None, y ∷ n)) >>= λ i. assigned 1 (record { variable = record { place = x.place; text = text }; index = i.0 }) i.1 >>= λ a. Ok
+          (starts_with_assignment a.0, a.1))
       go true f = second_fault IsStart (LowStart 1) Semicolon x y n TooHigh plain_before plain_is (index_begun (is_sign-true signs.LeftBracket y f))
       go false f = plain_by (update_of y) refl (is_sign-false signs.LeftBracket y f)
 
@@ -299,9 +345,11 @@ type_declares s p m e = absurd (false_true e)
 
 module _ (h : ℕ) (one : 1 ≤ h) where
   Choice : Bool → List Token → Outcome StartTree
-  Choice b w = cond b (declaration_step (h - 1) w >>= λ d. Ok (starts_with_declaration d.0, d.1)) (assignment_step h w >>= λ a. Ok (starts_with_assignment a.0, a.1))
+  Choice b w = cond b (declaration_step (h - 1) w >>= λ d. Ok (starts_with_declaration d.0, d.1))
+      (assignment_step h w >>= λ a. Ok (starts_with_assignment a.0, a.1))
 
-  named_start : (x y : Token) (n : List Token) (text : List ℕ) → x.kind ≡ kinds.Name text → IsEnded (x ∷ y ∷ n) → (b : Bool) → is_type y ≡ b → Reads IsStart (LowStart h) Semicolon (x ∷ y ∷ n) (Choice b (x ∷ y ∷ n))
+  named_start : (x y : Token) (n : List Token) (text : List ℕ) → x.kind ≡ kinds.Name text → IsEnded (x ∷ y ∷ n) → (b : Bool) → is_type y ≡ b
+      → Reads IsStart (LowStart h) Semicolon (x ∷ y ∷ n) (Choice b (x ∷ y ∷ n))
   unfolding Choice assignment_step
   named_start x y n text k en true t = named_declared h one x y n text k t en
   named_start x y n text k en false t = go (nat_lt h 2) refl
@@ -309,9 +357,13 @@ module _ (h : ℕ) (one : 1 ≤ h) where
       identified : expressions.identifier (x ∷ y ∷ n) ≡ Ok (record { place = x.place; text = text }, y ∷ n)
       identified = ap (λ z. expressions.identifier_of z x (y ∷ n)) k
 
-      at_one : Reads IsStart (LowStart 1) Semicolon (x ∷ y ∷ n) (expressions.identifier (x ∷ y ∷ n) >>= λ i. target_index 1 i.1 >>= λ j. assigned 1 (record { variable = i.0; index = j.0 }) j.1 >>= λ a. Ok (starts_with_assignment a.0, a.1))
+      at_one : Reads IsStart (LowStart 1) Semicolon (x ∷ y ∷ n)
+          (expressions.identifier (x ∷ y ∷ n) >>= λ i. target_index 1 i.1 >>= λ j. assigned 1 (record { variable = i.0; index = j.0 }) j.1 >>= λ a. Ok
+          (starts_with_assignment a.0, a.1))
       at_one =
-          subst (λ o. Reads IsStart (LowStart 1) Semicolon (x ∷ y ∷ n) (o >>= λ i. target_index 1 i.1 >>= λ j. assigned 1 (record { variable = i.0; index = j.0 }) j.1 >>= λ a. Ok (starts_with_assignment a.0, a.1))) (sym identified)
+          subst (λ o. Reads IsStart (LowStart 1) Semicolon (x ∷ y ∷ n)
+          (o >>= λ i. target_index 1 i.1 >>= λ j. assigned 1 (record { variable = i.0; index = j.0 }) j.1 >>= λ a. Ok
+          (starts_with_assignment a.0, a.1))) (sym identified)
           (plain_reads x y n text k t)
 
       whole : (h : ℕ) → h ≡ 1 → Reads IsStart (LowStart h) Semicolon (x ∷ y ∷ n) (assignment_step h (x ∷ y ∷ n) >>= λ a. Ok (starts_with_assignment a.0, a.1))
@@ -319,30 +371,43 @@ module _ (h : ℕ) (one : 1 ≤ h) where
           subst (λ r. Reads IsStart (LowStart r) Semicolon (x ∷ y ∷ n) (assignment_step r (x ∷ y ∷ n) >>= λ a. Ok (starts_with_assignment a.0, a.1))) (sym e)
           (subst (Reads IsStart (LowStart 1) Semicolon (x ∷ y ∷ n)) (sym joined) at_one)
         where
-          bound : (o : Outcome Identifier) → ((o >>= λ i. target_index 1 i.1 >>= λ j. assigned 1 (record { variable = i.0; index = j.0 }) j.1) >>= λ a. Ok (starts_with_assignment a.0, a.1)) ≡ (o >>= λ i. target_index 1 i.1 >>= λ j. assigned 1 (record { variable = i.0; index = j.0 }) j.1 >>= λ a. Ok (starts_with_assignment a.0, a.1))
+          bound : (o : Outcome Identifier)
+              → ((o >>= λ i. target_index 1 i.1 >>= λ j. assigned 1 (record { variable = i.0; index = j.0 }) j.1) >>= λ a. Ok
+              (starts_with_assignment a.0, a.1))
+              ≡ (o >>= λ i. target_index 1 i.1 >>= λ j. assigned 1 (record { variable = i.0; index = j.0 }) j.1 >>= λ a. Ok (starts_with_assignment a.0, a.1))
           bound (Err e) = refl
           bound (Ok i) = inner (target_index 1 i.1)
             where
-              inner : (o : Outcome (Option Tree)) → ((o >>= λ j. assigned 1 (record { variable = i.0; index = j.0 }) j.1) >>= λ a. Ok (starts_with_assignment a.0, a.1)) ≡ (o >>= λ j. assigned 1 (record { variable = i.0; index = j.0 }) j.1 >>= λ a. Ok (starts_with_assignment a.0, a.1))
+              inner : (o : Outcome (Option Tree))
+                  → ((o >>= λ j. assigned 1 (record { variable = i.0; index = j.0 }) j.1) >>= λ a. Ok (starts_with_assignment a.0, a.1))
+                  ≡ (o >>= λ j. assigned 1 (record { variable = i.0; index = j.0 }) j.1 >>= λ a. Ok (starts_with_assignment a.0, a.1))
               inner (Err e) = refl
               inner (Ok j) = refl
 
-          joined : (assignment_step 1 (x ∷ y ∷ n) >>= λ a. Ok (starts_with_assignment a.0, a.1)) ≡ (expressions.identifier (x ∷ y ∷ n) >>= λ i. target_index 1 i.1 >>= λ j. assigned 1 (record { variable = i.0; index = j.0 }) j.1 >>= λ a. Ok (starts_with_assignment a.0, a.1))
+          joined : (assignment_step 1 (x ∷ y ∷ n) >>= λ a. Ok (starts_with_assignment a.0, a.1))
+              ≡ (expressions.identifier (x ∷ y ∷ n) >>= λ i. target_index 1 i.1 >>= λ j. assigned 1
+              (record { variable = i.0; index = j.0 }) j.1 >>= λ a. Ok (starts_with_assignment a.0, a.1))
           joined = bound (expressions.identifier (x ∷ y ∷ n))
 
-      go : (b : Bool) → nat_lt h 2 ≡ b → Reads IsStart (LowStart h) Semicolon (x ∷ y ∷ n) (assignment_step h (x ∷ y ∷ n) >>= λ a. Ok (starts_with_assignment a.0, a.1))
+      go : (b : Bool) → nat_lt h 2 ≡ b
+          → Reads IsStart (LowStart h) Semicolon (x ∷ y ∷ n) (assignment_step h (x ∷ y ∷ n) >>= λ a. Ok (starts_with_assignment a.0, a.1))
       go true z = let l = ltb-true h 2 z in whole h (omega (arith, l, one))
       go false z = let l = ltb-false h 2 z in named_set h one (omega (arith, l)) x y n text k t en
 
   -- what no first part begins with, which is no name
-  no_choice : (x : Token) (m : List Token) (k : Kind) → x.kind ≡ k → is_sign signs.Semicolon x ≡ false → expressions.identifier_of k x m ≡ Err (Unexpected, x ∷ m) → (begins_type k ≡ true → ⊥) → ((text : List ℕ) → k ≡ kinds.Name text → ⊥) → Reads IsStart (LowStart h) Semicolon (x ∷ m) (Choice false (x ∷ m))
+  no_choice : (x : Token) (m : List Token) (k : TokenKind) → x.kind ≡ k → is_sign signs.Semicolon x ≡ false
+      → expressions.identifier_of k x m ≡ Err (Unexpected, x ∷ m) → (begins_type k ≡ true → ⊥) → ((text : List ℕ) → k ≡ kinds.Name text → ⊥)
+      → Reads IsStart (LowStart h) Semicolon (x ∷ m) (Choice false (x ∷ m))
   unfolding Choice assignment_step
   no_choice x m k is other fails no_type no_name =
       let f : expressions.identifier (x ∷ m) ≡ Err (Unexpected, x ∷ m) = ap (λ z. expressions.identifier_of z x m) is ∙ fails in
-      subst (λ o. Reads IsStart (LowStart h) Semicolon (x ∷ m) ((o >>= λ i. target_index h i.1 >>= λ j. assigned h (record { variable = i.0; index = j.0 }) j.1) >>= λ a. Ok (starts_with_assignment a.0, a.1))) (sym f)
+      subst (λ o. Reads IsStart (LowStart h) Semicolon (x ∷ m)
+      ((o >>= λ i. target_index h i.1 >>= λ j. assigned h (record { variable = i.0; index = j.0 }) j.1) >>= λ a. Ok
+      (starts_with_assignment a.0, a.1))) (sym f)
       (no_start_reads h one x m other (λ b. no_type (ap begins_type (sym is) ∙ b)) (λ text b. no_name text (sym is ∙ b)))
 
-  choice_reads : (x : Token) (m : List Token) → is_sign signs.Semicolon x ≡ false → IsEnded (x ∷ m) → (k : Kind) → x.kind ≡ k → Reads IsStart (LowStart h) Semicolon (x ∷ m) (Choice (declares (token x.place k ∷ m)) (x ∷ m))
+  choice_reads : (x : Token) (m : List Token) → is_sign signs.Semicolon x ≡ false → IsEnded (x ∷ m) → (k : TokenKind) → x.kind ≡ k
+      → Reads IsStart (LowStart h) Semicolon (x ∷ m) (Choice (declares (token x.place k ∷ m)) (x ∷ m))
   unfolding Choice
   choice_reads x [] other en (kinds.Name text) k = let f = after_kind x [] (kinds.Name text) en k refl in absurd (false_true f)
   choice_reads x (y ∷ n) other en (kinds.Name text) k = named_start x y n text k en (is_type y) refl
@@ -362,14 +427,17 @@ module _ (h : ℕ) (one : 1 ≤ h) where
   start_reads [] en = cc
   start_reads (x ∷ m) en = go (is_sign signs.Semicolon x) refl
     where
-      go : (b : Bool) → is_sign signs.Semicolon x ≡ b → Reads IsStart (LowStart h) Semicolon (x ∷ m) (cond b (Ok (starts_with_nothing, x ∷ m)) (Choice (declares (x ∷ m)) (x ∷ m)))
+      go : (b : Bool) → is_sign signs.Semicolon x ≡ b
+          → Reads IsStart (LowStart h) Semicolon (x ∷ m) (cond b (Ok (starts_with_nothing, x ∷ m)) (Choice (declares (x ∷ m)) (x ∷ m)))
       go true t = nothing_reads IsStart (LowStart h) Semicolon x m starts_with_nothing refl (omega arith) only
         where
           only : (c : StartTree) (s m' m2 : List Token) → IsStart c s → Stops (Semicolon c) m' → s ++ m' ≡ x ∷ m2 → (c ≡ starts_with_nothing) × (s ≡ [])
           only starts_with_nothing s m' m2 v st eq = (refl, v)
           only (starts_with_declaration d) s m' m2 v st eq =
-              let f : begins_type (kinds.Sign signs.Semicolon) ≡ true = ap begins_type (sym (is_sign-true signs.Semicolon x t)) ∙ no_declaration d s m' m2 x v eq in cc
-          only (starts_with_assignment a) s m' m2 v st eq = absurd (no_start x signs.Semicolon a.target.variable.text (assignment_head a s m' m2 x v eq) (is_sign-true signs.Semicolon x t))
+              let f : begins_type (kinds.Sign signs.Semicolon) ≡ true =
+              ap begins_type (sym (is_sign-true signs.Semicolon x t)) ∙ no_declaration d s m' m2 x v eq in cc
+          only (starts_with_assignment a) s m' m2 v st eq =
+              absurd (no_start x signs.Semicolon a.target.variable.text (assignment_head a s m' m2 x v eq) (is_sign-true signs.Semicolon x t))
       go false t = choice_reads x m t en x.kind refl
 
 -- The third part
@@ -404,13 +472,15 @@ last_reads h (x ∷ m) en = go (is_sign signs.RightParenthesis x) refl
     same a [] st = st
     same a (y ∷ m) st = st
 
-    down : is_sign signs.RightParenthesis x ≡ false → (c : StepTree) (s m' m2 : List Token) → IsStep c s → Stops (Closing c) m' → s ++ m' ≡ x ∷ m2 → Made step_of IsAction c s
+    down : is_sign signs.RightParenthesis x ≡ false → (c : StepTree) (s m' m2 : List Token) → IsStep c s → Stops (Closing c) m' → s ++ m' ≡ x ∷ m2
+        → Made step_of IsAction c s
     down t steps_by_nothing s m' m2 v st eq =
         absurd (is_sign-false signs.RightParenthesis x t (subst (Stops (Closing steps_by_nothing)) (ap (λ l. l ++ m') (sym v) ∙ eq) st))
     down t (steps_by_assignment a) s m' m2 v st eq = (assigns a, refl, v)
     down t (steps_by_expression e) s m' m2 v st eq = (evaluates e, refl, v)
 
-    only : x.kind ≡ kinds.Sign signs.RightParenthesis → (c : StepTree) (s m' m2 : List Token) → IsStep c s → Stops (Closing c) m' → s ++ m' ≡ x ∷ m2 → (c ≡ steps_by_nothing) × (s ≡ [])
+    only : x.kind ≡ kinds.Sign signs.RightParenthesis → (c : StepTree) (s m' m2 : List Token) → IsStep c s → Stops (Closing c) m' → s ++ m' ≡ x ∷ m2
+        → (c ≡ steps_by_nothing) × (s ≡ [])
     only k steps_by_nothing s m' m2 v st eq = (refl, v)
     only k (steps_by_assignment a) s m' m2 v st eq = absurd (no_start x signs.RightParenthesis a.target.variable.text (assignment_head a s m' m2 x v eq) k)
     only k (steps_by_expression e) s m' m2 v st eq =
@@ -418,7 +488,8 @@ last_reads h (x ∷ m) en = go (is_sign signs.RightParenthesis x) refl
         let g : expressions.least (kinds.Sign signs.RightParenthesis) ≡ Some f.0 = ap expressions.least (sym k) ∙ f.1 in
         cc
 
-    go : (b : Bool) → is_sign signs.RightParenthesis x ≡ b → Reads IsStep (LowStep h) Closing (x ∷ m) (cond b (Ok (steps_by_nothing, x ∷ m)) (action h h (x ∷ m) >>= λ a. Ok (step_of a.0, a.1)))
+    go : (b : Bool) → is_sign signs.RightParenthesis x ≡ b
+        → Reads IsStep (LowStep h) Closing (x ∷ m) (cond b (Ok (steps_by_nothing, x ∷ m)) (action h h (x ∷ m) >>= λ a. Ok (step_of a.0, a.1)))
     go true t = nothing_reads IsStep (LowStep h) Closing x m steps_by_nothing refl (omega arith) (only (is_sign-true signs.RightParenthesis x t))
     go false t =
         reads_as (Made step_of IsAction) IsStep (LowStep h) Closing Closing x up (down t) (λ c m' st. st) (x ∷ m) m _ refl
@@ -436,7 +507,8 @@ LastPart b ts = (IsStep b then sign signs.RightParenthesis) ts
 start_part_reads : (h : ℕ) → 1 ≤ h → (w : List Token) → IsEnded w → Reads StartPart (LowStart h) Any w (start_part h w)
 unfolding start_part
 start_part_reads h one w en =
-    reads_same (Made (λ (v : StartTree × Unit {0}). v.0) (λ v. sign signs.LeftParenthesis then Both IsStart (λ a (u : Unit {0}). sign signs.Semicolon) v)) StartPart (LowStart h) Any Any
+    reads_same (Made (λ (v : StartTree × Unit {0}). v.0)
+    (λ v. sign signs.LeftParenthesis then Both IsStart (λ a (u : Unit {0}). sign signs.Semicolon) v)) StartPart (LowStart h) Any Any
     (λ c s v. subst (λ z. StartPart z s) (sym v.1) v.2)
     (λ c s v. ((c, tt), refl, v))
     (λ c m st. st) w _
@@ -505,7 +577,18 @@ heading_reads h one w en =
     (seq StartPart (LowStart h) Any (λ a. Both TestPart (λ e. LastPart)) (λ a v. (a, v.0, v.1)) (LowHeading h) Any
     (λ a v s u f. omega (arith, f))
     (λ a v s m u st. any_stops (λ y. Unit {0}) s m st)
-    (λ a s u. ((None, steps_by_nothing), lone signs.Semicolon ++ lone signs.RightParenthesis, (lone signs.Semicolon, lone signs.RightParenthesis, refl, ([], lone signs.Semicolon, refl, refl, (origin, refl)), ([], lone signs.RightParenthesis, refl, refl, (origin, refl))), λ f. omega (arith, f)))
+    (λ a s u. (
+      (None, steps_by_nothing),
+      lone signs.Semicolon ++ lone signs.RightParenthesis,
+      (
+        lone signs.Semicolon,
+        lone signs.RightParenthesis,
+        refl,
+        ([], lone signs.Semicolon, refl, refl, (origin, refl)),
+        ([], lone signs.RightParenthesis, refl, refl, (origin, refl)),
+      ),
+      λ f. omega (arith, f),
+    ))
     w (start_part h w) _ (start_part_reads h one w en) (λ a r is g.
     let fits = g.fits in
     seq TestPart (LowOption h) Any (λ e. LastPart) (λ e b. (a, e, b)) (LowHeading h) Any

@@ -1,17 +1,19 @@
 -- What the first token tells of a statement.
-use Rattle.std.proofs.Common.{◌≡◌, ℕ, zero, suc, ◌≤◌, List, [], ◌∷◌, ◌++◌, inl, inr, refl, sym, ap, ◌∙◌, subst, append_assoc, Bool, true, false, Option, Some, None, arith}
+use Rattle.std.proofs.Common.{◌≡◌, ℕ, zero, suc, ◌≤◌, List, [], ◌∷◌, ◌++◌, inl, inr, refl, sym, ap, ◌∙◌, subst, append_assoc, Bool, true, false}
+use Rattle.std.proofs.Common.{Option, Some, None, arith}
 use Rattle.sc_text.specs.declared.span.Span.{Span}
 use Rattle.secrec_lexer.specs.declared.sign.Sign.{Sign}
 use Rattle.secrec_lexer.specs.declared.sign.Sign.TheVariants as signs
-use Rattle.secrec_lexer.specs.declared.token.Kind.{Kind}
-use Rattle.secrec_lexer.specs.declared.token.Kind.TheVariants as kinds
+use Rattle.secrec_lexer.specs.declared.token.TokenKind.{TokenKind}
+use Rattle.secrec_lexer.specs.declared.token.TokenKind.TheVariants as kinds
 use Rattle.secrec_lexer.specs.declared.token.Token.{Token}
 use Rattle.secrec_ast.specs.declared.expression.DataType.{DataType}
 use Rattle.secrec_ast.specs.declared.expression.DataType.TheVariants as types
 use Rattle.secrec_ast.specs.declared.statement.Domain.{Domain}
 use Rattle.secrec_ast.specs.declared.statement.Domain.TheVariants as domains
 use Rattle.secrec_ast.specs.declared.statement.DeclaredType.{DeclaredType}
-use Rattle.secrec_ast.specs.Statements.{StatementTree, block, empty, branch, choice, while_loop, do_loop, for_loop, breaks, continues, returns, assertion, declaration, assignment, evaluation}
+use Rattle.secrec_ast.specs.Statements.{StatementTree, block, empty, branch, choice, while_loop, do_loop, for_loop, breaks, continues, returns}
+use Rattle.secrec_ast.specs.Statements.{assertion, declaration, assignment, evaluation}
 use Rattle.secrec_ast.specs.Heights.{statement_height}
 use Rattle.expression_parser.specs.Phrases.{Phrase, token, sign_at, ◌then◌}
 use Rattle.expression_parser.specs.Grammar.{IsDataType, loosest}
@@ -21,7 +23,7 @@ use Rattle.expression_parser.proofs.Nodes.{tall, begins}
 use Rattle.secrec_parser.specs.declared.leader.Leader.{Leader}
 use Rattle.secrec_parser.specs.declared.leader.Leader.TheVariants as leaders
 use Rattle.secrec_parser.specs.Grammar.{IsDomain, IsType, IsStatement}
-use Rattle.secrec_parser.specs.Steps.{leader_of, least}
+use Rattle.secrec_parser.specs.inner.Steps.{leader_of, least}
 use Rattle.secrec_parser.proofs.Clashes.{none_some, false_true}
 
 -- statements that can be taken for one another by their first token alone
@@ -56,14 +58,14 @@ family_of (declaration d) = 10
 family_of (assignment a) = 10
 family_of (evaluation e) = 10
 
-pub leader_at : (inside : Bool) (x : Token) (k : Kind) → k ≡ x.kind → leader_of inside x ≡ leader_of inside (token x.place k)
+pub leader_at : (inside : Bool) (x : Token) (k : TokenKind) → k ≡ x.kind → leader_of inside x ≡ leader_of inside (token x.place k)
 leader_at inside x k e = ap (λ z. leader_of inside (token x.place z)) (sym e)
 
-family_at : (inside : Bool) (x : Token) (k : Kind) (n : ℕ) → k ≡ x.kind → family (leader_of inside (token x.place k)) ≡ n → family (leader_of inside x) ≡ n
+family_at : (inside : Bool) (x : Token) (k : TokenKind) (n : ℕ) → k ≡ x.kind → family (leader_of inside (token x.place k)) ≡ n → family (leader_of inside x) ≡ n
 family_at inside x k n e f = ap family (leader_at inside x k e) ∙ f
 
 -- what a type begins with
-abbrev pub begins_type : Kind → Bool
+abbrev pub begins_type : TokenKind → Bool
 begins_type (kinds.Name bytes) = true
 begins_type (kinds.Sign signs.Public) = true
 begins_type (kinds.Sign signs.Uint64) = true
@@ -90,7 +92,7 @@ declared_kind t s m m2 x v eq = go t.domain v.1.3
     go domains.Public (inr u) = ap begins_type (sym (head_kind v.1.0 [] (v.1.1 ++ m) m2 u.0 (kinds.Sign signs.Public) x u.1 eq2))
     go (domains.Named y) u = ap begins_type (sym (head_kind v.1.0 [] (v.1.1 ++ m) m2 y.place (kinds.Name y.text) x u eq2))
 
-type_family : (inside : Bool) (k : Kind) (p : Span) → begins_type k ≡ true → family (leader_of inside (token p k)) ≡ 10
+type_family : (inside : Bool) (k : TokenKind) (p : Span) → begins_type k ≡ true → family (leader_of inside (token p k)) ≡ 10
 type_family inside (kinds.Name bytes) p e = refl
 type_family inside (kinds.Sign signs.Public) p e = refl
 type_family inside (kinds.Sign signs.Uint64) p e = refl
@@ -98,7 +100,7 @@ type_family inside (kinds.Sign signs.Uint) p e = refl
 type_family inside (kinds.Sign signs.Bool) p e = refl
 type_family inside k p e = absurd (false_true e)
 
-expression_family : (inside : Bool) (k : Kind) (p : Span) (n : ℕ) → expressions.least k ≡ Some n → family (leader_of inside (token p k)) ≡ 10
+expression_family : (inside : Bool) (k : TokenKind) (p : Span) (n : ℕ) → expressions.least k ≡ Some n → family (leader_of inside (token p k)) ≡ 10
 expression_family inside (kinds.Name bytes) p n e = refl
 expression_family inside (kinds.Number v) p n e = refl
 expression_family inside (kinds.Sign signs.True) p n e = refl
@@ -117,7 +119,8 @@ front s m m2 x v eq = sym (append_assoc v.0 v.1 m) ∙ ap (λ l. l ++ m) (sym v.
 pub led_kind : (p : Span) (k : Sign) (Q : Phrase) (s m m2 : List Token) (x : Token) → (sign_at p k then Q) s → s ++ m ≡ x ∷ m2 → kinds.Sign k ≡ x.kind
 led_kind p k Q s m m2 x v eq = head_kind s v.1 m m2 p (kinds.Sign k) x (v.2 ∙ ap (λ l. l ++ v.1) v.3) eq
 
-pub family_is : (inside : Bool) (c : StatementTree) (s m m2 : List Token) (x : Token) → IsStatement inside c s → s ++ m ≡ x ∷ m2 → family (leader_of inside x) ≡ family_of c
+pub family_is : (inside : Bool) (c : StatementTree) (s m m2 : List Token) (x : Token) → IsStatement inside c s → s ++ m ≡ x ∷ m2
+    → family (leader_of inside x) ≡ family_of c
 family_is inside (block p ss) s m m2 x v eq = family_at inside x (kinds.Sign signs.LeftBrace) 0 (led_kind p signs.LeftBrace _ s m m2 x v eq) refl
 family_is inside (empty p) s m m2 x v eq = family_at inside x (kinds.Sign signs.Semicolon) 1 (head_kind s [] m m2 p (kinds.Sign signs.Semicolon) x v eq) refl
 family_is inside (branch p e b) s m m2 x v eq = family_at inside x (kinds.Sign signs.If) 2 (led_kind p signs.If _ s m m2 x v eq) refl
@@ -126,20 +129,24 @@ family_is inside (while_loop p e b) s m m2 x v eq = family_at inside x (kinds.Si
 family_is inside (do_loop p b e) s m m2 x v eq = family_at inside x (kinds.Sign signs.Do) 4 (led_kind p signs.Do _ s m m2 x v eq) refl
 family_is inside (for_loop p a e b t) s m m2 x v eq = family_at inside x (kinds.Sign signs.For) 5 (led_kind p signs.For _ s m m2 x v eq) refl
 family_is inside (breaks p) s m m2 x v eq =
-    family_at inside x (kinds.Sign signs.Break) 6 (led_kind p signs.Break _ s m m2 x v.1 eq) (subst (λ b. family (leader_of b (token x.place (kinds.Sign signs.Break))) ≡ 6) (sym v.0) refl)
+    family_at inside x (kinds.Sign signs.Break) 6 (led_kind p signs.Break _ s m m2 x v.1 eq)
+    (subst (λ b. family (leader_of b (token x.place (kinds.Sign signs.Break))) ≡ 6) (sym v.0) refl)
 family_is inside (continues p) s m m2 x v eq =
-    family_at inside x (kinds.Sign signs.Continue) 7 (led_kind p signs.Continue _ s m m2 x v.1 eq) (subst (λ b. family (leader_of b (token x.place (kinds.Sign signs.Continue))) ≡ 7) (sym v.0) refl)
+    family_at inside x (kinds.Sign signs.Continue) 7 (led_kind p signs.Continue _ s m m2 x v.1 eq)
+    (subst (λ b. family (leader_of b (token x.place (kinds.Sign signs.Continue))) ≡ 7) (sym v.0) refl)
 family_is inside (returns p e) s m m2 x v eq = family_at inside x (kinds.Sign signs.Return) 8 (led_kind p signs.Return _ s m m2 x v eq) refl
 family_is inside (assertion p e) s m m2 x v eq = family_at inside x (kinds.Sign signs.Assert) 9 (led_kind p signs.Assert _ s m m2 x v eq) refl
 family_is inside (declaration d) s m m2 x v eq =
     let u = v.3 in
     let eq1 : v.0 ++ (v.1 ++ m) ≡ x ∷ m2 = front s m m2 x v eq in
-    type_family inside x.kind x.place (declared_kind d.declared u.0 (u.1 ++ (v.1 ++ m)) m2 x u.3 (sym (append_assoc u.0 u.1 (v.1 ++ m)) ∙ ap (λ l. l ++ (v.1 ++ m)) (sym u.2) ∙ eq1))
+    type_family inside x.kind x.place
+    (declared_kind d.declared u.0 (u.1 ++ (v.1 ++ m)) m2 x u.3 (sym (append_assoc u.0 u.1 (v.1 ++ m)) ∙ ap (λ l. l ++ (v.1 ++ m)) (sym u.2) ∙ eq1))
 family_is inside (assignment a) s m m2 x v eq =
     let u = v.3 in
     let w = u.3 in
     let y = a.target.variable in
-    let at : s ≡ token y.place (kinds.Name y.text) ∷ ((w.1 ++ u.1) ++ v.1) = v.2 ∙ ap (λ l. l ++ v.1) (u.2 ∙ ap (λ l. l ++ u.1) (w.2 ∙ ap (λ l. l ++ w.1) w.3)) in
+    let at : s ≡ token y.place (kinds.Name y.text) ∷ ((w.1 ++ u.1) ++ v.1) =
+    v.2 ∙ ap (λ l. l ++ v.1) (u.2 ∙ ap (λ l. l ++ u.1) (w.2 ∙ ap (λ l. l ++ w.1) w.3)) in
     family_at inside x (kinds.Name y.text) 10 (head_kind s ((w.1 ++ u.1) ++ v.1) m m2 y.place (kinds.Name y.text) x at eq) refl
 family_is inside (evaluation e) s m m2 x v eq =
     let b = begins loosest e v.0 v.3 in
@@ -208,7 +215,8 @@ high (declaration d) = omega arith
 high (assignment a) = omega arith
 high (evaluation e) = omega arith
 
-pub least_high : (inside : Bool) (c : StatementTree) (s m m2 : List Token) (x : Token) → IsStatement inside c s → s ++ m ≡ x ∷ m2 → least (leader_of inside x) ≤ statement_height c
+pub least_high : (inside : Bool) (c : StatementTree) (s m m2 : List Token) (x : Token) → IsStatement inside c s → s ++ m ≡ x ∷ m2
+    → least (leader_of inside x) ≤ statement_height c
 least_high inside c s m m2 x v eq =
     let f = least_family (leader_of inside x) in
     let g = ap least_of (family_is inside c s m m2 x v eq) in
@@ -235,7 +243,7 @@ keyword leaders.Expression = None
 same_sign : (a b : Sign) → Some a ≡ Some b → kinds.Sign a ≡ kinds.Sign b
 same_sign a b e = cc
 
-keyword_kind : (inside : Bool) (k : Kind) (p : Span) (s : Sign) → keyword (leader_of inside (token p k)) ≡ Some s → k ≡ kinds.Sign s
+keyword_kind : (inside : Bool) (k : TokenKind) (p : Span) (s : Sign) → keyword (leader_of inside (token p k)) ≡ Some s → k ≡ kinds.Sign s
 keyword_kind inside (kinds.Sign signs.LeftBrace) p s e = same_sign signs.LeftBrace s e
 keyword_kind inside (kinds.Sign signs.Semicolon) p s e = same_sign signs.Semicolon s e
 keyword_kind inside (kinds.Sign signs.If) p s e = same_sign signs.If s e
@@ -253,6 +261,7 @@ pub leads : (inside : Bool) (x : Token) (l : Leader) (s : Sign) → leader_of in
 leads inside x l s e f = keyword_kind inside x.kind x.place s (ap keyword e ∙ f)
 
 -- `break` and `continue` lead inside a loop alone
-pub leads_inside : (inside : Bool) (x : Token) (s : Sign) (l : Leader) → x.kind ≡ kinds.Sign s → leader_of inside x ≡ l → (leader_of false (token x.place (kinds.Sign s)) ≡ l → ⊥) → inside ≡ true
+pub leads_inside : (inside : Bool) (x : Token) (s : Sign) (l : Leader) → x.kind ≡ kinds.Sign s → leader_of inside x ≡ l
+    → (leader_of false (token x.place (kinds.Sign s)) ≡ l → ⊥) → inside ≡ true
 leads_inside true x s l k e other = refl
 leads_inside false x s l k e other = absurd (other (sym (leader_at false x (kinds.Sign s) (sym k)) ∙ e))

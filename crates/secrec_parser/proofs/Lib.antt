@@ -14,6 +14,6 @@ pub mod Starts
 pub mod Statements
 pub mod Bodies
 pub mod Named
-pub mod Rooms
+pub mod HeightLimits
 pub mod Functions
 pub mod Programs

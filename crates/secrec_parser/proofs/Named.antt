@@ -3,8 +3,8 @@ use Rattle.std.proofs.Common.{◌≡◌, ℕ, ◌-◌, ◌≤◌, List, [], ◌�
 use Rattle.std.specs.Prelude.{nat_eq, ◌||◌}
 use Rattle.std.proofs.lemmas.Bool.{eqb-true, eqb-false}
 use Rattle.secrec_lexer.specs.declared.sign.Sign.TheVariants as signs
-use Rattle.secrec_lexer.specs.declared.token.Kind.{Kind}
-use Rattle.secrec_lexer.specs.declared.token.Kind.TheVariants as kinds
+use Rattle.secrec_lexer.specs.declared.token.TokenKind.{TokenKind}
+use Rattle.secrec_lexer.specs.declared.token.TokenKind.TheVariants as kinds
 use Rattle.secrec_lexer.specs.declared.token.Token.{Token}
 use Rattle.secrec_lexer.specs.Tokens.{is_sign, IsEnded}
 use Rattle.secrec_ast.specs.declared.expression.Operator.{Operator}
@@ -12,7 +12,7 @@ use Rattle.secrec_ast.specs.declared.expression.Operator.TheVariants as operator
 use Rattle.secrec_ast.specs.Tree.{Tree, variable, call, index, binary}
 use Rattle.secrec_ast.specs.Tree as trees
 use Rattle.secrec_ast.specs.Statements.{TargetTree, StatementTree, declaration, assignment, evaluation}
-use Rattle.expression_parser.specs.declared.problem.Problem.TheVariants.{Unexpected, TooHigh}
+use Rattle.expression_parser.specs.declared.problem.ParseProblem.TheVariants.{Unexpected, TooHigh}
 use Rattle.expression_parser.specs.Phrases.{token, one, sign, ◌then◌}
 use Rattle.expression_parser.specs.Grammar.{IsExpression, loosest, level, sign_of}
 use Rattle.expression_parser.specs.Steps.{operator_at}
@@ -24,7 +24,8 @@ use Rattle.expression_parser.proofs.Operators.{operator_of-some}
 use Rattle.secrec_parser.specs.declared.leader.Leader.TheVariants as leaders
 use Rattle.secrec_parser.specs.declared.assignment.Update.{Update}
 use Rattle.secrec_parser.specs.Grammar.{IsStatement}
-use Rattle.secrec_parser.specs.Steps.{leader_of, is_type, declares, update_of, updates_by, is_operator, follows_name, only_declares, name_statement, declaration_statement, ActionTree, assigns, evaluates, action_statement}
+use Rattle.secrec_parser.specs.inner.Steps.{leader_of, is_type, declares, update_of, updates_by, is_operator, follows_name, only_declares}
+use Rattle.secrec_parser.specs.inner.Steps.{name_statement, declaration_statement, ActionTree, assigns, evaluates, action_statement}
 use Rattle.secrec_parser.proofs.Clashes.{false_true}
 use Rattle.secrec_parser.proofs.TypeReadings.{is_one, lone}
 use Rattle.secrec_parser.proofs.Declarations.{clash, name_token}
@@ -54,12 +55,14 @@ acted_some c v = go v.0.0 w.3
     eq = front [] (else_token ∷ []) [] else_token w refl
 
     go : (a : ActionTree) → IsAction a w.0 → ⊥
-    go (assigns a) u = let f : kinds.Name a.target.variable.text ≡ kinds.Sign signs.Else = assignment_head a w.0 (w.1 ++ else_token ∷ []) [] else_token u eq in cc
+    go (assigns a) u = let f : kinds.Name a.target.variable.text ≡ kinds.Sign signs.Else =
+        assignment_head a w.0 (w.1 ++ else_token ∷ []) [] else_token u eq in cc
     go (evaluates e) u = let f = first_token loosest e w.0 (w.1 ++ else_token ∷ []) [] else_token u eq in let g : None ≡ Some f.0 = f.1 in cc
 
 -- Led by a type
 
-module _ (room : ℕ) (one : 1 ≤ room) (inside : Bool) (x : Token) (m : List Token) (is : leader_of inside x ≡ leaders.Declaration) (en : IsEnded (x ∷ m)) where
+module _ (max_height : ℕ) (one : 1 ≤ max_height) (inside : Bool) (x : Token) (m : List Token) (is : leader_of inside x ≡ leaders.Declaration)
+    (en : IsEnded (x ∷ m)) where
   typed_down : (c : StatementTree) (s m' m2 : List Token) → family_of c ≡ 10 → IsStatement inside c s → s ++ m' ≡ x ∷ m2 → Declared c s
   typed_down (declaration d) s m' m2 f v eq = ((d, tt), refl, v)
   typed_down (assignment a) s m' m2 f v eq =
@@ -71,15 +74,15 @@ module _ (room : ℕ) (one : 1 ≤ room) (inside : Bool) (x : Token) (m : List T
       absurd (expression_leader inside x.kind x.place k.0 k.1 is)
   typed_down c s m' m2 f v eq = absurd (omega (arith, f))
 
-  pub typed_reads : Reads (IsStatement inside) (LowStatement room) Follow (x ∷ m) (declaration_statement (room - 1) (x ∷ m))
+  pub typed_reads : Reads (IsStatement inside) (LowStatement max_height) Follow (x ∷ m) (declaration_statement (max_height - 1) (x ∷ m))
   typed_reads =
-      reads_as Declared (IsStatement inside) (LowStatement room) Any Follow x (declared_up inside)
+      reads_as Declared (IsStatement inside) (LowStatement max_height) Any Follow x (declared_up inside)
       (λ c s m' m2 v st eq. typed_down c s m' m2 (sym (family_is inside c s m' m2 x v eq) ∙ ap family is) v eq)
-      follow_any (x ∷ m) m _ refl (declared_statement_reads room one (x ∷ m) en)
+      follow_any (x ∷ m) m _ refl (declared_statement_reads max_height one (x ∷ m) en)
 
 -- Led by an expression that begins with no name
 
-module _ (room : ℕ) (inside : Bool) (x : Token) (m : List Token) (is : leader_of inside x ≡ leaders.Expression) (en : IsEnded (x ∷ m)) where
+module _ (max_height : ℕ) (inside : Bool) (x : Token) (m : List Token) (is : leader_of inside x ≡ leaders.Expression) (en : IsEnded (x ∷ m)) where
   acted_down : (c : StatementTree) (s m' m2 : List Token) → family_of c ≡ 10 → IsStatement inside c s → s ++ m' ≡ x ∷ m2 → Acted c s
   acted_down (declaration d) s m' m2 f v eq =
       absurd (declared_leader inside x.kind x.place (no_declaration d v.0 (v.1 ++ m') m2 x v.3 (front s m' m2 x v eq)) is)
@@ -87,11 +90,11 @@ module _ (room : ℕ) (inside : Bool) (x : Token) (m : List Token) (is : leader_
   acted_down (evaluation e) s m' m2 f v eq = ((evaluates e, tt), refl, v)
   acted_down c s m' m2 f v eq = absurd (omega (arith, f))
 
-  pub expression_reads : Reads (IsStatement inside) (LowStatement room) Follow (x ∷ m) (action_statement room (x ∷ m))
+  pub expression_reads : Reads (IsStatement inside) (LowStatement max_height) Follow (x ∷ m) (action_statement max_height (x ∷ m))
   expression_reads =
-      reads_as Acted (IsStatement inside) (LowStatement room) Any Follow x (acted_up inside)
+      reads_as Acted (IsStatement inside) (LowStatement max_height) Any Follow x (acted_up inside)
       (λ c s m' m2 v st eq. acted_down c s m' m2 (sym (family_is inside c s m' m2 x v eq) ∙ ap family is) v eq)
-      follow_any (x ∷ m) m _ refl (action_statement_reads room (x ∷ m) en)
+      follow_any (x ∷ m) m _ refl (action_statement_reads max_height (x ∷ m) en)
 
 -- Led by a name
 
@@ -113,14 +116,15 @@ low_level operators.Xor = omega arith
 low_level operators.AndAlso = omega arith
 low_level operators.OrElse = omega arith
 
-operator_kind : (k : Kind) (op : Operator) → operator_at k ≡ Some op → k ≡ kinds.Sign (sign_of op)
+operator_kind : (k : TokenKind) (op : Operator) → operator_at k ≡ Some op → k ≡ kinds.Sign (sign_of op)
 operator_kind (kinds.Sign s) op e = ap kinds.Sign (operator_of-some s op e)
 operator_kind (kinds.Name b) op e = cc
 operator_kind (kinds.Number n) op e = cc
 operator_kind (kinds.Text b) op e = cc
 operator_kind kinds.End op e = cc
 
-module _ (inside : Bool) (x y : Token) (n : List Token) (text : List ℕ) (k : x.kind ≡ kinds.Name text) (fam : family (leader_of inside x) ≡ 10) (en : IsEnded (x ∷ y ∷ n)) where
+module _ (inside : Bool) (x y : Token) (n : List Token) (text : List ℕ) (k : x.kind ≡ kinds.Name text) (fam : family (leader_of inside x) ≡ 10)
+    (en : IsEnded (x ∷ y ∷ n)) where
   abbrev self : Tree
   self = variable x.place text
 
@@ -137,13 +141,20 @@ module _ (inside : Bool) (x y : Token) (n : List Token) (text : List ℕ) (k : x
   declared_down t (evaluation e) s m m2 f v eq = absurd (type_follows_not y t (action_follows (evaluates e) s m m2 x y text v eq k))
   declared_down t c s m m2 f v eq = absurd (omega (arith, f))
 
-  named_declared : (room : ℕ) → 1 ≤ room → is_type y ≡ true → Reads (IsStatement inside) (LowStatement room) Follow (x ∷ y ∷ n) (declaration_statement (room - 1) (x ∷ y ∷ n))
-  named_declared room one t =
-      reads_peek Declared (IsStatement inside) (LowStatement room) Any Follow x y (declared_up inside)
+  named_declared : (max_height : ℕ) → 1 ≤ max_height → is_type y ≡ true
+      → Reads (IsStatement inside) (LowStatement max_height) Follow (x ∷ y ∷ n) (declaration_statement (max_height - 1) (x ∷ y ∷ n))
+  named_declared max_height one t =
+      reads_peek Declared (IsStatement inside) (LowStatement max_height) Any Follow x y (declared_up inside)
       (λ c s m m2 v st eq. declared_down t c s m m2 (family_known c s m (y ∷ m2) v eq) v eq)
-      follow_any
-      (declaration (declared_by x text), uint_token ∷ name_token ∷ lone signs.Semicolon, leaf_token, ((declared_by x text, tt), refl, (x ∷ uint_token ∷ name_token ∷ [], lone signs.Semicolon, refl, is_declared_by x text k, (origin, refl))), one, tt)
-      declared_some (x ∷ y ∷ n) n _ refl (declared_statement_reads room one (x ∷ y ∷ n) en)
+      follow_any (
+        declaration (declared_by x text),
+        uint_token ∷ name_token ∷ lone signs.Semicolon,
+        leaf_token,
+        ((declared_by x text, tt), refl, (x ∷ uint_token ∷ name_token ∷ [], lone signs.Semicolon, refl, is_declared_by x text k, (origin, refl))),
+        one,
+        tt,
+      )
+      declared_some (x ∷ y ∷ n) n _ refl (declared_statement_reads max_height one (x ∷ y ∷ n) en)
 
   -- an assignment or an expression
   acted_named : is_type y ≡ false → (c : StatementTree) (s m m2 : List Token) → family_of c ≡ 10 → IsStatement inside c s → s ++ m ≡ x ∷ y ∷ m2 → Acted c s
@@ -153,26 +164,39 @@ module _ (inside : Bool) (x y : Token) (n : List Token) (text : List ℕ) (k : x
   acted_named t (evaluation e) s m m2 f v eq = ((evaluates e, tt), refl, v)
   acted_named t c s m m2 f v eq = absurd (omega (arith, f))
 
-  named_acted : (room : ℕ) → 2 ≤ room → is_type y ≡ false → Reads (IsStatement inside) (LowStatement room) Follow (x ∷ y ∷ n) (action_statement room (x ∷ y ∷ n))
-  named_acted room two t =
-      reads_peek Acted (IsStatement inside) (LowStatement room) Any Follow x y (acted_up inside)
+  named_acted : (max_height : ℕ) → 2 ≤ max_height → is_type y ≡ false
+      → Reads (IsStatement inside) (LowStatement max_height) Follow (x ∷ y ∷ n) (action_statement max_height (x ∷ y ∷ n))
+  named_acted max_height two t =
+      reads_peek Acted (IsStatement inside) (LowStatement max_height) Any Follow x y (acted_up inside)
       (λ c s m m2 v st eq. acted_named t c s m m2 (family_known c s m (y ∷ m2) v eq) v eq)
-      follow_any
-      (evaluation self, lone signs.Semicolon, leaf_token, ((evaluates self, tt), refl, (x ∷ [], lone signs.Semicolon, refl, is_self loosest, (origin, refl))), two, tt)
-      acted_some (x ∷ y ∷ n) n _ refl (action_statement_reads room (x ∷ y ∷ n) en)
+      follow_any (
+        evaluation self,
+        lone signs.Semicolon,
+        leaf_token,
+        ((evaluates self, tt), refl, (x ∷ [], lone signs.Semicolon, refl, is_self loosest, (origin, refl))),
+        two,
+        tt,
+      )
+      acted_some (x ∷ y ∷ n) n _ refl (action_statement_reads max_height (x ∷ y ∷ n) en)
 
   -- where a declaration alone has room
   before_fault : (b : StatementTree) × (s : List Token) × IsStatement inside b (x ∷ s) × LowStatement 1 b
-  before_fault =
-      (declaration (declared_by x text), uint_token ∷ name_token ∷ lone signs.Semicolon, (x ∷ uint_token ∷ name_token ∷ [], lone signs.Semicolon, refl, is_declared_by x text k, (origin, refl)), omega arith)
+  before_fault = (
+    declaration (declared_by x text),
+    uint_token ∷ name_token ∷ lone signs.Semicolon,
+    (x ∷ uint_token ∷ name_token ∷ [], lone signs.Semicolon, refl, is_declared_by x text k, (origin, refl)),
+    omega arith,
+  )
 
-  no_room : is_type y ≡ false → (c : StatementTree) (s m m2 : List Token) → family_of c ≡ 10 → IsStatement inside c s → LowStatement 1 c → s ++ m ≡ x ∷ y ∷ m2 → ⊥
-  no_room t (declaration d) s m m2 f v l eq = clash (is_type y) (declaration_second d v.0 (v.1 ++ m) m2 x y text v.3 (front s m (y ∷ m2) x v eq) k) t
-  no_room t (assignment a) s m m2 f v l eq = let h = tall a.value in omega (arith, h, l)
-  no_room t (evaluation e) s m m2 f v l eq = let h = tall e in omega (arith, h, l)
-  no_room t c s m m2 f v l eq = omega (arith, f)
+  nothing_fits : is_type y ≡ false → (c : StatementTree) (s m m2 : List Token) → family_of c ≡ 10 → IsStatement inside c s → LowStatement 1 c
+      → s ++ m ≡ x ∷ y ∷ m2 → ⊥
+  nothing_fits t (declaration d) s m m2 f v l eq = clash (is_type y) (declaration_second d v.0 (v.1 ++ m) m2 x y text v.3 (front s m (y ∷ m2) x v eq) k) t
+  nothing_fits t (assignment a) s m m2 f v l eq = let h = tall a.value in omega (arith, h, l)
+  nothing_fits t (evaluation e) s m m2 f v l eq = let h = tall e in omega (arith, h, l)
+  nothing_fits t c s m m2 f v l eq = omega (arith, f)
 
-  no_way : is_type y ≡ false → follows_name y ≡ false → (c : StatementTree) (s m m2 : List Token) → family_of c ≡ 10 → IsStatement inside c s → s ++ m ≡ x ∷ y ∷ m2 → ⊥
+  no_way : is_type y ≡ false → follows_name y ≡ false → (c : StatementTree) (s m m2 : List Token) → family_of c ≡ 10 → IsStatement inside c s
+      → s ++ m ≡ x ∷ y ∷ m2 → ⊥
   no_way t u (declaration d) s m m2 f v eq = clash (is_type y) (declaration_second d v.0 (v.1 ++ m) m2 x y text v.3 (front s m (y ∷ m2) x v eq) k) t
   no_way t u (assignment a) s m m2 f v eq = clash (follows_name y) (action_follows (assigns a) s m m2 x y text v eq k) u
   no_way t u (evaluation e) s m m2 f v eq = clash (follows_name y) (action_follows (evaluates e) s m m2 x y text v eq k) u
@@ -189,7 +213,19 @@ module _ (inside : Bool) (x y : Token) (n : List Token) (text : List ℕ) (k : x
       x ∷ y ∷ lone signs.RightParenthesis,
       lone signs.Semicolon,
       refl,
-      (x ∷ [], y ∷ lone signs.RightParenthesis, refl, is_self loosest, (y ∷ [], lone signs.RightParenthesis, refl, is_one (kinds.Sign signs.LeftParenthesis) y f, ([], lone signs.RightParenthesis, refl, refl, (origin, refl)))),
+      (
+        x ∷ [],
+        y ∷ lone signs.RightParenthesis,
+        refl,
+        is_self loosest,
+        (
+          y ∷ [],
+          lone signs.RightParenthesis,
+          refl,
+          is_one (kinds.Sign signs.LeftParenthesis) y f,
+          ([], lone signs.RightParenthesis, refl, refl, (origin, refl)),
+        ),
+      ),
       (origin, refl),
     ),
   )
@@ -202,7 +238,23 @@ module _ (inside : Bool) (x y : Token) (n : List Token) (text : List ℕ) (k : x
       x ∷ y ∷ leaf_token ∷ lone signs.RightBracket,
       lone signs.Semicolon,
       refl,
-      (tt, refl, (x ∷ [], y ∷ leaf_token ∷ lone signs.RightBracket, refl, is_self 0, (y ∷ [], leaf_token ∷ lone signs.RightBracket, refl, is_one (kinds.Sign signs.LeftBracket) y f, (leaf_token ∷ [], lone signs.RightBracket, refl, refl, (origin, refl))))),
+      (
+        tt,
+        refl,
+        (
+          x ∷ [],
+          y ∷ leaf_token ∷ lone signs.RightBracket,
+          refl,
+          is_self 0,
+          (
+            y ∷ [],
+            leaf_token ∷ lone signs.RightBracket,
+            refl,
+            is_one (kinds.Sign signs.LeftBracket) y f,
+            (leaf_token ∷ [], lone signs.RightBracket, refl, refl, (origin, refl)),
+          ),
+        ),
+      ),
       (origin, refl),
     ),
   )
@@ -229,15 +281,27 @@ module _ (inside : Bool) (x y : Token) (n : List Token) (text : List ℕ) (k : x
       x ∷ y ∷ leaf_token ∷ [],
       lone signs.Semicolon,
       refl,
-      (low_level op, refl, (x ∷ [], y ∷ leaf_token ∷ [], refl, is_self (level op), (y ∷ [], leaf_token ∷ [], refl, is_one (kinds.Sign (sign_of op)) y (operator_kind y.kind op f), refl))),
+      (
+        low_level op,
+        refl,
+        (
+          x ∷ [],
+          y ∷ leaf_token ∷ [],
+          refl,
+          is_self (level op),
+          (y ∷ [], leaf_token ∷ [], refl, is_one (kinds.Sign (sign_of op)) y (operator_kind y.kind op f), refl),
+        ),
+      ),
       (origin, refl),
     ),
   )
 
   follows_begun : follows_name y ≡ true → Begun
-  follows_begun f = go (is_sign signs.LeftParenthesis y) (is_sign signs.LeftBracket y) (is_sign signs.Semicolon y) (update_of y) (operator_at y.kind) refl refl refl refl refl f
+  follows_begun f = go (is_sign signs.LeftParenthesis y) (is_sign signs.LeftBracket y) (is_sign signs.Semicolon y) (update_of y)
+      (operator_at y.kind) refl refl refl refl refl f
     where
-      go : (a b c : Bool) (u : Option Update) (o : Option Operator) → is_sign signs.LeftParenthesis y ≡ a → is_sign signs.LeftBracket y ≡ b → is_sign signs.Semicolon y ≡ c → update_of y ≡ u → operator_at y.kind ≡ o → (a || b || c || updates_by u || is_operator o) ≡ true → Begun
+      go : (a b c : Bool) (u : Option Update) (o : Option Operator) → is_sign signs.LeftParenthesis y ≡ a → is_sign signs.LeftBracket y ≡ b
+          → is_sign signs.Semicolon y ≡ c → update_of y ≡ u → operator_at y.kind ≡ o → (a || b || c || updates_by u || is_operator o) ≡ true → Begun
       go true b c u o ae be ce ue oe f = call_begun (is_sign-true signs.LeftParenthesis y ae)
       go false true c u o ae be ce ue oe f = index_begun (is_sign-true signs.LeftBracket y be)
       go false false true u o ae be ce ue oe f = end_begun (is_sign-true signs.Semicolon y ce)
@@ -248,10 +312,11 @@ module _ (inside : Bool) (x y : Token) (n : List Token) (text : List ℕ) (k : x
   named_fault : is_type y ≡ false → Reads (IsStatement inside) (LowStatement 1) Follow (x ∷ y ∷ n) (only_declares (y ∷ n))
   named_fault t = go (follows_name y) refl
     where
-      go : (b : Bool) → follows_name y ≡ b → Reads (IsStatement inside) (LowStatement 1) Follow (x ∷ y ∷ n) (cond b (Err (TooHigh, y ∷ n)) (Err (Unexpected, y ∷ n)))
+      go : (b : Bool) → follows_name y ≡ b
+          → Reads (IsStatement inside) (LowStatement 1) Follow (x ∷ y ∷ n) (cond b (Err (TooHigh, y ∷ n)) (Err (Unexpected, y ∷ n)))
       go true f =
           second_fault (IsStatement inside) (LowStatement 1) Follow x y n TooHigh before_fault
-          (λ c s m m2 v l st eq. no_room t c s m m2 (family_known c s m (y ∷ m2) v eq) v l eq) (follows_begun f)
+          (λ c s m m2 v l st eq. nothing_fits t c s m m2 (family_known c s m (y ∷ m2) v eq) v l eq) (follows_begun f)
       go false f =
           second_fault (IsStatement inside) (LowStatement 1) Follow x y n Unexpected before_fault
           (λ c s m m2 v al st eq. no_way t f c s m m2 (family_known c s m (y ∷ m2) v eq) v eq) tt
@@ -259,16 +324,24 @@ module _ (inside : Bool) (x y : Token) (n : List Token) (text : List ℕ) (k : x
   declares_is : declares (x ∷ y ∷ n) ≡ is_type y
   declares_is = ap (λ z. declares (token x.place z ∷ y ∷ n)) k
 
-  pub named_reads : (room : ℕ) → 1 ≤ room → Reads (IsStatement inside) (LowStatement room) Follow (x ∷ y ∷ n) (name_statement room (x ∷ y ∷ n) (y ∷ n))
+  pub named_reads : (max_height : ℕ) → 1 ≤ max_height
+      → Reads (IsStatement inside) (LowStatement max_height) Follow (x ∷ y ∷ n) (name_statement max_height (x ∷ y ∷ n) (y ∷ n))
   unfolding name_statement
-  named_reads room one =
-      subst (λ b. Reads (IsStatement inside) (LowStatement room) Follow (x ∷ y ∷ n) (cond b (declaration_statement (room - 1) (x ∷ y ∷ n)) (cond (nat_eq room 1) (only_declares (y ∷ n)) (action_statement room (x ∷ y ∷ n))))) (sym declares_is)
+  named_reads max_height one =
+      subst (λ b. Reads (IsStatement inside) (LowStatement max_height) Follow (x ∷ y ∷ n)
+      (cond b (declaration_statement (max_height - 1) (x ∷ y ∷ n))
+      (cond (nat_eq max_height 1) (only_declares (y ∷ n)) (action_statement max_height (x ∷ y ∷ n))))) (sym declares_is)
       (go (is_type y) refl)
     where
-      go2 : is_type y ≡ false → (b : Bool) → nat_eq room 1 ≡ b → Reads (IsStatement inside) (LowStatement room) Follow (x ∷ y ∷ n) (cond b (only_declares (y ∷ n)) (action_statement room (x ∷ y ∷ n)))
-      go2 t true e = subst (λ r. Reads (IsStatement inside) (LowStatement r) Follow (x ∷ y ∷ n) (only_declares (y ∷ n))) (sym (eqb-true room 1 e)) (named_fault t)
-      go2 t false e = let f = eqb-false room 1 e in named_acted room (omega (arith, f, one)) t
+      go2 : is_type y ≡ false → (b : Bool) → nat_eq max_height 1 ≡ b
+          → Reads (IsStatement inside) (LowStatement max_height) Follow (x ∷ y ∷ n) (cond b (only_declares (y ∷ n)) (action_statement max_height (x ∷ y ∷ n)))
+      go2 t true e = subst (λ r. Reads (IsStatement inside) (LowStatement r) Follow (x ∷ y ∷ n) (only_declares (y ∷ n)))
+          (sym (eqb-true max_height 1 e)) (named_fault t)
+      go2 t false e = let f = eqb-false max_height 1 e in named_acted max_height (omega (arith, f, one)) t
 
-      go : (b : Bool) → is_type y ≡ b → Reads (IsStatement inside) (LowStatement room) Follow (x ∷ y ∷ n) (cond b (declaration_statement (room - 1) (x ∷ y ∷ n)) (cond (nat_eq room 1) (only_declares (y ∷ n)) (action_statement room (x ∷ y ∷ n))))
-      go true t = named_declared room one t
-      go false t = go2 t (nat_eq room 1) refl
+      go : (b : Bool) → is_type y ≡ b
+          → Reads (IsStatement inside) (LowStatement max_height) Follow (x ∷ y ∷ n)
+          (cond b (declaration_statement (max_height - 1) (x ∷ y ∷ n))
+          (cond (nat_eq max_height 1) (only_declares (y ∷ n)) (action_statement max_height (x ∷ y ∷ n))))
+      go true t = named_declared max_height one t
+      go false t = go2 t (nat_eq max_height 1) refl

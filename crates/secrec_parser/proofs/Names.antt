@@ -3,8 +3,8 @@ use Rattle.std.proofs.Common.{◌≡◌, ℕ, List, [], ◌∷◌, ◌++◌, ◌
 use Rattle.sc_text.specs.declared.span.Span.{Span}
 use Rattle.secrec_lexer.specs.declared.sign.Sign.{Sign}
 use Rattle.secrec_lexer.specs.declared.sign.Sign.TheVariants as signs
-use Rattle.secrec_lexer.specs.declared.token.Kind.{Kind}
-use Rattle.secrec_lexer.specs.declared.token.Kind.TheVariants as kinds
+use Rattle.secrec_lexer.specs.declared.token.TokenKind.{TokenKind}
+use Rattle.secrec_lexer.specs.declared.token.TokenKind.TheVariants as kinds
 use Rattle.secrec_lexer.specs.declared.token.Token.{Token}
 use Rattle.secrec_ast.specs.declared.expression.DataType.{DataType}
 use Rattle.secrec_ast.specs.declared.expression.DataType.TheVariants as types
@@ -15,7 +15,7 @@ use Rattle.secrec_ast.specs.declared.statement.Domain.TheVariants as domains
 use Rattle.secrec_ast.specs.declared.statement.DeclaredType.{DeclaredType}
 use Rattle.secrec_ast.specs.Tree.{Tree, number, truth, variable, call, index, parentheses, negation, cast, binary, declassify, argument, publish}
 use Rattle.secrec_ast.specs.Statements.{DeclarationTree, AssignmentTree}
-use Rattle.expression_parser.specs.declared.problem.Problem.{Problem}
+use Rattle.expression_parser.specs.declared.problem.ParseProblem.{ParseProblem}
 use Rattle.expression_parser.specs.Phrases.{Phrase, token, sign, ◌then◌}
 use Rattle.expression_parser.specs.Grammar.{IsDataType, IsExpression, level, sign_of, loosest, unary}
 use Rattle.expression_parser.specs.Follow.{goes_on}
@@ -23,7 +23,7 @@ use Rattle.expression_parser.proofs.Reading.{Bad, Stops, Allowed, Begun, cons_he
 use Rattle.expression_parser.proofs.Tokens.{head_kind}
 use Rattle.secrec_parser.specs.declared.assignment.Update.{Update}
 use Rattle.secrec_parser.specs.Grammar.{bracketed, optional, IsDomain, IsDimension, IsType, IsDeclaration, IsAssignment}
-use Rattle.secrec_parser.specs.Steps.{is_type, update_of, follows_name, ActionTree, assigns, evaluates}
+use Rattle.secrec_parser.specs.inner.Steps.{is_type, update_of, follows_name, ActionTree, assigns, evaluates}
 use Rattle.secrec_parser.proofs.Clashes.{none_some, false_true}
 use Rattle.secrec_parser.proofs.Declarations.{clash, sign_head}
 use Rattle.secrec_parser.proofs.Assignments.{by_down, IsAction}
@@ -33,7 +33,7 @@ use Rattle.secrec_parser.proofs.Leaders.{front}
 behind_one : {P Q : Phrase} (z : Token) (s m m2 : List Token) (x y : Token) (v : (P then Q) s) → v.0 ≡ z ∷ [] → s ++ m ≡ x ∷ y ∷ m2 → v.1 ++ m ≡ y ∷ m2
 behind_one z s m m2 x y v e eq = cons_tail (sym (ap (λ l. l ++ (v.1 ++ m)) e) ∙ front s m (y ∷ m2) x v eq)
 
-no_name : (s : Sign) (k : Kind) (text : List ℕ) → kinds.Sign s ≡ k → k ≡ kinds.Name text → ⊥
+no_name : (s : Sign) (k : TokenKind) (text : List ℕ) → kinds.Sign s ≡ k → k ≡ kinds.Name text → ⊥
 no_name s k text e f = let g = e ∙ f in cc
 
 operator_goes_on : (op : Operator) → goes_on loosest (kinds.Sign (sign_of op)) ≡ true
@@ -55,12 +55,14 @@ operator_goes_on operators.AndAlso = refl
 operator_goes_on operators.OrElse = refl
 
 -- an expression that begins with a name is that name, or goes on with the next token
-name_second : (k : ℕ) (e : Tree) (s m m2 : List Token) (x y : Token) (text : List ℕ) → IsExpression k e s → s ++ m ≡ x ∷ y ∷ m2 → x.kind ≡ kinds.Name text → (s ≡ x ∷ []) ⊎ (goes_on loosest y.kind ≡ true)
+name_second : (k : ℕ) (e : Tree) (s m m2 : List Token) (x y : Token) (text : List ℕ) → IsExpression k e s → s ++ m ≡ x ∷ y ∷ m2
+    → x.kind ≡ kinds.Name text → (s ≡ x ∷ []) ⊎ (goes_on loosest y.kind ≡ true)
 name_second k (number p n) s m m2 x y text v eq is =
     let f = head_kind s [] m (y ∷ m2) p (kinds.Number n) x v eq in
     let g : kinds.Number n ≡ kinds.Name text = f ∙ is in cc
 name_second k (truth p true) s m m2 x y text v eq is = absurd (no_name signs.True x.kind text (head_kind s [] m (y ∷ m2) p (kinds.Sign signs.True) x v eq) is)
-name_second k (truth p false) s m m2 x y text v eq is = absurd (no_name signs.False x.kind text (head_kind s [] m (y ∷ m2) p (kinds.Sign signs.False) x v eq) is)
+name_second k (truth p false) s m m2 x y text v eq is =
+    absurd (no_name signs.False x.kind text (head_kind s [] m (y ∷ m2) p (kinds.Sign signs.False) x v eq) is)
 name_second k (variable p z) s m m2 x y text v eq is =
     let hd = cons_head (sym (ap (λ l. l ++ m) v) ∙ eq) in inl (v ∙ ap (λ t. t ∷ []) hd)
 name_second k (call p z es) s m m2 x y text v eq is =
@@ -70,30 +72,38 @@ name_second k (index p a i) s m m2 x y text v eq is =
     let w = v.2 in
     split w.0 w.1 w.4 (front s m (y ∷ m2) x w eq) (name_second unary a w.0 (w.1 ++ m) m2 x y text w.3 (front s m (y ∷ m2) x w eq) is)
   where
-    split : (t u : List Token) → (sign signs.LeftBracket then (IsExpression loosest i then sign signs.RightBracket)) u → t ++ (u ++ m) ≡ x ∷ y ∷ m2 → (t ≡ x ∷ []) ⊎ (goes_on loosest y.kind ≡ true) → (s ≡ x ∷ []) ⊎ (goes_on loosest y.kind ≡ true)
+    split : (t u : List Token) → (sign signs.LeftBracket then (IsExpression loosest i then sign signs.RightBracket)) u → t ++ (u ++ m) ≡ x ∷ y ∷ m2
+        → (t ≡ x ∷ []) ⊎ (goes_on loosest y.kind ≡ true) → (s ≡ x ∷ []) ⊎ (goes_on loosest y.kind ≡ true)
     split t u q e (inl f) =
         let b : u ++ m ≡ y ∷ m2 = cons_tail (sym (ap (λ l. l ++ (u ++ m)) f) ∙ e) in
         inr (ap (goes_on loosest) (sign_head signs.LeftBracket _ u m m2 y q b))
     split t u q e (inr f) = inr f
-name_second k (parentheses p e) s m m2 x y text v eq is = absurd (no_name signs.LeftParenthesis x.kind text (head_kind s v.1 m (y ∷ m2) p (kinds.Sign signs.LeftParenthesis) x (v.2 ∙ ap (λ l. l ++ v.1) v.3) eq) is)
-name_second k (negation p e) s m m2 x y text v eq is = absurd (no_name signs.Exclamation x.kind text (head_kind s v.1 m (y ∷ m2) p (kinds.Sign signs.Exclamation) x (v.2 ∙ ap (λ l. l ++ v.1) v.3) eq) is)
-name_second k (cast p t e) s m m2 x y text v eq is = absurd (no_name signs.LeftParenthesis x.kind text (head_kind s v.1 m (y ∷ m2) p (kinds.Sign signs.LeftParenthesis) x (v.2 ∙ ap (λ l. l ++ v.1) v.3) eq) is)
+name_second k (parentheses p e) s m m2 x y text v eq is =
+    absurd (no_name signs.LeftParenthesis x.kind text (head_kind s v.1 m (y ∷ m2) p (kinds.Sign signs.LeftParenthesis) x (v.2 ∙ ap (λ l. l ++ v.1) v.3) eq) is)
+name_second k (negation p e) s m m2 x y text v eq is =
+    absurd (no_name signs.Exclamation x.kind text (head_kind s v.1 m (y ∷ m2) p (kinds.Sign signs.Exclamation) x (v.2 ∙ ap (λ l. l ++ v.1) v.3) eq) is)
+name_second k (cast p t e) s m m2 x y text v eq is =
+    absurd (no_name signs.LeftParenthesis x.kind text (head_kind s v.1 m (y ∷ m2) p (kinds.Sign signs.LeftParenthesis) x (v.2 ∙ ap (λ l. l ++ v.1) v.3) eq) is)
 name_second k (binary p op a b) s m m2 x y text v eq is =
     let w = v.2 in
     split w.0 w.1 w.4 (front s m (y ∷ m2) x w eq) (name_second (level op) a w.0 (w.1 ++ m) m2 x y text w.3 (front s m (y ∷ m2) x w eq) is)
   where
-    split : {Q : Phrase} (t u : List Token) → (sign (sign_of op) then Q) u → t ++ (u ++ m) ≡ x ∷ y ∷ m2 → (t ≡ x ∷ []) ⊎ (goes_on loosest y.kind ≡ true) → (s ≡ x ∷ []) ⊎ (goes_on loosest y.kind ≡ true)
+    split : {Q : Phrase} (t u : List Token) → (sign (sign_of op) then Q) u → t ++ (u ++ m) ≡ x ∷ y ∷ m2
+        → (t ≡ x ∷ []) ⊎ (goes_on loosest y.kind ≡ true) → (s ≡ x ∷ []) ⊎ (goes_on loosest y.kind ≡ true)
     split t u q e (inl f) =
         let b : u ++ m ≡ y ∷ m2 = cons_tail (sym (ap (λ l. l ++ (u ++ m)) f) ∙ e) in
         inr (ap (goes_on loosest) (sign_head (sign_of op) _ u m m2 y q b) ∙ operator_goes_on op)
     split t u q e (inr f) = inr f
-name_second k (declassify p e) s m m2 x y text v eq is = absurd (no_name signs.Declassify x.kind text (head_kind s v.1 m (y ∷ m2) p (kinds.Sign signs.Declassify) x (v.2 ∙ ap (λ l. l ++ v.1) v.3) eq) is)
-name_second k (argument p z) s m m2 x y text v eq is = absurd (no_name signs.Argument x.kind text (head_kind s v.1 m (y ∷ m2) p (kinds.Sign signs.Argument) x (v.2 ∙ ap (λ l. l ++ v.1) v.3) eq) is)
-name_second k (publish p z e) s m m2 x y text v eq is = absurd (no_name signs.Publish x.kind text (head_kind s v.1 m (y ∷ m2) p (kinds.Sign signs.Publish) x (v.2 ∙ ap (λ l. l ++ v.1) v.3) eq) is)
+name_second k (declassify p e) s m m2 x y text v eq is =
+    absurd (no_name signs.Declassify x.kind text (head_kind s v.1 m (y ∷ m2) p (kinds.Sign signs.Declassify) x (v.2 ∙ ap (λ l. l ++ v.1) v.3) eq) is)
+name_second k (argument p z) s m m2 x y text v eq is =
+    absurd (no_name signs.Argument x.kind text (head_kind s v.1 m (y ∷ m2) p (kinds.Sign signs.Argument) x (v.2 ∙ ap (λ l. l ++ v.1) v.3) eq) is)
+name_second k (publish p z e) s m m2 x y text v eq is =
+    absurd (no_name signs.Publish x.kind text (head_kind s v.1 m (y ∷ m2) p (kinds.Sign signs.Publish) x (v.2 ∙ ap (λ l. l ++ v.1) v.3) eq) is)
 
 -- Types behind a name
 
-is_type_at : (x : Token) (k : Kind) → k ≡ x.kind → is_type x ≡ is_type (token x.place k)
+is_type_at : (x : Token) (k : TokenKind) → k ≡ x.kind → is_type x ≡ is_type (token x.place k)
 is_type_at x k e = ap (λ z. is_type (token x.place z)) (sym e)
 
 pub data_type_head : (e : DataType) (s m m2 : List Token) (x : Token) → IsDataType e s → s ++ m ≡ x ∷ m2 → is_type x ≡ true
@@ -101,7 +111,8 @@ data_type_head types.Uint64 s m m2 x (inl v) eq = is_type_at x (kinds.Sign signs
 data_type_head types.Uint64 s m m2 x (inr v) eq = is_type_at x (kinds.Sign signs.Uint) (head_kind s [] m m2 v.0 (kinds.Sign signs.Uint) x v.1 eq)
 data_type_head types.Bool s m m2 x v eq = is_type_at x (kinds.Sign signs.Bool) (head_kind s [] m m2 v.0 (kinds.Sign signs.Bool) x v.1 eq)
 
-pub type_second : (t : DeclaredType) (s m m2 : List Token) (x y : Token) (text : List ℕ) → IsType t s → s ++ m ≡ x ∷ y ∷ m2 → x.kind ≡ kinds.Name text → is_type y ≡ true
+pub type_second : (t : DeclaredType) (s m m2 : List Token) (x y : Token) (text : List ℕ) → IsType t s → s ++ m ≡ x ∷ y ∷ m2 → x.kind ≡ kinds.Name text
+    → is_type y ≡ true
 type_second t s m m2 x y text v eq is = go t.domain v.1.3
   where
     w : (IsDomain t.domain then (IsDataType t.element then IsDimension t.array)) s
@@ -121,12 +132,13 @@ type_second t s m m2 x y text v eq is = go t.domain v.1.3
         let u = w.4 in
         data_type_head t.element u.0 (u.1 ++ m) m2 y u.3 (front w.1 m m2 y u b)
 
-pub declaration_second : (d : DeclarationTree) (s m m2 : List Token) (x y : Token) (text : List ℕ) → IsDeclaration d s → s ++ m ≡ x ∷ y ∷ m2 → x.kind ≡ kinds.Name text → is_type y ≡ true
+pub declaration_second : (d : DeclarationTree) (s m m2 : List Token) (x y : Token) (text : List ℕ) → IsDeclaration d s → s ++ m ≡ x ∷ y ∷ m2
+    → x.kind ≡ kinds.Name text → is_type y ≡ true
 declaration_second d s m m2 x y text v eq is = type_second d.declared v.0 (v.1 ++ m) m2 x y text v.3 (front s m (y ∷ m2) x v eq) is
 
 -- What goes on behind a name is told by `follows_name`
 
-type_stops : (k : Kind) (p : Span) → is_type (token p k) ≡ true → follows_name (token p k) ≡ false
+type_stops : (k : TokenKind) (p : Span) → is_type (token p k) ≡ true → follows_name (token p k) ≡ false
 type_stops (kinds.Sign signs.Uint64) p e = refl
 type_stops (kinds.Sign signs.Uint) p e = refl
 type_stops (kinds.Sign signs.Bool) p e = refl
@@ -135,7 +147,7 @@ type_stops k p e = absurd (false_true e)
 pub type_follows_not : (y : Token) → is_type y ≡ true → follows_name y ≡ true → ⊥
 type_follows_not y e f = clash (follows_name y) f (type_stops y.kind y.place e)
 
-follows : (k : Kind) (p : Span) → goes_on loosest k ≡ true → follows_name (token p k) ≡ true
+follows : (k : TokenKind) (p : Span) → goes_on loosest k ≡ true → follows_name (token p k) ≡ true
 follows (kinds.Sign signs.LeftParenthesis) p e = refl
 follows (kinds.Sign signs.LeftBracket) p e = refl
 follows (kinds.Sign signs.Plus) p e = refl
@@ -156,7 +168,7 @@ follows (kinds.Sign signs.DoubleAmpersand) p e = refl
 follows (kinds.Sign signs.DoubleBar) p e = refl
 follows k p e = absurd (false_true e)
 
-update_follows : (k : Kind) (p : Span) (u : Update) → update_of (token p k) ≡ Some u → follows_name (token p k) ≡ true
+update_follows : (k : TokenKind) (p : Span) (u : Update) → update_of (token p k) ≡ Some u → follows_name (token p k) ≡ true
 update_follows (kinds.Sign signs.Assign) p u e = refl
 update_follows (kinds.Sign signs.PlusAssign) p u e = refl
 update_follows (kinds.Sign signs.MinusAssign) p u e = refl
@@ -169,7 +181,8 @@ update_follows (kinds.Sign signs.Decrement) p u e = refl
 update_follows k p u e = absurd (none_some u e)
 
 -- an assignment goes on with a bracket or an update
-pub assignment_second : (a : AssignmentTree) (s m m2 : List Token) (x y : Token) → IsAssignment a s → s ++ m ≡ x ∷ y ∷ m2 → (y.kind ≡ kinds.Sign signs.LeftBracket) ⊎ ((u : Update) × (update_of y ≡ Some u))
+pub assignment_second : (a : AssignmentTree) (s m m2 : List Token) (x y : Token) → IsAssignment a s → s ++ m ≡ x ∷ y ∷ m2
+    → (y.kind ≡ kinds.Sign signs.LeftBracket) ⊎ ((u : Update) × (update_of y ≡ Some u))
 assignment_second a s m m2 x y v eq = go a.target.index v.3.4
   where
     eq2 : v.0 ++ (v.1 ++ m) ≡ x ∷ y ∷ m2
@@ -183,7 +196,8 @@ assignment_second a s m m2 x y v eq = go a.target.index v.3.4
         let d = by_down a.target a.value v.1 m m2 y v.4 (ap (λ l. l ++ (v.1 ++ m)) (sym n) ∙ b) in inr (d.0, d.1)
     go (Some e) q = inl (sign_head signs.LeftBracket _ v.3.1 (v.1 ++ m) m2 y q b)
 
-pub action_second : (c : ActionTree) (s m m2 : List Token) (x y : Token) (text : List ℕ) → IsAction c s → s ++ m ≡ x ∷ y ∷ m2 → x.kind ≡ kinds.Name text → (s ≡ x ∷ []) ⊎ (follows_name y ≡ true)
+pub action_second : (c : ActionTree) (s m m2 : List Token) (x y : Token) (text : List ℕ) → IsAction c s → s ++ m ≡ x ∷ y ∷ m2
+    → x.kind ≡ kinds.Name text → (s ≡ x ∷ []) ⊎ (follows_name y ≡ true)
 action_second (evaluates e) s m m2 x y text v eq is = go (name_second loosest e s m m2 x y text v eq is)
   where
     go : (s ≡ x ∷ []) ⊎ (goes_on loosest y.kind ≡ true) → (s ≡ x ∷ []) ⊎ (follows_name y ≡ true)
@@ -196,7 +210,8 @@ action_second (assigns a) s m m2 x y text v eq is = go (assignment_second a s m 
     go (inr f) = inr (update_follows y.kind y.place f.0 f.1)
 
 -- an assignment or an expression, and its semicolon
-pub action_follows : (c : ActionTree) (s m m2 : List Token) (x y : Token) (text : List ℕ) → (IsAction c then sign signs.Semicolon) s → s ++ m ≡ x ∷ y ∷ m2 → x.kind ≡ kinds.Name text → follows_name y ≡ true
+pub action_follows : (c : ActionTree) (s m m2 : List Token) (x y : Token) (text : List ℕ) → (IsAction c then sign signs.Semicolon) s
+    → s ++ m ≡ x ∷ y ∷ m2 → x.kind ≡ kinds.Name text → follows_name y ≡ true
 action_follows c s m m2 x y text v eq is = go (action_second c v.0 (v.1 ++ m) m2 x y text v.3 (front s m (y ∷ m2) x v eq) is)
   where
     go : (v.0 ≡ x ∷ []) ⊎ (follows_name y ≡ true) → follows_name y ≡ true
@@ -206,7 +221,10 @@ action_follows c s m m2 x y text v eq is = go (action_second c v.0 (v.1 ++ m) m2
         ap (λ z. follows_name (token y.place z)) (sym (head_kind v.1 [] m m2 v.4.0 (kinds.Sign signs.Semicolon) y v.4.1 b))
 
 -- where the second token is at fault
-pub second_fault : {C : Type 0} (W : C → Phrase) (Fits : C → Type 0) (F : C → Token → Type 0) (x y : Token) (m : List Token) (p : Problem) → ((b : C) × (t : List Token) × W b (x ∷ t) × Fits b) → ((b : C) (s m' m2 : List Token) → W b s → Allowed p (Fits b) → Stops (F b) m' → s ++ m' ≡ x ∷ y ∷ m2 → ⊥) → Begun p ((b : C) × (t : List Token) × W b (x ∷ y ∷ t)) → Bad W Fits F (x ∷ y ∷ m) p (y ∷ m)
+pub second_fault : {C : Type 0} (W : C → Phrase) (Fits : C → Type 0) (F : C → Token → Type 0) (x y : Token) (m : List Token) (p : ParseProblem)
+    → ((b : C) × (t : List Token) × W b (x ∷ t) × Fits b)
+    → ((b : C) (s m' m2 : List Token) → W b s → Allowed p (Fits b) → Stops (F b) m' → s ++ m' ≡ x ∷ y ∷ m2 → ⊥)
+    → Begun p ((b : C) × (t : List Token) × W b (x ∷ y ∷ t)) → Bad W Fits F (x ∷ y ∷ m) p (y ∷ m)
 second_fault W Fits F x y m p before never begun = record {
   s = x ∷ [];
   x = y;

@@ -3,14 +3,16 @@ use Rattle.std.proofs.Common.{◌≡◌, ℕ, List, [], ◌∷◌, ◌++◌, inl
 use Rattle.sc_text.specs.declared.span.Span.{Span}
 use Rattle.secrec_lexer.specs.declared.sign.Sign.{Sign}
 use Rattle.secrec_lexer.specs.declared.sign.Sign.TheVariants as signs
-use Rattle.secrec_lexer.specs.declared.token.Kind.{Kind}
-use Rattle.secrec_lexer.specs.declared.token.Kind.TheVariants as kinds
+use Rattle.secrec_lexer.specs.declared.token.TokenKind.{TokenKind}
+use Rattle.secrec_lexer.specs.declared.token.TokenKind.TheVariants as kinds
 use Rattle.secrec_lexer.specs.declared.token.Token.{Token}
 use Rattle.secrec_ast.specs.declared.expression.DataType.TheVariants as types
 use Rattle.secrec_ast.specs.declared.statement.Domain.TheVariants as domains
 use Rattle.secrec_ast.specs.declared.statement.DeclaredType.{DeclaredType}
 use Rattle.secrec_ast.specs.Tree.{variable}
-use Rattle.secrec_ast.specs.Statements.{DeclarationTree, StatementTree, StatementTrees, starts_with_nothing, steps_by_nothing, block, empty, branch, choice, while_loop, do_loop, for_loop, breaks, continues, returns, assertion, declaration, assignment, evaluation}
+use Rattle.secrec_ast.specs.Statements.{DeclarationTree, StatementTree, StatementTrees, starts_with_nothing, steps_by_nothing, block, empty, branch}
+use Rattle.secrec_ast.specs.Statements.{choice, while_loop, do_loop, for_loop, breaks, continues, returns, assertion, declaration, assignment}
+use Rattle.secrec_ast.specs.Statements.{evaluation}
 use Rattle.secrec_ast.specs.Statements as statements
 use Rattle.expression_parser.specs.Phrases.{token, sign_at}
 use Rattle.expression_parser.specs.Grammar.{loosest}
@@ -20,7 +22,7 @@ use Rattle.expression_parser.proofs.Nodes.{leaf, leaf_token, first_token}
 use Rattle.secrec_parser.specs.declared.leader.Leader.{Leader}
 use Rattle.secrec_parser.specs.declared.leader.Leader.TheVariants as leaders
 use Rattle.secrec_parser.specs.Grammar.{parenthesised, heading, IsStatement}
-use Rattle.secrec_parser.specs.Steps.{leader_of}
+use Rattle.secrec_parser.specs.inner.Steps.{leader_of}
 use Rattle.secrec_parser.proofs.Clashes.{none_some, false_true, no_break, no_continue}
 use Rattle.secrec_parser.proofs.TypeReadings.{lone}
 use Rattle.secrec_parser.proofs.Declarations.{some_name, name_token}
@@ -29,7 +31,7 @@ use Rattle.secrec_parser.proofs.Headings.{uint_token, no_declaration, assignment
 
 -- What begins a statement
 
-abbrev pub starter : Kind → Bool
+abbrev pub starter : TokenKind → Bool
 starter (kinds.Name bytes) = true
 starter (kinds.Number n) = true
 starter (kinds.Sign signs.LeftBrace) = true
@@ -55,7 +57,7 @@ starter (kinds.Sign signs.Declassify) = true
 starter (kinds.Sign signs.Publish) = true
 starter other = false
 
-type_starter : (k : Kind) → begins_type k ≡ true → starter k ≡ true
+type_starter : (k : TokenKind) → begins_type k ≡ true → starter k ≡ true
 type_starter (kinds.Name bytes) e = refl
 type_starter (kinds.Sign signs.Public) e = refl
 type_starter (kinds.Sign signs.Uint64) e = refl
@@ -63,7 +65,7 @@ type_starter (kinds.Sign signs.Uint) e = refl
 type_starter (kinds.Sign signs.Bool) e = refl
 type_starter k e = absurd (false_true e)
 
-expression_starter : (k : Kind) (n : ℕ) → expressions.least k ≡ Some n → starter k ≡ true
+expression_starter : (k : TokenKind) (n : ℕ) → expressions.least k ≡ Some n → starter k ≡ true
 expression_starter (kinds.Name bytes) n e = refl
 expression_starter (kinds.Number v) n e = refl
 expression_starter (kinds.Sign signs.True) n e = refl
@@ -108,7 +110,7 @@ is_expression : Leader → Bool
 is_expression leaders.Expression = true
 is_expression other = false
 
-pub declared_leader : (inside : Bool) (k : Kind) (p : Span) → begins_type k ≡ true → leader_of inside (token p k) ≡ leaders.Expression → ⊥
+pub declared_leader : (inside : Bool) (k : TokenKind) (p : Span) → begins_type k ≡ true → leader_of inside (token p k) ≡ leaders.Expression → ⊥
 unfolding is_expression
 declared_leader inside (kinds.Name bytes) p e f = false_true (ap is_expression f)
 declared_leader inside (kinds.Sign signs.Public) p e f = false_true (ap is_expression f)
@@ -117,7 +119,8 @@ declared_leader inside (kinds.Sign signs.Uint) p e f = false_true (ap is_express
 declared_leader inside (kinds.Sign signs.Bool) p e f = false_true (ap is_expression f)
 declared_leader inside k p e f = false_true e
 
-pub expression_leader : (inside : Bool) (k : Kind) (p : Span) (n : ℕ) → expressions.least k ≡ Some n → leader_of inside (token p k) ≡ leaders.Declaration → ⊥
+pub expression_leader : (inside : Bool) (k : TokenKind) (p : Span) (n : ℕ) → expressions.least k ≡ Some n
+    → leader_of inside (token p k) ≡ leaders.Declaration → ⊥
 unfolding is_declaration
 expression_leader inside (kinds.Name bytes) p n e f = false_true (ap is_declaration f)
 expression_leader inside (kinds.Number v) p n e f = false_true (ap is_declaration f)
@@ -134,7 +137,7 @@ is_name : Leader → Bool
 is_name leaders.Name = true
 is_name other = false
 
-pub name_kind : (inside : Bool) (k : Kind) (p : Span) → leader_of inside (token p k) ≡ leaders.Name → (text : List ℕ) × (k ≡ kinds.Name text)
+pub name_kind : (inside : Bool) (k : TokenKind) (p : Span) → leader_of inside (token p k) ≡ leaders.Name → (text : List ℕ) × (k ≡ kinds.Name text)
 unfolding is_name
 name_kind inside (kinds.Name text) p e = (text, refl)
 name_kind inside (kinds.Sign signs.LeftBrace) p e = absurd (false_true (ap is_name e))
@@ -153,7 +156,7 @@ pub typed : (inside : Bool) (x : Token) → leader_of inside x ≡ leaders.Decla
 unfolding is_declaration
 typed inside x e = go inside x.kind refl e
   where
-    go : (inside : Bool) (k : Kind) → x.kind ≡ k → leader_of inside (token x.place k) ≡ leaders.Declaration → Typed x
+    go : (inside : Bool) (k : TokenKind) → x.kind ≡ k → leader_of inside (token x.place k) ≡ leaders.Declaration → Typed x
     go inside (kinds.Sign signs.Public) k e = open_type k
     go inside (kinds.Sign signs.Uint64) k e = uint64_type k
     go inside (kinds.Sign signs.Uint) k e = uint_type k
@@ -168,7 +171,13 @@ abbrev pub parens : List Token
 parens = token origin (kinds.Sign signs.LeftParenthesis) ∷ leaf_token ∷ lone signs.RightParenthesis
 
 pub are_parens : parenthesised leaf parens
-are_parens = (token origin (kinds.Sign signs.LeftParenthesis) ∷ [], leaf_token ∷ lone signs.RightParenthesis, refl, (origin, refl), (leaf_token ∷ [], lone signs.RightParenthesis, refl, refl, (origin, refl)))
+are_parens = (
+  token origin (kinds.Sign signs.LeftParenthesis) ∷ [],
+  leaf_token ∷ lone signs.RightParenthesis,
+  refl,
+  (origin, refl),
+  (leaf_token ∷ [], lone signs.RightParenthesis, refl, refl, (origin, refl)),
+)
 
 abbrev pub heads : List Token
 heads = token origin (kinds.Sign signs.LeftParenthesis) ∷ lone signs.Semicolon ++ lone signs.Semicolon ++ lone signs.RightParenthesis
@@ -225,7 +234,13 @@ module _ (inside : Bool) (x : Token) where
       x ∷ uint_token ∷ name_token ∷ [],
       lone signs.Semicolon,
       refl,
-      (x ∷ uint_token ∷ [], name_token ∷ [], refl, (refl, (x ∷ [], uint_token ∷ [], refl, inr (x.place, here signs.Public k), (uint_token ∷ [], [], refl, inl (origin, refl), inl refl))), (name_token ∷ [], [], refl, refl, ([], [], refl, refl, refl))),
+      (
+        x ∷ uint_token ∷ [],
+        name_token ∷ [],
+        refl,
+        (refl, (x ∷ [], uint_token ∷ [], refl, inr (x.place, here signs.Public k), (uint_token ∷ [], [], refl, inl (origin, refl), inl refl))),
+        (name_token ∷ [], [], refl, refl, ([], [], refl, refl, refl)),
+      ),
       (origin, refl),
     ),
   )
@@ -236,7 +251,13 @@ module _ (inside : Bool) (x : Token) where
       x ∷ name_token ∷ [],
       lone signs.Semicolon,
       refl,
-      (x ∷ [], name_token ∷ [], refl, (refl, ([], x ∷ [], refl, inl refl, (x ∷ [], [], refl, inl (x.place, here signs.Uint64 k), inl refl))), (name_token ∷ [], [], refl, refl, ([], [], refl, refl, refl))),
+      (
+        x ∷ [],
+        name_token ∷ [],
+        refl,
+        (refl, ([], x ∷ [], refl, inl refl, (x ∷ [], [], refl, inl (x.place, here signs.Uint64 k), inl refl))),
+        (name_token ∷ [], [], refl, refl, ([], [], refl, refl, refl)),
+      ),
       (origin, refl),
     ),
   )
@@ -247,7 +268,13 @@ module _ (inside : Bool) (x : Token) where
       x ∷ name_token ∷ [],
       lone signs.Semicolon,
       refl,
-      (x ∷ [], name_token ∷ [], refl, (refl, ([], x ∷ [], refl, inl refl, (x ∷ [], [], refl, inr (x.place, here signs.Uint k), inl refl))), (name_token ∷ [], [], refl, refl, ([], [], refl, refl, refl))),
+      (
+        x ∷ [],
+        name_token ∷ [],
+        refl,
+        (refl, ([], x ∷ [], refl, inl refl, (x ∷ [], [], refl, inr (x.place, here signs.Uint k), inl refl))),
+        (name_token ∷ [], [], refl, refl, ([], [], refl, refl, refl)),
+      ),
       (origin, refl),
     ),
   )
@@ -258,20 +285,53 @@ module _ (inside : Bool) (x : Token) where
       x ∷ name_token ∷ [],
       lone signs.Semicolon,
       refl,
-      (x ∷ [], name_token ∷ [], refl, (refl, ([], x ∷ [], refl, inl refl, (x ∷ [], [], refl, (x.place, here signs.Bool k), inl refl))), (name_token ∷ [], [], refl, refl, ([], [], refl, refl, refl))),
+      (
+        x ∷ [],
+        name_token ∷ [],
+        refl,
+        (refl, ([], x ∷ [], refl, inl refl, (x ∷ [], [], refl, (x.place, here signs.Bool k), inl refl))),
+        (name_token ∷ [], [], refl, refl, ([], [], refl, refl, refl)),
+      ),
       (origin, refl),
     ),
   )
 
   -- a statement of each leader but an expression
   pub sample : (l : Leader) → leader_of inside x ≡ l → (l ≡ leaders.Expression → ⊥) → Sample
-  sample leaders.Block e other =
-      (block x.place statements.none, lone signs.RightBrace, (x ∷ [], lone signs.RightBrace, refl, here signs.LeftBrace (leads inside x leaders.Block signs.LeftBrace e refl), ([], lone signs.RightBrace, refl, refl, (origin, refl))))
+  sample leaders.Block e other = (
+    block x.place statements.none,
+    lone signs.RightBrace,
+    (
+      x ∷ [],
+      lone signs.RightBrace,
+      refl,
+      here signs.LeftBrace (leads inside x leaders.Block signs.LeftBrace e refl),
+      ([], lone signs.RightBrace, refl, refl, (origin, refl)),
+    ),
+  )
   sample leaders.Empty e other = (empty x.place, [], here signs.Semicolon (leads inside x leaders.Empty signs.Semicolon e refl))
-  sample leaders.If e other =
-      (branch x.place leaf (empty origin), parens ++ lone signs.Semicolon, (x ∷ [], parens ++ lone signs.Semicolon, refl, here signs.If (leads inside x leaders.If signs.If e refl), (parens, lone signs.Semicolon, refl, are_parens, refl)))
-  sample leaders.While e other =
-      (while_loop x.place leaf (empty origin), parens ++ lone signs.Semicolon, (x ∷ [], parens ++ lone signs.Semicolon, refl, here signs.While (leads inside x leaders.While signs.While e refl), (parens, lone signs.Semicolon, refl, are_parens, refl)))
+  sample leaders.If e other = (
+    branch x.place leaf (empty origin),
+    parens ++ lone signs.Semicolon,
+    (
+      x ∷ [],
+      parens ++ lone signs.Semicolon,
+      refl,
+      here signs.If (leads inside x leaders.If signs.If e refl),
+      (parens, lone signs.Semicolon, refl, are_parens, refl),
+    ),
+  )
+  sample leaders.While e other = (
+    while_loop x.place leaf (empty origin),
+    parens ++ lone signs.Semicolon,
+    (
+      x ∷ [],
+      parens ++ lone signs.Semicolon,
+      refl,
+      here signs.While (leads inside x leaders.While signs.While e refl),
+      (parens, lone signs.Semicolon, refl, are_parens, refl),
+    ),
+  )
   sample leaders.DoWhile e other = (
     do_loop x.place (empty origin) leaf,
     lone signs.Semicolon ++ lone signs.While ++ parens ++ lone signs.Semicolon,
@@ -280,13 +340,25 @@ module _ (inside : Bool) (x : Token) where
       lone signs.Semicolon ++ lone signs.While ++ parens ++ lone signs.Semicolon,
       refl,
       here signs.Do (leads inside x leaders.DoWhile signs.Do e refl),
-      (lone signs.Semicolon, lone signs.While ++ parens ++ lone signs.Semicolon, refl, refl, (lone signs.While, parens ++ lone signs.Semicolon, refl, (origin, refl), (parens, lone signs.Semicolon, refl, are_parens, (origin, refl)))),
+      (
+        lone signs.Semicolon,
+        lone signs.While ++ parens ++ lone signs.Semicolon,
+        refl,
+        refl,
+        (lone signs.While, parens ++ lone signs.Semicolon, refl, (origin, refl), (parens, lone signs.Semicolon, refl, are_parens, (origin, refl))),
+      ),
     ),
   )
   sample leaders.For e other = (
     for_loop x.place starts_with_nothing None steps_by_nothing (empty origin),
     heads ++ lone signs.Semicolon,
-    (x ∷ [], heads ++ lone signs.Semicolon, refl, here signs.For (leads inside x leaders.For signs.For e refl), (heads, lone signs.Semicolon, refl, are_heads, refl)),
+    (
+      x ∷ [],
+      heads ++ lone signs.Semicolon,
+      refl,
+      here signs.For (leads inside x leaders.For signs.For e refl),
+      (heads, lone signs.Semicolon, refl, are_heads, refl),
+    ),
   )
   sample leaders.Break e other =
       let k = leads inside x leaders.Break signs.Break e refl in (
@@ -303,10 +375,28 @@ module _ (inside : Bool) (x : Token) where
           (x ∷ [], lone signs.Semicolon, refl, here signs.Continue k, (origin, refl)),
         ),
       )
-  sample leaders.Return e other =
-      (returns x.place None, lone signs.Semicolon, (x ∷ [], lone signs.Semicolon, refl, here signs.Return (leads inside x leaders.Return signs.Return e refl), ([], lone signs.Semicolon, refl, refl, (origin, refl))))
-  sample leaders.Assert e other =
-      (assertion x.place leaf, parens ++ lone signs.Semicolon, (x ∷ [], parens ++ lone signs.Semicolon, refl, here signs.Assert (leads inside x leaders.Assert signs.Assert e refl), (parens, lone signs.Semicolon, refl, are_parens, (origin, refl))))
+  sample leaders.Return e other = (
+    returns x.place None,
+    lone signs.Semicolon,
+    (
+      x ∷ [],
+      lone signs.Semicolon,
+      refl,
+      here signs.Return (leads inside x leaders.Return signs.Return e refl),
+      ([], lone signs.Semicolon, refl, refl, (origin, refl)),
+    ),
+  )
+  sample leaders.Assert e other = (
+    assertion x.place leaf,
+    parens ++ lone signs.Semicolon,
+    (
+      x ∷ [],
+      parens ++ lone signs.Semicolon,
+      refl,
+      here signs.Assert (leads inside x leaders.Assert signs.Assert e refl),
+      (parens, lone signs.Semicolon, refl, are_parens, (origin, refl)),
+    ),
+  )
   sample leaders.Declaration e other = typed_sample (typed inside x e)
   sample leaders.Name e other =
       let k = name_kind inside x.kind x.place e in

@@ -1,5 +1,6 @@
 -- The steps, as the code comes to them.
-use Rattle.std.proofs.Common.{Bor, ◌≡◌, subst, ℕ, zero, suc, ◌-◌, ◌<◌, ◌≤◌, Bool, true, false, cond, Option, Some, None, List, [], ◌∷◌, ◌++◌, refl, sym, ap, ◌∙◌, Result, Ok, Err, length, arith}
+use Rattle.std.proofs.Common.{Bor, ◌≡◌, subst, ℕ, zero, suc, ◌-◌, ◌<◌, ◌≤◌, Bool, true, false, cond, Option, Some, None, List, [], ◌∷◌, ◌++◌, refl}
+use Rattle.std.proofs.Common.{sym, ap, ◌∙◌, Result, Ok, Err, length, arith}
 use Rattle.std.specs.Prelude.{◌&&◌, not, nat_lt, IfOk}
 use Rattle.std.proofs.lemmas.Bool.{ltb-false, lt-ltb, le-ltb}
 use Rattle.secrec_lexer.specs.declared.token.Token.{Token}
@@ -12,14 +13,16 @@ use Rattle.secrec_ast.specs.Heights.{target_height}
 use Rattle.expression_parser.specs.declared.stopped.Stopped.{Stopped}
 use Rattle.expression_parser.specs.declared.stopped.Stopped.TheVariants.{Memory, At}
 use Rattle.expression_parser.specs.Given.{Gives, Closed}
-use Rattle.expression_parser.specs.declared.problem.Problem.{Problem}
-use Rattle.expression_parser.specs.declared.problem.Problem.TheVariants.{Unexpected, TooHigh}
+use Rattle.expression_parser.specs.declared.problem.ParseProblem.{ParseProblem}
+use Rattle.expression_parser.specs.declared.problem.ParseProblem.TheVariants.{Unexpected, TooHigh}
 use Rattle.secrec_parser.specs.declared.assignment.Update.{Update}
 use Rattle.secrec_parser.specs.declared.leader.Leader.{Leader}
 use Rattle.secrec_parser.specs.declared.leader.Leader.TheVariants as leaders
 use Rattle.expression_parser.specs.Steps.{Outcome, ◌>>=◌, expect}
-use Rattle.secrec_parser.specs.Given.{Takes}
-use Rattle.secrec_parser.specs.Steps.{list_from, at_sign, update_of, least_height, value_by, assigned_by, assigned, comma_then, no_more_variables, leader_of, least, Inner, led, declaration_statement, name_statement, action_statement, else_step, if_step, parenthesised, short, statement_by, statement_step, statement_at_most}
+use Rattle.secrec_parser.specs.inner.Given.{Takes}
+use Rattle.secrec_parser.specs.inner.Steps.{list_from, at_sign, update_of, least_height, value_by, assigned_by, assigned, comma_then}
+use Rattle.secrec_parser.specs.inner.Steps.{no_more_variables, leader_of, least, Inner, led, declaration_statement, name_statement, action_statement}
+use Rattle.secrec_parser.specs.inner.Steps.{else_step, if_step, parenthesised, short, statement_by, statement_step, statement_at_most}
 
 module _ {A : Type 0} (stop : List A → List Token → Bool) (inner : List Token → Outcome A) where
   pub list_stops : (n : ℕ) (found : List A) (w : List Token) → stop found w ≡ true → list_from stop inner n found w ≡ Ok (found, w)
@@ -28,7 +31,8 @@ module _ {A : Type 0} (stop : List A → List Token → Bool) (inner : List Toke
   list_stops (suc n) found w e =
       ap (λ b. cond b (Ok (found, w)) (inner w >>= λ a. list_from stop inner n (found ++ a.0 ∷ []) a.1)) e
 
-  pub list_goes_on : (n : ℕ) (found : List A) (w r : List Token) (a : A) → 0 < n → stop found w ≡ false → inner w ≡ Ok (a, r) → list_from stop inner n found w ≡ list_from stop inner (n - 1) (found ++ a ∷ []) r
+  pub list_goes_on : (n : ℕ) (found : List A) (w r : List Token) (a : A) → 0 < n → stop found w ≡ false → inner w ≡ Ok (a, r)
+      → list_from stop inner n found w ≡ list_from stop inner (n - 1) (found ++ a ∷ []) r
   unfolding list_from
   list_goes_on zero found w r a h e f = absurd (omega arith)
   list_goes_on (suc n) found w r a h e f =
@@ -37,7 +41,8 @@ module _ {A : Type 0} (stop : List A → List Token → Bool) (inner : List Toke
       ∙ ap (λ o. o >>= λ a. list_from stop inner n (found ++ a.0 ∷ []) a.1) f
       ∙ ap (λ m. list_from stop inner m (found ++ a ∷ []) r) d
 
-  pub list_fails : (n : ℕ) (found : List A) (w r : List Token) (p : Problem) → 0 < n → stop found w ≡ false → inner w ≡ Err (p, r) → list_from stop inner n found w ≡ Err (p, r)
+  pub list_fails : (n : ℕ) (found : List A) (w r : List Token) (p : ParseProblem) → 0 < n → stop found w ≡ false → inner w ≡ Err (p, r)
+      → list_from stop inner n found w ≡ Err (p, r)
   unfolding list_from
   list_fails zero found w r p h e f = absurd (omega arith)
   list_fails (suc n) found w r p h e f =
@@ -45,94 +50,111 @@ module _ {A : Type 0} (stop : List A → List Token → Bool) (inner : List Toke
       ∙ ap (λ o. o >>= λ a. list_from stop inner n (found ++ a.0 ∷ []) a.1) f
 
 -- a statement that holds none is read without what reads the statements in it
-lower_unused : (l : Leader) (room : ℕ) (f g : Bool → Inner) (inside : Bool) (x : Token) (m : List Token) → least l ≤ 0 → statement_by l room f inside x m ≡ statement_by l room g inside x m
-lower_unused leaders.Expression room f g inside x m h = refl
-lower_unused leaders.Block room f g inside x m h = absurd (omega arith)
-lower_unused leaders.Empty room f g inside x m h = absurd (omega arith)
-lower_unused leaders.If room f g inside x m h = absurd (omega arith)
-lower_unused leaders.While room f g inside x m h = absurd (omega arith)
-lower_unused leaders.DoWhile room f g inside x m h = absurd (omega arith)
-lower_unused leaders.For room f g inside x m h = absurd (omega arith)
-lower_unused leaders.Break room f g inside x m h = absurd (omega arith)
-lower_unused leaders.Continue room f g inside x m h = absurd (omega arith)
-lower_unused leaders.Return room f g inside x m h = absurd (omega arith)
-lower_unused leaders.Assert room f g inside x m h = absurd (omega arith)
-lower_unused leaders.Declaration room f g inside x m h = absurd (omega arith)
-lower_unused leaders.Name room f g inside x m h = absurd (omega arith)
+lower_unused : (l : Leader) (max_height : ℕ) (f g : Bool → Inner) (inside : Bool) (x : Token) (m : List Token) → least l ≤ 0
+    → statement_by l max_height f inside x m ≡ statement_by l max_height g inside x m
+lower_unused leaders.Expression max_height f g inside x m h = refl
+lower_unused leaders.Block max_height f g inside x m h = absurd (omega arith)
+lower_unused leaders.Empty max_height f g inside x m h = absurd (omega arith)
+lower_unused leaders.If max_height f g inside x m h = absurd (omega arith)
+lower_unused leaders.While max_height f g inside x m h = absurd (omega arith)
+lower_unused leaders.DoWhile max_height f g inside x m h = absurd (omega arith)
+lower_unused leaders.For max_height f g inside x m h = absurd (omega arith)
+lower_unused leaders.Break max_height f g inside x m h = absurd (omega arith)
+lower_unused leaders.Continue max_height f g inside x m h = absurd (omega arith)
+lower_unused leaders.Return max_height f g inside x m h = absurd (omega arith)
+lower_unused leaders.Assert max_height f g inside x m h = absurd (omega arith)
+lower_unused leaders.Declaration max_height f g inside x m h = absurd (omega arith)
+lower_unused leaders.Name max_height f g inside x m h = absurd (omega arith)
 
 -- a statement that holds none of its height
-statement_here : (room : ℕ) (inside : Bool) (x : Token) (m : List Token) → statement_at_most room inside (x ∷ m) ≡ cond (nat_lt room (least (leader_of inside x))) (Err (TooHigh, x ∷ m)) (statement_by (leader_of inside x) room (statement_at_most (room - 1)) inside x m)
+statement_here : (max_height : ℕ) (inside : Bool) (x : Token) (m : List Token)
+    → statement_at_most max_height inside (x ∷ m)
+    ≡ cond (nat_lt max_height (least (leader_of inside x))) (Err (TooHigh, x ∷ m))
+    (statement_by (leader_of inside x) max_height (statement_at_most (max_height - 1)) inside x m)
 unfolding statement_at_most statement_step
 statement_here zero inside x m = go (nat_lt zero (least (leader_of inside x))) refl
   where
-    go : (b : Bool) → nat_lt zero (least (leader_of inside x)) ≡ b → cond b (Err (TooHigh, x ∷ m)) (statement_by (leader_of inside x) zero (λ i m. Err (TooHigh, m)) inside x m) ≡ cond b (Err (TooHigh, x ∷ m)) (statement_by (leader_of inside x) zero (statement_at_most (zero - 1)) inside x m)
+    go : (b : Bool) → nat_lt zero (least (leader_of inside x)) ≡ b
+        → cond b (Err (TooHigh, x ∷ m)) (statement_by (leader_of inside x) zero (λ i m. Err (TooHigh, m)) inside x m)
+        ≡ cond b (Err (TooHigh, x ∷ m)) (statement_by (leader_of inside x) zero (statement_at_most (zero - 1)) inside x m)
     go true e = refl
-    go false e = lower_unused (leader_of inside x) zero (λ i m. Err (TooHigh, m)) (statement_at_most (zero - 1)) inside x m (ltb-false zero (least (leader_of inside x)) e)
+    go false e = lower_unused (leader_of inside x) zero (λ i m. Err (TooHigh, m)) (statement_at_most (zero - 1)) inside x m
+        (ltb-false zero (least (leader_of inside x)) e)
 statement_here (suc h) inside x m =
     let d : h ≡ suc h - 1 = omega arith in
-    ap (λ n. cond (nat_lt (suc h) (least (leader_of inside x))) (Err (TooHigh, x ∷ m)) (statement_by (leader_of inside x) (suc h) (statement_at_most n) inside x m)) d
+    ap (λ n. cond (nat_lt (suc h) (least (leader_of inside x))) (Err (TooHigh, x ∷ m))
+    (statement_by (leader_of inside x) (suc h) (statement_at_most n) inside x m)) d
 
-pub statement_none : (room : ℕ) (inside : Bool) (w : List Token) → length w ≡ 0 → statement_at_most room inside w ≡ Err (Unexpected, w)
+pub statement_none : (max_height : ℕ) (inside : Bool) (w : List Token) → length w ≡ 0 → statement_at_most max_height inside w ≡ Err (Unexpected, w)
 unfolding statement_at_most statement_step
 statement_none zero inside [] e = refl
 statement_none (suc h) inside [] e = refl
-statement_none room inside (x ∷ m) e = absurd (omega (arith, e))
+statement_none max_height inside (x ∷ m) e = absurd (omega (arith, e))
 
 -- where l is what leads the tokens, and n its least height
-module _ (room : ℕ) (inside : Bool) (w : List Token) (x : Token) (m : List Token) (l : Leader) (n : ℕ) (front : w ≡ x ∷ m) (led_by : l ≡ leader_of inside x) (least_is : n ≡ least l) where
-  pub statement_high : room < n → statement_at_most room inside w ≡ Err (TooHigh, w)
+module _ (max_height : ℕ) (inside : Bool) (w : List Token) (x : Token) (m : List Token) (l : Leader) (n : ℕ) (front : w ≡ x ∷ m)
+    (led_by : l ≡ leader_of inside x) (least_is : n ≡ least l) where
+  pub statement_high : max_height < n → statement_at_most max_height inside w ≡ Err (TooHigh, w)
   statement_high lt =
       let f = ap least led_by in
-      ap (statement_at_most room inside) front ∙ statement_here room inside x m
-      ∙ ap (λ b. cond b (Err (TooHigh, x ∷ m)) (statement_by (leader_of inside x) room (statement_at_most (room - 1)) inside x m)) (lt-ltb room (least (leader_of inside x)) (omega (arith, f, least_is, lt)))
+      ap (statement_at_most max_height inside) front ∙ statement_here max_height inside x m
+      ∙ ap (λ b. cond b (Err (TooHigh, x ∷ m)) (statement_by (leader_of inside x) max_height (statement_at_most (max_height - 1)) inside x m))
+      (lt-ltb max_height (least (leader_of inside x)) (omega (arith, f, least_is, lt)))
       ∙ ap (λ v. Err (TooHigh, v)) (sym front)
 
-  pub statement_leads : n ≤ room → statement_at_most room inside w ≡ statement_by l room (statement_at_most (room - 1)) inside x m
+  pub statement_leads : n ≤ max_height → statement_at_most max_height inside w ≡ statement_by l max_height (statement_at_most (max_height - 1)) inside x m
   statement_leads le =
       let f = ap least led_by in
-      ap (statement_at_most room inside) front ∙ statement_here room inside x m
-      ∙ ap (λ b. cond b (Err (TooHigh, x ∷ m)) (statement_by (leader_of inside x) room (statement_at_most (room - 1)) inside x m)) (le-ltb room (least (leader_of inside x)) (omega (arith, f, least_is, le)))
-      ∙ ap (λ l. statement_by l room (statement_at_most (room - 1)) inside x m) (sym led_by)
+      ap (statement_at_most max_height inside) front ∙ statement_here max_height inside x m
+      ∙ ap (λ b. cond b (Err (TooHigh, x ∷ m)) (statement_by (leader_of inside x) max_height (statement_at_most (max_height - 1)) inside x m))
+      (le-ltb max_height (least (leader_of inside x)) (omega (arith, f, least_is, le)))
+      ∙ ap (λ l. statement_by l max_height (statement_at_most (max_height - 1)) inside x m) (sym led_by)
 
-  pub statement_declares : n ≤ room → l ≡ leaders.Declaration → statement_at_most room inside w ≡ declaration_statement (room - 1) w
-  statement_declares le is = statement_leads le ∙ ap (λ l. statement_by l room (statement_at_most (room - 1)) inside x m) is ∙ ap (declaration_statement (room - 1)) (sym front)
+  pub statement_declares : n ≤ max_height → l ≡ leaders.Declaration → statement_at_most max_height inside w ≡ declaration_statement (max_height - 1) w
+  statement_declares le is = statement_leads le ∙ ap (λ l. statement_by l max_height (statement_at_most (max_height - 1)) inside x m) is
+      ∙ ap (declaration_statement (max_height - 1)) (sym front)
 
-  pub statement_names : n ≤ room → l ≡ leaders.Name → statement_at_most room inside w ≡ name_statement room w m
-  statement_names le is = statement_leads le ∙ ap (λ l. statement_by l room (statement_at_most (room - 1)) inside x m) is ∙ ap (λ v. name_statement room v m) (sym front)
+  pub statement_names : n ≤ max_height → l ≡ leaders.Name → statement_at_most max_height inside w ≡ name_statement max_height w m
+  statement_names le is = statement_leads le ∙ ap (λ l. statement_by l max_height (statement_at_most (max_height - 1)) inside x m) is
+      ∙ ap (λ v. name_statement max_height v m) (sym front)
 
-  pub statement_evaluates : n ≤ room → l ≡ leaders.Expression → statement_at_most room inside w ≡ action_statement room w
-  statement_evaluates le is = statement_leads le ∙ ap (λ l. statement_by l room (statement_at_most (room - 1)) inside x m) is ∙ ap (action_statement room) (sym front)
+  pub statement_evaluates : n ≤ max_height → l ≡ leaders.Expression → statement_at_most max_height inside w ≡ action_statement max_height w
+  statement_evaluates le is = statement_leads le ∙ ap (λ l. statement_by l max_height (statement_at_most (max_height - 1)) inside x m) is
+      ∙ ap (action_statement max_height) (sym front)
 
-  pub statement_led : n ≤ room → (l ≡ leaders.Declaration → ⊥) → (l ≡ leaders.Name → ⊥) → (l ≡ leaders.Expression → ⊥) → statement_at_most room inside w ≡ led l room (statement_at_most (room - 1)) inside x.place m
+  pub statement_led : n ≤ max_height → (l ≡ leaders.Declaration → ⊥) → (l ≡ leaders.Name → ⊥) → (l ≡ leaders.Expression → ⊥)
+      → statement_at_most max_height inside w ≡ led l max_height (statement_at_most (max_height - 1)) inside x.place m
   statement_led le d k e = statement_leads le ∙ other l d k e
     where
-      other : (l : Leader) → (l ≡ leaders.Declaration → ⊥) → (l ≡ leaders.Name → ⊥) → (l ≡ leaders.Expression → ⊥) → statement_by l room (statement_at_most (room - 1)) inside x m ≡ led l room (statement_at_most (room - 1)) inside x.place m
+      other : (l : Leader) → (l ≡ leaders.Declaration → ⊥) → (l ≡ leaders.Name → ⊥) → (l ≡ leaders.Expression → ⊥)
+          → statement_by l max_height (statement_at_most (max_height - 1)) inside x m ≡ led l max_height (statement_at_most (max_height - 1)) inside x.place m
       other leaders.Declaration d k e = absurd (d refl)
       other leaders.Name d k e = absurd (k refl)
       other leaders.Expression d k e = absurd (e refl)
       other l d k e = refl
 
 -- what a target gets, by what the first token does
-module _ (room : ℕ) (t : TargetTree) (w : List Token) (x : Token) (m : List Token) (front : w ≡ x ∷ m) where
-  assigned_is : (o : Option Update) → update_of x ≡ o → assigned room t w ≡ assigned_by room t o x m
-  assigned_is o does = ap (assigned room t) front ∙ ap (λ o. assigned_by room t o x m) does
+module _ (max_height : ℕ) (t : TargetTree) (w : List Token) (x : Token) (m : List Token) (front : w ≡ x ∷ m) where
+  assigned_is : (o : Option Update) → update_of x ≡ o → assigned max_height t w ≡ assigned_by max_height t o x m
+  assigned_is o does = ap (assigned max_height t) front ∙ ap (λ o. assigned_by max_height t o x m) does
 
-  pub assigned_none : update_of x ≡ None → assigned room t w ≡ Err (Unexpected, w)
+  pub assigned_none : update_of x ≡ None → assigned max_height t w ≡ Err (Unexpected, w)
   assigned_none does = assigned_is None does ∙ ap (λ v. Err (Unexpected, v)) (sym front)
 
   module _ (u : Update) (does : update_of x ≡ Some u) (h : ℕ) (high : h ≡ target_height t) where
-    pub assigned_high : room < least_height h u → assigned room t w ≡ Err (TooHigh, w)
+    pub assigned_high : max_height < least_height h u → assigned max_height t w ≡ Err (TooHigh, w)
     assigned_high lt =
         assigned_is (Some u) does
-        ∙ ap (λ b. cond b (Err (TooHigh, x ∷ m)) (value_by room t u m >>= λ v. Ok (record { target = t; value = v.0 }, v.1)))
-        (ap (λ h. nat_lt room (least_height h u)) (sym high) ∙ lt-ltb room (least_height h u) lt)
+        ∙ ap (λ b. cond b (Err (TooHigh, x ∷ m)) (value_by max_height t u m >>= λ v. Ok (record { target = t; value = v.0 }, v.1)))
+        (ap (λ h. nat_lt max_height (least_height h u)) (sym high) ∙ lt-ltb max_height (least_height h u) lt)
         ∙ ap (λ v. Err (TooHigh, v)) (sym front)
 
-    pub assigned_value : least_height h u ≤ room → assigned room t w ≡ (value_by room t u m >>= λ v. Ok (record { target = t; value = v.0 }, v.1))
+    pub assigned_value : least_height h u ≤ max_height
+        → assigned max_height t w ≡ (value_by max_height t u m >>= λ v. Ok (record { target = t; value = v.0 }, v.1))
     assigned_value le =
         assigned_is (Some u) does
-        ∙ ap (λ b. cond b (Err (TooHigh, x ∷ m)) (value_by room t u m >>= λ v. Ok (record { target = t; value = v.0 }, v.1)))
-        (ap (λ h. nat_lt room (least_height h u)) (sym high) ∙ le-ltb room (least_height h u) le)
+        ∙ ap (λ b. cond b (Err (TooHigh, x ∷ m)) (value_by max_height t u m >>= λ v. Ok (record { target = t; value = v.0 }, v.1)))
+        (ap (λ h. nat_lt max_height (least_height h u)) (sym high) ∙ le-ltb max_height (least_height h u) le)
 
 -- an `if` whose test and body were read
 module _ (h : ℕ) (inner : Inner) (p : Span) (w : List Token) (e : Tree) (r : List Token) (s : StatementTree) (r2 : List Token)
@@ -156,13 +178,13 @@ module _ (h : ℕ) (inner : Inner) (p : Span) (w : List Token) (e : Tree) (r : L
 
 -- what stopped one step stops another that begins with it
 pub passes : {Y Z : Type 0} (s : Stopped) (o : Outcome Y) (u : Outcome Z) (k n : ℕ) →
-    ((p : Problem) (r : List Token) → o ≡ Err (p, r) → u ≡ Err (p, r)) → Takes {X = Y × List Token} (λ v. v) (Err s) o k → Takes {X = Z × List Token}
+    ((p : ParseProblem) (r : List Token) → o ≡ Err (p, r) → u ≡ Err (p, r)) → Takes {X = Y × List Token} (λ v. v) (Err s) o k → Takes {X = Z × List Token}
     (λ v. v) (Err s) u n
 passes Memory o u k n f t = tt
 passes (At p r) o u k n f t = f p r.now t
 
 pub passes_on : {Y Z : Type 0} (s : Stopped) (o : Outcome Y) (u : Outcome Z) (k : ℕ) →
-    ((p : Problem) (r : List Token) → o ≡ Err (p, r) → u ≡ Err (p, r)) → Takes {X = Y × List Token} (λ v. v) (Err s) o k → Gives {X = Z × List Token}
+    ((p : ParseProblem) (r : List Token) → o ≡ Err (p, r) → u ≡ Err (p, r)) → Takes {X = Y × List Token} (λ v. v) (Err s) o k → Gives {X = Z × List Token}
     (λ v. v) (Err s) u
 passes_on Memory o u k f t = tt
 passes_on (At p r) o u k f t = f p r.now t
@@ -187,16 +209,17 @@ pub taken : {B Y : Type 0} (view : B → Y) (r : Result (B × Bor (List Token)) 
 taken view r o n x e t = subst (λ z. Takes (λ x. (view x.0, x.1.now)) z o n) e t
 
 -- a leader that leads a statement that holds none
-pub led_short : (l : Leader) (room : ℕ) (lower : Bool → Inner) (inside : Bool) (p : Span) (m : List Token) → (l ≡ leaders.Block → ⊥) →
-    (l ≡ leaders.If → ⊥) → (l ≡ leaders.While → ⊥) → (l ≡ leaders.DoWhile → ⊥) → (l ≡ leaders.For → ⊥) → led l room lower inside p m ≡ short l room p
+pub led_short : (l : Leader) (max_height : ℕ) (lower : Bool → Inner) (inside : Bool) (p : Span) (m : List Token) → (l ≡ leaders.Block → ⊥) →
+    (l ≡ leaders.If → ⊥) → (l ≡ leaders.While → ⊥) → (l ≡ leaders.DoWhile → ⊥) → (l ≡ leaders.For → ⊥)
+    → led l max_height lower inside p m ≡ short l max_height p
     m
 unfolding led
-led_short leaders.Block room lower inside p m a b c d e = absurd (a refl)
-led_short leaders.If room lower inside p m a b c d e = absurd (b refl)
-led_short leaders.While room lower inside p m a b c d e = absurd (c refl)
-led_short leaders.DoWhile room lower inside p m a b c d e = absurd (d refl)
-led_short leaders.For room lower inside p m a b c d e = absurd (e refl)
-led_short l room lower inside p m a b c d e = refl
+led_short leaders.Block max_height lower inside p m a b c d e = absurd (a refl)
+led_short leaders.If max_height lower inside p m a b c d e = absurd (b refl)
+led_short leaders.While max_height lower inside p m a b c d e = absurd (c refl)
+led_short leaders.DoWhile max_height lower inside p m a b c d e = absurd (d refl)
+led_short leaders.For max_height lower inside p m a b c d e = absurd (e refl)
+led_short l max_height lower inside p m a b c d e = refl
 
 pub variables_go : (found : List DomainVariable) (w : List Token) → at_sign signs.Comma w ≡ true → length found < 4 → no_more_variables found w ≡ false
 variables_go found w e l = ap (λ b. not (b && nat_lt (length found) 4)) e ∙ ap not (lt-ltb (length found) 4 l)
@@ -212,10 +235,12 @@ variables_full found w l = ap (λ b. not (at_sign signs.Comma w && b)) (le-ltb (
     go false = refl
 
 -- what stops behind a comma
-pub comma_fails : {A : Type 0} (inner : List Token → Outcome A) (w r r2 : List Token) (q : Span) (p : Problem) → expect signs.Comma w ≡ Ok (q, r) → inner r ≡ Err (p, r2) → comma_then inner w ≡ Err (p, r2)
+pub comma_fails : {A : Type 0} (inner : List Token → Outcome A) (w r r2 : List Token) (q : Span) (p : ParseProblem) → expect signs.Comma w ≡ Ok (q, r)
+    → inner r ≡ Err (p, r2) → comma_then inner w ≡ Err (p, r2)
 comma_fails inner w r r2 q p e f = ap (λ o. o >>= λ a. inner a.1) e ∙ f
 
-pub comma_reads : {A : Type 0} (inner : List Token → Outcome A) (w r r2 : List Token) (q : Span) (a : A) → expect signs.Comma w ≡ Ok (q, r) → inner r ≡ Ok (a, r2) → comma_then inner w ≡ Ok (a, r2)
+pub comma_reads : {A : Type 0} (inner : List Token → Outcome A) (w r r2 : List Token) (q : Span) (a : A) → expect signs.Comma w ≡ Ok (q, r)
+    → inner r ≡ Ok (a, r2) → comma_then inner w ≡ Ok (a, r2)
 comma_reads inner w r r2 q a e f = ap (λ o. o >>= λ a. inner a.1) e ∙ f
 
 -- what reads past a token reads past the tokens that it began

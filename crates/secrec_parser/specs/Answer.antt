@@ -1,7 +1,7 @@
 -- What the parser answers.
 use Rattle.std.specs.Prelude.{◌≡◌, ℕ, List, [], ◌∷◌, Result, Ok, Err}
 use Rattle.secrec_lexer.specs.declared.token.Token.{Token}
-use Rattle.expression_parser.specs.declared.problem.Problem.{Problem}
+use Rattle.expression_parser.specs.declared.problem.ParseProblem.{ParseProblem}
 use Rattle.secrec_ast.specs.declared.program.Program.{Program}
 use Rattle.secrec_ast.specs.Programs.{ProgramTree, program_tree}
 use Rattle.secrec_parser.specs.declared.parse_err.ParseErr.{ParseErr}
@@ -21,6 +21,6 @@ RefusesAtFault limit ts (Err Memory) = Unit {0}
 RefusesAtFault limit ts (Err (Refused problem place)) = IsFirstFault limit ts problem place
 
 -- the refusal at the first of these tokens
-abbrev pub refusal_at : Problem → List Token → ParseErr → Type 0
+abbrev pub refusal_at : ParseProblem → List Token → ParseErr → Type 0
 refusal_at problem [] refusal = ⊥
 refusal_at problem (x ∷ more) refusal = refusal ≡ Refused problem x.place

@@ -4,8 +4,8 @@ use Rattle.sc_text.specs.declared.span.Span.{Span}
 use Rattle.secrec_lexer.specs.declared.token.Token.{Token}
 use Rattle.secrec_ast.specs.Programs.{ProgramTree}
 use Rattle.secrec_ast.specs.Heights.{program_height}
-use Rattle.expression_parser.specs.declared.problem.Problem.{Problem}
-use Rattle.expression_parser.specs.declared.problem.Problem.TheVariants.{Unexpected, TooHigh}
+use Rattle.expression_parser.specs.declared.problem.ParseProblem.{ParseProblem}
+use Rattle.expression_parser.specs.declared.problem.ParseProblem.TheVariants.{Unexpected, TooHigh}
 use Rattle.secrec_parser.specs.Grammar.{IsProgram}
 
 abbrev pub height_limit : ℕ
@@ -20,12 +20,12 @@ abbrev pub BeginsAny : List Token → Type 0
 BeginsAny ts = (p : ProgramTree) × (more : List Token) × IsProgram p (ts ++ more)
 
 -- whether it is the height alone that is at fault
-abbrev pub IsCause : Problem → List Token → Type 0
+abbrev pub IsCause : ParseProblem → List Token → Type 0
 IsCause Unexpected ts = ¬ BeginsAny ts
 IsCause TooHigh ts = BeginsAny ts
 
 -- The first token such that no program within the limit begins with the tokens up to it stands at this place.
-pub record IsFirstFault (limit : ℕ) (ts : List Token) (problem : Problem) (place : Span) : Type 0 where
+pub record IsFirstFault (limit : ℕ) (ts : List Token) (problem : ParseProblem) (place : Span) : Type 0 where
   pub before : List Token
   pub fault : Token
   pub behind : List Token

@@ -2,8 +2,12 @@
 -- says which tokens spell it.
 use Rattle.std.specs.Prelude.{◌≡◌, ℕ, ◌<◌, Bool, true, false, ◌⊎◌, List, [], ◌∷◌, length, Option, Some, None}
 use Rattle.sc_text.specs.declared.span.Span.{Span}
-use Rattle.secrec_lexer.specs.declared.sign.Sign.TheVariants.{LeftParenthesis, RightParenthesis, LeftBracket, RightBracket, LeftBrace, RightBrace, Less, Greater, Comma, Semicolon, Colon, Assign, PlusAssign, MinusAssign, StarAssign, AmpersandAssign, BarAssign, CaretAssign, Increment, Decrement, Import, Kind as KindWord, Domain as DomainWord, Template, Public, Void, If, Else, While, Do, For, Break, Continue, Return, Assert}
-use Rattle.secrec_lexer.specs.declared.token.Kind.TheVariants.{Name, Number, End}
+use Rattle.secrec_lexer.specs.declared.sign.Sign.TheVariants.{LeftParenthesis, RightParenthesis, LeftBracket, RightBracket, LeftBrace, RightBrace}
+use Rattle.secrec_lexer.specs.declared.sign.Sign.TheVariants.{Less, Greater, Comma, Semicolon, Colon, Assign, PlusAssign, MinusAssign, StarAssign}
+use Rattle.secrec_lexer.specs.declared.sign.Sign.TheVariants.{AmpersandAssign, BarAssign, CaretAssign, Increment, Decrement, Import, Kind as KindWord}
+use Rattle.secrec_lexer.specs.declared.sign.Sign.TheVariants.{Domain as DomainWord, Template, Public, Void, If, Else, While, Do, For, Break, Continue}
+use Rattle.secrec_lexer.specs.declared.sign.Sign.TheVariants.{Return, Assert}
+use Rattle.secrec_lexer.specs.declared.token.TokenKind.TheVariants.{Name, Number, End}
 use Rattle.secrec_ast.specs.declared.expression.Operator.{Operator}
 use Rattle.secrec_ast.specs.declared.expression.Operator.TheVariants.{Add, Subtract, Multiply, And, Or, Xor}
 use Rattle.secrec_ast.specs.declared.statement.Identifier.{Identifier}
@@ -15,7 +19,10 @@ use Rattle.secrec_ast.specs.declared.function.Parameter.{Parameter}
 use Rattle.secrec_ast.specs.declared.function.ResultType.{ResultType}
 use Rattle.secrec_ast.specs.declared.function.ResultType.TheVariants as results
 use Rattle.secrec_ast.specs.Tree.{Tree, number}
-use Rattle.secrec_ast.specs.Statements.{DeclarationTree, TargetTree, AssignmentTree, StartTree, starts_with_nothing, starts_with_declaration, starts_with_assignment, StepTree, steps_by_nothing, steps_by_assignment, steps_by_expression, StatementTree, StatementTrees, block, empty, branch, choice, while_loop, do_loop, for_loop, breaks, continues, returns, assertion, declaration, assignment, evaluation, none, also}
+use Rattle.secrec_ast.specs.Statements.{DeclarationTree, TargetTree, AssignmentTree, StartTree, starts_with_nothing, starts_with_declaration}
+use Rattle.secrec_ast.specs.Statements.{starts_with_assignment, StepTree, steps_by_nothing, steps_by_assignment, steps_by_expression, StatementTree}
+use Rattle.secrec_ast.specs.Statements.{StatementTrees, block, empty, branch, choice, while_loop, do_loop, for_loop, breaks, continues, returns}
+use Rattle.secrec_ast.specs.Statements.{assertion, declaration, assignment, evaluation, none, also}
 use Rattle.secrec_ast.specs.Programs.{BlockTree, FunctionTree, ItemTree, imports, kind, domain, defines, ProgramTree}
 use Rattle.secrec_parser.specs.Sugar.{updated}
 use Rattle.expression_parser.specs.Phrases.{Phrase, nothing, one_at, one, sign_at, sign, ◌then◌}
@@ -121,7 +128,8 @@ IsStep (steps_by_expression e) ts = IsExpression loosest e ts
 -- the parentheses of a `for`
 abbrev pub heading : StartTree → Option Tree → StepTree → Phrase
 heading a e b ts =
-    (sign LeftParenthesis then IsStart a then sign Semicolon then optional (IsExpression loosest) e then sign Semicolon then IsStep b then sign RightParenthesis) ts
+    (sign LeftParenthesis then IsStart a then sign Semicolon then optional (IsExpression loosest) e then sign Semicolon then IsStep b then sign
+    RightParenthesis) ts
 
 -- no `if` at its end waits for an `else`
 abbrev pub Closed : StatementTree → Type 0
@@ -186,7 +194,8 @@ IsBlock b ts = (sign_at b.place LeftBrace then AreStatements false b.statements 
 
 abbrev pub IsFunction : FunctionTree → Phrase
 IsFunction f ts =
-    (IsTemplate f.variables then IsResult f.returned then identifier f.function then sign LeftParenthesis then AreParameters f.parameters then sign RightParenthesis then IsBlock f.body) ts
+    (IsTemplate f.variables then IsResult f.returned then identifier f.function then sign LeftParenthesis then AreParameters f.parameters then sign
+    RightParenthesis then IsBlock f.body) ts
 
 -- Programs
 

@@ -5,12 +5,13 @@ ghost use Rattle.secrec_ast.specs.Tree.{expression};
 ghost use Rattle.secrec_ast.specs.Statements.{assignment_tree, optional, statement, step_tree, target_tree};
 ghost use Rattle.secrec_ast.specs.Heights.{height, optional_height, target_height};
 ghost use Rattle.secrec_parser.specs.Sugar.{held, updated};
-ghost use Rattle.secrec_parser.specs.Steps.{action, assigned, assignment_step, is_update, least_height, statement_of, step_of, target_index, update_of, value_by};
-ghost use Rattle.secrec_parser.specs.Given.{action_tree, Takes};
+ghost use Rattle.secrec_parser.specs.inner.Steps.{action, assigned, assignment_step, is_update, least_height, statement_of, step_of, target_index};
+ghost use Rattle.secrec_parser.specs.inner.Steps.{update_of, value_by};
+ghost use Rattle.secrec_parser.specs.inner.Given.{action_tree, Takes};
 
 use crate::declaration::operand;
 use crate::tokens::at_sign;
-use expression_parser::{Problem, Read, Stopped, expect, expression, identifier};
+use expression_parser::{ParseProblem, Read, Stopped, expect, expression, identifier};
 use secrec_ast::{Assignment, Expression, ForStep, Operator, Statement, Target};
 use secrec_lexer::{Sign, Token};
 use std::alloc::{AllocError, Global};
@@ -151,15 +152,15 @@ fn value_by<'a>(
     target: &Target,
     update: Update,
     tokens: &'a [Token],
-    room: u8,
+    max_height: u8,
 ) -> Read<'a, Expression>
-    requires { 2 ≤ room }
-    ensures { Takes (λ x. (expression x.0, x.1.now)) result (value_by room (target_tree target.now) update tokens.now) (length tokens.now + 1) }
+    requires { 2 ≤ max_height }
+    ensures { Takes (λ x. (expression x.0, x.1.now)) result (value_by max_height (target_tree target.now) update tokens.now) (length tokens.now + 1) }
 {
     match update {
-        Update::Plain => operand(alloc, tokens, room - 1),
+        Update::Plain => operand(alloc, tokens, max_height - 1),
         Update::Compound(operator) => {
-            let (right, rest) = operand(alloc, tokens, room - 2)?;
+            let (right, rest) = operand(alloc, tokens, max_height - 2)?;
             Ok((updated(alloc, target, operator, right)?, rest))
         }
         Update::Step(operator) => {
@@ -169,79 +170,85 @@ fn value_by<'a>(
     }
 }
 
-/// What a target of this height gets, in an assignment of at most this room's height.
+/// What a target of this height gets, in an assignment of at most this height.
 fn assigned<'a>(
     alloc: Global,
     target: Target,
     height: u8,
     tokens: &'a [Token],
-    room: u8,
+    max_height: u8,
 ) -> Read<'a, Assignment>
     requires { height ≡ target_height (target_tree target) }
-    ensures { Takes (λ x. (assignment_tree x.0, x.1.now)) result (assigned room (target_tree target) tokens.now) (length tokens.now) }
+    ensures { Takes (λ x. (assignment_tree x.0, x.1.now)) result (assigned max_height (target_tree target) tokens.now) (length tokens.now) }
 {
     let Some((token, rest)) = tokens.split_first() else {
-        return Err(Stopped::At(Problem::Unexpected, tokens));
+        return Err(Stopped::At(ParseProblem::Unexpected, tokens));
     };
     let Some(update) = update_of(token) else {
-        return Err(Stopped::At(Problem::Unexpected, tokens));
+        return Err(Stopped::At(ParseProblem::Unexpected, tokens));
     };
-    if u16::from(room) < update.least_height(height) {
-        return Err(Stopped::At(Problem::TooHigh, tokens));
+    if u16::from(max_height) < update.least_height(height) {
+        return Err(Stopped::At(ParseProblem::TooHigh, tokens));
     }
-    let (value, rest) = value_by(alloc, &target, update, rest, room)?;
+    let (value, rest) = value_by(alloc, &target, update, rest, max_height)?;
     Ok((Assignment { target, value }, rest))
 }
 
-/// The index of a target if there is one, and its height, in an assignment of at most this room's height.
+/// The index of a target if there is one, and its height, in an assignment of at most this height.
 fn target_index<'a>(
     alloc: Global,
     tokens: &'a [Token],
-    room: u8,
+    max_height: u8,
 ) -> Read<'a, (Option<Expression>, u8)>
-    ensures step { Takes (λ x. (optional x.0.0, x.1.now)) result (target_index room tokens.now) (length tokens.now + 1) }
+    ensures step { Takes (λ x. (optional x.0.0, x.1.now)) result (target_index max_height tokens.now) (length tokens.now + 1) }
     ensures height { IfOk result (λ x. (x.0.1 ≡ optional_height (optional x.0.0)) × (x.0.1 < 255)) }
 {
     if !at_sign(Sign::LeftBracket, tokens) {
         return Ok(((None, 0), tokens));
     }
-    if room < 3 {
-        return Err(Stopped::At(Problem::TooHigh, tokens));
+    if max_height < 3 {
+        return Err(Stopped::At(ParseProblem::TooHigh, tokens));
     }
     let (_, rest) = expect(Sign::LeftBracket, tokens)?;
-    let (parsed, rest) = expression(alloc, rest, room - 2)?;
+    let (parsed, rest) = expression(alloc, rest, max_height - 2)?;
     let (_, rest) = expect(Sign::RightBracket, rest)?;
     Ok(((Some(parsed.tree), parsed.height), rest))
 }
 
 /// An assignment of at most this height.
-#[tactic(auto, unfolding(crate::specs::Steps::assignment_step))]
-pub fn assignment<'a>(alloc: Global, tokens: &'a [Token], room: u8) -> Read<'a, Assignment>
-    ensures { Takes (λ x. (assignment_tree x.0, x.1.now)) result (assignment_step room tokens.now) (length tokens.now) }
+#[tactic(auto, unfolding(crate::specs::inner::Steps::assignment_step))]
+pub fn assignment<'a>(alloc: Global, tokens: &'a [Token], max_height: u8) -> Read<'a, Assignment>
+    ensures { Takes (λ x. (assignment_tree x.0, x.1.now)) result (assignment_step max_height tokens.now) (length tokens.now) }
 {
     let (variable, rest) = identifier(alloc, tokens)?;
-    let ((index, height), rest) = target_index(alloc, rest, room)?;
-    assigned(alloc, Target { variable, index }, height + 1, rest, room)
+    let ((index, height), rest) = target_index(alloc, rest, max_height)?;
+    assigned(
+        alloc,
+        Target { variable, index },
+        height + 1,
+        rest,
+        max_height,
+    )
 }
 
 /// An expression of at most the first height, or an assignment of at most the second.
-#[tactic(auto, unfolding(crate::specs::Steps::action))]
+#[tactic(auto, unfolding(crate::specs::inner::Steps::action))]
 pub fn assignment_or_expression<'a>(
     alloc: Global,
     tokens: &'a [Token],
-    expression_room: u8,
-    room: u8,
+    expression_height: u8,
+    max_height: u8,
 ) -> Read<'a, Action>
-    ensures { Takes (λ x. (action_tree x.0, x.1.now)) result (action expression_room room tokens.now) (length tokens.now) }
+    ensures { Takes (λ x. (action_tree x.0, x.1.now)) result (action expression_height max_height tokens.now) (length tokens.now) }
 {
-    let (parsed, rest) = expression(alloc, tokens, expression_room)?;
+    let (parsed, rest) = expression(alloc, tokens, expression_height)?;
     if !is_update(rest) {
         return Ok((Action::Expression(parsed.tree), rest));
     }
     let height = parsed.height;
     let Some(target) = parsed.tree.into_target() else {
-        return Err(Stopped::At(Problem::Unexpected, rest));
+        return Err(Stopped::At(ParseProblem::Unexpected, rest));
     };
-    let (assignment, rest) = assigned(alloc, target, height, rest, room)?;
+    let (assignment, rest) = assigned(alloc, target, height, rest, max_height)?;
     Ok((Action::Assignment(assignment), rest))
 }

@@ -2,8 +2,9 @@
 
 ghost use Rattle.std.specs.Prelude.{◌≡◌, ◌+◌, [], ◌∷◌, length, map};
 ghost use Rattle.secrec_ast.specs.Programs.{block_tree, function_tree};
-ghost use Rattle.secrec_parser.specs.Steps.{body, comma_then, constraint, domain_variable, function_step, listed, no_comma, no_more_variables, parameter, parameter_list, parameters, result_type, template};
-ghost use Rattle.secrec_parser.specs.Given.{Takes};
+ghost use Rattle.secrec_parser.specs.inner.Steps.{body, comma_then, constraint, domain_variable, function_step, listed, no_comma, no_more_variables};
+ghost use Rattle.secrec_parser.specs.inner.Steps.{parameter, parameter_list, parameters, result_type, template};
+ghost use Rattle.secrec_parser.specs.inner.Given.{Takes};
 
 use crate::statement::braced;
 use crate::tokens::at_sign;
@@ -28,7 +29,7 @@ fn constraint<'a>(alloc: Global, tokens: &'a [Token]) -> Read<'a, Option<Identif
     Ok((Some(kind), rest))
 }
 
-#[tactic(auto, unfolding(crate::specs::Steps::domain_variable))]
+#[tactic(auto, unfolding(crate::specs::inner::Steps::domain_variable))]
 fn domain_variable<'a>(alloc: Global, tokens: &'a [Token]) -> Read<'a, DomainVariable>
     ensures { Takes (λ x. (x.0, x.1.now)) result (domain_variable tokens.now) (length tokens.now) }
 {
@@ -59,7 +60,7 @@ fn more_variables<'a>(
 }
 
 /// The domain variables of a function; none where it is no template.
-#[tactic(auto, unfolding(crate::specs::Steps::template))]
+#[tactic(auto, unfolding(crate::specs::inner::Steps::template))]
 fn template<'a>(alloc: Global, tokens: &'a [Token]) -> Read<'a, Vec<DomainVariable>>
     ensures { Takes (λ x. (x.0.items, x.1.now)) result (template tokens.now) (length tokens.now + 1) }
 {
@@ -73,7 +74,7 @@ fn template<'a>(alloc: Global, tokens: &'a [Token]) -> Read<'a, Vec<DomainVariab
     closed(variables, expect(Sign::Greater, rest))
 }
 
-#[tactic(auto, unfolding(crate::specs::Steps::result_type))]
+#[tactic(auto, unfolding(crate::specs::inner::Steps::result_type))]
 fn result_type<'a>(alloc: Global, tokens: &'a [Token]) -> Read<'a, ResultType>
     ensures { Takes (λ x. (x.0, x.1.now)) result (result_type tokens.now) (length tokens.now) }
 {
@@ -86,7 +87,7 @@ fn result_type<'a>(alloc: Global, tokens: &'a [Token]) -> Read<'a, ResultType>
     }
 }
 
-#[tactic(auto, unfolding(crate::specs::Steps::parameter))]
+#[tactic(auto, unfolding(crate::specs::inner::Steps::parameter))]
 fn parameter<'a>(alloc: Global, tokens: &'a [Token]) -> Read<'a, Parameter>
     ensures { Takes (λ x. (x.0, x.1.now)) result (parameter tokens.now) (length tokens.now) }
 {
@@ -115,7 +116,7 @@ fn more_parameters<'a>(
     Ok((found, rest))
 }
 
-#[tactic(auto, unfolding(crate::specs::Steps::parameters))]
+#[tactic(auto, unfolding(crate::specs::inner::Steps::parameters))]
 fn parameters<'a>(alloc: Global, tokens: &'a [Token]) -> Read<'a, Vec<Parameter>>
     ensures { Takes (λ x. (x.0.items, x.1.now)) result (parameters tokens.now) (length tokens.now + 1) }
 {
@@ -127,7 +128,7 @@ fn parameters<'a>(alloc: Global, tokens: &'a [Token]) -> Read<'a, Vec<Parameter>
 }
 
 /// The parameters of a function, in their parentheses.
-#[tactic(auto, unfolding(crate::specs::Steps::parameter_list))]
+#[tactic(auto, unfolding(crate::specs::inner::Steps::parameter_list))]
 fn parameter_list<'a>(alloc: Global, tokens: &'a [Token]) -> Read<'a, Vec<Parameter>>
     ensures { Takes (λ x. (x.0.items, x.1.now)) result (parameter_list tokens.now) (length tokens.now) }
 {
@@ -136,25 +137,25 @@ fn parameter_list<'a>(alloc: Global, tokens: &'a [Token]) -> Read<'a, Vec<Parame
     closed(found, expect(Sign::RightParenthesis, rest))
 }
 
-/// A function's body; room is the greatest height of its statements.
-#[tactic(auto, unfolding(crate::specs::Steps::body))]
-fn body<'a>(alloc: Global, tokens: &'a [Token], room: u8) -> Read<'a, Block>
-    ensures { Takes (λ x. (block_tree x.0, x.1.now)) result (body room tokens.now) (length tokens.now) }
+/// A function's body; `max_height` is the greatest height of its statements.
+#[tactic(auto, unfolding(crate::specs::inner::Steps::body))]
+fn body<'a>(alloc: Global, tokens: &'a [Token], max_height: u8) -> Read<'a, Block>
+    ensures { Takes (λ x. (block_tree x.0, x.1.now)) result (body max_height tokens.now) (length tokens.now) }
 {
     let (place, rest) = expect(Sign::LeftBrace, tokens)?;
-    let (statements, rest) = braced(alloc, rest, room, false)?;
+    let (statements, rest) = braced(alloc, rest, max_height, false)?;
     Ok((Block { place, statements }, rest))
 }
 
-#[tactic(auto, unfolding(crate::specs::Steps::function_step))]
-pub fn function<'a>(alloc: Global, tokens: &'a [Token], room: u8) -> Read<'a, Function>
-    ensures { Takes (λ x. (function_tree x.0, x.1.now)) result (function_step room tokens.now) (length tokens.now) }
+#[tactic(auto, unfolding(crate::specs::inner::Steps::function_step))]
+pub fn function<'a>(alloc: Global, tokens: &'a [Token], max_height: u8) -> Read<'a, Function>
+    ensures { Takes (λ x. (function_tree x.0, x.1.now)) result (function_step max_height tokens.now) (length tokens.now) }
 {
     let (variables, rest) = template(alloc, tokens)?;
     let (result, rest) = result_type(alloc, rest)?;
     let (function, rest) = identifier(alloc, rest)?;
     let (parameters, rest) = parameter_list(alloc, rest)?;
-    let (body, rest) = body(alloc, rest, room)?;
+    let (body, rest) = body(alloc, rest, max_height)?;
     let function = Function {
         variables,
         result,

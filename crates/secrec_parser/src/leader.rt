@@ -1,9 +1,9 @@
 // What a statement is, as far as its first token tells.
 
 ghost use Rattle.std.specs.Prelude.{◌≡◌};
-ghost use Rattle.secrec_parser.specs.Steps.{leader_of, least, is_type, name_leader};
+ghost use Rattle.secrec_parser.specs.inner.Steps.{leader_of, least, is_type, name_leader};
 
-use secrec_lexer::{Kind, Sign, Token};
+use secrec_lexer::{Sign, Token, TokenKind};
 
 /// What a statement is, as far as its first token tells.
 #[derive(Clone, Copy)]
@@ -80,7 +80,7 @@ fn name_leader(token: &Token) -> Leader
     ensures { result ≡ name_leader token.now.kind }
 {
     match token.kind {
-        Kind::Name(_) => Leader::Name,
+        TokenKind::Name(_) => Leader::Name,
         _ => Leader::Expression,
     }
 }

@@ -1,4 +1,4 @@
-use expression_parser::Problem;
+use expression_parser::ParseProblem;
 use sc_text::Span;
 
 /// Why there is no program.
@@ -7,5 +7,5 @@ pub enum ParseErr {
     /// Memory ran short.
     Memory,
     /// The tokens are refused for their first fault, which is the token at this place.
-    Refused { problem: Problem, place: Span },
+    Refused { problem: ParseProblem, place: Span },
 }

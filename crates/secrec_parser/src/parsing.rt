@@ -9,7 +9,7 @@ ghost use Rattle.secrec_parser.specs.Answer.{IsTree, RefusesAtFault, refusal_at}
 
 use crate::parse_err::ParseErr;
 use crate::program::program;
-use expression_parser::{Problem, Stopped};
+use expression_parser::{ParseProblem, Stopped};
 use secrec_ast::Program;
 use secrec_lexer::{Token, Tokens};
 use std::alloc::Global;
@@ -38,7 +38,7 @@ pub fn parse(alloc: Global, tokens: &Tokens) -> Result<Program, ParseErr>
 }
 
 /// The refusal at the first of these tokens.
-fn refusal(problem: Problem, rest: &[Token]) -> ParseErr
+fn refusal(problem: ParseProblem, rest: &[Token]) -> ParseErr
     requires { 0 < length rest.now }
     ensures { refusal_at problem rest.now result }
 {

@@ -2,8 +2,8 @@
 
 ghost use Rattle.std.specs.Prelude.{◌≡◌, ◌+◌, ◌-◌, ◌≤◌, true, length, map};
 ghost use Rattle.secrec_ast.specs.Statements.{statement};
-ghost use Rattle.secrec_parser.specs.Steps.{braced, do_step, for_step, if_step, least, led, statement_at_most, while_step};
-ghost use Rattle.secrec_parser.specs.Given.{Takes};
+ghost use Rattle.secrec_parser.specs.inner.Steps.{braced, do_step, for_step, if_step, least, led, statement_at_most, while_step};
+ghost use Rattle.secrec_parser.specs.inner.Given.{Takes};
 
 use crate::declaration::parenthesised;
 use crate::leader::{Leader, leader_of};
@@ -11,7 +11,7 @@ use crate::simple::{
     action_statement, declaration_statement, do_test, for_heading, name_statement, short_statement,
 };
 use crate::tokens::at_sign;
-use expression_parser::{Problem, Read, Stopped, boxed, closed, expect};
+use expression_parser::{ParseProblem, Read, Stopped, boxed, closed, expect};
 use sc_text::Span;
 use secrec_ast::Statement;
 use secrec_lexer::{Sign, Token};
@@ -19,48 +19,54 @@ use std::alloc::Global;
 
 /// A statement of at most this height, inside a loop or not.
 #[cycle(statements)]
-fn statement<'a>(alloc: Global, tokens: &'a [Token], room: u8, inside: bool) -> Read<'a, Statement>
-    ensures { Takes (λ x. (statement x.0, x.1.now)) result (statement_at_most room inside tokens.now) (length tokens.now) }
+fn statement<'a>(
+    alloc: Global,
+    tokens: &'a [Token],
+    max_height: u8,
+    inside: bool,
+) -> Read<'a, Statement>
+    ensures { Takes (λ x. (statement x.0, x.1.now)) result (statement_at_most max_height inside tokens.now) (length tokens.now) }
 {
     let Some((token, rest)) = tokens.split_first() else {
-        return Err(Stopped::At(Problem::Unexpected, tokens));
+        return Err(Stopped::At(ParseProblem::Unexpected, tokens));
     };
     let leader = leader_of(token, inside);
-    if room < leader.least_height() {
-        return Err(Stopped::At(Problem::TooHigh, tokens));
+    if max_height < leader.least_height() {
+        return Err(Stopped::At(ParseProblem::TooHigh, tokens));
     }
     match leader {
-        Leader::Declaration => declaration_statement(alloc, tokens, room - 1),
-        Leader::Name => name_statement(alloc, tokens, rest, room),
-        Leader::Expression => action_statement(alloc, tokens, room),
-        _ => led(alloc, leader, token.place, rest, room, inside),
+        Leader::Declaration => declaration_statement(alloc, tokens, max_height - 1),
+        Leader::Name => name_statement(alloc, tokens, rest, max_height),
+        Leader::Expression => action_statement(alloc, tokens, max_height),
+        _ => led(alloc, leader, token.place, rest, max_height, inside),
     }
 }
 
 /// A statement that a keyword, a brace or a semicolon led, which stands before the tokens.
 #[cycle(statements)]
-#[tactic(auto, unfolding(crate::specs::Steps::led))]
+#[tactic(auto, unfolding(crate::specs::inner::Steps::led))]
 fn led<'a>(
     alloc: Global,
     leader: Leader,
     place: Span,
     tokens: &'a [Token],
-    room: u8,
+    max_height: u8,
     inside: bool,
 ) -> Read<'a, Statement>
-    requires { least leader ≤ room }
-    ensures { Takes (λ x. (statement x.0, x.1.now)) result (led leader room (statement_at_most (room - 1)) inside place tokens.now) (length tokens.now + 1) }
+    requires { least leader ≤ max_height }
+    ensures { Takes (λ x. (statement x.0, x.1.now)) result (led leader max_height (statement_at_most (max_height - 1)) inside place tokens.now)
+        (length tokens.now + 1) }
 {
     match leader {
         Leader::Block => {
-            let (statements, rest) = braced(alloc, tokens, room - 1, inside)?;
+            let (statements, rest) = braced(alloc, tokens, max_height - 1, inside)?;
             Ok((Statement::Block(place, statements), rest))
         }
-        Leader::If => if_statement(alloc, place, tokens, room - 1, inside),
-        Leader::While => while_statement(alloc, place, tokens, room - 1),
-        Leader::DoWhile => do_statement(alloc, place, tokens, room - 1),
-        Leader::For => for_statement(alloc, place, tokens, room - 1),
-        _ => short_statement(alloc, leader, place, tokens, room),
+        Leader::If => if_statement(alloc, place, tokens, max_height - 1, inside),
+        Leader::While => while_statement(alloc, place, tokens, max_height - 1),
+        Leader::DoWhile => do_statement(alloc, place, tokens, max_height - 1),
+        Leader::For => for_statement(alloc, place, tokens, max_height - 1),
+        _ => short_statement(alloc, leader, place, tokens, max_height),
     }
 }
 
@@ -69,15 +75,15 @@ fn led<'a>(
 pub fn braced<'a>(
     alloc: Global,
     tokens: &'a [Token],
-    room: u8,
+    max_height: u8,
     inside: bool,
 ) -> Read<'a, Vec<Statement>>
-    ensures { Takes (λ x. (map statement x.0.items, x.1.now)) result (braced (statement_at_most room inside) tokens.now) (length tokens.now) }
+    ensures { Takes (λ x. (map statement x.0.items, x.1.now)) result (braced (statement_at_most max_height inside) tokens.now) (length tokens.now) }
 {
     let mut found = Vec::new(alloc);
     let mut rest = tokens;
     while !at_sign(Sign::RightBrace, rest) {
-        let (next, behind) = statement(alloc, rest, room, inside)?;
+        let (next, behind) = statement(alloc, rest, max_height, inside)?;
         found.push(next)?;
         rest = behind;
     }
@@ -85,72 +91,72 @@ pub fn braced<'a>(
 }
 
 #[cycle(statements)]
-#[tactic(auto, unfolding(crate::specs::Steps::if_step))]
+#[tactic(auto, unfolding(crate::specs::inner::Steps::if_step))]
 fn if_statement<'a>(
     alloc: Global,
     place: Span,
     tokens: &'a [Token],
-    room: u8,
+    max_height: u8,
     inside: bool,
 ) -> Read<'a, Statement>
-    ensures { Takes (λ x. (statement x.0, x.1.now)) result (if_step room (statement_at_most room inside) place tokens.now) (length tokens.now) }
+    ensures { Takes (λ x. (statement x.0, x.1.now)) result (if_step max_height (statement_at_most max_height inside) place tokens.now) (length tokens.now) }
 {
-    let (test, rest) = parenthesised(alloc, tokens, room)?;
-    let first = statement(alloc, rest, room, inside);
+    let (test, rest) = parenthesised(alloc, tokens, max_height)?;
+    let first = statement(alloc, rest, max_height, inside);
     let (body, rest) = boxed(alloc, first)?;
     if !at_sign(Sign::Else, rest) {
         return Ok((Statement::If(place, test, body, None), rest));
     }
     let (_, rest) = expect(Sign::Else, rest)?;
-    let second = statement(alloc, rest, room, inside);
+    let second = statement(alloc, rest, max_height, inside);
     let (other, rest) = boxed(alloc, second)?;
     Ok((Statement::If(place, test, body, Some(other)), rest))
 }
 
 #[cycle(statements)]
-#[tactic(auto, unfolding(crate::specs::Steps::while_step))]
+#[tactic(auto, unfolding(crate::specs::inner::Steps::while_step))]
 fn while_statement<'a>(
     alloc: Global,
     place: Span,
     tokens: &'a [Token],
-    room: u8,
+    max_height: u8,
 ) -> Read<'a, Statement>
-    ensures { Takes (λ x. (statement x.0, x.1.now)) result (while_step room (statement_at_most room true) place tokens.now) (length tokens.now) }
+    ensures { Takes (λ x. (statement x.0, x.1.now)) result (while_step max_height (statement_at_most max_height true) place tokens.now) (length tokens.now) }
 {
-    let (test, rest) = parenthesised(alloc, tokens, room)?;
-    let body = statement(alloc, rest, room, true);
+    let (test, rest) = parenthesised(alloc, tokens, max_height)?;
+    let body = statement(alloc, rest, max_height, true);
     let (body, rest) = boxed(alloc, body)?;
     Ok((Statement::While(place, test, body), rest))
 }
 
 #[cycle(statements)]
-#[tactic(auto, unfolding(crate::specs::Steps::do_step))]
+#[tactic(auto, unfolding(crate::specs::inner::Steps::do_step))]
 fn do_statement<'a>(
     alloc: Global,
     place: Span,
     tokens: &'a [Token],
-    room: u8,
+    max_height: u8,
 ) -> Read<'a, Statement>
-    ensures { Takes (λ x. (statement x.0, x.1.now)) result (do_step room (statement_at_most room true) place tokens.now) (length tokens.now) }
+    ensures { Takes (λ x. (statement x.0, x.1.now)) result (do_step max_height (statement_at_most max_height true) place tokens.now) (length tokens.now) }
 {
-    let body = statement(alloc, tokens, room, true);
+    let body = statement(alloc, tokens, max_height, true);
     let (body, rest) = boxed(alloc, body)?;
-    do_test(alloc, place, body, rest, room)
+    do_test(alloc, place, body, rest, max_height)
 }
 
 #[cycle(statements)]
-#[tactic(auto, unfolding(crate::specs::Steps::for_step))]
+#[tactic(auto, unfolding(crate::specs::inner::Steps::for_step))]
 fn for_statement<'a>(
     alloc: Global,
     place: Span,
     tokens: &'a [Token],
-    room: u8,
+    max_height: u8,
 ) -> Read<'a, Statement>
-    requires { 1 ≤ room }
-    ensures { Takes (λ x. (statement x.0, x.1.now)) result (for_step room (statement_at_most room true) place tokens.now) (length tokens.now) }
+    requires { 1 ≤ max_height }
+    ensures { Takes (λ x. (statement x.0, x.1.now)) result (for_step max_height (statement_at_most max_height true) place tokens.now) (length tokens.now) }
 {
-    let (heading, rest) = for_heading(alloc, tokens, room)?;
-    let body = statement(alloc, rest, room, true);
+    let (heading, rest) = for_heading(alloc, tokens, max_height)?;
+    let body = statement(alloc, rest, max_height, true);
     let (body, rest) = boxed(alloc, body)?;
     Ok((heading.into_statement(place, body), rest))
 }

@@ -1,14 +1,14 @@
 // Single tokens.
 
 ghost use Rattle.std.specs.Prelude.{◌≡◌, IfOk};
-ghost use Rattle.secrec_parser.specs.Steps.{at_sign, at_end, place_at};
+ghost use Rattle.secrec_parser.specs.inner.Steps.{at_sign, at_end, place_at};
 ghost use Rattle.expression_parser.specs.Steps.{operator_at};
 ghost use Rattle.expression_parser.specs.Given.{Gives};
 
-use expression_parser::{Problem, Read, Stopped};
+use expression_parser::{ParseProblem, Read, Stopped};
 use sc_text::Span;
 use secrec_ast::Operator;
-use secrec_lexer::{Kind, Sign, Token};
+use secrec_lexer::{Sign, Token, TokenKind};
 
 /// Whether the next token is this sign.
 pub fn at_sign(sign: Sign, tokens: &[Token]) -> bool
@@ -25,7 +25,7 @@ pub fn at_end(tokens: &[Token]) -> bool
     ensures { result ≡ at_end tokens.now }
 {
     match tokens.split_first() {
-        Some((token, _)) => matches!(token.kind, Kind::End),
+        Some((token, _)) => matches!(token.kind, TokenKind::End),
         None => false,
     }
 }
@@ -37,7 +37,7 @@ pub fn place_at<'a>(tokens: &'a [Token]) -> Read<'a, Span>
 {
     match tokens.split_first() {
         Some((token, _)) => Ok((token.place, tokens)),
-        None => Err(Stopped::At(Problem::Unexpected, tokens)),
+        None => Err(Stopped::At(ParseProblem::Unexpected, tokens)),
     }
 }
 
@@ -45,7 +45,7 @@ pub fn place_at<'a>(tokens: &'a [Token]) -> Read<'a, Span>
 pub fn operator_of(token: &Token) -> Option<Operator>
     ensures { result ≡ operator_at token.now.kind }
 {
-    let Kind::Sign(sign) = token.kind else {
+    let TokenKind::Sign(sign) = token.kind else {
         return None;
     };
     match sign {

@@ -1,13 +1,13 @@
 // Types as they are declared.
 
 ghost use Rattle.std.specs.Prelude.{◌≡◌, ◌+◌, length};
-ghost use Rattle.secrec_parser.specs.Steps.{brackets, declared_type, dimension, optional_domain, zero_or_one};
-ghost use Rattle.secrec_parser.specs.Given.{Takes};
+ghost use Rattle.secrec_parser.specs.inner.Steps.{brackets, declared_type, dimension, optional_domain, zero_or_one};
+ghost use Rattle.secrec_parser.specs.inner.Given.{Takes};
 
 use crate::tokens::{at_sign, place_at};
-use expression_parser::{Problem, Read, Stopped, closed, data_type, expect};
+use expression_parser::{ParseProblem, Read, Stopped, closed, data_type, expect};
 use secrec_ast::{DeclaredType, Domain, Identifier};
-use secrec_lexer::{Kind, Sign, Token};
+use secrec_lexer::{Sign, Token, TokenKind};
 use std::alloc::Global;
 
 /// `public`, a name, or nothing.
@@ -15,10 +15,10 @@ fn optional_domain<'a>(alloc: Global, tokens: &'a [Token]) -> Read<'a, Domain>
     ensures { Takes (λ x. (x.0, x.1.now)) result (optional_domain tokens.now) (length tokens.now + 1) }
 {
     let Some((token, rest)) = tokens.split_first() else {
-        return Err(Stopped::At(Problem::Unexpected, tokens));
+        return Err(Stopped::At(ParseProblem::Unexpected, tokens));
     };
     match &token.kind {
-        Kind::Name(text) => {
+        TokenKind::Name(text) => {
             let text = text.copy(alloc)?;
             let place = token.place;
             Ok((Domain::Named(Identifier { place, text }), rest))
@@ -38,19 +38,19 @@ fn zero_or_one<'a>(tokens: &'a [Token]) -> Read<'a, bool>
     ensures { Takes (λ x. (x.0, x.1.now)) result (zero_or_one tokens.now) (length tokens.now) }
 {
     let Some((token, rest)) = tokens.split_first() else {
-        return Err(Stopped::At(Problem::Unexpected, tokens));
+        return Err(Stopped::At(ParseProblem::Unexpected, tokens));
     };
     match token.kind {
-        Kind::Number(number) => {
+        TokenKind::Number(number) => {
             if number == 0 {
                 Ok((false, rest))
             } else if number == 1 {
                 Ok((true, rest))
             } else {
-                Err(Stopped::At(Problem::Unexpected, tokens))
+                Err(Stopped::At(ParseProblem::Unexpected, tokens))
             }
         }
-        _ => Err(Stopped::At(Problem::Unexpected, tokens)),
+        _ => Err(Stopped::At(ParseProblem::Unexpected, tokens)),
     }
 }
 
@@ -75,7 +75,7 @@ fn dimension<'a>(tokens: &'a [Token]) -> Read<'a, bool>
     }
 }
 
-#[tactic(auto, unfolding(crate::specs::Steps::declared_type))]
+#[tactic(auto, unfolding(crate::specs::inner::Steps::declared_type))]
 pub fn declared_type<'a>(alloc: Global, tokens: &'a [Token]) -> Read<'a, DeclaredType>
     ensures { Takes (λ x. (x.0, x.1.now)) result (declared_type tokens.now) (length tokens.now) }
 {

@@ -1,5 +1,5 @@
 -- A message has the shape that is wanted exactly where it has the length and its bit field has only bits.
-use Rattle.std.proofs.Common.{◌≡◌, ℕ, zero, suc, ◌+◌, ◌*◌, ◌<◌, ◌==◌, Bool, true, false, ◌&&◌, List, [], ◌∷◌, length, take, drop, refl, sym, ◌∙◌, arith, inl, inr, subst}
+use Rattle.std.proofs.Common.{◌≡◌, ℕ, zero, suc, ◌+◌, ◌*◌, ◌<◌, ◌==◌, true, List, [], ◌∷◌, length, take, drop, refl, sym, ◌∙◌, arith, inl, inr, subst}
 use Rattle.std.specs.List.{list_all}
 use Rattle.std.proofs.lemmas.List.{get_or-take, get_or-drop, get_or_past, length-take}
 use Rattle.std.proofs.lemmas.Bool.{cases_lt}
@@ -8,28 +8,12 @@ use Rattle.proto_core.specs.Protocol.{Joint}
 use Rattle.proto_core.specs.Lists.{at}
 use Rattle.proto_core.specs.Refusals.{AreBits}
 use Rattle.proto_core.specs.Strand.{accepts, is_bit}
-use Rattle.proto_core.proofs.MessageFields.{accepted-length}
+use Rattle.proto_core.proofs.MessageFields.{accepted-length, both_true, first_true, second_true, equal_test}
 use Rattle.share_convert.specs.BitLaws.{all-bits}
 use Rattle.share_convert.specs.ConvStrand.{shape12, shape13, shape23, shape32, b_of, e_of, to_two, to_three}
 use Rattle.share_convert.specs.Converting.{from_two, from_three}
 use Rattle.share_convert.specs.ConvertingLaws.{fits12, fits13, fits23, fits32_of_three}
 use Rattle.share_convert.specs.Steps.{HasBits}
-
-both_true : (a b : Bool) → a ≡ true → b ≡ true → (a && b) ≡ true
-both_true true true h k = refl
-both_true true false h k = k
-both_true false b h k = h
-
-first_true : (a b : Bool) → (a && b) ≡ true → a ≡ true
-first_true true b h = refl
-first_true false b h = h
-
-second_true : (a b : Bool) → (a && b) ≡ true → b ≡ true
-second_true true b h = h
-second_true false b h = cc
-
-equal_test : (a b : ℕ) → a ≡ b → (a == b) ≡ true
-equal_test a b h = grind arith
 
 bit_from : (x : ℕ) → is_bit x ≡ true → x < 2
 bit_from x h = grind arith

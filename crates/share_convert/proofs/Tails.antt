@@ -9,7 +9,8 @@ use Rattle.proto_core.specs.Protocol.{Joint}
 use Rattle.proto_core.specs.Resharing.{reshared}
 use Rattle.proto_core.specs.Strand.{Ends, Acts, Sent}
 use Rattle.share_convert.specs.Bits.{xor_bits, one_less_where, negative_where}
-use Rattle.share_convert.specs.ConvStrand.{Held, a_of, to_two, to_three, one_held, one_ends, awaits31, begun, two_held, two_ends, two_passes, awaits12, awaits32, three_held, three_ends, three_passes, awaits13, awaits23, conv_strand}
+use Rattle.share_convert.specs.ConvStrand.{Held, a_of, to_two, to_three, one_held, one_ends, awaits31, begun, two_held, two_ends, two_passes}
+use Rattle.share_convert.specs.ConvStrand.{awaits12, awaits32, three_held, three_ends, three_passes, awaits13, awaits23, conv_strand}
 use Rattle.share_convert.specs.Converting.{from_two, from_three, converted}
 use Rattle.share_convert.specs.ConvertingLaws.{held12, held13, two-sent, bits-three, ends-two, ends-three}
 use Rattle.share_convert.specs.Steps.{OneStarts, Got31, Got12, Got32, Got13, Got23}
@@ -26,11 +27,13 @@ module _ (n : ℕ) where
   pub started1 : (u words : List ℕ) (after : Held) (m12 m13 : List ℕ) → length u ≡ n → OneStarts u words after m12 m13 → after ≡ one_held n words
   started1 u words after m12 m13 e s = subst (λ k. after ≡ one_held k words) e (same_held after (one_held (length u) words) s.bits s.word s.mask)
 
-  pub passed12 : (before : Held) (message : List ℕ) (after : Held) (out : List ℕ) → length before.mask ≡ n → Got12 before message after out → after ≡ two_held n before message
+  pub passed12 : (before : Held) (message : List ℕ) (after : Held) (out : List ℕ) → length before.mask ≡ n → Got12 before message after out
+      → after ≡ two_held n before message
   passed12 before message after out e s =
       subst (λ k. after ≡ two_held k before message) e (same_held after (two_held (length before.mask) before message) s.bits s.word s.mask)
 
-  pub passed13 : (before : Held) (message : List ℕ) (after : Held) (out : List ℕ) → length before.mask ≡ n → Got13 before message after out → after ≡ three_held n before message
+  pub passed13 : (before : Held) (message : List ℕ) (after : Held) (out : List ℕ) → length before.mask ≡ n → Got13 before message after out
+      → after ≡ three_held n before message
   passed13 before message after out e s =
       subst (λ k. after ≡ three_held k before message) e (same_held after (three_held (length before.mask) before message) s.bits s.word s.mask)
 
@@ -75,7 +78,8 @@ module _ (n : ℕ) where
       ap (λ h. Acts (Sent Link32 h.bits) (awaits23 n h)) (sym (passed13 before message after out e s))
       ∙ ap (λ m. Acts (Sent Link32 m) (awaits23 n after)) (sym s.sent)
 
-  pub got23-is : (before : Held) (message share : List ℕ) → length before.mask ≡ n → Got23 before message share → three_ends n before message ≡ Ends (share ∷ [])
+  pub got23-is : (before : Held) (message share : List ℕ) → length before.mask ≡ n → Got23 before message share
+      → three_ends n before message ≡ Ends (share ∷ [])
   got23-is before message share e s = ap (λ k. three_ends k before message) (sym e) ∙ ap (λ x. Ends (x ∷ [])) (sym s.made)
 
 -- ---- of three miners together
@@ -92,7 +96,8 @@ pub record Begun (n : ℕ) (j : Joint) (start1 start2 start3 after2 after3 : Hel
   pub reply2 : Got12 start2 m12 after2 m23
   pub reply3 : Got13 start3 m13 after3 m32
 
-module _ (n : ℕ) (j : Joint) (start1 start2 start3 after2 after3 : Held) (m12 m13 m31 m23 m32 : List ℕ) (b : Begun n j start1 start2 start3 after2 after3 m12 m13 m31 m23 m32) where
+module _ (n : ℕ) (j : Joint) (start1 start2 start3 after2 after3 : Held) (m12 m13 m31 m23 m32 : List ℕ)
+    (b : Begun n j start1 start2 start3 after2 after3 m12 m13 m31 m23 m32) where
   pub on12 : m12 ≡ to_two n (j.words One)
   on12 = b.first.second ∙ ap (λ k. to_two k (j.words One)) b.size1
 

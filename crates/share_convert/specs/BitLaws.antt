@@ -1,5 +1,5 @@
 -- Lowest bits, element by element: what they are of an xor, and what undoes itself.
-use Rattle.std.proofs.Common.{◌≡◌, ℕ, zero, suc, ◌<◌, ◌^◌, ◌+◌, ◌-◌, ◌%◌, Bool, true, false, ◌&&◌, List, [], ◌∷◌, length, refl, sym, ◌∙◌, ap, arith, inl, inr, bit_xor}
+use Rattle.std.proofs.Common.{◌≡◌, ℕ, zero, suc, ◌<◌, ◌^◌, ◌+◌, ◌-◌, ◌%◌, true, List, [], ◌∷◌, length, refl, sym, ◌∙◌, ap, arith, inl, inr, bit_xor}
 use Rattle.std.specs.List.{list_all}
 use Rattle.std.specs.Int.Bits.{xor_self, xor_zero_r, xor_assoc}
 use Rattle.std.proofs.lemmas.Nat.{xor_lt, mod_below}
@@ -11,6 +11,8 @@ use Rattle.share_ring.proofs.Sums.{sub-sub}
 use Rattle.proto_core.specs.Lists.{at, each, AreWords}
 use Rattle.proto_core.specs.Strand.{is_bit}
 use Rattle.proto_core.proofs.Each.{length-each, at-each, at-each_past, each-ext, each-is, AreWords-each}
+use Rattle.proto_core.proofs.MessageFields.{both_true}
+use Rattle.proto_core.proofs.Refusing.{bit_test}
 use Rattle.share_convert.specs.Bits.{bit, bits, xor_bits, xor_bits_of_three, bits_less, chosen}
 use Rattle.share_convert.specs.Converting.{flipped}
 
@@ -96,14 +98,6 @@ pub AreAllBits-xor_bits_of_three : (n : ℕ) (x y z : List ℕ) → AreAllBits (
 unfolding xor_bits_of_three
 AreAllBits-xor_bits_of_three n x y z = AreAllBits-each n _ (λ k. bit-below _)
 
-both_true : (a b : Bool) → a ≡ true → b ≡ true → (a && b) ≡ true
-both_true true true h k = refl
-both_true true false h k = k
-both_true false b h k = h
-
-bit_test : (x : ℕ) → x < 2 → is_bit x ≡ true
-bit_test x h = grind arith
-
 pub all-bits : (xs : List ℕ) → AreAllBits xs → list_all is_bit xs ≡ true
 all-bits [] h = refl
 all-bits (x ∷ xs) h = both_true _ _ (bit_test x (h 0)) (all-bits xs (λ k. h (suc k)))
@@ -144,8 +138,15 @@ xor_bits-xor_bits n x y z = each-ext n _ _ (λ k h. simp (at-each, h) (bit-bit_f
 
 choice_of : (b e u2 u3 : ℕ) → bit (bit_xor (bit (bit_xor e u2)) (bit (bit_xor (bit_xor b e) u3))) ≡ bit (bit_xor (bit_xor b u2) u3)
 choice_of b e u2 u3 =
-    omega
-    (arith, bit-xor (bit (bit_xor e u2)) (bit (bit_xor (bit_xor b e) u3)), bit-xor (bit_xor b e) u3, bit-xor b e, bit-xor e u2, bit-xor (bit_xor b u2) u3, bit-xor b u2)
+    omega (
+      arith,
+      bit-xor (bit (bit_xor e u2)) (bit (bit_xor (bit_xor b e) u3)),
+      bit-xor (bit_xor b e) u3,
+      bit-xor b e,
+      bit-xor e u2,
+      bit-xor (bit_xor b u2) u3,
+      bit-xor b u2,
+    )
 
 -- what miners 2 and 3 send each other is, xored, the choice
 pub choice-is : (n : ℕ) (b e u2 u3 : List ℕ) → xor_bits n (xor_bits n e u2) (xor_bits_of_three n b e u3) ≡ xor_bits_of_three n b u2 u3

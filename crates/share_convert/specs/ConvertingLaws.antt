@@ -15,16 +15,22 @@ use Rattle.proto_core.specs.Protocol.{Joint, Fits, Lawful, with_words, strands_o
 use Rattle.proto_core.specs.Elementwise.{plus, zeros}
 use Rattle.proto_core.specs.Resharing.{reshared, sum_of_three}
 use Rattle.proto_core.proofs.Each.{at-each, each-ext}
-use Rattle.proto_core.proofs.Parts.{length-part, AreWords-part, AreWords-append, two_first, two_second, three_first, three_second, three_third, four_first, four_second, four_third, four_fourth, parts_of_four}
+use Rattle.proto_core.proofs.Parts.{length-part, AreWords-part, AreWords-append, two_first, two_second, three_first, three_second, three_third}
+use Rattle.proto_core.proofs.Parts.{four_first, four_second, four_third, four_fourth, parts_of_four}
 use Rattle.proto_core.proofs.ElementwiseLaws.{length-plus, plus-minus}
 use Rattle.proto_core.proofs.ResharingLaws.{length-reshared, AreWords-reshared, sum-reshared}
 use Rattle.proto_core.proofs.MessageFields.{accepts-words, accepts-bits, accepts-one_words, accepts-one_bits}
 use Rattle.proto_core.proofs.Beginnings.{begins-self}
 use Rattle.proto_core.proofs.Nodes.{into-is, mail-none, run-previous, run-next, run-waits_previous, run-waits_next}
 use Rattle.share_convert.specs.Bits.{bits, xor_bits, xor_bits_of_three, bits_less, one_less_where, negative_where}
-use Rattle.share_convert.specs.BitLaws.{length-bits, length-xor_bits, length-xor_bits_of_three, length-bits_less, length-flipped, AreWords-bits_less, AreWords-flipped, AreAllBits-bits, AreAllBits-xor_bits, AreAllBits-xor_bits_of_three, all-bits, AreWords-all_bits, bits-flipped, bits-flipped_by_two, flipped-twice, bits_less-twice, xor_bits-bits, xor_bits-xor_bits, choice-is, summed}
-use Rattle.share_convert.specs.ConvStrand.{Held, shape12, shape13, shape23, shape32, shape31, b_of, e_of, m_of, a_of, to_two, to_three, one_held, one_ends, begun, two_held, two_ends, two_passes, three_held, three_ends, three_passes, conv_strand}
-use Rattle.share_convert.specs.Converting.{conv_draws, conv_script, conv_messages, from_two, from_three, choice, unmasked, converted, four, two_map, three_map, three_back, conv_tape, conv_back, conv_received, conv_protocol, Converts}
+use Rattle.share_convert.specs.BitLaws.{length-bits, length-xor_bits, length-xor_bits_of_three, length-bits_less, length-flipped, AreWords-bits_less}
+use Rattle.share_convert.specs.BitLaws.{AreWords-flipped, AreAllBits-bits, AreAllBits-xor_bits, AreAllBits-xor_bits_of_three, all-bits}
+use Rattle.share_convert.specs.BitLaws.{AreWords-all_bits, bits-flipped, bits-flipped_by_two, flipped-twice, bits_less-twice, xor_bits-bits}
+use Rattle.share_convert.specs.BitLaws.{xor_bits-xor_bits, choice-is, summed}
+use Rattle.share_convert.specs.ConvStrand.{Held, shape12, shape13, shape23, shape32, shape31, b_of, e_of, m_of, a_of, to_two, to_three, one_held}
+use Rattle.share_convert.specs.ConvStrand.{one_ends, begun, two_held, two_ends, two_passes, three_held, three_ends, three_passes, conv_strand}
+use Rattle.share_convert.specs.Converting.{conv_draws, conv_script, conv_messages, from_two, from_three, choice, unmasked, converted, four, two_map}
+use Rattle.share_convert.specs.Converting.{three_map, three_back, conv_tape, conv_back, conv_received, conv_protocol, Converts}
 
 conv_matched : (n : ℕ) → Matched (conv_script n)
 conv_matched n = elim [ Link12 ↦ refl | Link13 ↦ refl | Link21 ↦ refl | Link23 ↦ refl | Link31 ↦ refl | Link32 ↦ refl ]
@@ -117,7 +123,8 @@ module _ (n : ℕ) (j : Joint) where
       let second : part n 1 (from_two n j) ≡ j.words Two = two_second n _ (j.words Two) (length-xor_bits n _ _) size in
       let f : held13.word ≡ bits_less n (b_of n (j.words One)) (j.u One) (m_of n (j.words One)) = two_first n _ _ (length-bits_less n _ _ _) in
       ap (λ x. reshared add_ring n (negative_where n (xor_bits n x held13.bits) held13.word) (j.words Three) (part n 1 (from_two n j))) first
-      ∙ ap (λ x. reshared add_ring n (negative_where n (xor_bits n (xor_bits n (e_of n (j.words One)) (j.u Two)) x) held13.word) (j.words Three) (part n 1 (from_two n j))) bits-three
+      ∙ ap (λ x. reshared add_ring n (negative_where n (xor_bits n (xor_bits n (e_of n (j.words One)) (j.u Two)) x) held13.word) (j.words Three)
+      (part n 1 (from_two n j))) bits-three
       ∙ ap (λ s. reshared add_ring n (negative_where n s held13.word) (j.words Three) (part n 1 (from_two n j))) (choice-is n _ _ _ _)
       ∙ ap (λ x. reshared add_ring n (negative_where n (choice n j) x) (j.words Three) (part n 1 (from_two n j))) f
       ∙ ap (λ a. reshared add_ring n (unmasked n j Three) (j.words Three) a) second
@@ -148,7 +155,8 @@ module _ (n : ℕ) (j : Joint) (fits : Fits conv_protocol n j) where
   whole Three =
       ap (run (conv_strand n Three (j.u Three) (j.words Three))) (into-is Three (conv_messages n j))
       ∙ ap (acted (Sent Link31 (j.words Three)))
-      (run-next Three (shape13 n) (three_passes n (begun (j.u Three) (j.words Three))) (to_three n (j.u One) (j.words One)) (from_two n j ∷ []) [] (fits13 n _ _)
+      (run-next Three (shape13 n) (three_passes n (begun (j.u Three) (j.words Three))) (to_three n (j.u One) (j.words One)) (from_two n j ∷ []) []
+      (fits13 n _ _)
       ∙ ap (acted (Sent Link32 (xor_bits n (part n 1 (to_three n (j.u One) (j.words One))) (j.u Three))))
       (run-previous Three (shape23 n) (three_ends n (held13 n j)) (from_two n j) [] [] (fits23 n _ _ _ (fits.words Two))
       ∙ ap (λ m. record { acts = []; left = three_ends n (held13 n j) (from_two n j); unread = m }) (mail-none Three)
@@ -237,7 +245,8 @@ module _ (n : ℕ) (j : Joint) (fits : Fits conv_protocol n j) where
 
 -- ---- the value
 
-summed-shares : (n : ℕ) (j : Joint) → sum_of_three add_ring n (unmasked n j One) (unmasked n j Two) (unmasked n j Three) ≡ xor_bits_of_three n (j.u One) (j.u Two) (j.u Three)
+summed-shares : (n : ℕ) (j : Joint)
+    → sum_of_three add_ring n (unmasked n j One) (unmasked n j Two) (unmasked n j Three) ≡ xor_bits_of_three n (j.u One) (j.u Two) (j.u Three)
 unfolding sum_of_three zeros one_less_where negative_where bits_less xor_bits_of_three
 summed-shares n j =
     each-ext n _ _

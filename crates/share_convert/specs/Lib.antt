@@ -4,6 +4,5 @@ pub mod Converting
 pub mod BitLaws
 pub mod ConvertingLaws
 pub mod Steps
-pub mod Together
 pub mod Parts
 pub mod Vectors

@@ -8,7 +8,7 @@ use Rattle.proto_core.specs.Protocol.{Joint}
 use Rattle.proto_core.specs.Resharing.{reshared}
 use Rattle.share_convert.specs.Bits.{bits, xor_bits, xor_bits_of_three, bits_less, one_less_where, negative_where}
 use Rattle.share_convert.specs.Converting.{conv_messages, converted, two_map, three_map, three_back, flipped}
-use Rattle.share_convert.specs.Together.{joint_of}
+use Rattle.proto_core.specs.Joints.{joint_of}
 
 -- b, e, m, a are 3, 2, 10, 0
 true_bit : Joint
@@ -42,7 +42,8 @@ shares = refl
 with_masks : Joint
 with_masks = joint_of (5 ∷ []) (6 ∷ []) (8 ∷ []) (4 ∷ 7 ∷ 100 ∷ 1000 ∷ []) (30 ∷ []) (2 ∷ [])
 
-masked_shares : converted 1 with_masks One ++ converted 1 with_masks Two ++ converted 1 with_masks Three ≡ 998 ∷ 18446744073709550746 ∷ 18446744073709551489 ∷ []
+masked_shares : converted 1 with_masks One ++ converted 1 with_masks Two ++ converted 1 with_masks Three
+    ≡ 998 ∷ 18446744073709550746 ∷ 18446744073709551489 ∷ []
 unfolding with_masks zeros one_less_where negative_where bits_less xor_bits_of_three reshared part each
 masked_shares = refl
 

@@ -2,7 +2,7 @@ ghost use Rattle.std.specs.Prelude.{◌≡◌, ◌*◌, length};
 ghost use Rattle.share_ring.specs.Rings.{add_ring};
 ghost use Rattle.proto_core.specs.Resharing.{sum_of_three};
 ghost use Rattle.share_convert.specs.Bits.{xor_bits_of_three};
-ghost use Rattle.share_convert.specs.Together.{joint_of};
+ghost use Rattle.proto_core.specs.Joints.{joint_of};
 ghost use Rattle.share_convert.specs.Parts.{AreParts};
 
 use crate::conv::{Conv, First, Sent};

@@ -49,7 +49,8 @@ module _ {r : Ring} (laws : RingLaws r) where
   rotate x y z = simp (laws.add_assoc, laws.add_comm, add-left_comm)
 
   pub add-mul : (x y z : ℕ) → r.mul (r.add x y) z ≡ r.add (r.mul x z) (r.mul y z)
-  add-mul x y z = laws.mul_comm (r.add x y) z ∙ laws.mul_add z x y ∙ ap (r.add (r.mul z x)) (laws.mul_comm z y) ∙ ap (λ n. r.add n (r.mul y z)) (laws.mul_comm z x)
+  add-mul x y z = laws.mul_comm (r.add x y) z ∙ laws.mul_add z x y ∙ ap (r.add (r.mul z x)) (laws.mul_comm z y)
+      ∙ ap (λ n. r.add n (r.mul y z)) (laws.mul_comm z x)
 
   -- each miner's three products, with masks that cancel, add up to the product of the sums
   pub products_of_three :

@@ -1,5 +1,6 @@
 -- Behind a list of gates the miners hold values that fit it.
-use Rattle.std.proofs.Common.{◌≡◌, ℕ, ◌+◌, ◌%◌, ◌<◌, ◌≤◌, Bool, List, [], ◌∷◌, ◌++◌, length, refl, sym, ◌∙◌, ap, subst, arith, inl, inr, length-append, append_assoc}
+use Rattle.std.proofs.Common.{◌≡◌, ℕ, ◌+◌, ◌%◌, ◌<◌, ◌≤◌, Bool, List, [], ◌∷◌, ◌++◌, length, refl, sym, ◌∙◌, ap, subst, arith, inl, inr}
+use Rattle.std.proofs.Common.{length-append, append_assoc}
 use Rattle.std.specs.Prelude.{Option, Some, None, slice_get}
 use Rattle.std.proofs.lemmas.Bool.{cases_lt}
 use Rattle.std.proofs.lemmas.List.{length-map, get_or_append_left}
@@ -9,9 +10,9 @@ use Rattle.proto_core.specs.declared.party.Number.{Number}
 use Rattle.proto_core.specs.declared.party.Number.TheVariants.{One}
 use Rattle.proto_core.specs.Protocol.{Joint, Protocol, Fits, Sound, AreBlocks}
 use Rattle.proto_core.proofs.Beginnings.{append-none}
-use Rattle.protocol_model.specs.Gates.{Joined, value_at, sizes_of}
+use Rattle.protocol_model.specs.Gates.{Joined, nth_value, sizes_of}
 use Rattle.protocol_model.specs.Gates as model
-use Rattle.protocol_model.specs.Runs.{Shares, Tapes, drawn, joint_of, after, after_local, run_values, run_opened, left, Ready}
+use Rattle.protocol_model.specs.Runs.{Shares, Tapes, drawn, gate_joint, after, after_local, run_values, run_opened, left, Ready}
 use Rattle.protocol_model.proofs.Sizes.{block-fits, ready-next, ready-local, sizes-append}
 use Rattle.multiply.specs.Multiplying.{mul_protocol}
 use Rattle.open_result.specs.Opening.{open_protocol}
@@ -39,8 +40,9 @@ use Rattle.shared_gates.specs.Kinds.{AllKinded}
 use Rattle.shared_gates.specs.Model.{size_made, AllSizesSuit, run_gates}
 use Rattle.shared_gates.specs.Computed.{opened_by_gate, opened_values, Computed}
 use Rattle.shared_gates.proofs.LocalGates.{laws_of, of_ring, local-held}
-use Rattle.shared_gates.proofs.Models.{value_at-value, size-value, local-size, suits-sizes}
-use Rattle.shared_gates.proofs.Gained.{one-block, two-blocks, first-block-size, second-block-size, length-two, word_of, length-word, gained-product, gained-opened, gained-reshared, gained-converted, gained-split, first-word-shares, second-word-shares}
+use Rattle.shared_gates.proofs.Models.{nth_value-value, size-value, local-size, suits-sizes}
+use Rattle.shared_gates.proofs.Gained.{one-block, two-blocks, first-block-size, second-block-size, length-two, word_of, length-word, gained-product}
+use Rattle.shared_gates.proofs.Gained.{gained-opened, gained-reshared, gained-converted, gained-split, first-word-shares, second-word-shares}
 
 -- ---- one more value
 
@@ -62,10 +64,10 @@ sizes-one : (xs : Values) (x : List ℕ) (sizes : List ℕ) (n : ℕ) → sizes_
 sizes-one xs x sizes n e f =
     sizes-append xs (x ∷ []) ∙ ap (λ s. s ++ length x ∷ []) e ∙ ap (λ k. sizes ++ k ∷ []) f
 
-counted : (xs ys : Values) → sizes_of xs ≡ sizes_of ys → length xs ≡ length ys
-counted xs ys e = sym (length-map xs length) ∙ ap length e ∙ length-map ys length
+pub same-count : (xs ys : Values) → sizes_of xs ≡ sizes_of ys → length xs ≡ length ys
+same-count xs ys e = sym (length-map xs length) ∙ ap length e ∙ length-map ys length
 
-holds-size : (kind : Kind) (xs : List ℕ) (s : Number → List ℕ) → Holds kind xs s → (i : Number) → length xs ≡ length (s i)
+pub holds-size : (kind : Kind) (xs : List ℕ) (s : Number → List ℕ) → Holds kind xs s → (i : Number) → length xs ≡ length (s i)
 holds-size (Shared ring) xs s h i = sym (h.sizes i)
 holds-size Known xs s h i = sym (ap length (h i))
 
@@ -168,16 +170,19 @@ module _ (before : Values) (x y : List ℕ) where
   makes-split inputs u negated lt split = (
     stands_at_end before x (y ∷ []) ∙ ap Some (sym first_of_two),
     second_stands ∙ ap Some (sym second_of_two),
-    subst (λ us. clear.IsSplit negated us (value with_two (length before)) (value with_two (length before + 1))) (sym (get_or_append_left before (x ∷ y ∷ []) [] u lt))
+    subst (λ us. clear.IsSplit negated us (value with_two (length before)) (value with_two (length before + 1)))
+        (sym (get_or_append_left before (x ∷ y ∷ []) [] u lt))
         (subst (λ a. clear.IsSplit negated (value before u) a (value with_two (length before + 1))) (sym first_of_two)
         (subst (λ b. clear.IsSplit negated (value before u) x b) (sym second_of_two) split)),
   )
 
 -- ---- behind a whole gate
 
-module _ (before : Values) (sizes : List ℕ) (shares : Shares) (tapes : Tapes) (p : Protocol) (n u : ℕ) (v : Option ℕ) (gates : List model.Gate) (sound : Sound p) (ready : Ready (Joined p n u v ∷ gates) shares tapes) (before_sizes : sizes_of before ≡ sizes) (share_sizes : (i : Number) → sizes_of (shares i) ≡ sizes) where
+module _ (before : Values) (sizes : List ℕ) (shares : Shares) (tapes : Tapes) (p : Protocol) (n u : ℕ) (v : Option ℕ) (gates : List model.Gate)
+    (sound : Sound p) (ready : Ready (Joined p n u v ∷ gates) shares tapes) (before_sizes : sizes_of before ≡ sizes)
+    (share_sizes : (i : Number) → sizes_of (shares i) ≡ sizes) where
   abbrev j : Joint
-  j = joint_of u v shares (drawn p n tapes)
+  j = gate_joint u v shares (drawn p n tapes)
 
   abbrev out : Number → List (List ℕ)
   out i = p.output n j i
@@ -192,7 +197,7 @@ module _ (before : Values) (sizes : List ℕ) (shares : Shares) (tapes : Tapes) 
   silent none = sym (no_words (p.opened n j) (sound.opens n j fits ∙ none))
 
   same_count : (i : Number) → length before ≡ length (shares i)
-  same_count i = counted before (shares i) (before_sizes ∙ sym (share_sizes i))
+  same_count i = same-count before (shares i) (before_sizes ∙ sym (share_sizes i))
 
   -- of one block
   module _ (made : p.made n ≡ n ∷ []) where
@@ -243,23 +248,26 @@ module _ (before : Values) (sizes : List ℕ) (shares : Shares) (tapes : Tapes) 
 
 -- ---- a list of gates
 
-module _ (dealt_kinds kinds : List Kind) (inputs : Values) (dealt : Number → Values) (ds : List ℕ) (inputs_held : AllHeld dealt_kinds inputs dealt) (inputs_sizes : sizes_of inputs ≡ ds) (dealt_sizes : (i : Number) → sizes_of (dealt i) ≡ ds) where
+module _ (dealt_kinds kinds : List Kind) (inputs : Values) (dealt : Number → Values) (ds : List ℕ) (inputs_held : AllHeld dealt_kinds inputs dealt)
+    (inputs_sizes : sizes_of inputs ≡ ds) (dealt_sizes : (i : Number) → sizes_of (dealt i) ≡ ds) where
   -- the shares of an operand
   operand-shares :
       (before : Values) (shares : Number → Values) → AllHeld kinds before shares → (ring : RingKind) (u : ℕ) → u < length before →
-      kind_at kinds u ≡ Shared ring → AreShares (ring_of ring) (value before u) (λ i. value_at (shares i) u)
+      kind_at kinds u ≡ Shared ring → AreShares (ring_of ring) (value before u) (λ i. nth_value (shares i) u)
   operand-shares before shares held ring u lt e =
       subst (λ s. AreShares (ring_of ring) (value before u) s)
-      (same_words (share_at shares u) (λ i. value_at (shares i) u) (λ i. sym (value_at-value (shares i) u)))
+      (same_words (share_at shares u) (λ i. nth_value (shares i) u) (λ i. sym (nth_value-value (shares i) u)))
       (of_ring dealt_kinds kinds inputs before dealt shares inputs_held held ring u lt e)
 
-  made_kind : (before : Values) (xs : List ℕ) (s : Number → List ℕ) (kind : Kind) → kind_at kinds (length before) ≡ kind → Holds kind xs s → Holds (kind_at kinds (length before)) xs s
+  made_kind : (before : Values) (xs : List ℕ) (s : Number → List ℕ) (kind : Kind) → kind_at kinds (length before) ≡ kind → Holds kind xs s
+      → Holds (kind_at kinds (length before)) xs s
   made_kind before xs s kind e h = subst (λ k. Holds k xs s) (sym e) h
 
   operand-size : (before : Values) (sizes : List ℕ) (u : ℕ) → sizes_of before ≡ sizes → length (value before u) ≡ size_of sizes u
   operand-size before sizes u bs = size-value before u ∙ ap (λ s. size_of s u) bs
 
-  in_place : (before : Values) (x : List ℕ) (gates : List Gate) → AllKinded dealt_kinds kinds (length before + 1) gates → AllKinded dealt_kinds kinds (length (before ++ x ∷ [])) gates
+  in_place : (before : Values) (x : List ℕ) (gates : List Gate) → AllKinded dealt_kinds kinds (length before + 1) gates
+      → AllKinded dealt_kinds kinds (length (before ++ x ∷ [])) gates
   in_place before x gates h = subst (λ k. AllKinded dealt_kinds kinds k gates) (sym (one_longer before x)) h
 
   -- what the others need behind a gate, in a state of theirs
@@ -270,24 +278,27 @@ module _ (dealt_kinds kinds : List Kind) (inputs : Values) (dealt : Number → V
 
   -- a protocol that makes one value
   joined-gate :
-      (gate : Gate) (gates : List Gate) (before : Values) (sizes : List ℕ) (shares : Shares) (tapes : Tapes) (p : Protocol) (n u : ℕ) (v : Option ℕ) (rest : List model.Gate) →
+      (gate : Gate) (gates : List Gate) (before : Values) (sizes : List ℕ) (shares : Shares) (tapes : Tapes) (p : Protocol) (n u : ℕ) (v : Option ℕ)
+      (rest : List model.Gate) →
       sizes_of before ≡ sizes → ((i : Number) → sizes_of (shares i) ≡ sizes) → AllHeld kinds before shares → MakesOne gate →
       Suits inputs before (length before) gate → Sound p → p.made n ≡ n ∷ [] → Ready (Joined p n u v ∷ rest) shares tapes →
       length (clear_value inputs before gate) ≡ n →
-      (Fits p n (joint_of u v shares (drawn p n tapes)) → ((i : Number) → AreBlocks (n ∷ []) (p.output n (joint_of u v shares (drawn p n tapes)) i)) →
-      Holds (kind_at kinds (length before)) (clear_value inputs before gate) (nth 0 (p.output n (joint_of u v shares (drawn p n tapes))))) →
-      (Fits p n (joint_of u v shares (drawn p n tapes)) → (more : Values) →
-      p.opened n (joint_of u v shares (drawn p n tapes)) ≡ opened_by_gate ((before ++ clear_value inputs before gate ∷ []) ++ more) gate) →
+      (Fits p n (gate_joint u v shares (drawn p n tapes)) → ((i : Number) → AreBlocks (n ∷ []) (p.output n (gate_joint u v shares (drawn p n tapes)) i)) →
+      Holds (kind_at kinds (length before)) (clear_value inputs before gate) (nth 0 (p.output n (gate_joint u v shares (drawn p n tapes))))) →
+      (Fits p n (gate_joint u v shares (drawn p n tapes)) → (more : Values) →
+      p.opened n (gate_joint u v shares (drawn p n tapes)) ≡ opened_by_gate ((before ++ clear_value inputs before gate ∷ []) ++ more) gate) →
       Goes gates (before ++ clear_value inputs before gate ∷ []) (sizes ++ n ∷ []) (after p n u v shares (drawn p n tapes)) rest (left p n tapes) →
       Computed kinds inputs before (gate ∷ gates) (run_values (Joined p n u v ∷ rest) shares tapes) (run_opened (Joined p n u v ∷ rest) shares tapes)
   joined-gate gate gates before sizes shares tapes p n u v rest bs ss held one suits sound made ready size gained opens goes =
       let x : List ℕ = clear_value inputs before gate in
       let f = fits before sizes shares tapes p n u v rest sound ready bs ss in
-      go_on kinds inputs before (x ∷ []) gate gates _ (p.opened n (joint_of u v shares (drawn p n tapes))) _ suits (makes-one inputs before gate one suits) (makes_one_count gate one)
+      go_on kinds inputs before (x ∷ []) gate gates _ (p.opened n (gate_joint u v shares (drawn p n tapes))) _ suits
+      (makes-one inputs before gate one suits) (makes_one_count gate one)
       (opens f)
       (goes (sizes-one before x sizes n bs size)
       (next_sizes before sizes shares tapes p n u v rest sound ready bs ss made)
-      (next_held before sizes shares tapes p n u v rest sound ready bs ss made kinds x held (gained f (blocks before sizes shares tapes p n u v rest sound ready bs ss made)))
+      (next_held before sizes shares tapes p n u v rest sound ready bs ss made kinds x held
+      (gained f (blocks before sizes shares tapes p n u v rest sound ready bs ss made)))
       (ready-next p n u v rest shares tapes ready sound))
     where
       makes_one_count : (gate : Gate) → MakesOne gate → 1 ≡ made_by gate
@@ -305,7 +316,7 @@ module _ (dealt_kinds kinds : List Kind) (inputs : Values) (dealt : Number → V
   computes (Mul u v ∷ gates) before sizes shares tapes bs ss held kinded suit ready =
       let n = size_of sizes u in
       let p = blocked (mul_protocol add_ring) in
-      let j = joint_of u (Some v) shares (drawn p n tapes) in
+      let j = gate_joint u (Some v) shares (drawn p n tapes) in
       let law = mul_whole block_sizes block_sizes-cut add_ring_laws in
       let suits = suits-sizes ds sizes inputs before inputs_sizes bs (Mul u v) suit.0 in
       let hu : length (value before u) ≡ n = operand-size before sizes u bs in
@@ -316,14 +327,16 @@ module _ (dealt_kinds kinds : List Kind) (inputs : Values) (dealt : Number → V
       (λ f made.
       made_kind before x (nth 0 (p.output n j)) (Shared Arithmetic) kinded.0.1.1.0
       (gained-product n j (p.output n j) (p.opened n j) add_ring (value before u) (value before v) made hu hv
-      (operand-shares before shares held Arithmetic u suits.first kinded.0.0) (operand-shares before shares held Arithmetic v suits.second kinded.0.1.0) (law.clear n j f)))
+      (operand-shares before shares held Arithmetic u suits.first kinded.0.0)
+      (operand-shares before shares held Arithmetic v suits.second kinded.0.1.0) (law.clear n j f)))
       (λ f more. sym (no_words (p.opened n j) (law.sound.opens n j f)))
       (λ bs2 ss2 held2 ready2.
-      computes gates (before ++ x ∷ []) (sizes ++ n ∷ []) (after p n u (Some v) shares (drawn p n tapes)) (left p n tapes) bs2 ss2 held2 (in_place before x gates kinded.1) suit.1 ready2)
+      computes gates (before ++ x ∷ []) (sizes ++ n ∷ []) (after p n u (Some v) shares (drawn p n tapes)) (left p n tapes) bs2 ss2 held2
+      (in_place before x gates kinded.1) suit.1 ready2)
   computes (And u v ∷ gates) before sizes shares tapes bs ss held kinded suit ready =
       let n = size_of sizes u in
       let p = blocked (mul_protocol xor_ring) in
-      let j = joint_of u (Some v) shares (drawn p n tapes) in
+      let j = gate_joint u (Some v) shares (drawn p n tapes) in
       let law = mul_whole block_sizes block_sizes-cut xor_ring_laws in
       let suits = suits-sizes ds sizes inputs before inputs_sizes bs (And u v) suit.0 in
       let hu : length (value before u) ≡ n = operand-size before sizes u bs in
@@ -334,14 +347,16 @@ module _ (dealt_kinds kinds : List Kind) (inputs : Values) (dealt : Number → V
       (λ f made.
       made_kind before x (nth 0 (p.output n j)) (Shared Boolean) kinded.0.1.1.0
       (gained-product n j (p.output n j) (p.opened n j) xor_ring (value before u) (value before v) made hu hv
-      (operand-shares before shares held Boolean u suits.first kinded.0.0) (operand-shares before shares held Boolean v suits.second kinded.0.1.0) (law.clear n j f)))
+      (operand-shares before shares held Boolean u suits.first kinded.0.0) (operand-shares before shares held Boolean v suits.second kinded.0.1.0)
+      (law.clear n j f)))
       (λ f more. sym (no_words (p.opened n j) (law.sound.opens n j f)))
       (λ bs2 ss2 held2 ready2.
-      computes gates (before ++ x ∷ []) (sizes ++ n ∷ []) (after p n u (Some v) shares (drawn p n tapes)) (left p n tapes) bs2 ss2 held2 (in_place before x gates kinded.1) suit.1 ready2)
+      computes gates (before ++ x ∷ []) (sizes ++ n ∷ []) (after p n u (Some v) shares (drawn p n tapes)) (left p n tapes) bs2 ss2 held2
+      (in_place before x gates kinded.1) suit.1 ready2)
   computes (Conv u ∷ gates) before sizes shares tapes bs ss held kinded suit ready =
       let n = size_of sizes u in
       let p = blocked conv_protocol in
-      let j = joint_of u None shares (drawn p n tapes) in
+      let j = gate_joint u None shares (drawn p n tapes) in
       let law = conv_whole block_sizes block_sizes-cut in
       let suits = suits-sizes ds sizes inputs before inputs_sizes bs (Conv u) suit.0 in
       let hu : length (value before u) ≡ n = operand-size before sizes u bs in
@@ -350,14 +365,16 @@ module _ (dealt_kinds kinds : List Kind) (inputs : Values) (dealt : Number → V
       (length-map (value before u) (λ w. w % 2) ∙ hu)
       (λ f made.
       made_kind before x (nth 0 (p.output n j)) (Shared Arithmetic) kinded.0.1.0
-      (gained-converted n j (p.output n j) (p.opened n j) (value before u) made hu (operand-shares before shares held Boolean u suits kinded.0.0.0) (law.clear n j f)))
+      (gained-converted n j (p.output n j) (p.opened n j) (value before u) made hu (operand-shares before shares held Boolean u suits kinded.0.0.0)
+      (law.clear n j f)))
       (λ f more. sym (no_words (p.opened n j) (law.sound.opens n j f)))
       (λ bs2 ss2 held2 ready2.
-      computes gates (before ++ x ∷ []) (sizes ++ n ∷ []) (after p n u None shares (drawn p n tapes)) (left p n tapes) bs2 ss2 held2 (in_place before x gates kinded.1) suit.1 ready2)
+      computes gates (before ++ x ∷ []) (sizes ++ n ∷ []) (after p n u None shares (drawn p n tapes)) (left p n tapes) bs2 ss2 held2
+      (in_place before x gates kinded.1) suit.1 ready2)
   computes (Open ring u ∷ gates) before sizes shares tapes bs ss held kinded suit ready =
       let n = size_of sizes u in
       let p = blocked (open_protocol (ring_of ring)) in
-      let j = joint_of u None shares (drawn p n tapes) in
+      let j = gate_joint u None shares (drawn p n tapes) in
       let law = open_whole block_sizes block_sizes-cut (laws_of ring) in
       let suits = suits-sizes ds sizes inputs before inputs_sizes bs (Open ring u) suit.0 in
       let hu : length (value before u) ≡ n = operand-size before sizes u bs in
@@ -372,7 +389,8 @@ module _ (dealt_kinds kinds : List Kind) (inputs : Values) (dealt : Number → V
       (gained-opened n j (p.output n j) (p.opened n j) (ring_of ring) (value before u) hu us (law.clear n j f)).0
       ∙ sym (still before x more u suits))
       (λ bs2 ss2 held2 ready2.
-      computes gates (before ++ x ∷ []) (sizes ++ n ∷ []) (after p n u None shares (drawn p n tapes)) (left p n tapes) bs2 ss2 held2 (in_place before x gates kinded.1) suit.1 ready2)
+      computes gates (before ++ x ∷ []) (sizes ++ n ∷ []) (after p n u None shares (drawn p n tapes)) (left p n tapes) bs2 ss2 held2
+      (in_place before x gates kinded.1) suit.1 ready2)
     where
       still : (before : Values) (x : List ℕ) (more : Values) (u : ℕ) → u < length before → value ((before ++ x ∷ []) ++ more) u ≡ value before u
       still before x more u lt =
@@ -380,23 +398,26 @@ module _ (dealt_kinds kinds : List Kind) (inputs : Values) (dealt : Number → V
   computes (Result ring u ∷ gates) before sizes shares tapes bs ss held kinded suit ready =
       let n = size_of sizes u in
       let p = blocked (reshare_protocol (ring_of ring)) in
-      let j = joint_of u None shares (drawn p n tapes) in
+      let j = gate_joint u None shares (drawn p n tapes) in
       let law = reshare_whole block_sizes block_sizes-cut (laws_of ring) in
       let suits = suits-sizes ds sizes inputs before inputs_sizes bs (Result ring u) suit.0 in
       let hu : length (value before u) ≡ n = operand-size before sizes u bs in
       let x : List ℕ = clear_value inputs before (Result ring u) in
-      joined-gate (Result ring u) gates before sizes shares tapes p n u None (run_gates dealt ds (sizes ++ n ∷ []) gates) bs ss held tt suits law.sound refl ready
+      joined-gate (Result ring u) gates before sizes shares tapes p n u None (run_gates dealt ds (sizes ++ n ∷ []) gates) bs ss held tt suits
+      law.sound refl ready
       hu
       (λ f made.
       made_kind before x (nth 0 (p.output n j)) (Shared ring) kinded.0.1.0
-      (gained-reshared n j (p.output n j) (p.opened n j) (ring_of ring) (value before u) made hu (operand-shares before shares held ring u suits kinded.0.0) (law.clear n j f)))
+      (gained-reshared n j (p.output n j) (p.opened n j) (ring_of ring) (value before u) made hu
+      (operand-shares before shares held ring u suits kinded.0.0) (law.clear n j f)))
       (λ f more. sym (no_words (p.opened n j) (law.sound.opens n j f)))
       (λ bs2 ss2 held2 ready2.
-      computes gates (before ++ x ∷ []) (sizes ++ n ∷ []) (after p n u None shares (drawn p n tapes)) (left p n tapes) bs2 ss2 held2 (in_place before x gates kinded.1) suit.1 ready2)
+      computes gates (before ++ x ∷ []) (sizes ++ n ∷ []) (after p n u None shares (drawn p n tapes)) (left p n tapes) bs2 ss2 held2
+      (in_place before x gates kinded.1) suit.1 ready2)
   computes (Split u negated ∷ gates) before sizes shares tapes bs ss held kinded suit ready =
       let n = size_of sizes u in
       let p = blocked (split_protocol negated) in
-      let j = joint_of u None shares (drawn p n tapes) in
+      let j = gate_joint u None shares (drawn p n tapes) in
       let law = split_whole block_sizes block_sizes-cut negated in
       let rest = run_gates dealt ds (sizes ++ n ∷ n ∷ []) gates in
       let suits = suits-sizes ds sizes inputs before inputs_sizes bs (Split u negated) suit.0 in
@@ -407,11 +428,13 @@ module _ (dealt_kinds kinds : List Kind) (inputs : Values) (dealt : Number → V
       let y : List ℕ = word_of n j (p.output n j) (p.opened n j) 1 in
       let hx : length x ≡ n = length-word n j (p.output n j) (p.opened n j) 0 in
       let hy : length y ≡ n = length-word n j (p.output n j) (p.opened n j) 1 in
-      let split = gained-split n j (p.output n j) (p.opened n j) xor_ring_laws negated (value before u) hu (operand-shares before shares held Arithmetic u suits kinded.0.0.0) (law.clear n j f) in
+      let split = gained-split n j (p.output n j) (p.opened n j) xor_ring_laws negated (value before u) hu
+      (operand-shares before shares held Arithmetic u suits kinded.0.0.0) (law.clear n j f) in
       go_on kinds inputs before (x ∷ y ∷ []) (Split u negated) gates _ (p.opened n j) _ suits (makes-split before x y inputs u negated suits split) refl
       (λ more. sym (no_words (p.opened n j) (law.sound.opens n j f)))
       (computes gates (before ++ x ∷ y ∷ []) (sizes ++ n ∷ n ∷ []) (after p n u None shares (drawn p n tapes)) (left p n tapes)
-      (sizes-append before (x ∷ y ∷ []) ∙ ap (λ s. s ++ length x ∷ length y ∷ []) bs ∙ ap (λ k. sizes ++ k ∷ length y ∷ []) hx ∙ ap (λ k. sizes ++ n ∷ k ∷ []) hy)
+      (sizes-append before (x ∷ y ∷ []) ∙ ap (λ s. s ++ length x ∷ length y ∷ []) bs ∙ ap (λ k. sizes ++ k ∷ length y ∷ []) hx
+      ∙ ap (λ k. sizes ++ n ∷ k ∷ []) hy)
       (pair_sizes before sizes shares tapes p n u None rest law.sound ready bs ss refl)
       (pair_held before sizes shares tapes p n u None rest law.sound ready bs ss refl kinds x y held
       (made_kind before x (nth 0 (p.output n j)) (Shared Boolean) kinded.0.1.0 (first-word-shares n j (p.output n j) (p.opened n j) two))
@@ -428,8 +451,9 @@ module _ (dealt_kinds kinds : List Kind) (inputs : Values) (dealt : Number → V
       go_on kinds inputs before (x ∷ []) gate gates _ [] _ suits (makes-one inputs before gate tt suits) refl
       (λ more. refl)
       (computes gates (before ++ x ∷ []) (sizes ++ size_made ds sizes gate ∷ []) (after_local (λ i own. local_share i (dealt i) own gate) shares) tapes
-      (sizes-one before x sizes (size_made ds sizes gate) bs (holds-size (kind_at kinds (length before)) x (λ i. local_share i (dealt i) (shares i) gate) new One ∙ size One))
+      (sizes-one before x sizes (size_made ds sizes gate) bs
+      (holds-size (kind_at kinds (length before)) x (λ i. local_share i (dealt i) (shares i) gate) new One ∙ size One))
       (λ i. sizes-one (shares i) (local_share i (dealt i) (shares i) gate) sizes (size_made ds sizes gate) (ss i) (size i))
-      (held-one kinds before shares x (λ i. local_share i (dealt i) (shares i) gate) (λ i. counted before (shares i) (bs ∙ sym (ss i))) held new)
+      (held-one kinds before shares x (λ i. local_share i (dealt i) (shares i) gate) (λ i. same-count before (shares i) (bs ∙ sym (ss i))) held new)
       (in_place before x gates kinded.1) suit.1
       (ready-local (size_made ds sizes gate) (λ i own. local_share i (dealt i) own gate) _ shares tapes ready))

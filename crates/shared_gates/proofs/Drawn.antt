@@ -1,6 +1,5 @@
 -- The words that a run of gates draws.
-use Rattle.std.proofs.Common.{◌≡◌, ℕ, ◌+◌, ◌*◌, ◌<◌, ◌≤◌, List, [], ◌∷◌, ◌++◌, length, refl, sym, ◌∙◌, ap, subst, arith, length-append}
-use Rattle.std.proofs.lemmas.List.{get_or_append_left}
+use Rattle.std.proofs.Common.{◌≡◌, ℕ, ◌+◌, ◌*◌, ◌≤◌, List, [], ◌∷◌, ◌++◌, length, refl, sym, ◌∙◌, ap, subst, arith}
 use Rattle.proto_core.specs.declared.party.Number.{Number}
 use Rattle.proto_core.specs.declared.party.Number.TheVariants.{One, Two, Three}
 use Rattle.proto_core.specs.Lists.{AreWords}
@@ -14,6 +13,7 @@ use Rattle.gates.specs.Clear.{Values}
 use Rattle.gates.specs.Counts.{size_of, words_of_split, words_of_conversion, words_of_all}
 use Rattle.shared_gates.specs.Model.{sizes_made, AllSizesSuit, run_gates, sizes_after, miner_of}
 use Rattle.shared_gates.proofs.Models.{gates-sized}
+use Rattle.shared_gates.proofs.GatesBehind.{size-stays}
 
 split-words : (n : ℕ) (i : Number) → split_draws n i ≡ words_of_split (miner_of i) n
 split-words n One = refl
@@ -24,14 +24,6 @@ conv-words : (n : ℕ) (i : Number) → conv_draws n i ≡ words_of_conversion (
 conv-words n One = refl
 conv-words n Two = refl
 conv-words n Three = refl
-
--- the sizes of the values that stand stay
-size-stays : (ds sizes : List ℕ) (gates : List Gate) (u : ℕ) → u < length sizes → size_of sizes u ≡ size_of (sizes_after ds sizes gates) u
-size-stays ds sizes [] u lt = refl
-size-stays ds sizes (gate ∷ gates) u lt =
-    let l = length-append sizes (sizes_made ds sizes gate) in
-    sym (get_or_append_left sizes (sizes_made ds sizes gate) 0 u lt)
-    ∙ size-stays ds (sizes ++ sizes_made ds sizes gate) gates u (omega arith)
 
 sum-of-both : (a b c d : ℕ) → a ≡ b → c ≡ d → a + c ≡ b + d
 sum-of-both a b c d e f = ap (λ k. k + c) e ∙ ap (λ k. b + k) f

@@ -1,7 +1,6 @@
 -- What the outputs of a whole gate are shares of.
 use Rattle.std.proofs.Common.{◌≡◌, ℕ, ◌%◌, ◌<◌, ◌^◌, Bool, true, false, List, [], ◌∷◌, length, map, bit_xor, refl, sym, ◌∙◌, ap, subst}
 use Rattle.std.proofs.lemmas.Nat.{xor_lt}
-use Rattle.std.proofs.lemmas.List.Elements.{All-from_get_or}
 use Rattle.share_ring.specs.Ring.{Ring, RingLaws}
 use Rattle.share_ring.specs.Rings.{add_ring, xor_ring}
 use Rattle.proto_core.specs.declared.party.Number.{Number}
@@ -12,11 +11,11 @@ use Rattle.proto_core.specs.Protocol.{Joint, AreBlocks}
 use Rattle.proto_core.specs.Resharing.{sum_of_three}
 use Rattle.proto_core.proofs.Each.{each-is}
 use Rattle.proto_core.proofs.ResharingLaws.{at-sum_of_three, length-sum_of_three, AreWords-sum_of_three}
-use Rattle.protocol_model.specs.Gates.{value_at}
+use Rattle.protocol_model.specs.Gates.{nth_value}
 use Rattle.multiply.specs.Products.{times}
 use Rattle.share_convert.specs.Bits.{bit, xor_bits_of_three}
 use Rattle.split_share.specs.Splitting as splitting
-use Rattle.gates.specs.Clear.{each_two, joined}
+use Rattle.gates.specs.Clear.{each_two, rejoined}
 use Rattle.gates.specs.Clear as clear
 use Rattle.gates.proofs.Columns.{Column-of, Column-map, Column-each_two}
 use Rattle.blocked_protocol.specs.Outcomes.{value_of, nth, IsProduct, IsOpened, IsReshared, IsConverted, IsSplit}
@@ -25,30 +24,30 @@ use Rattle.shared_gates.proofs.XorSums.{xor-word}
 
 -- ---- blocks
 
-pub one-block : (n : ℕ) (xs : List (List ℕ)) → AreBlocks (n ∷ []) xs → value_at xs 0 ∷ [] ≡ xs
+pub one-block : (n : ℕ) (xs : List (List ℕ)) → AreBlocks (n ∷ []) xs → nth_value xs 0 ∷ [] ≡ xs
 one-block n [] h = absurd h
 one-block n (x ∷ []) h = refl
 one-block n (x ∷ y ∷ xs) h = absurd h.1
 
-pub two-blocks : (m n : ℕ) (xs : List (List ℕ)) → AreBlocks (m ∷ n ∷ []) xs → value_at xs 0 ∷ value_at xs 1 ∷ [] ≡ xs
+pub two-blocks : (m n : ℕ) (xs : List (List ℕ)) → AreBlocks (m ∷ n ∷ []) xs → nth_value xs 0 ∷ nth_value xs 1 ∷ [] ≡ xs
 two-blocks m n [] h = absurd h
 two-blocks m n (x ∷ []) h = absurd h.1
 two-blocks m n (x ∷ y ∷ []) h = refl
 two-blocks m n (x ∷ y ∷ z ∷ xs) h = absurd h.1.1
 
-pub first-block-size : (n : ℕ) (s : List ℕ) (xs : List (List ℕ)) → AreBlocks (n ∷ s) xs → length (value_at xs 0) ≡ n
+pub first-block-size : (n : ℕ) (s : List ℕ) (xs : List (List ℕ)) → AreBlocks (n ∷ s) xs → length (nth_value xs 0) ≡ n
 first-block-size n s [] h = absurd h
 first-block-size n s (x ∷ xs) h = h.0.len
 
-first-block-words : (n : ℕ) (s : List ℕ) (xs : List (List ℕ)) → AreBlocks (n ∷ s) xs → AreWords (value_at xs 0)
+first-block-words : (n : ℕ) (s : List ℕ) (xs : List (List ℕ)) → AreBlocks (n ∷ s) xs → AreWords (nth_value xs 0)
 first-block-words n s [] h = absurd h
 first-block-words n s (x ∷ xs) h = h.0.words
 
-pub second-block-size : (m n : ℕ) (s : List ℕ) (xs : List (List ℕ)) → AreBlocks (m ∷ n ∷ s) xs → length (value_at xs 1) ≡ n
+pub second-block-size : (m n : ℕ) (s : List ℕ) (xs : List (List ℕ)) → AreBlocks (m ∷ n ∷ s) xs → length (nth_value xs 1) ≡ n
 second-block-size m n s [] h = absurd h
 second-block-size m n s (x ∷ xs) h = first-block-size n s xs h.1
 
-second-block-words : (m n : ℕ) (s : List ℕ) (xs : List (List ℕ)) → AreBlocks (m ∷ n ∷ s) xs → AreWords (value_at xs 1)
+second-block-words : (m n : ℕ) (s : List ℕ) (xs : List (List ℕ)) → AreBlocks (m ∷ n ∷ s) xs → AreWords (nth_value xs 1)
 second-block-words m n s [] h = absurd h
 second-block-words m n s (x ∷ xs) h = first-block-words n s xs h.1
 
@@ -60,7 +59,8 @@ unfolding sum_of_three
 value-is r n xs s e h = each-is n _ xs e (λ k lt. h.sum k (subst (λ m. k < m) (sym e) lt))
 
 -- and lists that add up to a value are shares of it
-pub shares-of : (r : Ring) (n : ℕ) (xs : List ℕ) (s : Number → List ℕ) → length xs ≡ n → ((i : Number) → length (s i) ≡ n) → ((i : Number) → AreWords (s i)) → value_of r n s ≡ xs → AreShares r xs s
+pub shares-of : (r : Ring) (n : ℕ) (xs : List ℕ) (s : Number → List ℕ) → length xs ≡ n → ((i : Number) → length (s i) ≡ n)
+    → ((i : Number) → AreWords (s i)) → value_of r n s ≡ xs → AreShares r xs s
 shares-of r n xs s e sizes words sums =
     record {
       sizes = λ i. sizes i ∙ sym e;
@@ -93,7 +93,7 @@ module _ (r : Ring) (n : ℕ) (xs ys : List ℕ) (hx : length xs ≡ n) (hy : le
   pub length-two : (f : ℕ → ℕ → ℕ) → length (each_two f xs ys) ≡ n
   length-two f = (Column-each_two f (Column-of n xs hx) (Column-of n ys hy)).size
 
-joined-each : (negated : Bool) (n : ℕ) (xs ys : List ℕ) → length xs ≡ n → length ys ≡ n → splitting.joined negated n xs ys ≡ joined negated xs ys
+joined-each : (negated : Bool) (n : ℕ) (xs ys : List ℕ) → length xs ≡ n → length ys ≡ n → splitting.sum_or_difference negated n xs ys ≡ rejoined negated xs ys
 joined-each false n xs ys hx hy = plus-each add_ring n xs ys hx hy
 joined-each true n xs ys hx hy = minus-each add_ring n xs ys hx hy
 
@@ -158,10 +158,8 @@ module _ (n : ℕ) (j : Joint) (out : Number → List (List ℕ)) (opened : List
   length-word k = length-sum_of_three xor_ring n (nth k out One) (nth k out Two) (nth k out Three)
 
   module _ (laws : RingLaws xor_ring) where
-    word-words : (k : ℕ) → clear.AreWords (word_of k)
-    word-words k =
-        All-from_get_or (λ x. x < 2 ^ 64) (word_of k) 0
-        (λ i lt. AreWords-sum_of_three laws n (nth k out One) (nth k out Two) (nth k out Three) i)
+    word-words : (k : ℕ) → AreWords (word_of k)
+    word-words k = AreWords-sum_of_three laws n (nth k out One) (nth k out Two) (nth k out Three)
 
     pub gained-split :
         (negated : Bool) (xs : List ℕ) → length xs ≡ n → AreShares add_ring xs j.u →

@@ -5,6 +5,7 @@ pub mod LocalGates
 pub mod Models
 pub mod Gained
 pub mod Computing
+pub mod GatesBehind
 pub mod Drawn
 pub mod OwnShares
 pub mod Silence

@@ -15,7 +15,8 @@ use Rattle.proto_core.specs.Lists.{at, AreWords}
 use Rattle.gates.specs.declared.ring_kind.RingKind.{RingKind}
 use Rattle.gates.specs.declared.ring_kind.RingKind.TheVariants.{Arithmetic, Boolean}
 use Rattle.gates.specs.declared.gate.Gate.{Gate}
-use Rattle.gates.specs.declared.gate.Gate.TheVariants.{Input, Const, Add, Sub, MulPub, Mul, Xor, And, Not, Shl, Shr, Low, Cat, Part, Put, Rep, Spread, Sum, Split, Conv, Open, Result}
+use Rattle.gates.specs.declared.gate.Gate.TheVariants.{Input, Const, Add, Sub, MulPub, Mul, Xor, And, Not, Shl, Shr, Low, Cat, Part, Put, Rep, Spread}
+use Rattle.gates.specs.declared.gate.Gate.TheVariants.{Sum, Split, Conv, Open, Result}
 use Rattle.gates.specs.Clear.{Values, value, ring_of, bits_of, first_word, clear_value, Suits}
 use Rattle.gates.proofs.Columns.{Column, Column-of, Column-map}
 use Rattle.protocol_model.proofs.Sizes.{past_end}
@@ -25,7 +26,8 @@ use Rattle.shared_gates.specs.Shares.{sum_of, AreShares, Kind, Shared, Holds, ki
 use Rattle.shared_gates.specs.LocalGates.{const_share, not_share, local_share, IsLocal}
 use Rattle.shared_gates.specs.Kinds.{Kinded}
 use Rattle.shared_gates.proofs.RingSums.{sum-sums, sum-differences, sum-products}
-use Rattle.shared_gates.proofs.XorSums.{sum-xors, sum-turned, shifted_up-word, shifted_up-xor, shifted_down-word, shifted_down-xor, low-word, low-xor, bit-word, bit-through, turned-word}
+use Rattle.shared_gates.proofs.XorSums.{sum-xors, sum-turned, shifted_up-word, shifted_up-xor, shifted_down-word, shifted_down-xor, low-word, low-xor}
+use Rattle.shared_gates.proofs.XorSums.{bit-word, bit-through, turned-word}
 use Rattle.shared_gates.proofs.Sharing.{shares-by, shares-map, shares-two, shares-fixed, shares-append, shares-part, shares-set, shares-replicate}
 
 pub laws_of : (ring : RingKind) → RingLaws (ring_of ring)
@@ -92,7 +94,8 @@ bits-column x =
       words = λ k lt. get_or-map-range_with_len (bit_at x) 0 64 k k 0 lt (omega arith);
     }
 
-shares-bits : (x : ℕ) (t : Number → ℕ) → ((i : Number) → t i < 2 ^ 64) → sum_of xor_ring (t One) (t Two) (t Three) ≡ x → AreShares xor_ring (bits_of x) (λ i. bits_of (t i))
+shares-bits : (x : ℕ) (t : Number → ℕ) → ((i : Number) → t i < 2 ^ 64) → sum_of xor_ring (t One) (t Two) (t Three) ≡ x
+    → AreShares xor_ring (bits_of x) (λ i. bits_of (t i))
 shares-bits x t words sums =
     shares-by xor_ring 64 (bits_of x) (λ i. bits_of (t i)) (bit_at x) (λ i k. bit_at (t i) k)
     (bits-column x) (λ i. bits-column (t i)) (λ i k lt. bit-word k (t i) (words i))
@@ -112,7 +115,8 @@ first_and_rest (x ∷ xs) n e = refl
 
 shares-rest : (r : Ring) (x : ℕ) (xs : List ℕ) (s : Number → List ℕ) → AreShares r (x ∷ xs) s → AreShares r xs (λ i. drop 1 (s i))
 shares-rest r x xs s h =
-    let whole = subst (λ t. AreShares r (x ∷ xs) t) (same_words s (λ i. at (s i) 0 ∷ drop 1 (s i)) (λ i. sym (first_and_rest (s i) (length xs) (h.sizes i)))) h in
+    let whole = subst (λ t. AreShares r (x ∷ xs) t)
+    (same_words s (λ i. at (s i) 0 ∷ drop 1 (s i)) (λ i. sym (first_and_rest (s i) (length xs) (h.sizes i)))) h in
     record {
       sizes = λ i. shorter (length (drop 1 (s i))) (length xs) (whole.sizes i);
       words = λ i k. whole.words i (suc k);
@@ -192,7 +196,8 @@ shares-sum xs s h =
 
 -- ---- each gate
 
-module _ (dealt_kinds kinds : List Kind) (inputs values : Values) (dealt shares : Number → Values) (inputs_held : AllHeld dealt_kinds inputs dealt) (held : AllHeld kinds values shares) where
+module _ (dealt_kinds kinds : List Kind) (inputs values : Values) (dealt shares : Number → Values) (inputs_held : AllHeld dealt_kinds inputs dealt)
+    (held : AllHeld kinds values shares) where
   abbrev next : ℕ
   next = length values
 
@@ -200,7 +205,8 @@ module _ (dealt_kinds kinds : List Kind) (inputs values : Values) (dealt shares 
   pub of_ring : (ring : RingKind) (u : ℕ) → u < next → kind_at kinds u ≡ Shared ring → AreShares (ring_of ring) (value values u) (share_at shares u)
   of_ring ring u lt e = subst (λ kind. Holds kind (value values u) (share_at shares u)) e (held u lt)
 
-  makes : (ring : RingKind) (xs : List ℕ) (s : Number → List ℕ) → kind_at kinds next ≡ Shared ring → AreShares (ring_of ring) xs s → Holds (kind_at kinds next) xs s
+  makes : (ring : RingKind) (xs : List ℕ) (s : Number → List ℕ) → kind_at kinds next ≡ Shared ring → AreShares (ring_of ring) xs s
+      → Holds (kind_at kinds next) xs s
   makes ring xs s e h = subst (λ kind. Holds kind xs s) (sym e) h
 
   pub local-held :
@@ -212,11 +218,13 @@ module _ (dealt_kinds kinds : List Kind) (inputs values : Values) (dealt shares 
       makes kinded.1.0 list (λ i. const_share i list) kinded.1.1.0 (shares-const kinded.1.0 list kinded.0)
   local-held (Add u v) local kinded suits =
       makes Arithmetic _ _ kinded.1.1.0
-      (shares-two add_ring add_ring.add add_ring_laws.add_word (sum-sums add_ring_laws) (value values u) (value values v) (share_at shares u) (share_at shares v) suits.same_size
+      (shares-two add_ring add_ring.add add_ring_laws.add_word (sum-sums add_ring_laws) (value values u) (value values v) (share_at shares u)
+      (share_at shares v) suits.same_size
       (of_ring Arithmetic u suits.first kinded.0) (of_ring Arithmetic v suits.second kinded.1.0))
   local-held (Sub u v) local kinded suits =
       makes Arithmetic _ _ kinded.1.1.0
-      (shares-two add_ring add_ring.sub add_ring_laws.sub_word (sum-differences add_ring_laws) (value values u) (value values v) (share_at shares u) (share_at shares v) suits.same_size
+      (shares-two add_ring add_ring.sub add_ring_laws.sub_word (sum-differences add_ring_laws) (value values u) (value values v) (share_at shares u)
+      (share_at shares v) suits.same_size
       (of_ring Arithmetic u suits.first kinded.0) (of_ring Arithmetic v suits.second kinded.1.0))
   local-held (MulPub ring u list) local kinded suits =
       makes ring _ _ kinded.1.0
@@ -225,14 +233,16 @@ module _ (dealt_kinds kinds : List Kind) (inputs values : Values) (dealt shares 
   local-held (Mul u v) local kinded suits = absurd local
   local-held (Xor u v) local kinded suits =
       makes Boolean _ _ kinded.1.1.0
-      (shares-two xor_ring xor_ring.add xor_ring_laws.add_word (sum-sums xor_ring_laws) (value values u) (value values v) (share_at shares u) (share_at shares v) suits.same_size
+      (shares-two xor_ring xor_ring.add xor_ring_laws.add_word (sum-sums xor_ring_laws) (value values u) (value values v) (share_at shares u)
+      (share_at shares v) suits.same_size
       (of_ring Boolean u suits.first kinded.0) (of_ring Boolean v suits.second kinded.1.0))
   local-held (And u v) local kinded suits = absurd local
   local-held (Not u) local kinded suits =
       makes Boolean _ _ kinded.1.0 (shares-not (value values u) (share_at shares u) (of_ring Boolean u suits kinded.0))
   local-held (Shl u count) local kinded suits =
       makes Boolean _ _ kinded.1.0
-      (shares-map xor_ring (λ x. x * 2 ^ count % 2 ^ 64) (shifted_up-word count) (sum-xors (λ x. x * 2 ^ count % 2 ^ 64) (shifted_up-word count) (shifted_up-xor count))
+      (shares-map xor_ring (λ x. x * 2 ^ count % 2 ^ 64) (shifted_up-word count)
+      (sum-xors (λ x. x * 2 ^ count % 2 ^ 64) (shifted_up-word count) (shifted_up-xor count))
       (value values u) (share_at shares u) (of_ring Boolean u suits kinded.0))
   local-held (Shr u count) local kinded suits =
       makes Boolean _ _ kinded.1.0
@@ -240,7 +250,8 @@ module _ (dealt_kinds kinds : List Kind) (inputs values : Values) (dealt shares 
       (value values u) (share_at shares u) (of_ring Boolean u suits kinded.0))
   local-held (Low u) local kinded suits =
       makes Boolean _ _ kinded.1.0
-      (shares-map xor_ring (λ x. x % 2) low-word (sum-xors (λ x. x % 2) low-word low-xor) (value values u) (share_at shares u) (of_ring Boolean u suits kinded.0))
+      (shares-map xor_ring (λ x. x % 2) low-word (sum-xors (λ x. x % 2) low-word low-xor) (value values u) (share_at shares u)
+      (of_ring Boolean u suits kinded.0))
   local-held (Cat u v) local kinded suits =
       let ring = kinded.0 in
       makes ring _ _ kinded.1.1.1.0

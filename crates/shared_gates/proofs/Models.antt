@@ -8,10 +8,11 @@ use Rattle.std.proofs.lemmas.List.Concat.{flat_map-cons}
 use Rattle.share_ring.specs.RingsKeepLaws.{add_ring_laws, xor_ring_laws}
 use Rattle.proto_core.specs.declared.party.Number.{Number}
 use Rattle.proto_core.specs.declared.party.Number.TheVariants.{One, Two, Three}
-use Rattle.protocol_model.specs.Gates.{value_at, size_at, sizes_of, Sized, AreSound, ArePrivate}
+use Rattle.protocol_model.specs.Gates.{nth_value, size_at, sizes_of, Sized, AreSound, ArePrivate}
 use Rattle.gates.specs.Blocks.{block_sizes}
 use Rattle.gates.specs.declared.gate.Gate.{Gate}
-use Rattle.gates.specs.declared.gate.Gate.TheVariants.{Input, Const, Add, Sub, MulPub, Mul, Xor, And, Not, Shl, Shr, Low, Cat, Part, Put, Rep, Spread, Sum, Split, Conv, Open, Result}
+use Rattle.gates.specs.declared.gate.Gate.TheVariants.{Input, Const, Add, Sub, MulPub, Mul, Xor, And, Not, Shl, Shr, Low, Cat, Part, Put, Rep, Spread}
+use Rattle.gates.specs.declared.gate.Gate.TheVariants.{Sum, Split, Conv, Open, Result}
 use Rattle.gates.specs.Clear.{Values, value, each_two, bits_of, Suits}
 use Rattle.gates.specs.Counts.{size_of}
 use Rattle.gates.proofs.Columns.{Column-of, Column-each_two}
@@ -23,14 +24,14 @@ use Rattle.shared_gates.proofs.LocalGates.{laws_of, bits-column}
 
 -- ---- sizes of values
 
-pub value_at-value : (values : Values) (k : ℕ) → value_at values k ≡ value values k
-value_at-value [] k = sym (nothing_at k)
+pub nth_value-value : (values : Values) (k : ℕ) → nth_value values k ≡ value values k
+nth_value-value [] k = sym (nothing_at k)
   where
     nothing_at : (k : ℕ) → value [] k ≡ []
     nothing_at zero = refl
     nothing_at (suc k) = refl
-value_at-value (x ∷ xs) zero = refl
-value_at-value (x ∷ xs) (suc k) = value_at-value xs k
+nth_value-value (x ∷ xs) zero = refl
+nth_value-value (x ∷ xs) (suc k) = nth_value-value xs k
 
 pub size-value : (values : Values) (k : ℕ) → length (value values k) ≡ size_of (sizes_of values) k
 size-value [] zero = refl
@@ -51,7 +52,8 @@ size_at-size (n ∷ sizes) (suc k) h = size_at-size sizes k (omega arith)
 
 -- ---- the protocols
 
-sound-and-private : (dealt : Number → Values) (ds sizes : List ℕ) (gates : List Gate) → AreSound (run_gates dealt ds sizes gates) × ArePrivate (run_gates dealt ds sizes gates)
+sound-and-private : (dealt : Number → Values) (ds sizes : List ℕ) (gates : List Gate)
+    → AreSound (run_gates dealt ds sizes gates) × ArePrivate (run_gates dealt ds sizes gates)
 sound-and-private dealt ds sizes [] = (tt, tt)
 sound-and-private dealt ds sizes (Mul u v ∷ gates) =
     let law = mul_whole block_sizes block_sizes-cut add_ring_laws in
@@ -87,7 +89,7 @@ gates-private dealt ds sizes gates = (sound-and-private dealt ds sizes gates).1
 
 -- ---- sizes of what is made
 
-length-each_two : (f : ℕ → ℕ → ℕ) (xs ys : List ℕ) → length xs ≡ length ys → length (each_two f xs ys) ≡ length xs
+pub length-each_two : (f : ℕ → ℕ → ℕ) (xs ys : List ℕ) → length xs ≡ length ys → length (each_two f xs ys) ≡ length xs
 length-each_two f xs ys e = (Column-each_two f (Column-of (length xs) xs refl) (Column-of (length xs) ys (sym e))).size
 
 length-spread : (xs : List ℕ) → length (flat_map bits_of xs) ≡ length xs * 64
@@ -192,12 +194,17 @@ module _ (ds sizes : List ℕ) (inputs values : Values) (inputs_sizes : sizes_of
   pub suits-sizes : (gate : Gate) → SizesSuit ds sizes gate → Suits inputs values (length values) gate
   suits-sizes (Input k) suit = subst (λ n. k < n) count_inputs suit
   suits-sizes (Const list) suit = tt
-  suits-sizes (Add u v) suit = record { first = there u suit.first; second = there v suit.second; same_size = size_there u ∙ suit.same_size ∙ sym (size_there v) }
-  suits-sizes (Sub u v) suit = record { first = there u suit.first; second = there v suit.second; same_size = size_there u ∙ suit.same_size ∙ sym (size_there v) }
+  suits-sizes (Add u v) suit =
+      record { first = there u suit.first; second = there v suit.second; same_size = size_there u ∙ suit.same_size ∙ sym (size_there v) }
+  suits-sizes (Sub u v) suit =
+      record { first = there u suit.first; second = there v suit.second; same_size = size_there u ∙ suit.same_size ∙ sym (size_there v) }
   suits-sizes (MulPub ring u list) suit = (there u suit.0, size_there u ∙ suit.1)
-  suits-sizes (Mul u v) suit = record { first = there u suit.first; second = there v suit.second; same_size = size_there u ∙ suit.same_size ∙ sym (size_there v) }
-  suits-sizes (Xor u v) suit = record { first = there u suit.first; second = there v suit.second; same_size = size_there u ∙ suit.same_size ∙ sym (size_there v) }
-  suits-sizes (And u v) suit = record { first = there u suit.first; second = there v suit.second; same_size = size_there u ∙ suit.same_size ∙ sym (size_there v) }
+  suits-sizes (Mul u v) suit =
+      record { first = there u suit.first; second = there v suit.second; same_size = size_there u ∙ suit.same_size ∙ sym (size_there v) }
+  suits-sizes (Xor u v) suit =
+      record { first = there u suit.first; second = there v suit.second; same_size = size_there u ∙ suit.same_size ∙ sym (size_there v) }
+  suits-sizes (And u v) suit =
+      record { first = there u suit.first; second = there v suit.second; same_size = size_there u ∙ suit.same_size ∙ sym (size_there v) }
   suits-sizes (Not u) suit = there u suit
   suits-sizes (Shl u count) suit = there u suit
   suits-sizes (Shr u count) suit = there u suit

@@ -1,9 +1,11 @@
 -- Shares of what is made of shared values, element by element.
-use Rattle.std.proofs.Common.{◌≡◌, ℕ, ◌+◌, ◌-◌, ◌<◌, ◌≤◌, ◌^◌, List, ◌++◌, length, take, drop, map, set, refl, sym, ◌∙◌, ap, subst, arith, inl, inr, length-append, length-drop}
+use Rattle.std.proofs.Common.{◌≡◌, ℕ, ◌+◌, ◌-◌, ◌<◌, ◌≤◌, ◌^◌, List, ◌++◌, length, take, drop, map, set, refl, sym, ◌∙◌, ap, subst, arith, inl, inr}
+use Rattle.std.proofs.Common.{length-append, length-drop}
 use Rattle.std.specs.Prelude.{replicate}
 use Rattle.std.specs.Prelude.{◌⊎◌, ◌≢◌}
 use Rattle.std.proofs.lemmas.Bool.{cases_lt, cases_eq}
-use Rattle.std.proofs.lemmas.List.{get_or_append_left, get_or-append_right, get_or-take, get_or-drop, length-take-le, get_or_past, get_or-set_same, get_or-set_other, length-set, length-replicate, get_or-replicate}
+use Rattle.std.proofs.lemmas.List.{get_or_append_left, get_or-append_right, get_or-take, get_or-drop, length-take-le, get_or_past, get_or-set_same}
+use Rattle.std.proofs.lemmas.List.{get_or-set_other, length-set, length-replicate, get_or-replicate}
 use Rattle.share_ring.specs.Ring.{Ring}
 use Rattle.proto_core.specs.declared.party.Number.{Number}
 use Rattle.proto_core.specs.declared.party.Number.TheVariants.{One, Two, Three}
@@ -150,13 +152,15 @@ module _ (r : Ring) where
         | inr other ↦ small-same _ _ (get_or-set_other (s i) index k (t i) 0 other) (h.words i k)
       ])
       (λ k lt.
-      elim (same_or k) as (λ c. sum_of r (at (set (s One) index (t One)) k) (at (set (s Two) index (t Two)) k) (at (set (s Three) index (t Three)) k) ≡ at (set xs index y) k) [
+      elim (same_or k) as (λ c. sum_of r (at (set (s One) index (t One)) k) (at (set (s Two) index (t Two)) k) (at (set (s Three) index (t Three)) k)
+      ≡ at (set xs index y) k) [
         | inl same ↦
             sum-same r _ _ _ _ _ _ (here One k same) (here Two k same) (here Three k same)
             ∙ sums
             ∙ sym (ap (at (set xs index y)) same ∙ get_or-set_same xs index y 0 within)
         | inr other ↦
-            sum-same r _ _ _ _ _ _ (get_or-set_other (s One) index k (t One) 0 other) (get_or-set_other (s Two) index k (t Two) 0 other) (get_or-set_other (s Three) index k (t Three) 0 other)
+            sum-same r _ _ _ _ _ _ (get_or-set_other (s One) index k (t One) 0 other) (get_or-set_other (s Two) index k (t Two) 0 other)
+            (get_or-set_other (s Three) index k (t Three) 0 other)
             ∙ h.sum k lt
             ∙ sym (get_or-set_other xs index k y 0 other)
       ])

@@ -13,7 +13,8 @@ use Rattle.share_convert.specs.Converting.{conv_protocol}
 use Rattle.split_share.specs.Splitting.{split_protocol}
 use Rattle.blocked_protocol.specs.Blocked.{blocked}
 use Rattle.gates.specs.declared.gate.Gate.{Gate}
-use Rattle.gates.specs.declared.gate.Gate.TheVariants.{Input, Const, Add, Sub, MulPub, Mul, Xor, And, Not, Shl, Shr, Low, Cat, Part, Put, Rep, Spread, Sum, Split, Conv, Open, Result}
+use Rattle.gates.specs.declared.gate.Gate.TheVariants.{Input, Const, Add, Sub, MulPub, Mul, Xor, And, Not, Shl, Shr, Low, Cat, Part, Put, Rep, Spread}
+use Rattle.gates.specs.declared.gate.Gate.TheVariants.{Sum, Split, Conv, Open, Result}
 use Rattle.gates.specs.Clear.{Values, ring_of}
 use Rattle.gates.specs.Counts.{size_of, Miner, Miner1, Miner2, Miner3}
 use Rattle.shared_gates.specs.LocalGates.{local_share}

@@ -1,35 +1,16 @@
 -- Gates behind other gates: sizes, kinds and words.
-use Rattle.std.proofs.Common.{◌≡◌, ℕ, zero, suc, ◌+◌, ◌<◌, ◌≤◌, List, [], ◌∷◌, ◌++◌, length, refl, ◌∙◌, ap, arith, length-append}
-use Rattle.std.proofs.lemmas.List.{get_or_append_left}
-use Rattle.proto_core.specs.declared.party.Number.{Number}
+use Rattle.std.proofs.Common.{◌≡◌, ℕ, zero, suc, ◌+◌, ◌<◌, ◌≤◌, List, [], ◌∷◌, ◌++◌, length, refl, ◌∙◌, arith, length-append}
 use Rattle.gates.specs.declared.ring_kind.RingKind.{RingKind}
 use Rattle.gates.specs.declared.gate.Gate.{Gate}
-use Rattle.gates.specs.declared.gate.Gate.TheVariants.{Input, Const, Add, Sub, MulPub, Mul, Xor, And, Not, Shl, Shr, Low, Cat, Part, Put, Rep, Spread, Sum, Split, Conv, Open, Result}
-use Rattle.gates.specs.Clear.{Values}
-use Rattle.gates.specs.Counts.{size_of, made_by, made_by_all}
+use Rattle.gates.specs.declared.gate.Gate.TheVariants.{Input, Const, Add, Sub, MulPub, Mul, Xor, And, Not, Shl, Shr, Low, Cat, Part, Put, Rep, Spread}
+use Rattle.gates.specs.declared.gate.Gate.TheVariants.{Sum, Split, Conv, Open, Result}
+use Rattle.gates.specs.Counts.{made_by, made_by_all}
 use Rattle.shared_gates.specs.Shares.{Kind, kind_at}
 use Rattle.shared_gates.specs.Kinds.{AllShared, Kinded, AllKinded}
-use Rattle.shared_gates.specs.Model.{sizes_made, AllSizesSuit, run_gate, run_gates, sizes_after}
+use Rattle.shared_gates.specs.Model.{sizes_made, sizes_after}
 use Rattle.shared_plans.proofs.KindedPlans.{shared-grown}
 
 -- ---- sizes
-
-pub sizes-then : (ds sizes : List ℕ) (xs ys : List Gate) → sizes_after ds sizes (xs ++ ys) ≡ sizes_after ds (sizes_after ds sizes xs) ys
-sizes-then ds sizes [] ys = refl
-sizes-then ds sizes (gate ∷ xs) ys = sizes-then ds (sizes ++ sizes_made ds sizes gate) xs ys
-
-pub suits-then :
-    (ds sizes : List ℕ) (xs ys : List Gate) → AllSizesSuit ds sizes xs → AllSizesSuit ds (sizes_after ds sizes xs) ys →
-    AllSizesSuit ds sizes (xs ++ ys)
-suits-then ds sizes [] ys suit later = later
-suits-then ds sizes (gate ∷ xs) ys suit later = (suit.0, suits-then ds (sizes ++ sizes_made ds sizes gate) xs ys suit.1 later)
-
-pub gates-then :
-    (dealt : Number → Values) (ds sizes : List ℕ) (xs ys : List Gate) →
-    run_gates dealt ds sizes (xs ++ ys) ≡ run_gates dealt ds sizes xs ++ run_gates dealt ds (sizes_after ds sizes xs) ys
-gates-then dealt ds sizes [] ys = refl
-gates-then dealt ds sizes (gate ∷ xs) ys =
-    ap (λ gates. run_gate dealt ds sizes gate ∷ gates) (gates-then dealt ds (sizes ++ sizes_made ds sizes gate) xs ys)
 
 length-made : (ds sizes : List ℕ) (gate : Gate) → length (sizes_made ds sizes gate) ≡ made_by gate
 length-made ds sizes (Split u negated) = refl
@@ -40,14 +21,6 @@ length-sizes ds sizes [] = omega arith
 length-sizes ds sizes (gate ∷ gates) =
     let new = sizes_made ds sizes gate in
     omega (arith, length-sizes ds (sizes ++ new) gates, length-append sizes new, length-made ds sizes gate)
-
--- the sizes of the values that stand stay
-pub size-stays : (ds sizes : List ℕ) (gates : List Gate) (u : ℕ) → u < length sizes → size_of (sizes_after ds sizes gates) u ≡ size_of sizes u
-size-stays ds sizes [] u lt = refl
-size-stays ds sizes (gate ∷ gates) u lt =
-    let new = sizes_made ds sizes gate in
-    let longer = length-append sizes new in
-    size-stays ds (sizes ++ new) gates u (omega arith) ∙ get_or_append_left sizes new 0 u lt
 
 -- ---- kinds
 

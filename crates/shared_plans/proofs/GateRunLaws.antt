@@ -13,13 +13,14 @@ use Rattle.gates.specs.declared.gate.Gate.TheVariants.{Mul, And, Split, Conv, Op
 use Rattle.gates.specs.Clear.{Values, value}
 use Rattle.gates.specs.Counts.{size_of}
 use Rattle.gates.proofs.Sizes.{size_of-value}
-use Rattle.shared_gates.specs.Shares.{AreShares, Kind, Shared, Known, Holds, kind_at}
+use Rattle.shared_gates.specs.Shares.{AreShares, Holds, kind_at}
 use Rattle.shared_gates.specs.Model.{sizes_made, run_gates, sizes_after}
 use Rattle.shared_gates.specs.Computed.{Computed}
 use Rattle.shared_gates.proofs.Models.{gates-sound}
 use Rattle.shared_gates.proofs.Drawn.{drawn-counted, run-ready}
-use Rattle.shared_gates.proofs.Computing.{computes}
-use Rattle.shared_plans.specs.GateRuns.{GateRun, IsWellFormed, dealt_sizes, value_count, value_sizes, model_gates, end_shares, shares_of, opened_words, words_drawn}
+use Rattle.shared_gates.proofs.Computing.{computes, holds-size}
+use Rattle.shared_plans.specs.GateRuns.{GateRun, IsWellFormed, dealt_sizes, value_count, value_sizes, model_gates, end_shares, shares_of}
+use Rattle.shared_plans.specs.GateRuns.{opened_words, words_drawn}
 use Rattle.shared_plans.proofs.GateLists.{length-sizes}
 use Rattle.shared_plans.proofs.RunLists.{sizes_behind, values-sized}
 
@@ -31,13 +32,9 @@ shares-determine r xs ys s a b =
     let same : length ys ≡ length xs = sym (b.sizes One) ∙ a.sizes One in
     same_words (length xs) xs ys refl same (λ k lt. sym (a.sum k lt) ∙ b.sum k (subst (λ n. k < n) (sym same) lt))
 
-holds-size : (kind : Kind) (xs : List ℕ) (s : Number → List ℕ) → Holds kind xs s → (i : Number) → length xs ≡ length (s i)
-holds-size (Shared ring) xs s h i = sym (h.sizes i)
-holds-size Known xs s h i = sym (ap length (h i))
-
 -- ---- sizes
 
-model-sizes :
+pub model-sizes :
     (dealt : Number → Values) (ds sizes : List ℕ) (gates : List Gate) →
     sizes_behind (run_gates dealt ds sizes gates) sizes ≡ sizes_after ds sizes gates
 model-sizes dealt ds sizes [] = refl

@@ -143,7 +143,8 @@ module _ (dealt kinds : List Kind) (from to : ℕ) (b : AllBoolean kinds from to
           (
             (x, (y, (b (first + 2 + 1) (omega arith) (omega arith), tt))),
             subst (λ k. AllKinded dealt kinds k (bits.carrying n (first + 3) (first + 4) (first + 2) (first + 3) bits.widths)) behind
-                (carrying-kinded n (first + 3) bits.widths (first + 4) (first + 2) (first + 3) (omega arith) (omega arith) (omega arith) (omega arith) (omega arith) (omega arith) (omega arith)),
+                (carrying-kinded n (first + 3) bits.widths (first + 4) (first + 2) (first + 3) (omega arith) (omega arith) (omega arith) (omega arith)
+                (omega arith) (omega arith) (omega arith)),
           ),
         ),
       )
@@ -293,5 +294,6 @@ comparison-kinded dealt kinds first u v n count number_u number_v =
           (bits-kinded-in dealt all (first + 1) (first + 110) b (first + 1) first (2 * n) (omega arith) (omega arith) both)
           (subst (λ k. AllKinded dealt all k (compare.order_start first n ++ joins)) behind
           (start-kinded dealt all (first + 1) (first + 110) b first n joins (omega arith) (omega arith)
-          (comparing-kinded dealt all (first + 1) (first + 110) b n compare.widths (first + 61) (first + 58) (first + 60) (omega arith) (omega arith) (omega arith) (omega arith) (omega arith)))),
+          (comparing-kinded dealt all (first + 1) (first + 110) b n compare.widths (first + 61) (first + 58) (first + 60) (omega arith) (omega arith)
+          (omega arith) (omega arith) (omega arith)))),
     )

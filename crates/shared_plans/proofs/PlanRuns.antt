@@ -7,6 +7,7 @@ use Rattle.proto_core.specs.declared.party.Number.{Number}
 use Rattle.protocol_model.specs.Gates.{AreSound, needed}
 use Rattle.protocol_model.specs.Gates as model
 use Rattle.protocol_model.specs.Runs.{Tapes, Ready, run_values, run_opened}
+use Rattle.protocol_model.proofs.Sizes.{needed-append}
 use Rattle.gates.specs.declared.ring_kind.RingKind.TheVariants.{Arithmetic, Boolean}
 use Rattle.gates.specs.declared.gate.Gate.{Gate}
 use Rattle.gates.specs.declared.gate.Gate.TheVariants.{Mul, And, Split, Conv, Open, Result}
@@ -21,11 +22,13 @@ use Rattle.shared_gates.specs.Model.{sizes_made, run_gates, miner_of}
 use Rattle.shared_gates.specs.Computed.{Computed}
 use Rattle.shared_gates.proofs.Models.{gates-sound}
 use Rattle.shared_gates.proofs.Drawn.{drawn-counted}
-use Rattle.shared_plans.specs.GateRuns.{GateRun, IsWellFormed, dealt_sizes, value_count, value_sizes, then_gates, model_gates, end_shares, shares_of, opened_words, words_drawn, IsNumber, Reach}
+use Rattle.shared_gates.proofs.GatesBehind.{sizes-then, suits-then, gates-then, size-stays}
+use Rattle.shared_plans.specs.GateRuns.{GateRun, IsWellFormed, dealt_sizes, value_count, value_sizes, then_gates, model_gates, end_shares, shares_of}
+use Rattle.shared_plans.specs.GateRuns.{opened_words, words_drawn, IsNumber, Reach}
 use Rattle.shared_plans.specs.Outcomes.{OpensNone, Follows, Outcome}
 use Rattle.shared_plans.proofs.KindedPlans.{shared-grown, shared-below, kind-behind, kinded-append}
-use Rattle.shared_plans.proofs.GateLists.{sizes-then, suits-then, gates-then, size-stays, all-kinded-still}
-use Rattle.shared_plans.proofs.RunLists.{needed-then, values-grow, values-then, OpenNone, opened-before}
+use Rattle.shared_plans.proofs.GateLists.{all-kinded-still}
+use Rattle.shared_plans.proofs.RunLists.{values-grow, values-then, OpenNone, opened-before}
 use Rattle.shared_plans.proofs.GateRunLaws.{shares-determine, run-needs, run-goes, run-computes, run-count, sizes-count, computed-sizes, zero_tapes, zeros-go}
 
 opens-none : (dealt : Number → Values) (ds sizes : List ℕ) (gates : List Gate) → OpensNone gates → OpenNone (run_gates dealt ds sizes gates)
@@ -38,7 +41,7 @@ opens-none dealt ds sizes (Open ring u ∷ gates) none = absurd none
 opens-none dealt ds sizes (Result ring u ∷ gates) none = (refl, opens-none dealt ds (sizes ++ sizes_made ds sizes (Result ring u)) gates none)
 opens-none dealt ds sizes (gate ∷ gates) none = opens-none dealt ds (sizes ++ sizes_made ds sizes gate) gates none
 
-made-then : (xs ys : List Gate) → made_by_all (xs ++ ys) ≡ made_by_all xs + made_by_all ys
+pub made-then : (xs ys : List Gate) → made_by_all (xs ++ ys) ≡ made_by_all xs + made_by_all ys
 made-then [] ys = omega arith
 made-then (gate ∷ xs) ys = omega (arith, made-then xs ys)
 
@@ -75,7 +78,8 @@ module _ (r : GateRun) (plan : List Gate) (own : List Kind) (words : Miner → �
 
   -- ---- values that fit
 
-  module _ (tapes : Tapes) (ready : Ready (model_gates longer) (λ i. []) tapes) (computed : Computed longer.kinds longer.inputs [] longer.gates (end_shares longer tapes) (opened_words longer tapes)) where
+  module _ (tapes : Tapes) (ready : Ready (model_gates longer) (λ i. []) tapes)
+      (computed : Computed longer.kinds longer.inputs [] longer.gates (end_shares longer tapes) (opened_words longer tapes)) where
     pub plan-fit : FitFrom r.inputs computed.more (value_count r) plan
     plan-fit =
         let start : 0 + value_count r ≡ value_count r = omega arith in
@@ -88,7 +92,7 @@ module _ (r : GateRun) (plan : List Gate) (own : List Kind) (words : Miner → �
     early-size u lt =
         sym (size_of-value computed.more u)
         ∙ ap (λ sizes. size_of sizes u) (more-sizes ∙ sizes-then (dealt_sizes r) [] r.gates plan)
-        ∙ size-stays (dealt_sizes r) (value_sizes r) plan u (subst (λ n. u < n) (sym (sizes-count r good)) lt)
+        ∙ sym (size-stays (dealt_sizes r) (value_sizes r) plan u (subst (λ n. u < n) (sym (sizes-count r good)) lt))
 
     plan-words : (miner : Miner) → words_of_all (value_sizes longer) miner plan ≡ words miner
     plan-words miner =
@@ -100,10 +104,11 @@ module _ (r : GateRun) (plan : List Gate) (own : List Kind) (words : Miner → �
   pub words-then : (i : Number) → words_drawn longer i ≡ words_drawn r i + words (miner_of i)
   words-then i =
       let zeros = zeros-go longer longer-formed in
-      let of_plan = plan-words (zero_tapes longer longer-formed) zeros (run-computes longer longer-formed (zero_tapes longer longer-formed) zeros) (miner_of i) in
+      let of_plan = plan-words (zero_tapes longer longer-formed) zeros (run-computes longer longer-formed (zero_tapes longer longer-formed) zeros)
+      (miner_of i) in
       sym (run-needs longer longer-formed i)
       ∙ ap (λ gates. needed gates i) all-gates
-      ∙ needed-then (model_gates r) plan_gates i
+      ∙ needed-append (model_gates r) plan_gates i
       ∙ ap (λ k. k + needed plan_gates i) (run-needs r good i)
       ∙ ap (λ k. words_drawn r i + k)
       (drawn-counted r.dealt (dealt_sizes r) (value_sizes r) plan i follows.suits

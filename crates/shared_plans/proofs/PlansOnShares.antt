@@ -25,7 +25,8 @@ use Rattle.compare.proofs.Laws as compare_laws
 use Rattle.shared_gates.specs.Shares.{AreShares}
 use Rattle.shared_plans.specs.GateRuns.{GateRun, IsWellFormed, dealt_sizes, value_count, value_sizes, shares_of, IsNumber, Reach}
 use Rattle.shared_plans.specs.Outcomes.{Follows}
-use Rattle.shared_plans.specs.Plans.{zero_test_kinds, equality_kinds, bits_kinds, comparison_kinds, then_zero_test, then_equality, then_bits, then_comparison, equal_test}
+use Rattle.shared_plans.specs.Plans.{zero_test_kinds, equality_kinds, bits_kinds, comparison_kinds, then_zero_test, then_equality, then_bits}
+use Rattle.shared_plans.specs.Plans.{then_comparison, equal_test}
 use Rattle.shared_plans.proofs.KindedPlans.{zero-test-kinded, equality-kinded, bits-kinded, comparison-kinded}
 use Rattle.shared_plans.proofs.SizedPlans.{At, suited-sizes, zero-test-suited, equality-suited, bits-suited, comparison-suited}
 use Rattle.shared_plans.proofs.GateRunLaws.{sizes-count}
@@ -182,7 +183,8 @@ module _ (r : GateRun) (good : IsWellFormed r) where
       let out = outcome r plan bits_kinds words good follows tapes reach in
       let clear = operand-value r plan bits_kinds words good follows tapes reach word n number us shares in
       result-shares r plan bits_kinds words good follows tapes reach 53 us (omega arith) refl
-      (bits_laws.gives_bits first word n r.inputs out.computed.more (operand-size r plan bits_kinds words good follows tapes reach word n number) (fits-plan r plan bits_kinds words good follows tapes reach)
+      (bits_laws.gives_bits first word n r.inputs out.computed.more (operand-size r plan bits_kinds words good follows tapes reach word n number)
+      (fits-plan r plan bits_kinds words good follows tapes reach)
       ∙ ap (λ xs. Some xs) (sym clear))
 
   -- ---- comparison

@@ -1,18 +1,12 @@
 -- A run of gates behind a run of others.
-use Rattle.std.proofs.Common.{◌≡◌, ℕ, ◌+◌, List, [], ◌∷◌, ◌++◌, length, refl, sym, ◌∙◌, ap, append_assoc, add_assoc, zero-add}
+use Rattle.std.proofs.Common.{◌≡◌, ℕ, ◌+◌, List, [], ◌∷◌, ◌++◌, length, refl, sym, ◌∙◌, ap, append_assoc}
 use Rattle.proto_core.specs.declared.party.Number.{Number}
 use Rattle.proto_core.specs.Protocol.{Fits}
 use Rattle.proto_core.proofs.Beginnings.{append-none}
 use Rattle.blocked_protocol.proofs.Fitting.{no_words}
-use Rattle.protocol_model.specs.Gates.{Gate, Joined, Local, sizes_of, AreSound, needed}
-use Rattle.protocol_model.specs.Runs.{Shares, Tapes, drawn, left, joint_of, after, after_local, run_values, run_opened, Ready}
+use Rattle.protocol_model.specs.Gates.{Gate, Joined, Local, sizes_of, AreSound}
+use Rattle.protocol_model.specs.Runs.{Shares, Tapes, drawn, left, gate_joint, after, after_local, run_values, run_opened, Ready}
 use Rattle.protocol_model.proofs.Sizes.{sizes-append, sizes-blocks, block-fits, ready-next, ready-local}
-
-pub needed-then : (xs ys : List Gate) (i : Number) → needed (xs ++ ys) i ≡ needed xs i + needed ys i
-needed-then [] ys i = sym (zero-add (needed ys i))
-needed-then (Local n f ∷ xs) ys i = needed-then xs ys i
-needed-then (Joined p n u v ∷ xs) ys i =
-    ap (λ k. p.draws n i + k) (needed-then xs ys i) ∙ sym (add_assoc (p.draws n i) (needed xs i) (needed ys i))
 
 -- ---- values
 
@@ -25,7 +19,7 @@ values-grow (Local n f ∷ gates) values tapes i =
     let rest = values-grow gates (after_local f values) tapes i in
     (f i (values i) ∷ rest.0, rest.1 ∙ append_assoc (values i) (f i (values i) ∷ []) rest.0)
 values-grow (Joined p n u v ∷ gates) values tapes i =
-    let out = p.output n (joint_of u v values (drawn p n tapes)) i in
+    let out = p.output n (gate_joint u v values (drawn p n tapes)) i in
     let rest = values-grow gates (after p n u v values (drawn p n tapes)) (left p n tapes) i in
     (out ++ rest.0, rest.1 ∙ append_assoc (values i) out rest.0)
 
@@ -55,7 +49,7 @@ values-sized (Local n f ∷ gates) values tapes sizes sound ready same i =
     ∙ ap (λ s. s ++ length (f k (values k)) ∷ []) (same k)
     ∙ ap (λ m. sizes ++ m ∷ []) (ready.sized.0 k (values k) (ready.shares k))) i
 values-sized (Joined p n u v ∷ gates) values tapes sizes sound ready same i =
-    let j = joint_of u v values (drawn p n tapes) in
+    let j = gate_joint u v values (drawn p n tapes) in
     let fits : Fits p n j = block-fits p n u v gates values tapes ready in
     values-sized gates (after p n u v values (drawn p n tapes)) (left p n tapes) (sizes ++ p.made n) sound.1
     (ready-next p n u v gates values tapes ready sound.0)
@@ -79,7 +73,7 @@ none-opened [] values tapes sound ready none = refl
 none-opened (Local n f ∷ gates) values tapes sound ready none =
     none-opened gates (after_local f values) tapes sound (ready-local n f gates values tapes ready) none
 none-opened (Joined p n u v ∷ gates) values tapes sound ready none =
-    let j = joint_of u v values (drawn p n tapes) in
+    let j = gate_joint u v values (drawn p n tapes) in
     let fits : Fits p n j = block-fits p n u v gates values tapes ready in
     let later = run_opened gates (after p n u v values (drawn p n tapes)) (left p n tapes) in
     ap (λ w. w ++ later) (sym (no_words (p.opened n j) (sound.0.opens n j fits ∙ none.0)))
@@ -92,6 +86,6 @@ opened-before [] ys values tapes sound ready none = none-opened ys values tapes 
 opened-before (Local n f ∷ xs) ys values tapes sound ready none =
     opened-before xs ys (after_local f values) tapes sound (ready-local n f (xs ++ ys) values tapes ready) none
 opened-before (Joined p n u v ∷ xs) ys values tapes sound ready none =
-    let j = joint_of u v values (drawn p n tapes) in
+    let j = gate_joint u v values (drawn p n tapes) in
     ap (λ w. p.opened n j ++ w)
     (opened-before xs ys (after p n u v values (drawn p n tapes)) (left p n tapes) sound.1 (ready-next p n u v (xs ++ ys) values tapes ready sound.0) none)

@@ -120,7 +120,8 @@ equality-suited dealt sizes first u v n count at_u at_v =
     let test = equality.eq_plan (first + 1) first in
     behind-nothing dealt sizes (Sub u v ∷ test)
     (gate-suited dealt sizes [] one (Sub u v) test (pair-of _ u v n u0 v0) (alone _ n u0.size)
-    (zero-test-suited dealt (sizes ++ one) (first + 1) first n (omega (arith, length-append sizes one)) (at-behind sizes one first 0 first n count (omega arith) (omega arith) refl)))
+    (zero-test-suited dealt (sizes ++ one) (first + 1) first n (omega (arith, length-append sizes one))
+    (at-behind sizes one first 0 first n count (omega arith) (omega arith) refl)))
 
 -- ---- bit extraction
 
@@ -164,7 +165,8 @@ carry-suited dealt sizes n next g p width rest count at_g at_p later =
     (gate-suited dealt sizes s5 (n ∷ []) (Part (next + 4) 0 n) _ (joined5.below, omega (arith, joined5.size)) refl
     (gate-suited dealt sizes s6 (n ∷ []) (Xor g (next + 5)) _ (pair-of _ g (next + 5) n g6 low) (alone _ n g6.size)
     (gate-suited dealt sizes s7 (n ∷ []) (Part (next + 4) n n) rest (joined7.below, omega (arith, joined7.size)) refl
-    (later s8 refl (at-behind sizes s8 next 6 (next + 6) n count refl (omega arith) refl) (at-behind sizes s8 next 7 (next + 7) n count refl (omega arith) refl))))))))))
+    (later s8 refl (at-behind sizes s8 next 6 (next + 6) n count refl (omega arith) refl)
+    (at-behind sizes s8 next 7 (next + 7) n count refl (omega arith) refl))))))))))
 
 -- what all joins leave behind: their last value is of number m
 abbrev EndsAt : (dealt sizes : List ℕ) (n made m : ℕ) → List Gate → Type 0
@@ -190,7 +192,8 @@ carrying-suited dealt n (width ∷ widths) sizes h next g p made m rest count at
     (carry-suited dealt sizes n next g p width (joins ++ rest) count at_g at_p
     (λ more eight at_6 at_7.
     let longer : length (sizes ++ more) ≡ next + 8 = omega (arith, length-append sizes more) in
-    carrying-suited dealt n widths (sizes ++ more) h (next + 8) (next + 6) (next + 7) (8 * length widths + 2) m rest longer (at-grown sizes more h n at_h) at_6 at_7
+    carrying-suited dealt n widths (sizes ++ more) h (next + 8) (next + 6) (next + 7) (8 * length widths + 2) m rest longer
+    (at-grown sizes more h n at_h) at_6 at_7
     refl (omega arith)
     (λ others long at_m.
     subst (λ s. Suited dealt s rest) (sym (append_assoc sizes more others))
@@ -216,7 +219,8 @@ bits-suited-then dealt sizes first word n rest count number later =
     (gate-suited dealt sizes [] s2 (Split word false) (And first (first + 1) ∷ Xor first (first + 1) ∷ joins) before.below (ap (λ k. k ∷ k ∷ []) before.size)
     (gate-suited dealt sizes s2 (n ∷ []) (And first (first + 1)) (Xor first (first + 1) ∷ joins) (pair-of _ first (first + 1) n x y) (alone _ n x.size)
     (gate-suited dealt sizes s3 (n ∷ []) (Xor first (first + 1)) joins (pair-of _ first (first + 1) n x_then y_then) (alone _ n x_then.size)
-    (carrying-suited dealt n bits.widths (sizes ++ s4) (first + 3) (first + 4) (first + 2) (first + 3) 50 (first + 53) rest longer h g h (omega arith) (omega arith)
+    (carrying-suited dealt n bits.widths (sizes ++ s4) (first + 3) (first + 4) (first + 2) (first + 3) 50 (first + 53) rest longer h g h (omega arith)
+    (omega arith)
     (λ more long at_m.
     subst (λ s. Suited dealt s rest) (sym (append_assoc sizes s4 more))
     (later (s4 ++ more) (omega (arith, length-append s4 more)) (subst (λ s. At s (first + 53) n) (append_assoc sizes s4 more) at_m)))))))
@@ -265,7 +269,8 @@ order-suited dealt sizes n next g p width rest count at_g at_p later =
     (gate-suited dealt sizes s5 (n ∷ []) (Part (next + 4) 0 n) _ (joined5.below, omega (arith, joined5.size)) refl
     (gate-suited dealt sizes s6 (n ∷ []) (Xor (next + 1) (next + 5)) _ (pair-of _ (next + 1) (next + 5) n moved_g low) (alone _ n moved_g.size)
     (gate-suited dealt sizes s7 (n ∷ []) (Part (next + 4) n n) rest (joined7.below, omega (arith, joined7.size)) refl
-    (later s8 refl (at-behind sizes s8 next 6 (next + 6) n count refl (omega arith) refl) (at-behind sizes s8 next 7 (next + 7) n count refl (omega arith) refl))))))))))
+    (later s8 refl (at-behind sizes s8 next 6 (next + 6) n count refl (omega arith) refl)
+    (at-behind sizes s8 next 7 (next + 7) n count refl (omega arith) refl))))))))))
 
 comparing-suited :
     (dealt : List ℕ) (n : ℕ) (widths sizes : List ℕ) (next g p : ℕ) → length sizes ≡ next → At sizes g n → At sizes p n →

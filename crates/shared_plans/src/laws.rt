@@ -18,7 +18,8 @@ ghost use Rattle.shared_gates.specs.Kinds.{AllKinded};
 ghost use Rattle.shared_gates.specs.Model.{AllSizesSuit, miner_of};
 ghost use Rattle.shared_plans.specs.GateRuns.{GateRun, IsWellFormed, value_count, then_gates, shares_of, words_drawn, IsNumber, Reach};
 ghost use Rattle.shared_plans.specs.Outcomes.{Follows, Outcome};
-ghost use Rattle.shared_plans.specs.Plans.{zero_test_kinds, bits_kinds, comparison_kinds, then_zero_test, then_equality, then_bits, then_comparison, equal_test};
+ghost use Rattle.shared_plans.specs.Plans.{zero_test_kinds, bits_kinds, comparison_kinds, then_zero_test, then_equality, then_bits, then_comparison};
+ghost use Rattle.shared_plans.specs.Plans.{equal_test};
 
 /// Law: gates behind any well-formed run whose values they suit, and that open none. The longer run is well formed and draws as
 /// many words more as they take. On any tapes that are long enough the three miners come to its end with shares of values that

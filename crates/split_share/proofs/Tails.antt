@@ -9,7 +9,7 @@ use Rattle.proto_core.specs.Resharing.{sum_of_three}
 use Rattle.proto_core.specs.Strand.{accepts, Ends, Acts, Sent}
 use Rattle.proto_core.proofs.MessageFields.{accepts-one_words, accepted-one_words}
 use Rattle.split_share.specs.SplitStrand.{Held, held_of, signed_sum, words_shape, two_ends, three_ends, awaits12, awaits13, split_strand}
-use Rattle.split_share.specs.Splitting.{rest_of_one, first_word, second_word, value_of, joined}
+use Rattle.split_share.specs.Splitting.{rest_of_one, first_word, second_word, value_of, sum_or_difference}
 use Rattle.split_share.specs.SplittingLaws.{splits}
 use Rattle.split_share.specs.Parts.{AreShares}
 use Rattle.split_share.specs.Steps.{OneSplits, Got12, Got13}
@@ -48,7 +48,8 @@ module _ (negated : Bool) (n : ℕ) where
 -- ---- of three miners together
 
 module _ (negated : Bool) (n : ℕ) (j : Joint) where
-  two-first : (held : Held) (m x y : List ℕ) → held ≡ held_of (j.u Two) negated → length (j.u Two) ≡ n → m ≡ j.words One → Got12 held m x y → x ≡ first_word n j Two
+  two-first : (held : Held) (m x y : List ℕ) → held ≡ held_of (j.u Two) negated → length (j.u Two) ≡ n → m ≡ j.words One → Got12 held m x y
+      → x ≡ first_word n j Two
   two-first held m x y e size is s =
       s.first_share ∙ ap (λ h. signed_sum false (length h.share) h.share m) e
       ∙ ap (λ k. signed_sum false k (j.u Two) m) size ∙ ap (signed_sum false n (j.u Two)) is
@@ -69,7 +70,8 @@ module _ (negated : Bool) (n : ℕ) (j : Joint) where
   -- the shares of all three have the number as their words' sum or difference
   pub splits-of :
       (x1 x2 x3 y1 y2 y3 : List ℕ) → AreShares negated n One j x1 y1 → AreShares negated n Two j x2 y2 → AreShares negated n Three j x3 y3 →
-      joined negated n (sum_of_three xor_ring n x1 x2 x3) (sum_of_three xor_ring n y1 y2 y3) ≡ sum_of_three add_ring n (j.u One) (j.u Two) (j.u Three)
+      sum_or_difference negated n (sum_of_three xor_ring n x1 x2 x3) (sum_of_three xor_ring n y1 y2 y3)
+      ≡ sum_of_three add_ring n (j.u One) (j.u Two) (j.u Three)
   splits-of x1 x2 x3 y1 y2 y3 a b c =
       let xs : sum_of_three xor_ring n x1 x2 x3 ≡ value_of n (first_word n j) =
       ap (λ x. sum_of_three xor_ring n x x2 x3) a.first ∙ ap (λ x. sum_of_three xor_ring n (first_word n j One) x x3) b.first
@@ -77,7 +79,8 @@ module _ (negated : Bool) (n : ℕ) (j : Joint) where
       let ys : sum_of_three xor_ring n y1 y2 y3 ≡ value_of n (second_word negated n j) =
       ap (λ x. sum_of_three xor_ring n x y2 y3) a.second ∙ ap (λ x. sum_of_three xor_ring n (second_word negated n j One) x y3) b.second
       ∙ ap (λ x. sum_of_three xor_ring n (second_word negated n j One) (second_word negated n j Two) x) c.second in
-      ap (λ x. joined negated n x (sum_of_three xor_ring n y1 y2 y3)) xs ∙ ap (joined negated n (value_of n (first_word n j))) ys ∙ splits negated n j
+      ap (λ x. sum_or_difference negated n x (sum_of_three xor_ring n y1 y2 y3)) xs
+      ∙ ap (sum_or_difference negated n (value_of n (first_word n j))) ys ∙ splits negated n j
 
   pub shares2-are :
       (held : Held) (m x y : List ℕ) → held ≡ held_of (j.u Two) negated → length (j.u Two) ≡ n → m ≡ j.words One → Got12 held m x y →

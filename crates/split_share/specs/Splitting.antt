@@ -82,12 +82,12 @@ abbrev pub value_of : ℕ → (Number → List ℕ) → List ℕ
 value_of n s = sum_of_three xor_ring n (s One) (s Two) (s Three)
 
 -- x + y, or x - y
-abbrev pub joined : Bool → ℕ → (x y : List ℕ) → List ℕ
-joined false n x y = plus add_ring n x y
-joined true n x y = minus add_ring n x y
+abbrev pub sum_or_difference : Bool → ℕ → (x y : List ℕ) → List ℕ
+sum_or_difference false n x y = plus add_ring n x y
+sum_or_difference true n x y = minus add_ring n x y
 
 -- the two words' sum, or their difference, is the number
 abbrev pub Splits : Bool → ℕ → Joint → Type 0
 Splits negated n j =
-    joined negated n (value_of n (first_word n j)) (value_of n (second_word negated n j))
+    sum_or_difference negated n (value_of n (first_word n j)) (value_of n (second_word negated n j))
     ≡ sum_of_three add_ring n (j.u One) (j.u Two) (j.u Three)

@@ -22,7 +22,8 @@ use Rattle.proto_core.proofs.MessageFields.{accepts-one_words}
 use Rattle.proto_core.proofs.Beginnings.{begins-self}
 use Rattle.proto_core.proofs.Nodes.{into-is, mail-none, run-previous, run-next}
 use Rattle.split_share.specs.SplitStrand.{held_of, signed, signed_sum, words_shape, two_ends, three_ends, split_strand}
-use Rattle.split_share.specs.Splitting.{split_draws, split_script, rest_of_one, split_messages, first_word, second_word, split_tape, split_received, split_protocol, Splits}
+use Rattle.split_share.specs.Splitting.{split_draws, split_script, rest_of_one, split_messages, first_word, second_word, split_tape, split_received}
+use Rattle.split_share.specs.Splitting.{split_protocol, Splits}
 
 split_matched : (n : ℕ) → Matched (split_script n)
 split_matched n = elim [ Link12 ↦ refl | Link13 ↦ refl | Link21 ↦ refl | Link23 ↦ refl | Link31 ↦ refl | Link32 ↦ refl ]

@@ -6,8 +6,8 @@ use Rattle.proto_core.specs.Lists.{each}
 use Rattle.proto_core.specs.Elementwise.{plus, minus, zeros}
 use Rattle.proto_core.specs.Protocol.{Joint}
 use Rattle.split_share.specs.SplitStrand.{signed_sum}
-use Rattle.split_share.specs.Splitting.{split_messages, first_word, second_word, joined}
-use Rattle.split_share.specs.Together.{joint_of}
+use Rattle.split_share.specs.Splitting.{split_messages, first_word, second_word, sum_or_difference}
+use Rattle.proto_core.specs.Joints.{joint_of}
 
 thirteen : Joint
 thirteen = joint_of (5 ∷ []) (6 ∷ []) (2 ∷ []) (20 ∷ []) [] []
@@ -34,10 +34,10 @@ negated_share : second_word true 1 thirteen Three ≡ 13 ∷ []
 unfolding thirteen signed_sum minus each
 negated_share = refl
 
-sum_of_words : joined false 1 (26 ∷ []) (18446744073709551603 ∷ []) ≡ 13 ∷ []
+sum_of_words : sum_or_difference false 1 (26 ∷ []) (18446744073709551603 ∷ []) ≡ 13 ∷ []
 unfolding plus each
 sum_of_words = refl
 
-difference_of_words : joined true 1 (26 ∷ []) (13 ∷ []) ≡ 13 ∷ []
+difference_of_words : sum_or_difference true 1 (26 ∷ []) (13 ∷ []) ≡ 13 ∷ []
 unfolding minus each
 difference_of_words = refl

@@ -2,8 +2,8 @@ ghost use Rattle.std.specs.Prelude.{◌≡◌, [], length};
 ghost use Rattle.share_ring.specs.Rings.{add_ring, xor_ring};
 ghost use Rattle.proto_core.specs.declared.party.Number.TheVariants.{One, Two, Three};
 ghost use Rattle.proto_core.specs.Resharing.{sum_of_three};
-ghost use Rattle.split_share.specs.Splitting.{joined};
-ghost use Rattle.split_share.specs.Together.{joint_of};
+ghost use Rattle.split_share.specs.Splitting.{sum_or_difference};
+ghost use Rattle.proto_core.specs.Joints.{joint_of};
 ghost use Rattle.split_share.specs.Parts.{AreSent, AreShares};
 
 use crate::split::{Sent, Split, Waiting};
@@ -38,7 +38,7 @@ pub fn split_together(
     ensures first { AreShares negated (length u1.now) One (joint_of u1.now u2.now u3.now words.now [] []) result.shares1.0 result.shares1.1 }
     ensures second { AreShares negated (length u1.now) Two (joint_of u1.now u2.now u3.now words.now [] []) result.shares2.0 result.shares2.1 }
     ensures third { AreShares negated (length u1.now) Three (joint_of u1.now u2.now u3.now words.now [] []) result.shares3.0 result.shares3.1 }
-    ensures value { joined negated (length u1.now)
+    ensures value { sum_or_difference negated (length u1.now)
         (sum_of_three xor_ring (length u1.now) result.shares1.0 result.shares2.0 result.shares3.0)
         (sum_of_three xor_ring (length u1.now) result.shares1.1 result.shares2.1 result.shares3.1)
         ≡ sum_of_three add_ring (length u1.now) u1.now u2.now u3.now }

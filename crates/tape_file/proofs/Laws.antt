@@ -8,13 +8,15 @@ use Rattle.tape_file.specs.Tapes.{FourTapes, AreShort, IsWord}
 use Rattle.tape_file.proofs.WordLists.{length-bytes_of, length-words_at, words_at-append, words_at-bytes_of, bytes_of-words_at}
 
 -- the words behind the first n bytes, with those bytes, are the first m bytes
-pub take-words_at : (n count m : ℕ) (bytes : List ℕ) → ((i : ℕ) → get_or bytes i 0 < 256) → m ≡ n + 8 * count → m ≤ length bytes → take n bytes ++ bytes_of (words_at n count bytes) ≡ take m bytes
+pub take-words_at : (n count m : ℕ) (bytes : List ℕ) → ((i : ℕ) → get_or bytes i 0 < 256) → m ≡ n + 8 * count → m ≤ length bytes
+    → take n bytes ++ bytes_of (words_at n count bytes) ≡ take m bytes
 take-words_at n count m bytes small e h =
     let read = bytes_of-words_at n count bytes small (omega arith) in
     rw (read, e) (sym (take-add n (8 * count) bytes))
 
 -- words that were written behind a front are read again
-pub read-part : (front words rest : List ℕ) (place : ℕ) → place ≡ length front → All IsWord words → words_at place (length words) (front ++ (bytes_of words ++ rest)) ≡ words
+pub read-part : (front words rest : List ℕ) (place : ℕ) → place ≡ length front → All IsWord words
+    → words_at place (length words) (front ++ (bytes_of words ++ rest)) ≡ words
 read-part front words rest place e fits =
     words_at-append (length words) front (bytes_of words ++ rest) place 0 (omega arith) ∙ words_at-bytes_of words rest fits
 
@@ -41,19 +43,39 @@ tape_bytes-tapes_at bytes small sound =
     let three = take-words_at (32 + 8 * (d + a)) b (32 + 8 * (d + a + b)) bytes small (omega arith) (omega arith) in
     let four = take-words_at (32 + 8 * (d + a + b)) c (32 + 8 * (d + a + b + c)) bytes small (omega arith) (omega arith) in
     let all = take_all (32 + 8 * (d + a + b + c)) bytes (omega arith) in
-    rw (length-words_at 32 d bytes, length-words_at (32 + 8 * d) a bytes, length-words_at (32 + 8 * (d + a)) b bytes, length-words_at (32 + 8 * (d + a + b)) c bytes, lens, one, two, three, four) all
+    rw (
+      length-words_at 32 d bytes,
+      length-words_at (32 + 8 * d) a bytes,
+      length-words_at (32 + 8 * (d + a)) b bytes,
+      length-words_at (32 + 8 * (d + a + b)) c bytes,
+      lens,
+      one,
+      two,
+      three,
+      four,
+    ) all
 
 -- lengths within the limit and the size that they ask for are no fault
 lengths_fault-none : (d a b c size : ℕ) → IsSized d a b c size → lengths_fault d a b c size ≡ None
 unfolding lengths_fault
 lengths_fault-none d a b c size sized =
-    rw (le-ltb 16777216 d sized.short_dealer, le-ltb 16777216 a sized.short_one, le-ltb 16777216 b sized.short_two, le-ltb 16777216 c sized.short_three, eq-eqb size (32 + 8 * (d + a + b + c)) sized.exact) refl
+    rw (
+      le-ltb 16777216 d sized.short_dealer,
+      le-ltb 16777216 a sized.short_one,
+      le-ltb 16777216 b sized.short_two,
+      le-ltb 16777216 c sized.short_three,
+      eq-eqb size (32 + 8 * (d + a + b + c)) sized.exact,
+    ) refl
 
 -- a sound file is read
-pub read_of-sound : (bytes : List ℕ) → IsSound bytes → read_of bytes ≡ Ok (tapes_at (word_at 0 bytes) (word_at 8 bytes) (word_at 16 bytes) (word_at 24 bytes) bytes)
+pub read_of-sound : (bytes : List ℕ) → IsSound bytes
+    → read_of bytes ≡ Ok (tapes_at (word_at 0 bytes) (word_at 8 bytes) (word_at 16 bytes) (word_at 24 bytes) bytes)
 unfolding read_of fault_of
 read_of-sound bytes sound =
-    rw (le-ltb (length bytes) 32 sound.head, lengths_fault-none (word_at 0 bytes) (word_at 8 bytes) (word_at 16 bytes) (word_at 24 bytes) (length bytes) sound.sized) refl
+    rw (
+      le-ltb (length bytes) 32 sound.head,
+      lengths_fault-none (word_at 0 bytes) (word_at 8 bytes) (word_at 16 bytes) (word_at 24 bytes) (length bytes) sound.sized,
+    ) refl
 
 -- all words of four tapes, and their lengths, have 64 bits
 pub record AreWords (tapes : FourTapes) : Type 0 where
@@ -135,7 +157,8 @@ read_of-tape_bytes tapes short words =
     let file : List ℕ = tape_bytes tapes in
     let p = parts tapes words in
     let size : length file ≡ 32 + 8 * (length tapes.dealer + length tapes.one + length tapes.two + length tapes.three) = p.size in
-    let same = same_four (word_at 0 file) (word_at 8 file) (word_at 16 file) (word_at 24 file) (length tapes.dealer) (length tapes.one) (length tapes.two) (length tapes.three) (sym (lengths_at file) ∙ p.lengths) in
+    let same = same_four (word_at 0 file) (word_at 8 file) (word_at 16 file) (word_at 24 file) (length tapes.dealer) (length tapes.one)
+    (length tapes.two) (length tapes.three) (sym (lengths_at file) ∙ p.lengths) in
     let sized : IsSized (length tapes.dealer) (length tapes.one) (length tapes.two) (length tapes.three) (length file) =
     record { short_dealer = short.dealer; short_one = short.one; short_two = short.two; short_three = short.three; exact = size } in
     let sound : IsSound file = record { head = omega arith; sized = rw (same.first, same.second, same.third, same.fourth) sized } in
@@ -178,6 +201,7 @@ pushed tapes d a b c start one two three four end same e0 e1 e2 e3 e4 e5 =
     written ∙ ap tape_bytes (tapes_of-same tapes d a b c same)
 
 -- what was written of those lists is read as the tapes
-pub read_of-pushed : (tapes : FourTapes) (d a b c file : List ℕ) → AreTapes tapes d a b c → file ≡ tape_bytes tapes → AreWords (tapes_of d a b c) → AreShort tapes → read_of file ≡ Ok tapes
+pub read_of-pushed : (tapes : FourTapes) (d a b c file : List ℕ) → AreTapes tapes d a b c → file ≡ tape_bytes tapes → AreWords (tapes_of d a b c)
+    → AreShort tapes → read_of file ≡ Ok tapes
 read_of-pushed tapes d a b c file same written words short =
     ap read_of written ∙ read_of-tape_bytes tapes short (subst AreWords (tapes_of-same tapes d a b c same) words)

@@ -1,4 +1,5 @@
 pub mod WordLists
+pub mod OfWords
 pub mod Laws
 pub mod OwnLaws
 pub mod Memory

@@ -8,7 +8,8 @@ use Rattle.tape_file.proofs.WordLists.{length-bytes_of, length-word_bytes, lengt
 use Rattle.tape_file.proofs.Laws.{take-words_at, read-part}
 
 -- what is read of a sound file is written as that file
-pub own_bytes-words_at : (wanted : ℕ) (bytes : List ℕ) → ((i : ℕ) → get_or bytes i 0 < 256) → IsOwnSound wanted bytes → own_bytes (words_at 8 (word_at 0 bytes) bytes) ≡ bytes
+pub own_bytes-words_at : (wanted : ℕ) (bytes : List ℕ) → ((i : ℕ) → get_or bytes i 0 < 256) → IsOwnSound wanted bytes
+    → own_bytes (words_at 8 (word_at 0 bytes) bytes) ≡ bytes
 unfolding own_bytes
 own_bytes-words_at wanted bytes small sound =
     let n : ℕ = word_at 0 bytes in

@@ -11,7 +11,8 @@ unfolding seed_word stream_word
 seed_word-next seed key party stream k place ek es ep = rw (ek, es, ep) refl
 
 -- one more word
-pub seed_tape-more : (seed key tape : List ℕ) (party stream k place word : ℕ) → tape ≡ seed_tape seed party k → key ≡ key_of seed → stream ≡ party → place ≡ 2 * k
+pub seed_tape-more : (seed key tape : List ℕ) (party stream k place word : ℕ) → tape ≡ seed_tape seed party k → key ≡ key_of seed → stream ≡ party
+    → place ≡ 2 * k
     → word ≡ word_at 10 key stream place + 2 ^ 32 * word_at 10 key stream (place + 1) → tape ++ word ∷ [] ≡ seed_tape seed party (k + 1)
 seed_tape-more seed key tape party stream k place word et ek es ep ew =
     let next = ew ∙ seed_word-next seed key party stream k place ek es ep in

@@ -1,5 +1,7 @@
 -- Words of 8 bytes in a list of bytes.
-use Rattle.std.proofs.Common.{◌≡◌, ℕ, zero, suc, ◌+◌, ◌*◌, ◌^◌, ◌<◌, ◌≤◌, List, [], ◌∷◌, ◌++◌, length, take, drop, All, get_or, refl, ap, sym, ◌∙◌, arith, inl, inr}
+use Rattle.std.proofs.Common.{◌≡◌, ℕ, zero, suc, ◌+◌, ◌*◌, ◌%◌, ◌^◌, ◌<◌, ◌≤◌, List, [], ◌∷◌, ◌++◌, length}
+use Rattle.std.proofs.Common.{take, drop, All, get_or, refl, ap, sym, ◌∙◌, arith, inl, inr}
+use Rattle.std.proofs.Math.Nat.{mod-eq_of_lt}
 use Rattle.std.proofs.Math.Seq.{drop-append-add, take-add}
 use Rattle.std.proofs.lemmas.List.{length-append, append_assoc, drop-drop, take-append-drop, length-take, length-drop, get_or-take, get_or-drop, get_or_past}
 use Rattle.std.proofs.lemmas.Bool.{cases_lt}
@@ -7,7 +9,7 @@ use Rattle.std.proofs.lemmas.Nat.{le_bytes_8}
 use Rattle.std.specs.Int.{w64, from_le_bytes}
 use Rattle.std.proofs.lemmas.List.Elements.{All-head, All-tail}
 use Rattle.byteorder.specs.Endian.{little_number}
-use Rattle.byteorder.specs.Numbers.{little_from-take, little_number-reads_back, length-bytes_low_first}
+use Rattle.byteorder.specs.Numbers.{little_from-lt, little_from-take, little_number-reads_back, length-bytes_low_first}
 use Rattle.tape_file.specs.Format.{bytes_of, word_at, word_bytes, words_at}
 use Rattle.tape_file.specs.Tapes.{IsWord}
 
@@ -34,13 +36,13 @@ length-words_at place (suc count) bytes = let ih = length-words_at (place + 8) c
 -- a word is read again
 pub word_at-word_bytes : (word : ℕ) (rest : List ℕ) → word < 2 ^ 64 → word_at 0 (word_bytes word ++ rest) ≡ word
 unfolding word_at word_bytes
-word_at-word_bytes word rest h = little_number-reads_back 8 word rest h
+word_at-word_bytes word rest h = ap (λ (n : ℕ). n % 2 ^ 64) (little_number-reads_back 8 word rest h) ∙ mod-eq_of_lt h
 
 -- a place behind a front
 pub word_at-append : (front rest : List ℕ) (place k : ℕ) → place ≡ length front + k → word_at place (front ++ rest) ≡ word_at k rest
 unfolding word_at
 word_at-append front rest place k e =
-    ap (λ (p : ℕ). little_number 8 (drop p (front ++ rest))) e ∙ ap (λ (bs : List ℕ). little_number 8 bs) (drop-append-add front rest k)
+    ap (λ (p : ℕ). little_number 8 (drop p (front ++ rest)) % 2 ^ 64) e ∙ ap (λ (bs : List ℕ). little_number 8 bs % 2 ^ 64) (drop-append-add front rest k)
 
 -- words behind a front
 pub words_at-append : (count : ℕ) (front rest : List ℕ) (place k : ℕ) → place ≡ length front + k → words_at place count (front ++ rest) ≡ words_at k count rest
@@ -75,7 +77,8 @@ words_at-suc place (suc count) bytes =
     ap (λ (ws : List ℕ). word_at place bytes ∷ ws) (ih ∙ ap (λ (p : ℕ). words_at (place + 8) count bytes ++ word_at p bytes ∷ []) e)
 
 -- a word read behind those that were read
-pub words_at-more : (place count : ℕ) (bytes words : List ℕ) (word : ℕ) → words ≡ words_at place count bytes → word ≡ word_at (place + 8 * count) bytes → words ++ word ∷ [] ≡ words_at place (count + 1) bytes
+pub words_at-more : (place count : ℕ) (bytes words : List ℕ) (word : ℕ) → words ≡ words_at place count bytes
+    → word ≡ word_at (place + 8 * count) bytes → words ++ word ∷ [] ≡ words_at place (count + 1) bytes
 words_at-more place count bytes words word before here =
     let e : count + 1 ≡ suc count = omega arith in
     rw (before, here, e) (sym (words_at-suc place count bytes))
@@ -96,18 +99,23 @@ small-part place n bytes fits i = elim (cases_lt i n) [
 ]
 
 -- the bytes of a word that was read are the bytes that stand there
-pub word_bytes-word_at : (place : ℕ) (bytes : List ℕ) → ((i : ℕ) → get_or bytes i 0 < 256) → place + 8 ≤ length bytes → word_bytes (word_at place bytes) ≡ take 8 (drop place bytes)
+pub word_bytes-word_at : (place : ℕ) (bytes : List ℕ) → ((i : ℕ) → get_or bytes i 0 < 256) → place + 8 ≤ length bytes
+    → word_bytes (word_at place bytes) ≡ take 8 (drop place bytes)
 unfolding word_at word_bytes
 word_bytes-word_at place bytes fits h =
     let here : List ℕ = take 8 (drop place bytes) in
     let size : length here ≡ 8 = simp (length-take, length-drop) (omega arith) in
     let whole : from_le_bytes w64 here ≡ little_number 8 here = omega arith in
-    let value : little_number 8 (drop place bytes) ≡ from_le_bytes w64 here = sym (whole ∙ little_from-take 0 8 8 (drop place bytes) (omega arith)) in
     let small = small-part place 8 bytes fits in
-    le_bytes_8 here (little_number 8 (drop place bytes)) size small value
+    let below : little_number 8 here < 2 ^ 64 = little_from-lt 0 8 here small in
+    let read : little_number 8 here ≡ little_number 8 (drop place bytes) = little_from-take 0 8 8 (drop place bytes) (omega arith) in
+    let value : little_number 8 (drop place bytes) % 2 ^ 64 ≡ from_le_bytes w64 here =
+    ap (λ (n : ℕ). n % 2 ^ 64) (sym read) ∙ mod-eq_of_lt below ∙ sym whole in
+    le_bytes_8 here (little_number 8 (drop place bytes) % 2 ^ 64) size small value
 
 -- the bytes of words that were read are the bytes that stand there
-pub bytes_of-words_at : (place count : ℕ) (bytes : List ℕ) → ((i : ℕ) → get_or bytes i 0 < 256) → place + 8 * count ≤ length bytes → bytes_of (words_at place count bytes) ≡ take (8 * count) (drop place bytes)
+pub bytes_of-words_at : (place count : ℕ) (bytes : List ℕ) → ((i : ℕ) → get_or bytes i 0 < 256) → place + 8 * count ≤ length bytes
+    → bytes_of (words_at place count bytes) ≡ take (8 * count) (drop place bytes)
 unfolding words_at
 bytes_of-words_at place zero bytes fits h = refl
 bytes_of-words_at place (suc count) bytes fits h =

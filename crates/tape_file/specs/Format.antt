@@ -1,5 +1,6 @@
 -- The form of a tape file: the lengths of the four tapes, then their words. Lengths and words have 8 bytes each, the lowest first.
-use Rattle.std.specs.Prelude.{◌≡◌, ◌≤◌, ℕ, zero, suc, ◌+◌, ◌*◌, ◌==◌, nat_lt, min, List, [], ◌∷◌, ◌++◌, length, drop, Option, Some, None, Result, Ok, Err, if◌then◌else◌}
+use Rattle.std.specs.Prelude.{◌≡◌, ◌≤◌, ℕ, zero, suc, ◌+◌, ◌*◌, ◌%◌, ◌^◌, ◌==◌, nat_lt, min, List, [], ◌∷◌, ◌++◌, length, drop, Option, Some, None}
+use Rattle.std.specs.Prelude.{Result, Ok, Err, if◌then◌else◌}
 use Rattle.std.specs.List.{flat_map}
 use Rattle.byteorder.specs.Endian.{little_bytes, little_number}
 use Rattle.tape_file.specs.Tapes.{FourTapes}
@@ -22,9 +23,9 @@ tape_bytes tapes =
 unfoldable pub own_bytes : List ℕ → List ℕ
 own_bytes tape = bytes_of (length tape ∷ tape)
 
--- the word in the 8 bytes from this place on
+-- the word in the 8 bytes from this place on: it has 64 bits
 unfoldable pub word_at : ℕ → List ℕ → ℕ
-word_at place bytes = little_number 8 (drop place bytes)
+word_at place bytes = little_number 8 (drop place bytes) % 2 ^ 64
 
 -- so many words, one after the other from this place on
 unfoldable pub words_at : ℕ → ℕ → List ℕ → List ℕ

@@ -1,5 +1,5 @@
 -- The tapes of one run, as contracts see them.
-use Rattle.std.specs.Prelude.{ℕ, ◌^◌, ◌<◌, ◌≤◌, List, length}
+use Rattle.std.specs.Prelude.{ℕ, ◌^◌, ◌<◌, ◌≤◌, List, length, All}
 
 -- the words of the dealer's tape and of the tapes of miners 1, 2 and 3
 pub record FourTapes : Type 0 where
@@ -22,3 +22,10 @@ pub record AreShort (tapes : FourTapes) : Type 0 where
   pub one : IsShort tapes.one
   pub two : IsShort tapes.two
   pub three : IsShort tapes.three
+
+-- each word of the four tapes has 64 bits
+pub record AreOfWords (tapes : FourTapes) : Type 0 where
+  pub dealer : All IsWord tapes.dealer
+  pub one : All IsWord tapes.one
+  pub two : All IsWord tapes.two
+  pub three : All IsWord tapes.three

@@ -1,6 +1,6 @@
 -- The tapes of a whole run, by what was dealt.
-use Rattle.std.proofs.Common.{◌≡◌, ℕ, ◌<◌, ◌≤◌, Bool, true, false, if◌then◌else◌, List, [], length, sym, ◌∙◌, ap, subst, arith}
-use Rattle.std.specs.Prelude.{nat_le, Result, Ok, Err, Option, Some, None, IfOk, IfSome, IfNone}
+use Rattle.std.proofs.Common.{◌≡◌, ℕ, ◌<◌, ◌≤◌, Bool, false, if◌then◌else◌, List, [], length, sym, ◌∙◌, ap, subst, arith}
+use Rattle.std.specs.Prelude.{nat_le, Option, Some, None, IfSome, IfNone}
 use Rattle.proto_core.specs.declared.party.Number.{Number}
 use Rattle.proto_core.specs.declared.party.Number.TheVariants.{One, Two, Three}
 use Rattle.protocol_model.specs.Gates.{needed, sizes_of}
@@ -9,7 +9,7 @@ use Rattle.gates.specs.declared.gate.Gate.{Gate}
 use Rattle.gates.specs.Clear.{Values}
 use Rattle.shared_gates.specs.Model.{AllSizesSuit, run_gates}
 use Rattle.shared_gates.proofs.Drawn.{drawn-counted}
-use Rattle.joint_run.specs.Three.{of_three}
+use Rattle.proto_core.specs.Parties.{of_three}
 use Rattle.joint_run.specs.JointRuns.{dealt_sizes, IsEven}
 use Rattle.joint_run.specs.JointRuns as joint
 use Rattle.value_file.specs.declared.inputs.Entry.{Entry}
@@ -18,20 +18,15 @@ use Rattle.tape_file.specs.Tapes.{FourTapes}
 use Rattle.gate_maps.specs.declared.way.Way.{Way}
 use Rattle.gate_maps.specs.declared.way.Way.TheVariants.{ToView, FromView}
 use Rattle.gate_maps.specs.Maps.{gates_map, run_map}
+use Rattle.gate_maps.proofs.Passing.{same_for}
 use Rattle.view_model.specs.Dealing.{dealt_to, private_sizes, seen_dealer}
 use Rattle.view_model.specs.TapeMaps.{miners_of, four_of, no_values, gates_dealt, to_simulated, from_simulated, Reaches, CanRun}
 use Rattle.view_model.proofs.Dealings.{seen_length}
 use Rattle.view_model.proofs.DealtSizes.{sizes_dealt}
-
-pub same_for : {A : Type 0} (f g : Number → A) → ((k : Number) → f k ≡ g k) → f ≡ g
-same_for f g h = λ d. λ k. h k d
+use Rattle.view_model.proofs.Corresponding.{le_true, same_tapes}
 
 pub same_four : (dealer other : List ℕ) (ts us : Tapes) → dealer ≡ other → ((k : Number) → ts k ≡ us k) → four_of dealer ts ≡ four_of other us
-same_four dealer other ts us d h = ap (λ w. four_of w ts) d ∙ ap (four_of other) (same_for ts us h)
-
-pub if-ok : {A E : Type 0} (P Q : A → Type 0) → ((a : A) → P a → Q a) → (r : Result A E) → IfOk r P → IfOk r Q
-if-ok P Q h (Ok a) p = h a p
-if-ok P Q h (Err e) p = tt
+same_four dealer other ts us d h = same_tapes dealer other ts us d (same_for ts us h)
 
 pub some-says : {A : Type 0} (P : A → Type 0) (o : Option A) (x : A) → o ≡ Some x → IfSome o P → P x
 some-says P o x is h = subst (λ o. IfSome o P) is h
@@ -46,9 +41,6 @@ own-tapes t a b d first second third = same_for (miners_of t) (of_three a b d) a
     at One = sym first
     at Two = sym second
     at Three = sym third
-
-le_true : (a b : ℕ) → a ≤ b → nat_le a b ≡ true
-le_true a b h = grind arith
 
 lt_false : (a b : ℕ) → b < a → nat_le a b ≡ false
 lt_false a b h = grind arith

@@ -158,7 +158,11 @@ pub one-begins : (first second : List ℕ) (k : ℕ) → take k first ≡ take k
 one-begins first second k same ends =
     elim ends as (λ _. OneBegins first second) [
       | inl past ↦
-          inr (record { more = drop k second; is = sym (take-append-drop k second) ∙ ap (λ (l : List ℕ). l ++ drop k second) (sym same ∙ take_all k first past) })
+          inr (record {
+            more = drop k second;
+            is =
+                sym (take-append-drop k second) ∙ ap (λ (l : List ℕ). l ++ drop k second) (sym same ∙ take_all k first past);
+          })
       | inr past ↦
           inl (record { more = drop k first; is = sym (take-append-drop k first) ∙ ap (λ (l : List ℕ). l ++ drop k first) (same ∙ take_all k second past) })
     ]

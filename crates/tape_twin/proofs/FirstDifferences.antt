@@ -1,5 +1,6 @@
 -- Two inputs are alike exactly where they have no first difference.
-use Rattle.std.proofs.Common.{◌≡◌, ℕ, zero, ◌+◌, ◌==◌, Bool, true, false, if◌then◌else◌, List, [], ◌∷◌, ◌++◌, length, Option, Some, None, bytes_eq, refl, sym, ◌∙◌, ap, inl, inr, arith, eqb-true, eq-eqb, ne_eqb}
+use Rattle.std.proofs.Common.{◌≡◌, ℕ, zero, ◌+◌, ◌==◌, Bool, true, false, if◌then◌else◌, List, [], ◌∷◌, ◌++◌, length, Option, Some, None, bytes_eq}
+use Rattle.std.proofs.Common.{refl, sym, ◌∙◌, ap, inl, inr, arith, eqb-true, eq-eqb, ne_eqb}
 use Rattle.std.proofs.lemmas.Bool.{false≢true, and_from, and_parts}
 use Rattle.std.proofs.lemmas.Slice.Eq.{bytes_eq-Decides}
 use Rattle.value_file.specs.declared.value.DataType.{DataType}
@@ -17,7 +18,8 @@ use Rattle.typed_tree.specs.Programs.{TypedProgramTree}
 use Rattle.program_views.specs.Views.{run_on}
 use Rattle.program_views.specs.TapeMaps.{AreAlike}
 use Rattle.tape_twin.specs.Alike.{DifferHere, PartsDiffer, WordsDiffer, BeginsWith, OneBegins}
-use Rattle.tape_twin.specs.FirstDifference.{same_bit, same_bits, same_type, same_shape, same_value, same_shown, same_entry, other_entry, Difference, at_entry, at_word, other_word, entry_first, difference}
+use Rattle.tape_twin.specs.FirstDifference.{same_bit, same_bits, same_type, same_shape, same_value, same_shown, same_entry, other_entry, Difference}
+use Rattle.tape_twin.specs.FirstDifference.{at_entry, at_word, other_word, entry_first, difference}
 use Rattle.tape_twin.proofs.Runs.{alike-so}
 
 -- ---- an entry is the same as itself

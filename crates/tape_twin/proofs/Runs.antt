@@ -1,6 +1,5 @@
 -- The gates of a program's run can run on its tapes.
 use Rattle.std.proofs.Common.{◌≡◌, ℕ, List, ◌++◌, All, sym, ◌∙◌, ap, subst, inl, inr}
-use Rattle.std.specs.Prelude.{Result, Ok, Err, Option, None, IfOk, IfNone}
 use Rattle.proto_core.specs.declared.party.Number.{Number}
 use Rattle.proto_core.specs.declared.party.Number.TheVariants.{One, Two, Three}
 use Rattle.proto_core.specs.Lists.{AreWords}
@@ -20,13 +19,6 @@ use Rattle.program_views.proofs.Blind.{takes_same_course, same_course_exactly}
 use Rattle.program_views.proofs.Simulated.{can_run}
 use Rattle.tape_twin.specs.Accepted.{IsAcceptedProgram}
 use Rattle.tape_twin.specs.Alike.{BeginsWith, OneBegins}
-
-pub if-ok : {A E : Type 0} (P Q : A → Type 0) → ((a : A) → P a → Q a) → (r : Result A E) → IfOk r P → IfOk r Q
-if-ok P Q h (Ok a) p = h a p
-if-ok P Q h (Err e) p = tt
-
-pub none-says : {A : Type 0} (P : Type 0) (o : Option A) → o ≡ None → IfNone o P → P
-none-says P o is h = subst (λ o. IfNone o P) is h
 
 pub tapes-are : (t : FourTapes) → AreWords t.dealer → AreWords t.one → AreWords t.two → AreWords t.three → AreTapes t
 tapes-are t dealer one two three = record { dealer = dealer; miners = own }

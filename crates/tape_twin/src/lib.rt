@@ -5,6 +5,7 @@
 #![tactic(auto)]
 
 mod alike;
+mod laws;
 mod mapped_run;
 mod maps;
 mod running;
@@ -12,6 +13,7 @@ mod twin_err;
 mod twinning;
 mod words;
 
+pub use laws::counting;
 pub use mapped_run::{MappedRun, map_run};
 pub use maps::{from_sim, to_sim};
 pub use twin_err::TwinErr;

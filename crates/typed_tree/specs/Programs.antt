@@ -1,7 +1,7 @@
 -- Typed functions and programs as values: the same trees without pointers.
 use Rattle.std.specs.Prelude.{ℕ, List, map}
 use Rattle.typed_tree.specs.declared.kinds.Slot.{Slot}
-use Rattle.typed_tree.specs.declared.function.Given.{Given}
+use Rattle.typed_tree.specs.declared.function.Returned.{Returned}
 use Rattle.typed_tree.specs.declared.function.TypedFunction.{TypedFunction}
 use Rattle.typed_tree.specs.declared.function.TypedProgram.{TypedProgram}
 use Rattle.typed_tree.specs.Commands.{Commands, command, commands_of}
@@ -11,7 +11,7 @@ pub record TypedFunctionTree : Type 0 where
   pub variables : ℕ
   pub parameters : ℕ
   pub slots : List Slot
-  pub given : Given
+  pub given : Returned
   pub body : Commands
   pub size : ℕ
 

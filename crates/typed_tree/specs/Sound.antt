@@ -2,9 +2,12 @@
 -- as each has parameters.
 use Rattle.std.specs.Prelude.{ℕ, ◌≡◌, ◌+◌, ◌<◌, ◌≤◌, List, [], ◌∷◌, length, map, Option, Some, None}
 use Rattle.std.specs.List.{slice_get}
-use Rattle.typed_tree.specs.Tree.{TypedTree, TypedTrees, word_node, truth_node, slot_node, call_node, size_node, cat_node, sum_node, bits_node, element_node, not_node, cast_node, binary_node, cut_node, declassify_node}
+use Rattle.typed_tree.specs.Tree.{TypedTree, TypedTrees, word_node, truth_node, slot_node, call_node, size_node, cat_node, sum_node, bits_node}
+use Rattle.typed_tree.specs.Tree.{element_node, not_node, cast_node, binary_node, cut_node, declassify_node}
 use Rattle.typed_tree.specs.Tree as Tree'
-use Rattle.typed_tree.specs.Commands.{Command, Commands, empty_command, block_command, if_command, loop_command, do_command, break_command, continue_command, return_command, assert_command, store_command, default_command, fill_command, input_command, element_command, publish_command, evaluate_command}
+use Rattle.typed_tree.specs.Commands.{Command, Commands, empty_command, block_command, if_command, loop_command, do_command, break_command}
+use Rattle.typed_tree.specs.Commands.{continue_command, return_command, assert_command, store_command, default_command, fill_command, input_command}
+use Rattle.typed_tree.specs.Commands.{element_command, publish_command, evaluate_command}
 use Rattle.typed_tree.specs.Commands as Commands'
 use Rattle.typed_tree.specs.Programs.{TypedFunctionTree, TypedProgramTree}
 

@@ -4,7 +4,7 @@ use sc_text::Name;
 
 /// What a function gives back.
 #[derive(Clone, Copy, PartialEq, Eq)]
-pub enum Given {
+pub enum Returned {
     Nothing,
     Value(Slot),
 }
@@ -20,7 +20,7 @@ pub struct TypedFunction {
     pub parameters: usize,
     /// Its parameters, and then each declaration in the order of the text.
     pub slots: Vec<Slot>,
-    pub given: Given,
+    pub given: Returned,
     pub body: Vec<TypedStatement>,
     /// The nodes of the function's tree, as the height of a program counts them, and its parameters; 4,294,967,295 stands for more.
     pub size: u32,

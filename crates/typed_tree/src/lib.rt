@@ -9,7 +9,7 @@ mod operators;
 mod statement;
 
 pub use expression::TypedExpression;
-pub use function::{Given, TypedFunction, TypedProgram};
+pub use function::{Returned, TypedFunction, TypedProgram};
 pub use kinds::{Shape, Slot, SlotDomain};
 pub use operators::{BinaryOperator, BoolOperator, Cast, Connective, Operands, WordOperator};
 pub use statement::TypedStatement;

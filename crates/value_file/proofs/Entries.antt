@@ -11,11 +11,13 @@ module _ {E : Type 0} (one : ℕ → List (List ℕ) → Data → Result E ReadE
   module _ (vs : List Value) (i : ℕ) (v : Value) (before : List E) (names : List (List ℕ))
       (here : i < length vs) (same : names ≡ map name before) (count : length before ≡ i) (at : v ≡ get_or vs i v) where
     -- an entry is read, and then those behind it
-    unrolled : entries_after one name before (items_view (drop i vs)) ≡ (one i names (view v) >>= λ entry. entries_after one name (before ++ entry ∷ []) (items_view (drop (i + 1) vs)))
+    unrolled : entries_after one name before (items_view (drop i vs))
+        ≡ (one i names (view v) >>= λ entry. entries_after one name (before ++ entry ∷ []) (items_view (drop (i + 1) vs)))
     unrolled = rw (drop_more vs i v here, ← at, count, same) refl
 
     -- an entry that is good joins those before it
-    pub entries_after-more : (entry : E) → one i names (view v) ≡ Ok entry → entries_after one name before (items_view (drop i vs)) ≡ entries_after one name (before ++ entry ∷ []) (items_view (drop (i + 1) vs))
+    pub entries_after-more : (entry : E) → one i names (view v) ≡ Ok entry
+        → entries_after one name before (items_view (drop i vs)) ≡ entries_after one name (before ++ entry ∷ []) (items_view (drop (i + 1) vs))
     entries_after-more entry good = unrolled ∙ ap (λ r. r >>= λ entry. entries_after one name (before ++ entry ∷ []) (items_view (drop (i + 1) vs))) good
 
     -- an entry that is refused ends the reading
@@ -27,7 +29,8 @@ module _ {E : Type 0} (one : ℕ → List (List ℕ) → Data → Result E ReadE
   entries_after-end vs i before past = rw (drop_all i vs past) refl
 
 -- the names, with one more
-pub names-more : {E : Type 0} (name : E → List ℕ) (before after : List E) (entry : E) (names more : List (List ℕ)) → names ≡ map name before → more ≡ names ++ name entry ∷ [] → after ≡ before ++ entry ∷ [] → more ≡ map name after
+pub names-more : {E : Type 0} (name : E → List ℕ) (before after : List E) (entry : E) (names more : List (List ℕ)) → names ≡ map name before
+    → more ≡ names ++ name entry ∷ [] → after ≡ before ++ entry ∷ [] → more ≡ map name after
 names-more name before after entry names more same grown joined = rw (grown, same, joined) (sym (map-append name before (entry ∷ [])))
 
 -- the count, with one more

@@ -14,13 +14,20 @@ use Rattle.value_file.specs.Input.{name_of, elements_of, AreEntries, AreInputs, 
 
 module _ {E : Type 0} (name : E → List ℕ) (count : E → ℕ) where
   -- one more entry
-  pub AreEntries-push : (before es : List E) (e : E) → AreEntries name count before es → IsEntry (map name (before ++ es)) (name e) (count e) → AreEntries name count before (es ++ e ∷ [])
+  pub AreEntries-push : (before es : List E) (e : E) → AreEntries name count before es → IsEntry (map name (before ++ es)) (name e) (count e)
+      → AreEntries name count before (es ++ e ∷ [])
   AreEntries-push before [] e good more = (subst (λ (b : List E). IsEntry (map name b) (name e) (count e)) (append-nil before) more, tt)
-  AreEntries-push before (x ∷ es) e good more = (good.0, AreEntries-push (before ++ x ∷ []) es e good.1 (subst (λ (b : List E). IsEntry (map name b) (name e) (count e)) (sym (append_assoc before (x ∷ []) es)) more))
+  AreEntries-push before (x ∷ es) e good more = (
+    good.0,
+    AreEntries-push (before ++ x ∷ []) es e good.1
+        (subst (λ (b : List E). IsEntry (map name b) (name e) (count e)) (sym (append_assoc before (x ∷ []) es)) more),
+  )
 
   -- one more entry, whose name and count were tested
-  pub AreEntries-more : (before after : List E) (e : E) (names : List (List ℕ)) → AreEntries name count [] before → names ≡ map name before → IsEntry names (name e) (count e) → after ≡ before ++ e ∷ [] → AreEntries name count [] after
-  AreEntries-more before after e names good same more joined = subst (AreEntries name count []) (sym joined) (AreEntries-push [] before e good (subst (λ (n : List (List ℕ)). IsEntry n (name e) (count e)) same more))
+  pub AreEntries-more : (before after : List E) (e : E) (names : List (List ℕ)) → AreEntries name count [] before → names ≡ map name before
+      → IsEntry names (name e) (count e) → after ≡ before ++ e ∷ [] → AreEntries name count [] after
+  AreEntries-more before after e names good same more joined =
+      subst (AreEntries name count []) (sym joined) (AreEntries-push [] before e good (subst (λ (n : List (List ℕ)). IsEntry n (name e) (count e)) same more))
 
 public_count-shown : (d : Domain) (v : Value) → public_count (shown d v) ≡ count_of v
 public_count-shown domain.Public v = refl
@@ -33,13 +40,16 @@ names-part_of : (es : List Entry) → map name_of es ≡ map public_name_of (par
 names-part_of [] = refl
 names-part_of (e ∷ es) = ap (λ ns. e.name ∷ ns) (names-part_of es)
 
-part_of-entries : (before es : List Entry) → AreEntries name_of elements_of before es → AreEntries public_name_of public_elements_of (part_of before) (part_of es)
+part_of-entries : (before es : List Entry) → AreEntries name_of elements_of before es
+    → AreEntries public_name_of public_elements_of (part_of before) (part_of es)
 part_of-entries before [] good = tt
 part_of-entries before (e ∷ es) good =
     let names = names-part_of before in
     let count = public_count-shown e.domain e.value in
-    let joined : part_of (before ++ e ∷ []) ≡ part_of before ++ public_entry e ∷ [] = map-append public_entry before (e ∷ []) in
-    (rw (← names, count) good.0, subst (λ (b : List PublicEntry). AreEntries public_name_of public_elements_of b (part_of es)) joined (part_of-entries (before ++ e ∷ []) es good.1))
+    let joined : part_of (before ++ e ∷ []) ≡ part_of before ++ public_entry e ∷ [] = map-append public_entry before (e ∷ []) in (
+      rw (← names, count) good.0,
+      subst (λ (b : List PublicEntry). AreEntries public_name_of public_elements_of b (part_of es)) joined (part_of-entries (before ++ e ∷ []) es good.1),
+    )
 
 -- the public part of good inputs
 pub IsWritable-part_of : (inputs : List Entry) → AreInputs inputs → IsWritable (part_of inputs)

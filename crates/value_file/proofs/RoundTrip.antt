@@ -22,10 +22,12 @@ use Rattle.value_file.specs.Json.{json_of, text_of}
 use Rattle.value_file.specs.Values.{type_of, count_of, size_of, all_in, number_in, value_of}
 use Rattle.value_file.specs.Public.{number_data, value_data, shape_data, type_data, entry_data, entry_data_of, part_data}
 use Rattle.value_file.specs.Input.{AreEntries, data_type_of, domain_of, new_name, entries_after, inputs_in}
-use Rattle.value_file.specs.PublicFile.{public_entry_of, public_name_of, public_elements_of, public_within_limit, public_count, read_public_of, shape_of_data, IsWritable}
+use Rattle.value_file.specs.PublicFile.{public_entry_of, public_name_of, public_elements_of, public_within_limit, public_count, read_public_of}
+use Rattle.value_file.specs.PublicFile.{shape_of_data, IsWritable}
 
 -- the elements of an array
-pub all_in-map : {A : Type 0} (one : Data → Option A) (f : A → Data) → ((x : A) → one (f x) ≡ Some x) → (xs : List A) → all_in one (items_of (map f xs)) ≡ Some xs
+pub all_in-map : {A : Type 0} (one : Data → Option A) (f : A → Data) → ((x : A) → one (f x) ≡ Some x) → (xs : List A)
+    → all_in one (items_of (map f xs)) ≡ Some xs
 all_in-map one f good [] = refl
 all_in-map one f good (x ∷ xs) = rw (good x, all_in-map one f good xs) refl
 
@@ -52,14 +54,16 @@ entry_of-data place earlier name (Known v) fresh short = rw (fresh, type_of-data
 entry_of-data place earlier name (Hidden kind s) fresh short = rw (fresh, type_of-data kind, shape_of-data s, le-ltb 65536 (size_of s) short) refl
 
 -- the entries behind those that were read before
-entries_after-data : (before es : List PublicEntry) → AreEntries public_name_of public_elements_of before es → entries_after public_entry_of public_name_of before (items_of (map entry_data es)) ≡ Ok (before ++ es)
+entries_after-data : (before es : List PublicEntry) → AreEntries public_name_of public_elements_of before es
+    → entries_after public_entry_of public_name_of before (items_of (map entry_data es)) ≡ Ok (before ++ es)
 entries_after-data before [] good = ap Ok (sym (append-nil before))
 entries_after-data before (e ∷ es) good =
     let here = entry_of-data (length before) (map public_name_of before) e.name e.value good.0.fresh good.0.short in
     rw here (entries_after-data (before ++ e ∷ []) es good.1 ∙ ap Ok (append_assoc before (e ∷ []) es))
 
 -- a public file
-pub read_public_of-written : (bytes : List ℕ) (part : List PublicEntry) → IsUtf8 bytes → read bytes ≡ Some (part_data part) → IsWritable part → read_public_of bytes ≡ Ok part
+pub read_public_of-written : (bytes : List ℕ) (part : List PublicEntry) → IsUtf8 bytes → read bytes ≡ Some (part_data part) → IsWritable part
+    → read_public_of bytes ≡ Ok part
 unfolding read_public_of inputs_in json_of text_of
 read_public_of-written bytes part text found good =
     let whole = eq-eqb (utf8_valid_len bytes) (length bytes) (utf8_valid_len-IsUtf8 bytes text) in

@@ -2,7 +2,8 @@
 ghost use Rattle.std.specs.Prelude.{◌≡◌, ◌++◌, ◌∷◌, [], map, IfOk, OnOk};
 ghost use Rattle.serde_json.specs.View.{view, items_view};
 ghost use Rattle.value_file.specs.Input.{IsEntry, entries_after};
-ghost use Rattle.value_file.specs.PublicFile.{IsWritable, public_count, public_entry_of, public_name_of, public_value_of, read_public_of, shape_in, shape_of_data};
+ghost use Rattle.value_file.specs.PublicFile.{IsWritable, public_count, public_entry_of, public_name_of, public_value_of, read_public_of, shape_in};
+ghost use Rattle.value_file.specs.PublicFile.{shape_of_data};
 ghost use Rattle.value_file.specs.Reads.{Reads};
 
 use crate::fields::{MAX_ELEMENTS, bad, data_type, domain, name, value_field};

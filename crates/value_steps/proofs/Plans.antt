@@ -7,7 +7,8 @@ use Rattle.value_steps.specs.declared.halt.Halt.{Halt}
 use Rattle.value_steps.specs.declared.halt.Halt.TheVariants as halt
 use Rattle.value_steps.specs.Steps.{Does, itself}
 
-does_planned : (plan : ℕ → List Gate) (gates : List Gate) (s s' : Stage) (r : Result ℕ Halt) → gates ≡ plan s.made → Does itself (put_gates gates) s r s' → Does itself (planned plan) s r s'
+does_planned : (plan : ℕ → List Gate) (gates : List Gate) (s s' : Stage) (r : Result ℕ Halt) → gates ≡ plan s.made
+    → Does itself (put_gates gates) s r s' → Does itself (planned plan) s r s'
 does_planned plan gates s s' (Ok n) e h = ap (λ gs. put_gates gs s) (sym e) ∙ h
 does_planned plan gates s s' (Err halt.Memory) e h = tt
 does_planned plan gates s s' (Err (halt.Ended ending)) e h = ap (λ gs. put_gates gs s) (sym e) ∙ h
@@ -18,7 +19,8 @@ number_given (Ok x) = x.0
 number_given (Err e) = 0
 
 -- the plan begins at the next number
-pub puts_plan : (plan : ℕ → List Gate) (first : ℕ) (gates : List Gate) (s s' : Stage) (r : Result ℕ Halt) → Does itself next_number s (Ok first) s → gates ≡ plan first → Does itself (put_gates gates) s r s' → Does itself (planned plan) s r s'
+pub puts_plan : (plan : ℕ → List Gate) (first : ℕ) (gates : List Gate) (s s' : Stage) (r : Result ℕ Halt) → Does itself next_number s (Ok first) s
+    → gates ≡ plan first → Does itself (put_gates gates) s r s' → Does itself (planned plan) s r s'
 puts_plan plan first gates s s' r m e h =
     let begins : s.made ≡ first = ap number_given m in
     does_planned plan gates s s' r (e ∙ ap plan (sym begins)) h

@@ -18,7 +18,7 @@ pub struct Applied<'v> {
 impl Applied<'_> {
     ghost use Rattle.std.specs.Prelude.{◌≡◌, ◌≤◌, length, IfOk};
     ghost use Rattle.language_model.specs.Operations.{is_scalar_left, is_scalar_right, result_shape};
-    ghost use Rattle.language_model.specs.Values.{seen};
+    ghost use Rattle.language_model.specs.Values.{visible_words};
     ghost use Rattle.language_model.specs.Words as W;
     ghost use Rattle.value_steps.specs.Views.{value_seen};
 
@@ -46,7 +46,7 @@ impl Applied<'_> {
 
     /// Whether no public divisor is 0.
     pub(crate) fn may_divide(&self) -> bool
-        ensures { result ≡ W.may_divide self.now.operator (seen (value_seen self.now.right.now)) }
+        ensures { result ≡ W.may_divide self.now.operator (visible_words (value_seen self.now.right.now)) }
     {
         match self.right.secrecy {
             Secrecy::Plain => vector_ops::may_divide(self.operator, &self.right.words),
@@ -105,7 +105,8 @@ impl Applied<'_> {
     /// The words of the result.
     #[tactic(auto, using(crate::proofs::ResultSizes::length_each_two))]
     pub(crate) fn result_words(&self, alloc: Global) -> Result<Vec<u64>, AllocError>
-        ensures words { IfOk result (λ words. words.items ≡ W.result_words self.now.operator self.now.operands (value_seen self.now.left.now) (value_seen self.now.right.now)) }
+        ensures words { IfOk result (λ words. words.items
+            ≡ W.result_words self.now.operator self.now.operands (value_seen self.now.left.now) (value_seen self.now.right.now)) }
         ensures bounded { IfOk result (λ words. length words.items ≤ 1048576) }
     {
         let (op, left, right) = (self.operator, self.left, self.right);

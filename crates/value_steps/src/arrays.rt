@@ -109,7 +109,8 @@ pub fn with_element(
     index: &Value,
     element: &Value,
 ) -> Result<Value, Halt>
-    ensures step { Does value_seen (with_element line (value_seen array) (value_seen index.now) (value_seen element.now)) (stage_seen stage.old) result (stage_seen stage.new) }
+    ensures step { Does value_seen (with_element line (value_seen array) (value_seen index.now) (value_seen element.now))
+        (stage_seen stage.old) result (stage_seen stage.new) }
     ensures spends { stage.new.left ≤ stage.old.left }
 {
     charge(stage, 1)?;

@@ -1,7 +1,8 @@
 // The random words of the miners' tapes.
 ghost use Rattle.std.specs.Prelude.{◌≡◌, ◌+◌, ◌≤◌, IfOk};
 ghost use Rattle.language_model.specs.Effects.{fits, draw, words_each};
-ghost use Rattle.language_model.specs.Operations.{words_for_equality, words_for_bits, words_for_order, words_for_conversion, words_of_word_operator, words_of_bool_operator, words_of_operator, words_of_cast};
+ghost use Rattle.language_model.specs.Operations.{words_for_equality, words_for_bits, words_for_order, words_for_conversion, words_of_word_operator};
+ghost use Rattle.language_model.specs.Operations.{words_of_bool_operator, words_of_operator, words_of_cast};
 ghost use Rattle.value_steps.specs.Steps.{Does, itself, nothing};
 ghost use Rattle.value_steps.specs.Views.{stage_seen, world_seen, drawn_seen};
 

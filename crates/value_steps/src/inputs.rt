@@ -52,7 +52,8 @@ fn given_value(
     private: bool,
     placed: Placed<'_>,
 ) -> Result<Value, Halt>
-    ensures step { Does value_seen (given_value private (given_seen placed.entry.given.now) placed.entry.before) (stage_seen stage.old) result (stage_seen stage.new) }
+    ensures step { Does value_seen (given_value private (given_seen placed.entry.given.now) placed.entry.before) (stage_seen stage.old) result
+        (stage_seen stage.new) }
     ensures spends { stage.new.left ≤ stage.old.left }
 {
     let words = Vec::from_slice(alloc, &placed.given.words)?;
@@ -79,7 +80,8 @@ pub fn asked_for(
     line: u32,
     name: &Name,
 ) -> Result<Value, Halt>
-    ensures step { Does value_seen (asked_for private shape line (input_named (world_seen world.now) name.now)) (stage_seen stage.old) result (stage_seen stage.new) }
+    ensures step { Does value_seen (asked_for private shape line (input_named (world_seen world.now) name.now)) (stage_seen stage.old) result
+        (stage_seen stage.new) }
     ensures spends { stage.new.left ≤ stage.old.left }
 {
     charge(stage, 1)?;

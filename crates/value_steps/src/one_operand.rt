@@ -4,7 +4,8 @@ ghost use Rattle.std.specs.List.{flat_map};
 ghost use Rattle.gates.specs.Clear.{bits_of};
 ghost use Rattle.secrec_ast.specs.declared.expression.DataType.TheVariants.{Uint64};
 ghost use Rattle.typed_tree.specs.Shapes.{shape_of};
-ghost use Rattle.language_model.specs.Operations.{negated, cast_to, cast_shape, changed, scalar_word, size_told, summed, summed_from, bits_extracted, bits_from};
+ghost use Rattle.language_model.specs.Operations.{negated, cast_to, cast_shape, changed, scalar_word, size_told, summed, summed_from, bits_extracted};
+ghost use Rattle.language_model.specs.Operations.{bits_from};
 ghost use Rattle.value_steps.specs.Steps.{Does, itself};
 ghost use Rattle.value_steps.specs.Views.{stage_seen, value_seen, world_seen, secrecy_seen};
 
@@ -167,7 +168,8 @@ fn spread(
     value: &Value,
 ) -> Result<Value, Halt>
     requires { 64 * length value.now.words.items ≤ 1048576 }
-    ensures step { Does value_seen (bits_from (world_seen world.now) (secrecy_seen value.now.secrecy) (value_seen value.now)) (stage_seen stage.old) result (stage_seen stage.new) }
+    ensures step { Does value_seen (bits_from (world_seen world.now) (secrecy_seen value.now.secrecy) (value_seen value.now))
+        (stage_seen stage.old) result (stage_seen stage.new) }
     ensures spends { stage.new.left ≤ stage.old.left }
 {
     let shape = Shape {

@@ -55,7 +55,8 @@ fn opened(
     stage: &mut Stage<'_>,
     value: Value,
 ) -> Result<Value, Halt>
-    ensures step { Does value_seen (opened_from (world_seen world.now) (secrecy_seen value.secrecy) (value_seen value)) (stage_seen stage.old) result (stage_seen stage.new) }
+    ensures step { Does value_seen (opened_from (world_seen world.now) (secrecy_seen value.secrecy) (value_seen value)) (stage_seen stage.old) result
+        (stage_seen stage.new) }
     ensures spends { stage.new.left ≤ stage.old.left }
 {
     match value.secrecy {

@@ -22,7 +22,10 @@ use typed_tree::{BinaryOperator, Operands};
 
 /// Charges an operator, and tests for its traps: arrays of two sizes, and a public divisor that is 0.
 fn charged(stage: &mut Stage<'_>, line: u32, applied: &Applied<'_>) -> Result<(), Halt>
-    ensures step { Does itself (charged (operator_traps line applied.now.operator applied.now.operands (value_seen applied.now.left.now) (value_seen applied.now.right.now)) (W.result_size applied.now.operands (value_seen applied.now.left.now) (value_seen applied.now.right.now))) (stage_seen stage.old) result (stage_seen stage.new) }
+    ensures step { Does itself (charged
+        (operator_traps line applied.now.operator applied.now.operands (value_seen applied.now.left.now) (value_seen applied.now.right.now))
+        (W.result_size applied.now.operands (value_seen applied.now.left.now) (value_seen applied.now.right.now))) (stage_seen stage.old) result
+        (stage_seen stage.new) }
     ensures spends { stage.new.left ≤ stage.old.left }
 {
     charge(stage, 1)?;
@@ -38,7 +41,9 @@ fn private_result(
     stage: &mut Stage<'_>,
     applied: &Applied<'_>,
 ) -> Result<Value, Halt>
-    ensures step { Does value_seen (private_result (world_seen world.now) applied.now.operator applied.now.operands (value_seen applied.now.left.now) (value_seen applied.now.right.now)) (stage_seen stage.old) result (stage_seen stage.new) }
+    ensures step { Does value_seen
+        (private_result (world_seen world.now) applied.now.operator applied.now.operands (value_seen applied.now.left.now)
+        (value_seen applied.now.right.now)) (stage_seen stage.old) result (stage_seen stage.new) }
     ensures spends { stage.new.left ≤ stage.old.left }
 {
     let n = applied.result_size();
@@ -61,7 +66,10 @@ fn product_with(
     private: &Value,
     known: Vec<u64>,
 ) -> Result<Value, Halt>
-    ensures step { Does value_seen (product_with applied.now.operator applied.now.operands scalar (value_seen private.now) known.items (W.result_words applied.now.operator applied.now.operands (value_seen applied.now.left.now) (value_seen applied.now.right.now))) (stage_seen stage.old) result (stage_seen stage.new) }
+    ensures step { Does value_seen
+        (product_with applied.now.operator applied.now.operands scalar (value_seen private.now) known.items
+        (W.result_words applied.now.operator applied.now.operands (value_seen applied.now.left.now) (value_seen applied.now.right.now)))
+        (stage_seen stage.old) result (stage_seen stage.new) }
     ensures spends { stage.new.left ≤ stage.old.left }
 {
     let operand = number_of(alloc, stage, private)?;
@@ -85,7 +93,10 @@ fn combined(
     stage: &mut Stage<'_>,
     applied: &Applied<'_>,
 ) -> Result<Value, Halt>
-    ensures step { Does value_seen (combined_from (secrecy_seen applied.now.left.now.secrecy) (secrecy_seen applied.now.right.now.secrecy) (world_seen world.now) applied.now.operator applied.now.operands (value_seen applied.now.left.now) (value_seen applied.now.right.now)) (stage_seen stage.old) result (stage_seen stage.new) }
+    ensures step { Does value_seen
+        (combined_from (secrecy_seen applied.now.left.now.secrecy) (secrecy_seen applied.now.right.now.secrecy)
+        (world_seen world.now) applied.now.operator applied.now.operands (value_seen applied.now.left.now) (value_seen applied.now.right.now))
+        (stage_seen stage.old) result (stage_seen stage.new) }
     ensures spends { stage.new.left ≤ stage.old.left }
 {
     match (applied.left.secrecy, applied.right.secrecy) {
@@ -115,7 +126,9 @@ pub fn operated(
     line: u32,
     applied: &Applied<'_>,
 ) -> Result<Value, Halt>
-    ensures step { Does value_seen (operated (world_seen world.now) line applied.now.operator applied.now.operands (value_seen applied.now.left.now) (value_seen applied.now.right.now)) (stage_seen stage.old) result (stage_seen stage.new) }
+    ensures step { Does value_seen
+        (operated (world_seen world.now) line applied.now.operator applied.now.operands (value_seen applied.now.left.now)
+        (value_seen applied.now.right.now)) (stage_seen stage.old) result (stage_seen stage.new) }
     ensures spends { stage.new.left ≤ stage.old.left }
 {
     charged(stage, line, applied)?;
@@ -140,7 +153,8 @@ pub fn operation(
     left: Value,
     right: Value,
 ) -> Result<Value, Halt>
-    ensures step { Does value_seen (operation (world_seen world.now) line operator operands (value_seen left) (value_seen right)) (stage_seen stage.old) result (stage_seen stage.new) }
+    ensures step { Does value_seen (operation (world_seen world.now) line operator operands (value_seen left) (value_seen right))
+        (stage_seen stage.old) result (stage_seen stage.new) }
     ensures spends { stage.new.left ≤ stage.old.left }
 {
     let classify_left = is_classified(operator, &left, &right);

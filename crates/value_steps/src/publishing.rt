@@ -24,7 +24,8 @@ fn handed_over(
     stage: &mut Stage<'_>,
     value: &Value,
 ) -> Result<(), Halt>
-    ensures step { Does itself (handed_over (world_seen world.now) (secrecy_seen value.now.secrecy) (value_seen value.now)) (stage_seen stage.old) result (stage_seen stage.new) }
+    ensures step { Does itself (handed_over (world_seen world.now) (secrecy_seen value.now.secrecy) (value_seen value.now))
+        (stage_seen stage.old) result (stage_seen stage.new) }
     ensures spends { stage.new.left ≤ stage.old.left }
 {
     match value.secrecy {

@@ -37,7 +37,7 @@ impl Drop for Value {
 
 impl Value {
     ghost use Rattle.std.specs.Prelude.{◌≡◌, ◌≤◌, length, IfOk};
-    ghost use Rattle.language_model.specs.Values.{plain, hidden, size, seen, is_secret};
+    ghost use Rattle.language_model.specs.Values.{plain, hidden, size, visible_words, is_secret};
     ghost use Rattle.gates.specs.Clear.{first_word};
     ghost use Rattle.value_steps.specs.Views.{value_seen};
 
@@ -122,7 +122,7 @@ impl Value {
 
     /// The first word of a public value. A private one isn't looked at: it gives 0.
     pub(crate) fn seen_word(&self) -> u64
-        ensures { result ≡ first_word (seen (value_seen self.now)) }
+        ensures { result ≡ first_word (visible_words (value_seen self.now)) }
     {
         match self.secrecy {
             Secrecy::Plain => self.word(),

@@ -1,11 +1,12 @@
 -- The loops that look for the first fault.
-use Rattle.std.proofs.Common.{◌≡◌, ℕ, zero, suc, ◌+◌, ◌<◌, ◌≤◌, List, [], ◌∷◌, length, map, drop, get_or, Bool, true, false, ◌&&◌, Option, Some, None, refl, sym, ap, ◌∙◌, arith}
+use Rattle.std.proofs.Common.{◌≡◌, ℕ, zero, suc, ◌+◌, ◌<◌, ◌≤◌, List, [], ◌∷◌, length, map, drop, get_or, Bool, true, false, ◌&&◌, Option, Some, None}
+use Rattle.std.proofs.Common.{refl, sym, ap, ◌∙◌, arith}
 use Rattle.std.specs.List.{list_all}
 use Rattle.std.proofs.Math.Seq.{drop-cons, drop-nil}
 use Rattle.std.proofs.lemmas.List.{drop-map}
 use Rattle.bytecode.specs.declared.kind.Kind.{Kind}
 use Rattle.bytecode.specs.Raw.{Raw, RawFunction, RawCode}
-use Rattle.verified_code.specs.declared.fault.Problem.{Problem}
+use Rattle.verified_code.specs.declared.fault.CodeProblem.{CodeProblem}
 use Rattle.verified_code.specs.declared.fault.VerifyErr.{VerifyErr}
 use Rattle.verified_code.specs.Fitting.{same_kind, kind_at, arguments_fit}
 use Rattle.verified_code.specs.Verified.{problem_at, here, fault_if_any, body_fault, or_later, function_fault, functions_fault}
@@ -43,7 +44,7 @@ body_more c n f g xs k x r e l p h =
     h ∙ ap (body_fault c n f k) (next_mapped g xs k x e l) ∙ ap (λ o. fault_if_any n k o (body_fault c n f (k + 1) (drop (k + 1) (map g xs)))) p
 
 pub body_found : {A : Type 0} (c : RawCode) (n : ℕ) (f : RawFunction) (g : A → Raw) (xs : List A) (k : ℕ) (x : A) (r : Option VerifyErr)
-    (p : Problem) → x ≡ get_or xs k x → k < length xs
+    (p : CodeProblem) → x ≡ get_or xs k x → k < length xs
     → problem_at n (here c f k) (g x) ≡ Some p → r ≡ body_fault c n f k (drop k (map g xs)) → r ≡ Some (record { problem = p; function = n; instruction = k })
 body_found c n f g xs k x r p e l q h =
     h ∙ ap (body_fault c n f k) (next_mapped g xs k x e l) ∙ ap (λ o. fault_if_any n k o (body_fault c n f (k + 1) (drop (k + 1) (map g xs)))) q

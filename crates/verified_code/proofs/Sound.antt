@@ -1,10 +1,12 @@
 -- Code is verified where each instruction passes, and only there.
-use Rattle.std.proofs.Common.{◌≡◌, ℕ, zero, suc, ◌+◌, ◌==◌, ◌<◌, List, [], ◌∷◌, length, Bool, true, false, not, ◌&&◌, ◌||◌, Option, Some, None, slice_get, IsTrue, refl, sym, ap, ◌∙◌, subst, arith}
+use Rattle.std.proofs.Common.{◌≡◌, ℕ, zero, suc, ◌+◌, ◌==◌, ◌<◌, List, [], ◌∷◌, length, Bool, true, false, not, ◌&&◌, ◌||◌, Option, Some, None}
+use Rattle.std.proofs.Common.{slice_get, IsTrue, refl, sym, ap, ◌∙◌, subst, arith}
 use Rattle.bytecode.specs.Raw.{Raw, RawFunction, RawCode}
-use Rattle.verified_code.specs.declared.fault.Problem.{Problem}
+use Rattle.verified_code.specs.declared.fault.CodeProblem.{CodeProblem}
 use Rattle.verified_code.specs.declared.fault.VerifyErr.{VerifyErr}
 use Rattle.verified_code.specs.Fitting.{names_there, operands_fit, target_fits, goes_on}
-use Rattle.verified_code.specs.Verified.{problem_of, problem_at, head_fits, here, fault_if_any, body_fault, or_later, function_problem, function_fault, functions_fault, main_problem, IsVerified}
+use Rattle.verified_code.specs.Verified.{problem_of, problem_at, head_fits, here, fault_if_any, body_fault, or_later, function_problem}
+use Rattle.verified_code.specs.Verified.{function_fault, functions_fault, main_problem, IsVerified}
 use Rattle.verified_code.specs.Sound.{passes, IsSoundFunction, IsSound}
 
 -- ---- one instruction
@@ -40,7 +42,7 @@ passed n c f k i p h =
 
 -- ---- lists of them
 
-fault_none : (n k : ℕ) (o : Option Problem) (later : Option VerifyErr) → fault_if_any n k o later ≡ None → (o ≡ None) × (later ≡ None)
+fault_none : (n k : ℕ) (o : Option CodeProblem) (later : Option VerifyErr) → fault_if_any n k o later ≡ None → (o ≡ None) × (later ≡ None)
 fault_none n k None later h = (refl, h)
 fault_none n k (Some p) later h = cc
 

@@ -4,7 +4,8 @@ use Rattle.typed_tree.specs.Operators.{operands_of, cast_between}
 use Rattle.bytecode.specs.declared.kind.Kind.{Kind}
 use Rattle.bytecode.specs.Raw.{Raw, RawFunction, RawCode}
 use Rattle.bytecode.specs.Raw as raw
-use Rattle.verified_code.specs.Steps.{Step, Function, Literal, Move, Store, Binary, Not, Cast, Classify, Fill, At, Put, Size, Cat, Sum, Bits, Declassify, Argument, Publish, Assert, Branch, Jump, Call, Return, ReturnNone}
+use Rattle.verified_code.specs.Steps.{Step, Function, Literal, Move, Store, Binary, Not, Cast, Classify, Fill, At, Put, Size, Cat, Sum, Bits}
+use Rattle.verified_code.specs.Steps.{Declassify, Argument, Publish, Assert, Branch, Jump, Call, Return, ReturnNone}
 use Rattle.verified_code.specs.Fitting.{kind_at, is_none, operator_at}
 
 abbrev pub name_or : Option (List ℕ) → List ℕ

@@ -3,7 +3,7 @@ use Rattle.std.specs.Prelude.{◌≡◌, List, [], ◌∷◌, Bool, true, false,
 use Rattle.secrec_ast.specs.declared.expression.DataType.TheVariants as types
 use Rattle.bytecode.specs.declared.kind.Kind.{Kind}
 use Rattle.bytecode.specs.Raw.{Raw, Literal, Binary, Jump, Branch, Call, Return, ReturnNone, RawCode}
-use Rattle.verified_code.specs.declared.fault.Problem.TheVariants.{BadRegister, BadKind, BadJump}
+use Rattle.verified_code.specs.declared.fault.CodeProblem.TheVariants.{BadRegister, BadKind, BadJump}
 use Rattle.verified_code.specs.Verified.{first_fault}
 
 -- a main of these registers and instructions

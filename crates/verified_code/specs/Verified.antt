@@ -1,10 +1,11 @@
 -- Which code is verified, and the first fault of other code.
-use Rattle.std.specs.Prelude.{◌≡◌, ℕ, ◌+◌, Bool, true, false, not, ◌&&◌, ◌||◌, ◌==◌, nat_le, List, [], ◌∷◌, length, Option, Some, None, Result, Ok, Err, if◌then◌else◌}
+use Rattle.std.specs.Prelude.{◌≡◌, ℕ, ◌+◌, Bool, true, false, not, ◌&&◌, ◌||◌, ◌==◌, nat_le, List, [], ◌∷◌, length, Option, Some, None, Result, Ok}
+use Rattle.std.specs.Prelude.{Err, if◌then◌else◌}
 use Rattle.bytecode.specs.declared.code.Code.{Code}
 use Rattle.bytecode.specs.InMemory.{raw_code}
 use Rattle.bytecode.specs.Raw.{Raw, RawFunction, RawCode}
-use Rattle.verified_code.specs.declared.fault.Problem.{Problem}
-use Rattle.verified_code.specs.declared.fault.Problem.TheVariants.{BadRegister, BadKind, BadJump}
+use Rattle.verified_code.specs.declared.fault.CodeProblem.{CodeProblem}
+use Rattle.verified_code.specs.declared.fault.CodeProblem.TheVariants.{BadRegister, BadKind, BadJump}
 use Rattle.verified_code.specs.declared.fault.VerifyErr.{VerifyErr}
 use Rattle.verified_code.specs.Fitting.{Here, names_there, operands_fit, gives_none, target_fits, goes_on}
 
@@ -15,14 +16,14 @@ is_main_head f = f.parameters == 0 && gives_none f.gives
 abbrev pub head_fits : (number : ℕ) → RawFunction → Bool
 head_fits number f = nat_le f.parameters (length f.registers) && (is_main_head f || not (number == 0))
 
-abbrev pub problem_of : (there fit leads : Bool) → Option Problem
+abbrev pub problem_of : (there fit leads : Bool) → Option CodeProblem
 problem_of false fit leads = Some BadRegister
 problem_of true false leads = Some BadKind
 problem_of true true false = Some BadJump
 problem_of true true true = None
 
 -- the problem of the least number at an instruction; one of the function's head counts at its first instruction
-abbrev pub problem_at : (number : ℕ) → Here → Raw → Option Problem
+abbrev pub problem_at : (number : ℕ) → Here → Raw → Option CodeProblem
 problem_at number h i =
     problem_of (names_there h i)
     (operands_fit h i && (head_fits number h.own || not (h.place == 0)))
@@ -31,7 +32,7 @@ problem_at number h i =
 abbrev pub here : RawCode → RawFunction → ℕ → Here
 here code f place = record { code = code; own = f; place = place }
 
-abbrev pub fault_if_any : (function instruction : ℕ) → Option Problem → Option VerifyErr → Option VerifyErr
+abbrev pub fault_if_any : (function instruction : ℕ) → Option CodeProblem → Option VerifyErr → Option VerifyErr
 fault_if_any f k None later = later
 fault_if_any f k (Some p) later = Some (record { problem = p; function = f; instruction = k })
 
@@ -42,7 +43,7 @@ body_fault code number f place (i ∷ is) =
     fault_if_any number place (problem_at number (here code f place) i) (body_fault code number f (place + 1) is)
 
 -- a function without instructions has no return
-abbrev pub function_problem : (number : ℕ) → RawFunction → List Raw → Option Problem
+abbrev pub function_problem : (number : ℕ) → RawFunction → List Raw → Option CodeProblem
 function_problem number f [] = Some (if head_fits number f then BadJump else BadKind)
 function_problem number f (i ∷ is) = None
 
@@ -57,7 +58,7 @@ abbrev pub functions_fault : RawCode → (number : ℕ) → List RawFunction →
 functions_fault code number [] = None
 functions_fault code number (f ∷ fs) = or_later (function_fault code number f) (functions_fault code (number + 1) fs)
 
-abbrev pub main_problem : List RawFunction → Option Problem
+abbrev pub main_problem : List RawFunction → Option CodeProblem
 main_problem [] = Some BadRegister
 main_problem (f ∷ fs) = None
 

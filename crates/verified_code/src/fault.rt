@@ -1,6 +1,6 @@
 /// What is wrong at an instruction.
 #[derive(Clone, Copy)]
-pub enum Problem {
+pub enum CodeProblem {
     /// A register, a function or a name isn't there.
     BadRegister,
     /// A register, an operand or the function's head is of another kind than is wanted.
@@ -12,7 +12,7 @@ pub enum Problem {
 /// The first fault of code: at which instruction of which function, counted from 0.
 #[derive(Clone, Copy)]
 pub struct VerifyErr {
-    pub problem: Problem,
+    pub problem: CodeProblem,
     pub function: usize,
     pub instruction: usize,
 }

@@ -11,7 +11,7 @@ mod step;
 mod verified;
 mod verifying;
 
-pub use fault::{Problem, VerifyErr};
+pub use fault::{CodeProblem, VerifyErr};
 pub use laws::{operators_are_those_of_signs, sound_code_is_verified, verified_code_is_sound};
 pub use step::Step;
 pub use verified::{Verified, verify};

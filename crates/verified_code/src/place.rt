@@ -3,7 +3,7 @@ ghost use Rattle.std.specs.Prelude.{◌≡◌, ◌==◌, ◌<◌, ◌&&◌, ◌|
 ghost use Rattle.std.specs.List.{list_all};
 ghost use Rattle.bytecode.specs.InMemory.{raw_code, raw_function, raw_instruction, result_register};
 ghost use Rattle.verified_code.specs.Fitting.{arguments_fit, call_fits, gives_fits, goes_on, is_there, kind_at, names_there, operands_fit, target_fits};
-ghost use Rattle.verified_code.specs.Places.{here_in};
+ghost use Rattle.verified_code.specs.inner.Places.{here_in};
 
 use crate::kinds::{
     are_alike, bits_fit, cast_fits, cat_fits, classify_fits, declassify_fits, element_fits,
@@ -11,13 +11,13 @@ use crate::kinds::{
     size_fits, sum_fits,
 };
 use crate::operators::binary_fits;
-use bytecode::{Code, Function, FunctionPlace, Instruction, Kind, NamePlace, Register};
+use bytecode::{Code, CodeFunction, FunctionPlace, Instruction, Kind, NamePlace, Register};
 
 /// Where an instruction stands.
 #[derive(Clone, Copy)]
 pub(crate) struct Here<'c> {
     pub(crate) code: &'c Code,
-    pub(crate) own: &'c Function,
+    pub(crate) own: &'c CodeFunction,
     pub(crate) place: usize,
 }
 
@@ -90,7 +90,7 @@ fn result_fits(kinds: &[Kind], gives: Option<Kind>, to: Option<Register>) -> boo
 
 fn call_of_fits(
     kinds: &[Kind],
-    called: &Function,
+    called: &CodeFunction,
     to: Option<Register>,
     arguments: &[Register],
 ) -> bool

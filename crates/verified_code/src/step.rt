@@ -1,4 +1,4 @@
-use bytecode::{FunctionPlace, Kind, Register, Target};
+use bytecode::{FunctionPlace, JumpTarget, Kind, Register};
 use secrec_ast::DataType;
 use typed_tree::{BinaryOperator, Cast, Operands};
 
@@ -100,10 +100,10 @@ pub enum Step<'c> {
     Branch {
         condition: Register,
         value: bool,
-        target: Target,
+        target: JumpTarget,
     },
     Jump {
-        target: Target,
+        target: JumpTarget,
     },
     /// A call; the result is let go where there is no register for it.
     Call {

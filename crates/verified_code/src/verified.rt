@@ -9,7 +9,7 @@ use crate::fault::VerifyErr;
 use crate::settling::settle;
 use crate::step::Step;
 use crate::verifying::first_fault;
-use bytecode::{Code, Function};
+use bytecode::{Code, CodeFunction};
 use sc_text::Name;
 use std::alloc::{AllocError, Global};
 use std::marker::Model;
@@ -60,7 +60,7 @@ impl Verified {
     }
 }
 
-fn step_of<'c>(names: &'c [Name], own: &'c Function, place: usize) -> Option<Step<'c>>
+fn step_of<'c>(names: &'c [Name], own: &'c CodeFunction, place: usize) -> Option<Step<'c>>
     ensures { option_map step_in result ≡ slice_get (settled_function names.now (raw_function own.now)).steps place }
 {
     match own.body.get(place) {

@@ -1,39 +1,39 @@
 // The first fault of code.
 ghost use Rattle.std.specs.Prelude.{◌≡◌, ◌<◌, length};
 ghost use Rattle.bytecode.specs.InMemory.{raw_code, raw_function, raw_instruction};
-ghost use Rattle.verified_code.specs.Places.{here_in};
+ghost use Rattle.verified_code.specs.inner.Places.{here_in};
 ghost use Rattle.verified_code.specs.Verified.{body_fault, first_fault, function_fault, functions_fault, head_fits, problem_at};
 
-use crate::fault::{Problem, VerifyErr};
+use crate::fault::{CodeProblem, VerifyErr};
 use crate::kinds::gives_none;
 use crate::place::{Here, goes_on, names_there, operands_fit, target_fits};
-use bytecode::{Code, Function, Instruction};
+use bytecode::{Code, CodeFunction, Instruction};
 
-fn head_fits(number: usize, function: &Function) -> bool
+fn head_fits(number: usize, function: &CodeFunction) -> bool
     ensures { result ≡ head_fits number (raw_function function.now) }
 {
     (function.parameters as usize) <= function.registers.len()
         && (function.parameters == 0 && gives_none(function.gives) || number != 0)
 }
 
-fn problem_at(number: usize, here: Here<'_>, instruction: &Instruction) -> Option<Problem>
+fn problem_at(number: usize, here: Here<'_>, instruction: &Instruction) -> Option<CodeProblem>
     requires { here.place < length (raw_function here.own.now).body }
     ensures { result ≡ problem_at number (here_in here.entry) (raw_instruction instruction.now) }
 {
     let fits = operands_fit(here, instruction) && (head_fits(number, here.own) || here.place != 0);
     let leads = target_fits(here, instruction) && goes_on(here, instruction);
     if !names_there(here, instruction) {
-        Some(Problem::BadRegister)
+        Some(CodeProblem::BadRegister)
     } else if !fits {
-        Some(Problem::BadKind)
+        Some(CodeProblem::BadKind)
     } else if !leads {
-        Some(Problem::BadJump)
+        Some(CodeProblem::BadJump)
     } else {
         None
     }
 }
 
-fn body_fault(code: &Code, number: usize, own: &Function) -> Option<VerifyErr>
+fn body_fault(code: &Code, number: usize, own: &CodeFunction) -> Option<VerifyErr>
     ensures { result ≡ body_fault (raw_code code.now) number (raw_function own.now) 0 (raw_function own.now).body }
 {
     for place in 0..own.body.len() {
@@ -49,14 +49,14 @@ fn body_fault(code: &Code, number: usize, own: &Function) -> Option<VerifyErr>
     None
 }
 
-fn function_fault(code: &Code, number: usize, own: &Function) -> Option<VerifyErr>
+fn function_fault(code: &Code, number: usize, own: &CodeFunction) -> Option<VerifyErr>
     ensures { result ≡ function_fault (raw_code code.now) number (raw_function own.now) }
 {
     if own.body.is_empty() {
         let problem = if head_fits(number, own) {
-            Problem::BadJump
+            CodeProblem::BadJump
         } else {
-            Problem::BadKind
+            CodeProblem::BadKind
         };
         return Some(VerifyErr {
             problem,
@@ -84,7 +84,7 @@ pub(crate) fn first_fault(code: &Code) -> Option<VerifyErr>
 {
     if code.functions.is_empty() {
         return Some(VerifyErr {
-            problem: Problem::BadRegister,
+            problem: CodeProblem::BadRegister,
             function: 0,
             instruction: 0,
         });

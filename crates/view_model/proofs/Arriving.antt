@@ -1,17 +1,11 @@
 -- What arrives at a miner is said by the messages of the links that end at it.
 use Rattle.std.proofs.Common.{◌≡◌, Bool, true, false, if◌then◌else◌, List, [], ◌∷◌, refl, sym, ◌∙◌, ap}
 use Rattle.proto_core.specs.declared.party.Number.{Number}
-use Rattle.proto_core.specs.declared.party.Number.TheVariants.{One, Two, Three}
 use Rattle.proto_core.specs.declared.link.Link.{Link}
 use Rattle.proto_core.specs.Parties.{receiver_of, is_same}
 use Rattle.proto_core.specs.Strand.{same_link, Mail, taken, rest_of}
+use Rattle.proto_core.proofs.Numbers.{same_is}
 use Rattle.protocol_model.specs.Arrivals.{oldest_then, arrivals}
-
-same_is : (i k : Number) → is_same i k ≡ true → i ≡ k
-same_is One One h = refl
-same_is Two Two h = refl
-same_is Three Three h = refl
-same_is _ _ h = cc
 
 pub arrivals_same : (i : Number) (order : List Link) (x y : Mail) → ((l : Link) → receiver_of l ≡ i → x l ≡ y l) → arrivals i x order ≡ arrivals i y order
 arrivals_same i [] x y h = refl

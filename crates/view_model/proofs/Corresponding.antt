@@ -40,10 +40,10 @@ use Rattle.view_model.specs.TapeMaps.{
 use Rattle.view_model.proofs.Dealings.{seen_length, seen_words, seen_twice}
 use Rattle.view_model.proofs.DealtSizes.{sizes_dealt}
 
-le_true : (a b : ℕ) → a ≤ b → nat_le a b ≡ true
+pub le_true : (a b : ℕ) → a ≤ b → nat_le a b ≡ true
 le_true a b h = grind arith
 
-le_from : (a b : ℕ) → nat_le a b ≡ true → a ≤ b
+pub le_from : (a b : ℕ) → nat_le a b ≡ true → a ≤ b
 le_from a b h = grind arith
 
 pub miners_four : (d : List ℕ) (ts : Tapes) → miners_of (four_of d ts) ≡ ts
@@ -54,8 +54,8 @@ miners_four d ts = λ j. λ k. at k j
     at Two = refl
     at Three = refl
 
-same_four : (d e : List ℕ) (ts us : Tapes) → d ≡ e → ts ≡ us → four_of d ts ≡ four_of e us
-same_four d e ts us h g = ap (λ v. four_of v ts) h ∙ ap (four_of e) g
+pub same_tapes : (d e : List ℕ) (ts us : Tapes) → d ≡ e → ts ≡ us → four_of d ts ≡ four_of e us
+same_tapes d e ts us h g = ap (λ v. four_of v ts) h ∙ ap (four_of e) g
 
 module _ (i : Number) (es : List Entry) (gates : List Gate) where
   abbrev pub mapped : FourTapes → FourTapes
@@ -137,7 +137,7 @@ module _
     there_back =
         ap (from_simulated i es gates) (to_simulated_dealt i es gates t enough)
         ∙ from_simulated_dealt i es gates (mapped i es gates t) enough2
-        ∙ same_four _ _ _ _ dealer_back
+        ∙ same_tapes _ _ _ _ dealer_back
         (ap (λ d. from_view i (gates_dealt es d gates) no_values (miners_of (mapped i es gates t))) dealer_back
         ∙ ap (from_view i real no_values) (miners_four dealer2 (to_view i real no_values (miners_of t)))
         ∙ from-to_view i real no_values (miners_of t) real_sound real_private ready_real)
@@ -146,7 +146,7 @@ module _
     back_there =
         ap (to_simulated i es gates) (from_simulated_dealt i es gates t enough)
         ∙ to_simulated_dealt i es gates (unmapped i es gates t) enough2
-        ∙ same_four _ _ _ _ dealer_back
+        ∙ same_tapes _ _ _ _ dealer_back
         (ap (to_view i other no_values) (miners_four dealer2 (from_view i other no_values (miners_of t)))
         ∙ to-from_view i other no_values (miners_of t) other_sound other_private ready_other)
 

@@ -12,14 +12,16 @@ use Rattle.value_file.specs.declared.value.Domain.TheVariants as domain
 use Rattle.value_file.specs.declared.value.Value.{Value}
 use Rattle.value_file.specs.declared.inputs.Entry.{Entry}
 use Rattle.value_file.specs.Values.{type_of, count_of, shape_of, size_of}
-use Rattle.value_file.specs.Public.{shown, public_entry}
+use Rattle.value_file.specs.Public.{shown}
 use Rattle.value_file.specs.Public as public
 use Rattle.input_share.specs.declared.entry.Part.TheVariants as part
 use Rattle.input_share.specs.Values.{elements_of, ring_of}
 use Rattle.input_share.specs.Dealing.{share_of, draws_for, draws_of, need_of, part_of, dealt_entries}
 use Rattle.input_share.proofs.Elements.{length-elements_of}
+use Rattle.input_share.proofs.AddUpLaws.{ring_laws}
+use Rattle.input_share.proofs.FormLaws.{size_of-shape_of}
 use Rattle.view_model.specs.Dealing.{seen_masks, seen_for, seen_dealer, made_share, made_part, made_entries, hidden_draws}
-use Rattle.view_model.proofs.Masks.{ring_laws, size_of_shape_of, share_front, made_front, masks_length, masks_words, masks_made, masks_twice}
+use Rattle.view_model.proofs.Masks.{share_front, made_front, masks_length, masks_words, masks_made, masks_twice}
 
 -- ---- one entry
 
@@ -60,7 +62,7 @@ module _ (d : Domain) (v : Value) (words : List ℕ) (size : length words ≡ dr
           let r = ring_of (type_of v) in
           let es = elements_of v in
           let size : length words ≡ 2 * length es = twice _ _ _ h (length-elements_of v) in
-          let count : length es ≡ size_of (shape_of v) = length-elements_of v ∙ sym (size_of_shape_of v) in
+          let count : length es ≡ size_of (shape_of v) = length-elements_of v ∙ sym (size_of-shape_of v) in
           let len = masks_length r (ring_laws (type_of v)) es words size i in
           let share : share_of i r es (words ++ later) ≡ made_share i (size_of (shape_of v)) (seen_masks i r es words ++ later2) =
           share_front i r es words later (omega arith)
@@ -71,7 +73,7 @@ module _ (d : Domain) (v : Value) (words : List ℕ) (size : length words ≡ dr
 
 pub draws_are_known : (d : Domain) (v : Value) → hidden_draws (shown d v) ≡ draws_for d (count_of v)
 draws_are_known domain.Public v = refl
-draws_are_known domain.Private v = ap (λ n. 2 * n) (size_of_shape_of v)
+draws_are_known domain.Private v = ap (λ n. 2 * n) (size_of-shape_of v)
 
 -- ---- all entries
 

@@ -10,13 +10,14 @@ use Rattle.value_file.specs.declared.value.Domain.{Domain}
 use Rattle.value_file.specs.declared.value.Domain.TheVariants as domain
 use Rattle.value_file.specs.declared.inputs.Entry.{Entry}
 use Rattle.value_file.specs.Values.{type_of, count_of}
-use Rattle.value_file.specs.Public.{shown, public_entry}
+use Rattle.value_file.specs.Public.{shown}
 use Rattle.value_file.specs.Public as public
 use Rattle.input_share.specs.Values.{elements_of, ring_of}
 use Rattle.input_share.specs.Dealing.{first_masks, second_masks, share_of, draws_for, draws_of, need_of, part_of}
 use Rattle.input_share.proofs.Elements.{length-elements_of}
+use Rattle.input_share.proofs.FormLaws.{size_of-shape_of}
 use Rattle.view_model.specs.Dealing.{private_then, size_then, hidden_then, dealt_to, private_sizes, hidden_sizes}
-use Rattle.view_model.proofs.Masks.{size_of_shape_of, length_left_of}
+use Rattle.view_model.proofs.Masks.{length_left_of}
 use Rattle.view_model.proofs.Dealings.{need_rest}
 
 pub sizes_hidden : (es : List Entry) → hidden_sizes (public.part_of es) ≡ private_sizes es
@@ -27,7 +28,7 @@ sizes_hidden (e ∷ es) = by_domain e.domain (sizes_hidden es)
         (d : Domain) → hidden_sizes (public.part_of es) ≡ private_sizes es →
         hidden_then (shown d e.value) (hidden_sizes (public.part_of es)) ≡ size_then d (count_of e.value) (private_sizes es)
     by_domain domain.Public rest = rest
-    by_domain domain.Private rest = ap (λ n. n ∷ hidden_sizes (public.part_of es)) (size_of_shape_of e.value) ∙ ap (λ ns. count_of e.value ∷ ns) rest
+    by_domain domain.Private rest = ap (λ n. n ∷ hidden_sizes (public.part_of es)) (size_of-shape_of e.value) ∙ ap (λ ns. count_of e.value ∷ ns) rest
 
 pub length_share : (i : Number) (r : Ring) (xs words : List ℕ) → 2 * length xs ≤ length words → length (share_of i r xs words) ≡ length xs
 length_share One r xs words h = length-take-le (length xs) words (omega arith)

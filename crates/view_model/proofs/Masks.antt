@@ -2,7 +2,6 @@
 use Rattle.std.proofs.Common.{◌≡◌, ℕ, zero, suc, ◌-◌, ◌*◌, ◌<◌, ◌≤◌, ◌^◌, List, [], ◌∷◌, ◌++◌, length, take, drop, refl, sym, ◌∙◌, ap, arith}
 use Rattle.std.proofs.lemmas.List.{length-take-le, length-drop, length-append, take-append-drop, take-append-le, drop-append-le}
 use Rattle.share_ring.specs.Ring.{Ring, RingLaws}
-use Rattle.share_ring.specs.RingsKeepLaws.{add_ring_laws, xor_ring_laws}
 use Rattle.share_ring.proofs.Sums.{sub-sub}
 use Rattle.proto_core.specs.declared.party.Number.{Number}
 use Rattle.proto_core.specs.declared.party.Number.TheVariants.{One, Two, Three}
@@ -11,12 +10,6 @@ use Rattle.proto_core.proofs.Parts.{AreWords-append}
 use Rattle.proto_core.proofs.Beginnings.{append-none}
 use Rattle.proto_core.proofs.MessageFields.{take-front, drop-front}
 use Rattle.protocol_model.proofs.Sizes.{past_end, AreWords-take, AreWords-drop}
-use Rattle.value_file.specs.declared.value.DataType.{DataType}
-use Rattle.value_file.specs.declared.value.DataType.TheVariants as data_type
-use Rattle.value_file.specs.declared.value.Value.{Value}
-use Rattle.value_file.specs.declared.value.Value.TheVariants as value
-use Rattle.value_file.specs.Values.{count_of, shape_of, size_of}
-use Rattle.input_share.specs.Values.{ring_of}
 use Rattle.input_share.specs.Dealing.{left_of, first_masks, second_masks, share_of}
 use Rattle.view_model.specs.Dealing.{seen_masks, made_share}
 
@@ -59,16 +52,6 @@ module _ {r : Ring} (laws : RingLaws r) where
   left_twice (x ∷ xs) (d ∷ ds) (e ∷ es) h g words =
       ap (λ v. v ∷ left_of r xs (left_of r xs ds es) es) (mask_twice x d e (words 0))
       ∙ ap (λ l. d ∷ l) (left_twice xs ds es (omega arith) (omega arith) (λ k. words (suc k)))
-
-pub ring_laws : (t : DataType) → RingLaws (ring_of t)
-ring_laws data_type.Uint64 = add_ring_laws
-ring_laws data_type.Bool = xor_ring_laws
-
-pub size_of_shape_of : (v : Value) → size_of (shape_of v) ≡ count_of v
-size_of_shape_of (value.Number n) = refl
-size_of_shape_of (value.Truth b) = refl
-size_of_shape_of (value.Numbers ns) = refl
-size_of_shape_of (value.Truths bs) = refl
 
 take_whole : (n : ℕ) (xs : List ℕ) → length xs ≡ n → take n xs ≡ xs
 take_whole n xs h = ap (take n) (sym (append-none xs)) ∙ take-front n xs [] h

@@ -1,5 +1,4 @@
 mod Texts
-mod Gathered
 mod OpenedRead
 mod OpenedLaws
 mod Limits

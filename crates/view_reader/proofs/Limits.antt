@@ -12,23 +12,25 @@ use Rattle.std.proofs.lemmas.Str.{IsUtf8-from_ascii}
 use Rattle.std.proofs.lemmas.Str.Ascii.{IsAscii-nil, IsAscii-cons}
 use Rattle.sc_text.specs.Name.{is_name, is_name_byte}
 use Rattle.proto_core.specs.declared.link.Link.{Link}
-use Rattle.proto_core.specs.declared.link.Link.TheVariants.{Link12, Link13, Link21, Link23, Link31, Link32}
 use Rattle.proto_core.specs.Parties.{link_text}
+use Rattle.proto_core.proofs.MessageFields.{first_true, second_true}
 use Rattle.view_text.specs.Reading.{number_in, word_in, name_in, link_in, links, one_of}
 use Rattle.view_text.proofs.Decimals.{number_back}
 use Rattle.view_text.proofs.Found.{nothing_found, same_found}
-use Rattle.view_reader.proofs.Texts.{number_read, no_number}
+use Rattle.view_text.proofs.LinesRead.{number_read}
+use Rattle.view_text.proofs.Lines.{link_back}
+use Rattle.view_reader.proofs.Texts.{no_number}
 
 -- ---- lines, below 2^32
 
 narrower : (word : List ℕ) (n : ℕ) → number_in (2 ^ 32) word ≡ Some n → (word_in word ≡ Some n) × (n < 2 ^ 32)
 narrower word n h =
     let read = number_read (2 ^ 32) word n h in
-    let small : n < 2 ^ 32 = read.1 in (subst (λ w. word_in w ≡ Some n) read.0 (number_back (2 ^ 64) n (omega arith) (omega arith)), small)
+    let small : n < 2 ^ 32 = read.1 in (subst (λ w. word_in w ≡ Some n) (sym read.0) (number_back (2 ^ 64) n (omega arith) (omega arith)), small)
 
 pub line_number_some : (word : List ℕ) (n : ℕ) → Some n ≡ word_in word → n ≤ 4294967295 → Some n ≡ number_in (2 ^ 32) word
 line_number_some word n h low =
-    sym (subst (λ w. number_in (2 ^ 32) w ≡ Some n) (number_read (2 ^ 64) word n (sym h)).0 (number_back (2 ^ 32) n (omega arith) (omega arith)))
+    sym (subst (λ w. number_in (2 ^ 32) w ≡ Some n) (sym (number_read (2 ^ 64) word n (sym h)).0) (number_back (2 ^ 32) n (omega arith) (omega arith)))
 
 pub line_number_large : (word : List ℕ) (n : ℕ) → Some n ≡ word_in word → 4294967295 < n → None ≡ number_in (2 ^ 32) word
 line_number_large word n h high = by_answer (number_in (2 ^ 32) word) refl
@@ -66,8 +68,8 @@ need_none word r parses differs = by_answer (number_in (2 ^ 128) word) refl
     by_answer (Some n) e =
         let read = number_read (2 ^ 128) word n e in
         let small : n < 2 ^ 128 = read.1 in
-        let parsed : r ≡ Ok n = parse-decimal_wide 128 n word r small (omega arith) (sym read.0) parses in
-        clash (sym (differs n parsed) ∙ (bytes_eq-Decides (decimal n) word).1 read.0)
+        let parsed : r ≡ Ok n = parse-decimal_wide 128 n word r small (omega arith) read.0 parses in
+        clash (sym (differs n parsed) ∙ (bytes_eq-Decides (decimal n) word).1 (sym read.0))
 
 pub no_need : (word : List ℕ) → (IsUtf8 word → ⊥) → None ≡ number_in (2 ^ 128) word
 no_need word no_text = sym (no_number (2 ^ 128) word (omega arith) no_text)
@@ -77,24 +79,16 @@ no_need word no_text = sym (no_number (2 ^ 128) word (omega arith) no_text)
 byte_low : (b : ℕ) → is_name_byte b ≡ true → b < 128
 byte_low b h = grind (arith, nat_tests)
 
-and_first : (a b : Bool) → (a && b) ≡ true → a ≡ true
-and_first true b h = refl
-and_first false b h = h
-
-and_second : (a b : Bool) → (a && b) ≡ true → b ≡ true
-and_second true b h = h
-and_second false b h = absurd (let e : false ≡ true = h in cc)
-
 bytes_low : (bs : List ℕ) → list_all is_name_byte bs ≡ true → IsAscii bs
 bytes_low [] h = IsAscii-nil
 bytes_low (b ∷ bs) h =
-    IsAscii-cons b bs (byte_low b (and_first (is_name_byte b) (list_all is_name_byte bs) h))
-    (bytes_low bs (and_second (is_name_byte b) (list_all is_name_byte bs) h))
+    IsAscii-cons b bs (byte_low b (first_true (is_name_byte b) (list_all is_name_byte bs) h))
+    (bytes_low bs (second_true (is_name_byte b) (list_all is_name_byte bs) h))
 
 name_text : (word : List ℕ) → is_name word ≡ true → IsUtf8 word
 unfolding is_name
 name_text word h =
-    IsUtf8-from_ascii word (bytes_low word (and_second (nat_le 1 (length word) && nat_le (length word) 64) (list_all is_name_byte word) h))
+    IsUtf8-from_ascii word (bytes_low word (second_true (nat_le 1 (length word) && nat_le (length word) 64) (list_all is_name_byte word) h))
 
 pub no_name : (word : List ℕ) → (IsUtf8 word → ⊥) → None ≡ name_in word
 no_name word no_text = by_test (is_name word) refl
@@ -104,14 +98,6 @@ no_name word no_text = by_test (is_name word) refl
     by_test true e = absurd (no_text (name_text word e))
 
 -- ---- links
-
-link_back : (l : Link) → link_in (link_text l) ≡ Some l
-link_back Link12 = refl
-link_back Link13 = refl
-link_back Link21 = refl
-link_back Link23 = refl
-link_back Link31 = refl
-link_back Link32 = refl
 
 none_of : {A : Type 0} (text : A → List ℕ) (xs : List A) (word : List ℕ) → ((x : A) → text x ≡ word → ⊥) → one_of text xs word ≡ None
 none_of text [] word differs = refl

@@ -12,14 +12,10 @@ use Rattle.view_text.specs.Reading.{all_in, element_in, line_in, words_in_line, 
 use Rattle.view_text.proofs.Found.{nothing_found, if_found}
 use Rattle.view_text.proofs.Lines.{line_back}
 use Rattle.view_text.proofs.LinesRead.{line_read}
-use Rattle.view_text.proofs.Rounds.{AreLines, line_is_cut}
-use Rattle.view_text.proofs.Walked.{line_text, lines_cut}
+use Rattle.view_text.proofs.Rounds.{line_is_cut, good_opened}
+use Rattle.view_text.proofs.Walked.{line_text, lines_cut, spaced_is, lines_joined}
 use Rattle.proto_core.proofs.Beginnings.{append-none}
 use Rattle.view_reader.specs.Opened.{opened_bytes, opened_words, opening_in, in_front, openings_from, openings_of, words_read, opened_of}
-
-pub all_lines : (os : List (List Element)) → AreOpened os → AreLines (map Opened os)
-all_lines [] h = tt
-all_lines (o ∷ os) h = (h.0, all_lines os h.1)
 
 same_line : (es : List Element) (o : Option (List Element)) → option_map Opened o ≡ Some (Opened es) → o ≡ Some es
 same_line es None e = cc
@@ -47,7 +43,7 @@ pub read_again : (os : List (List Element)) → AreOpened os → openings_of (op
 unfolding openings_of
 read_again os h =
     ap (λ b. openings_from 1 (lines_in b)) (sym (append-none (opened_bytes os)))
-    ∙ ap (openings_from 1) (lines_cut (map Opened os) (all_lines os h) [])
+    ∙ ap (openings_from 1) (lines_cut (map Opened os) (good_opened os h) [])
     ∙ lines_back 1 os h
 
 pub words_again : (os : List (List Element)) → AreOpened os → opened_of (opened_bytes os) ≡ Ok (opened_words os)
@@ -68,11 +64,6 @@ opening_is_line (w ∷ ws) es h =
     (λ same is.
     subst (λ v. line_in (v ∷ ws) ≡ Some (Opened es)) ((bytes_eq-Decides (codes "open") w).0 same) (ap (option_map Opened) is))
     (λ none. nothing_found es none)
-
-spaced_is : (ws : List (List ℕ)) → spaced ws ≡ join_with_byte 32 ws
-spaced_is [] = refl
-spaced_is (w ∷ []) = refl
-spaced_is (w ∷ v ∷ vs) = ap (λ x. w ++ 32 ∷ x) (spaced_is (v ∷ vs))
 
 -- the line that is read as an opening is its text
 pub record IsLineOf (line : List ℕ) (es : List Element) : Type 0 where
@@ -110,17 +101,11 @@ lines_of k (l ∷ m ∷ ms) os h =
         subst (AreLinesOf (l ∷ m ∷ ms)) is
         (record { text = ap (λ x. x ∷ (map line_text (map Opened more) ++ [] ∷ [])) a.text ∙ ap (λ xs. l ∷ xs) b.text; good = (a.good, b.good) })
 
-join_front : (part : List ℕ) (ls : List Line) →
-    join_with_byte 10 (part ∷ (map line_text ls ++ [] ∷ [])) ≡ part ++ 10 ∷ join_with_byte 10 (map line_text ls ++ [] ∷ [])
-join_front part [] = refl
-join_front part (l ∷ ls) = refl
-
-joined : (ls : List Line) → join_with_byte 10 (map line_text ls ++ [] ∷ []) ≡ lines_bytes ls
-joined [] = refl
-joined (l ∷ ls) = join_front (line_text l) ls ∙ ap (λ x. line_text l ++ 10 ∷ x) (joined ls)
-
 pub was_written : (bytes : List ℕ) (os : List (List Element)) → openings_of bytes ≡ Ok os → AreOpened os × (opened_bytes os ≡ bytes)
 unfolding openings_of
 was_written bytes os h =
-    let are = lines_of 1 (lines_in bytes) os h in
-    (are.good, sym (joined (map Opened os)) ∙ ap (join_with_byte 10) are.text ∙ join_with_byte-slice_split 10 bytes)
+    let are = lines_of 1 (lines_in bytes) os h in (
+      are.good,
+      sym (lines_joined (map Opened os) [] [] ∙ append-none (lines_bytes (map Opened os))) ∙ ap (join_with_byte 10) are.text
+          ∙ join_with_byte-slice_split 10 bytes,
+    )

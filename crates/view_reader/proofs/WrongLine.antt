@@ -2,17 +2,18 @@
 use Rattle.std.proofs.Common.{◌≡◌, ℕ, ◌+◌, ◌<◌, List, [], ◌∷◌, ◌++◌, map, length, refl, sym, ◌∙◌, ap, arith}
 use Rattle.std.specs.Prelude.{Option, Some, None, Result, Ok, Err}
 use Rattle.std.specs.List.{join_with_byte}
-use Rattle.std.proofs.lemmas.List.{append_assoc, length-append}
+use Rattle.std.proofs.lemmas.List.{length-append}
 use Rattle.std.proofs.lemmas.List.Splits.{join_with_byte-slice_split}
 use Rattle.sc_text.specs.declared.elements.Element.{Element}
 use Rattle.view_text.specs.View.{AreElements, AreOpened}
-use Rattle.view_text.specs.Text.{Line, Opened, lines_bytes}
+use Rattle.view_text.specs.Text.{Opened, lines_bytes}
 use Rattle.view_text.specs.Reading.{words_in_line, lines_in}
 use Rattle.view_text.proofs.Found.{nothing_found}
-use Rattle.view_text.proofs.Walked.{line_text, lines_cut, parted}
+use Rattle.view_text.proofs.Walked.{line_text, lines_cut, parted, lines_joined}
+use Rattle.view_text.proofs.Rounds.{good_opened}
 use Rattle.view_reader.specs.Opened.{opening_in, in_front, openings_from, openings_of}
 use Rattle.view_reader.specs.FirstWrong.{IsFirstWrong}
-use Rattle.view_reader.proofs.OpenedLaws.{IsLineOf, line_of, opening_back, all_lines}
+use Rattle.view_reader.proofs.OpenedLaws.{IsLineOf, line_of, opening_back}
 
 -- ---- how far openings are read
 
@@ -68,19 +69,6 @@ walk k p (m ∷ ms) n h = by_line (opening_in (words_in_line p)) refl h (λ e. w
 
 -- ---- the text behind them
 
-join_front : (part : List ℕ) (ls : List Line) (first : List ℕ) (more : List (List ℕ)) →
-    join_with_byte 10 (part ∷ (map line_text ls ++ first ∷ more)) ≡ part ++ 10 ∷ join_with_byte 10 (map line_text ls ++ first ∷ more)
-join_front part [] first more = refl
-join_front part (l ∷ ls) first more = refl
-
-joined : (ls : List Line) (first : List ℕ) (more : List (List ℕ)) →
-    join_with_byte 10 (map line_text ls ++ first ∷ more) ≡ lines_bytes ls ++ join_with_byte 10 (first ∷ more)
-joined [] first more = refl
-joined (l ∷ ls) first more =
-    join_front (line_text l) ls first more
-    ∙ ap (λ x. line_text l ++ 10 ∷ x) (joined ls first more)
-    ∙ sym (append_assoc (line_text l) (10 ∷ lines_bytes ls) (join_with_byte 10 (first ∷ more)))
-
 same_first : {A : Type 0} (x y : A) (xs ys : List A) → x ∷ xs ≡ y ∷ ys → x ≡ y
 same_first x y xs ys e = cc
 
@@ -117,10 +105,10 @@ first_wrong bytes n h =
     let lines = map Opened s.before in
     let rest = join_with_byte 10 (s.first ∷ s.more) in
     let cut : bytes ≡ lines_bytes lines ++ rest =
-    sym (join_with_byte-slice_split 10 bytes) ∙ ap (join_with_byte 10) (part.is ∙ s.text) ∙ joined lines s.first s.more in
+    sym (join_with_byte-slice_split 10 bytes) ∙ ap (join_with_byte 10) (part.is ∙ s.text) ∙ lines_joined lines s.first s.more in
     let behind : lines_in rest ≡ s.first ∷ s.more =
     same_behind (map line_text lines) (lines_in rest) (s.first ∷ s.more)
-    (sym (lines_cut lines (all_lines s.before s.good) rest) ∙ ap lines_in (sym cut) ∙ part.is ∙ s.text) in
+    (sym (lines_cut lines (good_opened s.before s.good) rest) ∙ ap lines_in (sym cut) ∙ part.is ∙ s.text) in
     record {
       before = s.before;
       rest = rest;

@@ -13,8 +13,8 @@ use Rattle.typed_tree.specs.Programs.{TypedProgramTree}
 use Rattle.language_model.specs.Reports.{Report}
 use Rattle.blind_evaluation.specs.Courses.{IsEnded}
 use Rattle.clear_eval.specs.declared.report.Report as reported
-use Rattle.clear_eval.specs.declared.blind_run.BlindError.{BlindError}
-use Rattle.clear_eval.specs.declared.blind_run.BlindError.TheVariants as told
+use Rattle.clear_eval.specs.declared.blind_run.BlindErr.{BlindErr}
+use Rattle.clear_eval.specs.declared.blind_run.BlindErr.TheVariants as told
 use Rattle.clear_eval.specs.Reports.{report_seen, IsBlindAnswer}
 use Rattle.counted_net.specs.declared.delivery.DeliveryErr.{DeliveryErr}
 use Rattle.counted_net.specs.declared.delivery.DeliveryErr.TheVariants as refused
@@ -39,7 +39,7 @@ module _ (i : Number) (p : TypedProgramTree) (part : List PublicEntry) (opened :
   run = told_run p part opened (lengths_of s) budget
 
   pub told_short :
-      (e : BlindError) → IsBlindAnswer (Err e) run (length opened) → IsSimulation i p part opened s budget delivery (Err (told_refusal e))
+      (e : BlindErr) → IsBlindAnswer (Err e) run (length opened) → IsSimulation i p part opened s budget delivery (Err (told_refusal e))
   told_short (told.OpenedShort have) h = record { short = h.0; all = h.1 }
   told_short told.Memory h = tt
 
@@ -87,7 +87,7 @@ tapes_are t dealer one two three = record { dealer = dealer; miners = own }
 
 -- what is sure of the gates of the run is sure of those of its report
 pub of_report :
-    (P : List Gate → Type 0) (answer : Result reported.Report BlindError) (r : Report) (count : ℕ) → IsBlindAnswer answer r count → P r.gates →
+    (P : List Gate → Type 0) (answer : Result reported.Report BlindErr) (r : Report) (count : ℕ) → IsBlindAnswer answer r count → P r.gates →
     IfOk answer (λ report. P report.gates.items)
 of_report P (Ok report) r count is sure = subst P (sym (ap (λ (q : Report). q.gates) is)) sure
 of_report P (Err e) r count is sure = tt

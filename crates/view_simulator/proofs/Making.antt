@@ -1,6 +1,5 @@
 -- What is made of a miner's shares is what the simulator has it see.
 use Rattle.std.proofs.Common.{◌≡◌, ℕ, ◌+◌, ◌-◌, ◌≤◌, true, List, [], ◌∷◌, length, take, drop, refl, sym, ap, ◌∙◌, subst, arith, length-drop}
-use Rattle.std.specs.Prelude.{nat_le}
 use Rattle.std.proofs.lemmas.List.Sums.{sum_by-cons}
 use Rattle.proto_core.specs.declared.party.Number.{Number}
 use Rattle.proto_core.specs.declared.link.Link.{Link}
@@ -26,11 +25,9 @@ use Rattle.made_inputs.proofs.Pieces.{sizes-made}
 use Rattle.view_model.specs.Dealing.{hidden_sizes, hidden_draws, made_entries}
 use Rattle.view_model.specs.TapeMaps.{miners_of}
 use Rattle.view_model.specs.Seen.{Seen, gates_made}
+use Rattle.view_model.proofs.Corresponding.{le_from}
 use Rattle.program_views.specs.Views.{hidden_need, can_deal}
 use Rattle.view_simulator.specs.Making.{CanBeMade, made_in_order}
-
-le_from : (a b : ℕ) → nat_le a b ≡ true → a ≤ b
-le_from a b h = grind arith
 
 same_needs : (part : List PublicEntry) → need.hidden_need part ≡ hidden_need part
 same_needs [] = refl

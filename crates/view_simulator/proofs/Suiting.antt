@@ -34,6 +34,7 @@ use Rattle.view_model.specs.Dealing.{private_shares, hidden_sizes, made_entries}
 use Rattle.view_model.specs.Held.{private_values}
 use Rattle.view_model.specs.TapeMaps.{miners_of}
 use Rattle.view_model.proofs.DealtSizes.{sizes_hidden, sizes_dealt}
+use Rattle.view_model.proofs.Corresponding.{le_from}
 use Rattle.code_inputs.specs.Inputs.{AreSound, dealt_of}
 use Rattle.code_inputs.specs.Laws.{IsAccepted}
 use Rattle.code_inputs.proofs.Literals.{accepted_suits}
@@ -43,9 +44,6 @@ use Rattle.program_views.proofs.Given.{given_so, same_need}
 use Rattle.view_simulator.specs.Making.{CanBeMade}
 use Rattle.view_simulator.specs.Laws.{IsTold, ToldRunsCanBeMade}
 use Rattle.view_simulator.proofs.Zeros.{zero_entries, part_again, inputs_again, zeros_sound}
-
-le_from : (a b : ℕ) → nat_le a b ≡ true → a ≤ b
-le_from a b h = grind arith
 
 at_most : (a b : Words) → AtMost a b → (m : Miner) → drawn_by a m ≤ drawn_by b m
 at_most a b h Miner1 = h.0

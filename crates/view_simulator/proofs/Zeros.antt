@@ -22,7 +22,7 @@ use Rattle.value_file.specs.Public.{shown, public_entry, part_of}
 use Rattle.value_file.specs.PublicFile.{public_count, public_name_of, public_elements_of, IsWritable}
 use Rattle.input_share.specs.Values.{elements_of}
 use Rattle.input_share.specs.AddUp.{HasWords}
-use Rattle.view_model.proofs.Masks.{size_of_shape_of}
+use Rattle.input_share.proofs.FormLaws.{size_of-shape_of}
 use Rattle.language_model.specs.Effects.{Given}
 use Rattle.language_model.specs.Words.{truth_word}
 use Rattle.clear_eval.specs.Offers.{input_given, public_given, part_given}
@@ -101,7 +101,7 @@ names_known (e ∷ es) = ap (λ (ns : List (List ℕ)). e.name ∷ ns) (names_kn
 
 count_known : (domain : Domain) (value : Value) → public_count (shown domain value) ≡ count_of value
 count_known Public value = refl
-count_known Private value = size_of_shape_of value
+count_known Private value = size_of-shape_of value
 
 -- inputs may stand in a file where their public part may
 form_from : (before es : List Entry) → AreEntries public_name_of public_elements_of (part_of before) (part_of es) → AreEntries name_of count_in before es

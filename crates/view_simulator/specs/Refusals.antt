@@ -1,12 +1,12 @@
 -- Which refusal of the simulator another refusal becomes.
-use Rattle.clear_eval.specs.declared.blind_run.BlindError.{BlindError}
-use Rattle.clear_eval.specs.declared.blind_run.BlindError.TheVariants as told
+use Rattle.clear_eval.specs.declared.blind_run.BlindErr.{BlindErr}
+use Rattle.clear_eval.specs.declared.blind_run.BlindErr.TheVariants as told
 use Rattle.counted_net.specs.declared.delivery.DeliveryErr.{DeliveryErr}
 use Rattle.counted_net.specs.declared.delivery.DeliveryErr.TheVariants as net
 use Rattle.view_simulator.specs.declared.errors.SimulateErr.{SimulateErr}
 use Rattle.view_simulator.specs.declared.errors.SimulateErr.TheVariants.{OpenedShort, EmptyLink, Stalled, Memory}
 
-abbrev pub told_refusal : BlindError → SimulateErr
+abbrev pub told_refusal : BlindErr → SimulateErr
 told_refusal (told.OpenedShort have) = OpenedShort have
 told_refusal told.Memory = Memory
 

@@ -3,7 +3,7 @@ ghost use Rattle.std.specs.Prelude.{◌≡◌};
 ghost use Rattle.view_simulator.specs.declared.errors.SimulateErr.TheVariants.{Memory};
 ghost use Rattle.view_simulator.specs.Refusals.{told_refusal, net_refusal};
 
-use clear_eval::BlindError;
+use clear_eval::BlindErr;
 use counted_net::DeliveryErr;
 use proto_core::{Link, Number};
 use std::alloc::AllocError;
@@ -29,13 +29,13 @@ impl From<AllocError> for SimulateErr {
     }
 }
 
-impl From<BlindError> for SimulateErr {
+impl From<BlindErr> for SimulateErr {
     ghost from_gives = { λ error e. e ≡ told_refusal error };
 
-    fn from(error: BlindError) -> SimulateErr {
+    fn from(error: BlindErr) -> SimulateErr {
         match error {
-            BlindError::OpenedShort { have } => SimulateErr::OpenedShort { have },
-            BlindError::Memory => SimulateErr::Memory,
+            BlindErr::OpenedShort { have } => SimulateErr::OpenedShort { have },
+            BlindErr::Memory => SimulateErr::Memory,
         }
     }
 }

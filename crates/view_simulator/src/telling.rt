@@ -11,7 +11,7 @@ ghost use Rattle.tape_twin.specs.Accepted.{IsAcceptedProgram};
 ghost use Rattle.view_simulator.specs.Making.{CanBeMade};
 
 use crate::words::{see_part, see_words};
-use clear_eval::{BlindError, Report, blind};
+use clear_eval::{BlindErr, Report, blind};
 use gate_scripts::few_words_fit;
 use std::alloc::Global;
 use tape_file::Tapes;
@@ -39,7 +39,7 @@ pub(crate) fn run_told(
     opened: &[u64],
     tapes: &Tapes,
     budget: u64,
-) -> Result<Report, BlindError>
+) -> Result<Report, BlindErr>
     requires sound { IsSound (typed_program_tree program.now) }
     requires accepted { IsAcceptedProgram (typed_program_tree program.now) }
     requires part { IsWritable part.now }

@@ -4,7 +4,7 @@ use Rattle.std.specs.Prelude.{Option, Some, None, get_or}
 use Rattle.std.specs.Borrow.{Bor}
 use Rattle.std.proofs.lemmas.List.{take_more, drop_more, take-append-drop, map-append}
 use Rattle.view_text.proofs.Found.{nothing_found}
-use Rattle.view_text.specs.Reading.{both, all_in, word_in}
+use Rattle.view_text.specs.Reading.{both, all_in}
 
 module _ {A : Type 0} (one : List ℕ → Option A) where
   pub all_more : (ws : List (List ℕ)) (xs : List A) (w : List ℕ) (x : A) → all_in one ws ≡ Some xs → one w ≡ Some x →
@@ -36,18 +36,18 @@ module _ {A : Type 0} (one : List ℕ → Option A) where
       by_first None h = refl
       by_first (Some y) h = ap (both (Some y)) h
 
--- the parts of a text, one after another
-pub read_more : (parts : List (Bor (List ℕ))) (i : ℕ) (d : Bor (List ℕ)) (xs : List ℕ) (x : ℕ) → i < length parts →
-    all_in word_in (map (λ part. part.now) (take i parts)) ≡ Some xs → word_in (get_or parts i d).now ≡ Some x →
-    all_in word_in (map (λ part. part.now) (take (i + 1) parts)) ≡ Some (xs ++ x ∷ [])
-read_more parts i d xs x lt h e =
-    ap (λ ps. all_in word_in (map (λ part. part.now) ps)) (take_more parts i d lt)
-    ∙ ap (all_in word_in) (map-append (λ part. part.now) (take i parts) (get_or parts i d ∷ []))
-    ∙ all_more word_in (map (λ part. part.now) (take i parts)) xs (get_or parts i d).now x h e
+  -- the parts of a text, one after another
+  pub parts_more : (parts : List (Bor (List ℕ))) (i : ℕ) (d : Bor (List ℕ)) (xs : List A) (x : A) → i < length parts →
+      all_in one (map (λ part. part.now) (take i parts)) ≡ Some xs → one (get_or parts i d).now ≡ Some x →
+      all_in one (map (λ part. part.now) (take (i + 1) parts)) ≡ Some (xs ++ x ∷ [])
+  parts_more parts i d xs x lt h e =
+      ap (λ ps. all_in one (map (λ part. part.now) ps)) (take_more parts i d lt)
+      ∙ ap (all_in one) (map-append (λ part. part.now) (take i parts) (get_or parts i d ∷ []))
+      ∙ all_more (map (λ part. part.now) (take i parts)) xs (get_or parts i d).now x h e
 
-pub read_none : (parts : List (Bor (List ℕ))) (i : ℕ) (d : Bor (List ℕ)) → i < length parts → word_in (get_or parts i d).now ≡ None →
-    all_in word_in (map (λ part. part.now) parts) ≡ None
-read_none parts i d lt e =
-    ap (λ ps. all_in word_in (map (λ part. part.now) ps)) (sym (take-append-drop i parts) ∙ ap (λ ps. take i parts ++ ps) (drop_more parts i d lt))
-    ∙ ap (all_in word_in) (map-append (λ part. part.now) (take i parts) (get_or parts i d ∷ drop (i + 1) parts))
-    ∙ all_none word_in (map (λ part. part.now) (take i parts)) (get_or parts i d).now (map (λ part. part.now) (drop (i + 1) parts)) e
+  pub parts_none : (parts : List (Bor (List ℕ))) (i : ℕ) (d : Bor (List ℕ)) → i < length parts → one (get_or parts i d).now ≡ None →
+      all_in one (map (λ part. part.now) parts) ≡ None
+  parts_none parts i d lt e =
+      ap (λ ps. all_in one (map (λ part. part.now) ps)) (sym (take-append-drop i parts) ∙ ap (λ ps. take i parts ++ ps) (drop_more parts i d lt))
+      ∙ ap (all_in one) (map-append (λ part. part.now) (take i parts) (get_or parts i d ∷ drop (i + 1) parts))
+      ∙ all_none (map (λ part. part.now) (take i parts)) (get_or parts i d).now (map (λ part. part.now) (drop (i + 1) parts)) e

@@ -6,6 +6,7 @@ use Rattle.std.specs.Fmt.{decimal}
 use Rattle.std.specs.Str.Parse.{digits_value, ParsesUnsigned}
 use Rattle.std.proofs.lemmas.Slice.Eq.{bytes_eq-Decides}
 use Rattle.std.proofs.lemmas.Fmt.{parse-decimal, decimal_is_IsNumeral_wide, decimal_by_steps_wide}
+use Rattle.proto_core.proofs.MessageFields.{first_true, second_true}
 use Rattle.sc_text.specs.Name.{is_name, is_name_byte}
 use Rattle.view_text.specs.Reading.{number_in}
 use Rattle.view_text.proofs.Bytes.{Free, eq_self}
@@ -66,24 +67,16 @@ byte_free c x not is = by_test (x == c) refl
     by_test false e = e
     by_test true e = clash (sym not ∙ ap is_name_byte (sym (eq_is x c e)) ∙ is)
 
-and_first : (a b : Bool) → (a && b) ≡ true → a ≡ true
-and_first true b h = refl
-and_first false b h = h
-
-and_second : (a b : Bool) → (a && b) ≡ true → b ≡ true
-and_second true b h = h
-and_second false b h = clash h
-
 all_free : (c : ℕ) → is_name_byte c ≡ false → (xs : List ℕ) → list_all is_name_byte xs ≡ true → Free c xs
 all_free c not [] h = tt
 all_free c not (x ∷ xs) h = (
-  byte_free c x not (and_first (is_name_byte x) (list_all is_name_byte xs) h),
-  all_free c not xs (and_second (is_name_byte x) (list_all is_name_byte xs) h),
+  byte_free c x not (first_true (is_name_byte x) (list_all is_name_byte xs) h),
+  all_free c not xs (second_true (is_name_byte x) (list_all is_name_byte xs) h),
 )
 
 pub name_free : (c : ℕ) → is_name_byte c ≡ false → (xs : List ℕ) → is_name xs ≡ true → Free c xs
 unfolding is_name
-name_free c not xs h = all_free c not xs (and_second (nat_le 1 (length xs) && nat_le (length xs) 64) (list_all is_name_byte xs) h)
+name_free c not xs h = all_free c not xs (second_true (nat_le 1 (length xs) && nat_le (length xs) 64) (list_all is_name_byte xs) h)
 
 -- ---- reading by `parse`
 

@@ -92,7 +92,7 @@ miner_back One = refl
 miner_back Two = refl
 miner_back Three = refl
 
-link_back : (l : Link) → link_in (link_text l) ≡ Some l
+pub link_back : (l : Link) → link_in (link_text l) ≡ Some l
 link_back Link12 = refl
 link_back Link13 = refl
 link_back Link21 = refl

@@ -36,7 +36,7 @@ both_true : {P : Type 0} (a b : Bool) → (a && b) ≡ true → (a ≡ true → 
 both_true true b h more = more refl h
 both_true false b h more = absurd (let e : false ≡ true = h in cc)
 
-number_read : (limit : ℕ) (word : List ℕ) (n : ℕ) → number_in limit word ≡ Some n → (word ≡ decimal n) × (n < limit)
+pub number_read : (limit : ℕ) (word : List ℕ) (n : ℕ) → number_in limit word ≡ Some n → (word ≡ decimal n) × (n < limit)
 unfolding number_in
 number_read limit word n h =
     let value = digits_value 10 word in

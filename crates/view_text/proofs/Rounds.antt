@@ -107,7 +107,7 @@ good_got : (rs : List Received) → AreReceived rs → AreLines (map Got rs)
 good_got [] h = tt
 good_got (r ∷ rs) h = (h.0, good_got rs h.1)
 
-good_opened : (os : List (List Element)) → AreOpened os → AreLines (map Opened os)
+pub good_opened : (os : List (List Element)) → AreOpened os → AreLines (map Opened os)
 good_opened [] h = tt
 good_opened (o ∷ os) h = (h.0, good_opened os h.1)
 

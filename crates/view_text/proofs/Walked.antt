@@ -19,7 +19,7 @@ line_text l = spaced (line_words l)
 
 -- ---- the cuts are joined again
 
-spaced_is : (ws : List (List ℕ)) → spaced ws ≡ join_with_byte 32 ws
+pub spaced_is : (ws : List (List ℕ)) → spaced ws ≡ join_with_byte 32 ws
 spaced_is [] = refl
 spaced_is (w ∷ []) = refl
 spaced_is (w ∷ v ∷ vs) = ap (λ x. w ++ 32 ∷ x) (spaced_is (v ∷ vs))
@@ -32,7 +32,7 @@ join_front : (part : List ℕ) (ls : List Line) (first : List ℕ) (more : List 
 join_front part [] first more = refl
 join_front part (l ∷ ls) first more = refl
 
-lines_joined : (ls : List Line) (first : List ℕ) (more : List (List ℕ)) →
+pub lines_joined : (ls : List Line) (first : List ℕ) (more : List (List ℕ)) →
     join_with_byte 10 (map line_text ls ++ first ∷ more) ≡ lines_bytes ls ++ join_with_byte 10 (first ∷ more)
 lines_joined [] first more = refl
 lines_joined (l ∷ ls) first more =

@@ -27,8 +27,8 @@ use Rattle.domain_types.proofs.TypingSteps.{there, passes}
 use Rattle.domain_types.proofs.TypingCalls.{defined_from}
 use Rattle.typed_tree.specs.declared.kinds.Shape.{Shape}
 use Rattle.typed_tree.specs.declared.kinds.Slot.{Slot}
-use Rattle.typed_tree.specs.declared.function.Given.{Given}
-use Rattle.typed_tree.specs.declared.function.Given.TheVariants as given
+use Rattle.typed_tree.specs.declared.function.Returned.{Returned}
+use Rattle.typed_tree.specs.declared.function.Returned.TheVariants as given
 use Rattle.typed_tree.specs.Tree.{TypedTrees, call_node, typed_trees_of}
 use Rattle.typed_tree.specs.Programs.{TypedFunctionTree}
 use Rattle.typed_tree.specs.Shapes.{shape_of}
@@ -102,7 +102,8 @@ pub record GoodValue (p : ProgramTree) (w : domains.Setting) (o : Option TypedVa
 good_value : (p : ProgramTree) (w : domains.Setting) (x : TypedValue) (v u : ValueType) → Good p w x v → v ≡ u → GoodValue p w (Some x) u
 good_value p w x v u g e = record { good = λ y f. good_as p w x y v u g (some_is x y f) e }
 
-pub good_built_in : (p : ProgramTree) (w : domains.Setting) (line : ℕ) (b : BuiltIn) (gs : List Argument) (xs : List TypedValue) (v : ValueType) → AllGood p w xs gs → IsBuiltInCall b gs v → GoodValue p w (built_in_value line b xs) v
+pub good_built_in : (p : ProgramTree) (w : domains.Setting) (line : ℕ) (b : BuiltIn) (gs : List Argument) (xs : List TypedValue) (v : ValueType)
+    → AllGood p w xs gs → IsBuiltInCall b gs v → GoodValue p w (built_in_value line b xs) v
 good_built_in p w line Size [] xs v a h = absurd h
 good_built_in p w line Size (g ∷ []) [] v a h = absurd a
 good_built_in p w line Size (g ∷ []) (x ∷ []) v a h = good_value p w _ _ v (good_size p w x g.given a.0 h.0) (sym h.1)
@@ -132,20 +133,26 @@ good_built_in p w line BitExtract (g ∷ f ∷ gs) xs v a h = absurd h
 abbrev pub trees_of : List TypedValue → TypedTrees
 trees_of xs = typed_trees_of (map tree_of_value xs)
 
-domains_good : (p : ProgramTree) (w : domains.Setting) (xs : List TypedValue) (gs : List Argument) → AllGood p w xs gs → domains.domains w (trees_of xs) ≡ map argument_domain gs
+domains_good : (p : ProgramTree) (w : domains.Setting) (xs : List TypedValue) (gs : List Argument) → AllGood p w xs gs
+    → domains.domains w (trees_of xs) ≡ map argument_domain gs
 domains_good p w [] [] a = refl
 domains_good p w [] (g ∷ gs) a = absurd a
 domains_good p w (x ∷ xs) [] a = absurd a
 domains_good p w (x ∷ xs) (g ∷ gs) a = ap₂ (λ d ds. d ∷ ds) a.0.seen_by (domains_good p w xs gs a.1)
 
-called_good : (p : ProgramTree) (w : domains.Setting) (xs : List TypedValue) (gs : List Argument) → AllGood p w xs gs → AreChecked p (calls.calls_of_all w (trees_of xs))
+called_good : (p : ProgramTree) (w : domains.Setting) (xs : List TypedValue) (gs : List Argument) → AllGood p w xs gs
+    → AreChecked p (calls.calls_of_all w (trees_of xs))
 called_good p w [] [] a = none_checked p
 called_good p w [] (g ∷ gs) a = absurd a
 called_good p w (x ∷ xs) [] a = absurd a
 called_good p w (x ∷ xs) (g ∷ gs) a = both_checked p (calls.calls w x.tree) (calls.calls_of_all w (trees_of xs)) a.0.called (called_good p w xs gs a.1)
 
 -- each parameter is known, and takes its argument
-taken_good : (p : ProgramTree) (w : domains.Setting) (f : FunctionTree) (ds : List Protection) (fs : List FunctionTree) → length ds ≡ length f.variables → (s : checked.Scope) (ps : List Parameter) (gs : List Argument) (xs : List TypedValue) (first : List Slot) → AreParameters (within (declared_by p) f ds) s ps → ParametersTake (within (declared_by p) f ds) ps gs → slots_written (with_functions (declared_by p) fs) f.variables (map declared_type ps) ≡ Some first → AllGood p w xs gs → AreTaken w (map bound_domain ds) first (trees_of xs)
+taken_good : (p : ProgramTree) (w : domains.Setting) (f : FunctionTree) (ds : List Protection) (fs : List FunctionTree)
+    → length ds ≡ length f.variables → (s : checked.Scope) (ps : List Parameter) (gs : List Argument) (xs : List TypedValue) (first : List Slot)
+    → AreParameters (within (declared_by p) f ds) s ps → ParametersTake (within (declared_by p) f ds) ps gs
+    → slots_written (with_functions (declared_by p) fs) f.variables (map declared_type ps) ≡ Some first → AllGood p w xs gs
+    → AreTaken w (map bound_domain ds) first (trees_of xs)
 taken_good p w f ds fs n s [] [] [] first h t e a = subst (λ z. AreTaken w (map bound_domain ds) z (trees_of [])) (some_is [] first e) tt
 taken_good p w f ds fs n s [] [] (x ∷ xs) first h t e a = absurd a
 taken_good p w f ds fs n s [] (g ∷ gs) xs first h t e a = absurd t
@@ -162,16 +169,19 @@ taken_good p w f ds fs n s (q ∷ ps) (g ∷ gs) (x ∷ xs) first h t e a =
     subst (λ d. GoesTo d (domain_under (map bound_domain ds) r.0.domain)) (sym a.0.seen_by)
     (subst (GoesTo (argument_domain g)) (sym is.seen_by) (goes g.given.domain v.0.domain fits.2)) in
     let rest = taken_good p w f ds fs n (head.with_parameter b q s) ps gs xs r.1 h.2 t.1 r.3 a.1 in
-    let all : AreTaken w (map bound_domain ds) (r.0 ∷ r.1) (trees_of (x ∷ xs)) = (gives_as w x.tree (shape_in g.given) r.0.shape a.0.gives shape, goes_there, rest) in
+    let all : AreTaken w (map bound_domain ds) (r.0 ∷ r.1) (trees_of (x ∷ xs)) =
+    (gives_as w x.tree (shape_in g.given) r.0.shape a.0.gives shape, goes_there, rest) in
     subst (λ z. AreTaken w (map bound_domain ds) z (trees_of (x ∷ xs))) r.4 all
 
 -- WHAT IS GIVEN BACK
 
-record GivenIs (b : List BoundDomain) (g : Given) (t : ExpressionType) : Type 0 where
+record GivenIs (b : List BoundDomain) (g : Returned) (t : ExpressionType) : Type 0 where
   pub shape : shape_given g ≡ shape_of_type t
   pub seen_by : (v : ValueType) → t ≡ Value v → given_domain b g ≡ bound_domain v.domain
 
-given_same : (d : Declared) (fs : List FunctionTree) (f : FunctionTree) (ds : List Protection) → length ds ≡ length f.variables → (r : ResultType) (g : Given) (t : ExpressionType) → result_type (within d f ds) r ≡ Some t → given_back (with_functions d fs) f.variables r ≡ Some g → GivenIs (map bound_domain ds) g t
+given_same : (d : Declared) (fs : List FunctionTree) (f : FunctionTree) (ds : List Protection) → length ds ≡ length f.variables
+    → (r : ResultType) (g : Returned) (t : ExpressionType) → result_type (within d f ds) r ≡ Some t
+    → given_back (with_functions d fs) f.variables r ≡ Some g → GivenIs (map bound_domain ds) g t
 given_same d fs f ds n result.Void g t e h =
     let is : GivenIs (map bound_domain ds) given.Nothing Void = record { shape = refl; seen_by = λ v q. cc } in
     subst (λ z. GivenIs (map bound_domain ds) z t) (some_is given.Nothing g h) (subst (GivenIs (map bound_domain ds) given.Nothing) (some_is Void t e) is)
@@ -190,16 +200,19 @@ given_same d fs f ds n (result.Value r) g t e h =
 abbrev pub bound_call : ℕ → List Protection → Call
 bound_call n ds = record { function = n; binding = Some ds }
 
-binding_there : (vs : List DomainVariable) (ps : List Parameter) (gs : List Argument) (ds : List Protection) → AreBound vs ps gs ds → binding_by vs ps gs ≡ Some ds
+binding_there : (vs : List DomainVariable) (ps : List Parameter) (gs : List Argument) (ds : List Protection) → AreBound vs ps gs ds
+    → binding_by vs ps gs ≡ Some ds
 binding_there [] ps gs ds h = ap Some (sym h)
 binding_there (v ∷ vs) ps gs [] h = absurd h
 binding_there (v ∷ vs) ps gs (d ∷ ds) h = ap₂ with_domain h.0 (binding_there vs ps gs ds h.2)
 
 -- the call that the checker sees
-pub call_seen : (d : Declared) (s : Span) (n : ℕ) (f : FunctionTree) (gs : List Argument) (t : ExpressionType) (h : IsDefinedCall d f gs t) → call_of d s (Some (defined n f)) (Some gs) ≡ record { function = n; binding = Some h.domains } ∷ []
+pub call_seen : (d : Declared) (s : Span) (n : ℕ) (f : FunctionTree) (gs : List Argument) (t : ExpressionType) (h : IsDefinedCall d f gs t)
+    → call_of d s (Some (defined n f)) (Some gs) ≡ record { function = n; binding = Some h.domains } ∷ []
 call_seen d s n f gs t h =
     let r = defined_from d s f gs t h in
-    ap (λ z. record { function = n; binding = z } ∷ []) (passes (defined_faults d s f gs) (binding_by f.variables f.parameters gs) r.0 ∙ binding_there f.variables f.parameters gs h.domains h.bound)
+    ap (λ z. record { function = n; binding = z } ∷ [])
+    (passes (defined_faults d s f gs) (binding_by f.variables f.parameters gs) r.0 ∙ binding_there f.variables f.parameters gs h.domains h.bound)
 
 returned_shape : (w : Setting) (r : ResultType) (t : ExpressionType) → result_type w r ≡ Some t → shape_returned r ≡ shape_of_type t
 returned_shape w result.Void t e = ap shape_of_type (some_is Void t e)
@@ -221,7 +234,9 @@ record IsCallee (p : ProgramTree) (z : Frame p) (n m : ℕ) (f : FunctionTree) (
   pub written : slots_written (known_in p) f.variables (map declared_type f.parameters) ≡ Some first
   pub parameters : AreParameters (within (declared_by p) f ds) checked.nothing_known f.parameters
 
-is_callee : (p : ProgramTree) (z : Frame p) (x : List ℕ) (n m : ℕ) (f : FunctionTree) (gs : List Argument) (t : ExpressionType) (h : IsDefinedCall (declared_by p) f gs t) → callee (declared_by p) x ≡ Some (defined n f) → callee (known_in p) x ≡ Some (defined m f) → Among (bound_call n h.domains) (all_calls z) → length f.parameters ≡ length gs → IsCallee p z n m f gs h.domains
+is_callee : (p : ProgramTree) (z : Frame p) (x : List ℕ) (n m : ℕ) (f : FunctionTree) (gs : List Argument) (t : ExpressionType)
+    (h : IsDefinedCall (declared_by p) f gs t) → callee (declared_by p) x ≡ Some (defined n f) → callee (known_in p) x ≡ Some (defined m f)
+    → Among (bound_call n h.domains) (all_calls z) → length f.parameters ≡ length gs → IsCallee p z n m f gs h.domains
 is_callee p z x n m f gs t h e k among count =
     let ds = h.domains in
     let i : Instance = record { function = z.number; binding = z.domains } in
@@ -237,7 +252,8 @@ is_callee p z x n m f gs t h e k among count =
     let same = binding_same (known_in p) f.variables own f.parameters gs first.first first.more first.written count ds h.bound in
     let typed = z.accepted.functions (record { function = n; binding = ds }) f is_checked at_home in
     let length_is : u.0.parameters ≡ length first.first =
-    made.parameters ∙ sym (slots_count (known_in p) f.variables (map declared_type f.parameters) first.first first.written ∙ length-map f.parameters declared_type) in
+    made.parameters ∙ sym (slots_count (known_in p) f.variables (map declared_type f.parameters) first.first first.written
+    ∙ length-map f.parameters declared_type) in
     record {
       typed = u.0;
       at = u.1;
@@ -263,14 +279,18 @@ taken_count w [] (g ∷ gs) h = absurd h
 taken_count w (p ∷ ps) [] h = absurd h
 taken_count w (p ∷ ps) (g ∷ gs) h = ap suc (taken_count w ps gs h.1)
 
-one_checked : (p : ProgramTree) (m : ℕ) (o : Option TypedFunctionTree) (f : TypedFunctionTree) (ds : List BoundDomain) → o ≡ Some f → IsCheckedInstance p (record { function = m; binding = binding_of f ds }) → AreChecked p (calls.called m o ds)
+one_checked : (p : ProgramTree) (m : ℕ) (o : Option TypedFunctionTree) (f : TypedFunctionTree) (ds : List BoundDomain) → o ≡ Some f
+    → IsCheckedInstance p (record { function = m; binding = binding_of f ds }) → AreChecked p (calls.called m o ds)
 one_checked p m o f ds e h = subst (λ o. AreChecked p (calls.called m o ds)) (sym e) one
   where
     one : AreChecked p (calls.called m (Some f) ds)
     one i (inl q) = subst (IsCheckedInstance p) (sym q) h
     one i (inr q) = absurd q
 
-pub good_defined : (p : ProgramTree) (z : Frame p) (line : ℕ) (x : List ℕ) (n m : ℕ) (f : FunctionTree) (gs : List Argument) (xs : List TypedValue) (t : ExpressionType) (h : IsDefinedCall (declared_by p) f gs t) → callee (declared_by p) x ≡ Some (defined n f) → callee (known_in p) x ≡ Some (defined m f) → Among (bound_call n h.domains) (all_calls z) → AllGood p (here z) xs gs → GoodCall p (here z) (record { tree = call_node line m (trees_of xs); gives = shape_returned f.returned }) t
+pub good_defined : (p : ProgramTree) (z : Frame p) (line : ℕ) (x : List ℕ) (n m : ℕ) (f : FunctionTree) (gs : List Argument) (xs : List TypedValue)
+    (t : ExpressionType) (h : IsDefinedCall (declared_by p) f gs t) → callee (declared_by p) x ≡ Some (defined n f)
+    → callee (known_in p) x ≡ Some (defined m f) → Among (bound_call n h.domains) (all_calls z) → AllGood p (here z) xs gs
+    → GoodCall p (here z) (record { tree = call_node line m (trees_of xs); gives = shape_returned f.returned }) t
 good_defined p z line x n m f gs xs t h e k among a =
     let w = here z in
     let ds = h.domains in
@@ -286,6 +306,8 @@ good_defined p z line x n m f gs xs t h e k among a =
       is = returned_shape (within (declared_by p) f ds) f.returned t h.gives;
       gives = (c.typed, c.at, taken_there, sym back.shape);
       seen_by = λ v q. ap (λ o. call_domain o (domains.domains w (trees_of xs))) c.at ∙ ap (λ b. given_domain b c.typed.given) binding ∙ back.seen_by v q;
-      called = both_checked p (calls.calls_of_all w (trees_of xs)) (calls.called m (slice_get z.functions m) (domains.domains w (trees_of xs))) (called_good p w xs gs a)
-          (one_checked p m (slice_get z.functions m) c.typed (domains.domains w (trees_of xs)) c.at (c.instance (binding_of c.typed (domains.domains w (trees_of xs))) binding));
+      called = both_checked p (calls.calls_of_all w (trees_of xs)) (calls.called m (slice_get z.functions m) (domains.domains w (trees_of xs)))
+          (called_good p w xs gs a)
+          (one_checked p m (slice_get z.functions m) c.typed (domains.domains w (trees_of xs)) c.at
+          (c.instance (binding_of c.typed (domains.domains w (trees_of xs))) binding));
     }

@@ -15,10 +15,10 @@ use Rattle.domain_types.specs.FunctionTypes as head
 use Rattle.domain_types.specs.StatementTypes as checker
 use Rattle.domain_types.specs.Typing.{GivesResult, IsTypedFunction, IsTypedProgram}
 use Rattle.domain_types.specs.ExpressionTypes.{within}
-use Rattle.typed_tree.specs.declared.function.Given.{Given}
-use Rattle.typed_tree.specs.declared.function.Given.TheVariants as given
+use Rattle.typed_tree.specs.declared.function.Returned.{Returned}
+use Rattle.typed_tree.specs.declared.function.Returned.TheVariants as given
 use Rattle.typed_tree.specs.Commands.{Commands}
-use Rattle.name_resolution.specs.Scopes.{Place, no_place, declaring}
+use Rattle.name_resolution.specs.Scopes.{FunctionScope, no_place, declaring}
 use Rattle.typed_tree.specs.Programs.{TypedFunctionTree, TypedProgramTree}
 use Rattle.name_resolution.specs.Functions.{slot_written, slots_written, given_back, with_parameters, typed_function, typed_functions}
 use Rattle.name_resolution.specs.Order as order
@@ -40,7 +40,9 @@ use Rattle.well_typed.proofs.Statements.{GoodCommands, Walked, new_variable, goo
 
 -- PARAMETERS
 
-same_parameters : (p : ProgramTree) (z : Frame p) (g : Given) (final : List DeclaredType) → slots_written (known_in p) z.function.variables final ≡ Some z.slots → (ps : List Parameter) (s : checked.Scope) (b : Place) → Same (here z) s b.scope → Begins (with_parameters ps b).slots final → Same (here z) (head.with_parameters (setting z) ps s) (with_parameters ps b).scope
+same_parameters : (p : ProgramTree) (z : Frame p) (g : Returned) (final : List DeclaredType)
+    → slots_written (known_in p) z.function.variables final ≡ Some z.slots → (ps : List Parameter) (s : checked.Scope) (b : FunctionScope)
+    → Same (here z) s b.scope → Begins (with_parameters ps b).slots final → Same (here z) (head.with_parameters (setting z) ps s) (with_parameters ps b).scope
 same_parameters p z g final w [] s b m l = m
 same_parameters p z g final w (q ∷ ps) s b m l =
     let next = declaring q.variable q.declared b in
@@ -51,7 +53,9 @@ same_parameters p z g final w (q ∷ ps) s b m l =
 
 -- RESULTS
 
-gives_back : (p : ProgramTree) (z : Frame p) (r : ResultType) (g : Given) (body : Commands) (b : Bool) → given_back (known_in p) z.function.variables r ≡ Some g → one_returns body ≡ b → b ≡ checker.one_returns z.function.body.statements → GivesResult (setting z) z.function r → GivesBack g body
+gives_back : (p : ProgramTree) (z : Frame p) (r : ResultType) (g : Returned) (body : Commands) (b : Bool)
+    → given_back (known_in p) z.function.variables r ≡ Some g → one_returns body ≡ b → b ≡ checker.one_returns z.function.body.statements
+    → GivesResult (setting z) z.function r → GivesBack g body
 gives_back p z result.Void g body b e f q h = subst (λ x. GivesBack x body) (some_is given.Nothing g e) tt
 gives_back p z (result.Value t) g body b e f q h =
     let m = mapped given.Value (slot_written (known_in p) z.function.variables t) g e in
@@ -71,7 +75,9 @@ pub record GoodInstance (p : ProgramTree) (t : TypedProgramTree) (i : Instance) 
   pub typed : IsWellTypedInstance t i
   pub called : AreChecked p (called_by t i)
 
-pub good_instance : (p : ProgramTree) (functions : List TypedFunctionTree) → IsTypedProgram p → IsWellWritten p → typed_functions (known_in p) (order.reached (declared_by p)) ≡ Some functions → (i : Instance) → IsCheckedInstance p i → GoodInstance p (record { functions = functions }) i
+pub good_instance : (p : ProgramTree) (functions : List TypedFunctionTree) → IsTypedProgram p → IsWellWritten p
+    → typed_functions (known_in p) (order.reached (declared_by p)) ≡ Some functions → (i : Instance) → IsCheckedInstance p i
+    → GoodInstance p (record { functions = functions }) i
 good_instance p functions accepted well made_all i c =
     record {
       typed = record {
@@ -79,8 +85,10 @@ good_instance p functions accepted well made_all i c =
         there = u.1;
         bound = ap length c.binding ∙ length-map c.domains bound_domain ∙ c.count ∙ sym made.variables;
         parameters = enough;
-        body = subst (λ b. AreWellTypedCommands (record { functions = functions; slots = u.0.slots; binding = b }) u.0.given false u.0.body) (sym c.binding) body.typed;
-        returns = gives_back p z c.function.returned u.0.given u.0.body (checker.one_returns c.function.body.statements) made.given body.returns_so refl typed.result;
+        body = subst (λ b. AreWellTypedCommands (record { functions = functions; slots = u.0.slots; binding = b }) u.0.given false u.0.body)
+            (sym c.binding) body.typed;
+        returns = gives_back p z c.function.returned u.0.given u.0.body (checker.one_returns c.function.body.statements) made.given body.returns_so
+            refl typed.result;
       };
       called = subst (λ o. AreChecked p (function_calls functions i.binding o)) (sym u.1)
           (subst (λ b. AreChecked p (commands_calls (record { functions = functions; slots = u.0.slots; binding = b }) u.0.body)) (sym c.binding) body.called);
@@ -109,25 +117,30 @@ good_instance p functions accepted well made_all i c =
     typed : IsTypedFunction (within (declared_by p) c.function c.domains) c.function
     typed = accepted.functions (record { function = c.number; binding = c.domains }) c.function c.checked c.there
 
-    start : Place
+    start : FunctionScope
     start = with_parameters c.function.parameters no_place
 
     scope : checked.Scope
     scope = head.with_parameters (setting z) c.function.parameters checked.nothing_known
 
-    walked : Walked (here z) made.final.slots scope (checker.after_all (setting z) scope c.function.body.statements) (GoodCommands p (here z) u.0.given false (checker.one_returns c.function.body.statements)) start u.0.body made.final
+    walked : Walked (here z) made.final.slots scope (checker.after_all (setting z) scope c.function.body.statements)
+        (GoodCommands p (here z) u.0.given false (checker.one_returns c.function.body.statements)) start u.0.body made.final
     walked =
-        (good_statements p z u.0.given made.final.slots made.slots false scope c.function.body.statements made.given (reached_agree (declared_by p) i.function c.function c.named) (λ k n. n) (written_at (functions_of p.items) c.number c.function well c.there) typed.body).from start u.0.body made.final made.body
+        (good_statements p z u.0.given made.final.slots made.slots false scope c.function.body.statements made.given
+        (reached_agree (declared_by p) i.function c.function c.named) (λ k n. n)
+        (written_at (functions_of p.items) c.number c.function well c.there) typed.body).from start u.0.body made.final made.body
 
     body : GoodCommands p (here z) u.0.given false (checker.one_returns c.function.body.statements) u.0.body
     body =
         let nothing : Same (here z) checked.nothing_known no_place.scope = record { block = tt; outer = tt } in
-        (walked.good (same_parameters p z u.0.given made.final.slots made.slots c.function.parameters checked.nothing_known no_place nothing walked.grows) (begins_itself made.final.slots)).1
+        (walked.good (same_parameters p z u.0.given made.final.slots made.slots c.function.parameters checked.nothing_known no_place nothing
+        walked.grows) (begins_itself made.final.slots)).1
 
     enough : u.0.parameters ≤ length u.0.slots
     enough =
         let first = is_head (known_in p) c.function u.0 made in
-        let count = slots_count (known_in p) c.function.variables (map declared_type c.function.parameters) first.first first.written ∙ length-map c.function.parameters declared_type in
+        let count = slots_count (known_in p) c.function.variables (map declared_type c.function.parameters) first.first first.written
+        ∙ length-map c.function.parameters declared_type in
         let all = ap length first.slots ∙ length-append first.first first.more in
         let own = made.parameters in
         omega arith

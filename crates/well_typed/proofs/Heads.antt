@@ -7,18 +7,25 @@ use Rattle.secrec_ast.specs.declared.expression.DataType.{DataType}
 use Rattle.secrec_ast.specs.declared.statement.DeclaredType.{DeclaredType}
 use Rattle.secrec_ast.specs.declared.function.Parameter.{Parameter}
 use Rattle.secrec_ast.specs.Tree.{Tree, number, truth, variable, call, index, parentheses, negation, cast, binary, declassify, argument, publish}
-use Rattle.secrec_ast.specs.Statements.{DeclarationTree, AssignmentTree, StartTree, starts_with_nothing, starts_with_declaration, starts_with_assignment, StepTree, steps_by_nothing, steps_by_assignment, steps_by_expression, StatementTree, block, empty, branch, choice, while_loop, do_loop, for_loop, breaks, continues, returns, assertion, declaration, assignment, evaluation, StatementTrees}
+use Rattle.secrec_ast.specs.Statements.{DeclarationTree, AssignmentTree, StartTree, starts_with_nothing, starts_with_declaration}
+use Rattle.secrec_ast.specs.Statements.{starts_with_assignment, StepTree, steps_by_nothing, steps_by_assignment, steps_by_expression, StatementTree}
+use Rattle.secrec_ast.specs.Statements.{block, empty, branch, choice, while_loop, do_loop, for_loop, breaks, continues, returns, assertion}
+use Rattle.secrec_ast.specs.Statements.{declaration, assignment, evaluation, StatementTrees}
 use Rattle.secrec_ast.specs.Statements as Statements'
 use Rattle.secrec_ast.specs.Programs.{FunctionTree}
 use Rattle.domain_types.specs.Declarations.{Declared}
 use Rattle.typed_tree.specs.declared.kinds.Slot.{Slot}
 use Rattle.typed_tree.specs.Tree.{TypedTree, truth_node}
-use Rattle.typed_tree.specs.Commands.{Command, none, also, empty_command, block_command, if_command, loop_command, do_command, break_command, continue_command, return_command, assert_command, store_command, default_command, fill_command, input_command, element_command, publish_command, evaluate_command}
-use Rattle.name_resolution.specs.Scopes.{Place, no_place, declaring}
-use Rattle.name_resolution.specs.Resolving.{Resolving, ◌>>=◌, done, reading, next_slot, declare, in_block, value_at, expression, known_at, named}
-use Rattle.name_resolution.specs.Bodies.{calling, evaluated, default_of, from_value, initial, declared, assigned_to, assigned, started, stepped, condition_of, returned, looped, resolved, resolved_all}
+use Rattle.typed_tree.specs.Commands.{Command, none, also, empty_command, block_command, if_command, loop_command, do_command, break_command}
+use Rattle.typed_tree.specs.Commands.{continue_command, return_command, assert_command, store_command, default_command, fill_command, input_command}
+use Rattle.typed_tree.specs.Commands.{element_command, publish_command, evaluate_command}
+use Rattle.name_resolution.specs.Scopes.{FunctionScope, no_place, declaring}
+use Rattle.name_resolution.specs.Resolving.{Resolving, ◌>>=◌, done, reading, next_slot, declare, in_block, resolved_value, expression, known_at, named}
+use Rattle.name_resolution.specs.Bodies.{calling, evaluated, default_of, from_value, initial, declared, assigned_to, assigned, started, stepped}
+use Rattle.name_resolution.specs.Bodies.{condition_of, returned, looped, resolved, resolved_all}
 use Rattle.typed_tree.specs.Programs.{TypedFunctionTree}
-use Rattle.name_resolution.specs.Functions.{slots_written, given_back, with_parameters, function_made, function_from, function_behind, typed_function, and_functions, typed_functions}
+use Rattle.name_resolution.specs.Functions.{slots_written, given_back, with_parameters, function_made, function_from, function_behind, typed_function}
+use Rattle.name_resolution.specs.Functions.{and_functions, typed_functions}
 use Rattle.name_resolution.proofs.SoundValues.{both_there, then_there, some_is}
 use Rattle.well_typed.proofs.Bindings.{declared_type}
 use Rattle.well_typed.proofs.SlotsWritten.{slots_split}
@@ -44,22 +51,23 @@ grows_done a = step_done Grow a (λ p. begins_itself p.slots)
 grows_bind : {A B : Type 0} (m : Resolving A) (g : A → Resolving B) → Step m Grow → ((a : A) → Step (g a) Grow) → Step (m >>= g) Grow
 grows_bind m g first then =
     step_bind m g Grow Grow first
-    (λ a. step_as (g a) Grow (λ q b r. (p : Place) → Grow p a q → Grow p b r) (then a) (λ q b r h p k. begins_further p.slots q.slots r.slots k h))
+    (λ a. step_as (g a) Grow (λ q b r. (p : FunctionScope) → Grow p a q → Grow p b r) (then a) (λ q b r h p k. begins_further p.slots q.slots r.slots k h))
 
-grows_reading : {A : Type 0} (f : Place → Option A) → Step (reading f) Grow
+grows_reading : {A : Type 0} (f : FunctionScope → Option A) → Step (reading f) Grow
 grows_reading f = step_reading f Grow (λ p a e. begins_itself p.slots)
 
 grows_block : {A : Type 0} (m : Resolving A) → Step m Grow → Step (in_block m) Grow
 grows_block m h = step_block m Grow Grow h (λ p a q g. g)
 
 grows_one : (d : Declared) (e : Tree) (make : TypedTree → Command) → Step (expression d e >>= λ v. done (make v)) Grow
-grows_one d e make = grows_bind (expression d e) (λ v. done (make v)) (grows_reading (value_at d e)) (λ v. grows_done (make v))
+grows_one d e make = grows_bind (expression d e) (λ v. done (make v)) (grows_reading (resolved_value d e)) (λ v. grows_done (make v))
 
 grows_evaluated : (d : Declared) (e : Tree) → Step (evaluated d e) Grow
 grows_evaluated d (number p n) = grows_one d (number p n) evaluate_command
 grows_evaluated d (truth p b) = grows_one d (truth p b) evaluate_command
 grows_evaluated d (variable p x) = grows_one d (variable p x) evaluate_command
-grows_evaluated d (call p x es) = grows_bind (reading (calling d p.line x es)) (λ v. done (evaluate_command v)) (grows_reading (calling d p.line x es)) (λ v. grows_done (evaluate_command v))
+grows_evaluated d (call p x es) =
+    grows_bind (reading (calling d p.line x es)) (λ v. done (evaluate_command v)) (grows_reading (calling d p.line x es)) (λ v. grows_done (evaluate_command v))
 grows_evaluated d (index p a i) = grows_one d (index p a i) evaluate_command
 grows_evaluated d (parentheses p e) = grows_one d (parentheses p e) evaluate_command
 grows_evaluated d (negation p e) = grows_one d (negation p e) evaluate_command
@@ -88,13 +96,17 @@ grows_initial d line k element None None = grows_done (default_command k)
 grows_initial d line k element None (Some e) = grows_from d k e
 grows_initial d line k element (Some n) None = grows_one d n (λ m. fill_command line k m (default_of element))
 grows_initial d line k element (Some n) (Some e) =
-    grows_bind (expression d n) (λ m. expression d e >>= λ v. done (fill_command line k m v)) (grows_reading (value_at d n)) (λ m. grows_one d e (fill_command line k m))
+    grows_bind (expression d n) (λ m. expression d e >>= λ v. done (fill_command line k m v)) (grows_reading (resolved_value d n))
+    (λ m. grows_one d e (fill_command line k m))
 
 grows_declared : (d : Declared) (t : DeclarationTree) → Step (declared d t) Grow
 grows_declared d t =
-    grows_bind next_slot (λ k. initial d line k t.declared.element t.size t.value >>= λ c. declare t.variable t.declared >>= λ _. done c) (step_next Grow (λ p. begins_itself p.slots))
-    (λ k. grows_bind (initial d line k t.declared.element t.size t.value) (λ c. declare t.variable t.declared >>= λ _. done c) (grows_initial d line k t.declared.element t.size t.value)
-    (λ c. grows_bind (declare t.variable t.declared) (λ _. done c) (step_declare t.variable t.declared Grow (λ p. (t.declared ∷ [], refl))) (λ _. grows_done c)))
+    grows_bind next_slot (λ k. initial d line k t.declared.element t.size t.value >>= λ c. declare t.variable t.declared >>= λ _. done c)
+    (step_next Grow (λ p. begins_itself p.slots))
+    (λ k. grows_bind (initial d line k t.declared.element t.size t.value) (λ c. declare t.variable t.declared >>= λ _. done c)
+    (grows_initial d line k t.declared.element t.size t.value)
+    (λ c. grows_bind (declare t.variable t.declared) (λ _. done c) (step_declare t.variable t.declared Grow (λ p. (t.declared ∷ [], refl)))
+    (λ _. grows_done c)))
   where
     line : ℕ
     line = t.declared.place.line
@@ -102,11 +114,13 @@ grows_declared d t =
 grows_assigned_to : (d : Declared) (line k : ℕ) (i : Option Tree) (e : Tree) → Step (assigned_to d line k i e) Grow
 grows_assigned_to d line k None e = grows_one d e (store_command k)
 grows_assigned_to d line k (Some i) e =
-    grows_bind (expression d i) (λ j. expression d e >>= λ v. done (element_command line k j v)) (grows_reading (value_at d i)) (λ j. grows_one d e (element_command line k j))
+    grows_bind (expression d i) (λ j. expression d e >>= λ v. done (element_command line k j v)) (grows_reading (resolved_value d i))
+    (λ j. grows_one d e (element_command line k j))
 
 grows_assigned : (d : Declared) (a : AssignmentTree) → Step (assigned d a) Grow
 grows_assigned d a =
-    grows_bind (named a.target.variable.text) (λ x. assigned_to d a.target.variable.place.line x.slot a.target.index a.value) (grows_reading (known_at a.target.variable.text))
+    grows_bind (named a.target.variable.text) (λ x. assigned_to d a.target.variable.place.line x.slot a.target.index a.value)
+    (grows_reading (known_at a.target.variable.text))
     (λ x. grows_assigned_to d a.target.variable.place.line x.slot a.target.index a.value)
 
 grows_started : (d : Declared) (t : StartTree) → Step (started d t) Grow
@@ -121,7 +135,7 @@ grows_stepped d (steps_by_expression e) = grows_evaluated d e
 
 grows_condition : (d : Declared) (e : Option Tree) → Step (condition_of d e) Grow
 grows_condition d None = grows_done (truth_node true)
-grows_condition d (Some e) = grows_reading (value_at d e)
+grows_condition d (Some e) = grows_reading (resolved_value d e)
 
 grows_returned : (d : Declared) (e : Option Tree) → Step (returned d e) Grow
 grows_returned d None = grows_done (return_command None)
@@ -137,14 +151,16 @@ grows_looped d b e c body h =
     whole : Command → TypedTree → Command → Command → Command
     whole x v y q = block_command (also x (also (loop_command v y q) none))
 
-grows_test : (d : Declared) (e : Tree) (m : Resolving Command) (make : TypedTree → Command → Command) → Step m Grow → Step (expression d e >>= λ v. in_block m >>= λ c. done (make v c)) Grow
+grows_test : (d : Declared) (e : Tree) (m : Resolving Command) (make : TypedTree → Command → Command) → Step m Grow
+    → Step (expression d e >>= λ v. in_block m >>= λ c. done (make v c)) Grow
 grows_test d e m make h =
-    grows_bind (expression d e) (λ v. in_block m >>= λ c. done (make v c)) (grows_reading (value_at d e))
+    grows_bind (expression d e) (λ v. in_block m >>= λ c. done (make v c)) (grows_reading (resolved_value d e))
     (λ v. grows_bind (in_block m) (λ c. done (make v c)) (grows_block m h) (λ c. grows_done (make v c)))
 
-grows_choice : (d : Declared) (e : Tree) (m k : Resolving Command) → Step m Grow → Step k Grow → Step (expression d e >>= λ v. in_block m >>= λ b. in_block k >>= λ c. done (if_command v b c)) Grow
+grows_choice : (d : Declared) (e : Tree) (m k : Resolving Command) → Step m Grow → Step k Grow
+    → Step (expression d e >>= λ v. in_block m >>= λ b. in_block k >>= λ c. done (if_command v b c)) Grow
 grows_choice d e m k g h =
-    grows_bind (expression d e) (λ v. in_block m >>= λ b. in_block k >>= λ c. done (if_command v b c)) (grows_reading (value_at d e))
+    grows_bind (expression d e) (λ v. in_block m >>= λ b. in_block k >>= λ c. done (if_command v b c)) (grows_reading (resolved_value d e))
     (λ v. grows_bind (in_block m) (λ b. in_block k >>= λ c. done (if_command v b c)) (grows_block m g)
     (λ b. grows_bind (in_block k) (λ c. done (if_command v b c)) (grows_block k h) (λ c. grows_done (if_command v b c))))
 
@@ -154,7 +170,9 @@ grows_do d e m h =
 
 mutual
   grows_resolved : (d : Declared) (t : StatementTree) → Step (resolved d t) Grow
-  grows_resolved d (block p ss) = grows_bind (in_block (resolved_all d ss)) (λ cs. done (block_command cs)) (grows_block (resolved_all d ss) (grows_all d ss)) (λ cs. grows_done (block_command cs))
+  grows_resolved d (block p ss) =
+      grows_bind (in_block (resolved_all d ss)) (λ cs. done (block_command cs)) (grows_block (resolved_all d ss) (grows_all d ss))
+      (λ cs. grows_done (block_command cs))
   grows_resolved d (empty p) = grows_done empty_command
   grows_resolved d (branch p e body) = grows_test d e (resolved d body) (λ v c. if_command v c empty_command) (grows_resolved d body)
   grows_resolved d (choice p e body otherwise) = grows_choice d e (resolved d body) (resolved d otherwise) (grows_resolved d body) (grows_resolved d otherwise)
@@ -179,7 +197,7 @@ mutual
 
 -- how a typed function is made
 pub record IsMade (k : Declared) (f : FunctionTree) (t : TypedFunctionTree) : Type 0 where
-  pub final : Place
+  pub final : FunctionScope
   pub body : resolved_all k f.body.statements (with_parameters f.parameters no_place) ≡ Some (t.body, final)
   pub slots : slots_written k f.variables final.slots ≡ Some t.slots
   pub given : given_back k f.variables f.returned ≡ Some t.given
@@ -194,7 +212,7 @@ is_made k f t e =
     record { final = r.part.1; body = r.there; slots = m.left_there; given = m.right_there; variables = refl; parameters = refl } in
     subst (IsMade k f) (some_is (function_made f r.part.0 m.left m.right) t m.is) made
 
-pub parameter_slots : (ps : List Parameter) (s : Place) → (with_parameters ps s).slots ≡ s.slots ++ map declared_type ps
+pub parameter_slots : (ps : List Parameter) (s : FunctionScope) → (with_parameters ps s).slots ≡ s.slots ++ map declared_type ps
 parameter_slots [] s = sym (append-nil s.slots)
 parameter_slots (p ∷ ps) s = parameter_slots ps (declaring p.variable p.declared s) ∙ append_assoc s.slots (p.declared ∷ []) (map declared_type ps)
 
@@ -213,11 +231,15 @@ is_head k f t m =
     record { first = s.0; more = s.1; slots = s.3; written = s.2 }
 
 -- the typed function of a number
-pub function_at : (k : Declared) (fs : List FunctionTree) (ts : List TypedFunctionTree) (n : ℕ) (f : FunctionTree) → typed_functions k fs ≡ Some ts → slice_get fs n ≡ Some f → (t : TypedFunctionTree) × (slice_get ts n ≡ Some t) × (typed_function k f ≡ Some t)
+pub function_at : (k : Declared) (fs : List FunctionTree) (ts : List TypedFunctionTree) (n : ℕ) (f : FunctionTree) → typed_functions k fs ≡ Some ts
+    → slice_get fs n ≡ Some f → (t : TypedFunctionTree) × (slice_get ts n ≡ Some t) × (typed_function k f ≡ Some t)
 function_at k [] ts n f e h = cc
 function_at k (g ∷ gs) ts zero f e h =
-    let m = both_there and_functions (typed_function k g) (typed_functions k gs) ts e in
-    (m.left, ap (λ (z : List TypedFunctionTree). slice_get z zero) (sym (some_is (m.left ∷ m.right) ts m.is)), ap (typed_function k) (sym (same_Some g f h)) ∙ m.left_there)
+    let m = both_there and_functions (typed_function k g) (typed_functions k gs) ts e in (
+      m.left,
+      ap (λ (z : List TypedFunctionTree). slice_get z zero) (sym (some_is (m.left ∷ m.right) ts m.is)),
+      ap (typed_function k) (sym (same_Some g f h)) ∙ m.left_there,
+    )
 function_at k (g ∷ gs) ts (suc n) f e h =
     let m = both_there and_functions (typed_function k g) (typed_functions k gs) ts e in
     let r = function_at k gs m.right n f m.right_there h in

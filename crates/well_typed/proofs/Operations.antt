@@ -5,7 +5,8 @@ use Rattle.secrec_ast.specs.declared.expression.DataType.{DataType}
 use Rattle.secrec_ast.specs.declared.expression.DataType.TheVariants.{Uint64}
 use Rattle.secrec_ast.specs.declared.expression.DataType.TheVariants as datatype
 use Rattle.secrec_ast.specs.declared.expression.Operator.{Operator}
-use Rattle.secrec_ast.specs.declared.expression.Operator.TheVariants.{Add, Subtract, Multiply, Divide, Remainder, Equal, NotEqual, Less, LessOrEqual, Greater, GreaterOrEqual, And, Or, Xor, AndAlso, OrElse}
+use Rattle.secrec_ast.specs.declared.expression.Operator.TheVariants.{Add, Subtract, Multiply, Divide, Remainder, Equal, NotEqual, Less, LessOrEqual}
+use Rattle.secrec_ast.specs.declared.expression.Operator.TheVariants.{Greater, GreaterOrEqual, And, Or, Xor, AndAlso, OrElse}
 use Rattle.secrec_ast.specs.Programs.{ProgramTree}
 use Rattle.domain_types.specs.declared.value_type.Protection.{Protection}
 use Rattle.domain_types.specs.declared.value_type.Protection.TheVariants as checked
@@ -24,7 +25,7 @@ use Rattle.typed_tree.specs.Operators.{operator_on, element_made, operands_of, m
 use Rattle.typed_tree.specs.Shapes.{shape_of}
 use Rattle.name_resolution.specs.Values.{TypedValue, operation_node, operation_made}
 use Rattle.name_resolution.proofs.SoundValues.{some_is}
-use Rattle.reached_instances.specs.Domains.{Setting, domain, joined}
+use Rattle.reached_instances.specs.Domains.{Setting, domain, joined_domain}
 use Rattle.reached_instances.specs.Calls.{calls}
 use Rattle.well_typed.specs.Kinds.{scalar, Meet, operand_of, MayOperate, left_is_array, right_is_array}
 use Rattle.well_typed.specs.Expressions.{Gives}
@@ -57,9 +58,11 @@ operator_suits Subtract Uint64 d r o h e = suits (Words word.Subtract) o Uint64 
 operator_suits Subtract datatype.Bool d r o h e = let no = h.0 in cc
 operator_suits Multiply Uint64 d r o h e = suits (Words word.Multiply) o Uint64 d r (record { operand = refl; result = sym h.1; allowed = λ n. cc }) e
 operator_suits Multiply datatype.Bool d r o h e = let no = h.0 in cc
-operator_suits Divide Uint64 d r o h e = suits (Words word.Divide) o Uint64 d r (record { operand = refl; result = sym h.1; allowed = λ n. ap bound_domain h.2 }) e
+operator_suits Divide Uint64 d r o h e =
+    suits (Words word.Divide) o Uint64 d r (record { operand = refl; result = sym h.1; allowed = λ n. ap bound_domain h.2 }) e
 operator_suits Divide datatype.Bool d r o h e = let no = h.0 in cc
-operator_suits Remainder Uint64 d r o h e = suits (Words word.Remainder) o Uint64 d r (record { operand = refl; result = sym h.1; allowed = λ n. ap bound_domain h.2 }) e
+operator_suits Remainder Uint64 d r o h e =
+    suits (Words word.Remainder) o Uint64 d r (record { operand = refl; result = sym h.1; allowed = λ n. ap bound_domain h.2 }) e
 operator_suits Remainder datatype.Bool d r o h e = let no = h.0 in cc
 operator_suits Equal Uint64 d r o h e = suits (Words word.Equal) o Uint64 d r (record { operand = refl; result = sym h; allowed = λ n. cc }) e
 operator_suits Equal datatype.Bool d r o h e = suits (Bools truth.Equal) o datatype.Bool d r (record { operand = refl; result = sym h; allowed = tt }) e
@@ -71,13 +74,17 @@ operator_suits LessOrEqual Uint64 d r o h e = suits (Words word.LessOrEqual) o U
 operator_suits LessOrEqual datatype.Bool d r o h e = let no = h.0 in cc
 operator_suits Greater Uint64 d r o h e = suits (Words word.Greater) o Uint64 d r (record { operand = refl; result = sym h.1; allowed = λ n. cc }) e
 operator_suits Greater datatype.Bool d r o h e = let no = h.0 in cc
-operator_suits GreaterOrEqual Uint64 d r o h e = suits (Words word.GreaterOrEqual) o Uint64 d r (record { operand = refl; result = sym h.1; allowed = λ n. cc }) e
+operator_suits GreaterOrEqual Uint64 d r o h e =
+    suits (Words word.GreaterOrEqual) o Uint64 d r (record { operand = refl; result = sym h.1; allowed = λ n. cc }) e
 operator_suits GreaterOrEqual datatype.Bool d r o h e = let no = h.0 in cc
-operator_suits And Uint64 d r o h e = suits (Words word.And) o Uint64 d r (record { operand = refl; result = sym h.0; allowed = λ n. ap bound_domain (word_public d r h.1) }) e
+operator_suits And Uint64 d r o h e =
+    suits (Words word.And) o Uint64 d r (record { operand = refl; result = sym h.0; allowed = λ n. ap bound_domain (word_public d r h.1) }) e
 operator_suits And datatype.Bool d r o h e = suits (Bools truth.And) o datatype.Bool d r (record { operand = refl; result = sym h.0; allowed = tt }) e
-operator_suits Or Uint64 d r o h e = suits (Words word.Or) o Uint64 d r (record { operand = refl; result = sym h.0; allowed = λ n. ap bound_domain (word_public d r h.1) }) e
+operator_suits Or Uint64 d r o h e =
+    suits (Words word.Or) o Uint64 d r (record { operand = refl; result = sym h.0; allowed = λ n. ap bound_domain (word_public d r h.1) }) e
 operator_suits Or datatype.Bool d r o h e = suits (Bools truth.Or) o datatype.Bool d r (record { operand = refl; result = sym h.0; allowed = tt }) e
-operator_suits Xor Uint64 d r o h e = suits (Words word.Xor) o Uint64 d r (record { operand = refl; result = sym h.0; allowed = λ n. ap bound_domain (word_public d r h.1) }) e
+operator_suits Xor Uint64 d r o h e =
+    suits (Words word.Xor) o Uint64 d r (record { operand = refl; result = sym h.0; allowed = λ n. ap bound_domain (word_public d r h.1) }) e
 operator_suits Xor datatype.Bool d r o h e = suits (Bools truth.Xor) o datatype.Bool d r (record { operand = refl; result = sym h.0; allowed = tt }) e
 operator_suits AndAlso Uint64 d r o h e = let no = h.0 in cc
 operator_suits AndAlso datatype.Bool d r o h e = suits (Bools truth.And) o datatype.Bool d r (record { operand = refl; result = sym h.1; allowed = tt }) e
@@ -129,12 +136,15 @@ is_cut OrElse Arrays c e = cc
 
 -- THE NODE
 
-module _ (p : ProgramTree) (w : Setting) (line : ℕ) (sign : Operator) (a b : TypedValue) (x y z : ValueType) (g : Good p w a x) (h : Good p w b y) (op : IsOperation sign x y z) where
-  seen : joined (domain w a.tree) (domain w b.tree) ≡ bound_domain z.domain
-  seen = ap (λ d. joined d (domain w b.tree)) g.seen_by ∙ ap (joined (bound_domain x.domain)) h.seen_by ∙ meets_joined x.domain y.domain z.domain op.meets
+module _ (p : ProgramTree) (w : Setting) (line : ℕ) (sign : Operator) (a b : TypedValue) (x y z : ValueType) (g : Good p w a x) (h : Good p w b y)
+    (op : IsOperation sign x y z) where
+  seen : joined_domain (domain w a.tree) (domain w b.tree) ≡ bound_domain z.domain
+  seen = ap (λ d. joined_domain d (domain w b.tree)) g.seen_by ∙ ap (joined_domain (bound_domain x.domain)) h.seen_by
+      ∙ meets_joined x.domain y.domain z.domain op.meets
 
   meet : Meet (domain w a.tree) (domain w b.tree)
-  meet = subst (λ d. Meet d (domain w b.tree)) (sym g.seen_by) (subst (Meet (bound_domain x.domain)) (sym h.seen_by) (meets_meet x.domain y.domain z.domain op.meets))
+  meet = subst (λ d. Meet d (domain w b.tree)) (sym g.seen_by)
+      (subst (Meet (bound_domain x.domain)) (sym h.seen_by) (meets_meet x.domain y.domain z.domain op.meets))
 
   abbrev operands : Operands
   operands = operands_of a.shape.array b.shape.array
@@ -184,8 +194,10 @@ module _ (p : ProgramTree) (w : Setting) (line : ℕ) (sign : Operator) (a b : T
       is_suited = operator_suits sign x.element z.domain z.element o op.operates means
 
       shape_is : shape_of (element_made o) (a.shape.array || b.shape.array) ≡ shape_in z
-      shape_is = ap₂ shape_of is_suited.result (ap₂ (λ s t. s || t) (ap (λ (s : Shape). s.array) g.shape) (ap (λ (s : Shape). s.array) h.shape) ∙ sym op.dimension)
+      shape_is = ap₂ shape_of is_suited.result
+          (ap₂ (λ s t. s || t) (ap (λ (s : Shape). s.array) g.shape) (ap (λ (s : Shape). s.array) h.shape) ∙ sym op.dimension)
 
-      go : (c : Option Connective) → may_cut_short sign operands ≡ c → Good p w (record { tree = operation_node line o a b c; shape = shape_of (element_made o) (a.shape.array || b.shape.array) }) z
+      go : (c : Option Connective) → may_cut_short sign operands ≡ c
+          → Good p w (record { tree = operation_node line o a b c; shape = shape_of (element_made o) (a.shape.array || b.shape.array) }) z
       go None e = record { shape = shape_is; gives = gives_binary o is_suited; seen_by = seen; called = called_both }
       go (Some c) e = record { shape = shape_is; gives = gives_cut c (is_cut sign operands c e); seen_by = seen; called = called_both }

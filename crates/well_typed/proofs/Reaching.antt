@@ -13,7 +13,7 @@ use Rattle.sc_text.specs.Lists.{Among}
 use Rattle.domain_types.specs.Reached.{plain}
 use Rattle.domain_types.specs.ProgramTypes.{is_without, is_void, is_main, has_main}
 use Rattle.domain_types.specs.Typing.{IsTypedProgram}
-use Rattle.typed_tree.specs.declared.function.Given.TheVariants as given
+use Rattle.typed_tree.specs.declared.function.Returned.TheVariants as given
 use Rattle.typed_tree.specs.Programs.{TypedFunctionTree, TypedProgramTree}
 use Rattle.name_resolution.specs.Functions.{given_back, typed_function, typed_functions, program_of}
 use Rattle.name_resolution.specs.Order as order
@@ -74,7 +74,9 @@ main_named : (fs : List FunctionTree) (n : ℕ) → has_main fs ≡ true → (k 
 main_named [] n e = cc
 main_named (g ∷ gs) n e = go (bytes_eq main_text g.function.text) (is_main g) refl refl e (main_named gs (n + 1))
   where
-    go : (b c : Bool) → bytes_eq main_text g.function.text ≡ b → is_main g ≡ c → (c || has_main gs) ≡ true → (has_main gs ≡ true → (k : ℕ) × (f : FunctionTree) × (function_named main_text (n + 1) gs ≡ Some (defined k f))) → (k : ℕ) × (f : FunctionTree) × (cond b (Some (defined n g)) (function_named main_text (n + 1) gs) ≡ Some (defined k f))
+    go : (b c : Bool) → bytes_eq main_text g.function.text ≡ b → is_main g ≡ c → (c || has_main gs) ≡ true
+        → (has_main gs ≡ true → (k : ℕ) × (f : FunctionTree) × (function_named main_text (n + 1) gs ≡ Some (defined k f)))
+        → (k : ℕ) × (f : FunctionTree) × (cond b (Some (defined n g)) (function_named main_text (n + 1) gs) ≡ Some (defined k f))
     go true c q r h rest = (n, g, refl)
     go false true q r h rest =
         let no : false ≡ true = sym q ∙ text_same main_text g.function.text (sym (plain_main g r).name) in
@@ -112,7 +114,8 @@ first_at p m = known_first (declared_by p) m.number m.function m.named (length (
 
 -- A TYPED PROGRAM
 
-module _ (p : ProgramTree) (accepted : IsTypedProgram p) (functions : List TypedFunctionTree) (made : typed_functions (known_in p) (order.reached (declared_by p)) ≡ Some functions) where
+module _ (p : ProgramTree) (accepted : IsTypedProgram p) (functions : List TypedFunctionTree)
+    (made : typed_functions (known_in p) (order.reached (declared_by p)) ≡ Some functions) where
   abbrev program : TypedProgramTree
   program = record { functions = functions }
 

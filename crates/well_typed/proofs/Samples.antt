@@ -24,7 +24,7 @@ use Rattle.sc_text.specs.Lists.{Among}
 use Rattle.domain_types.specs.Reached.{Call, Instance, Calls, IsChecked, plain, reached, function_calls}
 use Rattle.domain_types.specs.Typing.{IsTypedFunction, AreDomainVariables, IsTypedProgram}
 use Rattle.typed_tree.specs.declared.kinds.SlotDomain.TheVariants as slot
-use Rattle.typed_tree.specs.declared.function.Given.TheVariants.{Nothing, Value}
+use Rattle.typed_tree.specs.declared.function.Returned.TheVariants.{Nothing, Value}
 use Rattle.typed_tree.specs.declared.operators.WordOperator.TheVariants as word
 use Rattle.typed_tree.specs.declared.operators.BinaryOperator.TheVariants.{Words}
 use Rattle.typed_tree.specs.declared.operators.Operands.TheVariants.{Scalars}
@@ -74,13 +74,25 @@ main =
       parameters = [];
       body = record {
         place = at;
-        statements = statements_of (declaration (record { declared = word_in (domain.Named (named (codes "p"))); variable = named (codes "a"); size = None; value = Some (argument at (codes "a")) }) ∷ evaluation (publish at (codes "c") (declassify at (call at (codes "f") (trees_of (variable at (codes "a") ∷ []))))) ∷ []);
+        statements = statements_of (declaration
+            (record {
+              declared = word_in (domain.Named (named (codes "p")));
+              variable = named (codes "a");
+              size = None;
+              value =
+                  Some (argument at (codes "a"));
+            })
+            ∷ evaluation (publish at (codes "c") (declassify at (call at (codes "f") (trees_of (variable at (codes "a") ∷ []))))) ∷ []);
       };
     }
 
 abbrev sample : ProgramTree
 sample =
-    record { items = imports (named (codes "shared3p")) ∷ domains_item (named (codes "p")) (named (codes "shared3p")) ∷ defines template ∷ defines main ∷ []; end = at }
+    record {
+      items = imports (named (codes "shared3p")) ∷ domains_item (named (codes "p")) (named (codes "shared3p")) ∷ defines template
+          ∷ defines main ∷ [];
+      end = at;
+    }
 
 abbrev d : Declared
 d = declared_by sample
@@ -94,7 +106,26 @@ template_typed : IsTypedFunction (within d template (checked.Private 0 ∷ [])) 
 template_typed =
     record {
       parameters = (refl, refl, tt);
-      body = ((private_word, refl, (private_word, (private_word, public_scalar Uint64, private_word, (private_word, refl, refl), refl, record { same = refl; meets = refl; operates = (refl, refl); dimension = refl }, refl), (refl, refl, refl))), tt);
+      body = (
+        (
+          private_word,
+          refl,
+          (
+            private_word,
+            (
+              private_word,
+              public_scalar Uint64,
+              private_word,
+              (private_word, refl, refl),
+              refl,
+              record { same = refl; meets = refl; operates = (refl, refl); dimension = refl },
+              refl,
+            ),
+            (refl, refl, refl),
+          ),
+        ),
+        tt,
+      );
       result = (refl, refl);
     }
 
@@ -162,7 +193,8 @@ calls_of_main c f e m = go (subst (Among c) (ap (λ z. function_calls (within d 
     go (inl q) = q
     go (inr n) = absurd n
 
-calls_of_template : (c : Call) (f : FunctionTree) → slice_get (functions_of sample.items) 0 ≡ Some f → Among c (function_calls (within d f (checked.Private 0 ∷ [])) f) → ⊥
+calls_of_template : (c : Call) (f : FunctionTree) → slice_get (functions_of sample.items) 0 ≡ Some f
+    → Among c (function_calls (within d f (checked.Private 0 ∷ [])) f) → ⊥
 calls_of_template c f e m = subst (λ z. Among c (function_calls (within d z (checked.Private 0 ∷ [])) z) → ⊥) (same_Some template f e) (λ n. n) m
 
 -- a call of one of the two
@@ -189,10 +221,12 @@ checked_is_one i (reached j k ds c h) =
 one_typed : (i : Instance) → IsOne i → (f : FunctionTree) → slice_get (functions_of sample.items) i.function ≡ Some f → IsTypedFunction (within d f i.binding) f
 one_typed i (inl q) f e =
     let there = sym (ap (λ (z : Instance). slice_get (functions_of sample.items) z.function) q) ∙ e in
-    subst (λ (z : Instance). IsTypedFunction (within d f z.binding) f) (sym q) (subst (λ g. IsTypedFunction (within d g []) g) (same_Some main f there) main_typed)
+    subst (λ (z : Instance). IsTypedFunction (within d f z.binding) f) (sym q)
+    (subst (λ g. IsTypedFunction (within d g []) g) (same_Some main f there) main_typed)
 one_typed i (inr q) f e =
     let there = sym (ap (λ (z : Instance). slice_get (functions_of sample.items) z.function) q) ∙ e in
-    subst (λ (z : Instance). IsTypedFunction (within d f z.binding) f) (sym q) (subst (λ g. IsTypedFunction (within d g (checked.Private 0 ∷ [])) g) (same_Some template f there) template_typed)
+    subst (λ (z : Instance). IsTypedFunction (within d f z.binding) f) (sym q)
+    (subst (λ g. IsTypedFunction (within d g (checked.Private 0 ∷ [])) g) (same_Some template f there) template_typed)
 
 sample_typed : IsTypedProgram sample
 sample_typed =
@@ -220,7 +254,8 @@ sample_tree =
         parameters = 0;
         slots = record { domain = slot.Private 0; shape = shape_of Uint64 false } ∷ [];
         given = Nothing;
-        body = commands_of (input_command 1 0 (codes "a") ∷ publish_command (codes "c") (declassify_node (call_node 1 1 (typed_trees_of (slot_node 0 ∷ [])))) ∷ []);
+        body = commands_of (input_command 1 0 (codes "a")
+            ∷ publish_command (codes "c") (declassify_node (call_node 1 1 (typed_trees_of (slot_node 0 ∷ [])))) ∷ []);
         size = 9;
       } ∷ record {
         name = codes "f";

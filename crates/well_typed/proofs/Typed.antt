@@ -20,7 +20,7 @@ use Rattle.typed_tree.specs.Tree.{TypedTree, word_node, truth_node, slot_node, s
 use Rattle.typed_tree.specs.Shapes.{shape_of}
 use Rattle.name_resolution.specs.Values.{TypedValue, made, negated, cast_value, declassified_value}
 use Rattle.reached_instances.specs.Instances.{Instance}
-use Rattle.reached_instances.specs.Domains.{Setting, domain, slot_domain, joined}
+use Rattle.reached_instances.specs.Domains.{Setting, domain, slot_domain, joined_domain}
 use Rattle.reached_instances.specs.Calls.{calls}
 use Rattle.well_typed.specs.Kinds.{scalar, array, Meet, cast_from, cast_to}
 use Rattle.well_typed.specs.Expressions.{Gives}
@@ -80,7 +80,8 @@ good_number p w n h = record { shape = refl; gives = (h, refl); seen_by = refl; 
 pub good_truth : (p : ProgramTree) (w : Setting) (b : Bool) → Good p w (made (truth_node b) datatype.Bool false) (public_scalar datatype.Bool)
 good_truth p w b = record { shape = refl; gives = refl; seen_by = refl; called = none_checked p }
 
-pub good_slot : (p : ProgramTree) (w : Setting) (k : ℕ) (s : Slot) (v : ValueType) (x : Shape) → slice_get w.slots k ≡ Some s → SlotIs w.binding s v → x ≡ shape_in v → Good p w (record { tree = slot_node k; shape = x }) v
+pub good_slot : (p : ProgramTree) (w : Setting) (k : ℕ) (s : Slot) (v : ValueType) (x : Shape) → slice_get w.slots k ≡ Some s → SlotIs w.binding s v
+    → x ≡ shape_in v → Good p w (record { tree = slot_node k; shape = x }) v
 good_slot p w k s v x at is e =
     record {
       shape = e;
@@ -89,11 +90,18 @@ good_slot p w k s v x at is e =
       called = none_checked p;
     }
 
-pub good_element : (p : ProgramTree) (w : Setting) (line : ℕ) (a i : TypedValue) (x y : ValueType) → Good p w a x → Good p w i y → x.array ≡ true → y ≡ public_scalar Uint64 → Good p w (made (element_node line a.tree i.tree) a.shape.element false) (scalar_of x)
+pub good_element : (p : ProgramTree) (w : Setting) (line : ℕ) (a i : TypedValue) (x y : ValueType) → Good p w a x → Good p w i y → x.array ≡ true
+    → y ≡ public_scalar Uint64 → Good p w (made (element_node line a.tree i.tree) a.shape.element false) (scalar_of x)
 good_element p w line a i x y g h e f =
     record {
       shape = ap (λ (s : Shape). shape_of s.element false) g.shape;
-      gives = (x.element, gives_as w a.tree (shape_in x) (array x.element) g.gives (array_shape x e), gives_as w i.tree (shape_in y) (scalar Uint64) h.gives (public_shape y Uint64 f), h.seen_by ∙ ap (λ (z : ValueType). bound_domain z.domain) f, refl);
+      gives = (
+        x.element,
+        gives_as w a.tree (shape_in x) (array x.element) g.gives (array_shape x e),
+        gives_as w i.tree (shape_in y) (scalar Uint64) h.gives (public_shape y Uint64 f),
+        h.seen_by ∙ ap (λ (z : ValueType). bound_domain z.domain) f,
+        refl,
+      );
       seen_by = g.seen_by;
       called = both_checked p (calls w a.tree) (calls w i.tree) g.called h.called;
     }
@@ -101,7 +109,13 @@ good_element p w line a i x y g h e f =
 pub good_not : (p : ProgramTree) (w : Setting) (a : TypedValue) (x : ValueType) → Good p w a x → x.element ≡ datatype.Bool → Good p w (negated a) x
 good_not p w a x g e =
     let is : shape_in x ≡ shape_of datatype.Bool x.array = ap (λ t. shape_of t x.array) e in
-    record { shape = g.shape; gives = (x.array, gives_as w a.tree (shape_in x) (shape_of datatype.Bool x.array) g.gives is, ap Some is); seen_by = g.seen_by; called = g.called }
+    record {
+      shape = g.shape;
+      gives = (x.array, gives_as w a.tree (shape_in x) (shape_of datatype.Bool x.array) g.gives is, ap Some is);
+      seen_by =
+          g.seen_by;
+      called = g.called;
+    }
 
 cast_from_between : (s t : DataType) → cast_from (cast_between s t) ≡ s
 cast_from_between Uint64 Uint64 = refl
@@ -122,7 +136,11 @@ good_cast p w t a x g =
     ap (λ s. shape_of s x.array) (ap (λ (s : Shape). s.element) (sym g.shape) ∙ sym (cast_from_between a.shape.element t)) in
     record {
       shape = ap (λ (s : Shape). shape_of t s.array) g.shape;
-      gives = (x.array, gives_as w a.tree (shape_in x) (shape_of (cast_from c) x.array) g.gives from, ap (λ s. Some (shape_of s x.array)) (sym (cast_to_between a.shape.element t)));
+      gives = (
+        x.array,
+        gives_as w a.tree (shape_in x) (shape_of (cast_from c) x.array) g.gives from,
+        ap (λ s. Some (shape_of s x.array)) (sym (cast_to_between a.shape.element t)),
+      );
       seen_by = g.seen_by;
       called = g.called;
     }
@@ -132,14 +150,23 @@ good_declassify p w a x g = record { shape = g.shape; gives = (shape_in x, g.giv
 
 -- BUILT-IN FUNCTIONS
 
-pub good_size : (p : ProgramTree) (w : Setting) (a : TypedValue) (x : ValueType) → Good p w a x → x.array ≡ true → Good p w (made (size_node a.tree) Uint64 false) (public_scalar Uint64)
+pub good_size : (p : ProgramTree) (w : Setting) (a : TypedValue) (x : ValueType) → Good p w a x → x.array ≡ true
+    → Good p w (made (size_node a.tree) Uint64 false) (public_scalar Uint64)
 good_size p w a x g e =
-    record { shape = refl; gives = (x.element, gives_as w a.tree (shape_in x) (array x.element) g.gives (array_shape x e), refl); seen_by = refl; called = g.called }
+    record {
+      shape = refl;
+      gives = (x.element, gives_as w a.tree (shape_in x) (array x.element) g.gives (array_shape x e), refl);
+      seen_by =
+          refl;
+      called = g.called;
+    }
 
-pub good_cat : (p : ProgramTree) (w : Setting) (line : ℕ) (a b : TypedValue) (x y t : ValueType) → Good p w a x → Good p w b y → x.array ≡ true → y.array ≡ true → x.element ≡ y.element → t.element ≡ x.element → t.array ≡ true → Meets x.domain y.domain t.domain → Good p w (made (cat_node line a.tree b.tree) a.shape.element true) t
+pub good_cat : (p : ProgramTree) (w : Setting) (line : ℕ) (a b : TypedValue) (x y t : ValueType) → Good p w a x → Good p w b y → x.array ≡ true
+    → y.array ≡ true → x.element ≡ y.element → t.element ≡ x.element → t.array ≡ true → Meets x.domain y.domain t.domain
+    → Good p w (made (cat_node line a.tree b.tree) a.shape.element true) t
 good_cat p w line a b x y t g h ax ay same element is m =
     let seen : domain w (cat_node line a.tree b.tree) ≡ bound_domain t.domain =
-    ap (λ d. joined d (domain w b.tree)) g.seen_by ∙ ap (joined (bound_domain x.domain)) h.seen_by ∙ meets_joined x.domain y.domain t.domain m in
+    ap (λ d. joined_domain d (domain w b.tree)) g.seen_by ∙ ap (joined_domain (bound_domain x.domain)) h.seen_by ∙ meets_joined x.domain y.domain t.domain m in
     let meet : Meet (domain w a.tree) (domain w b.tree) =
     subst (λ d. Meet d (domain w b.tree)) (sym g.seen_by) (subst (Meet (bound_domain x.domain)) (sym h.seen_by) (meets_meet x.domain y.domain t.domain m)) in
     let left = gives_as w a.tree (shape_in x) (array x.element) g.gives (array_shape x ax) in
@@ -152,7 +179,8 @@ good_cat p w line a b x y t g h ax ay same element is m =
       called = both_checked p (calls w a.tree) (calls w b.tree) g.called h.called;
     }
 
-pub good_sum : (p : ProgramTree) (w : Setting) (a : TypedValue) (x : ValueType) → Good p w a x → x.array ≡ true → x.element ≡ Uint64 → Good p w (made (sum_node a.tree) Uint64 false) (scalar_of x)
+pub good_sum : (p : ProgramTree) (w : Setting) (a : TypedValue) (x : ValueType) → Good p w a x → x.array ≡ true → x.element ≡ Uint64
+    → Good p w (made (sum_node a.tree) Uint64 false) (scalar_of x)
 good_sum p w a x g e f =
     let result : scalar Uint64 ≡ shape_in (scalar_of x) = ap scalar (sym f) in
     record {
@@ -162,7 +190,8 @@ good_sum p w a x g e f =
       called = g.called;
     }
 
-pub good_bits : (p : ProgramTree) (w : Setting) (line : ℕ) (a : TypedValue) (x : ValueType) → Good p w a x → x.element ≡ Uint64 → Good p w (made (bits_node line a.tree) datatype.Bool true) (array_of datatype.Bool x.domain)
+pub good_bits : (p : ProgramTree) (w : Setting) (line : ℕ) (a : TypedValue) (x : ValueType) → Good p w a x → x.element ≡ Uint64
+    → Good p w (made (bits_node line a.tree) datatype.Bool true) (array_of datatype.Bool x.domain)
 good_bits p w line a x g e =
     record {
       shape = refl;

@@ -6,10 +6,12 @@ use Rattle.secrec_ast.specs.declared.expression.DataType.TheVariants.{Uint64}
 use Rattle.secrec_ast.specs.declared.expression.DataType.TheVariants as datatype
 use Rattle.typed_tree.specs.declared.kinds.Shape.{Shape}
 use Rattle.typed_tree.specs.declared.kinds.Slot.{Slot}
-use Rattle.typed_tree.specs.declared.function.Given.{Given}
-use Rattle.typed_tree.specs.declared.function.Given.TheVariants.{Nothing, Value}
+use Rattle.typed_tree.specs.declared.function.Returned.{Returned}
+use Rattle.typed_tree.specs.declared.function.Returned.TheVariants.{Nothing, Value}
 use Rattle.typed_tree.specs.Tree.{TypedTree}
-use Rattle.typed_tree.specs.Commands.{Command, Commands, empty_command, block_command, if_command, loop_command, do_command, break_command, continue_command, return_command, assert_command, store_command, default_command, fill_command, input_command, element_command, publish_command, evaluate_command}
+use Rattle.typed_tree.specs.Commands.{Command, Commands, empty_command, block_command, if_command, loop_command, do_command, break_command}
+use Rattle.typed_tree.specs.Commands.{continue_command, return_command, assert_command, store_command, default_command, fill_command, input_command}
+use Rattle.typed_tree.specs.Commands.{element_command, publish_command, evaluate_command}
 use Rattle.typed_tree.specs.Commands as Commands'
 use Rattle.reached_instances.specs.declared.instance.BoundDomain.TheVariants.{Public}
 use Rattle.reached_instances.specs.Domains.{Setting, domain, domain_under}
@@ -28,7 +30,7 @@ FitsInto w s shape e = Gives w e (Some shape) × GoesTo (domain w e) (domain_und
 abbrev pub IsArraySlot : Setting → ℕ → Slot → Type 0
 IsArraySlot w k s = (slice_get w.slots k ≡ Some s) × (s.shape.array ≡ true)
 
-abbrev pub IsReturned : Setting → Given → Option TypedTree → Type 0
+abbrev pub IsReturned : Setting → Returned → Option TypedTree → Type 0
 IsReturned w Nothing None = Unit {0}
 IsReturned w Nothing (Some e) = ⊥
 IsReturned w (Value s) None = ⊥
@@ -36,7 +38,7 @@ IsReturned w (Value s) (Some e) = FitsInto w s s.shape e
 
 -- in a function that gives this back, inside of a loop or not
 abbrev mutual
-  pub IsWellTypedCommand : Setting → Given → (inside : Bool) → Command → Type 0
+  pub IsWellTypedCommand : Setting → Returned → (inside : Bool) → Command → Type 0
   IsWellTypedCommand w g inside empty_command = Unit {0}
   IsWellTypedCommand w g inside (block_command cs) = AreWellTypedCommands w g inside cs
   IsWellTypedCommand w g inside (if_command e a b) =
@@ -58,7 +60,7 @@ abbrev mutual
   IsWellTypedCommand w g inside (publish_command x e) = (s : Shape) × Gives w e (Some s)
   IsWellTypedCommand w g inside (evaluate_command e) = (o : Option Shape) × Gives w e o
 
-  pub AreWellTypedCommands : Setting → Given → (inside : Bool) → Commands → Type 0
+  pub AreWellTypedCommands : Setting → Returned → (inside : Bool) → Commands → Type 0
   AreWellTypedCommands w g inside Commands'.none = Unit {0}
   AreWellTypedCommands w g inside (Commands'.also c cs) = IsWellTypedCommand w g inside c × AreWellTypedCommands w g inside cs
 

@@ -6,20 +6,21 @@ use Rattle.secrec_ast.specs.declared.expression.DataType.TheVariants.{Uint64}
 use Rattle.secrec_ast.specs.declared.expression.DataType.TheVariants as datatype
 use Rattle.typed_tree.specs.declared.kinds.Shape.{Shape}
 use Rattle.typed_tree.specs.declared.kinds.Slot.{Slot}
-use Rattle.typed_tree.specs.declared.function.Given.{Given}
-use Rattle.typed_tree.specs.declared.function.Given.TheVariants.{Nothing, Value}
+use Rattle.typed_tree.specs.declared.function.Returned.{Returned}
+use Rattle.typed_tree.specs.declared.function.Returned.TheVariants.{Nothing, Value}
 use Rattle.typed_tree.specs.Operators.{element_made}
-use Rattle.typed_tree.specs.Tree.{TypedTree, TypedTrees, word_node, truth_node, slot_node, call_node, size_node, cat_node, sum_node, bits_node, element_node, not_node, cast_node, binary_node, cut_node, declassify_node}
+use Rattle.typed_tree.specs.Tree.{TypedTree, TypedTrees, word_node, truth_node, slot_node, call_node, size_node, cat_node, sum_node, bits_node}
+use Rattle.typed_tree.specs.Tree.{element_node, not_node, cast_node, binary_node, cut_node, declassify_node}
 use Rattle.typed_tree.specs.Tree as Tree'
 use Rattle.typed_tree.specs.Programs.{TypedFunctionTree}
 use Rattle.typed_tree.specs.Shapes.{shape_of}
 use Rattle.reached_instances.specs.declared.instance.BoundDomain.{BoundDomain}
 use Rattle.reached_instances.specs.declared.instance.BoundDomain.TheVariants.{Public}
-use Rattle.reached_instances.specs.Domains.{Setting, domain, domains, joined, domain_under, binding_of}
+use Rattle.reached_instances.specs.Domains.{Setting, domain, domains, joined_domain, domain_under, binding_of}
 use Rattle.well_typed.specs.Kinds.{scalar, array, GoesTo, Meet, operand_of, MayOperate, left_is_array, right_is_array, cast_from, cast_to}
 
 -- the shape of what a function gives back, if it does
-abbrev pub shape_given : Given → Option Shape
+abbrev pub shape_given : Returned → Option Shape
 shape_given Nothing = None
 shape_given (Value s) = Some s.shape
 
@@ -43,7 +44,7 @@ abbrev mutual
   Gives w (cast_node c e) g = (b : Bool) × Gives w e (Some (shape_of (cast_from c) b)) × (g ≡ Some (shape_of (cast_to c) b))
   Gives w (binary_node line op ds a b) g =
       Gives w a (Some (shape_of (operand_of op) (left_is_array ds))) × Gives w b (Some (shape_of (operand_of op) (right_is_array ds)))
-      × Meet (domain w a) (domain w b) × MayOperate op (joined (domain w a) (domain w b))
+      × Meet (domain w a) (domain w b) × MayOperate op (joined_domain (domain w a) (domain w b))
       × (g ≡ Some (shape_of (element_made op) (left_is_array ds || right_is_array ds)))
   Gives w (cut_node c a b) g =
       Gives w a (Some (scalar datatype.Bool)) × Gives w b (Some (scalar datatype.Bool)) × Meet (domain w a) (domain w b)

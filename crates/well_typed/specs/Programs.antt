@@ -1,8 +1,8 @@
 -- Which functions are well typed under a binding, and which programs.
 use Rattle.std.specs.Prelude.{◌≡◌, ◌≤◌, false, IsTrue, length, Some}
 use Rattle.std.specs.List.{slice_get}
-use Rattle.typed_tree.specs.declared.function.Given.{Given}
-use Rattle.typed_tree.specs.declared.function.Given.TheVariants.{Nothing, Value}
+use Rattle.typed_tree.specs.declared.function.Returned.{Returned}
+use Rattle.typed_tree.specs.declared.function.Returned.TheVariants.{Nothing, Value}
 use Rattle.typed_tree.specs.Commands.{Commands}
 use Rattle.typed_tree.specs.Programs.{TypedFunctionTree, TypedProgramTree}
 use Rattle.reached_instances.specs.Domains.{Setting}
@@ -11,7 +11,7 @@ use Rattle.reached_instances.specs.Reached.{IsReached}
 use Rattle.well_typed.specs.Commands.{AreWellTypedCommands, one_returns}
 
 -- a function that gives a value back never falls off its end
-abbrev pub GivesBack : Given → Commands → Type 0
+abbrev pub GivesBack : Returned → Commands → Type 0
 GivesBack Nothing body = Unit {0}
 GivesBack (Value s) body = IsTrue (one_returns body)
 

@@ -9,7 +9,7 @@ use Rattle.typed_tree.specs.declared.kinds.Shape.{Shape}
 use Rattle.typed_tree.specs.declared.kinds.SlotDomain.{SlotDomain}
 use Rattle.typed_tree.specs.declared.kinds.SlotDomain.TheVariants as slot
 use Rattle.typed_tree.specs.declared.kinds.Slot.{Slot}
-use Rattle.typed_tree.specs.declared.function.Given.TheVariants.{Nothing, Value}
+use Rattle.typed_tree.specs.declared.function.Returned.TheVariants.{Nothing, Value}
 use Rattle.typed_tree.specs.declared.operators.WordOperator.TheVariants.{Add, Divide, Less}
 use Rattle.typed_tree.specs.declared.operators.BinaryOperator.TheVariants.{Words}
 use Rattle.typed_tree.specs.declared.operators.Operands.TheVariants.{Scalars, ArrayAndScalar}
@@ -44,7 +44,8 @@ abbrev here : Setting
 here =
     record {
       functions = template ∷ [];
-      slots = slot_of slot.Public Uint64 false ∷ slot_of (slot.Private 0) Uint64 false ∷ slot_of (slot.Variable 0) Uint64 false ∷ slot_of (slot.Private 0) Uint64 true ∷ [];
+      slots = slot_of slot.Public Uint64 false ∷ slot_of (slot.Private 0) Uint64 false ∷ slot_of (slot.Variable 0) Uint64 false
+          ∷ slot_of (slot.Private 0) Uint64 true ∷ [];
       binding = Private 5 ∷ [];
     }
 
@@ -92,7 +93,8 @@ without_argument : (g : Option Shape) → Gives here (call_node 2 0 (typed_trees
 without_argument g h = go h.0 h.1 h.2
   where
     go : (f : TypedFunctionTree) → Some template ≡ Some f → AreTaken here (binding_of f []) (take f.parameters f.slots) (typed_trees_of []) → ⊥
-    go f e = subst (λ (z : TypedFunctionTree). AreTaken here (binding_of z []) (take z.parameters z.slots) (typed_trees_of []) → ⊥) (same_Some template f e) (λ n. n)
+    go f e = subst (λ (z : TypedFunctionTree). AreTaken here (binding_of z []) (take z.parameters z.slots) (typed_trees_of []) → ⊥)
+        (same_Some template f e) (λ n. n)
 
 -- STATEMENTS
 
@@ -114,8 +116,10 @@ broken_outside : IsWellTypedCommand here Nothing false (if_command (truth_node t
 broken_outside h = let inside = h.1 in cc
 
 -- a condition is public, if only by `declassify`
-private_condition : IsWellTypedCommand here Nothing false (if_command (binary_node 2 (Words Less) Scalars (slot_node 1) (slot_node 0)) empty_command empty_command) → ⊥
+private_condition : IsWellTypedCommand here Nothing false
+    (if_command (binary_node 2 (Words Less) Scalars (slot_node 1) (slot_node 0)) empty_command empty_command) → ⊥
 private_condition h = let seen = h.0.1 in cc
 
-opened_condition : IsWellTypedCommand here Nothing false (if_command (declassify_node (binary_node 2 (Words Less) Scalars (slot_node 1) (slot_node 0))) empty_command empty_command)
+opened_condition : IsWellTypedCommand here Nothing false
+    (if_command (declassify_node (binary_node 2 (Words Less) Scalars (slot_node 1) (slot_node 0))) empty_command empty_command)
 opened_condition = (((scalar datatype.Bool, ((private_slot, refl, refl), (public_slot, refl, refl), tt, (λ e. cc), refl), refl), refl), tt, tt)

@@ -1,21 +1,27 @@
 -- A tree that tokens spell whose numbers are words is well written.
 use Rattle.std.proofs.Common.{◌≡◌, ℕ, ◌-◌, ◌<◌, ◌^◌, List, [], ◌∷◌, ◌++◌, ◌⊎◌, inl, inr, refl, sym, subst, Option, Some, None, Bool, true, false, arith}
-use Rattle.secrec_lexer.specs.declared.token.Kind.TheVariants as kinds
+use Rattle.secrec_lexer.specs.declared.token.TokenKind.TheVariants as kinds
 use Rattle.secrec_lexer.specs.declared.token.Token.{Token}
 use Rattle.secrec_lexer.specs.declared.sign.Sign.TheVariants as signs
 use Rattle.secrec_lexer.specs.Lexis.{HasTokens}
 use Rattle.secrec_ast.specs.Tree.{Tree, Trees, number, truth, variable, call, index, parentheses, negation, cast, binary, declassify, argument, publish}
 use Rattle.secrec_ast.specs.declared.expression.Operator.{Operator}
 use Rattle.secrec_ast.specs.Tree as Tree'
-use Rattle.secrec_ast.specs.Statements.{DeclarationTree, TargetTree, AssignmentTree, StartTree, starts_with_nothing, starts_with_declaration, starts_with_assignment, StepTree, steps_by_nothing, steps_by_assignment, steps_by_expression, StatementTree, block, empty, branch, choice, while_loop, do_loop, for_loop, breaks, continues, returns, assertion, declaration, assignment, evaluation, StatementTrees}
+use Rattle.secrec_ast.specs.Statements.{DeclarationTree, TargetTree, AssignmentTree, StartTree, starts_with_nothing, starts_with_declaration}
+use Rattle.secrec_ast.specs.Statements.{starts_with_assignment, StepTree, steps_by_nothing, steps_by_assignment, steps_by_expression, StatementTree}
+use Rattle.secrec_ast.specs.Statements.{block, empty, branch, choice, while_loop, do_loop, for_loop, breaks, continues, returns, assertion}
+use Rattle.secrec_ast.specs.Statements.{declaration, assignment, evaluation, StatementTrees}
 use Rattle.secrec_ast.specs.Statements as Statements'
 use Rattle.secrec_ast.specs.Programs.{FunctionTree, ItemTree, imports, kind, domain, defines, ProgramTree}
 use Rattle.domain_types.specs.Declarations.{functions_of}
 use Rattle.expression_parser.specs.Phrases.{Phrase, sign_at, sign, one_at, one, token, ◌then◌}
 use Rattle.expression_parser.specs.Grammar.{IsExpression, AreArguments, AreMore, IsDataType, loosest, unary, level, sign_of}
 use Rattle.secrec_parser.specs.Sugar.{held_in, updated}
-use Rattle.secrec_parser.specs.Grammar.{identifier, parenthesised, optional, AreAll, IsType, initialiser, IsDeclaration, bracketed, IsTarget, compound, stepping, IsAssigned, IsAssignment, IsStart, IsStep, heading, IsStatement, AreStatements, IsTemplate, IsResult, AreParameters, IsBlock, IsFunction, IsItem, IsProgram}
-use Rattle.well_typed.specs.Sources.{HasWords, HaveWords, HasWordsIf, DeclaresWords, AssignsWords, StartsWithWords, StepsByWords, MayStand, MayStandAll, AreWellWritten, IsWellWritten}
+use Rattle.secrec_parser.specs.Grammar.{identifier, parenthesised, optional, AreAll, IsType, initialiser, IsDeclaration, bracketed, IsTarget}
+use Rattle.secrec_parser.specs.Grammar.{compound, stepping, IsAssigned, IsAssignment, IsStart, IsStep, heading, IsStatement, AreStatements}
+use Rattle.secrec_parser.specs.Grammar.{IsTemplate, IsResult, AreParameters, IsBlock, IsFunction, IsItem, IsProgram}
+use Rattle.well_typed.specs.Sources.{HasWords, HaveWords, HasWordsIf, DeclaresWords, AssignsWords, StartsWithWords, StepsByWords, MayStand}
+use Rattle.well_typed.specs.Sources.{MayStandAll, AreWellWritten, IsWellWritten}
 use Rattle.well_written.specs.Laws.{IsWellWrittenWhereSpelled}
 use Rattle.well_written.proofs.Words.{AreWords, words_parts, words_lexed}
 
@@ -76,8 +82,11 @@ mutual
       words_in loosest e c.tokens c.phrase c.words
   words_in k (argument p x) ts h w = tt
   words_in k (publish p x e) ts h w =
-      let a = (parts (sign_at p signs.Publish) (sign signs.LeftParenthesis then one (kinds.Text x) then sign signs.Comma then IsExpression loosest e then sign signs.RightParenthesis) ts h w).1 in
-      let b = (parts (sign signs.LeftParenthesis) (one (kinds.Text x) then sign signs.Comma then IsExpression loosest e then sign signs.RightParenthesis) a.tokens a.phrase a.words).1 in
+      let a = (parts (sign_at p signs.Publish)
+      (sign signs.LeftParenthesis then one (kinds.Text x) then sign signs.Comma then IsExpression loosest e then sign signs.RightParenthesis)
+      ts h w).1 in
+      let b = (parts (sign signs.LeftParenthesis)
+      (one (kinds.Text x) then sign signs.Comma then IsExpression loosest e then sign signs.RightParenthesis) a.tokens a.phrase a.words).1 in
       let c = (parts (one (kinds.Text x)) (sign signs.Comma then IsExpression loosest e then sign signs.RightParenthesis) b.tokens b.phrase b.words).1 in
       let d = (parts (sign signs.Comma) (IsExpression loosest e then sign signs.RightParenthesis) c.tokens c.phrase c.words).1 in
       let f = (parts (IsExpression loosest e) (sign signs.RightParenthesis) d.tokens d.phrase d.words).0 in
@@ -103,7 +112,8 @@ in_parentheses e ts h w =
     words_in loosest e b.tokens b.phrase b.words
 
 -- a phrase around an expression that may be left out
-in_optional : (P : Tree → Phrase) → ((e : Tree) (ts : List Token) → P e ts → AreWords ts → HasWords e) → (e : Option Tree) (ts : List Token) → optional P e ts → AreWords ts → HasWordsIf e
+in_optional : (P : Tree → Phrase) → ((e : Tree) (ts : List Token) → P e ts → AreWords ts → HasWords e) → (e : Option Tree) (ts : List Token)
+    → optional P e ts → AreWords ts → HasWordsIf e
 in_optional P f None ts h w = tt
 in_optional P f (Some e) ts h w = f e ts h w
 
@@ -122,8 +132,10 @@ in_declaration : (d : DeclarationTree) (ts : List Token) → IsDeclaration d ts 
 in_declaration d ts h w =
     let a = (parts (IsType d.declared) (identifier d.variable then optional parenthesised d.size then optional initialiser d.value) ts h w).1 in
     let b = (parts (identifier d.variable) (optional parenthesised d.size then optional initialiser d.value) a.tokens a.phrase a.words).1 in
-    let c = parts (optional parenthesised d.size) (optional initialiser d.value) b.tokens b.phrase b.words in
-    (in_optional parenthesised in_parentheses d.size c.0.tokens c.0.phrase c.0.words, in_optional initialiser in_initialiser d.value c.1.tokens c.1.phrase c.1.words)
+    let c = parts (optional parenthesised d.size) (optional initialiser d.value) b.tokens b.phrase b.words in (
+      in_optional parenthesised in_parentheses d.size c.0.tokens c.0.phrase c.0.words,
+      in_optional initialiser in_initialiser d.value c.1.tokens c.1.phrase c.1.words,
+    )
 
 in_held : (t : TargetTree) (i : Option Tree) → HasWordsIf i → HasWords (held_in t.variable i)
 in_held t None w = tt
@@ -156,15 +168,25 @@ in_step steps_by_nothing ts h w = tt
 in_step (steps_by_assignment a) ts h w = in_assignment a ts h w
 in_step (steps_by_expression e) ts h w = words_in loosest e ts h w
 
-in_heading : (a : StartTree) (e : Option Tree) (b : StepTree) (ts : List Token) → heading a e b ts → AreWords ts → StartsWithWords a × HasWordsIf e × StepsByWords b
+in_heading : (a : StartTree) (e : Option Tree) (b : StepTree) (ts : List Token) → heading a e b ts → AreWords ts
+    → StartsWithWords a × HasWordsIf e × StepsByWords b
 in_heading a e b ts h w =
-    let one = (parts (sign signs.LeftParenthesis) (IsStart a then sign signs.Semicolon then optional (IsExpression loosest) e then sign signs.Semicolon then IsStep b then sign signs.RightParenthesis) ts h w).1 in
-    let two = parts (IsStart a) (sign signs.Semicolon then optional (IsExpression loosest) e then sign signs.Semicolon then IsStep b then sign signs.RightParenthesis) one.tokens one.phrase one.words in
-    let three = (parts (sign signs.Semicolon) (optional (IsExpression loosest) e then sign signs.Semicolon then IsStep b then sign signs.RightParenthesis) two.1.tokens two.1.phrase two.1.words).1 in
-    let four = parts (optional (IsExpression loosest) e) (sign signs.Semicolon then IsStep b then sign signs.RightParenthesis) three.tokens three.phrase three.words in
+    let one = (parts (sign signs.LeftParenthesis)
+    (IsStart a then sign signs.Semicolon then optional (IsExpression loosest) e then sign signs.Semicolon then IsStep b then sign
+    signs.RightParenthesis) ts h w).1 in
+    let two = parts (IsStart a) (sign signs.Semicolon then optional (IsExpression loosest) e then sign signs.Semicolon then IsStep b then sign
+    signs.RightParenthesis) one.tokens one.phrase one.words in
+    let three = (parts (sign signs.Semicolon)
+    (optional (IsExpression loosest) e then sign signs.Semicolon then IsStep b then sign signs.RightParenthesis) two.1.tokens two.1.phrase
+    two.1.words).1 in
+    let four = parts (optional (IsExpression loosest) e) (sign signs.Semicolon then IsStep b then sign signs.RightParenthesis) three.tokens
+    three.phrase three.words in
     let five = (parts (sign signs.Semicolon) (IsStep b then sign signs.RightParenthesis) four.1.tokens four.1.phrase four.1.words).1 in
-    let six = (parts (IsStep b) (sign signs.RightParenthesis) five.tokens five.phrase five.words).0 in
-    (in_start a two.0.tokens two.0.phrase two.0.words, in_optional (IsExpression loosest) (words_in loosest) e four.0.tokens four.0.phrase four.0.words, in_step b six.tokens six.phrase six.words)
+    let six = (parts (IsStep b) (sign signs.RightParenthesis) five.tokens five.phrase five.words).0 in (
+      in_start a two.0.tokens two.0.phrase two.0.words,
+      in_optional (IsExpression loosest) (words_in loosest) e four.0.tokens four.0.phrase four.0.words,
+      in_step b six.tokens six.phrase six.words,
+    )
 
 -- STATEMENTS
 
@@ -230,10 +252,16 @@ mutual
 
 function_stands : (f : FunctionTree) (ts : List Token) → IsFunction f ts → AreWords ts → MayStandAll false f.body.statements
 function_stands f ts h w =
-    let a = (parts (IsTemplate f.variables) (IsResult f.returned then identifier f.function then sign signs.LeftParenthesis then AreParameters f.parameters then sign signs.RightParenthesis then IsBlock f.body) ts h w).1 in
-    let b = (parts (IsResult f.returned) (identifier f.function then sign signs.LeftParenthesis then AreParameters f.parameters then sign signs.RightParenthesis then IsBlock f.body) a.tokens a.phrase a.words).1 in
-    let c = (parts (identifier f.function) (sign signs.LeftParenthesis then AreParameters f.parameters then sign signs.RightParenthesis then IsBlock f.body) b.tokens b.phrase b.words).1 in
-    let d = (parts (sign signs.LeftParenthesis) (AreParameters f.parameters then sign signs.RightParenthesis then IsBlock f.body) c.tokens c.phrase c.words).1 in
+    let a = (parts (IsTemplate f.variables)
+    (IsResult f.returned then identifier f.function then sign signs.LeftParenthesis then AreParameters f.parameters then sign
+    signs.RightParenthesis then IsBlock f.body) ts h w).1 in
+    let b = (parts (IsResult f.returned)
+    (identifier f.function then sign signs.LeftParenthesis then AreParameters f.parameters then sign signs.RightParenthesis then IsBlock
+    f.body) a.tokens a.phrase a.words).1 in
+    let c = (parts (identifier f.function)
+    (sign signs.LeftParenthesis then AreParameters f.parameters then sign signs.RightParenthesis then IsBlock f.body) b.tokens b.phrase b.words).1 in
+    let d = (parts (sign signs.LeftParenthesis) (AreParameters f.parameters then sign signs.RightParenthesis then IsBlock f.body) c.tokens c.phrase
+    c.words).1 in
     let e = (parts (AreParameters f.parameters) (sign signs.RightParenthesis then IsBlock f.body) d.tokens d.phrase d.words).1 in
     let g = (parts (sign signs.RightParenthesis) (IsBlock f.body) e.tokens e.phrase e.words).1 in
     let i = (parts (sign_at f.body.place signs.LeftBrace) (AreStatements false f.body.statements then sign signs.RightBrace) g.tokens g.phrase g.words).1 in

@@ -8,8 +8,8 @@ use Rattle.std.proofs.lemmas.Bool.{and_parts}
 use Rattle.std.proofs.lemmas.Bool.Decides.{Decides-ltb}
 use Rattle.sc_text.specs.Name.{is_name, is_name_byte}
 use Rattle.secrec_lexer.specs.declared.sign.Sign.{Sign}
-use Rattle.secrec_lexer.specs.declared.token.Kind.{Kind}
-use Rattle.secrec_lexer.specs.declared.token.Kind.TheVariants as kinds
+use Rattle.secrec_lexer.specs.declared.token.TokenKind.{TokenKind}
+use Rattle.secrec_lexer.specs.declared.token.TokenKind.TheVariants as kinds
 use Rattle.secrec_lexer.specs.declared.token.Token.{Token}
 use Rattle.secrec_lexer.specs.declared.lex_err.LexFault.TheVariants as faults
 use Rattle.secrec_lexer.specs.declared.piece.Piece.{Piece}
@@ -20,7 +20,7 @@ use Rattle.secrec_lexer.specs.Pieces.{comment, number_spelled, word_value, numbe
 use Rattle.secrec_lexer.specs.Lexis.{token_at, Lexes, ended, blank, lexeme}
 
 -- a number is a word
-abbrev pub IsWord : Kind → Type 0
+abbrev pub IsWord : TokenKind → Type 0
 IsWord (kinds.Name x) = Unit {0}
 IsWord (kinds.Number n) = n < 2 ^ 64
 IsWord (kinds.Text x) = Unit {0}
@@ -68,7 +68,8 @@ spelled_value radix digits =
     of_value (some && fits) (Some (digits_value radix digits)) None (λ e. (Decides-ltb (digits_value radix digits) (2 ^ 64)).0 (and_parts some fits e).1) tt
 
 word_value_fits : (bytes : List ℕ) → IsValue (word_value bytes)
-word_value_fits bytes = of_value (begins bytes (codes "0x")) (number_spelled 16 (drop 2 bytes)) (number_spelled 10 bytes) (λ e. spelled_value 16 (drop 2 bytes)) (spelled_value 10 bytes)
+word_value_fits bytes = of_value (begins bytes (codes "0x")) (number_spelled 16 (drop 2 bytes)) (number_spelled 10 bytes)
+    (λ e. spelled_value 16 (drop 2 bytes)) (spelled_value 10 bytes)
 
 number_piece : (o : Option ℕ) (size : ℕ) → IsValue o → IsWordPiece (number o size)
 number_piece None size v = tt
@@ -81,7 +82,8 @@ word_piece None bytes = of_both (is_name bytes) (Lexeme (kinds.Name bytes) (leng
 text_piece : (bytes more : List ℕ) → IsWordPiece (text bytes more)
 text_piece bytes [] = tt
 text_piece bytes (next ∷ more) =
-    of_both (next == 34) (if is_name bytes then Lexeme (kinds.Text bytes) (length bytes + 2) else Fault faults.BadName 0) (if next == 10 then Fault faults.OpenText 0 else Fault faults.BadByte (length bytes + 1))
+    of_both (next == 34) (if is_name bytes then Lexeme (kinds.Text bytes) (length bytes + 2) else Fault faults.BadName 0)
+    (if next == 10 then Fault faults.OpenText 0 else Fault faults.BadByte (length bytes + 1))
     (of_both (is_name bytes) (Lexeme (kinds.Text bytes) (length bytes + 2)) (Fault faults.BadName 0) tt tt)
     (of_both (next == 10) (Fault faults.OpenText 0) (Fault faults.BadByte (length bytes + 1)) tt tt)
 
@@ -97,9 +99,12 @@ first_piece : (bytes : List ℕ) → IsWordPiece (first bytes)
 first_piece [] = tt
 first_piece (byte ∷ more) = of_both (is_blank byte) (Blank 1) _ tt (of_both (begins (byte ∷ more) (codes "//")) (Blank (length (first_line (byte ∷ more)))) _ tt
     (of_both (begins (byte ∷ more) (codes "/*")) (comment (size_to_close (drop 2 (byte ∷ more)))) _ (comment_piece (size_to_close (drop 2 (byte ∷ more))))
-    (of_both (is_ascii_digit byte) (number (word_value (name_run (byte ∷ more))) (length (name_run (byte ∷ more)))) _ (number_piece (word_value (name_run (byte ∷ more))) (length (name_run (byte ∷ more))) (word_value_fits (name_run (byte ∷ more))))
-    (of_both (is_name_byte byte) (word (keyword (name_run (byte ∷ more))) (name_run (byte ∷ more))) _ (word_piece (keyword (name_run (byte ∷ more))) (name_run (byte ∷ more)))
-    (of_both (byte == 34) (text (name_run more) (drop (length (name_run more)) more)) (sign (single_sign byte) byte more) (text_piece (name_run more) (drop (length (name_run more)) more)) (sign_piece (single_sign byte) byte more))))))
+    (of_both (is_ascii_digit byte) (number (word_value (name_run (byte ∷ more))) (length (name_run (byte ∷ more)))) _
+    (number_piece (word_value (name_run (byte ∷ more))) (length (name_run (byte ∷ more))) (word_value_fits (name_run (byte ∷ more))))
+    (of_both (is_name_byte byte) (word (keyword (name_run (byte ∷ more))) (name_run (byte ∷ more))) _
+    (word_piece (keyword (name_run (byte ∷ more))) (name_run (byte ∷ more)))
+    (of_both (byte == 34) (text (name_run more) (drop (length (name_run more)) more)) (sign (single_sign byte) byte more)
+    (text_piece (name_run more) (drop (length (name_run more)) more)) (sign_piece (single_sign byte) byte more))))))
 
 -- TOKENS
 

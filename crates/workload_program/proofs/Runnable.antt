@@ -5,7 +5,7 @@ use Rattle.std.proofs.lemmas.Option.{same_Some}
 use Rattle.sc_text.specs.Lists.{Among}
 use Rattle.secrec_ast.specs.Programs.{FunctionTree}
 use Rattle.front_end.specs.Judgement.{IsProgramText}
-use Rattle.domain_types.specs.declared.fault.Fault.{Fault}
+use Rattle.domain_types.specs.declared.fault.TypeFault.{TypeFault}
 use Rattle.domain_types.specs.Declarations.{declared_by, functions_of}
 use Rattle.domain_types.specs.ExpressionTypes.{within, built_in_result, call_faults, call_type, defined_faults, operator_faults, operator_type, sum_faults}
 use Rattle.domain_types.specs.FunctionTypes.{function_faults}
@@ -39,13 +39,14 @@ no_call c calls =
 main_checked : (i : Instance) → IsChecked load_tree i → i ≡ main_instance
 main_checked i (plain k f there without) = let alone = main_alone k f there in ap (λ n. record { function = n; binding = [] }) alone.0
 main_checked i (reached j k ds checked calls) =
-    absurd (no_call (record { function = k; binding = Some ds }) (subst (λ x. Calls load_tree x (record { function = k; binding = Some ds })) (main_checked j checked) calls))
+    absurd (no_call (record { function = k; binding = Some ds })
+    (subst (λ x. Calls load_tree x (record { function = k; binding = Some ds })) (main_checked j checked) calls))
 
-no_fault_inside : (f : FunctionTree) (g : Fault) → f ≡ main_tree → Among g (function_faults (within (declared_by load_tree) f []) f) → ⊥
+no_fault_inside : (f : FunctionTree) (g : TypeFault) → f ≡ main_tree → Among g (function_faults (within (declared_by load_tree) f []) f) → ⊥
 unfolding built_in_result call_faults call_type defined_faults operator_faults operator_type sum_faults
 no_fault_inside f g is among = subst (λ x. Among g (function_faults (within (declared_by load_tree) x []) x)) is among
 
-no_fault : (g : Fault) → IsFault load_tree g → ⊥
+no_fault : (g : TypeFault) → IsFault load_tree g → ⊥
 no_fault g (declaring h among) = among
 no_fault g (inside i f h checked there among) =
     let is = main_checked i checked in

@@ -4,8 +4,8 @@ use Rattle.std.proofs.lemmas.List.{take-append-drop}
 use Rattle.std.specs.Prelude.{codes}
 use Rattle.sc_text.specs.declared.span.Span.{Span}
 use Rattle.secrec_lexer.specs.declared.sign.Sign.{Sign}
-use Rattle.secrec_lexer.specs.declared.token.Kind.{Kind}
-use Rattle.secrec_lexer.specs.declared.token.Kind.TheVariants as kinds
+use Rattle.secrec_lexer.specs.declared.token.TokenKind.{TokenKind}
+use Rattle.secrec_lexer.specs.declared.token.TokenKind.TheVariants as kinds
 use Rattle.secrec_lexer.specs.declared.token.Token.{Token}
 use Rattle.secrec_ast.specs.declared.expression.DataType.TheVariants.{Uint64}
 use Rattle.secrec_ast.specs.Tree.{cast, parentheses}
@@ -14,17 +14,18 @@ use Rattle.secrec_ast.specs.declared.expression.Operator.TheVariants.{Multiply, 
 use Rattle.expression_parser.specs.Phrases.{Phrase, token, nothing, one, one_at, sign, ◌then◌}
 use Rattle.secrec_parser.specs.Grammar.{IsItem, IsProgram, IsStatement}
 use Rattle.workload_program.specs.LoadTree.{a_and_b, array_from_input, at, load_tree, main_tree, named, sum_published}
-use Rattle.workload_program.proofs.Tokens.{import_stdlib, import_shared3p, domain_p, heading, first_array, second_array, products, comparisons, behind_main, load_tokens}
+use Rattle.workload_program.proofs.Tokens.{import_stdlib, import_shared3p, domain_p, heading, first_array, second_array, products, comparisons}
+use Rattle.workload_program.proofs.Tokens.{behind_main, load_tokens}
 
 -- ---- one phrase behind another
 
 then_sign : {x : Sign} {Q : Phrase} {place : Span} {t : List Token} → Q t → (sign x then Q) (token place (kinds.Sign x) ∷ t)
 then_sign {x = x} {place = place} {t = t} q = (token place (kinds.Sign x) ∷ [], t, refl, (place, refl), q)
 
-then_one : {x : Kind} {Q : Phrase} {place : Span} {t : List Token} → Q t → (one x then Q) (token place x ∷ t)
+then_one : {x : TokenKind} {Q : Phrase} {place : Span} {t : List Token} → Q t → (one x then Q) (token place x ∷ t)
 then_one {x = x} {place = place} {t = t} q = (token place x ∷ [], t, refl, (place, refl), q)
 
-then_here : {x : Kind} {Q : Phrase} {place : Span} {t : List Token} → Q t → (one_at place x then Q) (token place x ∷ t)
+then_here : {x : TokenKind} {Q : Phrase} {place : Span} {t : List Token} → Q t → (one_at place x then Q) (token place x ∷ t)
 then_here {x = x} {place = place} {t = t} q = (token place x ∷ [], t, refl, refl, q)
 
 then_nothing : {Q : Phrase} {t : List Token} → Q t → (nothing then Q) t

@@ -5,8 +5,8 @@ use Rattle.std.specs.Prelude.{codes, option_map}
 use Rattle.sc_text.specs.Name.{is_name}
 use Rattle.secrec_lexer.specs.declared.sign.Sign.{Sign}
 use Rattle.secrec_lexer.specs.declared.sign.Sign.TheVariants as signs
-use Rattle.secrec_lexer.specs.declared.token.Kind.{Kind}
-use Rattle.secrec_lexer.specs.declared.token.Kind.TheVariants as kinds
+use Rattle.secrec_lexer.specs.declared.token.TokenKind.{TokenKind}
+use Rattle.secrec_lexer.specs.declared.token.TokenKind.TheVariants as kinds
 use Rattle.secrec_lexer.specs.declared.token.Token.{Token}
 use Rattle.secrec_lexer.specs.declared.piece.Piece.{Piece}
 use Rattle.secrec_lexer.specs.declared.piece.Piece.TheVariants.{End, Blank, Lexeme, Fault}
@@ -98,7 +98,8 @@ pieces : (at_most : ℕ) → (bytes : List ℕ) → (offset : ℕ) → Option (L
 pieces zero bytes offset = None
 pieces (suc n) bytes offset = piece bytes offset (pieces n bytes) (first (drop offset bytes))
 
-behind_lexeme : (bytes : List ℕ) (offset size : ℕ) (kind : Kind) (ts : List Token) → first (drop offset bytes) ≡ Lexeme kind size → (o : Option (List Token))
+behind_lexeme : (bytes : List ℕ) (offset size : ℕ) (kind : TokenKind) (ts : List Token) → first (drop offset bytes) ≡ Lexeme kind size
+    → (o : Option (List Token))
     → ((more : List Token) → o ≡ Some more → Lexes bytes (offset + size) more) → option_map (λ more. token_at bytes offset kind ∷ more) o ≡ Some ts
     → Lexes bytes offset ts
 behind_lexeme bytes offset size kind ts here None lexed is = absurd cc

@@ -13,7 +13,7 @@ use Rattle.secrec_ast.specs.Statements.{StatementTree, declaration, evaluation, 
 use Rattle.secrec_ast.specs.Programs.{FunctionTree, ProgramTree, imports, domain, defines}
 use Rattle.typed_tree.specs.declared.kinds.SlotDomain.TheVariants.{Private}
 use Rattle.typed_tree.specs.declared.kinds.Slot.{Slot}
-use Rattle.typed_tree.specs.declared.function.Given.TheVariants.{Nothing}
+use Rattle.typed_tree.specs.declared.function.Returned.TheVariants.{Nothing}
 use Rattle.typed_tree.specs.declared.operators.WordOperator.{WordOperator}
 use Rattle.typed_tree.specs.declared.operators.WordOperator.TheVariants as words
 use Rattle.typed_tree.specs.declared.operators.BinaryOperator.TheVariants.{Words}

@@ -160,8 +160,16 @@ module _ (c : List Function) (names : List (List ℕ)) (ks : List Kind) (gives :
       let low = bit_low b in
       (omega arith, (register r _ h.0, (omega (arith, low), (target_fits target h.1, tt))))
   instruction_fits (Jump target) h s p = (omega arith, (target_fits target h, tt))
-  instruction_fits (Call line g d arguments) h s p =
-      (omega arith, (function_fits g h.0 h.1, (result_fits d h.0.gives h.3, each_joined Fits (map short arguments) (source_line line ∷ []) (arguments_fit arguments (take h.0.parameters h.0.kinds) h.2) (line_fits line s, tt))))
+  instruction_fits (Call line g d arguments) h s p = (
+    omega arith,
+    (
+      function_fits g h.0 h.1,
+      (
+        result_fits d h.0.gives h.3,
+        each_joined Fits (map short arguments) (source_line line ∷ []) (arguments_fit arguments (take h.0.parameters h.0.kinds) h.2) (line_fits line s, tt),
+      ),
+    ),
+  )
   instruction_fits (Return r) h s p = (omega arith, (register r _ h.2, tt))
   instruction_fits ReturnNone h s p = (omega arith, tt)
 
@@ -239,8 +247,17 @@ module _ (c : List Function) (right : AreRight c) (room : HasRoom c) where
       let few = own.registers in
       let parameters = own.parameters in
       let many = length-map f.steps (instruction names) in
-      let steps = room.steps f (g, there) in
-      (omega (arith, few, parameters), (return_fits f.gives, (omega (arith, few), each_joined Fits (map (λ kind. byte (kind_byte kind)) f.kinds) (short (length (map (instruction names) f.steps)) ∷ []) (kinds_fit f.kinds) (omega (arith, many, steps), tt))))
+      let steps = room.steps f (g, there) in (
+        omega (arith, few, parameters),
+        (
+          return_fits f.gives,
+          (
+            omega (arith, few),
+            each_joined Fits (map (λ kind. byte (kind_byte kind)) f.kinds) (short (length (map (instruction names) f.steps)) ∷ []) (kinds_fit f.kinds)
+                (omega (arith, many, steps), tt),
+          ),
+        ),
+      )
 
   body_fits : (g : ℕ) (f : Function) → slice_get c g ≡ Some f → Each Fits (body_numbers (raw_function names f))
   body_fits g f there =

@@ -10,8 +10,8 @@ use Rattle.typed_tree.specs.declared.operators.BinaryOperator.TheVariants as bin
 use Rattle.typed_tree.specs.declared.operators.Operands.{Operands}
 use Rattle.typed_tree.specs.declared.operators.Operands.TheVariants.{Scalars}
 use Rattle.typed_tree.specs.declared.operators.Connective.{Connective}
-use Rattle.typed_tree.specs.declared.function.Given.{Given}
-use Rattle.typed_tree.specs.declared.function.Given.TheVariants.{Nothing, Value}
+use Rattle.typed_tree.specs.declared.function.Returned.{Returned}
+use Rattle.typed_tree.specs.declared.function.Returned.TheVariants.{Nothing, Value}
 use Rattle.typed_tree.specs.Tree.{TypedTree, TypedTrees, word_node, truth_node, slot_node, call_node, size_node, cat_node, sum_node, bits_node, element_node}
 use Rattle.typed_tree.specs.Tree.{not_node, cast_node, binary_node, cut_node, declassify_node}
 use Rattle.typed_tree.specs.Tree as Tree'
@@ -23,7 +23,8 @@ use Rattle.typed_tree.specs.Programs.{TypedFunctionTree}
 use Rattle.reached_instances.specs.declared.instance.BoundDomain.{BoundDomain}
 use Rattle.reached_instances.specs.Domains.{Setting, domains}
 use Rattle.language_model.specs.Words.{truth_word}
-use Rattle.language_model.specs.Evaluation.{Place, place_in, gives_private, slot_is_private, slot_shape, bound_at, slots_of, next_is_private, behind_next}
+use Rattle.language_model.specs.Evaluation.{StatementContext, place_in, gives_private, slot_is_private, slot_shape, bound_at, slots_of}
+use Rattle.language_model.specs.Evaluation.{next_is_private, behind_next}
 use Rattle.language_model.specs.Evaluation.{connective, either}
 use Rattle.verified_code.specs.Steps.{Step, Literal, Move, Store, Binary, Not, Cast, Classify, Fill, At, Put, Size, Cat, Sum, Bits, Declassify}
 use Rattle.verified_code.specs.Steps.{Argument, Publish, Assert, Branch, Jump, Call, Return, ReturnNone}
@@ -183,7 +184,8 @@ module _ (number : Numbers) (here : Setting) where
         (cut_short (two (width a)) (two (width b)) t u pc c (gives_private here b) ca cb sa (λ p. expression_short b u p)))
     expression_short (declassify_node e) t pc = behind_one e (Declassify t (t + 1)) (omega arith) (expression_short e (t + 1) pc)
 
-    arguments_short : (b : List BoundDomain) (ss : List Slot) (es : TypedTrees) (t pc : ℕ) → IsShort (two (widths es)) 0 (arguments_code number here b ss t pc es)
+    arguments_short : (b : List BoundDomain) (ss : List Slot) (es : TypedTrees) (t pc : ℕ)
+        → IsShort (two (widths es)) 0 (arguments_code number here b ss t pc es)
     arguments_short b ss Tree'.none t pc = nothing
     arguments_short b ss (Tree'.also e es) t pc =
         let ce = expression_code number here (t + 1) pc e in
@@ -239,7 +241,7 @@ do_short n m i pc t test body ht hb =
 abbrev pub steps_of : Command → ℕ
 steps_of c = two (command_width c) + two (count c)
 
-module _ (number : Numbers) (at : Place) where
+module _ (number : Numbers) (at : StatementContext) where
   abbrev code_of_tree : (t pc : ℕ) → TypedTree → List Step
   code_of_tree t pc e = expression_code number at.here t pc e
 
@@ -314,7 +316,7 @@ module _ (number : Numbers) (at : Place) where
 
 -- ---- FUNCTIONS
 
-last_plain : (g : Given) (r : ℕ) → length (step_names (last_step g r)) ≤ 0
+last_plain : (g : Returned) (r : ℕ) → length (step_names (last_step g r)) ≤ 0
 last_plain Nothing r = omega arith
 last_plain (Value s) r = omega arith
 

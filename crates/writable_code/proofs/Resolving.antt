@@ -22,20 +22,21 @@ use Rattle.typed_tree.specs.Operators.{operator_on, operands_of, may_cut_short}
 use Rattle.typed_tree.specs.Commands.{Command, Commands, none, also, empty_command, block_command, if_command, loop_command, do_command, break_command}
 use Rattle.typed_tree.specs.Commands.{continue_command, return_command, assert_command, store_command, default_command, fill_command, input_command}
 use Rattle.typed_tree.specs.Commands.{element_command, publish_command, evaluate_command}
-use Rattle.name_resolution.specs.Scopes.{Place, Scope, variable_named, entering, behind_block}
+use Rattle.name_resolution.specs.Scopes.{FunctionScope, Scope, variable_named, entering, behind_block}
 use Rattle.name_resolution.specs.Sizes.{nodes, nodes_all, optional_nodes, declaration_nodes, assignment_nodes, start_nodes, step_nodes, statement_nodes}
 use Rattle.name_resolution.specs.Sizes.{statements_nodes}
 use Rattle.name_resolution.specs.Values.{TypedValue, TypedCall, of_both, variable_value, element_value, negated, cast_value, declassified_value, operation_node}
 use Rattle.name_resolution.specs.Values.{operation_made, operation, gives_value, with_shape, value_given, shape_returned, tree_of_value, built_in_value, called}
 use Rattle.name_resolution.specs.Values.{and_values, value, values, call_made}
-use Rattle.name_resolution.specs.Resolving.{Resolving, ◌>>=◌, carry, done, reading, next_slot, declare, closed, in_block, tree_in, value_at, expression}
+use Rattle.name_resolution.specs.Resolving.{Resolving, ◌>>=◌, carry, done, reading, next_slot, declare, closed, in_block, tree_in, resolved_value, expression}
 use Rattle.name_resolution.specs.Resolving.{named}
 use Rattle.name_resolution.specs.Bodies.{tree_in_call, calling, evaluated, default_of, from_value, initial, declared, assigned_to, assigned, started, stepped}
 use Rattle.name_resolution.specs.Bodies.{condition_of, returned, looped, resolved, resolved_all}
 use Rattle.name_resolution.proofs.SoundValues.{mapped, both_there, then_there, some_is}
 use Rattle.said_code.specs.Laws.{any_number}
 use Rattle.said_code.specs.Says.{TreeSays, TreesSay, CommandSays, CommandsSay}
-use Rattle.writable_code.specs.Sources.{is_line, IsLine, IsPlaced, ArePlaced, IsPlacedIf, DeclaresPlaced, AssignsPlaced, StartsPlaced, StepsPlaced, StandsPlaced}
+use Rattle.writable_code.specs.Sources.{is_line, IsLine, IsPlaced, ArePlaced, IsPlacedIf, DeclaresPlaced, AssignsPlaced, StartsPlaced, StepsPlaced}
+use Rattle.writable_code.specs.Sources.{StandsPlaced}
 use Rattle.writable_code.specs.Sources.{StandPlaced}
 use Rattle.writable_code.proofs.Counts.{count, counts}
 
@@ -127,12 +128,12 @@ mutual
 -- ---- WHAT IS MADE AT A PLACE
 
 pub record Makes {A : Type 0} (P : A → Type 0) (m : Resolving A) : Type 0 where
-  pub from : (s : Place) (a : A) (q : Place) → m s ≡ Some (a, q) → P a
+  pub from : (s : FunctionScope) (a : A) (q : FunctionScope) → m s ≡ Some (a, q) → P a
 
-abbrev pair_of : {A : Type 0} → A → Place → A × Place
+abbrev pair_of : {A : Type 0} → A → FunctionScope → A × FunctionScope
 pair_of a p = (a, p)
 
-made_as : {A : Type 0} (P : A → Type 0) (a b : A) (p q : Place) → Some (pair_of a p) ≡ Some (pair_of b q) → P a → P b
+made_as : {A : Type 0} (P : A → Type 0) (a b : A) (p q : FunctionScope) → Some (pair_of a p) ≡ Some (pair_of b q) → P a → P b
 made_as P a b p q e h =
     let same : pair_of a p ≡ pair_of b q = cc in
     subst P (ap (λ z. z.0) same) h
@@ -144,30 +145,30 @@ makes_bind : {A B : Type 0} (P : A → Type 0) (Q : B → Type 0) (m : Resolving
     → Makes Q (m >>= f)
 makes_bind {A = A} {B = B} P Q m f h g = record { from = λ s b q e. go s b q (m s) refl e }
   where
-    go : (s : Place) (b : B) (q : Place) (o : Option (A × Place)) → m s ≡ o → carry o f ≡ Some (b, q) → Q b
+    go : (s : FunctionScope) (b : B) (q : FunctionScope) (o : Option (A × FunctionScope)) → m s ≡ o → carry o f ≡ Some (b, q) → Q b
     go s b q None t e = cc
     go s b q (Some r) t e = (g r.0 (h.from s r.0 r.1 t)).from r.1 b q e
 
-makes_reading : {A : Type 0} (P : A → Type 0) (f : Place → Option A) → ((s : Place) (a : A) → f s ≡ Some a → P a) → Makes P (reading f)
+makes_reading : {A : Type 0} (P : A → Type 0) (f : FunctionScope → Option A) → ((s : FunctionScope) (a : A) → f s ≡ Some a → P a) → Makes P (reading f)
 makes_reading {A = A} P f h = record { from = λ s b q e. go s b q (f s) refl e }
   where
-    go : (s : Place) (b : A) (q : Place) (o : Option A) → f s ≡ o → option_map (λ a. pair_of a s) o ≡ Some (b, q) → P b
+    go : (s : FunctionScope) (b : A) (q : FunctionScope) (o : Option A) → f s ≡ o → option_map (λ a. pair_of a s) o ≡ Some (b, q) → P b
     go s b q None t e = cc
     go s b q (Some a) t e = made_as P a b s q e (h s a t)
 
 makes_block : {A : Type 0} (P : A → Type 0) (m : Resolving A) → Makes P m → Makes P (in_block m)
 makes_block {A = A} P m h = record { from = λ s b q e. go s b q (m (entering s)) refl e }
   where
-    go : (s : Place) (b : A) (q : Place) (o : Option (A × Place)) → m (entering s) ≡ o → closed s o ≡ Some (b, q) → P b
+    go : (s : FunctionScope) (b : A) (q : FunctionScope) (o : Option (A × FunctionScope)) → m (entering s) ≡ o → closed s o ≡ Some (b, q) → P b
     go s b q None t e = cc
     go s b q (Some r) t e = made_as P r.0 b (behind_block s r.1) q e (h.from (entering s) r.0 r.1 t)
 
 -- ---- EXPRESSIONS
 
 expression_made : (d : Declared) (e : Tree) → IsPlaced e → Makes Said (expression d e)
-expression_made d e p = makes_reading Said (value_at d e) read
+expression_made d e p = makes_reading Said (resolved_value d e) read
   where
-    read : (s : Place) (t : TypedTree) → value_at d e s ≡ Some t → Said t
+    read : (s : FunctionScope) (t : TypedTree) → resolved_value d e s ≡ Some t → Said t
     read s t h =
         let m = mapped tree_in (value d s.scope e) t h in
         subst Said m.is (value_said d s.scope e m.part p m.there)
@@ -175,7 +176,7 @@ expression_made d e p = makes_reading Said (value_at d e) read
 calling_made : (d : Declared) (line : ℕ) (x : List ℕ) (es : Trees) → IsLine line → ArePlaced es → Makes Said (reading (calling d line x es))
 calling_made d line x es l p = makes_reading Said (calling d line x es) read
   where
-    read : (s : Place) (t : TypedTree) → calling d line x es s ≡ Some t → Said t
+    read : (s : FunctionScope) (t : TypedTree) → calling d line x es s ≡ Some t → Said t
     read s t h =
         let m = mapped tree_in_call (call_made d s.scope line x es) t h in
         let b = both_there (called line) (callee d x) (values d s.scope es) m.part m.there in
@@ -267,7 +268,8 @@ declared_made d t h =
 
 -- ---- ASSIGNMENTS
 
-assigned_to_made : (d : Declared) (line k : ℕ) (i : Option Tree) (e : Tree) → IsLine line → IsPlacedIf i → IsPlaced e → Makes (Made 1) (assigned_to d line k i e)
+assigned_to_made : (d : Declared) (line k : ℕ) (i : Option Tree) (e : Tree) → IsLine line → IsPlacedIf i → IsPlaced e
+    → Makes (Made 1) (assigned_to d line k i e)
 assigned_to_made d line k None e l h p = store_made d k e p
 assigned_to_made d line k (Some i) e l h p =
     makes_bind Said (Made 1) (expression d i) (λ j. expression d e >>= λ v. done (element_command line k j v)) (expression_made d i h)

@@ -6,7 +6,8 @@ use Rattle.secrec_ast.specs.Tree.{Tree, Trees, number, truth, variable, call, in
 use Rattle.secrec_ast.specs.Tree as Tree'
 use Rattle.secrec_ast.specs.Statements.{DeclarationTree, AssignmentTree, StartTree, starts_with_nothing, starts_with_declaration, starts_with_assignment}
 use Rattle.secrec_ast.specs.Statements.{StepTree, steps_by_nothing, steps_by_assignment, steps_by_expression, StatementTree, block, empty, branch, choice}
-use Rattle.secrec_ast.specs.Statements.{while_loop, do_loop, for_loop, breaks, continues, returns, assertion, declaration, assignment, evaluation, StatementTrees}
+use Rattle.secrec_ast.specs.Statements.{while_loop, do_loop, for_loop, breaks, continues, returns, assertion, declaration, assignment, evaluation}
+use Rattle.secrec_ast.specs.Statements.{StatementTrees}
 use Rattle.secrec_ast.specs.Statements as Statements'
 use Rattle.secrec_ast.specs.Programs.{FunctionTree, ProgramTree}
 use Rattle.domain_types.specs.Declarations.{functions_of}

@@ -1,7 +1,7 @@
 use Rattle.std.proofs.Common.{rules, ◌≡◌, ◌∙◌, ◌∷◌, map, ap, sym, Vec, Global}
 use Rattle.std.proofs.lemmas.List.{map-append}
 use Rattle.std.proofs.lemmas.Result.{err_from_is_err_and}
-use Rattle.bytecode.specs.declared.code.Function.{Function}
+use Rattle.bytecode.specs.declared.code.CodeFunction.{CodeFunction}
 use Rattle.bytecode.specs.Decoded.{bodies_layout}
 use Rattle.bytecode.specs.InMemory.{raw_function, raw_head}
 use Rattle.bytecode.specs.Layouts.{read}
@@ -26,7 +26,7 @@ returns-in_err-next c =
     (read (bodies_layout ps (map raw_head c.args.heads.items)) c.args.reader.now) c.in_err-next.field-0.0
     (ap (map raw_head) more) c.in_err-next.ensures c.loop-head.invariant in
     let from = c.from_residual.ensures in
-    reads_err (λ (v : Vec Function Global). map raw_function v.items) _ _ _ _ (err_from_is_err_and c.from_residual.result from.1) stop
+    reads_err (λ (v : Vec CodeFunction Global). map raw_function v.items) _ _ _ _ (err_from_is_err_and c.from_residual.result from.1) stop
 
 pub loop-head-preserved : goal.loop-head-preserved
 loop-head-preserved c =

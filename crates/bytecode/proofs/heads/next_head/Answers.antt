@@ -14,14 +14,25 @@ returns-in_err-registers c =
 
 pub returns-in_err-instructions : goal.returns-in_err-instructions
 returns-in_err-instructions c =
-    let stop = head_stops_at_count c.in_ok-parameters.parameters c.in_ok-gives.gives c.in_ok-count.count c.in_ok-registers.registers.items _ _ _ _ _ c.in_err-instructions.field-0.0
+    let stop = head_stops_at_count c.in_ok-parameters.parameters c.in_ok-gives.gives c.in_ok-count.count c.in_ok-registers.registers.items _ _ _ _ _
+    c.in_err-instructions.field-0.0
     c.in_ok-parameters.ensures c.in_ok-gives.ensures.reads c.in_ok-count.ensures c.in_ok-registers.ensures c.in_err-instructions.ensures in
     let from = c.from_residual-in_err-instructions.ensures in
     reads_err raw_head _ _ _ _ (err_from_is_err_and c.from_residual-in_err-instructions.result from.1) stop
 
 pub returns : goal.returns
 returns c =
-    head_ok c.in_ok-parameters.parameters c.in_ok-gives.gives c.in_ok-count.count c.in_ok-registers.registers.items c.in_ok-instructions.instructions _ _ _ _ _ _
+    head_ok c.in_ok-parameters.parameters c.in_ok-gives.gives c.in_ok-count.count c.in_ok-registers.registers.items c.in_ok-instructions.instructions
+    _ _ _ _ _ _
     c.in_ok-parameters.ensures c.in_ok-gives.ensures.reads c.in_ok-count.ensures c.in_ok-registers.ensures c.in_ok-instructions.ensures
-    ∙ ap (λ g. Ok (record { parameters = c.in_ok-parameters.parameters; gives = g; registers = c.in_ok-registers.registers.items; instructions = c.in_ok-instructions.instructions }, c.short-3.new.self))
+    ∙ ap (λ g. Ok (
+      record {
+        parameters = c.in_ok-parameters.parameters;
+        gives = g;
+        registers = c.in_ok-registers.registers.items;
+        instructions =
+            c.in_ok-instructions.instructions;
+      },
+      c.short-3.new.self,
+    ))
     (sym c.return_of.ensures)

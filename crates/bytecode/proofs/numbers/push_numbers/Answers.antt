@@ -1,4 +1,4 @@
-use Rattle.bytecode.specs.Numbers.{number_in}
+use Rattle.bytecode.specs.inner.Numbers.{number_in}
 use Rattle.bytecode.proofs.Little.{more_numbers, one_number}
 use Rattle.bytecode.proofs.numbers.push_numbers.Goals as goal
 

@@ -1,6 +1,6 @@
 use Rattle.std.proofs.Common.{◌≡◌, ◌++◌, take}
 use Rattle.bytecode.specs.Written.{bytes_of}
-use Rattle.bytecode.specs.Numbers.{numbers_in}
+use Rattle.bytecode.specs.inner.Numbers.{numbers_in}
 use Rattle.bytecode.proofs.numbers.push_numbers.Given as goal
 
 abbrev pub invariant-loop-number : goal.invariant-loop-number

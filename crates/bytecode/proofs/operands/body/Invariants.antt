@@ -7,4 +7,5 @@ use Rattle.bytecode.proofs.operands.body.Given as goal
 
 abbrev pub invariant-loop-place : goal.invariant-loop-place
 invariant-loop-place l =
-    read (body_layout l.parameters l.fn.count) l.initial.reader ≡ after (map raw_instruction l.instructions.items) (read (body_layout l.parameters (l.fn.count - l.place)) l.reader)
+    read (body_layout l.parameters l.fn.count) l.initial.reader
+    ≡ after (map raw_instruction l.instructions.items) (read (body_layout l.parameters (l.fn.count - l.place)) l.reader)

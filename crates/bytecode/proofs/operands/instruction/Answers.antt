@@ -2,7 +2,7 @@ use Rattle.std.proofs.Common.{◌∙◌, ap, subst}
 use Rattle.bytecode.specs.Decoded.{operands, is_tag}
 use Rattle.bytecode.specs.InMemory.{raw_instruction}
 use Rattle.bytecode.specs.Layouts.{Field, Makes, BadTag, read}
-use Rattle.bytecode.specs.Reading.{Reads}
+use Rattle.bytecode.specs.inner.Reading.{Reads}
 use Rattle.bytecode.proofs.Reading.{reads_behind}
 use Rattle.bytecode.proofs.SameOperands.{same_operands, plain_unless_call}
 use Rattle.bytecode.proofs.operands.instruction.Goals as goal

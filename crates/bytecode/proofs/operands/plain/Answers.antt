@@ -7,13 +7,17 @@ use Rattle.bytecode.proofs.operands.plain.Goals as goal
 
 pub returns-in_err-word : goal.returns-in_err-word
 returns-in_err-word c =
-    let stop = operands_stop c.args.tag _ _ _ _ _ _ _ _ _ _ _ _ _ _ _ _ _ _ _ _ c.in_err-word.field-0.0 c.has_operator.ensures c.has_first.ensures c.has_truth.ensures c.has_second.ensures c.has_third.ensures c.has_line.ensures c.has_word.ensures
-    c.in_ok-operator.ensures.reads c.in_ok-first.ensures c.in_ok-truth.ensures.reads c.in_ok-second.ensures c.in_ok-third.ensures c.in_ok-line.ensures c.in_err-word.ensures in
+    let stop = operands_stop c.args.tag _ _ _ _ _ _ _ _ _ _ _ _ _ _ _ _ _ _ _ _ c.in_err-word.field-0.0 c.has_operator.ensures c.has_first.ensures
+    c.has_truth.ensures c.has_second.ensures c.has_third.ensures c.has_line.ensures c.has_word.ensures
+    c.in_ok-operator.ensures.reads c.in_ok-first.ensures c.in_ok-truth.ensures.reads c.in_ok-second.ensures c.in_ok-third.ensures c.in_ok-line.ensures
+    c.in_err-word.ensures in
     let from = c.from_residual-in_err-word.ensures in
     reads_err raw_instruction _ _ _ _ (err_from_is_err_and c.from_residual-in_err-word.result from.1) stop
 
 pub returns : goal.returns
 returns c =
-    operands_ok c.args.tag _ _ _ _ _ _ _ _ _ _ _ _ _ _ _ _ _ _ _ _ _ _ c.has_operator.ensures c.has_first.ensures c.has_truth.ensures c.has_second.ensures c.has_third.ensures c.has_line.ensures c.has_word.ensures
-    c.in_ok-operator.ensures.reads c.in_ok-first.ensures c.in_ok-truth.ensures.reads c.in_ok-second.ensures c.in_ok-third.ensures c.in_ok-line.ensures c.in_ok-word.ensures
+    operands_ok c.args.tag _ _ _ _ _ _ _ _ _ _ _ _ _ _ _ _ _ _ _ _ _ _ c.has_operator.ensures c.has_first.ensures c.has_truth.ensures
+    c.has_second.ensures c.has_third.ensures c.has_line.ensures c.has_word.ensures
+    c.in_ok-operator.ensures.reads c.in_ok-first.ensures c.in_ok-truth.ensures.reads c.in_ok-second.ensures c.in_ok-third.ensures c.in_ok-line.ensures
+    c.in_ok-word.ensures
     ∙ ap (λ i. Ok (i, c.word_if.new.self)) (sym c.made.ensures)

@@ -10,7 +10,8 @@ use Rattle.bytecode.proofs.operands.registers.Goals as goal
 pub returns-in_err-short : goal.returns-in_err-short
 returns-in_err-short c =
     let stop = repeated_stops short_layout c.args.count c.loop-place.place (map (λ (r : Register). r.0) c.loop-place.registers.items) c.loop-place.reader
-    (read (repeated short_layout c.args.count) c.args.reader.now) c.in_err-short.field-0.0 c.loop-place-test.true c.in_err-short.ensures c.loop-place.invariant in
+    (read (repeated short_layout c.args.count) c.args.reader.now) c.in_err-short.field-0.0 c.loop-place-test.true c.in_err-short.ensures
+    c.loop-place.invariant in
     let from = c.from_residual.ensures in
     reads_err (λ (v : Vec Register Global). map (λ (r : Register). r.0) v.items) _ _ _ _ (err_from_is_err_and c.from_residual.result from.1) stop
 

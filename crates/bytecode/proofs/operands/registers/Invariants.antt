@@ -6,4 +6,5 @@ use Rattle.bytecode.proofs.operands.registers.Given as goal
 
 abbrev pub invariant-loop-place : goal.invariant-loop-place
 invariant-loop-place l =
-    read (repeated short_layout l.fn.count) l.initial.reader ≡ after (map (λ r. r.0) l.registers.items) (read (repeated short_layout (l.fn.count - l.place)) l.reader)
+    read (repeated short_layout l.fn.count) l.initial.reader
+    ≡ after (map (λ r. r.0) l.registers.items) (read (repeated short_layout (l.fn.count - l.place)) l.reader)

@@ -11,7 +11,7 @@ use Rattle.language_model.specs.Effects.{Run, carry, done}
 use Rattle.language_model.specs.Values.{Value}
 use Rattle.language_model.specs.Evaluation.{Frame, execute_all, entered, result_of, is_private, body_of}
 use Rattle.value_steps.specs.Views.{value_seen}
-use Rattle.clear_eval.specs.Views.{frame_seen}
+use Rattle.clear_eval.specs.inner.Views.{frame_seen}
 use Rattle.clear_eval.proofs.Sound.{body_sound}
 use Rattle.clear_eval.proofs.Work.{body_within}
 use Rattle.clear_eval.proofs.beginning.begin.Goals as goal
@@ -24,17 +24,20 @@ returns c =
     let b = c.args.binding.now in
     let xs = map value_seen c.args.arguments.items in
     let there : slice_get fs k ≡ Some g =
-    c.requires.fitting.there ∙ ap Some (sym (c.index-functions-number.is ∙ get_or_from_slice_get fs k c.requires.fitting.function g c.requires.fitting.there)) in
+    c.requires.fitting.there ∙ ap Some
+    (sym (c.index-functions-number.is ∙ get_or_from_slice_get fs k c.requires.fitting.function g c.requires.fitting.there)) in
     let tree = typed_function_tree g in
     let among : slice_get (map typed_function_tree fs) k ≡ Some tree = slice_get-map typed_function_tree fs k ∙ ap (option_map typed_function_tree) there in
     let secret = c.is_private.ensures ∙ ap is_private c.given_domain.ensures in
     let frame = c.in_ok-frame.ensures.frame ∙ ap (λ ss. entered b ss xs) c.deref.ensures.value in
     record {
       around = refl;
-      room = refl;
+      depth = refl;
       executes = λ w calls s.
           let run : List Slot → Bool → Frame → Run Value =
-          λ slots private fr. carry (execute_all w calls (record { here = record { functions = map typed_function_tree fs; slots = slots; binding = b }; secret_result = private }) tree.body fr s) (λ g. done (result_of g)) in
+          λ slots private fr. carry (execute_all w calls
+          (record { here = record { functions = map typed_function_tree fs; slots = slots; binding = b }; secret_result = private }) tree.body fr
+          s) (λ g. done (result_of g)) in
           ap (λ o. body_of w calls (map typed_function_tree fs) o b xs s) among
           ∙ sym (ap (λ slots. run slots c.is_private.result (frame_seen c.in_ok-frame.frame.items)) c.deref-2.ensures.value
           ∙ ap (λ private. run tree.slots private (frame_seen c.in_ok-frame.frame.items)) secret

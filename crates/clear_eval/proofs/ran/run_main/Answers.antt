@@ -1,6 +1,6 @@
 use Rattle.std.proofs.Common.{arith, ◌<◌, List, [], ◌∷◌, length, refl}
 use Rattle.typed_tree.specs.declared.function.TypedFunction.{TypedFunction}
-use Rattle.clear_eval.specs.Standing.{HasRoomFor}
+use Rattle.clear_eval.specs.inner.Standing.{HasRoomFor}
 use Rattle.clear_eval.proofs.ran.run_main.Goals as goal
 
 first_has_room : (fs : List TypedFunction) → 0 < length fs → HasRoomFor fs 0 0

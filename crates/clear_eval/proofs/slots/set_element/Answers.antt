@@ -4,7 +4,7 @@ use Rattle.language_model.specs.Values.{Value}
 use Rattle.language_model.specs.Operations.{with_element}
 use Rattle.language_model.specs.Evaluation.{Flow, Frame, goes, put}
 use Rattle.value_steps.specs.Views.{value_seen, stage_seen}
-use Rattle.clear_eval.specs.Views.{frame_seen}
+use Rattle.clear_eval.specs.inner.Views.{frame_seen}
 use Rattle.clear_eval.proofs.slots.set_element.Goals as goal
 
 pub returns-clause-step : goal.returns-clause-step

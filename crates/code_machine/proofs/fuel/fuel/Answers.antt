@@ -1,6 +1,11 @@
-use Rattle.std.proofs.Common.{◌+◌, ◌*◌, ap, sym, ◌∙◌}
-use Rattle.code_machine.proofs.Budgets.{fuel-times}
+use Rattle.std.proofs.Common.{◌+◌, ◌*◌, sym, ◌∙◌, ap}
+use Rattle.verified_code.specs.Settled.{settled}
+use Rattle.code_model.specs.Meaning.{longest}
+use Rattle.code_machine.proofs.Worth.{worth_is}
 use Rattle.code_machine.proofs.fuel.fuel.Goals as goal
 
 pub returns : goal.returns
-returns c = ap (λ n. (c.args.left + 1) * (n + 1)) c.longest.ensures.exact ∙ sym (fuel-times c.args.code.now c.args.left)
+returns c =
+    let most = longest (settled c.args.code.now) in
+    ap (λ n. c.args.budget * (n + 1) + n + 1) c.longest-longest.ensures.exactly
+    ∙ ap (λ k. k + most + 1) (sym (worth_is most c.args.budget))

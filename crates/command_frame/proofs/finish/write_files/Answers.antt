@@ -15,7 +15,8 @@ returns-in-Err-clause-err g c =
 
 pub loop-entry-preserved : goal.loop-entry-preserved
 loop-entry-preserved g c = record {
-  only = among_more c.args.writes.now c.loop-entry.entry-index c.entry-item.result _ _ _ (omega arith) c.entry-item.is c.loop-entry.invariant.only c.write_file.ensures.only c.write_file.ensures.later c.write_file.ensures.still;
+  only = among_more c.args.writes.now c.loop-entry.entry-index c.entry-item.result _ _ _
+      (omega arith) c.entry-item.is c.loop-entry.invariant.only c.write_file.ensures.only c.write_file.ensures.later c.write_file.ensures.still;
   done =
       wrote_more c.args.writes.now c.loop-entry.entry-index c.entry-item.result (g.F.Files.state c.args.files.now) (g.F.Files.state c.loop-entry.files)
       (g.F.Files.state c.write_file.new.files) c.deref.result.now c.deref.ensures.value (omega arith) c.entry-item.is c.loop-entry.invariant.only.told

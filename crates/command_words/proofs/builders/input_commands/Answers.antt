@@ -5,4 +5,5 @@ use Rattle.command_words.proofs.builders.input_commands.Goals as goal
 pub returns : goal.returns
 unfolding input_app
 returns c =
-    c.with_command.ensures (with_subcommand bare_app run_app.top) deal_app (c.with_command-run.ensures bare_app run_app c.bare_command.ensures c.run_command.ensures) c.deal_command.ensures
+    c.with_command.ensures (with_subcommand bare_app run_app.top) deal_app
+    (c.with_command-run.ensures bare_app run_app c.bare_command.ensures c.run_command.ensures) c.deal_command.ensures

@@ -5,7 +5,8 @@ use Rattle.compare.proofs.planning.gates_of.Goals as goal
 pub loop-width-preserved : goal.loop-width-preserved
 loop-width-preserved c =
     record {
-      planned = comparing_more _ _ _ c.args.n c.loop-width.next c.loop-width.less c.loop-width.same c.loop-width.width-index _ (omega arith) c.loop-width.invariant.planned c.in_ok-push_step.ensures;
+      planned = comparing_more _ _ _ c.args.n c.loop-width.next c.loop-width.less c.loop-width.same c.loop-width.width-index _
+          (omega arith) c.loop-width.invariant.planned c.in_ok-push_step.ensures;
       number = omega arith;
       within = omega arith;
     }

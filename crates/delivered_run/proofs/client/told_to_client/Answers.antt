@@ -1,6 +1,6 @@
 use Rattle.std.proofs.Common.{◌≡◌, ◌+◌, List, [], ◌∷◌, ◌++◌, drop, map, sym, ◌∙◌, ap, append_assoc}
 use Rattle.sc_text.specs.declared.event.Event.{Event}
-use Rattle.joint_code.specs.Telling.{first_words, told_beside, told_by_three}
+use Rattle.told_events.specs.Telling.{first_words, told_beside, told_by_three}
 use Rattle.miner_core.specs.declared.notice.Notice.{Notice}
 use Rattle.miner_core.specs.Views.{notice_seen}
 use Rattle.delivered_run.proofs.Telling.{told_more}
@@ -12,7 +12,8 @@ loop-place-preserved c =
     let first = c.args.first.now in
     let two = drop k (map notice_seen c.args.second.now) in
     let three = drop k (map notice_seen c.args.third.now) in
-    let rest = told_beside (drop (k + 1) (map notice_seen first)) (drop (k + 1) (map notice_seen c.args.second.now)) (drop (k + 1) (map notice_seen c.args.third.now)) in
+    let rest = told_beside (drop (k + 1) (map notice_seen first)) (drop (k + 1) (map notice_seen c.args.second.now))
+    (drop (k + 1) (map notice_seen c.args.third.now)) in
     let item = c.index-first-place.result in
     let told =
     c.in_ok-event.ensures

@@ -2,7 +2,7 @@ use Rattle.std.proofs.Common.{◌≡◌, ◌-◌, List, map, sym, ◌∙◌, ap}
 use Rattle.proto_core.specs.declared.party.Number.{Number}
 use Rattle.proto_core.specs.Strand.{Notice, told_in}
 use Rattle.proto_core.specs.declared.party.Number.TheVariants.{One, Two}
-use Rattle.joint_code.specs.Telling.{told_beside}
+use Rattle.told_events.specs.Telling.{told_beside}
 use Rattle.link_schedule.specs.Net.{net_node}
 use Rattle.miner_core.specs.Views.{notice_seen}
 use Rattle.delivered_run.proofs.running.reported.Goals as goal

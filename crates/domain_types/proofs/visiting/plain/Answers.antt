@@ -3,7 +3,7 @@ use Rattle.std.specs.Prelude.{map, if◌then◌else◌}
 use Rattle.std.proofs.Math.Seq.{drop-cons}
 use Rattle.domain_types.specs.ProgramTypes.{is_without}
 use Rattle.domain_types.specs.Views.{tree_at}
-use Rattle.domain_types.specs.WorkList.{added, with_plain}
+use Rattle.domain_types.specs.inner.WorkList.{added, with_plain}
 use Rattle.domain_types.proofs.visiting.plain.Goals as goal
 use Rattle.domain_types.proofs.visiting.plain.Goals.{then-is_plain+in_ok-list, else-is_plain}
 
@@ -14,7 +14,8 @@ loop-number-preserved c =
     let is = c.loop-number.list in
     let x = c.index-functions-number.result in
     let behind : suc n ≡ n + 1 = omega arith in
-    let next : drop n fs ≡ x ∷ drop (n + 1) fs = drop-cons fs n x c.loop-number-test.true ∙ ap (λ z. z ∷ drop (suc n) fs) (sym c.index-functions-number.is) ∙ ap (λ m. x ∷ drop m fs) behind in
+    let next : drop n fs ≡ x ∷ drop (n + 1) fs =
+    drop-cons fs n x c.loop-number-test.true ∙ ap (λ z. z ∷ drop (suc n) fs) (sym c.index-functions-number.is) ∙ ap (λ m. x ∷ drop m fs) behind in
     let told : c.is_plain.result ≡ is_without x.now.variables.items = c.is_plain.ensures in
     let choose = λ (b : Bool). if b then added is (record { function = n; binding = [] }) else is in
     let chosen : choose (is_without x.now.variables.items) ≡ c.if-is_plain.list =

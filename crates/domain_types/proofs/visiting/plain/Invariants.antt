@@ -1,7 +1,7 @@
 use Rattle.std.proofs.Common.{◌≡◌, [], drop}
 use Rattle.std.specs.Prelude.{map}
 use Rattle.domain_types.specs.Views.{tree_at}
-use Rattle.domain_types.specs.WorkList.{with_plain}
+use Rattle.domain_types.specs.inner.WorkList.{with_plain}
 use Rattle.domain_types.proofs.visiting.plain.Given as goal
 
 abbrev pub invariant-loop-number : goal.invariant-loop-number

@@ -5,7 +5,7 @@ use Rattle.std.specs.BTreeSet.{contains}
 use Rattle.std.specs.Ordering.{nat_cmp}
 use Rattle.domain_types.specs.Views.{declared, tree_at, calls_seen}
 use Rattle.domain_types.specs.Instances.{instance_seen}
-use Rattle.domain_types.specs.WorkList.{with_calls, with_plain, plain_instances, instance_calls, is_called, AreVisited}
+use Rattle.domain_types.specs.inner.WorkList.{with_calls, with_plain, plain_instances, instance_calls, is_called, AreVisited}
 use Rattle.domain_types.proofs.WorkList.{begun, next_visited, next_least, next_called}
 use Rattle.domain_types.proofs.visiting.visit_all.Goals as goal
 
@@ -14,7 +14,7 @@ loop-next-init c =
     let d = declared c.args.declarations.now in
     let same : c.in_ok-list.list ≡ plain_instances d = c.in_ok-list.ensures ∙ ap (λ fs. with_plain [] 0 (map tree_at fs)) c.deref.ensures.value in
     record {
-      worst = refl;
+      least_fault = refl;
       visited = subst (AreVisited d (plain_instances d) []) (sym same) (begun d (plain_instances d));
       called = λ k. let e = c.new-called.ensures.empty in grind arith;
     }
@@ -26,13 +26,16 @@ loop-next-preserved c =
     let n = c.loop-next.next in
     let is = c.loop-next.list in
     let js = c.in_ok-list-2.list in
-    let made : calls_seen c.deref-in-loop-next.result.now ≡ instance_calls d i = ap calls_seen c.deref-in-loop-next.ensures.value ∙ c.in_ok-calls.ensures.calls in
+    let made : calls_seen c.deref-in-loop-next.result.now ≡ instance_calls d i =
+    ap calls_seen c.deref-in-loop-next.ensures.value ∙ c.in_ok-calls.ensures.calls in
     let grown : js ≡ with_calls is (instance_calls d i) = c.in_ok-list-2.ensures.list ∙ ap (with_calls is) made in
     let there : slice_get is n ≡ Some i = c.instance.ensures in
     record {
-      worst = next_least d n is js i c.args.worst.now c.loop-next.worst c.visit.new.worst there grown c.loop-next.invariant.worst c.in_ok-calls.ensures.worst;
+      least_fault = next_least d n is js i c.args.least_fault.now c.loop-next.least_fault c.visit.new.least_fault there grown
+          c.loop-next.invariant.least_fault c.in_ok-calls.ensures.least_fault;
       visited = next_visited d (plain_instances d) n is js i there grown c.loop-next.invariant.visited;
       called =
-          λ k. next_called d n is js i k (contains nat_cmp c.loop-next.called k) (contains nat_cmp c.with_calls.new.called k) there grown (c.loop-next.invariant.called k)
+          λ k. next_called d n is js i k (contains nat_cmp c.loop-next.called k) (contains nat_cmp c.with_calls.new.called k) there grown
+          (c.loop-next.invariant.called k)
           (c.in_ok-list-2.ensures.called k ∙ ap (λ cs. contains nat_cmp c.loop-next.called k || is_called k cs) made);
     }

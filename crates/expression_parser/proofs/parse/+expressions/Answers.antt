@@ -13,7 +13,8 @@ pub more-returns-then-not-is-clause-step : goal.more-returns-then-not-is-clause-
 more-returns-then-not-is-clause-step t c =
     let i = c.loop-token.invariant.step in
     let f = c.in-Some.ensures.cases in
-    i.2 ∙ more_stop (at_most (c.args.room - 1) 9) (list_of c.loop-token.found) i.0 c.loop-token.rest.now c.in-Some.token.now c.in-Some.behind.now f.0 (sym c.is.ensures ∙ c.if-not-is.true)
+    i.2 ∙ more_stop (at_most (c.args.max_height - 1) 9) (list_of c.loop-token.found) i.0 c.loop-token.rest.now c.in-Some.token.now
+    c.in-Some.behind.now f.0 (sym c.is.ensures ∙ c.if-not-is.true)
 
 pub more-loop-token-preserved : goal.more-loop-token-preserved
 more-loop-token-preserved t c =
@@ -21,13 +22,16 @@ more-loop-token-preserved t c =
     let f = c.in-Some.ensures.cases in
     let b = c.in_ok-before.ensures in
     let a = c.in_ok-found.ensures in
-    let inner = at_most (c.args.room - 1) 9 in
+    let inner = at_most (c.args.max_height - 1) 9 in
     let m = c.in-Some.behind.now in
     let r = c.in_ok-before.behind.now in
     let next = c.in_ok-before.next in
     let e : inner m ≡ Ok (tree_of next, r) = read tree_of c.operators-next.result (inner m) (next, c.in_ok-before.behind) b.1 c.operators-next.ensures.step in
-    let low : (next.height ≡ tree_height next) × (next.height ≤ c.args.room - 1) = holds c.operators-next.result (next, c.in_ok-before.behind) b.1 (λ x. (x.0.height ≡ tree_height x.0) × (x.0.height ≤ c.args.room - 1)) c.operators-next.ensures.height in
-    let less : length r < length m = holds c.operators-next.result (next, c.in_ok-before.behind) b.1 (λ x. length x.1.now < length m) c.operators-next.ensures.shorter in
+    let low : (next.height ≡ tree_height next) × (next.height ≤ c.args.max_height - 1) =
+    holds c.operators-next.result (next, c.in_ok-before.behind) b.1
+    (λ x. (x.0.height ≡ tree_height x.0) × (x.0.height ≤ c.args.max_height - 1)) c.operators-next.ensures.height in
+    let less : length r < length m =
+    holds c.operators-next.result (next, c.in_ok-before.behind) b.1 (λ x. length x.1.now < length m) c.operators-next.ensures.shorter in
     let same : c.in_ok-before.before.height ≡ c.loop-token.found.height = ap (λ (n : ParsedTrees). n.height) b.0 in
     let front_is = ap length f.0 in
     record {
@@ -37,7 +41,8 @@ more-loop-token-preserved t c =
         i.step.0 - 1,
         omega (arith, less, front_is, i.step.1),
         i.step.2
-            ∙ more_comma inner (list_of c.loop-token.found) i.step.0 c.loop-token.rest.now c.in-Some.token.now m r (tree_of next) f.0 (sym c.is.ensures ∙ c.if-not-is.false) e i.step.1
+            ∙ more_comma inner (list_of c.loop-token.found) i.step.0 c.loop-token.rest.now c.in-Some.token.now m r (tree_of next) f.0
+            (sym c.is.ensures ∙ c.if-not-is.false) e i.step.1
             ∙ sym (ap (λ l. front l (more inner (i.step.0 - 1) r)) (a.0 ∙ ap (λ (n : ParsedTrees). list_of n ++ tree_of next ∷ []) b.0)),
       );
     }
@@ -48,28 +53,34 @@ grow-loop-token-preserved t c =
     let f = c.in-Some.ensures.cases in
     let b = c.in_ok-first.ensures in
     let j = c.in_ok-left.ensures in
-    let inner = at_most (c.args.room - 1) (c.args.level - 1) in
+    let inner = at_most (c.args.max_height - 1) (c.args.level - 1) in
     let op = c.in-Some-operator_at.operator in
     let m = c.in-Some.behind.now in
     let r = c.in_ok-first.behind.now in
     let left = c.loop-token.left in
     let first = c.in_ok-first.first in
     let second = c.in_ok-first.second in
-    let e : inner m ≡ Ok (tree_of second, r) = read tree_of c.operators-right.result (inner m) (second, c.in_ok-first.behind) b.1 c.operators-right.ensures.step in
-    let low : (second.height ≡ tree_height second) × (second.height ≤ c.args.room - 1) = holds c.operators-right.result (second, c.in_ok-first.behind) b.1 (λ x. (x.0.height ≡ tree_height x.0) × (x.0.height ≤ c.args.room - 1)) c.operators-right.ensures.height in
-    let less : length r < length m = holds c.operators-right.result (second, c.in_ok-first.behind) b.1 (λ x. length x.1.now < length m) c.operators-right.ensures.shorter in
+    let e : inner m ≡ Ok (tree_of second, r) =
+    read tree_of c.operators-right.result (inner m) (second, c.in_ok-first.behind) b.1 c.operators-right.ensures.step in
+    let low : (second.height ≡ tree_height second) × (second.height ≤ c.args.max_height - 1) =
+    holds c.operators-right.result (second, c.in_ok-first.behind) b.1
+    (λ x. (x.0.height ≡ tree_height x.0) × (x.0.height ≤ c.args.max_height - 1)) c.operators-right.ensures.height in
+    let less : length r < length m =
+    holds c.operators-right.result (second, c.in_ok-first.behind) b.1 (λ x. length x.1.now < length m) c.operators-right.ensures.shorter in
     let same : tree_height first ≡ tree_height left = ap tree_height b.0 in
     let made = ap height j.0 in
     let front_is = ap length f.0 in
-    let room : height (tree_of left) < c.args.room = omega (arith, i.height.0, c.if-room-left.false) in
+    let max_height : height (tree_of left) < c.args.max_height = omega (arith, i.height.0, c.if-max_height-left.false) in
     record {
-      height = (j.1, omega (arith, low, same, made, j.1, room));
+      height = (j.1, omega (arith, low, same, made, j.1, max_height));
       shorter = omega (arith, less, front_is, i.shorter);
       step = (
         i.step.0 - 1,
         omega (arith, less, front_is, i.step.1),
         i.step.2
-            ∙ grow_goes c.args.level c.args.room inner i.step.0 (tree_of left) c.loop-token.rest.now c.in-Some.token.now m op (tree_of second) r f.0 (sym c.in-Some-operator_at.ensures) room e i.step.1
-            ∙ sym (ap (λ n. grow c.args.level c.args.room inner (i.step.0 - 1) n r) (j.0 ∙ ap (λ (n : Parsed). binary (place_of (tree_of n)) op (tree_of n) (tree_of second)) b.0)),
+            ∙ grow_goes c.args.level c.args.max_height inner i.step.0 (tree_of left) c.loop-token.rest.now c.in-Some.token.now m op
+            (tree_of second) r f.0 (sym c.in-Some-operator_at.ensures) max_height e i.step.1
+            ∙ sym (ap (λ n. grow c.args.level c.args.max_height inner (i.step.0 - 1) n r)
+            (j.0 ∙ ap (λ (n : Parsed). binary (place_of (tree_of n)) op (tree_of n) (tree_of second)) b.0)),
       );
     }

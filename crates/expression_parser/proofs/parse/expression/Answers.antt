@@ -4,4 +4,4 @@ use Rattle.expression_parser.proofs.parse.expression.Goals as goal
 
 pub returns-clause-answer : goal.returns-clause-answer
 returns-clause-answer c ended =
-    told (λ x. (tree_of x.0, x.1.now)) c.args.room c.args.tokens.now c.operators.result c.operators.ensures.step ended
+    told (λ x. (tree_of x.0, x.1.now)) c.args.max_height c.args.tokens.now c.operators.result c.operators.ensures.step ended

@@ -1,6 +1,6 @@
 use Rattle.std.proofs.Common.{subst}
 use Rattle.front_end.specs.Answer.{IsAnswer, IsJust}
-use Rattle.front_end.specs.Refusals.{lexer_error, parser_error, type_error}
+use Rattle.front_end.specs.Refusals.{lexer_error, parser_error, type_err}
 use Rattle.front_end.proofs.Judgements.{handed_on, unlexed, unlexed_only, has_just, unparsed, unparsed_only, spells_just, untyped, untyped_only, typed_only}
 use Rattle.front_end.proofs.reading.read_program.Goals as goal
 
@@ -31,7 +31,7 @@ returns-in_err-program-clause-only c judged j =
 
 pub returns-in_err-check-clause-answer : goal.returns-in_err-check-clause-answer
 returns-in_err-check-clause-answer c =
-    let e = handed_on c.from_residual-in_err-check.result (type_error c.in_err-check.field-0.0) c.from_residual-in_err-check.ensures.1 in
+    let e = handed_on c.from_residual-in_err-check.result (type_err c.in_err-check.field-0.0) c.from_residual-in_err-check.ensures.1 in
     let lexed = c.in_ok-tokens.ensures in
     let parsed = c.in_ok-program.ensures in
     let h = has_just c.args.text.now c.in_ok-tokens.tokens lexed.answer lexed.only_tokens lexed.only_refusal in
@@ -40,7 +40,7 @@ returns-in_err-check-clause-answer c =
 
 pub returns-in_err-check-clause-only : goal.returns-in_err-check-clause-only
 returns-in_err-check-clause-only c judged j =
-    let e = handed_on c.from_residual-in_err-check.result (type_error c.in_err-check.field-0.0) c.from_residual-in_err-check.ensures.1 in
+    let e = handed_on c.from_residual-in_err-check.result (type_err c.in_err-check.field-0.0) c.from_residual-in_err-check.ensures.1 in
     let lexed = c.in_ok-tokens.ensures in
     let parsed = c.in_ok-program.ensures in
     let h = has_just c.args.text.now c.in_ok-tokens.tokens lexed.answer lexed.only_tokens lexed.only_refusal in

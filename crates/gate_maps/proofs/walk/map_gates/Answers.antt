@@ -1,11 +1,12 @@
 use Rattle.std.proofs.Common.{◌≡◌, ◌+◌, [], ◌∷◌, ◌++◌, drop, refl, ◌∙◌, ap, subst}
 use Rattle.std.proofs.lemmas.List.{drop_all}
+use Rattle.shared_gates.proofs.GatesBehind.{next-gate}
 use Rattle.joint_run.specs.Parts.{ThreeLists}
 use Rattle.joint_run.specs.Three.{each_of, values_of}
 use Rattle.joint_run.specs.JointRuns.{CanRun}
 use Rattle.gate_maps.specs.Stands.{stand_of}
 use Rattle.gate_maps.proofs.Passing.{handed-on}
-use Rattle.gate_maps.proofs.Walking.{Walked, next-gate, begun, can-pass, passed, ended}
+use Rattle.gate_maps.proofs.Walking.{Walked, begun, can-pass, passed, ended}
 use Rattle.gate_maps.proofs.walk.map_gates.Goals as goal
 
 pub loop-place-init : goal.loop-place-init

@@ -1,12 +1,13 @@
 use Rattle.std.proofs.Common.{◌≡◌, ◌+◌, [], ◌∷◌, ◌++◌, length, drop, sym, ◌∙◌, ap, subst}
 use Rattle.std.proofs.lemmas.List.{drop_all}
 use Rattle.std.specs.List.{repeat}
+use Rattle.shared_gates.proofs.GatesBehind.{next-gate}
 use Rattle.proto_core.specs.declared.party.Number.TheVariants.{One, Two, Three}
 use Rattle.gates.specs.Blocks.{block_sizes}
 use Rattle.counted_net.specs.Scripts.{moves_of}
 use Rattle.gate_scripts.specs.Blocks.{block_moves}
 use Rattle.gate_scripts.specs.Sizes.{exchanged, AreKept}
-use Rattle.gate_scripts.proofs.Walking.{Walked, next-gate, begun, passed, ended}
+use Rattle.gate_scripts.proofs.Walking.{Walked, begun, passed, ended}
 use Rattle.gate_scripts.proofs.gate_by_gate.scripts.Goals as goal
 
 pub loop-gate-init : goal.loop-gate-init

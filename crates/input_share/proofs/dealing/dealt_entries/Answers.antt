@@ -10,7 +10,8 @@ loop-entry-preserved c =
     record {
       dealt = rw (c.draws.ensures)
           (more c.loop-entry.mine.items _ _ _ _ _ c.loop-entry.invariant.dealt
-          (dealt_entries-drop c.args.miner c.args.entries.now c.args.words.now c.loop-entry.entry-index c.loop-entry.drawn c.entry-item.result c.loop-entry-test.true c.entry-item.is)
+          (dealt_entries-drop c.args.miner c.args.entries.now c.args.words.now c.loop-entry.entry-index c.loop-entry.drawn c.entry-item.result
+          c.loop-entry-test.true c.entry-item.is)
           (c.in_ok-push.ensures.items ∙ ap (λ (e : ShareEntry). c.loop-entry.mine.items ++ e ∷ []) added));
       enough = omega arith;
     }

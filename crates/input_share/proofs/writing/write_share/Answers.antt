@@ -15,5 +15,6 @@ returns c =
     let shallow = subst (λ (d : Data). depth d ≤ 127) (sym same) (omega arith) in
     record {
       bytes = c.in_ok-bytes.ensures.text none ∙ ap compact_text same;
-      read_again = λ good. read_share_of-written c.in_ok-bytes.bytes.items c.args.file.now c.in_ok-bytes.ensures.utf8 (c.in_ok-bytes.ensures.reads_back shallow ∙ ap Some same) c.in_ok-file_json.ensures.four good;
+      read_again = λ good. read_share_of-written c.in_ok-bytes.bytes.items c.args.file.now c.in_ok-bytes.ensures.utf8
+          (c.in_ok-bytes.ensures.reads_back shallow ∙ ap Some same) c.in_ok-file_json.ensures.four good;
     }

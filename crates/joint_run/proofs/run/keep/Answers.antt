@@ -1,5 +1,6 @@
 use Rattle.std.proofs.Common.{◌≡◌, [], ◌∷◌, ◌++◌, sym, ◌∙◌, ap, subst, append_assoc}
-use Rattle.joint_run.specs.Three.{of_three, share_of, values_of}
+use Rattle.proto_core.specs.Parties.{of_three}
+use Rattle.joint_run.specs.Three.{share_of, values_of}
 use Rattle.joint_run.specs.Adding.{words_of}
 use Rattle.joint_run.proofs.run.keep.Goals as goal
 

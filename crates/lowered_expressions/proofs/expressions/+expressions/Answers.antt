@@ -236,7 +236,9 @@ arguments-loop-e-preserved t c =
     let x = c.e-item.result in
     let ts = map typed_tree (take i xs) in
     let e = typed_tree x in
-    let more : map typed_tree (take (i + 1) xs) ≡ ts ++ e ∷ [] = ap (map typed_tree) (take_more xs i x c.loop-e-test.true) ∙ map-append typed_tree (take i xs) (get_or xs i x ∷ []) ∙ ap (λ z. ts ++ typed_tree z ∷ []) (sym c.e-item.is) in
+    let more : map typed_tree (take (i + 1) xs) ≡ ts ++ e ∷ [] =
+    ap (map typed_tree) (take_more xs i x c.loop-e-test.true) ∙ map-append typed_tree (take i xs) (get_or xs i x ∷ [])
+    ∙ ap (λ z. ts ++ typed_tree z ∷ []) (sym c.e-item.is) in
     let before = built c.loop-e.body in
     let ks = arguments_kinds here (typed_trees_of ts) in
     let code = arguments_code number here bound ss (length b.kinds) (length b.pieces) (typed_trees_of ts) in
@@ -244,7 +246,8 @@ arguments-loop-e-preserved t c =
     let private : c.next_is_private-private.result ≡ next_is_private bound (drop i ss) =
     c.next_is_private-private.ensures ∙ ap (λ k. next_is_private bound (drop k ss)) counted in
     let n : length b.kinds + widths (typed_trees_of ts) ≡ length before.kinds =
-    sym (ap (λ (z : Built). length z.kinds) c.loop-e.invariant.code ∙ registers_more b ks code ∙ ap (λ k. length b.kinds + k) (several.arguments_registers here ts)) in
+    sym (ap (λ (z : Built). length z.kinds) c.loop-e.invariant.code ∙ registers_more b ks code
+    ∙ ap (λ k. length b.kinds + k) (several.arguments_registers here ts)) in
     let p : length b.pieces + length code ≡ length before.pieces =
     sym (ap (λ (z : Built). length z.pieces) c.loop-e.invariant.code ∙ places_more b ks code) in
     let taken : length ts ≡ i = several.length_taken xs i c.loop-e-test.true in
@@ -259,12 +262,15 @@ arguments-loop-e-preserved t c =
           ∙ ap (λ (z : Built). with_code z own last) c.loop-e.invariant.code
           ∙ then_code b ks own code last
           ∙ ap₂ (with_code b) (sym (several.kinds_more here ts e))
-          (sym (several.code_more number here bound ts e ss (length b.kinds) (length b.pieces) (drop i ss) (length before.kinds) (length before.pieces) slots n p))
-          ∙ ap (λ l. with_code b (arguments_kinds here (typed_trees_of l)) (arguments_code number here bound ss (length b.kinds) (length b.pieces) (typed_trees_of l))) (sym more);
+          (sym (several.code_more number here bound ts e ss (length b.kinds) (length b.pieces) (drop i ss) (length before.kinds)
+          (length before.pieces) slots n p))
+          ∙ ap (λ l. with_code b (arguments_kinds here (typed_trees_of l))
+          (arguments_code number here bound ss (length b.kinds) (length b.pieces) (typed_trees_of l))) (sym more);
       places =
           c.in_ok-push.ensures.items
           ∙ ap₂ (λ l r. l ++ r ∷ []) c.loop-e.invariant.places
-          (c.in_ok-register.ensures.register ∙ ap (λ (g : Bool). picked (lacks g (gives_private here e)) (length before.kinds) (length before.kinds + 1)) private)
+          (c.in_ok-register.ensures.register
+          ∙ ap (λ (g : Bool). picked (lacks g (gives_private here e)) (length before.kinds) (length before.kinds + 1)) private)
           ∙ sym (several.places_more number here bound ts e ss (length b.kinds) (drop i ss) (length before.kinds) slots n)
           ∙ ap (λ l. arguments_places number here bound ss (length b.kinds) (typed_trees_of l)) (sym more);
     }

@@ -1,7 +1,7 @@
 use Rattle.std.proofs.Common.{◌≡◌}
 use Rattle.std.specs.Prelude.{map}
 use Rattle.lowered_expressions.specs.Views.{piece_seen, step_seen}
-use Rattle.lowering.specs.Pieces.{placed}
+use Rattle.lowering.specs.inner.Pieces.{placed}
 use Rattle.lowering.proofs.functions.all_placed.Given as goal
 
 abbrev pub invariant-loop-piece : goal.invariant-loop-piece

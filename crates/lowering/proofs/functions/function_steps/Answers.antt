@@ -8,11 +8,11 @@ use Rattle.language_model.specs.Evaluation.{is_private}
 use Rattle.bytecode.specs.declared.kind.Kind.{Kind}
 use Rattle.code_model.specs.Kinds.{slot_kind}
 use Rattle.code_model.specs.Commands.{defaults_behind}
-use Rattle.lowered_expressions.specs.Built.{Piece}
+use Rattle.lowered_expressions.specs.Built.{BodyPiece}
 use Rattle.lowered_expressions.specs.Views.{built, here_of, numbers_of, piece_seen, step_seen}
 use Rattle.lowered_expressions.proofs.Building.{body_of}
-use Rattle.lowering.specs.Pieces.{with_commands}
-use Rattle.lowering.specs.Views.{place_seen}
+use Rattle.lowering.specs.inner.Pieces.{with_commands}
+use Rattle.lowering.specs.inner.Views.{place_seen}
 use Rattle.lowering.proofs.Bodies.{function_made, function_of}
 use Rattle.lowering.proofs.functions.function_steps.Goals as goal
 
@@ -31,8 +31,10 @@ returns c =
     ∙ function_made number fs f b registers (built c.statements.new.body) (built c.push_last.new.body) c.next_place-end.result steps
     (c.in_ok-registers.ensures ∙ ap (λ (ss : List Slot). map (slot_kind b) ss ++ defaults_behind ss) c.deref.ensures.value)
     (c.in_ok-statements.ensures
-    ∙ ap (λ (ps : List Piece). with_commands number (place_seen (record { around = c.args.around.now; secret_result = c.is_private.result })) (body_of registers ps) cs)
+    ∙ ap (λ (ps : List BodyPiece). with_commands number (place_seen (record { around = c.args.around.now; secret_result = c.is_private.result }))
+    (body_of registers ps) cs)
     (ap (map piece_seen) c.new.ensures.items)
-    ∙ ap₂ (λ (ss : List Slot) (secret : Bool). with_commands number (record { here = record { functions = fs; slots = ss; binding = b }; secret_result = secret })
+    ∙ ap₂ (λ (ss : List Slot) (secret : Bool). with_commands number
+    (record { here = record { functions = fs; slots = ss; binding = b }; secret_result = secret })
     (body_of registers []) cs) c.requires private)
     c.next_place-end.ensures c.in_ok-push_last.ensures c.in_ok-steps.ensures

@@ -5,9 +5,9 @@ use Rattle.std.proofs.lemmas.Result.{err_from_is_err_and}
 use Rattle.bytecode.specs.Written.{body_numbers, head_numbers, instruction_numbers}
 use Rattle.raw_steps.specs.Instructions.{instruction, raw_function}
 use Rattle.lowered_expressions.specs.Views.{step_seen}
-use Rattle.lowering.specs.Naming.{texts}
+use Rattle.lowering.specs.inner.Naming.{texts}
 use Rattle.lowering.specs.Narrow.{IsJust}
-use Rattle.lowering.specs.Views.{function_seen}
+use Rattle.lowering.specs.inner.Views.{function_seen}
 use Rattle.lowering.proofs.Short.{just_behind, handed}
 use Rattle.lowering.proofs.instructions.function.Goals as goal
 

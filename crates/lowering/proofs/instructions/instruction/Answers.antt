@@ -1,7 +1,7 @@
 use Rattle.std.proofs.Common.{sym, ◌∙◌}
 use Rattle.raw_steps.specs.Instructions.{instruction}
 use Rattle.lowered_expressions.specs.Views.{step_seen}
-use Rattle.lowering.specs.Naming.{texts}
+use Rattle.lowering.specs.inner.Naming.{texts}
 use Rattle.lowering.proofs.Short.{capped_is, refused}
 use Rattle.lowering.proofs.instructions.instruction.Goals as goal
 

@@ -3,7 +3,7 @@ use Rattle.std.specs.Prelude.{map}
 use Rattle.bytecode.specs.InMemory.{raw_instruction}
 use Rattle.raw_steps.specs.Instructions.{instruction}
 use Rattle.lowered_expressions.specs.Views.{step_seen}
-use Rattle.lowering.specs.Naming.{texts}
+use Rattle.lowering.specs.inner.Naming.{texts}
 use Rattle.lowering.proofs.instructions.instructions.Given as goal
 
 abbrev pub invariant-loop-step : goal.invariant-loop-step

@@ -4,7 +4,7 @@ use Rattle.std.specs.List.{flat_map}
 use Rattle.std.proofs.lemmas.List.{take_more, map-append, flat_map_more}
 use Rattle.raw_steps.specs.Instructions.{naming_all, step_names}
 use Rattle.lowered_expressions.specs.Views.{step_seen}
-use Rattle.lowering.specs.Naming.{texts}
+use Rattle.lowering.specs.inner.Naming.{texts}
 use Rattle.lowering.proofs.Noting.{naming_both}
 use Rattle.lowering.proofs.naming.note_steps.Goals as goal
 
@@ -15,7 +15,8 @@ loop-step-preserved c = λ same.
     let x = c.step-item.result in
     let is = map step_seen (take i xs) in
     let first = texts c.args.names.now in
-    let more : map step_seen (take (i + 1) xs) ≡ is ++ step_seen x ∷ [] = ap (map step_seen) (take_more xs i x c.loop-step-test.true) ∙ map-append step_seen (take i xs) (get_or xs i x ∷ []) ∙ ap (λ z. is ++ step_seen z ∷ []) (sym c.step-item.is) in
+    let more : map step_seen (take (i + 1) xs) ≡ is ++ step_seen x ∷ [] = ap (map step_seen) (take_more xs i x c.loop-step-test.true)
+    ∙ map-append step_seen (take i xs) (get_or xs i x ∷ []) ∙ ap (λ z. is ++ step_seen z ∷ []) (sym c.step-item.is) in
     let before = c.loop-step.invariant same in
     let now = c.in_ok-note_step.ensures before.1 in (
       now.0

@@ -1,9 +1,9 @@
 use Rattle.std.specs.Prelude.{map}
 use Rattle.std.proofs.lemmas.Result.{err_from_is_err_and}
 use Rattle.raw_steps.specs.Instructions.{raw_function}
-use Rattle.lowering.specs.Naming.{texts}
+use Rattle.lowering.specs.inner.Naming.{texts}
 use Rattle.lowering.specs.Narrow.{IsJustOfSome}
-use Rattle.lowering.specs.Views.{function_seen}
+use Rattle.lowering.specs.inner.Views.{function_seen}
 use Rattle.lowering.proofs.Short.{some_seen, handed}
 use Rattle.lowering.proofs.programs.all_functions.Goals as goal
 

@@ -2,8 +2,8 @@ use Rattle.std.proofs.Common.{◌≡◌, take}
 use Rattle.std.specs.Prelude.{map}
 use Rattle.bytecode.specs.InMemory.{raw_function}
 use Rattle.raw_steps.specs.Instructions.{raw_function as raw_of}
-use Rattle.lowering.specs.Naming.{texts}
-use Rattle.lowering.specs.Views.{function_seen}
+use Rattle.lowering.specs.inner.Naming.{texts}
+use Rattle.lowering.specs.inner.Views.{function_seen}
 use Rattle.lowering.proofs.programs.all_functions.Given as goal
 
 abbrev pub invariant-loop-steps : goal.invariant-loop-steps

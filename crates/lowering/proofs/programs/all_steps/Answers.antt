@@ -13,7 +13,8 @@ loop-instance-preserved c =
     let x = c.instance-item.result in
     let code = instance_code (typed_program_tree c.args.program.now).functions (numbers_in c.args.instances.now) in
     let is = map instance_seen (take i xs) in
-    let more : map instance_seen (take (i + 1) xs) ≡ is ++ instance_seen x ∷ [] = ap (map instance_seen) (take_more xs i x c.loop-instance-test.true) ∙ map-append instance_seen (take i xs) (get_or xs i x ∷ []) ∙ ap (λ z. is ++ instance_seen z ∷ []) (sym c.instance-item.is) in
+    let more : map instance_seen (take (i + 1) xs) ≡ is ++ instance_seen x ∷ [] = ap (map instance_seen) (take_more xs i x c.loop-instance-test.true)
+    ∙ map-append instance_seen (take i xs) (get_or xs i x ∷ []) ∙ ap (λ z. is ++ instance_seen z ∷ []) (sym c.instance-item.is) in
     c.in_ok-push_steps.ensures
     ∙ ap₂ (λ l r. l ++ r ∷ []) c.loop-instance.invariant c.in_ok-steps.ensures
     ∙ sym (map-append code is (instance_seen x ∷ []))

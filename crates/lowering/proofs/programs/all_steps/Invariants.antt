@@ -3,7 +3,7 @@ use Rattle.std.specs.Prelude.{map}
 use Rattle.typed_tree.specs.Programs.{typed_program_tree}
 use Rattle.reached_instances.specs.Views.{instances_seen}
 use Rattle.code_model.specs.Programs.{instance_code, numbers_in}
-use Rattle.lowering.specs.Views.{function_seen}
+use Rattle.lowering.specs.inner.Views.{function_seen}
 use Rattle.lowering.proofs.programs.all_steps.Given as goal
 
 abbrev pub invariant-loop-instance : goal.invariant-loop-instance

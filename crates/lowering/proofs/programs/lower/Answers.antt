@@ -5,9 +5,9 @@ use Rattle.typed_tree.specs.Programs.{typed_program_tree}
 use Rattle.verified_code.specs.Steps.{Function}
 use Rattle.code_model.specs.Programs.{code_of}
 use Rattle.raw_steps.specs.Instructions.{names_of, raw_code_of, raw_function}
-use Rattle.lowering.specs.Naming.{texts}
+use Rattle.lowering.specs.inner.Naming.{texts}
 use Rattle.lowering.specs.Narrow.{IsJustOfSome, IsJustRefusal}
-use Rattle.lowering.specs.Views.{function_seen}
+use Rattle.lowering.specs.inner.Views.{function_seen}
 use Rattle.lowering.proofs.Short.{just_of_code, handed}
 use Rattle.lowering.proofs.programs.lower.Goals as goal
 

@@ -2,7 +2,7 @@ use Rattle.std.proofs.Common.{◌≡◌, ◌+◌, ◌-◌, length, refl, ap, ◌
 use Rattle.lowered_expressions.specs.Built.{Built}
 use Rattle.lowered_expressions.specs.Views.{built}
 use Rattle.lowered_expressions.proofs.Building.{body_of}
-use Rattle.lowering.specs.Pieces.{with_settled}
+use Rattle.lowering.specs.inner.Pieces.{with_settled}
 use Rattle.lowering.proofs.SettledParts.{part_begins, part_next, part_length}
 use Rattle.lowering.proofs.settling.settle.Goals as goal
 

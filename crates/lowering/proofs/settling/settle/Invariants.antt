@@ -1,6 +1,6 @@
 use Rattle.std.proofs.Common.{◌≡◌, ◌-◌, length}
 use Rattle.lowered_expressions.specs.Views.{built}
-use Rattle.lowering.specs.Pieces.{with_settled}
+use Rattle.lowering.specs.inner.Pieces.{with_settled}
 use Rattle.lowering.proofs.settling.settle.Given as goal
 
 abbrev pub invariant-loop-place : goal.invariant-loop-place

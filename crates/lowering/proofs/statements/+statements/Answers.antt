@@ -11,8 +11,8 @@ use Rattle.code_model.specs.Commands.{command_width, command_kinds}
 use Rattle.code_model.proofs.Widths.{expression_registers}
 use Rattle.lowered_expressions.specs.Built.{Built, whole}
 use Rattle.lowered_expressions.specs.Views.{built}
-use Rattle.lowering.specs.Pieces.{command_pieces, with_commands}
-use Rattle.lowering.specs.Views.{numbers_at, place_seen}
+use Rattle.lowering.specs.inner.Pieces.{command_pieces, with_commands}
+use Rattle.lowering.specs.inner.Views.{numbers_at, place_seen}
 use Rattle.lowering.proofs.Weights.{weight, weights, weights_item}
 use Rattle.lowering.proofs.SettledParts.{part_length}
 use Rattle.lowering.proofs.Behind.{places_behind, places_step}
@@ -46,7 +46,9 @@ statements-loop-each-preserved t c =
     let number = numbers_at c.args.at.now in
     let at = place_seen c.args.at.now in
     let b = built c.args.body.now in
-    let more : map command (take (i + 1) xs) ≡ cs ++ command x ∷ [] = ap (map command) (take_more xs i x c.loop-each-test.true) ∙ map-append command (take i xs) (get_or xs i x ∷ []) ∙ ap (λ z. cs ++ command z ∷ []) (sym c.each-item.is) in
+    let more : map command (take (i + 1) xs) ≡ cs ++ command x ∷ [] =
+    ap (map command) (take_more xs i x c.loop-each-test.true) ∙ map-append command (take i xs) (get_or xs i x ∷ [])
+    ∙ ap (λ z. cs ++ command z ∷ []) (sym c.each-item.is) in
     commands_more number at b (built c.loop-each.body) (built c.statement.new.body) cs (command x) c.loop-each.invariant c.in_ok-statement.ensures
     ∙ ap (λ l. with_commands number at b (commands_of l)) (sym more)
 
@@ -75,7 +77,8 @@ choice-set-requires-2 t c =
     let p5 = places_behind b4 (built c.statement-2.new.body) (command_kinds at.here (command c.args.second.now))
     (command_pieces number at (length b4.kinds) (length b4.pieces) (command c.args.second.now)) c.in_ok-statement-2.ensures in
     let p6 = ap (λ (z : Built). length z.pieces) c.set.ensures
-    ∙ length-set (built c.statement-2.new.body).pieces c.next_place-branch.result (whole (Branch c.next_register-condition.result false c.next_place-target.result)) in
+    ∙ length-set (built c.statement-2.new.body).pieces c.next_place-branch.result
+    (whole (Branch c.next_register-condition.result false c.next_place-target.result)) in
     omega (arith, p4, p5, p6, c.next_place-jump.ensures)
 
 pub choice-returns : goal.choice-returns
@@ -89,7 +92,8 @@ choice-returns t c =
     (built c.statement-2.new.body) (built c.set.new.self) (built c.set-2.new.self)
     (expression_kinds at.here e) (command_kinds at.here x) (command_kinds at.here y)
     (λ n p. expression_code number at.here n p e) (λ n p. command_pieces number at n p x) (λ n p. command_pieces number at n p y)
-    (width e) (command_width x) c.next_register-condition.result c.next_place-branch.result c.next_place-jump.result c.next_place-target.result c.next_place-end.result
+    (width e) (command_width x) c.next_register-condition.result c.next_place-branch.result c.next_place-jump.result c.next_place-target.result
+    c.next_place-end.result
     c.in_ok-expression.ensures c.in_ok-push.ensures c.in_ok-statement.ensures c.in_ok-push-2.ensures c.in_ok-statement-2.ensures c.set.ensures c.set-2.ensures
     (expression_registers at.here e) (command_registers at.here x) c.next_register-condition.ensures c.next_place-branch.ensures c.next_place-jump.ensures
     c.next_place-target.ensures c.next_place-end.ensures
@@ -166,7 +170,8 @@ turns-returns t c =
     loop_made (numbers_at c.args.at.now) (place_seen c.args.at.now) (typed_tree c.args.e.now) (command c.args.step.now) (command c.args.repeated.now)
     (built c.args.body.now) (built c.push.new.self) (built c.statement.new.body) (built c.statement-2.new.body) (built c.expression.new.body)
     (built c.push-2.new.self) (built c.set.new.self) (built c.settle.new.body) (built c.settle-2.new.body)
-    c.next_place-jump.result c.next_place-start.result c.next_place-onward.result c.next_place-test.result c.next_register-condition.result c.next_place-end.result
+    c.next_place-jump.result c.next_place-start.result c.next_place-onward.result c.next_place-test.result c.next_register-condition.result
+    c.next_place-end.result
     (c.next_place-onward.result - c.next_place-start.result) (c.next_place-test.result - c.next_place-onward.result)
     c.in_ok-push.ensures c.in_ok-statement.ensures c.in_ok-statement-2.ensures c.in_ok-expression.ensures c.in_ok-push-2.ensures c.set.ensures
     c.settle.ensures c.settle-2.ensures c.next_place-jump.ensures c.next_place-start.ensures c.next_place-onward.ensures c.next_place-test.ensures

@@ -2,8 +2,8 @@ use Rattle.std.proofs.Common.{◌≡◌, ◌+◌, take}
 use Rattle.std.specs.Prelude.{map}
 use Rattle.typed_tree.specs.Commands.{command, commands_of}
 use Rattle.lowered_expressions.specs.Views.{built}
-use Rattle.lowering.specs.Pieces.{with_commands}
-use Rattle.lowering.specs.Views.{numbers_at, place_seen}
+use Rattle.lowering.specs.inner.Pieces.{with_commands}
+use Rattle.lowering.specs.inner.Views.{numbers_at, place_seen}
 use Rattle.lowering.proofs.Weights.{weight, weights}
 use Rattle.lowering.proofs.statements.+statements.Given as goal
 

@@ -1,6 +1,6 @@
 use Rattle.std.proofs.Common.{◌≡◌, length}
 use Rattle.name_resolution.specs.Functions.{with_parameters}
-use Rattle.name_resolution.specs.Views.{place_seen}
+use Rattle.name_resolution.specs.inner.Views.{place_seen}
 use Rattle.name_resolution.proofs.functions.parameters.Given as goal
 
 abbrev pub invariant-loop-parameter : goal.invariant-loop-parameter

@@ -4,7 +4,7 @@ use Rattle.std.proofs.lemmas.List.{take_more, map-append}
 use Rattle.domain_types.specs.Views.{declared, tree_at}
 use Rattle.typed_tree.specs.Programs.{typed_function_tree}
 use Rattle.name_resolution.specs.Functions.{typed_function, typed_functions}
-use Rattle.name_resolution.specs.Views.{functions_seen}
+use Rattle.name_resolution.specs.inner.Views.{functions_seen}
 use Rattle.name_resolution.proofs.Growing.{map_one, typed_functions_more}
 use Rattle.name_resolution.proofs.Missing.{passed_on, functions_none}
 use Rattle.name_resolution.proofs.functions.typed_functions.Goals as goal
@@ -16,9 +16,12 @@ loop-each-preserved c =
     let x = c.each-item.result in
     let d = declared c.args.declarations.now in
     let ts = map tree_at (take i xs) in
-    let more : map tree_at (take (i + 1) xs) ≡ ts ++ tree_at x ∷ [] = ap (map tree_at) (take_more xs i x c.loop-each-test.true) ∙ map-append tree_at (take i xs) (get_or xs i x ∷ []) ∙ ap (λ z. ts ++ tree_at z ∷ []) (sym c.each-item.is) in
+    let more : map tree_at (take (i + 1) xs) ≡ ts ++ tree_at x ∷ [] =
+    ap (map tree_at) (take_more xs i x c.loop-each-test.true) ∙ map-append tree_at (take i xs) (get_or xs i x ∷ [])
+    ∙ ap (λ z. ts ++ tree_at z ∷ []) (sym c.each-item.is) in
     ap (typed_functions d) more
-    ∙ typed_functions_more d ts (tree_at x) (map typed_function_tree c.loop-each.made.items) (typed_function_tree c.in_ok-next.next) c.loop-each.invariant c.in_ok-next.ensures
+    ∙ typed_functions_more d ts (tree_at x) (map typed_function_tree c.loop-each.made.items)
+    (typed_function_tree c.in_ok-next.next) c.loop-each.invariant c.in_ok-next.ensures
     ∙ ap Some (sym (ap (map typed_function_tree) c.in_ok-push.ensures.items ∙ map_one typed_function_tree c.loop-each.made.items c.in_ok-next.next))
 
 pub returns-in_err-next : goal.returns-in_err-next
@@ -26,5 +29,8 @@ returns-in_err-next c =
     let xs = c.deref-each-items.result.now in
     let x = c.each-item.result in
     let d = declared c.args.declarations.now in
-    let none : typed_function d (tree_at x) ≡ None → typed_functions d (map tree_at c.args.declarations.now.functions.items) ≡ None = λ e. ap (λ l. typed_functions d (map tree_at l)) (sym c.deref-each-items.ensures.value) ∙ functions_none d xs c.loop-each.each-index x c.loop-each-test.true c.each-item.is e in
-    passed_on typed_function_tree functions_seen c.in_err-next.field-0.0 (typed_function d (tree_at x)) _ c.from_residual.result c.from_residual.ensures.1 none c.in_err-next.ensures
+    let none : typed_function d (tree_at x) ≡ None → typed_functions d (map tree_at c.args.declarations.now.functions.items) ≡ None =
+    λ e. ap (λ l. typed_functions d (map tree_at l)) (sym c.deref-each-items.ensures.value)
+    ∙ functions_none d xs c.loop-each.each-index x c.loop-each-test.true c.each-item.is e in
+    passed_on typed_function_tree functions_seen c.in_err-next.field-0.0
+    (typed_function d (tree_at x)) _ c.from_residual.result c.from_residual.ensures.1 none c.in_err-next.ensures

@@ -4,7 +4,7 @@ use Rattle.std.proofs.lemmas.List.{take_more, map-append}
 use Rattle.secrec_ast.specs.Tree.{expression, trees_of}
 use Rattle.domain_types.specs.Views.{declared}
 use Rattle.name_resolution.specs.Order.{called_in, called_in_all}
-use Rattle.name_resolution.specs.Views.{found_seen}
+use Rattle.name_resolution.specs.inner.Views.{found_seen}
 use Rattle.name_resolution.proofs.Calls.{called_in_all_more}
 use Rattle.name_resolution.proofs.order.+expressions.Goals as goal
 
@@ -16,7 +16,8 @@ in_expressions-loop-each-preserved t c =
     let ts = map expression (take i xs) in
     let d = declared c.args.declarations.now in
     let fs = found_seen c.args.found in
-    let more : map expression (take (i + 1) xs) ≡ ts ++ expression x ∷ [] = ap (map expression) (take_more xs i x c.loop-each-test.true) ∙ map-append expression (take i xs) (get_or xs i x ∷ []) ∙ ap (λ z. ts ++ expression z ∷ []) (sym c.each-item.is) in
+    let more : map expression (take (i + 1) xs) ≡ ts ++ expression x ∷ [] = ap (map expression) (take_more xs i x c.loop-each-test.true)
+    ∙ map-append expression (take i xs) (get_or xs i x ∷ []) ∙ ap (λ z. ts ++ expression z ∷ []) (sym c.each-item.is) in
     c.in_ok-found.ensures
     ∙ ap (λ l. called_in d l (expression x)) c.loop-each.invariant
     ∙ sym (called_in_all_more d fs ts (expression x))

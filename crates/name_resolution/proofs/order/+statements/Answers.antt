@@ -4,7 +4,7 @@ use Rattle.std.proofs.lemmas.List.{take_more, map-append}
 use Rattle.secrec_ast.specs.Statements.{statement, statements_of}
 use Rattle.domain_types.specs.Views.{declared}
 use Rattle.name_resolution.specs.Order.{called_by, called_by_all}
-use Rattle.name_resolution.specs.Views.{found_seen}
+use Rattle.name_resolution.specs.inner.Views.{found_seen}
 use Rattle.name_resolution.proofs.Calls.{called_by_all_more}
 use Rattle.name_resolution.proofs.order.+statements.Goals as goal
 
@@ -16,7 +16,8 @@ in_statements-loop-each-preserved t c =
     let ts = map statement (take i xs) in
     let d = declared c.args.declarations.now in
     let fs = found_seen c.args.found in
-    let more : map statement (take (i + 1) xs) ≡ ts ++ statement x ∷ [] = ap (map statement) (take_more xs i x c.loop-each-test.true) ∙ map-append statement (take i xs) (get_or xs i x ∷ []) ∙ ap (λ z. ts ++ statement z ∷ []) (sym c.each-item.is) in
+    let more : map statement (take (i + 1) xs) ≡ ts ++ statement x ∷ [] = ap (map statement) (take_more xs i x c.loop-each-test.true)
+    ∙ map-append statement (take i xs) (get_or xs i x ∷ []) ∙ ap (λ z. ts ++ statement z ∷ []) (sym c.each-item.is) in
     c.in_ok-found.ensures
     ∙ ap (λ l. called_by d l (statement x)) c.loop-each.invariant
     ∙ sym (called_by_all_more d fs ts (statement x))

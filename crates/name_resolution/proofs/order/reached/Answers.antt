@@ -4,7 +4,7 @@ use Rattle.std.specs.List.{slice_get}
 use Rattle.std.proofs.lemmas.Option.{slice_get-map}
 use Rattle.domain_types.specs.Views.{declared, tree_at}
 use Rattle.name_resolution.specs.Order.{read_one, known_after}
-use Rattle.name_resolution.specs.Views.{found_seen}
+use Rattle.name_resolution.specs.inner.Views.{found_seen}
 use Rattle.name_resolution.proofs.Reading.{copied_is}
 use Rattle.name_resolution.proofs.order.reached.Goals as goal
 
@@ -13,7 +13,9 @@ loop-number-preserved c =
     let d = declared c.args.declarations.now in
     let n = c.loop-number.number in
     let fs = c.loop-number.found.functions.items in
-    let next : c.copied-next.result ≡ slice_get fs n = c.copied-next.ensures ∙ copied_is c.get.result c.deref.result.now n _ c.get.ensures.lookup.1 c.get.ensures.lookup.3 ∙ ap (λ l. slice_get l n) c.deref.ensures.value in
+    let next : c.copied-next.result ≡ slice_get fs n =
+    c.copied-next.ensures ∙ copied_is c.get.result c.deref.result.now n _ c.get.ensures.lookup.1 c.get.ensures.lookup.3
+    ∙ ap (λ l. slice_get l n) c.deref.ensures.value in
     c.in_ok-found-2.ensures
     ∙ ap (λ o. read_one d (found_seen c.loop-number.found) (option_map tree_at o)) next
     ∙ ap (read_one d (found_seen c.loop-number.found)) (sym (slice_get-map tree_at fs n))

@@ -1,7 +1,7 @@
 use Rattle.std.proofs.Common.{◌≡◌}
 use Rattle.domain_types.specs.Views.{declared}
 use Rattle.name_resolution.specs.Order.{known_after}
-use Rattle.name_resolution.specs.Views.{found_seen}
+use Rattle.name_resolution.specs.inner.Views.{found_seen}
 use Rattle.name_resolution.proofs.order.reached.Given as goal
 
 abbrev pub invariant-loop-number : goal.invariant-loop-number

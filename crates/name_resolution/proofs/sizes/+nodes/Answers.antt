@@ -12,6 +12,7 @@ nodes_all-loop-each-preserved t c =
     let i = c.loop-each.each-index in
     let x = c.each-item.result in
     let ts = map expression (take i xs) in
-    let more : map expression (take (i + 1) xs) ≡ ts ++ expression x ∷ [] = ap (map expression) (take_more xs i x c.loop-each-test.true) ∙ map-append expression (take i xs) (get_or xs i x ∷ []) ∙ ap (λ z. ts ++ expression z ∷ []) (sym c.each-item.is) in
+    let more : map expression (take (i + 1) xs) ≡ ts ++ expression x ∷ [] = ap (map expression) (take_more xs i x c.loop-each-test.true)
+    ∙ map-append expression (take i xs) (get_or xs i x ∷ []) ∙ ap (λ z. ts ++ expression z ∷ []) (sym c.each-item.is) in
     c.both-count.ensures (nodes_all (trees_of ts)) (nodes (expression x)) c.loop-each.invariant c.nodes.ensures
     ∙ ap counted (sym (nodes_all_more ts (expression x)) ∙ ap (λ l. nodes_all (trees_of l)) (sym more))

@@ -12,6 +12,7 @@ statements_nodes-loop-each-preserved t c =
     let i = c.loop-each.each-index in
     let x = c.each-item.result in
     let ts = map statement (take i xs) in
-    let more : map statement (take (i + 1) xs) ≡ ts ++ statement x ∷ [] = ap (map statement) (take_more xs i x c.loop-each-test.true) ∙ map-append statement (take i xs) (get_or xs i x ∷ []) ∙ ap (λ z. ts ++ statement z ∷ []) (sym c.each-item.is) in
+    let more : map statement (take (i + 1) xs) ≡ ts ++ statement x ∷ [] = ap (map statement) (take_more xs i x c.loop-each-test.true)
+    ∙ map-append statement (take i xs) (get_or xs i x ∷ []) ∙ ap (λ z. ts ++ statement z ∷ []) (sym c.each-item.is) in
     c.both-count.ensures (statements_nodes (statements_of ts)) (statement_nodes (statement x)) c.loop-each.invariant c.statement_nodes.ensures
     ∙ ap counted (sym (statements_nodes_more ts (statement x)) ∙ ap (λ l. statements_nodes (statements_of l)) (sym more))

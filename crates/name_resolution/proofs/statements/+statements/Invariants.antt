@@ -4,11 +4,12 @@ use Rattle.secrec_ast.specs.Statements.{statement, statements_of}
 use Rattle.domain_types.specs.Views.{declared}
 use Rattle.typed_tree.specs.Commands.{command, commands_of}
 use Rattle.name_resolution.specs.Bodies.{resolved_all}
-use Rattle.name_resolution.specs.Views.{place_seen}
+use Rattle.name_resolution.specs.inner.Views.{place_seen}
 use Rattle.name_resolution.proofs.statements.+statements.Given as goal
 
 abbrev pub invariant-statements-loop-each : goal.invariant-statements-loop-each
 invariant-statements-loop-each l = record {
-  made : resolved_all (declared l.declarations) (statements_of (map statement (take l.each-index l.each-items))) (place_seen l.initial.place) ≡ Some (commands_of (map command l.made.items), place_seen l.place);
+  made : resolved_all (declared l.declarations) (statements_of (map statement (take l.each-index l.each-items))) (place_seen l.initial.place)
+      ≡ Some (commands_of (map command l.made.items), place_seen l.place);
   outer : (place_seen l.place).scope.outer ≡ (place_seen l.initial.place).scope.outer;
 }

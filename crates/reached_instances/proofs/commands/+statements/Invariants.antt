@@ -6,4 +6,6 @@ use Rattle.reached_instances.specs.Views.{setting, instances_seen}
 use Rattle.reached_instances.proofs.commands.+statements.Given as goal
 
 abbrev pub invariant-statements-loop-each : goal.invariant-statements-loop-each
-invariant-statements-loop-each l = instances_seen l.found.items ≡ instances_seen l.initial.found.items ++ commands_calls (setting l.here) (commands_of (map command (take l.each-index l.each-items)))
+invariant-statements-loop-each l =
+    instances_seen l.found.items
+    ≡ instances_seen l.initial.found.items ++ commands_calls (setting l.here) (commands_of (map command (take l.each-index l.each-items)))

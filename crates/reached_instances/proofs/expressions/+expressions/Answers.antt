@@ -16,7 +16,8 @@ expressions-loop-each-preserved t c =
     let ts = map typed_tree (take i xs) in
     let w = setting c.args.here.now in
     let before = instances_seen c.args.found.now.items in
-    let more : map typed_tree (take (i + 1) xs) ≡ ts ++ typed_tree x ∷ [] = ap (map typed_tree) (take_more xs i x c.loop-each-test.true) ∙ map-append typed_tree (take i xs) (get_or xs i x ∷ []) ∙ ap (λ z. ts ++ typed_tree z ∷ []) (sym c.each-item.is) in
+    let more : map typed_tree (take (i + 1) xs) ≡ ts ++ typed_tree x ∷ [] = ap (map typed_tree) (take_more xs i x c.loop-each-test.true)
+    ∙ map-append typed_tree (take i xs) (get_or xs i x ∷ []) ∙ ap (λ z. ts ++ typed_tree z ∷ []) (sym c.each-item.is) in
     record {
       domains =
           c.in_ok-push.ensures.items
@@ -24,6 +25,7 @@ expressions-loop-each-preserved t c =
           ∙ sym (domains_more w ts (typed_tree x))
           ∙ ap (λ l. domains w (typed_trees_of l)) (sym more);
       calls =
-          then_calls before (instances_seen c.loop-each.found.items) (instances_seen c.expression.new.found.items) (calls_of_all w (typed_trees_of ts)) (calls w (typed_tree x)) c.loop-each.invariant.calls c.in_ok-domain.ensures.calls
+          then_calls before (instances_seen c.loop-each.found.items) (instances_seen c.expression.new.found.items)
+          (calls_of_all w (typed_trees_of ts)) (calls w (typed_tree x)) c.loop-each.invariant.calls c.in_ok-domain.ensures.calls
           ∙ ap (λ l. before ++ l) (sym (calls_of_all_more w ts (typed_tree x)) ∙ ap (λ l. calls_of_all w (typed_trees_of l)) (sym more));
     }

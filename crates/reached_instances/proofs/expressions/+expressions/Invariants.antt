@@ -9,5 +9,6 @@ use Rattle.reached_instances.proofs.expressions.+expressions.Given as goal
 abbrev pub invariant-expressions-loop-each : goal.invariant-expressions-loop-each
 invariant-expressions-loop-each l = record {
   domains : l.domains.items ≡ domains (setting l.here) (typed_trees_of (map typed_tree (take l.each-index l.each-items)));
-  calls : instances_seen l.found.items ≡ instances_seen l.initial.found.items ++ calls_of_all (setting l.here) (typed_trees_of (map typed_tree (take l.each-index l.each-items)));
+  calls : instances_seen l.found.items
+      ≡ instances_seen l.initial.found.items ++ calls_of_all (setting l.here) (typed_trees_of (map typed_tree (take l.each-index l.each-items)));
 }

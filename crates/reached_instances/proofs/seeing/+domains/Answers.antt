@@ -14,7 +14,8 @@ domains-loop-each-preserved t c =
     let x = c.each-item.result in
     let ts = map typed_tree (take i xs) in
     let w = setting c.args.here.now in
-    let more : map typed_tree (take (i + 1) xs) ≡ ts ++ typed_tree x ∷ [] = ap (map typed_tree) (take_more xs i x c.loop-each-test.true) ∙ map-append typed_tree (take i xs) (get_or xs i x ∷ []) ∙ ap (λ z. ts ++ typed_tree z ∷ []) (sym c.each-item.is) in
+    let more : map typed_tree (take (i + 1) xs) ≡ ts ++ typed_tree x ∷ [] = ap (map typed_tree) (take_more xs i x c.loop-each-test.true)
+    ∙ map-append typed_tree (take i xs) (get_or xs i x ∷ []) ∙ ap (λ z. ts ++ typed_tree z ∷ []) (sym c.each-item.is) in
     c.in_ok-push.ensures.items
     ∙ ap₂ (λ ds d. ds ++ d ∷ []) c.loop-each.invariant c.in_ok-domain.ensures
     ∙ sym (domains_more w ts (typed_tree x))

@@ -15,9 +15,11 @@ returns-in-End c =
 
 pub returns-in-Fault : goal.returns-in-Fault
 returns-in-Fault c =
-    cut_fault c.args.text.now c.loop-tokens.at c.in-Fault.before c.loop-tokens.place c.moved-place.result c.loop-tokens.tokens.items c.in-Fault.fault c.requires c.loop-tokens.invariant
+    cut_fault c.args.text.now c.loop-tokens.at c.in-Fault.before c.loop-tokens.place c.moved-place.result c.loop-tokens.tokens.items c.in-Fault.fault
+    c.requires c.loop-tokens.invariant
     (at_offset c.args.text.now c.loop-tokens.at c.in_ok-first.field-0 _ c.in_ok-first.ensures.piece c.in-Fault.is)
-    (place_moved c.args.text.now c.loop-tokens.at c.in-Fault.before c.loop-tokens.place c.moved-place.result c.loop-tokens.invariant.placed c.moved-place.ensures)
+    (place_moved c.args.text.now c.loop-tokens.at c.in-Fault.before c.loop-tokens.place c.moved-place.result c.loop-tokens.invariant.placed
+    c.moved-place.ensures)
 
 pub loop-tokens-preserved : goal.loop-tokens-preserved
 loop-tokens-preserved c =

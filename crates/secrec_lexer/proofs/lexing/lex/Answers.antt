@@ -9,11 +9,13 @@ returns-then-text-gt-LONGEST_TEXT-clause-answer c = is_too_long c.args.text.now 
 
 pub returns-then-text-gt-LONGEST_TEXT-clause-only_tokens : goal.returns-then-text-gt-LONGEST_TEXT-clause-only_tokens
 returns-then-text-gt-LONGEST_TEXT-clause-only_tokens c =
-    only_tokens c.args.text.now (Err (Refused TooLong c.place_at-place.result)) (is_too_long c.args.text.now c.place_at-place.result c.if-text-gt-LONGEST_TEXT.true c.place_at-place.ensures)
+    only_tokens c.args.text.now (Err (Refused TooLong c.place_at-place.result))
+    (is_too_long c.args.text.now c.place_at-place.result c.if-text-gt-LONGEST_TEXT.true c.place_at-place.ensures)
 
 pub returns-then-text-gt-LONGEST_TEXT-clause-only_refusal : goal.returns-then-text-gt-LONGEST_TEXT-clause-only_refusal
 returns-then-text-gt-LONGEST_TEXT-clause-only_refusal c =
-    only_refusal c.args.text.now (Err (Refused TooLong c.place_at-place.result)) (is_too_long c.args.text.now c.place_at-place.result c.if-text-gt-LONGEST_TEXT.true c.place_at-place.ensures)
+    only_refusal c.args.text.now (Err (Refused TooLong c.place_at-place.result))
+    (is_too_long c.args.text.now c.place_at-place.result c.if-text-gt-LONGEST_TEXT.true c.place_at-place.ensures)
 
 pub returns-then-text-gt-LONGEST_TEXT-clause-one_list : goal.returns-then-text-gt-LONGEST_TEXT-clause-one_list
 returns-then-text-gt-LONGEST_TEXT-clause-one_list c = one_list c.args.text.now

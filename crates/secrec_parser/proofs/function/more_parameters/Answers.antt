@@ -1,7 +1,7 @@
 use Rattle.std.proofs.Common.{◌+◌, ◌-◌, [], ◌∷◌, sym, ap, ◌∙◌, length, arith}
 use Rattle.std.specs.Prelude.{not}
 use Rattle.std.proofs.lemmas.Result.{err_from_is_err_and}
-use Rattle.secrec_parser.specs.Steps.{comma_then, list_from, listed, no_comma, parameter}
+use Rattle.secrec_parser.specs.inner.Steps.{comma_then, list_from, listed, no_comma, parameter}
 use Rattle.secrec_parser.proofs.Turns.{list_stops, list_goes_on, list_fails, passes, comma_fails, comma_reads}
 use Rattle.secrec_parser.proofs.function.more_parameters.Goals as goal
 
@@ -16,7 +16,8 @@ returns-in_err-next c =
     (listed no_comma (comma_then parameter) (c.args.first ∷ []) c.args.tokens.now) (length c.in_ok-behind.behind.now)
     (length c.args.tokens.now + 1)
     (λ q r e.
-    i.2 ∙ list_fails no_comma (comma_then parameter) i.0 found w r q (omega (arith, i.1)) go (comma_fails parameter w c.in_ok-behind.behind.now r _ q c.in_ok-behind.ensures.step e))
+    i.2 ∙ list_fails no_comma (comma_then parameter) i.0 found w r q (omega (arith, i.1)) go
+    (comma_fails parameter w c.in_ok-behind.behind.now r _ q c.in_ok-behind.ensures.step e))
     c.in_err-next.ensures)
 
 pub loop-alloc-preserved : goal.loop-alloc-preserved

@@ -1,5 +1,5 @@
 use Rattle.std.proofs.Common.{◌≡◌, ◌<◌, ◌≤◌, ℕ, [], ◌∷◌, length}
-use Rattle.secrec_parser.specs.Steps.{comma_then, list_from, listed, no_comma, parameter}
+use Rattle.secrec_parser.specs.inner.Steps.{comma_then, list_from, listed, no_comma, parameter}
 use Rattle.secrec_parser.proofs.function.more_parameters.Given as goal
 
 abbrev pub invariant-loop-alloc : goal.invariant-loop-alloc

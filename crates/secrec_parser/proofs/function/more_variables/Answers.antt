@@ -1,6 +1,6 @@
 use Rattle.std.proofs.Common.{◌≡◌, ◌+◌, ◌-◌, true, [], ◌∷◌, sym, ap, ◌∙◌, length, arith}
 use Rattle.std.proofs.lemmas.Result.{err_from_is_err_and}
-use Rattle.secrec_parser.specs.Steps.{comma_then, domain_variable, list_from, listed, no_more_variables}
+use Rattle.secrec_parser.specs.inner.Steps.{comma_then, domain_variable, list_from, listed, no_more_variables}
 use Rattle.secrec_parser.proofs.Turns.{list_stops, list_goes_on, list_fails, passes, variables_go, variables_alone, variables_full, comma_fails, comma_reads}
 use Rattle.secrec_parser.proofs.function.more_variables.Goals.{then-loop-found-test+else-len-lt-MOST_VARIABLES, else-loop-found-test}
 use Rattle.secrec_parser.proofs.function.more_variables.Goals as goal
@@ -16,7 +16,8 @@ returns-in_err-next c =
     (listed no_more_variables (comma_then domain_variable) (c.args.first ∷ []) c.args.tokens.now) (length c.in_ok-behind.behind.now)
     (length c.args.tokens.now + 1)
     (λ q r e.
-    i.2 ∙ list_fails no_more_variables (comma_then domain_variable) i.0 found w r q (omega (arith, i.1)) go (comma_fails domain_variable w c.in_ok-behind.behind.now r _ q c.in_ok-behind.ensures.step e))
+    i.2 ∙ list_fails no_more_variables (comma_then domain_variable) i.0 found w r q (omega (arith, i.1)) go
+    (comma_fails domain_variable w c.in_ok-behind.behind.now r _ q c.in_ok-behind.ensures.step e))
     c.in_err-next.ensures)
 
 pub loop-found-preserved : goal.loop-found-preserved
@@ -45,5 +46,11 @@ returns c =
     let i = c.loop-found.invariant.step in
     let found = c.loop-found.found.items in
     let rest = c.loop-found.rest.now in
-    let stops : no_more_variables found rest ≡ true = elim c.loop-found-test.branch [ then-loop-found-test+else-len-lt-MOST_VARIABLES w ↦ variables_full found rest (omega (arith, w.if-len-lt-MOST_VARIABLES.false, w.len.ensures)) | else-loop-found-test w ↦ variables_alone found rest (sym c.at_sign.ensures ∙ w.loop-found-test.false) ] in
+    let stops : no_more_variables found rest ≡ true =
+    elim c.loop-found-test.branch [
+      | then-loop-found-test+else-len-lt-MOST_VARIABLES w ↦ variables_full found rest
+          (omega (arith, w.if-len-lt-MOST_VARIABLES.false, w.len.ensures))
+      | else-loop-found-test w ↦ variables_alone found rest
+          (sym c.at_sign.ensures ∙ w.loop-found-test.false)
+    ] in
     (i.2 ∙ list_stops no_more_variables (comma_then domain_variable) i.0 found rest stops, omega (arith, c.loop-found.invariant.shorter))

@@ -1,5 +1,5 @@
 use Rattle.std.proofs.Common.{◌≡◌, ◌<◌, ◌≤◌, ℕ, [], ◌∷◌, length}
-use Rattle.secrec_parser.specs.Steps.{comma_then, domain_variable, list_from, listed, no_more_variables}
+use Rattle.secrec_parser.specs.inner.Steps.{comma_then, domain_variable, list_from, listed, no_more_variables}
 use Rattle.secrec_parser.proofs.function.more_variables.Given as goal
 
 abbrev pub invariant-loop-found : goal.invariant-loop-found

@@ -3,7 +3,7 @@ use Rattle.std.specs.Prelude.{map}
 use Rattle.std.proofs.lemmas.List.{map-append}
 use Rattle.std.proofs.lemmas.Result.{err_from_is_err_and}
 use Rattle.secrec_ast.specs.Programs.{item_tree}
-use Rattle.secrec_parser.specs.Steps.{at_end, item, list_from, listed}
+use Rattle.secrec_parser.specs.inner.Steps.{at_end, item, list_from, listed}
 use Rattle.secrec_parser.proofs.Turns.{list_stops, list_goes_on, list_fails, passes_on}
 use Rattle.secrec_parser.proofs.program.items.Goals as goal
 
@@ -16,8 +16,9 @@ returns-in_err-next c =
     record {
       step =
           rw (p.1, p.2)
-          (passes_on c.in_err-next.field-0.0 (item c.args.room w) (listed (λ found w. at_end w) (item c.args.room) [] c.args.tokens.now) (length w)
-          (λ q r e. i.2 ∙ list_fails (λ found w. at_end w) (item c.args.room) i.0 found w r q (omega (arith, i.1)) (sym c.at_end.ensures ∙ c.loop-alloc-test.true) e)
+          (passes_on c.in_err-next.field-0.0 (item c.args.max_height w) (listed (λ found w. at_end w) (item c.args.max_height) [] c.args.tokens.now) (length w)
+          (λ q r e. i.2 ∙ list_fails (λ found w. at_end w) (item c.args.max_height) i.0 found w r q (omega (arith, i.1))
+          (sym c.at_end.ensures ∙ c.loop-alloc-test.true) e)
           c.in_err-next.ensures);
     }
 
@@ -34,9 +35,9 @@ loop-alloc-preserved c =
         i.0 - 1,
         omega (arith, l, i.1),
         i.2
-            ∙ list_goes_on (λ found w. at_end w) (item c.args.room) i.0 found w c.in_ok-next.behind.now (item_tree c.in_ok-next.next)
+            ∙ list_goes_on (λ found w. at_end w) (item c.args.max_height) i.0 found w c.in_ok-next.behind.now (item_tree c.in_ok-next.next)
             (omega (arith, i.1)) (sym c.at_end.ensures ∙ c.loop-alloc-test.true) e.0
-            ∙ ap (λ l. list_from (λ found w. at_end w) (item c.args.room) (i.0 - 1) l c.in_ok-next.behind.now) (sym one_more),
+            ∙ ap (λ l. list_from (λ found w. at_end w) (item c.args.max_height) (i.0 - 1) l c.in_ok-next.behind.now) (sym one_more),
       );
     }
 
@@ -44,5 +45,6 @@ pub returns : goal.returns
 returns c =
     let i = c.loop-alloc.invariant.step in
     record {
-      step = i.2 ∙ list_stops (λ found w. at_end w) (item c.args.room) i.0 (map item_tree c.loop-alloc.found.items) c.loop-alloc.rest.now (sym c.at_end.ensures ∙ c.loop-alloc-test.false);
+      step = i.2 ∙ list_stops (λ found w. at_end w) (item c.args.max_height) i.0 (map item_tree c.loop-alloc.found.items) c.loop-alloc.rest.now
+          (sym c.at_end.ensures ∙ c.loop-alloc-test.false);
     }

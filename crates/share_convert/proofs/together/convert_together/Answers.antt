@@ -2,7 +2,7 @@ use Rattle.std.proofs.Common.{◌∙◌, [], ◌∷◌, length, refl, ap}
 use Rattle.share_ring.specs.Rings.{add_ring}
 use Rattle.proto_core.specs.declared.party.Number.TheVariants.{One, Two}
 use Rattle.proto_core.specs.Resharing.{sum_of_three}
-use Rattle.share_convert.specs.Together.{joint_of}
+use Rattle.proto_core.specs.Joints.{joint_of}
 use Rattle.share_convert.specs.Converting.{converted}
 use Rattle.share_convert.specs.ConvertingLaws.{converts}
 use Rattle.share_convert.proofs.BitFields.{sent-has12, sent-has13, sent-has23, sent-has32}
@@ -19,7 +19,8 @@ pub unwrap-miner3-requires : goal.unwrap-miner3-requires
 unwrap-miner3-requires c =
     let n = length c.args.first.u.now in
     c.got13.ensures.taken.1
-    (sent-has13 n _ _ c.args.first.u.now c.args.first.words.now c.start-miner1.ensures.third (ap (λ h. length h.mask) c.start-miner3.ensures.state ∙ c.requires.words3))
+    (sent-has13 n _ _ c.args.first.u.now c.args.first.words.now c.start-miner1.ensures.third
+    (ap (λ h. length h.mask) c.start-miner3.ensures.state ∙ c.requires.words3))
 
 pub unwrap-share2-requires : goal.unwrap-share2-requires
 unwrap-share2-requires c =
@@ -27,7 +28,20 @@ unwrap-share2-requires c =
     let j = joint_of c.args.first.u.now c.args.second.u.now c.args.third.u.now c.args.first.words.now c.args.second.words.now c.args.third.words.now in
     let reply2 = rw c.unwrap-miner2.ensures at c.got12.ensures.ok in
     let reply3 = rw c.unwrap-miner3.ensures at c.got13.ensures.ok in
-    let b : Begun n j c.start-miner1.result.0 c.start-miner2.result c.start-miner3.result.0 c.unwrap-miner2.result.0 c.unwrap-miner3.result.0 c.start-miner1.result.1 c.start-miner1.result.2 c.start-miner3.result.1 c.unwrap-miner2.result.1 c.unwrap-miner3.result.1 = record { size1 = refl; size2 = c.requires.words2; size3 = c.requires.words3; first = c.start-miner1.ensures; second = c.start-miner2.ensures; third = c.start-miner3.ensures.state; mask = c.start-miner3.ensures.mask; reply2 = reply2; reply3 = reply3 } in
+    let b : Begun n j c.start-miner1.result.0 c.start-miner2.result c.start-miner3.result.0 c.unwrap-miner2.result.0 c.unwrap-miner3.result.0
+    c.start-miner1.result.1 c.start-miner1.result.2 c.start-miner3.result.1 c.unwrap-miner2.result.1 c.unwrap-miner3.result.1 =
+    record {
+      size1 = refl;
+      size2 = c.requires.words2;
+      size3 = c.requires.words3;
+      first = c.start-miner1.ensures;
+      second =
+          c.start-miner2.ensures;
+      third = c.start-miner3.ensures.state;
+      mask = c.start-miner3.ensures.mask;
+      reply2 = reply2;
+      reply3 = reply3;
+    } in
     c.got32.ensures.taken.1 (sent-has32 n _ _ j (on32 n j _ _ _ _ _ _ _ _ _ _ b) (reply2.len ∙ len2 n j _ _ _ _ _ _ _ _ _ _ b))
 
 pub unwrap-share3-requires : goal.unwrap-share3-requires
@@ -36,7 +50,20 @@ unwrap-share3-requires c =
     let j = joint_of c.args.first.u.now c.args.second.u.now c.args.third.u.now c.args.first.words.now c.args.second.words.now c.args.third.words.now in
     let reply2 = rw c.unwrap-miner2.ensures at c.got12.ensures.ok in
     let reply3 = rw c.unwrap-miner3.ensures at c.got13.ensures.ok in
-    let b : Begun n j c.start-miner1.result.0 c.start-miner2.result c.start-miner3.result.0 c.unwrap-miner2.result.0 c.unwrap-miner3.result.0 c.start-miner1.result.1 c.start-miner1.result.2 c.start-miner3.result.1 c.unwrap-miner2.result.1 c.unwrap-miner3.result.1 = record { size1 = refl; size2 = c.requires.words2; size3 = c.requires.words3; first = c.start-miner1.ensures; second = c.start-miner2.ensures; third = c.start-miner3.ensures.state; mask = c.start-miner3.ensures.mask; reply2 = reply2; reply3 = reply3 } in
+    let b : Begun n j c.start-miner1.result.0 c.start-miner2.result c.start-miner3.result.0 c.unwrap-miner2.result.0 c.unwrap-miner3.result.0
+    c.start-miner1.result.1 c.start-miner1.result.2 c.start-miner3.result.1 c.unwrap-miner2.result.1 c.unwrap-miner3.result.1 =
+    record {
+      size1 = refl;
+      size2 = c.requires.words2;
+      size3 = c.requires.words3;
+      first = c.start-miner1.ensures;
+      second =
+          c.start-miner2.ensures;
+      third = c.start-miner3.ensures.state;
+      mask = c.start-miner3.ensures.mask;
+      reply2 = reply2;
+      reply3 = reply3;
+    } in
     c.got23.ensures.taken.1 (sent-has23 n _ _ j (on23 n j _ _ _ _ _ _ _ _ _ _ b) c.requires.words2 (ap length reply3.mask ∙ len3 n j _ _ _ _ _ _ _ _ _ _ b))
 
 pub returns-clause-parts : goal.returns-clause-parts
@@ -45,7 +72,20 @@ returns-clause-parts c =
     let j = joint_of c.args.first.u.now c.args.second.u.now c.args.third.u.now c.args.first.words.now c.args.second.words.now c.args.third.words.now in
     let reply2 = rw c.unwrap-miner2.ensures at c.got12.ensures.ok in
     let reply3 = rw c.unwrap-miner3.ensures at c.got13.ensures.ok in
-    let b : Begun n j c.start-miner1.result.0 c.start-miner2.result c.start-miner3.result.0 c.unwrap-miner2.result.0 c.unwrap-miner3.result.0 c.start-miner1.result.1 c.start-miner1.result.2 c.start-miner3.result.1 c.unwrap-miner2.result.1 c.unwrap-miner3.result.1 = record { size1 = refl; size2 = c.requires.words2; size3 = c.requires.words3; first = c.start-miner1.ensures; second = c.start-miner2.ensures; third = c.start-miner3.ensures.state; mask = c.start-miner3.ensures.mask; reply2 = reply2; reply3 = reply3 } in
+    let b : Begun n j c.start-miner1.result.0 c.start-miner2.result c.start-miner3.result.0 c.unwrap-miner2.result.0 c.unwrap-miner3.result.0
+    c.start-miner1.result.1 c.start-miner1.result.2 c.start-miner3.result.1 c.unwrap-miner2.result.1 c.unwrap-miner3.result.1 =
+    record {
+      size1 = refl;
+      size2 = c.requires.words2;
+      size3 = c.requires.words3;
+      first = c.start-miner1.ensures;
+      second =
+          c.start-miner2.ensures;
+      third = c.start-miner3.ensures.state;
+      mask = c.start-miner3.ensures.mask;
+      reply2 = reply2;
+      reply3 = reply3;
+    } in
     record {
       on12 = ap (λ m. m ∷ []) (on12 n j _ _ _ _ _ _ _ _ _ _ b);
       on13 = ap (λ m. m ∷ []) (on13 n j _ _ _ _ _ _ _ _ _ _ b);
@@ -63,7 +103,20 @@ returns-clause-value c =
     let j = joint_of c.args.first.u.now c.args.second.u.now c.args.third.u.now c.args.first.words.now c.args.second.words.now c.args.third.words.now in
     let reply2 = rw c.unwrap-miner2.ensures at c.got12.ensures.ok in
     let reply3 = rw c.unwrap-miner3.ensures at c.got13.ensures.ok in
-    let b : Begun n j c.start-miner1.result.0 c.start-miner2.result c.start-miner3.result.0 c.unwrap-miner2.result.0 c.unwrap-miner3.result.0 c.start-miner1.result.1 c.start-miner1.result.2 c.start-miner3.result.1 c.unwrap-miner2.result.1 c.unwrap-miner3.result.1 = record { size1 = refl; size2 = c.requires.words2; size3 = c.requires.words3; first = c.start-miner1.ensures; second = c.start-miner2.ensures; third = c.start-miner3.ensures.state; mask = c.start-miner3.ensures.mask; reply2 = reply2; reply3 = reply3 } in
+    let b : Begun n j c.start-miner1.result.0 c.start-miner2.result c.start-miner3.result.0 c.unwrap-miner2.result.0 c.unwrap-miner3.result.0
+    c.start-miner1.result.1 c.start-miner1.result.2 c.start-miner3.result.1 c.unwrap-miner2.result.1 c.unwrap-miner3.result.1 =
+    record {
+      size1 = refl;
+      size2 = c.requires.words2;
+      size3 = c.requires.words3;
+      first = c.start-miner1.ensures;
+      second =
+          c.start-miner2.ensures;
+      third = c.start-miner3.ensures.state;
+      mask = c.start-miner3.ensures.mask;
+      reply2 = reply2;
+      reply3 = reply3;
+    } in
     let first = share1-is n j _ _ _ _ _ _ _ _ _ _ b _ (rw c.unwrap-share1.ensures at c.got31.ensures.ok) in
     let second = share2-is n j _ _ _ _ _ _ _ _ _ _ b _ (rw c.unwrap-share2.ensures at c.got32.ensures.ok) in
     let third = share3-is n j _ _ _ _ _ _ _ _ _ _ b _ (rw c.unwrap-share3.ensures at c.got23.ensures.ok) in

@@ -14,7 +14,8 @@ returns-clause-words c =
 pub returns-clause-outcome : goal.returns-clause-outcome
 returns-clause-outcome c =
     λ r n u v tapes good number_u number_v reach.
-    outcome r (less_plan (value_count r) u v n) comparison_kinds (λ miner. words_taken miner n) good (comparison-follows r good n u v number_u number_v) tapes reach
+    outcome r (less_plan (value_count r) u v n) comparison_kinds (λ miner. words_taken miner n) good
+    (comparison-follows r good n u v number_u number_v) tapes reach
 
 pub returns-clause-result : goal.returns-clause-result
 returns-clause-result c =

@@ -11,12 +11,14 @@ use Rattle.shared_plans.proofs.laws.equality_on_shares.Goals as goal
 pub returns-clause-words : goal.returns-clause-words
 returns-clause-words c =
     λ r n u v good number_u number_v i.
-    words-then r (Sub u v ∷ eq_plan (value_count r + 1) (value_count r)) equality_kinds (λ miner. words_taken miner n) good (equality-follows r good n u v number_u number_v) i
+    words-then r (Sub u v ∷ eq_plan (value_count r + 1) (value_count r)) equality_kinds (λ miner. words_taken miner n) good
+    (equality-follows r good n u v number_u number_v) i
 
 pub returns-clause-outcome : goal.returns-clause-outcome
 returns-clause-outcome c =
     λ r n u v tapes good number_u number_v reach.
-    outcome r (Sub u v ∷ eq_plan (value_count r + 1) (value_count r)) equality_kinds (λ miner. words_taken miner n) good (equality-follows r good n u v number_u number_v) tapes reach
+    outcome r (Sub u v ∷ eq_plan (value_count r + 1) (value_count r)) equality_kinds (λ miner. words_taken miner n) good
+    (equality-follows r good n u v number_u number_v) tapes reach
 
 pub returns-clause-result : goal.returns-clause-result
 returns-clause-result c =

@@ -15,9 +15,11 @@ returns-in_err-tapes-clause-reads c =
 pub returns-clause-reads : goal.returns-clause-reads
 returns-clause-reads c =
     read_of-sound c.args.bytes.now c.in_default.ensures.sound
-    ∙ ap Ok (sym (same_tapes c.args.bytes.now c.in_ok-tapes.field-0 _ _ _ _ c.in_ok-tapes.ensures c.word-dealer.ensures c.word-miner1.ensures c.word-miner2.ensures c.word-miner3.ensures))
+    ∙ ap Ok (sym (same_tapes c.args.bytes.now c.in_ok-tapes.field-0 _ _ _ _ c.in_ok-tapes.ensures c.word-dealer.ensures c.word-miner1.ensures
+    c.word-miner2.ensures c.word-miner3.ensures))
 
 pub returns-clause-written_again : goal.returns-clause-written_again
 returns-clause-written_again c =
-    ap tape_bytes (same_tapes c.args.bytes.now c.in_ok-tapes.field-0 _ _ _ _ c.in_ok-tapes.ensures c.word-dealer.ensures c.word-miner1.ensures c.word-miner2.ensures c.word-miner3.ensures)
+    ap tape_bytes (same_tapes c.args.bytes.now c.in_ok-tapes.field-0 _ _ _ _ c.in_ok-tapes.ensures c.word-dealer.ensures c.word-miner1.ensures
+    c.word-miner2.ensures c.word-miner3.ensures)
     ∙ tape_bytes-tapes_at c.args.bytes.now (λ i. (c.type_inv.bytes i).fits) c.in_default.ensures.sound

@@ -10,7 +10,8 @@ returns-clause-bytes c =
 
 pub returns-clause-read_again : goal.returns-clause-read_again
 returns-clause-read_again c =
-    read_of-pushed c.args.tapes.now c.dealer-dealer.result.now c.miner1-miner1.result.now c.miner2-miner2.result.now c.miner3-miner3.result.now c.push_words-5.new.file.items
+    read_of-pushed c.args.tapes.now c.dealer-dealer.result.now c.miner1-miner1.result.now c.miner2-miner2.result.now c.miner3-miner3.result.now
+    c.push_words-5.new.file.items
     (record { dealer = c.dealer-dealer.ensures; one = c.miner1-miner1.ensures; two = c.miner2-miner2.ensures; three = c.miner3-miner3.ensures })
     (returns-clause-bytes c)
     (record {

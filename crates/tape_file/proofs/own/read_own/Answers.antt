@@ -10,7 +10,8 @@ returns-in-Some-clause-reads c =
 
 pub returns-in_err-words-clause-reads : goal.returns-in_err-words-clause-reads
 returns-in_err-words-clause-reads c =
-    Reads-memory (λ tape. tape.items) _ _ c.from_residual.result (read_own_of-sound c.args.len c.args.bytes.now c.in_default.ensures.sound) c.from_residual.ensures.1
+    Reads-memory (λ tape. tape.items) _ _ c.from_residual.result (read_own_of-sound c.args.len c.args.bytes.now c.in_default.ensures.sound)
+    c.from_residual.ensures.1
 
 pub returns-clause-reads : goal.returns-clause-reads
 returns-clause-reads c =

@@ -1,8 +1,8 @@
 use Rattle.std.proofs.Common.{◌≡◌, sym, ◌∙◌, ap}
+use Rattle.gate_maps.proofs.Passing.{if-ok}
 use Rattle.proto_core.specs.declared.party.Number.{Number}
 use Rattle.view_model.specs.Dealing.{seen_dealer}
 use Rattle.tape_maps.proofs.DealerWords.{kept-first, kept-second}
-use Rattle.tape_maps.proofs.Whole.{if-ok}
 use Rattle.tape_maps.proofs.dealer.seen_dealer.Goals as goal
 
 pub returns-in-One : goal.returns-in-One

@@ -2,7 +2,7 @@ use Rattle.std.proofs.Common.{◌≡◌, ◌++◌, List, ℕ, drop, sym, ◌∙�
 use Rattle.proto_core.specs.declared.party.Number.TheVariants.{Two, Three}
 use Rattle.protocol_model.specs.Gates.{sizes_of}
 use Rattle.gates.specs.Clear.{Values}
-use Rattle.joint_run.proofs.Sizes.{same-count}
+use Rattle.shared_gates.proofs.Computing.{same-count}
 use Rattle.input_share.specs.Dealing.{need_of}
 use Rattle.view_model.specs.Dealing.{dealt_to}
 use Rattle.view_model.proofs.DealtSizes.{sizes_dealt}

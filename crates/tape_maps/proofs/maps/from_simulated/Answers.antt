@@ -4,9 +4,10 @@ use Rattle.joint_run.specs.Three.{values_of}
 use Rattle.input_share.specs.Dealing.{need_of}
 use Rattle.gate_maps.specs.declared.way.Way.TheVariants.{FromView}
 use Rattle.gate_maps.specs.Maps.{run_map}
+use Rattle.gate_maps.proofs.Passing.{if-ok}
 use Rattle.view_model.specs.Dealing.{dealt_to, seen_dealer}
 use Rattle.view_model.specs.TapeMaps.{miners_of, four_of, from_simulated}
-use Rattle.tape_maps.proofs.Whole.{if-ok, some-says, none-says, even, can-run, from-is, from-undealt, seen-enough}
+use Rattle.tape_maps.proofs.Whole.{some-says, none-says, even, can-run, from-is, from-undealt, seen-enough}
 use Rattle.tape_maps.proofs.maps.from_simulated.Goals as goal
 
 pub returns-in_default : goal.returns-in_default

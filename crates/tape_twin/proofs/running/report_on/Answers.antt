@@ -1,4 +1,5 @@
 use Rattle.std.proofs.Common.{◌≡◌, List, ℕ, All, ◌∙◌, ap, subst}
+use Rattle.gate_maps.proofs.Passing.{if-ok}
 use Rattle.proto_core.specs.Lists.{AreWords}
 use Rattle.typed_tree.specs.Programs.{typed_program_tree}
 use Rattle.value_file.specs.declared.inputs.Entry.{Entry}
@@ -7,7 +8,7 @@ use Rattle.language_model.specs.Reports.{Report, eval}
 use Rattle.clear_eval.specs.Offers.{offered}
 use Rattle.clear_eval.specs.Reports.{report_seen}
 use Rattle.view_model.specs.TapeMaps.{AreTapes, CanRun}
-use Rattle.tape_twin.proofs.Runs.{if-ok, tapes-are, gates-run}
+use Rattle.tape_twin.proofs.Runs.{tapes-are, gates-run}
 use Rattle.tape_twin.proofs.running.report_on.Goals as goal
 
 pub returns-clause-can : goal.returns-clause-can

@@ -1,10 +1,11 @@
 use Rattle.std.proofs.Common.{◌≡◌, List, ℕ, sym, ◌∙◌, ap, subst}
+use Rattle.tape_maps.proofs.Whole.{none-says}
 use Rattle.typed_tree.specs.Programs.{typed_program_tree}
 use Rattle.value_file.specs.Public.{part_of}
 use Rattle.language_model.specs.Reports.{Report}
 use Rattle.program_views.specs.Views.{lengths_of, run_on}
 use Rattle.tape_twin.specs.Alike.{OneBegins}
-use Rattle.tape_twin.proofs.Runs.{none-says, alike-so}
+use Rattle.tape_twin.proofs.Runs.{alike-so}
 use Rattle.tape_twin.proofs.twinning.twin.Goals as goal
 
 pub returns-clause-alike : goal.returns-clause-alike

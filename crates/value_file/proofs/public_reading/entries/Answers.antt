@@ -17,20 +17,31 @@ loop-place-init c = record {
 
 pub returns-in_err-entry-clause-reads : goal.returns-in_err-entry-clause-reads
 returns-in_err-entry-clause-reads c =
-    Reads-handed_on _ _ c.in_err-entry.field-0.0 c.from_residual.result (λ r bad. c.loop-place.invariant.reads ∙ entries_after-refused public_entry_of public_name_of c.args.list.now c.loop-place.place c.index-list-place.result c.loop-place.entries.items _ c.loop-place-test.true c.loop-place.invariant.names c.loop-place.invariant.count c.index-list-place.is r bad) c.in_err-entry.ensures.reads c.from_residual.ensures.1
+    Reads-handed_on _ _ c.in_err-entry.field-0.0 c.from_residual.result
+    (λ r bad. c.loop-place.invariant.reads
+    ∙ entries_after-refused public_entry_of public_name_of c.args.list.now c.loop-place.place c.index-list-place.result c.loop-place.entries.items
+    _ c.loop-place-test.true c.loop-place.invariant.names c.loop-place.invariant.count c.index-list-place.is r bad) c.in_err-entry.ensures.reads
+    c.from_residual.ensures.1
 
 pub loop-place-preserved : goal.loop-place-preserved
 loop-place-preserved c =
-    let next = entries_after-more public_entry_of public_name_of c.args.list.now c.loop-place.place c.index-list-place.result c.loop-place.entries.items _ c.loop-place-test.true c.loop-place.invariant.names c.loop-place.invariant.count c.index-list-place.is c.in_ok-entry.field-0 c.in_ok-entry.ensures.reads in
+    let next = entries_after-more public_entry_of public_name_of c.args.list.now c.loop-place.place c.index-list-place.result
+    c.loop-place.entries.items _ c.loop-place-test.true c.loop-place.invariant.names c.loop-place.invariant.count c.index-list-place.is
+    c.in_ok-entry.field-0 c.in_ok-entry.ensures.reads in
     record {
-      reads = c.loop-place.invariant.reads ∙ next ∙ ap (λ es. entries_after public_entry_of public_name_of es (items_view (drop (c.loop-place.place + 1) c.args.list.now))) (sym c.in_ok-add.ensures);
-      names = names-more public_name_of c.loop-place.entries.items c.add.new.entries.items c.in_ok-entry.field-0 _ _ c.loop-place.invariant.names c.in_ok-entry.ensures.remembered c.in_ok-add.ensures;
-      form = AreEntries-more public_name_of public_elements_of c.loop-place.entries.items c.add.new.entries.items c.in_ok-entry.field-0 _ c.loop-place.invariant.form c.loop-place.invariant.names c.in_ok-entry.ensures.form c.in_ok-add.ensures;
-      count = length-more c.loop-place.entries.items c.add.new.entries.items c.in_ok-entry.field-0 c.loop-place.place c.loop-place.invariant.count c.in_ok-add.ensures;
+      reads = c.loop-place.invariant.reads ∙ next
+          ∙ ap (λ es. entries_after public_entry_of public_name_of es (items_view (drop (c.loop-place.place + 1) c.args.list.now))) (sym c.in_ok-add.ensures);
+      names = names-more public_name_of c.loop-place.entries.items c.add.new.entries.items c.in_ok-entry.field-0 _ _ c.loop-place.invariant.names
+          c.in_ok-entry.ensures.remembered c.in_ok-add.ensures;
+      form = AreEntries-more public_name_of public_elements_of c.loop-place.entries.items c.add.new.entries.items c.in_ok-entry.field-0 _
+          c.loop-place.invariant.form c.loop-place.invariant.names c.in_ok-entry.ensures.form c.in_ok-add.ensures;
+      count = length-more c.loop-place.entries.items c.add.new.entries.items c.in_ok-entry.field-0 c.loop-place.place c.loop-place.invariant.count
+          c.in_ok-add.ensures;
     }
 
 pub returns-clause-reads : goal.returns-clause-reads
-returns-clause-reads c = c.loop-place.invariant.reads ∙ entries_after-end public_entry_of public_name_of c.args.list.now c.loop-place.place c.loop-place.entries.items (omega arith) ∙ ap Ok (sym c.new.ensures)
+returns-clause-reads c = c.loop-place.invariant.reads
+    ∙ entries_after-end public_entry_of public_name_of c.args.list.now c.loop-place.place c.loop-place.entries.items (omega arith) ∙ ap Ok (sym c.new.ensures)
 
 pub returns-clause-form : goal.returns-clause-form
 returns-clause-form c = subst (AreEntries public_name_of public_elements_of []) (sym c.new.ensures) c.loop-place.invariant.form

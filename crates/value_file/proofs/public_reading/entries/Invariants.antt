@@ -6,7 +6,8 @@ use Rattle.value_file.proofs.public_reading.entries.Given as goal
 
 abbrev pub invariant-loop-place : goal.invariant-loop-place
 invariant-loop-place l = record {
-  reads : entries_after public_entry_of public_name_of [] (items_view l.list) ≡ entries_after public_entry_of public_name_of l.entries.items (items_view (drop l.place l.list));
+  reads : entries_after public_entry_of public_name_of [] (items_view l.list)
+      ≡ entries_after public_entry_of public_name_of l.entries.items (items_view (drop l.place l.list));
   names : map (λ n. n.now) l.names.keys ≡ map public_name_of l.entries.items;
   form : AreEntries public_name_of public_elements_of [] l.entries.items;
   count : length l.entries.items ≡ l.place;

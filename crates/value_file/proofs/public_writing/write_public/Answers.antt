@@ -17,5 +17,7 @@ returns c =
     let shallow = subst (λ (d : Data). depth d ≤ 127) (sym same) (depth-part c.args.part.now) in
     record {
       bytes = bytes ∙ c.in_ok-to_string.ensures.text none ∙ ap compact_text same;
-      read_again = λ good. ap read_public_of bytes ∙ read_public_of-written (string_bytes c.in_ok-to_string.field-0) c.args.part.now (IsUtf8-string_bytes c.in_ok-to_string.field-0) (c.in_ok-to_string.ensures.reads_back shallow ∙ ap Some same) good;
+      read_again = λ good. ap read_public_of bytes
+          ∙ read_public_of-written (string_bytes c.in_ok-to_string.field-0) c.args.part.now (IsUtf8-string_bytes c.in_ok-to_string.field-0)
+          (c.in_ok-to_string.ensures.reads_back shallow ∙ ap Some same) good;
     }

@@ -5,4 +5,5 @@ use Rattle.value_steps.proofs.gating.zero_test.Goals as goal
 
 pub returns-clause-step : goal.returns-clause-step
 returns-clause-step c =
-    puts_plan (λ first. eq_plan first c.args.operand) c.in_ok-first.first c.in_ok-gates.gates.items (stage_seen c.args.stage.now) (stage_seen c.put_gates.new.stage) c.put_gates.result c.in_ok-first.ensures.step c.in_ok-gates.ensures.gates c.put_gates.ensures.step
+    puts_plan (λ first. eq_plan first c.args.operand) c.in_ok-first.first c.in_ok-gates.gates.items (stage_seen c.args.stage.now)
+    (stage_seen c.put_gates.new.stage) c.put_gates.result c.in_ok-first.ensures.step c.in_ok-gates.ensures.gates c.put_gates.ensures.step

@@ -13,4 +13,5 @@ pub returns-in_ok-scalar_word-in-Plain-clause-step : goal.returns-in_ok-scalar_w
 returns-in_ok-scalar_word-in-Plain-clause-step c =
     let v = c.args.value.now in
     let total : c.wrapping_sum-total.result ≡ sum v.words.items % 2 ^ 64 = c.wrapping_sum-total.ensures ∙ ap (λ xs. sum xs % 2 ^ 64) c.deref.ensures.value in
-    told (secrecy_seen v.secrecy) (value_seen v) (value_seen c.in_ok-scalar_word-in-Plain.field-0) c.wrapping_sum-total.result (stage_seen c.args.stage.now) (ap secrecy_seen c.in-Plain.is) total c.in_ok-scalar_word-in-Plain.ensures
+    told (secrecy_seen v.secrecy) (value_seen v) (value_seen c.in_ok-scalar_word-in-Plain.field-0) c.wrapping_sum-total.result
+    (stage_seen c.args.stage.now) (ap secrecy_seen c.in-Plain.is) total c.in_ok-scalar_word-in-Plain.ensures

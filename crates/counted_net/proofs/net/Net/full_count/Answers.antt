@@ -1,7 +1,7 @@
 use Rattle.std.proofs.Common.{arith}
 use Rattle.protocol_model.specs.Network.{all_links}
 use Rattle.counted_net.specs.Nets.{is_under_way}
-use Rattle.counted_net.proofs.Walks.{count_yes, count_no}
+use Rattle.protocol_model.proofs.Choosing.{count_yes, count_no}
 use Rattle.counted_net.proofs.net.Net.full_count.Goals as goal
 use Rattle.counted_net.proofs.net.Net.full_count.Goals.{then-is_under_way, else-is_under_way}
 

@@ -1,7 +1,7 @@
 use Rattle.std.proofs.Common.{◌≡◌, ◌≤◌}
 use Rattle.protocol_model.specs.Network.{all_links}
 use Rattle.counted_net.specs.Nets.{is_under_way}
-use Rattle.counted_net.proofs.Walks.{count_to}
+use Rattle.protocol_model.proofs.Choosing.{count_to}
 use Rattle.counted_net.proofs.net.Net.full_count.Given as goal
 
 abbrev pub invariant-loop-link : goal.invariant-loop-link

@@ -1,7 +1,7 @@
 use Rattle.std.proofs.Common.{◌+◌, drop, sym, ◌∙◌, ap, arith}
 use Rattle.protocol_model.specs.Network.{all_links, those, link_at}
 use Rattle.counted_net.specs.Nets.{is_under_way}
-use Rattle.counted_net.proofs.Walks.{at_later, at_other}
+use Rattle.protocol_model.proofs.Choosing.{at_later, at_other}
 use Rattle.counted_net.proofs.net.Net.full_link.Goals as goal
 use Rattle.counted_net.proofs.net.Net.full_link.Goals.{then-is_under_way+else-left-eq0, else-is_under_way}
 

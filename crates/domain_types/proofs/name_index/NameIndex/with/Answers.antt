@@ -15,9 +15,12 @@ invariant_of-result c =
           let m = c.self.inside.numbers in
           let n = w.insert.new.self in
           let absent : found m c.args.name.now ≡ None = grind (arith, common_steps) in
-          let updates : (q : List ℕ) → found n q ≡ update bytes_eq (found m) c.args.name.now (Some w.len.result) q = btree_map_updates_str c.args.name.now m n _ w.in_ok-insert.ensures.updates in
+          let updates : (q : List ℕ) → found n q ≡ update bytes_eq (found m) c.args.name.now (Some w.len.result) q =
+          btree_map_updates_str c.args.name.now m n _ w.in_ok-insert.ensures.updates in
           let count : w.len.result ≡ length c.self.inside.names.items = omega arith in
-          rw (c.in_ok-push.ensures.items, w.numbers-is) (numbered_more c.self.inside.names.items m n c.args.name c.self.invariant absent (λ q. updates q ∙ ap (λ k. update bytes_eq (found m) c.args.name.now (Some k) q) count))
+          rw (c.in_ok-push.ensures.items, w.numbers-is)
+          (numbered_more c.self.inside.names.items m n c.args.name c.self.invariant absent
+          (λ q. updates q ∙ ap (λ k. update bytes_eq (found m) c.args.name.now (Some k) q) count))
       | else-is_none w ↦
           let m = c.self.inside.numbers in
           let there : found m c.args.name.now ≡ None → ⊥ = grind (arith, common_steps) in

@@ -1,6 +1,6 @@
 use Rattle.std.proofs.Common.{◌≡◌, Some, None, ap, ◌∙◌, sym}
 use Rattle.domain_types.specs.Scopes.{is_among}
-use Rattle.domain_types.specs.Table.{latest_in, latest_first, block_count}
+use Rattle.domain_types.specs.inner.Table.{latest_in, latest_first, block_count}
 use Rattle.domain_types.proofs.Tables.{is_in_block, none_is_absent}
 use Rattle.domain_types.proofs.variables.Variables.declares.Goals as goal
 

@@ -1,7 +1,7 @@
 use Rattle.std.proofs.Common.{◌≡◌, ◌-◌, length, arith, ap, ◌∙◌}
 use Rattle.std.proofs.lemmas.List.{length-reverse}
 use Rattle.domain_types.specs.Scopes.{inner}
-use Rattle.domain_types.specs.Table.{latest_first, block_count, scope_at}
+use Rattle.domain_types.specs.inner.Table.{latest_first, block_count, scope_at}
 use Rattle.domain_types.proofs.Tables.{inner_is}
 use Rattle.domain_types.proofs.variables.Variables.enter.Goals as goal
 

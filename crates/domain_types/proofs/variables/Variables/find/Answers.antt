@@ -1,7 +1,7 @@
 use Rattle.std.proofs.Common.{◌≡◌, Some, None, ap, ◌∙◌, sym}
 use Rattle.std.specs.Prelude.{option_map}
 use Rattle.domain_types.specs.Scopes.{held_by, variable_in, variable_named}
-use Rattle.domain_types.specs.Table.{latest_in, latest_first, block_count}
+use Rattle.domain_types.specs.inner.Table.{latest_in, latest_first, block_count}
 use Rattle.domain_types.proofs.Tables.{whole, held_of, latest_is_meant}
 use Rattle.domain_types.proofs.variables.Variables.find.Goals as goal
 

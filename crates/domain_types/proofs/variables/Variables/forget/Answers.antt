@@ -1,7 +1,7 @@
 use Rattle.std.proofs.Common.{◌≡◌, suc, ◌-◌, ◌<◌, [], ◌∷◌, length, arith, ap, ◌∙◌, sym, subst}
 use Rattle.std.specs.Prelude.{reverse}
 use Rattle.std.proofs.lemmas.List.{reverse-append}
-use Rattle.domain_types.specs.Table.{latest_first, latest_in, HideEachOther, block_count, scope_at}
+use Rattle.domain_types.specs.inner.Table.{latest_first, latest_in, HideEachOther, block_count, scope_at}
 use Rattle.domain_types.proofs.Tables.{one_less, is_there, block_there}
 use Rattle.domain_types.proofs.variables.Variables.forget.Goals as goal
 

@@ -1,7 +1,7 @@
 use Rattle.std.proofs.Common.{◌≡◌, ◌-◌, length, arith, ap, ◌∙◌}
 use Rattle.std.proofs.lemmas.List.{length-reverse}
 use Rattle.name_resolution.specs.Scopes.{inner}
-use Rattle.name_resolution.specs.Table.{latest_first, block_count, scope_at}
+use Rattle.name_resolution.specs.inner.Table.{latest_first, block_count, scope_at}
 use Rattle.name_resolution.proofs.Tables.{inner_is}
 use Rattle.name_resolution.proofs.variables.Variables.enter.Goals as goal
 

@@ -1,7 +1,7 @@
 use Rattle.std.proofs.Common.{◌≡◌, Some, None, ap, ◌∙◌, sym}
 use Rattle.std.specs.Prelude.{option_map}
 use Rattle.name_resolution.specs.Scopes.{known_of, variable_in, variable_named}
-use Rattle.name_resolution.specs.Table.{latest_in, latest_first, block_count}
+use Rattle.name_resolution.specs.inner.Table.{latest_in, latest_first, block_count}
 use Rattle.name_resolution.proofs.Tables.{whole, known_of_latest, latest_is_meant}
 use Rattle.name_resolution.proofs.variables.Variables.find.Goals as goal
 

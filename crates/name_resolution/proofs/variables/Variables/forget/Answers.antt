@@ -1,7 +1,7 @@
 use Rattle.std.proofs.Common.{◌≡◌, suc, ◌-◌, ◌<◌, [], ◌∷◌, length, arith, ap, ◌∙◌, sym, subst}
 use Rattle.std.specs.Prelude.{reverse}
 use Rattle.std.proofs.lemmas.List.{reverse-append}
-use Rattle.name_resolution.specs.Table.{latest_first, latest_in, HideEachOther, block_count, scope_at}
+use Rattle.name_resolution.specs.inner.Table.{latest_first, latest_in, HideEachOther, block_count, scope_at}
 use Rattle.name_resolution.proofs.Tables.{one_less, is_there, block_there}
 use Rattle.name_resolution.proofs.variables.Variables.forget.Goals as goal
 

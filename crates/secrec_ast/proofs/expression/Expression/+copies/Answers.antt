@@ -8,7 +8,9 @@ use Rattle.secrec_ast.proofs.expression.Expression.+copies.Goals as goal
 
 pub copy-loop-argument-preserved : goal.copy-loop-argument-preserved
 copy-loop-argument-preserved t c =
-    rw c.in_ok-push-in-Call.ensures.items (one_more expression c.deref-argument-items.result.now c.loop-argument.copies.items c.loop-argument.argument-index c.in_ok-copy-in-Call.field-0 c.argument-item.result c.loop-argument-test.true c.argument-item.is c.in_ok-copy-in-Call.ensures c.loop-argument.invariant)
+    rw c.in_ok-push-in-Call.ensures.items
+    (one_more expression c.deref-argument-items.result.now c.loop-argument.copies.items c.loop-argument.argument-index
+    c.in_ok-copy-in-Call.field-0 c.argument-item.result c.loop-argument-test.true c.argument-item.is c.in_ok-copy-in-Call.ensures c.loop-argument.invariant)
 
 pub copy-returns-in_ok-copy-in-Call-2 : goal.copy-returns-in_ok-copy-in-Call-2
 copy-returns-in_ok-copy-in-Call-2 t c =

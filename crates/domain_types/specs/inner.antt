@@ -1,0 +1,5 @@
+pub mod LeastFault
+pub mod Lent
+pub mod Table
+pub mod Walks
+pub mod WorkList

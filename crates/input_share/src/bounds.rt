@@ -1,0 +1,14 @@
+// What is true of inputs that are read.
+ghost use Rattle.std.specs.Prelude.{◌≡◌, ℕ, List, Ok};
+ghost use Rattle.value_file.specs.declared.inputs.Entry.{Entry};
+ghost use Rattle.value_file.specs.declared.public.PublicEntry.{PublicEntry};
+ghost use Rattle.value_file.specs.Input.{read_of};
+ghost use Rattle.value_file.specs.PublicFile.{read_public_of};
+ghost use Rattle.input_share.specs.OfWords.{AreRead, ArePublicRead};
+
+/// Law: inputs that are read from a file may stand in one, and each element of them, a number or a truth value, is a word of 64 bits; so it
+/// is with what is read of a public file.
+pub fn read_entries_are_of_words()
+    ensures inputs { (bytes : List ℕ) (entries : List Entry) → read_of bytes ≡ Ok entries → AreRead entries }
+    ensures public { (bytes : List ℕ) (part : List PublicEntry) → read_public_of bytes ≡ Ok part → ArePublicRead part }
+{}

@@ -1,9 +1,0 @@
-use Rattle.std.proofs.Common.{◌-◌, length, sym, ◌∙◌, ap}
-use Rattle.gates.specs.Clear.{value}
-use Rattle.shared_gates.proofs.Models.{value_at-value}
-use Rattle.joint_code.proofs.telling.last_words.Goals as goal
-
-pub returns : goal.returns
-returns c =
-    let values = c.args.values.now in
-    c.value.ensures ∙ ap (value values) (c.saturating_sub.ensures ∙ ap (λ n. n - 1) c.len.ensures) ∙ sym (value_at-value values (length values - 1))

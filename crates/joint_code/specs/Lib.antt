@@ -1,5 +1,0 @@
-pub mod Telling
-pub mod Courses
-pub mod Views
-pub mod Turns
-pub mod Answers

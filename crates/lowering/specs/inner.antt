@@ -1,0 +1,4 @@
+pub mod Leaves
+pub mod Naming
+pub mod Pieces
+pub mod Views

@@ -1,0 +1,57 @@
+-- Cited by private functions alone: no contract of another crate rests on it.
+-- What the structs of the resolution stand for.
+use Rattle.std.specs.Prelude.{List, Box, Vec, map}
+use Rattle.std.specs.declared.alloc.Global.{Global}
+use denote.Ref.{Bor}
+use Rattle.secrec_ast.specs.declared.statement.DeclaredType.{DeclaredType}
+use Rattle.secrec_ast.specs.Programs.{FunctionTree}
+use Rattle.domain_types.specs.Views.{tree_at}
+use Rattle.name_resolution.specs.declared.values.Valued.{Valued}
+use Rattle.name_resolution.specs.declared.values.CallMade.{CallMade}
+use Rattle.name_resolution.specs.declared.found.CalledFunctions.{CalledFunctions}
+use Rattle.name_resolution.specs.declared.place.FunctionScope.{FunctionScope}
+use Rattle.typed_tree.specs.declared.kinds.Slot.{Slot}
+use Rattle.typed_tree.specs.declared.statement.TypedStatement.{TypedStatement}
+use Rattle.typed_tree.specs.declared.function.TypedFunction.{TypedFunction}
+use Rattle.typed_tree.specs.Tree.{typed_tree}
+use Rattle.typed_tree.specs.Commands.{Command, Commands, command, commands_of}
+use Rattle.typed_tree.specs.Programs.{TypedFunctionTree, typed_function_tree}
+use Rattle.name_resolution.specs.Scopes as scopes
+use Rattle.name_resolution.specs.Values.{TypedValue, TypedCall}
+
+abbrev pub valued : Valued → TypedValue
+valued v = record { tree = typed_tree v.tree; shape = v.shape }
+
+abbrev pub pair_seen : Valued × Valued → TypedValue × TypedValue
+pair_seen p = (valued p.0, valued p.1)
+
+abbrev pub values_seen : Vec Valued Global → List TypedValue
+values_seen vs = map valued vs.items
+
+abbrev pub call_seen : CallMade → TypedCall
+call_seen c = record { tree = typed_tree c.tree; gives = c.gives }
+
+abbrev pub type_at : Bor DeclaredType → DeclaredType
+type_at t = t.now
+
+abbrev pub place_seen : FunctionScope → scopes.FunctionScope
+place_seen s = record { scope = s.variables; slots = map type_at s.slots.items }
+
+abbrev pub found_seen : CalledFunctions → List FunctionTree
+found_seen f = map tree_at f.functions.items
+
+abbrev pub command_in : Box TypedStatement Global → Command
+command_in c = command c.value
+
+abbrev pub commands_seen : Vec TypedStatement Global → Commands
+commands_seen cs = commands_of (map command cs.items)
+
+-- what is made of a piece, with the place behind it
+abbrev pub with_place : {A B : Type 0} → (A → B) → scopes.FunctionScope → A → B × scopes.FunctionScope
+with_place view s a = (view a, s)
+
+abbrev pub slots_seen : Vec Slot Global → List Slot
+slots_seen ss = ss.items
+
+abbrev pub functions_seen : Vec TypedFunction Global → List TypedFunctionTree
+functions_seen fs = map typed_function_tree fs.items

@@ -1,0 +1,47 @@
+-- What the client is told, by what the three miners tell.
+use Rattle.std.specs.Prelude.{ℕ, ◌%◌, List, [], ◌∷◌}
+use Rattle.sc_text.specs.declared.event.Event.{Event}
+use Rattle.sc_text.specs.declared.event.Event.TheVariants.{Open, Publish}
+use Rattle.share_ring.specs.Rings.{add_ring, xor_ring}
+use Rattle.proto_core.specs.declared.party.Number.{Number}
+use Rattle.proto_core.specs.declared.party.Number.TheVariants.{One, Two, Three}
+use Rattle.proto_core.specs.Strand.{Field, Words, Bits, Notice, Shown, Published, Handed}
+use Rattle.shared_gates.specs.Shares.{sum_of}
+use Rattle.code_runs.specs.Telling.{elements_told}
+
+-- three shares of an element, added up: as numbers; or bit by bit, where bit 0 is the truth value
+abbrev pub added_up : Field → (x y z : ℕ) → ℕ
+added_up Words x y z = sum_of add_ring x y z
+added_up Bits x y z = sum_of xor_ring x y z % 2
+
+abbrev pub all_added_up : Field → (xs ys zs : List ℕ) → List ℕ
+all_added_up f (x ∷ xs) (y ∷ ys) (z ∷ zs) = added_up f x y z ∷ all_added_up f xs ys zs
+all_added_up f xs ys zs = []
+
+-- one event, by what the first miner tells and the words that the others tell beside it
+abbrev pub told_by_three : Notice → (second third : List ℕ) → Event
+told_by_three (Shown form words) ys zs = Open (elements_told form words)
+told_by_three (Published text form words) ys zs = Publish text (elements_told form words)
+told_by_three (Handed text form words) ys zs = Publish text (elements_told form (all_added_up form.element words ys zs))
+
+abbrev pub words_of : Notice → List ℕ
+words_of (Shown form words) = words
+words_of (Published text form words) = words
+words_of (Handed text form words) = words
+
+-- the words of the notice that comes first, and the notices behind it
+abbrev pub first_words : List Notice → List ℕ
+first_words [] = []
+first_words (n ∷ ns) = words_of n
+
+abbrev pub behind_first : List Notice → List Notice
+behind_first [] = []
+behind_first (n ∷ ns) = ns
+
+abbrev pub told_beside : (first second third : List Notice) → List Event
+told_beside [] ms ks = []
+told_beside (n ∷ ns) ms ks = told_by_three n (first_words ms) (first_words ks) ∷ told_beside ns (behind_first ms) (behind_first ks)
+
+-- notice by notice
+abbrev pub told_together : (Number → List Notice) → List Event
+told_together tell = told_beside (tell One) (tell Two) (tell Three)
