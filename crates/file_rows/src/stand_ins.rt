@@ -1,103 +1,92 @@
-//! The objects in memory: what calls answer, with those that are to fail.
+// The objects in memory: what calls answer, with those that are to fail.
 use outside::{
     Failed, FileErr, Files, Links, MemFiles, MemLinks, MemSink, MemSpawner, Sink, SpawnCall,
     SpawnErr, Spawner, put_all,
 };
 use std::alloc::{AllocError, Global};
 use std::fmt::{Debug, Display};
-use std::test::Fail;
 
-fn note<D: Debug + Drop>(alloc: Global, log: &mut String, answer: D) -> Result<(), AllocError> {
-    let text = format!(in alloc; "{answer:?}\n")?;
-    log.push_str(text.as_str())?;
-    Ok(())
+fn note<D: Debug + Drop>(text: &mut String, answer: D) -> Result<(), AllocError> {
+    write!(text, " {answer:?}")
 }
 
-fn note_bytes(alloc: Global, log: &mut String, bytes: &[u8]) -> Result<(), AllocError> {
-    note(alloc, log, std::str::from_utf8(bytes).unwrap_or("no text"))
+fn note_bytes(text: &mut String, bytes: &[u8]) -> Result<(), AllocError> {
+    note(text, str::from_utf8(bytes).unwrap_or("no text"))
 }
 
-fn note_read(
-    alloc: Global,
-    log: &mut String,
-    found: Result<Vec<u8>, FileErr>,
-) -> Result<(), AllocError> {
+fn note_read(text: &mut String, found: Result<Vec<u8>, FileErr>) -> Result<(), AllocError> {
     match found {
-        Ok(bytes) => note_bytes(alloc, log, &bytes),
-        Err(error) => note(alloc, log, error),
+        Ok(bytes) => note_bytes(text, &bytes),
+        Err(error) => note(text, error),
     }
 }
 
-fn log_files(alloc: Global, log: &mut String, files: &mut MemFiles) -> Result<(), AllocError> {
+// Three reads, of which the second asks for what is not there and the third fails, and two writes, of which the second fails.
+fn tell_files(alloc: Global, text: &mut String, files: &mut MemFiles) -> Result<(), AllocError> {
     files.place(alloc, "a", b"one")?;
-    note_read(alloc, log, files.read(alloc, "a"))?;
-    note_read(alloc, log, files.read(alloc, "b"))?;
-    note_read(alloc, log, files.read(alloc, "a"))?;
-    note(alloc, log, files.write(alloc, "a", b"two"))?;
-    note(alloc, log, files.write(alloc, "a", b"three"))?;
-    note(alloc, log, files.get("b").is_some())?;
-    note_bytes(alloc, log, files.get("a").unwrap_or(b"nothing"))
+    text.push_str("files:")?;
+    note_read(text, files.read(alloc, "a"))?;
+    note_read(text, files.read(alloc, "b"))?;
+    note_read(text, files.read(alloc, "a"))?;
+    note(text, files.write(alloc, "a", b"two"))?;
+    note(text, files.write(alloc, "a", b"three"))?;
+    note(text, files.get("b").is_some())?;
+    note_bytes(text, files.get("a").unwrap_or(b"nothing"))
 }
 
-const FILES: &str = "\"one\"\nFailed\nFailed\nOk(())\nErr(Failed)\nfalse\n\"two\"\n";
-
-fn log_sinks(
-    alloc: Global,
-    log: &mut String,
-    whole: &mut MemSink,
-    cut: &mut MemSink,
-) -> Result<(), AllocError> {
-    note(alloc, log, whole.put(b"twelve bytes"))?;
-    note(alloc, log, put_all(whole, b", then seventeen"))?;
-    note_bytes(alloc, log, whole.bytes())?;
-    note(alloc, log, put_all(cut, b"twelve bytes"))?;
-    note_bytes(alloc, log, cut.bytes())
+// A sink that takes all, in pieces, and one whose second call fails.
+fn tell_sinks(text: &mut String, whole: &mut MemSink, cut: &mut MemSink) -> Result<(), AllocError> {
+    text.push_str("\nsinks:")?;
+    note(text, whole.put(b"twelve bytes"))?;
+    note(text, put_all(whole, b", then seventeen"))?;
+    note_bytes(text, whole.bytes())?;
+    note(text, put_all(cut, b"twelve bytes"))?;
+    note_bytes(text, cut.bytes())
 }
-
-const SINKS: &str = "Ok(7)\nOk(())\n\"twelve , then seventeen\"\nErr(Failed)\n\"twelve \"\n";
 
 fn note_received(
-    alloc: Global,
-    log: &mut String,
+    text: &mut String,
     into: &[u8],
     count: Result<usize, Failed>,
 ) -> Result<(), AllocError> {
     match count {
-        Ok(count) => note_bytes(alloc, log, &into[..count.min(into.len())]),
-        Err(error) => note(alloc, log, error),
+        Ok(count) => note_bytes(text, &into[..count.min(into.len())]),
+        Err(error) => note(text, error),
     }
 }
 
-fn log_second(alloc: Global, log: &mut String, links: &mut MemLinks) -> Result<(), AllocError> {
+// What so many calls receive from the second miner.
+fn tell_second(text: &mut String, links: &mut MemLinks) -> Result<(), AllocError> {
     let mut into = [0u8; 9];
-    for _ in 0..3 {
+    for _ in 0..3u32 {
         let count = links.recv(2, &mut into);
-        note_received(alloc, log, &into, count)?;
+        note_received(text, &into, count)?;
     }
     Ok(())
 }
 
-fn log_third(alloc: Global, log: &mut String, links: &mut MemLinks) -> Result<(), AllocError> {
+// And from the third.
+fn tell_third(text: &mut String, links: &mut MemLinks) -> Result<(), AllocError> {
     let mut into = [0u8; 9];
-    for _ in 0..2 {
+    for _ in 0..2u32 {
         let count = links.recv(3, &mut into);
-        note_received(alloc, log, &into, count)?;
+        note_received(text, &into, count)?;
     }
     Ok(())
 }
 
-fn log_links(alloc: Global, log: &mut String, links: &mut MemLinks) -> Result<(), AllocError> {
+// Links of which a call fails, and that have no more than what arrived.
+fn tell_links(text: &mut String, links: &mut MemLinks) -> Result<(), AllocError> {
     links.arrive(2, b"from two")?;
     links.arrive(3, b"3")?;
-    note(alloc, log, links.connect(1, 4000))?;
-    note(alloc, log, links.send(3, b"to three"))?;
-    log_second(alloc, log, links)?;
-    log_third(alloc, log, links)?;
-    note_bytes(alloc, log, links.sent(3))?;
-    note_bytes(alloc, log, links.sent(2))
+    text.push_str("\nlinks:")?;
+    note(text, links.connect(1, 4000))?;
+    note(text, links.send(3, b"to three"))?;
+    tell_second(text, links)?;
+    tell_third(text, links)?;
+    note_bytes(text, links.sent(3))?;
+    note_bytes(text, links.sent(2))
 }
-
-const LINKS: &str = "Ok(())\nOk(7)\n\"from tw\"\n\"o\"\nFailed\nFailed\n\"3\"\n\"to thre\"\n\"\"\n";
 
 fn waits(calls: &[SpawnCall]) -> usize {
     calls
@@ -106,98 +95,64 @@ fn waits(calls: &[SpawnCall]) -> usize {
         .count()
 }
 
-fn log_children(
+// Three starts, of which the second fails, and two waits, of which the second is for no child; how many calls, and how many waits.
+fn tell_children(
     alloc: Global,
-    log: &mut String,
+    text: &mut String,
     children: &mut MemSpawner,
 ) -> Result<(), AllocError> {
     let mut words = Vec::new(alloc);
     words.push(String::from_str(alloc, "miner")?)?;
-    for _ in 0..3 {
-        note(alloc, log, children.start(alloc, &words))?;
+    text.push_str("\nchildren:")?;
+    for _ in 0..3u32 {
+        note(text, children.start(alloc, &words))?;
     }
-    note(alloc, log, children.wait(1))?;
-    note(alloc, log, children.wait(2))?;
-    note(alloc, log, children.calls().len())?;
-    note(alloc, log, waits(children.calls()))
+    note(text, children.wait(1))?;
+    note(text, children.wait(2))?;
+    note(text, children.calls().len())?;
+    note(text, waits(children.calls()))
 }
 
-const CHILDREN: &str = "Ok(0)\nErr(Failed)\nOk(1)\nOk(5)\nErr(Failed)\n3\n1\n";
-
-fn note_text<D: Display + Drop>(
-    alloc: Global,
-    log: &mut String,
-    error: D,
-) -> Result<(), AllocError> {
-    let text = format!(in alloc; "{error}\n")?;
-    log.push_str(text.as_str())?;
-    Ok(())
+fn note_error<D: Display + Drop>(text: &mut String, error: D) -> Result<(), AllocError> {
+    write!(text, "{error}\n")
 }
 
-fn log_errors(alloc: Global, log: &mut String) -> Result<(), AllocError> {
-    note_text(alloc, log, FileErr::Memory)?;
-    note_text(alloc, log, FileErr::Failed)?;
-    note_text(alloc, log, Failed)?;
-    note_text(alloc, log, SpawnErr::Memory)?;
-    note_text(alloc, log, SpawnErr::Failed)
+fn tell_errors(text: &mut String) -> Result<(), AllocError> {
+    text.push_str("\n")?;
+    note_error(text, FileErr::Memory)?;
+    note_error(text, FileErr::Failed)?;
+    note_error(text, Failed)?;
+    note_error(text, SpawnErr::Memory)?;
+    note_error(text, SpawnErr::Failed)
 }
 
-const ERRORS: &str =
-    "out of memory\nthe call failed\nthe call failed\nout of memory\nthe call failed\n";
-
-// The stand-ins whose calls are told.
-#[derive(Clone, Copy)]
-enum Object {
-    Files,
-    Sinks,
-    Links,
-    Children,
-    Errors,
+fn files(alloc: Global, text: &mut String) -> Result<(), AllocError> {
+    let mut files = MemFiles::new(alloc, vec![in alloc; 2, 4]?);
+    tell_files(alloc, text, &mut files)
 }
 
-const ROWS: [(Object, &str); 5] = [
-    (Object::Files, FILES),
-    (Object::Sinks, SINKS),
-    (Object::Links, LINKS),
-    (Object::Children, CHILDREN),
-    (Object::Errors, ERRORS),
-];
-
-fn log_object(alloc: Global, log: &mut String, object: Object) -> Result<(), AllocError> {
-    match object {
-        Object::Files => {
-            let mut files = MemFiles::new(alloc, vec![in alloc; 2, 4]?);
-            log_files(alloc, log, &mut files)
-        }
-        Object::Sinks => {
-            let mut cut = MemSink::new(alloc, vec![in alloc; 1]?);
-            let mut whole = MemSink::new(alloc, Vec::new(alloc));
-            log_sinks(alloc, log, &mut whole, &mut cut)
-        }
-        Object::Links => {
-            let mut links = MemLinks::new(alloc, vec![in alloc; 5]?);
-            log_links(alloc, log, &mut links)
-        }
-        Object::Children => {
-            let statuses = vec![in alloc; 0, 5]?;
-            let mut children = MemSpawner::new(alloc, statuses, vec![in alloc; 1]?);
-            log_children(alloc, log, &mut children)
-        }
-        Object::Errors => log_errors(alloc, log),
-    }
+fn sinks(alloc: Global, text: &mut String) -> Result<(), AllocError> {
+    let mut cut = MemSink::new(alloc, vec![in alloc; 1]?);
+    let mut whole = MemSink::new(alloc, Vec::new(alloc));
+    tell_sinks(text, &mut whole, &mut cut)
 }
 
-fn agrees(alloc: Global, object: Object, wanted: &str) -> Result<bool, AllocError> {
-    let mut log = String::new(alloc);
-    log_object(alloc, &mut log, object)?;
-    Ok(log.as_str() == wanted)
+fn links(alloc: Global, text: &mut String) -> Result<(), AllocError> {
+    let mut links = MemLinks::new(alloc, vec![in alloc; 5]?);
+    tell_links(text, &mut links)
 }
 
-#[test]
-fn objects_in_memory_answer(rt: HostRuntime) -> Result<(), Fail> {
-    for (object, wanted) in ROWS {
-        let is_good = agrees(rt.alloc(), object, wanted)?;
-        assert!(rt; is_good, "{wanted}");
-    }
-    Ok(())
+fn children(alloc: Global, text: &mut String) -> Result<(), AllocError> {
+    let statuses = vec![in alloc; 0, 5]?;
+    let mut children = MemSpawner::new(alloc, statuses, vec![in alloc; 1]?);
+    tell_children(alloc, text, &mut children)
+}
+
+/// The lines of files, sinks, links, children and errors.
+pub fn tell(alloc: Global, text: &mut String) -> Result<(), AllocError> {
+    files(alloc, text)?;
+    sinks(alloc, text)?;
+    links(alloc, text)?;
+    children(alloc, text)?;
+    tell_errors(text)
 }

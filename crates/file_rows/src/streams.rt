@@ -1,11 +1,10 @@
-//! Streams whose calls are interrupted, and readers that have more bytes than they may.
-ghost use Rattle.std.specs.Prelude.{◌≤◌, ◌<◌, ◌-◌, ◌^◌, IfOk};
+// Streams whose calls are interrupted, and readers that have more bytes than they may.
+ghost use Rattle.std.specs.Prelude.{◌≤◌, IfOk};
 
-use outside::{FileErr, Sink};
+use outside::Sink;
 use real_objects::{RealSink, read_within};
-use std::alloc::Global;
+use std::alloc::{AllocError, Global};
 use std::io::{self, Read, Write};
-use std::test::Fail;
 
 /// A stream of which some calls are interrupted; the next takes or gives three bytes, and each later one fails.
 #[derive(Drop)]
@@ -40,42 +39,32 @@ impl Write for Slow {
     }
 }
 
-fn puts(sink: &mut RealSink<Slow>) -> (Result<usize, FileErr>, Result<usize, FileErr>) {
-    (sink.put(b"twelve bytes"), sink.put(b"twelve bytes"))
-}
-
-#[test]
-fn an_interrupted_call_is_tried_again(rt: HostRuntime) -> Result<(), Fail> {
+// An interrupted call is tried again.
+fn tell_interrupted(text: &mut String) -> Result<(), AllocError> {
     let mut sink = RealSink::new(Slow {
         interruptions: 2,
         is_done: false,
     });
-    let answers = puts(&mut sink);
-    assert!(rt; answers == (Ok(3), Err(FileErr::Failed)));
-    Ok(())
+    let first = sink.put(b"twelve bytes");
+    let second = sink.put(b"twelve bytes");
+    write!(text, "interrupted twice: {first:?} {second:?}\n")
 }
 
-// The count of a text's bytes that are read within a bound; nothing where they are too many.
-fn count_within(alloc: Global, text: &str, most: u64) -> io::Result<Option<usize>>
-    requires { most < 2 ^ 64 - 1 }
-{
-    match read_within(alloc, text.as_bytes(), most)? {
-        Some(bytes) => Ok(Some(bytes.len())),
-        None => Ok(None),
+// How many bytes of a text are read within three.
+fn tell_within(alloc: Global, text: &mut String, source: &str) -> Result<(), AllocError> {
+    write!(text, "within three, {source:?}: ")?;
+    match read_within(alloc, source.as_bytes(), 3) {
+        Ok(Some(bytes)) => write!(text, "{} bytes\n", bytes.len()),
+        Ok(None) => text.push_str("too many\n"),
+        Err(_) => text.push_str("failed\n"),
     }
 }
 
-#[test]
-fn a_reader_over_its_bound_is_refused(rt: HostRuntime) -> Result<(), Fail> {
-    for (text, wanted) in [
-        ("", Some(0)),
-        ("ab", Some(2)),
-        ("abc", Some(3)),
-        ("abcd", None),
-        ("abcdefgh", None),
-    ] {
-        let found = count_within(rt.alloc(), text, 3)?;
-        assert!(rt; found == wanted, "{text}");
+/// The lines of a stream that is interrupted, and of readers over their bound.
+pub fn tell(alloc: Global, text: &mut String) -> Result<(), AllocError> {
+    tell_interrupted(text)?;
+    for source in ["", "ab", "abc", "abcd", "abcdefgh"] {
+        tell_within(alloc, text, source)?;
     }
     Ok(())
 }

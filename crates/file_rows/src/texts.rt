@@ -1,47 +1,33 @@
-//! Names, the text of a run, and the lines of errors.
+// Names, the text of a run, and the lines of ends and faults.
 use sc_text::{
     CountedFault, Element, Elements, End, Ending, EntryField, Event, Fault, InputFault, Name,
     PlacedFault, Span, TapeOwner, TrapKind, run_text,
 };
 use std::alloc::{AllocError, Global};
-use std::fmt::Display;
-use std::test::Fail;
 
-const LONG: &str = "abcdefghijklmnopqrstuvwxyz_ABCDEFGHIJKLMNOPQRSTUVWXYZ_0123456789";
-
-const NAMES: [(&str, bool); 7] = [
-    ("a", true),
-    ("_9Z", true),
-    (LONG, true),
-    ("", false),
-    ("a b", false),
-    ("é", false),
-    (
-        "abcdefghijklmnopqrstuvwxyz_ABCDEFGHIJKLMNOPQRSTUVWXYZ_0123456789x",
-        false,
-    ),
+const NAMES: [&str; 7] = [
+    "a",
+    "_9Z",
+    "abcdefghijklmnopqrstuvwxyz_ABCDEFGHIJKLMNOPQRSTUVWXYZ_0123456789",
+    "",
+    "a b",
+    "é",
+    "abcdefghijklmnopqrstuvwxyz_ABCDEFGHIJKLMNOPQRSTUVWXYZ_0123456789x",
 ];
 
-fn is_copied(alloc: Global, name: &Name, text: &str) -> Result<bool, AllocError> {
+fn tell_copy(alloc: Global, text: &mut String, name: &Name) -> Result<(), AllocError> {
     let copy = name.copy(alloc)?;
-    Ok(copy.as_str() == text)
+    write!(text, "copied as {}\n", copy.as_str())
 }
 
-// Whether the text is a name, which is copied as it stands.
-fn is_name(alloc: Global, text: &str) -> Result<bool, AllocError> {
-    match Name::from_str(alloc, text)? {
-        Some(name) => is_copied(alloc, &name, text),
-        None => Ok(false),
+// A text that may be a name, and the name's copy.
+fn tell_name(alloc: Global, text: &mut String, source: &str) -> Result<(), AllocError> {
+    write!(text, "name {source:?}: ")?;
+    match Name::from_str(alloc, source) {
+        Ok(Some(name)) => tell_copy(alloc, text, &name),
+        Ok(None) => text.push_str("none\n"),
+        Err(error) => Err(error),
     }
-}
-
-#[test]
-fn names_are_letters_digits_and_underscores(rt: HostRuntime) -> Result<(), Fail> {
-    for (text, wanted) in NAMES {
-        let found = is_name(rt.alloc(), text)?;
-        assert!(rt; found == wanted, "{text}");
-    }
-    Ok(())
 }
 
 fn truths(alloc: Global) -> Result<Elements, AllocError> {
@@ -66,36 +52,23 @@ fn push_published(alloc: Global, events: &mut Vec<Event>) -> Result<(), AllocErr
     Ok(())
 }
 
-fn push_events(alloc: Global, events: &mut Vec<Event>) -> Result<(), AllocError> {
+fn events(alloc: Global) -> Result<Vec<Event>, AllocError> {
+    let mut events = Vec::new(alloc);
     events.push(Event::Open(truths(alloc)?))?;
     events.push(Event::Open(Elements::new(alloc)))?;
-    push_published(alloc, events)
+    push_published(alloc, &mut events)?;
+    Ok(events)
 }
 
-fn run_of(alloc: Global, events: &mut Vec<Event>) -> Result<Vec<u8>, AllocError> {
-    push_events(alloc, events)?;
+// The text of a run.
+fn tell_run(alloc: Global, text: &mut String) -> Result<(), AllocError> {
+    let events = events(alloc)?;
     let end = End {
         how: Ending::Done,
         cost: 7,
     };
-    run_text(alloc, events, &end)
-}
-
-fn push_run(alloc: Global, text: &mut Vec<u8>) -> Result<(), AllocError> {
-    let mut events = Vec::new(alloc);
-    let run = run_of(alloc, &mut events)?;
-    text.extend_from_slice(&run)?;
-    Ok(())
-}
-
-fn push_line<D: Display + Drop>(
-    alloc: Global,
-    text: &mut Vec<u8>,
-    item: D,
-) -> Result<(), AllocError> {
-    let line = format!(in alloc; "{item}")?;
-    text.extend_from_slice(line.as_bytes())?;
-    Ok(())
+    let run = run_text(alloc, &events, &end)?;
+    text.push_str(str::from_utf8(&run).unwrap_or("no text\n"))
 }
 
 const ENDS: [End; 5] = [
@@ -132,25 +105,9 @@ const ENDS: [End; 5] = [
     },
 ];
 
-fn push_ends(alloc: Global, text: &mut Vec<u8>) -> Result<(), AllocError> {
+fn tell_ends(text: &mut String) -> Result<(), AllocError> {
     for end in ENDS {
-        push_line(alloc, text, end)?;
-    }
-    Ok(())
-}
-
-const INPUT_FAULTS: [InputFault; 3] = [
-    InputFault::BadField {
-        entry: 0,
-        field: EntryField::Value,
-    },
-    InputFault::BadLens,
-    InputFault::TooMany { entry: 1 },
-];
-
-fn push_input_faults(alloc: Global, text: &mut Vec<u8>) -> Result<(), AllocError> {
-    for fault in INPUT_FAULTS {
-        push_line(alloc, text, Fault::Input(fault))?;
+        write!(text, "{end}")?;
     }
     Ok(())
 }
@@ -158,56 +115,50 @@ fn push_input_faults(alloc: Global, text: &mut Vec<u8>) -> Result<(), AllocError
 // The faults of a program and its files, by number.
 fn fault(alloc: Global, number: u32) -> Result<Fault, AllocError> {
     Ok(match number {
-        0 => Fault::Usage,
-        1 => Fault::Placed {
+        0 => Fault::Input(InputFault::BadField {
+            entry: 0,
+            field: EntryField::Value,
+        }),
+        1 => Fault::Input(InputFault::BadLens),
+        2 => Fault::Input(InputFault::TooMany { entry: 1 }),
+        3 => Fault::Usage,
+        4 => Fault::Placed {
             fault: PlacedFault::PrivateCondition,
             span: Span {
                 line: 2,
                 column: 33,
             },
         },
-        2 => Fault::Counted {
+        5 => Fault::Counted {
             fault: CountedFault::TooManyInstances,
             count: 1025,
         },
-        3 => Fault::BadView { line: 1 },
-        4 => Fault::BadTape { place: 159 },
-        5 => Fault::ShortTape { need: 4, have: 3 },
-        6 => Fault::BadSchedule { line: 2 },
-        7 => Fault::File {
+        6 => Fault::BadView { line: 1 },
+        7 => Fault::BadTape { place: 159 },
+        8 => Fault::ShortTape { need: 4, have: 3 },
+        9 => Fault::BadSchedule { line: 2 },
+        10 => Fault::File {
             path: String::from_str(alloc, "no.sc")?,
         },
-        8 => Fault::Write,
+        11 => Fault::Write,
         _ => Fault::Memory,
     })
 }
 
-fn push_faults(alloc: Global, text: &mut Vec<u8>) -> Result<(), AllocError> {
-    for number in 0..10 {
-        push_line(alloc, text, fault(alloc, number)?)?;
+fn tell_faults(alloc: Global, text: &mut String) -> Result<(), AllocError> {
+    for number in 0..13u32 {
+        let fault = fault(alloc, number)?;
+        write!(text, "{fault}")?;
     }
     Ok(())
 }
 
-const TEXT: &str =
-    "open true false\nopen\npublish s\npublish _t 13\nend done cost 7\nend done cost 18446744073709551615\nend trap Argument line 2 cost 3\nend budget cost 6\nend tape 3 need 1 have 0 cost 6\nend tape 0 need 340282366920938463463374607431768211455 have 1 cost 0\nerror: I2 entry 0 value\nerror: I2 lens\nerror: I3 entry 1\nerror: usage\nerror: D4 line 2 column 33\nerror: X1 1025\nerror: V1 line 1\nerror: Q1 place 159\nerror: Q2 need 4 have 3\nerror: S1 line 2\nerror: file no.sc\nerror: write\nerror: memory\n";
-
-fn push_all(alloc: Global, text: &mut Vec<u8>) -> Result<(), AllocError> {
-    push_run(alloc, text)?;
-    push_ends(alloc, text)?;
-    push_input_faults(alloc, text)?;
-    push_faults(alloc, text)
-}
-
-fn is_printed(alloc: Global) -> Result<bool, AllocError> {
-    let mut text = Vec::new(alloc);
-    push_all(alloc, &mut text)?;
-    Ok(text.as_slice() == TEXT.as_bytes())
-}
-
-#[test]
-fn texts_are_printed(rt: HostRuntime) -> Result<(), Fail> {
-    let is_good = is_printed(rt.alloc())?;
-    assert!(rt; is_good);
-    Ok(())
+/// The lines of names, of a run, of ends and of faults.
+pub fn tell(alloc: Global, text: &mut String) -> Result<(), AllocError> {
+    for name in NAMES {
+        tell_name(alloc, text, name)?;
+    }
+    tell_run(alloc, text)?;
+    tell_ends(text)?;
+    tell_faults(alloc, text)
 }

@@ -1,148 +1,126 @@
-// Which instances programs reach, row by row, in the order in which they are first called, and which are checked.
-use domain_types::{Protection, check};
-use program_typing::type_program;
+// Which instances programs reach, program by program, in the order in which they are first called, and which are checked.
+use crate::sources::{program, typed};
+use domain_types::{Instance as CheckedInstance, Protection, check};
 use reached_instances::{BoundDomain, Instance, reached_instances, template_count};
 use secrec_ast::Program;
-use secrec_lexer::lex;
-use secrec_parser::parse;
 use std::alloc::{AllocError, Global};
-use std::test::Fail;
 use typed_tree::TypedProgram;
 
 // What stands before each program: `p` is the private domain 0, `r` is 1.
 const DECLARED: &str = "import shared3p; domain p shared3p; domain r shared3p;\n";
 
-// Each row: a program; the number of each function that is reached, with what its domain variables are bound to; and how many of
-// them are of templates.
-const ROWS: [(&str, &str, usize); 14] = [
+// Each program, with what it shows.
+const PROGRAMS: [(&str, &str); 14] = [
     (
+        "calls in calls",
         "uint64 g(uint64 x) { return x; } uint64 f(uint64 x) { return g(x); } uint64 h() { return 1; }
 void main() { uint64 y = f(1); y = g(2); }",
-        "0;1;2;",
-        0,
     ),
     (
+        "a template called with all domains",
         "template <domain D> D uint64 f(D uint64 x) { return x; }
 void main() { p uint64 a; a = f(1); a = f(a); f(2); }",
-        "0;1 public;1 0;",
-        2,
     ),
     (
+        "a template in a template",
         "template <domain D> void f(D uint64 x) { g(x); } template <domain E> void g(E uint64 y) { }
 void main() { p uint64 a; f(a); f(1); }",
-        "0;1 0;1 public;2 0;2 public;",
-        4,
     ),
     (
+        "a template that calls itself with its domains exchanged",
         "template <domain D, domain E> void f(D uint64 x, E uint64 y) { f(y, x); }
 void main() { p uint64 a; f(a, 1); }",
-        "0;1 0 public;1 public 0;",
-        2,
     ),
     (
+        "one domain variable for two parameters",
         "template <domain D> D uint64 f(D uint64 x, D uint64 y) { return x + y; }
 void main() { p uint64 a; r uint64 b; f(1, a); f(b, b); f(b, 2); f(1, 2); }",
-        "0;1 0;1 1;1 public;",
-        3,
     ),
     (
+        "calls as arguments",
         "template <domain D> D uint64 f(D uint64 x) { return x; } template <domain D> void g(D uint64 x, D uint64 y) { }
 void main() { p uint64 a; g(f(1), f(a)); }",
-        "0;1 public;1 0;2 0;",
-        3,
     ),
     (
+        "domains of what operators and functions give",
         "template <domain D, domain E> void f(D bool x, E uint64 y) { }
 void main() { p uint64[[1]] a (2); f(a[0] < 1, size(a)); f(declassify(a[0] < 1), sum(a)); f(!(bool) a[0], 1); f(true && (bool) a[1], 2); }",
-        "0;1 0 public;1 public 0;",
-        2,
     ),
     (
+        "joined arrays",
         "template <domain D> void g(D uint64[[1]] x) { h(bitExtract(x)); } template <domain D> void h(D bool[[1]] x) { }
 void main() { uint64[[1]] b (1); p uint64[[1]] a (2); g(cat(b, a)); g(cat(b, b)); }",
-        "0;1 0;1 public;2 0;2 public;",
-        4,
     ),
     (
+        "a for loop",
         "template <domain D> D uint64 f(D uint64 x) { return x; }
 void main() { p uint64 a; r uint64 b; for (; f(1) < 2; a = f(a)) { b = f(b); } }",
-        "0;1 1;1 0;1 public;",
-        3,
     ),
     (
+        "a do loop",
         "template <domain D> D uint64 f(D uint64 x) { return x; }
 void main() { p uint64 a; do { a = f(a); } while (f(1) < 2); }",
-        "0;1 0;1 public;",
-        2,
     ),
     (
+        "sizes, initial values and elements",
         "template <domain D> D uint64 f(D uint64 x) { return x; }
 void main() { p uint64 a; p uint64[[1]] c (f(1)) = f(a); r uint64 b; r uint64[[1]] d (1); d[f(1)] = f(b); }",
-        "0;1 public;1 0;1 1;",
-        3,
     ),
     (
+        "a function that is not called",
         "template <domain D> void f(D uint64 x) { } void other() { p uint64 a; f(a); }
 void main() { f(1); }",
-        "0;1 public;",
-        1,
     ),
     (
+        "if and else",
         "template <domain D> D uint64 f(D uint64 x) { return x; } template <domain D> void g(D uint64 x) { }
 void main() { p uint64 a; g(f(a)); g(declassify(f(a))); if (f(1) == 1) { g(f(1)); } else f(a); }",
-        "0;1 0;2 0;2 public;1 public;",
-        4,
     ),
     (
+        "a private argument for a public value",
         "p uint64 q(p uint64 x) { return f(x); } template <domain D : shared3p> D uint64 f(D uint64 x) { return x; }
 void main() { p uint64 a = q(1); }",
-        "0;1;2 0;",
-        1,
     ),
 ];
 
-// The program of a text, if it has one.
-fn program(alloc: Global, text: &str) -> Result<Program, Fail> {
-    let tokens = lex(alloc, text.as_bytes()).map_err(|_| Fail::from("no tokens"))?;
-    parse(alloc, &tokens).map_err(|_| Fail::from("no tree"))
+fn add_binding(text: &mut String, binding: &[BoundDomain]) -> Result<(), AllocError> {
+    for domain in binding {
+        match domain {
+            BoundDomain::Public => text.push_str(" public")?,
+            BoundDomain::Private(number) => write!(text, " {number}")?,
+        }
+    }
+    text.push_str(";")
 }
 
 fn add_instances(text: &mut String, instances: &[Instance]) -> Result<(), AllocError> {
     for instance in instances {
-        write!(text, "{}", instance.function)?;
-        for domain in &instance.binding {
-            match domain {
-                BoundDomain::Public => text.push_str(" public")?,
-                BoundDomain::Private(number) => write!(text, " {number}")?,
-            }
-        }
-        text.push_str(";")?;
+        write!(text, " {}", instance.function)?;
+        add_binding(text, &instance.binding)?;
     }
     Ok(())
 }
 
-// What a typed program reaches, and how many of these are instances of templates.
-fn reached(alloc: Global, typed: &TypedProgram) -> Result<(String, usize), AllocError> {
-    let mut text = String::new(alloc);
+// The number of each function that is reached, with what its domain variables are bound to; and how many are of templates.
+fn tell_reached(alloc: Global, text: &mut String, typed: &TypedProgram) -> Result<(), AllocError> {
     let instances = reached_instances(alloc, typed)?;
-    add_instances(&mut text, instances.as_slice())?;
-    Ok((text, template_count(instances.as_slice(), typed)))
+    add_instances(text, instances.as_slice())?;
+    let count = template_count(instances.as_slice(), typed);
+    write!(text, " {count} of templates\n")
 }
 
-fn reached_of(alloc: Global, rest: &str) -> Result<(String, usize), Fail> {
-    let text = format!(in alloc; "{DECLARED}{rest}")?;
-    let program = program(alloc, &text)?;
-    let typed = type_program(alloc, &program).map_err(|_| Fail::from("no types"))?;
-    Ok(reached(alloc, &typed)?)
-}
-
-#[test]
-fn instances_stand_in_the_order_of_their_first_calls(rt: HostRuntime) -> Result<(), Fail> {
-    for (program, wanted, templates) in ROWS {
-        let (found, count) = reached_of(rt.alloc(), program)?;
-        assert!(rt; found.as_str() == wanted && count == templates, "{program}");
+fn tell_program(
+    alloc: Global,
+    text: &mut String,
+    title: &str,
+    rest: &str,
+) -> Result<(), AllocError> {
+    let source = format!(in alloc; "{DECLARED}{rest}")?;
+    write!(text, "{title}:")?;
+    match typed(alloc, source.as_str()) {
+        Some(typed) => tell_reached(alloc, text, &typed),
+        None => text.push_str(" no program\n"),
     }
-    Ok(())
 }
 
 // Function 0 is a template that nobody calls, function 1 one with two bindings, which calls function 2.
@@ -154,30 +132,40 @@ template <domain D, domain E> void h(D uint64 x, E bool y) { g(x); }
 void main() { r uint64 a; g(1); g(a); g(2); }
 ";
 
-fn checked(alloc: Global, program: &Program) -> Result<String, AllocError> {
-    let mut text = String::new(alloc);
-    if let Ok(instances) = check(alloc, program) {
-        for instance in instances.iter() {
-            write!(text, "{}", instance.function)?;
-            for domain in &instance.binding {
-                match domain {
-                    Protection::Public => text.push_str(" public")?,
-                    Protection::Private(number) => write!(text, " {number}")?,
-                }
-            }
-            text.push_str(";")?;
+fn add_protections(text: &mut String, binding: &[Protection]) -> Result<(), AllocError> {
+    for domain in binding {
+        match domain {
+            Protection::Public => text.push_str(" public")?,
+            Protection::Private(number) => write!(text, " {number}")?,
         }
     }
-    Ok(text)
+    text.push_str(";")
 }
 
-#[test]
-fn a_template_is_checked_once_for_each_binding(rt: HostRuntime) -> Result<(), Fail> {
-    let program = program(rt.alloc(), CHECKED)?;
-    let found = checked(rt.alloc(), &program)?;
-    assert_eq!(rt;
-        found.as_str(),
-        "3;1 public;1 1;2 public public;2 1 public;"
-    );
-    Ok(())
+fn tell_instances(text: &mut String, instances: &[CheckedInstance]) -> Result<(), AllocError> {
+    for instance in instances {
+        write!(text, " {}", instance.function)?;
+        add_protections(text, &instance.binding)?;
+    }
+    text.push_str("\n")
+}
+
+// The instances of a program that are checked.
+fn tell_checked(alloc: Global, text: &mut String, program: &Program) -> Result<(), AllocError> {
+    text.push_str("checked once for each binding:")?;
+    match check(alloc, program) {
+        Ok(instances) => tell_instances(text, &instances),
+        Err(_) => text.push_str(" refused\n"),
+    }
+}
+
+/// The lines of instances that are reached and of those that are checked.
+pub fn tell(alloc: Global, text: &mut String) -> Result<(), AllocError> {
+    for (title, rest) in PROGRAMS {
+        tell_program(alloc, text, title, rest)?;
+    }
+    match program(alloc, CHECKED) {
+        Some(program) => tell_checked(alloc, text, &program),
+        None => text.push_str("checked: no program\n"),
+    }
 }

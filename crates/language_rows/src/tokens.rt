@@ -1,7 +1,6 @@
 // Texts, and their tokens.
 use secrec_lexer::{Sign, Token, TokenKind, lex};
 use std::alloc::{AllocError, Global};
-use std::test::Fail;
 
 // Every sign and keyword, in order.
 const SIGNS: [Sign; 58] = [
@@ -77,56 +76,51 @@ fn add_token(text: &mut String, token: &Token) -> Result<(), AllocError> {
     write!(text, "@{}:{} ", token.place.line, token.place.column)
 }
 
-fn shown(alloc: Global, text: &[u8]) -> Result<String, AllocError> {
-    let mut found = String::new(alloc);
-    if let Ok(tokens) = lex(alloc, text) {
-        for token in tokens.as_slice() {
-            add_token(&mut found, token)?;
-        }
+fn tell_list(text: &mut String, tokens: &[Token]) -> Result<(), AllocError> {
+    for token in tokens {
+        add_token(text, token)?;
     }
-    Ok(found)
+    text.push_str("\n")
 }
 
-#[test]
-fn tokens_at_their_places(rt: HostRuntime) -> Result<(), Fail> {
-    let rows: [(&[u8], &str); 3] = [
-        (
-            b"a0\t/*\n\r*/<=1// \xff\n\"b_\" ",
-            "a0@1:1 sign@2:4 1@2:6 text b_@3:1 end@3:6 ",
-        ),
-        (b" /* 2 */ 3 // 4", "3@1:10 end@1:16 "),
-        (
-            b"0xFFFFFFFFFFFFFFFF;",
-            "18446744073709551615@1:1 sign@1:19 end@1:20 ",
-        ),
-    ];
-    for (text, wanted) in rows {
-        let found = shown(rt.alloc(), text)?;
-        assert_eq!(rt; found.as_str(), wanted, "{text:?}");
+// A text's tokens.
+fn tell_tokens(alloc: Global, text: &mut String, source: &[u8]) -> Result<(), AllocError> {
+    text.push_str("tokens ")?;
+    match lex(alloc, source) {
+        Ok(tokens) => tell_list(text, tokens.as_slice()),
+        Err(_) => text.push_str("refused\n"),
     }
-    Ok(())
 }
 
-// How many of the tokens are these signs, each in its place, and how many tokens there are.
-fn signs_told(tokens: &[Token]) -> (usize, usize) {
+// How many of the tokens are the signs, each in its place, and how many tokens there are.
+fn tell_signs(text: &mut String, tokens: &[Token]) -> Result<(), AllocError> {
     let mut count = 0usize;
     for (token, sign) in tokens.iter().zip(SIGNS.iter()) {
         if token.is(*sign) {
             count = count.saturating_add(1);
         }
     }
-    (count, tokens.len())
+    write!(text, "signs {count} of {} tokens\n", tokens.len())
 }
 
-#[test]
-fn signs_and_keywords(rt: HostRuntime) -> Result<(), Fail> {
-    let text = b"()[]{} < > ,;:= + - * / % & | ^ ! == != <= >= && || += -= *= &= |= ^= ++ --
+const ALL_SIGNS: &[u8] =
+    b"()[]{} < > ,;:= + - * / % & | ^ ! == != <= >= && || += -= *= &= |= ^= ++ --
         import kind domain template public void uint64 uint bool if else while do for
         break continue return assert true false argument publish declassify";
-    let found = match lex(rt.alloc(), text) {
-        Ok(tokens) => signs_told(tokens.as_slice()),
-        Err(_) => (0, 0),
-    };
-    assert_eq!(rt; found, (58, 59));
-    Ok(())
+
+const SOURCES: [&[u8]; 3] = [
+    b"a0\t/*\n\r*/<=1// \xff\n\"b_\" ",
+    b" /* 2 */ 3 // 4",
+    b"0xFFFFFFFFFFFFFFFF;",
+];
+
+/// The lines of tokens at their places, and of all signs and keywords.
+pub fn tell(alloc: Global, text: &mut String) -> Result<(), AllocError> {
+    for source in SOURCES {
+        tell_tokens(alloc, text, source)?;
+    }
+    match lex(alloc, ALL_SIGNS) {
+        Ok(tokens) => tell_signs(text, tokens.as_slice()),
+        Err(_) => text.push_str("signs refused\n"),
+    }
 }

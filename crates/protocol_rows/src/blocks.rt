@@ -1,120 +1,103 @@
+// Links, miners, blocks, messages and lists of them.
+use crate::lines::{add_words, line};
 use proto_core::{
-    BadMessage, Block, Link, Messages, Msg, Number, P1, P2, P3, Party, Schedule, Share, add_blocks,
-    check_bits, reshare, subtract_blocks, sum_of_shares, zero_block,
+    Block, Link, Messages, Msg, P1, P2, P3, Party, Schedule, Share, add_blocks, check_bits,
+    reshare, subtract_blocks, sum_of_shares, zero_block,
 };
 use share_ring::{AddRing, ShareRing, XorRing};
-use std::test::Fail;
+use std::alloc::{AllocError, Global};
 
-#[test]
-fn links_and_miners_are_written(rt: HostRuntime) -> Result<(), Fail> {
-    let link = Link::Link23;
-    assert_eq!(rt; link.to_string(rt.alloc())?.as_str(), "23");
-    assert_eq!(rt; link.sender().to_string(rt.alloc())?.as_str(), "2");
-    assert_eq!(rt; link.receiver().to_string(rt.alloc())?.as_str(), "3");
-    Ok(())
-}
+const NAMES: [&str; 10] = ["12", "13", "21", "23", "31", "32", "11", "14", "2 ", "123"];
 
-#[test]
-fn texts_name_links(rt: HostRuntime) {
-    for (text, link) in [
-        (b"12", Some(Link::Link12)),
-        (b"13", Some(Link::Link13)),
-        (b"21", Some(Link::Link21)),
-        (b"23", Some(Link::Link23)),
-        (b"31", Some(Link::Link31)),
-        (b"32", Some(Link::Link32)),
-        (b"11", None),
-        (b"14", None),
-        (b"2 ", None),
-    ] {
-        assert_eq!(rt; Link::from_text(text), link);
+// The link that a text names, with its ends.
+fn tell_link(text: &mut String, name: &str) -> Result<(), AllocError> {
+    match Link::from_text(name.as_bytes()) {
+        Some(link) => write!(
+            text,
+            "link {link} from {} to {}\n",
+            link.sender(),
+            link.receiver()
+        ),
+        None => write!(text, "link {name}: none\n"),
     }
-    assert_eq!(rt; Link::from_text(b"123"), None);
 }
 
-fn ring_of_three<P: Party>() -> (Number, Number, Number, Link, Link) {
+// A miner's number, those before and behind it in the ring, and its links to the next and the previous one.
+fn tell_miner<P: Party>(text: &mut String) -> Result<(), AllocError> {
     let me = P::number();
-    (
-        me.previous(),
-        me,
-        me.next(),
-        me.link_to_next(),
-        me.link_to_previous(),
-    )
+    let (before, behind) = (me.previous().as_u8(), me.next().as_u8());
+    let (next, previous) = (me.link_to_next(), me.link_to_previous());
+    write!(text, "miner {me}: {before} {behind} {next} {previous}\n")
 }
 
-#[test]
-fn miners_stand_in_a_ring(rt: HostRuntime) {
-    let (one, two, three) = (Number::One, Number::Two, Number::Three);
-    assert_eq!(rt;
-        ring_of_three::<P1>(),
-        (three, one, two, Link::Link12, Link::Link13)
-    );
-    assert_eq!(rt;
-        ring_of_three::<P2>(),
-        (one, two, three, Link::Link23, Link::Link21)
-    );
-    assert_eq!(rt;
-        ring_of_three::<P3>(),
-        (two, three, one, Link::Link31, Link::Link32)
-    );
-    assert_eq!(rt; (one.as_u8(), two.as_u8(), three.as_u8()), (1, 2, 3));
-}
-
-#[test]
-fn a_block_is_full_at_512_words(rt: HostRuntime) {
-    let mut block: Block<AddRing, P1> = Block::new();
-    assert!(rt; block.is_empty());
-    for word in 0..512u64 {
-        assert!(rt; block.push(word).is_ok(), "{word}");
+// The word of a share that a block may have at a place.
+fn tell_share(text: &mut String, block: &Block<AddRing, P1>, at: usize) -> Result<(), AllocError> {
+    match block.get(at) {
+        Some(share) => line(text, "share", &[share.word()]),
+        None => text.push_str("no share\n"),
     }
-    assert!(rt; block.push(512).is_err());
-    assert_eq!(rt; block.len(), 512);
-    assert_eq!(rt; block.get(511).map(|share| share.word()), Some(511));
-    assert!(rt; block.get(512).is_none());
-    assert_eq!(rt; block.copy().words().len(), 512);
 }
 
-#[test]
-fn lists_keep_what_is_pushed(rt: HostRuntime) -> Result<(), Fail> {
-    let mut messages = Messages::new(rt.alloc());
-    assert!(rt; messages.is_empty());
+// How many of 600 words a block takes, its length and the length of a copy; and the shares at the end and behind it.
+fn tell_full_block(text: &mut String) -> Result<(), AllocError> {
+    let mut block: Block<AddRing, P1> = Block::new();
+    let empty = u64::from(block.is_empty());
+    let mut taken = 0u64;
+    for word in 0..600u64 {
+        if block.push(word).is_ok() {
+            taken = taken.saturating_add(1);
+        }
+    }
+    let copied = block.copy().words().len() as u64;
+    line(text, "block", &[empty, taken, block.len() as u64, copied])?;
+    tell_share(text, &block, 511)?;
+    tell_share(text, &block, 512)
+}
+
+fn tell_message(text: &mut String, messages: &Messages, at: usize) -> Result<(), AllocError> {
+    match messages.get(at) {
+        Some(msg) => add_words(text, msg.words()),
+        None => text.push_str(" none\n"),
+    }
+}
+
+// A list of three messages.
+fn tell_messages(alloc: Global, text: &mut String) -> Result<(), AllocError> {
+    let mut messages = Messages::new(alloc);
+    let empty = u64::from(messages.is_empty());
     for words in [&[7u64, 8][..], &[], &[9]] {
         messages.push(&Msg::from_words(words))?;
     }
-    assert_eq!(rt; messages.len(), 3);
-    for (at, words) in [(0usize, &[7u64, 8][..]), (1, &[]), (2, &[9])] {
-        let Some(msg) = messages.get(at) else {
-            assert!(rt; false, "message {at}");
-            return Ok(());
-        };
-        assert_eq!(rt; msg.words(), words, "message {at}");
+    line(text, "messages", &[empty, messages.len() as u64])?;
+    for at in 0..4usize {
+        tell_message(text, &messages, at)?;
     }
-    assert!(rt; messages.get(3).is_none());
-
-    let mut schedule = Schedule::new(rt.alloc());
-    schedule.push(Link::Link23)?;
-    schedule.push(Link::Link12)?;
-    assert_eq!(rt; schedule.get(1), Some(Link::Link12));
-    assert_eq!(rt; schedule.iter().count(), 2);
     Ok(())
 }
 
-#[test]
-fn the_first_word_that_is_no_bit_is_named(rt: HostRuntime) {
-    let mut msg = Msg::from_words(&[9, 0, 1, 2]);
-    msg.push(3);
-    assert_eq!(rt; check_bits(&msg, 1, 2), Ok(()));
-    assert_eq!(rt;
-        check_bits(&msg, 1, 4),
-        Err(BadMessage::NotABit { place: 3, word: 2 })
-    );
-    let second: Block<XorRing, P2> = msg.field(1, 2);
-    assert_eq!(rt; second.words(), &[1, 2][..]);
-    assert_eq!(rt; msg.copy().word(4), 3);
+// How many entries a schedule of two has, and the second.
+fn tell_schedule(alloc: Global, text: &mut String) -> Result<(), AllocError> {
+    let mut schedule = Schedule::new(alloc);
+    schedule.push(Link::Link23)?;
+    schedule.push(Link::Link12)?;
+    let count = schedule.iter().count();
+    let second = schedule.get(1);
+    write!(text, "schedule {count} {second:?}\n")
 }
 
-// u + a - a_p of one share, sums and a difference of blocks, and a share's sum, difference and product
+// A message in which words that are no bits stand.
+fn tell_bits(text: &mut String) -> Result<(), AllocError> {
+    let mut msg = Msg::from_words(&[9, 0, 1, 2]);
+    msg.push(3);
+    let bits = check_bits(&msg, 1, 2);
+    let others = check_bits(&msg, 1, 4);
+    write!(text, "bits {bits:?} {others:?}\n")?;
+    let second: Block<XorRing, P2> = msg.field(1, 2);
+    add_words(text, second.words())?;
+    line(text, "", &[msg.copy().word(4)])
+}
+
+// Of 5, 7 and 2: the first masked again, the sum of three, a sum, a difference and a negative; of 6 and 3: sum, difference, product.
 fn worked<R: ShareRing>() -> [u64; 8] {
     let u: Block<R, P3> = Block::from_words(&[5]);
     let mask = Block::from_words(&[7]);
@@ -133,20 +116,23 @@ fn worked<R: ShareRing>() -> [u64; 8] {
     ]
 }
 
-#[test]
-fn shares_are_masked_and_added_in_their_ring(rt: HostRuntime) {
-    assert_eq!(rt;
-        worked::<AddRing>(),
-        [
-            10,
-            14,
-            7,
-            18_446_744_073_709_551_613,
-            18_446_744_073_709_551_614,
-            9,
-            18_446_744_073_709_551_613,
-            30
-        ]
-    );
-    assert_eq!(rt; worked::<XorRing>(), [0, 0, 7, 7, 2, 5, 5, 4]);
+// Blocks, messages, schedules and shares.
+fn tell_lists(alloc: Global, text: &mut String) -> Result<(), AllocError> {
+    tell_full_block(text)?;
+    tell_messages(alloc, text)?;
+    tell_schedule(alloc, text)?;
+    tell_bits(text)?;
+    line(text, "by sum", &worked::<AddRing>())?;
+    line(text, "by xor", &worked::<XorRing>())
+}
+
+/// The lines of links, miners, blocks, messages, schedules and shares.
+pub fn tell(alloc: Global, text: &mut String) -> Result<(), AllocError> {
+    for name in NAMES {
+        tell_link(text, name)?;
+    }
+    tell_miner::<P1>(text)?;
+    tell_miner::<P2>(text)?;
+    tell_miner::<P3>(text)?;
+    tell_lists(alloc, text)
 }

@@ -1,41 +1,33 @@
+// Gates, their copies, and what they make of clear values.
+use crate::lines::line;
 use gates::{Gate, RingKind, Values, Words, blocks, evaluated};
-use std::test::Fail;
+use std::alloc::{AllocError, Global};
 
-#[test]
-fn blocks_at_the_edges(rt: HostRuntime) {
-    for (n, count) in [
-        (0u64, 0u64),
-        (1, 1),
-        (512, 1),
-        (513, 2),
-        (1_048_576, 2048),
-        (18_446_744_073_709_551_615, 36_028_797_018_963_968),
-    ] {
-        assert_eq!(rt; blocks(n), count, "blocks of {n}");
-    }
+const COUNTS: [u64; 6] = [0, 1, 512, 513, 1_048_576, 18_446_744_073_709_551_615];
+
+// A gate, its copy, and how many values it makes.
+fn tell_gate(text: &mut String, gate: &Gate, copied: &Gate) -> Result<(), AllocError> {
+    write!(text, "{gate:?}\n{copied:?}\n")?;
+    line(text, "makes", &[gate.made_by()])
 }
 
-#[test]
-fn copies_are_their_sources(rt: HostRuntime) -> Result<(), Fail> {
+// A gate and a list of words that are copied.
+fn tell_copies(alloc: Global, text: &mut String) -> Result<(), AllocError> {
+    let list = Words::new(vec![in alloc; 3, 0, 9]?);
+    let copied = list.copy(alloc)?.into_vec();
+    line(text, "words", &copied)?;
     let gate = Gate::MulPub {
         ring: RingKind::Arithmetic,
         operand: 7,
-        list: Words::new(vec![in rt.alloc(); 3, 0, 9]?),
+        list,
     };
-    let copied = format!(in rt.alloc(); "{:?}", gate.copy(rt.alloc())?)?;
-    let wanted = format!(in rt.alloc(); "{gate:?}")?;
-    assert_eq!(rt; copied.as_str(), wanted.as_str());
-    assert_eq!(rt; gate.made_by(), 1);
-    let list = Words::new(vec![in rt.alloc(); 3, 0, 9]?).copy(rt.alloc())?;
-    assert_eq!(rt; list.into_vec().as_slice(), [3u64, 0, 9].as_slice());
-    Ok(())
+    let copied = gate.copy(alloc)?;
+    tell_gate(text, &gate, &copied)
 }
 
-#[test]
-fn gates_are_evaluated(rt: HostRuntime) -> Result<(), Fail> {
-    let mut inputs = Values::new(rt.alloc());
-    inputs.push(Words::new(vec![in rt.alloc(); 6, 1]?))?;
-    let gates = [
+// A list of gates over one input of two words.
+fn listed() -> [Gate; 8] {
+    [
         Gate::Input { number: 0 },
         Gate::Split {
             operand: 0,
@@ -58,11 +50,25 @@ fn gates_are_evaluated(rt: HostRuntime) -> Result<(), Fail> {
             operand: 5,
             count: 64,
         },
-    ];
-    let values = evaluated(rt.alloc(), 9, &inputs, Values::new(rt.alloc()), &gates)?;
-    assert_eq!(rt; values.value(1), [15u64, 10].as_slice());
-    assert_eq!(rt; values.value(5), [6u64, 7].as_slice());
-    assert_eq!(rt; values.value(7), [0u64, 1, 1].as_slice());
-    assert_eq!(rt; values.value(8), [0u64, 0].as_slice());
+    ]
+}
+
+// The values of gates over an input of two words, with 9 for the word that is drawn.
+fn tell_values(alloc: Global, text: &mut String) -> Result<(), AllocError> {
+    let mut inputs = Values::new(alloc);
+    inputs.push(Words::new(vec![in alloc; 6, 1]?))?;
+    let values = evaluated(alloc, 9, &inputs, Values::new(alloc), &listed())?;
+    for number in [1u64, 5, 7, 8] {
+        line(text, "value", values.value(number))?;
+    }
     Ok(())
+}
+
+/// The lines of blocks, copies and values of gates.
+pub fn tell(alloc: Global, text: &mut String) -> Result<(), AllocError> {
+    for count in COUNTS {
+        line(text, "blocks", &[count, blocks(count)])?;
+    }
+    tell_copies(alloc, text)?;
+    tell_values(alloc, text)
 }

@@ -1,90 +1,99 @@
+// Values that are opened, and results that are handed over.
+use crate::lines::{add_cause, add_words, line};
 use open_result::{Open, Part, Result3, open_together};
-use proto_core::{BadMessage, Block, Msg, P1, P3};
+use proto_core::{Block, Msg, P1, P3};
 use share_ring::{AddRing, ShareRing, XorRing};
+use std::alloc::AllocError;
 
 const TOP: u64 = 18_446_744_073_709_551_615;
 
-// a message of one word
-fn one(msg: &Msg) -> Option<u64> {
-    match msg.words() {
-        [word] => Some(*word),
-        _ => None,
-    }
+// A miner's mask, its share to the next and to the previous miner, and what it opens.
+fn add_part(text: &mut String, part: &Part) -> Result<(), AllocError> {
+    add_words(text, part.mask.words())?;
+    add_words(text, part.to_next.words())?;
+    add_words(text, part.to_previous.words())?;
+    add_words(text, part.opened.words())
 }
 
-fn words(part: &Part) -> [Option<u64>; 4] {
-    [
-        one(&part.mask),
-        one(&part.to_next),
-        one(&part.to_previous),
-        one(&part.opened),
-    ]
+fn tell_parts(
+    text: &mut String,
+    first: &Part,
+    second: &Part,
+    third: &Part,
+) -> Result<(), AllocError> {
+    text.push_str("open")?;
+    add_part(text, first)?;
+    add_part(text, second)?;
+    add_part(text, third)?;
+    text.push_str("\n")
 }
 
-// what each miner sends and opens of one element
-fn opened<R: ShareRing>(shares: [u64; 3], masks: [u64; 3]) -> [[Option<u64>; 4]; 3] {
+// One element by three miners, of which each has a share and a mask.
+fn tell_three<R: ShareRing>(text: &mut String, held: [[u64; 2]; 3]) -> Result<(), AllocError> {
     let (first, second, third) = open_together::<R>(
-        &Block::from_words(&[shares[0]]),
-        &Block::from_words(&[shares[1]]),
-        &Block::from_words(&[shares[2]]),
-        &[masks[0]],
-        &[masks[1]],
-        &[masks[2]],
+        &Block::from_words(&[held[0][0]]),
+        &Block::from_words(&[held[1][0]]),
+        &Block::from_words(&[held[2][0]]),
+        &[held[0][1]],
+        &[held[1][1]],
+        &[held[2][1]],
     );
-    [words(&first), words(&second), words(&third)]
+    tell_parts(text, &first, &second, &third)
 }
 
-#[test]
-fn three_miners_open_in_both_rings(rt: HostRuntime) {
-    for (by_xor, shares, masks, sent, value) in [
-        (false, [0, 0, 13], [0, 0, 0], [0, 0, 13], 13),
-        (false, [5, 6, TOP], [7, 9, 2], [10, 8, TOP - 7], 10),
-        (true, [0, 0, 13], [0, 0, 0], [0, 0, 13], 13),
-        (true, [1, 2, 3], [0, 0, TOP], [TOP - 1, 2, TOP - 3], 0),
-    ] {
-        let parts = if by_xor {
-            opened::<XorRing>(shares, masks)
-        } else {
-            opened::<AddRing>(shares, masks)
-        };
-        for i in 0..3usize {
-            let share = Some(sent[i]);
-            assert_eq!(rt; parts[i], [Some(masks[i]), share, share, Some(value)]);
-        }
-    }
-}
-
-#[test]
-fn a_wrong_length_hands_the_state_back(rt: HostRuntime) {
+// A short message at each of the first two stages, each before the right one, and an empty one at the last.
+fn tell_wrong_lengths(text: &mut String) -> Result<(), AllocError> {
     let short = Msg::from_words(&[9]);
-    let wrong = BadMessage::BadLength { want: 2, have: 1 };
     let u: Block<AddRing, P1> = Block::from_words(&[5, 1]);
     let (state, mask) = Open::start(&u, &[7, 0]);
-    assert_eq!(rt; mask.words(), &[7, 0][..]);
-
-    let refused = state.got(&short).err().unwrap();
-    assert_eq!(rt; refused.cause, wrong);
-    let (state, to_next, to_previous) = refused.state.got(&Msg::from_words(&[2, TOP])).unwrap();
-    assert_eq!(rt; to_next.words(), &[10, 2][..]);
-    assert_eq!(rt; to_previous.words(), &[10, 2][..]);
-
-    let refused = state.got(&short).err().unwrap();
-    assert_eq!(rt; refused.cause, wrong);
-    let state = refused.state.got(&Msg::from_words(&[TOP - 7, 2])).unwrap();
-
-    let refused = state.got(&Msg::new()).err().unwrap();
-    assert_eq!(rt; refused.cause, BadMessage::BadLength { want: 2, have: 0 });
-    let opened = refused.state.got(&Msg::from_words(&[8, 2])).unwrap();
-    assert_eq!(rt; opened.words(), &[10, 6][..]);
+    line(text, "open", mask.words())?;
+    let Err(refused) = state.got(&short) else {
+        return text.push_str("a short mask is taken\n");
+    };
+    add_cause(text, refused.cause)?;
+    let Ok((state, to_next, to_previous)) = refused.state.got(&Msg::from_words(&[2, TOP])) else {
+        return text.push_str("no mask is taken\n");
+    };
+    add_words(text, to_next.words())?;
+    line(text, "", to_previous.words())?;
+    let Err(refused) = state.got(&short) else {
+        return text.push_str("a short share is taken\n");
+    };
+    add_cause(text, refused.cause)?;
+    let Ok(state) = refused.state.got(&Msg::from_words(&[TOP - 7, 2])) else {
+        return text.push_str("no share is taken\n");
+    };
+    let Err(refused) = state.got(&Msg::new()) else {
+        return text.push_str("an empty share is taken\n");
+    };
+    add_cause(text, refused.cause)?;
+    match refused.state.got(&Msg::from_words(&[8, 2])) {
+        Ok(opened) => line(text, "", opened.words()),
+        Err(refused) => add_cause(text, refused.cause),
+    }
 }
 
-#[test]
-fn a_result_is_handed_over_as_new_shares(rt: HostRuntime) {
+// A result that is handed over as new shares, after a message that is too long.
+fn tell_result(text: &mut String) -> Result<(), AllocError> {
     let u: Block<XorRing, P3> = Block::from_words(&[3, 42]);
     let (state, mask) = Result3::start(&u, &[TOP, 0]);
-    assert_eq!(rt; mask.words(), &[TOP, 0][..]);
-    let refused = state.got(&Msg::from_words(&[0, 0, 0])).err().unwrap();
-    assert_eq!(rt; refused.cause, BadMessage::BadLength { want: 2, have: 3 });
-    let share = refused.state.got(&Msg::from_words(&[0, 0])).unwrap();
-    assert_eq!(rt; share.words(), &[TOP - 3, 42][..]);
+    line(text, "result", mask.words())?;
+    let Err(refused) = state.got(&Msg::from_words(&[0, 0, 0])) else {
+        return text.push_str("a long mask is taken\n");
+    };
+    add_cause(text, refused.cause)?;
+    match refused.state.got(&Msg::from_words(&[0, 0])) {
+        Ok(share) => line(text, "", share.words()),
+        Err(refused) => add_cause(text, refused.cause),
+    }
+}
+
+/// The lines of three miners in both rings, of messages of a wrong length, and of a result.
+pub fn tell(text: &mut String) -> Result<(), AllocError> {
+    tell_three::<AddRing>(text, [[0, 0], [0, 0], [13, 0]])?;
+    tell_three::<AddRing>(text, [[5, 7], [6, 9], [TOP, 2]])?;
+    tell_three::<XorRing>(text, [[0, 0], [0, 0], [13, 0]])?;
+    tell_three::<XorRing>(text, [[1, 0], [2, 0], [3, TOP]])?;
+    tell_wrong_lengths(text)?;
+    tell_result(text)
 }

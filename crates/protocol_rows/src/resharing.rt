@@ -1,66 +1,68 @@
-use proto_core::{BadMessage, Block, Msg, P1};
+// New shares of an old value.
+use crate::lines::{add_cause, add_words, line};
+use proto_core::{Block, Msg, P1, P2, P3};
 use reshare::{Part, Reshare, reshare_together};
 use share_ring::{AddRing, ShareRing, XorRing};
+use std::alloc::AllocError;
 
 const TOP: u64 = 18_446_744_073_709_551_615;
 
-// the word of a list that has one
-fn one(words: &[u64]) -> Option<u64> {
-    match words {
-        [word] => Some(*word),
-        _ => None,
-    }
+fn add_part<R, P>(text: &mut String, part: &Part<R, P>) -> Result<(), AllocError> {
+    add_words(text, part.mask.words())?;
+    add_words(text, part.share.words())
 }
 
-fn words<R, P>(part: &Part<R, P>) -> [Option<u64>; 2] {
-    [one(part.mask.words()), one(part.share.words())]
+// The mask that each miner sends, and its new share.
+fn tell_parts<R>(
+    text: &mut String,
+    first: &Part<R, P1>,
+    second: &Part<R, P2>,
+    third: &Part<R, P3>,
+) -> Result<(), AllocError> {
+    text.push_str("reshare")?;
+    add_part(text, first)?;
+    add_part(text, second)?;
+    add_part(text, third)?;
+    text.push_str("\n")
 }
 
-// what each miner sends, and its new share, of one element
-fn reshared<R: ShareRing>(shares: [u64; 3], masks: [u64; 3]) -> [[Option<u64>; 2]; 3] {
+// One element by three miners, of which each has a share and a mask.
+fn tell_three<R: ShareRing>(text: &mut String, held: [[u64; 2]; 3]) -> Result<(), AllocError> {
     let (first, second, third) = reshare_together::<R>(
-        &Block::from_words(&[shares[0]]),
-        &Block::from_words(&[shares[1]]),
-        &Block::from_words(&[shares[2]]),
-        &[masks[0]],
-        &[masks[1]],
-        &[masks[2]],
+        &Block::from_words(&[held[0][0]]),
+        &Block::from_words(&[held[1][0]]),
+        &Block::from_words(&[held[2][0]]),
+        &[held[0][1]],
+        &[held[1][1]],
+        &[held[2][1]],
     );
-    [words(&first), words(&second), words(&third)]
+    tell_parts(text, &first, &second, &third)
 }
 
-#[test]
-fn three_miners_reshare_in_both_rings(rt: HostRuntime) {
-    for (by_xor, shares, masks, new) in [
-        (false, [0, 0, 42], [0, 0, 0], [0, 0, 42]),
-        (false, [5, 6, TOP], [7, 9, 2], [10, 8, TOP - 7]),
-        (true, [0, 0, 42], [0, 0, 0], [0, 0, 42]),
-        (true, [1, 2, 3], [0, 0, TOP], [TOP - 1, 2, TOP - 3]),
-    ] {
-        let parts = if by_xor {
-            reshared::<XorRing>(shares, masks)
-        } else {
-            reshared::<AddRing>(shares, masks)
-        };
-        for i in 0..3usize {
-            assert_eq!(rt; parts[i], [Some(masks[i]), Some(new[i])]);
-        }
-    }
-}
-
-#[test]
-fn a_wrong_length_hands_the_state_back(rt: HostRuntime) {
+// Two messages of a wrong length, and then one of the right one.
+fn tell_wrong_lengths(text: &mut String) -> Result<(), AllocError> {
     let u: Block<AddRing, P1> = Block::from_words(&[5, 1]);
     let (state, mask) = Reshare::start(&u, &[7, 0]);
-    assert_eq!(rt; mask.words(), &[7, 0][..]);
-    let refused = state.got(&Msg::from_words(&[9])).err().unwrap();
-    assert_eq!(rt; refused.cause, BadMessage::BadLength { want: 2, have: 1 });
-    let refused = refused
-        .state
-        .got(&Msg::from_words(&[9, 9, 9]))
-        .err()
-        .unwrap();
-    assert_eq!(rt; refused.cause, BadMessage::BadLength { want: 2, have: 3 });
-    let share = refused.state.got(&Msg::from_words(&[2, TOP])).unwrap();
-    assert_eq!(rt; share.words(), &[10, 2][..]);
+    line(text, "reshare", mask.words())?;
+    let Err(refused) = state.got(&Msg::from_words(&[9])) else {
+        return text.push_str("one word is taken for two\n");
+    };
+    add_cause(text, refused.cause)?;
+    let Err(refused) = refused.state.got(&Msg::from_words(&[9, 9, 9])) else {
+        return text.push_str("three words are taken for two\n");
+    };
+    add_cause(text, refused.cause)?;
+    match refused.state.got(&Msg::from_words(&[2, TOP])) {
+        Ok(share) => line(text, "", share.words()),
+        Err(refused) => add_cause(text, refused.cause),
+    }
+}
+
+/// The lines of three miners in both rings, and of messages of a wrong length.
+pub fn tell(text: &mut String) -> Result<(), AllocError> {
+    tell_three::<AddRing>(text, [[0, 0], [0, 0], [42, 0]])?;
+    tell_three::<AddRing>(text, [[5, 7], [6, 9], [TOP, 2]])?;
+    tell_three::<XorRing>(text, [[0, 0], [0, 0], [42, 0]])?;
+    tell_three::<XorRing>(text, [[1, 0], [2, 0], [3, TOP]])?;
+    tell_wrong_lengths(text)
 }

@@ -1,4 +1,5 @@
-use Rattle.std.proofs.Common.{sym, subst}
+use Rattle.std.proofs.Common.{sym, ◌∙◌, ap, subst}
+use Rattle.gate_node.specs.declared.stand.Stand.TheVariants.{Waits}
 use Rattle.gate_node.specs.Nodes as node
 use Rattle.miner_core.specs.Engines.{Rests, behind_node}
 use Rattle.miner_core.specs.Story.{HasEnded}
@@ -12,16 +13,18 @@ returns-in-Stuck g c =
     let e = c.args.self.now in
     subst (λ s. HasEnded s end.Unfit) (sym (stuck_ends i e (subst (λ s. Rests i s e) c.in-Stuck.is c.requires))) tt
 
-pub returns-in-Waits-None : goal.returns-in-Waits-None
-returns-in-Waits-None g c =
+pub returns-in-Waits-default-None : goal.returns-in-Waits-default-None
+returns-in-Waits-default-None g c =
     let i = g.P.Party.me in
     let e = c.args.self.now in
-    let h = subst (λ s. node.EngineStands i s e.node) c.in-Waits-None.is c.requires.node in
-    waits_is i e.node.links c.in-Waits-None.link (behind_node i e e.at) (node.engine_left i e.node) h
+    let h = subst (λ s. node.EngineStands i s e.node)
+    (c.in-Waits-default-None.is ∙ ap (Waits c.in-Waits-default-None.link) c.in-Waits-default-None.field-1-is) c.requires.node in
+    waits_is i e.node.links c.in-Waits-default-None.link (behind_node i e e.at) (node.engine_left i e.node) h
 
-pub returns-in-Waits-Some : goal.returns-in-Waits-Some
-returns-in-Waits-Some g c =
+pub returns-in-Waits-default-Some : goal.returns-in-Waits-default-Some
+returns-in-Waits-default-Some g c =
     let i = g.P.Party.me in
     let e = c.args.self.now in
-    let h = subst (λ s. node.EngineStands i s e.node) c.in-Waits-Some.is c.requires.node in
-    refuses_is i e.node.links c.in-Waits-Some.link (behind_node i e e.at) c.in-Waits-Some.cause (node.engine_left i e.node) h
+    let h = subst (λ s. node.EngineStands i s e.node)
+    (c.in-Waits-default-Some.is ∙ ap (Waits c.in-Waits-default-Some.link) c.in-Waits-default-Some.field-1-is) c.requires.node in
+    refuses_is i e.node.links c.in-Waits-default-Some.link (behind_node i e e.at) c.in-Waits-default-Some.cause (node.engine_left i e.node) h

@@ -1,0 +1,197 @@
+// Runs of programs, with their gates and the words that they need, in the clear and blind.
+ghost use Rattle.std.specs.Prelude.{IfSome};
+ghost use Rattle.typed_tree.specs.Programs.{typed_program_tree};
+ghost use Rattle.typed_tree.specs.Sound.{IsSound};
+ghost use Rattle.value_file.specs.Input.{AreInputs};
+ghost use Rattle.value_file.specs.PublicFile.{IsWritable};
+
+use crate::sources::typed;
+use clear_eval::{BlindErr, Report, blind, eval};
+use std::alloc::{AllocError, Global};
+use typed_tree::TypedProgram;
+use value_file::{Inputs, PublicPart, public_part, read};
+
+// The typed tree of a program whose `main` has this body.
+fn typed_body(alloc: Global, body: &str) -> Option<TypedProgram>
+    ensures { IfSome result (λ p. IsSound (typed_program_tree p)) }
+{
+    let text = format!(in alloc;
+        "import shared3p; domain p shared3p; void main() {{ {body} }}"
+    ).ok()?;
+    typed(alloc, text.as_str())
+}
+
+// The inputs of these entries.
+fn inputs_of(alloc: Global, entries: &str) -> Option<Inputs>
+    ensures { IfSome result (λ inputs. AreInputs inputs) }
+{
+    let file = format!(in alloc; "{{\"inputs\":[{entries}]}}").ok()?;
+    read(alloc, file.as_bytes()).ok()
+}
+
+fn tell_gates(text: &mut String, report: &Report) -> Result<(), AllocError> {
+    for gate in report.gates.iter() {
+        write!(text, "{gate:?}; ")?;
+    }
+    Ok(())
+}
+
+// The gates, the words that are needed, what is told and how the run ended.
+fn tell_report(text: &mut String, report: &Report) -> Result<(), AllocError> {
+    tell_gates(text, report)?;
+    let needs = &report.needs;
+    write!(
+        text,
+        "need {} {} {} {}\n",
+        needs.dealer, needs.first, needs.second, needs.third
+    )?;
+    for event in report.events.iter() {
+        write!(text, "{event}")?;
+    }
+    write!(text, "{}", report.end)
+}
+
+fn tell_run(
+    alloc: Global,
+    text: &mut String,
+    program: &TypedProgram,
+    inputs: &Inputs,
+    lengths: [u64; 4],
+) -> Result<(), AllocError>
+    requires sound { IsSound (typed_program_tree program.now) }
+    requires inputs { AreInputs inputs.now }
+{
+    match eval(alloc, program, inputs, 1000, lengths) {
+        Ok(report) => tell_report(text, &report),
+        Err(error) => Err(error),
+    }
+}
+
+const NUMBER: &str = "{\"name\":\"a\",\"domain\":\"private\",\"type\":\"uint64\",\"value\":5}";
+
+const NUMBERS: &str =
+    "{\"name\":\"a\",\"domain\":\"private\",\"type\":\"uint64\",\"value\":[7,8,9]}";
+
+const TRUTHS: &str = "{\"name\":\"a\",\"domain\":\"private\",\"type\":\"bool\",\"value\":true},\
+    {\"name\":\"b\",\"domain\":\"public\",\"type\":\"bool\",\"value\":[true,false]},\
+    {\"name\":\"c\",\"domain\":\"private\",\"type\":\"bool\",\"value\":false}";
+
+const OPENED: &str = "p uint64 a = argument(\"a\"); publish(\"x\", declassify(a));";
+
+const TAPES: [u64; 4] = [100, 100, 100, 100];
+
+// The body of `main`, the inputs, and the lengths of the tapes of the dealer and of the miners.
+const RUNS: [(&str, &str, [u64; 4]); 14] = [
+    (
+        "p uint64[[1]] a = argument(\"a\"); publish(\"x\", cat(a, a));",
+        NUMBERS,
+        TAPES,
+    ),
+    (
+        "p uint64[[1]] a = argument(\"a\"); a[2] = 3; publish(\"x\", a);",
+        NUMBERS,
+        TAPES,
+    ),
+    (
+        "p uint64[[1]] a = argument(\"a\"); publish(\"x\", a[1]); publish(\"y\", sum(a));",
+        NUMBERS,
+        TAPES,
+    ),
+    (
+        "p uint64[[1]] a = argument(\"a\"); publish(\"x\", a * 2); publish(\"y\", declassify(a - 1));",
+        NUMBERS,
+        TAPES,
+    ),
+    ("p bool[[1]] t (3) = true; publish(\"x\", t);", "", TAPES),
+    (
+        "bool[[1]] b = argument(\"b\"); p bool a = argument(\"a\"); publish(\"x\", b & a);",
+        TRUTHS,
+        TAPES,
+    ),
+    (
+        "p bool c = argument(\"c\"); p bool a = argument(\"a\"); publish(\"x\", declassify(a | c));",
+        TRUTHS,
+        TAPES,
+    ),
+    (
+        "p bool c = argument(\"c\"); publish(\"x\", (uint64) !c);",
+        TRUTHS,
+        TAPES,
+    ),
+    (OPENED, NUMBER, [2, 1, 1, 1]),
+    (OPENED, NUMBER, [1, 1, 1, 1]),
+    (OPENED, NUMBER, [2, 0, 1, 0]),
+    (OPENED, NUMBER, [2, 1, 0, 0]),
+    (
+        "p uint64[[1]] a = argument(\"a\"); publish(\"x\", a); publish(\"y\", a);",
+        NUMBERS,
+        [6, 6, 6, 5],
+    ),
+    ("publish(\"x\", 7);", NUMBER, [2, 0, 0, 0]),
+];
+
+fn tell_body(
+    alloc: Global,
+    text: &mut String,
+    body: &str,
+    entries: &str,
+    lengths: [u64; 4],
+) -> Result<(), AllocError> {
+    write!(text, "run {body}\n")?;
+    match (typed_body(alloc, body), inputs_of(alloc, entries)) {
+        (Some(program), Some(inputs)) => tell_run(alloc, text, &program, &inputs, lengths),
+        _ => text.push_str("not read\n"),
+    }
+}
+
+fn tell_blind(
+    alloc: Global,
+    text: &mut String,
+    program: &TypedProgram,
+    part: &PublicPart,
+    answers: &[u64],
+) -> Result<(), AllocError>
+    requires sound { IsSound (typed_program_tree program.now) }
+    requires part { IsWritable part.now }
+{
+    write!(text, "blind {answers:?}\n")?;
+    match blind(alloc, program, part, answers, 10, [2, 1, 1, 1]) {
+        Ok(report) => tell_report(text, &report),
+        Err(BlindErr::OpenedShort { have }) => write!(text, "short {have}\n"),
+        Err(BlindErr::Memory) => Err(AllocError),
+    }
+}
+
+// Blind runs of the program that opens a number, with more words than are opened, with one, and with none.
+fn tell_blind_runs(
+    alloc: Global,
+    text: &mut String,
+    program: &TypedProgram,
+    part: &PublicPart,
+) -> Result<(), AllocError>
+    requires sound { IsSound (typed_program_tree program.now) }
+    requires part { IsWritable part.now }
+{
+    tell_blind(alloc, text, program, part, &[5, 9])?;
+    tell_blind(alloc, text, program, part, &[9])?;
+    tell_blind(alloc, text, program, part, &[])
+}
+
+// The public part of the inputs of these entries.
+fn part_of(alloc: Global, entries: &str) -> Option<PublicPart>
+    ensures { IfSome result (λ part. IsWritable part) }
+{
+    let inputs = inputs_of(alloc, entries)?;
+    public_part(alloc, &inputs).ok()
+}
+
+/// The lines of runs in the clear and of blind ones.
+pub fn tell(alloc: Global, text: &mut String) -> Result<(), AllocError> {
+    for (body, entries, lengths) in RUNS {
+        tell_body(alloc, text, body, entries, lengths)?;
+    }
+    match (typed_body(alloc, OPENED), part_of(alloc, NUMBER)) {
+        (Some(program), Some(part)) => tell_blind_runs(alloc, text, &program, &part),
+        _ => text.push_str("not read\n"),
+    }
+}
