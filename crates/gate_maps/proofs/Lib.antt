@@ -1,3 +1,3 @@
 mod Blocks
-mod Passing
+pub mod Passing
 mod Walking
