@@ -113,8 +113,10 @@ impl<P: Party> Engine<P> {
                 Ok(Step::Ended(end))
             }
             Stand::Stuck => Ok(Step::Ended(End::Unfit)),
-            Stand::Waits(link, None) => Ok(Step::Waits(link)),
-            Stand::Waits(link, Some(cause)) => Err(MinerErr::BadMessage { link, cause }),
+            Stand::Waits(link, cause) => match cause {
+                None => Ok(Step::Waits(link)),
+                Some(cause) => Err(MinerErr::BadMessage { link, cause }),
+            },
         }
     }
 }

@@ -13,18 +13,16 @@ returns-in-Stuck g c =
     let e = c.args.self.now in
     subst (λ s. HasEnded s end.Unfit) (sym (stuck_ends i e (subst (λ s. Rests i s e) c.in-Stuck.is c.requires))) tt
 
-pub returns-in-Waits-default-None : goal.returns-in-Waits-default-None
-returns-in-Waits-default-None g c =
+pub returns-in-None : goal.returns-in-None
+returns-in-None g c =
     let i = g.P.Party.me in
     let e = c.args.self.now in
-    let h = subst (λ s. node.EngineStands i s e.node)
-    (c.in-Waits-default-None.is ∙ ap (Waits c.in-Waits-default-None.link) c.in-Waits-default-None.field-1-is) c.requires.node in
-    waits_is i e.node.links c.in-Waits-default-None.link (behind_node i e e.at) (node.engine_left i e.node) h
+    let h = subst (λ s. node.EngineStands i s e.node) (c.in-Waits.is ∙ ap (Waits c.in-Waits.link) c.in-None.is) c.requires.node in
+    waits_is i e.node.links c.in-Waits.link (behind_node i e e.at) (node.engine_left i e.node) h
 
-pub returns-in-Waits-default-Some : goal.returns-in-Waits-default-Some
-returns-in-Waits-default-Some g c =
+pub returns-in-Some : goal.returns-in-Some
+returns-in-Some g c =
     let i = g.P.Party.me in
     let e = c.args.self.now in
-    let h = subst (λ s. node.EngineStands i s e.node)
-    (c.in-Waits-default-Some.is ∙ ap (Waits c.in-Waits-default-Some.link) c.in-Waits-default-Some.field-1-is) c.requires.node in
-    refuses_is i e.node.links c.in-Waits-default-Some.link (behind_node i e e.at) c.in-Waits-default-Some.cause (node.engine_left i e.node) h
+    let h = subst (λ s. node.EngineStands i s e.node) (c.in-Waits.is ∙ ap (Waits c.in-Waits.link) c.in-Some.is) c.requires.node in
+    refuses_is i e.node.links c.in-Waits.link (behind_node i e e.at) c.in-Some.cause (node.engine_left i e.node) h

@@ -1,4 +1,4 @@
-use Rattle.std.proofs.Common.{◌≡◌, ◌-◌, sym, ◌∙◌, ap}
+use Rattle.std.proofs.Common.{◌-◌, sym, ◌∙◌, ap}
 use Rattle.miner_core.specs.Story.{Story, node, story_of}
 use Rattle.miner_core.proofs.Stops.{stop_at}
 use Rattle.miner_core.proofs.miner.Miner.cost.Goals as goal

@@ -1,4 +1,4 @@
-use Rattle.std.proofs.Common.{◌≡◌, sym, ◌∙◌, ap}
+use Rattle.std.proofs.Common.{sym, ◌∙◌, ap}
 use Rattle.gate_laws.specs.Facts.{drawn_by}
 use Rattle.shared_gates.specs.Model.{miner_of}
 use Rattle.value_steps.specs.Views.{drawn_seen}
