@@ -1,3 +1,3 @@
 mod ShareWords
 mod DealerWords
-mod Whole
+pub mod Whole
