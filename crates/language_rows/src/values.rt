@@ -1,4 +1,6 @@
 // Words and lists that no program reaches, and a program of no functions.
+ghost use Rattle.value_file.specs.Input.{AreInputs};
+
 use clear_eval::eval;
 use sc_text::Event;
 use secrec_ast::DataType;
@@ -28,7 +30,9 @@ fn tell_truths(alloc: Global, text: &mut String) -> Result<(), AllocError> {
 }
 
 // What is done where no function is.
-fn tell_no_functions(alloc: Global, text: &mut String, inputs: &Inputs) -> Result<(), AllocError> {
+fn tell_no_functions(alloc: Global, text: &mut String, inputs: &Inputs) -> Result<(), AllocError>
+    requires { AreInputs inputs.now }
+{
     let empty = TypedProgram {
         functions: Vec::new(alloc),
     };
