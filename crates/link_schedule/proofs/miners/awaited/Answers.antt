@@ -17,5 +17,5 @@ pub returns-in-Err-BadMessage : goal.returns-in-Err-BadMessage
 returns-in-Err-BadMessage g c =
     let i = g.P.Party.me in
     let s = c.args.miner.now in
-    awaited_is i s (Err (BadMessage c.in-Err-BadMessage.link))
+    awaited_is i s (Err (BadMessage c.in-Err-BadMessage.link _))
     (subst (λ r. IsAnswer i s r) (c.in-Err-BadMessage.is ∙ ap Err c.in-Err-BadMessage.field-0-is) (c.stands.ensures.stands c.requires))
