@@ -56,7 +56,9 @@ module _ (words : List (List ℕ)) (coming : ℕ → List ℕ) (status : ℕ →
   -- a status that tells no fault is that of an answer that is carried out
   said : (c : Cause) → c.status ≡ statuses.Schedule → s ≡ c.status → CarriedOut (Err c) f f' o o' e e' s ⊎ HasFailed f f' o o' s → PutLine c.line e e'
   said c is same (inl carried) = carried.1
-  said c is same (inr failed) = absurd (subst (HasFailed f f' o o') (is ∙ same) failed)
+  said c is same (inr failed) =
+      let wrong : HasFailed f f' o o' statuses.Schedule = subst (λ (x : Status). HasFailed f f' o o' x) (same ∙ is) failed in
+      absurd wrong
 
   pub refuses : (g : Given) → IsGiven words f.contents g → IsNotTaken (net_given g) → AllSteady f o → RefusesSchedule g e e' s
   refuses g given refused steady =
