@@ -1,5 +1,5 @@
 -- `eval` and `need` are refused only for a file that is there and not as it must be.
-use Rattle.std.proofs.Common.{◌≡◌, ◌⊎◌, ℕ, List, Ok, Err, Result, refl, ap, sym, ◌∙◌, inl, inr}
+use Rattle.std.proofs.Common.{◌≡◌, ℕ, List, Ok, Err, Result, ap, sym, ◌∙◌, inl, inr}
 use Rattle.outside.specs.Files.{Contents}
 use Rattle.command_frame.specs.Answer.{Answer, Cause, ◌>>=◌}
 use Rattle.command_words.specs.Ask.{EvalAsk}

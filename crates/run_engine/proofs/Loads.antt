@@ -2,7 +2,7 @@
 use Rattle.std.proofs.Common.{◌≡◌, ℕ, List, [], ◌++◌, length, Some, Ok, Err, Result, refl, ap, subst, sym, ◌∙◌, All}
 use Rattle.std.specs.Prelude.{IfErr, IfOk}
 use Rattle.std.specs.Result.{IsErrAnd}
-use Rattle.outside.specs.Files.{Contents, FilesState}
+use Rattle.outside.specs.Files.{FilesState}
 use Rattle.sc_text.specs.declared.end.End.{End}
 use Rattle.sc_text.specs.declared.event.Event.{Event}
 use Rattle.sc_text.specs.Event.{run_text}

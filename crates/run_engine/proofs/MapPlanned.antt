@@ -1,12 +1,8 @@
 -- What `map` plans is what is decided of the files.
-use Rattle.std.proofs.Common.{◌≡◌, ℕ, List, true, Ok, Result, sym, ◌∙◌, ap}
-use Rattle.std.specs.Prelude.{IfErr}
+use Rattle.std.proofs.Common.{◌≡◌, ℕ, List, Ok, sym, ◌∙◌, ap}
 use Rattle.outside.specs.Files.{FilesState}
-use Rattle.command_frame.specs.declared.plan.Plan.{Plan}
-use Rattle.command_frame.specs.declared.stop.Stop.{Stop}
-use Rattle.command_frame.specs.Answer.{Effect, effect_of}
-use Rattle.command_frame.specs.Reads.{Gives, KeepsTo, OnlyRead, StopsReading}
-use Rattle.command_words.specs.Ask.{MapAsk, map_tape}
+use Rattle.command_frame.specs.Answer.{Effect}
+use Rattle.command_words.specs.Ask.{MapAsk}
 use Rattle.clear_eval.specs.Reports.{report_seen}
 use Rattle.language_model.specs.Reports.{Report}
 use Rattle.typed_tree.specs.Programs.{TypedProgramTree}
@@ -18,12 +14,10 @@ use Rattle.view_reader.specs.Opened.{opened_bytes}
 use Rattle.program_views.specs.TapeMaps.{mapped}
 use Rattle.program_views.specs.Views.{lengths_of, openings, run_on}
 use Rattle.tape_twin.specs.declared.mapped_run.MappedRun.{MappedRun}
-use Rattle.run_engine.specs.Judging.{Finding, FoundAt, HasFinding, Tells, its_program}
-use Rattle.run_engine.specs.Map.{made_effect, map_effect, map_of, map_paths, mapped_paths, open_bytes, sim_bytes, writes_to}
-use Rattle.run_engine.specs.Obeying.{Planned}
+use Rattle.run_engine.specs.Judging.{Finding}
+use Rattle.run_engine.specs.Map.{made_effect, map_effect, map_of, open_bytes, sim_bytes, writes_to}
 use Rattle.run_engine.specs.Programs.{program_at}
 use Rattle.run_engine.specs.Reading.{inputs_at, tape_file_at}
-use Rattle.run_engine.specs.Words.{answer_to, question_of, reads_of, writes_of}
 
 -- the file of the tapes in memory, and the lines of what was opened
 sim_so : (ask : MapAsk) (p : TypedProgramTree) (entries : List Entry) (tapes made : FourTapes) → made ≡ mapped ask.miner p entries tapes ask.budget

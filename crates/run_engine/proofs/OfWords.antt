@@ -1,5 +1,5 @@
 -- Inputs and tapes that the files hold are of words.
-use Rattle.std.proofs.Common.{◌≡◌, ◌<◌, ◌^◌, ℕ, List, length, All, Result, Ok, Err, IfOk, refl, subst, inl, inr, arith}
+use Rattle.std.proofs.Common.{◌≡◌, ℕ, List, length, All, Result, Ok, Err, IfOk, refl, subst, inl, inr, arith}
 use Rattle.std.proofs.lemmas.Bool.{cases_lt}
 use Rattle.std.proofs.lemmas.List.{get_or_past}
 use Rattle.outside.specs.Files.{Contents}

@@ -1,8 +1,8 @@
 -- What `compile` and `run` plan is what is decided of the files.
-use Rattle.std.proofs.Common.{◌≡◌, ℕ, List, [], ◌∷◌, ◌++◌, length, true, Option, Some, None, Ok, Err, Result, refl, sym, ◌∙◌, ap, subst, inl, inr}
+use Rattle.std.proofs.Common.{◌≡◌, ℕ, List, [], ◌++◌, length, true, Option, Some, None, Ok, Err, refl, sym, ◌∙◌, ap, subst, inl, inr}
 use Rattle.std.proofs.lemmas.List.{length-map}
 use Rattle.outside.specs.Files.{Contents, FilesState}
-use Rattle.command_frame.specs.Answer.{Answer, Cause, Effect, Written, effect_of, ◌>>=◌}
+use Rattle.command_frame.specs.Answer.{Answer, Effect, Written, effect_of}
 use Rattle.command_frame.specs.declared.plan.Plan.{Plan}
 use Rattle.command_frame.specs.declared.stop.Stop.{Stop}
 use Rattle.command_frame.specs.Reads.{OnlyRead, Stops}
@@ -10,7 +10,6 @@ use Rattle.command_words.specs.Ask.{CompileAsk, RunAsk}
 use Rattle.sc_text.specs.declared.end.End.{End}
 use Rattle.sc_text.specs.declared.event.Event.{Event}
 use Rattle.sc_text.specs.Event.{run_text}
-use Rattle.secrec_ast.specs.Programs.{ProgramTree}
 use Rattle.typed_tree.specs.Programs.{TypedProgramTree}
 use Rattle.value_file.specs.declared.inputs.Entry.{Entry}
 use Rattle.tape_file.specs.Tapes.{FourTapes}

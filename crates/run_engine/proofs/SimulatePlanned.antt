@@ -1,12 +1,10 @@
 -- What `simulate` plans is what is decided of the files.
 use Rattle.std.proofs.Common.{◌≡◌, ℕ, List, length, true, Option, Some, Ok, Err, Result, refl, sym, ◌∙◌, ap, subst}
-use Rattle.std.specs.Prelude.{IfErr}
 use Rattle.outside.specs.Files.{FilesState}
-use Rattle.command_frame.specs.declared.plan.Plan.{Plan}
 use Rattle.command_frame.specs.declared.stop.Stop.{Stop}
-use Rattle.command_frame.specs.Answer.{Answer, effect_of, ◌>>=◌}
-use Rattle.command_frame.specs.Reads.{Gives, KeepsTo, OnlyRead, Stops, StopsReading}
-use Rattle.command_words.specs.Ask.{SimulateAsk, simulate}
+use Rattle.command_frame.specs.Answer.{Answer, ◌>>=◌}
+use Rattle.command_frame.specs.Reads.{Stops}
+use Rattle.command_words.specs.Ask.{SimulateAsk}
 use Rattle.proto_core.specs.declared.link.Link.{Link}
 use Rattle.proto_core.specs.declared.party.Number.{Number}
 use Rattle.protocol_model.specs.Network as network
@@ -23,14 +21,12 @@ use Rattle.program_views.specs.Views.{lengths_of, made_of, told_run, view_at}
 use Rattle.view_simulator.specs.Simulating.{IsMadeView, IsSimulation}
 use Rattle.view_simulator.specs.declared.errors.SimulateErr.{SimulateErr}
 use Rattle.view_simulator.specs.declared.errors.SimulateErr.TheVariants as refusal
-use Rattle.run_engine.specs.Judging.{Finding, FoundAt, HasFinding, Tells, its_program}
-use Rattle.run_engine.specs.Obeying.{Planned}
+use Rattle.run_engine.specs.Judging.{Finding}
 use Rattle.run_engine.specs.Programs.{program_at}
 use Rattle.run_engine.specs.Reading.{delivery_at, opened_at, public_at, tape_file_at}
 use Rattle.run_engine.specs.Run.{by_net, empty_line, refused_with, stalled_line}
 use Rattle.run_engine.specs.Simulate.{IsSimulateStop, by_told, net_simulated, short_line, short_with}
-use Rattle.run_engine.specs.Simulate.{simulate_effect, simulate_of, simulate_paths, simulated_paths, stop_told, view_simulated}
-use Rattle.run_engine.specs.Words.{answer_to, question_of, reads_of, writes_of}
+use Rattle.run_engine.specs.Simulate.{simulate_effect, simulate_of, stop_told, view_simulated}
 use Rattle.run_engine.proofs.Judged.{refused_so}
 
 -- what gives a view has ended

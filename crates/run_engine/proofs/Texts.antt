@@ -1,10 +1,10 @@
 -- What the answers of `check` and `compile` are, which read a program alone.
-use Rattle.std.proofs.Common.{◌≡◌, ℕ, List, Some, Ok, Err, Result, refl, ap, subst, sym, ◌∙◌, inl, inr}
+use Rattle.std.proofs.Common.{◌≡◌, ℕ, List, Some, Ok, Err, refl, ap, subst, sym, ◌∙◌, inl, inr}
 use Rattle.outside.specs.Files.{Contents}
 use Rattle.sc_text.specs.declared.end.Ending.TheVariants.{Done}
 use Rattle.command_frame.specs.declared.status.Status.{Status}
 use Rattle.command_frame.specs.declared.status.Status.TheVariants as statuses
-use Rattle.command_frame.specs.Answer.{Answer, Cause, Effect, ◌>>=◌}
+use Rattle.command_frame.specs.Answer.{Answer, Effect, ◌>>=◌}
 use Rattle.command_words.specs.Ask.{CheckAsk, CompileAsk, check, compile, words_of}
 use Rattle.reached_instances.specs.Instances.{Instance}
 use Rattle.reached_instances.specs.Reached.{IsReachedList}

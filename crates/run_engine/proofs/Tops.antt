@@ -1,5 +1,5 @@
 -- What a whole command leaves, for the answer that the words have.
-use Rattle.std.proofs.Common.{◌≡◌, ◌≢◌, ◌⊎◌, inl, inr, ℕ, ℤ, List, true, false, Some, None, Ok, Err, Result, refl, subst}
+use Rattle.std.proofs.Common.{◌≡◌, ◌≢◌, ◌⊎◌, inl, inr, ℕ, ℤ, List, true, Some, None, Ok, Err, Result, refl, subst}
 use Rattle.std.proofs.lemmas.Bool.{false≢true}
 use Rattle.std.specs.Prelude.{IfErr, IsSome}
 use Rattle.outside.specs.Files.{Contents, FilesState}

@@ -1,12 +1,10 @@
 -- What `twin` plans is what is decided of the files.
-use Rattle.std.proofs.Common.{◌≡◌, ℕ, List, true, Some, Ok, Err, Result, refl, sym, ap, subst}
-use Rattle.std.specs.Prelude.{IfErr}
+use Rattle.std.proofs.Common.{◌≡◌, ℕ, List, true, Some, Ok, Err, refl, sym, ap, subst}
 use Rattle.outside.specs.Files.{FilesState}
-use Rattle.command_frame.specs.declared.plan.Plan.{Plan}
 use Rattle.command_frame.specs.declared.stop.Stop.{Stop}
-use Rattle.command_frame.specs.Answer.{Effect, effect_of}
-use Rattle.command_frame.specs.Reads.{Gives, KeepsTo, OnlyRead, Stops, StopsReading}
-use Rattle.command_words.specs.Ask.{TwinAsk, twin}
+use Rattle.command_frame.specs.Answer.{Effect}
+use Rattle.command_frame.specs.Reads.{Stops}
+use Rattle.command_words.specs.Ask.{TwinAsk}
 use Rattle.typed_tree.specs.Programs.{TypedProgramTree}
 use Rattle.value_file.specs.declared.inputs.Entry.{Entry}
 use Rattle.tape_file.specs.Format.{tape_bytes}
@@ -18,13 +16,11 @@ use Rattle.tape_twin.specs.FirstDifference.{at_entry, at_word, difference}
 use Rattle.tape_twin.specs.declared.twin_err.TwinErr.{TwinErr}
 use Rattle.tape_twin.specs.declared.twin_err.TwinErr.TheVariants as refusal
 use Rattle.tape_twin.proofs.FirstDifferences.{alike_have_none, told_at_entry, told_at_word}
-use Rattle.run_engine.specs.Judging.{Finding, FoundAt, HasFinding, Tells, its_program}
-use Rattle.run_engine.specs.Obeying.{Planned}
+use Rattle.run_engine.specs.Judging.{Finding}
 use Rattle.run_engine.specs.Programs.{program_at}
 use Rattle.run_engine.specs.Reading.{inputs_at, tape_file_at}
-use Rattle.run_engine.specs.Twin.{IsTwinStop, by_difference, entry_line, twin_bytes, twin_effect, twin_of, twin_paths, twinned_paths, unlike}
+use Rattle.run_engine.specs.Twin.{IsTwinStop, by_difference, entry_line, twin_bytes, twin_effect, twin_of, unlike}
 use Rattle.run_engine.specs.Twin.{word_line, writes_to, written_effect}
-use Rattle.run_engine.specs.Words.{answer_to, question_of, reads_of, writes_of}
 use Rattle.run_engine.proofs.Judged.{refused_so}
 
 written_so : (ask : TwinAsk) (p : TypedProgramTree) (first second : List Entry) (tapes made : FourTapes)

@@ -1,5 +1,5 @@
 -- What `map`, `simulate` and `twin` promise, from their answers.
-use Rattle.std.proofs.Common.{◌≢◌, ◌⊎◌, ◌≡◌, ℕ, ℤ, List, true, false, Some, Ok, refl, subst, sym}
+use Rattle.std.proofs.Common.{◌≢◌, ◌⊎◌, ◌≡◌, ℕ, ℤ, List, true, Some, refl, subst, sym}
 use Rattle.outside.specs.Files.{FilesState}
 use Rattle.outside.specs.Sink.{SinkState}
 use Rattle.command_frame.specs.declared.status.Status.{Status}

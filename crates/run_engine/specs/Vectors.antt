@@ -1,5 +1,5 @@
 -- Worked values of the forms.
-use Rattle.std.specs.Prelude.{◌≡◌, ℕ, List, [], ◌∷◌, replicate, codes, refl}
+use Rattle.std.specs.Prelude.{◌≡◌, [], codes, refl}
 use Rattle.std.specs.Fmt.{digits}
 use Rattle.sc_text.specs.Elements.{elements_text, element_text}
 use Rattle.sc_text.specs.Fault.{fault_line, fault_text, counted_code}
