@@ -2,7 +2,8 @@
 # Times what programs do on shares, at three sizes each: `secrec run` over products of private numbers, in arrays of 65,536, and over comparisons of private
 # numbers, each beside the same messages written by hand in plain Rust; and over a loop of public steps beside `secrec eval`. Processor time and peak memory
 # are those of the run of five that took least processor time. Of products, and of all that is written by hand, the time of a run over the same words that
-# computes nothing is taken away. It measures; it tests nothing. It wants bash, python3, rustc, and 2 GB of memory; another program than the one that `./secrec` runs can be named.
+# computes nothing is taken away. It measures; it tests nothing. It wants bash, python3, rustc, and 2 GB of memory; another program than the one that
+# `./secrec` runs can be named.
 . "$(dirname "$0")/begin.sh"
 for name in multiply compare; do rustc -O -o "$work/${name}_by_hand" "$top/bench/${name}_by_hand.rs"; done
 
