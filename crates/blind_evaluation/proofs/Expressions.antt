@@ -21,7 +21,7 @@ use Rattle.language_model.specs.Evaluation.{decides, cut_short, not_cut_short, v
 use Rattle.language_model.specs.Reports.{Offered}
 use Rattle.blind_evaluation.proofs.Alike.{Alike, alike_bind, alike_done, same_bind}
 use Rattle.blind_evaluation.proofs.AlikeValues.{LikeValues, plains, AllLike, no_more, and_more}
-use Rattle.blind_evaluation.proofs.Rows.{clear, unseen, plain_alike, wanted_alike, negated_alike, size_told_alike, summed_alike, joined_alike}
+use Rattle.blind_evaluation.proofs.Rows.{clear, unseen, plain_alike, wanted_alike, negated_alike, size_told_alike, summed_alike, concatenated_alike}
 use Rattle.blind_evaluation.proofs.Rows.{element_alike, tested_alike, declassified_alike, operation_alike, cast_to_alike, bits_extracted_alike}
 
 abbrev pub LikeFrames : Frame → Frame → Type 0
@@ -63,7 +63,7 @@ module _ (o : Offered) where
       value_alike (cat_node line a b) fr fr' l =
           let secret = gives_private here (cat_node line a b) in
           alike_bind (value_alike a fr fr' l) (λ x x' m. alike_bind (wanted_alike secret m) (λ u u' m.
-          alike_bind (value_alike b fr fr' l) (λ y y' p. alike_bind (wanted_alike secret p) (λ v v' p. joined_alike line m p))))
+          alike_bind (value_alike b fr fr' l) (λ y y' p. alike_bind (wanted_alike secret p) (λ v v' p. concatenated_alike line m p))))
       value_alike (sum_node e) fr fr' l = alike_bind (value_alike e fr fr' l) (λ x x' m. summed_alike m)
       value_alike (bits_node line e) fr fr' l = alike_bind (value_alike e fr fr' l) (λ x x' m. bits_extracted_alike o line m)
       value_alike (element_node line a i) fr fr' l =

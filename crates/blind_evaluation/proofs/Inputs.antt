@@ -5,7 +5,7 @@ use Rattle.sc_text.specs.declared.end.Ending.TheVariants as ending
 use Rattle.sc_text.specs.declared.end.TrapKind.TheVariants as trap
 use Rattle.gates.specs.declared.gate.Gate.TheVariants.{Input}
 use Rattle.typed_tree.specs.declared.kinds.Shape.{Shape}
-use Rattle.language_model.specs.Effects.{Given, charge, test}
+use Rattle.language_model.specs.Effects.{GivenInput, charge, test}
 use Rattle.language_model.specs.Operations.{charged}
 use Rattle.language_model.specs.Evaluation.{behind, input_from, input_named, is_as_declared, given_value, asked_for, either}
 use Rattle.language_model.specs.Reports.{words_dealt, dealing, Offered, zeros_for, public_input}
@@ -16,10 +16,10 @@ use Rattle.blind_evaluation.proofs.Rows.{clear, unseen, charged_alike, result_al
 
 -- ---- DEALING
 
-words_same : (x : Given) → words_dealt (public_input x) ≡ words_dealt x
+words_same : (x : GivenInput) → words_dealt (public_input x) ≡ words_dealt x
 words_same x = ap (λ n. either x.secret (2 * n) 0) (zeros_length x.secret x.words)
 
-all_words_same : (xs : List Given) → map words_dealt (map public_input xs) ≡ map words_dealt xs
+all_words_same : (xs : List GivenInput) → map words_dealt (map public_input xs) ≡ map words_dealt xs
 all_words_same [] = refl
 all_words_same (x ∷ xs) = ap (λ n. n ∷ map words_dealt (map public_input xs)) (words_same x) ∙ ap (λ ns. words_dealt x ∷ ns) (all_words_same xs)
 
@@ -28,11 +28,11 @@ same_dealing o = ap sum (all_words_same o.inputs)
 
 -- ---- FINDING
 
-pub data LikeInput : Option (Given × ℕ) → Option (Given × ℕ) → Type 0 where
+pub data LikeInput : Option (GivenInput × ℕ) → Option (GivenInput × ℕ) → Type 0 where
   absent : LikeInput None None
-  found : (x : Given) (k : ℕ) → LikeInput (Some (x, k)) (Some (public_input x, k))
+  found : (x : GivenInput) (k : ℕ) → LikeInput (Some (x, k)) (Some (public_input x, k))
 
-found_from : (k : ℕ) (text : List ℕ) (xs : List Given) → LikeInput (input_from k text xs) (input_from k text (map public_input xs))
+found_from : (k : ℕ) (text : List ℕ) (xs : List GivenInput) → LikeInput (input_from k text xs) (input_from k text (map public_input xs))
 found_from k text [] = absent
 found_from k text (x ∷ xs) = either_way (bytes_eq text x.text) (found_from (behind x k) text xs)
   where
@@ -47,7 +47,7 @@ input_like o text = found_from 0 text o.inputs
 
 -- ---- TAKING
 
-abbrev given_as : List ℕ → Bool → Shape → List ℕ → Given
+abbrev given_as : List ℕ → Bool → Shape → List ℕ → GivenInput
 given_as text secret shape words = record { text = text; secret = secret; shape = shape; words = words }
 
 refused : (line : ℕ) → Alike (Never {A = Unit {0}} {B = Unit {0}}) (test false trap.Argument line) (test false trap.Argument line)
@@ -71,7 +71,7 @@ asked_alike false shape line k text true own words =
     never_bind (λ _. given_value false (given_as text true own words) k) (λ _. given_value false (given_as text true own (zeros_for true words)) k)
     (charged_refused line (length words) (length (zeros_for true words)))
 
-pub asked_for_alike : (secret : Bool) (shape : Shape) (line : ℕ) {x x' : Option (Given × ℕ)} → LikeInput x x'
+pub asked_for_alike : (secret : Bool) (shape : Shape) (line : ℕ) {x x' : Option (GivenInput × ℕ)} → LikeInput x x'
     → Alike LikeValues (asked_for secret shape line x) (asked_for secret shape line x')
 asked_for_alike secret shape line absent = any_bind (charge_alike 1) (λ _ _. end_alike (ending.Trap trap.Argument line))
 asked_for_alike secret shape line (found x k) = asked_alike secret shape line k x.text x.secret x.shape x.words

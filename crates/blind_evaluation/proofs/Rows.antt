@@ -30,7 +30,7 @@ use Rattle.language_model.specs.Operations.{revealed, opened_from, declassified,
 use Rattle.language_model.specs.Operations.{operator_gates, is_product, result_shape, private_result, product_with, combined_from, operator_traps}
 use Rattle.language_model.specs.Operations.{operated, is_classified, operation, negated_from, negated, words_of_cast, cast_shape, cast_gates, changed}
 use Rattle.language_model.specs.Operations.{cast_from, cast_to, scalar_word, size_told, summed_from, summed, words_for_bits, bits_from}
-use Rattle.language_model.specs.Operations.{bits_extracted, joined_from, joined, position, element_at, element_from, element_of_array}
+use Rattle.language_model.specs.Operations.{bits_extracted, concatenated_from, concatenated, position, element_at, element_from, element_of_array}
 use Rattle.language_model.specs.Operations.{with_element_from, with_element, filled_from, filled, handed_over, published, tested, asserted}
 use Rattle.language_model.specs.Reports.{Offered, world_of, public_part}
 use Rattle.blind_evaluation.specs.Courses.{LikeEvent, LikeEvents}
@@ -117,22 +117,22 @@ cat_alike {x = x} {x' = x'} {y = y} {y' = y'} l m =
     same_bind (value_number_alike l) (λ u. same_bind (value_number_alike m) (λ v. same_bind (gate_alike (Cat u v)) (λ r.
     result_alike (like_shape l) (joined_length x.words x'.words y.words y'.words (like_size l) (like_size m)) r)))
 
-joined_from_alike : {x x' y y' : Value} → LikeValues x x' → LikeValues y y'
-    → Alike LikeValues (joined_from x.secrecy y.secrecy x y) (joined_from x'.secrecy y'.secrecy x' y')
-joined_from_alike (plains s a) (plains t b) = plain_alike s (a ++ b)
-joined_from_alike (plains s a) (unmade t b) = cat_alike (plains s a) (unmade t b)
-joined_from_alike (plains s a) (made t k b b' e) = cat_alike (plains s a) (made t k b b' e)
-joined_from_alike (unmade s a) (plains t b) = cat_alike (unmade s a) (plains t b)
-joined_from_alike (unmade s a) (unmade t b) = cat_alike (unmade s a) (unmade t b)
-joined_from_alike (unmade s a) (made t k b b' e) = cat_alike (unmade s a) (made t k b b' e)
-joined_from_alike (made s j a a' d) (plains t b) = cat_alike (made s j a a' d) (plains t b)
-joined_from_alike (made s j a a' d) (unmade t b) = cat_alike (made s j a a' d) (unmade t b)
-joined_from_alike (made s j a a' d) (made t k b b' e) = cat_alike (made s j a a' d) (made t k b b' e)
+concatenated_from_alike : {x x' y y' : Value} → LikeValues x x' → LikeValues y y'
+    → Alike LikeValues (concatenated_from x.secrecy y.secrecy x y) (concatenated_from x'.secrecy y'.secrecy x' y')
+concatenated_from_alike (plains s a) (plains t b) = plain_alike s (a ++ b)
+concatenated_from_alike (plains s a) (unmade t b) = cat_alike (plains s a) (unmade t b)
+concatenated_from_alike (plains s a) (made t k b b' e) = cat_alike (plains s a) (made t k b b' e)
+concatenated_from_alike (unmade s a) (plains t b) = cat_alike (unmade s a) (plains t b)
+concatenated_from_alike (unmade s a) (unmade t b) = cat_alike (unmade s a) (unmade t b)
+concatenated_from_alike (unmade s a) (made t k b b' e) = cat_alike (unmade s a) (made t k b b' e)
+concatenated_from_alike (made s j a a' d) (plains t b) = cat_alike (made s j a a' d) (plains t b)
+concatenated_from_alike (made s j a a' d) (unmade t b) = cat_alike (made s j a a' d) (unmade t b)
+concatenated_from_alike (made s j a a' d) (made t k b b' e) = cat_alike (made s j a a' d) (made t k b b' e)
 
-pub joined_alike : (line : ℕ) {x x' y y' : Value} → LikeValues x x' → LikeValues y y' → Alike LikeValues (joined line x y) (joined line x' y')
-joined_alike line {x' = x'} {y = y} l m =
+pub concatenated_alike : (line : ℕ) {x x' y y' : Value} → LikeValues x x' → LikeValues y y' → Alike LikeValues (concatenated line x y) (concatenated line x' y')
+concatenated_alike line {x' = x'} {y = y} l m =
     let e = ap (λ n. n + size y) (like_size l) ∙ ap (λ n. size x' + n) (like_size m) in
-    any_bind (charged_alike (too_large_alike line e) e) (λ _ _. joined_from_alike l m)
+    any_bind (charged_alike (too_large_alike line e) e) (λ _ _. concatenated_from_alike l m)
 
 -- ---- ELEMENTS OF ARRAYS
 

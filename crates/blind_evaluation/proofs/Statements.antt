@@ -6,10 +6,10 @@ use Rattle.sc_text.specs.declared.end.TrapKind.TheVariants as trap
 use Rattle.secrec_ast.specs.declared.expression.DataType.TheVariants.{Uint64}
 use Rattle.typed_tree.specs.declared.kinds.Shape.{Shape}
 use Rattle.typed_tree.specs.declared.kinds.Slot.{Slot}
-use Rattle.typed_tree.specs.Commands.{Command, Commands, empty_command, block_command, if_command, loop_command, do_command, break_command}
-use Rattle.typed_tree.specs.Commands.{continue_command, return_command, assert_command, store_command, default_command, fill_command, input_command}
-use Rattle.typed_tree.specs.Commands.{element_command, publish_command, evaluate_command}
-use Rattle.typed_tree.specs.Commands as Commands'
+use Rattle.typed_tree.specs.Statements.{TypedStatementTree, TypedStatementTrees, empty_statement, block_statement, if_statement, loop_statement, do_statement}
+use Rattle.typed_tree.specs.Statements.{break_statement, continue_statement, return_statement, assert_statement, store_statement, default_statement}
+use Rattle.typed_tree.specs.Statements.{fill_statement, input_statement, element_statement, publish_statement, evaluate_statement}
+use Rattle.typed_tree.specs.Statements as Statements'
 use Rattle.typed_tree.specs.Programs.{TypedFunctionTree}
 use Rattle.reached_instances.specs.declared.instance.BoundDomain.{BoundDomain}
 use Rattle.reached_instances.specs.Domains.{domain_under}
@@ -93,13 +93,14 @@ module _ (o : Offered) where
     mutual
       unfolding execute execute_all
 
-      execute_alike : (c : Command) (fr fr' : Frame) → LikeFrames fr fr' → Alike LikeFlow (execute (clear o) calls at c fr) (execute (unseen o) calls' at c fr')
-      execute_alike empty_command fr fr' l = alike_done l
-      execute_alike (block_command cs) fr fr' l = execute_all_alike cs fr fr' l
-      execute_alike (if_command e a b) fr fr' l =
+      execute_alike : (c : TypedStatementTree) (fr fr' : Frame) → LikeFrames fr fr'
+          → Alike LikeFlow (execute (clear o) calls at c fr) (execute (unseen o) calls' at c fr')
+      execute_alike empty_statement fr fr' l = alike_done l
+      execute_alike (block_statement cs) fr fr' l = execute_all_alike cs fr fr' l
+      execute_alike (if_statement e a b) fr fr' l =
           alike_bind (value_alike o calls calls' ok at.here e fr fr' l)
           (λ v v' m. same_bind (tested_alike m) (λ t. either_alike t (execute_alike a fr fr' l) (execute_alike b fr fr' l)))
-      execute_alike (loop_command e step body) fr fr' l =
+      execute_alike (loop_statement e step body) fr fr' l =
           record {
             from = λ s. again s
                 ((turns_alike (s.left + 1) _ _ _ _ _ _ (value_alike o calls calls' ok at.here e) (execute_alike step) (execute_alike body) fr fr' l).from s);
@@ -112,7 +113,7 @@ module _ (o : Offered) where
               (execute (clear o) calls at body) fr s)
               (λ s. turns (s.left + 1) (value (unseen o) calls' at.here e) (execute (unseen o) calls' at step) (execute (unseen o) calls' at body) fr' s) s
           again s t = record { words = t.words; opened = t.opened; same = t.same }
-      execute_alike (do_command body e) fr fr' l =
+      execute_alike (do_statement body e) fr fr' l =
           record { from = λ s. again s ((repeats_alike (s.left + 1) _ _ _ _ (value_alike o calls calls' ok at.here e) (execute_alike body) fr fr' l).from s) }
         where
           again : (s : Stage) → AlikeAt LikeFlow (repeats (s.left + 1) (value (clear o) calls at.here e) (execute (clear o) calls at body) fr)
@@ -120,32 +121,32 @@ module _ (o : Offered) where
               → AlikeAt LikeFlow (λ s. repeats (s.left + 1) (value (clear o) calls at.here e) (execute (clear o) calls at body) fr s)
               (λ s. repeats (s.left + 1) (value (unseen o) calls' at.here e) (execute (unseen o) calls' at body) fr' s) s
           again s t = record { words = t.words; opened = t.opened; same = t.same }
-      execute_alike break_command fr fr' l = alike_done l
-      execute_alike continue_command fr fr' l = alike_done l
-      execute_alike (return_command None) fr fr' l = alike_done nothing_like
-      execute_alike (return_command (Some e)) fr fr' l =
+      execute_alike break_statement fr fr' l = alike_done l
+      execute_alike continue_statement fr fr' l = alike_done l
+      execute_alike (return_statement None) fr fr' l = alike_done nothing_like
+      execute_alike (return_statement (Some e)) fr fr' l =
           alike_bind (value_alike o calls calls' ok at.here e fr fr' l) (λ x x' m. alike_bind (wanted_alike at.secret_result m) (λ v v' p. alike_done p))
-      execute_alike (assert_command line e) fr fr' l =
+      execute_alike (assert_statement line e) fr fr' l =
           alike_bind (value_alike o calls calls' ok at.here e fr fr' l) (λ v v' m. any_bind (asserted_alike line m) (λ _ _. alike_done l))
-      execute_alike (store_command k e) fr fr' l = alike_bind (value_alike o calls calls' ok at.here e fr fr' l) (λ x x' m. stored_alike k m l)
-      execute_alike (default_command k) fr fr' l = stored_alike k (plains (slot_shape at.here k) (default_words (slot_shape at.here k).array)) l
-      execute_alike (fill_command line k n e) fr fr' l =
+      execute_alike (store_statement k e) fr fr' l = alike_bind (value_alike o calls calls' ok at.here e fr fr' l) (λ x x' m. stored_alike k m l)
+      execute_alike (default_statement k) fr fr' l = stored_alike k (plains (slot_shape at.here k) (default_words (slot_shape at.here k).array)) l
+      execute_alike (fill_statement line k n e) fr fr' l =
           alike_bind (value_alike o calls calls' ok at.here n fr fr' l) (λ m m' p. alike_bind (value_alike o calls calls' ok at.here e fr fr' l) (λ x x' q.
           alike_bind (wanted_alike (slot_is_private at.here k) q) (λ a a' q. alike_bind (filled_alike line p q) (λ v v' r. alike_done (put_like k r l)))))
-      execute_alike (input_command line k text) fr fr' l =
+      execute_alike (input_statement line k text) fr fr' l =
           alike_bind (asked_for_alike (slot_is_private at.here k) (slot_shape at.here k) line (input_like o text)) (λ x x' m. stored_alike k m l)
-      execute_alike (element_command line k i e) fr fr' l =
+      execute_alike (element_statement line k i e) fr fr' l =
           alike_bind (value_alike o calls calls' ok at.here i fr fr' l) (λ j j' p. alike_bind (value_alike o calls calls' ok at.here e fr fr' l) (λ x x' q.
           alike_bind (wanted_alike (slot_is_private at.here k) q)
           (λ a a' q. alike_bind (with_element_alike line (l k) p q) (λ v v' r. alike_done (put_like k r l)))))
-      execute_alike (publish_command text e) fr fr' l =
+      execute_alike (publish_statement text e) fr fr' l =
           alike_bind (value_alike o calls calls' ok at.here e fr fr' l) (λ v v' m. any_bind (published_alike o text m) (λ _ _. alike_done l))
-      execute_alike (evaluate_command e) fr fr' l = alike_bind (value_alike o calls calls' ok at.here e fr fr' l) (λ v v' m. alike_done l)
+      execute_alike (evaluate_statement e) fr fr' l = alike_bind (value_alike o calls calls' ok at.here e fr fr' l) (λ v v' m. alike_done l)
 
-      execute_all_alike : (cs : Commands) (fr fr' : Frame) → LikeFrames fr fr'
+      execute_all_alike : (cs : TypedStatementTrees) (fr fr' : Frame) → LikeFrames fr fr'
           → Alike LikeFlow (execute_all (clear o) calls at cs fr) (execute_all (unseen o) calls' at cs fr')
-      execute_all_alike Commands'.none fr fr' l = alike_done l
-      execute_all_alike (Commands'.also c cs) fr fr' l = alike_bind (execute_alike c fr fr' l) (λ g g' p. then_alike g g' _ _ p (execute_all_alike cs))
+      execute_all_alike Statements'.none fr fr' l = alike_done l
+      execute_all_alike (Statements'.also c cs) fr fr' l = alike_bind (execute_alike c fr fr' l) (λ g g' p. then_alike g g' _ _ p (execute_all_alike cs))
 
   -- ---- FUNCTIONS
 

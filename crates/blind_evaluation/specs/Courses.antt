@@ -3,7 +3,7 @@ use Rattle.std.specs.Prelude.{◌≡◌, List, length}
 use Rattle.std.specs.List.{AllZip}
 use Rattle.sc_text.specs.declared.event.Event.{Event}
 use Rattle.sc_text.specs.declared.event.Event.TheVariants.{Open, Publish}
-use Rattle.language_model.specs.Effects.{Stop, Ended, Short}
+use Rattle.language_model.specs.Effects.{RunStop, Ended, Short}
 use Rattle.language_model.specs.Reports.{Report}
 
 -- an opening is the same; a publication has the same name, and as many elements
@@ -25,6 +25,6 @@ pub record TakeSameCourse (r s : Report) : Type 0 where
   pub gates : r.gates ≡ s.gates
 
 -- a run that stopped for another reason than that answers were wanting
-abbrev pub IsEnded : Stop → Type 0
+abbrev pub IsEnded : RunStop → Type 0
 IsEnded (Ended e) = Unit {0}
 IsEnded Short = ⊥

@@ -6,16 +6,16 @@ use Rattle.typed_tree.specs.declared.kinds.Slot.{Slot}
 use Rattle.typed_tree.specs.declared.expression.TypedExpression.{TypedExpression}
 use Rattle.typed_tree.specs.declared.statement.TypedStatement.{TypedStatement}
 use Rattle.typed_tree.specs.Tree.{TypedTrees, also, typed_tree, typed_trees_of}
-use Rattle.typed_tree.specs.Commands.{Commands, command, commands_of}
-use Rattle.typed_tree.specs.Sound.{IsSoundTree, AreSoundTrees, IsSoundCommand, AreSoundCommands, count_of}
+use Rattle.typed_tree.specs.Statements.{TypedStatementTrees, typed_statement, typed_statements_of}
+use Rattle.typed_tree.specs.Sound.{IsSoundTree, AreSoundTrees, IsSoundStatementTree, AreSoundStatementTrees, count_of}
 use Rattle.language_model.specs.Evaluation.{behind_next}
-use Rattle.clear_eval.specs.inner.Measures.{weight, weight_of_all, command_weight, commands_weight}
+use Rattle.clear_eval.specs.inner.Measures.{weight, weight_of_all, statement_weight, statements_weight}
 
 abbrev pub trees : List TypedExpression → TypedTrees
 trees es = typed_trees_of (map typed_tree es)
 
-abbrev pub commands : List TypedStatement → Commands
-commands ss = commands_of (map command ss)
+abbrev pub typed_statements : List TypedStatement → TypedStatementTrees
+typed_statements ss = typed_statements_of (map typed_statement ss)
 
 pub lighter_tree : (es : List TypedExpression) (i : ℕ) (d : TypedExpression) → i < length es → weight (typed_tree (get_or es i d)) < weight_of_all (trees es)
 lighter_tree [] i d h = absurd (omega arith)
@@ -28,17 +28,17 @@ sound_tree n ps [] i d a h = absurd (omega arith)
 sound_tree n ps (e ∷ es) zero d a h = a.0
 sound_tree n ps (e ∷ es) (suc i) d a h = sound_tree n ps es i d a.1 (omega arith)
 
-pub lighter_command : (ss : List TypedStatement) (i : ℕ) (d : TypedStatement) → i < length ss
-    → command_weight (command (get_or ss i d)) < commands_weight (commands ss)
-lighter_command [] i d h = absurd (omega arith)
-lighter_command (c ∷ ss) zero d h = omega arith
-lighter_command (c ∷ ss) (suc i) d h = let more = lighter_command ss i d (omega arith) in omega arith
+pub lighter_statement : (ss : List TypedStatement) (i : ℕ) (d : TypedStatement) → i < length ss
+    → statement_weight (typed_statement (get_or ss i d)) < statements_weight (typed_statements ss)
+lighter_statement [] i d h = absurd (omega arith)
+lighter_statement (c ∷ ss) zero d h = omega arith
+lighter_statement (c ∷ ss) (suc i) d h = let more = lighter_statement ss i d (omega arith) in omega arith
 
-pub sound_command : (n : ℕ) (ps : List ℕ) (ss : List TypedStatement) (i : ℕ) (d : TypedStatement) → AreSoundCommands n ps (commands ss)
-    → i < length ss → IsSoundCommand n ps (command (get_or ss i d))
-sound_command n ps [] i d a h = absurd (omega arith)
-sound_command n ps (c ∷ ss) zero d a h = a.0
-sound_command n ps (c ∷ ss) (suc i) d a h = sound_command n ps ss i d a.1 (omega arith)
+pub sound_statement : (n : ℕ) (ps : List ℕ) (ss : List TypedStatement) (i : ℕ) (d : TypedStatement) → AreSoundStatementTrees n ps (typed_statements ss)
+    → i < length ss → IsSoundStatementTree n ps (typed_statement (get_or ss i d))
+sound_statement n ps [] i d a h = absurd (omega arith)
+sound_statement n ps (c ∷ ss) zero d a h = a.0
+sound_statement n ps (c ∷ ss) (suc i) d a h = sound_statement n ps ss i d a.1 (omega arith)
 
 -- the list from a place on begins with what stands there
 pub trees-drop : (es : List TypedExpression) (i : ℕ) (d : TypedExpression) → i < length es

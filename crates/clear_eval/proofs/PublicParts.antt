@@ -13,7 +13,7 @@ use Rattle.value_file.specs.declared.value.Value.TheVariants.{Number, Truth, Num
 use Rattle.value_file.specs.Input.{AreEntries}
 use Rattle.value_file.specs.Public.{shown, part_of}
 use Rattle.value_file.specs.PublicFile.{public_count, public_name_of, public_elements_of}
-use Rattle.language_model.specs.Effects.{Given}
+use Rattle.language_model.specs.Effects.{GivenInput}
 use Rattle.language_model.specs.Reports.{public_input}
 use Rattle.language_model.specs.Words.{truth_word}
 use Rattle.clear_eval.specs.Offers.{is_private, shape_given, words_given, input_given, public_given, part_given}
@@ -35,11 +35,11 @@ entry_is_public name Private (Number n) = refl
 entry_is_public name Private (Truth b) = refl
 entry_is_public name Private (Numbers ns) = refl
 entry_is_public name Private (Truths bs) =
-    let told : ℕ → Given = λ n. record { text = name; secret = true; shape = shape_of datatype.Bool true; words = replicate n 0 } in
+    let told : ℕ → GivenInput = λ n. record { text = name; secret = true; shape = shape_of datatype.Bool true; words = replicate n 0 } in
     ap told (sym (length-map bs truth_word))
 
 pub entries_are_public : (es : List Entry) → map part_given (part_of es) ≡ map public_input (map input_given es)
 entries_are_public [] = refl
 entries_are_public (e ∷ es) =
-    ap (λ (x : Given). x ∷ map part_given (part_of es)) (entry_is_public e.name e.domain e.value)
-    ∙ ap (λ (xs : List Given). public_input (input_given e) ∷ xs) (entries_are_public es)
+    ap (λ (x : GivenInput). x ∷ map part_given (part_of es)) (entry_is_public e.name e.domain e.value)
+    ∙ ap (λ (xs : List GivenInput). public_input (input_given e) ∷ xs) (entries_are_public es)

@@ -3,9 +3,9 @@ use Rattle.std.proofs.Common.{◌≡◌, ℕ, zero, suc, ◌≤◌, List, [], �
 use Rattle.std.specs.Prelude.{map, Some}
 use Rattle.std.specs.List.{slice_get}
 use Rattle.typed_tree.specs.declared.function.TypedFunction.{TypedFunction}
-use Rattle.typed_tree.specs.Commands.{command, commands_of}
+use Rattle.typed_tree.specs.Statements.{typed_statement, typed_statements_of}
 use Rattle.typed_tree.specs.Programs.{typed_function_tree}
-use Rattle.typed_tree.specs.Sound.{parameters_of, AreSoundFunctions, AreSoundCommands}
+use Rattle.typed_tree.specs.Sound.{parameters_of, AreSoundFunctions, AreSoundStatementTrees}
 use Rattle.clear_eval.specs.inner.Standing.{HasRoomFor, AreSoundAmong}
 
 room_among : (ps : List ℕ) (fs : List TypedFunction) (k n : ℕ) → AreSoundFunctions ps (map typed_function_tree fs)
@@ -24,13 +24,13 @@ pub room_for : (fs : List TypedFunction) (k n : ℕ) → AreSoundAmong (map type
 room_for fs k n a h = room_among (map parameters_of (map typed_function_tree fs)) fs k n a h
 
 body_among : (ps : List ℕ) (fs : List TypedFunction) (k : ℕ) (f : TypedFunction) → AreSoundFunctions ps (map typed_function_tree fs)
-    → slice_get fs k ≡ Some f → AreSoundCommands (length f.slots.items) ps (commands_of (map command f.body.items))
+    → slice_get fs k ≡ Some f → AreSoundStatementTrees (length f.slots.items) ps (typed_statements_of (map typed_statement f.body.items))
 body_among ps [] k f a h = cc
 body_among ps (g ∷ fs) zero f a h =
     let same : g ≡ f = cc in
-    subst (λ (x : TypedFunction). AreSoundCommands (length x.slots.items) ps (commands_of (map command x.body.items))) same a.0.body
+    subst (λ (x : TypedFunction). AreSoundStatementTrees (length x.slots.items) ps (typed_statements_of (map typed_statement x.body.items))) same a.0.body
 body_among ps (g ∷ fs) (suc k) f a h = body_among ps fs k f a.1 h
 
 pub body_sound : (fs : List TypedFunction) (k : ℕ) (f : TypedFunction) → AreSoundAmong (map typed_function_tree fs) → slice_get fs k ≡ Some f
-    → AreSoundCommands (length f.slots.items) (map parameters_of (map typed_function_tree fs)) (commands_of (map command f.body.items))
+    → AreSoundStatementTrees (length f.slots.items) (map parameters_of (map typed_function_tree fs)) (typed_statements_of (map typed_statement f.body.items))
 body_sound fs k f a h = body_among (map parameters_of (map typed_function_tree fs)) fs k f a h

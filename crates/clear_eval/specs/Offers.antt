@@ -17,7 +17,7 @@ use Rattle.value_file.specs.declared.value.Domain.TheVariants.{Public, Private}
 use Rattle.value_file.specs.declared.value.Value.{Value}
 use Rattle.value_file.specs.declared.value.Value.TheVariants.{Number, Truth, Numbers, Truths}
 use Rattle.value_file.specs.Values.{size_of}
-use Rattle.language_model.specs.Effects.{Given}
+use Rattle.language_model.specs.Effects.{GivenInput}
 use Rattle.language_model.specs.Words.{truth_word}
 use Rattle.language_model.specs.Reports.{Offered}
 
@@ -38,11 +38,11 @@ words_given (Truth b) = truth_word b ∷ []
 words_given (Numbers ns) = ns
 words_given (Truths bs) = map truth_word bs
 
-abbrev pub input_given : Entry → Given
+abbrev pub input_given : Entry → GivenInput
 input_given e = record { text = e.name; secret = is_private e.domain; shape = shape_given e.value; words = words_given e.value }
 
 -- the lengths are those of the dealer's tape and of miners 1, 2 and 3
-abbrev pub offered_with : List Given → (lengths : List ℕ) → Offered
+abbrev pub offered_with : List GivenInput → (lengths : List ℕ) → Offered
 offered_with inputs lengths =
     record {
       dealer = get_or lengths 0 0;
@@ -64,12 +64,12 @@ is_array Scalar = false
 is_array (Array count) = true
 
 -- zeros stand for the elements of a private input
-abbrev pub public_given : (name : List ℕ) → PublicValue → Given
+abbrev pub public_given : (name : List ℕ) → PublicValue → GivenInput
 public_given name (Known value) = record { text = name; secret = false; shape = shape_given value; words = words_given value }
 public_given name (Hidden element shape) =
     record { text = name; secret = true; shape = shape_of (type_given element) (is_array shape); words = replicate (size_of shape) 0 }
 
-abbrev pub part_given : PublicEntry → Given
+abbrev pub part_given : PublicEntry → GivenInput
 part_given e = public_given e.name e.value
 
 -- what one who knows the public part alone can offer to a run

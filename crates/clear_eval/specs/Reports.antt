@@ -1,6 +1,6 @@
 -- What a report stands for.
 use Rattle.std.specs.Prelude.{◌≡◌, ℕ, Result, Ok, Err}
-use Rattle.language_model.specs.Effects.{Words, Stop, Ended, Short}
+use Rattle.language_model.specs.Effects.{Words, RunStop, Ended, Short}
 use Rattle.language_model.specs.Reports.{Report}
 use Rattle.value_steps.specs.Views as seen
 use Rattle.clear_eval.specs.declared.report.Needs as words
@@ -26,7 +26,7 @@ report_seen r =
       gates = r.gates.items;
     }
 
-abbrev pub stop_seen : halted.StopReason → Stop
+abbrev pub stop_seen : halted.StopReason → RunStop
 stop_seen (stop.Ended e) = Ended e
 stop_seen stop.Short = Short
 

@@ -3,10 +3,10 @@ ghost use Rattle.std.specs.Prelude.{◌≡◌, ◌≤◌, map, sum};
 ghost use Rattle.language_model.specs.Reports.{words_dealt};
 ghost use Rattle.value_steps.specs.Views.{given_seen};
 
-use value_steps::Given;
+use value_steps::GivenInput;
 
 /// The words that the dealer needs for an input: two for each element of a private one.
-fn words_dealt(given: &Given) -> u128
+fn words_dealt(given: &GivenInput) -> u128
     ensures exact { result ≡ words_dealt (given_seen given.now) }
     ensures few { result ≤ 2097152 }
 {
@@ -18,7 +18,7 @@ fn words_dealt(given: &Given) -> u128
 }
 
 /// The words that the dealer needs for all these inputs together.
-pub fn dealing(inputs: &[Given]) -> u128
+pub fn dealing(inputs: &[GivenInput]) -> u128
     ensures { result ≡ sum (map words_dealt (map given_seen inputs.now)) }
 {
     let mut need = 0;

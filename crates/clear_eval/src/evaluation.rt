@@ -2,7 +2,7 @@
 // statement is a function of its own, kept out of its caller by hand, so that a deep tree takes little stack.
 ghost use Rattle.std.specs.Prelude.{◌≡◌, ◌≤◌, ◌<◌, IfOk, map, length};
 ghost use Rattle.typed_tree.specs.Tree.{cat_node, call_node, cut_node, typed_tree, typed_trees_of};
-ghost use Rattle.typed_tree.specs.Commands.{command};
+ghost use Rattle.typed_tree.specs.Statements.{typed_statement};
 ghost use Rattle.typed_tree.specs.Programs.{typed_function_tree};
 ghost use Rattle.reached_instances.specs.Views.{setting};
 ghost use Rattle.language_model.specs.Evaluation.{arguments, not_cut_short, cut_short, gives_private};
@@ -28,7 +28,7 @@ use std::alloc::Global;
 use typed_tree::{
     BinaryOperator, Connective, Operands, Slot, TypedExpression, TypedFunction, TypedStatement,
 };
-use value_steps::{Halt, Stage, Value, World, joined, operation, tested, wanted};
+use value_steps::{Halt, Stage, Value, World, concatenated, operation, tested, wanted};
 
 /// Evaluates an expression.
 #[inline(never)]
@@ -177,7 +177,7 @@ fn on_arrays(
     let private = is_private(domain(alloc, &at.here, e)?);
     let x = value_wanted(alloc, world, at, stage, frame, private, x)?;
     let y = value_wanted(alloc, world, at, stage, frame, private, y)?;
-    joined(alloc, stage, line, x, &y)
+    concatenated(alloc, stage, line, x, &y)
 }
 
 /// Evaluates operands of a connective, the right one only where the left one doesn't decide, or is private.
@@ -424,7 +424,7 @@ fn one_within(
     x: &TypedExpression,
 ) -> Result<Flow, Halt>
     requires program { IsSoundAround at.now }
-    requires parts { HasOneWithin (command s.now) (typed_tree x.now) }
+    requires parts { HasOneWithin (typed_statement s.now) (typed_tree x.now) }
     requires here { IsSoundStatement at.now frame.old.items s.now }
     ensures step { Does (flow_seen frame.new.items) (flow_at world.now at.now frame.old.items s.now) (stage_seen stage.old) result (stage_seen stage.new) }
     ensures slots { length frame.new.items ≡ length frame.old.items }
@@ -448,7 +448,7 @@ fn two_within(
     y: &TypedExpression,
 ) -> Result<Flow, Halt>
     requires program { IsSoundAround at.now }
-    requires parts { HasTwoWithin (command s.now) (typed_tree x.now) (typed_tree y.now) }
+    requires parts { HasTwoWithin (typed_statement s.now) (typed_tree x.now) (typed_tree y.now) }
     requires here { IsSoundStatement at.now frame.old.items s.now }
     ensures step { Does (flow_seen frame.new.items) (flow_at world.now at.now frame.old.items s.now) (stage_seen stage.old) result (stage_seen stage.new) }
     ensures slots { length frame.new.items ≡ length frame.old.items }

@@ -10,7 +10,7 @@ use secrec_ast::DataType;
 use std::alloc::{AllocError, Global};
 use typed_tree::Shape;
 use value_file::{Domain, Entry, Inputs, Value};
-use value_steps::Given;
+use value_steps::GivenInput;
 
 /// The shape of an input.
 pub fn shape_given(value: &Value) -> Shape
@@ -45,11 +45,11 @@ pub fn words_given(alloc: Global, value: &Value) -> Result<Vec<u64>, AllocError>
 }
 
 /// An entry of a file, as a run takes it.
-fn input_given(alloc: Global, entry: &Entry) -> Result<Given, AllocError>
+fn input_given(alloc: Global, entry: &Entry) -> Result<GivenInput, AllocError>
     requires { count_of entry.now.value ≤ 65536 }
     ensures { IfOk result (λ given. given_seen given ≡ input_given entry.now) }
 {
-    Ok(Given {
+    Ok(GivenInput {
         name: entry.name.copy(alloc)?,
         private: entry.domain == Domain::Private,
         shape: shape_given(&entry.value),
@@ -58,7 +58,7 @@ fn input_given(alloc: Global, entry: &Entry) -> Result<Given, AllocError>
 }
 
 /// The inputs of a file, as a run takes them.
-pub fn inputs_given(alloc: Global, inputs: &Inputs) -> Result<Vec<Given>, AllocError>
+pub fn inputs_given(alloc: Global, inputs: &Inputs) -> Result<Vec<GivenInput>, AllocError>
     requires { AreInputs inputs.now }
     ensures { IfOk result (λ given. map given_seen given.items ≡ map input_given inputs.now) }
 {

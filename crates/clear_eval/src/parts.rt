@@ -1,6 +1,6 @@
 // The parts of expressions and statements that are evaluated before they are.
 ghost use Rattle.typed_tree.specs.Tree.{typed_tree};
-ghost use Rattle.typed_tree.specs.Commands.{command};
+ghost use Rattle.typed_tree.specs.Statements.{typed_statement};
 ghost use Rattle.clear_eval.specs.inner.Parts.{HasParts, HasStatementParts};
 
 use typed_tree::{Connective, TypedExpression, TypedStatement};
@@ -67,7 +67,7 @@ pub enum StatementParts<'a> {
 /// The parts of a statement.
 #[tactic(auto, unfolding(language_model::specs::Evaluation::execute))]
 pub fn statement_parts_of(s: &TypedStatement) -> StatementParts<'_>
-    ensures { HasStatementParts (command s.now) result }
+    ensures { HasStatementParts (typed_statement s.now) result }
 {
     match s {
         TypedStatement::Empty

@@ -10,7 +10,7 @@ use secrec_ast::DataType;
 use std::alloc::{AllocError, Global};
 use typed_tree::Shape;
 use value_file::{PublicEntry, PublicPart, PublicValue};
-use value_steps::Given;
+use value_steps::GivenInput;
 
 /// The shape of an input of which type and shape are known.
 fn shape_told(data_type: value_file::DataType, shape: value_file::Shape) -> Shape
@@ -28,19 +28,19 @@ fn shape_told(data_type: value_file::DataType, shape: value_file::Shape) -> Shap
 }
 
 /// An entry of a public part, as a run takes it: with zeros in the place of what is private.
-fn part_given(alloc: Global, entry: &PublicEntry) -> Result<Given, AllocError>
+fn part_given(alloc: Global, entry: &PublicEntry) -> Result<GivenInput, AllocError>
     requires { public_count entry.now.value ≤ 65536 }
     ensures { IfOk result (λ given. given_seen given ≡ part_given entry.now) }
 {
     let name = entry.name.copy(alloc)?;
     match &entry.value {
-        PublicValue::Known(value) => Ok(Given {
+        PublicValue::Known(value) => Ok(GivenInput {
             name,
             private: false,
             shape: shape_given(value),
             words: words_given(alloc, value)?,
         }),
-        PublicValue::Hidden { data_type, shape } => Ok(Given {
+        PublicValue::Hidden { data_type, shape } => Ok(GivenInput {
             name,
             private: true,
             shape: shape_told(*data_type, *shape),
@@ -50,7 +50,7 @@ fn part_given(alloc: Global, entry: &PublicEntry) -> Result<Given, AllocError>
 }
 
 /// The entries of a public part, as a run takes them.
-pub fn parts_given(alloc: Global, part: &PublicPart) -> Result<Vec<Given>, AllocError>
+pub fn parts_given(alloc: Global, part: &PublicPart) -> Result<Vec<GivenInput>, AllocError>
     requires { IsWritable part.now }
     ensures { IfOk result (λ given. map given_seen given.items ≡ map part_given part.now) }
 {

@@ -16,7 +16,7 @@ use crate::report::{Needs, Report};
 use sc_text::{End, Ending, TapeOwner};
 use std::alloc::{AllocError, Global};
 use typed_tree::{TypedFunction, TypedProgram};
-use value_steps::{Drawn, Given, Halt, Lengths, Source, Stage, World};
+use value_steps::{Drawn, GivenInput, Halt, Lengths, Source, Stage, World};
 
 /// How many calls may stand in one another inside `main`.
 const DEEPEST_BELOW_MAIN: usize = 63;
@@ -138,7 +138,7 @@ fn run_main(
 }
 
 /// The world of a run on these inputs, with tapes of these lengths: the dealer's, and those of miners 1, 2 and 3.
-pub fn world_of(source: Source, lengths: [u64; 4], inputs: &[Given]) -> World<'_>
+pub fn world_of(source: Source, lengths: [u64; 4], inputs: &[GivenInput]) -> World<'_>
     ensures { world_seen result ≡ world_of (source_seen source) (offered_with (map given_seen inputs.now) lengths) }
 {
     let [dealer, first, second, third] = lengths;

@@ -1,8 +1,8 @@
 // The steps of expressions and statements, once their parts are evaluated.
 ghost use Rattle.std.specs.Prelude.{◌≡◌, ◌≤◌, true, length, map};
 ghost use Rattle.typed_tree.specs.Tree.{typed_tree};
-ghost use Rattle.typed_tree.specs.Commands.{command};
-ghost use Rattle.typed_tree.specs.Sound.{IsSoundTree, IsSoundCommand};
+ghost use Rattle.typed_tree.specs.Statements.{typed_statement};
+ghost use Rattle.typed_tree.specs.Sound.{IsSoundTree, IsSoundStatementTree};
 ghost use Rattle.reached_instances.specs.Views.{setting};
 ghost use Rattle.language_model.specs.Operations.{wanted};
 ghost use Rattle.language_model.specs.Evaluation.{gives_private, truth_value};
@@ -132,7 +132,7 @@ pub fn plain(
     s: &TypedStatement,
 ) -> Result<Flow, Halt>
     requires here { IsSoundStatement at.now frame.old.items s.now }
-    requires plain { is_plain (command s.now) ≡ true }
+    requires plain { is_plain (typed_statement s.now) ≡ true }
     ensures step { Does (flow_seen frame.new.items) (flow_at world.now at.now frame.old.items s.now) (stage_seen stage.old) result (stage_seen stage.new) }
     ensures slots { length frame.new.items ≡ length frame.old.items }
     ensures spends { stage.new.left ≤ stage.old.left }
@@ -171,7 +171,7 @@ pub fn with_one(
 ) -> Result<Flow, Halt>
     requires { IsSoundStatement at.now frame.old.items s.now }
     ensures step { Does (flow_seen frame.new.items)
-        (after_one (world_seen world.now) (place_seen at.now) (command s.now) (value_seen x) (frame_seen frame.old.items))
+        (after_one (world_seen world.now) (place_seen at.now) (typed_statement s.now) (value_seen x) (frame_seen frame.old.items))
         (stage_seen stage.old) result (stage_seen stage.new) }
     ensures slots { length frame.new.items ≡ length frame.old.items }
     ensures spends { stage.new.left ≤ stage.old.left }
@@ -211,7 +211,7 @@ pub fn with_two(
 ) -> Result<Flow, Halt>
     requires { IsSoundStatement at.now frame.old.items s.now }
     ensures step { Does (flow_seen frame.new.items)
-        (after_two (world_seen world.now) (place_seen at.now) (command s.now) (value_seen x) (value_seen y) (frame_seen frame.old.items))
+        (after_two (world_seen world.now) (place_seen at.now) (typed_statement s.now) (value_seen x) (value_seen y) (frame_seen frame.old.items))
         (stage_seen stage.old) result (stage_seen stage.new) }
     ensures slots { length frame.new.items ≡ length frame.old.items }
     ensures spends { stage.new.left ≤ stage.old.left }

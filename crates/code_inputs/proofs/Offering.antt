@@ -22,14 +22,14 @@ use Rattle.view_model.specs.Dealing.{private_sizes, size_then}
 use Rattle.view_model.specs.Held.{ring_kind, kind_then, private_kinds, value_then, private_values}
 use Rattle.view_model.proofs.DealtSizes.{sizes_dealt}
 use Rattle.view_model.proofs.Holding.{dealt_held}
-use Rattle.language_model.specs.Effects.{Given}
+use Rattle.language_model.specs.Effects.{GivenInput}
 use Rattle.language_model.specs.Evaluation.{behind}
 use Rattle.language_model.specs.Values.{ring_for}
 use Rattle.code_model.specs.Kinded.{IsSingle, AreSingle}
 use Rattle.gate_laws.specs.Facts.{InRange, Dealt}
 use Rattle.gate_laws.specs.Offers.{IsDealt, AreOffered}
 use Rattle.gate_laws.proofs.Ranges.{Below, below_cons, below_none, one_below}
-use Rattle.code_inputs.specs.Inputs.{element_given, is_array, is_private, AreGiven, dealt_of}
+use Rattle.code_inputs.specs.Inputs.{element_given, is_array, is_private, AreGivenAs, dealt_of}
 use Rattle.code_inputs.specs.Laws.{AreDealtWhereSound, AreOfferedWhereSound}
 
 -- ---- WHAT IS DEALT
@@ -102,7 +102,7 @@ module _ (d : Dealt) where
         many = let m = h.many in omega (arith, m);
       }
 
-  module _ (x : Given) (v : file.Value) (shape : x.shape ≡ shape_of (element_given (type_of v)) (is_array v)) (words : x.words ≡ elements_of v) where
+  module _ (x : GivenInput) (v : file.Value) (shape : x.shape ≡ shape_of (element_given (type_of v)) (is_array v)) (words : x.words ≡ elements_of v) where
     dealt_at : (k : ℕ) (vs : Values) (ks : List Kind) → Follow k (value_then domain.Private v vs) (kind_then domain.Private v ks) → IsDealt d x k
     dealt_at k vs ks h =
         let here : k + 0 ≡ k = omega arith in
@@ -136,8 +136,8 @@ module _ (d : Dealt) where
     single_of : IsSingle x
     single_of e = ap length words ∙ single v (sym (ap (λ (s : Shape). s.array) shape) ∙ e)
 
-  offered_from : (before es : List Entry) (k : ℕ) (xs : List Given) → AreEntries name_of count_in before es
-      → ((j : ℕ) (e : Entry) → j < length es → All (λ n. n < 2 ^ 64) (elements_of (get_or es j e).value)) → AreGiven es xs
+  offered_from : (before es : List Entry) (k : ℕ) (xs : List GivenInput) → AreEntries name_of count_in before es
+      → ((j : ℕ) (e : Entry) → j < length es → All (λ n. n < 2 ^ 64) (elements_of (get_or es j e).value)) → AreGivenAs es xs
       → Follow k (private_values es) (private_kinds es) → AreOffered d k xs
   offered_from before [] k [] form words given h = tt
   offered_from before [] k (x ∷ xs) form words given h = absurd given
@@ -153,7 +153,7 @@ module _ (d : Dealt) where
         offered_from (before ++ e ∷ []) es (behind x k) xs form.1 (λ j f l. words (suc j) f (omega (arith, l))) given.1 own.1,
       )
 
-are_single : (es : List Entry) (xs : List Given) → AreGiven es xs → AreSingle xs
+are_single : (es : List Entry) (xs : List GivenInput) → AreGivenAs es xs → AreSingle xs
 are_single [] [] given x m = absurd m
 are_single [] (y ∷ xs) given x m = absurd given
 are_single (e ∷ es) [] given x m = absurd m
@@ -161,7 +161,7 @@ are_single (e ∷ es) (y ∷ xs) given x (inl same) =
     let g = given.0 in subst IsSingle (sym same) (single_of (dealt_of [] []) y e.value g.shape g.words)
 are_single (e ∷ es) (y ∷ xs) given x (inr m) = are_single es xs given.1 x m
 
-pub are_offered : (entries : List Entry) (dealer : List ℕ) (inputs : List Given) → AreOfferedWhereSound entries dealer inputs
+pub are_offered : (entries : List Entry) (dealer : List ℕ) (inputs : List GivenInput) → AreOfferedWhereSound entries dealer inputs
 are_offered entries dealer inputs sound given = (
   offered_from (dealt_of entries dealer) [] entries 0 inputs sound.form sound.words given
       (record {

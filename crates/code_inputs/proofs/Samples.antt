@@ -14,13 +14,13 @@ use Rattle.value_file.specs.Input.{new_name, AreInputs}
 use Rattle.value_file.specs.Values.{type_of}
 use Rattle.input_share.specs.Values.{bit_word, elements_of}
 use Rattle.input_share.specs.AddUp.{HasWords}
-use Rattle.language_model.specs.Effects.{Given}
+use Rattle.language_model.specs.Effects.{GivenInput}
 use Rattle.language_model.specs.Words.{truth_word}
 use Rattle.code_model.specs.Kinded.{AreSingle}
 use Rattle.gate_laws.specs.Laws.{IsDealing}
 use Rattle.gate_laws.specs.Offers.{AreOffered}
 use Rattle.gate_laws.proofs.Ranges.{replicate_below}
-use Rattle.code_inputs.specs.Inputs.{element_given, is_array, is_private, AreGiven, AreSound, Suffice, dealt_of}
+use Rattle.code_inputs.specs.Inputs.{element_given, is_array, is_private, AreGivenAs, AreSound, Suffice, dealt_of}
 use Rattle.code_inputs.proofs.Offering.{are_dealt, are_offered}
 
 -- ---- WHAT EVALUATION MAKES OF AN ENTRY, as `clear_eval` defines it
@@ -37,7 +37,7 @@ words_given (Truth b) = truth_word b ∷ []
 words_given (Numbers ns) = ns
 words_given (Truths bs) = map truth_word bs
 
-abbrev input_given : Entry → Given
+abbrev input_given : Entry → GivenInput
 input_given e = record { text = e.name; secret = is_private e.domain; shape = shape_given e.value; words = words_given e.value }
 
 same_truth : (b : Bool) → truth_word b ≡ bit_word b
@@ -54,7 +54,7 @@ given_of (Truth b) = (refl, ap (λ x. x ∷ []) (same_truth b))
 given_of (Numbers ns) = (refl, refl)
 given_of (Truths bs) = (refl, same_truths bs)
 
-given_so : (es : List Entry) → AreGiven es (map input_given es)
+given_so : (es : List Entry) → AreGivenAs es (map input_given es)
 given_so [] = tt
 given_so (e ∷ es) = (
   record { name = refl; secret = refl; shape = (given_of e.value).0; words = (given_of e.value).1 },

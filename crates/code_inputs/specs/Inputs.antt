@@ -18,7 +18,7 @@ use Rattle.input_share.specs.Values.{elements_of}
 use Rattle.view_model.specs.Dealing.{dealt_to}
 use Rattle.view_model.specs.Held.{private_kinds, private_values}
 use Rattle.typed_tree.specs.Shapes.{shape_of}
-use Rattle.language_model.specs.Effects.{Given}
+use Rattle.language_model.specs.Effects.{GivenInput}
 use Rattle.gate_laws.specs.Facts.{Dealt}
 
 -- ---- WHAT IS GIVEN
@@ -38,18 +38,18 @@ is_private Public = false
 is_private Private = true
 
 -- this input of a run is this entry of a file
-pub record IsGiven (e : Entry) (x : Given) : Type 0 where
+pub record IsGivenAs (e : Entry) (x : GivenInput) : Type 0 where
   pub name : x.text ≡ e.name
   pub secret : x.secret ≡ is_private e.domain
   pub shape : x.shape ≡ shape_of (element_given (type_of e.value)) (is_array e.value)
   pub words : x.words ≡ elements_of e.value
 
 -- one by one, and as many
-abbrev pub AreGiven : List Entry → List Given → Type 0
-AreGiven [] [] = Unit {0}
-AreGiven [] (x ∷ xs) = ⊥
-AreGiven (e ∷ es) [] = ⊥
-AreGiven (e ∷ es) (x ∷ xs) = IsGiven e x × AreGiven es xs
+abbrev pub AreGivenAs : List Entry → List GivenInput → Type 0
+AreGivenAs [] [] = Unit {0}
+AreGivenAs [] (x ∷ xs) = ⊥
+AreGivenAs (e ∷ es) [] = ⊥
+AreGivenAs (e ∷ es) (x ∷ xs) = IsGivenAs e x × AreGivenAs es xs
 
 -- ---- WHAT IS DEALT
 

@@ -8,7 +8,7 @@ use Rattle.reached_instances.specs.Instances.{Instance}
 use Rattle.reached_instances.specs.Reached.{IsReachedList}
 use Rattle.program_limits.specs.Limits.{IsWithinLimits}
 use Rattle.value_file.specs.declared.inputs.Entry.{Entry}
-use Rattle.language_model.specs.Effects.{Given, Clear}
+use Rattle.language_model.specs.Effects.{GivenInput, Clear}
 use Rattle.language_model.specs.Reports.{Offered, world_of, eval}
 use Rattle.verified_code.specs.Settled.{settled}
 use Rattle.code_model.specs.Kinded.{AreSingle}
@@ -19,7 +19,7 @@ use Rattle.lowered_code.specs.Laws.{raw_code_of_program}
 use Rattle.gate_laws.specs.Offers.{AreOffered}
 use Rattle.gate_laws.specs.Machines.{AreTaking}
 use Rattle.gate_laws.specs.Laws.{LiteralsAreWords, IsDealing, MayRun, GatesSuit}
-use Rattle.code_inputs.specs.Inputs.{AreGiven, AreSound, Suffice, dealt_of}
+use Rattle.code_inputs.specs.Inputs.{AreGivenAs, AreSound, Suffice, dealt_of}
 
 -- ---- ACCEPTED PROGRAMS
 
@@ -48,20 +48,20 @@ abbrev pub AreDealtWhereSound : List Entry → (dealer : List ℕ) → Type 0
 AreDealtWhereSound entries dealer = AreSound entries → Suffice entries dealer → IsDealing (dealt_of entries dealer)
 
 -- whatever the dealer's words
-abbrev pub AreOfferedWhereSound : List Entry → (dealer : List ℕ) → List Given → Type 0
+abbrev pub AreOfferedWhereSound : List Entry → (dealer : List ℕ) → List GivenInput → Type 0
 AreOfferedWhereSound entries dealer inputs =
-    AreSound entries → AreGiven entries inputs → AreOffered (dealt_of entries dealer) 0 inputs × AreSingle inputs
+    AreSound entries → AreGivenAs entries inputs → AreOffered (dealt_of entries dealer) 0 inputs × AreSingle inputs
 
 -- ---- RUNS
 
 -- the code of an accepted program may run on a file's inputs
 abbrev pub RunsOnInputs : ProgramTree → List Entry → (dealer : List ℕ) → Offered → Type 0
 RunsOnInputs source entries dealer o =
-    AreSound entries → AreGiven entries o.inputs → (p : TypedProgramTree) (is : List Instance) → IsAccepted source p is
+    AreSound entries → AreGivenAs entries o.inputs → (p : TypedProgramTree) (is : List Instance) → IsAccepted source p is
     → MayRun (world_of Clear o) (dealt_of entries dealer) (settled (raw_code_of_program p is))
 
 -- the gates of a program's evaluation suit what is dealt
 abbrev pub EvaluationSuits : ProgramTree → List Entry → (dealer : List ℕ) → Offered → (budget : ℕ) → Type 0
 EvaluationSuits source entries dealer o budget =
-    AreSound entries → Suffice entries dealer → AreGiven entries o.inputs → (p : TypedProgramTree) (is : List Instance) → IsAccepted source p is
+    AreSound entries → Suffice entries dealer → AreGivenAs entries o.inputs → (p : TypedProgramTree) (is : List Instance) → IsAccepted source p is
     → GatesSuit (world_of Clear o) (dealt_of entries dealer) (eval p o budget)

@@ -4,7 +4,7 @@ ghost use Rattle.secrec_ast.specs.Programs.{ProgramTree};
 ghost use Rattle.typed_tree.specs.Programs.{TypedProgramTree};
 ghost use Rattle.reached_instances.specs.Instances.{Instance};
 ghost use Rattle.value_file.specs.declared.inputs.Entry.{Entry};
-ghost use Rattle.language_model.specs.Effects.{Given};
+ghost use Rattle.language_model.specs.Effects.{GivenInput};
 ghost use Rattle.language_model.specs.Reports.{Offered};
 ghost use Rattle.code_inputs.specs.Laws.{HasWordsWhereWellTyped, SuitsWhereAccepted};
 ghost use Rattle.code_inputs.specs.Laws.{AreDealtWhereSound, AreOfferedWhereSound, RunsOnInputs, EvaluationSuits};
@@ -21,7 +21,7 @@ pub fn accepted_code_suits()
 /// is no array has one element.
 pub fn inputs_are_dealt()
     ensures dealt { (entries : List Entry) (dealer : List ℕ) → AreDealtWhereSound entries dealer }
-    ensures offered { (entries : List Entry) (dealer : List ℕ) (inputs : List Given) → AreOfferedWhereSound entries dealer inputs }
+    ensures offered { (entries : List Entry) (dealer : List ℕ) (inputs : List GivenInput) → AreOfferedWhereSound entries dealer inputs }
 {}
 
 /// Law: so the code of an accepted program may run on the inputs of a file, in the clear; and the gates that its evaluation makes are a

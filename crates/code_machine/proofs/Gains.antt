@@ -44,7 +44,7 @@ module _ (w : World) (p : List Function) (m : Machine) where
   act (Some (At line d a i)) = sets d _ (walk.element_holds w w (is_onward w) law line (m.registers a) (m.registers i))
   act (Some (Put line a i x)) = sets a _ (walk.with_element_holds w w (is_onward w) law line (m.registers a) (m.registers i) (m.registers x))
   act (Some (Size d r)) = sets d _ (walk.size_holds w w (is_onward w) law (m.registers r))
-  act (Some (Cat line d a b)) = sets d _ (walk.joined_holds w w (is_onward w) law line (m.registers a) (m.registers b))
+  act (Some (Cat line d a b)) = sets d _ (walk.concatenated_holds w w (is_onward w) law line (m.registers a) (m.registers b))
   act (Some (Sum d r)) = sets d _ (walk.summed_holds w w (is_onward w) law (m.registers r))
   act (Some (Bits line d r)) = sets d _ (walk.bits_holds w w (is_onward w) law line (m.registers r))
   act (Some (Declassify d r)) = sets d _ (walk.declassified_holds w w (is_onward w) law (m.registers r))

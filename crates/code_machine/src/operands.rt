@@ -10,8 +10,8 @@ use bytecode::Register;
 use std::alloc::Global;
 use typed_tree::{BinaryOperator, Operands};
 use value_steps::{
-    Applied, Halt, Stage, Value, World, bits_extracted, element_of_array, filled, joined, operated,
-    with_element,
+    Applied, Halt, Stage, Value, World, bits_extracted, concatenated, element_of_array, filled,
+    operated, with_element,
 };
 
 /// An operator between two registers.
@@ -86,7 +86,7 @@ pub(crate) fn element(
 }
 
 /// An array and another behind it.
-pub(crate) fn concatenated(
+pub(crate) fn appended(
     alloc: Global,
     machine: &Machine,
     stage: &mut Stage<'_>,
@@ -96,10 +96,10 @@ pub(crate) fn concatenated(
 ) -> Result<Value, Halt>
     requires left_there { IsThere machine.now left }
     requires right_there { IsThere machine.now right }
-    ensures { Does value_seen (row.joined line (kept machine.now left) (kept machine.now right)) (stage_seen stage.old) result (stage_seen stage.new) }
+    ensures { Does value_seen (row.concatenated line (kept machine.now left) (kept machine.now right)) (stage_seen stage.old) result (stage_seen stage.new) }
 {
     let first = machine.copied(alloc, left)?;
-    joined(alloc, stage, line, first, machine.register(right))
+    concatenated(alloc, stage, line, first, machine.register(right))
 }
 
 /// The bits of numbers.

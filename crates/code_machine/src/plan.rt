@@ -16,7 +16,7 @@ use crate::arrays::put;
 use crate::calls::{charge_call, registers_for};
 use crate::change::{Change, into_register};
 use crate::machine::Machine;
-use crate::operands::{bits, combined, concatenated, element, repeated};
+use crate::operands::{appended, bits, combined, element, repeated};
 use crate::places::{assert_at, branch, into_place};
 use crate::texts::{argument, publish};
 use crate::values::{
@@ -141,7 +141,7 @@ pub(crate) fn change_of(
             to,
             left,
             right,
-        } => into_register(to, concatenated(alloc, machine, stage, line, left, right)),
+        } => into_register(to, appended(alloc, machine, stage, line, left, right)),
         Step::Sum { to, source } => into_register(to, sum_of(alloc, machine, stage, source)),
         Step::Bits { line, to, source } => {
             into_register(to, bits(alloc, world, machine, stage, line, source))

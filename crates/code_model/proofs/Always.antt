@@ -1,9 +1,9 @@
 -- A body that always returns gives a value back wherever it ends.
 use Rattle.std.proofs.Common.{◌≡◌, ℕ, zero, suc, ◌+◌, List, Some, None, Ok, Err, Bool, true, false, ◌&&◌, ◌||◌, refl, ap, ◌∙◌}
-use Rattle.typed_tree.specs.Commands.{Command, Commands, empty_command, block_command, if_command, loop_command, do_command, break_command, continue_command}
-use Rattle.typed_tree.specs.Commands.{return_command, assert_command, store_command, default_command, fill_command, input_command, element_command}
-use Rattle.typed_tree.specs.Commands.{publish_command, evaluate_command}
-use Rattle.typed_tree.specs.Commands as Commands'
+use Rattle.typed_tree.specs.Statements.{TypedStatementTree, TypedStatementTrees, empty_statement, block_statement, if_statement, loop_statement, do_statement}
+use Rattle.typed_tree.specs.Statements.{break_statement, continue_statement, return_statement, assert_statement, store_statement, default_statement}
+use Rattle.typed_tree.specs.Statements.{fill_statement, input_statement, element_statement, publish_statement, evaluate_statement}
+use Rattle.typed_tree.specs.Statements as Statements'
 use Rattle.typed_tree.specs.Tree.{TypedTree}
 use Rattle.reached_instances.specs.declared.instance.BoundDomain.{BoundDomain}
 use Rattle.reached_instances.specs.Domains.{Setting}
@@ -15,7 +15,7 @@ use Rattle.language_model.specs.Operations.{charged, no_traps, tested, wanted, a
 use Rattle.language_model.specs.Evaluation.{Frame, put, Calls, StatementContext, slot_is_private, slot_shape, asked_for, input_named, either, value}
 use Rattle.language_model.specs.Evaluation.{Flow, goes, returns}
 use Rattle.language_model.specs.Evaluation.{stops, skips, then_do, turned, turns, repeats, stored, execute, execute_all}
-use Rattle.code_model.specs.Fit.{IsFitCommand, AreFitCommands, always_returns, one_returns}
+use Rattle.code_model.specs.Fit.{IsFitStatement, AreFitStatements, always_returns, one_returns}
 
 -- where a statement leads, inside of a loop or not, that always returns or not
 abbrev pub Leads : (inside always : Bool) → Flow → Type 0
@@ -150,8 +150,8 @@ module _ (Known : ℕ → List BoundDomain → Type 0) (w : World) (calls : Call
       (evaluated e fr >>= λ v. c v >>= λ u. done (goes fr))
   goes_on e c fr = yields_after (evaluated e fr) (λ v. c v >>= λ u. done (goes fr)) (λ v. yields_after (c v) (λ u. done (goes fr)) (λ u. yields_done refl))
 
-  choice : {inside : Bool} (o : Bool) (a b : Command) (m n : Effect Flow) → Yields inside (always_returns a) m → Yields inside (always_returns b) n → Yields
-      inside (always_returns a && always_returns b) (either o m n)
+  choice : {inside : Bool} (o : Bool) (a b : TypedStatementTree) (m n : Effect Flow) → Yields inside (always_returns a) m → Yields inside (always_returns b) n
+      → Yields inside (always_returns a && always_returns b) (either o m n)
   choice true a b m n h k = yields_less (always_returns a) (always_returns a && always_returns b) (and_false (always_returns a) (always_returns b)) h
   choice false a b m n h k = yields_less (always_returns b) (always_returns a && always_returns b) (and_false_right (always_returns a) (always_returns b)) k
 
@@ -165,38 +165,39 @@ module _ (Known : ℕ → List BoundDomain → Type 0) (w : World) (calls : Call
   mutual
     unfolding execute execute_all
 
-    command_yields : (i : Bool) (c : Command) → IsFitCommand Known place i c → (fr : Frame) → Yields i (always_returns c) (execute w calls place c fr)
-    command_yields i empty_command fit fr = yields_done refl
-    command_yields i (block_command cs) fit fr = commands_yield i cs fit fr
-    command_yields i (if_command e a b) fit fr =
+    statement_yields : (i : Bool) (c : TypedStatementTree) → IsFitStatement Known place i c → (fr : Frame)
+        → Yields i (always_returns c) (execute w calls place c fr)
+    statement_yields i empty_statement fit fr = yields_done refl
+    statement_yields i (block_statement cs) fit fr = statements_yield i cs fit fr
+    statement_yields i (if_statement e a b) fit fr =
         yields_after (evaluated e fr) (λ v. tested v >>= λ o. either o (execute w calls place a fr) (execute w calls place b fr))
         (λ v. yields_after (tested v) (λ o. either o (execute w calls place a fr) (execute w calls place b fr))
-        (λ o. choice o a b (execute w calls place a fr) (execute w calls place b fr) (command_yields i a fit.1 fr) (command_yields i b fit.2 fr)))
-    command_yields i (loop_command e step body) fit fr =
+        (λ o. choice o a b (execute w calls place a fr) (execute w calls place b fr) (statement_yields i a fit.1 fr) (statement_yields i b fit.2 fr)))
+    statement_yields i (loop_statement e step body) fit fr =
         record {
           from = λ s. (turns_yield {inside = i} (s.left + 1) (value w calls place.here e) (execute w calls place step) (execute w calls place body)
               fr).from s;
         }
-    command_yields i (do_command body e) fit fr = record
+    statement_yields i (do_statement body e) fit fr = record
         { from = λ s. (repeats_yield {inside = i} (s.left + 1) (value w calls place.here e) (execute w calls place body) fr).from s }
-    command_yields i break_command fit fr = yields_done fit
-    command_yields i continue_command fit fr = yields_done fit
-    command_yields i (return_command None) fit fr = yields_done tt
-    command_yields i (return_command (Some e)) fit fr = yields_after (evaluated e fr) (λ x. wanted place.secret_result x >>= λ v. done (returns v))
+    statement_yields i break_statement fit fr = yields_done fit
+    statement_yields i continue_statement fit fr = yields_done fit
+    statement_yields i (return_statement None) fit fr = yields_done tt
+    statement_yields i (return_statement (Some e)) fit fr = yields_after (evaluated e fr) (λ x. wanted place.secret_result x >>= λ v. done (returns v))
         (λ x. yields_after (wanted place.secret_result x) (λ v. done (returns v)) (λ v. yields_done tt))
-    command_yields i (assert_command line e) fit fr = goes_on e (asserted line) fr
-    command_yields i (store_command k e) fit fr = yields_after (evaluated e fr) (λ x. stored place.here k x fr) (λ x. stored_yields place.here k x fr)
-    command_yields i (default_command k) fit fr = stored_yields place.here k _ fr
-    command_yields i (fill_command line k n e) fit fr = sets_yield k n e (filled line) fr
-    command_yields i (input_command line k text) fit fr =
+    statement_yields i (assert_statement line e) fit fr = goes_on e (asserted line) fr
+    statement_yields i (store_statement k e) fit fr = yields_after (evaluated e fr) (λ x. stored place.here k x fr) (λ x. stored_yields place.here k x fr)
+    statement_yields i (default_statement k) fit fr = stored_yields place.here k _ fr
+    statement_yields i (fill_statement line k n e) fit fr = sets_yield k n e (filled line) fr
+    statement_yields i (input_statement line k text) fit fr =
         yields_after (asked_for (slot_is_private place.here k) (slot_shape place.here k) line (input_named w text)) (λ x. stored place.here k x fr)
         (λ x. stored_yields place.here k x fr)
-    command_yields i (element_command line k j e) fit fr = sets_yield k j e (with_element line (fr k)) fr
-    command_yields i (publish_command text e) fit fr = goes_on e (published w text) fr
-    command_yields i (evaluate_command e) fit fr = yields_after (evaluated e fr) (λ v. done (goes fr)) (λ v. yields_done refl)
+    statement_yields i (element_statement line k j e) fit fr = sets_yield k j e (with_element line (fr k)) fr
+    statement_yields i (publish_statement text e) fit fr = goes_on e (published w text) fr
+    statement_yields i (evaluate_statement e) fit fr = yields_after (evaluated e fr) (λ v. done (goes fr)) (λ v. yields_done refl)
 
-    pub commands_yield : (i : Bool) (cs : Commands) → AreFitCommands Known place i cs → (fr : Frame) → Yields i (one_returns cs)
+    pub statements_yield : (i : Bool) (cs : TypedStatementTrees) → AreFitStatements Known place i cs → (fr : Frame) → Yields i (one_returns cs)
         (execute_all w calls place cs fr)
-    commands_yield i Commands'.none fit fr = yields_done refl
-    commands_yield i (Commands'.also c cs) fit fr = yields_then (command_yields i c fit.0 fr)
-        (sequence (always_returns c) (one_returns cs) (execute_all w calls place cs) (λ fr1. commands_yield i cs fit.1 fr1))
+    statements_yield i Statements'.none fit fr = yields_done refl
+    statements_yield i (Statements'.also c cs) fit fr = yields_then (statement_yields i c fit.0 fr)
+        (sequence (always_returns c) (one_returns cs) (execute_all w calls place cs) (λ fr1. statements_yield i cs fit.1 fr1))

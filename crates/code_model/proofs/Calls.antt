@@ -18,16 +18,16 @@ use Rattle.language_model.proofs.Onward.{onward_charge}
 use Rattle.verified_code.specs.Steps.{Step, Function}
 use Rattle.code_model.specs.Machine.{Caller, Machine, step, received, caller_of, entering, limit, resume, values_at}
 use Rattle.code_model.specs.Expressions.{Numbers}
-use Rattle.code_model.specs.Commands.{first_free, commands_width, commands_code}
+use Rattle.code_model.specs.Statements.{first_free, statements_width, statements_code}
 use Rattle.code_model.specs.Programs.{last_step, body_end, function_code}
 use Rattle.code_model.specs.Fit.{gives_value, IsFitFunction, one_returns}
 use Rattle.code_model.proofs.Places.{HasAt, has_front, has_back, has_all}
 use Rattle.code_model.proofs.Gives.{GivesAt, Gives, Any, IsSecret, gives_bind, gives_any}
 use Rattle.code_model.proofs.Follows.{Follows, follow, Runs, runs_bind, runs_done, runs_more, moves, silent}
 use Rattle.code_model.proofs.Expressions.{result_secret, ArgumentsFit, Next, CallsRun}
-use Rattle.code_model.proofs.Lengths.{commands_length}
+use Rattle.code_model.proofs.Lengths.{statements_length}
 use Rattle.code_model.proofs.Standing.{Went, next_step}
-use Rattle.code_model.proofs.Commands.{commands_run}
+use Rattle.code_model.proofs.Statements.{statements_run}
 use Rattle.code_model.proofs.Always as always
 use Rattle.code_model.proofs.Entered.{begins_holding}
 
@@ -72,13 +72,13 @@ module _ (w : World) (p : List Function) (number : Numbers) (fs : List TypedFunc
         finish = body_end number fs f b
 
         cs : List Step
-        cs = commands_code number pl (first_free f.slots) finish finish 0 f.body
+        cs = statements_code number pl (first_free f.slots) finish finish 0 f.body
 
         e0 : finish ≡ 0 + length cs
-        e0 = omega (arith, commands_length number pl f.body (first_free f.slots) finish finish 0 0 0 0)
+        e0 = omega (arith, statements_length number pl f.body (first_free f.slots) finish finish 0 0 0 0)
 
         last : Step
-        last = last_step f.given (first_free f.slots + commands_width f.body)
+        last = last_step f.given (first_free f.slots + statements_width f.body)
 
         code : List Step
         code = cs ++ last ∷ []
@@ -96,20 +96,20 @@ module _ (w : World) (p : List Function) (number : Numbers) (fs : List TypedFunc
         end_at = (has_back code 0 cs (last ∷ []) has).0
 
         runs : Runs w p m c Behind
-        runs = commands_run w p number fs Known calls d ok pl refl code stack room f.body false kn.fit.body finish finish (first_free f.slots) 0
+        runs = statements_run w p number fs Known calls d ok pl refl code stack room f.body false kn.fit.body finish finish (first_free f.slots) 0
             (entered b f.slots xs)
             m (omega arith) (has_front code 0 cs (last ∷ []) has) (hs, hp, hk, begins_holding fs f b xs m.registers fits hr)
 
         closed : (s : Stage) (g : Flow) (s1 : Stage) → c s ≡ Ok (g, s1) → always.Leads false (one_returns f.body) g
         closed s g s1 e = subst (always.LeadsAt false (one_returns f.body)) e
-            ((always.commands_yield Known w calls pl false f.body kn.fit.body (entered b f.slots xs)).from s)
+            ((always.statements_yield Known w calls pl false f.body kn.fit.body (entered b f.slots xs)).from s)
 
         clash : false ≡ true → ⊥
         clash h = cc
 
         -- it falls off its end only where nothing is given back
         falls_step : (g : Returned) → (gives_value g ≡ true → one_returns f.body ≡ true) → one_returns f.body ≡ false → (m1 : Machine) (s : Stage)
-            → step w p (Some (last_step g (first_free f.slots + commands_width f.body))) m1 s ≡ resume m1.stack nothing s
+            → step w p (Some (last_step g (first_free f.slots + statements_width f.body))) m1 s ≡ resume m1.stack nothing s
         falls_step given.Nothing r h m1 s = refl
         falls_step (given.Value x) r h m1 s = absurd (clash (sym h ∙ r refl))
 

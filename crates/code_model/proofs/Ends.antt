@@ -6,7 +6,7 @@ use Rattle.std.proofs.lemmas.Bool.{cases_lt, leb-true}
 use Rattle.std.proofs.lemmas.Option.{slice_get_past}
 use Rattle.sc_text.specs.declared.end.Ending.TheVariants as ending
 use Rattle.sc_text.specs.declared.end.TrapKind.TheVariants as trap
-use Rattle.language_model.specs.Effects.{World, Stage, Stop, Ended, Run, Effect, ◌>>=◌, carry, done, charge, test}
+use Rattle.language_model.specs.Effects.{World, Stage, RunStop, Ended, Run, Effect, ◌>>=◌, carry, done, charge, test}
 use Rattle.language_model.specs.Values.{Value, size}
 use Rattle.language_model.specs.Operations as row
 use Rattle.language_model.specs.Evaluation.{nothing, array_elements, either, asked_for, input_named}
@@ -16,7 +16,7 @@ use Rattle.verified_code.specs.Steps.{Argument, Publish, Assert, Branch, Jump, C
 use Rattle.code_model.specs.Machine.{Caller, Machine, at, next, values_at, steps_of, entering, limit, resume, same_bool, step, further, exec, start}
 use Rattle.code_model.specs.Meaning.{longest, worth, fuel, stopped_or, IsForward, AreForward}
 use Rattle.code_model.proofs.Gives.{GivesAt, Gives, Any, gives_done, gives_any, charge_gives, class_gives, declassified_gives, operated_gives, negated_gives}
-use Rattle.code_model.proofs.Gives.{cast_gives, summed_gives, bits_gives, joined_gives, element_gives, with_element_gives, filled_gives, size_gives}
+use Rattle.code_model.proofs.Gives.{cast_gives, summed_gives, bits_gives, concatenated_gives, element_gives, with_element_gives, filled_gives, size_gives}
 use Rattle.code_model.proofs.Gives.{asked_gives, published_gives, asserted_gives}
 use Rattle.code_model.proofs.Loops.{test_paid}
 
@@ -95,10 +95,10 @@ module _ (w : World) (p : List Function) (fine : AreForward p) where
   L = longest p
 
   abbrev Stops : ℕ → Run Machine → Type 0
-  Stops k r = (x : Stop × Stage) × (further r (exec w p k) ≡ Some x)
+  Stops k r = (x : RunStop × Stage) × (further r (exec w p k) ≡ Some x)
 
   abbrev Ends : ℕ → Machine → Stage → Type 0
-  Ends k m s = (x : Stop × Stage) × (exec w p k m s ≡ Some x)
+  Ends k m s = (x : RunStop × Stage) × (exec w p k m s ≡ Some x)
 
   -- one step, and what follows it
   onward : {A : Type 0} (k : ℕ) (r : Run A) (to : A → Machine) → ((a : A) (s : Stage) → r ≡ Ok (a, s) → Ends k (to a) s) → Stops k (carry r (λ a. done (to a)))
@@ -169,7 +169,7 @@ module _ (w : World) (p : List Function) (fine : AreForward p) where
       act (Put line x i y) e b = sets x (row.with_element line (m.registers x) (m.registers i) (m.registers y))
           (with_element_gives w line (m.registers x) (m.registers i) (m.registers y)) b
       act (Size d r) e b = sets d (row.size_told (m.registers r)) (size_gives w (m.registers r)) b
-      act (Cat line d x y) e b = sets d (row.joined line (m.registers x) (m.registers y)) (joined_gives w line (m.registers x) (m.registers y)) b
+      act (Cat line d x y) e b = sets d (row.concatenated line (m.registers x) (m.registers y)) (concatenated_gives w line (m.registers x) (m.registers y)) b
       act (Sum d r) e b = sets d (row.summed (m.registers r)) (summed_gives w (m.registers r)) b
       act (Bits line d r) e b = sets d (row.bits_extracted w line (m.registers r)) (bits_gives w line (m.registers r)) b
       act (Declassify d r) e b = sets d (row.declassified w (m.registers r)) (declassified_gives w (m.registers r)) b
@@ -203,7 +203,7 @@ module _ (w : World) (p : List Function) (fine : AreForward p) where
   starts s = ends (fuel p s.left) (start p) s (record { forward = steps_forward p fine 0; short = steps_longest p 0; callers = tt }) (omega arith)
 
 module _ (w : World) (p : List Function) where
-  more_fuel : (k j : ℕ) (m : Machine) (s : Stage) (x : Stop × Stage) → k ≤ j → exec w p k m s ≡ Some x → exec w p j m s ≡ Some x
+  more_fuel : (k j : ℕ) (m : Machine) (s : Stage) (x : RunStop × Stage) → k ≤ j → exec w p k m s ≡ Some x → exec w p j m s ≡ Some x
   unfolding exec
   more_fuel zero j m s x l e = absurd (none_some e)
   more_fuel (suc k) zero m s x l e = absurd (omega arith)
@@ -215,16 +215,17 @@ module _ (w : World) (p : List Function) where
       go (Err y) e ih = e
 
 -- a run stops once: where it stops with any fuel, it stops so with its own
-pub one_end : (w : World) (p : List Function) → AreForward p → (s : Stage) (x : Stop × Stage) → (k : ℕ) × (exec w p k (start p) s ≡ Some x) → stopped_or s
+pub one_end : (w : World) (p : List Function) → AreForward p → (s : Stage) (x : RunStop × Stage) → (k : ℕ) × (exec w p k (start p) s ≡ Some x) → stopped_or s
     (exec w p (fuel p s.left) (start p) s) ≡ x
 one_end w p fine s x h =
     let f = starts w p fine s in
     ap (stopped_or s) f.1 ∙ same (go f.0 f.1 (cases_lt h.0 (fuel p s.left)))
   where
-    same : {y z : Stop × Stage} → ◌≡◌ {A = Option (Stop × Stage)} (Some y) (Some z) → y ≡ z
+    same : {y z : RunStop × Stage} → ◌≡◌ {A = Option (RunStop × Stage)} (Some y) (Some z) → y ≡ z
     same e = ap (stopped_or s) e
 
-    go : (y : Stop × Stage) → exec w p (fuel p s.left) (start p) s ≡ Some y → (h.0 < fuel p s.left) ⊎ (fuel p s.left ≤ h.0) → ◌≡◌ {A = Option (Stop × Stage)}
+    go : (y : RunStop × Stage) → exec w p (fuel p s.left) (start p) s ≡ Some y → (h.0 < fuel p s.left) ⊎ (fuel p s.left ≤ h.0)
+        → ◌≡◌ {A = Option (RunStop × Stage)}
         (Some y) (Some x)
     go y e (inl l) = sym e ∙ more_fuel w p h.0 (fuel p s.left) (start p) s x (omega arith) h.1
     go y e (inr l) = sym (more_fuel w p (fuel p s.left) h.0 (start p) s y l e) ∙ h.1

@@ -12,10 +12,10 @@ use Rattle.typed_tree.specs.declared.operators.Connective.{Connective}
 use Rattle.typed_tree.specs.Tree.{TypedTree, TypedTrees, word_node, truth_node, slot_node, call_node, size_node, cat_node, sum_node, bits_node, element_node}
 use Rattle.typed_tree.specs.Tree.{not_node, cast_node, binary_node, cut_node, declassify_node}
 use Rattle.typed_tree.specs.Tree as Tree'
-use Rattle.typed_tree.specs.Commands.{Command, Commands, empty_command, block_command, if_command, loop_command, do_command, break_command, continue_command}
-use Rattle.typed_tree.specs.Commands.{return_command, assert_command, store_command, default_command, fill_command, input_command, element_command}
-use Rattle.typed_tree.specs.Commands.{publish_command, evaluate_command}
-use Rattle.typed_tree.specs.Commands as Commands'
+use Rattle.typed_tree.specs.Statements.{TypedStatementTree, TypedStatementTrees, empty_statement, block_statement, if_statement, loop_statement, do_statement}
+use Rattle.typed_tree.specs.Statements.{break_statement, continue_statement, return_statement, assert_statement, store_statement, default_statement}
+use Rattle.typed_tree.specs.Statements.{fill_statement, input_statement, element_statement, publish_statement, evaluate_statement}
+use Rattle.typed_tree.specs.Statements as Statements'
 use Rattle.typed_tree.specs.declared.function.Returned.{Returned}
 use Rattle.typed_tree.specs.declared.function.Returned.TheVariants as given
 use Rattle.typed_tree.specs.Programs.{TypedFunctionTree, TypedProgramTree}
@@ -30,10 +30,10 @@ use Rattle.verified_code.specs.Steps.{Step, Literal, Move, Store, Fill, Put, Ret
 use Rattle.code_model.specs.Kinds.{width}
 use Rattle.code_model.specs.Expressions.{Numbers, classifying, lacks, mixes, binary_code, cat_code, element_code, deciding, settling, cut_code}
 use Rattle.code_model.specs.Expressions.{expression_code, arguments_code, unread_code}
-use Rattle.code_model.specs.Commands.{shape_number, first_free, command_width, commands_width, behind_classifying, command_code, commands_code}
+use Rattle.code_model.specs.Statements.{shape_number, first_free, statement_width, statements_width, behind_classifying, statement_code, statements_code}
 use Rattle.code_model.specs.Programs.{last_step, function_code, body_end, code_of_found, instance_code, numbers_in, code_of}
 use Rattle.code_model.specs.Meaning.{IsForward, AreForward}
-use Rattle.code_model.proofs.Lengths.{command_length, commands_length}
+use Rattle.code_model.proofs.Lengths.{statement_length, statements_length}
 
 abbrev GoesOn : ℕ → Step → Type 0
 GoesOn pc (Jump target) = pc < target
@@ -152,18 +152,18 @@ module _ (number : Numbers) where
 
   -- breaks and continues lead on too
   mutual
-    command_on : (at : StatementContext) (c : Command) (t x y pc : ℕ) → pc + length (command_code number at t x y pc c) ≤ x → pc + length
-        (command_code number at t x y pc c) ≤ y → GoOn pc (command_code number at t x y pc c)
-    command_on at empty_command t x y pc hx hy = tt
-    command_on at (block_command cs) t x y pc hx hy = commands_on at cs t x y pc hx hy
-    command_on at (if_command e a b) t x y pc hx hy =
+    statement_on : (at : StatementContext) (c : TypedStatementTree) (t x y pc : ℕ) → pc + length (statement_code number at t x y pc c) ≤ x → pc + length
+        (statement_code number at t x y pc c) ≤ y → GoOn pc (statement_code number at t x y pc c)
+    statement_on at empty_statement t x y pc hx hy = tt
+    statement_on at (block_statement cs) t x y pc hx hy = statements_on at cs t x y pc hx hy
+    statement_on at (if_statement e a b) t x y pc hx hy =
         let ta = t + width e in
-        let tb = ta + command_width a in
+        let tb = ta + statement_width a in
         let ce = expression_code number at.here t pc e in
         let pa = pc + length ce + 1 in
-        let ca = command_code number at ta x y pa a in
+        let ca = statement_code number at ta x y pa a in
         let pb = pa + length ca + 1 in
-        let cb = command_code number at tb x y pb b in
+        let cb = statement_code number at tb x y pb b in
         let rest2 = Jump (pb + length cb) ∷ cb in
         let rest = Branch t false pb ∷ (ca ++ rest2) in
         let n1 = length-append ce rest in
@@ -171,71 +171,72 @@ module _ (number : Numbers) where
         let jump : pa + length ca < pb + length cb = omega arith in
         both_on pc ce rest (expression_on at.here e t pc) (
           tt,
-          both_on pa ca rest2 (command_on at a ta x y pa (omega (arith, n1, n2, hx)) (omega (arith, n1, n2, hy)))
-              (jump, command_on at b tb x y pb (omega (arith, n1, n2, hx)) (omega (arith, n1, n2, hy))),
+          both_on pa ca rest2 (statement_on at a ta x y pa (omega (arith, n1, n2, hx)) (omega (arith, n1, n2, hy)))
+              (jump, statement_on at b tb x y pb (omega (arith, n1, n2, hx)) (omega (arith, n1, n2, hy))),
         )
-    command_on at (loop_command e step body) t x y pc hx hy =
-        let ts = t + command_width body in
-        let te = ts + command_width step in
-        let n1 = length (command_code number at t 0 0 0 body) in
-        let n2 = length (command_code number at ts 0 0 0 step) in
+    statement_on at (loop_statement e step body) t x y pc hx hy =
+        let ts = t + statement_width body in
+        let te = ts + statement_width step in
+        let n1 = length (statement_code number at t 0 0 0 body) in
+        let n2 = length (statement_code number at ts 0 0 0 step) in
         let n3 = length (expression_code number at.here te 0 e) in
         let over = pc + 1 + n1 in
         let again = over + n2 in
         let out = again + n3 + 1 in
-        let ca = command_code number at t out over (pc + 1) body in
+        let ca = statement_code number at t out over (pc + 1) body in
         let py = pc + 1 + length ca in
-        let cb = command_code number at ts out again py step in
+        let cb = statement_code number at ts out again py step in
         let pt = py + length cb in
         let ce = expression_code number at.here te pt e in
-        let ey : over ≡ py = omega (arith, command_length number at body t out over (pc + 1) 0 0 0) in
-        let ez : again ≡ pt = omega (arith, ey, command_length number at step ts out again py 0 0 0) in
+        let ey : over ≡ py = omega (arith, statement_length number at body t out over (pc + 1) 0 0 0) in
+        let ez : again ≡ pt = omega (arith, ey, statement_length number at step ts out again py 0 0 0) in
         let jump : pc < pt = omega arith in (
           jump,
-          both_on (pc + 1) ca (cb ++ (ce ++ Branch te true (pc + 1) ∷ [])) (command_on at body t out over (pc + 1) (omega (arith, ey)) (omega (arith, ey)))
-              (both_on py cb (ce ++ Branch te true (pc + 1) ∷ []) (command_on at step ts out again py (omega (arith, ez)) (omega (arith, ez)))
+          both_on (pc + 1) ca (cb ++ (ce ++ Branch te true (pc + 1) ∷ [])) (statement_on at body t out over (pc + 1) (omega (arith, ey)) (omega (arith, ey)))
+              (both_on py cb (ce ++ Branch te true (pc + 1) ∷ []) (statement_on at step ts out again py (omega (arith, ez)) (omega (arith, ez)))
               (both_on pt ce (Branch te true (pc + 1) ∷ []) (expression_on at.here e te pt) (tt, tt))),
         )
-    command_on at (do_command body e) t x y pc hx hy =
-        let te = t + command_width body in
-        let n1 = length (command_code number at t 0 0 0 body) in
+    statement_on at (do_statement body e) t x y pc hx hy =
+        let te = t + statement_width body in
+        let n1 = length (statement_code number at t 0 0 0 body) in
         let n3 = length (expression_code number at.here te 0 e) in
         let again = pc + n1 in
         let out = again + n3 + 1 in
-        let ca = command_code number at t out again pc body in
+        let ca = statement_code number at t out again pc body in
         let pt = pc + length ca in
         let ce = expression_code number at.here te pt e in
-        let ez : again ≡ pt = omega (arith, command_length number at body t out again pc 0 0 0) in
-        both_on pc ca (ce ++ Branch te true pc ∷ []) (command_on at body t out again pc (omega (arith, ez)) (omega (arith, ez)))
+        let ez : again ≡ pt = omega (arith, statement_length number at body t out again pc 0 0 0) in
+        both_on pc ca (ce ++ Branch te true pc ∷ []) (statement_on at body t out again pc (omega (arith, ez)) (omega (arith, ez)))
         (both_on pt ce (Branch te true pc ∷ []) (expression_on at.here e te pt) (tt, tt))
-    command_on at break_command t x y pc hx hy = let h : pc < x = omega (arith, hx) in (h, tt)
-    command_on at continue_command t x y pc hx hy = let h : pc < y = omega (arith, hy) in (h, tt)
-    command_on at (return_command None) t x y pc hx hy = (tt, tt)
-    command_on at (return_command (Some e)) t x y pc hx hy =
+    statement_on at break_statement t x y pc hx hy = let h : pc < x = omega (arith, hx) in (h, tt)
+    statement_on at continue_statement t x y pc hx hy = let h : pc < y = omega (arith, hy) in (h, tt)
+    statement_on at (return_statement None) t x y pc hx hy = (tt, tt)
+    statement_on at (return_statement (Some e)) t x y pc hx hy =
         both_on pc _ _ (expression_on at.here e (t + 1) pc) (behind_on at.secret_result (gives_private at.here e) t (t + 1) _ Return (λ r q. tt))
-    command_on at (assert_command line e) t x y pc hx hy = both_on pc _ _ (expression_on at.here e t pc) (tt, tt)
-    command_on at (store_command k e) t x y pc hx hy =
+    statement_on at (assert_statement line e) t x y pc hx hy = both_on pc _ _ (expression_on at.here e t pc) (tt, tt)
+    statement_on at (store_statement k e) t x y pc hx hy =
         both_on pc _ _ (expression_on at.here e (t + 1) pc) (behind_on (slot_is_private at.here k) (gives_private at.here e) t (t + 1) _ (Store k) (λ r q. tt))
-    command_on at (default_command k) t x y pc hx hy = behind_on (slot_is_private at.here k) false t
+    statement_on at (default_statement k) t x y pc hx hy = behind_on (slot_is_private at.here k) false t
         (length at.here.slots + shape_number (slot_shape at.here k)) pc (Store k) (λ r q. tt)
-    command_on at (fill_command line k n e) t x y pc hx hy =
+    statement_on at (fill_statement line k n e) t x y pc hx hy =
         both_on pc _ _ (expression_on at.here n (t + 1) pc) (both_on _ _ _ (expression_on at.here e (t + 1 + width n) _)
         (behind_on (slot_is_private at.here k) (gives_private at.here e) t (t + 1 + width n) _ (Fill line k (t + 1)) (λ r q. tt)))
-    command_on at (input_command line k text) t x y pc hx hy = (tt, (tt, tt))
-    command_on at (element_command line k i e) t x y pc hx hy =
+    statement_on at (input_statement line k text) t x y pc hx hy = (tt, (tt, tt))
+    statement_on at (element_statement line k i e) t x y pc hx hy =
         both_on pc _ _ (expression_on at.here i (t + 1) pc) (both_on _ _ _ (expression_on at.here e (t + 1 + width i) _)
         (behind_on (slot_is_private at.here k) (gives_private at.here e) t (t + 1 + width i) _ (Put line k (t + 1)) (λ r q. tt)))
-    command_on at (publish_command text e) t x y pc hx hy = both_on pc _ _ (expression_on at.here e t pc) (tt, tt)
-    command_on at (evaluate_command e) t x y pc hx hy = unread_on at.here e t pc
+    statement_on at (publish_statement text e) t x y pc hx hy = both_on pc _ _ (expression_on at.here e t pc) (tt, tt)
+    statement_on at (evaluate_statement e) t x y pc hx hy = unread_on at.here e t pc
 
-    commands_on : (at : StatementContext) (cs : Commands) (t x y pc : ℕ) → pc + length (commands_code number at t x y pc cs) ≤ x → pc + length
-        (commands_code number at t x y pc cs) ≤ y → GoOn pc (commands_code number at t x y pc cs)
-    commands_on at Commands'.none t x y pc hx hy = tt
-    commands_on at (Commands'.also c cs) t x y pc hx hy =
-        let a = command_code number at t x y pc c in
-        let b = commands_code number at (t + command_width c) x y (pc + length a) cs in
+    statements_on : (at : StatementContext) (cs : TypedStatementTrees) (t x y pc : ℕ) → pc + length (statements_code number at t x y pc cs) ≤ x → pc + length
+        (statements_code number at t x y pc cs) ≤ y → GoOn pc (statements_code number at t x y pc cs)
+    statements_on at Statements'.none t x y pc hx hy = tt
+    statements_on at (Statements'.also c cs) t x y pc hx hy =
+        let a = statement_code number at t x y pc c in
+        let b = statements_code number at (t + statement_width c) x y (pc + length a) cs in
         let n = length-append a b in
-        both_on pc a b (command_on at c t x y pc (omega (arith, n, hx)) (omega (arith, n, hy))) (commands_on at cs (t + command_width c) x y (pc + length a)
+        both_on pc a b (statement_on at c t x y pc (omega (arith, n, hx)) (omega (arith, n, hy)))
+        (statements_on at cs (t + statement_width c) x y (pc + length a)
         (omega (arith, n, hx)) (omega (arith, n, hy)))
 
 -- ---- FUNCTIONS
@@ -272,12 +273,12 @@ function_forward number fs f b pc target e =
     let pl = place_in fs f b in
     let t = first_free f.slots in
     let finish = body_end number fs f b in
-    let cs = commands_code number pl t finish finish 0 f.body in
-    let last = last_step f.given (t + commands_width f.body) in
-    let e0 : finish ≡ 0 + length cs = omega (arith, commands_length number pl f.body t finish finish 0 0 0 0) in
+    let cs = statements_code number pl t finish finish 0 f.body in
+    let last = last_step f.given (t + statements_width f.body) in
+    let e0 : finish ≡ 0 + length cs = omega (arith, statements_length number pl f.body t finish finish 0 0 0 0) in
     let r : 0 + pc < target = jump_at (cs ++ last ∷ []) 0 pc target
-    (both_on 0 cs (last ∷ []) (commands_on number pl f.body t finish finish 0 (omega (arith, e0)) (omega (arith, e0)))
-    (last_on f.given (t + commands_width f.body) _, tt)) e in
+    (both_on 0 cs (last ∷ []) (statements_on number pl f.body t finish finish 0 (omega (arith, e0)) (omega (arith, e0)))
+    (last_on f.given (t + statements_width f.body) _, tt)) e in
     omega (arith, r)
 
 instance_forward : (fs : List TypedFunctionTree) (number : Numbers) (i : Instance) → IsForward (instance_code fs number i).steps

@@ -17,14 +17,14 @@ use Rattle.gates.specs.Clear.{bits_of}
 use Rattle.std.specs.List.{flat_map}
 use Rattle.typed_tree.specs.Shapes.{shape_of}
 use Rattle.secrec_ast.specs.declared.expression.DataType.TheVariants as datatype
-use Rattle.language_model.specs.Effects.{World, Given, Stage, Run, Effect, ◌>>=◌, carry, done, end, test}
+use Rattle.language_model.specs.Effects.{World, GivenInput, Stage, Run, Effect, ◌>>=◌, carry, done, end, test}
 use Rattle.language_model.specs.Values.{Secrecy, Plain, Private, Value, plain, is_secret, size, visible_words, elements_of}
 use Rattle.language_model.specs.Words as W
 use Rattle.language_model.specs.Operations.{charged, no_traps, operator_traps, result_shape, is_scalar_left}
 use Rattle.language_model.specs.Operations.{is_scalar_right, words_of_operator, classified_from, classified, made_private, wanted, opened_from, revealed}
 use Rattle.language_model.specs.Operations.{read_answer, declassified, private_result, product_with, combined_from, operated, negated_from, negated}
 use Rattle.language_model.specs.Operations.{size_told, element_from, element_of_array, position, words_for_bits, changed, cast_from, cast_to, summed_from}
-use Rattle.language_model.specs.Operations.{summed, not_too_large, bits_from, bits_extracted, joined_from, joined, with_element_from, with_element}
+use Rattle.language_model.specs.Operations.{summed, not_too_large, bits_from, bits_extracted, concatenated_from, concatenated, with_element_from, with_element}
 use Rattle.language_model.specs.Operations.{filled_from, filled, tested, published, asserted}
 use Rattle.language_model.specs.Evaluation.{given_value, asked_for, is_as_declared}
 use Rattle.language_model.proofs.Walk as walk
@@ -221,22 +221,22 @@ module _ (w : World) where
   bits_gives line x = gives_after w (charged_on (not_too_large line (64 * size x)) (64 * size x) (large_on line (64 * size x)))
       (λ _. bits_from_gives x.secrecy x)
 
-  catenated_gives : (x y : Value) → Gives (joined_from (Private None) Plain x y) (IsSecret true)
+  catenated_gives : (x y : Value) → Gives (concatenated_from (Private None) Plain x y) (IsSecret true)
   unfolding is_onward
   catenated_gives x y =
       gives_after w (walk.number_holds w w (is_onward w) law x) (λ u. gives_after w (walk.number_holds w w (is_onward w) law y)
       (λ v. gives_after w (onward_gate _) (λ r. made_gives _ _ r)))
 
-  joined_from_gives : (a b : Secrecy) (x y : Value) → Gives (joined_from a b x y) (IsSecret (is_secret a || is_secret b))
-  joined_from_gives Plain Plain x y = plain_gives _ _
-  joined_from_gives Plain (Private k) x y = catenated_gives x y
-  joined_from_gives (Private j) Plain x y = catenated_gives x y
-  joined_from_gives (Private j) (Private k) x y = catenated_gives x y
+  concatenated_from_gives : (a b : Secrecy) (x y : Value) → Gives (concatenated_from a b x y) (IsSecret (is_secret a || is_secret b))
+  concatenated_from_gives Plain Plain x y = plain_gives _ _
+  concatenated_from_gives Plain (Private k) x y = catenated_gives x y
+  concatenated_from_gives (Private j) Plain x y = catenated_gives x y
+  concatenated_from_gives (Private j) (Private k) x y = catenated_gives x y
 
-  pub joined_gives : (line : ℕ) (x y : Value) → Gives (joined line x y) (IsSecret (is_secret x.secrecy || is_secret y.secrecy))
+  pub concatenated_gives : (line : ℕ) (x y : Value) → Gives (concatenated line x y) (IsSecret (is_secret x.secrecy || is_secret y.secrecy))
   unfolding is_onward
-  joined_gives line x y = gives_after w (charged_on (not_too_large line (size x + size y)) (size x + size y) (large_on line (size x + size y)))
-      (λ _. joined_from_gives x.secrecy y.secrecy x y)
+  concatenated_gives line x y = gives_after w (charged_on (not_too_large line (size x + size y)) (size x + size y) (large_on line (size x + size y)))
+      (λ _. concatenated_from_gives x.secrecy y.secrecy x y)
 
   with_element_from_gives : (a : Secrecy) (x : Value) (i : ℕ) (y : Value) → Gives (with_element_from a x i y) (IsSecret (is_secret a))
   unfolding is_onward
@@ -260,15 +260,15 @@ module _ (w : World) where
   filled_gives line n x = gives_after w (charged_on (not_too_large line (position n)) (position n) (large_on line (position n)))
       (λ _. filled_from_gives x.secrecy (position n) x)
 
-  given_gives : (secret : Bool) (x : Given) (k : ℕ) → Gives (given_value secret x k) (IsSecret secret)
+  given_gives : (secret : Bool) (x : GivenInput) (k : ℕ) → Gives (given_value secret x k) (IsSecret secret)
   given_gives false x k = plain_gives _ _
   given_gives true x k = gives_after w (onward_gate _) (λ r. made_gives _ _ r)
 
-  declared_on : (secret : Bool) (shape : Shape) (line : ℕ) (x : Given) → is_onward w (Unit {0}) (test (is_as_declared secret shape x) trap.Argument line)
+  declared_on : (secret : Bool) (shape : Shape) (line : ℕ) (x : GivenInput) → is_onward w (Unit {0}) (test (is_as_declared secret shape x) trap.Argument line)
       (test (is_as_declared secret shape x) trap.Argument line)
   declared_on secret shape line x = law.on_test _ _ _
 
-  pub asked_gives : (secret : Bool) (shape : Shape) (line : ℕ) (o : Option (Given × ℕ)) → Gives (asked_for secret shape line o) (IsSecret secret)
+  pub asked_gives : (secret : Bool) (shape : Shape) (line : ℕ) (o : Option (GivenInput × ℕ)) → Gives (asked_for secret shape line o) (IsSecret secret)
   unfolding is_onward
   asked_gives secret shape line None = gives_after w (onward_charge 1) (λ _. gives_end _)
   asked_gives secret shape line (Some x) =

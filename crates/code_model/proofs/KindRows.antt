@@ -17,11 +17,11 @@ use Rattle.bytecode.specs.declared.kind.Kind.{Kind}
 use Rattle.verified_code.specs.Steps.{kind_shape}
 use Rattle.code_model.specs.Kinds.{kind_of}
 use Rattle.code_model.specs.Kinded.{IsOf, AreSingle, with_secret, with_array, public_scalar, cast_source, cast_target, left_array, right_array}
-use Rattle.code_model.proofs.Gives.{IsSecret, class_gives, operated_gives, negated_gives, cast_gives, summed_gives, bits_gives, joined_gives}
+use Rattle.code_model.proofs.Gives.{IsSecret, class_gives, operated_gives, negated_gives, cast_gives, summed_gives, bits_gives, concatenated_gives}
 use Rattle.code_model.proofs.Gives.{element_gives, with_element_gives, filled_gives, size_gives, declassified_gives, asked_gives}
 use Rattle.code_model.proofs.Makes.{Makes, makes_of, makes_both}
 use Rattle.code_model.proofs.ShapeRows.{IsShaped, input_there, operated_makes, negated_makes, cast_makes, classified_makes}
-use Rattle.code_model.proofs.ShapeRows.{filled_makes, element_makes, with_element_makes, size_makes, summed_makes, bits_makes, joined_makes}
+use Rattle.code_model.proofs.ShapeRows.{filled_makes, element_makes, with_element_makes, size_makes, summed_makes, bits_makes, concatenated_makes}
 use Rattle.code_model.proofs.ShapeRows.{declassified_makes, asked_makes}
 
 shape_array : (k : Kind) (v : Value) → IsOf k v → v.shape.array ≡ k.array
@@ -91,9 +91,9 @@ module _ (w : World) where
   size_kind x = makes_both (IsOf (public_scalar Uint64)) (makes_of (size_gives w x)) (size_makes w x)
       (λ v p q. kinded (public_scalar Uint64) (shape_of Uint64 false) v p q refl)
 
-  pub joined_kind : (line : ℕ) (k : Kind) (x y : Value) → IsOf k x → IsOf k y → k.array ≡ true → Makes (row.joined line x y) (IsOf k)
-  joined_kind line k x y h j e =
-      makes_both (IsOf k) (makes_of (joined_gives w line x y)) (joined_makes w line x y (shape_array k x h ∙ e))
+  pub concatenated_kind : (line : ℕ) (k : Kind) (x y : Value) → IsOf k x → IsOf k y → k.array ≡ true → Makes (row.concatenated line x y) (IsOf k)
+  concatenated_kind line k x y h j e =
+      makes_both (IsOf k) (makes_of (concatenated_gives w line x y)) (concatenated_makes w line x y (shape_array k x h ∙ e))
       (λ v p q. kinded k x.shape v (p ∙ ap (λ z. z || is_secret y.secrecy) h.secret ∙ ap (λ z. k.secret || z) j.secret ∙ same_twice k.secret) q h.shape)
 
   pub summed_kind : (k : Kind) (x : Value) → IsOf k x → Makes (row.summed x) (IsOf (with_secret k.secret (public_scalar Uint64)))

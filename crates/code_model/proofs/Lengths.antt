@@ -11,10 +11,10 @@ use Rattle.secrec_ast.specs.declared.expression.DataType.TheVariants as datatype
 use Rattle.typed_tree.specs.Tree.{TypedTree, TypedTrees, word_node, truth_node, slot_node, call_node, size_node, cat_node, sum_node, bits_node, element_node}
 use Rattle.typed_tree.specs.Tree.{not_node, cast_node, binary_node, cut_node, declassify_node}
 use Rattle.typed_tree.specs.Tree as Tree'
-use Rattle.typed_tree.specs.Commands.{Command, Commands, empty_command, block_command, if_command, loop_command, do_command, break_command, continue_command}
-use Rattle.typed_tree.specs.Commands.{return_command, assert_command, store_command, default_command, fill_command, input_command, element_command}
-use Rattle.typed_tree.specs.Commands.{publish_command, evaluate_command}
-use Rattle.typed_tree.specs.Commands as Commands'
+use Rattle.typed_tree.specs.Statements.{TypedStatementTree, TypedStatementTrees, empty_statement, block_statement, if_statement, loop_statement, do_statement}
+use Rattle.typed_tree.specs.Statements.{break_statement, continue_statement, return_statement, assert_statement, store_statement, default_statement}
+use Rattle.typed_tree.specs.Statements.{fill_statement, input_statement, element_statement, publish_statement, evaluate_statement}
+use Rattle.typed_tree.specs.Statements as Statements'
 use Rattle.reached_instances.specs.declared.instance.BoundDomain.{BoundDomain}
 use Rattle.reached_instances.specs.Domains.{Setting, domains}
 use Rattle.language_model.specs.Words.{truth_word}
@@ -23,7 +23,7 @@ use Rattle.verified_code.specs.Steps.{Step, Literal, Move, Branch, Jump}
 use Rattle.code_model.specs.Kinds.{width}
 use Rattle.code_model.specs.Expressions.{Numbers, classifying, lacks, mixes, binary_code, cat_code, element_code, deciding, settling, cut_code}
 use Rattle.code_model.specs.Expressions.{expression_code, arguments_code, unread_code}
-use Rattle.code_model.specs.Commands.{command_width, command_code, commands_code}
+use Rattle.code_model.specs.Statements.{statement_width, statement_code, statements_code}
 
 append_same : (a a' b b' : List Step) → length a ≡ length a' → length b ≡ length b' → length (a ++ b) ≡ length (a' ++ b')
 append_same a a' b b' e f = omega (arith, e, f, length-append a b, length-append a' b')
@@ -149,23 +149,23 @@ module _ (number : Numbers) where
       (pc' + length (expression_code number here t pc' a)) is)
 
   mutual
-    pub command_length : (at : StatementContext) (c : Command) (t x y pc x' y' pc' : ℕ) → length (command_code number at t x y pc c) ≡ length
-        (command_code number at t x' y' pc' c)
-    command_length at empty_command t x y pc x' y' pc' = refl
-    command_length at (block_command cs) t x y pc x' y' pc' = commands_length at cs t x y pc x' y' pc'
-    command_length at (if_command e a b) t x y pc x' y' pc' =
+    pub statement_length : (at : StatementContext) (c : TypedStatementTree) (t x y pc x' y' pc' : ℕ) → length (statement_code number at t x y pc c) ≡ length
+        (statement_code number at t x' y' pc' c)
+    statement_length at empty_statement t x y pc x' y' pc' = refl
+    statement_length at (block_statement cs) t x y pc x' y' pc' = statements_length at cs t x y pc x' y' pc'
+    statement_length at (if_statement e a b) t x y pc x' y' pc' =
         let ta = t + width e in
-        let tb = ta + command_width a in
+        let tb = ta + statement_width a in
         let ce = expression_code number at.here t pc e in
         let pa = pc + length ce + 1 in
-        let ca = command_code number at ta x y pa a in
+        let ca = statement_code number at ta x y pa a in
         let pb = pa + length ca + 1 in
-        let cb = command_code number at tb x y pb b in
+        let cb = statement_code number at tb x y pb b in
         let ce' = expression_code number at.here t pc' e in
         let pa' = pc' + length ce' + 1 in
-        let ca' = command_code number at ta x' y' pa' a in
+        let ca' = statement_code number at ta x' y' pa' a in
         let pb' = pa' + length ca' + 1 in
-        let cb' = command_code number at tb x' y' pb' b in
+        let cb' = statement_code number at tb x' y' pb' b in
         omega (
           arith,
           length-append ce (Branch t false pb ∷ (ca ++ (Jump (pb + length cb) ∷ cb))),
@@ -173,29 +173,29 @@ module _ (number : Numbers) where
           length-append ce' (Branch t false pb' ∷ (ca' ++ (Jump (pb' + length cb') ∷ cb'))),
           length-append ca' (Jump (pb' + length cb') ∷ cb'),
           expression_length at.here e t pc pc',
-          command_length at a ta x y pa x' y' pa',
-          command_length at b tb x y pb x' y' pb',
+          statement_length at a ta x y pa x' y' pa',
+          statement_length at b tb x y pb x' y' pb',
         )
-    command_length at (loop_command e step body) t x y pc x' y' pc' =
-        let ts = t + command_width body in
-        let te = ts + command_width step in
-        let n1 = length (command_code number at t 0 0 0 body) in
-        let n2 = length (command_code number at ts 0 0 0 step) in
+    statement_length at (loop_statement e step body) t x y pc x' y' pc' =
+        let ts = t + statement_width body in
+        let te = ts + statement_width step in
+        let n1 = length (statement_code number at t 0 0 0 body) in
+        let n2 = length (statement_code number at ts 0 0 0 step) in
         let n3 = length (expression_code number at.here te 0 e) in
         let over = pc + 1 + n1 in
         let again = over + n2 in
         let out = again + n3 + 1 in
-        let ca = command_code number at t out over (pc + 1) body in
+        let ca = statement_code number at t out over (pc + 1) body in
         let py = pc + 1 + length ca in
-        let cb = command_code number at ts out again py step in
+        let cb = statement_code number at ts out again py step in
         let pt = py + length cb in
         let ce = expression_code number at.here te pt e in
         let over' = pc' + 1 + n1 in
         let again' = over' + n2 in
         let out' = again' + n3 + 1 in
-        let ca' = command_code number at t out' over' (pc' + 1) body in
+        let ca' = statement_code number at t out' over' (pc' + 1) body in
         let py' = pc' + 1 + length ca' in
-        let cb' = command_code number at ts out' again' py' step in
+        let cb' = statement_code number at ts out' again' py' step in
         let pt' = py' + length cb' in
         let ce' = expression_code number at.here te pt' e in
         omega (
@@ -206,22 +206,22 @@ module _ (number : Numbers) where
           length-append ca' (cb' ++ (ce' ++ Branch te true (pc' + 1) ∷ [])),
           length-append cb' (ce' ++ Branch te true (pc' + 1) ∷ []),
           length-append ce' (Branch te true (pc' + 1) ∷ []),
-          command_length at body t out over (pc + 1) out' over' (pc' + 1),
-          command_length at step ts out again py out' again' py',
+          statement_length at body t out over (pc + 1) out' over' (pc' + 1),
+          statement_length at step ts out again py out' again' py',
           expression_length at.here e te pt pt',
         )
-    command_length at (do_command body e) t x y pc x' y' pc' =
-        let te = t + command_width body in
-        let n1 = length (command_code number at t 0 0 0 body) in
+    statement_length at (do_statement body e) t x y pc x' y' pc' =
+        let te = t + statement_width body in
+        let n1 = length (statement_code number at t 0 0 0 body) in
         let n3 = length (expression_code number at.here te 0 e) in
         let again = pc + n1 in
         let out = again + n3 + 1 in
-        let ca = command_code number at t out again pc body in
+        let ca = statement_code number at t out again pc body in
         let pt = pc + length ca in
         let ce = expression_code number at.here te pt e in
         let again' = pc' + n1 in
         let out' = again' + n3 + 1 in
-        let ca' = command_code number at t out' again' pc' body in
+        let ca' = statement_code number at t out' again' pc' body in
         let pt' = pc' + length ca' in
         let ce' = expression_code number at.here te pt' e in
         omega (
@@ -230,26 +230,26 @@ module _ (number : Numbers) where
           length-append ce (Branch te true pc ∷ []),
           length-append ca' (ce' ++ Branch te true pc' ∷ []),
           length-append ce' (Branch te true pc' ∷ []),
-          command_length at body t out again pc out' again' pc',
+          statement_length at body t out again pc out' again' pc',
           expression_length at.here e te pt pt',
         )
-    command_length at break_command t x y pc x' y' pc' = refl
-    command_length at continue_command t x y pc x' y' pc' = refl
-    command_length at (return_command None) t x y pc x' y' pc' = refl
-    command_length at (return_command (Some e)) t x y pc x' y' pc' = behind_expression at.here e (t + 1) pc pc' _
-    command_length at (assert_command line e) t x y pc x' y' pc' = behind_expression at.here e t pc pc' _
-    command_length at (store_command k e) t x y pc x' y' pc' = behind_expression at.here e (t + 1) pc pc' _
-    command_length at (default_command k) t x y pc x' y' pc' = refl
-    command_length at (fill_command line k n e) t x y pc x' y' pc' = behind_both at.here n e (t + 1) (t + 1 + width n) pc pc' _
-    command_length at (input_command line k text) t x y pc x' y' pc' = refl
-    command_length at (element_command line k i e) t x y pc x' y' pc' = behind_both at.here i e (t + 1) (t + 1 + width i) pc pc' _
-    command_length at (publish_command text e) t x y pc x' y' pc' = behind_expression at.here e t pc pc' _
-    command_length at (evaluate_command e) t x y pc x' y' pc' = unread_length at.here e t pc pc'
+    statement_length at break_statement t x y pc x' y' pc' = refl
+    statement_length at continue_statement t x y pc x' y' pc' = refl
+    statement_length at (return_statement None) t x y pc x' y' pc' = refl
+    statement_length at (return_statement (Some e)) t x y pc x' y' pc' = behind_expression at.here e (t + 1) pc pc' _
+    statement_length at (assert_statement line e) t x y pc x' y' pc' = behind_expression at.here e t pc pc' _
+    statement_length at (store_statement k e) t x y pc x' y' pc' = behind_expression at.here e (t + 1) pc pc' _
+    statement_length at (default_statement k) t x y pc x' y' pc' = refl
+    statement_length at (fill_statement line k n e) t x y pc x' y' pc' = behind_both at.here n e (t + 1) (t + 1 + width n) pc pc' _
+    statement_length at (input_statement line k text) t x y pc x' y' pc' = refl
+    statement_length at (element_statement line k i e) t x y pc x' y' pc' = behind_both at.here i e (t + 1) (t + 1 + width i) pc pc' _
+    statement_length at (publish_statement text e) t x y pc x' y' pc' = behind_expression at.here e t pc pc' _
+    statement_length at (evaluate_statement e) t x y pc x' y' pc' = unread_length at.here e t pc pc'
 
-    pub commands_length : (at : StatementContext) (cs : Commands) (t x y pc x' y' pc' : ℕ) → length (commands_code number at t x y pc cs) ≡ length
-        (commands_code number at t x' y' pc' cs)
-    commands_length at Commands'.none t x y pc x' y' pc' = refl
-    commands_length at (Commands'.also c cs) t x y pc x' y' pc' =
-        append_same _ _ _ _ (command_length at c t x y pc x' y' pc')
-        (commands_length at cs (t + command_width c) x y (pc + length (command_code number at t x y pc c)) x' y'
-        (pc' + length (command_code number at t x' y' pc' c)))
+    pub statements_length : (at : StatementContext) (cs : TypedStatementTrees) (t x y pc x' y' pc' : ℕ)
+        → length (statements_code number at t x y pc cs) ≡ length (statements_code number at t x' y' pc' cs)
+    statements_length at Statements'.none t x y pc x' y' pc' = refl
+    statements_length at (Statements'.also c cs) t x y pc x' y' pc' =
+        append_same _ _ _ _ (statement_length at c t x y pc x' y' pc')
+        (statements_length at cs (t + statement_width c) x y (pc + length (statement_code number at t x y pc c)) x' y'
+        (pc' + length (statement_code number at t x' y' pc' c)))

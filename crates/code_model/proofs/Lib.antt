@@ -8,7 +8,7 @@ pub mod Cut
 pub mod Expressions
 pub mod Standing
 pub mod Loops
-pub mod Commands
+pub mod Statements
 pub mod Always
 pub mod Calls
 pub mod Entered

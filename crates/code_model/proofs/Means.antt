@@ -9,7 +9,7 @@ use Rattle.reached_instances.specs.declared.instance.BoundDomain.{BoundDomain}
 use Rattle.reached_instances.specs.Domains.{given_domain}
 use Rattle.reached_instances.specs.Instances.{Instance, same_instance}
 use Rattle.reached_instances.proofs.Listing.{same_instance-Decides}
-use Rattle.language_model.specs.Effects.{World, Stage, Stop, Ended, Run}
+use Rattle.language_model.specs.Effects.{World, Stage, RunStop, Ended, Run}
 use Rattle.language_model.specs.Values.{Value}
 use Rattle.language_model.specs.Evaluation.{is_private, body_of, call_at}
 use Rattle.language_model.specs.Reports.{dealing, not_dealt, beginning, report_of, evaluated}
@@ -62,7 +62,7 @@ module _ (p : TypedProgramTree) (is : List Instance) (fit : IsFitProgram p is) w
 
   -- ---- THE RUN
 
-  ended : Run Value → Stop × Stage
+  ended : Run Value → RunStop × Stage
   ended (Ok x) = (Ended ending.Done, x.1)
   ended (Err e) = e
 

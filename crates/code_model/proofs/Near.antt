@@ -14,7 +14,7 @@ use Rattle.language_model.specs.Evaluation.{Frame, slot_is_private, either}
 use Rattle.verified_code.specs.Steps.{Step, Classify, Branch, Function}
 use Rattle.code_model.specs.Machine.{Machine, at, next, limit, same_bool}
 use Rattle.code_model.specs.Expressions.{classifying, picked, lacks}
-use Rattle.code_model.specs.Commands.{shape_number, first_free}
+use Rattle.code_model.specs.Statements.{shape_number, first_free}
 use Rattle.code_model.specs.Fit.{MayStand}
 use Rattle.code_model.proofs.Places.{HasAt, has_front, has_back, put_same, put_other}
 use Rattle.code_model.proofs.Gives.{Any, IsSecret, class_gives, tested_gives, wanted_less}

@@ -19,7 +19,7 @@ use Rattle.code_model.specs.Kinds.{width}
 use Rattle.code_model.specs.Expressions.{Numbers, classifying, picked, lacks, mixes, binary_code, element_code, expression_code}
 use Rattle.code_model.specs.Fit.{MayStand}
 use Rattle.code_model.proofs.Places.{put_same}
-use Rattle.code_model.proofs.Gives.{Gives, IsSecret, operated_gives, joined_gives, element_gives}
+use Rattle.code_model.proofs.Gives.{Gives, IsSecret, operated_gives, concatenated_gives, element_gives}
 use Rattle.code_model.proofs.Follows.{Runs, runs_bind, instruct}
 use Rattle.code_model.proofs.Near.{Near, near_on, near_less, near_set, Landed, Ready, ready_front, ready_back, ready_step, Wanting, near_wanting}
 use Rattle.code_model.proofs.Near.{ready_classify, ready_wanting, classifying_runs, wanting_runs}
@@ -251,10 +251,10 @@ module _ (w : World) (p : List Function) (number : Numbers) (calls : Calls) (d :
       (omega (arith, low, some)) ∙ h2.here in
       let secret : (is_secret x'.secrecy || is_secret y'.secrecy) ≡ g = ap (λ z. z || is_secret y'.secrecy) h2.private ∙ ap (λ z. g || z) h4.private
       ∙ joined_both (domain here a) (domain here b) in
-      instruct m4 (Cat line t (picked f1 (t + 1) (t + 3)) (picked f2 (t + 2) u)) (row.joined line x' y') (λ v. next t v m4) (IsSecret g) _ (ready_step r4)
-      (λ s. ap (λ z. carry (row.joined line z (m4.registers (picked f2 (t + 2) u)) s) (λ v. done (next t v m4))) left ∙ ap
-      (λ z. carry (row.joined line x' z s) (λ v. done (next t v m4))) h4.here)
-      (subst (λ z. Gives (row.joined line x' y') (IsSecret z)) secret (joined_gives w line x' y'))
+      instruct m4 (Cat line t (picked f1 (t + 1) (t + 3)) (picked f2 (t + 2) u)) (row.concatenated line x' y') (λ v. next t v m4) (IsSecret g) _ (ready_step r4)
+      (λ s. ap (λ z. carry (row.concatenated line z (m4.registers (picked f2 (t + 2) u)) s) (λ v. done (next t v m4))) left ∙ ap
+      (λ z. carry (row.concatenated line x' z s) (λ v. done (next t v m4))) h4.here)
+      (subst (λ z. Gives (row.concatenated line x' y') (IsSecret z)) secret (concatenated_gives w line x' y'))
       (λ v q. record {
         near = near_on (omega arith) (near_less t (omega arith) h1.near) (near_on (omega arith) (near_wanting t (omega arith) h2)
             (near_on (omega arith) (near_less t (omega arith) h3.near) (near_on (omega arith) (near_wanting t (omega arith) h4)

@@ -7,19 +7,19 @@ use Rattle.typed_tree.specs.declared.kinds.Slot.{Slot}
 use Rattle.typed_tree.specs.Tree.{TypedTree, TypedTrees, word_node, truth_node, slot_node, call_node, size_node, cat_node, sum_node, bits_node, element_node}
 use Rattle.typed_tree.specs.Tree.{not_node, cast_node, binary_node, cut_node, declassify_node}
 use Rattle.typed_tree.specs.Tree as Tree'
-use Rattle.typed_tree.specs.Commands.{Command, Commands, empty_command, block_command, if_command, loop_command, do_command, break_command, continue_command}
-use Rattle.typed_tree.specs.Commands.{return_command, assert_command, store_command, default_command, fill_command, input_command, element_command}
-use Rattle.typed_tree.specs.Commands.{publish_command, evaluate_command}
-use Rattle.typed_tree.specs.Commands as Commands'
+use Rattle.typed_tree.specs.Statements.{TypedStatementTree, TypedStatementTrees, empty_statement, block_statement, if_statement, loop_statement, do_statement}
+use Rattle.typed_tree.specs.Statements.{break_statement, continue_statement, return_statement, assert_statement, store_statement, default_statement}
+use Rattle.typed_tree.specs.Statements.{fill_statement, input_statement, element_statement, publish_statement, evaluate_statement}
+use Rattle.typed_tree.specs.Statements as Statements'
 use Rattle.typed_tree.specs.Programs.{TypedFunctionTree, TypedProgramTree}
 use Rattle.reached_instances.specs.declared.instance.BoundDomain.{BoundDomain}
 use Rattle.reached_instances.specs.Domains.{Setting, domains, binding_of}
 use Rattle.reached_instances.specs.Instances.{Instance}
-use Rattle.reached_instances.specs.Calls.{called, calls, calls_of_all, command_calls, commands_calls, function_calls, called_by, main_of}
+use Rattle.reached_instances.specs.Calls.{called, calls, calls_of_all, typed_statement_calls, typed_statements_calls, function_calls, called_by, main_of}
 use Rattle.reached_instances.specs.Reached.{follows, IsReachedList}
 use Rattle.reached_instances.proofs.ReachedLists.{has_each_reached, begins_with_main}
 use Rattle.language_model.specs.Evaluation.{StatementContext, place_in, bound_at, slots_of}
-use Rattle.code_model.specs.Fit.{IsFit, AreFit, FitsSlot, IsFitCommand, AreFitCommands, IsThere, IsKnownIn, IsFitInstance, IsFitAlone}
+use Rattle.code_model.specs.Fit.{IsFit, AreFit, FitsSlot, IsFitStatement, AreFitStatements, IsThere, IsKnownIn, IsFitInstance, IsFitAlone}
 use Rattle.code_model.specs.Fit.{IsFitProgram, the_main}
 
 none_some : {A : Type 0} {a : A} → ◌≡◌ {A = Option A} None (Some a) → ⊥
@@ -85,57 +85,58 @@ module _ (Known : ℕ → List BoundDomain → Type 0) where
   slot_knows here k e fit h = (fit.0, knows here e fit.1 h, fit.2)
 
   mutual
-    command_knows : (at : StatementContext) (i : Bool) (c : Command) → IsFitCommand (IsThere at.here.functions) at i c → AllKnown (command_calls at.here c)
-        → IsFitCommand Known at i c
-    command_knows at i empty_command fit h = tt
-    command_knows at i (block_command cs) fit h = commands_know at i cs fit h
-    command_knows at i (if_command e a b) fit h =
+    statement_knows : (at : StatementContext) (i : Bool) (c : TypedStatementTree) → IsFitStatement (IsThere at.here.functions) at i c
+        → AllKnown (typed_statement_calls at.here c)
+        → IsFitStatement Known at i c
+    statement_knows at i empty_statement fit h = tt
+    statement_knows at i (block_statement cs) fit h = statements_know at i cs fit h
+    statement_knows at i (if_statement e a b) fit h =
         let ce = calls at.here e in
-        let ca = command_calls at.here a in
-        let cb = command_calls at.here b in
+        let ca = typed_statement_calls at.here a in
+        let cb = typed_statement_calls at.here b in
         let more = rest ce (ca ++ cb) h in
-        (knows at.here e fit.0 (front ce (ca ++ cb) h), command_knows at i a fit.1 (front ca cb more), command_knows at i b fit.2 (rest ca cb more))
-    command_knows at i (loop_command e step body) fit h =
+        (knows at.here e fit.0 (front ce (ca ++ cb) h), statement_knows at i a fit.1 (front ca cb more), statement_knows at i b fit.2 (rest ca cb more))
+    statement_knows at i (loop_statement e step body) fit h =
         let ce = calls at.here e in
-        let cs = command_calls at.here step in
-        let cb = command_calls at.here body in
+        let cs = typed_statement_calls at.here step in
+        let cb = typed_statement_calls at.here body in
         let more = rest cb (cs ++ ce) h in (
           knows at.here e fit.0 (rest cs ce more),
-          command_knows at false step fit.1 (front cs ce more),
-          command_knows at true body fit.2
+          statement_knows at false step fit.1 (front cs ce more),
+          statement_knows at true body fit.2
               (front cb (cs ++ ce) h),
         )
-    command_knows at i (do_command body e) fit h =
+    statement_knows at i (do_statement body e) fit h =
         let ce = calls at.here e in
-        let cb = command_calls at.here body in
-        (command_knows at true body fit.0 (front cb ce h), knows at.here e fit.1 (rest cb ce h))
-    command_knows at i break_command fit h = fit
-    command_knows at i continue_command fit h = fit
-    command_knows at i (return_command None) fit h = fit
-    command_knows at i (return_command (Some e)) fit h = (knows at.here e fit.0 h, fit.1)
-    command_knows at i (assert_command line e) fit h = knows at.here e fit h
-    command_knows at i (store_command k e) fit h = slot_knows at.here k e fit h
-    command_knows at i (default_command k) fit h = fit
-    command_knows at i (fill_command line k n e) fit h =
+        let cb = typed_statement_calls at.here body in
+        (statement_knows at true body fit.0 (front cb ce h), knows at.here e fit.1 (rest cb ce h))
+    statement_knows at i break_statement fit h = fit
+    statement_knows at i continue_statement fit h = fit
+    statement_knows at i (return_statement None) fit h = fit
+    statement_knows at i (return_statement (Some e)) fit h = (knows at.here e fit.0 h, fit.1)
+    statement_knows at i (assert_statement line e) fit h = knows at.here e fit h
+    statement_knows at i (store_statement k e) fit h = slot_knows at.here k e fit h
+    statement_knows at i (default_statement k) fit h = fit
+    statement_knows at i (fill_statement line k n e) fit h =
         let cn = calls at.here n in
         let ce = calls at.here e in
         (knows at.here n fit.0 (front cn ce h), slot_knows at.here k e fit.1 (rest cn ce h))
-    command_knows at i (input_command line k text) fit h = fit
-    command_knows at i (element_command line k j e) fit h =
+    statement_knows at i (input_statement line k text) fit h = fit
+    statement_knows at i (element_statement line k j e) fit h =
         let cj = calls at.here j in
         let ce = calls at.here e in
         (knows at.here j fit.0 (front cj ce h), slot_knows at.here k e fit.1 (rest cj ce h))
-    command_knows at i (publish_command text e) fit h = knows at.here e fit h
-    command_knows at i (evaluate_command e) fit h = knows at.here e fit h
+    statement_knows at i (publish_statement text e) fit h = knows at.here e fit h
+    statement_knows at i (evaluate_statement e) fit h = knows at.here e fit h
 
-    commands_know : (at : StatementContext) (i : Bool) (cs : Commands) → AreFitCommands (IsThere at.here.functions) at i cs
-        → AllKnown (commands_calls at.here cs)
-        → AreFitCommands Known at i cs
-    commands_know at i Commands'.none fit h = tt
-    commands_know at i (Commands'.also c cs) fit h =
-        let a = command_calls at.here c in
-        let b = commands_calls at.here cs in
-        (command_knows at i c fit.0 (front a b h), commands_know at i cs fit.1 (rest a b h))
+    statements_know : (at : StatementContext) (i : Bool) (cs : TypedStatementTrees) → AreFitStatements (IsThere at.here.functions) at i cs
+        → AllKnown (typed_statements_calls at.here cs)
+        → AreFitStatements Known at i cs
+    statements_know at i Statements'.none fit h = tt
+    statements_know at i (Statements'.also c cs) fit h =
+        let a = typed_statement_calls at.here c in
+        let b = typed_statements_calls at.here cs in
+        (statement_knows at i c fit.0 (front a b h), statements_know at i cs fit.1 (rest a b h))
 
 -- ---- PROGRAMS
 
@@ -153,10 +154,10 @@ reached_fit p is h main alone =
     fits i m =
         let a = alone i m in
         let at = place_in p.functions a.called i.binding in
-        let listed : (j : Instance) → Among j (commands_calls at.here a.called.body) → IsKnownIn is j.function j.binding =
+        let listed : (j : Instance) → Among j (typed_statements_calls at.here a.called.body) → IsKnownIn is j.function j.binding =
         λ j n. calls_listed p is h i j m (subst (λ o. Among j (function_calls p.functions i.binding o)) (sym a.there) n) in
         record {
           called = a.called;
           there = a.there;
-          fit = record { body = commands_know (IsKnownIn is) at false a.called.body a.fit.body listed; returns = a.fit.returns };
+          fit = record { body = statements_know (IsKnownIn is) at false a.called.body a.fit.body listed; returns = a.fit.returns };
         }

@@ -9,8 +9,9 @@ use Rattle.typed_tree.specs.declared.operators.Operands.TheVariants.{Scalars}
 use Rattle.typed_tree.specs.declared.operators.Connective.TheVariants.{AndAlso}
 use Rattle.typed_tree.specs.Shapes.{shape_of}
 use Rattle.typed_tree.specs.Tree.{word_node, truth_node, slot_node, call_node, binary_node, cut_node, declassify_node, typed_trees_of}
-use Rattle.typed_tree.specs.Commands.{block_command, if_command, loop_command, do_command, break_command, return_command, store_command}
-use Rattle.typed_tree.specs.Commands.{default_command, fill_command, element_command, publish_command, empty_command, evaluate_command, commands_of}
+use Rattle.typed_tree.specs.Statements.{block_statement, if_statement, loop_statement, do_statement, break_statement, return_statement, store_statement}
+use Rattle.typed_tree.specs.Statements.{default_statement, fill_statement, element_statement, publish_statement, empty_statement, evaluate_statement}
+use Rattle.typed_tree.specs.Statements.{typed_statements_of}
 use Rattle.typed_tree.specs.Programs.{TypedFunctionTree, TypedProgramTree}
 use Rattle.reached_instances.specs.Instances.{Instance}
 use Rattle.sc_text.specs.Lists.{Among}
@@ -30,11 +31,12 @@ main_function =
       parameters = 0;
       slots = record { domain = domain.Public; shape = shape_of Uint64 false } ∷ record { domain = domain.Private 0; shape = shape_of Uint64 true } ∷ [];
       given = given.Nothing;
-      body = commands_of (store_command 0 (declassify_node (call_node 2 1 (typed_trees_of (word_node 2 ∷ [])))) ∷ default_command 1 ∷ fill_command 3 1
-          (word_node 3) (word_node 5)
-          ∷ do_command (element_command 4 1 (word_node 0) (slot_node 0)) (truth_node false) ∷ loop_command
-          (cut_node AndAlso (truth_node true) (truth_node true)) empty_command (block_command (commands_of (break_command ∷ [])))
-          ∷ evaluate_command (call_node 7 1 (typed_trees_of (slot_node 0 ∷ []))) ∷ publish_command (121 ∷ []) (slot_node 1) ∷ []);
+      body =
+          typed_statements_of (store_statement 0 (declassify_node (call_node 2 1 (typed_trees_of (word_node 2 ∷ [])))) ∷ default_statement 1
+          ∷ fill_statement 3 1 (word_node 3) (word_node 5)
+          ∷ do_statement (element_statement 4 1 (word_node 0) (slot_node 0)) (truth_node false) ∷ loop_statement
+          (cut_node AndAlso (truth_node true) (truth_node true)) empty_statement (block_statement (typed_statements_of (break_statement ∷ [])))
+          ∷ evaluate_statement (call_node 7 1 (typed_trees_of (slot_node 0 ∷ []))) ∷ publish_statement (121 ∷ []) (slot_node 1) ∷ []);
       size = 0;
     }
 
@@ -46,8 +48,8 @@ f_function =
       parameters = 1;
       slots = record { domain = domain.Private 0; shape = shape_of Uint64 false } ∷ [];
       given = given.Value (record { domain = domain.Private 0; shape = shape_of Uint64 false });
-      body = commands_of (if_command (truth_node true) (return_command (Some (binary_node 1 (Words word.Add) Scalars (slot_node 0) (word_node 1))))
-          (return_command (Some (word_node 1))) ∷ []);
+      body = typed_statements_of (if_statement (truth_node true) (return_statement (Some (binary_node 1 (Words word.Add) Scalars (slot_node 0) (word_node 1))))
+          (return_statement (Some (word_node 1))) ∷ []);
       size = 0;
     }
 
@@ -121,7 +123,7 @@ nothing_program = record {
     parameters = 0;
     slots = [];
     given = given.Nothing;
-    body = commands_of [];
+    body = typed_statements_of [];
     size = 0;
   } ∷ [];
 }

@@ -23,7 +23,7 @@ use Rattle.typed_tree.specs.declared.operators.Operands.TheVariants.{Scalars, Ar
 use Rattle.typed_tree.specs.declared.operators.Cast as casts
 use Rattle.typed_tree.specs.declared.operators.Cast.TheVariants.{WordToWord, WordToBool, BoolToWord, BoolToBool}
 use Rattle.typed_tree.specs.Shapes.{shape_of}
-use Rattle.language_model.specs.Effects.{World, Given, Source, Clear, Answers, Stage, Short, done, test, charge, draw, gate}
+use Rattle.language_model.specs.Effects.{World, GivenInput, Source, Clear, Answers, Stage, Short, done, test, charge, draw, gate}
 use Rattle.language_model.specs.Effects.{planned, show, emit, words_each, answer}
 use Rattle.language_model.specs.Values.{Secrecy, Plain, Private, Value, plain, size, elements_of, ring_for}
 use Rattle.language_model.specs.Words as W
@@ -183,17 +183,17 @@ module _ (w : World) where
           (λ b. makes_after (gate (gates.Spread b)) _ (λ r.
           made (shape_of datatype.Bool true) (flat_map bits_of x.words) r (λ e. absurd (clash e))))))
 
-  pub joined_makes : (line : ℕ) (x y : Value) → x.shape.array ≡ true → Makes (row.joined line x y) (IsShaped x.shape)
-  joined_makes line x y h = makes_after (row.charged (row.not_too_large line (size x + size y)) (size x + size y)) _ (λ _. go x.secrecy y.secrecy)
+  pub concatenated_makes : (line : ℕ) (x y : Value) → x.shape.array ≡ true → Makes (row.concatenated line x y) (IsShaped x.shape)
+  concatenated_makes line x y h = makes_after (row.charged (row.not_too_large line (size x + size y)) (size x + size y)) _ (λ _. go x.secrecy y.secrecy)
     where
       never : {n : ℕ} → x.shape.array ≡ false → n ≡ 1
       never e = absurd (clash (sym h ∙ e))
 
-      put_together : Makes (row.joined_from (Private None) Plain x y) (IsShaped x.shape)
+      put_together : Makes (row.concatenated_from (Private None) Plain x y) (IsShaped x.shape)
       put_together = makes_after (row.number_of x) _ (λ u. makes_after (row.number_of y) _
           (λ v. makes_after (gate (gates.Cat u v)) _ (λ r. made x.shape (x.words ++ y.words) r never)))
 
-      go : (a b : Secrecy) → Makes (row.joined_from a b x y) (IsShaped x.shape)
+      go : (a b : Secrecy) → Makes (row.concatenated_from a b x y) (IsShaped x.shape)
       go Plain Plain = shown x.shape (x.words ++ y.words) never
       go Plain (Private k) = put_together
       go (Private j) Plain = put_together
@@ -257,11 +257,11 @@ module _ (w : World) where
       ap (λ z. record { element = z; array = s.array }) (types_same s.element t.element two.0) ∙ ap (λ z. record { element = t.element; array = z })
       (truths_same s.array t.array two.1)
 
-  given_makes : (secret : Bool) (x : Given) (k : ℕ) → IsSingle x → Makes (given_value secret x k) (IsShaped x.shape)
+  given_makes : (secret : Bool) (x : GivenInput) (k : ℕ) → IsSingle x → Makes (given_value secret x k) (IsShaped x.shape)
   given_makes false x k h = shown x.shape x.words h
   given_makes true x k h = makes_after (gate (gates.Input k)) _ (λ r. made x.shape x.words r h)
 
-  pub asked_makes : (secret : Bool) (shape : Shape) (line : ℕ) (o : Option (Given × ℕ)) → ((x : Given × ℕ) → o ≡ Some x → IsSingle x.0) → Makes
+  pub asked_makes : (secret : Bool) (shape : Shape) (line : ℕ) (o : Option (GivenInput × ℕ)) → ((x : GivenInput × ℕ) → o ≡ Some x → IsSingle x.0) → Makes
       (asked_for secret shape line o) (IsShaped shape)
   asked_makes secret shape line None h = makes_after (charge 1) _ (λ _. makes_end (ending.Trap trap.Argument line))
   asked_makes secret shape line (Some x) h =
@@ -270,14 +270,14 @@ module _ (w : World) where
       let same = shapes_same x.0.shape shape (and_parts (same_truth x.0.secret secret) (same_shape x.0.shape shape) q).1 in
       subst (λ z. Makes (given_value secret x.0 x.1) (IsShaped z)) same (given_makes secret x.0 x.1 (h x refl)))
 
-pub input_there : (k : ℕ) (text : List ℕ) (xs : List Given) (x : Given × ℕ) → input_from k text xs ≡ Some x → Among x.0 xs
+pub input_there : (k : ℕ) (text : List ℕ) (xs : List GivenInput) (x : GivenInput × ℕ) → input_from k text xs ≡ Some x → Among x.0 xs
 input_there k text [] x e = cc
 input_there k text (y ∷ ys) x e = go (bytes_eq text y.text) e (input_there (behind y k) text ys x)
   where
-    found : (a b : Given × ℕ) → ◌≡◌ {A = Option (Given × ℕ)} (Some a) (Some b) → b.0 ≡ a.0
+    found : (a b : GivenInput × ℕ) → ◌≡◌ {A = Option (GivenInput × ℕ)} (Some a) (Some b) → b.0 ≡ a.0
     found a b e = sym (ap first e)
       where
-        first : Option (Given × ℕ) → Given
+        first : Option (GivenInput × ℕ) → GivenInput
         first None = a.0
         first (Some z) = z.0
 

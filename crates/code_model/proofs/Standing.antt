@@ -12,7 +12,7 @@ use Rattle.language_model.specs.Evaluation.{skips, then_do}
 use Rattle.verified_code.specs.Steps.{Step, Jump, Function}
 use Rattle.code_model.specs.Machine.{Caller, Machine, at, next, step, resume, limit}
 use Rattle.code_model.specs.Expressions.{Numbers, classifying, picked, lacks, expression_code}
-use Rattle.code_model.specs.Commands.{shape_number, first_free}
+use Rattle.code_model.specs.Statements.{shape_number, first_free}
 use Rattle.code_model.specs.Fit.{MayStand}
 use Rattle.code_model.proofs.Places.{HasAt, has_front, has_back, put_other, put_agrees, put_all, stands}
 use Rattle.code_model.proofs.Gives.{Gives, Any, IsSecret}

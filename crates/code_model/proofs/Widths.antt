@@ -3,14 +3,14 @@ use Rattle.std.proofs.Common.{◌≡◌, ℕ, suc, ◌+◌, List, ◌++◌, leng
 use Rattle.typed_tree.specs.Tree.{TypedTree, TypedTrees, word_node, truth_node, slot_node, call_node, size_node, cat_node, sum_node, bits_node, element_node}
 use Rattle.typed_tree.specs.Tree.{not_node, cast_node, binary_node, cut_node, declassify_node}
 use Rattle.typed_tree.specs.Tree as Tree'
-use Rattle.typed_tree.specs.Commands.{Command, Commands, empty_command, block_command, if_command, loop_command, do_command, break_command, continue_command}
-use Rattle.typed_tree.specs.Commands.{return_command, assert_command, store_command, default_command, fill_command, input_command, element_command}
-use Rattle.typed_tree.specs.Commands.{publish_command, evaluate_command}
-use Rattle.typed_tree.specs.Commands as Commands'
+use Rattle.typed_tree.specs.Statements.{TypedStatementTree, TypedStatementTrees, empty_statement, block_statement, if_statement, loop_statement, do_statement}
+use Rattle.typed_tree.specs.Statements.{break_statement, continue_statement, return_statement, assert_statement, store_statement, default_statement}
+use Rattle.typed_tree.specs.Statements.{fill_statement, input_statement, element_statement, publish_statement, evaluate_statement}
+use Rattle.typed_tree.specs.Statements as Statements'
 use Rattle.reached_instances.specs.Domains.{Setting}
 use Rattle.bytecode.specs.declared.kind.Kind.{Kind}
 use Rattle.code_model.specs.Kinds.{width, widths, expression_kinds, arguments_kinds}
-use Rattle.code_model.specs.Commands.{command_width, commands_width, command_kinds, commands_kinds}
+use Rattle.code_model.specs.Statements.{statement_width, statements_width, statement_kinds, statements_kinds}
 
 added : (a b : List Kind) (n m : ℕ) → length a ≡ n → length b ≡ m → length (a ++ b) ≡ n + m
 added a b n m e f = omega (arith, e, f, length-append a b)
@@ -61,51 +61,52 @@ module _ (here : Setting) where
       omega (arith, p, q, length-append (expression_kinds here a) (expression_kinds here b))
 
   mutual
-    command_registers : (c : Command) → length (command_kinds here c) ≡ command_width c
-    command_registers empty_command = refl
-    command_registers (block_command cs) = commands_registers cs
-    command_registers (if_command e a b) =
+    statement_registers : (c : TypedStatementTree) → length (statement_kinds here c) ≡ statement_width c
+    statement_registers empty_statement = refl
+    statement_registers (block_statement cs) = statements_registers cs
+    statement_registers (if_statement e a b) =
         let p = expression_registers e in
-        let q = command_registers a in
-        let r = command_registers b in
+        let q = statement_registers a in
+        let r = statement_registers b in
         omega (
           arith,
           p,
           q,
           r,
-          length-append (expression_kinds here e) (command_kinds here a ++ command_kinds here b),
-          length-append (command_kinds here a)
-              (command_kinds here b),
+          length-append (expression_kinds here e) (statement_kinds here a ++ statement_kinds here b),
+          length-append (statement_kinds here a)
+              (statement_kinds here b),
         )
-    command_registers (loop_command e step body) =
+    statement_registers (loop_statement e step body) =
         let p = expression_registers e in
-        let q = command_registers step in
-        let r = command_registers body in
+        let q = statement_registers step in
+        let r = statement_registers body in
         omega (
           arith,
           p,
           q,
           r,
-          length-append (command_kinds here body) (command_kinds here step ++ expression_kinds here e),
+          length-append (statement_kinds here body) (statement_kinds here step ++ expression_kinds here e),
           length-append
-              (command_kinds here step) (expression_kinds here e),
+              (statement_kinds here step) (expression_kinds here e),
         )
-    command_registers (do_command body e) = added (command_kinds here body) (expression_kinds here e) (command_width body) (width e) (command_registers body)
+    statement_registers (do_statement body e) =
+        added (statement_kinds here body) (expression_kinds here e) (statement_width body) (width e) (statement_registers body)
         (expression_registers e)
-    command_registers break_command = refl
-    command_registers continue_command = refl
-    command_registers (return_command None) = refl
-    command_registers (return_command (Some e)) = behind_one (expression_kinds here e) (width e) (expression_registers e)
-    command_registers (assert_command line e) = expression_registers e
-    command_registers (store_command k e) = behind_one (expression_kinds here e) (width e) (expression_registers e)
-    command_registers (default_command k) = refl
-    command_registers (fill_command line k n e) = two_registers n e
-    command_registers (input_command line k text) = refl
-    command_registers (element_command line k i e) = two_registers i e
-    command_registers (publish_command text e) = expression_registers e
-    command_registers (evaluate_command e) = expression_registers e
+    statement_registers break_statement = refl
+    statement_registers continue_statement = refl
+    statement_registers (return_statement None) = refl
+    statement_registers (return_statement (Some e)) = behind_one (expression_kinds here e) (width e) (expression_registers e)
+    statement_registers (assert_statement line e) = expression_registers e
+    statement_registers (store_statement k e) = behind_one (expression_kinds here e) (width e) (expression_registers e)
+    statement_registers (default_statement k) = refl
+    statement_registers (fill_statement line k n e) = two_registers n e
+    statement_registers (input_statement line k text) = refl
+    statement_registers (element_statement line k i e) = two_registers i e
+    statement_registers (publish_statement text e) = expression_registers e
+    statement_registers (evaluate_statement e) = expression_registers e
 
-    pub commands_registers : (cs : Commands) → length (commands_kinds here cs) ≡ commands_width cs
-    commands_registers Commands'.none = refl
-    commands_registers (Commands'.also c cs) = added (command_kinds here c) (commands_kinds here cs) (command_width c) (commands_width cs)
-        (command_registers c) (commands_registers cs)
+    pub statements_registers : (cs : TypedStatementTrees) → length (statements_kinds here cs) ≡ statements_width cs
+    statements_registers Statements'.none = refl
+    statements_registers (Statements'.also c cs) = added (statement_kinds here c) (statements_kinds here cs) (statement_width c) (statements_width cs)
+        (statement_registers c) (statements_registers cs)

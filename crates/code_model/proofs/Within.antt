@@ -17,7 +17,7 @@ use Rattle.code_model.specs.Kinded.{AreWithin, IsWithin}
 use Rattle.code_model.proofs.Places.{put_all}
 use Rattle.code_model.proofs.Makes.{Makes, makes_done, makes_end, makes_bind, makes_after}
 use Rattle.code_model.proofs.KindRows.{operated_kind, negated_kind, cast_kind, classified_kind}
-use Rattle.code_model.proofs.KindRows.{filled_kind, element_kind, with_element_kind, size_kind, joined_kind, summed_kind, bits_kind, declassified_kind}
+use Rattle.code_model.proofs.KindRows.{filled_kind, element_kind, with_element_kind, size_kind, concatenated_kind, summed_kind, bits_kind, declassified_kind}
 use Rattle.code_model.proofs.KindRows.{asked_kind}
 
 none_some : {A : Type 0} {a : A} → ◌≡◌ {A = Option A} None (Some a) → ⊥
@@ -137,8 +137,8 @@ module _ (w : World) (p : List Function) (fits : (f : Function) → IsIn p f →
     act (Put line a i x) f g = sets a f.0 (row.with_element line (m.registers a) (m.registers i) (m.registers x)) (g refl) f.1
         (with_element_kind w line f.0 (m.registers a) (m.registers i) (m.registers x) (h.registers a f.0 f.1) f.2)
     act (Size d r) f g = sets d _ (row.size_told (m.registers r)) (g refl) f (size_kind w (m.registers r))
-    act (Cat line d a b) f g = sets d f.0 (row.joined line (m.registers a) (m.registers b)) (g refl) f.4
-        (joined_kind w line f.0 (m.registers a) (m.registers b) (h.registers a f.0 f.1) (h.registers b f.0 f.2) f.3)
+    act (Cat line d a b) f g = sets d f.0 (row.concatenated line (m.registers a) (m.registers b)) (g refl) f.4
+        (concatenated_kind w line f.0 (m.registers a) (m.registers b) (h.registers a f.0 f.1) (h.registers b f.0 f.2) f.3)
     act (Sum d r) f g = sets d _ (row.summed (m.registers r)) (g refl) f.2 (summed_kind w f.0 (m.registers r) (h.registers r f.0 f.1))
     act (Bits line d r) f g = sets d _ (row.bits_extracted w line (m.registers r)) (g refl) f.2 (bits_kind w line f.0 (m.registers r) (h.registers r f.0 f.1))
     act (Declassify d r) f g = sets d _ (row.declassified w (m.registers r)) (g refl) f.2 (declassified_kind w f.0 (m.registers r) (h.registers r f.0 f.1))

@@ -7,10 +7,10 @@ use Rattle.typed_tree.specs.declared.kinds.Slot.{Slot}
 use Rattle.typed_tree.specs.Tree.{TypedTree, TypedTrees, word_node, truth_node, slot_node, call_node, size_node, cat_node, sum_node, bits_node, element_node}
 use Rattle.typed_tree.specs.Tree.{not_node, cast_node, binary_node, cut_node, declassify_node}
 use Rattle.typed_tree.specs.Tree as Tree'
-use Rattle.typed_tree.specs.Commands.{Command, Commands, empty_command, block_command, if_command, loop_command, do_command, break_command, continue_command}
-use Rattle.typed_tree.specs.Commands.{return_command, assert_command, store_command, default_command, fill_command, input_command, element_command}
-use Rattle.typed_tree.specs.Commands.{publish_command, evaluate_command}
-use Rattle.typed_tree.specs.Commands as Commands'
+use Rattle.typed_tree.specs.Statements.{TypedStatementTree, TypedStatementTrees, empty_statement, block_statement, if_statement, loop_statement, do_statement}
+use Rattle.typed_tree.specs.Statements.{break_statement, continue_statement, return_statement, assert_statement, store_statement, default_statement}
+use Rattle.typed_tree.specs.Statements.{fill_statement, input_statement, element_statement, publish_statement, evaluate_statement}
+use Rattle.typed_tree.specs.Statements as Statements'
 use Rattle.typed_tree.specs.declared.function.Returned.{Returned}
 use Rattle.typed_tree.specs.declared.function.Returned.TheVariants as given
 use Rattle.typed_tree.specs.Programs.{TypedFunctionTree, TypedProgramTree}
@@ -58,42 +58,42 @@ module _ (Known : ℕ → List BoundDomain → Type 0) where
 
   -- inside of a loop or not
   abbrev mutual
-    pub IsFitCommand : StatementContext → (inside : Bool) → Command → Type 0
-    IsFitCommand at inside empty_command = Unit {0}
-    IsFitCommand at inside (block_command cs) = AreFitCommands at inside cs
-    IsFitCommand at inside (if_command e a b) = IsFit at.here e × IsFitCommand at inside a × IsFitCommand at inside b
-    IsFitCommand at inside (loop_command e step body) = IsFit at.here e × IsFitCommand at false step × IsFitCommand at true body
-    IsFitCommand at inside (do_command body e) = IsFitCommand at true body × IsFit at.here e
-    IsFitCommand at inside break_command = inside ≡ true
-    IsFitCommand at inside continue_command = inside ≡ true
-    IsFitCommand at inside (return_command None) = at.secret_result ≡ false
-    IsFitCommand at inside (return_command (Some e)) = IsFit at.here e × MayStand (gives_private at.here e) at.secret_result
-    IsFitCommand at inside (assert_command line e) = IsFit at.here e
-    IsFitCommand at inside (store_command k e) = FitsSlot at.here k e
-    IsFitCommand at inside (default_command k) = k < length at.here.slots
-    IsFitCommand at inside (fill_command line k n e) = IsFit at.here n × FitsSlot at.here k e
-    IsFitCommand at inside (input_command line k text) = k < length at.here.slots
-    IsFitCommand at inside (element_command line k i e) = IsFit at.here i × FitsSlot at.here k e
-    IsFitCommand at inside (publish_command text e) = IsFit at.here e
-    IsFitCommand at inside (evaluate_command e) = IsFit at.here e
+    pub IsFitStatement : StatementContext → (inside : Bool) → TypedStatementTree → Type 0
+    IsFitStatement at inside empty_statement = Unit {0}
+    IsFitStatement at inside (block_statement cs) = AreFitStatements at inside cs
+    IsFitStatement at inside (if_statement e a b) = IsFit at.here e × IsFitStatement at inside a × IsFitStatement at inside b
+    IsFitStatement at inside (loop_statement e step body) = IsFit at.here e × IsFitStatement at false step × IsFitStatement at true body
+    IsFitStatement at inside (do_statement body e) = IsFitStatement at true body × IsFit at.here e
+    IsFitStatement at inside break_statement = inside ≡ true
+    IsFitStatement at inside continue_statement = inside ≡ true
+    IsFitStatement at inside (return_statement None) = at.secret_result ≡ false
+    IsFitStatement at inside (return_statement (Some e)) = IsFit at.here e × MayStand (gives_private at.here e) at.secret_result
+    IsFitStatement at inside (assert_statement line e) = IsFit at.here e
+    IsFitStatement at inside (store_statement k e) = FitsSlot at.here k e
+    IsFitStatement at inside (default_statement k) = k < length at.here.slots
+    IsFitStatement at inside (fill_statement line k n e) = IsFit at.here n × FitsSlot at.here k e
+    IsFitStatement at inside (input_statement line k text) = k < length at.here.slots
+    IsFitStatement at inside (element_statement line k i e) = IsFit at.here i × FitsSlot at.here k e
+    IsFitStatement at inside (publish_statement text e) = IsFit at.here e
+    IsFitStatement at inside (evaluate_statement e) = IsFit at.here e
 
-    pub AreFitCommands : StatementContext → (inside : Bool) → Commands → Type 0
-    AreFitCommands at inside Commands'.none = Unit {0}
-    AreFitCommands at inside (Commands'.also c cs) = IsFitCommand at inside c × AreFitCommands at inside cs
+    pub AreFitStatements : StatementContext → (inside : Bool) → TypedStatementTrees → Type 0
+    AreFitStatements at inside Statements'.none = Unit {0}
+    AreFitStatements at inside (Statements'.also c cs) = IsFitStatement at inside c × AreFitStatements at inside cs
 
 -- ---- FUNCTIONS AND PROGRAMS
 
 -- a return, a block with a statement that always returns, an `if` whose both branches do
 abbrev mutual
-  pub always_returns : Command → Bool
-  always_returns (block_command cs) = one_returns cs
-  always_returns (if_command e a b) = always_returns a && always_returns b
-  always_returns (return_command e) = true
+  pub always_returns : TypedStatementTree → Bool
+  always_returns (block_statement cs) = one_returns cs
+  always_returns (if_statement e a b) = always_returns a && always_returns b
+  always_returns (return_statement e) = true
   always_returns c = false
 
-  pub one_returns : Commands → Bool
-  one_returns Commands'.none = false
-  one_returns (Commands'.also c cs) = always_returns c || one_returns cs
+  pub one_returns : TypedStatementTrees → Bool
+  one_returns Statements'.none = false
+  one_returns (Statements'.also c cs) = always_returns c || one_returns cs
 
 abbrev pub gives_value : Returned → Bool
 gives_value given.Nothing = false
@@ -101,7 +101,7 @@ gives_value (given.Value s) = true
 
 -- a function that gives a value back never falls off its end
 pub record IsFitFunction (Known : ℕ → List BoundDomain → Type 0) (fs : List TypedFunctionTree) (f : TypedFunctionTree) (b : List BoundDomain) : Type 0 where
-  pub body : AreFitCommands Known (place_in fs f b) false f.body
+  pub body : AreFitStatements Known (place_in fs f b) false f.body
   pub returns : gives_value f.given ≡ true → one_returns f.body ≡ true
 
 abbrev pub IsKnownIn : List Instance → ℕ → List BoundDomain → Type 0

@@ -9,7 +9,7 @@ use Rattle.typed_tree.specs.declared.operators.Cast as casts
 use Rattle.typed_tree.specs.declared.operators.Cast.TheVariants.{WordToWord, WordToBool, BoolToWord, BoolToBool}
 use Rattle.typed_tree.specs.declared.operators.Operands.{Operands}
 use Rattle.typed_tree.specs.declared.operators.Operands.TheVariants.{Scalars, ArrayAndScalar, ScalarAndArray, Arrays}
-use Rattle.language_model.specs.Effects.{Given}
+use Rattle.language_model.specs.Effects.{GivenInput}
 use Rattle.language_model.specs.Values.{Value, is_secret}
 use Rattle.language_model.specs.Operations.{result_shape}
 use Rattle.bytecode.specs.declared.kind.Kind.{Kind}
@@ -28,11 +28,11 @@ pub record IsOf (k : Kind) (v : Value) : Type 0 where
   pub single : k.array ≡ false → length v.words ≡ 1
 
 -- an input that is no array has one element
-abbrev pub IsSingle : Given → Type 0
+abbrev pub IsSingle : GivenInput → Type 0
 IsSingle x = x.shape.array ≡ false → length x.words ≡ 1
 
-abbrev pub AreSingle : List Given → Type 0
-AreSingle xs = (x : Given) → Among x xs → IsSingle x
+abbrev pub AreSingle : List GivenInput → Type 0
+AreSingle xs = (x : GivenInput) → Among x xs → IsSingle x
 
 -- ---- KINDS
 

@@ -6,7 +6,7 @@ use Rattle.sc_text.specs.Lists.{Among}
 use Rattle.reached_instances.specs.Instances.{Instance}
 use Rattle.reached_instances.specs.Calls.{main_of}
 use Rattle.reached_instances.specs.Reached.{IsReachedList}
-use Rattle.language_model.specs.Effects.{World, Stage, Stop, Run}
+use Rattle.language_model.specs.Effects.{World, Stage, RunStop, Run}
 use Rattle.language_model.specs.Reports.{Offered, beginning, evaluated}
 use Rattle.blind_evaluation.specs.Courses.{TakeSameCourse, IsEnded}
 use Rattle.bytecode.specs.Raw.{RawCode}
@@ -37,7 +37,7 @@ FitsWhereReached p is = IsReachedList p is → main_of p ≡ the_main ∷ [] →
 
 -- why the run stopped and where it stood
 abbrev pub Stops : World → List Function → (fuel : ℕ) → Stage → Type 0
-Stops w c n s = (x : Stop × Stage) × (exec w c n (start c) s ≡ Some x)
+Stops w c n s = (x : RunStop × Stage) × (exec w c n (start c) s ≡ Some x)
 
 abbrev pub EndsWithinFuel : World → List Function → (budget : ℕ) → (answers : List ℕ) → Type 0
 EndsWithinFuel w c budget answers = AreForward c → Stops w c (fuel c budget) (beginning budget answers)

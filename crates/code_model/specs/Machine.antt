@@ -4,7 +4,7 @@ use Rattle.std.specs.List.{slice_get}
 use Rattle.sc_text.specs.declared.end.Ending.TheVariants as ending
 use Rattle.sc_text.specs.declared.end.TrapKind.TheVariants as trap
 use Rattle.typed_tree.specs.Shapes.{shape_of}
-use Rattle.language_model.specs.Effects.{World, Stage, Stop, Run, Effect, ◌>>=◌, done, end, charge, test}
+use Rattle.language_model.specs.Effects.{World, Stage, RunStop, Run, Effect, ◌>>=◌, done, end, charge, test}
 use Rattle.language_model.specs.Values.{Value, plain, never_stored, size}
 use Rattle.language_model.specs.Operations as row
 use Rattle.language_model.specs.Evaluation.{Frame, put, nothing, array_elements, either, asked_for, input_named}
@@ -122,7 +122,7 @@ step w p (Some (Size d r)) m = do
   v ← row.size_told (m.registers r)
   done (next d v m)
 step w p (Some (Cat line d a b)) m = do
-  v ← row.joined line (m.registers a) (m.registers b)
+  v ← row.concatenated line (m.registers a) (m.registers b)
   done (next d v m)
 step w p (Some (Sum d r)) m = do
   v ← row.summed (m.registers r)
@@ -156,12 +156,12 @@ step w p (Some ReturnNone) m = resume m.stack nothing
 
 -- ---- A RUN OF CODE
 
-abbrev pub further : {A : Type 0} → Run A → (A → Stage → Option (Stop × Stage)) → Option (Stop × Stage)
+abbrev pub further : {A : Type 0} → Run A → (A → Stage → Option (RunStop × Stage)) → Option (RunStop × Stage)
 further (Ok x) f = f x.0 x.1
 further (Err e) f = Some e
 
 -- at most so many steps: why the run stopped and where it stood, if it did
-unfoldable pub exec : World → List Function → ℕ → Machine → Stage → Option (Stop × Stage)
+unfoldable pub exec : World → List Function → ℕ → Machine → Stage → Option (RunStop × Stage)
 exec w p zero m s = None
 exec w p (suc k) m s = further (step w p (slice_get m.steps m.pc) m s) (exec w p k)
 

@@ -2,7 +2,7 @@
 use Rattle.std.specs.Prelude.{◌≡◌, ℕ, zero, suc, ◌+◌, ◌<◌, nat_le, if◌then◌else◌, max, length, List, [], ◌∷◌, Option, Some, None}
 use Rattle.std.specs.List.{slice_get}
 use Rattle.sc_text.specs.declared.end.Ending.TheVariants as ending
-use Rattle.language_model.specs.Effects.{World, Stage, Stop, Ended, Clear, Answers}
+use Rattle.language_model.specs.Effects.{World, Stage, RunStop, Ended, Clear, Answers}
 use Rattle.language_model.specs.Reports.{Report, Offered, world_of, public_part, dealing, not_dealt, beginning, reported}
 use Rattle.verified_code.specs.Steps.{Step, Jump, Function}
 use Rattle.code_model.specs.Machine.{exec, start}
@@ -20,11 +20,11 @@ worth l (suc n) = worth l n + (l + 1)
 abbrev pub fuel : List Function → ℕ → ℕ
 fuel p budget = worth (longest p) budget + longest p + 1
 
-abbrev pub report_at : World → ℕ → Stop × Stage → Report
+abbrev pub report_at : World → ℕ → RunStop × Stage → Report
 report_at w budget x = reported w budget x.0 x.1
 
 -- a run that had no end would be out of budget
-abbrev pub stopped_or : Stage → Option (Stop × Stage) → Stop × Stage
+abbrev pub stopped_or : Stage → Option (RunStop × Stage) → RunStop × Stage
 stopped_or s None = (Ended ending.Budget, s)
 stopped_or s (Some x) = x
 

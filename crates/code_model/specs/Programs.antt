@@ -11,7 +11,7 @@ use Rattle.bytecode.specs.declared.kind.Kind.{Kind}
 use Rattle.verified_code.specs.Steps.{Step, Return, ReturnNone, Function}
 use Rattle.code_model.specs.Kinds.{slot_kind}
 use Rattle.code_model.specs.Expressions.{Numbers}
-use Rattle.code_model.specs.Commands.{defaults_behind, first_free, commands_width, commands_kinds, commands_code}
+use Rattle.code_model.specs.Statements.{defaults_behind, first_free, statements_width, statements_kinds, statements_code}
 
 abbrev pub given_kind : List BoundDomain → Returned → Option Kind
 given_kind b given.Nothing = None
@@ -30,7 +30,7 @@ last_step (given.Value s) r = Return r
 module _ (number : Numbers) (fs : List TypedFunctionTree) where
   -- where the body ends
   abbrev pub body_end : TypedFunctionTree → List BoundDomain → ℕ
-  body_end f b = length (commands_code number (place_in fs f b) (first_free f.slots) 0 0 0 f.body)
+  body_end f b = length (statements_code number (place_in fs f b) (first_free f.slots) 0 0 0 f.body)
 
   -- its slots are the first registers; a break outside of a loop would lead behind the body
   abbrev pub function_code : TypedFunctionTree → List BoundDomain → Function
@@ -38,9 +38,9 @@ module _ (number : Numbers) (fs : List TypedFunctionTree) where
       record {
         parameters = f.parameters;
         gives = given_kind b f.given;
-        kinds = map (slot_kind b) f.slots ++ (defaults_behind f.slots ++ (commands_kinds (place_in fs f b).here f.body ++ last_kinds b f.given));
-        steps = commands_code number (place_in fs f b) (first_free f.slots) (body_end f b) (body_end f b) 0 f.body
-            ++ last_step f.given (first_free f.slots + commands_width f.body) ∷ [];
+        kinds = map (slot_kind b) f.slots ++ (defaults_behind f.slots ++ (statements_kinds (place_in fs f b).here f.body ++ last_kinds b f.given));
+        steps = statements_code number (place_in fs f b) (first_free f.slots) (body_end f b) (body_end f b) 0 f.body
+            ++ last_step f.given (first_free f.slots + statements_width f.body) ∷ [];
       }
 
 -- ---- PROGRAMS

@@ -4,7 +4,7 @@ use Rattle.std.specs.Prelude.{length, nat_le, take, drop}
 use Rattle.sc_text.specs.declared.event.Event.TheVariants as event
 use Rattle.gates.specs.declared.gate.Gate.TheVariants.{Open}
 use Rattle.language_model.specs.Beginnings.{Begins}
-use Rattle.language_model.specs.Effects.{World, Source, Clear, Answers, Stage, Stop, Ended, Short, Run, Effect, ◌>>=◌, carry, done, words_each}
+use Rattle.language_model.specs.Effects.{World, Source, Clear, Answers, Stage, RunStop, Ended, Short, Run, Effect, ◌>>=◌, carry, done, words_each}
 use Rattle.language_model.specs.Effects.{answer, emit, show}
 use Rattle.language_model.specs.Values.{Secrecy, Plain, Private, Value, plain, size, ring_for, elements_of}
 use Rattle.language_model.specs.Operations.{read_answer, revealed, opened_from, declassified}
@@ -20,7 +20,7 @@ use Rattle.code_places.proofs.QuietSteps.{IsOpening, quiet_or_opening}
 
 -- ---- WHERE A RUN WANTS WORDS
 
-abbrev OnShort : Stop → Type 0 → Type 0
+abbrev OnShort : RunStop → Type 0 → Type 0
 OnShort (Ended e) P = Unit {0}
 OnShort Short P = P
 
@@ -43,7 +43,7 @@ more_then s t u h k =
 redone_behind : {A B : Type 0} {c : Effect A} {f : A → Effect B} → Quiet false c → ((a : A) → Redone (f a)) → Redone (c >>= f)
 redone_behind {A = A} {B = B} {c = c} {f = f} q k = record { from = λ s. go s (c s) (q.from s) }
   where
-    on : (s t : Stage) (stop : Stop) (u : Stage) → Kept false s t → OnShort stop (HasToldNothing t u) → OnShort stop (HasToldNothing s u)
+    on : (s t : Stage) (stop : RunStop) (u : Stage) → Kept false s t → OnShort stop (HasToldNothing t u) → OnShort stop (HasToldNothing s u)
     on s t (Ended e) u h g = tt
     on s t Short u h g = more_then s t u h g
 
@@ -51,7 +51,7 @@ redone_behind {A = A} {B = B} {c = c} {f = f} q k = record { from = λ s. go s (
     later s t (Ok x) h g = tt
     later s t (Err e) h g = on s t e.0 e.1 h g
 
-    never : (s u : Stage) (stop : Stop) → KeptAt {A = A} false s (Err (stop, u)) → OnShort stop (HasToldNothing s u)
+    never : (s u : Stage) (stop : RunStop) → KeptAt {A = A} false s (Err (stop, u)) → OnShort stop (HasToldNothing s u)
     never s u (Ended e) h = tt
     never s u Short h = absurd h.0
 

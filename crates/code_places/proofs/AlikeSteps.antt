@@ -16,7 +16,7 @@ use Rattle.code_model.specs.Machine.{Caller, Machine, limit, same_bool, resume, 
 use Rattle.blind_evaluation.proofs.Alike.{Alike, alike_bind, alike_done, same_bind, any_bind, end_alike, charge_alike, charge_equal, test_equal}
 use Rattle.blind_evaluation.proofs.AlikeValues.{LikeValues, plains}
 use Rattle.blind_evaluation.proofs.Rows.{clear, unseen, sized_alike, classified_alike, negated_alike, size_told_alike, summed_alike}
-use Rattle.blind_evaluation.proofs.Rows.{joined_alike, element_alike}
+use Rattle.blind_evaluation.proofs.Rows.{concatenated_alike, element_alike}
 use Rattle.blind_evaluation.proofs.Rows.{with_element_alike, filled_alike, tested_alike, asserted_alike, declassified_alike, operated_alike}
 use Rattle.blind_evaluation.proofs.Rows.{cast_to_alike}
 use Rattle.blind_evaluation.proofs.Rows.{bits_extracted_alike, published_alike}
@@ -56,7 +56,7 @@ module _ (o : Offered) (c : List Function) {m m' : Machine} (l : LikeMachine m m
       alike_bind (with_element_alike line (in_register a) (in_register i) (in_register x)) (λ v v' h. alike_done (next_like a h l))
   step_alike (Some (Size d r)) = alike_bind (size_told_alike (in_register r)) (λ v v' h. alike_done (next_like d h l))
   step_alike (Some (Cat line d a b)) =
-      alike_bind (joined_alike line (in_register a) (in_register b)) (λ v v' h. alike_done (next_like d h l))
+      alike_bind (concatenated_alike line (in_register a) (in_register b)) (λ v v' h. alike_done (next_like d h l))
   step_alike (Some (Sum d r)) = alike_bind (summed_alike (in_register r)) (λ v v' h. alike_done (next_like d h l))
   step_alike (Some (Bits line d r)) = alike_bind (bits_extracted_alike o line (in_register r)) (λ v v' h. alike_done (next_like d h l))
   step_alike (Some (Declassify d r)) = alike_bind (declassified_alike o (in_register r)) (λ v v' h. alike_done (next_like d h l))

@@ -23,7 +23,7 @@ use Rattle.typed_tree.specs.declared.operators.Operands.{Operands}
 use Rattle.typed_tree.specs.declared.operators.Cast.{Cast}
 use Rattle.typed_tree.specs.declared.operators.Cast.TheVariants.{WordToWord, WordToBool, BoolToWord, BoolToBool}
 use Rattle.typed_tree.specs.Shapes.{shape_of}
-use Rattle.language_model.specs.Effects.{World, Given, Effect, ◌>>=◌, words_each}
+use Rattle.language_model.specs.Effects.{World, GivenInput, Effect, ◌>>=◌, words_each}
 use Rattle.language_model.specs.Values.{Secrecy, Plain, Private, Value, plain, hidden, size, visible_words, is_true, ring_for, elements_of}
 use Rattle.language_model.specs.Words as W
 use Rattle.language_model.specs.Operations.{charged, no_traps, not_too_large, number_from, number_of, made_private, classified_from}
@@ -34,7 +34,7 @@ use Rattle.language_model.specs.Operations.{result_shape, private_result, produc
 use Rattle.language_model.specs.Operations.{negated, words_of_cast}
 use Rattle.language_model.specs.Operations.{cast_shape, cast_gates, changed, cast_from, cast_to, scalar_word, size_told, summed_from, summed}
 use Rattle.language_model.specs.Operations.{words_for_bits, bits_from}
-use Rattle.language_model.specs.Operations.{bits_extracted, joined_from, joined, position, element_at, element_from, element_of_array}
+use Rattle.language_model.specs.Operations.{bits_extracted, concatenated_from, concatenated, position, element_at, element_from, element_of_array}
 use Rattle.language_model.specs.Operations.{with_element_from, with_element}
 use Rattle.language_model.specs.Operations.{filled_from, filled, handed_over, published, tested, asserted}
 use Rattle.language_model.specs.Evaluation.{is_as_declared, given_value, asked_for}
@@ -199,18 +199,18 @@ module _ (told : Bool) where
 
   -- ---- ARRAYS
 
-  cat_quiet : (x y : Value) → Quiet told (joined_from (Private None) Plain x y)
+  cat_quiet : (x y : Value) → Quiet told (concatenated_from (Private None) Plain x y)
   cat_quiet x y =
       bind (number_quiet x) (λ u. bind (number_quiet y) (λ v. bind (quiet_gate told (Cat u v)) (λ r. made_quiet x.shape (x.words ++ y.words) r)))
 
-  joined_from_quiet : (a b : Secrecy) (x y : Value) → Quiet told (joined_from a b x y)
-  joined_from_quiet Plain Plain x y = quiet_done told (plain x.shape (x.words ++ y.words))
-  joined_from_quiet Plain (Private k) x y = cat_quiet x y
-  joined_from_quiet (Private j) Plain x y = cat_quiet x y
-  joined_from_quiet (Private j) (Private k) x y = cat_quiet x y
+  concatenated_from_quiet : (a b : Secrecy) (x y : Value) → Quiet told (concatenated_from a b x y)
+  concatenated_from_quiet Plain Plain x y = quiet_done told (plain x.shape (x.words ++ y.words))
+  concatenated_from_quiet Plain (Private k) x y = cat_quiet x y
+  concatenated_from_quiet (Private j) Plain x y = cat_quiet x y
+  concatenated_from_quiet (Private j) (Private k) x y = cat_quiet x y
 
-  pub joined_quiet : (line : ℕ) (x y : Value) → Quiet told (joined line x y)
-  joined_quiet line x y = bind (large_quiet line (size x + size y)) (λ _. joined_from_quiet x.secrecy y.secrecy x y)
+  pub concatenated_quiet : (line : ℕ) (x y : Value) → Quiet told (concatenated line x y)
+  concatenated_quiet line x y = bind (large_quiet line (size x + size y)) (λ _. concatenated_from_quiet x.secrecy y.secrecy x y)
 
   element_from_quiet : (x : Secrecy) (v : Value) (i : ℕ) → Quiet told (element_from x v i)
   element_from_quiet Plain v i = quiet_done told (plain (shape_of v.shape.element false) (element_at v.words i ∷ []))
@@ -249,11 +249,11 @@ module _ (told : Bool) where
   pub asserted_quiet : (line : ℕ) (v : Value) → Quiet told (asserted line v)
   asserted_quiet line v = bind (quiet_charge told 1) (λ _. quiet_test told (is_true v) trap.Assert line)
 
-  given_quiet : (secret : Bool) (x : Given) (k : ℕ) → Quiet told (given_value secret x k)
+  given_quiet : (secret : Bool) (x : GivenInput) (k : ℕ) → Quiet told (given_value secret x k)
   given_quiet false x k = quiet_done told (plain x.shape x.words)
   given_quiet true x k = bind (quiet_gate told (Input k)) (λ r. made_quiet x.shape x.words r)
 
-  pub asked_quiet : (secret : Bool) (shape : Shape) (line : ℕ) (x : Option (Given × ℕ)) → Quiet told (asked_for secret shape line x)
+  pub asked_quiet : (secret : Bool) (shape : Shape) (line : ℕ) (x : Option (GivenInput × ℕ)) → Quiet told (asked_for secret shape line x)
   asked_quiet secret shape line None = bind (quiet_charge told 1) (λ _. quiet_end told (ending.Trap trap.Argument line))
   asked_quiet secret shape line (Some x) =
       bind (charged_quiet (length x.0.words) (quiet_test told (is_as_declared secret shape x.0) trap.Argument line)) (λ _.

@@ -13,7 +13,7 @@ use Rattle.code_model.specs.Machine.{Caller, Machine, values_at, limit, resume, 
 use Rattle.code_places.proofs.Quiet.{Quiet, quiet_bind, quiet_done, quiet_end, quiet_charge, quiet_test}
 use Rattle.code_places.proofs.QuietRows.{untrapped_quiet, classified_quiet, operated_quiet, negated_quiet, cast_quiet, size_quiet}
 use Rattle.code_places.proofs.QuietRows.{summed_quiet, bits_quiet}
-use Rattle.code_places.proofs.QuietRows.{joined_quiet, element_quiet, with_element_quiet, filled_quiet, tested_quiet, asserted_quiet}
+use Rattle.code_places.proofs.QuietRows.{concatenated_quiet, element_quiet, with_element_quiet, filled_quiet, tested_quiet, asserted_quiet}
 use Rattle.code_places.proofs.QuietRows.{asked_quiet, published_quiet}
 
 abbrev pub IsOpening : Option Step → Type 0
@@ -42,7 +42,7 @@ module _ (w : World) (c : List Function) (m : Machine) where
       inl (quiet_bind true (with_element_quiet true line (m.registers a) (m.registers i) (m.registers x)) (λ v. quiet_done true _))
   quiet_or_opening (Some (Size d r)) = inl (quiet_bind true (size_quiet true (m.registers r)) (λ v. quiet_done true _))
   quiet_or_opening (Some (Cat line d a b)) =
-      inl (quiet_bind true (joined_quiet true line (m.registers a) (m.registers b)) (λ v. quiet_done true _))
+      inl (quiet_bind true (concatenated_quiet true line (m.registers a) (m.registers b)) (λ v. quiet_done true _))
   quiet_or_opening (Some (Sum d r)) = inl (quiet_bind true (summed_quiet true (m.registers r)) (λ v. quiet_done true _))
   quiet_or_opening (Some (Bits line d r)) = inl (quiet_bind true (bits_quiet true w line (m.registers r)) (λ v. quiet_done true _))
   quiet_or_opening (Some (Declassify d r)) = inr (d, r, refl)

@@ -6,7 +6,7 @@ use Rattle.std.proofs.Math.Seq.{drop-append_seam}
 use Rattle.std.proofs.lemmas.List.{append_cancel_left}
 use Rattle.sc_text.specs.declared.event.Event.{Event}
 use Rattle.language_model.specs.Beginnings.{Begins}
-use Rattle.language_model.specs.Effects.{Stage, Stop, Ended, Short, Run}
+use Rattle.language_model.specs.Effects.{Stage, RunStop, Ended, Short, Run}
 use Rattle.language_model.specs.Reports.{Offered}
 use Rattle.language_model.proofs.Onward.{stage_of}
 use Rattle.verified_code.specs.Steps.{Step, Function}
@@ -156,11 +156,11 @@ module _ (o : Offered) (c : List Function) where
 
     -- ---- where it is over
 
-    ends_untold : (stop : Stop) (t : Stage) (words : List ℕ) → seen_step ≡ Err (stop, t) → opened_by seen_step ≡ s.opened ++ words → words ≡ []
+    ends_untold : (stop : RunStop) (t : Stage) (words : List ℕ) → seen_step ≡ Err (stop, t) → opened_by seen_step ≡ s.opened ++ words → words ≡ []
     ends_untold stop t [] is e = refl
     ends_untold stop t (w ∷ ws) is e = absurd (subst Gives is (asks.gives s (some_words w ws e)))
 
-    ends_alike : (stop : Stop) (t : Stage) → seen_step ≡ Err (stop, t) → (r : Run Machine) → told_step here.words ≡ r
+    ends_alike : (stop : RunStop) (t : Stage) → seen_step ≡ Err (stop, t) → (r : Run Machine) → told_step here.words ≡ r
         → SameOutcome LikeMachine [] (Err (stop, t)) r → TwinBy (in_the_clear o c) (when_told o c) GoAlike EndAlike p p' (stopped m t stop)
     ends_alike stop t is (Ok y) same h = absurd h
     ends_alike Short t is (Err y) same h = absurd h.0

@@ -12,7 +12,7 @@ use Rattle.protocol_model.specs.Gates.{sizes_of}
 use Rattle.gates.specs.declared.gate.Gate.{Gate}
 use Rattle.shared_gates.specs.Model.{run_gates, sizes_after}
 use Rattle.gate_laws.specs.Facts.{Dealt}
-use Rattle.language_model.specs.Effects.{World, Stage, Stop, Ended, Short, Run}
+use Rattle.language_model.specs.Effects.{World, Stage, RunStop, Ended, Short, Run}
 use Rattle.language_model.specs.Values.{Secrecy, Plain, Private}
 use Rattle.language_model.specs.Reports.{beginning}
 use Rattle.typed_tree.specs.declared.kinds.Shape.{Shape}
@@ -35,7 +35,7 @@ telling_stage answers s = record s { answers = answers }
 abbrev pub place : Option Ending → Machine → Stage → Place
 place ended m s = record { machine = m; stage = telling_stage [] s; ended = ended }
 
-abbrev pub stopped : Machine → Stage → Stop → Went Place
+abbrev pub stopped : Machine → Stage → RunStop → Went Place
 stopped m s (Ended e) = Over (place (Some e) m s)
 stopped m s Short = Wants (place None m s)
 

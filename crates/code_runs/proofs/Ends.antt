@@ -2,7 +2,7 @@
 use Rattle.std.proofs.Common.{◌≡◌, ℕ, zero, suc, List, [], ◌++◌, Option, Some, None, Ok, Err, refl, sym, ap, ◌∙◌, subst, append_assoc}
 use Rattle.sc_text.specs.declared.end.Ending.{Ending}
 use Rattle.shared_gates.specs.Shares.{Kind}
-use Rattle.language_model.specs.Effects.{World, Clear, Stage, Stop, Ended, Short, Run}
+use Rattle.language_model.specs.Effects.{World, Clear, Stage, RunStop, Ended, Short, Run}
 use Rattle.language_model.specs.Reports.{Offered, world_of}
 use Rattle.language_model.specs.Tapes.{AtMost}
 use Rattle.language_model.proofs.Onward.{stage_of}
@@ -33,7 +33,7 @@ module _ (o : Offered) (d : Dealt) (c : List Function) (may : MayRun (world_of C
   w = world_of Clear o
 
   -- with so many steps from this place the run ends with this
-  pub record EndsAs (fuel : ℕ) (p : Place) (x : Stop × Stage) : Type 0 where
+  pub record EndsAs (fuel : ℕ) (p : Place) (x : RunStop × Stage) : Type 0 where
     pub last : Place
     pub stand : stand_after (in_the_clear o c) fuel p ≡ Stopped last
     pub ending : Ending
@@ -45,7 +45,7 @@ module _ (o : Offered) (d : Dealt) (c : List Function) (may : MayRun (world_of C
     pub at : IsAt w d kinds none_of x.1
     pub tapes : AtMost x.1.drawn w.lengths
 
-  pub ends : (fuel : ℕ) (p b : Place) → Stays o d c p → GoAlike p b → (x : Stop × Stage) → exec w c fuel p.machine p.stage ≡ Some x → EndsAs fuel p x
+  pub ends : (fuel : ℕ) (p b : Place) → Stays o d c p → GoAlike p b → (x : RunStop × Stage) → exec w c fuel p.machine p.stage ≡ Some x → EndsAs fuel p x
   unfolding exec gates_of stand_after
   ends zero p b st alike x e = absurd (none_some e)
   ends (suc fuel) p b st alike x e =
@@ -53,9 +53,9 @@ module _ (o : Offered) (d : Dealt) (c : List Function) (may : MayRun (world_of C
       (subst (TwinBy (in_the_clear o c) (when_told o c) GoAlike EndAlike p b) (same_step o d c may p st) (twins.law p b alike)) e (ends fuel)
     where
       Later : Type 0
-      Later = (p b : Place) → Stays o d c p → GoAlike p b → (x : Stop × Stage) → exec w c fuel p.machine p.stage ≡ Some x → EndsAs fuel p x
+      Later = (p b : Place) → Stays o d c p → GoAlike p b → (x : RunStop × Stage) → exec w c fuel p.machine p.stage ≡ Some x → EndsAs fuel p x
 
-      over : (u : Stage) (stop : Stop) → u.answers ≡ [] → (in_the_clear o c).step p ≡ stopped p.machine u stop → After o d c p (stopped p.machine u stop)
+      over : (u : Stage) (stop : RunStop) → u.answers ≡ [] → (in_the_clear o c).step p ≡ stopped p.machine u stop → After o d c p (stopped p.machine u stop)
           → TwinBy (in_the_clear o c) (when_told o c) GoAlike EndAlike p b (stopped p.machine u stop) → (stop, u) ≡ x → EndsAs (suc fuel) p x
       over u Short none es final twin e = absurd twin
       over u (Ended k) none es final twin e =

@@ -17,7 +17,7 @@ use Rattle.shared_gates.specs.Model.{miner_of}
 use Rattle.shared_gates.proofs.Models.{gates-sound}
 use Rattle.shared_gates.proofs.Silence.{gates-silent}
 use Rattle.blind_evaluation.specs.Courses.{LikeEvents}
-use Rattle.language_model.specs.Effects.{World, Clear, Stage, Stop, words_each}
+use Rattle.language_model.specs.Effects.{World, Clear, Stage, RunStop, words_each}
 use Rattle.language_model.specs.Reports.{Report, Offered, world_of, beginning, reported, not_dealt}
 use Rattle.code_model.specs.Machine.{start, exec}
 use Rattle.code_model.specs.Meaning.{fuel, stopped_or, report_at, mean}
@@ -95,10 +95,10 @@ module _ (o : Offered) (d : Dealt) (c : List Function) (budget : ℕ) (tapes : T
   abbrev begun : Stage
   begun = beginning budget []
 
-  pub stopped : (x : Stop × Stage) × (exec w c (fuel c budget) (start c) begun ≡ Some x)
+  pub stopped : (x : RunStop × Stage) × (exec w c (fuel c budget) (start c) begun ≡ Some x)
   stopped = starts w c may.forward begun
 
-  abbrev pub end : Stop × Stage
+  abbrev pub end : RunStop × Stage
   end = (stopped).0
 
   pub ended : EndsAs o d c may.code twins (fuel c budget) first end

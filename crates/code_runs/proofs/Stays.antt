@@ -4,7 +4,7 @@ use Rattle.proto_core.specs.Lists.{AreWords}
 use Rattle.protocol_model.proofs.Sizes.{past_end}
 use Rattle.gates.specs.declared.gate.Gate.{Gate}
 use Rattle.shared_gates.specs.Shares.{Kind}
-use Rattle.language_model.specs.Effects.{World, Clear, Stage, Stop, Ended, Short, Run}
+use Rattle.language_model.specs.Effects.{World, Clear, Stage, RunStop, Ended, Short, Run}
 use Rattle.language_model.specs.Reports.{Offered, world_of}
 use Rattle.language_model.specs.Tapes.{AtMost}
 use Rattle.language_model.proofs.Onward.{stage_of}
@@ -79,7 +79,7 @@ module _ (o : Offered) (d : Dealt) (c : List Function) where
       record { formed = at.formed; made = at.made; drawn = at.drawn; answers = no_words; handed = at.handed; opened = at.opened }
 
   module _ (may : MayRun (world_of Clear o) d c) (p : Place) (st : Stays p) where
-    ended : (stop : Stop) (u : Stage) (kinds : List Kind) (more : List Gate) → u.gates ≡ p.stage.gates ++ more → IsAt w d kinds none_of u
+    ended : (stop : RunStop) (u : Stage) (kinds : List Kind) (more : List Gate) → u.gates ≡ p.stage.gates ++ more → IsAt w d kinds none_of u
         → onward.Went w p.stage u → TellsNothing p.stage u → After p (stopped p.machine u stop)
     ended (Ended e) u kinds more gates at on told =
         record {

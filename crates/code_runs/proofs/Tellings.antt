@@ -9,7 +9,7 @@ use Rattle.protocol_model.specs.Gates.{needed}
 use Rattle.protocol_model.specs.Gates as model
 use Rattle.protocol_model.specs.Runs.{Shares, Tapes, run_values}
 use Rattle.shared_gates.specs.Model.{miner_of}
-use Rattle.language_model.specs.Effects.{World, Clear, Stage, Stop, Ended, Run}
+use Rattle.language_model.specs.Effects.{World, Clear, Stage, RunStop, Ended, Run}
 use Rattle.language_model.specs.Effects as effects
 use Rattle.language_model.specs.Reports.{Offered, world_of}
 use Rattle.language_model.proofs.Onward.{stage_of}
@@ -106,14 +106,14 @@ module _ (o : Offered) (d : Dealt) (c : List Function) (tapes : Tapes) (words : 
 
   -- ---- A RUN
 
-  pub record TellsFrom (fuel : ℕ) (p b : Place) (values : Shares) (ts : Tapes) (x : Stop × Stage) : Type 0 where
+  pub record TellsFrom (fuel : ℕ) (p b : Place) (values : Shares) (ts : Tapes) (x : RunStop × Stage) : Type 0 where
     pub events : List Event
     pub all : x.1.events ≡ p.stage.events ++ events
     pub told : Tells events (λ i. notices next fuel i (Running b) values ts)
 
   pub tellings :
       (fuel : ℕ) (p b : Place) → Stays o d c p → GoAlike p b → (values : Shares) (ts : Tapes) → values ≡ behind d tapes p.stage.gates
-      → ts ≡ left_behind d tapes p.stage.gates → (x : Stop × Stage) → exec w c fuel p.machine p.stage ≡ Some x → TellsFrom fuel p b values ts x
+      → ts ≡ left_behind d tapes p.stage.gates → (x : RunStop × Stage) → exec w c fuel p.machine p.stage ≡ Some x → TellsFrom fuel p b values ts x
   unfolding exec
   tellings zero p b st alike _ ts e f x h = absurd (none_some h)
   tellings (suc fuel) p b st alike values ts e f x h =
@@ -123,7 +123,7 @@ module _ (o : Offered) (d : Dealt) (c : List Function) (tapes : Tapes) (words : 
       Later : Type 0
       Later =
           (p b : Place) → Stays o d c p → GoAlike p b → (values : Shares) (ts : Tapes) → values ≡ behind d tapes p.stage.gates
-          → ts ≡ left_behind d tapes p.stage.gates → (x : Stop × Stage) → exec w c fuel p.machine p.stage ≡ Some x → TellsFrom fuel p b values ts x
+          → ts ≡ left_behind d tapes p.stage.gates → (x : RunStop × Stage) → exec w c fuel p.machine p.stage ≡ Some x → TellsFrom fuel p b values ts x
 
       nothing_told : (q a : Place) → Final o d c p q → EndAlike q a → (when_told o c).step b [] ≡ Over a
           → (i : Number) → [] ≡ notices next (suc fuel) i (Running b) values ts
@@ -134,7 +134,7 @@ module _ (o : Offered) (d : Dealt) (c : List Function) (tapes : Tapes) (words : 
           (none_made p.stage q.stage b.stage a.stage alike.stage ended.stage final.told.events _)
           ∙ stopped_notices fuel i a _ _)
 
-      over : (u : Stage) (stop : Stop) → u.answers ≡ [] → After o d c p (stopped p.machine u stop)
+      over : (u : Stage) (stop : RunStop) → u.answers ≡ [] → After o d c p (stopped p.machine u stop)
           → TwinBy (in_the_clear o c) (when_told o c) GoAlike EndAlike p b (stopped p.machine u stop) → (stop, u) ≡ x
           → TellsFrom (suc fuel) p b values ts x
       over u effects.Short none final twin h = absurd twin

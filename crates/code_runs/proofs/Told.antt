@@ -13,7 +13,7 @@ use Rattle.gates.specs.declared.gate.Gate.{Gate}
 use Rattle.gates.specs.declared.gate.Gate.TheVariants.{Const, Open, Result}
 use Rattle.gates.specs.Clear.{Values}
 use Rattle.shared_gates.specs.Computed.{opened_values}
-use Rattle.language_model.specs.Effects.{Words, World, Clear, Stage, Stop, Ended, Run, Effect, ◌>>=◌, carry, done, charge, fits, drawn_yet, take_words, draw}
+use Rattle.language_model.specs.Effects.{Words, World, Clear, Stage, RunStop, Ended, Run, Effect, ◌>>=◌, carry, done, charge, fits, drawn_yet, take_words, draw}
 use Rattle.language_model.specs.Effects.{gate, emit}
 use Rattle.language_model.specs.Effects.{words_each, with_more}
 use Rattle.language_model.specs.Values.{Secrecy, Plain, Private, Value, plain, size, ring_for, elements_of}
@@ -26,7 +26,7 @@ use Rattle.verified_code.specs.Steps.{Argument, Publish, Assert, Branch, Jump, C
 use Rattle.code_model.specs.Machine.{Caller, Machine, values_at, limit, resume, step}
 use Rattle.code_places.proofs.Quiet.{KeptAt, Quiet, quiet_bind, quiet_done, quiet_end, quiet_charge, quiet_test}
 use Rattle.code_places.proofs.QuietRows.{untrapped_quiet, classified_quiet, operated_quiet, negated_quiet, cast_quiet, size_quiet, summed_quiet, bits_quiet}
-use Rattle.code_places.proofs.QuietRows.{joined_quiet, element_quiet, with_element_quiet, filled_quiet, tested_quiet, asserted_quiet, asked_quiet}
+use Rattle.code_places.proofs.QuietRows.{concatenated_quiet, element_quiet, with_element_quiet, filled_quiet, tested_quiet, asserted_quiet, asked_quiet}
 
 -- ---- WHAT A STEP TELLS
 
@@ -138,7 +138,7 @@ pays_charged n = pays_bind (pays_charge 1) (λ _. pays_bind (pays_nothing (tt {0
 -- what comes behind is the same as from the stage that has paid
 paying :
     {A B : Type 0} (Q : Run B → Type 0) (s : Stage) (m : Effect A) (g : A → Stage → Run B) → Pays m
-    → ((l : ℕ) (n : Words) (e : Stop) → Q (Err (e, paid l n s))) → ((a : A) (l : ℕ) (n : Words) → Q (g a (paid l n s)))
+    → ((l : ℕ) (n : Words) (e : RunStop) → Q (Err (e, paid l n s))) → ((a : A) (l : ℕ) (n : Words) → Q (g a (paid l n s)))
     → Q (carry (m s) g)
 paying {A = A} Q s m g h ends goes = go (m s) (h.from s)
   where
@@ -207,7 +207,7 @@ module _ (o : Offered) (v : Value) (s : Stage) where
         }
     handed_tells text Plain e = record { opened = refl; answers = refl; events = refl; handed = λ j f. absurd (not_private j (sym e ∙ f)) }
 
-  ended : (A : Type 0) (P : Stage → Type 0) (l : ℕ) (n : Words) (e : Stop) → EndsWith {A = A} P s (Err (e, paid l n s))
+  ended : (A : Type 0) (P : Stage → Type 0) (l : ℕ) (n : Words) (e : RunStop) → EndsWith {A = A} P s (Err (e, paid l n s))
   ended A P l n e = same_told s (paid l n s) refl refl refl
 
   opened_tells : (a : Secrecy) (l : ℕ) (n : Words) → EndsWith (Opening v s) s (opened_from w a v (paid l n s))
@@ -262,7 +262,7 @@ module _ (o : Offered) (c : List Function) (m : Machine) (s : Stage) where
   step_tells (At line d a i) = quietly (Some (At line d a i)) (then_done _ (element_quiet false line (m.registers a) (m.registers i)))
   step_tells (Put line a i x) = quietly (Some (Put line a i x)) (then_done _ (with_element_quiet false line (m.registers a) (m.registers i) (m.registers x)))
   step_tells (Size d r) = quietly (Some (Size d r)) (then_done _ (size_quiet false (m.registers r)))
-  step_tells (Cat line d a b) = quietly (Some (Cat line d a b)) (then_done _ (joined_quiet false line (m.registers a) (m.registers b)))
+  step_tells (Cat line d a b) = quietly (Some (Cat line d a b)) (then_done _ (concatenated_quiet false line (m.registers a) (m.registers b)))
   step_tells (Sum d r) = quietly (Some (Sum d r)) (then_done _ (summed_quiet false (m.registers r)))
   step_tells (Bits line d r) = quietly (Some (Bits line d r)) (then_done _ (bits_quiet false (world_of Clear o) line (m.registers r)))
   step_tells (Declassify d r) =

@@ -1,7 +1,7 @@
 -- Where steps lead: they only add to what was made, and one that wants words leaves the machine and has told nothing.
 use Rattle.std.proofs.Common.{◌≡◌, ℕ, List, [], None, Ok, Err, refl, sym, ◌∙◌, ap, subst}
 use Rattle.language_model.specs.Beginnings.{Begins}
-use Rattle.language_model.specs.Effects.{World, Stage, Stop, Ended, Short, Run}
+use Rattle.language_model.specs.Effects.{World, Stage, RunStop, Ended, Short, Run}
 use Rattle.language_model.proofs.Onward.{stage_of}
 use Rattle.verified_code.specs.Steps.{Function}
 use Rattle.code_model.specs.Machine.{Machine, step}
@@ -18,7 +18,7 @@ stage_went turned.On m s = refl
 stage_went (turned.Over e) m s = refl
 stage_went turned.Short m s = refl
 
-stopped_stage : (m : Machine) (u : Stage) (z : Stop) → (place_of (stopped m u z)).stage ≡ telling_stage [] u
+stopped_stage : (m : Machine) (u : Stage) (z : RunStop) → (place_of (stopped m u z)).stage ≡ telling_stage [] u
 stopped_stage m u (Ended e) = refl
 stopped_stage m u Short = refl
 
@@ -45,7 +45,7 @@ module _ (w : World) (c : List Function) (p : Place) where
       subst (λ (s : Stage). Begins p.stage.gates s.gates) (sym (stage_behind told))
       (gates_stand w c (next_step p.machine) p.machine (telling_stage told p.stage))
 
-  stopped_machine : (u : Stage) (z : Stop) → (place_of (stopped p.machine u z)).machine ≡ p.machine
+  stopped_machine : (u : Stage) (z : RunStop) → (place_of (stopped p.machine u z)).machine ≡ p.machine
   stopped_machine u (Ended e) = refl
   stopped_machine u Short = refl
 
@@ -62,7 +62,7 @@ module _ (w : World) (c : List Function) (p : Place) where
   more_gates told (Ok x) same q e = absurd (no_wants_on _ q e)
   more_gates told (Err x) same q e = by x.0 x.1 same e
     where
-      by : (z : Stop) (u : Stage) → run_told told ≡ Err (z, u) → stopped p.machine u z ≡ Wants q →
+      by : (z : RunStop) (u : Stage) → run_told told ≡ Err (z, u) → stopped p.machine u z ≡ Wants q →
           (q.stage.events ≡ p.stage.events) × (q.stage.opened ≡ p.stage.opened)
       by (Ended z) u same e = absurd (no_wants_over _ q e)
       by Short u same e =

@@ -11,7 +11,7 @@ use Rattle.protocol_model.specs.Network.{Accepted, Answer, Default, Delivery, Em
 use Rattle.protocol_model.specs.Complete.{IsComplete}
 use Rattle.protocol_model.specs.Runs.{Tapes}
 use Rattle.gates.specs.Clear.{Values}
-use Rattle.language_model.specs.Effects.{Ended, Stop}
+use Rattle.language_model.specs.Effects.{Ended, RunStop}
 use Rattle.language_model.specs.Reports.{Offered, Report}
 use Rattle.verified_code.specs.Steps.{Function}
 use Rattle.gate_laws.specs.Facts.{Dealt}

@@ -10,7 +10,7 @@ use Rattle.gates.specs.Clear.{first_word}
 use Rattle.typed_tree.specs.Shapes.{shape_of}
 use Rattle.language_model.specs.Effects.{World, ◌>>=◌, test, gate}
 use Rattle.language_model.specs.Values.{Secrecy, Plain, Private, Value, size, visible_words, seen_of, ring_for}
-use Rattle.language_model.specs.Operations.{charged, largest, not_too_large, number_of, made_private, joined_from, joined, position, element_at}
+use Rattle.language_model.specs.Operations.{charged, largest, not_too_large, number_of, made_private, concatenated_from, concatenated, position, element_at}
 use Rattle.language_model.specs.Operations.{element_from, element_of_array}
 use Rattle.language_model.specs.Operations.{with_element_from, with_element, filled_from, filled}
 use Rattle.gate_laws.specs.Facts.{bound, InRange, IsProper, none_of, Fact, facts_of, Dealt, Suits}
@@ -83,15 +83,15 @@ module _ (w : World) (d : Dealt) where
         (λ r good facts. cat_gain r good u v ring x.words y.words facts.1.0 facts.0)) (λ r _.
         given_suits w d _ x.shape (x.words ++ y.words) r (tell_first _ _) joined_range (joined_small few))))
 
-    joined_from_suits : (a b : Secrecy) → size x + size y ≤ largest → Suits w d both none_of (joined_from a b x y) none_of facts_of IsProper
-    joined_from_suits Plain Plain few = shown_suits w d both x.shape (x.words ++ y.words) joined_range (joined_small few)
-    joined_from_suits Plain (Private k) few = cat_suits few
-    joined_from_suits (Private j) Plain few = cat_suits few
-    joined_from_suits (Private j) (Private k) few = cat_suits few
+    concatenated_from_suits : (a b : Secrecy) → size x + size y ≤ largest → Suits w d both none_of (concatenated_from a b x y) none_of facts_of IsProper
+    concatenated_from_suits Plain Plain few = shown_suits w d both x.shape (x.words ++ y.words) joined_range (joined_small few)
+    concatenated_from_suits Plain (Private k) few = cat_suits few
+    concatenated_from_suits (Private j) Plain few = cat_suits few
+    concatenated_from_suits (Private j) (Private k) few = cat_suits few
 
-    pub joined_suits : (line : ℕ) → Suits w d both none_of (joined line x y) none_of facts_of IsProper
-    joined_suits line =
-        suits_bind w d (large_suits both line (size x + size y)) (λ _ few. joined_from_suits x.secrecy y.secrecy (leb-true (size x + size y) largest few))
+    pub concatenated_suits : (line : ℕ) → Suits w d both none_of (concatenated line x y) none_of facts_of IsProper
+    concatenated_suits line =
+        suits_bind w d (large_suits both line (size x + size y)) (λ _ few. concatenated_from_suits x.secrecy y.secrecy (leb-true (size x + size y) largest few))
 
   -- ---- an element
 

@@ -15,7 +15,7 @@ use Rattle.typed_tree.specs.declared.operators.BinaryOperator.TheVariants.{Words
 use Rattle.typed_tree.specs.declared.operators.WordOperator.TheVariants as word
 use Rattle.typed_tree.specs.declared.operators.Operands.TheVariants.{Scalars}
 use Rattle.typed_tree.specs.Shapes.{shape_of}
-use Rattle.language_model.specs.Effects.{World, Given, Source, words_each}
+use Rattle.language_model.specs.Effects.{World, GivenInput, Source, words_each}
 use Rattle.bytecode.specs.declared.kind.Kind.{Kind}
 use Rattle.verified_code.specs.Steps.{Step, Argument, Binary, Declassify, Publish, ReturnNone, Function}
 use Rattle.code_model.specs.Meaning.{mean_in}
@@ -91,7 +91,7 @@ main_takes =
 
 -- ---- what is dealt: 5, of which the first miner has all
 
-unfoldable pub input : Given
+unfoldable pub input : GivenInput
 input = record { text = 120 ∷ []; secret = true; shape = shape_of Uint64 false; words = 5 ∷ [] }
 
 world : Source → World

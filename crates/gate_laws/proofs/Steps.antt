@@ -34,7 +34,7 @@ use Rattle.gate_laws.proofs.Ranges.{below_none, one_below}
 use Rattle.gate_laws.proofs.Meanings.{some_bound}
 use Rattle.gate_laws.proofs.Binary.{operated_suits}
 use Rattle.gate_laws.proofs.Unary.{negated_suits, cast_suits, size_suits, summed_suits, bits_suits}
-use Rattle.gate_laws.proofs.Arrays.{joined_suits, element_suits, filled_suits, with_element_suits}
+use Rattle.gate_laws.proofs.Arrays.{concatenated_suits, element_suits, filled_suits, with_element_suits}
 use Rattle.gate_laws.proofs.Openings.{declassified_suits}
 use Rattle.gate_laws.proofs.Told.{published_suits, tested_suits, asserted_suits, literal_proper, asked_suits}
 
@@ -212,8 +212,8 @@ module _ (w : World) (d : Dealt) where
         ((h.registers x t.1 t.3).single t.5) line (m.registers i)) (two a x)
     act (Size to r) t = leads_set m to (facts_of (m.registers r)) (row.size_told (m.registers r)) (size_suits w d (m.registers r) (proper r)) (own r)
     act (Cat line to a b) t =
-        leads_set m to (facts_of (m.registers a) ++ facts_of (m.registers b)) (row.joined line (m.registers a) (m.registers b))
-        (joined_suits w d (m.registers a) (m.registers b) (proper a) (proper b) (element_is b t.1 t.3 ∙ t.4 ∙ sym (element_is a t.0 t.2)) line) (two a b)
+        leads_set m to (facts_of (m.registers a) ++ facts_of (m.registers b)) (row.concatenated line (m.registers a) (m.registers b))
+        (concatenated_suits w d (m.registers a) (m.registers b) (proper a) (proper b) (element_is b t.1 t.3 ∙ t.4 ∙ sym (element_is a t.0 t.2)) line) (two a b)
     act (Sum to r) t = leads_set m to (facts_of (m.registers r)) (row.summed (m.registers r)) (summed_suits w d (m.registers r) (of_element r Uint64 t)) (own r)
     act (Bits line to r) t =
         leads_set m to (facts_of (m.registers r)) (row.bits_extracted w line (m.registers r)) (bits_suits w d (m.registers r) line (of_element r Uint64 t))

@@ -10,7 +10,7 @@ use Rattle.secrec_ast.specs.declared.expression.DataType.{DataType}
 use Rattle.gates.specs.declared.gate.Gate.TheVariants as gates
 use Rattle.typed_tree.specs.declared.kinds.Shape.{Shape}
 use Rattle.typed_tree.specs.Shapes.{shape_of}
-use Rattle.language_model.specs.Effects.{World, Given, Effect, ◌>>=◌, done, draw, test, gate, emit, words_each}
+use Rattle.language_model.specs.Effects.{World, GivenInput, Effect, ◌>>=◌, done, draw, test, gate, emit, words_each}
 use Rattle.language_model.specs.Values.{Secrecy, Plain, Private, Value, plain, size, ring_for, elements_of, is_true}
 use Rattle.language_model.specs.Operations.{number_of, handed_over, published, tested, asserted}
 use Rattle.language_model.specs.Evaluation.{same_truth, same_shape, is_as_declared, behind, input_from, input_named, given_value, asked_for}
@@ -112,7 +112,7 @@ module _ (w : World) (d : Dealt) where
 
   -- ---- inputs
 
-  given_suits_of : (secret : Bool) (x : Given) (k : ℕ) → IsOffered d x k → x.secret ≡ secret
+  given_suits_of : (secret : Bool) (x : GivenInput) (k : ℕ) → IsOffered d x k → x.secret ≡ secret
       → Suits w d [] none_of (given_value secret x k) none_of facts_of IsProper
   given_suits_of false x k o e = shown_suits w d [] x.shape x.words o.range o.small
   given_suits_of true x k o e =
@@ -129,7 +129,7 @@ module _ (w : World) (d : Dealt) where
   truths_same false true h = cc
   truths_same false false h = refl
 
-  asked_suits_of : (secret : Bool) (shape : Shape) (line : ℕ) (o : Option (Given × ℕ)) → ((x : Given × ℕ) → o ≡ Some x → IsOffered d x.0 x.1)
+  asked_suits_of : (secret : Bool) (shape : Shape) (line : ℕ) (o : Option (GivenInput × ℕ)) → ((x : GivenInput × ℕ) → o ≡ Some x → IsOffered d x.0 x.1)
       → Suits w d [] none_of (asked_for secret shape line o) none_of facts_of IsProper
   asked_suits_of secret shape line None h = suits_bind w d (charge_suits w d [] 1) (λ _ _. suits_end w d (ending.Trap trap.Argument line))
   asked_suits_of secret shape line (Some x) h =
@@ -139,14 +139,14 @@ module _ (w : World) (d : Dealt) where
       given_suits_of secret x.0 x.1 (h x refl) (truths_same x.0.secret secret
       (and_parts (same_truth x.0.secret secret) (same_shape x.0.shape shape) declared).0))
 
-  offered_there : (k : ℕ) (text : List ℕ) (xs : List Given) (x : Given × ℕ) → AreOffered d k xs → input_from k text xs ≡ Some x → IsOffered d x.0 x.1
+  offered_there : (k : ℕ) (text : List ℕ) (xs : List GivenInput) (x : GivenInput × ℕ) → AreOffered d k xs → input_from k text xs ≡ Some x → IsOffered d x.0 x.1
   offered_there k text [] x h e = absurd (none-some x e)
   offered_there k text (y ∷ ys) x h e = go (bytes_eq text y.text) e (offered_there (behind y k) text ys x h.1)
     where
-      found : (a b : Given × ℕ) → IsOffered d a.0 a.1 → ◌≡◌ {A = Option (Given × ℕ)} (Some a) (Some b) → IsOffered d b.0 b.1
+      found : (a b : GivenInput × ℕ) → IsOffered d a.0 a.1 → ◌≡◌ {A = Option (GivenInput × ℕ)} (Some a) (Some b) → IsOffered d b.0 b.1
       found a b h e = subst Holds e h
         where
-          Holds : Option (Given × ℕ) → Type 0
+          Holds : Option (GivenInput × ℕ) → Type 0
           Holds None = Unit {0}
           Holds (Some z) = IsOffered d z.0 z.1
 

@@ -7,7 +7,7 @@ use Rattle.proto_core.specs.declared.party.Number.TheVariants.{One, Two, Three}
 use Rattle.proto_core.specs.Lists.{AreWords}
 use Rattle.shared_gates.specs.Shares.{Kind}
 use Rattle.shared_gates.specs.Model.{miner_of}
-use Rattle.language_model.specs.Effects.{World, Stage, Stop, Ended, Run, words_each}
+use Rattle.language_model.specs.Effects.{World, Stage, RunStop, Ended, Run, words_each}
 use Rattle.language_model.specs.Reports.{beginning, reported, dealing, not_dealt}
 use Rattle.verified_code.specs.Steps.{Function}
 use Rattle.code_model.specs.Machine.{Machine, step, exec, further, start}
@@ -29,7 +29,7 @@ keep_standing w d c may m h kinds s at stands =
     ((act w d c m h (λ k. (stands.registers k).1) may.offered there.0 takes).from kinds s at stands tt)
 
 module _ (w : World) (d : Dealt) (c : List Function) (may : MayRun w d c) where
-  abbrev Ends : Option (Stop × Stage) → Type 0
+  abbrev Ends : Option (RunStop × Stage) → Type 0
   Ends None = Unit {0}
   Ends (Some x) = (kinds : List Kind) × IsAt w d kinds none_of x.1
 
@@ -64,7 +64,7 @@ module _ (w : World) (d : Dealt) (c : List Function) (may : MayRun w d c) where
       nothing_drawn Two = refl
       nothing_drawn Three = refl
 
-  reported_suits : (budget : ℕ) (stop : Stop) (s : Stage) (kinds : List Kind) → IsAt w d kinds none_of s → GatesSuit w d (reported w budget stop s)
+  reported_suits : (budget : ℕ) (stop : RunStop) (s : Stage) (kinds : List Kind) → IsAt w d kinds none_of s → GatesSuit w d (reported w budget stop s)
   reported_suits budget stop s kinds at =
       record {
         kinds = kinds;
@@ -84,7 +84,7 @@ module _ (w : World) (d : Dealt) (c : List Function) (may : MayRun w d c) where
       start_at : IsAt w d [] none_of begun
       start_at = begins_at dealt budget answers words
 
-      ended : (o : Option (Stop × Stage)) → Ends o → GatesSuit w d (report_at w budget (stopped_or begun o))
+      ended : (o : Option (RunStop × Stage)) → Ends o → GatesSuit w d (report_at w budget (stopped_or begun o))
       ended None h = reported_suits budget (Ended ending.Budget) begun [] start_at
       ended (Some x) h = reported_suits budget x.0 x.1 h.0 h.1
 

@@ -4,7 +4,7 @@ use Rattle.std.specs.Prelude.{nat_le}
 use Rattle.std.proofs.lemmas.Bool.{cases_lt}
 use Rattle.sc_text.specs.declared.end.Ending.TheVariants.{Done, Trap, Budget, Tape}
 use Rattle.typed_tree.specs.Programs.{TypedProgramTree}
-use Rattle.language_model.specs.Effects.{World, Stage, Stop, Ended, Short, Run}
+use Rattle.language_model.specs.Effects.{World, Stage, RunStop, Ended, Short, Run}
 use Rattle.language_model.specs.Values.{Value}
 use Rattle.language_model.specs.Reports.{Report, dealing, beginning, reported, report_of, not_dealt, evaluated}
 use Rattle.language_model.specs.Beginnings.{Begins, IsBeginning}
@@ -13,14 +13,14 @@ use Rattle.language_model.proofs.Onward.{begins_none}
 use Rattle.language_model.proofs.Kept.{cost_kept}
 use Rattle.language_model.proofs.Steady.{later, is_budget, PastEnd, Past, Exceeds, FollowsEnd, Follows, program_steady}
 
-is_budget_if : (e : Stop) → is_budget e ≡ true → e ≡ Ended Budget
+is_budget_if : (e : RunStop) → is_budget e ≡ true → e ≡ Ended Budget
 is_budget_if (Ended Budget) q = refl
 is_budget_if (Ended Done) q = cc
 is_budget_if (Ended (Trap kind line)) q = cc
 is_budget_if (Ended (Tape owner need have)) q = cc
 is_budget_if Short q = cc
 
-isnt_budget : (e : Stop) → e ≢ Ended Budget → is_budget e ≡ false
+isnt_budget : (e : RunStop) → e ≢ Ended Budget → is_budget e ≡ false
 isnt_budget (Ended Budget) n = absurd (n refl)
 isnt_budget (Ended Done) n = refl
 isnt_budget (Ended (Trap kind line)) n = refl
@@ -41,7 +41,7 @@ module _ (w : World) (budget k : ℕ) where
   abbrev report' : Run Value → Report
   report' r = report_of w (budget + k) r
 
-  same_cost : (e : Stop) (s : Stage) → reported w (budget + k) e (later k s) ≡ reported w budget e s
+  same_cost : (e : RunStop) (s : Stage) → reported w (budget + k) e (later k s) ≡ reported w budget e s
   same_cost e s =
       let left : budget + k - (s.left + k) ≡ budget - s.left = omega arith in
       ap (λ c. record { stop = e; cost = c; dealt = dealing w; drawn = s.drawn; events = s.events; opened = s.opened; gates = s.gates }) left

@@ -10,7 +10,7 @@ use Rattle.sc_text.specs.declared.end.TapeOwner.TheVariants.{Miner1, Miner2, Min
 use Rattle.sc_text.specs.declared.event.Event.{Event}
 use Rattle.gates.specs.declared.gate.Gate.{Gate}
 use Rattle.typed_tree.specs.Programs.{TypedProgramTree}
-use Rattle.language_model.specs.Effects.{Words, World, Stage, Stop, Ended, Short, Run, Effect, ◌>>=◌, carry, done, end, charge, test, fits, draw}
+use Rattle.language_model.specs.Effects.{Words, World, Stage, RunStop, Ended, Short, Run, Effect, ◌>>=◌, carry, done, end, charge, test, fits, draw}
 use Rattle.language_model.specs.Effects.{gate, next_number, put_gates, emit, next_answers, show}
 use Rattle.language_model.specs.Values.{Value, is_true}
 use Rattle.language_model.specs.Operations.{tested}
@@ -25,7 +25,7 @@ use Rattle.language_model.proofs.Onward.{turns_onward, repeats_onward, onward_tu
 abbrev pub later : ℕ → Stage → Stage
 later k s = record s { left = s.left + k }
 
-abbrev pub is_budget : Stop → Bool
+abbrev pub is_budget : RunStop → Bool
 is_budget (Ended Budget) = true
 is_budget stop = false
 
@@ -45,7 +45,7 @@ pub record Exceeds {A : Type 0} (k : ℕ) (t : Stage) (r : Run A) : Type 0 where
   pub opened : Begins t.opened (stage_of r).opened
   pub gates : Begins t.gates (stage_of r).gates
 
-abbrev pub FollowsEnd : {A : Type 0} → Bool → ℕ → Stop × Stage → Run A → Type 0
+abbrev pub FollowsEnd : {A : Type 0} → Bool → ℕ → RunStop × Stage → Run A → Type 0
 FollowsEnd true k e r = Exceeds k e.1 r
 FollowsEnd false k e r = r ≡ Err (e.0, later k e.1)
 
@@ -119,7 +119,7 @@ steady_less p p' i j h = record { before = h.before; after = h.after; from = λ 
 steady_done : {w : World} {n n' : ℕ} {A : Type 0} (a : A) → Steady w n n' (done a) (done a)
 steady_done a = record { before = onward_done a; after = onward_done a; from = λ s k l l'. refl }
 
-stops_so : (A : Type 0) (k : ℕ) (e : Stop) (s : Stage) → Follows {A = A} k (Err (e, s)) (Err (e, later k s))
+stops_so : (A : Type 0) (k : ℕ) (e : RunStop) (s : Stage) → Follows {A = A} k (Err (e, s)) (Err (e, later k s))
 stops_so A k e s = go (is_budget e) refl
   where
     go : (c : Bool) → is_budget e ≡ c → FollowsEnd {A = A} c k (e, s) (Err (e, later k s))

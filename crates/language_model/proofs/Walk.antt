@@ -30,25 +30,24 @@ use Rattle.typed_tree.specs.declared.operators.Connective.{Connective}
 use Rattle.typed_tree.specs.Tree.{TypedTree, TypedTrees, word_node, truth_node, slot_node, call_node, size_node, cat_node, sum_node, bits_node}
 use Rattle.typed_tree.specs.Tree.{element_node, not_node, cast_node, binary_node, cut_node, declassify_node}
 use Rattle.typed_tree.specs.Tree as Tree'
-use Rattle.typed_tree.specs.Commands.{Command, Commands, empty_command, block_command, if_command, loop_command, do_command, break_command}
-use Rattle.typed_tree.specs.Commands.{continue_command, return_command, assert_command, store_command, default_command, fill_command, input_command}
-use Rattle.typed_tree.specs.Commands.{element_command, publish_command, evaluate_command}
-use Rattle.typed_tree.specs.Commands as Commands'
+use Rattle.typed_tree.specs.Statements.{TypedStatementTree, TypedStatementTrees, empty_statement, block_statement, if_statement, loop_statement, do_statement}
+use Rattle.typed_tree.specs.Statements.{break_statement, continue_statement, return_statement, assert_statement, store_statement, default_statement}
+use Rattle.typed_tree.specs.Statements.{fill_statement, input_statement, element_statement, publish_statement, evaluate_statement}
+use Rattle.typed_tree.specs.Statements as Statements'
 use Rattle.typed_tree.specs.Programs.{TypedFunctionTree, TypedProgramTree}
 use Rattle.reached_instances.specs.declared.instance.BoundDomain.{BoundDomain}
 use Rattle.reached_instances.specs.Domains.{Setting, domains}
 use Rattle.typed_tree.specs.Shapes.{shape_of}
-use Rattle.language_model.specs.Effects.{Words, World, Given, Source, Clear, Answers, Effect, ◌>>=◌, done, end, charge, test, draw, gate, next_number}
+use Rattle.language_model.specs.Effects.{Words, World, GivenInput, Source, Clear, Answers, Effect, ◌>>=◌, done, end, charge, test, draw, gate, next_number}
 use Rattle.language_model.specs.Effects.{put_gates, planned, emit, next_answers, answer, show}
 use Rattle.language_model.specs.Values.{Secrecy, Plain, Private, Value, plain, hidden, size, visible_words, default_words, elements_of}
 use Rattle.language_model.specs.Words.{flipped, result_size, result_words, are_alike, may_divide}
-use Rattle.language_model.specs.Operations.{charged, is_classified, words_of_operator, is_scalar_left, is_scalar_right, result_shape, made_private}
-use Rattle.language_model.specs.Operations.{read_answer, words_for_bits, number_from, number_of, classified_from, wanted, revealed, opened_from}
-use Rattle.language_model.specs.Operations.{declassified, stretched, flip, equal_gates, less_gates, word_gates, bool_gates, operator_gates}
-use Rattle.language_model.specs.Operations.{private_result, product_with, combined_from, operator_traps, operated, operation, negated_from, negated}
-use Rattle.language_model.specs.Operations.{cast_gates, changed, cast_from, cast_to, size_told, summed_from, summed, bits_from, bits_extracted}
-use Rattle.language_model.specs.Operations.{joined_from, joined, element_from, element_of_array, with_element_from, with_element, filled_from, filled}
-use Rattle.language_model.specs.Operations.{handed_over, published, tested, asserted}
+use Rattle.language_model.specs.Operations.{charged, is_classified, words_of_operator, is_scalar_left, is_scalar_right, result_shape, made_private, read_answer}
+use Rattle.language_model.specs.Operations.{words_for_bits, number_from, number_of, classified_from, wanted, revealed, opened_from, declassified, stretched}
+use Rattle.language_model.specs.Operations.{flip, equal_gates, less_gates, word_gates, bool_gates, operator_gates, private_result, product_with, combined_from}
+use Rattle.language_model.specs.Operations.{operator_traps, operated, operation, negated_from, negated, cast_gates, changed, cast_from, cast_to, size_told}
+use Rattle.language_model.specs.Operations.{summed_from, summed, bits_from, bits_extracted, concatenated_from, concatenated, element_from, element_of_array}
+use Rattle.language_model.specs.Operations.{with_element_from, with_element, filled_from, filled, handed_over, published, tested, asserted}
 use Rattle.language_model.specs.Evaluation.{Frame, put, Calls, gives_private, slot_is_private, slots_of, bound_at, next_is_private, behind_next}
 use Rattle.language_model.specs.Evaluation.{connective, decides, truth_value, slot_shape, entered, result_of, place_in, array_elements, given_value}
 use Rattle.language_model.specs.Evaluation.{asked_for, input_from, input_named, either, cut_short, not_cut_short, value, arguments, Flow, goes}
@@ -244,17 +243,17 @@ module _ (w w' : World) (P : (A : Type 0) → Effect A → Effect A → Type 0) 
   pub bits_holds : (line : ℕ) (v : Value) → P _ (bits_extracted w line v) (bits_extracted w' line v)
   bits_holds line v = law.bind (charged_holds _ _ (law.on_test _ _ _)) (λ _. bits_from_holds v.secrecy v)
 
-  pub catenated_holds : (x y : Value) → P _ (joined_from (Private None) Plain x y) (joined_from (Private None) Plain x y)
+  pub catenated_holds : (x y : Value) → P _ (concatenated_from (Private None) Plain x y) (concatenated_from (Private None) Plain x y)
   catenated_holds x y = law.bind (number_holds x) (λ u. law.bind (number_holds y) (λ v. law.bind (law.on_gate _) (λ r. law.on_done _)))
 
-  pub joined_from_holds : (a b : Secrecy) (x y : Value) → P _ (joined_from a b x y) (joined_from a b x y)
-  joined_from_holds Plain Plain x y = law.on_done _
-  joined_from_holds Plain (Private k) x y = catenated_holds x y
-  joined_from_holds (Private j) Plain x y = catenated_holds x y
-  joined_from_holds (Private j) (Private k) x y = catenated_holds x y
+  pub concatenated_from_holds : (a b : Secrecy) (x y : Value) → P _ (concatenated_from a b x y) (concatenated_from a b x y)
+  concatenated_from_holds Plain Plain x y = law.on_done _
+  concatenated_from_holds Plain (Private k) x y = catenated_holds x y
+  concatenated_from_holds (Private j) Plain x y = catenated_holds x y
+  concatenated_from_holds (Private j) (Private k) x y = catenated_holds x y
 
-  pub joined_holds : (line : ℕ) (x y : Value) → P _ (joined line x y) (joined line x y)
-  joined_holds line x y = law.bind (charged_holds _ _ (law.on_test _ _ _)) (λ _. joined_from_holds x.secrecy y.secrecy x y)
+  pub concatenated_holds : (line : ℕ) (x y : Value) → P _ (concatenated line x y) (concatenated line x y)
+  concatenated_holds line x y = law.bind (charged_holds _ _ (law.on_test _ _ _)) (λ _. concatenated_from_holds x.secrecy y.secrecy x y)
 
   pub element_from_holds : (x : Secrecy) (v : Value) (i : ℕ) → P _ (element_from x v i) (element_from x v i)
   element_from_holds Plain v i = law.on_done _
@@ -292,11 +291,12 @@ module _ (w w' : World) (P : (A : Type 0) → Effect A → Effect A → Type 0) 
 
   -- ---- INPUTS
 
-  pub given_holds : (secret : Bool) (x : Given) (k : ℕ) → P _ (given_value secret x k) (given_value secret x k)
+  pub given_holds : (secret : Bool) (x : GivenInput) (k : ℕ) → P _ (given_value secret x k) (given_value secret x k)
   given_holds false x k = law.on_done _
   given_holds true x k = law.bind (law.on_gate _) (λ r. law.on_done _)
 
-  pub asked_holds : (secret : Bool) (shape : Shape) (line : ℕ) (o : Option (Given × ℕ)) → P _ (asked_for secret shape line o) (asked_for secret shape line o)
+  pub asked_holds : (secret : Bool) (shape : Shape) (line : ℕ) (o : Option (GivenInput × ℕ))
+      → P _ (asked_for secret shape line o) (asked_for secret shape line o)
   asked_holds secret shape line None = law.bind (law.on_charge 1) (λ _. law.on_end _)
   asked_holds secret shape line (Some x) = law.bind (charged_holds _ _ (law.on_test _ _ _)) (λ _. given_holds secret x.0 x.1)
 
@@ -337,7 +337,7 @@ module _ (w w' : World) (P : (A : Type 0) → Effect A → Effect A → Type 0) 
           let secret = gives_private here (cat_node line a b) in
           law.bind (value_holds here a fr)
           (λ x. law.bind (wanted_holds secret x)
-          (λ u. law.bind (value_holds here b fr) (λ y. law.bind (wanted_holds secret y) (λ v. joined_holds line u v))))
+          (λ u. law.bind (value_holds here b fr) (λ y. law.bind (wanted_holds secret y) (λ v. concatenated_holds line u v))))
       value_holds here (sum_node e) fr = law.bind (value_holds here e fr) summed_holds
       value_holds here (bits_node line e) fr = law.bind (value_holds here e fr) (bits_holds line)
       value_holds here (element_node line a i) fr = law.bind (value_holds here a fr) (λ x. law.bind (value_holds here i fr) (λ j. element_holds line x j))
@@ -374,38 +374,38 @@ module _ (w w' : World) (P : (A : Type 0) → Effect A → Effect A → Type 0) 
     mutual
       unfolding execute execute_all
 
-      execute_holds : (at : StatementContext) (c : Command) (fr : Frame) → P _ (execute w calls at c fr) (execute w' calls' at c fr)
-      execute_holds at empty_command fr = law.on_done _
-      execute_holds at (block_command cs) fr = execute_all_holds at cs fr
-      execute_holds at (if_command e a b) fr =
+      execute_holds : (at : StatementContext) (c : TypedStatementTree) (fr : Frame) → P _ (execute w calls at c fr) (execute w' calls' at c fr)
+      execute_holds at empty_statement fr = law.on_done _
+      execute_holds at (block_statement cs) fr = execute_all_holds at cs fr
+      execute_holds at (if_statement e a b) fr =
           law.bind (value_holds at.here e fr) (λ v. law.bind (tested_holds v) (λ t. either_holds t (execute_holds at a fr) (execute_holds at b fr)))
-      execute_holds at (loop_command e step body) fr = law.on_turns (value_holds at.here e) (execute_holds at step) (execute_holds at body) fr
-      execute_holds at (do_command body e) fr = law.on_repeats (value_holds at.here e) (execute_holds at body) fr
-      execute_holds at break_command fr = law.on_done _
-      execute_holds at continue_command fr = law.on_done _
-      execute_holds at (return_command None) fr = law.on_done _
-      execute_holds at (return_command (Some e)) fr =
+      execute_holds at (loop_statement e step body) fr = law.on_turns (value_holds at.here e) (execute_holds at step) (execute_holds at body) fr
+      execute_holds at (do_statement body e) fr = law.on_repeats (value_holds at.here e) (execute_holds at body) fr
+      execute_holds at break_statement fr = law.on_done _
+      execute_holds at continue_statement fr = law.on_done _
+      execute_holds at (return_statement None) fr = law.on_done _
+      execute_holds at (return_statement (Some e)) fr =
           law.bind (value_holds at.here e fr) (λ x. law.bind (wanted_holds at.secret_result x) (λ v. law.on_done (returns v)))
-      execute_holds at (assert_command line e) fr = law.bind (value_holds at.here e fr) (λ v. law.bind (asserted_holds line v) (λ _. law.on_done (goes fr)))
-      execute_holds at (store_command k e) fr = law.bind (value_holds at.here e fr) (λ x. stored_holds at.here k x fr)
-      execute_holds at (default_command k) fr = stored_holds at.here k (plain (slot_shape at.here k) (default_words (slot_shape at.here k).array)) fr
-      execute_holds at (fill_command line k n e) fr =
+      execute_holds at (assert_statement line e) fr = law.bind (value_holds at.here e fr) (λ v. law.bind (asserted_holds line v) (λ _. law.on_done (goes fr)))
+      execute_holds at (store_statement k e) fr = law.bind (value_holds at.here e fr) (λ x. stored_holds at.here k x fr)
+      execute_holds at (default_statement k) fr = stored_holds at.here k (plain (slot_shape at.here k) (default_words (slot_shape at.here k).array)) fr
+      execute_holds at (fill_statement line k n e) fr =
           law.bind (value_holds at.here n fr)
           (λ m. law.bind (value_holds at.here e fr)
           (λ x. law.bind (wanted_holds (slot_is_private at.here k) x) (λ a. law.bind (filled_holds line m a) (λ v. law.on_done (goes (put k v fr))))))
-      execute_holds at (input_command line k text) fr =
+      execute_holds at (input_statement line k text) fr =
           law.bind (input_holds (slot_is_private at.here k) (slot_shape at.here k) line text) (λ x. stored_holds at.here k x fr)
-      execute_holds at (element_command line k i e) fr =
+      execute_holds at (element_statement line k i e) fr =
           law.bind (value_holds at.here i fr)
           (λ j. law.bind (value_holds at.here e fr)
           (λ x. law.bind (wanted_holds (slot_is_private at.here k) x)
           (λ a. law.bind (with_element_holds line (fr k) j a) (λ v. law.on_done (goes (put k v fr))))))
-      execute_holds at (publish_command text e) fr = law.bind (value_holds at.here e fr) (λ v. law.bind (published_holds text v) (λ _. law.on_done (goes fr)))
-      execute_holds at (evaluate_command e) fr = law.bind (value_holds at.here e fr) (λ _. law.on_done (goes fr))
+      execute_holds at (publish_statement text e) fr = law.bind (value_holds at.here e fr) (λ v. law.bind (published_holds text v) (λ _. law.on_done (goes fr)))
+      execute_holds at (evaluate_statement e) fr = law.bind (value_holds at.here e fr) (λ _. law.on_done (goes fr))
 
-      execute_all_holds : (at : StatementContext) (cs : Commands) (fr : Frame) → P _ (execute_all w calls at cs fr) (execute_all w' calls' at cs fr)
-      execute_all_holds at Commands'.none fr = law.on_done _
-      execute_all_holds at (Commands'.also c cs) fr = law.bind (execute_holds at c fr) (λ g. then_holds g _ _ (execute_all_holds at cs))
+      execute_all_holds : (at : StatementContext) (cs : TypedStatementTrees) (fr : Frame) → P _ (execute_all w calls at cs fr) (execute_all w' calls' at cs fr)
+      execute_all_holds at Statements'.none fr = law.on_done _
+      execute_all_holds at (Statements'.also c cs) fr = law.bind (execute_holds at c fr) (λ g. then_holds g _ _ (execute_all_holds at cs))
 
     body_holds : (fs : List TypedFunctionTree) (f : Option TypedFunctionTree) (bs : List BoundDomain) (xs : List Value)
         → P _ (body_of w calls fs f bs xs) (body_of w' calls' fs f bs xs)

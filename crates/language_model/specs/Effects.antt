@@ -17,7 +17,7 @@ pub record Words : Type 0 where
   pub third : ℕ
 
 -- an input of the run: its name, whether it is private, its shape, and its elements as words
-pub record Given : Type 0 where
+pub record GivenInput : Type 0 where
   pub text : List ℕ
   pub secret : Bool
   pub shape : Shape
@@ -33,7 +33,7 @@ pub record World : Type 0 where
   pub dealer : ℕ
   pub lengths : Words
   pub source : Source
-  pub inputs : List Given
+  pub inputs : List GivenInput
 
 -- how far a run has come
 pub record Stage : Type 0 where
@@ -46,13 +46,13 @@ pub record Stage : Type 0 where
   pub answers : List ℕ  -- not yet taken
 
 -- why a run stops: it ended, or too few answers were left
-pub data Stop : Type 0 where
-  Ended : Ending → Stop
-  Short : Stop
+pub data RunStop : Type 0 where
+  Ended : Ending → RunStop
+  Short : RunStop
 
 -- a value and where the run stands, or why it stopped and where it stood
 abbrev pub Run : Type 0 → Type 0
-Run A = Result (A × Stage) (Stop × Stage)
+Run A = Result (A × Stage) (RunStop × Stage)
 
 abbrev pub Effect : Type 0 → Type 0
 Effect A = Stage → Run A

@@ -18,21 +18,21 @@ use Rattle.typed_tree.specs.declared.operators.Connective.TheVariants.{AndAlso, 
 use Rattle.typed_tree.specs.Tree.{TypedTree, TypedTrees, word_node, truth_node, slot_node, call_node, size_node, cat_node, sum_node, bits_node}
 use Rattle.typed_tree.specs.Tree.{element_node, not_node, cast_node, binary_node, cut_node, declassify_node}
 use Rattle.typed_tree.specs.Tree as Tree'
-use Rattle.typed_tree.specs.Commands.{Command, Commands, empty_command, block_command, if_command, loop_command, do_command, break_command}
-use Rattle.typed_tree.specs.Commands.{continue_command, return_command, assert_command, store_command, default_command, fill_command, input_command}
-use Rattle.typed_tree.specs.Commands.{element_command, publish_command, evaluate_command}
-use Rattle.typed_tree.specs.Commands as Commands'
+use Rattle.typed_tree.specs.Statements.{TypedStatementTree, TypedStatementTrees, empty_statement, block_statement, if_statement, loop_statement, do_statement}
+use Rattle.typed_tree.specs.Statements.{break_statement, continue_statement, return_statement, assert_statement, store_statement, default_statement}
+use Rattle.typed_tree.specs.Statements.{fill_statement, input_statement, element_statement, publish_statement, evaluate_statement}
+use Rattle.typed_tree.specs.Statements as Statements'
 use Rattle.typed_tree.specs.Programs.{TypedFunctionTree}
 use Rattle.reached_instances.specs.declared.instance.BoundDomain.{BoundDomain}
 use Rattle.reached_instances.specs.declared.instance.BoundDomain.TheVariants as bound
 use Rattle.reached_instances.specs.Domains.{Setting, domain, domains, domain_under, slot_domain, given_domain, binding_of}
 use Rattle.gates.specs.declared.gate.Gate.TheVariants.{Input}
 use Rattle.typed_tree.specs.Shapes.{shape_of}
-use Rattle.language_model.specs.Effects.{World, Given, Effect, ◌>>=◌, done, end, charge, test, gate}
+use Rattle.language_model.specs.Effects.{World, GivenInput, Effect, ◌>>=◌, done, end, charge, test, gate}
 use Rattle.language_model.specs.Values.{Value, plain, never_stored, size, default_words}
 use Rattle.language_model.specs.Words.{truth_word}
 use Rattle.language_model.specs.Operations.{charged, no_traps, made_private, wanted, declassified, operation, negated, cast_to, size_told, summed}
-use Rattle.language_model.specs.Operations.{bits_extracted, joined, element_of_array, with_element, filled, published, tested, asserted}
+use Rattle.language_model.specs.Operations.{bits_extracted, concatenated, element_of_array, with_element, filled, published, tested, asserted}
 
 -- the values in a function's slots
 abbrev pub Frame : Type 0
@@ -78,26 +78,26 @@ abbrev pub same_shape : Shape → Shape → Bool
 same_shape s t = same_type s.element t.element && same_truth s.array t.array
 
 -- whether an input is as it is declared
-abbrev pub is_as_declared : (secret : Bool) → Shape → Given → Bool
+abbrev pub is_as_declared : (secret : Bool) → Shape → GivenInput → Bool
 is_as_declared secret shape x = same_truth x.secret secret && same_shape x.shape shape
 
 -- the input of a name, and how many private ones stand before it
-abbrev pub behind : Given → ℕ → ℕ
+abbrev pub behind : GivenInput → ℕ → ℕ
 behind x k = if x.secret then k + 1 else k
 
-abbrev pub input_from : ℕ → List ℕ → List Given → Option (Given × ℕ)
+abbrev pub input_from : ℕ → List ℕ → List GivenInput → Option (GivenInput × ℕ)
 input_from k text [] = None
 input_from k text (x ∷ xs) = if bytes_eq text x.text then Some (x, k) else input_from (behind x k) text xs
 
-abbrev pub input_named : World → List ℕ → Option (Given × ℕ)
+abbrev pub input_named : World → List ℕ → Option (GivenInput × ℕ)
 input_named w text = input_from 0 text w.inputs
 
-abbrev pub given_value : (secret : Bool) → Given → ℕ → Effect Value
+abbrev pub given_value : (secret : Bool) → GivenInput → ℕ → Effect Value
 given_value false x k = done (plain x.shape x.words)
 given_value true x k = gate (Input k) >>= made_private x.shape x.words
 
 -- an input where one is wanted that is private or not, and has this shape
-abbrev pub asked_for : (secret : Bool) → Shape → ℕ → Option (Given × ℕ) → Effect Value
+abbrev pub asked_for : (secret : Bool) → Shape → ℕ → Option (GivenInput × ℕ) → Effect Value
 asked_for secret shape line None = do
   _ ← charge 1
   end (ending.Trap trap.Argument line)
@@ -171,7 +171,7 @@ unfoldable mutual
     u ← wanted (gives_private here (cat_node line a b)) x
     y ← value w calls here b fr
     v ← wanted (gives_private here (cat_node line a b)) y
-    joined line u v
+    concatenated line u v
   value w calls here (sum_node e) fr = do
     x ← value w calls here e fr
     summed x
@@ -265,58 +265,58 @@ stored here k x fr = do
   done (goes (put k v fr))
 
 unfoldable mutual
-  pub execute : World → Calls → StatementContext → Command → Frame → Effect Flow
-  execute w calls at empty_command fr = done (goes fr)
-  execute w calls at (block_command cs) fr = execute_all w calls at cs fr
-  execute w calls at (if_command e a b) fr = do
+  pub execute : World → Calls → StatementContext → TypedStatementTree → Frame → Effect Flow
+  execute w calls at empty_statement fr = done (goes fr)
+  execute w calls at (block_statement cs) fr = execute_all w calls at cs fr
+  execute w calls at (if_statement e a b) fr = do
     v ← value w calls at.here e fr
     t ← tested v
     either t (execute w calls at a fr) (execute w calls at b fr)
-  execute w calls at (loop_command e step body) fr =
+  execute w calls at (loop_statement e step body) fr =
       λ s. turns (s.left + 1) (value w calls at.here e) (execute w calls at step) (execute w calls at body) fr s
-  execute w calls at (do_command body e) fr =
+  execute w calls at (do_statement body e) fr =
       λ s. repeats (s.left + 1) (value w calls at.here e) (execute w calls at body) fr s
-  execute w calls at break_command fr = done (stops fr)
-  execute w calls at continue_command fr = done (skips fr)
-  execute w calls at (return_command None) fr = done (returns nothing)
-  execute w calls at (return_command (Some e)) fr = do
+  execute w calls at break_statement fr = done (stops fr)
+  execute w calls at continue_statement fr = done (skips fr)
+  execute w calls at (return_statement None) fr = done (returns nothing)
+  execute w calls at (return_statement (Some e)) fr = do
     x ← value w calls at.here e fr
     v ← wanted at.secret_result x
     done (returns v)
-  execute w calls at (assert_command line e) fr = do
+  execute w calls at (assert_statement line e) fr = do
     v ← value w calls at.here e fr
     _ ← asserted line v
     done (goes fr)
-  execute w calls at (store_command k e) fr = do
+  execute w calls at (store_statement k e) fr = do
     x ← value w calls at.here e fr
     stored at.here k x fr
-  execute w calls at (default_command k) fr = stored at.here k (plain (slot_shape at.here k) (default_words (slot_shape at.here k).array)) fr
-  execute w calls at (fill_command line k n e) fr = do
+  execute w calls at (default_statement k) fr = stored at.here k (plain (slot_shape at.here k) (default_words (slot_shape at.here k).array)) fr
+  execute w calls at (fill_statement line k n e) fr = do
     m ← value w calls at.here n fr
     x ← value w calls at.here e fr
     a ← wanted (slot_is_private at.here k) x
     v ← filled line m a
     done (goes (put k v fr))
-  execute w calls at (input_command line k text) fr = do
+  execute w calls at (input_statement line k text) fr = do
     x ← asked_for (slot_is_private at.here k) (slot_shape at.here k) line (input_named w text)
     stored at.here k x fr
-  execute w calls at (element_command line k i e) fr = do
+  execute w calls at (element_statement line k i e) fr = do
     j ← value w calls at.here i fr
     x ← value w calls at.here e fr
     a ← wanted (slot_is_private at.here k) x
     v ← with_element line (fr k) j a
     done (goes (put k v fr))
-  execute w calls at (publish_command text e) fr = do
+  execute w calls at (publish_statement text e) fr = do
     v ← value w calls at.here e fr
     _ ← published w text v
     done (goes fr)
-  execute w calls at (evaluate_command e) fr = do
+  execute w calls at (evaluate_statement e) fr = do
     _ ← value w calls at.here e fr
     done (goes fr)
 
-  pub execute_all : World → Calls → StatementContext → Commands → Frame → Effect Flow
-  execute_all w calls at Commands'.none fr = done (goes fr)
-  execute_all w calls at (Commands'.also c cs) fr = do
+  pub execute_all : World → Calls → StatementContext → TypedStatementTrees → Frame → Effect Flow
+  execute_all w calls at Statements'.none fr = done (goes fr)
+  execute_all w calls at (Statements'.also c cs) fr = do
     g ← execute w calls at c fr
     then_do g (execute_all w calls at cs)
 

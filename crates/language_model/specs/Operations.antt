@@ -341,19 +341,19 @@ bits_extracted w line v = do
 
 -- ---- ARRAYS
 
-abbrev pub joined_from : Secrecy → Secrecy → Value → Value → Effect Value
-joined_from Plain Plain x y = done (plain x.shape (x.words ++ y.words))
-joined_from a b x y = do
+abbrev pub concatenated_from : Secrecy → Secrecy → Value → Value → Effect Value
+concatenated_from Plain Plain x y = done (plain x.shape (x.words ++ y.words))
+concatenated_from a b x y = do
   u ← number_of x
   v ← number_of y
   r ← gate (Cat u v)
   made_private x.shape (x.words ++ y.words) r
 
 -- of two arrays, both private or both public
-abbrev pub joined : ℕ → Value → Value → Effect Value
-joined line x y = do
+abbrev pub concatenated : ℕ → Value → Value → Effect Value
+concatenated line x y = do
   _ ← charged (not_too_large line (size x + size y)) (size x + size y)
-  joined_from x.secrecy y.secrecy x y
+  concatenated_from x.secrecy y.secrecy x y
 
 abbrev pub position : Value → ℕ
 position i = first_word (visible_words i)

@@ -6,14 +6,14 @@ use Rattle.sc_text.specs.declared.end.TapeOwner.TheVariants.{Dealer}
 use Rattle.sc_text.specs.declared.event.Event.{Event}
 use Rattle.gates.specs.declared.gate.Gate.{Gate}
 use Rattle.typed_tree.specs.Programs.{TypedProgramTree}
-use Rattle.language_model.specs.Effects.{Words, words_each, Given, Source, Clear, Answers, World, Stage, Stop, Ended, Run}
+use Rattle.language_model.specs.Effects.{Words, words_each, GivenInput, Source, Clear, Answers, World, Stage, RunStop, Ended, Run}
 use Rattle.language_model.specs.Values.{Value}
 use Rattle.language_model.specs.Evaluation.{either, body_of, call_at, deepest}
 
 -- why the run stopped and what it had cost; the words that it needed of the dealer's tape and of the miners'; what it told, the
 -- words that it opened, and its gates
 pub record Report : Type 0 where
-  pub stop : Stop
+  pub stop : RunStop
   pub cost : ℕ
   pub dealt : ℕ
   pub drawn : Words
@@ -24,7 +24,7 @@ pub record Report : Type 0 where
 -- ---- THE DEALER
 
 -- two words for each element of a private input
-abbrev pub words_dealt : Given → ℕ
+abbrev pub words_dealt : GivenInput → ℕ
 words_dealt x = either x.secret (2 * length x.words) 0
 
 abbrev pub dealing : World → ℕ
@@ -36,7 +36,7 @@ abbrev pub beginning : ℕ → List ℕ → Stage
 beginning budget answers =
     record { left = budget; drawn = words_each 0; made = 0; gates = []; events = []; opened = []; answers = answers }
 
-abbrev pub reported : World → ℕ → Stop → Stage → Report
+abbrev pub reported : World → ℕ → RunStop → Stage → Report
 reported w budget stop s =
     record { stop = stop; cost = budget - s.left; dealt = dealing w; drawn = s.drawn; events = s.events; opened = s.opened; gates = s.gates }
 
@@ -62,7 +62,7 @@ evaluated w p budget answers =
 pub record Offered : Type 0 where
   pub dealer : ℕ
   pub lengths : Words
-  pub inputs : List Given
+  pub inputs : List GivenInput
 
 abbrev pub world_of : Source → Offered → World
 world_of source o = record { dealer = o.dealer; lengths = o.lengths; source = source; inputs = o.inputs }
@@ -76,7 +76,7 @@ abbrev pub zeros_for : Bool → List ℕ → List ℕ
 zeros_for true words = replicate (length words) 0
 zeros_for false words = words
 
-abbrev pub public_input : Given → Given
+abbrev pub public_input : GivenInput → GivenInput
 public_input x = record x { words = zeros_for x.secret x.words }
 
 abbrev pub public_part : Offered → Offered

@@ -24,11 +24,12 @@ use Rattle.typed_tree.specs.declared.operators.Connective.TheVariants.{AndAlso}
 use Rattle.typed_tree.specs.declared.operators.Cast.TheVariants.{WordToBool, BoolToWord}
 use Rattle.typed_tree.specs.Tree.{TypedTree, word_node, truth_node, slot_node, call_node, bits_node, element_node, cast_node, binary_node, cut_node}
 use Rattle.typed_tree.specs.Tree.{declassify_node, typed_trees_of}
-use Rattle.typed_tree.specs.Commands.{Command, commands_of, empty_command, block_command, if_command, loop_command, do_command, return_command}
-use Rattle.typed_tree.specs.Commands.{continue_command, assert_command, store_command, default_command, fill_command, input_command, publish_command}
+use Rattle.typed_tree.specs.Statements.{TypedStatementTree, typed_statements_of, empty_statement, block_statement, if_statement, loop_statement, do_statement}
+use Rattle.typed_tree.specs.Statements.{return_statement, continue_statement, assert_statement, store_statement, default_statement, fill_statement}
+use Rattle.typed_tree.specs.Statements.{input_statement, publish_statement}
 use Rattle.typed_tree.specs.Programs.{TypedFunctionTree, TypedProgramTree}
 use Rattle.typed_tree.specs.Shapes.{shape_of}
-use Rattle.language_model.specs.Effects.{Words, words_each, Given, Stop, Ended, Short}
+use Rattle.language_model.specs.Effects.{Words, words_each, GivenInput, RunStop, Ended, Short}
 use Rattle.language_model.specs.Evaluation.{value, arguments, turns, repeats, execute, execute_all, call_at}
 use Rattle.language_model.specs.Reports.{Report, Offered, eval, blind}
 
@@ -49,33 +50,33 @@ bool_in d = slot d datatype.Bool false
 abbrev private : SlotDomain
 private = domain.Private 0
 
-abbrev main_with : List Slot → List Command → TypedFunctionTree
+abbrev main_with : List Slot → List TypedStatementTree → TypedFunctionTree
 main_with slots body =
-    record { name = codes "main"; variables = 0; parameters = 0; slots = slots; given = given.Nothing; body = commands_of body; size = 0 }
+    record { name = codes "main"; variables = 0; parameters = 0; slots = slots; given = given.Nothing; body = typed_statements_of body; size = 0 }
 
-abbrev program : List Slot → List Command → TypedProgramTree
+abbrev program : List Slot → List TypedStatementTree → TypedProgramTree
 program slots body = record { functions = main_with slots body ∷ [] }
 
 -- the lines of the texts are all 2
-abbrev ask : ℕ → List ℕ → Command
-ask k text = input_command 2 k text
+abbrev ask : ℕ → List ℕ → TypedStatementTree
+ask k text = input_statement 2 k text
 
-abbrev tell : List ℕ → TypedTree → Command
-tell = publish_command
+abbrev tell : List ℕ → TypedTree → TypedStatementTree
+tell = publish_statement
 
 abbrev words : WordOperator → TypedTree → TypedTree → TypedTree
 words op a b = binary_node 2 (operator.Words op) Scalars a b
 
-abbrev secret_word : List ℕ → ℕ → Given
+abbrev secret_word : List ℕ → ℕ → GivenInput
 secret_word text n = record { text = text; secret = true; shape = shape_of Uint64 false; words = n ∷ [] }
 
-abbrev secret_bool : List ℕ → ℕ → Given
+abbrev secret_bool : List ℕ → ℕ → GivenInput
 secret_bool text n = record { text = text; secret = true; shape = shape_of datatype.Bool false; words = n ∷ [] }
 
-abbrev secret_words : List ℕ → List ℕ → Given
+abbrev secret_words : List ℕ → List ℕ → GivenInput
 secret_words text ns = record { text = text; secret = true; shape = shape_of Uint64 true; words = ns }
 
-abbrev offered : List Given → Offered
+abbrev offered : List GivenInput → Offered
 offered inputs = record { dealer = 100000; lengths = words_each 100000; inputs = inputs }
 
 abbrev two : ℕ → ℕ → Offered
@@ -85,7 +86,7 @@ abbrev three_words : ℕ → ℕ → ℕ → Words
 three_words a b c = record { first = a; second = b; third = c }
 
 -- p uint64 a = argument("a"); p uint64 b = argument("b"); and a line about them
-abbrev about_two : Command → TypedProgramTree
+abbrev about_two : TypedStatementTree → TypedProgramTree
 about_two c = program (word_in private ∷ word_in private ∷ []) (ask 0 (codes "a") ∷ ask 1 (codes "b") ∷ c ∷ [])
 
 -- ---- PRIVATE OPERATIONS
@@ -139,7 +140,7 @@ sum_blind_short = refl
 abbrev product_for_the_client : TypedProgramTree
 product_for_the_client =
     program (word_in private ∷ word_in private ∷ word_in private ∷ [])
-    (ask 0 (codes "a") ∷ ask 1 (codes "b") ∷ store_command 2 (words word.Multiply (slot_node 0) (slot_node 1)) ∷ tell (codes "c") (slot_node 2) ∷ [])
+    (ask 0 (codes "a") ∷ ask 1 (codes "b") ∷ store_statement 2 (words word.Multiply (slot_node 0) (slot_node 1)) ∷ tell (codes "c") (slot_node 2) ∷ [])
 
 product_told : eval product_for_the_client (two 6 7) 1000000
     ≡ record {
@@ -159,7 +160,7 @@ product_told = refl
 abbrev squares : TypedProgramTree
 squares =
     program (words_in private ∷ words_in domain.Public ∷ [])
-    (ask 0 (codes "a") ∷ store_command 1 (declassify_node (binary_node 2 (operator.Words word.Multiply) Arrays (slot_node 0) (slot_node 0)))
+    (ask 0 (codes "a") ∷ store_statement 1 (declassify_node (binary_node 2 (operator.Words word.Multiply) Arrays (slot_node 0) (slot_node 0)))
     ∷ tell (codes "c") (slot_node 1) ∷ [])
 
 -- of no elements
@@ -181,7 +182,7 @@ no_squares = refl
 abbrev unpublished_squares : TypedProgramTree
 unpublished_squares =
     program (words_in private ∷ words_in domain.Public ∷ [])
-    (ask 0 (codes "a") ∷ store_command 1 (declassify_node (binary_node 2 (operator.Words word.Multiply) Arrays (slot_node 0) (slot_node 0))) ∷ [])
+    (ask 0 (codes "a") ∷ store_statement 1 (declassify_node (binary_node 2 (operator.Words word.Multiply) Arrays (slot_node 0) (slot_node 0))) ∷ [])
 
 many_squares_cost : (eval unpublished_squares (offered (secret_words (codes "a") (replicate 513 3) ∷ [])) 1000000).cost ≡ 2565
 unfolding value arguments turns repeats execute execute_all call_at
@@ -195,7 +196,7 @@ many_squares_need = refl
 abbrev equality : TypedProgramTree
 equality =
     program (word_in private ∷ word_in private ∷ bool_in domain.Public ∷ [])
-    (ask 0 (codes "a") ∷ ask 1 (codes "b") ∷ store_command 2 (declassify_node (words word.Equal (slot_node 0) (slot_node 1)))
+    (ask 0 (codes "a") ∷ ask 1 (codes "b") ∷ store_statement 2 (declassify_node (words word.Equal (slot_node 0) (slot_node 1)))
     ∷ tell (codes "e") (slot_node 2) ∷ [])
 
 different : (eval equality (two 0 18446744073709551615) 1000000).events ≡ Open (Truth false ∷ []) ∷ Publish (codes "e") (Truth false ∷ []) ∷ []
@@ -239,7 +240,7 @@ unfolding value arguments turns repeats execute execute_all call_at
 not_below = refl
 
 -- publish("z", declassify((bool) a)); with one input
-abbrev about_one : Command → TypedProgramTree
+abbrev about_one : TypedStatementTree → TypedProgramTree
 about_one c = program (word_in private ∷ []) (ask 0 (codes "a") ∷ c ∷ [])
 
 abbrev one : ℕ → Offered
@@ -320,7 +321,7 @@ either_told = refl
 abbrev with_three : TypedProgramTree
 with_three =
     program (word_in private ∷ word_in private ∷ [])
-    (ask 0 (codes "a") ∷ store_command 1 (words word.Add (slot_node 0) (word_node 3)) ∷ tell (codes "k") (declassify_node (slot_node 1)) ∷ [])
+    (ask 0 (codes "a") ∷ store_statement 1 (words word.Add (slot_node 0) (word_node 3)) ∷ tell (codes "k") (declassify_node (slot_node 1)) ∷ [])
 
 with_three_told : eval with_three (one 4) 1000000
     ≡ record {
@@ -341,7 +342,7 @@ with_three_told = refl
 abbrev opened_twice : TypedProgramTree
 opened_twice =
     program (word_in private ∷ word_in domain.Public ∷ word_in domain.Public ∷ [])
-    (ask 0 (codes "a") ∷ store_command 1 (declassify_node (slot_node 0)) ∷ store_command 2 (declassify_node (slot_node 0)) ∷ [])
+    (ask 0 (codes "a") ∷ store_statement 1 (declassify_node (slot_node 0)) ∷ store_statement 2 (declassify_node (slot_node 0)) ∷ [])
 
 second_opening_ends : eval opened_twice (record (one 6) { lengths = three_words 2 2 1 }) 1000000
     ≡ record {
@@ -369,9 +370,9 @@ public_words n = replicate n (word_in domain.Public)
 abbrev counting_down : TypedProgramTree
 counting_down =
     program (word_in private ∷ word_in domain.Public ∷ [])
-    (ask 0 (codes "a") ∷ store_command 1 (declassify_node (slot_node 0))
-    ∷ loop_command (words word.NotEqual (slot_node 1) (word_node 0)) empty_command
-    (block_command (commands_of (store_command 1 (words word.Subtract (slot_node 1) (word_node 1)) ∷ []))) ∷ tell (codes "n") (slot_node 1) ∷ [])
+    (ask 0 (codes "a") ∷ store_statement 1 (declassify_node (slot_node 0))
+    ∷ loop_statement (words word.NotEqual (slot_node 1) (word_node 0)) empty_statement
+    (block_statement (typed_statements_of (store_statement 1 (words word.Subtract (slot_node 1) (word_node 1)) ∷ []))) ∷ tell (codes "n") (slot_node 1) ∷ [])
 
 counted_down : (eval counting_down (one 2) 15).events ≡ Open (Word 2 ∷ []) ∷ Publish (codes "n") (Word 0 ∷ []) ∷ []
 unfolding value arguments turns repeats execute execute_all call_at
@@ -392,10 +393,10 @@ one_less_cost = refl
 -- uint64 i = 0; for (i = 0; i < 3; i++) { } publish("i", i);
 abbrev counting_up : TypedProgramTree
 counting_up =
-    program (public_words 1) (store_command 0 (word_node 0)
-    ∷ block_command (commands_of
-    (store_command 0 (word_node 0) ∷ loop_command (words word.Less (slot_node 0) (word_node 3))
-    (store_command 0 (words word.Add (slot_node 0) (word_node 1))) (block_command (commands_of [])) ∷ [])) ∷ tell (codes "i") (slot_node 0) ∷ [])
+    program (public_words 1) (store_statement 0 (word_node 0)
+    ∷ block_statement (typed_statements_of
+    (store_statement 0 (word_node 0) ∷ loop_statement (words word.Less (slot_node 0) (word_node 3))
+    (store_statement 0 (words word.Add (slot_node 0) (word_node 1))) (block_statement (typed_statements_of [])) ∷ [])) ∷ tell (codes "i") (slot_node 0) ∷ [])
 
 counted_up : eval counting_up no_inputs 1000000
     ≡ record { stop = Ended ending.Done; cost = 17; dealt = 0; drawn = words_each 0; events = Publish (codes "i") (Word 3 ∷ []) ∷ []; opened = []; gates = [] }
@@ -405,10 +406,10 @@ counted_up = refl
 -- uint64 i; do { i = i + 1; if (i == 2) continue; } while (i < 3); publish("i", i);
 abbrev repeating : TypedProgramTree
 repeating =
-    program (public_words 1) (default_command 0
-    ∷ do_command (block_command
-    (commands_of (store_command 0 (words word.Add (slot_node 0) (word_node 1))
-    ∷ if_command (words word.Equal (slot_node 0) (word_node 2)) continue_command empty_command ∷ [])))
+    program (public_words 1) (default_statement 0
+    ∷ do_statement (block_statement
+    (typed_statements_of (store_statement 0 (words word.Add (slot_node 0) (word_node 1))
+    ∷ if_statement (words word.Equal (slot_node 0) (word_node 2)) continue_statement empty_statement ∷ [])))
     (words word.Less (slot_node 0) (word_node 3)) ∷ tell (codes "i") (slot_node 0) ∷ [])
 
 repeated : (eval repeating no_inputs 1000000).events ≡ Publish (codes "i") (Word 3 ∷ []) ∷ []
@@ -424,7 +425,7 @@ repeated_cost = refl
 abbrev cut : TypedProgramTree
 cut =
     program (bool_in domain.Public ∷ [])
-    (store_command 0 (cut_node AndAlso (truth_node false) (words word.Equal (words word.Divide (word_node 1) (word_node 0)) (word_node 0)))
+    (store_statement 0 (cut_node AndAlso (truth_node false) (words word.Equal (words word.Divide (word_node 1) (word_node 0)) (word_node 0)))
     ∷ tell (codes "x") (slot_node 0) ∷ [])
 
 cut_told : eval cut no_inputs 1000000
@@ -446,7 +447,7 @@ cut_told = refl
 -- uint64 z = 0; publish("one", 1); publish("q", 7 / z);
 abbrev dividing : TypedProgramTree
 dividing = program (public_words 1)
-    (store_command 0 (word_node 0) ∷ tell (codes "one") (word_node 1) ∷ tell (codes "q") (words word.Divide (word_node 7) (slot_node 0)) ∷ [])
+    (store_statement 0 (word_node 0) ∷ tell (codes "one") (word_node 1) ∷ tell (codes "q") (words word.Divide (word_node 7) (slot_node 0)) ∷ [])
 
 by_zero : eval dividing no_inputs 1000000
     ≡ record {
@@ -462,13 +463,13 @@ by_zero : eval dividing no_inputs 1000000
 unfolding value arguments turns repeats execute execute_all call_at
 by_zero = refl
 
-abbrev stop_and_cost : Report → Stop × ℕ
+abbrev stop_and_cost : Report → RunStop × ℕ
 stop_and_cost r = (r.stop, r.cost)
 
 -- uint64[[1]] a (5); publish("x", a[5]);
 past_the_end : stop_and_cost
     (eval (program (words_in domain.Public ∷ [])
-    (fill_command 2 0 (word_node 5) (word_node 0) ∷ tell (codes "x") (element_node 2 (slot_node 0) (word_node 5)) ∷ [])) no_inputs 1000000)
+    (fill_statement 2 0 (word_node 5) (word_node 0) ∷ tell (codes "x") (element_node 2 (slot_node 0) (word_node 5)) ∷ [])) no_inputs 1000000)
     ≡ (Ended (ending.Trap trap.Index 2), 6)
 unfolding value arguments turns repeats execute execute_all call_at
 past_the_end = refl
@@ -476,7 +477,7 @@ past_the_end = refl
 -- uint64[[1]] a (2); uint64[[1]] b (3); publish("x", a + b);
 of_two_sizes : stop_and_cost
     (eval (program (words_in domain.Public ∷ words_in domain.Public ∷ [])
-    (fill_command 2 0 (word_node 2) (word_node 0) ∷ fill_command 2 1 (word_node 3) (word_node 0)
+    (fill_statement 2 0 (word_node 2) (word_node 0) ∷ fill_statement 2 1 (word_node 3) (word_node 0)
     ∷ tell (codes "x") (binary_node 2 (operator.Words word.Add) Arrays (slot_node 0) (slot_node 1)) ∷ [])) no_inputs 1000000)
     ≡ (Ended (ending.Trap trap.Length 2), 6)
 unfolding value arguments turns repeats execute execute_all call_at
@@ -488,13 +489,13 @@ unfolding value arguments turns repeats execute execute_all call_at
 not_given = refl
 
 -- uint64[[1]] a (1048577);
-too_large : stop_and_cost (eval (program (words_in domain.Public ∷ []) (fill_command 2 0 (word_node 1048577) (word_node 0) ∷ [])) no_inputs 1000000)
+too_large : stop_and_cost (eval (program (words_in domain.Public ∷ []) (fill_statement 2 0 (word_node 1048577) (word_node 0) ∷ [])) no_inputs 1000000)
     ≡ (Ended (ending.Trap trap.Large 2), 1)
 unfolding value arguments turns repeats execute execute_all call_at
 too_large = refl
 
 -- assert(1 == 2);
-asserting : stop_and_cost (eval (program [] (assert_command 2 (words word.Equal (word_node 1) (word_node 2)) ∷ [])) no_inputs 1000000)
+asserting : stop_and_cost (eval (program [] (assert_statement 2 (words word.Equal (word_node 1) (word_node 2)) ∷ [])) no_inputs 1000000)
     ≡ (Ended (ending.Trap trap.Assert 2), 2)
 unfolding value arguments turns repeats execute execute_all call_at
 asserting = refl
@@ -509,7 +510,7 @@ for_ever =
       slots = public_words 1;
       given = given.Value (word_in domain.Public);
       body =
-          commands_of (return_command (Some (call_node 1 1 (typed_trees_of (slot_node 0 ∷ [])))) ∷ []);
+          typed_statements_of (return_statement (Some (call_node 1 1 (typed_trees_of (slot_node 0 ∷ [])))) ∷ []);
       size = 0;
     }
 
@@ -532,7 +533,7 @@ adding =
       given =
           given.Value (word_in (domain.Variable 0));
       body =
-          commands_of (return_command (Some (binary_node 2 (operator.Words word.Add) Scalars (slot_node 0) (slot_node 1))) ∷ []);
+          typed_statements_of (return_statement (Some (binary_node 2 (operator.Words word.Add) Scalars (slot_node 0) (slot_node 1))) ∷ []);
       size = 0;
     }
 
@@ -541,7 +542,7 @@ abbrev both_bindings : TypedProgramTree
 both_bindings =
     record {
       functions = main_with (word_in private ∷ word_in domain.Public ∷ [])
-          (ask 0 (codes "a") ∷ store_command 1 (call_node 3 1 (typed_trees_of (word_node 1 ∷ word_node 2 ∷ [])))
+          (ask 0 (codes "a") ∷ store_statement 1 (call_node 3 1 (typed_trees_of (word_node 1 ∷ word_node 2 ∷ [])))
           ∷ tell (codes "r") (declassify_node (call_node 3 1 (typed_trees_of (slot_node 0 ∷ slot_node 1 ∷ [])))) ∷ []) ∷ adding ∷ [];
     }
 

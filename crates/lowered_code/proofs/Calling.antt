@@ -12,7 +12,7 @@ use Rattle.language_model.specs.Evaluation.{is_private, bound_at, slots_of, plac
 use Rattle.bytecode.specs.declared.kind.Kind.{Kind}
 use Rattle.code_model.specs.Kinds.{kind_of, slot_kind, returned_shape, called_shape}
 use Rattle.code_model.specs.Kinded.{HasKind, ResultFits}
-use Rattle.code_model.specs.Commands.{defaults_behind, commands_kinds}
+use Rattle.code_model.specs.Statements.{defaults_behind, statements_kinds}
 use Rattle.code_model.specs.Expressions.{Numbers, given_at, result_at}
 use Rattle.code_model.specs.Programs.{given_kind, last_kinds, code_of_found}
 use Rattle.well_typed.specs.Expressions.{shape_given}
@@ -31,7 +31,7 @@ module _ (number : Numbers) (fs : List TypedFunctionTree) where
       let own = map (slot_kind b) f.slots in
       let many = length-map f.slots (slot_kind b) in
       let enough : f.parameters ≤ length own = omega (arith, few, many) in
-      take-append-le f.parameters own (defaults_behind f.slots ++ (commands_kinds (place_in fs f b).here f.body ++ last_kinds b f.given)) enough
+      take-append-le f.parameters own (defaults_behind f.slots ++ (statements_kinds (place_in fs f b).here f.body ++ last_kinds b f.given)) enough
       ∙ take-map (slot_kind b) f.parameters f.slots
 
   module _ (ks : List Kind) (t : ℕ) where

@@ -9,10 +9,10 @@ use Rattle.typed_tree.specs.declared.function.Returned.TheVariants.{Nothing, Val
 use Rattle.typed_tree.specs.Tree.{TypedTree, TypedTrees, word_node, truth_node, slot_node, call_node, size_node, cat_node, sum_node, bits_node, element_node}
 use Rattle.typed_tree.specs.Tree.{not_node, cast_node, binary_node, cut_node, declassify_node}
 use Rattle.typed_tree.specs.Tree as Tree'
-use Rattle.typed_tree.specs.Commands.{Command, Commands, empty_command, block_command, if_command, loop_command, do_command, break_command, continue_command}
-use Rattle.typed_tree.specs.Commands.{return_command, assert_command, store_command, default_command, fill_command, input_command, element_command}
-use Rattle.typed_tree.specs.Commands.{publish_command, evaluate_command}
-use Rattle.typed_tree.specs.Commands as Commands'
+use Rattle.typed_tree.specs.Statements.{TypedStatementTree, TypedStatementTrees, empty_statement, block_statement, if_statement, loop_statement, do_statement}
+use Rattle.typed_tree.specs.Statements.{break_statement, continue_statement, return_statement, assert_statement, store_statement, default_statement}
+use Rattle.typed_tree.specs.Statements.{fill_statement, input_statement, element_statement, publish_statement, evaluate_statement}
+use Rattle.typed_tree.specs.Statements as Statements'
 use Rattle.typed_tree.specs.Programs.{TypedProgramTree}
 use Rattle.secrec_ast.specs.Programs.{ProgramTree}
 use Rattle.domain_types.specs.Typing.{IsTypedProgram}
@@ -25,13 +25,13 @@ use Rattle.reached_instances.specs.Calls.{called, main_of}
 use Rattle.reached_instances.specs.Reached.{IsReachedList}
 use Rattle.language_model.specs.Evaluation.{StatementContext, is_private, bound_at, slots_of}
 use Rattle.code_model.specs.Fit as fit
-use Rattle.code_model.specs.Fit.{MayStand, IsFit, AreFit, FitsSlot, IsFitCommand, AreFitCommands, IsThere, IsFitAlone, IsFitProgram, the_main, gives_value}
+use Rattle.code_model.specs.Fit.{MayStand, IsFit, AreFit, FitsSlot, IsFitStatement, AreFitStatements, IsThere, IsFitAlone, IsFitProgram, the_main, gives_value}
 use Rattle.code_model.proofs.Means.{means}
 use Rattle.code_model.proofs.Reached.{reached_fit}
 use Rattle.well_typed.specs.Kinds.{GoesTo}
 use Rattle.well_typed.specs.Expressions.{Gives, AreTaken}
-use Rattle.well_typed.specs.Commands.{FitsInto, IsWellTypedCommand, AreWellTypedCommands}
-use Rattle.well_typed.specs.Commands as typed
+use Rattle.well_typed.specs.Statements.{FitsInto, IsWellTypedStatement, AreWellTypedStatements}
+use Rattle.well_typed.specs.Statements as typed
 use Rattle.well_typed.specs.Programs.{GivesBack, IsWellTypedInstance, HasPlainMain, IsWellTyped}
 use Rattle.well_typed.specs.Sources.{IsWellWritten}
 use Rattle.well_typed.proofs.Reaching.{accepted_well_typed}
@@ -93,61 +93,62 @@ module _ (here : Setting) where
     abbrev at : StatementContext
     at = record { here = here; secret_result = is_private (given_domain here.binding given) }
 
-  return_fits : (g : Returned) (o : Option TypedTree) → typed.IsReturned here g o → (inside : Bool) → IsFitCommand There (at g) inside (return_command o)
+  return_fits : (g : Returned) (o : Option TypedTree) → typed.IsReturned here g o → (inside : Bool) → IsFitStatement There (at g) inside (return_statement o)
   return_fits Nothing None h inside = refl
   return_fits Nothing (Some e) h inside = absurd h
   return_fits (Value s) None h inside = absurd h
   return_fits (Value s) (Some e) h inside = (expression_fits e _ h.0, goes_may (domain here e) (domain_under here.binding s.domain) h.1)
 
   mutual
-    command_fits : (g : Returned) (inside : Bool) (c : Command) → IsWellTypedCommand here g inside c → IsFitCommand There (at g) inside c
-    command_fits g inside empty_command h = tt
-    command_fits g inside (block_command cs) h = commands_fit g inside cs h
-    command_fits g inside (if_command e a b) h = (expression_fits e _ h.0.0, command_fits g inside a h.1, command_fits g inside b h.2)
-    command_fits g inside (loop_command e step body) h = (expression_fits e _ h.0.0, command_fits g false step h.1, command_fits g true body h.2)
-    command_fits g inside (do_command body e) h = (command_fits g true body h.0, expression_fits e _ h.1.0)
-    command_fits g inside break_command h = h
-    command_fits g inside continue_command h = h
-    command_fits g inside (return_command o) h = return_fits g o h inside
-    command_fits g inside (assert_command line e) h = expression_fits e _ h.0
-    command_fits g inside (store_command k e) h = slot_fits k h.0 _ e h.1 h.2
-    command_fits g inside (default_command k) h = slice_get_within here.slots k h.0 h.1
-    command_fits g inside (fill_command line k n e) h = (expression_fits n _ h.2.0, slot_fits k h.0 _ e h.1.0 h.3)
-    command_fits g inside (input_command line k text) h = slice_get_within here.slots k h.0 h.1
-    command_fits g inside (element_command line k i e) h = (expression_fits i _ h.2.0, slot_fits k h.0 _ e h.1.0 h.3)
-    command_fits g inside (publish_command text e) h = expression_fits e _ h.1
-    command_fits g inside (evaluate_command e) h = expression_fits e _ h.1
+    statement_fits : (g : Returned) (inside : Bool) (c : TypedStatementTree) → IsWellTypedStatement here g inside c → IsFitStatement There (at g) inside c
+    statement_fits g inside empty_statement h = tt
+    statement_fits g inside (block_statement cs) h = statements_fit g inside cs h
+    statement_fits g inside (if_statement e a b) h = (expression_fits e _ h.0.0, statement_fits g inside a h.1, statement_fits g inside b h.2)
+    statement_fits g inside (loop_statement e step body) h = (expression_fits e _ h.0.0, statement_fits g false step h.1, statement_fits g true body h.2)
+    statement_fits g inside (do_statement body e) h = (statement_fits g true body h.0, expression_fits e _ h.1.0)
+    statement_fits g inside break_statement h = h
+    statement_fits g inside continue_statement h = h
+    statement_fits g inside (return_statement o) h = return_fits g o h inside
+    statement_fits g inside (assert_statement line e) h = expression_fits e _ h.0
+    statement_fits g inside (store_statement k e) h = slot_fits k h.0 _ e h.1 h.2
+    statement_fits g inside (default_statement k) h = slice_get_within here.slots k h.0 h.1
+    statement_fits g inside (fill_statement line k n e) h = (expression_fits n _ h.2.0, slot_fits k h.0 _ e h.1.0 h.3)
+    statement_fits g inside (input_statement line k text) h = slice_get_within here.slots k h.0 h.1
+    statement_fits g inside (element_statement line k i e) h = (expression_fits i _ h.2.0, slot_fits k h.0 _ e h.1.0 h.3)
+    statement_fits g inside (publish_statement text e) h = expression_fits e _ h.1
+    statement_fits g inside (evaluate_statement e) h = expression_fits e _ h.1
 
-    commands_fit : (g : Returned) (inside : Bool) (cs : Commands) → AreWellTypedCommands here g inside cs → AreFitCommands There (at g) inside cs
-    commands_fit g inside Commands'.none h = tt
-    commands_fit g inside (Commands'.also c cs) h = (command_fits g inside c h.0, commands_fit g inside cs h.1)
+    statements_fit : (g : Returned) (inside : Bool) (cs : TypedStatementTrees) → AreWellTypedStatements here g inside cs
+        → AreFitStatements There (at g) inside cs
+    statements_fit g inside Statements'.none h = tt
+    statements_fit g inside (Statements'.also c cs) h = (statement_fits g inside c h.0, statements_fit g inside cs h.1)
 
 -- ---- RETURNS
 
 mutual
-  same_always : (c : Command) → typed.always_returns c ≡ fit.always_returns c
-  same_always empty_command = refl
-  same_always (block_command cs) = same_one cs
-  same_always (if_command e a b) = ap₂ ◌&&◌ (same_always a) (same_always b)
-  same_always (loop_command e step body) = refl
-  same_always (do_command body e) = refl
-  same_always break_command = refl
-  same_always continue_command = refl
-  same_always (return_command e) = refl
-  same_always (assert_command line e) = refl
-  same_always (store_command k e) = refl
-  same_always (default_command k) = refl
-  same_always (fill_command line k n e) = refl
-  same_always (input_command line k text) = refl
-  same_always (element_command line k i e) = refl
-  same_always (publish_command text e) = refl
-  same_always (evaluate_command e) = refl
+  same_always : (c : TypedStatementTree) → typed.always_returns c ≡ fit.always_returns c
+  same_always empty_statement = refl
+  same_always (block_statement cs) = same_one cs
+  same_always (if_statement e a b) = ap₂ ◌&&◌ (same_always a) (same_always b)
+  same_always (loop_statement e step body) = refl
+  same_always (do_statement body e) = refl
+  same_always break_statement = refl
+  same_always continue_statement = refl
+  same_always (return_statement e) = refl
+  same_always (assert_statement line e) = refl
+  same_always (store_statement k e) = refl
+  same_always (default_statement k) = refl
+  same_always (fill_statement line k n e) = refl
+  same_always (input_statement line k text) = refl
+  same_always (element_statement line k i e) = refl
+  same_always (publish_statement text e) = refl
+  same_always (evaluate_statement e) = refl
 
-  same_one : (cs : Commands) → typed.one_returns cs ≡ fit.one_returns cs
-  same_one Commands'.none = refl
-  same_one (Commands'.also c cs) = ap₂ ◌||◌ (same_always c) (same_one cs)
+  same_one : (cs : TypedStatementTrees) → typed.one_returns cs ≡ fit.one_returns cs
+  same_one Statements'.none = refl
+  same_one (Statements'.also c cs) = ap₂ ◌||◌ (same_always c) (same_one cs)
 
-returns : (g : Returned) (body : Commands) → GivesBack g body → gives_value g ≡ true → fit.one_returns body ≡ true
+returns : (g : Returned) (body : TypedStatementTrees) → GivesBack g body → gives_value g ≡ true → fit.one_returns body ≡ true
 returns Nothing body h e = absurd (clash e)
 returns (Value s) body h e = sym (same_one body) ∙ h
 
@@ -160,7 +161,7 @@ alone p i h =
       called = f;
       there = h.there;
       fit = record {
-        body = commands_fit (record { functions = p.functions; slots = f.slots; binding = i.binding }) f.given false f.body h.body;
+        body = statements_fit (record { functions = p.functions; slots = f.slots; binding = i.binding }) f.given false f.body h.body;
         returns = returns f.given f.body h.returns;
       };
     }

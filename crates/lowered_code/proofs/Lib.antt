@@ -5,7 +5,7 @@ pub mod Rows
 pub mod Calling
 pub mod Expressions
 pub mod Control
-pub mod Commands
+pub mod Statements
 pub mod Verified
 pub mod Samples
 pub mod Registers

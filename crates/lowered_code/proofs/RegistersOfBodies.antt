@@ -14,9 +14,9 @@ use Rattle.secrec_ast.specs.Statements.{do_loop, for_loop, breaks, continues, re
 use Rattle.secrec_ast.specs.Statements as Statements'
 use Rattle.domain_types.specs.Declarations.{Declared, callee}
 use Rattle.typed_tree.specs.Tree.{TypedTree, truth_node}
-use Rattle.typed_tree.specs.Commands.{Command, none, also, empty_command, block_command, if_command, loop_command, do_command, break_command, continue_command}
-use Rattle.typed_tree.specs.Commands.{return_command, assert_command, store_command, default_command, fill_command, input_command, element_command}
-use Rattle.typed_tree.specs.Commands.{publish_command, evaluate_command}
+use Rattle.typed_tree.specs.Statements.{TypedStatementTree, none, also, empty_statement, block_statement, if_statement, loop_statement, do_statement}
+use Rattle.typed_tree.specs.Statements.{break_statement, continue_statement, return_statement, assert_statement, store_statement, default_statement}
+use Rattle.typed_tree.specs.Statements.{fill_statement, input_statement, element_statement, publish_statement, evaluate_statement}
 use Rattle.name_resolution.specs.Scopes.{FunctionScope, declaring, entering, behind_block}
 use Rattle.name_resolution.specs.Sizes.{nodes, nodes_all, optional_nodes, declaration_nodes, assignment_nodes, start_nodes, step_nodes, statement_nodes}
 use Rattle.name_resolution.specs.Sizes.{statements_nodes}
@@ -27,7 +27,7 @@ use Rattle.name_resolution.specs.Bodies.{tree_in_call, calling, evaluated, defau
 use Rattle.name_resolution.specs.Bodies.{condition_of, returned, looped, resolved, resolved_all}
 use Rattle.name_resolution.proofs.SoundValues.{mapped, both_there}
 use Rattle.code_model.specs.Kinds.{width}
-use Rattle.code_model.specs.Commands.{command_width, commands_width}
+use Rattle.code_model.specs.Statements.{statement_width, statements_width}
 use Rattle.lowered_code.proofs.Registers.{called_width, value_width, values_width}
 
 -- what is made and the slots that are declared, together, are at most n more
@@ -116,24 +116,25 @@ calling_takes d line x es = takes_reading behind (2 + (nodes_all es + nodes_all 
         subst (λ z. width z + 1 ≤ 2 + (nodes_all es + nodes_all es)) m.is fine
 
 -- one expression, and a statement made of it
-one_takes : (d : Declared) (e : Tree) (measure : Command → ℕ) (n : ℕ) (make : TypedTree → Command)
+one_takes : (d : Declared) (e : Tree) (measure : TypedStatementTree → ℕ) (n : ℕ) (make : TypedTree → TypedStatementTree)
     → ((t : TypedTree) → measure (make t) ≤ n + (width t + 1)) → Takes measure (nodes e + nodes e + n) (expression d e >>= λ v. done (make v))
 one_takes d e measure n make h =
     takes_bind behind measure (nodes e + nodes e) n (expression d e) (λ v. done (make v)) (expression_takes d e)
     (λ v. takes_done measure (n + behind v) (make v) (h v))
 
-evaluate_takes : (d : Declared) (e : Tree) → Takes command_width (nodes e + nodes e) (expression d e >>= λ v. done (evaluate_command v))
+evaluate_takes : (d : Declared) (e : Tree) → Takes statement_width (nodes e + nodes e) (expression d e >>= λ v. done (evaluate_statement v))
 evaluate_takes d e =
-    takes_less command_width (nodes e + nodes e + 0) (nodes e + nodes e) _ (omega arith) (one_takes d e command_width 0 evaluate_command (λ t. omega arith))
+    takes_less statement_width (nodes e + nodes e + 0) (nodes e + nodes e) _ (omega arith)
+    (one_takes d e statement_width 0 evaluate_statement (λ t. omega arith))
 
-evaluated_takes : (d : Declared) (e : Tree) → Takes command_width (nodes e + nodes e) (evaluated d e)
+evaluated_takes : (d : Declared) (e : Tree) → Takes statement_width (nodes e + nodes e) (evaluated d e)
 evaluated_takes d (number p w) = evaluate_takes d (number p w)
 evaluated_takes d (truth p w) = evaluate_takes d (truth p w)
 evaluated_takes d (variable p x) = evaluate_takes d (variable p x)
 evaluated_takes d (call p x es) =
-    takes_less command_width (2 + (nodes_all es + nodes_all es) + 0) (1 + nodes_all es + (1 + nodes_all es)) _ (omega arith)
-    (takes_bind behind command_width (2 + (nodes_all es + nodes_all es)) 0 (reading (calling d p.line x es)) (λ v. done (evaluate_command v))
-    (calling_takes d p.line x es) (λ v. takes_done command_width (0 + behind v) (evaluate_command v) (omega arith)))
+    takes_less statement_width (2 + (nodes_all es + nodes_all es) + 0) (1 + nodes_all es + (1 + nodes_all es)) _ (omega arith)
+    (takes_bind behind statement_width (2 + (nodes_all es + nodes_all es)) 0 (reading (calling d p.line x es)) (λ v. done (evaluate_statement v))
+    (calling_takes d p.line x es) (λ v. takes_done statement_width (0 + behind v) (evaluate_statement v) (omega arith)))
 evaluated_takes d (index p a i) = evaluate_takes d (index p a i)
 evaluated_takes d (parentheses p e) = evaluate_takes d (parentheses p e)
 evaluated_takes d (negation p e) = evaluate_takes d (negation p e)
@@ -142,16 +143,16 @@ evaluated_takes d (binary p op a b) = evaluate_takes d (binary p op a b)
 evaluated_takes d (declassify p e) = evaluate_takes d (declassify p e)
 evaluated_takes d (argument p x) = evaluate_takes d (argument p x)
 evaluated_takes d (publish p x e) =
-    takes_less command_width (nodes e + nodes e + 0) (1 + nodes e + (1 + nodes e)) _ (omega arith)
-    (one_takes d e command_width 0 (publish_command x) (λ t. omega arith))
+    takes_less statement_width (nodes e + nodes e + 0) (1 + nodes e + (1 + nodes e)) _ (omega arith)
+    (one_takes d e statement_width 0 (publish_statement x) (λ t. omega arith))
 
 -- ---- DECLARATIONS: with the register of the slot
 
-abbrev with_slot : Command → ℕ
-with_slot c = command_width c + 1
+abbrev with_slot : TypedStatementTree → ℕ
+with_slot c = statement_width c + 1
 
-store_takes : (d : Declared) (k : ℕ) (e : Tree) → Takes with_slot (nodes e + nodes e + 1) (expression d e >>= λ v. done (store_command k v))
-store_takes d k e = one_takes d e with_slot 1 (store_command k) (λ t. omega arith)
+store_takes : (d : Declared) (k : ℕ) (e : Tree) → Takes with_slot (nodes e + nodes e + 1) (expression d e >>= λ v. done (store_statement k v))
+store_takes d k e = one_takes d e with_slot 1 (store_statement k) (λ t. omega arith)
 
 from_value_takes : (d : Declared) (k : ℕ) (e : Tree) → Takes with_slot (nodes e + nodes e + 1) (from_value d k e)
 from_value_takes d k (number p w) = store_takes d k (number p w)
@@ -164,7 +165,7 @@ from_value_takes d k (negation p e) = store_takes d k (negation p e)
 from_value_takes d k (cast p t e) = store_takes d k (cast p t e)
 from_value_takes d k (binary p op a b) = store_takes d k (binary p op a b)
 from_value_takes d k (declassify p e) = store_takes d k (declassify p e)
-from_value_takes d k (argument p x) = takes_done with_slot 3 (input_command p.line k x) (omega arith)
+from_value_takes d k (argument p x) = takes_done with_slot 3 (input_statement p.line k x) (omega arith)
 from_value_takes d k (publish p x e) = store_takes d k (publish p x e)
 
 default_width : (element : DataType) → width (default_of element) ≡ 1
@@ -176,18 +177,18 @@ twice n = n + n
 
 initial_takes : (d : Declared) (line k : ℕ) (element : DataType) (size value : Option Tree) → Takes with_slot
     (twice (1 + (optional_nodes size + optional_nodes value))) (initial d line k element size value)
-initial_takes d line k element None None = takes_done with_slot 2 (default_command k) (omega arith)
+initial_takes d line k element None None = takes_done with_slot 2 (default_statement k) (omega arith)
 initial_takes d line k element None (Some e) =
     takes_less with_slot (nodes e + nodes e + 1) (twice (1 + (0 + nodes e))) _ (omega arith) (from_value_takes d k e)
 initial_takes d line k element (Some n) None =
     let one = default_width element in
     takes_less with_slot (nodes n + nodes n + 2) (twice (1 + (nodes n + 0))) _ (omega arith)
-    (one_takes d n with_slot 2 (λ m. fill_command line k m (default_of element)) (λ t. omega (arith, one)))
+    (one_takes d n with_slot 2 (λ m. fill_statement line k m (default_of element)) (λ t. omega (arith, one)))
 initial_takes d line k element (Some n) (Some e) =
     takes_less with_slot (nodes n + nodes n + (nodes e + nodes e + 0)) (twice (1 + (nodes n + nodes e))) _ (omega arith)
-    (takes_bind behind with_slot (nodes n + nodes n) (nodes e + nodes e + 0) (expression d n) (λ m. expression d e >>= λ v. done (fill_command line k m v))
+    (takes_bind behind with_slot (nodes n + nodes n) (nodes e + nodes e + 0) (expression d n) (λ m. expression d e >>= λ v. done (fill_statement line k m v))
     (expression_takes d n) (λ m. takes_less with_slot (nodes e + nodes e + behind m) (nodes e + nodes e + 0 + behind m) _ (omega arith)
-    (one_takes d e with_slot (behind m) (λ v. fill_command line k m v) (λ t. omega arith))))
+    (one_takes d e with_slot (behind m) (λ v. fill_statement line k m v) (λ t. omega arith))))
 
 declare_takes : (x : Identifier) (t : DeclaredType) → Takes (λ u. 0) 1 (declare x t)
 declare_takes x t = record {
@@ -200,51 +201,51 @@ declare_takes x t = record {
 next_takes : Takes (λ k. 0) 0 next_slot
 next_takes = record { from = λ s a q e. takes_as (λ (k : ℕ). 0) (0 + length s.slots) (length s.slots) a s q e (omega arith) }
 
-declared_takes : (d : Declared) (t : DeclarationTree) → Takes command_width (twice (declaration_nodes t)) (declared d t)
+declared_takes : (d : Declared) (t : DeclarationTree) → Takes statement_width (twice (declaration_nodes t)) (declared d t)
 declared_takes d t =
     let n = twice (declaration_nodes t) in
-    takes_less command_width (0 + n) n _ (omega arith)
-    (takes_bind (λ k. 0) command_width 0 n next_slot _ next_takes (λ k.
-    takes_less command_width (n + 0) (n + 0) _ (omega arith)
-    (takes_bind with_slot command_width n 0 (initial d t.declared.place.line k t.declared.element t.size t.value) _
+    takes_less statement_width (0 + n) n _ (omega arith)
+    (takes_bind (λ k. 0) statement_width 0 n next_slot _ next_takes (λ k.
+    takes_less statement_width (n + 0) (n + 0) _ (omega arith)
+    (takes_bind with_slot statement_width n 0 (initial d t.declared.place.line k t.declared.element t.size t.value) _
     (initial_takes d t.declared.place.line k t.declared.element t.size t.value) (λ c.
-    takes_less command_width (1 + command_width c) (0 + with_slot c) _ (omega arith)
-    (takes_bind (λ u. 0) command_width 1 (command_width c) (declare t.variable t.declared) _ (declare_takes t.variable t.declared)
-    (λ u. takes_done command_width (command_width c + 0) c (omega arith)))))))
+    takes_less statement_width (1 + statement_width c) (0 + with_slot c) _ (omega arith)
+    (takes_bind (λ u. 0) statement_width 1 (statement_width c) (declare t.variable t.declared) _ (declare_takes t.variable t.declared)
+    (λ u. takes_done statement_width (statement_width c + 0) c (omega arith)))))))
 
 -- ---- ASSIGNMENTS
 
 named_takes : (x : List ℕ) → Takes (λ k. 0) 0 (named x)
 named_takes x = takes_reading (λ k. 0) 0 (known_at x) (λ s a e. omega arith)
 
-assigned_to_takes : (d : Declared) (line k : ℕ) (i : Option Tree) (e : Tree) → Takes command_width (twice (1 + (1 + optional_nodes i + nodes e)))
+assigned_to_takes : (d : Declared) (line k : ℕ) (i : Option Tree) (e : Tree) → Takes statement_width (twice (1 + (1 + optional_nodes i + nodes e)))
     (assigned_to d line k i e)
 assigned_to_takes d line k None e =
-    takes_less command_width (nodes e + nodes e + 0) (twice (1 + (1 + 0 + nodes e))) _ (omega arith)
-    (one_takes d e command_width 0 (store_command k) (λ t. omega arith))
+    takes_less statement_width (nodes e + nodes e + 0) (twice (1 + (1 + 0 + nodes e))) _ (omega arith)
+    (one_takes d e statement_width 0 (store_statement k) (λ t. omega arith))
 assigned_to_takes d line k (Some i) e =
-    takes_less command_width (nodes i + nodes i + (nodes e + nodes e + 0)) (twice (1 + (1 + nodes i + nodes e))) _ (omega arith)
-    (takes_bind behind command_width (nodes i + nodes i) (nodes e + nodes e + 0) (expression d i)
-    (λ j. expression d e >>= λ v. done (element_command line k j v))
-    (expression_takes d i) (λ j. takes_less command_width (nodes e + nodes e + behind j) (nodes e + nodes e + 0 + behind j) _ (omega arith)
-    (one_takes d e command_width (behind j) (λ v. element_command line k j v) (λ t. omega arith))))
+    takes_less statement_width (nodes i + nodes i + (nodes e + nodes e + 0)) (twice (1 + (1 + nodes i + nodes e))) _ (omega arith)
+    (takes_bind behind statement_width (nodes i + nodes i) (nodes e + nodes e + 0) (expression d i)
+    (λ j. expression d e >>= λ v. done (element_statement line k j v))
+    (expression_takes d i) (λ j. takes_less statement_width (nodes e + nodes e + behind j) (nodes e + nodes e + 0 + behind j) _ (omega arith)
+    (one_takes d e statement_width (behind j) (λ v. element_statement line k j v) (λ t. omega arith))))
 
-assigned_takes : (d : Declared) (a : AssignmentTree) → Takes command_width (twice (assignment_nodes a)) (assigned d a)
+assigned_takes : (d : Declared) (a : AssignmentTree) → Takes statement_width (twice (assignment_nodes a)) (assigned d a)
 assigned_takes d a =
     let n = twice (assignment_nodes a) in
-    takes_less command_width (0 + n) n _ (omega arith)
-    (takes_bind (λ k. 0) command_width 0 n (named a.target.variable.text) _ (named_takes a.target.variable.text) (λ x.
-    takes_less command_width n (n + 0) _ (omega arith) (assigned_to_takes d a.target.variable.place.line x.slot a.target.index a.value)))
+    takes_less statement_width (0 + n) n _ (omega arith)
+    (takes_bind (λ k. 0) statement_width 0 n (named a.target.variable.text) _ (named_takes a.target.variable.text) (λ x.
+    takes_less statement_width n (n + 0) _ (omega arith) (assigned_to_takes d a.target.variable.place.line x.slot a.target.index a.value)))
 
 -- ---- STATEMENTS
 
-started_takes : (d : Declared) (a : StartTree) → Takes command_width (twice (start_nodes a)) (started d a)
-started_takes d starts_with_nothing = takes_done command_width 0 empty_command (omega arith)
+started_takes : (d : Declared) (a : StartTree) → Takes statement_width (twice (start_nodes a)) (started d a)
+started_takes d starts_with_nothing = takes_done statement_width 0 empty_statement (omega arith)
 started_takes d (starts_with_declaration t) = declared_takes d t
 started_takes d (starts_with_assignment a) = assigned_takes d a
 
-stepped_takes : (d : Declared) (b : StepTree) → Takes command_width (twice (step_nodes b)) (stepped d b)
-stepped_takes d steps_by_nothing = takes_done command_width 0 empty_command (omega arith)
+stepped_takes : (d : Declared) (b : StepTree) → Takes statement_width (twice (step_nodes b)) (stepped d b)
+stepped_takes d steps_by_nothing = takes_done statement_width 0 empty_statement (omega arith)
 stepped_takes d (steps_by_assignment a) = assigned_takes d a
 stepped_takes d (steps_by_expression e) = evaluated_takes d e
 
@@ -252,93 +253,97 @@ condition_takes : (d : Declared) (e : Option Tree) → Takes behind (twice (1 + 
 condition_takes d None = takes_done behind 2 (truth_node _) (omega arith)
 condition_takes d (Some e) = takes_less behind (nodes e + nodes e) (twice (1 + nodes e)) _ (omega arith) (expression_takes d e)
 
-returned_takes : (d : Declared) (e : Option Tree) → Takes command_width (twice (1 + optional_nodes e)) (returned d e)
-returned_takes d None = takes_done command_width 2 (return_command None) (omega arith)
+returned_takes : (d : Declared) (e : Option Tree) → Takes statement_width (twice (1 + optional_nodes e)) (returned d e)
+returned_takes d None = takes_done statement_width 2 (return_statement None) (omega arith)
 returned_takes d (Some e) =
-    takes_less command_width (nodes e + nodes e + 0) (twice (1 + nodes e)) _ (omega arith)
-    (one_takes d e command_width 0 (λ v. return_command (Some v)) (λ t. omega arith))
+    takes_less statement_width (nodes e + nodes e + 0) (twice (1 + nodes e)) _ (omega arith)
+    (one_takes d e statement_width 0 (λ v. return_statement (Some v)) (λ t. omega arith))
 
-looped_takes : (d : Declared) (a : StartTree) (e : Option Tree) (b : StepTree) (n : ℕ) (body : Resolving Command) → Takes command_width (twice n) body
-    → Takes command_width (twice (1 + (start_nodes a + (optional_nodes e + (step_nodes b + n))))) (looped d a e b body)
+looped_takes : (d : Declared) (a : StartTree) (e : Option Tree) (b : StepTree) (n : ℕ) (body : Resolving TypedStatementTree)
+    → Takes statement_width (twice n) body
+    → Takes statement_width (twice (1 + (start_nodes a + (optional_nodes e + (step_nodes b + n))))) (looped d a e b body)
 looped_takes d a e b n body h =
     let na = twice (start_nodes a) in
     let ne = twice (1 + optional_nodes e) in
     let nb = twice (step_nodes b) in
     let nn = twice n in
-    takes_less command_width (na + (ne + (nb + (nn + 0)))) (twice (1 + (start_nodes a + (optional_nodes e + (step_nodes b + n))))) _ (omega arith)
-    (takes_bind command_width command_width na (ne + (nb + (nn + 0))) (started d a) _ (started_takes d a) (λ x.
-    takes_less command_width (ne + (nb + (nn + 0) + command_width x)) (ne + (nb + (nn + 0)) + command_width x) _ (omega arith)
-    (takes_bind behind command_width ne (nb + (nn + 0) + command_width x) (condition_of d e) _ (condition_takes d e) (λ v.
-    takes_less command_width (nb + (nn + 0 + command_width x + behind v)) (nb + (nn + 0) + command_width x + behind v) _ (omega arith)
-    (takes_bind command_width command_width nb (nn + 0 + command_width x + behind v) (stepped d b) _ (stepped_takes d b) (λ c.
-    takes_less command_width (nn + (command_width x + behind v + command_width c)) (nn + 0 + command_width x + behind v + command_width c) _ (omega arith)
-    (takes_bind command_width command_width nn (command_width x + behind v + command_width c) (in_block body) _ (takes_block command_width nn body h) (λ y.
-    takes_done command_width (command_width x + behind v + command_width c + command_width y) _ (omega arith)))))))))
+    takes_less statement_width (na + (ne + (nb + (nn + 0)))) (twice (1 + (start_nodes a + (optional_nodes e + (step_nodes b + n))))) _ (omega arith)
+    (takes_bind statement_width statement_width na (ne + (nb + (nn + 0))) (started d a) _ (started_takes d a) (λ x.
+    takes_less statement_width (ne + (nb + (nn + 0) + statement_width x)) (ne + (nb + (nn + 0)) + statement_width x) _ (omega arith)
+    (takes_bind behind statement_width ne (nb + (nn + 0) + statement_width x) (condition_of d e) _ (condition_takes d e) (λ v.
+    takes_less statement_width (nb + (nn + 0 + statement_width x + behind v)) (nb + (nn + 0) + statement_width x + behind v) _ (omega arith)
+    (takes_bind statement_width statement_width nb (nn + 0 + statement_width x + behind v) (stepped d b) _ (stepped_takes d b) (λ c.
+    takes_less statement_width (nn + (statement_width x + behind v + statement_width c)) (nn + 0 + statement_width x + behind v + statement_width c) _
+    (omega arith)
+    (takes_bind statement_width statement_width nn (statement_width x + behind v + statement_width c) (in_block body) _ (takes_block statement_width nn body h)
+    (λ y. takes_done statement_width (statement_width x + behind v + statement_width c + statement_width y) _ (omega arith)))))))))
 
 mutual
-  pub statement_takes : (d : Declared) (t : StatementTree) → Takes command_width (twice (statement_nodes t)) (resolved d t)
+  pub statement_takes : (d : Declared) (t : StatementTree) → Takes statement_width (twice (statement_nodes t)) (resolved d t)
   statement_takes d (block p ss) =
       let n = twice (statements_nodes ss) in
-      takes_less command_width (n + 0) (twice (1 + statements_nodes ss)) _ (omega arith)
-      (takes_bind commands_width command_width n 0 (in_block (resolved_all d ss)) _ (takes_block commands_width n (resolved_all d ss) (statements_take d ss))
-      (λ cs. takes_done command_width (0 + commands_width cs) (block_command cs) (omega arith)))
-  statement_takes d (empty p) = takes_done command_width 2 empty_command (omega arith)
+      takes_less statement_width (n + 0) (twice (1 + statements_nodes ss)) _ (omega arith)
+      (takes_bind statements_width statement_width n 0 (in_block (resolved_all d ss)) _
+      (takes_block statements_width n (resolved_all d ss) (statements_take d ss))
+      (λ cs. takes_done statement_width (0 + statements_width cs) (block_statement cs) (omega arith)))
+  statement_takes d (empty p) = takes_done statement_width 2 empty_statement (omega arith)
   statement_takes d (branch p e body) =
       let n = twice (statement_nodes body) in
-      takes_less command_width (nodes e + nodes e + (n + 0)) (twice (1 + (nodes e + statement_nodes body))) _ (omega arith)
-      (takes_bind behind command_width (nodes e + nodes e) (n + 0) (expression d e) _ (expression_takes d e) (λ v.
-      takes_less command_width (n + behind v) (n + 0 + behind v) _ (omega arith)
-      (takes_bind command_width command_width n (behind v) (in_block (resolved d body)) _
-      (takes_block command_width n (resolved d body) (statement_takes d body))
-      (λ c. takes_done command_width (behind v + command_width c) (if_command v c empty_command) (omega arith)))))
+      takes_less statement_width (nodes e + nodes e + (n + 0)) (twice (1 + (nodes e + statement_nodes body))) _ (omega arith)
+      (takes_bind behind statement_width (nodes e + nodes e) (n + 0) (expression d e) _ (expression_takes d e) (λ v.
+      takes_less statement_width (n + behind v) (n + 0 + behind v) _ (omega arith)
+      (takes_bind statement_width statement_width n (behind v) (in_block (resolved d body)) _
+      (takes_block statement_width n (resolved d body) (statement_takes d body))
+      (λ c. takes_done statement_width (behind v + statement_width c) (if_statement v c empty_statement) (omega arith)))))
   statement_takes d (choice p e body otherwise) =
       let n = twice (statement_nodes body) in
       let k = twice (statement_nodes otherwise) in
-      takes_less command_width (nodes e + nodes e + (n + (k + 0))) (twice (1 + (nodes e + (statement_nodes body + statement_nodes otherwise)))) _ (omega arith)
-      (takes_bind behind command_width (nodes e + nodes e) (n + (k + 0)) (expression d e) _ (expression_takes d e) (λ v.
-      takes_less command_width (n + (k + behind v)) (n + (k + 0) + behind v) _ (omega arith)
-      (takes_bind command_width command_width n (k + behind v) (in_block (resolved d body)) _
-      (takes_block command_width n (resolved d body) (statement_takes d body))
-      (λ b. takes_less command_width (k + (behind v + command_width b)) (k + behind v + command_width b) _ (omega arith)
-      (takes_bind command_width command_width k (behind v + command_width b) (in_block (resolved d otherwise)) _
-      (takes_block command_width k (resolved d otherwise) (statement_takes d otherwise))
-      (λ c. takes_done command_width (behind v + command_width b + command_width c) (if_command v b c) (omega arith)))))))
+      takes_less statement_width (nodes e + nodes e + (n + (k + 0))) (twice (1 + (nodes e + (statement_nodes body + statement_nodes otherwise)))) _
+      (omega arith)
+      (takes_bind behind statement_width (nodes e + nodes e) (n + (k + 0)) (expression d e) _ (expression_takes d e) (λ v.
+      takes_less statement_width (n + (k + behind v)) (n + (k + 0) + behind v) _ (omega arith)
+      (takes_bind statement_width statement_width n (k + behind v) (in_block (resolved d body)) _
+      (takes_block statement_width n (resolved d body) (statement_takes d body))
+      (λ b. takes_less statement_width (k + (behind v + statement_width b)) (k + behind v + statement_width b) _ (omega arith)
+      (takes_bind statement_width statement_width k (behind v + statement_width b) (in_block (resolved d otherwise)) _
+      (takes_block statement_width k (resolved d otherwise) (statement_takes d otherwise))
+      (λ c. takes_done statement_width (behind v + statement_width b + statement_width c) (if_statement v b c) (omega arith)))))))
   statement_takes d (while_loop p e body) =
       let n = twice (statement_nodes body) in
-      takes_less command_width (nodes e + nodes e + (n + 0)) (twice (1 + (nodes e + statement_nodes body))) _ (omega arith)
-      (takes_bind behind command_width (nodes e + nodes e) (n + 0) (expression d e) _ (expression_takes d e) (λ v.
-      takes_less command_width (n + behind v) (n + 0 + behind v) _ (omega arith)
-      (takes_bind command_width command_width n (behind v) (in_block (resolved d body)) _
-      (takes_block command_width n (resolved d body) (statement_takes d body))
-      (λ c. takes_done command_width (behind v + command_width c) (loop_command v empty_command c) (omega arith)))))
+      takes_less statement_width (nodes e + nodes e + (n + 0)) (twice (1 + (nodes e + statement_nodes body))) _ (omega arith)
+      (takes_bind behind statement_width (nodes e + nodes e) (n + 0) (expression d e) _ (expression_takes d e) (λ v.
+      takes_less statement_width (n + behind v) (n + 0 + behind v) _ (omega arith)
+      (takes_bind statement_width statement_width n (behind v) (in_block (resolved d body)) _
+      (takes_block statement_width n (resolved d body) (statement_takes d body))
+      (λ c. takes_done statement_width (behind v + statement_width c) (loop_statement v empty_statement c) (omega arith)))))
   statement_takes d (do_loop p body e) =
       let n = twice (statement_nodes body) in
-      takes_less command_width (n + (nodes e + nodes e + 0)) (twice (1 + (statement_nodes body + nodes e))) _ (omega arith)
-      (takes_bind command_width command_width n (nodes e + nodes e + 0) (in_block (resolved d body)) _
-      (takes_block command_width n (resolved d body) (statement_takes d body)) (λ c.
-      takes_less command_width (nodes e + nodes e + command_width c) (nodes e + nodes e + 0 + command_width c) _ (omega arith)
-      (takes_bind behind command_width (nodes e + nodes e) (command_width c) (expression d e) _ (expression_takes d e)
-      (λ v. takes_done command_width (command_width c + behind v) (do_command c v) (omega arith)))))
+      takes_less statement_width (n + (nodes e + nodes e + 0)) (twice (1 + (statement_nodes body + nodes e))) _ (omega arith)
+      (takes_bind statement_width statement_width n (nodes e + nodes e + 0) (in_block (resolved d body)) _
+      (takes_block statement_width n (resolved d body) (statement_takes d body)) (λ c.
+      takes_less statement_width (nodes e + nodes e + statement_width c) (nodes e + nodes e + 0 + statement_width c) _ (omega arith)
+      (takes_bind behind statement_width (nodes e + nodes e) (statement_width c) (expression d e) _ (expression_takes d e)
+      (λ v. takes_done statement_width (statement_width c + behind v) (do_statement c v) (omega arith)))))
   statement_takes d (for_loop p a e b body) =
       let n = twice (1 + (start_nodes a + (optional_nodes e + (step_nodes b + statement_nodes body)))) in
-      takes_block command_width n (looped d a e b (resolved d body)) (looped_takes d a e b (statement_nodes body) (resolved d body) (statement_takes d body))
-  statement_takes d (breaks p) = takes_done command_width 2 break_command (omega arith)
-  statement_takes d (continues p) = takes_done command_width 2 continue_command (omega arith)
+      takes_block statement_width n (looped d a e b (resolved d body)) (looped_takes d a e b (statement_nodes body) (resolved d body) (statement_takes d body))
+  statement_takes d (breaks p) = takes_done statement_width 2 break_statement (omega arith)
+  statement_takes d (continues p) = takes_done statement_width 2 continue_statement (omega arith)
   statement_takes d (returns p e) = returned_takes d e
   statement_takes d (assertion p e) =
-      takes_less command_width (nodes e + nodes e + 0) (twice (1 + nodes e)) _ (omega arith)
-      (one_takes d e command_width 0 (assert_command p.line) (λ t. omega arith))
+      takes_less statement_width (nodes e + nodes e + 0) (twice (1 + nodes e)) _ (omega arith)
+      (one_takes d e statement_width 0 (assert_statement p.line) (λ t. omega arith))
   statement_takes d (declaration t) = declared_takes d t
   statement_takes d (assignment a) = assigned_takes d a
-  statement_takes d (evaluation e) = takes_less command_width (nodes e + nodes e) (twice (1 + nodes e)) _ (omega arith) (evaluated_takes d e)
+  statement_takes d (evaluation e) = takes_less statement_width (nodes e + nodes e) (twice (1 + nodes e)) _ (omega arith) (evaluated_takes d e)
 
-  pub statements_take : (d : Declared) (ts : StatementTrees) → Takes commands_width (twice (statements_nodes ts)) (resolved_all d ts)
-  statements_take d Statements'.none = takes_done commands_width 0 none (omega arith)
+  pub statements_take : (d : Declared) (ts : StatementTrees) → Takes statements_width (twice (statements_nodes ts)) (resolved_all d ts)
+  statements_take d Statements'.none = takes_done statements_width 0 none (omega arith)
   statements_take d (Statements'.also t ts) =
       let n = twice (statement_nodes t) in
       let k = twice (statements_nodes ts) in
-      takes_less commands_width (n + (k + 0)) (twice (statement_nodes t + statements_nodes ts)) _ (omega arith)
-      (takes_bind command_width commands_width n (k + 0) (resolved d t) _ (statement_takes d t) (λ c.
-      takes_less commands_width (k + command_width c) (k + 0 + command_width c) _ (omega arith)
-      (takes_bind commands_width commands_width k (command_width c) (resolved_all d ts) _ (statements_take d ts)
-      (λ cs. takes_done commands_width (command_width c + commands_width cs) (also c cs) (omega arith)))))
+      takes_less statements_width (n + (k + 0)) (twice (statement_nodes t + statements_nodes ts)) _ (omega arith)
+      (takes_bind statement_width statements_width n (k + 0) (resolved d t) _ (statement_takes d t) (λ c.
+      takes_less statements_width (k + statement_width c) (k + 0 + statement_width c) _ (omega arith)
+      (takes_bind statements_width statements_width k (statement_width c) (resolved_all d ts) _ (statements_take d ts)
+      (λ cs. takes_done statements_width (statement_width c + statements_width cs) (also c cs) (omega arith)))))

@@ -25,9 +25,9 @@ use Rattle.language_model.specs.Evaluation.{place_in}
 use Rattle.verified_code.specs.Steps.{Function}
 use Rattle.code_model.specs.Kinds.{slot_kind}
 use Rattle.code_model.specs.Expressions.{Numbers}
-use Rattle.code_model.specs.Commands.{defaults_behind, commands_width, commands_kinds}
+use Rattle.code_model.specs.Statements.{defaults_behind, statements_width, statements_kinds}
 use Rattle.code_model.specs.Programs.{last_kinds, function_code, numbers_in, code_of_found, instance_code, code_of}
-use Rattle.code_model.proofs.Widths.{commands_registers}
+use Rattle.code_model.proofs.Widths.{statements_registers}
 use Rattle.raw_steps.specs.Instructions.{nowhere}
 use Rattle.raw_steps.proofs.Passing.{unmapped}
 use Rattle.well_typed.proofs.SlotsWritten.{slots_count}
@@ -46,7 +46,7 @@ parameter_slots (p ∷ ps) s =
 
 -- registers of the body and slots, beside the nodes of the function as it is written
 pub record IsSized (f : FunctionTree) (t : TypedFunctionTree) : Type 0 where
-  pub registers : commands_width t.body + length t.slots ≤ statements_nodes f.body.statements + statements_nodes f.body.statements + length f.parameters
+  pub registers : statements_width t.body + length t.slots ≤ statements_nodes f.body.statements + statements_nodes f.body.statements + length f.parameters
   pub size : t.size ≡ size_of f
 
 function_sized : (d : Declared) (f : FunctionTree) (t : TypedFunctionTree) → typed_function d f ≡ Some t → IsSized f t
@@ -57,7 +57,7 @@ function_sized d f t e =
     let takes = (statements_take d f.body.statements).from start r.part.0 r.part.1 r.there in
     let many = slots_count d f.variables r.part.1.slots m.left m.left_there in
     let first = parameter_slots f.parameters no_place in
-    let fine : commands_width r.part.0 + length m.left
+    let fine : statements_width r.part.0 + length m.left
     ≤ statements_nodes f.body.statements + statements_nodes f.body.statements + length f.parameters = omega (arith, takes, many, first) in
     subst (IsSized f) (some_is (function_made f r.part.0 m.left m.right) t m.is) (record { registers = fine; size = refl })
 
@@ -90,18 +90,18 @@ one_last b Nothing = omega arith
 one_last b (Value s) = omega arith
 
 own_registers : (number : Numbers) (fs : List TypedFunctionTree) (f : TypedFunctionTree) (b : List BoundDomain) → length (function_code number fs f b).kinds
-    ≤ commands_width f.body + length f.slots + 5
+    ≤ statements_width f.body + length f.slots + 5
 own_registers number fs f b =
     let here = (place_in fs f b).here in
     let slots = map (slot_kind b) f.slots in
-    let body = commands_kinds here f.body in
+    let body = statements_kinds here f.body in
     let last = last_kinds b f.given in
     let n1 = length-append slots (defaults_behind f.slots ++ (body ++ last)) in
     let n2 = length-append (defaults_behind f.slots) (body ++ last) in
     let n3 = length-append body last in
     let m1 = length-map f.slots (slot_kind b) in
     let m2 = few_defaults f.slots in
-    let m3 = commands_registers here f.body in
+    let m3 = statements_registers here f.body in
     let m4 = one_last b f.given in
     omega (arith, n1, n2, n3, m1, m2, m3, m4)
 
@@ -115,7 +115,7 @@ uncounted n h = go (nat_le n 4294967295) refl
         large : 4294967296 ≤ n → ⊥
         large l = let same = min-eq_right (let k : 4294967295 ≤ n = omega (arith, l) in k) in omega (arith, same, h)
 
-sized_few : (f : FunctionTree) (t : TypedFunctionTree) → IsSized f t → t.size ≤ 4095 → commands_width t.body + length t.slots + 5 ≤ nowhere
+sized_few : (f : FunctionTree) (t : TypedFunctionTree) → IsSized f t → t.size ≤ 4095 → statements_width t.body + length t.slots + 5 ≤ nowhere
 sized_few f t s h =
     let size = s.size in
     let own : counted (function_nodes f) ≤ 4095 = subst (λ n. n ≤ 4095) size h in

@@ -22,15 +22,16 @@ use Rattle.reached_instances.proofs.Listing.{same_instance-Decides}
 use Rattle.language_model.specs.Evaluation.{either, place_in, slots_of}
 use Rattle.bytecode.specs.declared.kind.Kind.{Kind}
 use Rattle.verified_code.specs.Steps.{Step, Function, Jump}
-use Rattle.code_model.specs.Fit.{AreFitCommands, IsKnownIn, IsFitProgram, the_main}
+use Rattle.code_model.specs.Fit.{AreFitStatements, IsKnownIn, IsFitProgram, the_main}
 use Rattle.code_model.specs.Kinds.{kind_of, slot_kind}
 use Rattle.code_model.specs.Kinded.{HasKind, is_return, IsIn}
 use Rattle.code_model.specs.Expressions.{Numbers}
-use Rattle.code_model.specs.Commands.{element_number, shape_number, default_kinds, defaults_behind, first_free, commands_width, commands_kinds, commands_code}
+use Rattle.code_model.specs.Statements.{element_number, shape_number, default_kinds, defaults_behind, first_free, statements_width, statements_kinds}
+use Rattle.code_model.specs.Statements.{statements_code}
 use Rattle.code_model.specs.Programs.{given_kind, last_kinds, last_step, body_end, function_code, place_of, numbers_in, code_of_found, instance_code, code_of}
 use Rattle.code_model.proofs.Forward.{all_forward}
-use Rattle.code_model.proofs.Lengths.{commands_length}
-use Rattle.code_model.proofs.Widths.{commands_registers}
+use Rattle.code_model.proofs.Lengths.{statements_length}
+use Rattle.code_model.proofs.Widths.{statements_registers}
 use Rattle.raw_steps.specs.Instructions.{nowhere}
 use Rattle.raw_steps.specs.Right.{IsRight, IsRightFunction, AreRight}
 use Rattle.raw_steps.proofs.Passing.{mapped, unmapped}
@@ -38,7 +39,7 @@ use Rattle.raw_steps.proofs.Whole.{verified, settles_again}
 use Rattle.secrec_ast.specs.Programs.{ProgramTree}
 use Rattle.code_model.specs.Meaning.{mean_in}
 use Rattle.well_typed.proofs.Reaching.{accepted_well_typed}
-use Rattle.well_typed.specs.Commands.{AreWellTypedCommands}
+use Rattle.well_typed.specs.Statements.{AreWellTypedStatements}
 use Rattle.well_typed.specs.Programs.{IsWellTypedInstance, IsWellTyped}
 use Rattle.lowered_code.specs.Laws.{HasNumberedRegisters, IsVerifiedWhereWellTyped, RunsWhereAccepted}
 use Rattle.lowered_code.proofs.Fits.{well_typed_fits, accepted_means}
@@ -48,7 +49,7 @@ use Rattle.lowered_code.proofs.Calling.{parameters_of}
 use Rattle.lowered_code.proofs.Limits.{within_small}
 use Rattle.lowered_code.proofs.RegistersOfPrograms.{small_numbered}
 use Rattle.lowered_code.proofs.Expressions.{IsCallee}
-use Rattle.lowered_code.proofs.Commands.{commands_right}
+use Rattle.lowered_code.proofs.Statements.{statements_right}
 
 -- ---- LISTS
 
@@ -101,13 +102,13 @@ module _ (number : Numbers) (c : List Function) (fs : List TypedFunctionTree) (f
   end = body_end number fs f b
 
   abbrev body : List Step
-  body = commands_code number (place_in fs f b) (first_free f.slots) end end 0 f.body
+  body = statements_code number (place_in fs f b) (first_free f.slots) end end 0 f.body
 
   abbrev last_register : ℕ
-  last_register = first_free f.slots + commands_width f.body
+  last_register = first_free f.slots + statements_width f.body
 
   abbrev behind_slots : List Kind
-  behind_slots = defaults_behind f.slots ++ (commands_kinds here f.body ++ last_kinds b f.given)
+  behind_slots = defaults_behind f.slots ++ (statements_kinds here f.body ++ last_kinds b f.given)
 
   from_slots : Stands own.kinds (length f.slots) behind_slots
   from_slots =
@@ -115,14 +116,14 @@ module _ (number : Numbers) (c : List Function) (fs : List TypedFunctionTree) (f
       let place : length f.slots ≡ 0 + length (map (slot_kind b) f.slots) = omega (arith, many) in
       stands_right (length f.slots) (map (slot_kind b) f.slots) place (stands_itself own.kinds)
 
-  from_body : Stands own.kinds (first_free f.slots) (commands_kinds here f.body ++ last_kinds b f.given)
+  from_body : Stands own.kinds (first_free f.slots) (statements_kinds here f.body ++ last_kinds b f.given)
   from_body = stands_right (first_free f.slots) (defaults_behind f.slots) refl from_slots
 
   from_last : Stands own.kinds last_register (last_kinds b f.given)
   from_last =
-      let many = commands_registers here f.body in
-      let place : last_register ≡ first_free f.slots + length (commands_kinds here f.body) = omega (arith, many) in
-      stands_right last_register (commands_kinds here f.body) place from_body
+      let many = statements_registers here f.body in
+      let place : last_register ≡ first_free f.slots + length (statements_kinds here f.body) = omega (arith, many) in
+      stands_right last_register (statements_kinds here f.body) place from_body
 
   slots_stand : (k : ℕ) (s : Slot) → slice_get f.slots k ≡ Some s → HasKind own.kinds k (slot_kind b s)
   slots_stand k s there = front (map (slot_kind b) f.slots) behind_slots k (slot_kind b s) (mapped (slot_kind b) f.slots k s there)
@@ -137,12 +138,12 @@ module _ (number : Numbers) (c : List Function) (fs : List TypedFunctionTree) (f
   last_is_return (Value s) r = refl
 
   function_right : (Known : ℕ → List BoundDomain → Type 0) → ((k : ℕ) (d : List BoundDomain) → Known k d → IsCallee number c own.kinds None 0 here k d)
-      → AreWellTypedCommands here f.given false f.body → AreFitCommands Known (place_in fs f b) false f.body → f.parameters ≤ length f.slots
+      → AreWellTypedStatements here f.given false f.body → AreFitStatements Known (place_in fs f b) false f.body → f.parameters ≤ length f.slots
       → length own.kinds ≤ nowhere → ((place target : ℕ) → slice_get own.steps place ≡ Some (Jump target) → place < target) → IsRightFunction c own
   function_right Known known typed fit enough few forward =
       let last = last_step f.given last_register in
       let whole = length-append body (last ∷ []) in
-      let same = commands_length number (place_in fs f b) f.body (first_free f.slots) end end 0 0 0 0 in
+      let same = statements_length number (place_in fs f b) f.body (first_free f.slots) end end 0 0 0 0 in
       let within : end < length own.steps = omega (arith, whole, same) in
       let ends : 0 + length body < length own.steps = omega (arith, whole) in
       let many = length-map f.slots (slot_kind b) in
@@ -155,9 +156,9 @@ module _ (number : Numbers) (c : List Function) (fs : List TypedFunctionTree) (f
         forward = forward;
         steps = right_at c own.kinds own.gives (length own.steps) own.steps
             (both_right c own.kinds own.gives (length own.steps) body (last ∷ [])
-            (commands_right number c own.kinds (length own.steps) here Known slots_stand
-            (defaults_found own.kinds f.slots (commands_kinds here f.body ++ last_kinds b f.given) from_slots) known f.given false f.body typed fit
-            (first_free f.slots) end end 0 within within (stands_left (commands_kinds here f.body) (last_kinds b f.given) from_body) ends)
+            (statements_right number c own.kinds (length own.steps) here Known slots_stand
+            (defaults_found own.kinds f.slots (statements_kinds here f.body ++ last_kinds b f.given) from_slots) known f.given false f.body typed fit
+            (first_free f.slots) end end 0 within within (stands_left (statements_kinds here f.body) (last_kinds b f.given) from_body) ends)
             (last_right f.given from_last, tt));
       }
 
@@ -195,7 +196,7 @@ module _ (p : TypedProgramTree) (is : List Instance) (typed : IsWellTyped p) (re
       let x = fits.instances i m in
       let same : x.called ≡ f = same_some x.called f (sym x.there ∙ w.there) in
       let is_code : instance_code fs number i ≡ function_code number fs f i.binding = ap (code_of_found number fs i.binding) w.there in
-      let fit = subst (λ z. AreFitCommands (IsKnownIn is) (place_in fs z i.binding) false z.body) same x.fit.body in
+      let fit = subst (λ z. AreFitStatements (IsKnownIn is) (place_in fs z i.binding) false z.body) same x.fit.body in
       let at : IsIn code (function_code number fs f i.binding) = subst (IsIn code) is_code there in
       subst (IsRightFunction code) (sym is_code)
       (function_right number code fs f i.binding (IsKnownIn is) known w.body fit w.parameters (few (function_code number fs f i.binding) at)

@@ -9,9 +9,9 @@ use Rattle.code_model.specs.Kinds.{width, expression_kinds, private_kind_in}
 use Rattle.code_model.specs.Expressions.{Numbers, classifying, lacks, picked, expression_code}
 use Rattle.lowered_expressions.specs.Built.{Built, with_kind, with_step, with_code}
 use Rattle.lowered_expressions.proofs.Building.{begun_one, two_parts, stepped}
-use Rattle.lowering.specs.declared.commands.Pair.{Pair}
-use Rattle.lowering.specs.declared.commands.Pair.TheVariants as pairs
-use Rattle.lowering.specs.inner.Leaves.{pair_step, pair_command, with_leaf}
+use Rattle.lowering.specs.declared.simple_statements.Pair.{Pair}
+use Rattle.lowering.specs.declared.simple_statements.Pair.TheVariants as pairs
+use Rattle.lowering.specs.inner.Leaves.{pair_step, pair_statement, with_leaf}
 
 -- one step behind code and a classification, which reads the register where the value stands
 pub pushed : (b f g : Built) (ks : List Kind) (c d : List Step) (last : ℕ → Step) (r s : ℕ) → f ≡ with_code b ks (c ++ d) → g ≡ with_step f (last r)
@@ -51,6 +51,6 @@ module _ (number : Numbers) (here : Setting) where
 
   pub pair_is : (b : Built) (pair : Pair) (line slot : ℕ) (n e : TypedTree)
       → with_code b (private_kind_in here e ∷ (expression_kinds here n ++ expression_kinds here e))
-      (pair_code b n e (slot_is_private here slot) (pair_step pair line slot)) ≡ with_leaf number here b (pair_command pair line slot n e)
+      (pair_code b n e (slot_is_private here slot) (pair_step pair line slot)) ≡ with_leaf number here b (pair_statement pair line slot n e)
   pair_is b pairs.Fill line slot n e = refl
   pair_is b pairs.Put line slot n e = refl

@@ -2,18 +2,18 @@
 use Rattle.std.proofs.Common.{◌≡◌, ℕ, ◌+◌, List, [], ◌∷◌, ◌++◌, length, Some, None, false, refl, sym, ap, ap₂, ◌∙◌, arith}
 use Rattle.std.specs.Prelude.{map}
 use Rattle.std.proofs.lemmas.List.{map-append, length-map}
-use Rattle.typed_tree.specs.Commands.{Command, Commands, empty_command, block_command, if_command, loop_command, do_command, break_command, continue_command}
-use Rattle.typed_tree.specs.Commands.{return_command, assert_command, store_command, default_command, fill_command, input_command, element_command}
-use Rattle.typed_tree.specs.Commands.{publish_command, evaluate_command}
-use Rattle.typed_tree.specs.Commands as Commands'
+use Rattle.typed_tree.specs.Statements.{TypedStatementTree, TypedStatementTrees, empty_statement, block_statement, if_statement, loop_statement, do_statement}
+use Rattle.typed_tree.specs.Statements.{break_statement, continue_statement, return_statement, assert_statement, store_statement, default_statement}
+use Rattle.typed_tree.specs.Statements.{fill_statement, input_statement, element_statement, publish_statement, evaluate_statement}
+use Rattle.typed_tree.specs.Statements as Statements'
 use Rattle.language_model.specs.Evaluation.{StatementContext}
 use Rattle.verified_code.specs.Steps.{Step, Branch, Jump}
 use Rattle.code_model.specs.Kinds.{width}
 use Rattle.code_model.specs.Expressions.{Numbers, expression_code}
-use Rattle.code_model.specs.Commands.{command_width, command_code, commands_code, if_code}
-use Rattle.code_model.proofs.Lengths.{command_length}
+use Rattle.code_model.specs.Statements.{statement_width, statement_code, statements_code, if_code}
+use Rattle.code_model.proofs.Lengths.{statement_length}
 use Rattle.lowered_expressions.specs.Built.{BodyPiece, whole}
-use Rattle.lowering.specs.inner.Pieces.{placed, settled, command_pieces, commands_pieces, if_pieces}
+use Rattle.lowering.specs.inner.Pieces.{placed, settled, statement_pieces, statements_pieces, if_pieces}
 
 pub placed_whole : (x y : ℕ) (is : List Step) → map (placed x y) (map whole is) ≡ is
 placed_whole x y [] = refl
@@ -46,41 +46,42 @@ if_placed x y pc t test a b ca cb ea eb =
 
 module _ (number : Numbers) (at : StatementContext) (x y : ℕ) where
   mutual
-    pub command_placed : (t pc : ℕ) (c : Command) → map (placed x y) (command_pieces number at t pc c) ≡ command_code number at t x y pc c
-    command_placed t pc empty_command = refl
-    command_placed t pc (block_command cs) = commands_placed t pc cs
-    command_placed t pc (if_command e a b) =
-        if_placed x y pc t (expression_code number at.here t pc e) (λ p. command_pieces number at (t + width e) p a)
-        (λ p. command_pieces number at (t + width e + command_width a) p b) (λ p. command_code number at (t + width e) x y p a)
-        (λ p. command_code number at (t + width e + command_width a) x y p b) (λ p. command_placed (t + width e) p a)
-        (λ p. command_placed (t + width e + command_width a) p b)
-    command_placed t pc (loop_command e step body) = placed_whole x y (command_code number at t 0 0 pc (loop_command e step body))
-    command_placed t pc (do_command body e) = placed_whole x y (command_code number at t 0 0 pc (do_command body e))
-    command_placed t pc break_command = refl
-    command_placed t pc continue_command = refl
-    command_placed t pc (return_command None) = refl
-    command_placed t pc (return_command (Some e)) = placed_whole x y (command_code number at t 0 0 pc (return_command (Some e)))
-    command_placed t pc (assert_command line e) = placed_whole x y (command_code number at t 0 0 pc (assert_command line e))
-    command_placed t pc (store_command k e) = placed_whole x y (command_code number at t 0 0 pc (store_command k e))
-    command_placed t pc (default_command k) = placed_whole x y (command_code number at t 0 0 pc (default_command k))
-    command_placed t pc (fill_command line k n e) = placed_whole x y (command_code number at t 0 0 pc (fill_command line k n e))
-    command_placed t pc (input_command line k text) = placed_whole x y (command_code number at t 0 0 pc (input_command line k text))
-    command_placed t pc (element_command line k i e) = placed_whole x y (command_code number at t 0 0 pc (element_command line k i e))
-    command_placed t pc (publish_command text e) = placed_whole x y (command_code number at t 0 0 pc (publish_command text e))
-    command_placed t pc (evaluate_command e) = placed_whole x y (command_code number at t 0 0 pc (evaluate_command e))
+    pub statement_placed : (t pc : ℕ) (c : TypedStatementTree) → map (placed x y) (statement_pieces number at t pc c) ≡ statement_code number at t x y pc c
+    statement_placed t pc empty_statement = refl
+    statement_placed t pc (block_statement cs) = statements_placed t pc cs
+    statement_placed t pc (if_statement e a b) =
+        if_placed x y pc t (expression_code number at.here t pc e) (λ p. statement_pieces number at (t + width e) p a)
+        (λ p. statement_pieces number at (t + width e + statement_width a) p b) (λ p. statement_code number at (t + width e) x y p a)
+        (λ p. statement_code number at (t + width e + statement_width a) x y p b) (λ p. statement_placed (t + width e) p a)
+        (λ p. statement_placed (t + width e + statement_width a) p b)
+    statement_placed t pc (loop_statement e step body) = placed_whole x y (statement_code number at t 0 0 pc (loop_statement e step body))
+    statement_placed t pc (do_statement body e) = placed_whole x y (statement_code number at t 0 0 pc (do_statement body e))
+    statement_placed t pc break_statement = refl
+    statement_placed t pc continue_statement = refl
+    statement_placed t pc (return_statement None) = refl
+    statement_placed t pc (return_statement (Some e)) = placed_whole x y (statement_code number at t 0 0 pc (return_statement (Some e)))
+    statement_placed t pc (assert_statement line e) = placed_whole x y (statement_code number at t 0 0 pc (assert_statement line e))
+    statement_placed t pc (store_statement k e) = placed_whole x y (statement_code number at t 0 0 pc (store_statement k e))
+    statement_placed t pc (default_statement k) = placed_whole x y (statement_code number at t 0 0 pc (default_statement k))
+    statement_placed t pc (fill_statement line k n e) = placed_whole x y (statement_code number at t 0 0 pc (fill_statement line k n e))
+    statement_placed t pc (input_statement line k text) = placed_whole x y (statement_code number at t 0 0 pc (input_statement line k text))
+    statement_placed t pc (element_statement line k i e) = placed_whole x y (statement_code number at t 0 0 pc (element_statement line k i e))
+    statement_placed t pc (publish_statement text e) = placed_whole x y (statement_code number at t 0 0 pc (publish_statement text e))
+    statement_placed t pc (evaluate_statement e) = placed_whole x y (statement_code number at t 0 0 pc (evaluate_statement e))
 
-    pub commands_placed : (t pc : ℕ) (cs : Commands) → map (placed x y) (commands_pieces number at t pc cs) ≡ commands_code number at t x y pc cs
-    commands_placed t pc Commands'.none = refl
-    commands_placed t pc (Commands'.also c cs) =
-        let ps = command_pieces number at t pc c in
-        let is = command_code number at t x y pc c in
-        let n : length ps ≡ length is = same_length x y ps is (command_placed t pc c) in
-        map-append (placed x y) ps (commands_pieces number at (t + command_width c) (pc + length ps) cs)
-        ∙ ap₂ (λ (u v : List Step). u ++ v) (command_placed t pc c) (commands_placed (t + command_width c) (pc + length ps) cs)
-        ∙ ap (λ (z : ℕ). is ++ commands_code number at (t + command_width c) x y (pc + z) cs) n
+    pub statements_placed : (t pc : ℕ) (cs : TypedStatementTrees)
+        → map (placed x y) (statements_pieces number at t pc cs) ≡ statements_code number at t x y pc cs
+    statements_placed t pc Statements'.none = refl
+    statements_placed t pc (Statements'.also c cs) =
+        let ps = statement_pieces number at t pc c in
+        let is = statement_code number at t x y pc c in
+        let n : length ps ≡ length is = same_length x y ps is (statement_placed t pc c) in
+        map-append (placed x y) ps (statements_pieces number at (t + statement_width c) (pc + length ps) cs)
+        ∙ ap₂ (λ (u v : List Step). u ++ v) (statement_placed t pc c) (statements_placed (t + statement_width c) (pc + length ps) cs)
+        ∙ ap (λ (z : ℕ). is ++ statements_code number at (t + statement_width c) x y (pc + z) cs) n
 
   -- how long they are hangs on no place
-  pub command_as_long : (t pc : ℕ) (c : Command) → length (command_pieces number at t pc c) ≡ length (command_code number at t 0 0 0 c)
-  command_as_long t pc c =
-      same_length x y (command_pieces number at t pc c) (command_code number at t x y pc c) (command_placed t pc c)
-      ∙ command_length number at c t x y pc 0 0 0
+  pub statement_as_long : (t pc : ℕ) (c : TypedStatementTree) → length (statement_pieces number at t pc c) ≡ length (statement_code number at t 0 0 0 c)
+  statement_as_long t pc c =
+      same_length x y (statement_pieces number at t pc c) (statement_code number at t x y pc c) (statement_placed t pc c)
+      ∙ statement_length number at c t x y pc 0 0 0

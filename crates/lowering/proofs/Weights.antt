@@ -2,23 +2,24 @@
 use Rattle.std.proofs.Common.{ℕ, zero, suc, ◌+◌, ◌<◌, List, [], ◌∷◌, length, get_or, arith}
 use Rattle.std.specs.Prelude.{map}
 use Rattle.typed_tree.specs.declared.statement.TypedStatement.{TypedStatement}
-use Rattle.typed_tree.specs.Commands.{Command, Commands, block_command, if_command, loop_command, do_command, command, commands_of}
-use Rattle.typed_tree.specs.Commands as Commands'
+use Rattle.typed_tree.specs.Statements.{TypedStatementTree, TypedStatementTrees, block_statement, if_statement, loop_statement, do_statement, typed_statement}
+use Rattle.typed_tree.specs.Statements.{typed_statements_of}
+use Rattle.typed_tree.specs.Statements as Statements'
 
 abbrev mutual
-  pub weight : Command → ℕ
-  weight (block_command cs) = weights cs + 2
-  weight (if_command e a b) = weight a + weight b + 3
-  weight (loop_command e step body) = weight step + weight body + 3
-  weight (do_command body e) = weight body + 3
+  pub weight : TypedStatementTree → ℕ
+  weight (block_statement cs) = weights cs + 2
+  weight (if_statement e a b) = weight a + weight b + 3
+  weight (loop_statement e step body) = weight step + weight body + 3
+  weight (do_statement body e) = weight body + 3
   weight c = 1
 
-  pub weights : Commands → ℕ
-  weights Commands'.none = 0
-  weights (Commands'.also c cs) = weight c + weights cs + 1
+  pub weights : TypedStatementTrees → ℕ
+  weights Statements'.none = 0
+  weights (Statements'.also c cs) = weight c + weights cs + 1
 
 pub weights_item : (ss : List TypedStatement) (i : ℕ) (d : TypedStatement) → i < length ss
-    → weight (command (get_or ss i d)) < weights (commands_of (map command ss)) + 1
+    → weight (typed_statement (get_or ss i d)) < weights (typed_statements_of (map typed_statement ss)) + 1
 weights_item [] i d l = absurd (omega (arith, l))
 weights_item (s ∷ ss) zero d l = omega arith
 weights_item (s ∷ ss) (suc i) d l =

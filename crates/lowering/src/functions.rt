@@ -1,7 +1,7 @@
 // The code of functions.
 ghost use Rattle.std.specs.Prelude.{◌≡◌, ◌++◌, IfOk, OnOk, false, map};
 ghost use Rattle.typed_tree.specs.Programs.{typed_function_tree};
-ghost use Rattle.code_model.specs.Commands.{default_kinds, defaults_behind};
+ghost use Rattle.code_model.specs.Statements.{default_kinds, defaults_behind};
 ghost use Rattle.code_model.specs.Kinds.{kind_of, slot_kind};
 ghost use Rattle.typed_tree.specs.Shapes.{shape_of};
 ghost use Rattle.code_model.specs.Programs.{function_code, given_kind, nothing_code};

@@ -1,7 +1,6 @@
 //! The code of a typed program: its reached instances, one after another, as instructions.
 #![tactic(auto)]
 
-mod commands;
 mod errors;
 mod functions;
 mod instructions;
@@ -9,6 +8,7 @@ mod naming;
 mod place;
 mod programs;
 mod settling;
+mod simple_statements;
 mod statements;
 
 pub use errors::LowerErr;

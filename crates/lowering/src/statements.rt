@@ -1,16 +1,16 @@
 // The code of statements with others in them. They call one another, so they stand together.
 ghost use Rattle.std.specs.Prelude.{◌≡◌, OnOk, map};
 ghost use Rattle.typed_tree.specs.Tree.{typed_tree};
-ghost use Rattle.typed_tree.specs.Commands.{command, commands_of, do_command, if_command, loop_command};
+ghost use Rattle.typed_tree.specs.Statements.{typed_statement, typed_statements_of, do_statement, if_statement, loop_statement};
 ghost use Rattle.lowered_expressions.specs.Views.{built};
-ghost use Rattle.lowering.specs.inner.Pieces.{with_command, with_commands};
+ghost use Rattle.lowering.specs.inner.Pieces.{with_statement, with_statements};
 ghost use Rattle.lowering.specs.inner.Views.{numbers_at, place_seen};
 
-use crate::commands::{
-    Pair, assertion, default_store, input, pair_store, publishing, returning, store, unread,
-};
 use crate::place::LoweringContext;
 use crate::settling::{push, settle};
+use crate::simple_statements::{
+    Pair, assertion, default_store, input, pair_store, publishing, returning, store, unread,
+};
 use lowered_expressions::{Body, BodyPiece, Step, expression};
 use std::alloc::AllocError;
 use typed_tree::{TypedExpression, TypedStatement};
@@ -22,7 +22,7 @@ fn statement<'p>(
     at: &LoweringContext<'_>,
     s: &'p TypedStatement,
 ) -> Result<(), AllocError>
-    ensures { OnOk result (built body.new ≡ with_command (numbers_at at.now) (place_seen at.now) (built body.old) (command s.now)) }
+    ensures { OnOk result (built body.new ≡ with_statement (numbers_at at.now) (place_seen at.now) (built body.old) (typed_statement s.now)) }
 {
     match s {
         TypedStatement::Empty => Ok(()),
@@ -56,7 +56,7 @@ pub fn statements<'p>(
     list: &'p Vec<TypedStatement>,
 ) -> Result<(), AllocError>
     ensures { OnOk result (built body.new ≡
-        with_commands (numbers_at at.now) (place_seen at.now) (built body.old) (commands_of (map command list.now.items))) }
+        with_statements (numbers_at at.now) (place_seen at.now) (built body.old) (typed_statements_of (map typed_statement list.now.items))) }
 {
     for each in list {
         statement(body, at, each)?;
@@ -73,8 +73,8 @@ fn choice<'p>(
     first: &'p TypedStatement,
     second: &'p TypedStatement,
 ) -> Result<(), AllocError>
-    ensures { OnOk result (built body.new ≡ with_command (numbers_at at.now) (place_seen at.now) (built body.old)
-        (if_command (typed_tree e.now) (command first.now) (command second.now))) }
+    ensures { OnOk result (built body.new ≡ with_statement (numbers_at at.now) (place_seen at.now) (built body.old)
+        (if_statement (typed_tree e.now) (typed_statement first.now) (typed_statement second.now))) }
 {
     let condition = body.next_register();
     expression(body, &at.around, e)?;
@@ -107,8 +107,8 @@ fn turns<'p>(
     step: &'p TypedStatement,
     repeated: &'p TypedStatement,
 ) -> Result<(), AllocError>
-    ensures { OnOk result (built body.new ≡ with_command (numbers_at at.now) (place_seen at.now) (built body.old)
-        (loop_command (typed_tree e.now) (command step.now) (command repeated.now))) }
+    ensures { OnOk result (built body.new ≡ with_statement (numbers_at at.now) (place_seen at.now) (built body.old)
+        (loop_statement (typed_tree e.now) (typed_statement step.now) (typed_statement repeated.now))) }
 {
     let jump = body.next_place();
     body.push(Step::ReturnNone)?;
@@ -139,8 +139,8 @@ fn repeats<'p>(
     repeated: &'p TypedStatement,
     e: &TypedExpression,
 ) -> Result<(), AllocError>
-    ensures { OnOk result (built body.new ≡ with_command (numbers_at at.now) (place_seen at.now) (built body.old)
-        (do_command (command repeated.now) (typed_tree e.now))) }
+    ensures { OnOk result (built body.new ≡ with_statement (numbers_at at.now) (place_seen at.now) (built body.old)
+        (do_statement (typed_statement repeated.now) (typed_tree e.now))) }
 {
     let start = body.next_place();
     statement(body, at, repeated)?;

@@ -3,7 +3,7 @@ ghost use Rattle.std.specs.Prelude.{◌≡◌};
 ghost use Rattle.value_steps.specs.Views.{world_seen};
 ghost use Rattle.miner_core.specs.Views.{task_world};
 
-use value_steps::{Given, Lengths, Source, World};
+use value_steps::{GivenInput, Lengths, Source, World};
 use verified_code::Verified;
 
 /// What a miner is to run: code, and what all three know of the inputs and tapes. In words: how many the dealer's tape and each miner's
@@ -13,7 +13,7 @@ pub struct Task {
     pub code: Verified,
     pub dealer: u64,
     pub lengths: Lengths,
-    pub inputs: Vec<Given>,
+    pub inputs: Vec<GivenInput>,
 }
 
 impl Task {

@@ -16,7 +16,7 @@ use Rattle.domain_types.specs.Views.{tree_at}
 use Rattle.name_resolution.specs.declared.resolve_err.ResolveErr.{ResolveErr}
 use Rattle.name_resolution.specs.declared.resolve_err.ResolveErr.TheVariants.{Unresolved, Memory}
 use Rattle.name_resolution.specs.Answer.{Answers}
-use Rattle.typed_tree.specs.Commands.{Command, Commands, none, also}
+use Rattle.typed_tree.specs.Statements.{TypedStatementTree, TypedStatementTrees, none, also}
 use Rattle.name_resolution.specs.Scopes.{Scope, FunctionScope}
 use Rattle.name_resolution.specs.Values.{of_both, and_values, value, values}
 use Rattle.name_resolution.specs.Resolving.{carry, done}
@@ -72,21 +72,21 @@ functions_none d xs i x within is e =
     ∙ all-none (typed_function d) (typed_functions d) and_functions (λ f fs. refl) (map tree_at (take i xs)) (tree_at x) (map tree_at (drop (suc i) xs)) e
 
 -- statements of which those before this one are made
-behind_made : (d : Declared) (ts : List StatementTree) (t : StatementTree) (us : List StatementTree) (s r : FunctionScope) (cs : Commands)
+behind_made : (d : Declared) (ts : List StatementTree) (t : StatementTree) (us : List StatementTree) (s r : FunctionScope) (cs : TypedStatementTrees)
     → resolved_all d (statements_of ts) s ≡ Some (cs, r) → resolved d t r ≡ None → resolved_all d (statements_of (ts ++ t ∷ us)) s ≡ None
 behind_made d [] t us s r cs e f =
     let same : place_made none s ≡ place_made cs r = cc in
     ap behind (ap (λ z. resolved d t z.1) same ∙ f)
   where
-    behind : Option (Command × FunctionScope) → Option (Commands × FunctionScope)
+    behind : Option (TypedStatementTree × FunctionScope) → Option (TypedStatementTrees × FunctionScope)
     behind o = carry o (λ x p. carry (resolved_all d (statements_of us) p) (λ xs. done (also x xs)))
 behind_made d (v ∷ vs) t us s r cs e f = go (resolved d v s) (λ p ys so. behind_made d vs t us p r ys so f) e
   where
-    rest : Command → Option (Commands × FunctionScope) → Option (Commands × FunctionScope)
+    rest : TypedStatementTree → Option (TypedStatementTrees × FunctionScope) → Option (TypedStatementTrees × FunctionScope)
     rest x o = carry o (λ xs. done (also x xs))
 
-    inside : (x : Command) (p : FunctionScope) (o : Option (Commands × FunctionScope)) → resolved_all d (statements_of vs) p ≡ o
-        → ((ys : Commands) → resolved_all d (statements_of vs) p ≡ Some (ys, r) → resolved_all d (statements_of (vs ++ t ∷ us)) p ≡ None)
+    inside : (x : TypedStatementTree) (p : FunctionScope) (o : Option (TypedStatementTrees × FunctionScope)) → resolved_all d (statements_of vs) p ≡ o
+        → ((ys : TypedStatementTrees) → resolved_all d (statements_of vs) p ≡ Some (ys, r) → resolved_all d (statements_of (vs ++ t ∷ us)) p ≡ None)
         → rest x o ≡ Some (cs, r) → rest x (resolved_all d (statements_of (vs ++ t ∷ us)) p) ≡ None
     inside x p None h stops g = cc
     inside x p (Some z) h stops g =
@@ -94,14 +94,14 @@ behind_made d (v ∷ vs) t us s r cs e f = go (resolved d v s) (λ p ys so. behi
         let so = h ∙ ap (λ q. Some (place_made z.0 q)) (ap (λ w. w.1) same) in
         ap (rest x) (stops z.0 so)
 
-    go : (o : Option (Command × FunctionScope))
-        → ((p : FunctionScope) (ys : Commands) → resolved_all d (statements_of vs) p ≡ Some (ys, r)
+    go : (o : Option (TypedStatementTree × FunctionScope))
+        → ((p : FunctionScope) (ys : TypedStatementTrees) → resolved_all d (statements_of vs) p ≡ Some (ys, r)
         → resolved_all d (statements_of (vs ++ t ∷ us)) p ≡ None) → carry o (λ x p. rest x (resolved_all d (statements_of vs) p)) ≡ Some (cs, r)
         → carry o (λ x p. rest x (resolved_all d (statements_of (vs ++ t ∷ us)) p)) ≡ None
     go None stops g = refl
     go (Some z) stops g = inside z.0 z.1 (resolved_all d (statements_of vs) z.1) refl (stops z.1) g
 
-pub statements_none : (d : Declared) (xs : List Statement) (i : ℕ) (x : Statement) (s r : FunctionScope) (cs : Commands) → i < length xs
+pub statements_none : (d : Declared) (xs : List Statement) (i : ℕ) (x : Statement) (s r : FunctionScope) (cs : TypedStatementTrees) → i < length xs
     → x ≡ get_or xs i x → resolved_all d (statements_of (map statement (take i xs))) s ≡ Some (cs, r) → resolved d (statement x) r ≡ None
     → resolved_all d (statements_of (map statement xs)) s ≡ None
 statements_none d xs i x s r cs within is before e =

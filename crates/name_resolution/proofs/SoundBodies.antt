@@ -16,15 +16,15 @@ use Rattle.secrec_ast.specs.Statements as Statements'
 use Rattle.domain_types.specs.Declarations.{Declared, callee}
 use Rattle.name_resolution.specs.declared.variables.Known.{Known}
 use Rattle.typed_tree.specs.Tree.{TypedTree, truth_node}
-use Rattle.typed_tree.specs.Commands.{Command, Commands, none, also, empty_command, block_command, if_command, loop_command, do_command}
-use Rattle.typed_tree.specs.Commands.{break_command, continue_command, return_command, assert_command, store_command, default_command, fill_command}
-use Rattle.typed_tree.specs.Commands.{input_command, element_command, publish_command, evaluate_command}
+use Rattle.typed_tree.specs.Statements.{TypedStatementTree, TypedStatementTrees, none, also, empty_statement, block_statement, if_statement, loop_statement}
+use Rattle.typed_tree.specs.Statements.{do_statement, break_statement, continue_statement, return_statement, assert_statement, store_statement}
+use Rattle.typed_tree.specs.Statements.{default_statement, fill_statement, input_statement, element_statement, publish_statement, evaluate_statement}
 use Rattle.name_resolution.specs.Scopes.{FunctionScope, known_of, variable_named, declaring, entering, behind_block}
 use Rattle.name_resolution.specs.Values.{value, values, called, call_made}
 use Rattle.name_resolution.specs.Resolving.{Resolving, ◌>>=◌, carry, done, reading, closed, in_block, tree_in, resolved_value, expression, known_at, named}
 use Rattle.name_resolution.specs.Bodies.{tree_in_call, calling, evaluated, default_of, from_value, initial, declared, assigned_to, assigned, started}
 use Rattle.name_resolution.specs.Bodies.{stepped, condition_of, returned, looped, resolved, resolved_all}
-use Rattle.typed_tree.specs.Sound.{IsSoundTree, IsSoundCommand, AreSoundCommands}
+use Rattle.typed_tree.specs.Sound.{IsSoundTree, IsSoundStatementTree, AreSoundStatementTrees}
 use Rattle.name_resolution.proofs.SoundValues.{mapped, both_there, arities, AreBelow, below_more, below_append, below_named, sound_value}
 use Rattle.name_resolution.proofs.SoundValues.{sound_values, sound_called}
 
@@ -109,11 +109,11 @@ yields_block {A} m P h = record { from = λ s b p is e. go s b p is (m (entering
 abbrev pub Tree_in : Declared → ℕ → TypedTree → Type 0
 Tree_in d n t = IsSoundTree n (arities d) t
 
-abbrev pub Command_in : Declared → ℕ → Command → Type 0
-Command_in d n c = IsSoundCommand n (arities d) c
+abbrev pub Statement_in : Declared → ℕ → TypedStatementTree → Type 0
+Statement_in d n c = IsSoundStatementTree n (arities d) c
 
-abbrev pub Commands_in : Declared → ℕ → Commands → Type 0
-Commands_in d n cs = AreSoundCommands n (arities d) cs
+abbrev pub Statements_in : Declared → ℕ → TypedStatementTrees → Type 0
+Statements_in d n cs = AreSoundStatementTrees n (arities d) cs
 
 pub expression_yields : (d : Declared) (e : Tree) → Yields (expression d e) (Tree_in d)
 expression_yields d e = yields_reading (resolved_value d e) (Tree_in d) read
@@ -142,21 +142,21 @@ calling_yields d line x es = yields_reading (calling d line x es) (Tree_in d) re
         (sound_values n d s.scope (known_below s is n l) es b.right b.right_there) b.is)
 
 -- one expression, and a statement made of it
-one_yields : (d : Declared) (e : Tree) (make : TypedTree → Command) → ((n : ℕ) (t : TypedTree) → Tree_in d n t → Command_in d n (make t))
-    → Yields (expression d e >>= λ v. done (make v)) (Command_in d)
-one_yields d e make h = yields_bind (expression d e) (λ v. done (make v)) (Tree_in d) (Command_in d) (expression_yields d e)
-    (λ v. yields_done (make v) (λ n c. Tree_in d n v → Command_in d n c) (λ n t. h n v t))
+one_yields : (d : Declared) (e : Tree) (make : TypedTree → TypedStatementTree) → ((n : ℕ) (t : TypedTree) → Tree_in d n t → Statement_in d n (make t))
+    → Yields (expression d e >>= λ v. done (make v)) (Statement_in d)
+one_yields d e make h = yields_bind (expression d e) (λ v. done (make v)) (Tree_in d) (Statement_in d) (expression_yields d e)
+    (λ v. yields_done (make v) (λ n c. Tree_in d n v → Statement_in d n c) (λ n t. h n v t))
 
-evaluate_yields : (d : Declared) (e : Tree) → Yields (expression d e >>= λ v. done (evaluate_command v)) (Command_in d)
-evaluate_yields d e = one_yields d e evaluate_command (λ n t s. s)
+evaluate_yields : (d : Declared) (e : Tree) → Yields (expression d e >>= λ v. done (evaluate_statement v)) (Statement_in d)
+evaluate_yields d e = one_yields d e evaluate_statement (λ n t s. s)
 
-pub evaluated_yields : (d : Declared) (e : Tree) → Yields (evaluated d e) (Command_in d)
+pub evaluated_yields : (d : Declared) (e : Tree) → Yields (evaluated d e) (Statement_in d)
 evaluated_yields d (number p w) = evaluate_yields d (number p w)
 evaluated_yields d (truth p w) = evaluate_yields d (truth p w)
 evaluated_yields d (variable p x) = evaluate_yields d (variable p x)
 evaluated_yields d (call p x es) =
-    yields_bind (reading (calling d p.line x es)) (λ v. done (evaluate_command v)) (Tree_in d) (Command_in d) (calling_yields d p.line x es)
-    (λ v. yields_done (evaluate_command v) (λ n c. Tree_in d n v → Command_in d n c) (λ n t. t))
+    yields_bind (reading (calling d p.line x es)) (λ v. done (evaluate_statement v)) (Tree_in d) (Statement_in d) (calling_yields d p.line x es)
+    (λ v. yields_done (evaluate_statement v) (λ n c. Tree_in d n v → Statement_in d n c) (λ n t. t))
 evaluated_yields d (index p a i) = evaluate_yields d (index p a i)
 evaluated_yields d (parentheses p e) = evaluate_yields d (parentheses p e)
 evaluated_yields d (negation p e) = evaluate_yields d (negation p e)
@@ -164,16 +164,16 @@ evaluated_yields d (cast p t e) = evaluate_yields d (cast p t e)
 evaluated_yields d (binary p op a b) = evaluate_yields d (binary p op a b)
 evaluated_yields d (declassify p e) = evaluate_yields d (declassify p e)
 evaluated_yields d (argument p x) = evaluate_yields d (argument p x)
-evaluated_yields d (publish p x e) = one_yields d e (publish_command x) (λ n t s. s)
+evaluated_yields d (publish p x e) = one_yields d e (publish_statement x) (λ n t s. s)
 
 -- DECLARATIONS AND ASSIGNMENTS: sound where the slot is there
 
-abbrev pub If_there : Declared → ℕ → ℕ → Command → Type 0
-If_there d k n c = k < n → Command_in d n c
+abbrev pub If_there : Declared → ℕ → ℕ → TypedStatementTree → Type 0
+If_there d k n c = k < n → Statement_in d n c
 
-store_yields : (d : Declared) (k : ℕ) (e : Tree) → Yields (expression d e >>= λ v. done (store_command k v)) (If_there d k)
-store_yields d k e = yields_bind (expression d e) (λ v. done (store_command k v)) (Tree_in d) (If_there d k) (expression_yields d e)
-    (λ v. yields_done (store_command k v) (λ n c. Tree_in d n v → If_there d k n c) (λ n t h. (h, t)))
+store_yields : (d : Declared) (k : ℕ) (e : Tree) → Yields (expression d e >>= λ v. done (store_statement k v)) (If_there d k)
+store_yields d k e = yields_bind (expression d e) (λ v. done (store_statement k v)) (Tree_in d) (If_there d k) (expression_yields d e)
+    (λ v. yields_done (store_statement k v) (λ n c. Tree_in d n v → If_there d k n c) (λ n t h. (h, t)))
 
 from_value_yields : (d : Declared) (k : ℕ) (e : Tree) → Yields (from_value d k e) (If_there d k)
 from_value_yields d k (number p w) = store_yields d k (number p w)
@@ -186,7 +186,7 @@ from_value_yields d k (negation p e) = store_yields d k (negation p e)
 from_value_yields d k (cast p t e) = store_yields d k (cast p t e)
 from_value_yields d k (binary p op a b) = store_yields d k (binary p op a b)
 from_value_yields d k (declassify p e) = store_yields d k (declassify p e)
-from_value_yields d k (argument p x) = yields_done (input_command p.line k x) (If_there d k) (λ n h. h)
+from_value_yields d k (argument p x) = yields_done (input_statement p.line k x) (If_there d k) (λ n h. h)
 from_value_yields d k (publish p x e) = store_yields d k (publish p x e)
 
 default_sound : (d : Declared) (n : ℕ) (element : DataType) → Tree_in d n (default_of element)
@@ -194,15 +194,15 @@ default_sound d n Uint64 = tt
 default_sound d n datatype.Bool = tt
 
 initial_yields : (d : Declared) (line k : ℕ) (element : DataType) (size value : Option Tree) → Yields (initial d line k element size value) (If_there d k)
-initial_yields d line k element None None = yields_done (default_command k) (If_there d k) (λ n h. h)
+initial_yields d line k element None None = yields_done (default_statement k) (If_there d k) (λ n h. h)
 initial_yields d line k element None (Some e) = from_value_yields d k e
 initial_yields d line k element (Some m) None =
-    yields_bind (expression d m) (λ v. done (fill_command line k v (default_of element))) (Tree_in d) (If_there d k) (expression_yields d m)
-    (λ v. yields_done (fill_command line k v (default_of element)) (λ n c. Tree_in d n v → If_there d k n c) (λ n t h. (h, t, default_sound d n element)))
+    yields_bind (expression d m) (λ v. done (fill_statement line k v (default_of element))) (Tree_in d) (If_there d k) (expression_yields d m)
+    (λ v. yields_done (fill_statement line k v (default_of element)) (λ n c. Tree_in d n v → If_there d k n c) (λ n t h. (h, t, default_sound d n element)))
 initial_yields d line k element (Some m) (Some e) =
-    yields_bind (expression d m) (λ v. expression d e >>= λ w. done (fill_command line k v w)) (Tree_in d) (If_there d k) (expression_yields d m)
-    (λ v. yields_bind (expression d e) (λ w. done (fill_command line k v w)) (Tree_in d) (λ n c. Tree_in d n v → If_there d k n c) (expression_yields d e)
-    (λ w. yields_done (fill_command line k v w) (λ n c. Tree_in d n w → Tree_in d n v → If_there d k n c) (λ n u t h. (h, t, u))))
+    yields_bind (expression d m) (λ v. expression d e >>= λ w. done (fill_statement line k v w)) (Tree_in d) (If_there d k) (expression_yields d m)
+    (λ v. yields_bind (expression d e) (λ w. done (fill_statement line k v w)) (Tree_in d) (λ n c. Tree_in d n v → If_there d k n c) (expression_yields d e)
+    (λ w. yields_done (fill_statement line k v w) (λ n c. Tree_in d n w → Tree_in d n v → If_there d k n c) (λ n u t h. (h, t, u))))
 
 pub declaring_place : (x : Identifier) (t : DeclaredType) (s : FunctionScope) → IsPlace s → IsPlace (declaring x t s)
 declaring_place x t s is =
@@ -212,18 +212,18 @@ declaring_place x t s is =
       outer = below_more (length s.slots) (length (s.slots ++ t ∷ [])) s.scope.outer (omega arith) is.outer;
     }
 
-pub declared_yields : (d : Declared) (t : DeclarationTree) → Yields (declared d t) (Command_in d)
+pub declared_yields : (d : Declared) (t : DeclarationTree) → Yields (declared d t) (Statement_in d)
 declared_yields d t = record { from = λ s c q is e. go s c q is (initial d t.declared.place.line (length s.slots) t.declared.element t.size t.value s) refl e }
   where
-    go : (s : FunctionScope) (c : Command) (q : FunctionScope) → IsPlace s → (o : Option (Command × FunctionScope))
+    go : (s : FunctionScope) (c : TypedStatementTree) (q : FunctionScope) → IsPlace s → (o : Option (TypedStatementTree × FunctionScope))
         → initial d t.declared.place.line (length s.slots) t.declared.element t.size t.value s ≡ o
-        → carry o (λ b p. Some (pair_of b (declaring t.variable t.declared p))) ≡ Some (c, q) → Ends (Command_in d) s c q
+        → carry o (λ b p. Some (pair_of b (declaring t.variable t.declared p))) ≡ Some (c, q) → Ends (Statement_in d) s c q
     go s c q is None h e = cc
     go s c q is (Some r) h e =
         let ends = (initial_yields d t.declared.place.line (length s.slots) t.declared.element t.size t.value).from s r.0 r.1 is h in
         let more = length-append r.1.slots (t.declared ∷ []) in
         let long : length s.slots ≤ length r.1.slots = ends.longer in
-        ends_as (Command_in d) s r.0 c (declaring t.variable t.declared r.1) q e
+        ends_as (Statement_in d) s r.0 c (declaring t.variable t.declared r.1) q e
         (record {
           place = declaring_place t.variable t.declared r.1 ends.place;
           longer = omega arith;
@@ -233,29 +233,29 @@ declared_yields d t = record { from = λ s c q is e. go s c q is (initial d t.de
 assigned_to_yields : (d : Declared) (line k : ℕ) (i : Option Tree) (e : Tree) → Yields (assigned_to d line k i e) (If_there d k)
 assigned_to_yields d line k None e = store_yields d k e
 assigned_to_yields d line k (Some i) e =
-    yields_bind (expression d i) (λ v. expression d e >>= λ w. done (element_command line k v w)) (Tree_in d) (If_there d k) (expression_yields d i)
-    (λ v. yields_bind (expression d e) (λ w. done (element_command line k v w)) (Tree_in d) (λ n c. Tree_in d n v → If_there d k n c) (expression_yields d e)
-    (λ w. yields_done (element_command line k v w) (λ n c. Tree_in d n w → Tree_in d n v → If_there d k n c) (λ n u t h. (h, t, u))))
+    yields_bind (expression d i) (λ v. expression d e >>= λ w. done (element_statement line k v w)) (Tree_in d) (If_there d k) (expression_yields d i)
+    (λ v. yields_bind (expression d e) (λ w. done (element_statement line k v w)) (Tree_in d) (λ n c. Tree_in d n v → If_there d k n c) (expression_yields d e)
+    (λ w. yields_done (element_statement line k v w) (λ n c. Tree_in d n w → Tree_in d n v → If_there d k n c) (λ n u t h. (h, t, u))))
 
-assigned_yields : (d : Declared) (a : AssignmentTree) → Yields (assigned d a) (Command_in d)
+assigned_yields : (d : Declared) (a : AssignmentTree) → Yields (assigned d a) (Statement_in d)
 assigned_yields d a =
     yields_bind (named a.target.variable.text) (λ x. assigned_to d a.target.variable.place.line x.slot a.target.index a.value) (λ n k. k.slot < n)
-    (Command_in d)
+    (Statement_in d)
     (named_yields d a.target.variable.text)
     (λ x. assigned_to_later x)
   where
-    assigned_to_later : (x : Known) → Yields (assigned_to d a.target.variable.place.line x.slot a.target.index a.value) (λ n c. x.slot < n → Command_in d n c)
+    assigned_to_later : (x : Known) → Yields (assigned_to d a.target.variable.place.line x.slot a.target.index a.value) (λ n c. x.slot < n → Statement_in d n c)
     assigned_to_later x = assigned_to_yields d a.target.variable.place.line x.slot a.target.index a.value
 
 -- THE PARTS OF A `for`, AND RETURNS
 
-started_yields : (d : Declared) (a : StartTree) → Yields (started d a) (Command_in d)
-started_yields d starts_with_nothing = yields_done empty_command (Command_in d) (λ n. tt)
+started_yields : (d : Declared) (a : StartTree) → Yields (started d a) (Statement_in d)
+started_yields d starts_with_nothing = yields_done empty_statement (Statement_in d) (λ n. tt)
 started_yields d (starts_with_declaration t) = declared_yields d t
 started_yields d (starts_with_assignment a) = assigned_yields d a
 
-stepped_yields : (d : Declared) (b : StepTree) → Yields (stepped d b) (Command_in d)
-stepped_yields d steps_by_nothing = yields_done empty_command (Command_in d) (λ n. tt)
+stepped_yields : (d : Declared) (b : StepTree) → Yields (stepped d b) (Statement_in d)
+stepped_yields d steps_by_nothing = yields_done empty_statement (Statement_in d) (λ n. tt)
 stepped_yields d (steps_by_assignment a) = assigned_yields d a
 stepped_yields d (steps_by_expression e) = evaluated_yields d e
 
@@ -263,82 +263,83 @@ condition_yields : (d : Declared) (e : Option Tree) → Yields (condition_of d e
 condition_yields d None = yields_done (truth_node true) (Tree_in d) (λ n. tt)
 condition_yields d (Some e) = expression_yields d e
 
-returned_yields : (d : Declared) (e : Option Tree) → Yields (returned d e) (Command_in d)
-returned_yields d None = yields_done (return_command None) (Command_in d) (λ n. tt)
-returned_yields d (Some e) = one_yields d e (λ v. return_command (Some v)) (λ n t s. s)
+returned_yields : (d : Declared) (e : Option Tree) → Yields (returned d e) (Statement_in d)
+returned_yields d None = yields_done (return_statement None) (Statement_in d) (λ n. tt)
+returned_yields d (Some e) = one_yields d e (λ v. return_statement (Some v)) (λ n t s. s)
 
-looped_yields : (d : Declared) (a : StartTree) (e : Option Tree) (b : StepTree) (body : Resolving Command) → Yields body (Command_in d)
-    → Yields (looped d a e b body) (Command_in d)
+looped_yields : (d : Declared) (a : StartTree) (e : Option Tree) (b : StepTree) (body : Resolving TypedStatementTree) → Yields body (Statement_in d)
+    → Yields (looped d a e b body) (Statement_in d)
 looped_yields d a e b body inside =
-    yields_bind (started d a) (λ x. condition_of d e >>= λ v. stepped d b >>= λ y. in_block body >>= λ z. done (whole x v y z)) (Command_in d)
-    (Command_in d) (started_yields d a)
+    yields_bind (started d a) (λ x. condition_of d e >>= λ v. stepped d b >>= λ y. in_block body >>= λ z. done (whole x v y z)) (Statement_in d)
+    (Statement_in d) (started_yields d a)
     (λ x. yields_bind (condition_of d e) (λ v. stepped d b >>= λ y. in_block body >>= λ z. done (whole x v y z)) (Tree_in d)
-    (λ n c. Command_in d n x → Command_in d n c) (condition_yields d e)
-    (λ v. yields_bind (stepped d b) (λ y. in_block body >>= λ z. done (whole x v y z)) (Command_in d)
-    (λ n c. Tree_in d n v → Command_in d n x → Command_in d n c) (stepped_yields d b)
-    (λ y. yields_bind (in_block body) (λ z. done (whole x v y z)) (Command_in d) (λ n c. Command_in d n y → Tree_in d n v → Command_in d n x
-    → Command_in d n c) (yields_block body (Command_in d) inside)
-    (λ z. yields_done (whole x v y z) (λ n c. Command_in d n z → Command_in d n y → Tree_in d n v → Command_in d n x → Command_in d n c)
+    (λ n c. Statement_in d n x → Statement_in d n c) (condition_yields d e)
+    (λ v. yields_bind (stepped d b) (λ y. in_block body >>= λ z. done (whole x v y z)) (Statement_in d)
+    (λ n c. Tree_in d n v → Statement_in d n x → Statement_in d n c) (stepped_yields d b)
+    (λ y. yields_bind (in_block body) (λ z. done (whole x v y z)) (Statement_in d) (λ n c. Statement_in d n y → Tree_in d n v → Statement_in d n x
+    → Statement_in d n c) (yields_block body (Statement_in d) inside)
+    (λ z. yields_done (whole x v y z) (λ n c. Statement_in d n z → Statement_in d n y → Tree_in d n v → Statement_in d n x → Statement_in d n c)
     (λ n hz hy hv hx. (hx, ((hv, hy, hz), tt)))))))
   where
-    whole : Command → TypedTree → Command → Command → Command
-    whole x v y z = block_command (also x (also (loop_command v y z) none))
+    whole : TypedStatementTree → TypedTree → TypedStatementTree → TypedStatementTree → TypedStatementTree
+    whole x v y z = block_statement (also x (also (loop_statement v y z) none))
 
 -- STATEMENTS
 
 -- an expression and one block, and a statement made of both
-test_yields : (d : Declared) (e : Tree) (m : Resolving Command) (make : TypedTree → Command → Command)
-    → ((n : ℕ) (v : TypedTree) (c : Command) → Tree_in d n v → Command_in d n c → Command_in d n (make v c)) → Yields m (Command_in d)
-    → Yields (expression d e >>= λ v. in_block m >>= λ c. done (make v c)) (Command_in d)
+test_yields : (d : Declared) (e : Tree) (m : Resolving TypedStatementTree) (make : TypedTree → TypedStatementTree → TypedStatementTree)
+    → ((n : ℕ) (v : TypedTree) (c : TypedStatementTree) → Tree_in d n v → Statement_in d n c → Statement_in d n (make v c)) → Yields m (Statement_in d)
+    → Yields (expression d e >>= λ v. in_block m >>= λ c. done (make v c)) (Statement_in d)
 test_yields d e m make h inside =
-    yields_bind (expression d e) (λ v. in_block m >>= λ c. done (make v c)) (Tree_in d) (Command_in d) (expression_yields d e)
-    (λ v. yields_bind (in_block m) (λ c. done (make v c)) (Command_in d) (λ n b. Tree_in d n v → Command_in d n b) (yields_block m (Command_in d) inside)
-    (λ c. yields_done (make v c) (λ n b. Command_in d n c → Tree_in d n v → Command_in d n b) (λ n hc hv. h n v c hv hc)))
+    yields_bind (expression d e) (λ v. in_block m >>= λ c. done (make v c)) (Tree_in d) (Statement_in d) (expression_yields d e)
+    (λ v. yields_bind (in_block m) (λ c. done (make v c)) (Statement_in d) (λ n b. Tree_in d n v → Statement_in d n b) (yields_block m (Statement_in d) inside)
+    (λ c. yields_done (make v c) (λ n b. Statement_in d n c → Tree_in d n v → Statement_in d n b) (λ n hc hv. h n v c hv hc)))
 
-choice_yields : (d : Declared) (e : Tree) (m k : Resolving Command) → Yields m (Command_in d) → Yields k (Command_in d)
-    → Yields (expression d e >>= λ v. in_block m >>= λ b. in_block k >>= λ c. done (if_command v b c)) (Command_in d)
+choice_yields : (d : Declared) (e : Tree) (m k : Resolving TypedStatementTree) → Yields m (Statement_in d) → Yields k (Statement_in d)
+    → Yields (expression d e >>= λ v. in_block m >>= λ b. in_block k >>= λ c. done (if_statement v b c)) (Statement_in d)
 choice_yields d e m k inside otherwise =
-    yields_bind (expression d e) (λ v. in_block m >>= λ b. in_block k >>= λ c. done (if_command v b c)) (Tree_in d) (Command_in d) (expression_yields d e)
-    (λ v. yields_bind (in_block m) (λ b. in_block k >>= λ c. done (if_command v b c)) (Command_in d) (λ n r. Tree_in d n v → Command_in d n r)
-    (yields_block m (Command_in d) inside)
-    (λ b. yields_bind (in_block k) (λ c. done (if_command v b c)) (Command_in d) (λ n r. Command_in d n b → Tree_in d n v → Command_in d n r)
-    (yields_block k (Command_in d) otherwise)
-    (λ c. yields_done (if_command v b c) (λ n r. Command_in d n c → Command_in d n b → Tree_in d n v → Command_in d n r) (λ n hc hb hv. (hv, hb, hc)))))
+    yields_bind (expression d e) (λ v. in_block m >>= λ b. in_block k >>= λ c. done (if_statement v b c)) (Tree_in d) (Statement_in d) (expression_yields d e)
+    (λ v. yields_bind (in_block m) (λ b. in_block k >>= λ c. done (if_statement v b c)) (Statement_in d) (λ n r. Tree_in d n v → Statement_in d n r)
+    (yields_block m (Statement_in d) inside)
+    (λ b. yields_bind (in_block k) (λ c. done (if_statement v b c)) (Statement_in d) (λ n r. Statement_in d n b → Tree_in d n v → Statement_in d n r)
+    (yields_block k (Statement_in d) otherwise)
+    (λ c. yields_done (if_statement v b c) (λ n r. Statement_in d n c → Statement_in d n b → Tree_in d n v → Statement_in d n r) (λ n hc hb hv. (hv, hb, hc)))))
 
-do_yields : (d : Declared) (e : Tree) (m : Resolving Command) → Yields m (Command_in d)
-    → Yields (in_block m >>= λ b. expression d e >>= λ v. done (do_command b v)) (Command_in d)
+do_yields : (d : Declared) (e : Tree) (m : Resolving TypedStatementTree) → Yields m (Statement_in d)
+    → Yields (in_block m >>= λ b. expression d e >>= λ v. done (do_statement b v)) (Statement_in d)
 do_yields d e m inside =
-    yields_bind (in_block m) (λ b. expression d e >>= λ v. done (do_command b v)) (Command_in d) (Command_in d) (yields_block m (Command_in d) inside)
-    (λ b. yields_bind (expression d e) (λ v. done (do_command b v)) (Tree_in d) (λ n r. Command_in d n b → Command_in d n r) (expression_yields d e)
-    (λ v. yields_done (do_command b v) (λ n r. Tree_in d n v → Command_in d n b → Command_in d n r) (λ n hv hb. (hb, hv))))
+    yields_bind (in_block m) (λ b. expression d e >>= λ v. done (do_statement b v)) (Statement_in d) (Statement_in d) (yields_block m (Statement_in d) inside)
+    (λ b. yields_bind (expression d e) (λ v. done (do_statement b v)) (Tree_in d) (λ n r. Statement_in d n b → Statement_in d n r) (expression_yields d e)
+    (λ v. yields_done (do_statement b v) (λ n r. Tree_in d n v → Statement_in d n b → Statement_in d n r) (λ n hv hb. (hb, hv))))
 
 mutual
-  pub resolved_yields : (d : Declared) (t : StatementTree) → Yields (resolved d t) (Command_in d)
+  pub resolved_yields : (d : Declared) (t : StatementTree) → Yields (resolved d t) (Statement_in d)
   resolved_yields d (block p ss) =
-      yields_bind (in_block (resolved_all d ss)) (λ cs. done (block_command cs)) (Commands_in d) (Command_in d)
-      (yields_block (resolved_all d ss) (Commands_in d) (resolved_all_yields d ss))
-      (λ cs. yields_done (block_command cs) (λ n c. Commands_in d n cs → Command_in d n c) (λ n h. h))
-  resolved_yields d (empty p) = yields_done empty_command (Command_in d) (λ n. tt)
+      yields_bind (in_block (resolved_all d ss)) (λ cs. done (block_statement cs)) (Statements_in d) (Statement_in d)
+      (yields_block (resolved_all d ss) (Statements_in d) (resolved_all_yields d ss))
+      (λ cs. yields_done (block_statement cs) (λ n c. Statements_in d n cs → Statement_in d n c) (λ n h. h))
+  resolved_yields d (empty p) = yields_done empty_statement (Statement_in d) (λ n. tt)
   resolved_yields d (branch p e body) =
-      test_yields d e (resolved d body) (λ v c. if_command v c empty_command) (λ n v c hv hc. (hv, hc, tt)) (resolved_yields d body)
+      test_yields d e (resolved d body) (λ v c. if_statement v c empty_statement) (λ n v c hv hc. (hv, hc, tt)) (resolved_yields d body)
   resolved_yields d (choice p e body otherwise) =
       choice_yields d e (resolved d body) (resolved d otherwise) (resolved_yields d body) (resolved_yields d otherwise)
   resolved_yields d (while_loop p e body) =
-      test_yields d e (resolved d body) (λ v c. loop_command v empty_command c) (λ n v c hv hc. (hv, tt, hc)) (resolved_yields d body)
+      test_yields d e (resolved d body) (λ v c. loop_statement v empty_statement c) (λ n v c hv hc. (hv, tt, hc)) (resolved_yields d body)
   resolved_yields d (do_loop p body e) = do_yields d e (resolved d body) (resolved_yields d body)
   resolved_yields d (for_loop p a e b body) =
-      yields_block (looped d a e b (resolved d body)) (Command_in d) (looped_yields d a e b (resolved d body) (resolved_yields d body))
-  resolved_yields d (breaks p) = yields_done break_command (Command_in d) (λ n. tt)
-  resolved_yields d (continues p) = yields_done continue_command (Command_in d) (λ n. tt)
+      yields_block (looped d a e b (resolved d body)) (Statement_in d) (looped_yields d a e b (resolved d body) (resolved_yields d body))
+  resolved_yields d (breaks p) = yields_done break_statement (Statement_in d) (λ n. tt)
+  resolved_yields d (continues p) = yields_done continue_statement (Statement_in d) (λ n. tt)
   resolved_yields d (returns p e) = returned_yields d e
-  resolved_yields d (assertion p e) = one_yields d e (assert_command p.line) (λ n t s. s)
+  resolved_yields d (assertion p e) = one_yields d e (assert_statement p.line) (λ n t s. s)
   resolved_yields d (declaration t) = declared_yields d t
   resolved_yields d (assignment a) = assigned_yields d a
   resolved_yields d (evaluation e) = evaluated_yields d e
 
-  pub resolved_all_yields : (d : Declared) (ts : StatementTrees) → Yields (resolved_all d ts) (Commands_in d)
-  resolved_all_yields d Statements'.none = yields_done none (Commands_in d) (λ n. tt)
+  pub resolved_all_yields : (d : Declared) (ts : StatementTrees) → Yields (resolved_all d ts) (Statements_in d)
+  resolved_all_yields d Statements'.none = yields_done none (Statements_in d) (λ n. tt)
   resolved_all_yields d (Statements'.also t ts) =
-      yields_bind (resolved d t) (λ c. resolved_all d ts >>= λ cs. done (also c cs)) (Command_in d) (Commands_in d) (resolved_yields d t)
-      (λ c. yields_bind (resolved_all d ts) (λ cs. done (also c cs)) (Commands_in d) (λ n r. Command_in d n c → Commands_in d n r) (resolved_all_yields d ts)
-      (λ cs. yields_done (also c cs) (λ n r. Commands_in d n cs → Command_in d n c → Commands_in d n r) (λ n hcs hc. (hc, hcs))))
+      yields_bind (resolved d t) (λ c. resolved_all d ts >>= λ cs. done (also c cs)) (Statement_in d) (Statements_in d) (resolved_yields d t)
+      (λ c. yields_bind (resolved_all d ts) (λ cs. done (also c cs)) (Statements_in d) (λ n r. Statement_in d n c → Statements_in d n r)
+      (resolved_all_yields d ts)
+      (λ cs. yields_done (also c cs) (λ n r. Statements_in d n cs → Statement_in d n c → Statements_in d n r) (λ n hcs hc. (hc, hcs))))

@@ -11,9 +11,9 @@ use Rattle.secrec_ast.specs.Statements.{declaration, assignment, evaluation, Sta
 use Rattle.secrec_ast.specs.Statements as Statements'
 use Rattle.domain_types.specs.Declarations.{Declared}
 use Rattle.typed_tree.specs.Tree.{TypedTree, word_node, truth_node}
-use Rattle.typed_tree.specs.Commands.{Command, Commands, none, also, empty_command, block_command, if_command, loop_command, do_command}
-use Rattle.typed_tree.specs.Commands.{break_command, continue_command, return_command, assert_command, store_command, default_command, fill_command}
-use Rattle.typed_tree.specs.Commands.{input_command, element_command, publish_command, evaluate_command}
+use Rattle.typed_tree.specs.Statements.{TypedStatementTree, TypedStatementTrees, none, also, empty_statement, block_statement, if_statement, loop_statement}
+use Rattle.typed_tree.specs.Statements.{do_statement, break_statement, continue_statement, return_statement, assert_statement, store_statement}
+use Rattle.typed_tree.specs.Statements.{default_statement, fill_statement, input_statement, element_statement, publish_statement, evaluate_statement}
 use Rattle.name_resolution.specs.Scopes.{FunctionScope}
 use Rattle.name_resolution.specs.Values.{TypedCall, call_made}
 use Rattle.name_resolution.specs.Resolving.{Resolving, ◌>>=◌, done, reading, next_slot, declare, in_block, expression, named}
@@ -27,16 +27,16 @@ abbrev pub calling : Declared → ℕ → List ℕ → Trees → FunctionScope �
 calling d line x es s = option_map tree_in_call (call_made d s.scope line x es)
 
 -- what is published is told by its name; a call may give nothing
-abbrev pub evaluated : Declared → Tree → Resolving Command
+abbrev pub evaluated : Declared → Tree → Resolving TypedStatementTree
 evaluated d (publish p x e) = do
   v ← expression d e
-  done (publish_command x v)
+  done (publish_statement x v)
 evaluated d (call p x es) = do
   v ← reading (calling d p.line x es)
-  done (evaluate_command v)
+  done (evaluate_statement v)
 evaluated d e = do
   v ← expression d e
-  done (evaluate_command v)
+  done (evaluate_statement v)
 
 -- DECLARATIONS
 
@@ -46,25 +46,25 @@ default_of Uint64 = word_node 0
 default_of datatype.Bool = truth_node false
 
 -- an input has the declared type
-abbrev pub from_value : Declared → ℕ → Tree → Resolving Command
-from_value d k (argument p x) = done (input_command p.line k x)
+abbrev pub from_value : Declared → ℕ → Tree → Resolving TypedStatementTree
+from_value d k (argument p x) = done (input_statement p.line k x)
 from_value d k e = do
   v ← expression d e
-  done (store_command k v)
+  done (store_statement k v)
 
 -- the slot is the next one, behind the size and the value
-abbrev pub initial : Declared → ℕ → ℕ → DataType → (size value : Option Tree) → Resolving Command
-initial d line k element None None = done (default_command k)
+abbrev pub initial : Declared → ℕ → ℕ → DataType → (size value : Option Tree) → Resolving TypedStatementTree
+initial d line k element None None = done (default_statement k)
 initial d line k element None (Some e) = from_value d k e
 initial d line k element (Some n) None = do
   m ← expression d n
-  done (fill_command line k m (default_of element))
+  done (fill_statement line k m (default_of element))
 initial d line k element (Some n) (Some e) = do
   m ← expression d n
   v ← expression d e
-  done (fill_command line k m v)
+  done (fill_statement line k m v)
 
-abbrev pub declared : Declared → DeclarationTree → Resolving Command
+abbrev pub declared : Declared → DeclarationTree → Resolving TypedStatementTree
 declared d t = do
   k ← next_slot
   c ← initial d t.declared.place.line k t.declared.element t.size t.value
@@ -73,29 +73,29 @@ declared d t = do
 
 -- ASSIGNMENTS
 
-abbrev pub assigned_to : Declared → ℕ → ℕ → Option Tree → Tree → Resolving Command
+abbrev pub assigned_to : Declared → ℕ → ℕ → Option Tree → Tree → Resolving TypedStatementTree
 assigned_to d line k None e = do
   v ← expression d e
-  done (store_command k v)
+  done (store_statement k v)
 assigned_to d line k (Some i) e = do
   j ← expression d i
   v ← expression d e
-  done (element_command line k j v)
+  done (element_statement line k j v)
 
-abbrev pub assigned : Declared → AssignmentTree → Resolving Command
+abbrev pub assigned : Declared → AssignmentTree → Resolving TypedStatementTree
 assigned d a = do
   x ← named a.target.variable.text
   assigned_to d a.target.variable.place.line x.slot a.target.index a.value
 
 -- THE PARTS OF A `for`
 
-abbrev pub started : Declared → StartTree → Resolving Command
-started d starts_with_nothing = done empty_command
+abbrev pub started : Declared → StartTree → Resolving TypedStatementTree
+started d starts_with_nothing = done empty_statement
 started d (starts_with_declaration t) = declared d t
 started d (starts_with_assignment a) = assigned d a
 
-abbrev pub stepped : Declared → StepTree → Resolving Command
-stepped d steps_by_nothing = done empty_command
+abbrev pub stepped : Declared → StepTree → Resolving TypedStatementTree
+stepped d steps_by_nothing = done empty_statement
 stepped d (steps_by_assignment a) = assigned d a
 stepped d (steps_by_expression e) = evaluated d e
 
@@ -104,58 +104,58 @@ abbrev pub condition_of : Declared → Option Tree → Resolving TypedTree
 condition_of d None = done (truth_node true)
 condition_of d (Some e) = expression d e
 
-abbrev pub returned : Declared → Option Tree → Resolving Command
-returned d None = done (return_command None)
+abbrev pub returned : Declared → Option Tree → Resolving TypedStatementTree
+returned d None = done (return_statement None)
 returned d (Some e) = do
   v ← expression d e
-  done (return_command (Some v))
+  done (return_statement (Some v))
 
 -- the parts of a `for`, whose body is a block
-abbrev pub looped : Declared → StartTree → Option Tree → StepTree → Resolving Command → Resolving Command
+abbrev pub looped : Declared → StartTree → Option Tree → StepTree → Resolving TypedStatementTree → Resolving TypedStatementTree
 looped d start e step body = do
   a ← started d start
   v ← condition_of d e
   c ← stepped d step
   b ← in_block body
-  done (block_command (also a (also (loop_command v c b) none)))
+  done (block_statement (also a (also (loop_statement v c b) none)))
 
 -- STATEMENTS: a `for`, and each branch or body, is a block
 
 abbrev mutual
-  pub resolved : Declared → StatementTree → Resolving Command
+  pub resolved : Declared → StatementTree → Resolving TypedStatementTree
   resolved d (block p ss) = do
     cs ← in_block (resolved_all d ss)
-    done (block_command cs)
-  resolved d (empty p) = done empty_command
+    done (block_statement cs)
+  resolved d (empty p) = done empty_statement
   resolved d (branch p e body) = do
     v ← expression d e
     c ← in_block (resolved d body)
-    done (if_command v c empty_command)
+    done (if_statement v c empty_statement)
   resolved d (choice p e body otherwise) = do
     v ← expression d e
     b ← in_block (resolved d body)
     c ← in_block (resolved d otherwise)
-    done (if_command v b c)
+    done (if_statement v b c)
   resolved d (while_loop p e body) = do
     v ← expression d e
     b ← in_block (resolved d body)
-    done (loop_command v empty_command b)
+    done (loop_statement v empty_statement b)
   resolved d (do_loop p body e) = do
     b ← in_block (resolved d body)
     v ← expression d e
-    done (do_command b v)
+    done (do_statement b v)
   resolved d (for_loop p start e step body) = in_block (looped d start e step (resolved d body))
-  resolved d (breaks p) = done break_command
-  resolved d (continues p) = done continue_command
+  resolved d (breaks p) = done break_statement
+  resolved d (continues p) = done continue_statement
   resolved d (returns p e) = returned d e
   resolved d (assertion p e) = do
     v ← expression d e
-    done (assert_command p.line v)
+    done (assert_statement p.line v)
   resolved d (declaration t) = declared d t
   resolved d (assignment a) = assigned d a
   resolved d (evaluation e) = evaluated d e
 
-  pub resolved_all : Declared → StatementTrees → Resolving Commands
+  pub resolved_all : Declared → StatementTrees → Resolving TypedStatementTrees
   resolved_all d Statements'.none = done none
   resolved_all d (Statements'.also t ts) = do
     c ← resolved d t

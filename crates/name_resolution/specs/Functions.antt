@@ -14,7 +14,7 @@ use Rattle.typed_tree.specs.declared.kinds.SlotDomain.TheVariants.{Public, Priva
 use Rattle.typed_tree.specs.declared.kinds.Slot.{Slot}
 use Rattle.typed_tree.specs.declared.function.Returned.{Returned}
 use Rattle.typed_tree.specs.declared.function.Returned.TheVariants.{Nothing, Value}
-use Rattle.typed_tree.specs.Commands.{Commands}
+use Rattle.typed_tree.specs.Statements.{TypedStatementTrees}
 use Rattle.name_resolution.specs.Scopes.{FunctionScope, no_place, declaring, shape_written}
 use Rattle.name_resolution.specs.Values.{of_both}
 use Rattle.name_resolution.specs.Bodies.{resolved_all}
@@ -62,7 +62,7 @@ abbrev pub with_parameters : List Parameter → FunctionScope → FunctionScope
 with_parameters [] s = s
 with_parameters (p ∷ ps) s = with_parameters ps (declaring p.variable p.declared s)
 
-abbrev pub function_made : FunctionTree → Commands → List Slot → Returned → TypedFunctionTree
+abbrev pub function_made : FunctionTree → TypedStatementTrees → List Slot → Returned → TypedFunctionTree
 function_made f body slots given =
     record {
       name = f.function.text;
@@ -74,10 +74,10 @@ function_made f body slots given =
       size = size_of f;
     }
 
-abbrev pub function_from : FunctionTree → Commands → List Slot → Returned → Option TypedFunctionTree
+abbrev pub function_from : FunctionTree → TypedStatementTrees → List Slot → Returned → Option TypedFunctionTree
 function_from f body slots given = Some (function_made f body slots given)
 
-abbrev pub function_behind : Declared → FunctionTree → Commands × FunctionScope → Option TypedFunctionTree
+abbrev pub function_behind : Declared → FunctionTree → TypedStatementTrees × FunctionScope → Option TypedFunctionTree
 function_behind d f r = of_both (function_from f r.0) (slots_written d f.variables r.1.slots) (given_back d f.variables f.returned)
 
 abbrev pub typed_function : Declared → FunctionTree → Option TypedFunctionTree

@@ -22,8 +22,8 @@ use Rattle.typed_tree.specs.declared.operators.BinaryOperator.TheVariants.{Words
 use Rattle.typed_tree.specs.declared.operators.Operands.TheVariants.{Scalars, ArrayAndScalar}
 use Rattle.typed_tree.specs.declared.operators.Connective.TheVariants as connective
 use Rattle.typed_tree.specs.Tree.{word_node, truth_node, slot_node, call_node, binary_node, cut_node, declassify_node, typed_trees_of}
-use Rattle.typed_tree.specs.Commands.{Command, block_command, return_command, default_command, store_command, input_command, publish_command}
-use Rattle.typed_tree.specs.Commands.{evaluate_command, commands_of}
+use Rattle.typed_tree.specs.Statements.{TypedStatementTree, block_statement, return_statement, default_statement, store_statement, input_statement}
+use Rattle.typed_tree.specs.Statements.{publish_statement, evaluate_statement, typed_statements_of}
 use Rattle.typed_tree.specs.Programs.{TypedFunctionTree, TypedProgramTree}
 use Rattle.name_resolution.specs.Functions.{typed_of}
 
@@ -67,9 +67,9 @@ program_of fs =
 abbrev slot : SlotDomain → DataType → Bool → Slot
 slot d element array = record { domain = d; shape = record { element = element; array = array } }
 
-abbrev typed_main : List Slot → List Command → ℕ → TypedFunctionTree
+abbrev typed_main : List Slot → List TypedStatementTree → ℕ → TypedFunctionTree
 typed_main slots body size =
-    record { name = codes "main"; variables = 0; parameters = 0; slots = slots; given = Nothing; body = commands_of body; size = size }
+    record { name = codes "main"; variables = 0; parameters = 0; slots = slots; given = Nothing; body = typed_statements_of body; size = size }
 
 abbrev program : List TypedFunctionTree → Option TypedProgramTree
 program fs = Some (record { functions = fs })
@@ -79,8 +79,8 @@ product : typed_of (program_of
     (main_with (declares (scalar_in in_p datatype.Uint64) (codes "a") (Some (argument (at 2) (codes "a")))
     ∷ evaluation (publish (at 2) (codes "c") (declassify (at 2) (binary (at 2) Multiply (read (codes "a")) (read (codes "a"))))) ∷ []) ∷ []))
     ≡ program (typed_main (slot (Private 0) datatype.Uint64 false ∷ [])
-    (input_command 2 0 (codes "a")
-    ∷ publish_command (codes "c") (declassify_node (binary_node 2 (Words word.Multiply) Scalars (slot_node 0) (slot_node 0))) ∷ []) 10 ∷ [])
+    (input_statement 2 0 (codes "a")
+    ∷ publish_statement (codes "c") (declassify_node (binary_node 2 (Words word.Multiply) Scalars (slot_node 0) (slot_node 0))) ∷ []) 10 ∷ [])
 product = refl
 
 -- uint64 x; { bool x = true; publish("i", x && x); } x = x + x;
@@ -95,9 +95,9 @@ hiding : typed_of (program_of
           binary (at 2) Add (read (codes "x")) (read (codes "x"));
     }) ∷ []) ∷ []))
     ≡ program (typed_main (slot Public datatype.Uint64 false ∷ slot Public datatype.Bool false ∷ [])
-    (default_command 0 ∷ block_command
-    (commands_of (store_command 1 (truth_node true) ∷ publish_command (codes "i") (cut_node connective.AndAlso (slot_node 1) (slot_node 1)) ∷ []))
-    ∷ store_command 0 (binary_node 2 (Words word.Add) Scalars (slot_node 0) (slot_node 0)) ∷ []) 16 ∷ [])
+    (default_statement 0 ∷ block_statement
+    (typed_statements_of (store_statement 1 (truth_node true) ∷ publish_statement (codes "i") (cut_node connective.AndAlso (slot_node 1) (slot_node 1)) ∷ []))
+    ∷ store_statement 0 (binary_node 2 (Words word.Add) Scalars (slot_node 0) (slot_node 0)) ∷ []) 16 ∷ [])
 hiding = refl
 
 -- bool[[1]] b; b && true: between an array and a scalar nothing is cut short
@@ -105,7 +105,7 @@ both_read : typed_of (program_of
     (main_with (declares (record { place = at 2; domain = domain.Public; element = datatype.Bool; array = true }) (codes "b") None
     ∷ evaluation (binary (at 2) AndAlso (read (codes "b")) (truth (at 2) true)) ∷ []) ∷ []))
     ≡ program (typed_main (slot Public datatype.Bool true ∷ [])
-    (default_command 0 ∷ evaluate_command (binary_node 2 (Bools bool.And) ArrayAndScalar (slot_node 0) (truth_node true)) ∷ []) 7 ∷ [])
+    (default_statement 0 ∷ evaluate_statement (binary_node 2 (Bools bool.And) ArrayAndScalar (slot_node 0) (truth_node true)) ∷ []) 7 ∷ [])
 both_read = refl
 
 -- template <domain D> D uint64 f(D uint64 x) { return x; }
@@ -127,7 +127,7 @@ typed_template f =
       parameters = 1;
       slots = slot (Variable 0) datatype.Uint64 false ∷ [];
       given = Value (slot (Variable 0) datatype.Uint64 false);
-      body = commands_of (return_command (Some (slot_node 0)) ∷ []);
+      body = typed_statements_of (return_statement (Some (slot_node 0)) ∷ []);
       size = 5;
     }
 
@@ -139,8 +139,8 @@ first_called : typed_of (program_of
     (template (codes "g") ∷ template (codes "f") ∷ template (codes "h")
     ∷ main_with (evaluation (calls (codes "g") (calls (codes "f") (number (at 2) 1))) ∷ evaluation (calls (codes "f") (number (at 2) 2)) ∷ []) ∷ []))
     ≡ program (typed_main []
-    (evaluate_command (call_node 2 2 (typed_trees_of (call_node 2 1 (typed_trees_of (word_node 1 ∷ [])) ∷ [])))
-    ∷ evaluate_command (call_node 2 1 (typed_trees_of (word_node 2 ∷ []))) ∷ []) 9 ∷ typed_template (codes "f") ∷ typed_template (codes "g") ∷ [])
+    (evaluate_statement (call_node 2 2 (typed_trees_of (call_node 2 1 (typed_trees_of (word_node 1 ∷ [])) ∷ [])))
+    ∷ evaluate_statement (call_node 2 1 (typed_trees_of (word_node 2 ∷ []))) ∷ []) 9 ∷ typed_template (codes "f") ∷ typed_template (codes "g") ∷ [])
 first_called = refl
 
 -- x; where nothing declares x

@@ -4,7 +4,7 @@ ghost use Rattle.secrec_ast.specs.Tree.{expression};
 ghost use Rattle.secrec_ast.specs.Statements.{optional, declaration_tree, assignment_tree, start_tree, step_tree};
 ghost use Rattle.domain_types.specs.Views.{declared};
 ghost use Rattle.typed_tree.specs.Tree.{typed_tree};
-ghost use Rattle.typed_tree.specs.Commands.{command};
+ghost use Rattle.typed_tree.specs.Statements.{typed_statement};
 ghost use Rattle.name_resolution.specs.Resolving.{resolved_value, known_at};
 ghost use Rattle.name_resolution.specs.Bodies.{evaluated, default_of, from_value, initial, declared as declared_at, assigned_to, assigned, started};
 ghost use Rattle.name_resolution.specs.Bodies.{stepped, condition_of, returned};
@@ -50,7 +50,8 @@ pub fn evaluated<'p>(
     place: &FunctionScope<'p>,
     e: &'p Expression,
 ) -> Result<TypedStatement, ResolveErr>
-    ensures { Answers (with_place command (place_seen place.now)) result (evaluated (declared declarations.now) (expression e.now) (place_seen place.now)) }
+    ensures { Answers (with_place typed_statement (place_seen place.now)) result
+        (evaluated (declared declarations.now) (expression e.now) (place_seen place.now)) }
 {
     match e {
         Expression::Publish(_, name, operand) => {
@@ -93,7 +94,7 @@ fn from_value<'p>(
     slot: usize,
     e: &'p Expression,
 ) -> Result<TypedStatement, ResolveErr>
-    ensures { Answers (with_place command (place_seen place.now)) result
+    ensures { Answers (with_place typed_statement (place_seen place.now)) result
         (from_value (declared declarations.now) slot (expression e.now) (place_seen place.now)) }
 {
     match e {
@@ -115,7 +116,7 @@ fn initial<'p>(
     slot: usize,
     d: &'p Declaration,
 ) -> Result<TypedStatement, ResolveErr>
-    ensures { Answers (with_place command (place_seen place.now)) result
+    ensures { Answers (with_place typed_statement (place_seen place.now)) result
         (initial (declared declarations.now) d.now.declared.place.line slot d.now.declared.element (optional d.now.size) (optional d.now.value)
         (place_seen place.now)) }
 {
@@ -142,7 +143,7 @@ pub fn declared<'p>(
     place: &mut FunctionScope<'p>,
     d: &'p Declaration,
 ) -> Result<TypedStatement, ResolveErr>
-    ensures made { Answers (with_place command (place_seen place.new)) result
+    ensures made { Answers (with_place typed_statement (place_seen place.new)) result
         (declared_at (declared declarations.now) (declaration_tree d.now) (place_seen place.old)) }
     ensures outer { IfOk result (λ _. (place_seen place.new).scope.outer ≡ (place_seen place.old).scope.outer) }
 {
@@ -160,7 +161,7 @@ fn assigned_to<'p>(
     slot: usize,
     a: &'p Assignment,
 ) -> Result<TypedStatement, ResolveErr>
-    ensures { Answers (with_place command (place_seen place.now)) result
+    ensures { Answers (with_place typed_statement (place_seen place.now)) result
         (assigned_to (declared declarations.now) a.now.target.variable.place.line slot (optional a.now.target.index) (expression a.now.value)
         (place_seen place.now)) }
 {
@@ -185,7 +186,8 @@ pub fn assigned<'p>(
     place: &FunctionScope<'p>,
     a: &'p Assignment,
 ) -> Result<TypedStatement, ResolveErr>
-    ensures { Answers (with_place command (place_seen place.now)) result (assigned (declared declarations.now) (assignment_tree a.now) (place_seen place.now)) }
+    ensures { Answers (with_place typed_statement (place_seen place.now)) result
+        (assigned (declared declarations.now) (assignment_tree a.now) (place_seen place.now)) }
 {
     let known = named(place, a.target.variable.text.as_str())?;
     assigned_to(alloc, declarations, place, known.slot, a)
@@ -198,7 +200,7 @@ pub fn started<'p>(
     place: &mut FunctionScope<'p>,
     start: &'p ForStart,
 ) -> Result<TypedStatement, ResolveErr>
-    ensures made { Answers (with_place command (place_seen place.new)) result
+    ensures made { Answers (with_place typed_statement (place_seen place.new)) result
         (started (declared declarations.now) (start_tree start.now) (place_seen place.old)) }
     ensures outer { IfOk result (λ _. (place_seen place.new).scope.outer ≡ (place_seen place.old).scope.outer) }
 {
@@ -216,7 +218,8 @@ pub fn stepped<'p>(
     place: &FunctionScope<'p>,
     step: &'p ForStep,
 ) -> Result<TypedStatement, ResolveErr>
-    ensures { Answers (with_place command (place_seen place.now)) result (stepped (declared declarations.now) (step_tree step.now) (place_seen place.now)) }
+    ensures { Answers (with_place typed_statement (place_seen place.now)) result
+        (stepped (declared declarations.now) (step_tree step.now) (place_seen place.now)) }
 {
     match step {
         ForStep::Nothing => Ok(TypedStatement::Empty),
@@ -247,7 +250,8 @@ pub fn returned<'p>(
     place: &FunctionScope<'p>,
     e: &'p Option<Expression>,
 ) -> Result<TypedStatement, ResolveErr>
-    ensures { Answers (with_place command (place_seen place.now)) result (returned (declared declarations.now) (optional e.now) (place_seen place.now)) }
+    ensures { Answers (with_place typed_statement (place_seen place.now)) result
+        (returned (declared declarations.now) (optional e.now) (place_seen place.now)) }
 {
     match e {
         None => Ok(TypedStatement::Return(None)),

@@ -2,11 +2,11 @@
 ghost use Rattle.std.specs.Prelude.{◌≡◌, IfOk, map};
 ghost use Rattle.secrec_ast.specs.Statements.{statement, statements_of, start_tree, step_tree, optional};
 ghost use Rattle.domain_types.specs.Views.{declared};
-ghost use Rattle.typed_tree.specs.Commands.{command};
+ghost use Rattle.typed_tree.specs.Statements.{typed_statement};
 ghost use Rattle.name_resolution.specs.Resolving.{in_block};
 ghost use Rattle.name_resolution.specs.Bodies.{looped, resolved, resolved_all};
 ghost use Rattle.name_resolution.specs.Answer.{Answers};
-ghost use Rattle.name_resolution.specs.inner.Views.{place_seen, with_place, command_in, commands_seen};
+ghost use Rattle.name_resolution.specs.inner.Views.{place_seen, with_place, typed_statement_in, typed_statements_seen};
 
 use crate::place::FunctionScope;
 use crate::resolve_err::ResolveErr;
@@ -26,7 +26,7 @@ pub fn statements<'p>(
     place: &mut FunctionScope<'p>,
     list: &'p Vec<Statement>,
 ) -> Result<Vec<TypedStatement>, ResolveErr>
-    ensures made { Answers (with_place commands_seen (place_seen place.new)) result
+    ensures made { Answers (with_place typed_statements_seen (place_seen place.new)) result
         (resolved_all (declared declarations.now) (statements_of (map statement list.now.items)) (place_seen place.old)) }
     ensures outer { IfOk result (λ _. (place_seen place.new).scope.outer ≡ (place_seen place.old).scope.outer) }
 {
@@ -46,7 +46,8 @@ pub fn statement<'p>(
     place: &mut FunctionScope<'p>,
     s: &'p Statement,
 ) -> Result<TypedStatement, ResolveErr>
-    ensures made { Answers (with_place command (place_seen place.new)) result (resolved (declared declarations.now) (statement s.now) (place_seen place.old)) }
+    ensures made { Answers (with_place typed_statement (place_seen place.new)) result
+        (resolved (declared declarations.now) (statement s.now) (place_seen place.old)) }
     ensures outer { IfOk result (λ _. (place_seen place.new).scope.outer ≡ (place_seen place.old).scope.outer) }
 {
     match s {
@@ -107,7 +108,7 @@ fn inside<'p>(
     place: &mut FunctionScope<'p>,
     s: &'p Statement,
 ) -> Result<Box<TypedStatement>, ResolveErr>
-    ensures made { Answers (with_place command_in (place_seen place.new)) result
+    ensures made { Answers (with_place typed_statement_in (place_seen place.new)) result
         (in_block (resolved (declared declarations.now) (statement s.now)) (place_seen place.old)) }
     ensures outer { IfOk result (λ _. (place_seen place.new).scope.outer ≡ (place_seen place.old).scope.outer) }
 {
@@ -128,7 +129,7 @@ fn looped<'p>(
     step: &'p ForStep,
     body: &'p Statement,
 ) -> Result<TypedStatement, ResolveErr>
-    ensures made { Answers (with_place command (place_seen place.new)) result
+    ensures made { Answers (with_place typed_statement (place_seen place.new)) result
         (looped (declared declarations.now) (start_tree start.now) (optional e.now) (step_tree step.now)
         (resolved (declared declarations.now) (statement body.now)) (place_seen place.old)) }
     ensures outer { IfOk result (λ _. (place_seen place.new).scope.outer ≡ (place_seen place.old).scope.outer) }

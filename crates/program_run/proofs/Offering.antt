@@ -17,7 +17,7 @@ use Rattle.language_model.specs.Evaluation.{either}
 use Rattle.language_model.specs.Reports.{words_dealt, dealing, world_of}
 use Rattle.language_model.specs.Words.{truth_word}
 use Rattle.clear_eval.specs.Offers.{input_given, is_private, offered, shape_given, words_given}
-use Rattle.code_inputs.specs.Inputs.{AreGiven, IsGiven, element_given, is_array}
+use Rattle.code_inputs.specs.Inputs.{AreGivenAs, IsGivenAs, element_given, is_array}
 use Rattle.code_inputs.specs.Inputs as dealt
 
 -- ---- an entry, as it is given
@@ -46,10 +46,10 @@ secret_same : (d : Domain) → is_private d ≡ dealt.is_private d
 secret_same Public = refl
 secret_same Private = refl
 
-is_given : (e : Entry) → IsGiven e (input_given e)
+is_given : (e : Entry) → IsGivenAs e (input_given e)
 is_given e = record { name = refl; secret = secret_same e.domain; shape = shape_same e.value; words = words_same e.value }
 
-pub are_given : (es : List Entry) → AreGiven es (map input_given es)
+pub are_given : (es : List Entry) → AreGivenAs es (map input_given es)
 are_given [] = tt
 are_given (e ∷ es) = (is_given e, are_given es)
 

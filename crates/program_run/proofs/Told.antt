@@ -10,7 +10,7 @@ use Rattle.value_file.specs.declared.inputs.Entry.{Entry}
 use Rattle.value_file.specs.declared.public.PublicEntry.{PublicEntry}
 use Rattle.value_file.specs.Public.{part_of}
 use Rattle.input_share.specs.Dealing.{need_of}
-use Rattle.language_model.specs.Effects.{World, Clear, Answers, Ended, Given}
+use Rattle.language_model.specs.Effects.{World, Clear, Answers, Ended, GivenInput}
 use Rattle.language_model.specs.Reports.{Report, world_of, public_part, not_dealt}
 use Rattle.clear_eval.specs.Offers.{offered, offered_with, part_given}
 use Rattle.clear_eval.proofs.PublicParts.{entries_are_public}
@@ -40,9 +40,9 @@ undealt_so p entries t budget told few events end =
 
 -- ---- the world of one who knows the public part
 
-pub known_so : (entries : List Entry) (part : List PublicEntry) (given : List Given) (lengths lengths' : List ℕ) (w : World)
+pub known_so : (entries : List Entry) (part : List PublicEntry) (given : List GivenInput) (lengths lengths' : List ℕ) (w : World)
     → w ≡ world_of Answers (offered_with given lengths') → lengths' ≡ lengths → given ≡ map part_given part → part ≡ part_of entries
     → w ≡ world_of Answers (public_part (offered entries lengths))
 known_so entries part given lengths lengths' w is same as_given as_part =
-    is ∙ ap₂ (λ (g : List Given) (l : List ℕ). world_of Answers (offered_with g l))
+    is ∙ ap₂ (λ (g : List GivenInput) (l : List ℕ). world_of Answers (offered_with g l))
     (as_given ∙ ap (λ (x : List PublicEntry). map part_given x) as_part ∙ entries_are_public entries) same

@@ -27,9 +27,9 @@ use Rattle.domain_types.specs.Typing.{HasType, HasFitting, HasPublicScalar, IsIn
 use Rattle.domain_types.specs.Typing.{IsOptionalCondition, IsReturn, IsTyped, AreTyped}
 use Rattle.typed_tree.specs.declared.kinds.Slot.{Slot}
 use Rattle.typed_tree.specs.Tree.{TypedTree, truth_node}
-use Rattle.typed_tree.specs.Commands.{Command, none, also, empty_command, block_command, if_command, loop_command, do_command, break_command}
-use Rattle.typed_tree.specs.Commands.{continue_command, return_command, assert_command, store_command, default_command, fill_command, input_command}
-use Rattle.typed_tree.specs.Commands.{element_command, publish_command, evaluate_command}
+use Rattle.typed_tree.specs.Statements.{TypedStatementTree, none, also, empty_statement, block_statement, if_statement, loop_statement, do_statement}
+use Rattle.typed_tree.specs.Statements.{break_statement, continue_statement, return_statement, assert_statement, store_statement, default_statement}
+use Rattle.typed_tree.specs.Statements.{fill_statement, input_statement, element_statement, publish_statement, evaluate_statement}
 use Rattle.name_resolution.specs.Scopes.{FunctionScope, known_of, declaring, entering, behind_block}
 use Rattle.name_resolution.specs.Functions.{slot_written}
 use Rattle.name_resolution.specs.Resolving.{Resolving, carry, ◌>>=◌, done, reading, next_slot, declare, closed, in_block, tree_in, resolved_value}
@@ -199,68 +199,68 @@ goes_value z s e v a h =
     goes_reading z (resolved_value z.known e) s (λ p f. let m = value_makes z.setting z.known s p.scope f.same e v a h in
     (m.value.tree, ap (option_map tree_in) m.there))
 
-goes_one : (z : Frame) (s : checked.Scope) (e : Tree) (v : ValueType) (make : TypedTree → Command) → Agreed z (names_in e)
+goes_one : (z : Frame) (s : checked.Scope) (e : Tree) (v : ValueType) (make : TypedTree → TypedStatementTree) → Agreed z (names_in e)
     → HasType z.setting s e (Value v) → Goes z (expression z.known e >>= λ x. done (make x)) s s
 goes_one z s e v make a h = goes_bind z (expression z.known e) (λ x. done (make x)) s s s (goes_value z s e v a h) (λ x. goes_done z (make x) s)
 
 goes_evaluated : (z : Frame) (s : checked.Scope) (e : Tree) (t : ExpressionType) → Agreed z (names_in e) → HasType z.setting s e t
     → Goes z (evaluated z.known e) s s
-goes_evaluated z s (number p n) t a h = goes_one z s (number p n) (public_scalar Uint64) evaluate_command a refl
-goes_evaluated z s (truth p b) t a h = goes_one z s (truth p b) (public_scalar datatype.Bool) evaluate_command a refl
-goes_evaluated z s (variable p x) t a h = goes_one z s (variable p x) h.0 evaluate_command a (h.0, h.1, refl)
+goes_evaluated z s (number p n) t a h = goes_one z s (number p n) (public_scalar Uint64) evaluate_statement a refl
+goes_evaluated z s (truth p b) t a h = goes_one z s (truth p b) (public_scalar datatype.Bool) evaluate_statement a refl
+goes_evaluated z s (variable p x) t a h = goes_one z s (variable p x) h.0 evaluate_statement a (h.0, h.1, refl)
 goes_evaluated z s (call p x es) t a h =
-    goes_bind z (reading (calling z.known p.line x es)) (λ v. done (evaluate_command v)) s s s
+    goes_bind z (reading (calling z.known p.line x es)) (λ v. done (evaluate_statement v)) s s s
     (goes_reading z (calling z.known p.line x es) s (λ q f. let c = call_makes z.setting z.known s q.scope f.same p x es t a h in
     (c.call.tree, ap (option_map tree_in_call) c.there)))
-    (λ v. goes_done z (evaluate_command v) s)
-goes_evaluated z s (index p b i) t a h = goes_one z s (index p b i) (scalar_of h.0) evaluate_command a (h.0, h.1, h.2, h.3, h.4, h.5, refl)
-goes_evaluated z s (parentheses p e) t a h = goes_one z s (parentheses p e) h.0 evaluate_command a (h.0, h.1, refl)
-goes_evaluated z s (negation p e) t a h = goes_one z s (negation p e) h.0 evaluate_command a (h.0, h.1, h.2, refl)
-goes_evaluated z s (cast p c e) t a h = goes_one z s (cast p c e) (cast_type c h.0) evaluate_command a (h.0, h.1, refl)
-goes_evaluated z s (binary p op b c) t a h = goes_one z s (binary p op b c) h.2 evaluate_command a (h.0, h.1, h.2, h.3, h.4, h.5, refl)
-goes_evaluated z s (declassify p e) t a h = goes_one z s (declassify p e) (declassified h.0) evaluate_command a (h.0, h.1, refl)
+    (λ v. goes_done z (evaluate_statement v) s)
+goes_evaluated z s (index p b i) t a h = goes_one z s (index p b i) (scalar_of h.0) evaluate_statement a (h.0, h.1, h.2, h.3, h.4, h.5, refl)
+goes_evaluated z s (parentheses p e) t a h = goes_one z s (parentheses p e) h.0 evaluate_statement a (h.0, h.1, refl)
+goes_evaluated z s (negation p e) t a h = goes_one z s (negation p e) h.0 evaluate_statement a (h.0, h.1, h.2, refl)
+goes_evaluated z s (cast p c e) t a h = goes_one z s (cast p c e) (cast_type c h.0) evaluate_statement a (h.0, h.1, refl)
+goes_evaluated z s (binary p op b c) t a h = goes_one z s (binary p op b c) h.2 evaluate_statement a (h.0, h.1, h.2, h.3, h.4, h.5, refl)
+goes_evaluated z s (declassify p e) t a h = goes_one z s (declassify p e) (declassified h.0) evaluate_statement a (h.0, h.1, refl)
 goes_evaluated z s (argument p x) t a h = absurd h
-goes_evaluated z s (publish p x e) t a h = goes_one z s e h.0 (publish_command x) a h.1
+goes_evaluated z s (publish p x e) t a h = goes_one z s e h.0 (publish_statement x) a h.1
 
 -- DECLARATIONS AND ASSIGNMENTS
 
 goes_from : (z : Frame) (s : checked.Scope) (n : ℕ) (e : Tree) (held : ValueType) → Agreed z (names_in e)
     → IsTrue (is_argument e) ⊎ HasFitting z.setting s e held → Goes z (from_value z.known n e) s s
-goes_from z s n (argument p x) held a h = goes_done z (input_command p.line n x) s
+goes_from z s n (argument p x) held a h = goes_done z (input_statement p.line n x) s
 goes_from z s n (number p w) held a (inl h) = cc
-goes_from z s n (number p w) held a (inr h) = goes_one z s (number p w) h.0 (store_command n) a h.1
+goes_from z s n (number p w) held a (inr h) = goes_one z s (number p w) h.0 (store_statement n) a h.1
 goes_from z s n (truth p w) held a (inl h) = cc
-goes_from z s n (truth p w) held a (inr h) = goes_one z s (truth p w) h.0 (store_command n) a h.1
+goes_from z s n (truth p w) held a (inr h) = goes_one z s (truth p w) h.0 (store_statement n) a h.1
 goes_from z s n (variable p x) held a (inl h) = cc
-goes_from z s n (variable p x) held a (inr h) = goes_one z s (variable p x) h.0 (store_command n) a h.1
+goes_from z s n (variable p x) held a (inr h) = goes_one z s (variable p x) h.0 (store_statement n) a h.1
 goes_from z s n (call p x es) held a (inl h) = cc
-goes_from z s n (call p x es) held a (inr h) = goes_one z s (call p x es) h.0 (store_command n) a h.1
+goes_from z s n (call p x es) held a (inr h) = goes_one z s (call p x es) h.0 (store_statement n) a h.1
 goes_from z s n (index p b i) held a (inl h) = cc
-goes_from z s n (index p b i) held a (inr h) = goes_one z s (index p b i) h.0 (store_command n) a h.1
+goes_from z s n (index p b i) held a (inr h) = goes_one z s (index p b i) h.0 (store_statement n) a h.1
 goes_from z s n (parentheses p e) held a (inl h) = cc
-goes_from z s n (parentheses p e) held a (inr h) = goes_one z s (parentheses p e) h.0 (store_command n) a h.1
+goes_from z s n (parentheses p e) held a (inr h) = goes_one z s (parentheses p e) h.0 (store_statement n) a h.1
 goes_from z s n (negation p e) held a (inl h) = cc
-goes_from z s n (negation p e) held a (inr h) = goes_one z s (negation p e) h.0 (store_command n) a h.1
+goes_from z s n (negation p e) held a (inr h) = goes_one z s (negation p e) h.0 (store_statement n) a h.1
 goes_from z s n (cast p t e) held a (inl h) = cc
-goes_from z s n (cast p t e) held a (inr h) = goes_one z s (cast p t e) h.0 (store_command n) a h.1
+goes_from z s n (cast p t e) held a (inr h) = goes_one z s (cast p t e) h.0 (store_statement n) a h.1
 goes_from z s n (binary p op b c) held a (inl h) = cc
-goes_from z s n (binary p op b c) held a (inr h) = goes_one z s (binary p op b c) h.0 (store_command n) a h.1
+goes_from z s n (binary p op b c) held a (inr h) = goes_one z s (binary p op b c) h.0 (store_statement n) a h.1
 goes_from z s n (declassify p e) held a (inl h) = cc
-goes_from z s n (declassify p e) held a (inr h) = goes_one z s (declassify p e) h.0 (store_command n) a h.1
+goes_from z s n (declassify p e) held a (inr h) = goes_one z s (declassify p e) h.0 (store_statement n) a h.1
 goes_from z s n (publish p x e) held a (inl h) = cc
-goes_from z s n (publish p x e) held a (inr h) = goes_one z s (publish p x e) h.0 (store_command n) a h.1
+goes_from z s n (publish p x e) held a (inr h) = goes_one z s (publish p x e) h.0 (store_statement n) a h.1
 
 goes_initial : (z : Frame) (s : checked.Scope) (n line : ℕ) (element : DataType) (held : ValueType) (size value : Option Tree)
     → Agreed z (names_in_optional size ++ names_in_optional value) → IsInitial z.setting s held size value
     → Goes z (initial z.known line n element size value) s s
-goes_initial z s n line element held None None a h = goes_done z (default_command n) s
+goes_initial z s n line element held None None a h = goes_done z (default_statement n) s
 goes_initial z s n line element held None (Some e) a h = goes_from z s n e held a h
 goes_initial z s n line element held (Some m) None a h =
-    goes_one z s m (public_scalar Uint64) (λ v. fill_command line n v (default_of element)) (left_of z (names_in m) [] a) h.1
+    goes_one z s m (public_scalar Uint64) (λ v. fill_statement line n v (default_of element)) (left_of z (names_in m) [] a) h.1
 goes_initial z s n line element held (Some m) (Some e) a h =
-    goes_bind z (expression z.known m) (λ v. expression z.known e >>= λ x. done (fill_command line n v x)) s s s
+    goes_bind z (expression z.known m) (λ v. expression z.known e >>= λ x. done (fill_statement line n v x)) s s s
     (goes_value z s m (public_scalar Uint64) (left_of z (names_in m) (names_in e) a) h.1)
-    (λ v. goes_one z s e h.2.0 (fill_command line n v) (right_of z (names_in m) (names_in e) a) h.2.1)
+    (λ v. goes_one z s e h.2.0 (fill_statement line n v) (right_of z (names_in m) (names_in e) a) h.2.1)
 
 goes_declared : (z : Frame) (s : checked.Scope) (t : DeclarationTree) → Agreed z (names_in_declaration t) → IsDeclaration z.setting s t
     → Goes z (declared z.known t) s (checked.with_variable (variable_declared z.setting t) s)
@@ -282,11 +282,11 @@ goes_declared z s t a h =
 goes_assigned_to : (z : Frame) (s : checked.Scope) (line n : ℕ) (i : Option Tree) (e : Tree) (held wanted : ValueType)
     → Agreed z (names_in_optional i ++ names_in e) → IsElement z.setting s held i wanted → HasFitting z.setting s e wanted
     → Goes z (assigned_to z.known line n i e) s s
-goes_assigned_to z s line n None e held wanted a h g = goes_one z s e g.0 (store_command n) a g.1
+goes_assigned_to z s line n None e held wanted a h g = goes_one z s e g.0 (store_statement n) a g.1
 goes_assigned_to z s line n (Some i) e held wanted a h g =
-    goes_bind z (expression z.known i) (λ j. expression z.known e >>= λ v. done (element_command line n j v)) s s s
+    goes_bind z (expression z.known i) (λ j. expression z.known e >>= λ v. done (element_statement line n j v)) s s s
     (goes_value z s i (public_scalar Uint64) (left_of z (names_in i) (names_in e) a) h.1)
-    (λ j. goes_one z s e g.0 (element_command line n j) (right_of z (names_in i) (names_in e) a) g.1)
+    (λ j. goes_one z s e g.0 (element_statement line n j) (right_of z (names_in i) (names_in e) a) g.1)
 
 goes_assigned : (z : Frame) (s : checked.Scope) (t : AssignmentTree) → Agreed z (names_in_assignment t) → IsAssignment z.setting s t
     → Goes z (assigned z.known t) s s
@@ -302,12 +302,12 @@ goes_assigned z s t a h =
 
 goes_started : (z : Frame) (s : checked.Scope) (t : StartTree) → Agreed z (names_in_start t) → IsStart z.setting s t
     → Goes z (started z.known t) s (after_start z.setting s t)
-goes_started z s starts_with_nothing a h = goes_done z empty_command s
+goes_started z s starts_with_nothing a h = goes_done z empty_statement s
 goes_started z s (starts_with_declaration t) a h = goes_declared z s t a h
 goes_started z s (starts_with_assignment t) a h = goes_assigned z s t a h
 
 goes_stepped : (z : Frame) (s : checked.Scope) (t : StepTree) → Agreed z (names_in_step t) → IsStep z.setting s t → Goes z (stepped z.known t) s s
-goes_stepped z s steps_by_nothing a h = goes_done z empty_command s
+goes_stepped z s steps_by_nothing a h = goes_done z empty_statement s
 goes_stepped z s (steps_by_assignment t) a h = goes_assigned z s t a h
 goes_stepped z s (steps_by_expression e) a h = goes_evaluated z s e h.0 a h.1
 
@@ -318,12 +318,12 @@ goes_condition z s (Some e) a h = goes_value z s e (public_scalar datatype.Bool)
 
 goes_returned : (z : Frame) (s : checked.Scope) (r : ResultType) (e : Option Tree) → Agreed z (names_in_optional e) → IsReturn z.setting r s e
     → Goes z (returned z.known e) s s
-goes_returned z s result.Void None a h = goes_done z (return_command None) s
+goes_returned z s result.Void None a h = goes_done z (return_statement None) s
 goes_returned z s result.Void (Some e) a h = absurd h
 goes_returned z s (result.Value t) None a h = absurd h
-goes_returned z s (result.Value t) (Some e) a h = goes_one z s e h.2.0 (λ v. return_command (Some v)) a h.2.1
+goes_returned z s (result.Value t) (Some e) a h = goes_one z s e h.2.0 (λ v. return_statement (Some v)) a h.2.1
 
-goes_looped : (z : Frame) (s : checked.Scope) (b : StartTree) (e : Option Tree) (c : StepTree) (body : Resolving Command) (xs : List (List ℕ))
+goes_looped : (z : Frame) (s : checked.Scope) (b : StartTree) (e : Option Tree) (c : StepTree) (body : Resolving TypedStatementTree) (xs : List (List ℕ))
     (u : checked.Scope) → Agreed z (names_in_start b ++ (names_in_optional e ++ (names_in_step c ++ xs))) → IsStart z.setting s b
     → IsOptionalCondition z.setting (after_start z.setting s b) e → IsStep z.setting (after_start z.setting s b) c
     → Goes z body (checked.inner (after_start z.setting s b)) u → Goes z (looped z.known b e c body) s (after_start z.setting s b)
@@ -343,46 +343,46 @@ goes_looped z s b e c body xs u a hb he hc inside =
     rest : Agreed z (names_in_optional e ++ (names_in_step c ++ xs))
     rest = right_of z (names_in_start b) (names_in_optional e ++ (names_in_step c ++ xs)) a
 
-    whole : Command → TypedTree → Command → Command → Command
-    whole x v y q = block_command (also x (also (loop_command v y q) none))
+    whole : TypedStatementTree → TypedTree → TypedStatementTree → TypedStatementTree → TypedStatementTree
+    whole x v y q = block_statement (also x (also (loop_statement v y q) none))
 
 -- STATEMENTS
 
 -- a condition and one block
-goes_test : (z : Frame) (s t : checked.Scope) (e : Tree) (m : Resolving Command) (make : TypedTree → Command → Command) → Agreed z (names_in e)
-    → HasPublicScalar z.setting s e datatype.Bool → Goes z m (checked.inner s) t
+goes_test : (z : Frame) (s t : checked.Scope) (e : Tree) (m : Resolving TypedStatementTree) (make : TypedTree → TypedStatementTree → TypedStatementTree)
+    → Agreed z (names_in e) → HasPublicScalar z.setting s e datatype.Bool → Goes z m (checked.inner s) t
     → Goes z (expression z.known e >>= λ v. in_block m >>= λ c. done (make v c)) s s
 goes_test z s t e m make a h inside =
     goes_bind z (expression z.known e) (λ v. in_block m >>= λ c. done (make v c)) s s s (goes_value z s e (public_scalar datatype.Bool) a h)
     (λ v. goes_bind z (in_block m) (λ c. done (make v c)) s s s (goes_block z m s t inside)
     (λ c. goes_done z (make v c) s))
 
-goes_choice : (z : Frame) (s t u : checked.Scope) (e : Tree) (m k : Resolving Command) → Agreed z (names_in e)
+goes_choice : (z : Frame) (s t u : checked.Scope) (e : Tree) (m k : Resolving TypedStatementTree) → Agreed z (names_in e)
     → HasPublicScalar z.setting s e datatype.Bool → Goes z m (checked.inner s) t → Goes z k (checked.inner s) u
-    → Goes z (expression z.known e >>= λ v. in_block m >>= λ b. in_block k >>= λ c. done (if_command v b c)) s s
+    → Goes z (expression z.known e >>= λ v. in_block m >>= λ b. in_block k >>= λ c. done (if_statement v b c)) s s
 goes_choice z s t u e m k a h inside otherwise =
-    goes_bind z (expression z.known e) (λ v. in_block m >>= λ b. in_block k >>= λ c. done (if_command v b c)) s s s
+    goes_bind z (expression z.known e) (λ v. in_block m >>= λ b. in_block k >>= λ c. done (if_statement v b c)) s s s
     (goes_value z s e (public_scalar datatype.Bool) a h)
-    (λ v. goes_bind z (in_block m) (λ b. in_block k >>= λ c. done (if_command v b c)) s s s (goes_block z m s t inside)
-    (λ b. goes_bind z (in_block k) (λ c. done (if_command v b c)) s s s (goes_block z k s u otherwise)
-    (λ c. goes_done z (if_command v b c) s)))
+    (λ v. goes_bind z (in_block m) (λ b. in_block k >>= λ c. done (if_statement v b c)) s s s (goes_block z m s t inside)
+    (λ b. goes_bind z (in_block k) (λ c. done (if_statement v b c)) s s s (goes_block z k s u otherwise)
+    (λ c. goes_done z (if_statement v b c) s)))
 
-goes_do : (z : Frame) (s t : checked.Scope) (e : Tree) (m : Resolving Command) → Agreed z (names_in e) → HasPublicScalar z.setting s e datatype.Bool
-    → Goes z m (checked.inner s) t → Goes z (in_block m >>= λ b. expression z.known e >>= λ v. done (do_command b v)) s s
+goes_do : (z : Frame) (s t : checked.Scope) (e : Tree) (m : Resolving TypedStatementTree) → Agreed z (names_in e) → HasPublicScalar z.setting s e datatype.Bool
+    → Goes z m (checked.inner s) t → Goes z (in_block m >>= λ b. expression z.known e >>= λ v. done (do_statement b v)) s s
 goes_do z s t e m a h inside =
-    goes_bind z (in_block m) (λ b. expression z.known e >>= λ v. done (do_command b v)) s s s (goes_block z m s t inside)
-    (λ b. goes_one z s e (public_scalar datatype.Bool) (do_command b) a h)
+    goes_bind z (in_block m) (λ b. expression z.known e >>= λ v. done (do_statement b v)) s s s (goes_block z m s t inside)
+    (λ b. goes_one z s e (public_scalar datatype.Bool) (do_statement b) a h)
 
 mutual
   pub goes_resolved : (z : Frame) (r : ResultType) (s : checked.Scope) (t : StatementTree) → Agreed z (names_by t) → IsTyped z.setting r s t
       → Goes z (resolved z.known t) s (after z.setting s t)
   goes_resolved z r s (block p ss) a h =
-      goes_bind z (in_block (resolved_all z.known ss)) (λ cs. done (block_command cs)) s s s
+      goes_bind z (in_block (resolved_all z.known ss)) (λ cs. done (block_statement cs)) s s s
       (goes_block z (resolved_all z.known ss) s (after_all z.setting (checked.inner s) ss) (goes_resolved_all z r (checked.inner s) ss a h))
-      (λ cs. goes_done z (block_command cs) s)
-  goes_resolved z r s (empty p) a h = goes_done z empty_command s
+      (λ cs. goes_done z (block_statement cs) s)
+  goes_resolved z r s (empty p) a h = goes_done z empty_statement s
   goes_resolved z r s (branch p e body) a h =
-      goes_test z s (after z.setting (checked.inner s) body) e (resolved z.known body) (λ v c. if_command v c empty_command)
+      goes_test z s (after z.setting (checked.inner s) body) e (resolved z.known body) (λ v c. if_statement v c empty_statement)
       (left_of z (names_in e) (names_by body) a) h.0
       (goes_resolved z r (checked.inner s) body (right_of z (names_in e) (names_by body) a) h.1)
   goes_resolved z r s (choice p e body otherwise) a h =
@@ -392,7 +392,7 @@ mutual
       (goes_resolved z r (checked.inner s) body (left_of z (names_by body) (names_by otherwise) inside) h.1)
       (goes_resolved z r (checked.inner s) otherwise (right_of z (names_by body) (names_by otherwise) inside) h.2)
   goes_resolved z r s (while_loop p e body) a h =
-      goes_test z s (after z.setting (checked.inner s) body) e (resolved z.known body) (λ v c. loop_command v empty_command c)
+      goes_test z s (after z.setting (checked.inner s) body) e (resolved z.known body) (λ v c. loop_statement v empty_statement c)
       (left_of z (names_in e) (names_by body) a) h.0
       (goes_resolved z r (checked.inner s) body (right_of z (names_in e) (names_by body) a) h.1)
   goes_resolved z r s (do_loop p body e) a h =
@@ -405,10 +405,10 @@ mutual
       let last = right_of z (names_in_step c) (names_by body) (right_of z (names_in_optional e) (names_in_step c ++ names_by body) rest) in
       goes_block z (looped z.known b e c (resolved z.known body)) s (after_start z.setting inside b)
       (goes_looped z inside b e c (resolved z.known body) (names_by body) (after z.setting within body) a h.0 h.1 h.2 (goes_resolved z r within body last h.3))
-  goes_resolved z r s (breaks p) a h = goes_done z break_command s
-  goes_resolved z r s (continues p) a h = goes_done z continue_command s
+  goes_resolved z r s (breaks p) a h = goes_done z break_statement s
+  goes_resolved z r s (continues p) a h = goes_done z continue_statement s
   goes_resolved z r s (returns p e) a h = goes_returned z s r e a h
-  goes_resolved z r s (assertion p e) a h = goes_one z s e (public_scalar datatype.Bool) (assert_command p.line) a h
+  goes_resolved z r s (assertion p e) a h = goes_one z s e (public_scalar datatype.Bool) (assert_statement p.line) a h
   goes_resolved z r s (declaration t) a h = goes_declared z s t a h
   goes_resolved z r s (assignment t) a h = goes_assigned z s t a h
   goes_resolved z r s (evaluation e) a h = goes_evaluated z s e h.0 a h.1

@@ -9,7 +9,7 @@ use Rattle.proto_core.proofs.Beginnings.{append-none}
 use Rattle.value_file.specs.declared.inputs.Entry.{Entry}
 use Rattle.value_file.specs.Public.{part_of}
 use Rattle.typed_tree.specs.Programs.{TypedProgramTree}
-use Rattle.language_model.specs.Effects.{Answers, Given, Stop, Ended, Short}
+use Rattle.language_model.specs.Effects.{Answers, GivenInput, RunStop, Ended, Short}
 use Rattle.language_model.specs.Reports.{Report, Offered, world_of, evaluated, public_part}
 use Rattle.blind_evaluation.specs.Courses.{LikeEvents, TakeSameCourse, IsEnded}
 use Rattle.blind_evaluation.proofs.Course.{same_course, never_short}
@@ -20,7 +20,7 @@ use Rattle.view_model.specs.Seen.{Seen}
 use Rattle.program_views.specs.Views.{run_on, told_run, input_shares, received, openings, view_at, view_with}
 
 part_is_public : (entries : List Entry) (lengths : List ℕ) → public_part (offered entries lengths) ≡ offered_part (part_of entries) lengths
-part_is_public entries lengths = ap (λ (inputs : List Given). offered_with inputs lengths) (sym (entries_are_public entries))
+part_is_public entries lengths = ap (λ (inputs : List GivenInput). offered_with inputs lengths) (sym (entries_are_public entries))
 
 module _ (p : TypedProgramTree) (entries : List Entry) (lengths : List ℕ) (budget : ℕ) where
   abbrev real : Report
@@ -64,7 +64,7 @@ module _ (i : Number) (seen : Seen) where
   pub same_view : (r s : Report) → TakeSameCourse r s → view_with i seen r ≡ view_with i seen s
   same_view r s course = ap (view_at i seen r) course.stop ∙ by_stop s.stop
     where
-      by_stop : (stop : Stop) → view_at i seen r stop ≡ view_at i seen s stop
+      by_stop : (stop : RunStop) → view_at i seen r stop ≡ view_at i seen s stop
       by_stop (Ended ending) =
           ap (λ opened. shown ending opened r.cost) (same_openings r.events s.events course.events)
           ∙ ap (shown ending (openings s.events)) course.cost
@@ -74,6 +74,6 @@ module _ (i : Number) (seen : Seen) where
   pub gives_view : (r : Report) → IsEnded r.stop → (view : View) × (view_with i seen r ≡ Some view) × (view.drew ≡ seen.drew)
   gives_view r ended = by_stop r.stop ended
     where
-      by_stop : (stop : Stop) → IsEnded stop → (view : View) × (view_at i seen r stop ≡ Some view) × (view.drew ≡ seen.drew)
+      by_stop : (stop : RunStop) → IsEnded stop → (view : View) × (view_at i seen r stop ≡ Some view) × (view.drew ≡ seen.drew)
       by_stop (Ended ending) h = (_, refl, refl)
       by_stop Short h = absurd h

@@ -18,7 +18,7 @@ use Rattle.language_model.specs.Evaluation.{either}
 use Rattle.language_model.specs.Reports.{words_dealt}
 use Rattle.clear_eval.specs.Offers.{is_private, shape_given, words_given, input_given}
 use Rattle.view_model.proofs.Dealings.{draws_are_known}
-use Rattle.code_inputs.specs.Inputs.{element_given, is_array, AreGiven}
+use Rattle.code_inputs.specs.Inputs.{element_given, is_array, AreGivenAs}
 use Rattle.code_inputs.specs.Inputs as inputs
 use Rattle.program_views.specs.Views.{hidden_need}
 
@@ -40,7 +40,7 @@ given_of (Truth b) = (refl, ap (λ x. x ∷ []) (same_truth b))
 given_of (Numbers ns) = (refl, refl)
 given_of (Truths bs) = (refl, same_truths bs)
 
-pub given_so : (es : List Entry) → AreGiven es (map input_given es)
+pub given_so : (es : List Entry) → AreGivenAs es (map input_given es)
 given_so [] = tt
 given_so (e ∷ es) = (
   record { name = refl; secret = same_domain e.domain; shape = (given_of e.value).0; words = (given_of e.value).1 },

@@ -21,7 +21,7 @@ use Rattle.typed_tree.specs.declared.operators.WordOperator.TheVariants.{Add}
 use Rattle.typed_tree.specs.declared.operators.BinaryOperator.TheVariants.{Words}
 use Rattle.typed_tree.specs.declared.operators.Operands.TheVariants.{Scalars}
 use Rattle.typed_tree.specs.Tree.{slot_node, binary_node, declassify_node}
-use Rattle.typed_tree.specs.Commands.{commands_of, input_command, publish_command}
+use Rattle.typed_tree.specs.Statements.{typed_statements_of, input_statement, publish_statement}
 use Rattle.typed_tree.specs.Programs.{TypedProgramTree}
 use Rattle.typed_tree.specs.Shapes.{shape_of}
 use Rattle.language_model.specs.Evaluation.{value, arguments, turns, repeats, execute, execute_all, call_at}
@@ -46,10 +46,10 @@ sum =
             slots = word ∷ word ∷ [];
             given = Nothing;
             body =
-                commands_of
-                (input_command 2 0 (codes "a")
-                ∷ input_command 2 1 (codes "b")
-                ∷ publish_command (codes "s") (declassify_node (binary_node 2 (Words Add) Scalars (slot_node 0) (slot_node 1)))
+                typed_statements_of
+                (input_statement 2 0 (codes "a")
+                ∷ input_statement 2 1 (codes "b")
+                ∷ publish_statement (codes "s") (declassify_node (binary_node 2 (Words Add) Scalars (slot_node 0) (slot_node 1)))
                 ∷ []);
             size = 0;
           }

@@ -15,7 +15,7 @@ use Rattle.input_share.specs.declared.entry.Part.TheVariants as part
 use Rattle.input_share.specs.declared.entry.ShareEntry.{ShareEntry}
 use Rattle.tape_file.specs.Tapes.{FourTapes}
 use Rattle.typed_tree.specs.Programs.{TypedProgramTree}
-use Rattle.language_model.specs.Effects.{Answers, Stop, Ended, Short}
+use Rattle.language_model.specs.Effects.{Answers, RunStop, Ended, Short}
 use Rattle.language_model.specs.Reports.{Report, world_of, eval, evaluated}
 use Rattle.clear_eval.specs.Offers.{offered, offered_part}
 use Rattle.view_text.specs.View.{InputShare, Received, View}
@@ -64,7 +64,7 @@ abbrev pub nothing_seen : Seen
 nothing_seen = record { inputs = []; drew = []; got = [] }
 
 -- of a run that ended; one that wants an answer gives no view
-abbrev pub view_at : Number → Seen → Report → Stop → Option View
+abbrev pub view_at : Number → Seen → Report → RunStop → Option View
 view_at i seen r (Ended ending) =
     Some (record {
       miner = i;

@@ -7,17 +7,17 @@ use Rattle.typed_tree.specs.declared.kinds.Slot.{Slot}
 use Rattle.typed_tree.specs.Tree.{TypedTree, TypedTrees, word_node, truth_node, slot_node, call_node, size_node, cat_node, sum_node, bits_node}
 use Rattle.typed_tree.specs.Tree.{element_node, not_node, cast_node, binary_node, cut_node, declassify_node}
 use Rattle.typed_tree.specs.Tree as Tree'
-use Rattle.typed_tree.specs.Commands.{Command, Commands, empty_command, block_command, if_command, loop_command, do_command, break_command}
-use Rattle.typed_tree.specs.Commands.{continue_command, return_command, assert_command, store_command, default_command, fill_command, input_command}
-use Rattle.typed_tree.specs.Commands.{element_command, publish_command, evaluate_command}
-use Rattle.typed_tree.specs.Commands as Commands'
+use Rattle.typed_tree.specs.Statements.{TypedStatementTree, TypedStatementTrees, empty_statement, block_statement, if_statement, loop_statement, do_statement}
+use Rattle.typed_tree.specs.Statements.{break_statement, continue_statement, return_statement, assert_statement, store_statement, default_statement}
+use Rattle.typed_tree.specs.Statements.{fill_statement, input_statement, element_statement, publish_statement, evaluate_statement}
+use Rattle.typed_tree.specs.Statements as Statements'
 use Rattle.typed_tree.specs.Programs.{TypedFunctionTree, TypedProgramTree}
 use Rattle.sc_text.specs.Lists.{Among}
 use Rattle.sc_text.proofs.Lists.{among_parts}
 use Rattle.reached_instances.specs.declared.instance.BoundDomain.{BoundDomain}
 use Rattle.reached_instances.specs.Domains.{bound_to, bound_below, Setting, domains}
 use Rattle.reached_instances.specs.Instances.{Instance}
-use Rattle.reached_instances.specs.Calls.{called, calls, calls_of_all, optional_calls, command_calls, commands_calls, function_calls}
+use Rattle.reached_instances.specs.Calls.{called, calls, calls_of_all, optional_calls, typed_statement_calls, typed_statements_calls, function_calls}
 use Rattle.reached_instances.specs.Reached.{IsReached, begins, follows, IsBound}
 
 length-bound_below : (n : ℕ) (ss : List Slot) (ds : List BoundDomain) → length (bound_below n ss ds) ≡ n
@@ -82,33 +82,35 @@ three_bound : (fs : List TypedFunctionTree) (is js ks : List Instance) → AreBo
 three_bound fs is js ks a b c = both_bound fs is (js ++ ks) a (both_bound fs js ks b c)
 
 mutual
-  command_bound : (w : Setting) (c : Command) → AreBoundIn w.functions (command_calls w c)
-  command_bound w empty_command = none_bound w.functions
-  command_bound w (block_command cs) = commands_bound w cs
-  command_bound w (if_command e a b) =
-      three_bound w.functions (calls w e) (command_calls w a) (command_calls w b) (calls_bound w e) (command_bound w a) (command_bound w b)
-  command_bound w (loop_command e step body) =
-      three_bound w.functions (command_calls w body) (command_calls w step) (calls w e) (command_bound w body) (command_bound w step) (calls_bound w e)
-  command_bound w (do_command body e) = both_bound w.functions (command_calls w body) (calls w e) (command_bound w body) (calls_bound w e)
-  command_bound w break_command = none_bound w.functions
-  command_bound w continue_command = none_bound w.functions
-  command_bound w (return_command e) = optional_bound w e
-  command_bound w (assert_command line e) = calls_bound w e
-  command_bound w (store_command k e) = calls_bound w e
-  command_bound w (default_command k) = none_bound w.functions
-  command_bound w (fill_command line k n e) = both_bound w.functions (calls w n) (calls w e) (calls_bound w n) (calls_bound w e)
-  command_bound w (input_command line k x) = none_bound w.functions
-  command_bound w (element_command line k i e) = both_bound w.functions (calls w i) (calls w e) (calls_bound w i) (calls_bound w e)
-  command_bound w (publish_command x e) = calls_bound w e
-  command_bound w (evaluate_command e) = calls_bound w e
+  statement_bound : (w : Setting) (c : TypedStatementTree) → AreBoundIn w.functions (typed_statement_calls w c)
+  statement_bound w empty_statement = none_bound w.functions
+  statement_bound w (block_statement cs) = statements_bound w cs
+  statement_bound w (if_statement e a b) =
+      three_bound w.functions (calls w e) (typed_statement_calls w a) (typed_statement_calls w b) (calls_bound w e) (statement_bound w a) (statement_bound w b)
+  statement_bound w (loop_statement e step body) =
+      three_bound w.functions (typed_statement_calls w body) (typed_statement_calls w step) (calls w e) (statement_bound w body) (statement_bound w step)
+      (calls_bound w e)
+  statement_bound w (do_statement body e) = both_bound w.functions (typed_statement_calls w body) (calls w e) (statement_bound w body) (calls_bound w e)
+  statement_bound w break_statement = none_bound w.functions
+  statement_bound w continue_statement = none_bound w.functions
+  statement_bound w (return_statement e) = optional_bound w e
+  statement_bound w (assert_statement line e) = calls_bound w e
+  statement_bound w (store_statement k e) = calls_bound w e
+  statement_bound w (default_statement k) = none_bound w.functions
+  statement_bound w (fill_statement line k n e) = both_bound w.functions (calls w n) (calls w e) (calls_bound w n) (calls_bound w e)
+  statement_bound w (input_statement line k x) = none_bound w.functions
+  statement_bound w (element_statement line k i e) = both_bound w.functions (calls w i) (calls w e) (calls_bound w i) (calls_bound w e)
+  statement_bound w (publish_statement x e) = calls_bound w e
+  statement_bound w (evaluate_statement e) = calls_bound w e
 
-  commands_bound : (w : Setting) (cs : Commands) → AreBoundIn w.functions (commands_calls w cs)
-  commands_bound w Commands'.none = none_bound w.functions
-  commands_bound w (Commands'.also c cs) = both_bound w.functions (command_calls w c) (commands_calls w cs) (command_bound w c) (commands_bound w cs)
+  statements_bound : (w : Setting) (cs : TypedStatementTrees) → AreBoundIn w.functions (typed_statements_calls w cs)
+  statements_bound w Statements'.none = none_bound w.functions
+  statements_bound w (Statements'.also c cs) =
+      both_bound w.functions (typed_statement_calls w c) (typed_statements_calls w cs) (statement_bound w c) (statements_bound w cs)
 
 function_bound : (fs : List TypedFunctionTree) (b : List BoundDomain) (o : Option TypedFunctionTree) → AreBoundIn fs (function_calls fs b o)
 function_bound fs b None = none_bound fs
-function_bound fs b (Some f) = commands_bound (record { functions = fs; slots = f.slots; binding = b }) f.body
+function_bound fs b (Some f) = statements_bound (record { functions = fs; slots = f.slots; binding = b }) f.body
 
 pub reached_bound : (p : TypedProgramTree) (i : Instance) → IsReached p i → IsBound p i
 reached_bound p i (begins j m) = called_bound p.functions 0 [] j m

@@ -4,10 +4,10 @@ use Rattle.std.specs.List.{slice_get}
 use Rattle.typed_tree.specs.Tree.{TypedTree, TypedTrees, word_node, truth_node, slot_node, call_node, size_node, cat_node, sum_node, bits_node}
 use Rattle.typed_tree.specs.Tree.{element_node, not_node, cast_node, binary_node, cut_node, declassify_node}
 use Rattle.typed_tree.specs.Tree as Tree'
-use Rattle.typed_tree.specs.Commands.{Command, Commands, empty_command, block_command, if_command, loop_command, do_command, break_command}
-use Rattle.typed_tree.specs.Commands.{continue_command, return_command, assert_command, store_command, default_command, fill_command, input_command}
-use Rattle.typed_tree.specs.Commands.{element_command, publish_command, evaluate_command}
-use Rattle.typed_tree.specs.Commands as Commands'
+use Rattle.typed_tree.specs.Statements.{TypedStatementTree, TypedStatementTrees, empty_statement, block_statement, if_statement, loop_statement, do_statement}
+use Rattle.typed_tree.specs.Statements.{break_statement, continue_statement, return_statement, assert_statement, store_statement, default_statement}
+use Rattle.typed_tree.specs.Statements.{fill_statement, input_statement, element_statement, publish_statement, evaluate_statement}
+use Rattle.typed_tree.specs.Statements as Statements'
 use Rattle.typed_tree.specs.Programs.{TypedFunctionTree, TypedProgramTree}
 use Rattle.reached_instances.specs.declared.instance.BoundDomain.{BoundDomain}
 use Rattle.reached_instances.specs.Domains.{binding_of, Setting, domains}
@@ -46,31 +46,31 @@ optional_calls w (Some e) = calls w e
 
 -- of a loop the body is read first, then the step, then the condition, as they stand in its code
 abbrev mutual
-  pub command_calls : Setting → Command → List Instance
-  command_calls w empty_command = []
-  command_calls w (block_command cs) = commands_calls w cs
-  command_calls w (if_command e a b) = calls w e ++ (command_calls w a ++ command_calls w b)
-  command_calls w (loop_command e step body) = command_calls w body ++ (command_calls w step ++ calls w e)
-  command_calls w (do_command body e) = command_calls w body ++ calls w e
-  command_calls w break_command = []
-  command_calls w continue_command = []
-  command_calls w (return_command e) = optional_calls w e
-  command_calls w (assert_command line e) = calls w e
-  command_calls w (store_command k e) = calls w e
-  command_calls w (default_command k) = []
-  command_calls w (fill_command line k n e) = calls w n ++ calls w e
-  command_calls w (input_command line k x) = []
-  command_calls w (element_command line k i e) = calls w i ++ calls w e
-  command_calls w (publish_command x e) = calls w e
-  command_calls w (evaluate_command e) = calls w e
+  pub typed_statement_calls : Setting → TypedStatementTree → List Instance
+  typed_statement_calls w empty_statement = []
+  typed_statement_calls w (block_statement cs) = typed_statements_calls w cs
+  typed_statement_calls w (if_statement e a b) = calls w e ++ (typed_statement_calls w a ++ typed_statement_calls w b)
+  typed_statement_calls w (loop_statement e step body) = typed_statement_calls w body ++ (typed_statement_calls w step ++ calls w e)
+  typed_statement_calls w (do_statement body e) = typed_statement_calls w body ++ calls w e
+  typed_statement_calls w break_statement = []
+  typed_statement_calls w continue_statement = []
+  typed_statement_calls w (return_statement e) = optional_calls w e
+  typed_statement_calls w (assert_statement line e) = calls w e
+  typed_statement_calls w (store_statement k e) = calls w e
+  typed_statement_calls w (default_statement k) = []
+  typed_statement_calls w (fill_statement line k n e) = calls w n ++ calls w e
+  typed_statement_calls w (input_statement line k x) = []
+  typed_statement_calls w (element_statement line k i e) = calls w i ++ calls w e
+  typed_statement_calls w (publish_statement x e) = calls w e
+  typed_statement_calls w (evaluate_statement e) = calls w e
 
-  pub commands_calls : Setting → Commands → List Instance
-  commands_calls w Commands'.none = []
-  commands_calls w (Commands'.also c cs) = command_calls w c ++ commands_calls w cs
+  pub typed_statements_calls : Setting → TypedStatementTrees → List Instance
+  typed_statements_calls w Statements'.none = []
+  typed_statements_calls w (Statements'.also c cs) = typed_statement_calls w c ++ typed_statements_calls w cs
 
 abbrev pub function_calls : List TypedFunctionTree → List BoundDomain → Option TypedFunctionTree → List Instance
 function_calls fs b None = []
-function_calls fs b (Some f) = commands_calls (record { functions = fs; slots = f.slots; binding = b }) f.body
+function_calls fs b (Some f) = typed_statements_calls (record { functions = fs; slots = f.slots; binding = b }) f.body
 
 -- what an instance calls
 abbrev pub called_by : TypedProgramTree → Instance → List Instance

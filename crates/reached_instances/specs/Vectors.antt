@@ -11,7 +11,7 @@ use Rattle.typed_tree.specs.declared.operators.WordOperator.TheVariants.{Add}
 use Rattle.typed_tree.specs.declared.operators.BinaryOperator.TheVariants.{Words}
 use Rattle.typed_tree.specs.declared.operators.Operands.TheVariants.{Scalars}
 use Rattle.typed_tree.specs.Tree.{TypedTree, word_node, slot_node, call_node, size_node, element_node, binary_node, declassify_node, typed_trees_of}
-use Rattle.typed_tree.specs.Commands.{Command, loop_command, do_command, fill_command, evaluate_command, commands_of}
+use Rattle.typed_tree.specs.Statements.{TypedStatementTree, loop_statement, do_statement, fill_statement, evaluate_statement, typed_statements_of}
 use Rattle.typed_tree.specs.Programs.{TypedFunctionTree, TypedProgramTree}
 use Rattle.sc_text.specs.Lists.{Among}
 use Rattle.std.proofs.Common.{inl, inr, subst}
@@ -28,7 +28,7 @@ abbrev word : SlotDomain → Slot
 word d = record { domain = d; shape = record { element = Uint64; array = false } }
 
 -- a function with these parameters and no other slots
-abbrev function_of : (variables parameters : ℕ) → List Slot → Returned → List Command → TypedFunctionTree
+abbrev function_of : (variables parameters : ℕ) → List Slot → Returned → List TypedStatementTree → TypedFunctionTree
 function_of variables parameters slots given body =
     record {
       name = codes "f";
@@ -36,20 +36,20 @@ function_of variables parameters slots given body =
       parameters = parameters;
       slots = slots;
       given = given;
-      body = commands_of body;
+      body = typed_statements_of body;
       size = 2;
     }
 
 -- `void main() { uint64 x; p uint64 a; .. }`: slot 0 is public, slot 1 private
-abbrev main_with : List Command → TypedFunctionTree
+abbrev main_with : List TypedStatementTree → TypedFunctionTree
 main_with body = function_of 0 0 (word slot.Public ∷ word (slot.Private 0) ∷ []) Nothing body
 
 -- `template <domain D> D uint64 f(D uint64 x) { .. }`
-abbrev template_with : List Command → TypedFunctionTree
+abbrev template_with : List TypedStatementTree → TypedFunctionTree
 template_with body = function_of 1 1 (word (slot.Variable 0) ∷ []) (Value (word (slot.Variable 0))) body
 
 -- `template <domain D, domain E> void f(D uint64 x, E uint64 y, E uint64 z) { .. }`
-abbrev two_variables_with : List Command → TypedFunctionTree
+abbrev two_variables_with : List TypedStatementTree → TypedFunctionTree
 two_variables_with body =
     function_of 2 3 (word (slot.Variable 0) ∷ word (slot.Variable 1) ∷ word (slot.Variable 1) ∷ []) Nothing body
 
@@ -59,8 +59,8 @@ program fs = record { functions = fs }
 abbrev calling : ℕ → List TypedTree → TypedTree
 calling k es = call_node 2 k (typed_trees_of es)
 
-abbrev calls_one : ℕ → TypedTree → Command
-calls_one k e = evaluate_command (calling k (e ∷ []))
+abbrev calls_one : ℕ → TypedTree → TypedStatementTree
+calls_one k e = evaluate_statement (calling k (e ∷ []))
 
 abbrev instance_of : ℕ → List BoundDomain → Instance
 instance_of k b = record { function = k; binding = b }
@@ -146,7 +146,7 @@ abbrev arguments_first_list : List Instance
 arguments_first_list = instance_of 0 [] ∷ instance_of 2 (Private 0 ∷ []) ∷ instance_of 2 (Public ∷ []) ∷ instance_of 1 (Private 0 ∷ Public ∷ []) ∷ []
 
 arguments_first : following (program
-    (main_with (evaluate_command (calling 1 (calling 2 (slot_node 1 ∷ []) ∷ word_node 1 ∷ calling 2 (word_node 2 ∷ []) ∷ [])) ∷ [])
+    (main_with (evaluate_statement (calling 1 (calling 2 (slot_node 1 ∷ []) ∷ word_node 1 ∷ calling 2 (word_node 2 ∷ []) ∷ [])) ∷ [])
     ∷ two_variables_with [] ∷ template_with [] ∷ [])) arguments_first_list ≡ arguments_first_list
 arguments_first = refl
 
@@ -165,15 +165,15 @@ abbrev swapping_list : List Instance
 swapping_list = instance_of 0 [] ∷ instance_of 1 (Private 0 ∷ Public ∷ []) ∷ instance_of 1 (Public ∷ Private 0 ∷ []) ∷ []
 
 swapping : following (program
-    (main_with (evaluate_command (calling 1 (slot_node 1 ∷ word_node 1 ∷ word_node 1 ∷ [])) ∷ [])
-    ∷ two_variables_with (evaluate_command (calling 1 (slot_node 1 ∷ slot_node 0 ∷ slot_node 0 ∷ [])) ∷ []) ∷ [])) swapping_list ≡ swapping_list
+    (main_with (evaluate_statement (calling 1 (slot_node 1 ∷ word_node 1 ∷ word_node 1 ∷ [])) ∷ [])
+    ∷ two_variables_with (evaluate_statement (calling 1 (slot_node 1 ∷ slot_node 0 ∷ slot_node 0 ∷ [])) ∷ []) ∷ [])) swapping_list ≡ swapping_list
 swapping = refl
 
 -- for (; f(x) ..; g(x)) h(x); then do h(x); while (g(x)); and a fill of size g(x) with f(x)
 in_reading_order : called_by
-    (program (main_with (loop_command (calling 1 (slot_node 0 ∷ [])) (calls_one 2 (slot_node 0)) (calls_one 3 (slot_node 0))
-    ∷ do_command (calls_one 3 (slot_node 0)) (calling 2 (slot_node 0 ∷ []))
-    ∷ fill_command 2 0 (calling 2 (slot_node 0 ∷ [])) (calling 1 (slot_node 0 ∷ [])) ∷ []) ∷ template_with [] ∷ template_with [] ∷ template_with []
+    (program (main_with (loop_statement (calling 1 (slot_node 0 ∷ [])) (calls_one 2 (slot_node 0)) (calls_one 3 (slot_node 0))
+    ∷ do_statement (calls_one 3 (slot_node 0)) (calling 2 (slot_node 0 ∷ []))
+    ∷ fill_statement 2 0 (calling 2 (slot_node 0 ∷ [])) (calling 1 (slot_node 0 ∷ [])) ∷ []) ∷ template_with [] ∷ template_with [] ∷ template_with []
     ∷ [])) (instance_of 0 []) ≡ instance_of 3 (Public ∷ []) ∷ instance_of 2 (Public ∷ []) ∷ instance_of 1 (Public ∷ []) ∷ instance_of 3 (Public ∷ [])
     ∷ instance_of 2 (Public ∷ []) ∷ instance_of 2 (Public ∷ []) ∷ instance_of 1 (Public ∷ []) ∷ []
 in_reading_order = refl

@@ -3,7 +3,6 @@
 #![tactic(auto)]
 
 mod binding;
-mod commands;
 mod expressions;
 mod instance;
 mod laws;
@@ -11,6 +10,7 @@ mod list;
 mod reaching;
 mod seeing;
 mod setting;
+mod statements;
 mod templates;
 
 pub use binding::binding_of;

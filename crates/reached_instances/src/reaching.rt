@@ -6,10 +6,10 @@ ghost use Rattle.reached_instances.specs.Instances.{listing_all};
 ghost use Rattle.reached_instances.specs.Reached.{IsReachedList, IsBound};
 ghost use Rattle.reached_instances.specs.Views.{instances_seen};
 
-use crate::commands::called_by;
 use crate::expressions::call;
 use crate::instance::Instance;
 use crate::list::ReachedInstances;
+use crate::statements::called_by;
 use indexmap::IndexSet;
 use std::alloc::{AllocError, Global};
 use typed_tree::TypedProgram;

@@ -11,7 +11,7 @@ use Rattle.command_frame.specs.Whole.{CarriedOut, HasFailed, IsAnswered, IsDone}
 use Rattle.command_words.specs.Ask.{RunAsk, run, words_of}
 use Rattle.sc_text.specs.declared.end.Ending.TheVariants.{Done, Trap, Budget, Tape}
 use Rattle.clear_eval.specs.Offers.{offered}
-use Rattle.language_model.specs.Effects.{Clear, Stop, Ended, Short, World}
+use Rattle.language_model.specs.Effects.{Clear, RunStop, Ended, Short, World}
 use Rattle.language_model.specs.Reports.{Report, evaluated, world_of}
 use Rattle.language_model.specs.Tapes.{lacks_words}
 use Rattle.language_model.proofs.Budgets.{budgets_same}
@@ -89,15 +89,15 @@ schedule_refused ask f f' o o' s is keeps =
 
 -- ---- how a run ends
 
-not_lacking : (s : Stop) → is_whole s ≡ true → lacks_words s ≡ false
+not_lacking : (s : RunStop) → is_whole s ≡ true → lacks_words s ≡ false
 not_lacking (Ended Done) whole = refl
 not_lacking (Ended (Trap kind line)) whole = refl
 not_lacking (Ended Budget) whole = refl
 not_lacking (Ended (Tape owner need have)) whole = absurd cc
 not_lacking Short whole = refl
 
-not_budget : (s : Stop) → is_whole s ≡ true → s ≢ Ended Budget
-not_budget s whole is = let wrong : is_whole (Ended Budget) ≡ true = subst (λ (x : Stop). is_whole x ≡ true) is whole in absurd cc
+not_budget : (s : RunStop) → is_whole s ≡ true → s ≢ Ended Budget
+not_budget s whole is = let wrong : is_whole (Ended Budget) ≡ true = subst (λ (x : RunStop). is_whole x ≡ true) is whole in absurd cc
 
 module _ (p : TypedProgramTree) (entries : List Entry) (t : FourTapes) (budget : ℕ) where
   abbrev here : World

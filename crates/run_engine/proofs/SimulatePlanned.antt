@@ -12,7 +12,7 @@ use Rattle.protocol_model.specs.Network.{Delivery}
 use Rattle.typed_tree.specs.Programs.{TypedProgramTree}
 use Rattle.value_file.specs.declared.public.PublicEntry.{PublicEntry}
 use Rattle.tape_file.specs.Tapes.{FourTapes}
-use Rattle.language_model.specs.Effects.{Ended, Short, Stop as RunStop}
+use Rattle.language_model.specs.Effects.{Ended, Short, RunStop}
 use Rattle.language_model.specs.Reports.{Report}
 use Rattle.blind_evaluation.specs.Courses.{IsEnded}
 use Rattle.view_model.specs.Seen.{Seen}

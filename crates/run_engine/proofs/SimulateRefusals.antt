@@ -16,7 +16,7 @@ use Rattle.typed_tree.specs.Programs.{TypedProgramTree}
 use Rattle.value_file.specs.declared.public.PublicEntry.{PublicEntry}
 use Rattle.value_file.specs.PublicFile.{read_public_of}
 use Rattle.view_reader.specs.Opened.{opened_of}
-use Rattle.language_model.specs.Effects.{Ended, Short, Stop}
+use Rattle.language_model.specs.Effects.{Ended, Short, RunStop}
 use Rattle.blind_evaluation.specs.Courses.{IsEnded}
 use Rattle.run_engine.specs.Judging.{Finding, FoundAt, its_program}
 use Rattle.run_engine.specs.Programs.{program_at}
@@ -116,12 +116,12 @@ abbrev cause_status : Result Ending Cause → Status
 cause_status (Ok ending) = statuses.OpenedShort
 cause_status (Err c) = c.status
 
-short_cases : (have : ℕ) (s : Stop) (c : Cause) → by_told have s ≡ Err c → (s ≡ Short) × (status_of_cause c ≡ statuses.OpenedShort)
+short_cases : (have : ℕ) (s : RunStop) (c : Cause) → by_told have s ≡ Err c → (s ≡ Short) × (status_of_cause c ≡ statuses.OpenedShort)
 unfolding by_told
 short_cases have (Ended ending) c is = absurd cc
 short_cases have Short c is = (refl, ap cause_status (sym is))
 
-enough_cases : (have : ℕ) (s : Stop) (ending : Ending) → by_told have s ≡ Ok ending → IsEnded s
+enough_cases : (have : ℕ) (s : RunStop) (ending : Ending) → by_told have s ≡ Ok ending → IsEnded s
 unfolding by_told
 enough_cases have (Ended other) ending is = tt
 enough_cases have Short ending is = absurd cc

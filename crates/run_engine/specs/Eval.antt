@@ -10,7 +10,7 @@ use Rattle.sc_text.specs.Elements.{elements_text}
 use Rattle.sc_text.specs.Event.{run_text}
 use Rattle.typed_tree.specs.Programs.{TypedProgramTree}
 use Rattle.value_file.specs.declared.inputs.Entry.{Entry}
-use Rattle.language_model.specs.Effects.{Stop, Ended, Short}
+use Rattle.language_model.specs.Effects.{RunStop, Ended, Short}
 use Rattle.language_model.specs.Reports.{Report, eval}
 use Rattle.clear_eval.specs.Offers.{offered}
 use Rattle.command_frame.specs.Answer.{Answer, Cause, Effect, ◌>>=◌}
@@ -30,7 +30,7 @@ unfoldable pub report_for : TypedProgramTree → List Entry → (budget : ℕ) �
 report_for program entries budget = eval program (offered entries longest) budget
 
 -- evaluation in the clear never stops for want of an answer
-abbrev pub ending_of : Stop → Ending
+abbrev pub ending_of : RunStop → Ending
 ending_of (Ended how) = how
 ending_of Short = Done
 

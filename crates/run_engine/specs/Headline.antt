@@ -13,7 +13,7 @@ use Rattle.proto_core.specs.declared.party.Number.{Number}
 use Rattle.protocol_model.specs.Network.{Accepted, Answer, Delivery, EmptyLink, Stalled}
 use Rattle.schedule_file.specs.Reading.{links_of}
 use Rattle.clear_eval.specs.Offers.{offered}
-use Rattle.language_model.specs.Effects.{Clear, Stop, Ended, Short}
+use Rattle.language_model.specs.Effects.{Clear, RunStop, Ended, Short}
 use Rattle.language_model.specs.Reports.{Report, eval, world_of}
 use Rattle.language_model.specs.Tapes.{HasWords}
 use Rattle.program_run.specs.Reports.{eval_with, lengths_of}
@@ -94,7 +94,7 @@ pub data ScheduleRefused (ask : RunAsk) (files : Contents) : Type 0 where
 -- ---- HOW IT ENDS
 
 -- the program came to its end or to a trap, and wanted neither budget nor words
-abbrev pub is_whole : Stop → Bool
+abbrev pub is_whole : RunStop → Bool
 is_whole (Ended Done) = true
 is_whole (Ended (Trap kind line)) = true
 is_whole (Ended Budget) = false

@@ -15,10 +15,10 @@ use Rattle.typed_tree.specs.declared.function.Returned.TheVariants.{Nothing, Val
 use Rattle.typed_tree.specs.Tree.{TypedTree, TypedTrees, word_node, truth_node, slot_node, call_node, size_node, cat_node, sum_node, bits_node, element_node}
 use Rattle.typed_tree.specs.Tree.{not_node, cast_node, binary_node, cut_node, declassify_node}
 use Rattle.typed_tree.specs.Tree as Tree'
-use Rattle.typed_tree.specs.Commands.{Command, Commands, empty_command, block_command, if_command, loop_command, do_command, break_command, continue_command}
-use Rattle.typed_tree.specs.Commands.{return_command, assert_command, store_command, default_command, fill_command, input_command, element_command}
-use Rattle.typed_tree.specs.Commands.{publish_command, evaluate_command}
-use Rattle.typed_tree.specs.Commands as Commands'
+use Rattle.typed_tree.specs.Statements.{TypedStatementTree, TypedStatementTrees, empty_statement, block_statement, if_statement, loop_statement, do_statement}
+use Rattle.typed_tree.specs.Statements.{break_statement, continue_statement, return_statement, assert_statement, store_statement, default_statement}
+use Rattle.typed_tree.specs.Statements.{fill_statement, input_statement, element_statement, publish_statement, evaluate_statement}
+use Rattle.typed_tree.specs.Statements as Statements'
 use Rattle.typed_tree.specs.Programs.{TypedFunctionTree, TypedProgramTree}
 use Rattle.reached_instances.specs.declared.instance.BoundDomain.{BoundDomain}
 use Rattle.reached_instances.specs.Domains.{Setting, domains}
@@ -33,10 +33,10 @@ use Rattle.code_model.specs.Kinds.{width, kind_of}
 use Rattle.code_model.specs.Kinded.{IsIn}
 use Rattle.code_model.specs.Expressions.{Numbers, result_at, classifying, picked, lacks, mixes, binary_code, cat_code, deciding, settling, cut_code}
 use Rattle.code_model.specs.Expressions.{expression_code, arguments_code, arguments_places, unread_code}
-use Rattle.code_model.specs.Commands.{shape_number, first_free, command_width, commands_width, if_code, loop_code, do_code, behind_classifying}
-use Rattle.code_model.specs.Commands.{command_code, commands_code}
+use Rattle.code_model.specs.Statements.{shape_number, first_free, statement_width, statements_width, if_code, loop_code, do_code, behind_classifying}
+use Rattle.code_model.specs.Statements.{statement_code, statements_code}
 use Rattle.code_model.specs.Programs.{last_step, body_end, function_code, numbers_in, code_of_found, instance_code, code_of}
-use Rattle.said_code.specs.Says.{TreeSays, TreesSay, CommandSays, CommandsSay, InstancesSay, StepSays}
+use Rattle.said_code.specs.Says.{TreeSays, TreesSay, StatementSays, StatementsSay, InstancesSay, StepSays}
 use Rattle.said_code.specs.Laws.{SaysWhatTreesSay}
 
 none_some : {A : Type 0} {a : A} → ◌≡◌ {A = Option A} None (Some a) → ⊥
@@ -235,57 +235,58 @@ module _ (is_word is_line : ℕ → Bool) (is_text : List ℕ → Bool) where
           both (hb pc) (both (ht pt) (one (Branch t true pc) tt))
 
       mutual
-        command_says : (c : Command) (t x y pc : ℕ) → CommandSays is_word is_line is_text c → AllSay (command_code number at t x y pc c)
-        command_says empty_command t x y pc h = nothing
-        command_says (block_command cs) t x y pc h = commands_say cs t x y pc h
-        command_says (if_command e a b) t x y pc h =
+        statement_says : (c : TypedStatementTree) (t x y pc : ℕ) → StatementSays is_word is_line is_text c → AllSay (statement_code number at t x y pc c)
+        statement_says empty_statement t x y pc h = nothing
+        statement_says (block_statement cs) t x y pc h = statements_say cs t x y pc h
+        statement_says (if_statement e a b) t x y pc h =
             let ta = t + width e in
-            if_says pc t (code_of_tree t pc e) (λ p. command_code number at ta x y p a) (λ p. command_code number at (ta + command_width a) x y p b)
-            (tree e t pc h.0) (λ p. command_says a ta x y p h.1) (λ p. command_says b (ta + command_width a) x y p h.2)
-        command_says (loop_command e step body) t x y pc h =
-            let ts = t + command_width body in
-            let te = ts + command_width step in
-            let py = pc + 1 + length (command_code number at t 0 0 0 body) in
-            let pt = py + length (command_code number at ts 0 0 0 step) in
+            if_says pc t (code_of_tree t pc e) (λ p. statement_code number at ta x y p a) (λ p. statement_code number at (ta + statement_width a) x y p b)
+            (tree e t pc h.0) (λ p. statement_says a ta x y p h.1) (λ p. statement_says b (ta + statement_width a) x y p h.2)
+        statement_says (loop_statement e step body) t x y pc h =
+            let ts = t + statement_width body in
+            let te = ts + statement_width step in
+            let py = pc + 1 + length (statement_code number at t 0 0 0 body) in
+            let pt = py + length (statement_code number at ts 0 0 0 step) in
             let px = pt + length (code_of_tree te 0 e) + 1 in
-            loop_says pc te (λ p. code_of_tree te p e) (λ p. command_code number at t px py p body) (λ p. command_code number at ts px pt p step)
-            (λ p. tree e te p h.0) (λ p. command_says body t px py p h.2) (λ p. command_says step ts px pt p h.1)
-        command_says (do_command body e) t x y pc h =
-            let te = t + command_width body in
-            let pt = pc + length (command_code number at t 0 0 0 body) in
+            loop_says pc te (λ p. code_of_tree te p e) (λ p. statement_code number at t px py p body) (λ p. statement_code number at ts px pt p step)
+            (λ p. tree e te p h.0) (λ p. statement_says body t px py p h.2) (λ p. statement_says step ts px pt p h.1)
+        statement_says (do_statement body e) t x y pc h =
+            let te = t + statement_width body in
+            let pt = pc + length (statement_code number at t 0 0 0 body) in
             let px = pt + length (code_of_tree te 0 e) + 1 in
-            do_says pc te (λ p. code_of_tree te p e) (λ p. command_code number at t px pt p body) (λ p. tree e te p h.1)
-            (λ p. command_says body t px pt p h.0)
-        command_says break_command t x y pc h = one (Jump x) tt
-        command_says continue_command t x y pc h = one (Jump y) tt
-        command_says (return_command None) t x y pc h = one ReturnNone tt
-        command_says (return_command (Some e)) t x y pc h =
+            do_says pc te (λ p. code_of_tree te p e) (λ p. statement_code number at t px pt p body) (λ p. tree e te p h.1)
+            (λ p. statement_says body t px pt p h.0)
+        statement_says break_statement t x y pc h = one (Jump x) tt
+        statement_says continue_statement t x y pc h = one (Jump y) tt
+        statement_says (return_statement None) t x y pc h = one ReturnNone tt
+        statement_says (return_statement (Some e)) t x y pc h =
             both (tree e (t + 1) pc h) (behind_says at.secret_result (gives_private at.here e) t (t + 1) Return (λ r. tt))
-        command_says (assert_command line e) t x y pc h = both (tree e t pc h.1) (one (Assert line t) h.0)
-        command_says (store_command k e) t x y pc h =
+        statement_says (assert_statement line e) t x y pc h = both (tree e t pc h.1) (one (Assert line t) h.0)
+        statement_says (store_statement k e) t x y pc h =
             both (tree e (t + 1) pc h) (behind_says (slot_is_private at.here k) (gives_private at.here e) t (t + 1) (Store k) (λ r. tt))
-        command_says (default_command k) t x y pc h =
+        statement_says (default_statement k) t x y pc h =
             behind_says (slot_is_private at.here k) false t (length at.here.slots + shape_number (slot_shape at.here k)) (Store k) (λ r. tt)
-        command_says (fill_command line k n e) t x y pc h =
+        statement_says (fill_statement line k n e) t x y pc h =
             let u = t + 1 + width n in
             let cn = code_of_tree (t + 1) pc n in
             both (tree n (t + 1) pc h.1) (both (tree e u (pc + length cn) h.2)
             (behind_says (slot_is_private at.here k) (gives_private at.here e) t u (Fill line k (t + 1)) (λ r. h.0)))
-        command_says (input_command line k text) t x y pc h =
+        statement_says (input_statement line k text) t x y pc h =
             then_all (Argument line (kind_of (slot_is_private at.here k) (slot_shape at.here k)) text t) h (one (Store k t) tt)
-        command_says (element_command line k i e) t x y pc h =
+        statement_says (element_statement line k i e) t x y pc h =
             let u = t + 1 + width i in
             let ci = code_of_tree (t + 1) pc i in
             both (tree i (t + 1) pc h.1) (both (tree e u (pc + length ci) h.2)
             (behind_says (slot_is_private at.here k) (gives_private at.here e) t u (Put line k (t + 1)) (λ r. h.0)))
-        command_says (publish_command text e) t x y pc h = both (tree e t pc h.1) (one (Publish text t) h.0)
-        command_says (evaluate_command e) t x y pc h = unread_says number at.here e t pc h
+        statement_says (publish_statement text e) t x y pc h = both (tree e t pc h.1) (one (Publish text t) h.0)
+        statement_says (evaluate_statement e) t x y pc h = unread_says number at.here e t pc h
 
-        pub commands_say : (cs : Commands) (t x y pc : ℕ) → CommandsSay is_word is_line is_text cs → AllSay (commands_code number at t x y pc cs)
-        commands_say Commands'.none t x y pc h = nothing
-        commands_say (Commands'.also c cs) t x y pc h =
-            let code = command_code number at t x y pc c in
-            both (command_says c t x y pc h.0) (commands_say cs (t + command_width c) x y (pc + length code) h.1)
+        pub statements_say : (cs : TypedStatementTrees) (t x y pc : ℕ) → StatementsSay is_word is_line is_text cs
+            → AllSay (statements_code number at t x y pc cs)
+        statements_say Statements'.none t x y pc h = nothing
+        statements_say (Statements'.also c cs) t x y pc h =
+            let code = statement_code number at t x y pc c in
+            both (statement_says c t x y pc h.0) (statements_say cs (t + statement_width c) x y (pc + length code) h.1)
 
     -- ---- FUNCTIONS
 
@@ -294,11 +295,11 @@ module _ (is_word is_line : ℕ → Bool) (is_text : List ℕ → Bool) where
     last_says (Value s) r = tt
 
     pub function_says : (number : Numbers) (fs : List TypedFunctionTree) (f : TypedFunctionTree) (b : List BoundDomain)
-        → CommandsSay is_word is_line is_text f.body → AllSay (function_code number fs f b).steps
+        → StatementsSay is_word is_line is_text f.body → AllSay (function_code number fs f b).steps
     function_says number fs f b h =
         let end = body_end number fs f b in
-        let r = first_free f.slots + commands_width f.body in
-        both (commands_say number (place_in fs f b) f.body (first_free f.slots) end end 0 h) (one (last_step f.given r) (last_says f.given r))
+        let r = first_free f.slots + statements_width f.body in
+        both (statements_say number (place_in fs f b) f.body (first_free f.slots) end end 0 h) (one (last_step f.given r) (last_says f.given r))
 
     -- ---- PROGRAMS
 

@@ -8,26 +8,26 @@ use Rattle.typed_tree.specs.declared.function.Returned.TheVariants.{Nothing, Val
 use Rattle.typed_tree.specs.Tree.{TypedTree, TypedTrees, word_node, truth_node, slot_node, call_node, size_node, cat_node, sum_node, bits_node, element_node}
 use Rattle.typed_tree.specs.Tree.{not_node, cast_node, binary_node, cut_node, declassify_node}
 use Rattle.typed_tree.specs.Tree as Tree'
-use Rattle.typed_tree.specs.Commands.{Command, Commands, empty_command, block_command, if_command, loop_command, do_command, break_command, continue_command}
-use Rattle.typed_tree.specs.Commands.{return_command, assert_command, store_command, default_command, fill_command, input_command, element_command}
-use Rattle.typed_tree.specs.Commands.{publish_command, evaluate_command}
-use Rattle.typed_tree.specs.Commands as Commands'
+use Rattle.typed_tree.specs.Statements.{TypedStatementTree, TypedStatementTrees, empty_statement, block_statement, if_statement, loop_statement, do_statement}
+use Rattle.typed_tree.specs.Statements.{break_statement, continue_statement, return_statement, assert_statement, store_statement, default_statement}
+use Rattle.typed_tree.specs.Statements.{fill_statement, input_statement, element_statement, publish_statement, evaluate_statement}
+use Rattle.typed_tree.specs.Statements as Statements'
 use Rattle.typed_tree.specs.Programs.{TypedFunctionTree, TypedProgramTree}
 use Rattle.reached_instances.specs.declared.instance.BoundDomain.{BoundDomain}
 use Rattle.reached_instances.specs.Domains.{Setting}
 use Rattle.reached_instances.specs.Instances.{Instance}
 use Rattle.well_typed.specs.Expressions.{Gives, AreTaken}
-use Rattle.well_typed.specs.Commands.{IsReturned, IsWellTypedCommand, AreWellTypedCommands}
+use Rattle.well_typed.specs.Statements.{IsReturned, IsWellTypedStatement, AreWellTypedStatements}
 use Rattle.well_typed.specs.Programs.{setting_of}
-use Rattle.said_code.specs.Says.{TreeSays, TreesSay, OptionSays, CommandSays, CommandsSay}
+use Rattle.said_code.specs.Says.{TreeSays, TreesSay, OptionSays, StatementSays, StatementsSay}
 use Rattle.said_code.specs.Laws.{is_word, any_number, any_text, WellTypedSaysWords}
 
 module _ (here : Setting) where
   abbrev Says : TypedTree → Type 0
   Says = TreeSays is_word any_number any_text
 
-  abbrev Does : Command → Type 0
-  Does = CommandSays is_word any_number any_text
+  abbrev Does : TypedStatementTree → Type 0
+  Does = StatementSays is_word any_number any_text
 
   mutual
     tree_says : (e : TypedTree) (g : Option Shape) → Gives here e g → Says e
@@ -58,27 +58,28 @@ module _ (here : Setting) where
   returned_says (Value s) (Some e) h = tree_says e _ h.0
 
   mutual
-    command_says : (g : Returned) (inside : Bool) (c : Command) → IsWellTypedCommand here g inside c → Does c
-    command_says g inside empty_command h = tt
-    command_says g inside (block_command cs) h = commands_say g inside cs h
-    command_says g inside (if_command e a b) h = (tree_says e _ h.0.0, command_says g inside a h.1, command_says g inside b h.2)
-    command_says g inside (loop_command e step body) h = (tree_says e _ h.0.0, command_says g _ step h.1, command_says g _ body h.2)
-    command_says g inside (do_command body e) h = (command_says g _ body h.0, tree_says e _ h.1.0)
-    command_says g inside break_command h = tt
-    command_says g inside continue_command h = tt
-    command_says g inside (return_command o) h = returned_says g o h
-    command_says g inside (assert_command line e) h = (refl, tree_says e _ h.0)
-    command_says g inside (store_command k e) h = tree_says e _ h.2.0
-    command_says g inside (default_command k) h = tt
-    command_says g inside (fill_command line k n e) h = (refl, tree_says n _ h.2.0, tree_says e _ h.3.0)
-    command_says g inside (input_command line k text) h = (refl, refl)
-    command_says g inside (element_command line k i e) h = (refl, tree_says i _ h.2.0, tree_says e _ h.3.0)
-    command_says g inside (publish_command text e) h = (refl, tree_says e _ h.1)
-    command_says g inside (evaluate_command e) h = tree_says e _ h.1
+    statement_says : (g : Returned) (inside : Bool) (c : TypedStatementTree) → IsWellTypedStatement here g inside c → Does c
+    statement_says g inside empty_statement h = tt
+    statement_says g inside (block_statement cs) h = statements_say g inside cs h
+    statement_says g inside (if_statement e a b) h = (tree_says e _ h.0.0, statement_says g inside a h.1, statement_says g inside b h.2)
+    statement_says g inside (loop_statement e step body) h = (tree_says e _ h.0.0, statement_says g _ step h.1, statement_says g _ body h.2)
+    statement_says g inside (do_statement body e) h = (statement_says g _ body h.0, tree_says e _ h.1.0)
+    statement_says g inside break_statement h = tt
+    statement_says g inside continue_statement h = tt
+    statement_says g inside (return_statement o) h = returned_says g o h
+    statement_says g inside (assert_statement line e) h = (refl, tree_says e _ h.0)
+    statement_says g inside (store_statement k e) h = tree_says e _ h.2.0
+    statement_says g inside (default_statement k) h = tt
+    statement_says g inside (fill_statement line k n e) h = (refl, tree_says n _ h.2.0, tree_says e _ h.3.0)
+    statement_says g inside (input_statement line k text) h = (refl, refl)
+    statement_says g inside (element_statement line k i e) h = (refl, tree_says i _ h.2.0, tree_says e _ h.3.0)
+    statement_says g inside (publish_statement text e) h = (refl, tree_says e _ h.1)
+    statement_says g inside (evaluate_statement e) h = tree_says e _ h.1
 
-    pub commands_say : (g : Returned) (inside : Bool) (cs : Commands) → AreWellTypedCommands here g inside cs → CommandsSay is_word any_number any_text cs
-    commands_say g inside Commands'.none h = tt
-    commands_say g inside (Commands'.also c cs) h = (command_says g inside c h.0, commands_say g inside cs h.1)
+    pub statements_say : (g : Returned) (inside : Bool) (cs : TypedStatementTrees) → AreWellTypedStatements here g inside cs
+        → StatementsSay is_word any_number any_text cs
+    statements_say g inside Statements'.none h = tt
+    statements_say g inside (Statements'.also c cs) h = (statement_says g inside c h.0, statements_say g inside cs h.1)
 
 same_some : {A : Type 0} (a b : A) → ◌≡◌ {A = Option A} (Some a) (Some b) → a ≡ b
 same_some a b e = cc
@@ -86,5 +87,5 @@ same_some a b e = cc
 pub well_typed_words : (p : TypedProgramTree) (is : List Instance) → WellTypedSaysWords p is
 well_typed_words p is typed reached i m f there =
     let w = typed.instances i (reached.reached i m) in
-    subst (λ (z : TypedFunctionTree). CommandsSay is_word any_number any_text z.body) (same_some w.called f (sym w.there ∙ there))
-    (commands_say (setting_of p i w.called) w.called.given _ w.called.body w.body)
+    subst (λ (z : TypedFunctionTree). StatementsSay is_word any_number any_text z.body) (same_some w.called f (sym w.there ∙ there))
+    (statements_say (setting_of p i w.called) w.called.given _ w.called.body w.body)

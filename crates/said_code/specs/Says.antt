@@ -5,10 +5,10 @@ use Rattle.sc_text.specs.Lists.{Among}
 use Rattle.typed_tree.specs.Tree.{TypedTree, TypedTrees, word_node, truth_node, slot_node, call_node, size_node, cat_node, sum_node, bits_node, element_node}
 use Rattle.typed_tree.specs.Tree.{not_node, cast_node, binary_node, cut_node, declassify_node}
 use Rattle.typed_tree.specs.Tree as Tree'
-use Rattle.typed_tree.specs.Commands.{Command, Commands, empty_command, block_command, if_command, loop_command, do_command, break_command, continue_command}
-use Rattle.typed_tree.specs.Commands.{return_command, assert_command, store_command, default_command, fill_command, input_command, element_command}
-use Rattle.typed_tree.specs.Commands.{publish_command, evaluate_command}
-use Rattle.typed_tree.specs.Commands as Commands'
+use Rattle.typed_tree.specs.Statements.{TypedStatementTree, TypedStatementTrees, empty_statement, block_statement, if_statement, loop_statement, do_statement}
+use Rattle.typed_tree.specs.Statements.{break_statement, continue_statement, return_statement, assert_statement, store_statement, default_statement}
+use Rattle.typed_tree.specs.Statements.{fill_statement, input_statement, element_statement, publish_statement, evaluate_statement}
+use Rattle.typed_tree.specs.Statements as Statements'
 use Rattle.typed_tree.specs.Programs.{TypedFunctionTree, TypedProgramTree}
 use Rattle.reached_instances.specs.Instances.{Instance}
 use Rattle.verified_code.specs.Steps.{Step, Literal, Move, Store, Binary, Not, Cast, Classify, Fill, At, Put, Size, Cat, Sum, Bits, Declassify}
@@ -42,32 +42,32 @@ module _ (is_word is_line : ℕ → Bool) (is_text : List ℕ → Bool) where
   OptionSays (Some e) = TreeSays e
 
   abbrev mutual
-    pub CommandSays : Command → Type 0
-    CommandSays empty_command = Unit {0}
-    CommandSays (block_command cs) = CommandsSay cs
-    CommandSays (if_command e a b) = TreeSays e × CommandSays a × CommandSays b
-    CommandSays (loop_command e step body) = TreeSays e × CommandSays step × CommandSays body
-    CommandSays (do_command body e) = CommandSays body × TreeSays e
-    CommandSays break_command = Unit {0}
-    CommandSays continue_command = Unit {0}
-    CommandSays (return_command e) = OptionSays e
-    CommandSays (assert_command line e) = IsTrue (is_line line) × TreeSays e
-    CommandSays (store_command k e) = TreeSays e
-    CommandSays (default_command k) = Unit {0}
-    CommandSays (fill_command line k n e) = IsTrue (is_line line) × TreeSays n × TreeSays e
-    CommandSays (input_command line k text) = IsTrue (is_line line) × IsTrue (is_text text)
-    CommandSays (element_command line k i e) = IsTrue (is_line line) × TreeSays i × TreeSays e
-    CommandSays (publish_command text e) = IsTrue (is_text text) × TreeSays e
-    CommandSays (evaluate_command e) = TreeSays e
+    pub StatementSays : TypedStatementTree → Type 0
+    StatementSays empty_statement = Unit {0}
+    StatementSays (block_statement cs) = StatementsSay cs
+    StatementSays (if_statement e a b) = TreeSays e × StatementSays a × StatementSays b
+    StatementSays (loop_statement e step body) = TreeSays e × StatementSays step × StatementSays body
+    StatementSays (do_statement body e) = StatementSays body × TreeSays e
+    StatementSays break_statement = Unit {0}
+    StatementSays continue_statement = Unit {0}
+    StatementSays (return_statement e) = OptionSays e
+    StatementSays (assert_statement line e) = IsTrue (is_line line) × TreeSays e
+    StatementSays (store_statement k e) = TreeSays e
+    StatementSays (default_statement k) = Unit {0}
+    StatementSays (fill_statement line k n e) = IsTrue (is_line line) × TreeSays n × TreeSays e
+    StatementSays (input_statement line k text) = IsTrue (is_line line) × IsTrue (is_text text)
+    StatementSays (element_statement line k i e) = IsTrue (is_line line) × TreeSays i × TreeSays e
+    StatementSays (publish_statement text e) = IsTrue (is_text text) × TreeSays e
+    StatementSays (evaluate_statement e) = TreeSays e
 
-    pub CommandsSay : Commands → Type 0
-    CommandsSay Commands'.none = Unit {0}
-    CommandsSay (Commands'.also c cs) = CommandSays c × CommandsSay cs
+    pub StatementsSay : TypedStatementTrees → Type 0
+    StatementsSay Statements'.none = Unit {0}
+    StatementsSay (Statements'.also c cs) = StatementSays c × StatementsSay cs
 
   -- the trees of these instances
   abbrev pub InstancesSay : TypedProgramTree → List Instance → Type 0
   InstancesSay p is =
-      (i : Instance) → Among i is → (f : TypedFunctionTree) → slice_get p.functions i.function ≡ Some f → CommandsSay f.body
+      (i : Instance) → Among i is → (f : TypedFunctionTree) → slice_get p.functions i.function ≡ Some f → StatementsSay f.body
 
   abbrev pub StepSays : Step → Type 0
   StepSays (Literal d e n) = IsTrue (is_word n)

@@ -15,9 +15,10 @@ use Rattle.typed_tree.specs.declared.statement.TypedStatement.TheOpen as Stateme
 use Rattle.typed_tree.specs.declared.statement.TypedStatement.TheFolds.{fold-roll-TypedStatement}
 use Rattle.typed_tree.specs.Tree.{TypedTree, word_node, truth_node, slot_node, call_node, size_node, cat_node, sum_node, bits_node, element_node}
 use Rattle.typed_tree.specs.Tree.{not_node, cast_node, binary_node, cut_node, declassify_node, typed_trees_of, typed_layer, typed_tree}
-use Rattle.typed_tree.specs.Commands.{Command, empty_command, block_command, if_command, loop_command, do_command, break_command, continue_command}
-use Rattle.typed_tree.specs.Commands.{return_command, assert_command, store_command, default_command, fill_command, input_command, element_command}
-use Rattle.typed_tree.specs.Commands.{publish_command, evaluate_command, commands_of, optional_tree, command_layer, command}
+use Rattle.typed_tree.specs.Statements.{TypedStatementTree, empty_statement, block_statement, if_statement, loop_statement, do_statement, break_statement}
+use Rattle.typed_tree.specs.Statements.{continue_statement, return_statement, assert_statement, store_statement, default_statement, fill_statement}
+use Rattle.typed_tree.specs.Statements.{input_statement, element_statement, publish_statement, evaluate_statement, typed_statements_of, optional_tree}
+use Rattle.typed_tree.specs.Statements.{typed_statement_layer, typed_statement}
 
 pub word_node_is : (n : ℕ) → typed_tree (Variant.Word n) ≡ word_node n
 word_node_is n = ap typed_tree (sym (Variant.rolls-Word n)) ∙ fold-roll-TypedExpression TypedTree typed_layer (Open.Word n)
@@ -67,61 +68,78 @@ cut_node_is c a b = ap typed_tree (sym (Variant.rolls-CutShort c a b)) ∙ fold-
 pub declassify_node_is : (e : Box TypedExpression Global) → typed_tree (Variant.Declassify e) ≡ declassify_node (typed_tree e.value)
 declassify_node_is e = ap typed_tree (sym (Variant.rolls-Declassify e)) ∙ fold-roll-TypedExpression TypedTree typed_layer (Open.Declassify e)
 
-pub empty_command_is : command StatementVariant.Empty ≡ empty_command
-empty_command_is = ap command (sym (StatementVariant.rolls-Empty)) ∙ fold-roll-TypedStatement Command command_layer StatementOpen.Empty
+pub typed_empty_statement_is : typed_statement StatementVariant.Empty ≡ empty_statement
+typed_empty_statement_is =
+    ap typed_statement (sym (StatementVariant.rolls-Empty)) ∙ fold-roll-TypedStatement TypedStatementTree typed_statement_layer StatementOpen.Empty
 
-pub block_command_is : (cs : Vec TypedStatement Global) → command (StatementVariant.Block cs) ≡ block_command (commands_of (map command cs.items))
-block_command_is cs = ap command (sym (StatementVariant.rolls-Block cs)) ∙ fold-roll-TypedStatement Command command_layer (StatementOpen.Block cs)
+pub typed_block_statement_is : (cs : Vec TypedStatement Global)
+    → typed_statement (StatementVariant.Block cs) ≡ block_statement (typed_statements_of (map typed_statement cs.items))
+typed_block_statement_is cs =
+    ap typed_statement (sym (StatementVariant.rolls-Block cs)) ∙ fold-roll-TypedStatement TypedStatementTree typed_statement_layer (StatementOpen.Block cs)
 
-pub if_command_is : (e : TypedExpression) (a : Box TypedStatement Global) (b : Box TypedStatement Global)
-    → command (StatementVariant.If e a b) ≡ if_command (typed_tree e) (command a.value) (command b.value)
-if_command_is e a b = ap command (sym (StatementVariant.rolls-If e a b)) ∙ fold-roll-TypedStatement Command command_layer (StatementOpen.If e a b)
+pub typed_if_statement_is : (e : TypedExpression) (a : Box TypedStatement Global) (b : Box TypedStatement Global)
+    → typed_statement (StatementVariant.If e a b) ≡ if_statement (typed_tree e) (typed_statement a.value) (typed_statement b.value)
+typed_if_statement_is e a b =
+    ap typed_statement (sym (StatementVariant.rolls-If e a b)) ∙ fold-roll-TypedStatement TypedStatementTree typed_statement_layer (StatementOpen.If e a b)
 
-pub loop_command_is : (e : TypedExpression) (step : Box TypedStatement Global) (body : Box TypedStatement Global)
-    → command (StatementVariant.Loop e step body) ≡ loop_command (typed_tree e) (command step.value) (command body.value)
-loop_command_is e step body =
-    ap command (sym (StatementVariant.rolls-Loop e step body)) ∙ fold-roll-TypedStatement Command command_layer (StatementOpen.Loop e step body)
+pub typed_loop_statement_is : (e : TypedExpression) (step : Box TypedStatement Global) (body : Box TypedStatement Global)
+    → typed_statement (StatementVariant.Loop e step body) ≡ loop_statement (typed_tree e) (typed_statement step.value) (typed_statement body.value)
+typed_loop_statement_is e step body =
+    ap typed_statement (sym (StatementVariant.rolls-Loop e step body))
+    ∙ fold-roll-TypedStatement TypedStatementTree typed_statement_layer (StatementOpen.Loop e step body)
 
-pub do_command_is : (body : Box TypedStatement Global) (e : TypedExpression)
-    → command (StatementVariant.DoWhile body e) ≡ do_command (command body.value) (typed_tree e)
-do_command_is body e = ap command (sym (StatementVariant.rolls-DoWhile body e)) ∙ fold-roll-TypedStatement Command command_layer (StatementOpen.DoWhile body e)
+pub typed_do_statement_is : (body : Box TypedStatement Global) (e : TypedExpression)
+    → typed_statement (StatementVariant.DoWhile body e) ≡ do_statement (typed_statement body.value) (typed_tree e)
+typed_do_statement_is body e =
+    ap typed_statement (sym (StatementVariant.rolls-DoWhile body e))
+    ∙ fold-roll-TypedStatement TypedStatementTree typed_statement_layer (StatementOpen.DoWhile body e)
 
-pub break_command_is : command StatementVariant.Break ≡ break_command
-break_command_is = ap command (sym (StatementVariant.rolls-Break)) ∙ fold-roll-TypedStatement Command command_layer StatementOpen.Break
+pub typed_break_statement_is : typed_statement StatementVariant.Break ≡ break_statement
+typed_break_statement_is =
+    ap typed_statement (sym (StatementVariant.rolls-Break)) ∙ fold-roll-TypedStatement TypedStatementTree typed_statement_layer StatementOpen.Break
 
-pub continue_command_is : command StatementVariant.Continue ≡ continue_command
-continue_command_is = ap command (sym (StatementVariant.rolls-Continue)) ∙ fold-roll-TypedStatement Command command_layer StatementOpen.Continue
+pub typed_continue_statement_is : typed_statement StatementVariant.Continue ≡ continue_statement
+typed_continue_statement_is =
+    ap typed_statement (sym (StatementVariant.rolls-Continue)) ∙ fold-roll-TypedStatement TypedStatementTree typed_statement_layer StatementOpen.Continue
 
-pub return_command_is : (e : Option TypedExpression) → command (StatementVariant.Return e) ≡ return_command (optional_tree e)
-return_command_is e = ap command (sym (StatementVariant.rolls-Return e)) ∙ fold-roll-TypedStatement Command command_layer (StatementOpen.Return e)
+pub typed_return_statement_is : (e : Option TypedExpression) → typed_statement (StatementVariant.Return e) ≡ return_statement (optional_tree e)
+typed_return_statement_is e =
+    ap typed_statement (sym (StatementVariant.rolls-Return e)) ∙ fold-roll-TypedStatement TypedStatementTree typed_statement_layer (StatementOpen.Return e)
 
-pub assert_command_is : (line : ℕ) (e : TypedExpression) → command (StatementVariant.Assert line e) ≡ assert_command line (typed_tree e)
-assert_command_is line e = ap command (sym (StatementVariant.rolls-Assert line e))
-    ∙ fold-roll-TypedStatement Command command_layer (StatementOpen.Assert line e)
+pub typed_assert_statement_is : (line : ℕ) (e : TypedExpression) → typed_statement (StatementVariant.Assert line e) ≡ assert_statement line (typed_tree e)
+typed_assert_statement_is line e = ap typed_statement (sym (StatementVariant.rolls-Assert line e))
+    ∙ fold-roll-TypedStatement TypedStatementTree typed_statement_layer (StatementOpen.Assert line e)
 
-pub store_command_is : (k : ℕ) (e : TypedExpression) → command (StatementVariant.Store k e) ≡ store_command k (typed_tree e)
-store_command_is k e = ap command (sym (StatementVariant.rolls-Store k e)) ∙ fold-roll-TypedStatement Command command_layer (StatementOpen.Store k e)
+pub typed_store_statement_is : (k : ℕ) (e : TypedExpression) → typed_statement (StatementVariant.Store k e) ≡ store_statement k (typed_tree e)
+typed_store_statement_is k e =
+    ap typed_statement (sym (StatementVariant.rolls-Store k e)) ∙ fold-roll-TypedStatement TypedStatementTree typed_statement_layer (StatementOpen.Store k e)
 
-pub default_command_is : (k : ℕ) → command (StatementVariant.StoreDefault k) ≡ default_command k
-default_command_is k = ap command (sym (StatementVariant.rolls-StoreDefault k)) ∙ fold-roll-TypedStatement Command command_layer (StatementOpen.StoreDefault k)
+pub typed_default_statement_is : (k : ℕ) → typed_statement (StatementVariant.StoreDefault k) ≡ default_statement k
+typed_default_statement_is k =
+    ap typed_statement (sym (StatementVariant.rolls-StoreDefault k))
+    ∙ fold-roll-TypedStatement TypedStatementTree typed_statement_layer (StatementOpen.StoreDefault k)
 
-pub fill_command_is : (line : ℕ) (k : ℕ) (n : TypedExpression) (e : TypedExpression)
-    → command (StatementVariant.Fill line k n e) ≡ fill_command line k (typed_tree n) (typed_tree e)
-fill_command_is line k n e =
-    ap command (sym (StatementVariant.rolls-Fill line k n e)) ∙ fold-roll-TypedStatement Command command_layer (StatementOpen.Fill line k n e)
+pub typed_fill_statement_is : (line : ℕ) (k : ℕ) (n : TypedExpression) (e : TypedExpression)
+    → typed_statement (StatementVariant.Fill line k n e) ≡ fill_statement line k (typed_tree n) (typed_tree e)
+typed_fill_statement_is line k n e =
+    ap typed_statement (sym (StatementVariant.rolls-Fill line k n e))
+    ∙ fold-roll-TypedStatement TypedStatementTree typed_statement_layer (StatementOpen.Fill line k n e)
 
-pub input_command_is : (line : ℕ) (k : ℕ) (text : List ℕ) → command (StatementVariant.Input line k text) ≡ input_command line k text
-input_command_is line k text =
-    ap command (sym (StatementVariant.rolls-Input line k text)) ∙ fold-roll-TypedStatement Command command_layer (StatementOpen.Input line k text)
+pub typed_input_statement_is : (line : ℕ) (k : ℕ) (text : List ℕ) → typed_statement (StatementVariant.Input line k text) ≡ input_statement line k text
+typed_input_statement_is line k text =
+    ap typed_statement (sym (StatementVariant.rolls-Input line k text))
+    ∙ fold-roll-TypedStatement TypedStatementTree typed_statement_layer (StatementOpen.Input line k text)
 
-pub element_command_is : (line : ℕ) (k : ℕ) (i : TypedExpression) (e : TypedExpression)
-    → command (StatementVariant.StoreElement line k i e) ≡ element_command line k (typed_tree i) (typed_tree e)
-element_command_is line k i e = ap command (sym (StatementVariant.rolls-StoreElement line k i e))
-    ∙ fold-roll-TypedStatement Command command_layer (StatementOpen.StoreElement line k i e)
+pub typed_element_statement_is : (line : ℕ) (k : ℕ) (i : TypedExpression) (e : TypedExpression)
+    → typed_statement (StatementVariant.StoreElement line k i e) ≡ element_statement line k (typed_tree i) (typed_tree e)
+typed_element_statement_is line k i e = ap typed_statement (sym (StatementVariant.rolls-StoreElement line k i e))
+    ∙ fold-roll-TypedStatement TypedStatementTree typed_statement_layer (StatementOpen.StoreElement line k i e)
 
-pub publish_command_is : (text : List ℕ) (e : TypedExpression) → command (StatementVariant.Publish text e) ≡ publish_command text (typed_tree e)
-publish_command_is text e = ap command (sym (StatementVariant.rolls-Publish text e))
-    ∙ fold-roll-TypedStatement Command command_layer (StatementOpen.Publish text e)
+pub typed_publish_statement_is : (text : List ℕ) (e : TypedExpression)
+    → typed_statement (StatementVariant.Publish text e) ≡ publish_statement text (typed_tree e)
+typed_publish_statement_is text e = ap typed_statement (sym (StatementVariant.rolls-Publish text e))
+    ∙ fold-roll-TypedStatement TypedStatementTree typed_statement_layer (StatementOpen.Publish text e)
 
-pub evaluate_command_is : (e : TypedExpression) → command (StatementVariant.Evaluate e) ≡ evaluate_command (typed_tree e)
-evaluate_command_is e = ap command (sym (StatementVariant.rolls-Evaluate e)) ∙ fold-roll-TypedStatement Command command_layer (StatementOpen.Evaluate e)
+pub typed_evaluate_statement_is : (e : TypedExpression) → typed_statement (StatementVariant.Evaluate e) ≡ evaluate_statement (typed_tree e)
+typed_evaluate_statement_is e =
+    ap typed_statement (sym (StatementVariant.rolls-Evaluate e)) ∙ fold-roll-TypedStatement TypedStatementTree typed_statement_layer (StatementOpen.Evaluate e)

@@ -1,5 +1,5 @@
 pub mod Tree
-pub mod Commands
+pub mod Statements
 pub mod Programs
 pub mod Equations
 pub mod Operators

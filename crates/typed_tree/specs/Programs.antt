@@ -4,7 +4,7 @@ use Rattle.typed_tree.specs.declared.kinds.Slot.{Slot}
 use Rattle.typed_tree.specs.declared.function.Returned.{Returned}
 use Rattle.typed_tree.specs.declared.function.TypedFunction.{TypedFunction}
 use Rattle.typed_tree.specs.declared.function.TypedProgram.{TypedProgram}
-use Rattle.typed_tree.specs.Commands.{Commands, command, commands_of}
+use Rattle.typed_tree.specs.Statements.{TypedStatementTrees, typed_statement, typed_statements_of}
 
 pub record TypedFunctionTree : Type 0 where
   pub name : List ℕ
@@ -12,7 +12,7 @@ pub record TypedFunctionTree : Type 0 where
   pub parameters : ℕ
   pub slots : List Slot
   pub given : Returned
-  pub body : Commands
+  pub body : TypedStatementTrees
   pub size : ℕ
 
 pub record TypedProgramTree : Type 0 where
@@ -26,7 +26,7 @@ typed_function_tree f =
       parameters = f.parameters;
       slots = f.slots.items;
       given = f.given;
-      body = commands_of (map command f.body.items);
+      body = typed_statements_of (map typed_statement f.body.items);
       size = f.size;
     }
 

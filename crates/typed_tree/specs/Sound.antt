@@ -5,10 +5,10 @@ use Rattle.std.specs.List.{slice_get}
 use Rattle.typed_tree.specs.Tree.{TypedTree, TypedTrees, word_node, truth_node, slot_node, call_node, size_node, cat_node, sum_node, bits_node}
 use Rattle.typed_tree.specs.Tree.{element_node, not_node, cast_node, binary_node, cut_node, declassify_node}
 use Rattle.typed_tree.specs.Tree as Tree'
-use Rattle.typed_tree.specs.Commands.{Command, Commands, empty_command, block_command, if_command, loop_command, do_command, break_command}
-use Rattle.typed_tree.specs.Commands.{continue_command, return_command, assert_command, store_command, default_command, fill_command, input_command}
-use Rattle.typed_tree.specs.Commands.{element_command, publish_command, evaluate_command}
-use Rattle.typed_tree.specs.Commands as Commands'
+use Rattle.typed_tree.specs.Statements.{TypedStatementTree, TypedStatementTrees, empty_statement, block_statement, if_statement, loop_statement, do_statement}
+use Rattle.typed_tree.specs.Statements.{break_statement, continue_statement, return_statement, assert_statement, store_statement, default_statement}
+use Rattle.typed_tree.specs.Statements.{fill_statement, input_statement, element_statement, publish_statement, evaluate_statement}
+use Rattle.typed_tree.specs.Statements as Statements'
 use Rattle.typed_tree.specs.Programs.{TypedFunctionTree, TypedProgramTree}
 
 abbrev pub count_of : TypedTrees → ℕ
@@ -42,27 +42,27 @@ IsSoundOption n ps None = Unit {0}
 IsSoundOption n ps (Some e) = IsSoundTree n ps e
 
 abbrev mutual
-  pub IsSoundCommand : ℕ → List ℕ → Command → Type 0
-  IsSoundCommand n ps empty_command = Unit {0}
-  IsSoundCommand n ps (block_command cs) = AreSoundCommands n ps cs
-  IsSoundCommand n ps (if_command e a b) = IsSoundTree n ps e × IsSoundCommand n ps a × IsSoundCommand n ps b
-  IsSoundCommand n ps (loop_command e step body) = IsSoundTree n ps e × IsSoundCommand n ps step × IsSoundCommand n ps body
-  IsSoundCommand n ps (do_command body e) = IsSoundCommand n ps body × IsSoundTree n ps e
-  IsSoundCommand n ps break_command = Unit {0}
-  IsSoundCommand n ps continue_command = Unit {0}
-  IsSoundCommand n ps (return_command e) = IsSoundOption n ps e
-  IsSoundCommand n ps (assert_command line e) = IsSoundTree n ps e
-  IsSoundCommand n ps (store_command k e) = (k < n) × IsSoundTree n ps e
-  IsSoundCommand n ps (default_command k) = k < n
-  IsSoundCommand n ps (fill_command line k m e) = (k < n) × IsSoundTree n ps m × IsSoundTree n ps e
-  IsSoundCommand n ps (input_command line k x) = k < n
-  IsSoundCommand n ps (element_command line k i e) = (k < n) × IsSoundTree n ps i × IsSoundTree n ps e
-  IsSoundCommand n ps (publish_command x e) = IsSoundTree n ps e
-  IsSoundCommand n ps (evaluate_command e) = IsSoundTree n ps e
+  pub IsSoundStatementTree : ℕ → List ℕ → TypedStatementTree → Type 0
+  IsSoundStatementTree n ps empty_statement = Unit {0}
+  IsSoundStatementTree n ps (block_statement cs) = AreSoundStatementTrees n ps cs
+  IsSoundStatementTree n ps (if_statement e a b) = IsSoundTree n ps e × IsSoundStatementTree n ps a × IsSoundStatementTree n ps b
+  IsSoundStatementTree n ps (loop_statement e step body) = IsSoundTree n ps e × IsSoundStatementTree n ps step × IsSoundStatementTree n ps body
+  IsSoundStatementTree n ps (do_statement body e) = IsSoundStatementTree n ps body × IsSoundTree n ps e
+  IsSoundStatementTree n ps break_statement = Unit {0}
+  IsSoundStatementTree n ps continue_statement = Unit {0}
+  IsSoundStatementTree n ps (return_statement e) = IsSoundOption n ps e
+  IsSoundStatementTree n ps (assert_statement line e) = IsSoundTree n ps e
+  IsSoundStatementTree n ps (store_statement k e) = (k < n) × IsSoundTree n ps e
+  IsSoundStatementTree n ps (default_statement k) = k < n
+  IsSoundStatementTree n ps (fill_statement line k m e) = (k < n) × IsSoundTree n ps m × IsSoundTree n ps e
+  IsSoundStatementTree n ps (input_statement line k x) = k < n
+  IsSoundStatementTree n ps (element_statement line k i e) = (k < n) × IsSoundTree n ps i × IsSoundTree n ps e
+  IsSoundStatementTree n ps (publish_statement x e) = IsSoundTree n ps e
+  IsSoundStatementTree n ps (evaluate_statement e) = IsSoundTree n ps e
 
-  pub AreSoundCommands : ℕ → List ℕ → Commands → Type 0
-  AreSoundCommands n ps Commands'.none = Unit {0}
-  AreSoundCommands n ps (Commands'.also c cs) = IsSoundCommand n ps c × AreSoundCommands n ps cs
+  pub AreSoundStatementTrees : ℕ → List ℕ → TypedStatementTrees → Type 0
+  AreSoundStatementTrees n ps Statements'.none = Unit {0}
+  AreSoundStatementTrees n ps (Statements'.also c cs) = IsSoundStatementTree n ps c × AreSoundStatementTrees n ps cs
 
 abbrev pub parameters_of : TypedFunctionTree → ℕ
 parameters_of f = f.parameters
@@ -70,7 +70,7 @@ parameters_of f = f.parameters
 -- a function among functions with these numbers of parameters
 pub record IsSoundFunction (ps : List ℕ) (f : TypedFunctionTree) : Type 0 where
   pub parameters : f.parameters ≤ length f.slots
-  pub body : AreSoundCommands (length f.slots) ps f.body
+  pub body : AreSoundStatementTrees (length f.slots) ps f.body
 
 abbrev pub AreSoundFunctions : List ℕ → List TypedFunctionTree → Type 0
 AreSoundFunctions ps [] = Unit {0}

@@ -1,7 +1,7 @@
 -- What the types of a run stand for.
 use Rattle.std.specs.Prelude.{ℕ, List, map, Vec}
 use Rattle.std.specs.declared.alloc.Global.{Global}
-use Rattle.language_model.specs.Effects.{Words, World, Source, Clear, Answers, Stage, Given}
+use Rattle.language_model.specs.Effects.{Words, World, Source, Clear, Answers, Stage, GivenInput}
 use Rattle.language_model.specs.Values.{Secrecy, Plain, Private, Value}
 use Rattle.value_steps.specs.declared.value.Secrecy as kept
 use Rattle.value_steps.specs.declared.value.Secrecy.TheVariants as secrecy
@@ -11,7 +11,7 @@ use Rattle.value_steps.specs.declared.stage.Stage as reached
 use Rattle.value_steps.specs.declared.world.Lengths as lengths
 use Rattle.value_steps.specs.declared.world.Source as told
 use Rattle.value_steps.specs.declared.world.Source.TheVariants as source
-use Rattle.value_steps.specs.declared.world.Given as input
+use Rattle.value_steps.specs.declared.world.GivenInput as input
 use Rattle.value_steps.specs.declared.world.World as fixed
 use Rattle.value_steps.specs.declared.inputs.Placed as placed
 
@@ -44,7 +44,7 @@ abbrev pub source_seen : told.Source → Source
 source_seen source.Clear = Clear
 source_seen source.Answers = Answers
 
-abbrev pub given_seen : input.Given → Given
+abbrev pub given_seen : input.GivenInput → GivenInput
 given_seen g = record { text = g.name; secret = g.private; shape = g.shape; words = g.words.items }
 
 abbrev pub world_seen : fixed.World → World
@@ -54,5 +54,5 @@ world_seen w =
 abbrev pub words_seen : Vec ℕ Global → List ℕ
 words_seen words = words.items
 
-abbrev pub placed_seen : placed.Placed → Given × ℕ
+abbrev pub placed_seen : placed.Placed → GivenInput × ℕ
 placed_seen p = (given_seen p.given.now, p.before)

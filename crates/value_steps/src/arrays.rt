@@ -1,6 +1,6 @@
 // Arrays and their elements.
 ghost use Rattle.std.specs.Prelude.{◌≡◌, ◌≤◌, ◌+◌, ◌++◌, ◌<◌, length, set, IfOk};
-ghost use Rattle.language_model.specs.Operations.{joined, element_of_array, with_element, filled};
+ghost use Rattle.language_model.specs.Operations.{concatenated, element_of_array, with_element, filled};
 ghost use Rattle.value_steps.specs.Steps.{Does, itself};
 ghost use Rattle.value_steps.specs.Views.{stage_seen, value_seen};
 
@@ -23,14 +23,14 @@ fn extended(mut words: Vec<u64>, more: &[u64]) -> Result<Vec<u64>, AllocError>
 }
 
 /// An array, and the elements of another behind it; both are private or both are public.
-pub fn joined(
+pub fn concatenated(
     alloc: Global,
     stage: &mut Stage<'_>,
     line: u32,
     left: Value,
     right: &Value,
 ) -> Result<Value, Halt>
-    ensures step { Does value_seen (joined line (value_seen left) (value_seen right.now)) (stage_seen stage.old) result (stage_seen stage.new) }
+    ensures step { Does value_seen (concatenated line (value_seen left) (value_seen right.now)) (stage_seen stage.old) result (stage_seen stage.new) }
     ensures spends { stage.new.left ≤ stage.old.left }
 {
     charged_array(stage, line, left.size() + right.size())?;

@@ -9,7 +9,7 @@ use crate::halt::Halt;
 use crate::stage::Stage;
 use crate::steps::{charge, test_at};
 use crate::value::Value;
-use crate::world::{Given, World};
+use crate::world::{GivenInput, World};
 use gates::Gate;
 use sc_text::{Ending, Name, TrapKind};
 use std::alloc::Global;
@@ -18,7 +18,7 @@ use typed_tree::Shape;
 /// An input, and how many private ones stand before it.
 #[derive(Clone, Copy)]
 pub(crate) struct Placed<'w> {
-    given: &'w Given,
+    given: &'w GivenInput,
     before: u64,
 }
 
@@ -39,7 +39,7 @@ fn input_named<'w>(world: &World<'w>, name: &Name) -> Option<Placed<'w>>
 }
 
 /// Whether an input is as it is declared: private or not, and of this shape.
-fn is_as_declared(private: bool, shape: Shape, given: &Given) -> bool
+fn is_as_declared(private: bool, shape: Shape, given: &GivenInput) -> bool
     ensures { result ≡ is_as_declared private shape (given_seen given.now) }
 {
     given.private == private && given.shape == shape

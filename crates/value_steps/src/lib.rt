@@ -25,7 +25,7 @@ mod value;
 mod world;
 
 pub use applied::Applied;
-pub use arrays::{element_of_array, filled, joined, with_element};
+pub use arrays::{concatenated, element_of_array, filled, with_element};
 pub use classification::wanted;
 pub use conditions::{asserted, tested};
 pub use halt::Halt;
@@ -37,4 +37,4 @@ pub use publishing::published;
 pub use stage::{Drawn, Stage};
 pub use steps::{charge, charged, test, test_at};
 pub use value::{Secrecy, Value};
-pub use world::{Given, Lengths, Source, World};
+pub use world::{GivenInput, Lengths, Source, World};

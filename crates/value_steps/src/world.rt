@@ -20,7 +20,7 @@ pub enum Source {
 }
 
 /// An input of a run: its elements are words, a truth value 1 or 0; it has at most 1,048,576.
-pub struct Given {
+pub struct GivenInput {
     pub name: Name,
     pub private: bool,
     pub shape: Shape,
@@ -29,10 +29,10 @@ pub struct Given {
 }
 
 // Written out, so that who gives an input up calls this once, and doesn't take the input apart in its place.
-impl Drop for Given {
+impl Drop for GivenInput {
     fn drop(self) {
         match self {
-            Given {
+            GivenInput {
                 name: _,
                 private: _,
                 shape: _,
@@ -49,5 +49,5 @@ pub struct World<'a> {
     pub dealer: u64,
     pub lengths: Lengths,
     pub source: Source,
-    pub inputs: &'a [Given],
+    pub inputs: &'a [GivenInput],
 }

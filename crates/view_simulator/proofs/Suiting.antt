@@ -15,7 +15,7 @@ use Rattle.value_file.specs.declared.inputs.Entry.{Entry}
 use Rattle.value_file.specs.declared.public.PublicEntry.{PublicEntry}
 use Rattle.input_share.specs.Dealing.{need_of}
 use Rattle.tape_file.specs.Tapes.{FourTapes}
-use Rattle.language_model.specs.Effects.{Words, Given, World, Answers}
+use Rattle.language_model.specs.Effects.{Words, GivenInput, World, Answers}
 use Rattle.language_model.specs.Reports.{Report, Offered, world_of, dealing, beginning, report_of, not_dealt, evaluated}
 use Rattle.language_model.specs.Tapes.{AtMost, HasWords}
 use Rattle.language_model.proofs.Walk.{main_of}
@@ -79,7 +79,7 @@ module _
 
     is_told : r ≡ told_run p part opened (lengths_of s) budget
     is_told =
-        ap (λ (inputs : List Given). evaluated (world_of Answers (offered_with inputs (lengths_of s))) p budget opened) (inputs_again part)
+        ap (λ (inputs : List GivenInput). evaluated (world_of Answers (offered_with inputs (lengths_of s))) p budget opened) (inputs_again part)
 
     long : (k : Number) → drawn_by w.lengths (miner_of k) ≡ length (miners_of s k)
     long One = refl

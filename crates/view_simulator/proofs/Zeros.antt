@@ -23,7 +23,7 @@ use Rattle.value_file.specs.PublicFile.{public_count, public_name_of, public_ele
 use Rattle.input_share.specs.Values.{elements_of}
 use Rattle.input_share.specs.AddUp.{HasWords}
 use Rattle.input_share.proofs.FormLaws.{size_of-shape_of}
-use Rattle.language_model.specs.Effects.{Given}
+use Rattle.language_model.specs.Effects.{GivenInput}
 use Rattle.language_model.specs.Words.{truth_word}
 use Rattle.clear_eval.specs.Offers.{input_given, public_given, part_given}
 use Rattle.code_inputs.specs.Inputs.{AreSound}
@@ -90,8 +90,8 @@ given_again name (Hidden Bool (Array count)) = ap (λ ws. record (public_given n
 pub inputs_again : (part : List PublicEntry) → map input_given (zero_entries part) ≡ map part_given part
 inputs_again [] = refl
 inputs_again (e ∷ es) =
-    ap (λ (x : Given). x ∷ map input_given (zero_entries es)) (given_again e.name e.value)
-    ∙ ap (λ (xs : List Given). part_given e ∷ xs) (inputs_again es)
+    ap (λ (x : GivenInput). x ∷ map input_given (zero_entries es)) (given_again e.name e.value)
+    ∙ ap (λ (xs : List GivenInput). part_given e ∷ xs) (inputs_again es)
 
 -- ---- THEY MAY STAND IN A FILE
 

@@ -17,17 +17,17 @@ use Rattle.domain_types.specs.Typing.{GivesResult, IsTypedFunction, IsTypedProgr
 use Rattle.domain_types.specs.ExpressionTypes.{within}
 use Rattle.typed_tree.specs.declared.function.Returned.{Returned}
 use Rattle.typed_tree.specs.declared.function.Returned.TheVariants as given
-use Rattle.typed_tree.specs.Commands.{Commands}
+use Rattle.typed_tree.specs.Statements.{TypedStatementTrees}
 use Rattle.name_resolution.specs.Scopes.{FunctionScope, no_place, declaring}
 use Rattle.typed_tree.specs.Programs.{TypedFunctionTree, TypedProgramTree}
 use Rattle.name_resolution.specs.Functions.{slot_written, slots_written, given_back, with_parameters, typed_function, typed_functions}
 use Rattle.name_resolution.specs.Order as order
 use Rattle.name_resolution.proofs.SoundValues.{mapped, some_is}
 use Rattle.reached_instances.specs.Instances.{Instance}
-use Rattle.reached_instances.specs.Calls.{commands_calls, function_calls, called_by}
+use Rattle.reached_instances.specs.Calls.{typed_statements_calls, function_calls, called_by}
 use Rattle.program_typing.proofs.ReachedFunctions.{reached_agree}
 use Rattle.well_typed.specs.Sources.{MayStandAll, AreWellWritten, IsWellWritten}
-use Rattle.well_typed.specs.Commands.{AreWellTypedCommands, one_returns}
+use Rattle.well_typed.specs.Statements.{AreWellTypedStatements, one_returns}
 use Rattle.well_typed.specs.Programs.{GivesBack, IsWellTypedInstance}
 use Rattle.well_typed.specs.Laws.{bound_domain, IsCheckedInstance}
 use Rattle.well_typed.proofs.Bindings.{declared_type}
@@ -36,7 +36,7 @@ use Rattle.well_typed.proofs.Heads.{Begins, begins_itself, begins_further, IsMad
 use Rattle.well_typed.proofs.Typed.{AreChecked}
 use Rattle.well_typed.proofs.Calling.{known_in, Frame, setting, here}
 use Rattle.well_typed.proofs.Values.{Same}
-use Rattle.well_typed.proofs.Statements.{GoodCommands, Walked, new_variable, good_statements}
+use Rattle.well_typed.proofs.Statements.{GoodStatements, Walked, new_variable, good_statements}
 
 -- PARAMETERS
 
@@ -53,7 +53,7 @@ same_parameters p z g final w (q ∷ ps) s b m l =
 
 -- RESULTS
 
-gives_back : (p : ProgramTree) (z : Frame p) (r : ResultType) (g : Returned) (body : Commands) (b : Bool)
+gives_back : (p : ProgramTree) (z : Frame p) (r : ResultType) (g : Returned) (body : TypedStatementTrees) (b : Bool)
     → given_back (known_in p) z.function.variables r ≡ Some g → one_returns body ≡ b → b ≡ checker.one_returns z.function.body.statements
     → GivesResult (setting z) z.function r → GivesBack g body
 gives_back p z result.Void g body b e f q h = subst (λ x. GivesBack x body) (some_is given.Nothing g e) tt
@@ -85,13 +85,14 @@ good_instance p functions accepted well made_all i c =
         there = u.1;
         bound = ap length c.binding ∙ length-map c.domains bound_domain ∙ c.count ∙ sym made.variables;
         parameters = enough;
-        body = subst (λ b. AreWellTypedCommands (record { functions = functions; slots = u.0.slots; binding = b }) u.0.given false u.0.body)
+        body = subst (λ b. AreWellTypedStatements (record { functions = functions; slots = u.0.slots; binding = b }) u.0.given false u.0.body)
             (sym c.binding) body.typed;
         returns = gives_back p z c.function.returned u.0.given u.0.body (checker.one_returns c.function.body.statements) made.given body.returns_so
             refl typed.result;
       };
       called = subst (λ o. AreChecked p (function_calls functions i.binding o)) (sym u.1)
-          (subst (λ b. AreChecked p (commands_calls (record { functions = functions; slots = u.0.slots; binding = b }) u.0.body)) (sym c.binding) body.called);
+          (subst (λ b. AreChecked p (typed_statements_calls (record { functions = functions; slots = u.0.slots; binding = b }) u.0.body))
+          (sym c.binding) body.called);
     }
   where
     u : (t : TypedFunctionTree) × (slice_get functions i.function ≡ Some t) × (typed_function (known_in p) c.function ≡ Some t)
@@ -124,13 +125,13 @@ good_instance p functions accepted well made_all i c =
     scope = head.with_parameters (setting z) c.function.parameters checked.nothing_known
 
     walked : Walked (here z) made.final.slots scope (checker.after_all (setting z) scope c.function.body.statements)
-        (GoodCommands p (here z) u.0.given false (checker.one_returns c.function.body.statements)) start u.0.body made.final
+        (GoodStatements p (here z) u.0.given false (checker.one_returns c.function.body.statements)) start u.0.body made.final
     walked =
         (good_statements p z u.0.given made.final.slots made.slots false scope c.function.body.statements made.given
         (reached_agree (declared_by p) i.function c.function c.named) (λ k n. n)
         (written_at (functions_of p.items) c.number c.function well c.there) typed.body).from start u.0.body made.final made.body
 
-    body : GoodCommands p (here z) u.0.given false (checker.one_returns c.function.body.statements) u.0.body
+    body : GoodStatements p (here z) u.0.given false (checker.one_returns c.function.body.statements) u.0.body
     body =
         let nothing : Same (here z) checked.nothing_known no_place.scope = record { block = tt; outer = tt } in
         (walked.good (same_parameters p z u.0.given made.final.slots made.slots c.function.parameters checked.nothing_known no_place nothing

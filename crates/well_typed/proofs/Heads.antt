@@ -16,9 +16,9 @@ use Rattle.secrec_ast.specs.Programs.{FunctionTree}
 use Rattle.domain_types.specs.Declarations.{Declared}
 use Rattle.typed_tree.specs.declared.kinds.Slot.{Slot}
 use Rattle.typed_tree.specs.Tree.{TypedTree, truth_node}
-use Rattle.typed_tree.specs.Commands.{Command, none, also, empty_command, block_command, if_command, loop_command, do_command, break_command}
-use Rattle.typed_tree.specs.Commands.{continue_command, return_command, assert_command, store_command, default_command, fill_command, input_command}
-use Rattle.typed_tree.specs.Commands.{element_command, publish_command, evaluate_command}
+use Rattle.typed_tree.specs.Statements.{TypedStatementTree, none, also, empty_statement, block_statement, if_statement, loop_statement, do_statement}
+use Rattle.typed_tree.specs.Statements.{break_statement, continue_statement, return_statement, assert_statement, store_statement, default_statement}
+use Rattle.typed_tree.specs.Statements.{fill_statement, input_statement, element_statement, publish_statement, evaluate_statement}
 use Rattle.name_resolution.specs.Scopes.{FunctionScope, no_place, declaring}
 use Rattle.name_resolution.specs.Resolving.{Resolving, ◌>>=◌, done, reading, next_slot, declare, in_block, resolved_value, expression, known_at, named}
 use Rattle.name_resolution.specs.Bodies.{calling, evaluated, default_of, from_value, initial, declared, assigned_to, assigned, started, stepped}
@@ -59,45 +59,46 @@ grows_reading f = step_reading f Grow (λ p a e. begins_itself p.slots)
 grows_block : {A : Type 0} (m : Resolving A) → Step m Grow → Step (in_block m) Grow
 grows_block m h = step_block m Grow Grow h (λ p a q g. g)
 
-grows_one : (d : Declared) (e : Tree) (make : TypedTree → Command) → Step (expression d e >>= λ v. done (make v)) Grow
+grows_one : (d : Declared) (e : Tree) (make : TypedTree → TypedStatementTree) → Step (expression d e >>= λ v. done (make v)) Grow
 grows_one d e make = grows_bind (expression d e) (λ v. done (make v)) (grows_reading (resolved_value d e)) (λ v. grows_done (make v))
 
 grows_evaluated : (d : Declared) (e : Tree) → Step (evaluated d e) Grow
-grows_evaluated d (number p n) = grows_one d (number p n) evaluate_command
-grows_evaluated d (truth p b) = grows_one d (truth p b) evaluate_command
-grows_evaluated d (variable p x) = grows_one d (variable p x) evaluate_command
+grows_evaluated d (number p n) = grows_one d (number p n) evaluate_statement
+grows_evaluated d (truth p b) = grows_one d (truth p b) evaluate_statement
+grows_evaluated d (variable p x) = grows_one d (variable p x) evaluate_statement
 grows_evaluated d (call p x es) =
-    grows_bind (reading (calling d p.line x es)) (λ v. done (evaluate_command v)) (grows_reading (calling d p.line x es)) (λ v. grows_done (evaluate_command v))
-grows_evaluated d (index p a i) = grows_one d (index p a i) evaluate_command
-grows_evaluated d (parentheses p e) = grows_one d (parentheses p e) evaluate_command
-grows_evaluated d (negation p e) = grows_one d (negation p e) evaluate_command
-grows_evaluated d (cast p t e) = grows_one d (cast p t e) evaluate_command
-grows_evaluated d (binary p op a b) = grows_one d (binary p op a b) evaluate_command
-grows_evaluated d (declassify p e) = grows_one d (declassify p e) evaluate_command
-grows_evaluated d (argument p x) = grows_one d (argument p x) evaluate_command
-grows_evaluated d (publish p x e) = grows_one d e (publish_command x)
+    grows_bind (reading (calling d p.line x es)) (λ v. done (evaluate_statement v)) (grows_reading (calling d p.line x es))
+    (λ v. grows_done (evaluate_statement v))
+grows_evaluated d (index p a i) = grows_one d (index p a i) evaluate_statement
+grows_evaluated d (parentheses p e) = grows_one d (parentheses p e) evaluate_statement
+grows_evaluated d (negation p e) = grows_one d (negation p e) evaluate_statement
+grows_evaluated d (cast p t e) = grows_one d (cast p t e) evaluate_statement
+grows_evaluated d (binary p op a b) = grows_one d (binary p op a b) evaluate_statement
+grows_evaluated d (declassify p e) = grows_one d (declassify p e) evaluate_statement
+grows_evaluated d (argument p x) = grows_one d (argument p x) evaluate_statement
+grows_evaluated d (publish p x e) = grows_one d e (publish_statement x)
 
 grows_from : (d : Declared) (k : ℕ) (e : Tree) → Step (from_value d k e) Grow
-grows_from d k (number p n) = grows_one d (number p n) (store_command k)
-grows_from d k (truth p b) = grows_one d (truth p b) (store_command k)
-grows_from d k (variable p x) = grows_one d (variable p x) (store_command k)
-grows_from d k (call p x es) = grows_one d (call p x es) (store_command k)
-grows_from d k (index p a i) = grows_one d (index p a i) (store_command k)
-grows_from d k (parentheses p e) = grows_one d (parentheses p e) (store_command k)
-grows_from d k (negation p e) = grows_one d (negation p e) (store_command k)
-grows_from d k (cast p t e) = grows_one d (cast p t e) (store_command k)
-grows_from d k (binary p op a b) = grows_one d (binary p op a b) (store_command k)
-grows_from d k (declassify p e) = grows_one d (declassify p e) (store_command k)
-grows_from d k (argument p x) = grows_done (input_command p.line k x)
-grows_from d k (publish p x e) = grows_one d (publish p x e) (store_command k)
+grows_from d k (number p n) = grows_one d (number p n) (store_statement k)
+grows_from d k (truth p b) = grows_one d (truth p b) (store_statement k)
+grows_from d k (variable p x) = grows_one d (variable p x) (store_statement k)
+grows_from d k (call p x es) = grows_one d (call p x es) (store_statement k)
+grows_from d k (index p a i) = grows_one d (index p a i) (store_statement k)
+grows_from d k (parentheses p e) = grows_one d (parentheses p e) (store_statement k)
+grows_from d k (negation p e) = grows_one d (negation p e) (store_statement k)
+grows_from d k (cast p t e) = grows_one d (cast p t e) (store_statement k)
+grows_from d k (binary p op a b) = grows_one d (binary p op a b) (store_statement k)
+grows_from d k (declassify p e) = grows_one d (declassify p e) (store_statement k)
+grows_from d k (argument p x) = grows_done (input_statement p.line k x)
+grows_from d k (publish p x e) = grows_one d (publish p x e) (store_statement k)
 
 grows_initial : (d : Declared) (line k : ℕ) (element : DataType) (size value : Option Tree) → Step (initial d line k element size value) Grow
-grows_initial d line k element None None = grows_done (default_command k)
+grows_initial d line k element None None = grows_done (default_statement k)
 grows_initial d line k element None (Some e) = grows_from d k e
-grows_initial d line k element (Some n) None = grows_one d n (λ m. fill_command line k m (default_of element))
+grows_initial d line k element (Some n) None = grows_one d n (λ m. fill_statement line k m (default_of element))
 grows_initial d line k element (Some n) (Some e) =
-    grows_bind (expression d n) (λ m. expression d e >>= λ v. done (fill_command line k m v)) (grows_reading (resolved_value d n))
-    (λ m. grows_one d e (fill_command line k m))
+    grows_bind (expression d n) (λ m. expression d e >>= λ v. done (fill_statement line k m v)) (grows_reading (resolved_value d n))
+    (λ m. grows_one d e (fill_statement line k m))
 
 grows_declared : (d : Declared) (t : DeclarationTree) → Step (declared d t) Grow
 grows_declared d t =
@@ -112,10 +113,10 @@ grows_declared d t =
     line = t.declared.place.line
 
 grows_assigned_to : (d : Declared) (line k : ℕ) (i : Option Tree) (e : Tree) → Step (assigned_to d line k i e) Grow
-grows_assigned_to d line k None e = grows_one d e (store_command k)
+grows_assigned_to d line k None e = grows_one d e (store_statement k)
 grows_assigned_to d line k (Some i) e =
-    grows_bind (expression d i) (λ j. expression d e >>= λ v. done (element_command line k j v)) (grows_reading (resolved_value d i))
-    (λ j. grows_one d e (element_command line k j))
+    grows_bind (expression d i) (λ j. expression d e >>= λ v. done (element_statement line k j v)) (grows_reading (resolved_value d i))
+    (λ j. grows_one d e (element_statement line k j))
 
 grows_assigned : (d : Declared) (a : AssignmentTree) → Step (assigned d a) Grow
 grows_assigned d a =
@@ -124,12 +125,12 @@ grows_assigned d a =
     (λ x. grows_assigned_to d a.target.variable.place.line x.slot a.target.index a.value)
 
 grows_started : (d : Declared) (t : StartTree) → Step (started d t) Grow
-grows_started d starts_with_nothing = grows_done empty_command
+grows_started d starts_with_nothing = grows_done empty_statement
 grows_started d (starts_with_declaration t) = grows_declared d t
 grows_started d (starts_with_assignment a) = grows_assigned d a
 
 grows_stepped : (d : Declared) (t : StepTree) → Step (stepped d t) Grow
-grows_stepped d steps_by_nothing = grows_done empty_command
+grows_stepped d steps_by_nothing = grows_done empty_statement
 grows_stepped d (steps_by_assignment a) = grows_assigned d a
 grows_stepped d (steps_by_expression e) = grows_evaluated d e
 
@@ -138,51 +139,53 @@ grows_condition d None = grows_done (truth_node true)
 grows_condition d (Some e) = grows_reading (resolved_value d e)
 
 grows_returned : (d : Declared) (e : Option Tree) → Step (returned d e) Grow
-grows_returned d None = grows_done (return_command None)
-grows_returned d (Some e) = grows_one d e (λ v. return_command (Some v))
+grows_returned d None = grows_done (return_statement None)
+grows_returned d (Some e) = grows_one d e (λ v. return_statement (Some v))
 
-grows_looped : (d : Declared) (b : StartTree) (e : Option Tree) (c : StepTree) (body : Resolving Command) → Step body Grow → Step (looped d b e c body) Grow
+grows_looped : (d : Declared) (b : StartTree) (e : Option Tree) (c : StepTree) (body : Resolving TypedStatementTree) → Step body Grow
+    → Step (looped d b e c body) Grow
 grows_looped d b e c body h =
     grows_bind (started d b) (λ x. condition_of d e >>= λ v. stepped d c >>= λ y. in_block body >>= λ q. done (whole x v y q)) (grows_started d b)
     (λ x. grows_bind (condition_of d e) (λ v. stepped d c >>= λ y. in_block body >>= λ q. done (whole x v y q)) (grows_condition d e)
     (λ v. grows_bind (stepped d c) (λ y. in_block body >>= λ q. done (whole x v y q)) (grows_stepped d c)
     (λ y. grows_bind (in_block body) (λ q. done (whole x v y q)) (grows_block body h) (λ q. grows_done (whole x v y q)))))
   where
-    whole : Command → TypedTree → Command → Command → Command
-    whole x v y q = block_command (also x (also (loop_command v y q) none))
+    whole : TypedStatementTree → TypedTree → TypedStatementTree → TypedStatementTree → TypedStatementTree
+    whole x v y q = block_statement (also x (also (loop_statement v y q) none))
 
-grows_test : (d : Declared) (e : Tree) (m : Resolving Command) (make : TypedTree → Command → Command) → Step m Grow
+grows_test : (d : Declared) (e : Tree) (m : Resolving TypedStatementTree) (make : TypedTree → TypedStatementTree → TypedStatementTree) → Step m Grow
     → Step (expression d e >>= λ v. in_block m >>= λ c. done (make v c)) Grow
 grows_test d e m make h =
     grows_bind (expression d e) (λ v. in_block m >>= λ c. done (make v c)) (grows_reading (resolved_value d e))
     (λ v. grows_bind (in_block m) (λ c. done (make v c)) (grows_block m h) (λ c. grows_done (make v c)))
 
-grows_choice : (d : Declared) (e : Tree) (m k : Resolving Command) → Step m Grow → Step k Grow
-    → Step (expression d e >>= λ v. in_block m >>= λ b. in_block k >>= λ c. done (if_command v b c)) Grow
+grows_choice : (d : Declared) (e : Tree) (m k : Resolving TypedStatementTree) → Step m Grow → Step k Grow
+    → Step (expression d e >>= λ v. in_block m >>= λ b. in_block k >>= λ c. done (if_statement v b c)) Grow
 grows_choice d e m k g h =
-    grows_bind (expression d e) (λ v. in_block m >>= λ b. in_block k >>= λ c. done (if_command v b c)) (grows_reading (resolved_value d e))
-    (λ v. grows_bind (in_block m) (λ b. in_block k >>= λ c. done (if_command v b c)) (grows_block m g)
-    (λ b. grows_bind (in_block k) (λ c. done (if_command v b c)) (grows_block k h) (λ c. grows_done (if_command v b c))))
+    grows_bind (expression d e) (λ v. in_block m >>= λ b. in_block k >>= λ c. done (if_statement v b c)) (grows_reading (resolved_value d e))
+    (λ v. grows_bind (in_block m) (λ b. in_block k >>= λ c. done (if_statement v b c)) (grows_block m g)
+    (λ b. grows_bind (in_block k) (λ c. done (if_statement v b c)) (grows_block k h) (λ c. grows_done (if_statement v b c))))
 
-grows_do : (d : Declared) (e : Tree) (m : Resolving Command) → Step m Grow → Step (in_block m >>= λ b. expression d e >>= λ v. done (do_command b v)) Grow
+grows_do : (d : Declared) (e : Tree) (m : Resolving TypedStatementTree) → Step m Grow
+    → Step (in_block m >>= λ b. expression d e >>= λ v. done (do_statement b v)) Grow
 grows_do d e m h =
-    grows_bind (in_block m) (λ b. expression d e >>= λ v. done (do_command b v)) (grows_block m h) (λ b. grows_one d e (do_command b))
+    grows_bind (in_block m) (λ b. expression d e >>= λ v. done (do_statement b v)) (grows_block m h) (λ b. grows_one d e (do_statement b))
 
 mutual
   grows_resolved : (d : Declared) (t : StatementTree) → Step (resolved d t) Grow
   grows_resolved d (block p ss) =
-      grows_bind (in_block (resolved_all d ss)) (λ cs. done (block_command cs)) (grows_block (resolved_all d ss) (grows_all d ss))
-      (λ cs. grows_done (block_command cs))
-  grows_resolved d (empty p) = grows_done empty_command
-  grows_resolved d (branch p e body) = grows_test d e (resolved d body) (λ v c. if_command v c empty_command) (grows_resolved d body)
+      grows_bind (in_block (resolved_all d ss)) (λ cs. done (block_statement cs)) (grows_block (resolved_all d ss) (grows_all d ss))
+      (λ cs. grows_done (block_statement cs))
+  grows_resolved d (empty p) = grows_done empty_statement
+  grows_resolved d (branch p e body) = grows_test d e (resolved d body) (λ v c. if_statement v c empty_statement) (grows_resolved d body)
   grows_resolved d (choice p e body otherwise) = grows_choice d e (resolved d body) (resolved d otherwise) (grows_resolved d body) (grows_resolved d otherwise)
-  grows_resolved d (while_loop p e body) = grows_test d e (resolved d body) (λ v c. loop_command v empty_command c) (grows_resolved d body)
+  grows_resolved d (while_loop p e body) = grows_test d e (resolved d body) (λ v c. loop_statement v empty_statement c) (grows_resolved d body)
   grows_resolved d (do_loop p body e) = grows_do d e (resolved d body) (grows_resolved d body)
   grows_resolved d (for_loop p b e c body) = grows_block (looped d b e c (resolved d body)) (grows_looped d b e c (resolved d body) (grows_resolved d body))
-  grows_resolved d (breaks p) = grows_done break_command
-  grows_resolved d (continues p) = grows_done continue_command
+  grows_resolved d (breaks p) = grows_done break_statement
+  grows_resolved d (continues p) = grows_done continue_statement
   grows_resolved d (returns p e) = grows_returned d e
-  grows_resolved d (assertion p e) = grows_one d e (assert_command p.line)
+  grows_resolved d (assertion p e) = grows_one d e (assert_statement p.line)
   grows_resolved d (declaration t) = grows_declared d t
   grows_resolved d (assignment a) = grows_assigned d a
   grows_resolved d (evaluation e) = grows_evaluated d e

@@ -29,7 +29,7 @@ use Rattle.typed_tree.specs.declared.operators.WordOperator.TheVariants as word
 use Rattle.typed_tree.specs.declared.operators.BinaryOperator.TheVariants.{Words}
 use Rattle.typed_tree.specs.declared.operators.Operands.TheVariants.{Scalars}
 use Rattle.typed_tree.specs.Tree.{word_node, slot_node, call_node, binary_node, declassify_node, typed_trees_of}
-use Rattle.typed_tree.specs.Commands.{return_command, input_command, publish_command, commands_of}
+use Rattle.typed_tree.specs.Statements.{return_statement, input_statement, publish_statement, typed_statements_of}
 use Rattle.typed_tree.specs.Programs.{TypedProgramTree}
 use Rattle.typed_tree.specs.Shapes.{shape_of}
 use Rattle.name_resolution.specs.Functions.{typed_of}
@@ -254,8 +254,8 @@ sample_tree =
         parameters = 0;
         slots = record { domain = slot.Private 0; shape = shape_of Uint64 false } ∷ [];
         given = Nothing;
-        body = commands_of (input_command 1 0 (codes "a")
-            ∷ publish_command (codes "c") (declassify_node (call_node 1 1 (typed_trees_of (slot_node 0 ∷ [])))) ∷ []);
+        body = typed_statements_of (input_statement 1 0 (codes "a")
+            ∷ publish_statement (codes "c") (declassify_node (call_node 1 1 (typed_trees_of (slot_node 0 ∷ [])))) ∷ []);
         size = 9;
       } ∷ record {
         name = codes "f";
@@ -263,7 +263,7 @@ sample_tree =
         parameters = 1;
         slots = record { domain = slot.Variable 0; shape = shape_of Uint64 false } ∷ [];
         given = Value (record { domain = slot.Variable 0; shape = shape_of Uint64 false });
-        body = commands_of (return_command (Some (binary_node 1 (Words word.Add) Scalars (slot_node 0) (word_node 1))) ∷ []);
+        body = typed_statements_of (return_statement (Some (binary_node 1 (Words word.Add) Scalars (slot_node 0) (word_node 1))) ∷ []);
         size = 7;
       } ∷ [];
     }

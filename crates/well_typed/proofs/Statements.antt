@@ -37,9 +37,9 @@ use Rattle.typed_tree.specs.declared.function.Returned.{Returned}
 use Rattle.typed_tree.specs.declared.function.Returned.TheVariants as given_back
 use Rattle.name_resolution.specs.declared.variables.Known.{Known}
 use Rattle.typed_tree.specs.Tree.{TypedTree, truth_node}
-use Rattle.typed_tree.specs.Commands.{Command, Commands, none, also, empty_command, block_command, if_command, loop_command, do_command}
-use Rattle.typed_tree.specs.Commands.{break_command, continue_command, return_command, assert_command, store_command, default_command, fill_command}
-use Rattle.typed_tree.specs.Commands.{input_command, element_command, publish_command, evaluate_command}
+use Rattle.typed_tree.specs.Statements.{TypedStatementTree, TypedStatementTrees, none, also, empty_statement, block_statement, if_statement, loop_statement}
+use Rattle.typed_tree.specs.Statements.{do_statement, break_statement, continue_statement, return_statement, assert_statement, store_statement}
+use Rattle.typed_tree.specs.Statements.{default_statement, fill_statement, input_statement, element_statement, publish_statement, evaluate_statement}
 use Rattle.name_resolution.specs.Scopes.{FunctionScope, known_of, variable_named, shape_written, declaring}
 use Rattle.typed_tree.specs.Shapes.{shape_of}
 use Rattle.name_resolution.specs.Values.{value, call_made}
@@ -52,14 +52,14 @@ use Rattle.name_resolution.specs.Order as order
 use Rattle.name_resolution.proofs.SoundValues.{mapped, some_is}
 use Rattle.reached_instances.specs.Domains as domains
 use Rattle.reached_instances.specs.Domains.{domain, domain_under}
-use Rattle.reached_instances.specs.Calls.{calls, command_calls, commands_calls}
+use Rattle.reached_instances.specs.Calls.{calls, typed_statement_calls, typed_statements_calls}
 use Rattle.program_typing.proofs.TreesOfValues.{Agree, agree_left, agree_right, names_in}
 use Rattle.program_typing.proofs.TreesOfStatements.{names_in_optional, names_in_declaration, names_in_assignment, names_in_start, names_in_step}
 use Rattle.program_typing.proofs.TreesOfStatements.{names_by, names_by_all}
 use Rattle.well_typed.specs.Sources.{HasWords, HasWordsIf, DeclaresWords, AssignsWords, StartsWithWords, StepsByWords, MayStand, MayStandAll}
 use Rattle.well_typed.specs.Kinds.{scalar, GoesTo}
 use Rattle.well_typed.specs.Expressions.{Gives}
-use Rattle.well_typed.specs.Commands.{FitsInto, IsArraySlot, IsWellTypedCommand, AreWellTypedCommands, always_returns, one_returns}
+use Rattle.well_typed.specs.Statements.{FitsInto, IsArraySlot, IsWellTypedStatement, AreWellTypedStatements, always_returns, one_returns}
 use Rattle.well_typed.specs.Laws.{bound_domain}
 use Rattle.well_typed.proofs.Bindings.{goes}
 use Rattle.well_typed.proofs.SlotsWritten.{shape_in, SlotIs, slot_same, slots_at}
@@ -161,15 +161,15 @@ pub record HoldsAt (w : domains.Setting) (v : ValueType) (k : ℕ) : Type 0 wher
   pub at : slice_get w.slots k ≡ Some slot
   pub is : SlotIs w.binding slot v
 
-pub record GoodCommand (p : ProgramTree) (w : domains.Setting) (g : Returned) (inside returns : Bool) (c : Command) : Type 0 where
-  pub typed : IsWellTypedCommand w g inside c
+pub record GoodStatement (p : ProgramTree) (w : domains.Setting) (g : Returned) (inside returns : Bool) (c : TypedStatementTree) : Type 0 where
+  pub typed : IsWellTypedStatement w g inside c
   pub returns_so : always_returns c ≡ returns
-  pub called : AreChecked p (command_calls w c)
+  pub called : AreChecked p (typed_statement_calls w c)
 
-pub record GoodCommands (p : ProgramTree) (w : domains.Setting) (g : Returned) (inside returns : Bool) (cs : Commands) : Type 0 where
-  pub typed : AreWellTypedCommands w g inside cs
+pub record GoodStatements (p : ProgramTree) (w : domains.Setting) (g : Returned) (inside returns : Bool) (cs : TypedStatementTrees) : Type 0 where
+  pub typed : AreWellTypedStatements w g inside cs
   pub returns_so : one_returns cs ≡ returns
-  pub called : AreChecked p (commands_calls w cs)
+  pub called : AreChecked p (typed_statements_calls w cs)
 
 fits : (p : ProgramTree) (w : domains.Setting) (s : Slot) (shape : Shape) (wanted given : ValueType) (t : TypedTree) → typing.FitsInto wanted given
     → shape ≡ shape_in wanted → domain_under w.binding s.domain ≡ bound_domain wanted.domain → GoodTree p w given t → FitsInto w s shape t
@@ -219,9 +219,9 @@ module _ (p : ProgramTree) (z : Frame p) (g : Returned) where
   made_right : (bs cs : List Call) → AreMade z (bs ++ cs) → AreMade z cs
   made_right bs cs m c n = m c (among_right c bs cs n)
 
-  -- a command that does not return
-  abbrev Runs : Bool → Command → Type 0
-  Runs inside c = GoodCommand p (here z) g inside false c
+  -- a statement that does not return
+  abbrev Runs : Bool → TypedStatementTree → Type 0
+  Runs inside c = GoodStatement p (here z) g inside false c
 
   -- EXPRESSIONS
 
@@ -236,7 +236,7 @@ module _ (p : ProgramTree) (z : Frame p) (g : Returned) where
           let is : GoodTree p (here z) v r.part.tree = record { gives = x.gives; seen_by = x.seen_by; called = x.called } in
           subst (GoodTree p (here z) v) r.is is
 
-  read_one : (s : checked.Scope) (e : Tree) (v : ValueType) (P : Command → Type 0) (make : TypedTree → Command) → Agreed (names_in e)
+  read_one : (s : checked.Scope) (e : Tree) (v : ValueType) (P : TypedStatementTree → Type 0) (make : TypedTree → TypedStatementTree) → Agreed (names_in e)
       → AreMade z (calls_of (setting z) s e) → HasWords e → HasType (setting z) s e (Value v)
       → ((t : TypedTree) → GoodTree p (here z) v t → P (make t)) → Step (expression (known_in p) e >>= λ t. done (make t)) (Read (here z) s P)
   read_one s e v P make a c w h f =
@@ -256,9 +256,9 @@ module _ (p : ProgramTree) (z : Frame p) (g : Returned) where
           subst (GoodAny p (here z)) r.is is
 
   evaluates : (inside : Bool) (s : checked.Scope) (e : Tree) (v : ValueType) → Agreed (names_in e) → AreMade z (calls_of (setting z) s e) → HasWords e
-      → HasType (setting z) s e (Value v) → Step (expression (known_in p) e >>= λ t. done (evaluate_command t)) (Read (here z) s (Runs inside))
+      → HasType (setting z) s e (Value v) → Step (expression (known_in p) e >>= λ t. done (evaluate_statement t)) (Read (here z) s (Runs inside))
   evaluates inside s e v a c w h =
-      read_one s e v (Runs inside) evaluate_command a c w h (λ t k. record { typed = (Some (shape_in v), k.gives); returns_so = refl; called = k.called })
+      read_one s e v (Runs inside) evaluate_statement a c w h (λ t k. record { typed = (Some (shape_in v), k.gives); returns_so = refl; called = k.called })
 
   good_evaluated : (inside : Bool) (s : checked.Scope) (e : Tree) (t : ExpressionType) → Agreed (names_in e) → AreMade z (calls_of (setting z) s e)
       → HasWords e → HasType (setting z) s e t → Step (evaluated (known_in p) e) (Read (here z) s (Runs inside))
@@ -266,9 +266,9 @@ module _ (p : ProgramTree) (z : Frame p) (g : Returned) where
   good_evaluated inside s (truth q b) t a c w h = evaluates inside s (truth q b) (public_scalar datatype.Bool) a c w refl
   good_evaluated inside s (variable q x) t a c w h = evaluates inside s (variable q x) h.0 a c w (h.0, h.1, refl)
   good_evaluated inside s (call q x es) t a c w h =
-      read_bind (here z) s (GoodAny p (here z)) (Runs inside) (reading (calling (known_in p) q.line x es)) (λ v. done (evaluate_command v))
+      read_bind (here z) s (GoodAny p (here z)) (Runs inside) (reading (calling (known_in p) q.line x es)) (λ v. done (evaluate_statement v))
       (read_call s q x es t a c w h)
-      (λ v. read_done (here z) s (λ c. GoodAny p (here z) v → Runs inside c) (evaluate_command v)
+      (λ v. read_done (here z) s (λ c. GoodAny p (here z) v → Runs inside c) (evaluate_statement v)
       (λ k. record { typed = (k.given, k.gives); returns_so = refl; called = k.called }))
   good_evaluated inside s (index q b i) t a c w h = evaluates inside s (index q b i) (scalar_of h.0) a c w (h.0, h.1, h.2, h.3, h.4, h.5, refl)
   good_evaluated inside s (parentheses q e) t a c w h = evaluates inside s (parentheses q e) h.0 a c w (h.0, h.1, refl)
@@ -278,24 +278,24 @@ module _ (p : ProgramTree) (z : Frame p) (g : Returned) where
   good_evaluated inside s (declassify q e) t a c w h = evaluates inside s (declassify q e) (declassified h.0) a c w (h.0, h.1, refl)
   good_evaluated inside s (argument q x) t a c w h = absurd h
   good_evaluated inside s (publish q x e) t a c w h =
-      read_one s e h.0 (Runs inside) (publish_command x) a c w h.1 (λ t k. record { typed = (shape_in h.0, k.gives); returns_so = refl; called = k.called })
+      read_one s e h.0 (Runs inside) (publish_statement x) a c w h.1 (λ t k. record { typed = (shape_in h.0, k.gives); returns_so = refl; called = k.called })
 
   -- DECLARATIONS: good where the slot is there
 
-  abbrev IfHeld : Bool → ValueType → ℕ → Command → Type 0
+  abbrev IfHeld : Bool → ValueType → ℕ → TypedStatementTree → Type 0
   IfHeld inside held k c = HoldsAt (here z) held k → Runs inside c
 
   stores : (inside : Bool) (s : checked.Scope) (k : ℕ) (e : Tree) (held : ValueType) → Agreed (names_in e) → AreMade z (calls_of (setting z) s e)
       → HasWords e → HasFitting (setting z) s e held
-      → Step (expression (known_in p) e >>= λ t. done (store_command k t)) (Read (here z) s (IfHeld inside held k))
+      → Step (expression (known_in p) e >>= λ t. done (store_statement k t)) (Read (here z) s (IfHeld inside held k))
   stores inside s k e held a c w h =
-      read_one s e h.0 (IfHeld inside held k) (store_command k) a c w h.1
+      read_one s e h.0 (IfHeld inside held k) (store_statement k) a c w h.1
       (λ t x o. record { typed = (o.slot, o.at, fits_slot p (here z) held h.0 k t o h.2 x); returns_so = refl; called = x.called })
 
   good_from : (inside : Bool) (s : checked.Scope) (k : ℕ) (e : Tree) (held : ValueType) → Agreed (names_in e) → AreMade z (calls_of (setting z) s e)
       → HasWords e → IsTrue (is_argument e) ⊎ HasFitting (setting z) s e held → Step (from_value (known_in p) k e) (Read (here z) s (IfHeld inside held k))
   good_from inside s k (argument q x) held a c w h =
-      read_done (here z) s (IfHeld inside held k) (input_command q.line k x)
+      read_done (here z) s (IfHeld inside held k) (input_statement q.line k x)
       (λ o. record { typed = (o.slot, o.at); returns_so = refl; called = none_checked p })
   good_from inside s k (number q n) held a c w (inl h) = cc
   good_from inside s k (number q n) held a c w (inr h) = stores inside s k (number q n) held a c w h
@@ -321,7 +321,7 @@ module _ (p : ProgramTree) (z : Frame p) (g : Returned) where
   good_from inside s k (publish q x e) held a c w (inr h) = stores inside s k (publish q x e) held a c w h
 
   fills : (inside : Bool) (k line : ℕ) (held given : ValueType) (m t : TypedTree) → held.array ≡ true → typing.FitsInto (scalar_of held) given
-      → GoodTree p (here z) (public_scalar Uint64) m → GoodTree p (here z) given t → IfHeld inside held k (fill_command line k m t)
+      → GoodTree p (here z) (public_scalar Uint64) m → GoodTree p (here z) given t → IfHeld inside held k (fill_statement line k m t)
   fills inside k line held given m t e f x y o =
       record {
         typed = (o.slot, array_slot (here z) held k o e, (x.gives, x.seen_by), fits_element p (here z) held given k t o f y);
@@ -334,17 +334,17 @@ module _ (p : ProgramTree) (z : Frame p) (g : Returned) where
       → AreMade z (optional_calls (setting z) s size ++ optional_calls (setting z) s value) → HasWordsIf size → HasWordsIf value
       → IsInitial (setting z) s held size value → Step (initial (known_in p) line k held.element size value) (Read (here z) s (IfHeld inside held k))
   good_initial inside s k line held None None a c w u h =
-      read_done (here z) s (IfHeld inside held k) (default_command k) (λ o. record { typed = (o.slot, o.at); returns_so = refl; called = none_checked p })
+      read_done (here z) s (IfHeld inside held k) (default_statement k) (λ o. record { typed = (o.slot, o.at); returns_so = refl; called = none_checked p })
   good_initial inside s k line held None (Some e) a c w u h = good_from inside s k e held a c u h
   good_initial inside s k line held (Some n) None a c w u h =
-      read_one s n (public_scalar Uint64) (IfHeld inside held k) (λ m. fill_command line k m (default_of held.element)) (left_of (names_in n) [] a)
+      read_one s n (public_scalar Uint64) (IfHeld inside held k) (λ m. fill_statement line k m (default_of held.element)) (left_of (names_in n) [] a)
       (made_left (calls_of (setting z) s n) [] c) w h.1
       (λ m x. fills inside k line held (public_scalar held.element) m (default_of held.element) h.0 (refl, refl, tt) x (good_default p (here z) held.element))
   good_initial inside s k line held (Some n) (Some e) a c w u h =
       read_bind (here z) s (GoodTree p (here z) (public_scalar Uint64)) (IfHeld inside held k) (expression (known_in p) n)
-      (λ m. expression (known_in p) e >>= λ v. done (fill_command line k m v))
+      (λ m. expression (known_in p) e >>= λ v. done (fill_statement line k m v))
       (read_value s n (public_scalar Uint64) (left_of (names_in n) (names_in e) a) (made_left (calls_of (setting z) s n) (calls_of (setting z) s e) c) w h.1)
-      (λ m. read_one s e h.2.0 (λ c. GoodTree p (here z) (public_scalar Uint64) m → IfHeld inside held k c) (fill_command line k m)
+      (λ m. read_one s e h.2.0 (λ c. GoodTree p (here z) (public_scalar Uint64) m → IfHeld inside held k c) (fill_statement line k m)
       (right_of (names_in n) (names_in e) a) (made_right (calls_of (setting z) s n) (calls_of (setting z) s e) c) u h.2.1
       (λ t y x. fills inside k line held h.2.0 m t h.0 h.2.2 x y))
 
@@ -369,9 +369,9 @@ module _ (p : ProgramTree) (z : Frame p) (g : Returned) where
   good_assigned_to inside s line k (Some i) e held wanted a c w u h f =
       let fitting = subst (HasFitting (setting z) s e) h.2 f in
       read_bind (here z) s (GoodTree p (here z) (public_scalar Uint64)) (IfHeld inside held k) (expression (known_in p) i)
-      (λ j. expression (known_in p) e >>= λ v. done (element_command line k j v))
+      (λ j. expression (known_in p) e >>= λ v. done (element_statement line k j v))
       (read_value s i (public_scalar Uint64) (left_of (names_in i) (names_in e) a) (made_left (calls_of (setting z) s i) (calls_of (setting z) s e) c) w h.1)
-      (λ j. read_one s e fitting.0 (λ c. GoodTree p (here z) (public_scalar Uint64) j → IfHeld inside held k c) (element_command line k j)
+      (λ j. read_one s e fitting.0 (λ c. GoodTree p (here z) (public_scalar Uint64) j → IfHeld inside held k c) (element_statement line k j)
       (right_of (names_in i) (names_in e) a) (made_right (calls_of (setting z) s i) (calls_of (setting z) s e) c) u fitting.1
       (λ t y x o. record {
         typed = (o.slot, array_slot (here z) held k o h.0, (x.gives, x.seen_by), fits_element p (here z) held fitting.0 k t o fitting.2 y);
@@ -398,28 +398,29 @@ module _ (p : ProgramTree) (z : Frame p) (g : Returned) where
 
   good_stepped : (s : checked.Scope) (t : StepTree) → Agreed (names_in_step t) → AreMade z (step_calls (setting z) s t) → StepsByWords t
       → IsStep (setting z) s t → Step (stepped (known_in p) t) (Read (here z) s (Runs false))
-  good_stepped s steps_by_nothing a c w h = read_done (here z) s (Runs false) empty_command (record { typed = tt; returns_so = refl; called = none_checked p })
+  good_stepped s steps_by_nothing a c w h =
+      read_done (here z) s (Runs false) empty_statement (record { typed = tt; returns_so = refl; called = none_checked p })
   good_stepped s (steps_by_assignment t) a c w h = good_assigned false s t a c w h
   good_stepped s (steps_by_expression e) a c w h = good_evaluated false s e h.0 a c w h.1
 
-  -- a command that returns
-  abbrev Returns : Bool → Command → Type 0
-  Returns inside c = GoodCommand p (here z) g inside true c
+  -- a statement that returns
+  abbrev Returns : Bool → TypedStatementTree → Type 0
+  Returns inside c = GoodStatement p (here z) g inside true c
 
   good_returned : (inside : Bool) (s : checked.Scope) (r : ResultType) (e : Option Tree)
       → functions.given_back (known_in p) z.function.variables r ≡ Some g → Agreed (names_in_optional e) → AreMade z (optional_calls (setting z) s e)
       → HasWordsIf e → IsReturn (setting z) r s e → Step (returned (known_in p) e) (Read (here z) s (Returns inside))
   good_returned inside s result.Void None b a c w h =
-      read_done (here z) s (Returns inside) (return_command None)
-      (subst (λ x. GoodCommand p (here z) x inside true (return_command None)) (some_is given_back.Nothing g b)
+      read_done (here z) s (Returns inside) (return_statement None)
+      (subst (λ x. GoodStatement p (here z) x inside true (return_statement None)) (some_is given_back.Nothing g b)
       (record { typed = tt; returns_so = refl; called = none_checked p }))
   good_returned inside s result.Void (Some e) b a c w h = absurd h
   good_returned inside s (result.Value t) None b a c w h = absurd h
   good_returned inside s (result.Value t) (Some e) b a c w h =
       let r = mapped given_back.Value (slot_written (known_in p) z.function.variables t) g b in
       let is = slot_same (declared_by p) (order.reached (declared_by p)) z.function z.domains z.count t h.0 r.part h.1 r.there in
-      read_one s e h.2.0 (Returns inside) (λ v. return_command (Some v)) a c w h.2.1
-      (λ v x. subst (λ y. GoodCommand p (here z) y inside true (return_command (Some v))) r.is
+      read_one s e h.2.0 (Returns inside) (λ v. return_statement (Some v)) a c w h.2.1
+      (λ v x. subst (λ y. GoodStatement p (here z) y inside true (return_statement (Some v))) r.is
       (record { typed = fits p (here z) r.part r.part.shape h.0 h.2.0 v h.2.2 is.shape is.seen_by x; returns_so = refl; called = x.called }))
 
   -- WHOLE STATEMENTS: with all slots of the function
@@ -468,7 +469,7 @@ module _ (p : ProgramTree) (z : Frame p) (g : Returned) where
         first k = subst (λ d. Step (initial (known_in p) line k d t.size t.value) (Read (here z) s (IfHeld inside h.held k))) element
             (good_initial inside s k line h.held t.size t.value a c w.0 w.1 h.initial)
 
-        made : (b : FunctionScope) (x : Command) → (Same (here z) s b.scope → IfHeld inside h.held (length b.slots) x)
+        made : (b : FunctionScope) (x : TypedStatementTree) → (Same (here z) s b.scope → IfHeld inside h.held (length b.slots) x)
             → Walked (here z) final s behind (Runs inside) b x (declaring t.variable t.declared b)
         made b x k = record {
           grows = (t.declared ∷ [], refl);
@@ -478,7 +479,7 @@ module _ (p : ProgramTree) (z : Frame p) (g : Returned) where
           );
         }
 
-        go : (b : FunctionScope) (x : Command) (q : FunctionScope) (o : Option (Command × FunctionScope))
+        go : (b : FunctionScope) (x : TypedStatementTree) (q : FunctionScope) (o : Option (TypedStatementTree × FunctionScope))
             → initial (known_in p) line (length b.slots) t.declared.element t.size t.value b ≡ o
             → carry o (λ y r. Some (pair_of y (declaring t.variable t.declared r))) ≡ Some (x, q) → Walked (here z) final s behind (Runs inside) b x q
         go b x q None i e = cc
@@ -490,7 +491,7 @@ module _ (p : ProgramTree) (z : Frame p) (g : Returned) where
     good_started : (inside : Bool) (s : checked.Scope) (t : StartTree) → Agreed (names_in_start t) → AreMade z (start_calls (setting z) s t)
         → StartsWithWords t → IsStart (setting z) s t → Walks (started (known_in p) t) s (after_start (setting z) s t) (Runs inside)
     good_started inside s starts_with_nothing a c w h =
-        walked_done (here z) final s (Runs inside) empty_command (record { typed = tt; returns_so = refl; called = none_checked p })
+        walked_done (here z) final s (Runs inside) empty_statement (record { typed = tt; returns_so = refl; called = none_checked p })
     good_started inside s (starts_with_declaration t) a c w h = good_declared inside s t a c w h
     good_started inside s (starts_with_assignment t) a c w h =
         walked_read (here z) final s (Runs inside) (assigned (known_in p) t) (good_assigned inside s t a c w h)
@@ -504,28 +505,29 @@ module _ (p : ProgramTree) (z : Frame p) (g : Returned) where
     IsTest v = GoodTree p (here z) (public_scalar datatype.Bool) v
 
     -- the whole of a `for`
-    abbrev whole : Command → TypedTree → Command → Command → Command
-    whole x v y q = block_command (also x (also (loop_command v y q) none))
+    abbrev whole : TypedStatementTree → TypedTree → TypedStatementTree → TypedStatementTree → TypedStatementTree
+    whole x v y q = block_statement (also x (also (loop_statement v y q) none))
 
-    good_whole : (inside r : Bool) (x : Command) (v : TypedTree) (y q : Command) → Runs inside x → IsTest v → Runs false y
-        → GoodCommand p (here z) g true r q → Runs inside (whole x v y q)
+    good_whole : (inside r : Bool) (x : TypedStatementTree) (v : TypedTree) (y q : TypedStatementTree) → Runs inside x → IsTest v → Runs false y
+        → GoodStatement p (here z) g true r q → Runs inside (whole x v y q)
     good_whole inside r x v y q a t c b =
         record {
           typed = (a.typed, (((t.gives, t.seen_by), c.typed, b.typed), tt));
           returns_so = ap (λ d. d || (false || false)) a.returns_so;
           called =
-              both_checked p (command_calls (here z) x) ((command_calls (here z) q ++ (command_calls (here z) y ++ calls (here z) v)) ++ []) a.called
-              (both_checked p (command_calls (here z) q ++ (command_calls (here z) y ++ calls (here z) v)) []
-              (both_checked p (command_calls (here z) q) (command_calls (here z) y ++ calls (here z) v) b.called
-              (both_checked p (command_calls (here z) y) (calls (here z) v) c.called t.called)) (none_checked p));
+              both_checked p (typed_statement_calls (here z) x)
+              ((typed_statement_calls (here z) q ++ (typed_statement_calls (here z) y ++ calls (here z) v)) ++ []) a.called
+              (both_checked p (typed_statement_calls (here z) q ++ (typed_statement_calls (here z) y ++ calls (here z) v)) []
+              (both_checked p (typed_statement_calls (here z) q) (typed_statement_calls (here z) y ++ calls (here z) v) b.called
+              (both_checked p (typed_statement_calls (here z) y) (calls (here z) v) c.called t.called)) (none_checked p));
         }
 
-    good_looped : (inside r : Bool) (s u : checked.Scope) (b : StartTree) (e : Option Tree) (c : StepTree) (body : Resolving Command)
+    good_looped : (inside r : Bool) (s u : checked.Scope) (b : StartTree) (e : Option Tree) (c : StepTree) (body : Resolving TypedStatementTree)
         → Agreed (names_in_start b) → Agreed (names_in_optional e) → Agreed (names_in_step c) → AreMade z (start_calls (setting z) s b)
         → AreMade z (optional_calls (setting z) (after_start (setting z) s b) e) → AreMade z (step_calls (setting z) (after_start (setting z) s b) c)
         → StartsWithWords b → HasWordsIf e → StepsByWords c → IsStart (setting z) s b
         → IsOptionalCondition (setting z) (after_start (setting z) s b) e → IsStep (setting z) (after_start (setting z) s b) c
-        → Walks body (checked.inner (after_start (setting z) s b)) u (GoodCommand p (here z) g true r)
+        → Walks body (checked.inner (after_start (setting z) s b)) u (GoodStatement p (here z) g true r)
         → Walks (looped (known_in p) b e c body) s (after_start (setting z) s b) (Runs inside)
     good_looped inside r s u b e c body ab ae ac cb ce cc' wb we wc hb he hc within =
         walked_bind (here z) final s t t (Runs inside) (Runs inside) (started (known_in p) b)
@@ -537,99 +539,102 @@ module _ (p : ProgramTree) (z : Frame p) (g : Returned) where
         (λ v. walked_bind (here z) final t t t (Runs false) (λ d. IsTest v → Runs inside x → Runs inside d) (stepped (known_in p) c)
         (λ y. in_block body >>= λ q. done (whole x v y q))
         (walked_read (here z) final t (Runs false) (stepped (known_in p) c) (good_stepped t c ac cc' wc hc))
-        (λ y. walked_bind (here z) final t t t (GoodCommand p (here z) g true r) (λ d. Runs false y → IsTest v → Runs inside x → Runs inside d)
-        (in_block body) (λ q. done (whole x v y q)) (walked_block (here z) final t u (GoodCommand p (here z) g true r) body within)
-        (λ q. walked_done (here z) final t (λ d. GoodCommand p (here z) g true r q → Runs false y → IsTest v → Runs inside x → Runs inside d)
+        (λ y. walked_bind (here z) final t t t (GoodStatement p (here z) g true r) (λ d. Runs false y → IsTest v → Runs inside x → Runs inside d)
+        (in_block body) (λ q. done (whole x v y q)) (walked_block (here z) final t u (GoodStatement p (here z) g true r) body within)
+        (λ q. walked_done (here z) final t (λ d. GoodStatement p (here z) g true r q → Runs false y → IsTest v → Runs inside x → Runs inside d)
         (whole x v y q) (λ kq ky kv kx. good_whole inside r x v y q kx kv ky kq)))))
       where
         t : checked.Scope
         t = after_start (setting z) s b
 
-    good_test : (P q : Command → Type 0) (s u : checked.Scope) (e : Tree) (m : Resolving Command) (make : TypedTree → Command → Command)
+    good_test : (P q : TypedStatementTree → Type 0) (s u : checked.Scope) (e : Tree) (m : Resolving TypedStatementTree)
+        (make : TypedTree → TypedStatementTree → TypedStatementTree)
         → Agreed (names_in e) → AreMade z (calls_of (setting z) s e) → HasWords e → HasPublicScalar (setting z) s e datatype.Bool
-        → Walks m (checked.inner s) u P → ((v : TypedTree) (c : Command) → IsTest v → P c → q (make v c))
+        → Walks m (checked.inner s) u P → ((v : TypedTree) (c : TypedStatementTree) → IsTest v → P c → q (make v c))
         → Walks (expression (known_in p) e >>= λ v. in_block m >>= λ c. done (make v c)) s s q
     good_test P q s u e m make a c w h within f =
         walked_bind (here z) final s s s IsTest q (expression (known_in p) e) (λ v. in_block m >>= λ c. done (make v c)) (walks_value s e a c w h)
         (λ v. walked_bind (here z) final s s s P (λ d. IsTest v → q d) (in_block m) (λ c. done (make v c)) (walked_block (here z) final s u P m within)
         (λ c. walked_done (here z) final s (λ d. P c → IsTest v → q d) (make v c) (λ k t. f v c t k)))
 
-    good_if : (inside x y : Bool) (v : TypedTree) (b c : Command) → IsTest v → GoodCommand p (here z) g inside x b
-        → GoodCommand p (here z) g inside y c → GoodCommand p (here z) g inside (x && y) (if_command v b c)
+    good_if : (inside x y : Bool) (v : TypedTree) (b c : TypedStatementTree) → IsTest v → GoodStatement p (here z) g inside x b
+        → GoodStatement p (here z) g inside y c → GoodStatement p (here z) g inside (x && y) (if_statement v b c)
     good_if inside x y v b c t k l =
         record {
           typed = ((t.gives, t.seen_by), k.typed, l.typed);
           returns_so = ap₂ (λ i j. i && j) k.returns_so l.returns_so;
-          called = both_checked p (calls (here z) v) (command_calls (here z) b ++ command_calls (here z) c) t.called
-              (both_checked p (command_calls (here z) b) (command_calls (here z) c) k.called l.called);
+          called = both_checked p (calls (here z) v) (typed_statement_calls (here z) b ++ typed_statement_calls (here z) c) t.called
+              (both_checked p (typed_statement_calls (here z) b) (typed_statement_calls (here z) c) k.called l.called);
         }
 
     -- nothing otherwise: it never counts as returning
-    runs_branch : (inside r : Bool) (v : TypedTree) (b : Command) → IsTest v → GoodCommand p (here z) g inside r b → Runs inside (if_command v b empty_command)
+    runs_branch : (inside r : Bool) (v : TypedTree) (b : TypedStatementTree) → IsTest v → GoodStatement p (here z) g inside r b
+        → Runs inside (if_statement v b empty_statement)
     runs_branch inside r v b t k =
         record {
           typed = ((t.gives, t.seen_by), k.typed, tt);
           returns_so = never (always_returns b);
-          called = both_checked p (calls (here z) v) (command_calls (here z) b ++ []) t.called
-              (both_checked p (command_calls (here z) b) [] k.called (none_checked p));
+          called = both_checked p (calls (here z) v) (typed_statement_calls (here z) b ++ []) t.called
+              (both_checked p (typed_statement_calls (here z) b) [] k.called (none_checked p));
         }
       where
         never : (r : Bool) → (r && false) ≡ false
         never true = refl
         never false = refl
 
-    good_choice : (inside x y : Bool) (s t u : checked.Scope) (e : Tree) (m k : Resolving Command) → Agreed (names_in e)
+    good_choice : (inside x y : Bool) (s t u : checked.Scope) (e : Tree) (m k : Resolving TypedStatementTree) → Agreed (names_in e)
         → AreMade z (calls_of (setting z) s e) → HasWords e → HasPublicScalar (setting z) s e datatype.Bool
-        → Walks m (checked.inner s) t (GoodCommand p (here z) g inside x) → Walks k (checked.inner s) u (GoodCommand p (here z) g inside y)
-        → Walks (expression (known_in p) e >>= λ v. in_block m >>= λ b. in_block k >>= λ c. done (if_command v b c)) s s
-        (GoodCommand p (here z) g inside (x && y))
+        → Walks m (checked.inner s) t (GoodStatement p (here z) g inside x) → Walks k (checked.inner s) u (GoodStatement p (here z) g inside y)
+        → Walks (expression (known_in p) e >>= λ v. in_block m >>= λ b. in_block k >>= λ c. done (if_statement v b c)) s s
+        (GoodStatement p (here z) g inside (x && y))
     good_choice inside x y s t u e m k a c w h first second =
         walked_bind (here z) final s s s IsTest Both (expression (known_in p) e)
-        (λ v. in_block m >>= λ b. in_block k >>= λ c. done (if_command v b c)) (walks_value s e a c w h)
-        (λ v. walked_bind (here z) final s s s (GoodCommand p (here z) g inside x) (λ d. IsTest v → Both d) (in_block m)
-        (λ b. in_block k >>= λ c. done (if_command v b c)) (walked_block (here z) final s t (GoodCommand p (here z) g inside x) m first)
-        (λ b. walked_bind (here z) final s s s (GoodCommand p (here z) g inside y) (λ d. GoodCommand p (here z) g inside x b → IsTest v → Both d)
-        (in_block k) (λ c. done (if_command v b c)) (walked_block (here z) final s u (GoodCommand p (here z) g inside y) k second)
-        (λ c. walked_done (here z) final s (λ d. GoodCommand p (here z) g inside y c → GoodCommand p (here z) g inside x b → IsTest v → Both d)
-        (if_command v b c) (λ kc kb kv. good_if inside x y v b c kv kb kc))))
+        (λ v. in_block m >>= λ b. in_block k >>= λ c. done (if_statement v b c)) (walks_value s e a c w h)
+        (λ v. walked_bind (here z) final s s s (GoodStatement p (here z) g inside x) (λ d. IsTest v → Both d) (in_block m)
+        (λ b. in_block k >>= λ c. done (if_statement v b c)) (walked_block (here z) final s t (GoodStatement p (here z) g inside x) m first)
+        (λ b. walked_bind (here z) final s s s (GoodStatement p (here z) g inside y) (λ d. GoodStatement p (here z) g inside x b → IsTest v → Both d)
+        (in_block k) (λ c. done (if_statement v b c)) (walked_block (here z) final s u (GoodStatement p (here z) g inside y) k second)
+        (λ c. walked_done (here z) final s (λ d. GoodStatement p (here z) g inside y c → GoodStatement p (here z) g inside x b → IsTest v → Both d)
+        (if_statement v b c) (λ kc kb kv. good_if inside x y v b c kv kb kc))))
       where
-        Both : Command → Type 0
-        Both d = GoodCommand p (here z) g inside (x && y) d
+        Both : TypedStatementTree → Type 0
+        Both d = GoodStatement p (here z) g inside (x && y) d
 
-    good_do : (inside r : Bool) (s u : checked.Scope) (e : Tree) (m : Resolving Command) → Agreed (names_in e) → AreMade z (calls_of (setting z) s e)
-        → HasWords e → HasPublicScalar (setting z) s e datatype.Bool → Walks m (checked.inner s) u (GoodCommand p (here z) g true r)
-        → Walks (in_block m >>= λ b. expression (known_in p) e >>= λ v. done (do_command b v)) s s (Runs inside)
+    good_do : (inside r : Bool) (s u : checked.Scope) (e : Tree) (m : Resolving TypedStatementTree) → Agreed (names_in e) → AreMade z (calls_of (setting z) s e)
+        → HasWords e → HasPublicScalar (setting z) s e datatype.Bool → Walks m (checked.inner s) u (GoodStatement p (here z) g true r)
+        → Walks (in_block m >>= λ b. expression (known_in p) e >>= λ v. done (do_statement b v)) s s (Runs inside)
     good_do inside r s u e m a c w h within =
-        walked_bind (here z) final s s s (GoodCommand p (here z) g true r) (Runs inside) (in_block m)
-        (λ b. expression (known_in p) e >>= λ v. done (do_command b v)) (walked_block (here z) final s u (GoodCommand p (here z) g true r) m within)
-        (λ b. walked_read (here z) final s (λ d. GoodCommand p (here z) g true r b → Runs inside d) (expression (known_in p) e >>= λ v. done (do_command b v))
-        (read_one s e (public_scalar datatype.Bool) (λ d. GoodCommand p (here z) g true r b → Runs inside d) (do_command b) a c w h
+        walked_bind (here z) final s s s (GoodStatement p (here z) g true r) (Runs inside) (in_block m)
+        (λ b. expression (known_in p) e >>= λ v. done (do_statement b v)) (walked_block (here z) final s u (GoodStatement p (here z) g true r) m within)
+        (λ b. walked_read (here z) final s (λ d. GoodStatement p (here z) g true r b → Runs inside d)
+        (expression (known_in p) e >>= λ v. done (do_statement b v))
+        (read_one s e (public_scalar datatype.Bool) (λ d. GoodStatement p (here z) g true r b → Runs inside d) (do_statement b) a c w h
         (λ v t k. record {
           typed = (k.typed, (t.gives, t.seen_by));
           returns_so = refl;
           called =
-              both_checked p (command_calls (here z) b) (calls (here z) v) k.called t.called;
+              both_checked p (typed_statement_calls (here z) b) (calls (here z) v) k.called t.called;
         })))
 
     mutual
       good_statement : (inside : Bool) (s : checked.Scope) (t : StatementTree)
           → functions.given_back (known_in p) z.function.variables z.function.returned ≡ Some g → Agreed (names_by t)
           → AreMade z (statement_calls (setting z) s t) → MayStand inside t → IsTyped (setting z) z.function.returned s t
-          → Walks (resolved (known_in p) t) s (after (setting z) s t) (GoodCommand p (here z) g inside (checker.always_returns t))
+          → Walks (resolved (known_in p) t) s (after (setting z) s t) (GoodStatement p (here z) g inside (checker.always_returns t))
       good_statement inside s (block q ss) back a c w h =
-          walked_bind (here z) final s s s (GoodCommands p (here z) g inside (checker.one_returns ss))
-          (GoodCommand p (here z) g inside (checker.one_returns ss)) (in_block (resolved_all (known_in p) ss)) (λ cs. done (block_command cs))
-          (walked_block (here z) final s (after_all (setting z) (checked.inner s) ss) (GoodCommands p (here z) g inside (checker.one_returns ss))
+          walked_bind (here z) final s s s (GoodStatements p (here z) g inside (checker.one_returns ss))
+          (GoodStatement p (here z) g inside (checker.one_returns ss)) (in_block (resolved_all (known_in p) ss)) (λ cs. done (block_statement cs))
+          (walked_block (here z) final s (after_all (setting z) (checked.inner s) ss) (GoodStatements p (here z) g inside (checker.one_returns ss))
           (resolved_all (known_in p) ss) (good_statements inside (checked.inner s) ss back a c w h))
-          (λ cs. walked_done (here z) final s (λ d. GoodCommands p (here z) g inside (checker.one_returns ss) cs
-          → GoodCommand p (here z) g inside (checker.one_returns ss) d) (block_command cs)
+          (λ cs. walked_done (here z) final s (λ d. GoodStatements p (here z) g inside (checker.one_returns ss) cs
+          → GoodStatement p (here z) g inside (checker.one_returns ss) d) (block_statement cs)
           (λ k. record { typed = k.typed; returns_so = k.returns_so; called = k.called }))
       good_statement inside s (empty q) back a c w h =
-          walked_done (here z) final s (Runs inside) empty_command (record { typed = tt; returns_so = refl; called = none_checked p })
+          walked_done (here z) final s (Runs inside) empty_statement (record { typed = tt; returns_so = refl; called = none_checked p })
       good_statement inside s (branch q e body) back a c w h =
           let r = checker.always_returns body in
-          good_test (GoodCommand p (here z) g inside r) (Runs inside) s (after (setting z) (checked.inner s) body) e (resolved (known_in p) body)
-          (λ v d. if_command v d empty_command)
+          good_test (GoodStatement p (here z) g inside r) (Runs inside) s (after (setting z) (checked.inner s) body) e (resolved (known_in p) body)
+          (λ v d. if_statement v d empty_statement)
           (left_of (names_in e) (names_by body) a) (made_left (calls_of (setting z) s e) (statement_calls (setting z) (checked.inner s) body) c) w.0 h.0
           (good_statement inside (checked.inner s) body back (right_of (names_in e) (names_by body) a)
           (made_right (calls_of (setting z) s e) (statement_calls (setting z) (checked.inner s) body) c) w.1 h.1)
@@ -648,8 +653,8 @@ module _ (p : ProgramTree) (z : Frame p) (g : Returned) where
           (made_right (one ++ two) three c) w.2 h.2)
       good_statement inside s (while_loop q e body) back a c w h =
           let r = checker.always_returns body in
-          good_test (GoodCommand p (here z) g true r) (Runs inside) s (after (setting z) (checked.inner s) body) e (resolved (known_in p) body)
-          (λ v d. loop_command v empty_command d)
+          good_test (GoodStatement p (here z) g true r) (Runs inside) s (after (setting z) (checked.inner s) body) e (resolved (known_in p) body)
+          (λ v d. loop_statement v empty_statement d)
           (left_of (names_in e) (names_by body) a) (made_left (calls_of (setting z) s e) (statement_calls (setting z) (checked.inner s) body) c) w.0 h.0
           (good_statement true (checked.inner s) body back (right_of (names_in e) (names_by body) a)
           (made_right (calls_of (setting z) s e) (statement_calls (setting z) (checked.inner s) body) c) w.1 h.1)
@@ -657,7 +662,7 @@ module _ (p : ProgramTree) (z : Frame p) (g : Returned) where
             typed = ((t.gives, t.seen_by), tt, k.typed);
             returns_so = refl;
             called =
-                both_checked p (command_calls (here z) d) ([] ++ calls (here z) v) k.called t.called;
+                both_checked p (typed_statement_calls (here z) d) ([] ++ calls (here z) v) k.called t.called;
           })
       good_statement inside s (do_loop q body e) back a c w h =
           good_do inside (checker.always_returns body) s (after (setting z) (checked.inner s) body) e (resolved (known_in p) body)
@@ -682,14 +687,14 @@ module _ (p : ProgramTree) (z : Frame p) (g : Returned) where
           (made_left one two head) (made_right one two head) (made_right (one ++ two) three front) w.0 w.1 w.2 h.0 h.1 h.2
           (good_statement true within body back (right_of (names_in_step k) (names_by body) behind) (made_right ((one ++ two) ++ three) four c) w.3 h.3))
       good_statement inside s (breaks q) back a c w h =
-          walked_done (here z) final s (Runs inside) break_command (record { typed = w; returns_so = refl; called = none_checked p })
+          walked_done (here z) final s (Runs inside) break_statement (record { typed = w; returns_so = refl; called = none_checked p })
       good_statement inside s (continues q) back a c w h =
-          walked_done (here z) final s (Runs inside) continue_command (record { typed = w; returns_so = refl; called = none_checked p })
+          walked_done (here z) final s (Runs inside) continue_statement (record { typed = w; returns_so = refl; called = none_checked p })
       good_statement inside s (returns q e) back a c w h =
           walked_read (here z) final s (Returns inside) (returned (known_in p) e) (good_returned inside s z.function.returned e back a c w h)
       good_statement inside s (assertion q e) back a c w h =
-          walked_read (here z) final s (Runs inside) (expression (known_in p) e >>= λ v. done (assert_command q.line v))
-          (read_one s e (public_scalar datatype.Bool) (Runs inside) (assert_command q.line) a c w h
+          walked_read (here z) final s (Runs inside) (expression (known_in p) e >>= λ v. done (assert_statement q.line v))
+          (read_one s e (public_scalar datatype.Bool) (Runs inside) (assert_statement q.line) a c w h
           (λ v t. record { typed = (t.gives, t.seen_by); returns_so = refl; called = t.called }))
       good_statement inside s (declaration t) back a c w h = good_declared inside s t a c w h
       good_statement inside s (assignment t) back a c w h =
@@ -700,27 +705,27 @@ module _ (p : ProgramTree) (z : Frame p) (g : Returned) where
       pub good_statements : (inside : Bool) (s : checked.Scope) (ts : StatementTrees)
           → functions.given_back (known_in p) z.function.variables z.function.returned ≡ Some g → Agreed (names_by_all ts)
           → AreMade z (block_calls (setting z) s ts) → MayStandAll inside ts → AreTyped (setting z) z.function.returned s ts
-          → Walks (resolved_all (known_in p) ts) s (after_all (setting z) s ts) (GoodCommands p (here z) g inside (checker.one_returns ts))
+          → Walks (resolved_all (known_in p) ts) s (after_all (setting z) s ts) (GoodStatements p (here z) g inside (checker.one_returns ts))
       good_statements inside s Statements'.none back a c w h =
-          walked_done (here z) final s (GoodCommands p (here z) g inside false) none (record { typed = tt; returns_so = refl; called = none_checked p })
+          walked_done (here z) final s (GoodStatements p (here z) g inside false) none (record { typed = tt; returns_so = refl; called = none_checked p })
       good_statements inside s (Statements'.also t ts) back a c w h =
           let behind = after (setting z) s t in
           let last = after_all (setting z) (after (setting z) s t) ts in
           let x = checker.always_returns t in
           let y = checker.one_returns ts in
-          walked_bind (here z) final s behind last (GoodCommand p (here z) g inside x) (GoodCommands p (here z) g inside (x || y))
+          walked_bind (here z) final s behind last (GoodStatement p (here z) g inside x) (GoodStatements p (here z) g inside (x || y))
           (resolved (known_in p) t) (λ d. resolved_all (known_in p) ts >>= λ ds. done (also d ds))
           (good_statement inside s t back (left_of (names_by t) (names_by_all ts) a)
           (made_left (statement_calls (setting z) s t) (block_calls (setting z) (after (setting z) s t) ts) c) w.0 h.0)
-          (λ d. walked_bind (here z) final behind last last (GoodCommands p (here z) g inside y)
-          (λ ds. GoodCommand p (here z) g inside x d → GoodCommands p (here z) g inside (x || y) ds) (resolved_all (known_in p) ts) (λ ds. done (also d ds))
+          (λ d. walked_bind (here z) final behind last last (GoodStatements p (here z) g inside y)
+          (λ ds. GoodStatement p (here z) g inside x d → GoodStatements p (here z) g inside (x || y) ds) (resolved_all (known_in p) ts) (λ ds. done (also d ds))
           (good_statements inside (after (setting z) s t) ts back (right_of (names_by t) (names_by_all ts) a)
           (made_right (statement_calls (setting z) s t) (block_calls (setting z) (after (setting z) s t) ts) c) w.1 h.1)
-          (λ ds. walked_done (here z) final last (λ es. GoodCommands p (here z) g inside y ds → GoodCommand p (here z) g inside x d
-          → GoodCommands p (here z) g inside (x || y) es) (also d ds)
+          (λ ds. walked_done (here z) final last (λ es. GoodStatements p (here z) g inside y ds → GoodStatement p (here z) g inside x d
+          → GoodStatements p (here z) g inside (x || y) es) (also d ds)
           (λ k j. record {
             typed = (j.typed, k.typed);
             returns_so = ap₂ (λ i l. i || l) j.returns_so k.returns_so;
             called =
-                both_checked p (command_calls (here z) d) (commands_calls (here z) ds) j.called k.called;
+                both_checked p (typed_statement_calls (here z) d) (typed_statements_calls (here z) ds) j.called k.called;
           })))

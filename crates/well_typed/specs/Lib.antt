@@ -1,6 +1,6 @@
 pub mod Kinds
 pub mod Expressions
-pub mod Commands
+pub mod Statements
 pub mod Programs
 pub mod Sources
 pub mod Laws

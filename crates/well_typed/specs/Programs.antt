@@ -3,15 +3,15 @@ use Rattle.std.specs.Prelude.{◌≡◌, ◌≤◌, false, IsTrue, length, Some}
 use Rattle.std.specs.List.{slice_get}
 use Rattle.typed_tree.specs.declared.function.Returned.{Returned}
 use Rattle.typed_tree.specs.declared.function.Returned.TheVariants.{Nothing, Value}
-use Rattle.typed_tree.specs.Commands.{Commands}
+use Rattle.typed_tree.specs.Statements.{TypedStatementTrees}
 use Rattle.typed_tree.specs.Programs.{TypedFunctionTree, TypedProgramTree}
 use Rattle.reached_instances.specs.Domains.{Setting}
 use Rattle.reached_instances.specs.Instances.{Instance}
 use Rattle.reached_instances.specs.Reached.{IsReached}
-use Rattle.well_typed.specs.Commands.{AreWellTypedCommands, one_returns}
+use Rattle.well_typed.specs.Statements.{AreWellTypedStatements, one_returns}
 
 -- a function that gives a value back never falls off its end
-abbrev pub GivesBack : Returned → Commands → Type 0
+abbrev pub GivesBack : Returned → TypedStatementTrees → Type 0
 GivesBack Nothing body = Unit {0}
 GivesBack (Value s) body = IsTrue (one_returns body)
 
@@ -24,7 +24,7 @@ pub record IsWellTypedInstance (p : TypedProgramTree) (i : Instance) : Type 0 wh
   pub there : slice_get p.functions i.function ≡ Some called
   pub bound : length i.binding ≡ called.variables
   pub parameters : called.parameters ≤ length called.slots
-  pub body : AreWellTypedCommands (setting_of p i called) called.given false called.body
+  pub body : AreWellTypedStatements (setting_of p i called) called.given false called.body
   pub returns : GivesBack called.given called.body
 
 -- `main` is called without arguments, and gives nothing back

@@ -14,14 +14,14 @@ use Rattle.typed_tree.specs.declared.operators.WordOperator.TheVariants.{Add, Di
 use Rattle.typed_tree.specs.declared.operators.BinaryOperator.TheVariants.{Words}
 use Rattle.typed_tree.specs.declared.operators.Operands.TheVariants.{Scalars, ArrayAndScalar}
 use Rattle.typed_tree.specs.Tree.{truth_node, slot_node, call_node, element_node, binary_node, declassify_node, typed_trees_of}
-use Rattle.typed_tree.specs.Commands.{if_command, loop_command, empty_command, break_command, return_command, store_command, commands_of}
+use Rattle.typed_tree.specs.Statements.{if_statement, loop_statement, empty_statement, break_statement, return_statement, store_statement, typed_statements_of}
 use Rattle.typed_tree.specs.Programs.{TypedFunctionTree}
 use Rattle.typed_tree.specs.Shapes.{shape_of}
 use Rattle.reached_instances.specs.declared.instance.BoundDomain.TheVariants.{Private}
 use Rattle.reached_instances.specs.Domains.{Setting, domain_under, binding_of}
 use Rattle.well_typed.specs.Kinds.{scalar, array, GoesTo}
 use Rattle.well_typed.specs.Expressions.{Gives, AreTaken}
-use Rattle.well_typed.specs.Commands.{IsWellTypedCommand}
+use Rattle.well_typed.specs.Statements.{IsWellTypedStatement}
 
 abbrev slot_of : SlotDomain → DataType → (array : Bool) → Slot
 slot_of d element array = record { domain = d; shape = shape_of element array }
@@ -35,7 +35,7 @@ template =
       parameters = 1;
       slots = slot_of (slot.Variable 0) Uint64 false ∷ [];
       given = Value (slot_of (slot.Variable 0) Uint64 false);
-      body = commands_of (return_command (Some (slot_node 0)) ∷ []);
+      body = typed_statements_of (return_statement (Some (slot_node 0)) ∷ []);
       size = 5;
     }
 
@@ -99,27 +99,27 @@ without_argument g h = go h.0 h.1 h.2
 -- STATEMENTS
 
 -- a private value is stored in a slot of its own domain, and not in a public one
-stored : IsWellTypedCommand here Nothing false (store_command 1 (slot_node 1))
+stored : IsWellTypedStatement here Nothing false (store_statement 1 (slot_node 1))
 stored = (private_slot, refl, ((private_slot, refl, refl), refl))
 
-stored_in_public : IsWellTypedCommand here Nothing false (store_command 0 (slot_node 1)) → ⊥
+stored_in_public : IsWellTypedStatement here Nothing false (store_statement 0 (slot_node 1)) → ⊥
 stored_in_public h = go h.0 h.1 h.2.1
   where
     go : (s : Slot) → Some public_slot ≡ Some s → GoesTo (Private 0) (domain_under here.binding s.domain) → ⊥
     go s e = subst (λ (z : Slot). GoesTo (Private 0) (domain_under here.binding z.domain) → ⊥) (same_Some public_slot s e) (λ n. n)
 
 -- a loop's body may break, and nothing else may
-broken : IsWellTypedCommand here Nothing false (loop_command (truth_node true) empty_command break_command)
+broken : IsWellTypedStatement here Nothing false (loop_statement (truth_node true) empty_statement break_statement)
 broken = ((refl, refl), tt, refl)
 
-broken_outside : IsWellTypedCommand here Nothing false (if_command (truth_node true) break_command empty_command) → ⊥
+broken_outside : IsWellTypedStatement here Nothing false (if_statement (truth_node true) break_statement empty_statement) → ⊥
 broken_outside h = let inside = h.1 in cc
 
 -- a condition is public, if only by `declassify`
-private_condition : IsWellTypedCommand here Nothing false
-    (if_command (binary_node 2 (Words Less) Scalars (slot_node 1) (slot_node 0)) empty_command empty_command) → ⊥
+private_condition : IsWellTypedStatement here Nothing false
+    (if_statement (binary_node 2 (Words Less) Scalars (slot_node 1) (slot_node 0)) empty_statement empty_statement) → ⊥
 private_condition h = let seen = h.0.1 in cc
 
-opened_condition : IsWellTypedCommand here Nothing false
-    (if_command (declassify_node (binary_node 2 (Words Less) Scalars (slot_node 1) (slot_node 0))) empty_command empty_command)
+opened_condition : IsWellTypedStatement here Nothing false
+    (if_statement (declassify_node (binary_node 2 (Words Less) Scalars (slot_node 1) (slot_node 0))) empty_statement empty_statement)
 opened_condition = (((scalar datatype.Bool, ((private_slot, refl, refl), (public_slot, refl, refl), tt, (λ e. cc), refl), refl), refl), tt, tt)

@@ -20,7 +20,7 @@ use Rattle.typed_tree.specs.declared.operators.BinaryOperator.TheVariants.{Words
 use Rattle.typed_tree.specs.declared.operators.Operands.TheVariants.{Arrays}
 use Rattle.typed_tree.specs.declared.operators.Cast.TheVariants.{BoolToWord}
 use Rattle.typed_tree.specs.Tree.{TypedTree, slot_node, sum_node, cast_node, binary_node, declassify_node}
-use Rattle.typed_tree.specs.Commands.{Command, input_command, publish_command, commands_of}
+use Rattle.typed_tree.specs.Statements.{TypedStatementTree, input_statement, publish_statement, typed_statements_of}
 use Rattle.typed_tree.specs.Programs.{TypedFunctionTree, TypedProgramTree}
 
 -- ---- the tree
@@ -95,8 +95,8 @@ array_slot = record { domain = Private 0; shape = record { element = Uint64; arr
 abbrev pub both_slots : WordOperator → TypedTree
 both_slots op = binary_node 3 (Words op) Arrays (slot_node 0) (slot_node 1)
 
-abbrev pub publishes_sum : List ℕ → TypedTree → Command
-publishes_sum x e = publish_command x (declassify_node (sum_node e))
+abbrev pub publishes_sum : List ℕ → TypedTree → TypedStatementTree
+publishes_sum x e = publish_statement x (declassify_node (sum_node e))
 
 abbrev pub main_typed : TypedFunctionTree
 main_typed =
@@ -107,9 +107,9 @@ main_typed =
       slots = array_slot ∷ array_slot ∷ [];
       given = Nothing;
       body =
-          commands_of
-          (input_command 2 0 (codes "a")
-          ∷ input_command 2 1 (codes "b")
+          typed_statements_of
+          (input_statement 2 0 (codes "a")
+          ∷ input_statement 2 1 (codes "b")
           ∷ publishes_sum (codes "dot") (both_slots words.Multiply)
           ∷ publishes_sum (codes "less") (cast_node BoolToWord (both_slots words.Less))
           ∷ []);

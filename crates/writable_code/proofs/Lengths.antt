@@ -1,4 +1,4 @@
--- How many steps the code of a function has, and how many names: at most twice its registers and its commands, and its commands.
+-- How many steps the code of a function has, and how many names: at most twice its registers and its statements, and its statements.
 use Rattle.std.proofs.Common.{◌≡◌, ℕ, ◌+◌, ◌≤◌, List, [], ◌∷◌, ◌++◌, length, Some, None, Bool, true, false, arith, length-append}
 use Rattle.std.specs.Prelude.{slice_get}
 use Rattle.std.specs.List.{flat_map}
@@ -15,10 +15,10 @@ use Rattle.typed_tree.specs.declared.function.Returned.TheVariants.{Nothing, Val
 use Rattle.typed_tree.specs.Tree.{TypedTree, TypedTrees, word_node, truth_node, slot_node, call_node, size_node, cat_node, sum_node, bits_node, element_node}
 use Rattle.typed_tree.specs.Tree.{not_node, cast_node, binary_node, cut_node, declassify_node}
 use Rattle.typed_tree.specs.Tree as Tree'
-use Rattle.typed_tree.specs.Commands.{Command, Commands, empty_command, block_command, if_command, loop_command, do_command, break_command, continue_command}
-use Rattle.typed_tree.specs.Commands.{return_command, assert_command, store_command, default_command, fill_command, input_command, element_command}
-use Rattle.typed_tree.specs.Commands.{publish_command, evaluate_command}
-use Rattle.typed_tree.specs.Commands as Commands'
+use Rattle.typed_tree.specs.Statements.{TypedStatementTree, TypedStatementTrees, empty_statement, block_statement, if_statement, loop_statement, do_statement}
+use Rattle.typed_tree.specs.Statements.{break_statement, continue_statement, return_statement, assert_statement, store_statement, default_statement}
+use Rattle.typed_tree.specs.Statements.{fill_statement, input_statement, element_statement, publish_statement, evaluate_statement}
+use Rattle.typed_tree.specs.Statements as Statements'
 use Rattle.typed_tree.specs.Programs.{TypedFunctionTree}
 use Rattle.reached_instances.specs.declared.instance.BoundDomain.{BoundDomain}
 use Rattle.reached_instances.specs.Domains.{Setting, domains}
@@ -31,8 +31,8 @@ use Rattle.verified_code.specs.Steps.{Argument, Publish, Assert, Branch, Jump, C
 use Rattle.code_model.specs.Kinds.{width, widths, kind_of}
 use Rattle.code_model.specs.Expressions.{Numbers, result_at, classifying, picked, lacks, mixes, binary_code, cat_code, deciding, settling, cut_code}
 use Rattle.code_model.specs.Expressions.{expression_code, arguments_code, arguments_places, unread_code}
-use Rattle.code_model.specs.Commands.{shape_number, first_free, command_width, commands_width, if_code, loop_code, do_code, behind_classifying}
-use Rattle.code_model.specs.Commands.{command_code, commands_code}
+use Rattle.code_model.specs.Statements.{shape_number, first_free, statement_width, statements_width, if_code, loop_code, do_code, behind_classifying}
+use Rattle.code_model.specs.Statements.{statement_code, statements_code}
 use Rattle.code_model.specs.Programs.{last_step, body_end, function_code}
 use Rattle.raw_steps.specs.Instructions.{step_names}
 use Rattle.writable_code.proofs.Counts.{count, counts}
@@ -238,8 +238,8 @@ do_short n m i pc t test body ht hb =
     let pt = pc + length (body pc) in
     fewer (m + (n + 1)) i (omega arith) (omega arith) (both (hb pc) (both (ht pt) (one (Branch t true pc) (omega arith))))
 
-abbrev pub steps_of : Command → ℕ
-steps_of c = two (command_width c) + two (count c)
+abbrev pub steps_of : TypedStatementTree → ℕ
+steps_of c = two (statement_width c) + two (count c)
 
 module _ (number : Numbers) (at : StatementContext) where
   abbrev code_of_tree : (t pc : ℕ) → TypedTree → List Step
@@ -249,70 +249,72 @@ module _ (number : Numbers) (at : StatementContext) where
   tree e t pc = expression_short number at.here e t pc
 
   mutual
-    command_short : (c : Command) (t x y pc : ℕ) → IsShort (steps_of c) (count c) (command_code number at t x y pc c)
-    command_short empty_command t x y pc = nothing
-    command_short (block_command cs) t x y pc = commands_short cs t x y pc
-    command_short (if_command e a b) t x y pc =
+    statement_short : (c : TypedStatementTree) (t x y pc : ℕ) → IsShort (steps_of c) (count c) (statement_code number at t x y pc c)
+    statement_short empty_statement t x y pc = nothing
+    statement_short (block_statement cs) t x y pc = statements_short cs t x y pc
+    statement_short (if_statement e a b) t x y pc =
         let ta = t + width e in
-        fewer (steps_of (if_command e a b)) (count (if_command e a b)) (omega arith) (omega arith)
-        (if_short (two (width e)) (steps_of a) (steps_of b) (count a) (count b) pc t (code_of_tree t pc e) (λ p. command_code number at ta x y p a)
-        (λ p. command_code number at (ta + command_width a) x y p b) (tree e t pc) (λ p. command_short a ta x y p)
-        (λ p. command_short b (ta + command_width a) x y p))
-    command_short (loop_command e next body) t x y pc =
-        let ts = t + command_width body in
-        let te = ts + command_width next in
-        let py = pc + 1 + length (command_code number at t 0 0 0 body) in
-        let pt = py + length (command_code number at ts 0 0 0 next) in
+        fewer (steps_of (if_statement e a b)) (count (if_statement e a b)) (omega arith) (omega arith)
+        (if_short (two (width e)) (steps_of a) (steps_of b) (count a) (count b) pc t (code_of_tree t pc e) (λ p. statement_code number at ta x y p a)
+        (λ p. statement_code number at (ta + statement_width a) x y p b) (tree e t pc) (λ p. statement_short a ta x y p)
+        (λ p. statement_short b (ta + statement_width a) x y p))
+    statement_short (loop_statement e next body) t x y pc =
+        let ts = t + statement_width body in
+        let te = ts + statement_width next in
+        let py = pc + 1 + length (statement_code number at t 0 0 0 body) in
+        let pt = py + length (statement_code number at ts 0 0 0 next) in
         let px = pt + length (code_of_tree te 0 e) + 1 in
-        fewer (steps_of (loop_command e next body)) (count (loop_command e next body)) (omega arith) (omega arith)
+        fewer (steps_of (loop_statement e next body)) (count (loop_statement e next body)) (omega arith) (omega arith)
         (loop_short (two (width e)) (steps_of body) (steps_of next) (count body) (count next) pc te (λ p. code_of_tree te p e)
-        (λ p. command_code number at t px py p body) (λ p. command_code number at ts px pt p next) (λ p. tree e te p)
-        (λ p. command_short body t px py p) (λ p. command_short next ts px pt p))
-    command_short (do_command body e) t x y pc =
-        let te = t + command_width body in
-        let pt = pc + length (command_code number at t 0 0 0 body) in
+        (λ p. statement_code number at t px py p body) (λ p. statement_code number at ts px pt p next) (λ p. tree e te p)
+        (λ p. statement_short body t px py p) (λ p. statement_short next ts px pt p))
+    statement_short (do_statement body e) t x y pc =
+        let te = t + statement_width body in
+        let pt = pc + length (statement_code number at t 0 0 0 body) in
         let px = pt + length (code_of_tree te 0 e) + 1 in
-        fewer (steps_of (do_command body e)) (count (do_command body e)) (omega arith) (omega arith)
-        (do_short (two (width e)) (steps_of body) (count body) pc te (λ p. code_of_tree te p e) (λ p. command_code number at t px pt p body)
-        (λ p. tree e te p) (λ p. command_short body t px pt p))
-    command_short break_command t x y pc = fewer 2 1 (omega arith) (omega arith) (one (Jump x) (omega arith))
-    command_short continue_command t x y pc = fewer 2 1 (omega arith) (omega arith) (one (Jump y) (omega arith))
-    command_short (return_command None) t x y pc = fewer 2 1 (omega arith) (omega arith) (one ReturnNone (omega arith))
-    command_short (return_command (Some e)) t x y pc =
-        fewer (steps_of (return_command (Some e))) 1 (omega arith) (omega arith)
+        fewer (steps_of (do_statement body e)) (count (do_statement body e)) (omega arith) (omega arith)
+        (do_short (two (width e)) (steps_of body) (count body) pc te (λ p. code_of_tree te p e) (λ p. statement_code number at t px pt p body)
+        (λ p. tree e te p) (λ p. statement_short body t px pt p))
+    statement_short break_statement t x y pc = fewer 2 1 (omega arith) (omega arith) (one (Jump x) (omega arith))
+    statement_short continue_statement t x y pc = fewer 2 1 (omega arith) (omega arith) (one (Jump y) (omega arith))
+    statement_short (return_statement None) t x y pc = fewer 2 1 (omega arith) (omega arith) (one ReturnNone (omega arith))
+    statement_short (return_statement (Some e)) t x y pc =
+        fewer (steps_of (return_statement (Some e))) 1 (omega arith) (omega arith)
         (both (tree e (t + 1) pc) (behind_short at.secret_result (gives_private at.here e) t (t + 1) Return (λ r. omega arith)))
-    command_short (assert_command line e) t x y pc =
-        fewer (steps_of (assert_command line e)) 1 (omega arith) (omega arith) (both (tree e t pc) (one (Assert line t) (omega arith)))
-    command_short (store_command k e) t x y pc =
-        fewer (steps_of (store_command k e)) 1 (omega arith) (omega arith)
+    statement_short (assert_statement line e) t x y pc =
+        fewer (steps_of (assert_statement line e)) 1 (omega arith) (omega arith) (both (tree e t pc) (one (Assert line t) (omega arith)))
+    statement_short (store_statement k e) t x y pc =
+        fewer (steps_of (store_statement k e)) 1 (omega arith) (omega arith)
         (both (tree e (t + 1) pc) (behind_short (slot_is_private at.here k) (gives_private at.here e) t (t + 1) (Store k) (λ r. omega arith)))
-    command_short (default_command k) t x y pc =
-        fewer (steps_of (default_command k)) 1 (omega arith) (omega arith)
+    statement_short (default_statement k) t x y pc =
+        fewer (steps_of (default_statement k)) 1 (omega arith) (omega arith)
         (behind_short (slot_is_private at.here k) false t (length at.here.slots + shape_number (slot_shape at.here k)) (Store k) (λ r. omega arith))
-    command_short (fill_command line k n e) t x y pc =
+    statement_short (fill_statement line k n e) t x y pc =
         let u = t + 1 + width n in
         let cn = code_of_tree (t + 1) pc n in
-        fewer (steps_of (fill_command line k n e)) 1 (omega arith) (omega arith) (both (tree n (t + 1) pc) (both (tree e u (pc + length cn))
+        fewer (steps_of (fill_statement line k n e)) 1 (omega arith) (omega arith) (both (tree n (t + 1) pc) (both (tree e u (pc + length cn))
         (behind_short (slot_is_private at.here k) (gives_private at.here e) t u (Fill line k (t + 1)) (λ r. omega arith))))
-    command_short (input_command line k text) t x y pc =
-        fewer (steps_of (input_command line k text)) 1 (omega arith) (omega arith)
+    statement_short (input_statement line k text) t x y pc =
+        fewer (steps_of (input_statement line k text)) 1 (omega arith) (omega arith)
         (step 1 (Argument line (kind_of (slot_is_private at.here k) (slot_shape at.here k)) text t) (omega arith) (one (Store k t) (omega arith)))
-    command_short (element_command line k i e) t x y pc =
+    statement_short (element_statement line k i e) t x y pc =
         let u = t + 1 + width i in
         let ci = code_of_tree (t + 1) pc i in
-        fewer (steps_of (element_command line k i e)) 1 (omega arith) (omega arith) (both (tree i (t + 1) pc) (both (tree e u (pc + length ci))
+        fewer (steps_of (element_statement line k i e)) 1 (omega arith) (omega arith) (both (tree i (t + 1) pc) (both (tree e u (pc + length ci))
         (behind_short (slot_is_private at.here k) (gives_private at.here e) t u (Put line k (t + 1)) (λ r. omega arith))))
-    command_short (publish_command text e) t x y pc =
-        fewer (steps_of (publish_command text e)) 1 (omega arith) (omega arith) (both (tree e t pc) (step 1 (Publish text t) (omega arith) nothing))
-    command_short (evaluate_command e) t x y pc =
-        fewer (steps_of (evaluate_command e)) 1 (omega arith) (omega arith) (unread_short number at.here e t pc)
+    statement_short (publish_statement text e) t x y pc =
+        fewer (steps_of (publish_statement text e)) 1 (omega arith) (omega arith) (both (tree e t pc) (step 1 (Publish text t) (omega arith) nothing))
+    statement_short (evaluate_statement e) t x y pc =
+        fewer (steps_of (evaluate_statement e)) 1 (omega arith) (omega arith) (unread_short number at.here e t pc)
 
-    pub commands_short : (cs : Commands) (t x y pc : ℕ) → IsShort (two (commands_width cs) + two (counts cs)) (counts cs) (commands_code number at t x y pc cs)
-    commands_short Commands'.none t x y pc = nothing
-    commands_short (Commands'.also c cs) t x y pc =
-        let code = command_code number at t x y pc c in
-        fewer (two (commands_width (Commands'.also c cs)) + two (counts (Commands'.also c cs))) (counts (Commands'.also c cs)) (omega arith) (omega arith)
-        (both (command_short c t x y pc) (commands_short cs (t + command_width c) x y (pc + length code)))
+    pub statements_short : (cs : TypedStatementTrees) (t x y pc : ℕ)
+        → IsShort (two (statements_width cs) + two (counts cs)) (counts cs) (statements_code number at t x y pc cs)
+    statements_short Statements'.none t x y pc = nothing
+    statements_short (Statements'.also c cs) t x y pc =
+        let code = statement_code number at t x y pc c in
+        fewer (two (statements_width (Statements'.also c cs)) + two (counts (Statements'.also c cs))) (counts (Statements'.also c cs)) (omega arith)
+        (omega arith)
+        (both (statement_short c t x y pc) (statements_short cs (t + statement_width c) x y (pc + length code)))
 
 -- ---- FUNCTIONS
 
@@ -321,9 +323,9 @@ last_plain Nothing r = omega arith
 last_plain (Value s) r = omega arith
 
 pub function_short : (number : Numbers) (fs : List TypedFunctionTree) (f : TypedFunctionTree) (b : List BoundDomain)
-    → IsShort (two (commands_width f.body) + two (counts f.body) + 1) (counts f.body) (function_code number fs f b).steps
+    → IsShort (two (statements_width f.body) + two (counts f.body) + 1) (counts f.body) (function_code number fs f b).steps
 function_short number fs f b =
     let end = body_end number fs f b in
-    let r = first_free f.slots + commands_width f.body in
-    fewer (two (commands_width f.body) + two (counts f.body) + 1) (counts f.body) (omega arith) (omega arith)
-    (both (commands_short number (place_in fs f b) f.body (first_free f.slots) end end 0) (one (last_step f.given r) (last_plain f.given r)))
+    let r = first_free f.slots + statements_width f.body in
+    fewer (two (statements_width f.body) + two (counts f.body) + 1) (counts f.body) (omega arith) (omega arith)
+    (both (statements_short number (place_in fs f b) f.body (first_free f.slots) end end 0) (one (last_step f.given r) (last_plain f.given r)))

@@ -27,7 +27,7 @@ use Rattle.program_limits.specs.Limits as limits
 use Rattle.program_limits.specs.Limits.{size_in, sizes, templates, is_too_large, IsWithinLimits}
 use Rattle.verified_code.specs.Steps.{Step, Function, Literal, Move, Store, Binary, Not, Cast, Classify, Fill, At, Put, Size, Cat, Sum, Bits, Declassify}
 use Rattle.verified_code.specs.Steps.{Argument, Publish, Assert, Branch, Jump, Call, Return, ReturnNone}
-use Rattle.code_model.specs.Commands.{commands_width}
+use Rattle.code_model.specs.Statements.{statements_width}
 use Rattle.code_model.specs.Programs.{numbers_in, code_of_found, instance_code, code_of}
 use Rattle.raw_steps.specs.Instructions.{function_names}
 use Rattle.raw_steps.proofs.Passing.{unmapped}
@@ -43,7 +43,7 @@ use Rattle.lowered_code.proofs.RegistersOfBodies.{statements_take}
 use Rattle.lowered_code.proofs.RegistersOfPrograms.{small_numbered}
 use Rattle.lowered_code.proofs.Standing.{found_among}
 use Rattle.lowered_code.proofs.Verified.{code_right}
-use Rattle.said_code.specs.Says.{CommandsSay, InstancesSay, StepSays}
+use Rattle.said_code.specs.Says.{StatementsSay, InstancesSay, StepSays}
 use Rattle.said_code.specs.Laws.{is_word, any_number, any_text}
 use Rattle.said_code.proofs.Saying.{says_what_trees_say}
 use Rattle.said_code.proofs.Words.{well_typed_words}
@@ -56,11 +56,11 @@ use Rattle.writable_code.proofs.Resolving.{statements_made}
 
 -- ---- FUNCTIONS
 
--- so many registers and commands for its size, and lines and names that are told
+-- so many registers and statements for its size, and lines and names that are told
 pub record IsModest (t : TypedFunctionTree) : Type 0 where
-  pub width : commands_width t.body ≤ two t.size
-  pub commands : counts t.body + 2 ≤ t.size
-  pub say : CommandsSay any_number is_line is_name t.body
+  pub width : statements_width t.body ≤ two t.size
+  pub typed_statements : counts t.body + 2 ≤ t.size
+  pub say : StatementsSay any_number is_line is_name t.body
 
 uncounted : (n : ℕ) → counted n ≤ 4095 → counted n ≡ n
 uncounted n h = go (nat_le n 4294967295) refl
@@ -85,7 +85,7 @@ function_modest d f t e placed small =
     let slots = ap length (parameter_slots f.parameters no_place) ∙ length-map f.parameters declared_type in
     let size : counted (function_nodes f) ≤ 4095 = subst (λ (z : TypedFunctionTree). z.size ≤ 4095) (sym same) small in
     let own = uncounted (function_nodes f) size in
-    subst IsModest same (record { width = omega (arith, takes, own, slots); commands = omega (arith, many, own); say = made.say })
+    subst IsModest same (record { width = omega (arith, takes, own, slots); typed_statements = omega (arith, many, own); say = made.say })
 
 placed_at : (fs : List FunctionTree) (n : ℕ) (f : FunctionTree) → AreAllPlaced fs → slice_get fs n ≡ Some f → StandPlaced f.body.statements
 placed_at [] n f h e = cc
@@ -197,22 +197,22 @@ module _ (source : ProgramTree) (accepted : IsTypedProgram source) (written : Is
       let steps = short.steps in
       let names = short.names in
       let width = t.modest.width in
-      let commands = t.modest.commands in
+      let typed_statements = t.modest.typed_statements in
       let small = t.small in
       let size = size_there i m in
       let is_code = ap (code_of_found (numbers_in is) p.functions i.binding) t.there in
       subst (λ (f : Function). (length f.steps < 2 ^ 16) × (length (function_names f) ≤ limits.size_of p i)) (sym is_code)
-      (omega (arith, steps, width, commands, small), omega (arith, names, commands, size))
+      (omega (arith, steps, width, typed_statements, small), omega (arith, names, typed_statements, size))
 
   instances_say : InstancesSay any_number is_line is_name p is
   instances_say i m f there =
       let t = typed_at i m in
-      subst (λ (z : TypedFunctionTree). CommandsSay any_number is_line is_name z.body) (some_is t.called f (sym t.there ∙ there)) t.modest.say
+      subst (λ (z : TypedFunctionTree). StatementsSay any_number is_line is_name z.body) (some_is t.called f (sym t.there ∙ there)) t.modest.say
 
   has_room : HasRoom (code_of p is)
   has_room =
       let all = sizes_within p is within reached_list in
-      let many = each_counts p is (λ i m. let size = size_there i m in let some = (typed_at i m).modest.commands in omega (arith, size, some)) in
+      let many = each_counts p is (λ i m. let size = size_there i m in let some = (typed_at i m).modest.typed_statements in omega (arith, size, some)) in
       let codes = length-map is own_code in
       let names = all_within p (λ i. function_names (own_code i)) is (λ i m. (instance_short i m).1) in
       let mapped_names = ap length (map_names own_code is) in

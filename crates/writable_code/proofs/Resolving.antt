@@ -1,4 +1,4 @@
--- What is typed of a statement has at most as many commands as the statement has nodes, and says lines and names of the text.
+-- What is typed of a statement has at most as many statements that make steps as the statement has nodes, and says lines and names of the text.
 use Rattle.std.proofs.Common.{◌≡◌, ℕ, ◌+◌, ◌≤◌, List, [], ◌∷◌, length, map, Option, Some, None, Bool, true, false, cond, refl, ap, subst, arith}
 use Rattle.std.specs.Prelude.{option_map, nat_eq}
 use Rattle.sc_text.specs.Name.{is_name}
@@ -19,9 +19,9 @@ use Rattle.typed_tree.specs.declared.operators.BinaryOperator.{BinaryOperator}
 use Rattle.typed_tree.specs.declared.operators.Connective.{Connective}
 use Rattle.typed_tree.specs.Tree.{TypedTree, call_node, typed_trees_of, truth_node}
 use Rattle.typed_tree.specs.Operators.{operator_on, operands_of, may_cut_short}
-use Rattle.typed_tree.specs.Commands.{Command, Commands, none, also, empty_command, block_command, if_command, loop_command, do_command, break_command}
-use Rattle.typed_tree.specs.Commands.{continue_command, return_command, assert_command, store_command, default_command, fill_command, input_command}
-use Rattle.typed_tree.specs.Commands.{element_command, publish_command, evaluate_command}
+use Rattle.typed_tree.specs.Statements.{TypedStatementTree, TypedStatementTrees, none, also, empty_statement, block_statement, if_statement, loop_statement}
+use Rattle.typed_tree.specs.Statements.{do_statement, break_statement, continue_statement, return_statement, assert_statement, store_statement}
+use Rattle.typed_tree.specs.Statements.{default_statement, fill_statement, input_statement, element_statement, publish_statement, evaluate_statement}
 use Rattle.name_resolution.specs.Scopes.{FunctionScope, Scope, variable_named, entering, behind_block}
 use Rattle.name_resolution.specs.Sizes.{nodes, nodes_all, optional_nodes, declaration_nodes, assignment_nodes, start_nodes, step_nodes, statement_nodes}
 use Rattle.name_resolution.specs.Sizes.{statements_nodes}
@@ -34,7 +34,7 @@ use Rattle.name_resolution.specs.Bodies.{tree_in_call, calling, evaluated, defau
 use Rattle.name_resolution.specs.Bodies.{condition_of, returned, looped, resolved, resolved_all}
 use Rattle.name_resolution.proofs.SoundValues.{mapped, both_there, then_there, some_is}
 use Rattle.said_code.specs.Laws.{any_number}
-use Rattle.said_code.specs.Says.{TreeSays, TreesSay, CommandSays, CommandsSay}
+use Rattle.said_code.specs.Says.{TreeSays, TreesSay, StatementSays, StatementsSay}
 use Rattle.writable_code.specs.Sources.{is_line, IsLine, IsPlaced, ArePlaced, IsPlacedIf, DeclaresPlaced, AssignsPlaced, StartsPlaced, StepsPlaced}
 use Rattle.writable_code.specs.Sources.{StandsPlaced}
 use Rattle.writable_code.specs.Sources.{StandPlaced}
@@ -184,30 +184,30 @@ calling_made d line x es l p = makes_reading Said (calling d line x es) read
 
 -- ---- COMMANDS
 
-pub record Made (n : ℕ) (c : Command) : Type 0 where
+pub record Made (n : ℕ) (c : TypedStatementTree) : Type 0 where
   pub many : count c ≤ n
-  pub says : CommandSays any_number is_line is_name c
+  pub says : StatementSays any_number is_line is_name c
 
-pub record AreMade (n : ℕ) (cs : Commands) : Type 0 where
+pub record AreMade (n : ℕ) (cs : TypedStatementTrees) : Type 0 where
   pub many : counts cs ≤ n
-  pub say : CommandsSay any_number is_line is_name cs
+  pub say : StatementsSay any_number is_line is_name cs
 
--- a command made of one expression
-one_made : (d : Declared) (e : Tree) (n : ℕ) (make : TypedTree → Command) → IsPlaced e → ((t : TypedTree) → Said t → Made n (make t))
+-- a statement made of one expression
+one_made : (d : Declared) (e : Tree) (n : ℕ) (make : TypedTree → TypedStatementTree) → IsPlaced e → ((t : TypedTree) → Said t → Made n (make t))
     → Makes (Made n) (expression d e >>= λ v. done (make v))
 one_made d e n make p h =
     makes_bind Said (Made n) (expression d e) (λ v. done (make v)) (expression_made d e p) (λ v s. makes_done (Made n) (make v) (h v s))
 
-evaluate_made : (d : Declared) (e : Tree) → IsPlaced e → 1 ≤ nodes e → Makes (Made (nodes e)) (expression d e >>= λ v. done (evaluate_command v))
-evaluate_made d e p some = one_made d e (nodes e) evaluate_command p (λ t s. record { many = some; says = s })
+evaluate_made : (d : Declared) (e : Tree) → IsPlaced e → 1 ≤ nodes e → Makes (Made (nodes e)) (expression d e >>= λ v. done (evaluate_statement v))
+evaluate_made d e p some = one_made d e (nodes e) evaluate_statement p (λ t s. record { many = some; says = s })
 
 evaluated_made : (d : Declared) (e : Tree) → IsPlaced e → Makes (Made (nodes e)) (evaluated d e)
 evaluated_made d (number p w) h = evaluate_made d (number p w) h (omega arith)
 evaluated_made d (truth p w) h = evaluate_made d (truth p w) h (omega arith)
 evaluated_made d (variable p x) h = evaluate_made d (variable p x) h (omega arith)
 evaluated_made d (call p x es) h =
-    makes_bind Said (Made (1 + nodes_all es)) (reading (calling d p.line x es)) (λ v. done (evaluate_command v)) (calling_made d p.line x es h.0 h.1)
-    (λ v s. makes_done (Made (1 + nodes_all es)) (evaluate_command v) (record { many = omega arith; says = s }))
+    makes_bind Said (Made (1 + nodes_all es)) (reading (calling d p.line x es)) (λ v. done (evaluate_statement v)) (calling_made d p.line x es h.0 h.1)
+    (λ v s. makes_done (Made (1 + nodes_all es)) (evaluate_statement v) (record { many = omega arith; says = s }))
 evaluated_made d (index p a i) h = evaluate_made d (index p a i) h (omega arith)
 evaluated_made d (parentheses p e) h = evaluate_made d (parentheses p e) h (omega arith)
 evaluated_made d (negation p e) h = evaluate_made d (negation p e) h (omega arith)
@@ -216,12 +216,12 @@ evaluated_made d (binary p op a b) h = evaluate_made d (binary p op a b) h (omeg
 evaluated_made d (declassify p e) h = evaluate_made d (declassify p e) h (omega arith)
 evaluated_made d (argument p x) h = evaluate_made d (argument p x) h (omega arith)
 evaluated_made d (publish p x e) h =
-    one_made d e (1 + nodes e) (publish_command x) h.2 (λ t s. record { many = omega arith; says = (h.1, s) })
+    one_made d e (1 + nodes e) (publish_statement x) h.2 (λ t s. record { many = omega arith; says = (h.1, s) })
 
 -- ---- DECLARATIONS
 
-store_made : (d : Declared) (k : ℕ) (e : Tree) → IsPlaced e → Makes (Made 1) (expression d e >>= λ v. done (store_command k v))
-store_made d k e p = one_made d e 1 (store_command k) p (λ t s. record { many = omega arith; says = s })
+store_made : (d : Declared) (k : ℕ) (e : Tree) → IsPlaced e → Makes (Made 1) (expression d e >>= λ v. done (store_statement k v))
+store_made d k e p = one_made d e 1 (store_statement k) p (λ t s. record { many = omega arith; says = s })
 
 from_value_made : (d : Declared) (k : ℕ) (e : Tree) → IsPlaced e → Makes (Made 1) (from_value d k e)
 from_value_made d k (number p w) h = store_made d k (number p w) h
@@ -234,7 +234,7 @@ from_value_made d k (negation p e) h = store_made d k (negation p e) h
 from_value_made d k (cast p t e) h = store_made d k (cast p t e) h
 from_value_made d k (binary p op a b) h = store_made d k (binary p op a b) h
 from_value_made d k (declassify p e) h = store_made d k (declassify p e) h
-from_value_made d k (argument p x) h = makes_done (Made 1) (input_command p.line k x) (record { many = omega arith; says = (h.0, h.1) })
+from_value_made d k (argument p x) h = makes_done (Made 1) (input_statement p.line k x) (record { many = omega arith; says = (h.0, h.1) })
 from_value_made d k (publish p x e) h = store_made d k (publish p x e) h
 
 default_said : (element : DataType) → Said (default_of element)
@@ -243,13 +243,13 @@ default_said datatype.Bool = tt
 
 initial_made : (d : Declared) (line k : ℕ) (element : DataType) (size value : Option Tree) → IsLine line → IsPlacedIf size → IsPlacedIf value
     → Makes (Made 1) (initial d line k element size value)
-initial_made d line k element None None l h v = makes_done (Made 1) (default_command k) (record { many = omega arith; says = tt })
+initial_made d line k element None None l h v = makes_done (Made 1) (default_statement k) (record { many = omega arith; says = tt })
 initial_made d line k element None (Some e) l h v = from_value_made d k e v
 initial_made d line k element (Some n) None l h v =
-    one_made d n 1 (λ m. fill_command line k m (default_of element)) h (λ t s. record { many = omega arith; says = (l, s, default_said element) })
+    one_made d n 1 (λ m. fill_statement line k m (default_of element)) h (λ t s. record { many = omega arith; says = (l, s, default_said element) })
 initial_made d line k element (Some n) (Some e) l h v =
-    makes_bind Said (Made 1) (expression d n) (λ m. expression d e >>= λ v. done (fill_command line k m v)) (expression_made d n h)
-    (λ m s. one_made d e 1 (λ v. fill_command line k m v) v (λ t z. record { many = omega arith; says = (l, s, z) }))
+    makes_bind Said (Made 1) (expression d n) (λ m. expression d e >>= λ v. done (fill_statement line k m v)) (expression_made d n h)
+    (λ m s. one_made d e 1 (λ v. fill_statement line k m v) v (λ t z. record { many = omega arith; says = (l, s, z) }))
 
 abbrev Anything : {A : Type 0} → A → Type 0
 Anything a = Unit {0}
@@ -272,10 +272,10 @@ assigned_to_made : (d : Declared) (line k : ℕ) (i : Option Tree) (e : Tree) �
     → Makes (Made 1) (assigned_to d line k i e)
 assigned_to_made d line k None e l h p = store_made d k e p
 assigned_to_made d line k (Some i) e l h p =
-    makes_bind Said (Made 1) (expression d i) (λ j. expression d e >>= λ v. done (element_command line k j v)) (expression_made d i h)
-    (λ j s. one_made d e 1 (λ v. element_command line k j v) p (λ t z. record { many = omega arith; says = (l, s, z) }))
+    makes_bind Said (Made 1) (expression d i) (λ j. expression d e >>= λ v. done (element_statement line k j v)) (expression_made d i h)
+    (λ j s. one_made d e 1 (λ v. element_statement line k j v) p (λ t z. record { many = omega arith; says = (l, s, z) }))
 
-wider : (n k : ℕ) (m : Resolving Command) → n ≤ k → Makes (Made n) m → Makes (Made k) m
+wider : (n k : ℕ) (m : Resolving TypedStatementTree) → n ≤ k → Makes (Made n) m → Makes (Made k) m
 wider n k m l h =
     record { from = λ s a q e. let x = h.from s a q e in let many = x.many in record { many = omega (arith, l, many); says = x.says } }
 
@@ -287,8 +287,8 @@ assigned_made d a h =
 
 -- ---- STATEMENTS
 
-empty_made : Makes (Made 0) (done empty_command)
-empty_made = makes_done (Made 0) empty_command (record { many = omega arith; says = tt })
+empty_made : Makes (Made 0) (done empty_statement)
+empty_made = makes_done (Made 0) empty_statement (record { many = omega arith; says = tt })
 
 started_made : (d : Declared) (a : StartTree) → StartsPlaced a → Makes (Made (start_nodes a)) (started d a)
 started_made d starts_with_nothing h = empty_made
@@ -305,10 +305,10 @@ condition_made d None h = makes_done Said (truth_node _) tt
 condition_made d (Some e) h = expression_made d e h
 
 returned_made : (d : Declared) (e : Option Tree) → IsPlacedIf e → Makes (Made 1) (returned d e)
-returned_made d None h = makes_done (Made 1) (return_command None) (record { many = omega arith; says = tt })
-returned_made d (Some e) h = one_made d e 1 (λ v. return_command (Some v)) h (λ t s. record { many = omega arith; says = s })
+returned_made d None h = makes_done (Made 1) (return_statement None) (record { many = omega arith; says = tt })
+returned_made d (Some e) h = one_made d e 1 (λ v. return_statement (Some v)) h (λ t s. record { many = omega arith; says = s })
 
-looped_made : (d : Declared) (a : StartTree) (e : Option Tree) (b : StepTree) (n : ℕ) (body : Resolving Command) → StartsPlaced a → IsPlacedIf e
+looped_made : (d : Declared) (a : StartTree) (e : Option Tree) (b : StepTree) (n : ℕ) (body : Resolving TypedStatementTree) → StartsPlaced a → IsPlacedIf e
     → StepsPlaced b → Makes (Made n) body
     → Makes (Made (1 + (start_nodes a + (optional_nodes e + (step_nodes b + n))))) (looped d a e b body)
 looped_made d a e b n body ha he hb h =
@@ -317,7 +317,7 @@ looped_made d a e b n body ha he hb h =
     makes_bind Said (Made all) (condition_of d e) _ (condition_made d e he) (λ v sv.
     makes_bind (Made (step_nodes b)) (Made all) (stepped d b) _ (stepped_made d b hb) (λ c sc.
     makes_bind (Made n) (Made all) (in_block body) _ (makes_block (Made n) body h) (λ y sy.
-    makes_done (Made all) (block_command (also x (also (loop_command v c y) none)))
+    makes_done (Made all) (block_statement (also x (also (loop_statement v c y) none)))
     (let one = sx.many in let two = sc.many in let three = sy.many in
     record { many = omega (arith, one, two, three); says = (sx.says, ((sv, sc.says, sy.says), tt)) })))))
 
@@ -327,14 +327,14 @@ mutual
       let all = 1 + statements_nodes ss in
       makes_bind (AreMade (statements_nodes ss)) (Made all) (in_block (resolved_all d ss)) _
       (makes_block (AreMade (statements_nodes ss)) (resolved_all d ss) (statements_made d ss h))
-      (λ cs s. makes_done (Made all) (block_command cs) (let many = s.many in record { many = omega (arith, many); says = s.say }))
+      (λ cs s. makes_done (Made all) (block_statement cs) (let many = s.many in record { many = omega (arith, many); says = s.say }))
   statement_made d (empty p) h = wider 0 1 _ (omega arith) empty_made
   statement_made d (branch p e body) h =
       let n = statement_nodes body in
       let all = 1 + (nodes e + n) in
       makes_bind Said (Made all) (expression d e) _ (expression_made d e h.0) (λ v sv.
       makes_bind (Made n) (Made all) (in_block (resolved d body)) _ (makes_block (Made n) (resolved d body) (statement_made d body h.1)) (λ c s.
-      makes_done (Made all) (if_command v c empty_command) (let many = s.many in record { many = omega (arith, many); says = (sv, s.says, tt) })))
+      makes_done (Made all) (if_statement v c empty_statement) (let many = s.many in record { many = omega (arith, many); says = (sv, s.says, tt) })))
   statement_made d (choice p e body otherwise) h =
       let n = statement_nodes body in
       let k = statement_nodes otherwise in
@@ -342,29 +342,29 @@ mutual
       makes_bind Said (Made all) (expression d e) _ (expression_made d e h.0) (λ v sv.
       makes_bind (Made n) (Made all) (in_block (resolved d body)) _ (makes_block (Made n) (resolved d body) (statement_made d body h.1)) (λ b sb.
       makes_bind (Made k) (Made all) (in_block (resolved d otherwise)) _ (makes_block (Made k) (resolved d otherwise) (statement_made d otherwise h.2)) (λ c sc.
-      makes_done (Made all) (if_command v b c)
+      makes_done (Made all) (if_statement v b c)
       (let one = sb.many in let two = sc.many in record { many = omega (arith, one, two); says = (sv, sb.says, sc.says) }))))
   statement_made d (while_loop p e body) h =
       let n = statement_nodes body in
       let all = 1 + (nodes e + n) in
       makes_bind Said (Made all) (expression d e) _ (expression_made d e h.0) (λ v sv.
       makes_bind (Made n) (Made all) (in_block (resolved d body)) _ (makes_block (Made n) (resolved d body) (statement_made d body h.1)) (λ c s.
-      makes_done (Made all) (loop_command v empty_command c) (let many = s.many in record { many = omega (arith, many); says = (sv, tt, s.says) })))
+      makes_done (Made all) (loop_statement v empty_statement c) (let many = s.many in record { many = omega (arith, many); says = (sv, tt, s.says) })))
   statement_made d (do_loop p body e) h =
       let n = statement_nodes body in
       let all = 1 + (n + nodes e) in
       makes_bind (Made n) (Made all) (in_block (resolved d body)) _ (makes_block (Made n) (resolved d body) (statement_made d body h.0)) (λ c s.
       makes_bind Said (Made all) (expression d e) _ (expression_made d e h.1) (λ v sv.
-      makes_done (Made all) (do_command c v) (let many = s.many in record { many = omega (arith, many); says = (s.says, sv) })))
+      makes_done (Made all) (do_statement c v) (let many = s.many in record { many = omega (arith, many); says = (s.says, sv) })))
   statement_made d (for_loop p a e b body) h =
       let all = 1 + (start_nodes a + (optional_nodes e + (step_nodes b + statement_nodes body))) in
       makes_block (Made all) (looped d a e b (resolved d body))
       (looped_made d a e b (statement_nodes body) (resolved d body) h.0 h.1 h.2 (statement_made d body h.3))
-  statement_made d (breaks p) h = makes_done (Made 1) break_command (record { many = omega arith; says = tt })
-  statement_made d (continues p) h = makes_done (Made 1) continue_command (record { many = omega arith; says = tt })
+  statement_made d (breaks p) h = makes_done (Made 1) break_statement (record { many = omega arith; says = tt })
+  statement_made d (continues p) h = makes_done (Made 1) continue_statement (record { many = omega arith; says = tt })
   statement_made d (returns p e) h = wider 1 (1 + optional_nodes e) _ (omega arith) (returned_made d e h)
   statement_made d (assertion p e) h =
-      one_made d e (1 + nodes e) (assert_command p.line) h.1 (λ t s. record { many = omega arith; says = (h.0, s) })
+      one_made d e (1 + nodes e) (assert_statement p.line) h.1 (λ t s. record { many = omega arith; says = (h.0, s) })
   statement_made d (declaration t) h = declared_made d t h
   statement_made d (assignment a) h = assigned_made d a h
   statement_made d (evaluation e) h = wider (nodes e) (1 + nodes e) _ (omega arith) (evaluated_made d e h)

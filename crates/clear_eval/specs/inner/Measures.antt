@@ -4,10 +4,10 @@ use Rattle.std.specs.Prelude.{ℕ, ◌+◌, ◌*◌, List, map, sum, Option, Som
 use Rattle.typed_tree.specs.Tree.{TypedTree, TypedTrees, word_node, truth_node, slot_node, call_node, size_node, cat_node, sum_node, bits_node}
 use Rattle.typed_tree.specs.Tree.{element_node, not_node, cast_node, binary_node, cut_node, declassify_node}
 use Rattle.typed_tree.specs.Tree as Tree'
-use Rattle.typed_tree.specs.Commands.{Command, Commands, empty_command, block_command, if_command, loop_command, do_command, break_command}
-use Rattle.typed_tree.specs.Commands.{continue_command, return_command, assert_command, store_command, default_command, fill_command, input_command}
-use Rattle.typed_tree.specs.Commands.{element_command, publish_command, evaluate_command}
-use Rattle.typed_tree.specs.Commands as Commands'
+use Rattle.typed_tree.specs.Statements.{TypedStatementTree, TypedStatementTrees, empty_statement, block_statement, if_statement, loop_statement, do_statement}
+use Rattle.typed_tree.specs.Statements.{break_statement, continue_statement, return_statement, assert_statement, store_statement, default_statement}
+use Rattle.typed_tree.specs.Statements.{fill_statement, input_statement, element_statement, publish_statement, evaluate_statement}
+use Rattle.typed_tree.specs.Statements as Statements'
 use Rattle.typed_tree.specs.Programs.{TypedFunctionTree}
 
 abbrev mutual
@@ -36,30 +36,30 @@ weight_of_option None = 0
 weight_of_option (Some e) = weight e
 
 abbrev mutual
-  pub command_weight : Command → ℕ
-  command_weight empty_command = 2
-  command_weight (block_command cs) = commands_weight cs + 2
-  command_weight (if_command e a b) = weight e + command_weight a + command_weight b + 4
-  command_weight (loop_command e step body) = weight e + command_weight step + command_weight body + 4
-  command_weight (do_command body e) = command_weight body + weight e + 4
-  command_weight break_command = 2
-  command_weight continue_command = 2
-  command_weight (return_command e) = weight_of_option e + 4
-  command_weight (assert_command line e) = weight e + 4
-  command_weight (store_command k e) = weight e + 4
-  command_weight (default_command k) = 4
-  command_weight (fill_command line k n e) = weight n + weight e + 4
-  command_weight (input_command line k text) = 4
-  command_weight (element_command line k i e) = weight i + weight e + 4
-  command_weight (publish_command text e) = weight e + 4
-  command_weight (evaluate_command e) = weight e + 4
+  pub statement_weight : TypedStatementTree → ℕ
+  statement_weight empty_statement = 2
+  statement_weight (block_statement cs) = statements_weight cs + 2
+  statement_weight (if_statement e a b) = weight e + statement_weight a + statement_weight b + 4
+  statement_weight (loop_statement e step body) = weight e + statement_weight step + statement_weight body + 4
+  statement_weight (do_statement body e) = statement_weight body + weight e + 4
+  statement_weight break_statement = 2
+  statement_weight continue_statement = 2
+  statement_weight (return_statement e) = weight_of_option e + 4
+  statement_weight (assert_statement line e) = weight e + 4
+  statement_weight (store_statement k e) = weight e + 4
+  statement_weight (default_statement k) = 4
+  statement_weight (fill_statement line k n e) = weight n + weight e + 4
+  statement_weight (input_statement line k text) = 4
+  statement_weight (element_statement line k i e) = weight i + weight e + 4
+  statement_weight (publish_statement text e) = weight e + 4
+  statement_weight (evaluate_statement e) = weight e + 4
 
-  pub commands_weight : Commands → ℕ
-  commands_weight Commands'.none = 2
-  commands_weight (Commands'.also c cs) = command_weight c + commands_weight cs + 2
+  pub statements_weight : TypedStatementTrees → ℕ
+  statements_weight Statements'.none = 2
+  statements_weight (Statements'.also c cs) = statement_weight c + statements_weight cs + 2
 
 abbrev pub body_weight : TypedFunctionTree → ℕ
-body_weight f = commands_weight f.body
+body_weight f = statements_weight f.body
 
 -- a call falls by one in the room for calls, and begins a body
 unfoldable pub work : List TypedFunctionTree → (depth weight : ℕ) → ℕ

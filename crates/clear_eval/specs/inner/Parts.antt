@@ -3,10 +3,10 @@
 use Rattle.std.specs.Prelude.{◌≡◌, ℕ, ◌+◌, ◌≤◌, Bool, true, false, List, map, None, Some}
 use Rattle.typed_tree.specs.Tree.{TypedTree, word_node, truth_node, slot_node, call_node, size_node, cat_node, sum_node, bits_node, element_node}
 use Rattle.typed_tree.specs.Tree.{not_node, cast_node, binary_node, cut_node, declassify_node, typed_tree, typed_trees_of}
-use Rattle.typed_tree.specs.Commands.{Command, empty_command, block_command, if_command, loop_command, do_command, break_command, continue_command}
-use Rattle.typed_tree.specs.Commands.{return_command, assert_command, store_command, default_command, fill_command, input_command, element_command}
-use Rattle.typed_tree.specs.Commands.{publish_command, command, commands_of}
-use Rattle.typed_tree.specs.Sound.{IsSoundTree, IsSoundCommand}
+use Rattle.typed_tree.specs.Statements.{TypedStatementTree, empty_statement, block_statement, if_statement, loop_statement, do_statement, break_statement}
+use Rattle.typed_tree.specs.Statements.{continue_statement, return_statement, assert_statement, store_statement, default_statement, fill_statement}
+use Rattle.typed_tree.specs.Statements.{input_statement, element_statement, publish_statement, typed_statement, typed_statements_of}
+use Rattle.typed_tree.specs.Sound.{IsSoundTree, IsSoundStatementTree}
 use Rattle.reached_instances.specs.Domains.{Setting}
 use Rattle.language_model.specs.Effects.{World, Stage, Effect, ◌>>=◌, carry, done}
 use Rattle.language_model.specs.Values.{Value}
@@ -18,7 +18,7 @@ use Rattle.clear_eval.specs.declared.parts.Parts.TheVariants as parts
 use Rattle.clear_eval.specs.declared.parts.StatementParts.{StatementParts}
 use Rattle.clear_eval.specs.declared.parts.StatementParts.TheVariants as within
 use Rattle.clear_eval.specs.inner.Elements.{with_element_in}
-use Rattle.clear_eval.specs.inner.Measures.{weight, command_weight}
+use Rattle.clear_eval.specs.inner.Measures.{weight, statement_weight}
 
 -- ---- EXPRESSIONS
 
@@ -68,57 +68,57 @@ HasParts e (parts.Connected c x y) = e ≡ cut_node c (typed_tree x.now) (typed_
 -- ---- STATEMENTS
 
 -- a statement without expressions and other statements in it
-abbrev pub is_plain : Command → Bool
-is_plain empty_command = true
-is_plain break_command = true
-is_plain continue_command = true
-is_plain (return_command None) = true
-is_plain (default_command k) = true
-is_plain (input_command line k text) = true
+abbrev pub is_plain : TypedStatementTree → Bool
+is_plain empty_statement = true
+is_plain break_statement = true
+is_plain continue_statement = true
+is_plain (return_statement None) = true
+is_plain (default_statement k) = true
+is_plain (input_statement line k text) = true
 is_plain c = false
 
 -- the step of a statement with one expression, on its value
-abbrev pub after_one : World → StatementContext → Command → Value → Frame → Effect Flow
-after_one w at (return_command (Some e)) x fr = do
+abbrev pub after_one : World → StatementContext → TypedStatementTree → Value → Frame → Effect Flow
+after_one w at (return_statement (Some e)) x fr = do
   v ← wanted at.secret_result x
   done (returns v)
-after_one w at (assert_command line e) x fr = do
+after_one w at (assert_statement line e) x fr = do
   _ ← asserted line x
   done (goes fr)
-after_one w at (store_command k e) x fr = stored at.here k x fr
-after_one w at (publish_command text e) x fr = do
+after_one w at (store_statement k e) x fr = stored at.here k x fr
+after_one w at (publish_statement text e) x fr = do
   _ ← published w text x
   done (goes fr)
 after_one w at c x fr = done (goes fr)
 
 -- and of one with two
-abbrev pub after_two : World → StatementContext → Command → (x y : Value) → Frame → Effect Flow
-after_two w at (fill_command line k n e) m x fr = do
+abbrev pub after_two : World → StatementContext → TypedStatementTree → (x y : Value) → Frame → Effect Flow
+after_two w at (fill_statement line k n e) m x fr = do
   a ← wanted (slot_is_private at.here k) x
   v ← filled line m a
   done (goes (put k v fr))
-after_two w at (element_command line k i e) j x fr = do
+after_two w at (element_statement line k i e) j x fr = do
   a ← wanted (slot_is_private at.here k) x
   with_element_in line k j a fr
 after_two w at c x y fr = done (goes fr)
 
-pub record HasOneWithin (c : Command) (x : TypedTree) : Type 0 where
+pub record HasOneWithin (c : TypedStatementTree) (x : TypedTree) : Type 0 where
   pub executes : (w : World) (calls : Calls) (at : StatementContext) (fr : Frame) (s : Stage)
       → execute w calls at c fr s ≡ carry (value w calls at.here x fr s) (λ a. after_one w at c a fr)
-  pub lighter : weight x + 4 ≤ command_weight c
-  pub sound : (n : ℕ) (ps : List ℕ) → IsSoundCommand n ps c → IsSoundTree n ps x
+  pub lighter : weight x + 4 ≤ statement_weight c
+  pub sound : (n : ℕ) (ps : List ℕ) → IsSoundStatementTree n ps c → IsSoundTree n ps x
 
-pub record HasTwoWithin (c : Command) (x y : TypedTree) : Type 0 where
+pub record HasTwoWithin (c : TypedStatementTree) (x y : TypedTree) : Type 0 where
   pub executes : (w : World) (calls : Calls) (at : StatementContext) (fr : Frame) (s : Stage) →
       execute w calls at c fr s ≡ carry (value w calls at.here x fr s) (λ a t. carry (value w calls at.here y fr t) (λ b. after_two w at c a b fr))
-  pub lighter : weight x + weight y + 4 ≤ command_weight c
-  pub sound : (n : ℕ) (ps : List ℕ) → IsSoundCommand n ps c → IsSoundTree n ps x × IsSoundTree n ps y
+  pub lighter : weight x + weight y + 4 ≤ statement_weight c
+  pub sound : (n : ℕ) (ps : List ℕ) → IsSoundStatementTree n ps c → IsSoundTree n ps x × IsSoundTree n ps y
 
-abbrev pub HasStatementParts : Command → StatementParts → Type 0
+abbrev pub HasStatementParts : TypedStatementTree → StatementParts → Type 0
 HasStatementParts c within.Plain = is_plain c ≡ true
 HasStatementParts c (within.One x) = HasOneWithin c (typed_tree x.now)
 HasStatementParts c (within.Two x y) = HasTwoWithin c (typed_tree x.now) (typed_tree y.now)
-HasStatementParts c (within.Block cs) = c ≡ block_command (commands_of (map command cs.now.items))
-HasStatementParts c (within.If x a b) = c ≡ if_command (typed_tree x.now) (command a.now) (command b.now)
-HasStatementParts c (within.Loop x step body) = c ≡ loop_command (typed_tree x.now) (command step.now) (command body.now)
-HasStatementParts c (within.DoWhile body x) = c ≡ do_command (command body.now) (typed_tree x.now)
+HasStatementParts c (within.Block cs) = c ≡ block_statement (typed_statements_of (map typed_statement cs.now.items))
+HasStatementParts c (within.If x a b) = c ≡ if_statement (typed_tree x.now) (typed_statement a.now) (typed_statement b.now)
+HasStatementParts c (within.Loop x step body) = c ≡ loop_statement (typed_tree x.now) (typed_statement step.now) (typed_statement body.now)
+HasStatementParts c (within.DoWhile body x) = c ≡ do_statement (typed_statement body.now) (typed_tree x.now)

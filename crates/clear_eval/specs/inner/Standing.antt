@@ -5,8 +5,8 @@ use Rattle.std.specs.List.{slice_get}
 use Rattle.typed_tree.specs.declared.expression.TypedExpression.{TypedExpression}
 use Rattle.typed_tree.specs.declared.statement.TypedStatement.{TypedStatement}
 use Rattle.typed_tree.specs.Tree.{TypedTree, typed_tree, typed_trees_of}
-use Rattle.typed_tree.specs.Commands.{command, commands_of}
-use Rattle.typed_tree.specs.Sound.{IsSoundTree, AreSoundTrees, IsSoundCommand, AreSoundCommands, parameters_of, AreSoundFunctions}
+use Rattle.typed_tree.specs.Statements.{typed_statement, typed_statements_of}
+use Rattle.typed_tree.specs.Sound.{IsSoundTree, AreSoundTrees, IsSoundStatementTree, AreSoundStatementTrees, parameters_of, AreSoundFunctions}
 use Rattle.typed_tree.specs.declared.function.TypedFunction.{TypedFunction}
 use Rattle.typed_tree.specs.Programs.{TypedFunctionTree, typed_function_tree}
 use Rattle.reached_instances.specs.declared.instance.BoundDomain.{BoundDomain}
@@ -36,10 +36,10 @@ abbrev pub test_at : fixed.World → standing.StatementContext → List held.Val
 test_at w at frame e s = carry (evaluation_at w at frame e s) tested
 
 abbrev pub flow_at : fixed.World → standing.StatementContext → List held.Value → TypedStatement → Effect Flow
-flow_at w at frame s = execute (world_seen w) (calls_from w at) (place_seen at) (command s) (frame_seen frame)
+flow_at w at frame s = execute (world_seen w) (calls_from w at) (place_seen at) (typed_statement s) (frame_seen frame)
 
 abbrev pub flow_of_all : fixed.World → standing.StatementContext → List held.Value → List TypedStatement → Effect Flow
-flow_of_all w at frame ss = execute_all (world_seen w) (calls_from w at) (place_seen at) (commands_of (map command ss)) (frame_seen frame)
+flow_of_all w at frame ss = execute_all (world_seen w) (calls_from w at) (place_seen at) (typed_statements_of (map typed_statement ss)) (frame_seen frame)
 
 abbrev pub branch_at : fixed.World → standing.StatementContext → List held.Value → TypedExpression → (first second : TypedStatement) → Effect Flow
 branch_at w at frame e first second s = carry (test_at w at frame e s) (λ t. either t (flow_at w at frame first) (flow_at w at frame second))
@@ -48,13 +48,13 @@ branch_at w at frame e first second s = carry (test_at w at frame e s) (λ t. ei
 abbrev pub turns_at : fixed.World → standing.StatementContext → List held.Value → TypedExpression → (step body : TypedStatement) → Effect Flow
 turns_at w at frame e step body =
     λ s. turns (s.left + 1) (value (world_seen w) (calls_from w at) (setting at.here) (typed_tree e))
-    (execute (world_seen w) (calls_from w at) (place_seen at) (command step))
-    (execute (world_seen w) (calls_from w at) (place_seen at) (command body)) (frame_seen frame) s
+    (execute (world_seen w) (calls_from w at) (place_seen at) (typed_statement step))
+    (execute (world_seen w) (calls_from w at) (place_seen at) (typed_statement body)) (frame_seen frame) s
 
 abbrev pub repeats_at : fixed.World → standing.StatementContext → List held.Value → TypedExpression → (body : TypedStatement) → Effect Flow
 repeats_at w at frame e body =
     λ s. repeats (s.left + 1) (value (world_seen w) (calls_from w at) (setting at.here) (typed_tree e))
-    (execute (world_seen w) (calls_from w at) (place_seen at) (command body)) (frame_seen frame) s
+    (execute (world_seen w) (calls_from w at) (place_seen at) (typed_statement body)) (frame_seen frame) s
 
 -- the body of a function, with room for so many calls inside one another
 abbrev pub body_at : fixed.World → List TypedFunction → (depth number : ℕ) → List BoundDomain → List Value → Effect Value
@@ -86,7 +86,7 @@ abbrev pub AreSoundIn : standing.StatementContext → List held.Value → List T
 AreSoundIn at frame es = AreSoundTrees (length frame) (map parameters_of (functions_around at)) (typed_trees_of (map typed_tree es))
 
 abbrev pub IsSoundStatement : standing.StatementContext → List held.Value → TypedStatement → Type 0
-IsSoundStatement at frame s = IsSoundCommand (length frame) (map parameters_of (functions_around at)) (command s)
+IsSoundStatement at frame s = IsSoundStatementTree (length frame) (map parameters_of (functions_around at)) (typed_statement s)
 
 abbrev pub AreSoundStatements : standing.StatementContext → List held.Value → List TypedStatement → Type 0
-AreSoundStatements at frame ss = AreSoundCommands (length frame) (map parameters_of (functions_around at)) (commands_of (map command ss))
+AreSoundStatements at frame ss = AreSoundStatementTrees (length frame) (map parameters_of (functions_around at)) (typed_statements_of (map typed_statement ss))

@@ -2,22 +2,22 @@
 -- Statements without others in them.
 use Rattle.std.specs.Prelude.{ℕ, false}
 use Rattle.typed_tree.specs.Tree.{TypedTree}
-use Rattle.typed_tree.specs.Commands.{Command, fill_command, element_command}
+use Rattle.typed_tree.specs.Statements.{TypedStatementTree, fill_statement, element_statement}
 use Rattle.reached_instances.specs.Domains.{Setting}
 use Rattle.verified_code.specs.Steps.{Step, Fill, Put}
 use Rattle.code_model.specs.Expressions.{Numbers}
 use Rattle.lowered_expressions.specs.Built.{Built}
-use Rattle.lowering.specs.declared.commands.Pair.{Pair}
-use Rattle.lowering.specs.declared.commands.Pair.TheVariants as pairs
-use Rattle.lowering.specs.inner.Pieces.{with_command}
+use Rattle.lowering.specs.declared.simple_statements.Pair.{Pair}
+use Rattle.lowering.specs.declared.simple_statements.Pair.TheVariants as pairs
+use Rattle.lowering.specs.inner.Pieces.{with_statement}
 
 -- a statement's code, where it doesn't hang on what the function gives back
-abbrev pub with_leaf : Numbers → Setting → Built → Command → Built
-with_leaf number here b c = with_command number (record { here = here; secret_result = false }) b c
+abbrev pub with_leaf : Numbers → Setting → Built → TypedStatementTree → Built
+with_leaf number here b c = with_statement number (record { here = here; secret_result = false }) b c
 
-abbrev pub pair_command : Pair → (line slot : ℕ) → (number value : TypedTree) → Command
-pair_command pairs.Fill line k n e = fill_command line k n e
-pair_command pairs.Put line k n e = element_command line k n e
+abbrev pub pair_statement : Pair → (line slot : ℕ) → (number value : TypedTree) → TypedStatementTree
+pair_statement pairs.Fill line k n e = fill_statement line k n e
+pair_statement pairs.Put line k n e = element_statement line k n e
 
 abbrev pub pair_step : Pair → (line slot number value : ℕ) → Step
 pair_step pairs.Fill line k n r = Fill line k n r

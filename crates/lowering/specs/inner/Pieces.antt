@@ -1,10 +1,10 @@
 -- Cited by private functions alone: no contract of another crate rests on it.
 -- The code of a statement before it is known where the breaks and continues of the loop around it lead.
 use Rattle.std.specs.Prelude.{ℕ, zero, suc, ◌+◌, false, List, [], ◌∷◌, ◌++◌, length, map}
-use Rattle.typed_tree.specs.Commands.{Command, Commands, empty_command, block_command, if_command, loop_command, do_command, break_command, continue_command}
-use Rattle.typed_tree.specs.Commands.{return_command, assert_command, store_command, default_command, fill_command, input_command, element_command}
-use Rattle.typed_tree.specs.Commands.{publish_command, evaluate_command}
-use Rattle.typed_tree.specs.Commands as Commands'
+use Rattle.typed_tree.specs.Statements.{TypedStatementTree, TypedStatementTrees, empty_statement, block_statement, if_statement, loop_statement, do_statement}
+use Rattle.typed_tree.specs.Statements.{break_statement, continue_statement, return_statement, assert_statement, store_statement, default_statement}
+use Rattle.typed_tree.specs.Statements.{fill_statement, input_statement, element_statement, publish_statement, evaluate_statement}
+use Rattle.typed_tree.specs.Statements as Statements'
 use Rattle.typed_tree.specs.declared.function.Returned.{Returned}
 use Rattle.reached_instances.specs.declared.instance.BoundDomain.{BoundDomain}
 use Rattle.language_model.specs.Evaluation.{StatementContext}
@@ -12,7 +12,7 @@ use Rattle.bytecode.specs.declared.kind.Kind.{Kind}
 use Rattle.verified_code.specs.Steps.{Step, Branch, Jump}
 use Rattle.code_model.specs.Kinds.{width}
 use Rattle.code_model.specs.Expressions.{Numbers, expression_code}
-use Rattle.code_model.specs.Commands.{command_width, command_code, command_kinds, commands_kinds}
+use Rattle.code_model.specs.Statements.{statement_width, statement_code, statement_kinds, statements_kinds}
 use Rattle.code_model.specs.Programs.{last_kinds, last_step}
 use Rattle.lowered_expressions.specs.Built.{BodyPiece, whole, break_jump, continue_jump, Built}
 
@@ -50,20 +50,20 @@ if_pieces pc t test a b =
 module _ (number : Numbers) (at : StatementContext) where
   abbrev mutual
     -- nothing leads out of a loop
-    pub command_pieces : (t pc : ℕ) → Command → List BodyPiece
-    command_pieces t pc (block_command cs) = commands_pieces t pc cs
-    command_pieces t pc (if_command e a b) =
+    pub statement_pieces : (t pc : ℕ) → TypedStatementTree → List BodyPiece
+    statement_pieces t pc (block_statement cs) = statements_pieces t pc cs
+    statement_pieces t pc (if_statement e a b) =
         let ta = t + width e in
-        if_pieces pc t (expression_code number at.here t pc e) (λ p. command_pieces ta p a) (λ p. command_pieces (ta + command_width a) p b)
-    command_pieces t pc break_command = break_jump ∷ []
-    command_pieces t pc continue_command = continue_jump ∷ []
-    command_pieces t pc c = map whole (command_code number at t 0 0 pc c)
+        if_pieces pc t (expression_code number at.here t pc e) (λ p. statement_pieces ta p a) (λ p. statement_pieces (ta + statement_width a) p b)
+    statement_pieces t pc break_statement = break_jump ∷ []
+    statement_pieces t pc continue_statement = continue_jump ∷ []
+    statement_pieces t pc c = map whole (statement_code number at t 0 0 pc c)
 
-    pub commands_pieces : (t pc : ℕ) → Commands → List BodyPiece
-    commands_pieces t pc Commands'.none = []
-    commands_pieces t pc (Commands'.also c cs) =
-        let pieces = command_pieces t pc c in
-        pieces ++ commands_pieces (t + command_width c) (pc + length pieces) cs
+    pub statements_pieces : (t pc : ℕ) → TypedStatementTrees → List BodyPiece
+    statements_pieces t pc Statements'.none = []
+    statements_pieces t pc (Statements'.also c cs) =
+        let pieces = statement_pieces t pc c in
+        pieces ++ statements_pieces (t + statement_width c) (pc + length pieces) cs
 
 -- ---- BEHIND A BODY
 
@@ -77,11 +77,11 @@ abbrev pub with_settled : Built → (from count x y : ℕ) → Built
 with_settled b from count x y = record { kinds = b.kinds; pieces = settled_part x y from count b.pieces }
 
 module _ (number : Numbers) (at : StatementContext) (b : Built) where
-  abbrev pub with_command : Command → Built
-  with_command c = with_pieces b (command_kinds at.here c) (command_pieces number at (length b.kinds) (length b.pieces) c)
+  abbrev pub with_statement : TypedStatementTree → Built
+  with_statement c = with_pieces b (statement_kinds at.here c) (statement_pieces number at (length b.kinds) (length b.pieces) c)
 
-  abbrev pub with_commands : Commands → Built
-  with_commands cs = with_pieces b (commands_kinds at.here cs) (commands_pieces number at (length b.kinds) (length b.pieces) cs)
+  abbrev pub with_statements : TypedStatementTrees → Built
+  with_statements cs = with_pieces b (statements_kinds at.here cs) (statements_pieces number at (length b.kinds) (length b.pieces) cs)
 
 -- ---- THE END OF A FUNCTION
 

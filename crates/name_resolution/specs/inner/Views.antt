@@ -14,7 +14,7 @@ use Rattle.typed_tree.specs.declared.kinds.Slot.{Slot}
 use Rattle.typed_tree.specs.declared.statement.TypedStatement.{TypedStatement}
 use Rattle.typed_tree.specs.declared.function.TypedFunction.{TypedFunction}
 use Rattle.typed_tree.specs.Tree.{typed_tree}
-use Rattle.typed_tree.specs.Commands.{Command, Commands, command, commands_of}
+use Rattle.typed_tree.specs.Statements.{TypedStatementTree, TypedStatementTrees, typed_statement, typed_statements_of}
 use Rattle.typed_tree.specs.Programs.{TypedFunctionTree, typed_function_tree}
 use Rattle.name_resolution.specs.Scopes as scopes
 use Rattle.name_resolution.specs.Values.{TypedValue, TypedCall}
@@ -40,11 +40,11 @@ place_seen s = record { scope = s.variables; slots = map type_at s.slots.items }
 abbrev pub found_seen : CalledFunctions → List FunctionTree
 found_seen f = map tree_at f.functions.items
 
-abbrev pub command_in : Box TypedStatement Global → Command
-command_in c = command c.value
+abbrev pub typed_statement_in : Box TypedStatement Global → TypedStatementTree
+typed_statement_in c = typed_statement c.value
 
-abbrev pub commands_seen : Vec TypedStatement Global → Commands
-commands_seen cs = commands_of (map command cs.items)
+abbrev pub typed_statements_seen : Vec TypedStatement Global → TypedStatementTrees
+typed_statements_seen cs = typed_statements_of (map typed_statement cs.items)
 
 -- what is made of a piece, with the place behind it
 abbrev pub with_place : {A B : Type 0} → (A → B) → scopes.FunctionScope → A → B × scopes.FunctionScope

@@ -3,8 +3,8 @@ use Rattle.std.specs.Prelude.{map, option_map}
 use Rattle.std.specs.List.{slice_get}
 use Rattle.std.proofs.lemmas.Option.{get_or_from_slice_get, slice_get-map}
 use Rattle.typed_tree.specs.declared.kinds.Slot.{Slot}
-use Rattle.typed_tree.specs.Commands.{command, commands_of}
-use Rattle.typed_tree.specs.Sound.{parameters_of, AreSoundCommands}
+use Rattle.typed_tree.specs.Statements.{typed_statement, typed_statements_of}
+use Rattle.typed_tree.specs.Sound.{parameters_of, AreSoundStatementTrees}
 use Rattle.typed_tree.specs.Programs.{typed_function_tree}
 use Rattle.reached_instances.specs.Domains.{given_domain}
 use Rattle.language_model.specs.Effects.{Run, carry, done}
@@ -43,7 +43,8 @@ returns c =
           ∙ ap (λ private. run tree.slots private (frame_seen c.in_ok-frame.frame.items)) secret
           ∙ ap (run tree.slots (is_private (given_domain b g.given))) frame);
       sound =
-          let P : ℕ → Type 0 = λ n. AreSoundCommands n (map parameters_of (map typed_function_tree fs)) (commands_of (map command g.body.items)) in
+          let P : ℕ → Type 0 =
+          λ n. AreSoundStatementTrees n (map parameters_of (map typed_function_tree fs)) (typed_statements_of (map typed_statement g.body.items)) in
           subst P (sym (c.in_ok-frame.ensures.slots ∙ ap length c.deref.ensures.value)) (body_sound fs k g c.requires.program there);
       lighter = body_within (map typed_function_tree fs) k tree among;
     }

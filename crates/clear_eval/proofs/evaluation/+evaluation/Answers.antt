@@ -4,9 +4,9 @@ use Rattle.std.proofs.lemmas.List.{map-append, length-append}
 use Rattle.typed_tree.specs.declared.expression.TypedExpression.{TypedExpression}
 use Rattle.typed_tree.specs.declared.statement.TypedStatement.{TypedStatement}
 use Rattle.typed_tree.specs.Tree.{also, call_node, cat_node, cut_node, typed_tree}
-use Rattle.typed_tree.specs.Commands.{block_command, if_command, loop_command, do_command, command, commands_of}
+use Rattle.typed_tree.specs.Statements.{block_statement, if_statement, loop_statement, do_statement, typed_statement, typed_statements_of}
 use Rattle.typed_tree.specs.Programs.{typed_function_tree}
-use Rattle.typed_tree.specs.Sound.{IsSoundTree, AreSoundTrees, IsSoundCommand, AreSoundCommands, parameters_of, count_of}
+use Rattle.typed_tree.specs.Sound.{IsSoundTree, AreSoundTrees, IsSoundStatementTree, AreSoundStatementTrees, parameters_of, count_of}
 use Rattle.reached_instances.specs.Views.{setting}
 use Rattle.language_model.specs.Effects.{carry}
 use Rattle.language_model.specs.Operations.{tested}
@@ -14,13 +14,13 @@ use Rattle.language_model.specs.Evaluation.{value, execute, arguments, next_is_p
 use Rattle.value_steps.specs.Steps.{itself}
 use Rattle.value_steps.specs.Views.{value_seen, stage_seen, world_seen}
 use Rattle.clear_eval.specs.inner.Calling.{call_charged}
-use Rattle.clear_eval.specs.inner.Measures.{weight, weight_of_all, command_weight, commands_weight, work}
+use Rattle.clear_eval.specs.inner.Measures.{weight, weight_of_all, statement_weight, statements_weight, work}
 use Rattle.clear_eval.specs.inner.Parts.{HasOne, HasTwo, HasOneWithin, HasTwoWithin}
 use Rattle.clear_eval.specs.inner.Standing.{AreSoundAmong, IsSoundAround, IsSoundIn, AreSoundStatements, IsSoundStatement, HasRoomFor, turns_at, repeats_at}
 use Rattle.clear_eval.specs.inner.Views.{frame_seen, flow_seen, place_seen, functions_around, calls_from}
 use Rattle.clear_eval.proofs.Arguments.{behind_those, arguments_more}
 use Rattle.clear_eval.proofs.Calls.{call_run, body_behind}
-use Rattle.clear_eval.proofs.Lists.{trees, commands, lighter_tree, sound_tree, lighter_command, sound_command, trees-drop, behind-drop, counted}
+use Rattle.clear_eval.proofs.Lists.{trees, typed_statements, lighter_tree, sound_tree, lighter_statement, sound_statement, trees-drop, behind-drop, counted}
 use Rattle.clear_eval.proofs.Loops.{behind_step, behind_test, behind_body, at_test, at_end, at_body, at_step, left_behind_body, left_behind_step}
 use Rattle.clear_eval.proofs.Loops.{next_turn, again_on, again_behind_body, again_at_body, again_left, again_at_test, again_ended, next_repeat}
 use Rattle.clear_eval.proofs.Runs.{stop_run, go_run}
@@ -92,7 +92,7 @@ body-statements-requires t c =
     let begun = c.in_ok-at.field-0 in
     let is = c.in_ok-at.ensures in
     let fs = map typed_function_tree c.args.functions.now in
-    let n = commands_weight (commands_of (map command begun.body.now.items)) in
+    let n = statements_weight (typed_statements_of (map typed_statement begun.body.now.items)) in
     let smaller : work (functions_around begun.at) begun.at.depth n < work fs (c.args.depth + 1) 0 =
     subst (λ l. work (map typed_function_tree l) begun.at.depth n < work fs (c.args.depth + 1) 0) (sym is.around)
     (subst (λ r. work fs r n < work fs (c.args.depth + 1) 0) (sym is.depth) (work_body fs c.args.depth n is.lighter)) in
@@ -171,18 +171,21 @@ statements-statement-requires t c =
     let i = c.loop-s.s-index in
     let x = c.s-item.result in
     let ps = map parameters_of (functions_around c.args.at.now) in
-    let lighter : command_weight (command x) < commands_weight (commands c.args.list.now.items) =
-    subst (λ ys. command_weight (command x) < commands_weight (commands ys)) c.deref-s-items.ensures.value
-    (subst (λ (y : TypedStatement). command_weight (command y) < commands_weight (commands ss)) (sym c.s-item.is)
-    (lighter_command ss i x c.loop-s-test.true)) in
-    let smaller : work (functions_around c.args.at.now) c.args.at.now.depth (command_weight (command x))
-    < work (functions_around c.args.at.now) c.args.at.now.depth (commands_weight (commands c.args.list.now.items)) =
-    work_less (functions_around c.args.at.now) c.args.at.now.depth (command_weight (command x)) (commands_weight (commands c.args.list.now.items)) lighter in
+    let lighter : statement_weight (typed_statement x) < statements_weight (typed_statements c.args.list.now.items) =
+    subst (λ ys. statement_weight (typed_statement x) < statements_weight (typed_statements ys)) c.deref-s-items.ensures.value
+    (subst (λ (y : TypedStatement). statement_weight (typed_statement y) < statements_weight (typed_statements ss)) (sym c.s-item.is)
+    (lighter_statement ss i x c.loop-s-test.true)) in
+    let smaller : work (functions_around c.args.at.now) c.args.at.now.depth (statement_weight (typed_statement x))
+    < work (functions_around c.args.at.now) c.args.at.now.depth (statements_weight (typed_statements c.args.list.now.items)) =
+    work_less (functions_around c.args.at.now) c.args.at.now.depth (statement_weight (typed_statement x))
+    (statements_weight (typed_statements c.args.list.now.items)) lighter in
     let n = length c.args.frame.now.items in
-    let there : IsSoundCommand n ps (command x) =
-    subst (λ (y : TypedStatement). IsSoundCommand n ps (command y)) (sym c.s-item.is)
-    (sound_command n ps ss i x (subst (λ ys. AreSoundCommands n ps (commands ys)) (sym c.deref-s-items.ensures.value) c.requires.here) c.loop-s-test.true) in
-    let here : IsSoundStatement c.args.at.now c.loop-s.frame.items x = subst (λ m. IsSoundCommand m ps (command x)) (sym c.loop-s.invariant.slots) there in
+    let there : IsSoundStatementTree n ps (typed_statement x) =
+    subst (λ (y : TypedStatement). IsSoundStatementTree n ps (typed_statement y)) (sym c.s-item.is)
+    (sound_statement n ps ss i x
+    (subst (λ ys. AreSoundStatementTrees n ps (typed_statements ys)) (sym c.deref-s-items.ensures.value) c.requires.here) c.loop-s-test.true) in
+    let here : IsSoundStatement c.args.at.now c.loop-s.frame.items x =
+    subst (λ m. IsSoundStatementTree m ps (typed_statement x)) (sym c.loop-s.invariant.slots) there in
     search rules
 
 -- ---- LOOPS
@@ -192,8 +195,8 @@ turns-returns-in_err-again-clause-step t c =
     let w = world_seen c.args.world.now in
     let calls = calls_from c.args.world.now c.args.at.now in
     let C = value w calls (setting c.args.at.now.here) (typed_tree c.args.condition.now) in
-    let S = execute w calls (place_seen c.args.at.now) (command c.args.step.now) in
-    let B = execute w calls (place_seen c.args.at.now) (command c.args.body.now) in
+    let S = execute w calls (place_seen c.args.at.now) (typed_statement c.args.step.now) in
+    let B = execute w calls (place_seen c.args.at.now) (typed_statement c.args.body.now) in
     let whole = turns_at c.args.world.now c.args.at.now c.args.frame.now.items c.args.condition.now c.args.step.now c.args.body.now in
     let fr0 = frame_seen c.args.frame.now.items in
     let s0 = stage_seen c.args.stage.now in
@@ -209,8 +212,8 @@ turns-returns-then-not-again-clause-step t c =
     let w = world_seen c.args.world.now in
     let calls = calls_from c.args.world.now c.args.at.now in
     let C = value w calls (setting c.args.at.now.here) (typed_tree c.args.condition.now) in
-    let S = execute w calls (place_seen c.args.at.now) (command c.args.step.now) in
-    let B = execute w calls (place_seen c.args.at.now) (command c.args.body.now) in
+    let S = execute w calls (place_seen c.args.at.now) (typed_statement c.args.step.now) in
+    let B = execute w calls (place_seen c.args.at.now) (typed_statement c.args.body.now) in
     let whole = turns_at c.args.world.now c.args.at.now c.args.frame.now.items c.args.condition.now c.args.step.now c.args.body.now in
     let fr0 = frame_seen c.args.frame.now.items in
     let s0 = stage_seen c.args.stage.now in
@@ -225,8 +228,8 @@ turns-returns-in_err-flow-clause-step t c =
     let w = world_seen c.args.world.now in
     let calls = calls_from c.args.world.now c.args.at.now in
     let C = value w calls (setting c.args.at.now.here) (typed_tree c.args.condition.now) in
-    let S = execute w calls (place_seen c.args.at.now) (command c.args.step.now) in
-    let B = execute w calls (place_seen c.args.at.now) (command c.args.body.now) in
+    let S = execute w calls (place_seen c.args.at.now) (typed_statement c.args.step.now) in
+    let B = execute w calls (place_seen c.args.at.now) (typed_statement c.args.body.now) in
     let whole = turns_at c.args.world.now c.args.at.now c.args.frame.now.items c.args.condition.now c.args.step.now c.args.body.now in
     let fr0 = frame_seen c.args.frame.now.items in
     let s0 = stage_seen c.args.stage.now in
@@ -245,8 +248,8 @@ turns-returns-in-Some-clause-step t c =
     let w = world_seen c.args.world.now in
     let calls = calls_from c.args.world.now c.args.at.now in
     let C = value w calls (setting c.args.at.now.here) (typed_tree c.args.condition.now) in
-    let S = execute w calls (place_seen c.args.at.now) (command c.args.step.now) in
-    let B = execute w calls (place_seen c.args.at.now) (command c.args.body.now) in
+    let S = execute w calls (place_seen c.args.at.now) (typed_statement c.args.step.now) in
+    let B = execute w calls (place_seen c.args.at.now) (typed_statement c.args.body.now) in
     let whole = turns_at c.args.world.now c.args.at.now c.args.frame.now.items c.args.condition.now c.args.step.now c.args.body.now in
     let fr0 = frame_seen c.args.frame.now.items in
     let s0 = stage_seen c.args.stage.now in
@@ -265,8 +268,8 @@ turns-returns-in_err-flow-2-clause-step t c =
     let w = world_seen c.args.world.now in
     let calls = calls_from c.args.world.now c.args.at.now in
     let C = value w calls (setting c.args.at.now.here) (typed_tree c.args.condition.now) in
-    let S = execute w calls (place_seen c.args.at.now) (command c.args.step.now) in
-    let B = execute w calls (place_seen c.args.at.now) (command c.args.body.now) in
+    let S = execute w calls (place_seen c.args.at.now) (typed_statement c.args.step.now) in
+    let B = execute w calls (place_seen c.args.at.now) (typed_statement c.args.body.now) in
     let whole = turns_at c.args.world.now c.args.at.now c.args.frame.now.items c.args.condition.now c.args.step.now c.args.body.now in
     let fr0 = frame_seen c.args.frame.now.items in
     let s0 = stage_seen c.args.stage.now in
@@ -289,8 +292,8 @@ turns-returns-in-Some-behind_loop-clause-step t c =
     let w = world_seen c.args.world.now in
     let calls = calls_from c.args.world.now c.args.at.now in
     let C = value w calls (setting c.args.at.now.here) (typed_tree c.args.condition.now) in
-    let S = execute w calls (place_seen c.args.at.now) (command c.args.step.now) in
-    let B = execute w calls (place_seen c.args.at.now) (command c.args.body.now) in
+    let S = execute w calls (place_seen c.args.at.now) (typed_statement c.args.step.now) in
+    let B = execute w calls (place_seen c.args.at.now) (typed_statement c.args.body.now) in
     let whole = turns_at c.args.world.now c.args.at.now c.args.frame.now.items c.args.condition.now c.args.step.now c.args.body.now in
     let fr0 = frame_seen c.args.frame.now.items in
     let s0 = stage_seen c.args.stage.now in
@@ -313,8 +316,8 @@ turns-loop-again-preserved t c =
     let w = world_seen c.args.world.now in
     let calls = calls_from c.args.world.now c.args.at.now in
     let C = value w calls (setting c.args.at.now.here) (typed_tree c.args.condition.now) in
-    let S = execute w calls (place_seen c.args.at.now) (command c.args.step.now) in
-    let B = execute w calls (place_seen c.args.at.now) (command c.args.body.now) in
+    let S = execute w calls (place_seen c.args.at.now) (typed_statement c.args.step.now) in
+    let B = execute w calls (place_seen c.args.at.now) (typed_statement c.args.body.now) in
     let whole = turns_at c.args.world.now c.args.at.now c.args.frame.now.items c.args.condition.now c.args.step.now c.args.body.now in
     let fr0 = frame_seen c.args.frame.now.items in
     let s0 = stage_seen c.args.stage.now in
@@ -343,7 +346,7 @@ repeats-returns-in_err-flow-clause-step t c =
     let w = world_seen c.args.world.now in
     let calls = calls_from c.args.world.now c.args.at.now in
     let C = value w calls (setting c.args.at.now.here) (typed_tree c.args.condition.now) in
-    let B = execute w calls (place_seen c.args.at.now) (command c.args.body.now) in
+    let B = execute w calls (place_seen c.args.at.now) (typed_statement c.args.body.now) in
     let whole = repeats_at c.args.world.now c.args.at.now c.args.frame.now.items c.args.condition.now c.args.body.now in
     let fr0 = frame_seen c.args.frame.now.items in
     let s0 = stage_seen c.args.stage.now in
@@ -359,7 +362,7 @@ repeats-returns-in-Some-clause-step t c =
     let w = world_seen c.args.world.now in
     let calls = calls_from c.args.world.now c.args.at.now in
     let C = value w calls (setting c.args.at.now.here) (typed_tree c.args.condition.now) in
-    let B = execute w calls (place_seen c.args.at.now) (command c.args.body.now) in
+    let B = execute w calls (place_seen c.args.at.now) (typed_statement c.args.body.now) in
     let whole = repeats_at c.args.world.now c.args.at.now c.args.frame.now.items c.args.condition.now c.args.body.now in
     let fr0 = frame_seen c.args.frame.now.items in
     let s0 = stage_seen c.args.stage.now in
@@ -376,7 +379,7 @@ repeats-returns-in_err-again-clause-step t c =
     let w = world_seen c.args.world.now in
     let calls = calls_from c.args.world.now c.args.at.now in
     let C = value w calls (setting c.args.at.now.here) (typed_tree c.args.condition.now) in
-    let B = execute w calls (place_seen c.args.at.now) (command c.args.body.now) in
+    let B = execute w calls (place_seen c.args.at.now) (typed_statement c.args.body.now) in
     let whole = repeats_at c.args.world.now c.args.at.now c.args.frame.now.items c.args.condition.now c.args.body.now in
     let fr0 = frame_seen c.args.frame.now.items in
     let s0 = stage_seen c.args.stage.now in
@@ -396,7 +399,7 @@ repeats-returns-then-not-again-clause-step t c =
     let w = world_seen c.args.world.now in
     let calls = calls_from c.args.world.now c.args.at.now in
     let C = value w calls (setting c.args.at.now.here) (typed_tree c.args.condition.now) in
-    let B = execute w calls (place_seen c.args.at.now) (command c.args.body.now) in
+    let B = execute w calls (place_seen c.args.at.now) (typed_statement c.args.body.now) in
     let whole = repeats_at c.args.world.now c.args.at.now c.args.frame.now.items c.args.condition.now c.args.body.now in
     let fr0 = frame_seen c.args.frame.now.items in
     let s0 = stage_seen c.args.stage.now in
@@ -415,7 +418,7 @@ repeats-loop-flow-preserved t c =
     let w = world_seen c.args.world.now in
     let calls = calls_from c.args.world.now c.args.at.now in
     let C = value w calls (setting c.args.at.now.here) (typed_tree c.args.condition.now) in
-    let B = execute w calls (place_seen c.args.at.now) (command c.args.body.now) in
+    let B = execute w calls (place_seen c.args.at.now) (typed_statement c.args.body.now) in
     let whole = repeats_at c.args.world.now c.args.at.now c.args.frame.now.items c.args.condition.now c.args.body.now in
     let fr0 = frame_seen c.args.frame.now.items in
     let s0 = stage_seen c.args.stage.now in
@@ -441,10 +444,10 @@ branch-holds-requires t c =
     let fs = functions_around c.args.at.now in
     let depth = c.args.at.now.depth in
     let smaller : work fs depth (weight (typed_tree c.args.condition.now) + 1)
-    < work fs depth (weight (typed_tree c.args.condition.now) + command_weight (command c.args.first.now) + command_weight
-    (command c.args.second.now) + 3) =
+    < work fs depth (weight (typed_tree c.args.condition.now) + statement_weight (typed_statement c.args.first.now) + statement_weight
+    (typed_statement c.args.second.now) + 3) =
     work_less fs depth (weight (typed_tree c.args.condition.now) + 1)
-    (weight (typed_tree c.args.condition.now) + command_weight (command c.args.first.now) + command_weight (command c.args.second.now) + 3)
+    (weight (typed_tree c.args.condition.now) + statement_weight (typed_statement c.args.first.now) + statement_weight (typed_statement c.args.second.now) + 3)
     (omega arith) in
     search rules
 
@@ -452,11 +455,11 @@ pub branch-statement-requires : goal.branch-statement-requires
 branch-statement-requires t c =
     let fs = functions_around c.args.at.now in
     let depth = c.args.at.now.depth in
-    let smaller : work fs depth (command_weight (command c.args.first.now))
-    < work fs depth (weight (typed_tree c.args.condition.now) + command_weight (command c.args.first.now) + command_weight
-    (command c.args.second.now) + 3) =
-    work_less fs depth (command_weight (command c.args.first.now))
-    (weight (typed_tree c.args.condition.now) + command_weight (command c.args.first.now) + command_weight (command c.args.second.now) + 3)
+    let smaller : work fs depth (statement_weight (typed_statement c.args.first.now))
+    < work fs depth (weight (typed_tree c.args.condition.now) + statement_weight (typed_statement c.args.first.now) + statement_weight
+    (typed_statement c.args.second.now) + 3) =
+    work_less fs depth (statement_weight (typed_statement c.args.first.now))
+    (weight (typed_tree c.args.condition.now) + statement_weight (typed_statement c.args.first.now) + statement_weight (typed_statement c.args.second.now) + 3)
     (omega arith) in
     search rules
 
@@ -464,11 +467,11 @@ pub branch-statement-requires-else-branch : goal.branch-statement-requires-else-
 branch-statement-requires-else-branch t c =
     let fs = functions_around c.args.at.now in
     let depth = c.args.at.now.depth in
-    let smaller : work fs depth (command_weight (command c.args.second.now))
-    < work fs depth (weight (typed_tree c.args.condition.now) + command_weight (command c.args.first.now) + command_weight
-    (command c.args.second.now) + 3) =
-    work_less fs depth (command_weight (command c.args.second.now))
-    (weight (typed_tree c.args.condition.now) + command_weight (command c.args.first.now) + command_weight (command c.args.second.now) + 3)
+    let smaller : work fs depth (statement_weight (typed_statement c.args.second.now))
+    < work fs depth (weight (typed_tree c.args.condition.now) + statement_weight (typed_statement c.args.first.now) + statement_weight
+    (typed_statement c.args.second.now) + 3) =
+    work_less fs depth (statement_weight (typed_statement c.args.second.now))
+    (weight (typed_tree c.args.condition.now) + statement_weight (typed_statement c.args.first.now) + statement_weight (typed_statement c.args.second.now) + 3)
     (omega arith) in
     search rules
 
@@ -629,10 +632,10 @@ turns-holds-requires t c =
     let here : IsSoundTree (length c.loop-again.frame.items) ps (typed_tree c.args.condition.now) =
     subst (λ m. IsSoundTree m ps (typed_tree c.args.condition.now)) (sym same) c.requires.condition in
     let smaller : work fs depth (weight (typed_tree c.args.condition.now) + 1)
-    < work fs depth (weight (typed_tree c.args.condition.now) + command_weight (command c.args.step.now) + command_weight
-    (command c.args.body.now) + 2) =
+    < work fs depth (weight (typed_tree c.args.condition.now) + statement_weight (typed_statement c.args.step.now) + statement_weight
+    (typed_statement c.args.body.now) + 2) =
     work_less fs depth (weight (typed_tree c.args.condition.now) + 1)
-    (weight (typed_tree c.args.condition.now) + command_weight (command c.args.step.now) + command_weight (command c.args.body.now) + 2)
+    (weight (typed_tree c.args.condition.now) + statement_weight (typed_statement c.args.step.now) + statement_weight (typed_statement c.args.body.now) + 2)
     (omega arith) in
     search rules
 
@@ -642,13 +645,13 @@ turns-statement-requires t c =
     let depth = c.args.at.now.depth in
     let ps = map parameters_of fs in
     let same : length c.loop-again.frame.items ≡ length c.args.frame.now.items = c.loop-again.invariant.slots in
-    let here : IsSoundCommand (length c.loop-again.frame.items) ps (command c.args.body.now) =
-    subst (λ m. IsSoundCommand m ps (command c.args.body.now)) (sym same) c.requires.body in
-    let smaller : work fs depth (command_weight (command c.args.body.now))
-    < work fs depth (weight (typed_tree c.args.condition.now) + command_weight (command c.args.step.now) + command_weight
-    (command c.args.body.now) + 2) =
-    work_less fs depth (command_weight (command c.args.body.now))
-    (weight (typed_tree c.args.condition.now) + command_weight (command c.args.step.now) + command_weight (command c.args.body.now) + 2)
+    let here : IsSoundStatementTree (length c.loop-again.frame.items) ps (typed_statement c.args.body.now) =
+    subst (λ m. IsSoundStatementTree m ps (typed_statement c.args.body.now)) (sym same) c.requires.body in
+    let smaller : work fs depth (statement_weight (typed_statement c.args.body.now))
+    < work fs depth (weight (typed_tree c.args.condition.now) + statement_weight (typed_statement c.args.step.now) + statement_weight
+    (typed_statement c.args.body.now) + 2) =
+    work_less fs depth (statement_weight (typed_statement c.args.body.now))
+    (weight (typed_tree c.args.condition.now) + statement_weight (typed_statement c.args.step.now) + statement_weight (typed_statement c.args.body.now) + 2)
     (omega arith) in
     search rules
 
@@ -658,13 +661,13 @@ turns-statement-requires-in-loop-again t c =
     let depth = c.args.at.now.depth in
     let ps = map parameters_of fs in
     let same : length c.statement.new.frame.items ≡ length c.args.frame.now.items = c.in_ok-flow.ensures.slots ∙ c.loop-again.invariant.slots in
-    let here : IsSoundCommand (length c.statement.new.frame.items) ps (command c.args.step.now) =
-    subst (λ m. IsSoundCommand m ps (command c.args.step.now)) (sym same) c.requires.step in
-    let smaller : work fs depth (command_weight (command c.args.step.now))
-    < work fs depth (weight (typed_tree c.args.condition.now) + command_weight (command c.args.step.now) + command_weight
-    (command c.args.body.now) + 2) =
-    work_less fs depth (command_weight (command c.args.step.now))
-    (weight (typed_tree c.args.condition.now) + command_weight (command c.args.step.now) + command_weight (command c.args.body.now) + 2)
+    let here : IsSoundStatementTree (length c.statement.new.frame.items) ps (typed_statement c.args.step.now) =
+    subst (λ m. IsSoundStatementTree m ps (typed_statement c.args.step.now)) (sym same) c.requires.step in
+    let smaller : work fs depth (statement_weight (typed_statement c.args.step.now))
+    < work fs depth (weight (typed_tree c.args.condition.now) + statement_weight (typed_statement c.args.step.now) + statement_weight
+    (typed_statement c.args.body.now) + 2) =
+    work_less fs depth (statement_weight (typed_statement c.args.step.now))
+    (weight (typed_tree c.args.condition.now) + statement_weight (typed_statement c.args.step.now) + statement_weight (typed_statement c.args.body.now) + 2)
     (omega arith) in
     search rules
 
@@ -674,12 +677,12 @@ repeats-statement-requires t c =
     let depth = c.args.at.now.depth in
     let ps = map parameters_of fs in
     let same : length c.loop-flow.frame.items ≡ length c.args.frame.now.items = c.loop-flow.invariant.slots in
-    let here : IsSoundCommand (length c.loop-flow.frame.items) ps (command c.args.body.now) =
-    subst (λ m. IsSoundCommand m ps (command c.args.body.now)) (sym same) c.requires.body in
-    let smaller : work fs depth (command_weight (command c.args.body.now))
-    < work fs depth (command_weight (command c.args.body.now) + weight (typed_tree c.args.condition.now) + 2) =
-    work_less fs depth (command_weight (command c.args.body.now))
-    (command_weight (command c.args.body.now) + weight (typed_tree c.args.condition.now) + 2) (omega arith) in
+    let here : IsSoundStatementTree (length c.loop-flow.frame.items) ps (typed_statement c.args.body.now) =
+    subst (λ m. IsSoundStatementTree m ps (typed_statement c.args.body.now)) (sym same) c.requires.body in
+    let smaller : work fs depth (statement_weight (typed_statement c.args.body.now))
+    < work fs depth (statement_weight (typed_statement c.args.body.now) + weight (typed_tree c.args.condition.now) + 2) =
+    work_less fs depth (statement_weight (typed_statement c.args.body.now))
+    (statement_weight (typed_statement c.args.body.now) + weight (typed_tree c.args.condition.now) + 2) (omega arith) in
     search rules
 
 pub repeats-holds-requires : goal.repeats-holds-requires
@@ -691,9 +694,9 @@ repeats-holds-requires t c =
     let here : IsSoundTree (length c.statement.new.frame.items) ps (typed_tree c.args.condition.now) =
     subst (λ m. IsSoundTree m ps (typed_tree c.args.condition.now)) (sym same) c.requires.condition in
     let smaller : work fs depth (weight (typed_tree c.args.condition.now) + 1)
-    < work fs depth (command_weight (command c.args.body.now) + weight (typed_tree c.args.condition.now) + 2) =
+    < work fs depth (statement_weight (typed_statement c.args.body.now) + weight (typed_tree c.args.condition.now) + 2) =
     work_less fs depth (weight (typed_tree c.args.condition.now) + 1)
-    (command_weight (command c.args.body.now) + weight (typed_tree c.args.condition.now) + 2) (omega arith) in
+    (statement_weight (typed_statement c.args.body.now) + weight (typed_tree c.args.condition.now) + 2) (omega arith) in
     search rules
 
 pub value-on_value-requires : goal.value-on_value-requires
@@ -780,19 +783,19 @@ pub statement-one_within-requires : goal.statement-one_within-requires
 statement-one_within-requires t c =
     let fs = functions_around c.args.at.now in
     let depth = c.args.at.now.depth in
-    let is : HasOneWithin (command c.args.s.now) (typed_tree c.in-One.x.now) = c.in-One.ensures in
-    let smaller : work fs depth (weight (typed_tree c.in-One.x.now) + 3) < work fs depth (command_weight (command c.args.s.now)) =
-    work_less fs depth (weight (typed_tree c.in-One.x.now) + 3) (command_weight (command c.args.s.now)) (omega (arith, is.lighter)) in
+    let is : HasOneWithin (typed_statement c.args.s.now) (typed_tree c.in-One.x.now) = c.in-One.ensures in
+    let smaller : work fs depth (weight (typed_tree c.in-One.x.now) + 3) < work fs depth (statement_weight (typed_statement c.args.s.now)) =
+    work_less fs depth (weight (typed_tree c.in-One.x.now) + 3) (statement_weight (typed_statement c.args.s.now)) (omega (arith, is.lighter)) in
     search rules
 
 pub statement-two_within-requires : goal.statement-two_within-requires
 statement-two_within-requires t c =
     let fs = functions_around c.args.at.now in
     let depth = c.args.at.now.depth in
-    let is : HasTwoWithin (command c.args.s.now) (typed_tree c.in-Two.x.now) (typed_tree c.in-Two.y.now) = c.in-Two.ensures in
+    let is : HasTwoWithin (typed_statement c.args.s.now) (typed_tree c.in-Two.x.now) (typed_tree c.in-Two.y.now) = c.in-Two.ensures in
     let smaller : work fs depth (weight (typed_tree c.in-Two.x.now) + weight (typed_tree c.in-Two.y.now) + 3)
-    < work fs depth (command_weight (command c.args.s.now)) =
-    work_less fs depth (weight (typed_tree c.in-Two.x.now) + weight (typed_tree c.in-Two.y.now) + 3) (command_weight (command c.args.s.now))
+    < work fs depth (statement_weight (typed_statement c.args.s.now)) =
+    work_less fs depth (weight (typed_tree c.in-Two.x.now) + weight (typed_tree c.in-Two.y.now) + 3) (statement_weight (typed_statement c.args.s.now))
     (omega (arith, is.lighter)) in
     search rules
 
@@ -802,11 +805,13 @@ statement-statements-requires t c =
     let depth = c.args.at.now.depth in
     let n = length c.args.frame.now.items in
     let ps = map parameters_of fs in
-    let is : command c.args.s.now ≡ block_command (commands c.in-Block.list.now.items) = c.in-Block.ensures in
-    let all : IsSoundCommand n ps (block_command (commands c.in-Block.list.now.items)) = subst (IsSoundCommand n ps) is c.requires.here in
-    let same : command_weight (command c.args.s.now) ≡ command_weight (block_command (commands c.in-Block.list.now.items)) = ap command_weight is in
-    let smaller : work fs depth (commands_weight (commands c.in-Block.list.now.items)) < work fs depth (command_weight (command c.args.s.now)) =
-    work_less fs depth (commands_weight (commands c.in-Block.list.now.items)) (command_weight (command c.args.s.now)) (omega arith) in
+    let is : typed_statement c.args.s.now ≡ block_statement (typed_statements c.in-Block.list.now.items) = c.in-Block.ensures in
+    let all : IsSoundStatementTree n ps (block_statement (typed_statements c.in-Block.list.now.items)) = subst (IsSoundStatementTree n ps) is c.requires.here in
+    let same : statement_weight (typed_statement c.args.s.now)
+    ≡ statement_weight (block_statement (typed_statements c.in-Block.list.now.items)) = ap statement_weight is in
+    let smaller : work fs depth (statements_weight (typed_statements c.in-Block.list.now.items))
+    < work fs depth (statement_weight (typed_statement c.args.s.now)) =
+    work_less fs depth (statements_weight (typed_statements c.in-Block.list.now.items)) (statement_weight (typed_statement c.args.s.now)) (omega arith) in
     search rules
 
 pub statement-branch-alloc-requires : goal.statement-branch-alloc-requires
@@ -815,18 +820,21 @@ statement-branch-alloc-requires t c =
     let depth = c.args.at.now.depth in
     let n = length c.args.frame.now.items in
     let ps = map parameters_of fs in
-    let is : command c.args.s.now ≡ if_command (typed_tree c.in-If.condition.now) (command c.in-If.first.now) (command c.in-If.second.now) = c.in-If.ensures in
-    let all : IsSoundCommand n ps (if_command (typed_tree c.in-If.condition.now) (command c.in-If.first.now) (command c.in-If.second.now)) =
-    subst (IsSoundCommand n ps) is c.requires.here in
+    let is : typed_statement c.args.s.now
+    ≡ if_statement (typed_tree c.in-If.condition.now) (typed_statement c.in-If.first.now) (typed_statement c.in-If.second.now) = c.in-If.ensures in
+    let all : IsSoundStatementTree n ps
+    (if_statement (typed_tree c.in-If.condition.now) (typed_statement c.in-If.first.now) (typed_statement c.in-If.second.now)) =
+    subst (IsSoundStatementTree n ps) is c.requires.here in
     let tested_one : IsSoundTree n ps (typed_tree c.in-If.condition.now) = all.0 in
-    let first_one : IsSoundCommand n ps (command c.in-If.first.now) = all.1 in
-    let second_one : IsSoundCommand n ps (command c.in-If.second.now) = all.2 in
-    let same : command_weight (command c.args.s.now)
-    ≡ command_weight (if_command (typed_tree c.in-If.condition.now) (command c.in-If.first.now) (command c.in-If.second.now)) = ap command_weight is in
-    let smaller : work fs depth (weight (typed_tree c.in-If.condition.now) + command_weight (command c.in-If.first.now) + command_weight
-    (command c.in-If.second.now) + 3) < work fs depth (command_weight (command c.args.s.now)) =
-    work_less fs depth (weight (typed_tree c.in-If.condition.now) + command_weight (command c.in-If.first.now) + command_weight
-    (command c.in-If.second.now) + 3) (command_weight (command c.args.s.now)) (omega arith) in
+    let first_one : IsSoundStatementTree n ps (typed_statement c.in-If.first.now) = all.1 in
+    let second_one : IsSoundStatementTree n ps (typed_statement c.in-If.second.now) = all.2 in
+    let same : statement_weight (typed_statement c.args.s.now)
+    ≡ statement_weight (if_statement (typed_tree c.in-If.condition.now) (typed_statement c.in-If.first.now) (typed_statement c.in-If.second.now)) =
+    ap statement_weight is in
+    let smaller : work fs depth (weight (typed_tree c.in-If.condition.now) + statement_weight (typed_statement c.in-If.first.now) + statement_weight
+    (typed_statement c.in-If.second.now) + 3) < work fs depth (statement_weight (typed_statement c.args.s.now)) =
+    work_less fs depth (weight (typed_tree c.in-If.condition.now) + statement_weight (typed_statement c.in-If.first.now) + statement_weight
+    (typed_statement c.in-If.second.now) + 3) (statement_weight (typed_statement c.args.s.now)) (omega arith) in
     search rules
 
 pub statement-turns-requires : goal.statement-turns-requires
@@ -835,20 +843,22 @@ statement-turns-requires t c =
     let depth = c.args.at.now.depth in
     let n = length c.args.frame.now.items in
     let ps = map parameters_of fs in
-    let is : command c.args.s.now ≡ loop_command (typed_tree c.in-Loop.condition.now) (command c.in-Loop.step.now) (command c.in-Loop.body.now) =
+    let is : typed_statement c.args.s.now
+    ≡ loop_statement (typed_tree c.in-Loop.condition.now) (typed_statement c.in-Loop.step.now) (typed_statement c.in-Loop.body.now) =
     c.in-Loop.ensures in
-    let all : IsSoundCommand n ps (loop_command (typed_tree c.in-Loop.condition.now) (command c.in-Loop.step.now) (command c.in-Loop.body.now)) =
-    subst (IsSoundCommand n ps) is c.requires.here in
+    let all : IsSoundStatementTree n ps
+    (loop_statement (typed_tree c.in-Loop.condition.now) (typed_statement c.in-Loop.step.now) (typed_statement c.in-Loop.body.now)) =
+    subst (IsSoundStatementTree n ps) is c.requires.here in
     let tested_one : IsSoundTree n ps (typed_tree c.in-Loop.condition.now) = all.0 in
-    let step_one : IsSoundCommand n ps (command c.in-Loop.step.now) = all.1 in
-    let body_one : IsSoundCommand n ps (command c.in-Loop.body.now) = all.2 in
-    let same : command_weight (command c.args.s.now)
-    ≡ command_weight (loop_command (typed_tree c.in-Loop.condition.now) (command c.in-Loop.step.now) (command c.in-Loop.body.now)) =
-    ap command_weight is in
-    let smaller : work fs depth (weight (typed_tree c.in-Loop.condition.now) + command_weight (command c.in-Loop.step.now) + command_weight
-    (command c.in-Loop.body.now) + 2) < work fs depth (command_weight (command c.args.s.now)) =
-    work_less fs depth (weight (typed_tree c.in-Loop.condition.now) + command_weight (command c.in-Loop.step.now) + command_weight
-    (command c.in-Loop.body.now) + 2) (command_weight (command c.args.s.now)) (omega arith) in
+    let step_one : IsSoundStatementTree n ps (typed_statement c.in-Loop.step.now) = all.1 in
+    let body_one : IsSoundStatementTree n ps (typed_statement c.in-Loop.body.now) = all.2 in
+    let same : statement_weight (typed_statement c.args.s.now)
+    ≡ statement_weight (loop_statement (typed_tree c.in-Loop.condition.now) (typed_statement c.in-Loop.step.now) (typed_statement c.in-Loop.body.now)) =
+    ap statement_weight is in
+    let smaller : work fs depth (weight (typed_tree c.in-Loop.condition.now) + statement_weight (typed_statement c.in-Loop.step.now) + statement_weight
+    (typed_statement c.in-Loop.body.now) + 2) < work fs depth (statement_weight (typed_statement c.args.s.now)) =
+    work_less fs depth (weight (typed_tree c.in-Loop.condition.now) + statement_weight (typed_statement c.in-Loop.step.now) + statement_weight
+    (typed_statement c.in-Loop.body.now) + 2) (statement_weight (typed_statement c.args.s.now)) (omega arith) in
     search rules
 
 pub statement-repeats-requires : goal.statement-repeats-requires
@@ -857,15 +867,16 @@ statement-repeats-requires t c =
     let depth = c.args.at.now.depth in
     let n = length c.args.frame.now.items in
     let ps = map parameters_of fs in
-    let is : command c.args.s.now ≡ do_command (command c.in-DoWhile.body.now) (typed_tree c.in-DoWhile.condition.now) = c.in-DoWhile.ensures in
-    let all : IsSoundCommand n ps (do_command (command c.in-DoWhile.body.now) (typed_tree c.in-DoWhile.condition.now)) =
-    subst (IsSoundCommand n ps) is c.requires.here in
-    let body_one : IsSoundCommand n ps (command c.in-DoWhile.body.now) = all.0 in
+    let is : typed_statement c.args.s.now
+    ≡ do_statement (typed_statement c.in-DoWhile.body.now) (typed_tree c.in-DoWhile.condition.now) = c.in-DoWhile.ensures in
+    let all : IsSoundStatementTree n ps (do_statement (typed_statement c.in-DoWhile.body.now) (typed_tree c.in-DoWhile.condition.now)) =
+    subst (IsSoundStatementTree n ps) is c.requires.here in
+    let body_one : IsSoundStatementTree n ps (typed_statement c.in-DoWhile.body.now) = all.0 in
     let tested_one : IsSoundTree n ps (typed_tree c.in-DoWhile.condition.now) = all.1 in
-    let same : command_weight (command c.args.s.now)
-    ≡ command_weight (do_command (command c.in-DoWhile.body.now) (typed_tree c.in-DoWhile.condition.now)) = ap command_weight is in
-    let smaller : work fs depth (command_weight (command c.in-DoWhile.body.now) + weight (typed_tree c.in-DoWhile.condition.now) + 2)
-    < work fs depth (command_weight (command c.args.s.now)) =
-    work_less fs depth (command_weight (command c.in-DoWhile.body.now) + weight (typed_tree c.in-DoWhile.condition.now) + 2)
-    (command_weight (command c.args.s.now)) (omega arith) in
+    let same : statement_weight (typed_statement c.args.s.now)
+    ≡ statement_weight (do_statement (typed_statement c.in-DoWhile.body.now) (typed_tree c.in-DoWhile.condition.now)) = ap statement_weight is in
+    let smaller : work fs depth (statement_weight (typed_statement c.in-DoWhile.body.now) + weight (typed_tree c.in-DoWhile.condition.now) + 2)
+    < work fs depth (statement_weight (typed_statement c.args.s.now)) =
+    work_less fs depth (statement_weight (typed_statement c.in-DoWhile.body.now) + weight (typed_tree c.in-DoWhile.condition.now) + 2)
+    (statement_weight (typed_statement c.args.s.now)) (omega arith) in
     search rules

@@ -1,14 +1,14 @@
 use Rattle.std.proofs.Common.{◌≡◌, ◌+◌, ◌≤◌, ◌++◌, length, drop}
 use Rattle.std.specs.Prelude.{map}
 use Rattle.typed_tree.specs.Tree.{typed_tree, typed_trees_of}
-use Rattle.typed_tree.specs.Commands.{command, commands_of}
+use Rattle.typed_tree.specs.Statements.{typed_statement, typed_statements_of}
 use Rattle.typed_tree.specs.Programs.{typed_function_tree}
 use Rattle.reached_instances.specs.Views.{setting}
 use Rattle.language_model.specs.Effects.{carry, done}
 use Rattle.language_model.specs.Evaluation.{arguments, value, execute, execute_all}
 use Rattle.value_steps.specs.Views.{value_seen, stage_seen, world_seen}
 use Rattle.clear_eval.specs.inner.Views.{frame_seen, place_seen, functions_around, calls_from}
-use Rattle.clear_eval.specs.inner.Measures.{weight, weight_of_all, command_weight, commands_weight, work}
+use Rattle.clear_eval.specs.inner.Measures.{weight, weight_of_all, statement_weight, statements_weight, work}
 use Rattle.clear_eval.proofs.Loops.{Turns, Repeats}
 use Rattle.clear_eval.proofs.evaluation.+evaluation.Given as goal
 
@@ -52,7 +52,7 @@ abbrev pub decreases-body : goal.decreases-body
 decreases-body l = work (map typed_function_tree l.functions.now) (l.depth + 1) 0
 
 abbrev pub decreases-statement : goal.decreases-statement
-decreases-statement l = work (functions_around l.at.now) l.at.now.depth (command_weight (command l.s.now))
+decreases-statement l = work (functions_around l.at.now) l.at.now.depth (statement_weight (typed_statement l.s.now))
 
 abbrev pub decreases-one_within : goal.decreases-one_within
 decreases-one_within l = work (functions_around l.at.now) l.at.now.depth (weight (typed_tree l.x.now) + 3)
@@ -65,17 +65,17 @@ decreases-holds l = work (functions_around l.at.now) l.at.now.depth (weight (typ
 
 abbrev pub decreases-branch : goal.decreases-branch
 decreases-branch l = work (functions_around l.at.now) l.at.now.depth
-    (weight (typed_tree l.condition.now) + command_weight (command l.first.now) + command_weight (command l.second.now) + 3)
+    (weight (typed_tree l.condition.now) + statement_weight (typed_statement l.first.now) + statement_weight (typed_statement l.second.now) + 3)
 
 abbrev pub decreases-statements : goal.decreases-statements
-decreases-statements l = work (functions_around l.at.now) l.at.now.depth (commands_weight (commands_of (map command l.list.now.items)))
+decreases-statements l = work (functions_around l.at.now) l.at.now.depth (statements_weight (typed_statements_of (map typed_statement l.list.now.items)))
 
 abbrev pub decreases-turns : goal.decreases-turns
 decreases-turns l = work (functions_around l.at.now) l.at.now.depth
-    (weight (typed_tree l.condition.now) + command_weight (command l.step.now) + command_weight (command l.body.now) + 2)
+    (weight (typed_tree l.condition.now) + statement_weight (typed_statement l.step.now) + statement_weight (typed_statement l.body.now) + 2)
 
 abbrev pub decreases-repeats : goal.decreases-repeats
-decreases-repeats l = work (functions_around l.at.now) l.at.now.depth (command_weight (command l.body.now) + weight (typed_tree l.condition.now) + 2)
+decreases-repeats l = work (functions_around l.at.now) l.at.now.depth (statement_weight (typed_statement l.body.now) + weight (typed_tree l.condition.now) + 2)
 
 abbrev pub invariant-arguments-loop-e : goal.invariant-arguments-loop-e
 invariant-arguments-loop-e l = record {
@@ -92,9 +92,9 @@ abbrev pub invariant-statements-loop-s : goal.invariant-statements-loop-s
 invariant-statements-loop-s l = record {
   slots : length l.frame.items ≡ length l.initial.frame.items;
   spends : l.stage.left ≤ l.initial.stage.left;
-  step : execute_all (world_seen l.world) (calls_from l.world l.at) (place_seen l.at) (commands_of (map command l.s-items))
+  step : execute_all (world_seen l.world) (calls_from l.world l.at) (place_seen l.at) (typed_statements_of (map typed_statement l.s-items))
       (frame_seen l.initial.frame.items) (stage_seen l.initial.stage)
-      ≡ execute_all (world_seen l.world) (calls_from l.world l.at) (place_seen l.at) (commands_of (map command (drop l.s-index l.s-items)))
+      ≡ execute_all (world_seen l.world) (calls_from l.world l.at) (place_seen l.at) (typed_statements_of (map typed_statement (drop l.s-index l.s-items)))
       (frame_seen l.frame.items) (stage_seen l.stage);
 }
 
@@ -103,8 +103,8 @@ invariant-turns-loop-again l = record {
   slots : length l.frame.items ≡ length l.initial.frame.items;
   spends : l.stage.left ≤ l.initial.stage.left;
   turns : Turns (value (world_seen l.world) (calls_from l.world l.at) (setting l.at.here) (typed_tree l.condition))
-      (execute (world_seen l.world) (calls_from l.world l.at) (place_seen l.at) (command l.step))
-      (execute (world_seen l.world) (calls_from l.world l.at) (place_seen l.at) (command l.body))
+      (execute (world_seen l.world) (calls_from l.world l.at) (place_seen l.at) (typed_statement l.step))
+      (execute (world_seen l.world) (calls_from l.world l.at) (place_seen l.at) (typed_statement l.body))
       (frame_seen l.initial.frame.items) (stage_seen l.initial.stage) (frame_seen l.frame.items) (stage_seen l.stage);
 }
 
@@ -116,7 +116,7 @@ invariant-repeats-loop-flow l = record {
   slots : length l.frame.items ≡ length l.initial.frame.items;
   spends : l.stage.left ≤ l.initial.stage.left;
   turns : Repeats (value (world_seen l.world) (calls_from l.world l.at) (setting l.at.here) (typed_tree l.condition))
-      (execute (world_seen l.world) (calls_from l.world l.at) (place_seen l.at) (command l.body))
+      (execute (world_seen l.world) (calls_from l.world l.at) (place_seen l.at) (typed_statement l.body))
       (frame_seen l.initial.frame.items) (stage_seen l.initial.stage) (frame_seen l.frame.items) (stage_seen l.stage);
 }
 

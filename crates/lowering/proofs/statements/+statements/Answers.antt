@@ -3,22 +3,22 @@ use Rattle.std.specs.Prelude.{map}
 use Rattle.std.proofs.lemmas.List.{take_more, map-append, length-set}
 use Rattle.typed_tree.specs.declared.statement.TypedStatement.{TypedStatement}
 use Rattle.typed_tree.specs.Tree.{typed_tree}
-use Rattle.typed_tree.specs.Commands.{command, commands_of}
+use Rattle.typed_tree.specs.Statements.{typed_statement, typed_statements_of}
 use Rattle.verified_code.specs.Steps.{Branch, Jump, ReturnNone}
 use Rattle.code_model.specs.Kinds.{width, expression_kinds}
 use Rattle.code_model.specs.Expressions.{expression_code}
-use Rattle.code_model.specs.Commands.{command_width, command_kinds}
+use Rattle.code_model.specs.Statements.{statement_width, statement_kinds}
 use Rattle.code_model.proofs.Widths.{expression_registers}
 use Rattle.lowered_expressions.specs.Built.{Built, whole}
 use Rattle.lowered_expressions.specs.Views.{built}
-use Rattle.lowering.specs.inner.Pieces.{command_pieces, with_commands}
+use Rattle.lowering.specs.inner.Pieces.{statement_pieces, with_statements}
 use Rattle.lowering.specs.inner.Views.{numbers_at, place_seen}
 use Rattle.lowering.proofs.Weights.{weight, weights, weights_item}
 use Rattle.lowering.proofs.SettledParts.{part_length}
 use Rattle.lowering.proofs.Behind.{places_behind, places_step}
 use Rattle.lowering.proofs.Choices.{if_made}
-use Rattle.lowering.proofs.Loops.{command_registers, loop_made, do_made}
-use Rattle.lowering.proofs.Sequences.{commands_begin, commands_more}
+use Rattle.lowering.proofs.Loops.{statement_registers, loop_made, do_made}
+use Rattle.lowering.proofs.Sequences.{statements_begin, statements_more}
 use Rattle.lowering.proofs.statements.+statements.Goals as goal
 
 -- ---- ONE STATEMENT AFTER ANOTHER
@@ -28,29 +28,29 @@ statements-statement-requires t c =
     let es = c.deref-each-items.result.now in
     let i = c.loop-each.each-index in
     let x = c.each-item.result in
-    let smaller : weight (command x) < weights (commands_of (map command c.args.list.now.items)) + 1 =
-    subst (λ ys. weight (command x) < weights (commands_of (map command ys)) + 1) c.deref-each-items.ensures.value
-    (subst (λ (y : TypedStatement). weight (command y) < weights (commands_of (map command es)) + 1) (sym c.each-item.is)
+    let smaller : weight (typed_statement x) < weights (typed_statements_of (map typed_statement c.args.list.now.items)) + 1 =
+    subst (λ ys. weight (typed_statement x) < weights (typed_statements_of (map typed_statement ys)) + 1) c.deref-each-items.ensures.value
+    (subst (λ (y : TypedStatement). weight (typed_statement y) < weights (typed_statements_of (map typed_statement es)) + 1) (sym c.each-item.is)
     (weights_item es i x c.loop-each-test.true)) in
     search rules
 
 pub statements-loop-each-init : goal.statements-loop-each-init
-statements-loop-each-init t c = commands_begin (numbers_at c.args.at.now) (place_seen c.args.at.now) (built c.args.body.now)
+statements-loop-each-init t c = statements_begin (numbers_at c.args.at.now) (place_seen c.args.at.now) (built c.args.body.now)
 
 pub statements-loop-each-preserved : goal.statements-loop-each-preserved
 statements-loop-each-preserved t c =
     let xs = c.deref-each-items.result.now in
     let i = c.loop-each.each-index in
     let x = c.each-item.result in
-    let cs = map command (take i xs) in
+    let cs = map typed_statement (take i xs) in
     let number = numbers_at c.args.at.now in
     let at = place_seen c.args.at.now in
     let b = built c.args.body.now in
-    let more : map command (take (i + 1) xs) ≡ cs ++ command x ∷ [] =
-    ap (map command) (take_more xs i x c.loop-each-test.true) ∙ map-append command (take i xs) (get_or xs i x ∷ [])
-    ∙ ap (λ z. cs ++ command z ∷ []) (sym c.each-item.is) in
-    commands_more number at b (built c.loop-each.body) (built c.statement.new.body) cs (command x) c.loop-each.invariant c.in_ok-statement.ensures
-    ∙ ap (λ l. with_commands number at b (commands_of l)) (sym more)
+    let more : map typed_statement (take (i + 1) xs) ≡ cs ++ typed_statement x ∷ [] =
+    ap (map typed_statement) (take_more xs i x c.loop-each-test.true) ∙ map-append typed_statement (take i xs) (get_or xs i x ∷ [])
+    ∙ ap (λ z. cs ++ typed_statement z ∷ []) (sym c.each-item.is) in
+    statements_more number at b (built c.loop-each.body) (built c.statement.new.body) cs (typed_statement x) c.loop-each.invariant c.in_ok-statement.ensures
+    ∙ ap (λ l. with_statements number at b (typed_statements_of l)) (sym more)
 
 -- ---- IF
 
@@ -61,11 +61,11 @@ choice-set-requires t c =
     let b2 = built c.push.new.self in
     let b4 = built c.push-2.new.self in
     let p2 = places_step (built c.expression.new.body) b2 ReturnNone c.in_ok-push.ensures in
-    let p3 = places_behind b2 (built c.statement.new.body) (command_kinds at.here (command c.args.first.now))
-    (command_pieces number at (length b2.kinds) (length b2.pieces) (command c.args.first.now)) c.in_ok-statement.ensures in
+    let p3 = places_behind b2 (built c.statement.new.body) (statement_kinds at.here (typed_statement c.args.first.now))
+    (statement_pieces number at (length b2.kinds) (length b2.pieces) (typed_statement c.args.first.now)) c.in_ok-statement.ensures in
     let p4 = places_step (built c.statement.new.body) b4 ReturnNone c.in_ok-push-2.ensures in
-    let p5 = places_behind b4 (built c.statement-2.new.body) (command_kinds at.here (command c.args.second.now))
-    (command_pieces number at (length b4.kinds) (length b4.pieces) (command c.args.second.now)) c.in_ok-statement-2.ensures in
+    let p5 = places_behind b4 (built c.statement-2.new.body) (statement_kinds at.here (typed_statement c.args.second.now))
+    (statement_pieces number at (length b4.kinds) (length b4.pieces) (typed_statement c.args.second.now)) c.in_ok-statement-2.ensures in
     omega (arith, p2, p3, p4, p5, c.next_place-branch.ensures)
 
 pub choice-set-requires-2 : goal.choice-set-requires-2
@@ -74,8 +74,8 @@ choice-set-requires-2 t c =
     let at = place_seen c.args.at.now in
     let b4 = built c.push-2.new.self in
     let p4 = places_step (built c.statement.new.body) b4 ReturnNone c.in_ok-push-2.ensures in
-    let p5 = places_behind b4 (built c.statement-2.new.body) (command_kinds at.here (command c.args.second.now))
-    (command_pieces number at (length b4.kinds) (length b4.pieces) (command c.args.second.now)) c.in_ok-statement-2.ensures in
+    let p5 = places_behind b4 (built c.statement-2.new.body) (statement_kinds at.here (typed_statement c.args.second.now))
+    (statement_pieces number at (length b4.kinds) (length b4.pieces) (typed_statement c.args.second.now)) c.in_ok-statement-2.ensures in
     let p6 = ap (λ (z : Built). length z.pieces) c.set.ensures
     ∙ length-set (built c.statement-2.new.body).pieces c.next_place-branch.result
     (whole (Branch c.next_register-condition.result false c.next_place-target.result)) in
@@ -86,16 +86,16 @@ choice-returns t c =
     let number = numbers_at c.args.at.now in
     let at = place_seen c.args.at.now in
     let e = typed_tree c.args.e.now in
-    let x = command c.args.first.now in
-    let y = command c.args.second.now in
+    let x = typed_statement c.args.first.now in
+    let y = typed_statement c.args.second.now in
     if_made (built c.args.body.now) (built c.expression.new.body) (built c.push.new.self) (built c.statement.new.body) (built c.push-2.new.self)
     (built c.statement-2.new.body) (built c.set.new.self) (built c.set-2.new.self)
-    (expression_kinds at.here e) (command_kinds at.here x) (command_kinds at.here y)
-    (λ n p. expression_code number at.here n p e) (λ n p. command_pieces number at n p x) (λ n p. command_pieces number at n p y)
-    (width e) (command_width x) c.next_register-condition.result c.next_place-branch.result c.next_place-jump.result c.next_place-target.result
+    (expression_kinds at.here e) (statement_kinds at.here x) (statement_kinds at.here y)
+    (λ n p. expression_code number at.here n p e) (λ n p. statement_pieces number at n p x) (λ n p. statement_pieces number at n p y)
+    (width e) (statement_width x) c.next_register-condition.result c.next_place-branch.result c.next_place-jump.result c.next_place-target.result
     c.next_place-end.result
     c.in_ok-expression.ensures c.in_ok-push.ensures c.in_ok-statement.ensures c.in_ok-push-2.ensures c.in_ok-statement-2.ensures c.set.ensures c.set-2.ensures
-    (expression_registers at.here e) (command_registers at.here x) c.next_register-condition.ensures c.next_place-branch.ensures c.next_place-jump.ensures
+    (expression_registers at.here e) (statement_registers at.here x) c.next_register-condition.ensures c.next_place-branch.ensures c.next_place-jump.ensures
     c.next_place-target.ensures c.next_place-end.ensures
 
 -- ---- LOOPS
@@ -110,10 +110,10 @@ turns-set-requires t c =
     let b4 = built c.expression.new.body in
     let e = typed_tree c.args.e.now in
     let p1 = places_step (built c.args.body.now) b1 ReturnNone c.in_ok-push.ensures in
-    let p2 = places_behind b1 b2 (command_kinds at.here (command c.args.repeated.now))
-    (command_pieces number at (length b1.kinds) (length b1.pieces) (command c.args.repeated.now)) c.in_ok-statement.ensures in
-    let p3 = places_behind b2 b3 (command_kinds at.here (command c.args.step.now))
-    (command_pieces number at (length b2.kinds) (length b2.pieces) (command c.args.step.now)) c.in_ok-statement-2.ensures in
+    let p2 = places_behind b1 b2 (statement_kinds at.here (typed_statement c.args.repeated.now))
+    (statement_pieces number at (length b1.kinds) (length b1.pieces) (typed_statement c.args.repeated.now)) c.in_ok-statement.ensures in
+    let p3 = places_behind b2 b3 (statement_kinds at.here (typed_statement c.args.step.now))
+    (statement_pieces number at (length b2.kinds) (length b2.pieces) (typed_statement c.args.step.now)) c.in_ok-statement-2.ensures in
     let p4 = places_behind b3 b4 (expression_kinds at.here e) (map whole (expression_code number at.here (length b3.kinds) (length b3.pieces) e))
     c.in_ok-expression.ensures in
     let p5 = places_step b4 (built c.push-2.new.self) (Branch c.next_register-condition.result true c.next_place-start.result) c.in_ok-push-2.ensures in
@@ -128,10 +128,10 @@ turns-settle-requires t c =
     let b3 = built c.statement-2.new.body in
     let b4 = built c.expression.new.body in
     let e = typed_tree c.args.e.now in
-    let p2 = places_behind b1 b2 (command_kinds at.here (command c.args.repeated.now))
-    (command_pieces number at (length b1.kinds) (length b1.pieces) (command c.args.repeated.now)) c.in_ok-statement.ensures in
-    let p3 = places_behind b2 b3 (command_kinds at.here (command c.args.step.now))
-    (command_pieces number at (length b2.kinds) (length b2.pieces) (command c.args.step.now)) c.in_ok-statement-2.ensures in
+    let p2 = places_behind b1 b2 (statement_kinds at.here (typed_statement c.args.repeated.now))
+    (statement_pieces number at (length b1.kinds) (length b1.pieces) (typed_statement c.args.repeated.now)) c.in_ok-statement.ensures in
+    let p3 = places_behind b2 b3 (statement_kinds at.here (typed_statement c.args.step.now))
+    (statement_pieces number at (length b2.kinds) (length b2.pieces) (typed_statement c.args.step.now)) c.in_ok-statement-2.ensures in
     let p4 = places_behind b3 b4 (expression_kinds at.here e) (map whole (expression_code number at.here (length b3.kinds) (length b3.pieces) e))
     c.in_ok-expression.ensures in
     let p5 = places_step b4 (built c.push-2.new.self) (Branch c.next_register-condition.result true c.next_place-start.result) c.in_ok-push-2.ensures in
@@ -150,8 +150,8 @@ turns-settle-requires-2 t c =
     let b3 = built c.statement-2.new.body in
     let b4 = built c.expression.new.body in
     let e = typed_tree c.args.e.now in
-    let p3 = places_behind b2 b3 (command_kinds at.here (command c.args.step.now))
-    (command_pieces number at (length b2.kinds) (length b2.pieces) (command c.args.step.now)) c.in_ok-statement-2.ensures in
+    let p3 = places_behind b2 b3 (statement_kinds at.here (typed_statement c.args.step.now))
+    (statement_pieces number at (length b2.kinds) (length b2.pieces) (typed_statement c.args.step.now)) c.in_ok-statement-2.ensures in
     let p4 = places_behind b3 b4 (expression_kinds at.here e) (map whole (expression_code number at.here (length b3.kinds) (length b3.pieces) e))
     c.in_ok-expression.ensures in
     let p5 = places_step b4 (built c.push-2.new.self) (Branch c.next_register-condition.result true c.next_place-start.result) c.in_ok-push-2.ensures in
@@ -167,7 +167,8 @@ turns-settle-requires-2 t c =
 
 pub turns-returns : goal.turns-returns
 turns-returns t c =
-    loop_made (numbers_at c.args.at.now) (place_seen c.args.at.now) (typed_tree c.args.e.now) (command c.args.step.now) (command c.args.repeated.now)
+    loop_made (numbers_at c.args.at.now) (place_seen c.args.at.now) (typed_tree c.args.e.now) (typed_statement c.args.step.now)
+    (typed_statement c.args.repeated.now)
     (built c.args.body.now) (built c.push.new.self) (built c.statement.new.body) (built c.statement-2.new.body) (built c.expression.new.body)
     (built c.push-2.new.self) (built c.set.new.self) (built c.settle.new.body) (built c.settle-2.new.body)
     c.next_place-jump.result c.next_place-start.result c.next_place-onward.result c.next_place-test.result c.next_register-condition.result
@@ -185,8 +186,8 @@ repeats-settle-requires t c =
     let b1 = built c.statement.new.body in
     let b2 = built c.expression.new.body in
     let e = typed_tree c.args.e.now in
-    let p1 = places_behind b0 b1 (command_kinds at.here (command c.args.repeated.now))
-    (command_pieces number at (length b0.kinds) (length b0.pieces) (command c.args.repeated.now)) c.in_ok-statement.ensures in
+    let p1 = places_behind b0 b1 (statement_kinds at.here (typed_statement c.args.repeated.now))
+    (statement_pieces number at (length b0.kinds) (length b0.pieces) (typed_statement c.args.repeated.now)) c.in_ok-statement.ensures in
     let p2 = places_behind b1 b2 (expression_kinds at.here e) (map whole (expression_code number at.here (length b1.kinds) (length b1.pieces) e))
     c.in_ok-expression.ensures in
     let p3 = places_step b2 (built c.push.new.self) (Branch c.next_register-condition.result true c.next_place-start.result) c.in_ok-push.ensures in
@@ -197,7 +198,7 @@ repeats-settle-requires t c =
 
 pub repeats-returns : goal.repeats-returns
 repeats-returns t c =
-    do_made (numbers_at c.args.at.now) (place_seen c.args.at.now) (typed_tree c.args.e.now) (command c.args.repeated.now)
+    do_made (numbers_at c.args.at.now) (place_seen c.args.at.now) (typed_tree c.args.e.now) (typed_statement c.args.repeated.now)
     (built c.args.body.now) (built c.statement.new.body) (built c.expression.new.body) (built c.push.new.self) (built c.settle.new.body)
     c.next_place-start.result c.next_place-test.result c.next_register-condition.result c.next_place-end.result
     (c.next_place-test.result - c.next_place-start.result)

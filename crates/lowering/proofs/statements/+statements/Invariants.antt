@@ -1,27 +1,28 @@
 use Rattle.std.proofs.Common.{◌≡◌, ◌+◌, take}
 use Rattle.std.specs.Prelude.{map}
-use Rattle.typed_tree.specs.Commands.{command, commands_of}
+use Rattle.typed_tree.specs.Statements.{typed_statement, typed_statements_of}
 use Rattle.lowered_expressions.specs.Views.{built}
-use Rattle.lowering.specs.inner.Pieces.{with_commands}
+use Rattle.lowering.specs.inner.Pieces.{with_statements}
 use Rattle.lowering.specs.inner.Views.{numbers_at, place_seen}
 use Rattle.lowering.proofs.Weights.{weight, weights}
 use Rattle.lowering.proofs.statements.+statements.Given as goal
 
 abbrev pub decreases-statement : goal.decreases-statement
-decreases-statement l = weight (command l.s.now)
+decreases-statement l = weight (typed_statement l.s.now)
 
 abbrev pub decreases-statements : goal.decreases-statements
-decreases-statements l = weights (commands_of (map command l.list.now.items)) + 1
+decreases-statements l = weights (typed_statements_of (map typed_statement l.list.now.items)) + 1
 
 abbrev pub decreases-choice : goal.decreases-choice
-decreases-choice l = weight (command l.first.now) + weight (command l.second.now) + 2
+decreases-choice l = weight (typed_statement l.first.now) + weight (typed_statement l.second.now) + 2
 
 abbrev pub decreases-turns : goal.decreases-turns
-decreases-turns l = weight (command l.step.now) + weight (command l.repeated.now) + 2
+decreases-turns l = weight (typed_statement l.step.now) + weight (typed_statement l.repeated.now) + 2
 
 abbrev pub decreases-repeats : goal.decreases-repeats
-decreases-repeats l = weight (command l.repeated.now) + 2
+decreases-repeats l = weight (typed_statement l.repeated.now) + 2
 
 abbrev pub invariant-statements-loop-each : goal.invariant-statements-loop-each
 invariant-statements-loop-each l =
-    built l.body ≡ with_commands (numbers_at l.at) (place_seen l.at) (built l.initial.body) (commands_of (map command (take l.each-index l.each-items)))
+    built l.body
+    ≡ with_statements (numbers_at l.at) (place_seen l.at) (built l.initial.body) (typed_statements_of (map typed_statement (take l.each-index l.each-items)))

@@ -4,10 +4,10 @@ use Rattle.std.proofs.lemmas.List.{take_all, take_more, map-append}
 use Rattle.secrec_ast.specs.Statements.{statement, statements_of, start_tree, step_tree, optional}
 use Rattle.secrec_ast.specs.Equations.{for_statement_is}
 use Rattle.domain_types.specs.Views.{declared}
-use Rattle.typed_tree.specs.Commands.{command, commands_of}
+use Rattle.typed_tree.specs.Statements.{typed_statement, typed_statements_of}
 use Rattle.name_resolution.specs.Scopes.{FunctionScope}
 use Rattle.name_resolution.specs.Bodies.{looped, resolved, resolved_all}
-use Rattle.name_resolution.specs.inner.Views.{place_seen, with_place, commands_seen}
+use Rattle.name_resolution.specs.inner.Views.{place_seen, with_place, typed_statements_seen}
 use Rattle.name_resolution.proofs.Growing.{map_one}
 use Rattle.name_resolution.proofs.Missing.{passed_on, statements_none}
 use Rattle.name_resolution.proofs.Sequences.{resolved_all_more, place_made}
@@ -27,9 +27,9 @@ statements-loop-each-preserved t c =
       made =
           ap (λ l. resolved_all d (statements_of l) (place_seen c.args.place.now)) more
           ∙ resolved_all_more d ts (statement x) (place_seen c.args.place.now) (place_seen c.loop-each.place) (place_seen c.statement.new.place)
-          (map command c.loop-each.made.items) (command c.in_ok-next.next) c.loop-each.invariant.made c.in_ok-next.ensures.made
-          ∙ ap (λ l. Some (place_made (commands_of l) (place_seen c.statement.new.place)))
-          (sym (ap (map command) c.in_ok-push.ensures.items ∙ map_one command c.loop-each.made.items c.in_ok-next.next));
+          (map typed_statement c.loop-each.made.items) (typed_statement c.in_ok-next.next) c.loop-each.invariant.made c.in_ok-next.ensures.made
+          ∙ ap (λ l. Some (place_made (typed_statements_of l) (place_seen c.statement.new.place)))
+          (sym (ap (map typed_statement) c.in_ok-push.ensures.items ∙ map_one typed_statement c.loop-each.made.items c.in_ok-next.next));
       outer = c.in_ok-next.ensures.outer ∙ c.loop-each.invariant.outer;
     }
 
@@ -42,9 +42,9 @@ statements-returns-in_err-next-clause-made t c =
     let r = place_seen c.loop-each.place in
     let none : resolved d (statement x) r ≡ None → resolved_all d (statements_of (map statement c.args.list.now.items)) s ≡ None =
     λ e. ap (λ l. resolved_all d (statements_of (map statement l)) s) (sym c.deref-each-items.ensures.value)
-    ∙ statements_none d xs c.loop-each.each-index x s r (commands_of (map command c.loop-each.made.items)) c.loop-each-test.true
+    ∙ statements_none d xs c.loop-each.each-index x s r (typed_statements_of (map typed_statement c.loop-each.made.items)) c.loop-each-test.true
     c.each-item.is c.loop-each.invariant.made e in
-    passed_on (with_place command (place_seen c.statement.new.place)) (with_place commands_seen (place_seen c.statement.new.place))
+    passed_on (with_place typed_statement (place_seen c.statement.new.place)) (with_place typed_statements_seen (place_seen c.statement.new.place))
     c.in_err-next.field-0.0 (resolved d (statement x) r) _ c.from_residual.result c.from_residual.ensures.1 none c.in_err-next.ensures.made
 
 pub statements-returns-clause-made : goal.statements-returns-clause-made
@@ -73,7 +73,7 @@ statement-returns-in_ok-made-in-For-clause-made t c =
     let parts = looped d (start_tree c.in-For.start) (optional c.in-For.e) (step_tree c.in-For.step) in
     ap (λ t. resolved d t s) (ap statement c.in-For.is ∙ for_statement_is _ _ _ _ _)
     ∙ block_made (parts (resolved d (statement c.in-For.body.value))) s e (place_seen c.looped.new.place)
-    (place_seen c.leave-in-For.new.self) c.enter-outer-in-For.result (command c.in_ok-made-in-For.made) c.enter-outer-in-For.ensures.inner
+    (place_seen c.leave-in-For.new.self) c.enter-outer-in-For.result (typed_statement c.in_ok-made-in-For.made) c.enter-outer-in-For.ensures.inner
     c.enter-outer-in-For.ensures.outer
     (ap (λ z. parts (resolved d (statement z)) e) (sym body) ∙ c.in_ok-made-in-For.ensures.made) c.in_ok-made-in-For.ensures.outer c.leave-in-For.ensures
 

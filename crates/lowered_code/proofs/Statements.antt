@@ -11,37 +11,37 @@ use Rattle.typed_tree.specs.declared.kinds.Slot.{Slot}
 use Rattle.typed_tree.specs.declared.function.Returned.{Returned}
 use Rattle.typed_tree.specs.declared.function.Returned.TheVariants.{Nothing, Value}
 use Rattle.typed_tree.specs.Tree.{TypedTree}
-use Rattle.typed_tree.specs.Commands.{Command, Commands, empty_command, block_command, if_command, loop_command, do_command, break_command, continue_command}
-use Rattle.typed_tree.specs.Commands.{return_command, assert_command, store_command, default_command, fill_command, input_command, element_command}
-use Rattle.typed_tree.specs.Commands.{publish_command, evaluate_command}
-use Rattle.typed_tree.specs.Commands as Commands'
+use Rattle.typed_tree.specs.Statements.{TypedStatementTree, TypedStatementTrees, empty_statement, block_statement, if_statement, loop_statement, do_statement}
+use Rattle.typed_tree.specs.Statements.{break_statement, continue_statement, return_statement, assert_statement, store_statement, default_statement}
+use Rattle.typed_tree.specs.Statements.{fill_statement, input_statement, element_statement, publish_statement, evaluate_statement}
+use Rattle.typed_tree.specs.Statements as Statements'
 use Rattle.reached_instances.specs.declared.instance.BoundDomain.{BoundDomain}
 use Rattle.reached_instances.specs.Domains.{Setting, domain, domain_under, slot_domain, given_domain}
 use Rattle.language_model.specs.Evaluation.{StatementContext, is_private, gives_private, slot_is_private, slot_shape, shape_at}
 use Rattle.bytecode.specs.declared.kind.Kind.{Kind}
 use Rattle.verified_code.specs.Steps.{Step, Function, Store, Fill, Put, Publish, Assert, Branch, Return}
-use Rattle.code_model.specs.Fit.{MayStand, IsFit, IsFitCommand, AreFitCommands}
+use Rattle.code_model.specs.Fit.{MayStand, IsFit, IsFitStatement, AreFitStatements}
 use Rattle.code_model.specs.Kinds.{width, kind_of, slot_kind, private_kind_in, expression_kinds}
 use Rattle.code_model.specs.Kinded.{HasKind, public_scalar}
 use Rattle.code_model.specs.Expressions.{Numbers, picked, lacks, expression_code}
-use Rattle.code_model.specs.Commands.{shape_number, command_width, command_kinds, commands_kinds, command_code, commands_code, behind_classifying}
+use Rattle.code_model.specs.Statements.{shape_number, statement_width, statement_kinds, statements_kinds, statement_code, statements_code, behind_classifying}
 use Rattle.code_model.specs.Programs.{given_kind}
-use Rattle.code_model.proofs.Lengths.{expression_length, command_length}
-use Rattle.code_model.proofs.Widths.{expression_registers, commands_registers}
+use Rattle.code_model.proofs.Lengths.{expression_length, statement_length}
+use Rattle.code_model.proofs.Widths.{expression_registers, statements_registers}
 use Rattle.raw_steps.specs.Right.{kind, IsRight}
 use Rattle.well_typed.specs.Kinds.{scalar, GoesTo}
 use Rattle.well_typed.specs.Expressions.{Gives}
-use Rattle.well_typed.specs.Commands.{IsPublicScalar, IsReturned, IsWellTypedCommand, AreWellTypedCommands}
+use Rattle.well_typed.specs.Statements.{IsPublicScalar, IsReturned, IsWellTypedStatement, AreWellTypedStatements}
 use Rattle.lowered_code.proofs.Standing.{clash, Stands, stands_first, stands_rest, stands_left, stands_right, AllRight, both_right, picked_kind}
 use Rattle.lowered_code.proofs.Shapes.{shape_is, value_at, goes_may}
 use Rattle.lowered_code.proofs.Rows.{within_left, within_right, RightAt}
 use Rattle.lowered_code.proofs.Expressions.{IsCallee, SlotsStand, ExpressionRight, expression_right, unread_right}
 use Rattle.lowered_code.proofs.Control.{if_right, loop_right, do_right, behind_right}
 
-command_registers : (here : Setting) (x : Command) → length (command_kinds here x) ≡ command_width x
-command_registers here x =
-    let e = commands_registers here (Commands'.also x Commands'.none) in
-    let n = length-append (command_kinds here x) [] in
+statement_registers : (here : Setting) (x : TypedStatementTree) → length (statement_kinds here x) ≡ statement_width x
+statement_registers here x =
+    let e = statements_registers here (Statements'.also x Statements'.none) in
+    let n = length-append (statement_kinds here x) [] in
     omega (arith, e, n)
 
 module _ (number : Numbers) (c : List Function) (ks : List Kind) (count : ℕ) (here : Setting) where
@@ -138,9 +138,9 @@ module _ (number : Numbers) (c : List Function) (ks : List Kind) (count : ℕ) (
         (i (picked (lacks w (gives_private here e)) t u) (public_at (t + 1) n Uint64 hn first)
         (picked_kind c ks (given_here g) count w (gives_private here e) s t u m v p))))
 
-    returned : (g : Returned) (o : Option TypedTree) (inside : Bool) → IsReturned here g o → IsFitCommand Known (at g) inside (return_command o)
+    returned : (g : Returned) (o : Option TypedTree) (inside : Bool) → IsReturned here g o → IsFitStatement Known (at g) inside (return_statement o)
         → (t x y pc : ℕ)
-        → Stands ks t (command_kinds here (return_command o)) → Ends g pc (command_code number (at g) t x y pc (return_command o))
+        → Stands ks t (statement_kinds here (return_statement o)) → Ends g pc (statement_code number (at g) t x y pc (return_statement o))
     returned Nothing None inside h f t x y pc stands l = (refl, tt)
     returned Nothing (Some e) inside h f t x y pc stands l = absurd h
     returned (Value s) None inside h f t x y pc stands l = absurd h
@@ -161,81 +161,82 @@ module _ (number : Numbers) (c : List Function) (ks : List Kind) (count : ℕ) (
     second_part t u a b n e p stands = let place : u ≡ t + length a = omega (arith, e, p) in stands_right u a place stands
 
     mutual
-      pub command_right : (g : Returned) (inside : Bool) (x : Command) → IsWellTypedCommand here g inside x → IsFitCommand Known (at g) inside x
-          → (t out over pc : ℕ) → out < count → over < count → Stands ks t (command_kinds here x) → Ends g pc (command_code number (at g) t out over pc x)
-      command_right g inside empty_command h f t out over pc o v stands l = tt
-      command_right g inside (block_command cs) h f t out over pc o v stands l = commands_right g inside cs h f t out over pc o v stands l
-      command_right g inside (if_command e a b) h f t out over pc o v stands l =
+      pub statement_right : (g : Returned) (inside : Bool) (x : TypedStatementTree) → IsWellTypedStatement here g inside x
+          → IsFitStatement Known (at g) inside x
+          → (t out over pc : ℕ) → out < count → over < count → Stands ks t (statement_kinds here x) → Ends g pc (statement_code number (at g) t out over pc x)
+      statement_right g inside empty_statement h f t out over pc o v stands l = tt
+      statement_right g inside (block_statement cs) h f t out over pc o v stands l = statements_right g inside cs h f t out over pc o v stands l
+      statement_right g inside (if_statement e a b) h f t out over pc o v stands l =
           let ta = t + width e in
-          let tb = ta + command_width a in
+          let tb = ta + statement_width a in
           let ke = expression_kinds here e in
-          let ka = command_kinds here a in
-          let kb = command_kinds here b in
+          let ka = statement_kinds here a in
+          let kb = statement_kinds here b in
           let se = stands_left ke (ka ++ kb) stands in
           let rest = second_part t ta ke (ka ++ kb) (width e) (expression_registers here e) refl stands in
-          let sb = second_part ta tb ka kb (command_width a) (command_registers here a) refl rest in
-          if_right c ks (given_here g) count pc t (expression_code number here t pc e) (λ p. command_code number (at g) ta out over p a)
-          (λ p. command_code number (at g) tb out over p b) (public_at t e datatype.Bool h.0 se) (expression g e _ h.0.0 f.0 t pc se)
-          (λ p. command_right g inside a h.1 f.1 ta out over p o v (stands_left ka kb rest)) (λ p. command_right g inside b h.2 f.2 tb out over p o v sb) l
-      command_right g inside (loop_command e step body) h f t out over pc o v stands l =
-          let ts = t + command_width body in
-          let te = ts + command_width step in
-          let py = pc + 1 + length (command_code number (at g) t 0 0 0 body) in
-          let pt = py + length (command_code number (at g) ts 0 0 0 step) in
+          let sb = second_part ta tb ka kb (statement_width a) (statement_registers here a) refl rest in
+          if_right c ks (given_here g) count pc t (expression_code number here t pc e) (λ p. statement_code number (at g) ta out over p a)
+          (λ p. statement_code number (at g) tb out over p b) (public_at t e datatype.Bool h.0 se) (expression g e _ h.0.0 f.0 t pc se)
+          (λ p. statement_right g inside a h.1 f.1 ta out over p o v (stands_left ka kb rest)) (λ p. statement_right g inside b h.2 f.2 tb out over p o v sb) l
+      statement_right g inside (loop_statement e step body) h f t out over pc o v stands l =
+          let ts = t + statement_width body in
+          let te = ts + statement_width step in
+          let py = pc + 1 + length (statement_code number (at g) t 0 0 0 body) in
+          let pt = py + length (statement_code number (at g) ts 0 0 0 step) in
           let px = pt + length (expression_code number here te 0 e) + 1 in
-          let kb = command_kinds here body in
-          let kt = command_kinds here step in
+          let kb = statement_kinds here body in
+          let kt = statement_kinds here step in
           let ke = expression_kinds here e in
-          let rest = second_part t ts kb (kt ++ ke) (command_width body) (command_registers here body) refl stands in
-          let se = second_part ts te kt ke (command_width step) (command_registers here step) refl rest in
-          let cb = command_code number (at g) t px py (pc + 1) body in
+          let rest = second_part t ts kb (kt ++ ke) (statement_width body) (statement_registers here body) refl stands in
+          let se = second_part ts te kt ke (statement_width step) (statement_registers here step) refl rest in
+          let cb = statement_code number (at g) t px py (pc + 1) body in
           let p2 = pc + 1 + length cb in
-          let ct = command_code number (at g) ts px pt p2 step in
+          let ct = statement_code number (at g) ts px pt p2 step in
           let p3 = p2 + length ct in
           let ce = expression_code number here te p3 e in
           let n1 = length-append cb (ct ++ (ce ++ Branch te true (pc + 1) ∷ [])) in
           let n2 = length-append ct (ce ++ Branch te true (pc + 1) ∷ []) in
           let n3 = length-append ce (Branch te true (pc + 1) ∷ []) in
-          let m1 = command_length number (at g) body t px py (pc + 1) 0 0 0 in
-          let m2 = command_length number (at g) step ts px pt p2 0 0 0 in
+          let m1 = statement_length number (at g) body t px py (pc + 1) 0 0 0 in
+          let m2 = statement_length number (at g) step ts px pt p2 0 0 0 in
           let m3 = expression_length number here e te p3 0 in
           let ends : px < count = omega (arith, l, n1, n2, n3, m1, m2, m3) in
           let tests : pt < count = omega (arith, ends) in
           let steps : py < count = omega (arith, ends) in
-          loop_right c ks (given_here g) count pc te (λ p. expression_code number here te p e) (λ p. command_code number (at g) t px py p body)
-          (λ p. command_code number (at g) ts px pt p step) (public_at te e datatype.Bool h.0 se) (λ p. expression g e _ h.0.0 f.0 te p se)
-          (λ p. command_right g true body h.2 f.2 t px py p ends steps (stands_left kb (kt ++ ke) stands))
-          (λ p. command_right g false step h.1 f.1 ts px pt p ends tests (stands_left kt ke rest)) l
-      command_right g inside (do_command body e) h f t out over pc o v stands l =
-          let te = t + command_width body in
-          let pt = pc + length (command_code number (at g) t 0 0 0 body) in
+          loop_right c ks (given_here g) count pc te (λ p. expression_code number here te p e) (λ p. statement_code number (at g) t px py p body)
+          (λ p. statement_code number (at g) ts px pt p step) (public_at te e datatype.Bool h.0 se) (λ p. expression g e _ h.0.0 f.0 te p se)
+          (λ p. statement_right g true body h.2 f.2 t px py p ends steps (stands_left kb (kt ++ ke) stands))
+          (λ p. statement_right g false step h.1 f.1 ts px pt p ends tests (stands_left kt ke rest)) l
+      statement_right g inside (do_statement body e) h f t out over pc o v stands l =
+          let te = t + statement_width body in
+          let pt = pc + length (statement_code number (at g) t 0 0 0 body) in
           let px = pt + length (expression_code number here te 0 e) + 1 in
-          let kb = command_kinds here body in
+          let kb = statement_kinds here body in
           let ke = expression_kinds here e in
-          let se = second_part t te kb ke (command_width body) (command_registers here body) refl stands in
-          let cb = command_code number (at g) t px pt pc body in
+          let se = second_part t te kb ke (statement_width body) (statement_registers here body) refl stands in
+          let cb = statement_code number (at g) t px pt pc body in
           let p2 = pc + length cb in
           let ce = expression_code number here te p2 e in
           let n1 = length-append cb (ce ++ Branch te true pc ∷ []) in
           let n2 = length-append ce (Branch te true pc ∷ []) in
-          let m1 = command_length number (at g) body t px pt pc 0 0 0 in
+          let m1 = statement_length number (at g) body t px pt pc 0 0 0 in
           let m2 = expression_length number here e te p2 0 in
           let tests : pt < count = omega (arith, l, n1, n2, m1, m2) in
           let behind : px ≡ pc + length (cb ++ (ce ++ Branch te true pc ∷ [])) = omega (arith, n1, n2, m1, m2) in
           let ends : px < count = omega (arith, behind, l) in
-          do_right c ks (given_here g) count pc te (λ p. expression_code number here te p e) (λ p. command_code number (at g) t px pt p body)
+          do_right c ks (given_here g) count pc te (λ p. expression_code number here te p e) (λ p. statement_code number (at g) t px pt p body)
           (public_at te e datatype.Bool h.1 se) (λ p. expression g e _ h.1.0 f.1 te p se)
-          (λ p. command_right g true body h.0 f.0 t px pt p ends tests (stands_left kb ke stands)) l
-      command_right g inside break_command h f t out over pc o v stands l = (o, tt)
-      command_right g inside continue_command h f t out over pc o v stands l = (v, tt)
-      command_right g inside (return_command e) h f t out over pc o v stands l = returned g e inside h f t out over pc stands l
-      command_right g inside (assert_command line e) h f t out over pc o v stands l =
+          (λ p. statement_right g true body h.0 f.0 t px pt p ends tests (stands_left kb ke stands)) l
+      statement_right g inside break_statement h f t out over pc o v stands l = (o, tt)
+      statement_right g inside continue_statement h f t out over pc o v stands l = (v, tt)
+      statement_right g inside (return_statement e) h f t out over pc o v stands l = returned g e inside h f t out over pc stands l
+      statement_right g inside (assert_statement line e) h f t out over pc o v stands l =
           behind_one g e _ (Assert line t) h.0 f t pc stands (public_at t e datatype.Bool h stands) l
-      command_right g inside (store_command k e) h f t out over pc o v stands l =
+      statement_right g inside (store_statement k e) h f t out over pc o v stands l =
           let s = h.0 in
           stored g t pc (slot_is_private here k) e s.shape (Store k) h.2.0 f.1 (slot_may k s e h.1 h.2.1) stands
           (λ r q. (kind_of (slot_is_private here k) s.shape, q, slot_of k s h.1)) l
-      command_right g inside (default_command k) h f t out over pc o v stands l =
+      statement_right g inside (default_statement k) h f t out over pc o v stands l =
           let w = slot_is_private here k in
           let s = slot_shape here k in
           let u = length here.slots + shape_number s in
@@ -245,34 +246,36 @@ module _ (number : Numbers) (c : List Function) (ks : List Kind) (count : ℕ) (
           let p = stands_first stands in
           behind_right c ks (given_here g) count w false s t u (Store k) d p
           (kind_of w s, picked_kind c ks (given_here g) count w false s t u (λ e. absurd (clash e)) d p, slot_at k h.0 h.1)
-      command_right g inside (fill_command line k n e) h f t out over pc o v stands l =
+      statement_right g inside (fill_statement line k n e) h f t out over pc o v stands l =
           let s = h.0 in
           let w = slot_is_private here k in
           indexed g t pc w n e (scalar s.shape.element) (Fill line k (t + 1)) h.2 f.0 h.3.0 f.1.1 (slot_may k s e h.1.0 h.3.1) stands
           (λ r i q. (w, s.shape.element, i, q, array_of k s h.1.0 h.1.1)) l
-      command_right g inside (input_command line k text) h f t out over pc o v stands l =
+      statement_right g inside (input_statement line k text) h f t out over pc o v stands l =
           (stands_first stands, ((kind_of (slot_is_private here k) (slot_shape here k), stands_first stands, slot_at k h.0 h.1), tt))
-      command_right g inside (element_command line k i e) h f t out over pc o v stands l =
+      statement_right g inside (element_statement line k i e) h f t out over pc o v stands l =
           let s = h.0 in
           let w = slot_is_private here k in
           indexed g t pc w i e (scalar s.shape.element) (Put line k (t + 1)) h.2 f.0 h.3.0 f.1.1 (slot_may k s e h.1.0 h.3.1) stands
           (λ r j q. (w, s.shape.element, array_of k s h.1.0 h.1.1, j, q)) l
-      command_right g inside (publish_command text e) h f t out over pc o v stands l =
+      statement_right g inside (publish_statement text e) h f t out over pc o v stands l =
           behind_one g e h.0 (Publish text t) h.1 f t pc stands (kind_of (gives_private here e) h.0, value_at here t e h.0 h.1 stands) l
-      command_right g inside (evaluate_command e) h f t out over pc o v stands l =
+      statement_right g inside (evaluate_statement e) h f t out over pc o v stands l =
           unread_right number c ks (given_here g) count here Known known slots e h.0 h.1 f t pc stands l
 
-      pub commands_right : (g : Returned) (inside : Bool) (cs : Commands) → AreWellTypedCommands here g inside cs → AreFitCommands Known (at g) inside cs
-          → (t out over pc : ℕ) → out < count → over < count → Stands ks t (commands_kinds here cs) → Ends g pc (commands_code number (at g) t out over pc cs)
-      commands_right g inside Commands'.none h f t out over pc o v stands l = tt
-      commands_right g inside (Commands'.also x cs) h f t out over pc o v stands l =
-          let cx = command_code number (at g) t out over pc x in
+      pub statements_right : (g : Returned) (inside : Bool) (cs : TypedStatementTrees) → AreWellTypedStatements here g inside cs
+          → AreFitStatements Known (at g) inside cs
+          → (t out over pc : ℕ) → out < count → over < count → Stands ks t (statements_kinds here cs)
+          → Ends g pc (statements_code number (at g) t out over pc cs)
+      statements_right g inside Statements'.none h f t out over pc o v stands l = tt
+      statements_right g inside (Statements'.also x cs) h f t out over pc o v stands l =
+          let cx = statement_code number (at g) t out over pc x in
           let q = pc + length cx in
-          let tr = t + command_width x in
-          let rest = commands_code number (at g) tr out over q cs in
-          let kx = command_kinds here x in
-          let kr = commands_kinds here cs in
+          let tr = t + statement_width x in
+          let rest = statements_code number (at g) tr out over q cs in
+          let kx = statement_kinds here x in
+          let kr = statements_kinds here cs in
           both g cx rest
-          (command_right g inside x h.0 f.0 t out over pc o v (stands_left kx kr stands) (within_left count pc cx rest l))
-          (commands_right g inside cs h.1 f.1 tr out over q o v (second_part t tr kx kr (command_width x) (command_registers here x) refl stands)
+          (statement_right g inside x h.0 f.0 t out over pc o v (stands_left kx kr stands) (within_left count pc cx rest l))
+          (statements_right g inside cs h.1 f.1 tr out over q o v (second_part t tr kx kr (statement_width x) (statement_registers here x) refl stands)
           (within_right count pc q cx rest refl l))

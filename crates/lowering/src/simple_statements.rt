@@ -1,12 +1,12 @@
 // The code of statements without others in them.
 ghost use Rattle.std.specs.Prelude.{◌≡◌, ◌<◌, OnOk};
 ghost use Rattle.typed_tree.specs.Tree.{typed_tree};
-ghost use Rattle.typed_tree.specs.Commands.{assert_command, default_command, evaluate_command, input_command, optional_tree, publish_command};
-ghost use Rattle.typed_tree.specs.Commands.{return_command, store_command};
-ghost use Rattle.code_model.specs.Commands.{shape_number};
+ghost use Rattle.typed_tree.specs.Statements.{assert_statement, default_statement, evaluate_statement, input_statement, optional_tree, publish_statement};
+ghost use Rattle.typed_tree.specs.Statements.{return_statement, store_statement};
+ghost use Rattle.code_model.specs.Statements.{shape_number};
 ghost use Rattle.lowered_expressions.specs.Views.{built, here_of, numbers_of, step_seen};
-ghost use Rattle.lowering.specs.inner.Leaves.{pair_command, pair_step, with_leaf};
-ghost use Rattle.lowering.specs.inner.Pieces.{with_command};
+ghost use Rattle.lowering.specs.inner.Leaves.{pair_statement, pair_step, with_leaf};
+ghost use Rattle.lowering.specs.inner.Pieces.{with_statement};
 ghost use Rattle.lowering.specs.inner.Views.{numbers_at, place_seen};
 
 use crate::place::LoweringContext;
@@ -26,7 +26,7 @@ pub fn returning(
     e: &Option<TypedExpression>,
 ) -> Result<(), AllocError>
     ensures { OnOk result (built body.new ≡
-        with_command (numbers_at at.now) (place_seen at.now) (built body.old) (return_command (optional_tree e.now))) }
+        with_statement (numbers_at at.now) (place_seen at.now) (built body.old) (return_statement (optional_tree e.now))) }
 {
     let Some(e) = e else {
         return body.push(Step::ReturnNone);
@@ -43,7 +43,7 @@ pub fn assertion(
     e: &TypedExpression,
 ) -> Result<(), AllocError>
     ensures { OnOk result (built body.new ≡
-        with_leaf (numbers_of around.now) (here_of around.now) (built body.old) (assert_command line (typed_tree e.now))) }
+        with_leaf (numbers_of around.now) (here_of around.now) (built body.old) (assert_statement line (typed_tree e.now))) }
 {
     let condition = body.next_register();
     expression(body, around, e)?;
@@ -58,7 +58,7 @@ pub fn publishing<'p>(
     e: &TypedExpression,
 ) -> Result<(), AllocError>
     ensures { OnOk result (built body.new ≡
-        with_leaf (numbers_of around.now) (here_of around.now) (built body.old) (publish_command text.now (typed_tree e.now))) }
+        with_leaf (numbers_of around.now) (here_of around.now) (built body.old) (publish_statement text.now (typed_tree e.now))) }
 {
     let source = body.next_register();
     expression(body, around, e)?;
@@ -73,7 +73,7 @@ pub fn store(
     e: &TypedExpression,
 ) -> Result<(), AllocError>
     ensures { OnOk result (built body.new ≡
-        with_leaf (numbers_of around.now) (here_of around.now) (built body.old) (store_command slot (typed_tree e.now))) }
+        with_leaf (numbers_of around.now) (here_of around.now) (built body.old) (store_statement slot (typed_tree e.now))) }
 {
     let private = slot_is_private(&around.here, slot);
     let source = argument(body, around, private, e)?;
@@ -99,7 +99,7 @@ pub fn default_store(
     slot: usize,
 ) -> Result<(), AllocError>
     ensures { OnOk result (built body.new ≡
-        with_leaf (numbers_of around.now) (here_of around.now) (built body.old) (default_command slot)) }
+        with_leaf (numbers_of around.now) (here_of around.now) (built body.old) (default_statement slot)) }
 {
     let here = &around.here;
     let shape = slot_shape(here, slot);
@@ -124,7 +124,7 @@ pub fn input<'p>(
     text: &'p Name,
 ) -> Result<(), AllocError>
     ensures { OnOk result (built body.new ≡
-        with_leaf (numbers_of around.now) (here_of around.now) (built body.old) (input_command line slot text.now)) }
+        with_leaf (numbers_of around.now) (here_of around.now) (built body.old) (input_statement line slot text.now)) }
 {
     let here = &around.here;
     let kind = kind_of(slot_is_private(here, slot), slot_shape(here, slot));
@@ -180,7 +180,7 @@ pub fn pair_store(
     e: &TypedExpression,
 ) -> Result<(), AllocError>
     ensures { OnOk result (built body.new ≡ with_leaf (numbers_of around.now) (here_of around.now) (built body.old)
-        (pair_command pair line slot (typed_tree number.now) (typed_tree e.now))) }
+        (pair_statement pair line slot (typed_tree number.now) (typed_tree e.now))) }
 {
     let private = slot_is_private(&around.here, slot);
     let classified = body.fresh(private_kind(&around.here, e))?;
@@ -197,7 +197,7 @@ pub fn unread(
     e: &TypedExpression,
 ) -> Result<(), AllocError>
     ensures { OnOk result (built body.new ≡
-        with_leaf (numbers_of around.now) (here_of around.now) (built body.old) (evaluate_command (typed_tree e.now))) }
+        with_leaf (numbers_of around.now) (here_of around.now) (built body.old) (evaluate_statement (typed_tree e.now))) }
 {
     let TypedExpression::Call(line, function, list) = e else {
         return expression(body, around, e);

@@ -9,7 +9,7 @@ use Rattle.lowered_expressions.specs.Built.{with_code, with_kind, with_step}
 use Rattle.lowered_expressions.specs.Views.{built, here_of, numbers_of}
 use Rattle.lowering.specs.inner.Leaves.{pair_step}
 use Rattle.lowering.proofs.Ends.{pair_made, pair_code, pair_is}
-use Rattle.lowering.proofs.commands.pair_store.Goals as goal
+use Rattle.lowering.proofs.simple_statements.pair_store.Goals as goal
 
 pub returns : goal.returns
 returns c =

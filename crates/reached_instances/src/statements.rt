@@ -1,9 +1,9 @@
 // The instances that statements call.
 ghost use Rattle.std.specs.Prelude.{◌≡◌, ◌++◌, IfOk, map};
 ghost use Rattle.typed_tree.specs.Tree.{typed_tree};
-ghost use Rattle.typed_tree.specs.Commands.{command, commands_of, optional_tree};
+ghost use Rattle.typed_tree.specs.Statements.{typed_statement, typed_statements_of, optional_tree};
 ghost use Rattle.typed_tree.specs.Programs.{typed_program_tree};
-ghost use Rattle.reached_instances.specs.Calls.{calls, optional_calls, command_calls, commands_calls, called_by};
+ghost use Rattle.reached_instances.specs.Calls.{calls, optional_calls, typed_statement_calls, typed_statements_calls, called_by};
 ghost use Rattle.reached_instances.specs.Instances.{instance_seen};
 ghost use Rattle.reached_instances.specs.Views.{setting, instances_seen};
 
@@ -51,7 +51,7 @@ fn statement(
     s: &TypedStatement,
 ) -> Result<(), AllocError>
     ensures { IfOk result (λ _. instances_seen found.new.items ≡
-        instances_seen found.old.items ++ command_calls (setting here.now) (command s.now)) }
+        instances_seen found.old.items ++ typed_statement_calls (setting here.now) (typed_statement s.now)) }
 {
     match s {
         TypedStatement::Empty
@@ -95,7 +95,7 @@ fn statements(
     list: &Vec<TypedStatement>,
 ) -> Result<(), AllocError>
     ensures { IfOk result (λ _. instances_seen found.new.items ≡
-        instances_seen found.old.items ++ commands_calls (setting here.now) (commands_of (map command list.now.items))) }
+        instances_seen found.old.items ++ typed_statements_calls (setting here.now) (typed_statements_of (map typed_statement list.now.items))) }
 {
     for each in list {
         statement(alloc, found, here, each)?;

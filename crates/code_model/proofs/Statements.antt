@@ -6,10 +6,10 @@ use Rattle.typed_tree.specs.declared.function.Returned.{Returned}
 use Rattle.typed_tree.specs.declared.function.Returned.TheVariants as given
 use Rattle.typed_tree.specs.Tree.{TypedTree, word_node, truth_node, slot_node, call_node, size_node, cat_node, sum_node, bits_node, element_node}
 use Rattle.typed_tree.specs.Tree.{not_node, cast_node, binary_node, cut_node, declassify_node}
-use Rattle.typed_tree.specs.Commands.{Command, Commands, empty_command, block_command, if_command, loop_command, do_command, break_command, continue_command}
-use Rattle.typed_tree.specs.Commands.{return_command, assert_command, store_command, default_command, fill_command, input_command, element_command}
-use Rattle.typed_tree.specs.Commands.{publish_command, evaluate_command}
-use Rattle.typed_tree.specs.Commands as Commands'
+use Rattle.typed_tree.specs.Statements.{TypedStatementTree, TypedStatementTrees, empty_statement, block_statement, if_statement, loop_statement, do_statement}
+use Rattle.typed_tree.specs.Statements.{break_statement, continue_statement, return_statement, assert_statement, store_statement, default_statement}
+use Rattle.typed_tree.specs.Statements.{fill_statement, input_statement, element_statement, publish_statement, evaluate_statement}
+use Rattle.typed_tree.specs.Statements as Statements'
 use Rattle.typed_tree.specs.Programs.{TypedFunctionTree}
 use Rattle.reached_instances.specs.declared.instance.BoundDomain.{BoundDomain}
 use Rattle.reached_instances.specs.Domains.{domains}
@@ -24,8 +24,8 @@ use Rattle.verified_code.specs.Steps.{Step, Store, Fill, Put, Argument, Publish,
 use Rattle.code_model.specs.Machine.{Caller, Machine, at, next, step, resume, received, limit, same_bool}
 use Rattle.code_model.specs.Kinds.{width, kind_of}
 use Rattle.code_model.specs.Expressions.{Numbers, classifying, picked, lacks, arguments_code, arguments_places, given_at, result_at, unread_code}
-use Rattle.code_model.specs.Commands.{shape_number, first_free, command_width, behind_classifying, command_code, commands_code}
-use Rattle.code_model.specs.Fit.{MayStand, IsFit, IsFitCommand, AreFitCommands}
+use Rattle.code_model.specs.Statements.{shape_number, first_free, statement_width, behind_classifying, statement_code, statements_code}
+use Rattle.code_model.specs.Fit.{MayStand, IsFit, IsFitStatement, AreFitStatements}
 use Rattle.code_model.proofs.Places.{HasAt, has_front, has_back, put_same, put_other}
 use Rattle.code_model.proofs.Gives.{Gives, gives_with, IsSecret, charge_gives, filled_gives, with_element_gives, asked_gives, published_gives}
 use Rattle.code_model.proofs.Gives.{asserted_gives, wanted_same}
@@ -33,7 +33,7 @@ use Rattle.code_model.proofs.Follows.{Runs, runs_bind, runs_done, runs_more, run
 use Rattle.code_model.proofs.Near.{holds_kept, ready_front, ready_back, branch_runs}
 use Rattle.code_model.proofs.Operands.{width_some, operands_run}
 use Rattle.code_model.proofs.Expressions.{CallsRun, call_runs, expression_runs, arguments_run}
-use Rattle.code_model.proofs.Lengths.{expression_length, command_length}
+use Rattle.code_model.proofs.Lengths.{expression_length, statement_length}
 use Rattle.code_model.proofs.Standing as standing
 use Rattle.code_model.proofs.Loops.{turns_run, repeats_run}
 
@@ -188,24 +188,24 @@ module _ (w : World) (p : List Function) (number : Numbers) (fs : List TypedFunc
   goes_to to pc g fr m P jump h k = silent m (at to m) g P
       (λ s. ap (λ o. step w p o m s) (standing.next_step w p number calls d place code stack room h jump)) (k (h.0, refl, h.2, h.3))
 
-  abbrev pub command_at : (t x y pc : ℕ) → Command → List Step
-  command_at = command_code number place
+  abbrev pub statement_at : (t x y pc : ℕ) → TypedStatementTree → List Step
+  statement_at = statement_code number place
 
   mutual
     unfolding execute execute_all
 
-    command_runs : (c : Command) (i : Bool) → IsFitCommand Known place i c → (x y t pc : ℕ) (fr : Frame) (m : Machine) → base ≤ t → HasAt code pc
-        (command_at t x y pc c) → At pc fr m → Runs w p m (execute w calls place c fr) (Leads x y (pc + length (command_at t x y pc c)))
-    command_runs empty_command i fit x y t pc fr m le has h = runs_done (h.0, omega (arith, h.1), h.2, h.3)
-    command_runs (block_command cs) i fit x y t pc fr m le has h = commands_run cs i fit x y t pc fr m le has h
-    command_runs (if_command e a b) i fit x y t pc fr m le has h =
+    statement_runs : (c : TypedStatementTree) (i : Bool) → IsFitStatement Known place i c → (x y t pc : ℕ) (fr : Frame) (m : Machine) → base ≤ t → HasAt code pc
+        (statement_at t x y pc c) → At pc fr m → Runs w p m (execute w calls place c fr) (Leads x y (pc + length (statement_at t x y pc c)))
+    statement_runs empty_statement i fit x y t pc fr m le has h = runs_done (h.0, omega (arith, h.1), h.2, h.3)
+    statement_runs (block_statement cs) i fit x y t pc fr m le has h = statements_run cs i fit x y t pc fr m le has h
+    statement_runs (if_statement e a b) i fit x y t pc fr m le has h =
         let ta = t + width e in
-        let tb = ta + command_width a in
+        let tb = ta + statement_width a in
         let ce = here_code t pc e in
         let pa = pc + length ce + 1 in
-        let ca = command_at ta x y pa a in
+        let ca = statement_at ta x y pa a in
         let pb = pa + length ca + 1 in
-        let cb = command_at tb x y pb b in
+        let cb = statement_at tb x y pb b in
         let rest2 = Jump (pb + length cb) ∷ cb in
         let rest = Branch t false pb ∷ (ca ++ rest2) in
         let has1 = has_back code pc ce rest has in
@@ -222,25 +222,25 @@ module _ (w : World) (p : List Function) (number : Numbers) (fs : List TypedFunc
         ) in
         choosing o x y pa pb (pa + length ca) (pb + length cb) (pc + length (ce ++ rest)) fr m2 (execute w calls place a fr) (execute w calls place b fr) at2
         has2.0 len
-        (λ k. command_runs a i fit.1 x y ta pa fr m2 (omega (arith, le)) (has_front code pa ca rest2 has1.1) k)
-        (λ k. command_runs b i fit.2 x y tb pb fr m2 (omega (arith, le)) has2.1 k)))
-    command_runs (loop_command e step' body) i fit x y t pc fr m le has h =
-        let ts = t + command_width body in
-        let te = ts + command_width step' in
-        let n1 = length (command_at t 0 0 0 body) in
-        let n2 = length (command_at ts 0 0 0 step') in
+        (λ k. statement_runs a i fit.1 x y ta pa fr m2 (omega (arith, le)) (has_front code pa ca rest2 has1.1) k)
+        (λ k. statement_runs b i fit.2 x y tb pb fr m2 (omega (arith, le)) has2.1 k)))
+    statement_runs (loop_statement e step' body) i fit x y t pc fr m le has h =
+        let ts = t + statement_width body in
+        let te = ts + statement_width step' in
+        let n1 = length (statement_at t 0 0 0 body) in
+        let n2 = length (statement_at ts 0 0 0 step') in
         let n3 = length (here_code te 0 e) in
         let over = pc + 1 + n1 in
         let again = over + n2 in
         let out = again + n3 + 1 in
-        let ca = command_at t out over (pc + 1) body in
+        let ca = statement_at t out over (pc + 1) body in
         let py = pc + 1 + length ca in
-        let cb = command_at ts out again py step' in
+        let cb = statement_at ts out again py step' in
         let pt = py + length cb in
         let ce = here_code te pt e in
         let last = Branch te true (pc + 1) ∷ [] in
-        let ey : over ≡ py = omega (arith, command_length number place body t out over (pc + 1) 0 0 0) in
-        let ez : again ≡ pt = omega (arith, ey, command_length number place step' ts out again py 0 0 0) in
+        let ey : over ≡ py = omega (arith, statement_length number place body t out over (pc + 1) 0 0 0) in
+        let ez : again ≡ pt = omega (arith, ey, statement_length number place step' ts out again py 0 0 0) in
         let ex : out ≡ pt + length ce + 1 = omega (arith, ez, expression_length number place.here e te pt 0) in
         let has1 = has_back code (pc + 1) ca (cb ++ (ce ++ last)) has.1 in
         let has2 = has_back code py cb (ce ++ last) has1 in
@@ -249,35 +249,35 @@ module _ (w : World) (p : List Function) (number : Numbers) (fs : List TypedFunc
         let turning = turns_run w p number calls d place code stack room x y out over again te pc py pt e (execute w calls place step')
         (execute w calls place body)
         (express e fit.0) (omega (arith, le)) (has_front code pt ce last has2) (has_back code pt ce last has2).0
-        (λ fr1 m1 k. command_runs body true fit.2 out over t (pc + 1) fr1 m1 le (has_front code (pc + 1) ca (cb ++ (ce ++ last)) has.1) k)
-        (λ fr1 m1 k. command_runs step' false fit.1 out again ts py fr1 m1 (omega (arith, le)) (has_front code py cb (ce ++ last) has1) k) ex ey ez in
+        (λ fr1 m1 k. statement_runs body true fit.2 out over t (pc + 1) fr1 m1 le (has_front code (pc + 1) ca (cb ++ (ce ++ last)) has.1) k)
+        (λ fr1 m1 k. statement_runs step' false fit.1 out again ts py fr1 m1 (omega (arith, le)) (has_front code py cb (ce ++ last) has1) k) ex ey ez in
         standing.went_at w p number calls d place code stack room x y (pt + length ce + 1) (pc + length (Jump pt ∷ (ca ++ (cb ++ (ce ++ last))))) len
         (runs_first m (at pt m) (λ s. ap (λ o. step w p o m s) (standing.next_step w p number calls d place code stack room h has.0))
         (record { from = λ s. turning (s.left + 1) fr (at pt m) s (omega arith) (h.0, refl, h.2, h.3) }))
-    command_runs (do_command body e) i fit x y t pc fr m le has h =
-        let te = t + command_width body in
-        let n1 = length (command_at t 0 0 0 body) in
+    statement_runs (do_statement body e) i fit x y t pc fr m le has h =
+        let te = t + statement_width body in
+        let n1 = length (statement_at t 0 0 0 body) in
         let n3 = length (here_code te 0 e) in
         let again = pc + n1 in
         let out = again + n3 + 1 in
-        let ca = command_at t out again pc body in
+        let ca = statement_at t out again pc body in
         let pt = pc + length ca in
         let ce = here_code te pt e in
         let last = Branch te true pc ∷ [] in
-        let ez : again ≡ pt = omega (arith, command_length number place body t out again pc 0 0 0) in
+        let ez : again ≡ pt = omega (arith, statement_length number place body t out again pc 0 0 0) in
         let ex : out ≡ pt + length ce + 1 = omega (arith, ez, expression_length number place.here e te pt 0) in
         let has1 = has_back code pc ca (ce ++ last) has in
         let len : pt + length ce + 1 ≡ pc + length (ca ++ (ce ++ last)) = omega (arith, length-append ca (ce ++ last), length-append ce last) in
         let repeating = repeats_run w p number calls d place code stack room x y out again te pc pt e (execute w calls place body) (express e fit.1)
         (omega (arith, le)) (has_front code pt ce last has1) (has_back code pt ce last has1).0
-        (λ fr1 m1 k. command_runs body true fit.0 out again t pc fr1 m1 le (has_front code pc ca (ce ++ last) has) k) ex ez in
+        (λ fr1 m1 k. statement_runs body true fit.0 out again t pc fr1 m1 le (has_front code pc ca (ce ++ last) has) k) ex ez in
         standing.went_at w p number calls d place code stack room x y (pt + length ce + 1) (pc + length (ca ++ (ce ++ last))) len
         (record { from = λ s. repeating (s.left + 1) fr m s (omega arith) h })
-    command_runs break_command i fit x y t pc fr m le has h = goes_to x pc (stops fr) fr m _ has.0 h (λ k. k)
-    command_runs continue_command i fit x y t pc fr m le has h = goes_to y pc (skips fr) fr m _ has.0 h (λ k. k)
-    command_runs (return_command None) i fit x y t pc fr m le has h = runs_done
+    statement_runs break_statement i fit x y t pc fr m le has h = goes_to x pc (stops fr) fr m _ has.0 h (λ k. k)
+    statement_runs continue_statement i fit x y t pc fr m le has h = goes_to y pc (skips fr) fr m _ has.0 h (λ k. k)
+    statement_runs (return_statement None) i fit x y t pc fr m le has h = runs_done
         (h.2, λ s. ap (λ o. step w p o m s) (standing.next_step w p number calls d place code stack room h has.0), sym fit)
-    command_runs (return_command (Some e)) i fit x y t pc fr m le has h =
+    statement_runs (return_statement (Some e)) i fit x y t pc fr m le has h =
         let n = place.secret_result in
         let g = gives_private place.here e in
         let ce = here_code (t + 1) pc e in
@@ -293,14 +293,14 @@ module _ (w : World) (p : List Function) (number : Numbers) (fs : List TypedFunc
               (has_back code (pc + length ce) cl last has1).0) ∙ ap (λ z. resume m2.stack z s) h2.value',
           h2.private,
         )))
-    command_runs (assert_command line e) i fit x y t pc fr m le has h =
+    statement_runs (assert_statement line e) i fit x y t pc fr m le has h =
         standing.ends_with w p number calls d place code stack room x y t pc e (Assert line t) fr m (row.asserted line) (express e fit) le has h
         (λ v m1 s q. ap (λ z. carry (row.asserted line z s) (λ u. done (at (m1.pc + 1) m1))) q) (asserted_gives w line)
-    command_runs (publish_command text e) i fit x y t pc fr m le has h =
+    statement_runs (publish_statement text e) i fit x y t pc fr m le has h =
         standing.ends_with w p number calls d place code stack room x y t pc e (Publish text t) fr m (row.published w text) (express e fit) le has h
         (λ v m1 s q. ap (λ z. carry (row.published w text z s) (λ u. done (at (m1.pc + 1) m1))) q) (published_gives w text)
-    command_runs (evaluate_command e) i fit x y t pc fr m le has h = runs_bind (unread_runs e t pc fr m fit le has h) (λ v m1 h1. runs_done h1)
-    command_runs (store_command k e) i fit x y t pc fr m le has h =
+    statement_runs (evaluate_statement e) i fit x y t pc fr m le has h = runs_bind (unread_runs e t pc fr m fit le has h) (λ v m1 h1. runs_done h1)
+    statement_runs (store_statement k e) i fit x y t pc fr m le has h =
         let g = gives_private place.here e in
         let ce = here_code (t + 1) pc e in
         let rest = behind_classifying (slot_is_private place.here k) g t (t + 1) (Store k) in
@@ -308,16 +308,16 @@ module _ (w : World) (p : List Function) (number : Numbers) (fs : List TypedFunc
         standing.went_at w p number calls d place code stack room x y (pc + length ce + length rest) (pc + length (ce ++ rest))
         (omega (arith, length-append ce rest))
         (stores x y k t (t + 1) (pc + length ce) g v0 fr m1 fit.0 le (has_back code pc ce rest has) h1.standing h1.value' h1.private fit.2))
-    command_runs (default_command k) i fit x y t pc fr m le has h =
+    statement_runs (default_statement k) i fit x y t pc fr m le has h =
         let s = slot_shape place.here k in
         stores x y k t (length place.here.slots + shape_number s) pc false (plain s (default_words s.array)) fr m fit le has h
         (h.3.defaults s (omega (arith, fit))) refl never
-    command_runs (fill_command line k n e) i fit x y t pc fr m le has h =
+    statement_runs (fill_statement line k n e) i fit x y t pc fr m le has h =
         fits_in x y k t pc n e (Fill line k (t + 1)) (row.filled line) fr m fit.0 fit.1.1 fit.1.0 le fit.1.2 has h
         (λ j v r m1 s q1 q2 q3. ap (λ z. carry (row.filled line z (m1.registers r) s) (λ z. done (next k z m1))) q1 ∙ ap
         (λ z. carry (row.filled line j z s) (λ z. done (next k z m1))) q2)
         (λ j v q q'. subst (λ z. Gives (row.filled line j v) (IsSecret z)) q (filled_gives w line j v))
-    command_runs (input_command line k text) i fit x y t pc fr m le has h =
+    statement_runs (input_statement line k text) i fit x y t pc fr m le has h =
         let n = slot_is_private place.here k in
         let shape = slot_shape place.here k in
         let ask = asked_for n shape line (input_named w text) in
@@ -330,22 +330,22 @@ module _ (w : World) (p : List Function) (number : Numbers) (fs : List TypedFunc
         (standing.went_at w p number calls d place code stack room x y (pc + 1 + 1) (pc + 2) (omega arith)
         (standing.sets w p number calls d place code stack room x y k (pc + 1) (Store k t) (charged no_traps (size v)) (λ a. v) fr m1 fit has.1.0 h1.0
         (λ s. ap (λ z. carry (charged no_traps (size z) s) (λ a. done (next k z m1))) h1.1) (gives_with (charge_gives w (size v)) (λ a z. h1.2)))))
-    command_runs (element_command line k j e) i fit x y t pc fr m le has h =
+    statement_runs (element_statement line k j e) i fit x y t pc fr m le has h =
         fits_in x y k t pc j e (Put line k (t + 1)) (row.with_element line (fr k)) fr m fit.0 fit.1.1 fit.1.0 le fit.1.2 has h
         (λ j' v r m1 s q1 q2 q3. ap (λ z. carry (row.with_element line z (m1.registers (t + 1)) (m1.registers r) s) (λ z. done (next k z m1))) q3 ∙ ap
         (λ z. carry (row.with_element line (fr k) z (m1.registers r) s) (λ z. done (next k z m1))) q1 ∙ ap
         (λ z. carry (row.with_element line (fr k) j' z s) (λ z. done (next k z m1))) q2)
         (λ j' v q q'. subst (λ z. Gives (row.with_element line (fr k) j' v) (IsSecret z)) q' (with_element_gives w line (fr k) j' v))
 
-    pub commands_run : (cs : Commands) (i : Bool) → AreFitCommands Known place i cs → (x y t pc : ℕ) (fr : Frame) (m : Machine) → base ≤ t → HasAt code pc
-        (commands_code number place t x y pc cs) → At pc fr m → Runs w p m (execute_all w calls place cs fr)
-        (Leads x y (pc + length (commands_code number place t x y pc cs)))
-    commands_run Commands'.none i fit x y t pc fr m le has h = runs_done (h.0, omega (arith, h.1), h.2, h.3)
-    commands_run (Commands'.also c cs) i fit x y t pc fr m le has h =
-        let a = command_at t x y pc c in
-        let u = t + command_width c in
-        let b = commands_code number place u x y (pc + length a) cs in
-        runs_bind (command_runs c i fit.0 x y t pc fr m le (has_front code pc a b has) h) (λ g m1 h1.
+    pub statements_run : (cs : TypedStatementTrees) (i : Bool) → AreFitStatements Known place i cs → (x y t pc : ℕ) (fr : Frame) (m : Machine) → base ≤ t
+        → HasAt code pc (statements_code number place t x y pc cs) → At pc fr m → Runs w p m (execute_all w calls place cs fr)
+        (Leads x y (pc + length (statements_code number place t x y pc cs)))
+    statements_run Statements'.none i fit x y t pc fr m le has h = runs_done (h.0, omega (arith, h.1), h.2, h.3)
+    statements_run (Statements'.also c cs) i fit x y t pc fr m le has h =
+        let a = statement_at t x y pc c in
+        let u = t + statement_width c in
+        let b = statements_code number place u x y (pc + length a) cs in
+        runs_bind (statement_runs c i fit.0 x y t pc fr m le (has_front code pc a b has) h) (λ g m1 h1.
         standing.then_runs w p number calls d place code stack room x y (pc + length a) _ g m1 (execute_all w calls place cs) h1 (λ fr1 k.
         standing.went_at w p number calls d place code stack room x y (pc + length a + length b) (pc + length (a ++ b)) (omega (arith, length-append a b))
-        (commands_run cs i fit.1 x y u (pc + length a) fr1 m1 (omega (arith, le)) (has_back code pc a b has) k)))
+        (statements_run cs i fit.1 x y u (pc + length a) fr1 m1 (omega (arith, le)) (has_back code pc a b has) k)))
