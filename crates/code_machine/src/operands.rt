@@ -10,8 +10,8 @@ use bytecode::Register;
 use std::alloc::Global;
 use typed_tree::{BinaryOperator, Operands};
 use value_steps::{
-    Applied, Halt, Stage, Value, World, bits_extracted, element_of_array, filled, joined, operated,
-    with_element,
+    Applied, Halt, Operation, Stage, Value, World, bits_extracted, element_of_array, filled,
+    joined, operated, with_element,
 };
 
 /// An operator between two registers.
@@ -32,12 +32,15 @@ pub(crate) fn combined(
         (stage_seen stage.old) result (stage_seen stage.new) }
 {
     let applied = Applied {
-        operator,
-        operands,
+        operation: Operation {
+            line,
+            operator,
+            operands,
+        },
         left: machine.register(left),
         right: machine.register(right),
     };
-    operated(alloc, world, stage, line, &applied)
+    operated(alloc, world, stage, &applied)
 }
 
 /// An array of equal elements.
