@@ -47,8 +47,8 @@ fn enter(
     stage: &mut Stage<'_>,
     call: CallStep<'_>,
 ) -> Result<Change, Halt>
-    requires to_there { IsThereIfAny machine.now call.entry.to }
-    requires arguments_there { AreAllThere machine.now call.entry.arguments.now }
+    requires to_there { IsThereIfAny machine.now call.to }
+    requires arguments_there { AreAllThere machine.now call.arguments.now }
     ensures step { (w : Around) → Does (changed code.now (machine_seen code.now machine.now))
         (step w (settled code.now) (Some (steps.Call call.entry.line call.entry.function.0 (place_of call.entry.to)
         (map (λ r. r.0) call.entry.arguments.now))) (machine_seen code.now machine.now))
