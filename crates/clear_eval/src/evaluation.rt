@@ -28,7 +28,9 @@ use std::alloc::Global;
 use typed_tree::{
     BinaryOperator, Connective, Operands, Slot, TypedExpression, TypedFunction, TypedStatement,
 };
-use value_steps::{Halt, Stage, Value, World, concatenated, operation, tested, wanted};
+use value_steps::{
+    Halt, Operation, Stage, Value, World, concatenated, operation, tested, wanted,
+};
 
 /// Evaluates an expression.
 #[inline(never)]
@@ -231,9 +233,12 @@ fn not_cut_short(
     ensures spends { stage.new.left ≤ stage.old.left }
 {
     let right = value(alloc, world, at, stage, frame, right)?;
-    let operator = BinaryOperator::Bools(bool_operator(connective));
-    let operands = Operands::Scalars;
-    operation(alloc, world, stage, 0, operator, operands, left, right)
+    let step = Operation {
+        line: 0,
+        operator: BinaryOperator::Bools(bool_operator(connective)),
+        operands: Operands::Scalars,
+    };
+    operation(alloc, world, stage, step, left, right)
 }
 
 /// Goes on behind a public left operand of a connective.
