@@ -1,0 +1,9 @@
+//! Which values a run of code can still take: those that a register names.
+//!
+//! There is nothing to run here: definitions in `specs/`, and the law that follows from them. A miner that runs code may let go its share
+//! of a value that no register of its machine names.
+#![tactic(auto)]
+
+mod laws;
+
+pub use laws::steps_take_what_is_named;
