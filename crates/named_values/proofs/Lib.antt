@@ -1,0 +1,4 @@
+pub mod Effects
+pub mod Plans
+pub mod Rows
+pub mod Steps
