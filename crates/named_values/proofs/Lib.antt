@@ -1,3 +1,4 @@
+pub mod Operands
 pub mod Effects
 pub mod Plans
 pub mod Rows

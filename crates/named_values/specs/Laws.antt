@@ -1,12 +1,27 @@
 -- What is promised of the values that code takes.
-use Rattle.std.specs.Prelude.{◌≡◌, ◌+◌, ℕ, List, ◌++◌, Option, Some, None, Ok, Err}
+use Rattle.std.specs.Prelude.{◌≡◌, ◌+◌, ◌≤◌, ℕ, List, ◌++◌, Option, Some, None, Ok, Err}
 use Rattle.std.specs.List.{slice_get}
 use Rattle.gates.specs.declared.gate.Gate.{Gate}
+use Rattle.gates.specs.Clear.{Values, value, FitFrom}
 use Rattle.gates.specs.Counts.{made_by_all}
 use Rattle.language_model.specs.Effects.{World, Stage, Stop, Run}
 use Rattle.verified_code.specs.Steps.{Function}
 use Rattle.code_model.specs.Machine.{Machine, step, exec}
 use Rattle.named_values.specs.Named.{Numbers, or_from, AllTake, MachineNames, AreAmong}
+
+-- ---- WHAT GATES TAKE
+
+-- both lists have the same value of this number
+abbrev pub HaveSame : Values → Values → Numbers
+HaveSame xs ys k = value xs k ≡ value ys k
+
+-- where two lists of values have the same of all numbers that gates take, and stand alike from the gates' own on, both fit the gates if one does
+abbrev pub FitByWhatTheyTake : (inputs xs ys : Values) → ℕ → List Gate → Type 0
+FitByWhatTheyTake inputs xs ys next gates =
+    AllTake (HaveSame xs ys) gates → ((k : ℕ) → next ≤ k → slice_get xs k ≡ slice_get ys k) → FitFrom inputs xs next gates
+    → FitFrom inputs ys next gates
+
+-- ---- WHAT CODE TAKES
 
 -- a later stage: its further gates take values of these numbers alone
 pub record Grows (N : Numbers) (s u : Stage) : Type 0 where
