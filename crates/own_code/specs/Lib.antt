@@ -1,0 +1,2 @@
+pub mod OwnCode
+pub mod LettingGo
