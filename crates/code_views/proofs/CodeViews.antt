@@ -47,7 +47,7 @@ use Rattle.program_views.specs.Laws.{IsGivenTo}
 use Rattle.program_views.proofs.Simulated.{drew_counted}
 use Rattle.program_run.specs.Accepted.{IsAccepted}
 use Rattle.program_run.specs.Miners.{CanBeDealt}
-use Rattle.miner_core.specs.OwnCode.{Ended}
+use Rattle.own_code.specs.OwnCode.{Ended}
 use Rattle.miner_runs.specs.OwnRuns.{own_end, OwnRunAsReported}
 use Rattle.miner_runs.specs.Programs.{OwnRunsOnShares}
 use Rattle.miner_runs.proofs.Programs.{own_runs_where_accepted}

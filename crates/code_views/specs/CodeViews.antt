@@ -27,7 +27,7 @@ use Rattle.code_inputs.specs.Inputs.{dealt_of}
 use Rattle.program_views.specs.Views.{lengths_of, run_on, received, view_of, scripts_of, net_of}
 use Rattle.program_run.specs.Accepted.{IsAccepted}
 use Rattle.program_run.specs.Miners.{CanBeDealt}
-use Rattle.miner_core.specs.OwnCode.{Ended, Reached}
+use Rattle.own_code.specs.OwnCode.{Ended, Reached}
 use Rattle.miner_runs.specs.OwnRuns.{own_nodes}
 
 -- the openings among what a miner tells

@@ -21,7 +21,7 @@ use Rattle.code_runs.specs.Runs.{messages, scripts, shares}
 use Rattle.code_runs.proofs.Ends.{same_some}
 use Rattle.told_events.specs.Telling.{told_together}
 use Rattle.told_events.proofs.Together.{told_together_are_the_events}
-use Rattle.miner_core.specs.OwnCode.{Ended as AtEnd, Reached}
+use Rattle.own_code.specs.OwnCode.{Ended as AtEnd, Reached}
 use Rattle.miner_runs.specs.OwnRuns.{OwnRunAsReported, own_end, own_nodes, public_world}
 use Rattle.link_schedule.specs.Answers.{net_walked}
 use Rattle.link_schedule.specs.Net.{NetState, Own, after, net_mail, net_node, nodes_in}

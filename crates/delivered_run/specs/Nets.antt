@@ -13,7 +13,7 @@ use Rattle.verified_code.specs.Steps.{Function}
 use Rattle.driven_nodes.specs.Steps.{Stopped}
 use Rattle.code_places.specs.Places.{Place}
 use Rattle.told_events.specs.Telling.{told_together}
-use Rattle.miner_core.specs.OwnCode.{Reached}
+use Rattle.own_code.specs.OwnCode.{Reached}
 use Rattle.miner_core.specs.Story.{Story}
 use Rattle.link_schedule.specs.Answers.{net_walked}
 use Rattle.link_schedule.specs.Net.{NetState, Own, after, net_node}

@@ -17,7 +17,7 @@ use Rattle.protocol_model.specs.Network.{one_more, waits_for}
 use Rattle.protocol_model.proofs.NetCounts.{counts-delivered, lt_from}
 use Rattle.code_model.specs.Meaning.{fuel}
 use Rattle.code_places.specs.Places.{first_place}
-use Rattle.miner_core.specs.OwnCode.{own_code}
+use Rattle.own_code.specs.OwnCode.{own_code}
 use Rattle.miner_core.specs.Story.{Story, received, mail_in, strand_in, node, stands_at}
 use Rattle.link_schedule.specs.declared.given.Given.{Given}
 use Rattle.link_schedule.specs.declared.miners.Miners.{Miners}

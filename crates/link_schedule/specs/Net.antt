@@ -10,7 +10,7 @@ use Rattle.language_model.specs.Effects.{World}
 use Rattle.verified_code.specs.Steps.{Function}
 use Rattle.code_model.specs.Meaning.{fuel}
 use Rattle.code_places.specs.Places.{first_place}
-use Rattle.miner_core.specs.OwnCode.{Ended, own_code}
+use Rattle.own_code.specs.OwnCode.{Ended, own_code}
 
 -- what a miner was made with that is its own
 pub record Own : Type 0 where

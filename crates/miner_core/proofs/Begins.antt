@@ -29,7 +29,7 @@ use Rattle.code_turns.specs.Views.{went_as, went_to, speech_seen}
 use Rattle.code_turns.proofs.Places.{gates_grow, stage_went, wants_keep, wants_tell_none}
 use Rattle.miner_core.specs.declared.engine.At.TheVariants as at
 use Rattle.miner_core.specs.declared.engine.Engine.{Engine}
-use Rattle.miner_core.specs.OwnCode.{tell_and_go_on, gates_between, led_by, own_code}
+use Rattle.own_code.specs.OwnCode.{tell_and_go_on, gates_between, led_by, own_code}
 use Rattle.miner_core.specs.Views.{task_world, task_code}
 use Rattle.miner_core.specs.Engines.{place_at, code_from, engine_left, IsThrough, IsQuiet, GoesOn}
 use Rattle.miner_core.proofs.Quiet.{QuietAt, quiet_own}

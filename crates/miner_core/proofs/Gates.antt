@@ -16,7 +16,7 @@ use Rattle.gate_node.proofs.Always.{then-all}
 use Rattle.miner_core.specs.declared.engine.At.{At}
 use Rattle.miner_core.specs.declared.engine.At.TheVariants as at
 use Rattle.miner_core.specs.declared.engine.Engine.{Engine}
-use Rattle.miner_core.specs.OwnCode.{From, own_code, go_on, tell_and_go_on}
+use Rattle.own_code.specs.OwnCode.{From, own_code, go_on, tell_and_go_on}
 use Rattle.miner_core.specs.Views.{notice_seen, told_since, task_world, task_code}
 use Rattle.miner_core.specs.Engines.{place_at, behind_node, engine_left, engine_outcome, engine_told, IsQuiet}
 use Rattle.miner_core.proofs.Quiet.{told_then}

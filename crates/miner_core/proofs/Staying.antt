@@ -14,7 +14,7 @@ use Rattle.miner_core.specs.declared.answer.Step.{Step}
 use Rattle.miner_core.specs.declared.answer.Step.TheVariants as step
 use Rattle.miner_core.specs.declared.answer.MinerErr.{MinerErr}
 use Rattle.miner_core.specs.declared.answer.MinerErr.TheVariants as error
-use Rattle.miner_core.specs.OwnCode.{Ended}
+use Rattle.own_code.specs.OwnCode.{Ended}
 use Rattle.miner_core.specs.Story.{Story, mail_in, strand_in, node, stands_at, HasEnded, DeliverAnswers}
 use Rattle.miner_core.specs.Laws.{StaysRefused, IsThisRefusal, AnswersAgain}
 use Rattle.miner_core.proofs.Stories.{mail_previous, mail_next}

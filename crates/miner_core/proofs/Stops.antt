@@ -18,7 +18,7 @@ use Rattle.gate_node.specs.declared.stand.Stand.TheVariants.{Through, Waits as A
 use Rattle.miner_core.specs.declared.engine.At.{At}
 use Rattle.miner_core.specs.declared.engine.At.TheVariants as at
 use Rattle.miner_core.specs.declared.engine.Engine.{Engine}
-use Rattle.miner_core.specs.OwnCode.{Ended, Reached}
+use Rattle.own_code.specs.OwnCode.{Ended, Reached}
 use Rattle.miner_core.specs.Engines.{behind_node, ended_by, engine_left, goes_on_at, IsOver, Rests}
 use Rattle.miner_core.specs.Story.{Story, Follows, AtStop}
 use Rattle.miner_core.specs.Story as story

@@ -35,7 +35,7 @@ use Rattle.miner_core.specs.declared.engine.At.{At}
 use Rattle.miner_core.specs.declared.engine.At.TheVariants as at
 use Rattle.miner_core.specs.declared.engine.Engine.{Engine}
 use Rattle.miner_core.specs.declared.task.Task.{Task}
-use Rattle.miner_core.specs.OwnCode.{Ended, Reached, Unfit, own_code}
+use Rattle.own_code.specs.OwnCode.{Ended, Reached, Unfit, own_code}
 use Rattle.miner_core.specs.Views.{notice_seen, task_world, task_code}
 use Rattle.miner_core.specs.Engines.{place_at, goes_on_at, behind_node, engine_left, engine_outcome, engine_told, IsSound, IsOver, Rests, Keeps}
 use Rattle.miner_core.specs.declared.answer.Step.{Step}

@@ -25,7 +25,7 @@ use Rattle.code_turns.specs.declared.telling.Told.{Told}
 use Rattle.miner_core.specs.declared.engine.At.{At}
 use Rattle.miner_core.specs.declared.engine.At.TheVariants as at
 use Rattle.miner_core.specs.declared.engine.Engine.{Engine}
-use Rattle.miner_core.specs.OwnCode.{Ended, Reached, Unfit, From, go_on, tell_and_go_on, own_code}
+use Rattle.own_code.specs.OwnCode.{Ended, Reached, Unfit, From, go_on, tell_and_go_on, own_code}
 use Rattle.miner_core.specs.Views.{task_world, task_code, notice_seen, told_since}
 
 module _ {P : Type 0} (i : Number) where

@@ -1,4 +1,3 @@
-pub mod OwnCode
 pub mod Views
 pub mod Engines
 pub mod Story

@@ -21,7 +21,7 @@ use Rattle.miner_core.specs.declared.answer.MinerErr.{MinerErr}
 use Rattle.miner_core.specs.declared.answer.MinerErr.TheVariants as error
 use Rattle.miner_core.specs.declared.engine.Engine.{Engine}
 use Rattle.miner_core.specs.declared.task.Task.{Task}
-use Rattle.miner_core.specs.OwnCode.{Ended, Reached, Unfit, own_code}
+use Rattle.own_code.specs.OwnCode.{Ended, Reached, Unfit, own_code}
 use Rattle.miner_core.specs.Views.{task_world, task_code, notice_seen}
 use Rattle.miner_core.specs.Engines.{engine_left, engine_outcome, engine_told, IsSound}
 

@@ -34,7 +34,7 @@ use Rattle.code_runs.specs.Telling.{Tells}
 use Rattle.code_runs.specs.Runs.{next, start, miners, gates_to_run, messages, shares, scripts, MayRunShared, RunAsReported}
 use Rattle.code_runs.proofs.Miners as driven
 use Rattle.code_runs.proofs.Notices.{retold}
-use Rattle.miner_core.specs.OwnCode.{Ended, Reached}
+use Rattle.own_code.specs.OwnCode.{Ended, Reached}
 use Rattle.miner_runs.specs.OwnRuns.{public_world, own_nodes, own_end, OwnRunAsReported, OwnMinersRunTheCode}
 use Rattle.miner_runs.proofs.Deeds.{DoAlike, like_third}
 use Rattle.miner_runs.proofs.Turns.{end_of, own_alike}

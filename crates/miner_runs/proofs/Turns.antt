@@ -24,7 +24,7 @@ use Rattle.driven_nodes.proofs.Gates.{messages_then}
 use Rattle.code_places.specs.Places.{Place, code_steps, run_dealt}
 use Rattle.gate_node.specs.OwnGates.{Whole, own_gates}
 use Rattle.gate_node.proofs.Always.{then-assoc}
-use Rattle.miner_core.specs.OwnCode.{Ended, Reached, go_on, behind_gates, gates_between, own_code}
+use Rattle.own_code.specs.OwnCode.{Ended, Reached, go_on, behind_gates, gates_between, own_code}
 use Rattle.miner_runs.proofs.Deeds.{DoAlike, ended_alike, telling_alike, then_alike}
 use Rattle.miner_runs.proofs.Sizes.{suits_front, suits_back, run_sizes, own_part}
 

@@ -18,7 +18,7 @@ use Rattle.driven_nodes.specs.Steps.{Stopped}
 use Rattle.code_places.specs.Places.{Place, first_place}
 use Rattle.code_runs.specs.Telling.{Tells}
 use Rattle.code_runs.specs.Runs.{messages, shares, scripts, MayRunShared, TurnsComeTo}
-use Rattle.miner_core.specs.OwnCode.{Ended, Reached, own_code}
+use Rattle.own_code.specs.OwnCode.{Ended, Reached, own_code}
 
 -- the world of one who has no private input, and is told what is opened
 abbrev pub public_world : Offered → World

@@ -6,7 +6,7 @@ use Rattle.sc_text.specs.declared.end.TrapKind.TheVariants as trap
 use Rattle.secrec_ast.specs.declared.expression.DataType.TheVariants.{Uint64}
 use Rattle.typed_tree.specs.Shapes.{shape_of}
 use Rattle.bytecode.specs.declared.kind.Kind.{Kind}
-use Rattle.language_model.specs.Effects.{World, Stage, Stop, Run, Effect, ◌>>=◌, done}
+use Rattle.language_model.specs.Effects.{World, Stage, RunStop, Run, Effect, ◌>>=◌, done}
 use Rattle.language_model.specs.Values.{Value, plain, size}
 use Rattle.language_model.specs.Evaluation.{Frame, put, nothing, array_elements, either, input_named}
 use Rattle.verified_code.specs.Steps.{kind_shape, Step, Literal, Move, Store, Binary, Not, Cast, Classify, Fill, At, Put, Size, Cat, Sum, Bits, Declassify}
@@ -150,7 +150,7 @@ module _ (N : Numbers) where
     walk zero m s h new = tt
     walk (suc k) m s h new = go (step w c (slice_get m.steps m.pc) m s) ((act N m h w c (slice_get m.steps m.pc)).from s new) (walk k)
       where
-        behind : (t : Stage) (o : Option (Stop × Stage)) → Grows N s t → Ends N t o → Ends N s o
+        behind : (t : Stage) (o : Option (RunStop × Stage)) → Grows N s t → Ends N t o → Ends N s o
         behind t None g e = tt
         behind t (Some x) g e = grows_then N s t x.1 g e
 

@@ -4,7 +4,7 @@ use Rattle.std.specs.List.{slice_get}
 use Rattle.gates.specs.declared.gate.Gate.{Gate}
 use Rattle.gates.specs.Clear.{Values, value, FitFrom}
 use Rattle.gates.specs.Counts.{made_by_all}
-use Rattle.language_model.specs.Effects.{World, Stage, Stop, Run}
+use Rattle.language_model.specs.Effects.{World, Stage, RunStop, Run}
 use Rattle.verified_code.specs.Steps.{Function}
 use Rattle.code_model.specs.Machine.{Machine, step, exec}
 use Rattle.named_values.specs.Named.{Numbers, or_from, AllTake, MachineNames, AreAmong}
@@ -39,7 +39,7 @@ Arrives N s (Err e) = Grows N s e.1
 abbrev pub StepTakesWhatIsNamed : World → List Function → Machine → Stage → Type 0
 StepTakesWhatIsNamed w c m s = Arrives (or_from (MachineNames m) s.made) s (step w c (slice_get m.steps m.pc) m s)
 
-abbrev pub Ends : Numbers → Stage → Option (Stop × Stage) → Type 0
+abbrev pub Ends : Numbers → Stage → Option (RunStop × Stage) → Type 0
 Ends N s None = Unit {0}
 Ends N s (Some x) = Grows N s x.1
 

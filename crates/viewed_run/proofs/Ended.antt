@@ -35,7 +35,7 @@ use Rattle.program_views.proofs.Simulated.{drew_counted}
 use Rattle.code_views.specs.CodeViews.{shown_in}
 use Rattle.code_views.proofs.CodeViews.{shown_same}
 use Rattle.program_run.specs.Accepted.{IsAccepted}
-use Rattle.miner_core.specs.OwnCode.{Ended as Stopping}
+use Rattle.own_code.specs.OwnCode.{Ended as Stopping}
 use Rattle.miner_runs.specs.OwnRuns.{OwnRunAsReported}
 use Rattle.link_schedule.specs.Net.{NetState, net_node, net_posted}
 use Rattle.delivered_run.specs.declared.running.NetRun.{NetRun}
