@@ -23,7 +23,7 @@ use Rattle.typed_tree.specs.declared.operators.Operands.{Operands}
 use Rattle.typed_tree.specs.declared.operators.Cast.{Cast}
 use Rattle.typed_tree.specs.declared.operators.Cast.TheVariants.{WordToWord, WordToBool, BoolToWord, BoolToBool}
 use Rattle.typed_tree.specs.Shapes.{shape_of}
-use Rattle.language_model.specs.Effects.{World, Given, Effect, words_each}
+use Rattle.language_model.specs.Effects.{World, GivenInput, Effect, words_each}
 use Rattle.language_model.specs.Values.{Secrecy, Plain, Private, Value, plain, hidden, size, visible_words, is_true, ring_for, elements_of}
 use Rattle.language_model.specs.Words as W
 use Rattle.language_model.specs.Operations.{charged, no_traps, not_too_large, number_from, number_of, made_private, classified_from}
@@ -265,11 +265,11 @@ tested_besides v = besides_bind (besides_charge 1) (λ _. besides_done (is_true 
 pub asserted_besides : (line : ℕ) (v : Value) → Besides (asserted line v)
 asserted_besides line v = besides_bind (besides_charge 1) (λ _. besides_test (is_true v) trap.Assert line)
 
-given_besides : (secret : Bool) (x : Given) (k : ℕ) → Besides (given_value secret x k)
+given_besides : (secret : Bool) (x : GivenInput) (k : ℕ) → Besides (given_value secret x k)
 given_besides false x k = besides_done (plain x.shape x.words)
 given_besides true x k = besides_bind (besides_gate (Input k)) (λ r. made_besides x.shape x.words r)
 
-pub asked_besides : (secret : Bool) (shape : Shape) (line : ℕ) (x : Option (Given × ℕ)) → Besides (asked_for secret shape line x)
+pub asked_besides : (secret : Bool) (shape : Shape) (line : ℕ) (x : Option (GivenInput × ℕ)) → Besides (asked_for secret shape line x)
 asked_besides secret shape line None = besides_bind (besides_charge 1) (λ _. besides_end (ending.Trap trap.Argument line))
 asked_besides secret shape line (Some x) =
     besides_bind (charged_besides (length x.0.words) (besides_test (is_as_declared secret shape x.0) trap.Argument line)) (λ _.

@@ -23,7 +23,7 @@ use Rattle.typed_tree.specs.declared.operators.Operands.{Operands}
 use Rattle.typed_tree.specs.declared.operators.Cast.{Cast}
 use Rattle.typed_tree.specs.declared.operators.Cast.TheVariants.{WordToWord, WordToBool, BoolToWord, BoolToBool}
 use Rattle.typed_tree.specs.Shapes.{shape_of}
-use Rattle.language_model.specs.Effects.{World, Given, Effect, ◌>>=◌, done, test, words_each, gate, planned}
+use Rattle.language_model.specs.Effects.{World, GivenInput, Effect, ◌>>=◌, done, test, words_each, gate, planned}
 use Rattle.language_model.specs.Values.{Secrecy, Plain, Private, Value, plain, hidden, never_stored, size, visible_words, is_true, ring_for, elements_of}
 use Rattle.language_model.specs.Words as W
 use Rattle.language_model.specs.Operations as row
@@ -293,14 +293,14 @@ module _ (N : Numbers) where
         (Names N)
     cat_naming = both_naming x.shape (x.words ++ y.words) (λ u v m n. gate_naming (gates.Cat u v) refl (m, (n, tt)))
 
-    joined_from_naming : (j k : Secrecy) → Naming N (row.joined_from j k x y) (Names N)
-    joined_from_naming Plain Plain = shown_naming x.shape (x.words ++ y.words)
-    joined_from_naming Plain (Private k) = cat_naming
-    joined_from_naming (Private j) Plain = cat_naming
-    joined_from_naming (Private j) (Private k) = cat_naming
+    concatenated_from_naming : (j k : Secrecy) → Naming N (row.concatenated_from j k x y) (Names N)
+    concatenated_from_naming Plain Plain = shown_naming x.shape (x.words ++ y.words)
+    concatenated_from_naming Plain (Private k) = cat_naming
+    concatenated_from_naming (Private j) Plain = cat_naming
+    concatenated_from_naming (Private j) (Private k) = cat_naming
 
-    pub joined_naming : (line : ℕ) → Naming N (row.joined line x y) (Names N)
-    joined_naming line = naming_bind (large_charge line (size x + size y)) (λ _ _. joined_from_naming x.secrecy y.secrecy)
+    pub concatenated_naming : (line : ℕ) → Naming N (row.concatenated line x y) (Names N)
+    concatenated_naming line = naming_bind (large_charge line (size x + size y)) (λ _ _. concatenated_from_naming x.secrecy y.secrecy)
 
     with_element_from_naming : (j : Secrecy) (i : ℕ) → Naming N (row.with_element_from j x i y) (Names N)
     with_element_from_naming Plain i = shown_naming x.shape (set x.words i (first_word (visible_words y)))
@@ -320,11 +320,11 @@ module _ (N : Numbers) where
 
   -- ---- inputs
 
-  given_naming : (secret : Bool) (x : Given) (k : ℕ) → Naming N (given_value secret x k) (Names N)
+  given_naming : (secret : Bool) (x : GivenInput) (k : ℕ) → Naming N (given_value secret x k) (Names N)
   given_naming false x k = shown_naming x.shape x.words
   given_naming true x k = naming_bind (gate_naming (gates.Input k) refl tt) (λ r m. made_naming x.shape x.words r m)
 
-  pub asked_naming : (secret : Bool) (shape : Shape) (line : ℕ) (o : Option (Given × ℕ)) → Naming N (asked_for secret shape line o) (Names N)
+  pub asked_naming : (secret : Bool) (shape : Shape) (line : ℕ) (o : Option (GivenInput × ℕ)) → Naming N (asked_for secret shape line o) (Names N)
   asked_naming secret shape line None = naming_bind (charge_naming 1) (λ _ _. naming_end (ending.Trap trap.Argument line))
   asked_naming secret shape line (Some x) =
       naming_bind (charged_naming (length x.0.words) (test_naming (is_as_declared secret shape x.0) trap.Argument line)) (λ _ _.
