@@ -218,14 +218,14 @@ cat_besides x y =
     besides_bind (number_besides x) (λ u. besides_bind (number_besides y) (λ v. besides_bind (besides_gate (Cat u v)) (λ r.
     made_besides x.shape (x.words ++ y.words) r)))
 
-joined_from_besides : (a b : Secrecy) (x y : Value) → Besides (concatenated_from a b x y)
-joined_from_besides Plain Plain x y = besides_done (plain x.shape (x.words ++ y.words))
-joined_from_besides Plain (Private k) x y = cat_besides x y
-joined_from_besides (Private j) Plain x y = cat_besides x y
-joined_from_besides (Private j) (Private k) x y = cat_besides x y
+concatenated_from_besides : (a b : Secrecy) (x y : Value) → Besides (concatenated_from a b x y)
+concatenated_from_besides Plain Plain x y = besides_done (plain x.shape (x.words ++ y.words))
+concatenated_from_besides Plain (Private k) x y = cat_besides x y
+concatenated_from_besides (Private j) Plain x y = cat_besides x y
+concatenated_from_besides (Private j) (Private k) x y = cat_besides x y
 
-pub joined_besides : (line : ℕ) (x y : Value) → Besides (concatenated line x y)
-joined_besides line x y = besides_bind (large_besides line (size x + size y)) (λ _. joined_from_besides x.secrecy y.secrecy x y)
+pub concatenated_besides : (line : ℕ) (x y : Value) → Besides (concatenated line x y)
+concatenated_besides line x y = besides_bind (large_besides line (size x + size y)) (λ _. concatenated_from_besides x.secrecy y.secrecy x y)
 
 element_from_besides : (x : Secrecy) (v : Value) (i : ℕ) → Besides (element_from x v i)
 element_from_besides Plain v i = besides_done (plain (shape_of v.shape.element false) (element_at v.words i ∷ []))

@@ -18,7 +18,7 @@ use Rattle.named_values.specs.Named.{Numbers, or_from, CallersName, MachineNames
 use Rattle.named_values.specs.Laws.{Grows, Arrives, StepTakesWhatIsNamed, Ends, RunTakesWhatIsNamed}
 use Rattle.named_values.proofs.Effects.{HasFrom, Comes, Naming, grows_then, naming_bind, naming_done, naming_end, charge_naming, test_naming}
 use Rattle.named_values.proofs.Rows.{Names, plain_names, never_names, plain_charge, classified_naming, declassified_naming, operated_naming, negated_naming}
-use Rattle.named_values.proofs.Rows.{cast_naming, size_naming, summed_naming, bits_naming, element_naming, filled_naming, published_naming, joined_naming}
+use Rattle.named_values.proofs.Rows.{cast_naming, size_naming, summed_naming, bits_naming, element_naming, filled_naming, published_naming, concatenated_naming}
 use Rattle.named_values.proofs.Rows.{with_element_naming, tested_naming, asserted_naming, asked_naming}
 
 -- ---- REGISTERS
