@@ -96,7 +96,7 @@ module _ (N : Numbers) where
     act w p (Some (At line d a i)) = setting d (element_naming N (m.registers a) (own a) line (m.registers i))
     act w p (Some (Put line a i x)) = setting a (with_element_naming N (m.registers a) (m.registers x) (own a) (own x) line (m.registers i))
     act w p (Some (Size d r)) = setting d (size_naming N (m.registers r) (own r))
-    act w p (Some (Cat line d a b)) = setting d (joined_naming N (m.registers a) (m.registers b) (own a) (own b) line)
+    act w p (Some (Cat line d a b)) = setting d (concatenated_naming N (m.registers a) (m.registers b) (own a) (own b) line)
     act w p (Some (Sum d r)) = setting d (summed_naming N (m.registers r) (own r))
     act w p (Some (Bits line d r)) = setting d (bits_naming N (m.registers r) (own r) w line)
     act w p (Some (Declassify d r)) = setting d (declassified_naming N w (m.registers r) (own r))
