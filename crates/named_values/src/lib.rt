@@ -6,4 +6,4 @@
 
 mod laws;
 
-pub use laws::steps_take_what_is_named;
+pub use laws::{gates_fit_by_what_they_take, runs_take_what_is_named, steps_take_what_is_named};

@@ -1,0 +1,5 @@
+pub mod Operands
+pub mod Effects
+pub mod Plans
+pub mod Rows
+pub mod Steps
