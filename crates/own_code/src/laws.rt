@@ -6,18 +6,17 @@ ghost use Rattle.gates.specs.Clear.{Values};
 ghost use Rattle.language_model.specs.Effects.{World};
 ghost use Rattle.verified_code.specs.Steps.{Function};
 ghost use Rattle.code_places.specs.Places.{Place};
-ghost use Rattle.named_values.specs.Named.{Numbers};
 ghost use Rattle.own_code.specs.LettingGo.{GatesNeedWhatTheyTake, CodeNeedsWhatItNames};
 
-/// Law: a miner runs gates alike on two lists of values of one length that agree at the numbers which the gates take.
+/// Law: a miner runs gates alike on two lists of as many values that have the same of all numbers which the gates take.
 pub fn gates_need_what_they_take()
-    ensures { (i : Number) (dealt : Values) (gates : List Gate) (N : Numbers) (values held : Values) (tape : List ℕ) →
-        GatesNeedWhatTheyTake i dealt gates N values held tape }
+    ensures { (i : Number) (dealt : Values) (gates : List Gate) (values held : Values) (tape : List ℕ) →
+        GatesNeedWhatTheyTake i dealt gates values held tape }
 {}
 
-/// Law: a miner that runs code sends, opens and tells the same, and stops at the same place, where it holds of its values only those that
-/// its machine names and the one that was made last.
+/// Law: a miner that runs code sends, opens and tells the same, and stands at the same place, where of its values it holds only those
+/// that its machine names and the one that was made last.
 pub fn code_needs_what_it_names()
-    ensures { (w : World) (c : List Function) (i : Number) (dealt : Values) (fuel : ℕ) (p : Place) (N : Numbers) (values held : Values)
-            (tape : List ℕ) → CodeNeedsWhatItNames w c i dealt fuel p N values held tape }
+    ensures { (w : World) (c : List Function) (i : Number) (dealt : Values) (fuel : ℕ) (p : Place) (values held : Values) (tape : List ℕ) →
+        CodeNeedsWhatItNames w c i dealt fuel p values held tape }
 {}
