@@ -8,7 +8,8 @@ use Rattle.protocol_model.specs.Gates.{nth_value}
 use Rattle.gates.specs.declared.gate.Gate.{Gate}
 use Rattle.gates.specs.Clear.{Values}
 use Rattle.gates.specs.Counts.{made_by_all}
-use Rattle.language_model.specs.Effects.{World, Stage, Stop, Ended, Short, Run}
+use Rattle.language_model.specs.Effects.{World, Stage, Stop, Short, Run}
+use Rattle.language_model.specs.Effects as effect
 use Rattle.verified_code.specs.Steps.{Function}
 use Rattle.code_model.specs.Machine.{Machine, step}
 use Rattle.driven_nodes.specs.Driven.{telling}
@@ -69,7 +70,7 @@ module _ (w : World) (c : List Function) where
     leads_by told (Err e) h = by e.0
       where
         by : (stop : Stop) → Leads N p (stopped p.machine e.1 stop)
-        by (Ended ending) = record { gates = h.gates; more = h.more; made = h.made; take = h.take }
+        by (effect.Ended ending) = record { gates = h.gates; more = h.more; made = h.made; take = h.take }
         by Short = record { gates = h.gates; more = h.more; made = h.made; take = h.take }
 
     leads : (told : List ℕ) → Leads N p (step_told w c p told)
