@@ -23,10 +23,10 @@ use Rattle.named_values.specs.Laws.{HaveSame, Grows, Arrives}
 use Rattle.named_values.proofs.Effects.{HasFrom}
 use Rattle.named_values.proofs.Steps.{step_within}
 use Rattle.own_code.specs.OwnCode.{Ended, From, go_on, tell_and_go_on, gates_between, led_by, behind_gates, own_code}
-use Rattle.own_code.specs.LettingGo.{with_before, forget, without_values, IsHeld}
+use Rattle.own_code.specs.LettingGo.{HasBehind, with_before, forget, without_values, IsHeld}
 use Rattle.own_code.proofs.Holding.{same_words, as_many_behind, same_behind}
 use Rattle.own_code.proofs.OwnGates.{gates_need}
-use Rattle.own_code.proofs.Made.{Behind, gates_count}
+use Rattle.own_code.proofs.Made.{gates_count}
 use Rattle.own_code.proofs.Told.{same_when_told}
 
 -- ---- THE LAST VALUE
@@ -174,7 +174,7 @@ module _ (w : World) (c : List Function) where
           (leads_led Taken p among new (held ++ made) (step_told w c p []) refl)
           (count ∙ ap (λ gs. made_by_all (gained p.stage.gates gs)) (sym (gates_led (held ++ made) p (step_told w c p []) refl))) tape
 
-      behind_alike : (h : Halted) → Behind held (made_by_all gates) h → without_values (behind (with_before values h)) ≡ without_values (behind h)
+      behind_alike : (h : Halted) → HasBehind held (made_by_all gates) h → without_values (behind (with_before values h)) ≡ without_values (behind h)
       behind_alike (Whole all tape) h =
           ap (λ vs. without_values (behind (Whole (values ++ vs) tape)))
           (ap (drop (length values)) h.1 ∙ drop_at held h.0 (length values) is_held.as_many)
@@ -193,7 +193,7 @@ module _ (w : World) (c : List Function) where
           then-assoc (own_gates i dealt gates values tape) behind forgotten
           ∙ ap (λ s. then_do s (λ h. without_values (behind h))) (gates_need i dealt values held is_held.as_many gates tape takes)
           ∙ then-assoc (own_gates i dealt gates held tape) (λ h. Ends (with_before values h)) (λ h. without_values (behind h))
-          ∙ then-same (Behind held (made_by_all gates)) (own_gates i dealt gates held tape) (λ h. without_values (behind (with_before values h)))
+          ∙ then-same (HasBehind held (made_by_all gates)) (own_gates i dealt gates held tape) (λ h. without_values (behind (with_before values h)))
           (λ h. without_values (behind h)) (gates_count i dealt gates held tape) behind_alike
           ∙ sym (then-assoc (own_gates i dealt gates held tape) behind forgotten)
 

@@ -1,9 +1,10 @@
 -- A miner that lets go the values that nothing names any more does what it did with all of them.
 use Rattle.std.specs.Prelude.{◌≡◌, ℕ, List, [], ◌++◌, length, drop}
 use Rattle.proto_core.specs.declared.party.Number.{Number}
-use Rattle.proto_core.specs.Strand.{Strand, Ends, then_do}
+use Rattle.proto_core.specs.Strand.{Mail, Strand, Ends, run, then_do}
 use Rattle.gates.specs.declared.gate.Gate.{Gate}
 use Rattle.gates.specs.Clear.{Values}
+use Rattle.gates.specs.Counts.{made_by_all}
 use Rattle.language_model.specs.Effects.{World}
 use Rattle.verified_code.specs.Steps.{Function}
 use Rattle.driven_nodes.specs.Steps.{last_of}
@@ -12,6 +13,18 @@ use Rattle.gate_node.specs.OwnGates.{Halted, Whole, Stuck, own_gates}
 use Rattle.named_values.specs.Named.{or_from, AllTake, MachineNames, AreAmong}
 use Rattle.named_values.specs.Laws.{HaveSame}
 use Rattle.own_code.specs.OwnCode.{Ended, Reached, Unfit, own_code}
+
+-- ---- gates
+
+-- an end with so many values behind these
+abbrev pub HasBehind : Values → ℕ → Halted → Type 0
+HasBehind values n (Whole all tape) = (made : Values) × (all ≡ values ++ made) × (length made ≡ n)
+HasBehind values n Stuck = Unit {0}
+
+-- whatever messages come, gates that come to an end have made as many values as they count
+abbrev pub MakeWhatTheyCount : Number → (dealt : Values) → List Gate → (values : Values) → (tape : List ℕ) → Mail → Type 0
+MakeWhatTheyCount i dealt gates values tape mail =
+    (h : Halted) → (run (own_gates i dealt gates values tape) mail).left ≡ Ends h → HasBehind values (made_by_all gates) h
 
 -- an end with these values before those that were made
 abbrev pub with_before : Values → Halted → Halted
@@ -23,6 +36,8 @@ abbrev pub GatesNeedWhatTheyTake : Number → (dealt : Values) → List Gate →
 GatesNeedWhatTheyTake i dealt gates values held tape =
     length held ≡ length values → AllTake (or_from (HaveSame values held) (length values)) gates →
     own_gates i dealt gates values tape ≡ then_do (own_gates i dealt gates held tape) (λ h. Ends (with_before values h))
+
+-- ---- code
 
 -- an end, whatever the values are
 abbrev pub forget : Ended → Ended

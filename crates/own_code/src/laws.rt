@@ -1,12 +1,19 @@
 // What is true of the values that a miner holds.
 ghost use Rattle.std.specs.Prelude.{ℕ, List};
 ghost use Rattle.proto_core.specs.declared.party.Number.{Number};
+ghost use Rattle.proto_core.specs.Strand.{Mail};
 ghost use Rattle.gates.specs.declared.gate.Gate.{Gate};
 ghost use Rattle.gates.specs.Clear.{Values};
 ghost use Rattle.language_model.specs.Effects.{World};
 ghost use Rattle.verified_code.specs.Steps.{Function};
 ghost use Rattle.code_places.specs.Places.{Place};
-ghost use Rattle.own_code.specs.LettingGo.{GatesNeedWhatTheyTake, CodeNeedsWhatItNames};
+ghost use Rattle.own_code.specs.LettingGo.{MakeWhatTheyCount, GatesNeedWhatTheyTake, CodeNeedsWhatItNames};
+
+/// Law: whatever messages come, gates that come to an end have made as many values as they count, behind those that were there.
+pub fn gates_make_what_they_count()
+    ensures { (i : Number) (dealt : Values) (gates : List Gate) (values : Values) (tape : List ℕ) (mail : Mail) →
+        MakeWhatTheyCount i dealt gates values tape mail }
+{}
 
 /// Law: a miner runs gates alike on two lists of as many values that have the same of all numbers which the gates take.
 pub fn gates_need_what_they_take()

@@ -5,4 +5,4 @@
 
 mod laws;
 
-pub use laws::{code_needs_what_it_names, gates_need_what_they_take};
+pub use laws::{code_needs_what_it_names, gates_make_what_they_count, gates_need_what_they_take};
