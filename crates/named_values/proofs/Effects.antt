@@ -10,8 +10,8 @@ use Rattle.sc_text.specs.declared.end.TapeOwner.TheVariants as owner
 use Rattle.sc_text.specs.declared.event.Event.{Event}
 use Rattle.gates.specs.declared.gate.Gate.{Gate}
 use Rattle.gates.specs.Counts.{made_by, made_by_all}
-use Rattle.language_model.specs.Effects.{Words, World, Source, Clear, Answers, Stage, Stop, Ended, Short, Run, Effect, ◌>>=◌, carry, done, end, charge, test}
-use Rattle.language_model.specs.Effects.{with_more, fits, drawn_yet, take_words, draw, gate, next_number, planned, emit, next_answers, answer, show}
+use Rattle.language_model.specs.Effects.{Words, World, Source, Clear, Answers, Stage, Ended, Short, Run, Effect, ◌>>=◌, carry, done, end, charge, test}
+use Rattle.language_model.specs.Effects.{with_more, fits, drawn_yet, take_words, draw, gate, next_number, planned, emit, answer, show}
 use Rattle.named_values.specs.Named.{Numbers, Takes, AllTake}
 use Rattle.named_values.specs.Laws.{Grows}
 

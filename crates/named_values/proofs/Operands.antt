@@ -1,13 +1,13 @@
 -- What gates make depends on the values that they take alone.
-use Rattle.std.proofs.Common.{◌≡◌, ℕ, zero, suc, ◌+◌, ◌<◌, ◌≤◌, List, [], ◌∷◌, length, Some, None, Option, refl, sym, ap, ◌∙◌, subst, arith}
+use Rattle.std.proofs.Common.{◌≡◌, ℕ, zero, suc, ◌+◌, ◌<◌, ◌≤◌, List, [], ◌∷◌, length, Some, refl, sym, ap, ◌∙◌, subst, arith}
 use Rattle.std.specs.Prelude.{slice_get}
 use Rattle.std.proofs.lemmas.Option.{none-some, same_Some}
 use Rattle.gates.specs.declared.gate.Gate.{Gate}
 use Rattle.gates.specs.declared.gate.Gate.TheVariants.{Input, Const, Add, Sub, MulPub, Mul, Xor, And, Not, Shl, Shr, Low, Cat, Part, Put, Rep, Spread}
 use Rattle.gates.specs.declared.gate.Gate.TheVariants.{Sum, Split, Conv, Open, Result}
-use Rattle.gates.specs.Clear.{Values, value, clear_value, IsSplit, AreOperands, Suits, Makes, FitFrom}
+use Rattle.gates.specs.Clear.{Values, value, clear_value, IsSplit, AreOperands, Suits, Makes}
 use Rattle.gates.specs.Counts.{made_by}
-use Rattle.named_values.specs.Named.{Numbers, Takes, AllTake}
+use Rattle.named_values.specs.Named.{Takes}
 use Rattle.named_values.specs.Laws.{HaveSame, FitByWhatTheyTake}
 
 -- what stands at a number in both lists is the value there
@@ -80,15 +80,19 @@ module _ (inputs xs ys : Values) where
     one g e h = sym (same next (omega arith)) ∙ e ∙ ap (λ z. Some z) (clear_same g h)
 
     makes_same : (g : Gate) → Takes (HaveSame xs ys) g → Makes inputs xs next g → Makes inputs ys next g
-    makes_same (Split u negated) h a =
-        (own next (omega arith) a.0, own (next + 1) (omega arith) a.1,
-        subst (λ z. IsSplit negated (value ys u) (value ys next) z) (same_value xs ys (next + 1) (same (next + 1) (omega arith)))
-        (subst (λ z. IsSplit negated (value ys u) z (value xs (next + 1))) (same_value xs ys next (same next (omega arith)))
-        (subst (λ z. IsSplit negated z (value xs next) (value xs (next + 1))) h.0 a.2)))
+    makes_same (Split u negated) h a = (
+      own next (omega arith) a.0,
+      own (next + 1) (omega arith) a.1,
+      subst (λ z. IsSplit negated (value ys u) (value ys next) z) (same_value xs ys (next + 1) (same (next + 1) (omega arith)))
+          (subst (λ z. IsSplit negated (value ys u) z (value xs (next + 1))) (same_value xs ys next (same next (omega arith)))
+          (subst (λ z. IsSplit negated z (value xs next) (value xs (next + 1))) h.0 a.2)),
+    )
     makes_same g h a = one g a h
 
 pub fit_same : (inputs xs ys : Values) (next : ℕ) (gates : List Gate) → FitByWhatTheyTake inputs xs ys next gates
 fit_same inputs xs ys next [] h same fit = tt
-fit_same inputs xs ys next (g ∷ gs) h same fit =
-    (suits_same inputs xs ys next g h.0 fit.0, makes_same inputs xs ys next same g h.0 fit.1,
-    fit_same inputs xs ys (next + made_by g) gs h.1 (λ k le. same k (omega (arith, le))) fit.2)
+fit_same inputs xs ys next (g ∷ gs) h same fit = (
+  suits_same inputs xs ys next g h.0 fit.0,
+  makes_same inputs xs ys next same g h.0 fit.1,
+  fit_same inputs xs ys (next + made_by g) gs h.1 (λ k le. same k (omega (arith, le))) fit.2,
+)

@@ -20,9 +20,16 @@ module _ (N : Numbers) where
       ((a, tt), ((a, (b, tt)), joining_takes (same + 1 + 1) counts (λ k le. new k (omega (arith, le)))))
 
   pub eq_takes : (first d : ℕ) → HasFrom N first → N d → AllTake N (eq_plan first d)
-  eq_takes first d new h =
-      ((h, tt), ((new first (omega arith), (new (first + 1) (omega arith), tt)), ((new (first + 2) (omega arith), tt),
-      joining_takes (first + 2 + 1) shifts (λ k le. new k (omega (arith, le))))))
+  eq_takes first d new h = (
+    (h, tt),
+    (
+      (new first (omega arith), (new (first + 1) (omega arith), tt)),
+      (
+        (new (first + 2) (omega arith), tt),
+        joining_takes (first + 2 + 1) shifts (λ k le. new k (omega (arith, le))),
+      ),
+    ),
+  )
 
   -- ---- bits
 
@@ -37,9 +44,16 @@ module _ (N : Numbers) where
   pub bits_takes : (first word n : ℕ) → HasFrom N first → N word → AllTake N (bits_plan first word n)
   bits_takes first word n new h =
       let x = new first (omega arith) in
-      let v = λ (i : ℕ). new (first + i) (omega arith) in
-      ((h, tt), ((x, (v 1, tt)), ((x, (v 1, tt)),
-      carrying_takes n (first + 3) (first + 4) (first + 2) (first + 3) bits.widths (λ k le. new k (omega (arith, le))) (v 3) (v 2) (v 3))))
+      let v = λ (i : ℕ). new (first + i) (omega arith) in (
+        (h, tt),
+        (
+          (x, (v 1, tt)),
+          (
+            (x, (v 1, tt)),
+            carrying_takes n (first + 3) (first + 4) (first + 2) (first + 3) bits.widths (λ k le. new k (omega (arith, le))) (v 3) (v 2) (v 3),
+          ),
+        ),
+      )
 
   -- ---- order
 
@@ -54,13 +68,14 @@ module _ (N : Numbers) where
 
   pub less_takes : (first u v n : ℕ) → HasFrom N first → N u → N v → AllTake N (less_plan first u v n)
   less_takes first u v n new a b =
-      let x = λ (i : ℕ). new (first + i) (omega arith) in
-      ((a, (b, tt)),
-      all_take N (bits_plan (first + 1) first (2 * n)) (order_start first n ++ comparing n (first + 61) (first + 58) (first + 60) compare.widths)
-      (bits_takes (first + 1) first (2 * n) (λ k le. new k (omega (arith, le))) (new first (omega arith)))
-      (all_take N (order_start first n) (comparing n (first + 61) (first + 58) (first + 60) compare.widths)
-      ((x 54, tt), ((x 54, tt), ((x 55, tt), ((x 56, (x 57, tt)), ((x 55, (x 56, tt)), ((x 59, tt), tt))))))
-      (comparing_takes n (first + 61) (first + 58) (first + 60) compare.widths (λ k le. new k (omega (arith, le))) (x 58) (x 60))))
+      let x = λ (i : ℕ). new (first + i) (omega arith) in (
+        (a, (b, tt)),
+        all_take N (bits_plan (first + 1) first (2 * n)) (order_start first n ++ comparing n (first + 61) (first + 58) (first + 60) compare.widths)
+            (bits_takes (first + 1) first (2 * n) (λ k le. new k (omega (arith, le))) (new first (omega arith)))
+            (all_take N (order_start first n) (comparing n (first + 61) (first + 58) (first + 60) compare.widths)
+            ((x 54, tt), ((x 54, tt), ((x 55, tt), ((x 56, (x 57, tt)), ((x 55, (x 56, tt)), ((x 59, tt), tt))))))
+            (comparing_takes n (first + 61) (first + 58) (first + 60) compare.widths (λ k le. new k (omega (arith, le))) (x 58) (x 60))),
+      )
 
 pub eq_some : (first d : ℕ) → 1 ≤ made_by_all (eq_plan first d)
 eq_some first d = omega arith

@@ -1,5 +1,5 @@
 -- A step of code takes values that its machine names, and names no others behind it, but for those that it makes.
-use Rattle.std.proofs.Common.{◌≡◌, ℕ, zero, suc, ◌+◌, ◌≤◌, ◌⊎◌, inl, inr, List, [], ◌∷◌, length, Option, Some, None, Ok, Err, Bool, true, false, refl, arith}
+use Rattle.std.proofs.Common.{ℕ, zero, suc, ◌+◌, inl, inr, List, [], ◌∷◌, length, Option, Some, None, Ok, Err, false, arith}
 use Rattle.std.specs.Prelude.{slice_get, map, sum, nat_lt}
 use Rattle.sc_text.specs.declared.end.Ending.TheVariants as ending
 use Rattle.sc_text.specs.declared.end.TrapKind.TheVariants as trap
@@ -8,11 +8,10 @@ use Rattle.typed_tree.specs.Shapes.{shape_of}
 use Rattle.bytecode.specs.declared.kind.Kind.{Kind}
 use Rattle.language_model.specs.Effects.{World, Stage, Stop, Run, Effect, ◌>>=◌, done}
 use Rattle.language_model.specs.Values.{Value, plain, size}
-use Rattle.language_model.specs.Operations as row
 use Rattle.language_model.specs.Evaluation.{Frame, put, nothing, array_elements, either, input_named}
 use Rattle.verified_code.specs.Steps.{kind_shape, Step, Literal, Move, Store, Binary, Not, Cast, Classify, Fill, At, Put, Size, Cat, Sum, Bits, Declassify}
 use Rattle.verified_code.specs.Steps.{Argument, Publish, Assert, Branch, Jump, Call, Return, ReturnNone, Function}
-use Rattle.code_model.specs.Machine.{Caller, Machine, at, next, values_at, begun, behind_first, filled_with, kinds_of, entering, limit, received, resume}
+use Rattle.code_model.specs.Machine.{Caller, Machine, at, next, values_at, begun, behind_first, filled_with, kinds_of, limit, received, resume}
 use Rattle.code_model.specs.Machine.{same_bool, step, further, exec}
 use Rattle.code_model.proofs.Places.{put_all}
 use Rattle.named_values.specs.Named.{Numbers, or_from, CallersName, MachineNames, AreAmong}

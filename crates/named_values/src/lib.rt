@@ -1,6 +1,6 @@
 //! Which values a run of code can still take: those that a register names.
 //!
-//! There is nothing to run here: definitions in `specs/`, and the law that follows from them. A miner that runs code may let go its share
+//! There is nothing to run here: definitions in `specs/`, and the laws that follow from them. A miner that runs code may let go its share
 //! of a value that no register of its machine names.
 #![tactic(auto)]
 
