@@ -3,7 +3,7 @@ use Rattle.std.specs.Prelude.{◌≡◌, ◌≤◌, ◌⊎◌, ℕ, List, [], �
 use Rattle.gates.specs.declared.gate.Gate.{Gate}
 use Rattle.gates.specs.declared.gate.Gate.TheVariants.{Input, Const, Add, Sub, MulPub, Mul, Xor, And, Not, Shl, Shr, Low, Cat, Part, Put, Rep, Spread}
 use Rattle.gates.specs.declared.gate.Gate.TheVariants.{Sum, Split, Conv, Open, Result}
-use Rattle.language_model.specs.Values.{Value, Private}
+use Rattle.language_model.specs.Values.{Private}
 use Rattle.language_model.specs.Evaluation.{Frame}
 use Rattle.code_model.specs.Machine.{Caller, Machine}
 
@@ -51,17 +51,17 @@ abbrev pub AllTake : Numbers → List Gate → Type 0
 AllTake N [] = Unit {0}
 AllTake N (gate ∷ gates) = Takes N gate × AllTake N gates
 
--- a value, registers, callers and a machine that name these numbers alone
-abbrev pub Names : Numbers → Value → Type 0
-Names N v = (k : ℕ) → v.secrecy ≡ Private (Some k) → N k
+-- the number of a value that is in a register, also in one of a caller: the registers, the callers, the machine name it
+abbrev pub FrameNames : Frame → Numbers
+FrameNames registers k = (r : ℕ) × ((registers r).secrecy ≡ Private (Some k))
 
-abbrev pub FrameNames : Numbers → Frame → Type 0
-FrameNames N registers = (r : ℕ) → Names N (registers r)
+abbrev pub CallersName : List Caller → Numbers
+CallersName [] k = ⊥
+CallersName (c ∷ cs) k = FrameNames c.registers k ⊎ CallersName cs k
 
-abbrev pub CallersName : Numbers → List Caller → Type 0
-CallersName N [] = Unit {0}
-CallersName N (c ∷ cs) = FrameNames N c.registers × CallersName N cs
+abbrev pub MachineNames : Machine → Numbers
+MachineNames m k = FrameNames m.registers k ⊎ CallersName m.stack k
 
-pub record MachineNames (N : Numbers) (m : Machine) : Type 0 where
-  pub registers : FrameNames N m.registers
-  pub callers : CallersName N m.stack
+-- these numbers are among those
+abbrev pub AreAmong : Numbers → Numbers → Type 0
+AreAmong M N = (k : ℕ) → M k → N k

@@ -1,0 +1,331 @@
+-- The rows of the language take values that their operands name, and give values that name no others, but for those that they make.
+use Rattle.std.proofs.Common.{◌≡◌, ℕ, ◌+◌, ◌-◌, ◌*◌, ◌%◌, ◌^◌, List, [], ◌∷◌, ◌++◌, length, map, Some, None, Bool, true, false, Option, refl, subst}
+use Rattle.std.specs.Prelude.{nat_le, nat_lt, replicate, set, sum}
+use Rattle.std.specs.List.{flat_map}
+use Rattle.sc_text.specs.declared.end.Ending.TheVariants as ending
+use Rattle.sc_text.specs.declared.end.TrapKind.TheVariants as trap
+use Rattle.sc_text.specs.declared.event.Event.TheVariants as event
+use Rattle.secrec_ast.specs.declared.expression.DataType.TheVariants.{Uint64}
+use Rattle.secrec_ast.specs.declared.expression.DataType.TheVariants as datatype
+use Rattle.gates.specs.declared.gate.Gate.TheVariants as gates
+use Rattle.gates.specs.Clear.{bits_of, first_word}
+use Rattle.equality.specs.Plan.{eq_plan}
+use Rattle.bit_extract.specs.Plan.{bits_plan}
+use Rattle.compare.specs.Plan.{less_plan}
+use Rattle.typed_tree.specs.declared.kinds.Shape.{Shape}
+use Rattle.typed_tree.specs.declared.operators.WordOperator.{WordOperator}
+use Rattle.typed_tree.specs.declared.operators.WordOperator.TheVariants as word
+use Rattle.typed_tree.specs.declared.operators.BoolOperator.{BoolOperator}
+use Rattle.typed_tree.specs.declared.operators.BoolOperator.TheVariants as truth
+use Rattle.typed_tree.specs.declared.operators.BinaryOperator.{BinaryOperator}
+use Rattle.typed_tree.specs.declared.operators.BinaryOperator.TheVariants as binary
+use Rattle.typed_tree.specs.declared.operators.Operands.{Operands}
+use Rattle.typed_tree.specs.declared.operators.Cast.{Cast}
+use Rattle.typed_tree.specs.declared.operators.Cast.TheVariants.{WordToWord, WordToBool, BoolToWord, BoolToBool}
+use Rattle.typed_tree.specs.Shapes.{shape_of}
+use Rattle.language_model.specs.Effects.{World, Given, Effect, ◌>>=◌, done, test, words_each, gate, planned}
+use Rattle.language_model.specs.Values.{Secrecy, Plain, Private, Value, plain, hidden, never_stored, size, visible_words, is_true, ring_for, elements_of}
+use Rattle.language_model.specs.Words as W
+use Rattle.language_model.specs.Operations as row
+use Rattle.language_model.specs.Evaluation.{is_as_declared, given_value, asked_for}
+use Rattle.named_values.specs.Named.{Numbers}
+use Rattle.named_values.proofs.Effects.{Naming, Any, naming_bind, naming_done, naming_end, charge_naming, test_naming, draw_naming, gate_naming, next_naming}
+use Rattle.named_values.proofs.Effects.{planned_naming, emit_naming, answer_naming, show_naming}
+use Rattle.named_values.proofs.Plans.{eq_takes, eq_some, bits_takes, bits_some, less_takes, less_some}
+
+-- a value whose number, if it has one, is one of these
+abbrev pub Names : Numbers → Value → Type 0
+Names N v = (k : ℕ) → v.secrecy ≡ Private (Some k) → N k
+
+same_number : (k j : ℕ) → ◌≡◌ {A = Secrecy} (Private (Some k)) (Private (Some j)) → k ≡ j
+same_number k j e = cc
+
+not_plain : (j : ℕ) → Plain ≡ Private (Some j) → ⊥
+not_plain j e = cc
+
+never_numbered : (j : ℕ) → Private None ≡ Private (Some j) → ⊥
+never_numbered j e = cc
+
+module _ (N : Numbers) where
+  -- ---- values
+
+  pub plain_names : (shape : Shape) (words : List ℕ) → Names N (plain shape words)
+  plain_names shape words j e = absurd (not_plain j e)
+
+  pub never_names : (secret : Bool) (shape : Shape) → Names N (never_stored secret shape)
+  never_names false shape j e = absurd (not_plain j e)
+  never_names true shape j e = absurd (never_numbered j e)
+
+  hidden_names : (shape : Shape) (words : List ℕ) (k : ℕ) → N k → Names N (hidden shape k words)
+  hidden_names shape words k h j e = subst N (same_number k j e) h
+
+  -- ---- parts
+
+  charged_naming : {t : Effect (Unit {0})} (n : ℕ) → Naming N t (Any {A = Unit {0}}) → Naming N (row.charged t n) (Any {A = Unit {0}})
+  charged_naming n h = naming_bind (charge_naming 1) (λ _ _. naming_bind h (λ _ _. charge_naming (n - 1)))
+
+  pub plain_charge : (n : ℕ) → Naming N (row.charged row.no_traps n) (Any {A = Unit {0}})
+  plain_charge n = charged_naming n (naming_done tt)
+
+  large_charge : (line n : ℕ) → Naming N (row.charged (row.not_too_large line n) n) (Any {A = Unit {0}})
+  large_charge line n = charged_naming n (test_naming (nat_le n row.largest) trap.Large line)
+
+  number_from_naming : (a : Secrecy) (words : List ℕ) → ((k : ℕ) → a ≡ Private (Some k) → N k) → Naming N (row.number_from a words) N
+  number_from_naming (Private (Some k)) words h = naming_done (h k refl)
+  number_from_naming (Private None) words h = gate_naming (gates.Const words) refl tt
+  number_from_naming Plain words h = gate_naming (gates.Const words) refl tt
+
+  number_naming : (v : Value) → Names N v → Naming N (row.number_of v) N
+  number_naming v h = number_from_naming v.secrecy v.words h
+
+  made_naming : (shape : Shape) (words : List ℕ) (k : ℕ) → N k → Naming N (row.made_private shape words k) (Names N)
+  made_naming shape words k h = naming_done (hidden_names shape words k h)
+
+  shown_naming : (shape : Shape) (words : List ℕ) → Naming N (done (plain shape words)) (Names N)
+  shown_naming shape words = naming_done (plain_names shape words)
+
+  stretched_naming : (scalar : Bool) (n u : ℕ) → N u → Naming N (row.stretched scalar n u) N
+  stretched_naming true n u h = gate_naming (gates.Rep u n) refl (h, tt)
+  stretched_naming false n u h = naming_done h
+
+  flip_naming : (n u : ℕ) → N u → Naming N (row.flip n u) N
+  flip_naming n u h =
+      naming_bind (gate_naming (gates.Const (replicate n 1)) refl tt) (λ ones k. gate_naming (gates.Xor u ones) refl (h, (k, tt)))
+
+  -- ---- classification and opening
+
+  classified_from_naming : (a : Secrecy) (v : Value) → Names N v → Naming N (row.classified_from a v) (Names N)
+  classified_from_naming (Private k) v h = naming_done h
+  classified_from_naming Plain v h =
+      naming_bind (plain_charge (size v)) (λ _ _. naming_bind (gate_naming (gates.Const v.words) refl tt) (λ k n. made_naming v.shape v.words k n))
+
+  pub classified_naming : (v : Value) → Names N v → Naming N (row.classified v) (Names N)
+  classified_naming v h = classified_from_naming v.secrecy v h
+
+  revealed_naming : (w : World) (v : Value) → Naming N (row.revealed w v) (Names N)
+  revealed_naming w v =
+      naming_bind (answer_naming w.source v.words) (λ words _.
+      let read = row.read_answer v.shape.element words in
+      naming_bind (show_naming read) (λ _ _.
+      naming_bind (emit_naming (event.Open (elements_of (plain v.shape read)))) (λ _ _. shown_naming v.shape read)))
+
+  opened_from_naming : (w : World) (a : Secrecy) (v : Value) → Names N v → Naming N (row.opened_from w a v) (Names N)
+  opened_from_naming w Plain v h = naming_done h
+  opened_from_naming w (Private k) v h =
+      naming_bind (draw_naming w (words_each (size v))) (λ _ _. naming_bind (number_naming v h) (λ u n.
+      naming_bind (gate_naming (gates.Open (ring_for v.shape.element) u) refl (n, tt)) (λ _ _. revealed_naming w v)))
+
+  pub declassified_naming : (w : World) (v : Value) → Names N v → Naming N (row.declassified w v) (Names N)
+  declassified_naming w v h = naming_bind (plain_charge (size v)) (λ _ _. opened_from_naming w v.secrecy v h)
+
+  -- ---- operators
+
+  equal_naming : (d : ℕ) → N d → Naming N (planned (λ first. eq_plan first d)) N
+  equal_naming d h = planned_naming (λ first. eq_plan first d) (λ first. eq_some first d) (λ first new. eq_takes N first d new h)
+
+  module _ (n u v : ℕ) (a : N u) (b : N v) where
+    equal_gates_naming : Naming N (row.equal_gates u v) N
+    equal_gates_naming = naming_bind (gate_naming (gates.Sub u v) refl (a, (b, tt))) (λ d h. equal_naming d h)
+
+    less_naming : Naming N (row.less_gates n u v) N
+    less_naming = planned_naming (λ first. less_plan first u v n) (λ first. less_some first u v n) (λ first new. less_takes N first u v n new a b)
+
+    greater_naming : Naming N (row.less_gates n v u) N
+    greater_naming = planned_naming (λ first. less_plan first v u n) (λ first. less_some first v u n) (λ first new. less_takes N first v u n new b a)
+
+    flipped_naming : {c : Effect ℕ} → Naming N c N → Naming N (c >>= row.flip n) N
+    flipped_naming h = naming_bind h (λ k m. flip_naming n k m)
+
+    word_naming : (op : WordOperator) → Naming N (row.word_gates op n u v) N
+    word_naming word.Add = gate_naming (gates.Add u v) refl (a, (b, tt))
+    word_naming word.Subtract = gate_naming (gates.Sub u v) refl (a, (b, tt))
+    word_naming word.Multiply = gate_naming (gates.Mul u v) refl (a, (b, tt))
+    word_naming word.Equal = equal_gates_naming
+    word_naming word.NotEqual = flipped_naming equal_gates_naming
+    word_naming word.Less = less_naming
+    word_naming word.Greater = greater_naming
+    word_naming word.GreaterOrEqual = flipped_naming less_naming
+    word_naming word.LessOrEqual = flipped_naming greater_naming
+    word_naming op = next_naming
+
+    or_naming : Naming N (row.or_gates u v) N
+    or_naming =
+        naming_bind (gate_naming (gates.And u v) refl (a, (b, tt))) (λ both h. naming_bind (gate_naming (gates.Xor u v) refl (a, (b, tt))) (λ one k.
+        gate_naming (gates.Xor one both) refl (k, (h, tt))))
+
+    bool_naming : (op : BoolOperator) → Naming N (row.bool_gates op n u v) N
+    bool_naming truth.Xor = gate_naming (gates.Xor u v) refl (a, (b, tt))
+    bool_naming truth.And = gate_naming (gates.And u v) refl (a, (b, tt))
+    bool_naming truth.Or = or_naming
+    bool_naming truth.NotEqual = gate_naming (gates.Xor u v) refl (a, (b, tt))
+    bool_naming truth.Equal = flipped_naming (gate_naming (gates.Xor u v) refl (a, (b, tt)))
+
+    operator_naming : (op : BinaryOperator) → Naming N (row.operator_gates op n u v) N
+    operator_naming (binary.Words op) = word_naming op
+    operator_naming (binary.Bools op) = bool_naming op
+
+  module _ (w : World) (op : BinaryOperator) (ds : Operands) (x y : Value) (a : Names N x) (b : Names N y) where
+    private_naming : Naming N (row.private_result w op ds x y) (Names N)
+    private_naming =
+        let n = W.result_size ds x y in
+        naming_bind (draw_naming w (row.words_of_operator op n)) (λ _ _. naming_bind (number_naming x a) (λ i f. naming_bind (number_naming y b) (λ j g.
+        naming_bind (stretched_naming (row.is_scalar_left ds) n i f) (λ u h. naming_bind (stretched_naming (row.is_scalar_right ds) n j g) (λ v k.
+        naming_bind (operator_naming n u v h k op) (λ r m. made_naming (row.result_shape op ds) (W.result_words op ds x y) r m))))))
+
+    product_naming : (scalar : Bool) (z : Value) (known words : List ℕ) → Names N z → Naming N (row.product_with op ds scalar z known words) (Names N)
+    product_naming scalar z known words h =
+        naming_bind (number_naming z h) (λ j f. naming_bind (stretched_naming scalar (length known) j f) (λ u g.
+        naming_bind (gate_naming (gates.MulPub (ring_for z.shape.element) u known) refl (g, tt)) (λ r m. made_naming (row.result_shape op ds) words r m)))
+
+    combined_naming : (j k : Secrecy) → Naming N (row.combined_from j k w op ds x y) (Names N)
+    combined_naming Plain Plain = shown_naming (row.result_shape op ds) (W.result_words op ds x y)
+    combined_naming (Private j) (Private k) = private_naming
+    combined_naming (Private j) Plain = product_naming (row.is_scalar_left ds) x (W.right_words ds x y) (W.result_words op ds x y) a
+    combined_naming Plain (Private k) = product_naming (row.is_scalar_right ds) y (W.left_words ds x y) (W.result_words op ds x y) b
+
+    traps_naming : (line : ℕ) → Naming N (row.operator_traps line op ds x y) (Any {A = Unit {0}})
+    traps_naming line =
+        naming_bind (test_naming (W.are_alike ds x y) trap.Length line) (λ _ _. test_naming (W.may_divide op (visible_words y)) trap.Div line)
+
+    pub operated_naming : (line : ℕ) → Naming N (row.operated w line op ds x y) (Names N)
+    operated_naming line = naming_bind (charged_naming (W.result_size ds x y) (traps_naming line)) (λ _ _. combined_naming x.secrecy y.secrecy)
+
+  -- ---- operations of one operand
+
+  module _ (v : Value) (h : Names N v) where
+    negated_from_naming : (a : Secrecy) → Naming N (row.negated_from a v) (Names N)
+    negated_from_naming Plain = shown_naming v.shape (map W.flipped v.words)
+    negated_from_naming (Private k) =
+        naming_bind (number_naming v h) (λ u n. naming_bind (flip_naming (size v) u n) (λ r m. made_naming v.shape (map W.flipped v.words) r m))
+
+    pub negated_naming : Naming N (row.negated v) (Names N)
+    negated_naming = naming_bind (plain_charge (size v)) (λ _ _. negated_from_naming v.secrecy)
+
+    cast_gates_naming : (c : Cast) (n u : ℕ) → N u → Naming N (row.cast_gates c n u) N
+    cast_gates_naming WordToBool n u m = naming_bind (equal_naming u m) (λ z k. flip_naming n z k)
+    cast_gates_naming BoolToWord n u m = gate_naming (gates.Conv u) refl (m, tt)
+    cast_gates_naming WordToWord n u m = naming_done m
+    cast_gates_naming BoolToBool n u m = naming_done m
+
+    changed_naming : (w : World) (c : Cast) → Naming N (row.changed w c v) (Names N)
+    changed_naming w c =
+        naming_bind (draw_naming w (row.words_of_cast c (size v))) (λ _ _. naming_bind (number_naming v h) (λ u n.
+        naming_bind (cast_gates_naming c (size v) u n) (λ r m. made_naming (row.cast_shape c v.shape.array) (map (W.cast_word c) v.words) r m)))
+
+    cast_from_naming : (w : World) (a : Secrecy) (c : Cast) → Naming N (row.cast_from w a c v) (Names N)
+    cast_from_naming w a WordToWord = naming_done h
+    cast_from_naming w a BoolToBool = naming_done h
+    cast_from_naming w Plain WordToBool = shown_naming (row.cast_shape WordToBool v.shape.array) (map (W.cast_word WordToBool) v.words)
+    cast_from_naming w Plain BoolToWord = shown_naming (row.cast_shape BoolToWord v.shape.array) (map (W.cast_word BoolToWord) v.words)
+    cast_from_naming w (Private k) WordToBool = changed_naming w WordToBool
+    cast_from_naming w (Private k) BoolToWord = changed_naming w BoolToWord
+
+    pub cast_naming : (w : World) (c : Cast) → Naming N (row.cast_to w c v) (Names N)
+    cast_naming w c = naming_bind (plain_charge (size v)) (λ _ _. cast_from_naming w v.secrecy c)
+
+    pub size_naming : Naming N (row.size_told v) (Names N)
+    size_naming = naming_bind (charge_naming 1) (λ _ _. shown_naming (shape_of Uint64 false) (size v ∷ []))
+
+    summed_from_naming : (a : Secrecy) → Naming N (row.summed_from a v) (Names N)
+    summed_from_naming Plain = shown_naming (shape_of Uint64 false) (sum v.words % 2 ^ 64 ∷ [])
+    summed_from_naming (Private k) =
+        naming_bind (number_naming v h) (λ u n. naming_bind (gate_naming (gates.Sum u) refl (n, tt)) (λ r m.
+        made_naming (shape_of Uint64 false) (sum v.words % 2 ^ 64 ∷ []) r m))
+
+    pub summed_naming : Naming N (row.summed v) (Names N)
+    summed_naming = naming_bind (charge_naming 1) (λ _ _. summed_from_naming v.secrecy)
+
+    bits_from_naming : (w : World) (a : Secrecy) → Naming N (row.bits_from w a v) (Names N)
+    bits_from_naming w Plain = shown_naming (shape_of datatype.Bool true) (flat_map bits_of v.words)
+    bits_from_naming w (Private k) =
+        naming_bind (draw_naming w (row.words_for_bits (size v))) (λ _ _. naming_bind (number_naming v h) (λ u n.
+        naming_bind
+        (planned_naming (λ first. bits_plan first u (size v)) (λ first. bits_some first u (size v)) (λ first new. bits_takes N first u (size v) new n)) (λ b m.
+        naming_bind (gate_naming (gates.Spread b) refl (m, tt)) (λ r k. made_naming (shape_of datatype.Bool true) (flat_map bits_of v.words) r k))))
+
+    pub bits_naming : (w : World) (line : ℕ) → Naming N (row.bits_extracted w line v) (Names N)
+    bits_naming w line = naming_bind (large_charge line (64 * size v)) (λ _ _. bits_from_naming w v.secrecy)
+
+    -- ---- arrays
+
+    inside_naming : (line i n : ℕ) → Naming N (test (nat_lt i n) trap.Index line) (Any {A = Unit {0}})
+    inside_naming line i n = test_naming (nat_lt i n) trap.Index line
+
+    element_from_naming : (a : Secrecy) (i : ℕ) → Naming N (row.element_from a v i) (Names N)
+    element_from_naming Plain i = shown_naming (shape_of v.shape.element false) (row.element_at v.words i ∷ [])
+    element_from_naming (Private k) i =
+        naming_bind (number_naming v h) (λ u n. naming_bind (gate_naming (gates.Part u i 1) refl (n, tt)) (λ r m.
+        made_naming (shape_of v.shape.element false) (row.element_at v.words i ∷ []) r m))
+
+    pub element_naming : (line : ℕ) (i : Value) → Naming N (row.element_of_array line v i) (Names N)
+    element_naming line i =
+        naming_bind (charge_naming 1) (λ _ _. naming_bind (inside_naming line (row.position i) (size v)) (λ _ _.
+        element_from_naming v.secrecy (row.position i)))
+
+    filled_from_naming : (a : Secrecy) (n : ℕ) → Naming N (row.filled_from a n v) (Names N)
+    filled_from_naming Plain n = shown_naming (shape_of v.shape.element true) (replicate n (first_word v.words))
+    filled_from_naming (Private k) n =
+        naming_bind (number_naming v h) (λ u f. naming_bind (gate_naming (gates.Rep u n) refl (f, tt)) (λ r m.
+        made_naming (shape_of v.shape.element true) (replicate n (first_word v.words)) r m))
+
+    pub filled_naming : (line : ℕ) (n : Value) → Naming N (row.filled line n v) (Names N)
+    filled_naming line n = naming_bind (large_charge line (row.position n)) (λ _ _. filled_from_naming v.secrecy (row.position n))
+
+    -- ---- what goes to the client, and tests
+
+    handed_naming : (w : World) (a : Secrecy) → Naming N (row.handed_over w a v) (Any {A = Unit {0}})
+    handed_naming w Plain = naming_done tt
+    handed_naming w (Private k) =
+        naming_bind (draw_naming w (words_each (size v))) (λ _ _. naming_bind (number_naming v h) (λ u n.
+        naming_bind (gate_naming (gates.Result (ring_for v.shape.element) u) refl (n, tt)) (λ _ _. naming_done tt)))
+
+    pub published_naming : (w : World) (text : List ℕ) → Naming N (row.published w text v) (Any {A = Unit {0}})
+    published_naming w text =
+        naming_bind (plain_charge (size v)) (λ _ _. naming_bind (handed_naming w v.secrecy) (λ _ _. emit_naming (event.Publish text (elements_of v))))
+
+  module _ (x y : Value) (a : Names N x) (b : Names N y) where
+    both_naming : {f : ℕ → ℕ → Effect ℕ} (shape : Shape) (words : List ℕ) → ((u v : ℕ) → N u → N v → Naming N (f u v) N)
+        → Naming N (row.number_of x >>= λ u. row.number_of y >>= λ v. f u v >>= λ r. row.made_private shape words r) (Names N)
+    both_naming shape words h =
+        naming_bind (number_naming x a) (λ u m. naming_bind (number_naming y b) (λ v n. naming_bind (h u v m n) (λ r k. made_naming shape words r k)))
+
+    cat_naming : Naming N (row.number_of x >>= λ u. row.number_of y >>= λ v. gate (gates.Cat u v) >>= λ r. row.made_private x.shape (x.words ++ y.words) r)
+        (Names N)
+    cat_naming = both_naming x.shape (x.words ++ y.words) (λ u v m n. gate_naming (gates.Cat u v) refl (m, (n, tt)))
+
+    joined_from_naming : (j k : Secrecy) → Naming N (row.joined_from j k x y) (Names N)
+    joined_from_naming Plain Plain = shown_naming x.shape (x.words ++ y.words)
+    joined_from_naming Plain (Private k) = cat_naming
+    joined_from_naming (Private j) Plain = cat_naming
+    joined_from_naming (Private j) (Private k) = cat_naming
+
+    pub joined_naming : (line : ℕ) → Naming N (row.joined line x y) (Names N)
+    joined_naming line = naming_bind (large_charge line (size x + size y)) (λ _ _. joined_from_naming x.secrecy y.secrecy)
+
+    with_element_from_naming : (j : Secrecy) (i : ℕ) → Naming N (row.with_element_from j x i y) (Names N)
+    with_element_from_naming Plain i = shown_naming x.shape (set x.words i (first_word (visible_words y)))
+    with_element_from_naming (Private k) i =
+        both_naming x.shape (set x.words i (first_word y.words)) (λ u v m n. gate_naming (gates.Put u i v) refl (m, (n, tt)))
+
+    pub with_element_naming : (line : ℕ) (i : Value) → Naming N (row.with_element line x i y) (Names N)
+    with_element_naming line i =
+        naming_bind (charge_naming 1) (λ _ _. naming_bind (test_naming (nat_lt (row.position i) (size x)) trap.Index line) (λ _ _.
+        with_element_from_naming x.secrecy (row.position i)))
+
+  pub tested_naming : (v : Value) → Naming N (row.tested v) (Any {A = Bool})
+  tested_naming v = naming_bind (charge_naming 1) (λ _ _. naming_done tt)
+
+  pub asserted_naming : (line : ℕ) (v : Value) → Naming N (row.asserted line v) (Any {A = Unit {0}})
+  asserted_naming line v = naming_bind (charge_naming 1) (λ _ _. test_naming (is_true v) trap.Assert line)
+
+  -- ---- inputs
+
+  given_naming : (secret : Bool) (x : Given) (k : ℕ) → Naming N (given_value secret x k) (Names N)
+  given_naming false x k = shown_naming x.shape x.words
+  given_naming true x k = naming_bind (gate_naming (gates.Input k) refl tt) (λ r m. made_naming x.shape x.words r m)
+
+  pub asked_naming : (secret : Bool) (shape : Shape) (line : ℕ) (o : Option (Given × ℕ)) → Naming N (asked_for secret shape line o) (Names N)
+  asked_naming secret shape line None = naming_bind (charge_naming 1) (λ _ _. naming_end (ending.Trap trap.Argument line))
+  asked_naming secret shape line (Some x) =
+      naming_bind (charged_naming (length x.0.words) (test_naming (is_as_declared secret shape x.0) trap.Argument line)) (λ _ _.
+      given_naming secret x.0 x.1)
