@@ -8,4 +8,4 @@ mod earlier_gates;
 mod laws;
 
 pub use earlier_gates::earlier_gates_change_no_run;
-pub use laws::{code_needs_what_it_names, gates_need_what_they_take};
+pub use laws::{code_needs_what_it_names, gates_make_what_they_count, gates_need_what_they_take};
