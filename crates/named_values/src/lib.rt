@@ -1,4 +1,4 @@
-//! Which values a run of code can still take: those that a register names; and that it takes no gates that were made before.
+//! Which values a run of code can still take: those that a register names. Which gates were made before makes no difference to it.
 //!
 //! There is nothing to run here: definitions in `specs/`, and the laws that follow from them. A miner that runs code may let go its share
 //! of a value that no register of its machine names, and the list of the gates that it has run.

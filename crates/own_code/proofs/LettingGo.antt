@@ -8,7 +8,7 @@ use Rattle.protocol_model.specs.Gates.{nth_value}
 use Rattle.gates.specs.declared.gate.Gate.{Gate}
 use Rattle.gates.specs.Clear.{Values}
 use Rattle.gates.specs.Counts.{made_by_all}
-use Rattle.language_model.specs.Effects.{World, Stage, Stop, Short, Run}
+use Rattle.language_model.specs.Effects.{World, Stage, RunStop, Short, Run}
 use Rattle.language_model.specs.Effects as effect
 use Rattle.verified_code.specs.Steps.{Function}
 use Rattle.code_model.specs.Machine.{Machine, step}
@@ -69,7 +69,7 @@ module _ (w : World) (c : List Function) where
     leads_by told (Ok x) h = (record { gates = h.0.gates; more = h.0.more; made = h.0.made; take = h.0.take }, h.1)
     leads_by told (Err e) h = by e.0
       where
-        by : (stop : Stop) → Leads N p (stopped p.machine e.1 stop)
+        by : (stop : RunStop) → Leads N p (stopped p.machine e.1 stop)
         by (effect.Ended ending) = record { gates = h.gates; more = h.more; made = h.made; take = h.take }
         by Short = record { gates = h.gates; more = h.more; made = h.made; take = h.take }
 

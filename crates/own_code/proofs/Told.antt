@@ -7,7 +7,7 @@ use Rattle.sc_text.specs.declared.end.TapeOwner.TheVariants.{Miner1, Miner2, Min
 use Rattle.sc_text.specs.declared.event.Event.TheVariants as event
 use Rattle.gates.specs.declared.gate.Gate.{Gate}
 use Rattle.gates.specs.declared.gate.Gate.TheVariants.{Const, Open}
-use Rattle.language_model.specs.Effects.{Words, World, Source, Clear, Answers, Stage, Stop, Ended, Short, Run, Effect, ◌>>=◌, carry, done, charge}
+use Rattle.language_model.specs.Effects.{Words, World, Source, Clear, Answers, Stage, RunStop, Ended, Short, Run, Effect, ◌>>=◌, carry, done, charge}
 use Rattle.language_model.specs.Effects.{words_each, fits, drawn_yet, take_words, draw, gate, answer, emit, show}
 use Rattle.language_model.specs.Values.{Secrecy, Plain, Private, Value, plain, size, ring_for, elements_of}
 use Rattle.blind_evaluation.specs.Courses.{IsEnded}
@@ -154,7 +154,7 @@ module _ (w : World) (c : List Function) (p : Place) where
   abbrev run_told : List ℕ → Run Machine
   run_told told = step w c (next_step p.machine) p.machine (telling_stage told p.stage)
 
-  stopped_gates : (m : Machine) (u : Stage) (stop : Stop) → (place_of (stopped m u stop)).stage.gates ≡ u.gates
+  stopped_gates : (m : Machine) (u : Stage) (stop : RunStop) → (place_of (stopped m u stop)).stage.gates ≡ u.gates
   stopped_gates m u (Ended e) = refl
   stopped_gates m u Short = refl
 
@@ -172,7 +172,7 @@ module _ (w : World) (c : List Function) (p : Place) where
   never_wants h (Ok x) k e = goes_on e
   never_wants {X = X} h (Err x) k e = by x.0 k.0 e
     where
-      by : (stop : Stop) → IsEnded stop → stopped p.machine x.1 stop ≡ Wants h → X
+      by : (stop : RunStop) → IsEnded stop → stopped p.machine x.1 stop ≡ Wants h → X
       by (Ended ending) k e = is_over e
       by Short k e = absurd k
 
