@@ -1,9 +1,10 @@
 -- The registers that verified code names are among those that a function has.
 use Rattle.std.proofs.Common.{◌≡◌, ℕ, zero, suc, ◌<◌, ◌≤◌, List, [], ◌∷◌, length, get_or, Option}
-use Rattle.std.proofs.Common.{Some, None, Bool, true, false, ◌&&◌, ◌||◌, refl, sym, ap, subst, arith}
+use Rattle.std.proofs.Common.{Some, None, Bool, true, false, ◌&&◌, ◌||◌, refl, sym, subst, arith}
 use Rattle.std.specs.Prelude.{map, if◌then◌else◌}
 use Rattle.std.specs.List.{list_all, slice_get}
 use Rattle.std.proofs.lemmas.Bool.{ltb-true, and_parts}
+use Rattle.std.proofs.lemmas.Option.{none-some, same_Some}
 use Rattle.bytecode.specs.declared.instruction.Register.{Register}
 use Rattle.bytecode.specs.Raw.{Raw, RawFunction, RawCode}
 use Rattle.bytecode.specs.Raw as raw
@@ -17,20 +18,10 @@ use Rattle.verified_code.proofs.Sound.{verified_is_sound}
 use Rattle.code_model.specs.Machine.{kinds_of}
 use Rattle.code_machine.specs.Standing.{AreBelow, AreThere, HasAny, kinds_at}
 
-none_some : {A : Type 0} {a : A} → ◌≡◌ {A = Option A} None (Some a) → ⊥
-none_some e = cc
-
-same_some : {A : Type 0} {a b : A} → ◌≡◌ {A = Option A} (Some a) (Some b) → a ≡ b
-same_some {A = A} {a = a} e = ap or_this e
-  where
-    or_this : Option A → A
-    or_this None = a
-    or_this (Some x) = x
-
 -- what a mapped list has at a place comes from there
 unmapped : {A B : Type 0} (g : A → B) (xs : List A) (k : ℕ) (y : B) → slice_get (map g xs) k ≡ Some y → (x : A) × (slice_get xs k ≡ Some x) × (g x ≡ y)
-unmapped g [] k y e = absurd (none_some e)
-unmapped g (x ∷ xs) zero y e = (x, refl, same_some e)
+unmapped g [] k y e = absurd (none-some _ e)
+unmapped g (x ∷ xs) zero y e = (x, refl, same_Some _ _ e)
 unmapped g (x ∷ xs) (suc k) y e = unmapped g xs k y e
 
 module _ (h : Here) (n : ℕ) (enough : length h.own.registers ≤ n) where
@@ -105,7 +96,7 @@ step-there code v function place n = go (slice_get (settled code) function) refl
 
     go : (o : Option Function) → slice_get (settled code) function ≡ o → length (kinds_of o) ≤ n → (i : Step) → slice_get (steps_of o) place
         ≡ Some i → AreThere n i
-    go None e l i s = absurd (none_some s)
+    go None e l i s = absurd (none-some _ s)
     go (Some g) e l i s =
         let u = unmapped (settled_function code.names) code.functions function g e in
         at u.0 u.1 i (subst (λ (z : Function). slice_get z.steps place ≡ Some i) (sym u.2) s) (subst (λ (z : Function). length z.kinds ≤ n) (sym u.2) l)

@@ -3,7 +3,7 @@ use Rattle.std.proofs.Common.{◌≡◌, ℕ, zero, suc, ◌+◌, ◌-◌, ◌<�
 use Rattle.std.proofs.Common.{ap, ◌∙◌, subst, arith, ◌⊎◌, inl, inr}
 use Rattle.std.specs.Prelude.{slice_get, nat_lt, nat_le, map, sum}
 use Rattle.std.proofs.lemmas.Bool.{cases_lt, leb-true}
-use Rattle.std.proofs.lemmas.Option.{slice_get_past}
+use Rattle.std.proofs.lemmas.Option.{slice_get_past, none-some}
 use Rattle.sc_text.specs.declared.end.Ending.TheVariants as ending
 use Rattle.sc_text.specs.declared.end.TrapKind.TheVariants as trap
 use Rattle.language_model.specs.Effects.{World, Stage, RunStop, Ended, Run, Effect, ◌>>=◌, carry, done, charge, test}
@@ -31,16 +31,13 @@ worth_less : (l a b : ℕ) → a < b → worth l a + (l + 1) ≤ worth l b
 worth_less l a zero h = absurd (omega arith)
 worth_less l a (suc b) h = let r = worth_le l a b (omega arith) in omega arith
 
-none_some : {A : Type 0} {a : A} → ◌≡◌ {A = Option A} None (Some a) → ⊥
-none_some e = cc
-
 steps_longest : (p : List Function) (g : ℕ) → length (steps_of (slice_get p g)) ≤ longest p
 steps_longest [] g = omega arith
 steps_longest (f ∷ fs) zero = omega arith
 steps_longest (f ∷ fs) (suc g) = let r = steps_longest fs g in omega arith
 
 nothing_forward : IsForward []
-nothing_forward pc target e = absurd (none_some e)
+nothing_forward pc target e = absurd (none-some _ e)
 
 steps_forward : (p : List Function) → AreForward p → (g : ℕ) → IsForward (steps_of (slice_get p g))
 steps_forward p fine g = go (slice_get p g) refl
@@ -73,7 +70,7 @@ here_below code pc i e = go (cases_lt pc (length code))
   where
     go : (pc < length code) ⊎ (length code ≤ pc) → pc < length code
     go (inl h) = h
-    go (inr h) = absurd (none_some (sym (slice_get_past code pc h) ∙ e))
+    go (inr h) = absurd (none-some _ (sym (slice_get_past code pc h) ∙ e))
 
 charge_paid : (s s1 : Stage) (u : Unit {0}) → charge 1 s ≡ Ok (u, s1) → s1.left < s.left
 charge_paid s s1 u e = paid (nat_le 1 s.left) refl e
@@ -205,7 +202,7 @@ module _ (w : World) (p : List Function) (fine : AreForward p) where
 module _ (w : World) (p : List Function) where
   more_fuel : (k j : ℕ) (m : Machine) (s : Stage) (x : RunStop × Stage) → k ≤ j → exec w p k m s ≡ Some x → exec w p j m s ≡ Some x
   unfolding exec
-  more_fuel zero j m s x l e = absurd (none_some e)
+  more_fuel zero j m s x l e = absurd (none-some _ e)
   more_fuel (suc k) zero m s x l e = absurd (omega arith)
   more_fuel (suc k) (suc j) m s x l e = go (step w p (slice_get m.steps m.pc) m s) e (λ m' s' e'. more_fuel k j m' s' x (omega arith) e')
     where

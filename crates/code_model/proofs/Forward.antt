@@ -1,7 +1,8 @@
 -- The jumps of a program's code go forward.
-use Rattle.std.proofs.Common.{◌≡◌, ℕ, zero, suc, ◌+◌, ◌<◌, ◌≤◌, List, [], ◌∷◌, ◌++◌, length, Option, Some, None, Bool, true, false, ap, subst}
+use Rattle.std.proofs.Common.{◌≡◌, ℕ, zero, suc, ◌+◌, ◌<◌, ◌≤◌, List, [], ◌∷◌, ◌++◌, length, Option, Some, None, Bool, true, false, subst}
 use Rattle.std.proofs.Common.{arith, length-append}
 use Rattle.std.specs.Prelude.{slice_get, map}
+use Rattle.std.proofs.lemmas.Option.{none-some, same_Some}
 use Rattle.secrec_ast.specs.declared.expression.DataType.TheVariants as datatype
 use Rattle.typed_tree.specs.declared.kinds.Slot.{Slot}
 use Rattle.typed_tree.specs.declared.operators.BinaryOperator.{BinaryOperator}
@@ -241,20 +242,10 @@ module _ (number : Numbers) where
 
 -- ---- FUNCTIONS
 
-none_some : {A : Type 0} {a : A} → ◌≡◌ {A = Option A} None (Some a) → ⊥
-none_some e = cc
-
-same_some : {A : Type 0} {a b : A} → ◌≡◌ {A = Option A} (Some a) (Some b) → a ≡ b
-same_some {A = A} {a = a} e = ap or_this e
-  where
-    or_this : Option A → A
-    or_this None = a
-    or_this (Some x) = x
-
 jump_at : (code : List Step) (base pc target : ℕ) → GoOn base code → slice_get code pc ≡ Some (Jump target) → base + pc < target
-jump_at [] base pc target h e = absurd (none_some e)
+jump_at [] base pc target h e = absurd (none-some _ e)
 jump_at (i ∷ is) base zero target h e =
-    let k : base < target = subst (GoesOn base) (same_some e) h.0 in
+    let k : base < target = subst (GoesOn base) (same_Some _ _ e) h.0 in
     omega (arith, k)
 jump_at (i ∷ is) base (suc pc) target h e =
     let r : base + 1 + pc < target = jump_at is (base + 1) pc target h.1 e in
@@ -265,7 +256,7 @@ last_on given.Nothing r pc = tt
 last_on (given.Value s) r pc = tt
 
 nothing_forward : IsForward []
-nothing_forward pc target e = absurd (none_some e)
+nothing_forward pc target e = absurd (none-some _ e)
 
 function_forward : (number : Numbers) (fs : List TypedFunctionTree) (f : TypedFunctionTree) (b : List BoundDomain) → IsForward
     (function_code number fs f b).steps
@@ -292,6 +283,6 @@ pub all_forward : (p : TypedProgramTree) (is : List Instance) → AreForward (co
 all_forward p is = go is
   where
     go : (js : List Instance) (g : ℕ) (f : Function) → slice_get (map (instance_code p.functions (numbers_in is)) js) g ≡ Some f → IsForward f.steps
-    go [] g f e = absurd (none_some e)
-    go (j ∷ js) zero f e = subst (λ z. IsForward z.steps) (same_some e) (instance_forward p.functions (numbers_in is) j)
+    go [] g f e = absurd (none-some _ e)
+    go (j ∷ js) zero f e = subst (λ z. IsForward z.steps) (same_Some _ _ e) (instance_forward p.functions (numbers_in is) j)
     go (j ∷ js) (suc g) f e = go js g f e

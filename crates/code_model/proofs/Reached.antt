@@ -1,6 +1,7 @@
 -- The list of reached instances has each instance that one of it calls.
 use Rattle.std.proofs.Common.{◌≡◌, ℕ, List, [], ◌∷◌, ◌++◌, Option, Some, None, Bool, true, false, refl, sym, ap, ◌∙◌, subst, inl}
 use Rattle.std.specs.Prelude.{slice_get}
+use Rattle.std.proofs.lemmas.Option.{none-some}
 use Rattle.sc_text.specs.Lists.{Among}
 use Rattle.sc_text.proofs.Lists.{among_left, among_right}
 use Rattle.typed_tree.specs.declared.kinds.Slot.{Slot}
@@ -22,9 +23,6 @@ use Rattle.language_model.specs.Evaluation.{StatementContext, place_in, bound_at
 use Rattle.code_model.specs.Fit.{IsFit, AreFit, FitsSlot, IsFitStatement, AreFitStatements, IsThere, IsKnownIn, IsFitInstance, IsFitAlone}
 use Rattle.code_model.specs.Fit.{IsFitProgram, the_main}
 
-none_some : {A : Type 0} {a : A} → ◌≡◌ {A = Option A} None (Some a) → ⊥
-none_some e = cc
-
 module _ (Known : ℕ → List BoundDomain → Type 0) where
   abbrev AllKnown : List Instance → Type 0
   AllKnown is = (j : Instance) → Among j is → Known j.function j.binding
@@ -37,7 +35,7 @@ module _ (Known : ℕ → List BoundDomain → Type 0) where
 
   call_known : (k : ℕ) (o : Option TypedFunctionTree) (ds : List BoundDomain) → (f : TypedFunctionTree) × (o ≡ Some f) → AllKnown (called k o ds) → Known k
       (bound_at o ds)
-  call_known k None ds there h = absurd (none_some there.1)
+  call_known k None ds there h = absurd (none-some _ there.1)
   call_known k (Some f) ds there h = h (record { function = k; binding = binding_of f ds }) (inl refl)
 
   mutual

@@ -5,7 +5,7 @@ use Rattle.std.specs.Prelude.{slice_get, map, take, nat_lt, nat_le, if◌then◌
 use Rattle.std.specs.List.{list_all}
 use Rattle.std.proofs.lemmas.Bool.{ltb-true, and_parts}
 use Rattle.std.proofs.lemmas.List.{length-map}
-use Rattle.std.proofs.lemmas.Option.{slice_get-get_or}
+use Rattle.std.proofs.lemmas.Option.{slice_get-get_or, none-some, same_Some}
 use Rattle.secrec_ast.specs.declared.expression.DataType.{DataType}
 use Rattle.secrec_ast.specs.declared.expression.DataType.TheVariants.{Uint64}
 use Rattle.secrec_ast.specs.declared.expression.DataType.TheVariants as datatype
@@ -107,24 +107,14 @@ target_is datatype.Bool datatype.Bool = refl
 
 -- ---- LISTS
 
-none_some : {A : Type 0} {a : A} → ◌≡◌ {A = Option A} None (Some a) → ⊥
-none_some e = cc
-
-same_some : {A : Type 0} {a b : A} → ◌≡◌ {A = Option A} (Some a) (Some b) → a ≡ b
-same_some {A = A} {a = a} e = ap or_this e
-  where
-    or_this : Option A → A
-    or_this None = a
-    or_this (Some x) = x
-
 mapped : {A B : Type 0} (g : A → B) (xs : List A) (k : ℕ) (x : A) → slice_get xs k ≡ Some x → slice_get (map g xs) k ≡ Some (g x)
-mapped g [] k x e = absurd (none_some e)
-mapped g (y ∷ ys) zero x e = ap (λ z. Some (g z)) (same_some e)
+mapped g [] k x e = absurd (none-some _ e)
+mapped g (y ∷ ys) zero x e = ap (λ z. Some (g z)) (same_Some _ _ e)
 mapped g (y ∷ ys) (suc k) x e = mapped g ys k x e
 
 unmapped : {A B : Type 0} (g : A → B) (xs : List A) (k : ℕ) (y : B) → slice_get (map g xs) k ≡ Some y → (x : A) × (slice_get xs k ≡ Some x) × (g x ≡ y)
-unmapped g [] k y e = absurd (none_some e)
-unmapped g (x ∷ xs) zero y e = (x, refl, same_some e)
+unmapped g [] k y e = absurd (none-some _ e)
+unmapped g (x ∷ xs) zero y e = (x, refl, same_Some _ _ e)
 unmapped g (x ∷ xs) (suc k) y e = unmapped g xs k y e
 
 arguments_have : (kinds : List Kind) (rs : List ℕ) (ks : List Kind) (n : ℕ) → list_all (fitting.is_there kinds) rs ≡ true → fitting.arguments_fit kinds rs

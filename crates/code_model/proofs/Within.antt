@@ -1,6 +1,7 @@
 -- A machine that runs code whose steps fit stays within it, and its registers keep their kinds.
 use Rattle.std.proofs.Common.{◌≡◌, ℕ, zero, suc, ◌+◌, ◌<◌, List, [], ◌∷◌, length, Option, Some, None, Bool, true, false, refl, sym, ap, ◌∙◌, subst, arith}
 use Rattle.std.specs.Prelude.{slice_get, map, sum, nat_lt}
+use Rattle.std.proofs.lemmas.Option.{none-some, same_Some}
 use Rattle.sc_text.specs.declared.end.Ending.TheVariants as ending
 use Rattle.sc_text.specs.declared.end.TrapKind.TheVariants as trap
 use Rattle.language_model.specs.Effects.{World, Effect, ◌>>=◌, done, charge, test}
@@ -20,16 +21,6 @@ use Rattle.code_model.proofs.KindRows.{operated_kind, negated_kind, cast_kind, c
 use Rattle.code_model.proofs.KindRows.{filled_kind, element_kind, with_element_kind, size_kind, concatenated_kind, summed_kind, bits_kind, declassified_kind}
 use Rattle.code_model.proofs.KindRows.{asked_kind}
 
-none_some : {A : Type 0} {a : A} → ◌≡◌ {A = Option A} None (Some a) → ⊥
-none_some e = cc
-
-same_some : {A : Type 0} {a b : A} → ◌≡◌ {A = Option A} (Some a) (Some b) → a ≡ b
-same_some {A = A} {a = a} e = ap or_this e
-  where
-    or_this : Option A → A
-    or_this None = a
-    or_this (Some x) = x
-
 found : {A : Type 0} (xs : List A) (k : ℕ) → k < length xs → (x : A) × (slice_get xs k ≡ Some x)
 found [] k l = absurd (omega arith)
 found (x ∷ xs) zero l = (x, refl)
@@ -40,7 +31,7 @@ found (x ∷ xs) (suc k) l = found xs k (omega arith)
 put_fits : (kinds : List Kind) (d : ℕ) (k : Kind) (v : Value) (registers : Frame) → HasKind kinds d k → IsOf k v → RegistersFit kinds registers
     → RegistersFit kinds (put d v registers)
 put_fits kinds d k v registers e q h = put_all (λ i z. (k' : Kind) → HasKind kinds i k' → IsOf k' z) d v registers
-    (λ k' f. subst (λ z. IsOf z v) (same_some (sym e ∙ f)) q) h
+    (λ k' f. subst (λ z. IsOf z v) (same_Some _ _ (sym e ∙ f)) q) h
 
 never_stored_is : (k : Kind) → IsOf k (never_stored k.secret (kind_shape k))
 never_stored_is k = go k.secret k.array
@@ -60,7 +51,7 @@ AreOf (k ∷ ks) (x ∷ xs) = IsOf k x × AreOf ks xs
 filled_fits : (ks : List Kind) (xs : List Value) → AreOf ks xs → RegistersFit ks (filled_with ks xs)
 filled_fits ks [] h r k e = subst (λ o. IsOf k (begun o)) (sym e) (never_stored_is k)
 filled_fits [] (x ∷ xs) h r k e = absurd h
-filled_fits (k' ∷ ks) (x ∷ xs) h zero k e = subst (λ z. IsOf z x) (same_some e) h.0
+filled_fits (k' ∷ ks) (x ∷ xs) h zero k e = subst (λ z. IsOf z x) (same_Some _ _ e) h.0
 filled_fits (k' ∷ ks) (x ∷ xs) h (suc r) k e = filled_fits ks xs h.1 r k e
 
 arguments_are : (kinds : List Kind) (rs : List ℕ) (ks : List Kind) (registers : Frame) → RegistersFit kinds registers → ArgumentsHave kinds rs ks → AreOf ks
@@ -151,9 +142,9 @@ module _ (w : World) (p : List Function) (fits : (f : Function) → IsIn p f →
         makes_after (charge 1) _ (λ u. makes_after (test (nat_lt (length m.stack) limit) trap.Depth line) _
         (λ u. makes_after (charge (sum (map array_elements (values_at m.registers args)))) _ (λ u.
         makes_done (entered k f.0 d args f.1 (g refl) f.2 f.3))))
-    act (Return r) f g = back m.stack h.own.gives (m.registers r) h.callers (λ k e. subst (λ z. IsOf z (m.registers r)) (same_some (sym f.1 ∙ e))
+    act (Return r) f g = back m.stack h.own.gives (m.registers r) h.callers (λ k e. subst (λ z. IsOf z (m.registers r)) (same_Some _ _ (sym f.1 ∙ e))
         (h.registers r f.0 f.2))
-    act ReturnNone f g = back m.stack h.own.gives nothing h.callers (λ k e. absurd (none_some (sym f ∙ e)))
+    act ReturnNone f g = back m.stack h.own.gives nothing h.callers (λ k e. absurd (none-some _ (sym f ∙ e)))
 
     -- the next step is there, and the machine stays within the code
     pub next_there : (i : Step) × (slice_get m.steps m.pc ≡ Some i)

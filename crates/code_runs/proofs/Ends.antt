@@ -1,5 +1,6 @@
 -- The run in the clear, step by step, is the run that its meaning reports.
-use Rattle.std.proofs.Common.{◌≡◌, ℕ, zero, suc, List, [], ◌++◌, Option, Some, None, Ok, Err, refl, sym, ap, ◌∙◌, subst, append_assoc}
+use Rattle.std.proofs.Common.{◌≡◌, ℕ, zero, suc, List, [], ◌++◌, Some, None, Ok, Err, refl, sym, ap, ◌∙◌, subst, append_assoc}
+use Rattle.std.proofs.lemmas.Option.{none-some, same_Some}
 use Rattle.sc_text.specs.declared.end.Ending.{Ending}
 use Rattle.shared_gates.specs.Shares.{Kind}
 use Rattle.language_model.specs.Effects.{World, Clear, Stage, RunStop, Ended, Short, Run}
@@ -17,16 +18,6 @@ use Rattle.code_places.specs.Twins.{GoAlike, EndAlike}
 use Rattle.code_places.specs.Laws.{in_the_clear, when_told, CodeHasTwins}
 use Rattle.code_places.proofs.Turns.{gained_more}
 use Rattle.code_runs.proofs.Stays.{untold, Stays, After, none_left, same_step, after_step}
-
-pub none_some : {A : Type 0} {a : A} → ◌≡◌ {A = Option A} None (Some a) → ⊥
-none_some e = cc
-
-pub same_some : {A : Type 0} {a b : A} → ◌≡◌ {A = Option A} (Some a) (Some b) → a ≡ b
-same_some {A = A} {a = a} e = ap or_this e
-  where
-    or_this : Option A → A
-    or_this None = a
-    or_this (Some x) = x
 
 module _ (o : Offered) (d : Dealt) (c : List Function) (may : MayRun (world_of Clear o) d c) (twins : CodeHasTwins o c) where
   abbrev w : World
@@ -47,7 +38,7 @@ module _ (o : Offered) (d : Dealt) (c : List Function) (may : MayRun (world_of C
 
   pub ends : (fuel : ℕ) (p b : Place) → Stays o d c p → GoAlike p b → (x : RunStop × Stage) → exec w c fuel p.machine p.stage ≡ Some x → EndsAs fuel p x
   unfolding exec gates_of stand_after
-  ends zero p b st alike x e = absurd (none_some e)
+  ends zero p b st alike x e = absurd (none-some _ e)
   ends (suc fuel) p b st alike x e =
       by_run (step w c (next_step p.machine) p.machine p.stage) (none_left o d c may p st) (same_step o d c may p st) (after_step o d c may p st)
       (subst (TwinBy (in_the_clear o c) (when_told o c) GoAlike EndAlike p b) (same_step o d c may p st) (twins.law p b alike)) e (ends fuel)
@@ -81,7 +72,7 @@ module _ (o : Offered) (d : Dealt) (c : List Function) (may : MayRun (world_of C
           (r : Run Machine) → (stage_of r).answers ≡ [] → (in_the_clear o c).step p ≡ went p.machine r → After o d c p (went p.machine r)
           → TwinBy (in_the_clear o c) (when_told o c) GoAlike EndAlike p b (went p.machine r) → further r (exec w c fuel) ≡ Some x → Later
           → EndsAs (suc fuel) p x
-      by_run (Err y) none es final twin e later = over y.1 y.0 none es final twin (same_some e)
+      by_run (Err y) none es final twin e later = over y.1 y.0 none es final twin (same_Some _ _ e)
       by_run (Ok y) none es along twin e later =
           let q = place None y.0 y.1 in
           let rest = later q twin.0 along.stays twin.1 x (ap (exec w c fuel y.0) (untold y.1 none) ∙ e) in

@@ -1,5 +1,6 @@
 -- The notices of a run, turn by turn, tell the events of the run in the clear.
 use Rattle.std.proofs.Common.{◌≡◌, ℕ, zero, suc, List, [], ◌++◌, length, drop, Option, Some, None, Ok, Err, refl, sym, ap, ◌∙◌, subst, append_assoc, append-nil}
+use Rattle.std.proofs.lemmas.Option.{none-some, same_Some}
 use Rattle.sc_text.specs.declared.event.Event.{Event}
 use Rattle.proto_core.specs.declared.party.Number.{Number}
 use Rattle.proto_core.specs.declared.party.Number.TheVariants.{One}
@@ -27,7 +28,6 @@ use Rattle.code_runs.specs.Telling.{Tells}
 use Rattle.code_runs.specs.Telling as tells
 use Rattle.code_runs.proofs.Stays.{untold as untold_same, Stays, Along, Final, After, none_left, same_step, after_step}
 use Rattle.code_runs.proofs.Shown.{behind, left_behind, shown_last, values_behind, tapes_left}
-use Rattle.code_runs.proofs.Ends.{none_some, same_some}
 use Rattle.code_runs.proofs.Notices.{retold, none_made, step_told}
 
 module _ (o : Offered) (d : Dealt) (c : List Function) (tapes : Tapes) (words : (i : Number) → AreWords (tapes i))
@@ -115,7 +115,7 @@ module _ (o : Offered) (d : Dealt) (c : List Function) (tapes : Tapes) (words : 
       (fuel : ℕ) (p b : Place) → Stays o d c p → GoAlike p b → (values : Shares) (ts : Tapes) → values ≡ behind d tapes p.stage.gates
       → ts ≡ left_behind d tapes p.stage.gates → (x : RunStop × Stage) → exec w c fuel p.machine p.stage ≡ Some x → TellsFrom fuel p b values ts x
   unfolding exec
-  tellings zero p b st alike _ ts e f x h = absurd (none_some h)
+  tellings zero p b st alike _ ts e f x h = absurd (none-some _ h)
   tellings (suc fuel) p b st alike values ts e f x h =
       by_run (step w c (next_step p.machine) p.machine p.stage) (none_left o d c may p st) (after_step o d c may p st)
       (subst (TwinBy (in_the_clear o c) (when_told o c) GoAlike EndAlike p b) (same_step o d c may p st) (twins.law p b alike)) h (tellings fuel)
@@ -150,7 +150,7 @@ module _ (o : Offered) (d : Dealt) (c : List Function) (tapes : Tapes) (words : 
           (r : Run Machine) → (stage_of r).answers ≡ [] → After o d c p (went p.machine r)
           → TwinBy (in_the_clear o c) (when_told o c) GoAlike EndAlike p b (went p.machine r) → further r (exec w c fuel) ≡ Some x → Later
           → TellsFrom (suc fuel) p b values ts x
-      by_run (Err y) none final twin h later = over y.1 y.0 none final twin (same_some h)
+      by_run (Err y) none final twin h later = over y.1 y.0 none final twin (same_Some _ _ h)
       by_run (Ok y) none along twin h later =
           let q = place None y.0 y.1 in
           let a = twin.0 in

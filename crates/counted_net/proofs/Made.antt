@@ -29,7 +29,7 @@ use Rattle.counted_net.proofs.Walks.{all_walked, full_so, walked_more, walked_no
 -- ---- what a script sends
 
 -- no more than it sends in all
-sent_few : (moves : List script.Move) (got : Counts) (l : Link) → sent_by moves got l ≤ length (sends_on l moves)
+pub sent_few : (moves : List script.Move) (got : Counts) (l : Link) → sent_by moves got l ≤ length (sends_on l moves)
 sent_few [] got l = omega arith
 sent_few (Sends k shape ∷ moves) got l = by_test (same_link l k) (sent_few moves got l)
   where

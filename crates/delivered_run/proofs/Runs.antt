@@ -1,5 +1,6 @@
 -- Three miners in a net, whose messages are all delivered, have run as the report says.
 use Rattle.std.proofs.Common.{◌≡◌, ℕ, ◌-◌, false, List, [], ◌∷◌, Some, Ok, Err, refl, sym, ◌∙◌, ap, subst}
+use Rattle.std.proofs.lemmas.Option.{same_Some}
 use Rattle.sc_text.specs.declared.end.Ending.{Ending}
 use Rattle.sc_text.specs.declared.event.Event.{Event}
 use Rattle.proto_core.specs.declared.party.Number.{Number}
@@ -18,7 +19,6 @@ use Rattle.gate_laws.specs.Facts.{Dealt}
 use Rattle.driven_nodes.specs.Steps.{Stopped}
 use Rattle.code_places.specs.Places.{Place}
 use Rattle.code_runs.specs.Runs.{messages, scripts, shares}
-use Rattle.code_runs.proofs.Ends.{same_some}
 use Rattle.told_events.specs.Telling.{told_together}
 use Rattle.told_events.proofs.Together.{told_together_are_the_events}
 use Rattle.own_code.specs.OwnCode.{Ended as AtEnd, Reached}
@@ -136,7 +136,7 @@ module _ (o : Offered) (d : Dealt) (c : List Function) (budget : ℕ) (tapes : T
         let stops = run.turns.stops in
         record {
           events = h.events ∙ told_so;
-          stop = stops.stop ∙ ap Ended (same_some (sym stops.ended ∙ h.how run.turns.last stops_there));
+          stop = stops.stop ∙ ap Ended (same_Some _ _ (sym stops.ended ∙ h.how run.turns.last stops_there));
           cost = h.cost run.turns.last stops_there ∙ ap (λ n. n - run.turns.last.stage.left) budget_so ∙ stops.cost;
         }
 

@@ -8,8 +8,8 @@ ghost use Rattle.delivered_run.specs.Deliveries.{IsRunOf, delivery_seen};
 
 use crate::running::{DeliveredRun, Job, NetRun, run_dealt, run_refused};
 use counted_net::{Delivery, DeliveryErr};
-use input_share::{Dealt, deal};
-use program_run::{compile_program, lengths, see_entries, see_words};
+use input_share::{Dealt, deal, see_entries, see_words};
+use program_run::{compile_program, lengths};
 use std::alloc::Global;
 use tape_file::Tapes;
 use typed_tree::TypedProgram;

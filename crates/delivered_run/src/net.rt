@@ -12,13 +12,13 @@ use counted_net::{Delivery, DeliveryErr};
 use input_share::{Dealt, ShareFile};
 use link_schedule::{Net3, RunErr};
 use miner_core::{Miner, Task};
-use program_run::own_shares;
 use proto_core::Party;
 use std::alloc::{AllocError, Global};
 use tape_file::Tapes;
 use value_file::PublicPart;
 use value_steps::Lengths;
 use verified_code::Verified;
+use view_model::own_shares;
 
 /// What all miners of a run know: its code, the public part of the inputs, the lengths of the tapes of the dealer and of miners 1, 2 and
 /// 3, and the budget.
@@ -62,7 +62,7 @@ fn miner<P: Party>(
     ensures { IfOk result (λ m. m ≡ story_for (setting_world setting.now) (settled setting.now.code.now) setting.now.budget
         (record { dealt = private_shares file.now.entries; tape = tape.now })) }
 {
-    let dealt = own_shares(alloc, file)?;
+    let dealt = own_shares(alloc, file.entries())?;
     let tape = Vec::from_slice(alloc, tape)?;
     let task = task(alloc, setting)?;
     Miner::new(alloc, task, dealt, tape, setting.budget)

@@ -16,14 +16,14 @@ use Rattle.driven_nodes.specs.Driven.{Turn, of_turn, OfTurn, telling, shares_beh
 use Rattle.driven_nodes.specs.Driven.{driven, path, notices, Goes, driven_nodes}
 use Rattle.driven_nodes.proofs.Gates.{messages_then}
 
-silent_gates : (i : Number) (gates : List Gate) (values : List (List ℕ)) (tape : List ℕ) → AreSilent gates → IsSilent (gates_strand i gates values tape)
+pub silent_gates : (i : Number) (gates : List Gate) (values : List (List ℕ)) (tape : List ℕ) → AreSilent gates → IsSilent (gates_strand i gates values tape)
 silent_gates i [] values tape h = tt
 silent_gates i (Local n f ∷ gates) values tape h = silent_gates i gates (values ++ f i values ∷ []) tape h
 silent_gates i (Joined p n u v ∷ gates) values tape h =
     silent_then (p.strand n i (nth_value values u) (operand values v) (take (p.draws n i) tape)) _ (h.0 i _ _ _)
     (λ made. silent_gates i gates (values ++ made) (drop (p.draws n i) tape) h.1)
 
-silent_run : {A : Type 0} (s : Strand A) (x : Mail) → IsSilent s → told_in (run s x).acts ≡ []
+pub silent_run : {A : Type 0} (s : Strand A) (x : Mail) → IsSilent s → told_in (run s x).acts ≡ []
 silent_run (Ends a) x h = refl
 silent_run (Acts (Sent l m) s) x h = silent_run s x h
 silent_run (Acts (Opened w) s) x h = silent_run s x h

@@ -11,6 +11,7 @@ mod reading;
 mod shapes;
 mod share_file;
 mod values;
+mod words;
 mod writing;
 
 pub use add_up::shares_add_up;
@@ -21,4 +22,5 @@ pub use forms::dealt_files_are_writable;
 pub use reading::read_share;
 pub use shapes::{dealing_keeps_shapes, shape_part};
 pub use share_file::ShareFile;
+pub use words::{see_entries, see_value, see_words};
 pub use writing::write_share;

@@ -2,6 +2,7 @@
 use Rattle.std.proofs.Common.{◌≡◌, ◌≢◌, ℕ, ◌+◌, ◌<◌, ◌≤◌, Bool, true, false, if◌then◌else◌, List, [], ◌∷◌, ◌++◌, length}
 use Rattle.std.proofs.Common.{refl, sym, ◌∙◌, ap, subst, arith}
 use Rattle.std.specs.Prelude.{nat_lt, slice_get, Option, Some, None}
+use Rattle.std.proofs.lemmas.Option.{same_Some}
 use Rattle.proto_core.specs.declared.party.Number.{Number}
 use Rattle.proto_core.specs.declared.party.Number.TheVariants.{One, Two, Three}
 use Rattle.proto_core.specs.declared.link.Link.{Link}
@@ -25,12 +26,9 @@ just l m k = if same_link l k then m ∷ [] else []
 none_is_some : {A P : Type 0} (x : A) → None ≡ Some x → P
 none_is_some x e = cc
 
-same_some : {A : Type 0} (x y : A) → Some x ≡ Some y → x ≡ y
-same_some x y e = cc
-
 pub next_found : (xs ys : List (List ℕ)) (m : List ℕ) → slice_get ys (length xs) ≡ Some m → next_after xs ys ≡ m ∷ []
 next_found [] [] m e = none_is_some m e
-next_found [] (y ∷ ys) m e = ap (λ v. v ∷ []) (same_some y m e)
+next_found [] (y ∷ ys) m e = ap (λ v. v ∷ []) (same_Some y m e)
 next_found (x ∷ xs) [] m e = none_is_some m e
 next_found (x ∷ xs) (y ∷ ys) m e = next_found xs ys m e
 

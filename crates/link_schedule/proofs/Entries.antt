@@ -15,7 +15,8 @@ use Rattle.link_schedule.specs.declared.errors.RunErr.TheVariants as running
 use Rattle.link_schedule.specs.Net.{NetState, nodes_in, net_mail, net_posted, is_under_way, after}
 use Rattle.link_schedule.specs.Answers.{net_walked, RunAnswers, EndAnswers}
 use Rattle.link_schedule.proofs.Joining.{after_mail}
-use Rattle.link_schedule.proofs.Walks.{one_longer, entry_goes, entry_stops}
+use Rattle.protocol_model.proofs.Choosing.{one_longer}
+use Rattle.link_schedule.proofs.Walks.{entry_goes, entry_stops}
 
 pub after_none : (net : NetState) → after net [] ≡ net
 after_none net = ap (λ ls. record net { delivered = ls }) (append-none net.delivered)

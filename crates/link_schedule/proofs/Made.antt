@@ -12,7 +12,7 @@ use Rattle.protocol_model.specs.Along.{MovesAlong}
 use Rattle.protocol_model.specs.Network.{Counts, counts, one_more, all_links, those, is_full, chosen, entry_then, made_order, total}
 use Rattle.protocol_model.proofs.NetCounts.{posted-counted, counts-delivered, posted-begins, lt_from}
 use Rattle.link_schedule.specs.Orders.{full_links, IsMade}
-use Rattle.link_schedule.proofs.Walks.{in_those}
+use Rattle.protocol_model.proofs.Choosing.{in_those}
 
 begins_length : (xs ys : List (List ℕ)) → Begins xs ys → length xs ≤ length ys
 begins_length [] ys h = omega arith

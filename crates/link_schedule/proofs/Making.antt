@@ -1,28 +1,21 @@
 -- A net that makes an order of deliveries.
-use Rattle.std.proofs.Common.{◌≡◌, ℕ, zero, suc, ◌+◌, ◌<◌, ◌≤◌, ◌%◌, ◌^◌, true, false, List, [], ◌∷◌, ◌++◌, length}
+use Rattle.std.proofs.Common.{◌≡◌, ℕ, ◌+◌, ◌<◌, ◌≤◌, ◌%◌, ◌^◌, true, false, List, [], ◌∷◌, ◌++◌, length}
 use Rattle.std.proofs.Common.{length-append, refl, sym, ◌∙◌, ap, subst, arith}
 use Rattle.std.specs.Prelude.{Some, None}
 use Rattle.proto_core.specs.declared.link.Link.{Link}
 use Rattle.proto_core.specs.Net.{delivered}
-use Rattle.protocol_model.specs.Network.{all_links, link_at, chosen}
+use Rattle.protocol_model.specs.Network.{all_links, chosen}
 use Rattle.rand_chacha.specs.ChaCha.{ChaCha, key_of, word_at, next_word}
 use Rattle.tape_file.specs.Seeds.{stream_word}
 use Rattle.link_schedule.specs.Net.{NetState, nodes_in, net_mail, is_under_way, after}
 use Rattle.link_schedule.specs.Orders.{full_links, Makes}
 use Rattle.link_schedule.proofs.Joining.{after_mail}
 use Rattle.link_schedule.proofs.Entries.{after_none, after_twice}
-use Rattle.link_schedule.proofs.Walks.{MadeSoFar, made_none, made_more, made_all, in_those, one_longer}
+use Rattle.protocol_model.proofs.Choosing.{in_those, one_longer}
+use Rattle.protocol_model.proofs.MadeOrders.{none_chosen}
+use Rattle.link_schedule.proofs.Walks.{MadeSoFar, made_none, made_more, made_all}
 
 -- ---- choosing
-
-some_there : (ls : List Link) (k : ℕ) → k < length ls → link_at ls k ≡ None → ⊥
-some_there [] k h e = let f : ⊥ = omega arith in f
-some_there (l ∷ ls) zero h e = cc
-some_there (l ∷ ls) (suc k) h e = some_there ls k (omega arith) e
-
-pub none_chosen : (word : ℕ) (ls : List Link) → chosen word ls ≡ None → ls ≡ []
-none_chosen word [] e = refl
-none_chosen word (l ∷ ls) e = absurd (some_there (l ∷ ls) (word % length (l ∷ ls)) (omega arith) e)
 
 pub none_there : (word : ℕ) (ls : List Link) → length ls ≡ 0 → chosen word ls ≡ None
 none_there word [] h = refl

@@ -1,6 +1,7 @@
 -- For which link a miner waits, by what it answers.
 use Rattle.std.proofs.Common.{◌≡◌, ℕ, List, [], ◌∷◌, ◌⊎◌, inl, inr, refl, sym, ◌∙◌, ap, subst}
 use Rattle.std.specs.Prelude.{Option, Some, None, Result, Ok, Err}
+use Rattle.std.proofs.lemmas.Option.{same_Some}
 use Rattle.proto_core.specs.declared.party.Number.{Number}
 use Rattle.proto_core.specs.declared.link.Link.{Link}
 use Rattle.proto_core.specs.Strand.{Mail, Strand, Ends, Acts, Waits, run, IsEnded}
@@ -18,9 +19,6 @@ use Rattle.miner_core.specs.Story.{Story, mail_in, strand_in, node, HasEnded, Is
 
 none_is_some : {A P : Type 0} (x : A) → None ≡ Some x → P
 none_is_some x e = cc
-
-same_some : {A : Type 0} (x y : A) → Some x ≡ Some y → x ≡ y
-same_some x y e = cc
 
 same_awaits : (l k : Link) → Awaits l ≡ Awaits k → l ≡ k
 same_awaits l k e = cc
@@ -45,7 +43,7 @@ module _ {A : Type 0} where
   at_link : (s : Strand A) (unread : Mail) (l : Link) → waits_for s ≡ Some l → AtLink l (standing_with s unread)
   at_link (Ends a) unread l h = none_is_some l h
   at_link (Acts a s) unread l h = none_is_some l h
-  at_link (Waits k shape f) unread l h = subst (λ v. AtLink v (before_mail k shape (unread k))) (same_some k l h) (by_mail (unread k))
+  at_link (Waits k shape f) unread l h = subst (λ v. AtLink v (before_mail k shape (unread k))) (same_Some k l h) (by_mail (unread k))
     where
       by_fault : (fault : Option BadMessage) → AtLink k (at_fault k fault)
       by_fault None = inl refl

@@ -2,6 +2,7 @@
 use Rattle.std.proofs.Common.{◌≡◌, ℕ, ◌≤◌, List, ◌++◌, length, take, map, Option, Some, None, refl, ◌∙◌}
 use Rattle.std.proofs.Common.{arith}
 use Rattle.std.proofs.lemmas.List.{length-map, take-append-le, take-map}
+use Rattle.std.proofs.lemmas.Option.{none-some}
 use Rattle.typed_tree.specs.declared.kinds.Shape.{Shape}
 use Rattle.typed_tree.specs.declared.function.Returned.{Returned}
 use Rattle.typed_tree.specs.declared.function.Returned.TheVariants.{Nothing, Value}
@@ -16,7 +17,6 @@ use Rattle.code_model.specs.Statements.{defaults_behind, statements_kinds}
 use Rattle.code_model.specs.Expressions.{Numbers, given_at, result_at}
 use Rattle.code_model.specs.Programs.{given_kind, last_kinds, code_of_found}
 use Rattle.well_typed.specs.Expressions.{shape_given}
-use Rattle.lowered_code.proofs.Standing.{none_some}
 
 abbrev pub parameters_of : Option TypedFunctionTree → ℕ
 parameters_of None = 0
@@ -38,7 +38,7 @@ module _ (number : Numbers) (fs : List TypedFunctionTree) where
     value_given : (b : List BoundDomain) (g : Returned) (s : Shape) → shape_given g ≡ Some s
         → HasKind ks t (kind_of (is_private (given_domain b g)) (returned_shape g))
         → ResultFits ks (Some t) (given_kind b g)
-    value_given b Nothing s e h = absurd (none_some e)
+    value_given b Nothing s e h = absurd (none-some _ e)
     value_given b (Value v) s e h = (slot_kind b v, refl, h)
 
     given_or_not : (b : List BoundDomain) (g : Returned) → HasKind ks t (kind_of (is_private (given_domain b g)) (returned_shape g))
@@ -52,7 +52,7 @@ module _ (number : Numbers) (fs : List TypedFunctionTree) where
     -- a call that gives a value
     pub result_fits : (o : Option TypedFunctionTree) (ds : List BoundDomain) (f : TypedFunctionTree) (s : Shape) → o ≡ Some f → shape_given f.given ≡ Some s
         → ValueStands o ds → ResultFits ks (Some t) (code_of_found number fs (bound_at o ds) o).gives
-    result_fits None ds f s e g h = absurd (none_some e)
+    result_fits None ds f s e g h = absurd (none-some _ e)
     result_fits (Some f') ds f s e g h = value_given (bound_at (Some f') ds) f'.given s (same f' f e ∙ g) h
       where
         same : (x y : TypedFunctionTree) → Some x ≡ Some y → shape_given x.given ≡ shape_given y.given

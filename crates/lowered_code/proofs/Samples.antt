@@ -1,6 +1,7 @@
 -- A program with a template that main calls with a private value: all premises of the laws are there, and its raw code is computed.
 use Rattle.std.proofs.Common.{◌≡◌, ℕ, zero, suc, ◌≤◌, length, List, [], ◌∷◌, Some, None, true, false, refl, sym, subst, arith, inl, inr}
 use Rattle.std.specs.Prelude.{codes, slice_get}
+use Rattle.std.proofs.lemmas.Option.{none-some, same_Some}
 use Rattle.sc_text.specs.Lists.{Among}
 use Rattle.secrec_ast.specs.declared.expression.DataType.TheVariants.{Uint64}
 use Rattle.secrec_ast.specs.declared.expression.DataType.TheVariants as datatype
@@ -27,7 +28,6 @@ use Rattle.code_model.specs.Fit.{the_main}
 use Rattle.code_model.specs.Programs.{code_of}
 use Rattle.well_typed.specs.Programs.{IsWellTypedInstance, IsWellTyped}
 use Rattle.lowered_code.specs.Laws.{HasNumberedRegisters, raw_code_of_program}
-use Rattle.lowered_code.proofs.Standing.{none_some, same_some}
 use Rattle.lowered_code.proofs.Verified.{well_typed_verified}
 
 -- template <domain D> D uint64 f(D uint64 x) { return x + 1; }
@@ -168,9 +168,9 @@ few_registers : HasNumberedRegisters (code_of program instances)
 few_registers f there = go there.0 there.1
   where
     go : (g : ℕ) → slice_get (code_of program instances) g ≡ Some f → length f.kinds ≤ 65535
-    go zero e = subst (λ (h : Function). length h.kinds ≤ 65535) (same_some _ f e) (omega arith)
-    go (suc zero) e = subst (λ (h : Function). length h.kinds ≤ 65535) (same_some _ f e) (omega arith)
-    go (suc (suc g)) e = absurd (none_some e)
+    go zero e = subst (λ (h : Function). length h.kinds ≤ 65535) (same_Some _ f e) (omega arith)
+    go (suc zero) e = subst (λ (h : Function). length h.kinds ≤ 65535) (same_Some _ f e) (omega arith)
+    go (suc (suc g)) e = absurd (none-some _ e)
 
 -- so it is verified, and settles to the code that means what the program does
 sample_verified : IsVerified (raw_code_of_program program instances) × (settled (raw_code_of_program program instances) ≡ code_of program instances)

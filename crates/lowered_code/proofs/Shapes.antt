@@ -1,5 +1,6 @@
 -- The kind of the value of a well-typed expression.
 use Rattle.std.proofs.Common.{◌≡◌, ℕ, List, Some, Bool, true, false, not, ◌&&◌, ◌||◌, refl, sym, ap, ◌∙◌, subst}
+use Rattle.std.proofs.lemmas.Option.{none-some, same_Some}
 use Rattle.typed_tree.specs.declared.kinds.Shape.{Shape}
 use Rattle.typed_tree.specs.declared.operators.Cast.{Cast}
 use Rattle.typed_tree.specs.declared.operators.Cast.TheVariants.{WordToWord, WordToBool, BoolToWord, BoolToBool}
@@ -29,7 +30,7 @@ use Rattle.code_model.specs.Expressions.{lacks, mixes}
 use Rattle.raw_steps.specs.Right.{operand_element}
 use Rattle.well_typed.specs.Kinds.{GoesTo, operand_of, MayOperate, left_is_array, right_is_array, cast_from, cast_to}
 use Rattle.well_typed.specs.Expressions.{Gives, shape_given}
-use Rattle.lowered_code.proofs.Standing.{clash, none_some, same_some, Stands, stands_first}
+use Rattle.lowered_code.proofs.Standing.{clash, Stands, stands_first}
 
 -- ---- SHAPES
 
@@ -46,25 +47,25 @@ result_is op ScalarAndArray = refl
 result_is op Arrays = refl
 
 returned_is : (g : Returned) (s : Shape) → shape_given g ≡ Some s → returned_shape g ≡ s
-returned_is Nothing s e = absurd (none_some e)
-returned_is (Value v) s e = same_some v.shape s e
+returned_is Nothing s e = absurd (none-some _ e)
+returned_is (Value v) s e = same_Some v.shape s e
 
 module _ (here : Setting) where
   pub shape_is : (e : TypedTree) (s : Shape) → Gives here e (Some s) → shape_in here e ≡ s
-  shape_is (word_node n) s h = sym (same_some s _ h.1)
-  shape_is (truth_node b) s h = sym (same_some s _ h)
-  shape_is (slot_node k) s h = ap shape_at h.1 ∙ sym (same_some s h.0.shape h.2)
+  shape_is (word_node n) s h = sym (same_Some s _ h.1)
+  shape_is (truth_node b) s h = sym (same_Some s _ h)
+  shape_is (slot_node k) s h = ap shape_at h.1 ∙ sym (same_Some s h.0.shape h.2)
   shape_is (call_node line k es) s h = ap called_shape h.1 ∙ returned_is h.0.given s (sym h.3)
-  shape_is (size_node e) s h = sym (same_some s _ h.2)
-  shape_is (cat_node line a b) s h = shape_is a _ h.1 ∙ sym (same_some s _ h.4)
-  shape_is (sum_node e) s h = sym (same_some s _ h.1)
-  shape_is (bits_node line e) s h = sym (same_some s _ h.2)
-  shape_is (element_node line a i) s h = ap (λ (z : Shape). shape_of z.element false) (shape_is a _ h.1) ∙ sym (same_some s _ h.4)
-  shape_is (not_node e) s h = shape_is e _ h.1 ∙ sym (same_some s _ h.2)
-  shape_is (cast_node c e) s h = ap (λ (z : Shape). cast_shape c z.array) (shape_is e _ h.1) ∙ cast_is c h.0 ∙ sym (same_some s _ h.2)
-  shape_is (binary_node line op ds a b) s h = result_is op ds ∙ sym (same_some s _ h.4)
-  shape_is (cut_node c a b) s h = sym (same_some s _ h.3)
-  shape_is (declassify_node e) s h = shape_is e h.0 h.1 ∙ sym (same_some s _ h.2)
+  shape_is (size_node e) s h = sym (same_Some s _ h.2)
+  shape_is (cat_node line a b) s h = shape_is a _ h.1 ∙ sym (same_Some s _ h.4)
+  shape_is (sum_node e) s h = sym (same_Some s _ h.1)
+  shape_is (bits_node line e) s h = sym (same_Some s _ h.2)
+  shape_is (element_node line a i) s h = ap (λ (z : Shape). shape_of z.element false) (shape_is a _ h.1) ∙ sym (same_Some s _ h.4)
+  shape_is (not_node e) s h = shape_is e _ h.1 ∙ sym (same_Some s _ h.2)
+  shape_is (cast_node c e) s h = ap (λ (z : Shape). cast_shape c z.array) (shape_is e _ h.1) ∙ cast_is c h.0 ∙ sym (same_Some s _ h.2)
+  shape_is (binary_node line op ds a b) s h = result_is op ds ∙ sym (same_Some s _ h.4)
+  shape_is (cut_node c a b) s h = sym (same_Some s _ h.3)
+  shape_is (declassify_node e) s h = shape_is e h.0 h.1 ∙ sym (same_Some s _ h.2)
 
   module _ {ks : List Kind} where
     -- the register of its value

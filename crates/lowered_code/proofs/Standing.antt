@@ -1,8 +1,9 @@
 -- Kinds that stand in the list of a function's kinds from a register on, and code all of whose steps are right.
-use Rattle.std.proofs.Common.{◌≡◌, ℕ, zero, suc, ◌+◌, List, [], ◌∷◌, ◌++◌, length, Option, Some, None, Bool, true, false, refl, ap, ◌∙◌, subst}
+use Rattle.std.proofs.Common.{◌≡◌, ℕ, zero, suc, ◌+◌, List, [], ◌∷◌, ◌++◌, length, Option, Some, Bool, true, false, refl, ap, ◌∙◌, subst}
 use Rattle.std.proofs.Common.{arith}
 use Rattle.std.proofs.Common.{sym, inl, inr}
 use Rattle.std.specs.Prelude.{slice_get}
+use Rattle.std.proofs.lemmas.Option.{none-some, same_Some}
 use Rattle.sc_text.specs.Lists.{Among}
 use Rattle.secrec_ast.specs.declared.expression.DataType.{DataType}
 use Rattle.typed_tree.specs.declared.kinds.Shape.{Shape}
@@ -18,14 +19,8 @@ use Rattle.raw_steps.specs.Right.{IsRight}
 pub clash : false ≡ true → ⊥
 clash h = cc
 
-pub none_some : {A : Type 0} {a : A} → ◌≡◌ {A = Option A} None (Some a) → ⊥
-none_some e = cc
-
-pub same_some : {A : Type 0} (a b : A) → ◌≡◌ {A = Option A} (Some a) (Some b) → a ≡ b
-same_some a b e = cc
-
 pub front : {A : Type 0} (a b : List A) (k : ℕ) (x : A) → slice_get a k ≡ Some x → slice_get (a ++ b) k ≡ Some x
-front [] b k x e = absurd (none_some e)
+front [] b k x e = absurd (none-some _ e)
 front (y ∷ a) b zero x e = e
 front (y ∷ a) b (suc k) x e = front a b k x e
 
@@ -35,8 +30,8 @@ behind (y ∷ a) b k x e =
     let n : length (y ∷ a) + k ≡ suc (length a + k) = omega arith in ap (slice_get (y ∷ (a ++ b))) n ∙ behind a b k x e
 
 pub found_among : {A : Type 0} (xs : List A) (k : ℕ) (x : A) → slice_get xs k ≡ Some x → Among x xs
-found_among [] k x e = absurd (none_some e)
-found_among (y ∷ ys) zero x e = inl (sym (same_some y x e))
+found_among [] k x e = absurd (none-some _ e)
+found_among (y ∷ ys) zero x e = inl (sym (same_Some y x e))
 found_among (y ∷ ys) (suc k) x e = inr (found_among ys k x e)
 
 -- ---- KINDS
@@ -81,8 +76,8 @@ module _ (c : List Function) (ks : List Kind) (gives : Option Kind) (count : ℕ
   either_right false a b h k = k refl
 
   pub right_at : (code : List Step) → AllRight code → (k : ℕ) (i : Step) → slice_get code k ≡ Some i → IsRight c ks gives count i
-  right_at [] h k i e = absurd (none_some e)
-  right_at (j ∷ code) h zero i e = subst (IsRight c ks gives count) (same_some j i e) h.0
+  right_at [] h k i e = absurd (none-some _ e)
+  right_at (j ∷ code) h zero i e = subst (IsRight c ks gives count) (same_Some j i e) h.0
   right_at (j ∷ code) h (suc k) i e = right_at code h.1 k i e
 
   -- ---- CLASSIFICATION

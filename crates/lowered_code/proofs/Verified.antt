@@ -4,6 +4,7 @@ use Rattle.std.proofs.Common.{None, Bool, true, false, cond, refl, sym, ap, ◌�
 use Rattle.std.proofs.Common.{arith, length-append, ◌⊎◌, inl, inr}
 use Rattle.std.specs.Prelude.{slice_get}
 use Rattle.std.proofs.lemmas.List.{length-map}
+use Rattle.std.proofs.lemmas.Option.{none-some, same_Some}
 use Rattle.sc_text.specs.Lists.{Among}
 use Rattle.secrec_ast.specs.declared.expression.DataType.{DataType}
 use Rattle.secrec_ast.specs.declared.expression.DataType.TheVariants.{Uint64}
@@ -43,7 +44,7 @@ use Rattle.well_typed.specs.Statements.{AreWellTypedStatements}
 use Rattle.well_typed.specs.Programs.{IsWellTypedInstance, IsWellTyped}
 use Rattle.lowered_code.specs.Laws.{HasNumberedRegisters, IsVerifiedWhereWellTyped, RunsWhereAccepted}
 use Rattle.lowered_code.proofs.Fits.{well_typed_fits, accepted_means}
-use Rattle.lowered_code.proofs.Standing.{clash, none_some, same_some, front, found_among, Stands, stands_itself, stands_left, stands_right, stands_first}
+use Rattle.lowered_code.proofs.Standing.{clash, front, found_among, Stands, stands_itself, stands_left, stands_right, stands_first}
 use Rattle.lowered_code.proofs.Standing.{both_right, right_at}
 use Rattle.lowered_code.proofs.Calling.{parameters_of}
 use Rattle.lowered_code.proofs.Limits.{within_small}
@@ -71,8 +72,8 @@ place_found {A = A} f i (j ∷ js) h = go (same_instance i j) refl h (place_foun
 last_returns : (code : List Step) (last : Step) → is_return last ≡ true → (place : ℕ) (i : Step) → slice_get (code ++ last ∷ []) place ≡ Some i
     → is_return i ≡ false
     → place + 1 < length (code ++ last ∷ [])
-last_returns [] last r zero i e f = absurd (clash (sym f ∙ sym (ap is_return (same_some last i e)) ∙ r))
-last_returns [] last r (suc k) i e f = absurd (none_some e)
+last_returns [] last r zero i e f = absurd (clash (sym f ∙ sym (ap is_return (same_Some last i e)) ∙ r))
+last_returns [] last r (suc k) i e f = absurd (none-some _ e)
 last_returns (j ∷ code) last r zero i e f = let n = length-append code (last ∷ []) in omega (arith, n)
 last_returns (j ∷ code) last r (suc k) i e f = let n = last_returns code last r k i e f in omega (arith, n)
 
@@ -194,7 +195,7 @@ module _ (p : TypedProgramTree) (is : List Instance) (typed : IsWellTyped p) (re
       let w = well i m in
       let f = w.called in
       let x = fits.instances i m in
-      let same : x.called ≡ f = same_some x.called f (sym x.there ∙ w.there) in
+      let same : x.called ≡ f = same_Some x.called f (sym x.there ∙ w.there) in
       let is_code : instance_code fs number i ≡ function_code number fs f i.binding = ap (code_of_found number fs i.binding) w.there in
       let fit = subst (λ z. AreFitStatements (IsKnownIn is) (place_in fs z i.binding) false z.body) same x.fit.body in
       let at : IsIn code (function_code number fs f i.binding) = subst (IsIn code) is_code there in

@@ -13,7 +13,7 @@ place_is i is =
     is_position_or_len (place_of i) (same_instance i) refl
     (λ j js. let one : place_of i js + 1 ≡ 1 + place_of i js = omega arith in ap (cond (same_instance i j) 0) one) is
 
-told : (n m k : ℕ) → cond (nat_lt n m) (Some n) None ≡ Some k → k ≡ n
+pub told : (n m k : ℕ) → cond (nat_lt n m) (Some n) None ≡ Some k → k ≡ n
 told n m k = go (nat_lt n m)
   where
     go : (b : Bool) → cond b (Some n) None ≡ Some k → k ≡ n
@@ -23,7 +23,7 @@ told n m k = go (nat_lt n m)
 pub number_found : (i : Instance) (is : List Instance) (k : ℕ) → number_in is i ≡ Some k → k ≡ place_of i is
 number_found i is k e = told (position_or_len (same_instance i) is) (length is) k e ∙ sym (place_is i is)
 
-missed : (n m : ℕ) → n ≤ m → cond (nat_lt n m) (Some n) None ≡ None → m ≡ n
+pub missed : (n m : ℕ) → n ≤ m → cond (nat_lt n m) (Some n) None ≡ None → m ≡ n
 missed n m l e = go (nat_lt n m) refl e
   where
     go : (b : Bool) → nat_lt n m ≡ b → cond b (Some n) None ≡ None → m ≡ n

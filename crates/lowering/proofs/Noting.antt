@@ -1,13 +1,13 @@
 -- Names as they are noted, and where they stand.
-use Rattle.std.proofs.Common.{◌≡◌, ℕ, ◌+◌, ◌≤◌, List, [], ◌∷◌, ◌++◌, length, Some, None, Bool, true, false, cond, refl, sym, ap, ap₂, ◌∙◌, arith}
-use Rattle.std.specs.Prelude.{map, nat_lt, not, ◌||◌}
+use Rattle.std.proofs.Common.{◌≡◌, ℕ, ◌+◌, List, [], ◌∷◌, ◌++◌, length, Some, None, Bool, true, false, cond, refl, sym, ap, ap₂, ◌∙◌, arith}
+use Rattle.std.specs.Prelude.{map, not, ◌||◌}
 use Rattle.std.specs.List.{list_any, position, position_or_len}
 use Rattle.std.specs.Str.{bytes_eq}
 use Rattle.std.proofs.lemmas.List.{map_push}
 use Rattle.std.proofs.lemmas.List.Recursion.{is_position_or_len}
 use Rattle.std.proofs.lemmas.List.Sums.{prefix_len-le-length}
-use Rattle.std.proofs.lemmas.Bool.Decides.{nat_tests}
 use Rattle.raw_steps.specs.Instructions.{naming, naming_all, place_among}
+use Rattle.lowered_expressions.proofs.Numbers.{told, missed}
 
 any_map : {X Y : Type 0} (test : Y → Bool) (f : X → Y) (xs : List X) → list_any test (map f xs) ≡ list_any (λ x. test (f x)) xs
 any_map test f [] = refl
@@ -19,20 +19,6 @@ place_is : {X : Type 0} (text : List ℕ) (f : X → List ℕ) (ks : List X) →
 place_is {X} text f ks =
     is_position_or_len (λ (xs : List X). place_among text (map f xs)) (λ k. bytes_eq text (f k)) refl
     (λ x xs. let one : place_among text (map f xs) + 1 ≡ 1 + place_among text (map f xs) = omega arith in ap (cond (bytes_eq text (f x)) 0) one) ks
-
-told : (n m k : ℕ) → cond (nat_lt n m) (Some n) None ≡ Some k → k ≡ n
-told n m k = go (nat_lt n m)
-  where
-    go : (b : Bool) → cond b (Some n) None ≡ Some k → k ≡ n
-    go true e = cc
-    go false e = cc
-
-missed : (n m : ℕ) → n ≤ m → cond (nat_lt n m) (Some n) None ≡ None → m ≡ n
-missed n m l e = go (nat_lt n m) refl e
-  where
-    go : (b : Bool) → nat_lt n m ≡ b → cond b (Some n) None ≡ None → m ≡ n
-    go true same f = cc
-    go false same f = let past : m ≤ n = grind (arith, nat_tests) in omega arith
 
 pub place_found : {X : Type 0} (text : List ℕ) (f : X → List ℕ) (ks : List X) (n : ℕ) → position (λ k. bytes_eq text (f k)) ks ≡ Some n
     → n ≡ place_among text (map f ks)

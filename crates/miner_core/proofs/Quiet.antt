@@ -1,17 +1,18 @@
 -- A miner's gates tell nothing, whatever comes.
-use Rattle.std.proofs.Common.{◌≡◌, ℕ, Bool, true, false, if◌then◌else◌, List, [], ◌∷◌, ◌++◌, take, drop, refl, sym, ◌∙◌, ap, subst, append_assoc}
+use Rattle.std.proofs.Common.{◌≡◌, ℕ, Bool, true, false, if◌then◌else◌, List, [], ◌∷◌, ◌++◌, drop, refl, sym, ◌∙◌, ap, subst, append_assoc}
 use Rattle.proto_core.specs.declared.party.Number.{Number}
-use Rattle.proto_core.specs.Strand.{Sent, Opened, Told, accepts, Mail, Strand, Ends, Acts, Waits, taken, run, then_do, told_in}
+use Rattle.proto_core.specs.Strand.{Mail, Strand, Ends, run, then_do, told_in}
 use Rattle.proto_core.specs.Script.{IsSilent}
 use Rattle.proto_core.specs.Net.{added, nothing}
 use Rattle.proto_core.proofs.Beginnings.{append-none}
-use Rattle.proto_core.proofs.Strands.{run-none, run-took, run-refused, run-added, run-then_do, told-append}
-use Rattle.protocol_model.specs.Gates.{Joined, Local, AreSilent, nth_value, operand, sizes_of, gates_strand}
+use Rattle.proto_core.proofs.Strands.{run-added, run-then_do, told-append}
+use Rattle.protocol_model.specs.Gates.{sizes_of, gates_strand}
 use Rattle.protocol_model.specs.Gates as model
 use Rattle.protocol_model.proofs.Scripts.{silent_then}
 use Rattle.gates.specs.declared.gate.Gate.{Gate}
 use Rattle.gates.specs.Clear.{Values}
 use Rattle.shared_gates.proofs.Silence.{gates-silent}
+use Rattle.driven_nodes.proofs.Telling.{silent_gates, silent_run}
 use Rattle.block_steps.specs.declared.links.Links.{Links}
 use Rattle.block_steps.specs.Outcomes.{outcome_of, mail_left, IsStill}
 use Rattle.block_steps.proofs.Behind.{still-is}
@@ -23,13 +24,6 @@ use Rattle.gate_node.specs.declared.stand.Stand.TheVariants.{Through, Waits as A
 use Rattle.miner_core.specs.Engines.{IsQuiet}
 
 -- ---- own gates
-
-silent_gates : (i : Number) (gates : List model.Gate) (values : Values) (tape : List ℕ) → AreSilent gates → IsSilent (gates_strand i gates values tape)
-silent_gates i [] values tape h = tt
-silent_gates i (Local n f ∷ gates) values tape h = silent_gates i gates (values ++ f i values ∷ []) tape h
-silent_gates i (Joined p n u v ∷ gates) values tape h =
-    silent_then (p.strand n i (nth_value values u) (operand values v) (take (p.draws n i) tape)) _ (h.0 i _ _ _)
-    (λ made. silent_gates i gates (values ++ made) (drop (p.draws n i) tape) h.1)
 
 pub silent_own : (i : Number) (dealt : Values) (gates : List Gate) (values : Values) (tape : List ℕ) → IsSilent (own_gates i dealt gates values tape)
 silent_own i dealt [] values tape = tt
@@ -49,21 +43,6 @@ silent_own i dealt (gate ∷ gates) values tape =
         silent_then first _
         (silent_gates i (own_gate i dealt values gate ∷ []) values tape (gates-silent (λ k. dealt) (sizes_of dealt) (sizes_of values) (gate ∷ []))) more
     by_test false more = tt
-
-silent_run : {A : Type 0} (s : Strand A) (x : Mail) → IsSilent s → told_in (run s x).acts ≡ []
-silent_run (Ends a) x h = refl
-silent_run (Acts (Sent l m) s) x h = silent_run s x h
-silent_run (Acts (Opened w) s) x h = silent_run s x h
-silent_run (Acts (Told t) s) x h = absurd h
-silent_run (Waits l n k) x h = by_mail (x l) refl (λ m. silent_run (k m) (taken l x) (h m))
-  where
-    by_mail : (xs : List (List ℕ)) → x l ≡ xs → ((m : List ℕ) → told_in (run (k m) (taken l x)).acts ≡ []) → told_in (run (Waits l n k) x).acts ≡ []
-    by_mail [] e more = ap (λ r. told_in r.acts) (run-none l n k x e)
-    by_mail (m ∷ ms) e more = by_shape (accepts n m) refl
-      where
-        by_shape : (b : Bool) → accepts n m ≡ b → told_in (run (Waits l n k) x).acts ≡ []
-        by_shape true o = ap (λ r. told_in r.acts) (run-took l n k x m ms e o) ∙ more m
-        by_shape false o = ap (λ r. told_in r.acts) (run-refused l n k x m ms e o)
 
 -- ---- with these messages, and more
 

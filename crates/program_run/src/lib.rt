@@ -4,13 +4,9 @@
 #![tactic(auto)]
 
 mod compiling;
-mod dealt;
 mod laws;
 mod running;
-mod words;
 
 pub use compiling::compile_program;
-pub use dealt::own_shares;
 pub use laws::accepted_programs_run_on_shares;
 pub use running::{RunReport, lengths, undealt};
-pub use words::{see_entries, see_words};

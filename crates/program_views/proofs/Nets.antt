@@ -142,7 +142,7 @@ module _ (dealt others : Number → Values) (sizes : List ℕ) (gates : List Gat
   mixed Two = others Two
   mixed Three = others Three
 
-  same_scripts : (k : Number) → gates_script k (run_gates dealt sizes [] gates) ≡ gates_script k (run_gates others sizes [] gates)
+  pub same_scripts : (k : Number) → gates_script k (run_gates dealt sizes [] gates) ≡ gates_script k (run_gates others sizes [] gates)
   same_scripts k =
       (own-same One dealt mixed refl sizes [] gates).scripts k ∙ (own-same Two mixed others refl sizes [] gates).scripts k
 

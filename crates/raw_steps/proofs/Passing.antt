@@ -7,7 +7,7 @@ use Rattle.std.specs.List.{list_all}
 use Rattle.std.proofs.lemmas.Bool.{lt-ltb, le-leb}
 use Rattle.std.proofs.lemmas.Bool.Decides.{Decides-eqb}
 use Rattle.std.proofs.lemmas.List.{length-map, length-take-le}
-use Rattle.std.proofs.lemmas.Option.{slice_get_within}
+use Rattle.std.proofs.lemmas.Option.{slice_get_within, none-some, same_Some}
 use Rattle.sc_text.specs.Lists.{Among}
 use Rattle.secrec_ast.specs.declared.expression.DataType.{DataType}
 use Rattle.secrec_ast.specs.declared.expression.DataType.TheVariants.{Uint64}
@@ -33,20 +33,14 @@ or_right : (a b : Bool) → b ≡ true → (a || b) ≡ true
 or_right true b e = refl
 or_right false b e = e
 
-none_some : {A : Type 0} {a : A} → ◌≡◌ {A = Option A} None (Some a) → ⊥
-none_some e = cc
-
-same_some : {A : Type 0} (a b : A) → ◌≡◌ {A = Option A} (Some a) (Some b) → a ≡ b
-same_some a b e = cc
-
 pub mapped : {A B : Type 0} (g : A → B) (xs : List A) (k : ℕ) (x : A) → slice_get xs k ≡ Some x → slice_get (map g xs) k ≡ Some (g x)
-mapped g [] k x e = absurd (none_some e)
-mapped g (y ∷ ys) zero x e = ap (λ z. Some (g z)) (same_some y x e)
+mapped g [] k x e = absurd (none-some _ e)
+mapped g (y ∷ ys) zero x e = ap (λ z. Some (g z)) (same_Some y x e)
 mapped g (y ∷ ys) (suc k) x e = mapped g ys k x e
 
 pub unmapped : {A B : Type 0} (g : A → B) (xs : List A) (k : ℕ) (y : B) → slice_get (map g xs) k ≡ Some y → (x : A) × (slice_get xs k ≡ Some x) × (g x ≡ y)
-unmapped g [] k y e = absurd (none_some e)
-unmapped g (x ∷ xs) zero y e = (x, refl, same_some (g x) y e)
+unmapped g [] k y e = absurd (none-some _ e)
+unmapped g (x ∷ xs) zero y e = (x, refl, same_Some (g x) y e)
 unmapped g (x ∷ xs) (suc k) y e = unmapped g xs k y e
 
 -- ---- ARGUMENTS AND RESULTS

@@ -16,7 +16,7 @@ use crate::programs::typed_of_text;
 use command_frame::{Plan, Stop};
 use command_words::LoadWords;
 use delivered_run::{DeliveredRun, Delivery, DeliveryErr, run_delivered};
-use program_run::{see_entries, see_words};
+use input_share::{see_entries, see_words};
 use sc_text::run_text;
 use std::alloc::{AllocError, Global};
 use workload::{Workload, make};

@@ -1,6 +1,7 @@
 -- The code of a tree says what the tree says: each step's word, line and name is one of the tree's, or a truth value, or no line.
 use Rattle.std.proofs.Common.{◌≡◌, ℕ, zero, suc, ◌+◌, List, [], ◌∷◌, ◌++◌, length, Option, Some, None, Bool, true, false, map, refl, sym, subst, inl, inr}
 use Rattle.std.specs.Prelude.{slice_get, IsTrue}
+use Rattle.std.proofs.lemmas.Option.{none-some, same_Some}
 use Rattle.sc_text.specs.Lists.{Among}
 use Rattle.secrec_ast.specs.declared.expression.DataType.TheVariants.{Uint64}
 use Rattle.secrec_ast.specs.declared.expression.DataType.TheVariants as datatype
@@ -39,20 +40,14 @@ use Rattle.code_model.specs.Programs.{last_step, body_end, function_code, number
 use Rattle.said_code.specs.Says.{TreeSays, TreesSay, StatementSays, StatementsSay, InstancesSay, StepSays}
 use Rattle.said_code.specs.Laws.{SaysWhatTreesSay}
 
-none_some : {A : Type 0} {a : A} → ◌≡◌ {A = Option A} None (Some a) → ⊥
-none_some e = cc
-
-same_some : {A : Type 0} (a b : A) → ◌≡◌ {A = Option A} (Some a) (Some b) → a ≡ b
-same_some a b e = cc
-
 unmapped : {A B : Type 0} (g : A → B) (xs : List A) (k : ℕ) (y : B) → slice_get (map g xs) k ≡ Some y → (x : A) × (slice_get xs k ≡ Some x) × (g x ≡ y)
-unmapped g [] k y e = absurd (none_some e)
-unmapped g (x ∷ xs) zero y e = (x, refl, same_some (g x) y e)
+unmapped g [] k y e = absurd (none-some _ e)
+unmapped g (x ∷ xs) zero y e = (x, refl, same_Some (g x) y e)
 unmapped g (x ∷ xs) (suc k) y e = unmapped g xs k y e
 
 among_at : {A : Type 0} (xs : List A) (k : ℕ) (x : A) → slice_get xs k ≡ Some x → Among x xs
-among_at [] k x e = absurd (none_some e)
-among_at (y ∷ ys) zero x e = inl (sym (same_some y x e))
+among_at [] k x e = absurd (none-some _ e)
+among_at (y ∷ ys) zero x e = inl (sym (same_Some y x e))
 among_at (y ∷ ys) (suc k) x e = inr (among_at ys k x e)
 
 module _ (is_word is_line : ℕ → Bool) (is_text : List ℕ → Bool) where
@@ -66,7 +61,7 @@ module _ (is_word is_line : ℕ → Bool) (is_text : List ℕ → Bool) where
   Each code = (k : ℕ) (i : Step) → slice_get code k ≡ Some i → Says i
 
   nothing : AllSay []
-  nothing = record { each = λ k i e. absurd (none_some e) }
+  nothing = record { each = λ k i e. absurd (none-some _ e) }
 
   same_step : (a b : Step) → ◌≡◌ {A = Option Step} (Some a) (Some b) → Says a → Says b
   same_step a b e h = let same : a ≡ b = cc in subst Says same h

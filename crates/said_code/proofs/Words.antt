@@ -1,6 +1,7 @@
 -- The words that stand in a well-typed tree are below 2^64.
 use Rattle.std.proofs.Common.{◌≡◌, ◌^◌, List, [], ◌∷◌, Option, Some, None, Bool, refl, sym, ◌∙◌, subst}
 use Rattle.std.proofs.lemmas.Bool.{lt-ltb}
+use Rattle.std.proofs.lemmas.Option.{same_Some}
 use Rattle.typed_tree.specs.declared.kinds.Shape.{Shape}
 use Rattle.typed_tree.specs.declared.kinds.Slot.{Slot}
 use Rattle.typed_tree.specs.declared.function.Returned.{Returned}
@@ -81,11 +82,8 @@ module _ (here : Setting) where
     statements_say g inside Statements'.none h = tt
     statements_say g inside (Statements'.also c cs) h = (statement_says g inside c h.0, statements_say g inside cs h.1)
 
-same_some : {A : Type 0} (a b : A) → ◌≡◌ {A = Option A} (Some a) (Some b) → a ≡ b
-same_some a b e = cc
-
 pub well_typed_words : (p : TypedProgramTree) (is : List Instance) → WellTypedSaysWords p is
 well_typed_words p is typed reached i m f there =
     let w = typed.instances i (reached.reached i m) in
-    subst (λ (z : TypedFunctionTree). StatementsSay is_word any_number any_text z.body) (same_some w.called f (sym w.there ∙ there))
+    subst (λ (z : TypedFunctionTree). StatementsSay is_word any_number any_text z.body) (same_Some w.called f (sym w.there ∙ there))
     (statements_say (setting_of p i w.called) w.called.given _ w.called.body w.body)

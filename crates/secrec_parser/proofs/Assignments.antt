@@ -3,6 +3,7 @@ use Rattle.std.proofs.Common.{◌≡◌, ℕ, suc, ◌+◌, ◌-◌, ◌≤◌, 
 use Rattle.std.proofs.Common.{Bool, true, false, cond, Option, Some, None, arith}
 use Rattle.std.specs.Prelude.{nat_lt, max}
 use Rattle.std.proofs.lemmas.Bool.{ltb-true, ltb-false}
+use Rattle.std.proofs.lemmas.Option.{none-some}
 use Rattle.sc_text.specs.declared.span.Span.{Span}
 use Rattle.secrec_lexer.specs.declared.sign.Sign.{Sign}
 use Rattle.secrec_lexer.specs.declared.sign.Sign.TheVariants as signs
@@ -32,7 +33,6 @@ use Rattle.secrec_parser.specs.Grammar.{identifier, bracketed, optional, compoun
 use Rattle.secrec_parser.specs.inner.Steps.{operand, update_of, updates_by, is_update, least_height, value_by, assigned_by, assigned, target_index}
 use Rattle.secrec_parser.specs.inner.Steps.{assignment_step, ActionTree, assigns, evaluates, assigns_to, action}
 use Rattle.secrec_parser.specs.inner.Steps as steps
-use Rattle.secrec_parser.proofs.Clashes.{none_some}
 use Rattle.secrec_parser.proofs.Targets.{target_of_height}
 use Rattle.secrec_parser.proofs.Made.{Made, Both, reads_same, seq, made, known}
 use Rattle.secrec_parser.proofs.Heads.{nothing_reads, one_reads, unexpected, too_high, some_reads, none_reads, optional_high}
@@ -66,7 +66,7 @@ update_sign x u e = go x.kind refl e
     go (kinds.Sign signs.CaretAssign) k f = at signs.CaretAssign (updates.Compound operators.Xor) k (λ p. (p, refl)) f
     go (kinds.Sign signs.Increment) k f = at signs.Increment (updates.Step operators.Add) k (λ p. (p, refl)) f
     go (kinds.Sign signs.Decrement) k f = at signs.Decrement (updates.Step operators.Subtract) k (λ p. (p, refl)) f
-    go k e f = absurd (none_some u f)
+    go k e f = absurd (none-some u f)
 
 compound_is : (op : Operator) (s : List Token) → compound op s → (q : Span) × (k : Sign) × (s ≡ token q (kinds.Sign k) ∷ [])
     × (update_of (token q (kinds.Sign k)) ≡ Some (updates.Compound op))
@@ -319,7 +319,7 @@ update_goes_on (kinds.Sign signs.BarAssign) p u e = (refl, refl)
 update_goes_on (kinds.Sign signs.CaretAssign) p u e = (refl, refl)
 update_goes_on (kinds.Sign signs.Increment) p u e = (refl, refl)
 update_goes_on (kinds.Sign signs.Decrement) p u e = (refl, refl)
-update_goes_on k p u e = absurd (none_some u e)
+update_goes_on k p u e = absurd (none-some u e)
 
 -- Whole assignments
 
@@ -438,7 +438,7 @@ expression_target (variable p x) t s f v =
 expression_target (index p (variable q x) i) t s f v =
     let w = v.2 in
     subst (λ z. IsTarget z s) (some_is (target_at (record { place = q; text = x }) (Some i)) t f) w
-expression_target e t s f v = absurd (none_some t f)
+expression_target e t s f v = absurd (none-some t f)
 
 pub target_expression : (t : TargetTree) (s : List Token) → IsTarget t s → IsExpression loosest (held t) s
 target_expression t s v = go t.variable t.index v

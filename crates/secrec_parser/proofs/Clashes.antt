@@ -1,9 +1,6 @@
 -- Constructors that clash, cited where a catch-all would search for the clash in each case that is left.
-use Rattle.std.proofs.Common.{◌≡◌, true, false, Some, None}
+use Rattle.std.proofs.Common.{◌≡◌, true, false}
 use Rattle.secrec_parser.specs.declared.leader.Leader.TheVariants as leaders
-
-pub none_some : {A : Type 0} (a : A) → None ≡ Some a → ⊥
-none_some a e = cc
 
 pub false_true : false ≡ true → ⊥
 false_true e = cc

@@ -1,6 +1,7 @@
 -- What the first token tells of a statement.
 use Rattle.std.proofs.Common.{◌≡◌, ℕ, zero, suc, ◌≤◌, List, [], ◌∷◌, ◌++◌, inl, inr, refl, sym, ap, ◌∙◌, subst, append_assoc, Bool, true, false}
 use Rattle.std.proofs.Common.{Option, Some, None, arith}
+use Rattle.std.proofs.lemmas.Option.{none-some}
 use Rattle.sc_text.specs.declared.span.Span.{Span}
 use Rattle.secrec_lexer.specs.declared.sign.Sign.{Sign}
 use Rattle.secrec_lexer.specs.declared.sign.Sign.TheVariants as signs
@@ -24,7 +25,7 @@ use Rattle.secrec_parser.specs.declared.leader.Leader.{Leader}
 use Rattle.secrec_parser.specs.declared.leader.Leader.TheVariants as leaders
 use Rattle.secrec_parser.specs.Grammar.{IsDomain, IsType, IsStatement}
 use Rattle.secrec_parser.specs.inner.Steps.{leader_of, least}
-use Rattle.secrec_parser.proofs.Clashes.{none_some, false_true}
+use Rattle.secrec_parser.proofs.Clashes.{false_true}
 
 -- statements that can be taken for one another by their first token alone
 abbrev pub family : Leader → ℕ
@@ -110,7 +111,7 @@ expression_family inside (kinds.Sign signs.LeftParenthesis) p n e = refl
 expression_family inside (kinds.Sign signs.Exclamation) p n e = refl
 expression_family inside (kinds.Sign signs.Declassify) p n e = refl
 expression_family inside (kinds.Sign signs.Publish) p n e = refl
-expression_family inside k p n e = absurd (none_some n e)
+expression_family inside k p n e = absurd (none-some n e)
 
 -- the first token of a phrase is that of its first part
 pub front : {P Q : Phrase} (s m m2 : List Token) (x : Token) (v : (P then Q) s) → s ++ m ≡ x ∷ m2 → v.0 ++ (v.1 ++ m) ≡ x ∷ m2
@@ -254,7 +255,7 @@ keyword_kind true (kinds.Sign signs.Break) p s e = same_sign signs.Break s e
 keyword_kind true (kinds.Sign signs.Continue) p s e = same_sign signs.Continue s e
 keyword_kind inside (kinds.Sign signs.Return) p s e = same_sign signs.Return s e
 keyword_kind inside (kinds.Sign signs.Assert) p s e = same_sign signs.Assert s e
-keyword_kind inside k p s e = absurd (none_some s e)
+keyword_kind inside k p s e = absurd (none-some s e)
 
 -- the sign of a leader
 pub leads : (inside : Bool) (x : Token) (l : Leader) (s : Sign) → leader_of inside x ≡ l → keyword l ≡ Some s → x.kind ≡ kinds.Sign s

@@ -1,5 +1,6 @@
 -- The second token of what begins with a name.
 use Rattle.std.proofs.Common.{◌≡◌, ℕ, List, [], ◌∷◌, ◌++◌, ◌⊎◌, inl, inr, refl, sym, ap, ◌∙◌, true, false, Option, Some, None}
+use Rattle.std.proofs.lemmas.Option.{none-some}
 use Rattle.sc_text.specs.declared.span.Span.{Span}
 use Rattle.secrec_lexer.specs.declared.sign.Sign.{Sign}
 use Rattle.secrec_lexer.specs.declared.sign.Sign.TheVariants as signs
@@ -24,7 +25,7 @@ use Rattle.expression_parser.proofs.Tokens.{head_kind}
 use Rattle.secrec_parser.specs.declared.assignment.Update.{Update}
 use Rattle.secrec_parser.specs.Grammar.{bracketed, optional, IsDomain, IsDimension, IsType, IsDeclaration, IsAssignment}
 use Rattle.secrec_parser.specs.inner.Steps.{is_type, update_of, follows_name, ActionTree, assigns, evaluates}
-use Rattle.secrec_parser.proofs.Clashes.{none_some, false_true}
+use Rattle.secrec_parser.proofs.Clashes.{false_true}
 use Rattle.secrec_parser.proofs.Declarations.{clash, sign_head}
 use Rattle.secrec_parser.proofs.Assignments.{by_down, IsAction}
 use Rattle.secrec_parser.proofs.Leaders.{front}
@@ -178,7 +179,7 @@ update_follows (kinds.Sign signs.BarAssign) p u e = refl
 update_follows (kinds.Sign signs.CaretAssign) p u e = refl
 update_follows (kinds.Sign signs.Increment) p u e = refl
 update_follows (kinds.Sign signs.Decrement) p u e = refl
-update_follows k p u e = absurd (none_some u e)
+update_follows k p u e = absurd (none-some u e)
 
 -- an assignment goes on with a bracket or an update
 pub assignment_second : (a : AssignmentTree) (s m m2 : List Token) (x y : Token) → IsAssignment a s → s ++ m ≡ x ∷ y ∷ m2

@@ -1,5 +1,6 @@
 -- What statements begin with, and some statement that begins with each such token.
 use Rattle.std.proofs.Common.{◌≡◌, ℕ, List, [], ◌∷◌, ◌++◌, inl, inr, refl, sym, ap, Bool, true, false, Some, None}
+use Rattle.std.proofs.lemmas.Option.{none-some}
 use Rattle.sc_text.specs.declared.span.Span.{Span}
 use Rattle.secrec_lexer.specs.declared.sign.Sign.{Sign}
 use Rattle.secrec_lexer.specs.declared.sign.Sign.TheVariants as signs
@@ -23,7 +24,7 @@ use Rattle.secrec_parser.specs.declared.leader.Leader.{Leader}
 use Rattle.secrec_parser.specs.declared.leader.Leader.TheVariants as leaders
 use Rattle.secrec_parser.specs.Grammar.{parenthesised, heading, IsStatement}
 use Rattle.secrec_parser.specs.inner.Steps.{leader_of}
-use Rattle.secrec_parser.proofs.Clashes.{none_some, false_true, no_break, no_continue}
+use Rattle.secrec_parser.proofs.Clashes.{false_true, no_break, no_continue}
 use Rattle.secrec_parser.proofs.TypeReadings.{lone}
 use Rattle.secrec_parser.proofs.Declarations.{some_name, name_token}
 use Rattle.secrec_parser.proofs.Leaders.{begins_type, leads, leads_inside, front, led_kind}
@@ -75,7 +76,7 @@ expression_starter (kinds.Sign signs.LeftParenthesis) n e = refl
 expression_starter (kinds.Sign signs.Exclamation) n e = refl
 expression_starter (kinds.Sign signs.Declassify) n e = refl
 expression_starter (kinds.Sign signs.Publish) n e = refl
-expression_starter k n e = absurd (none_some n e)
+expression_starter k n e = absurd (none-some n e)
 
 pub starts : (inside : Bool) (c : StatementTree) (s m m2 : List Token) (x : Token) → IsStatement inside c s → s ++ m ≡ x ∷ m2 → starter x.kind ≡ true
 starts inside (block p ss) s m m2 x v eq = ap starter (sym (led_kind p signs.LeftBrace _ s m m2 x v eq))
@@ -131,7 +132,7 @@ expression_leader inside (kinds.Sign signs.LeftParenthesis) p n e f = false_true
 expression_leader inside (kinds.Sign signs.Exclamation) p n e f = false_true (ap is_declaration f)
 expression_leader inside (kinds.Sign signs.Declassify) p n e f = false_true (ap is_declaration f)
 expression_leader inside (kinds.Sign signs.Publish) p n e f = false_true (ap is_declaration f)
-expression_leader inside k p n e f = none_some n e
+expression_leader inside k p n e f = none-some n e
 
 is_name : Leader → Bool
 is_name leaders.Name = true

@@ -1,23 +1,10 @@
 -- An expression as a target is as high as it was.
-use Rattle.std.proofs.Common.{◌≡◌, ℕ, ◌+◌, ◌≤◌, Option, Some, None, refl, sym, ap, ◌∙◌, arith}
+use Rattle.std.proofs.Common.{◌≡◌, ℕ, ◌+◌, Option, Some, None, refl, sym, ap, ◌∙◌, arith}
 use Rattle.std.specs.Prelude.{max}
-use Rattle.secrec_ast.specs.Tree.{Tree, number, truth, variable, call, index, parentheses, negation, cast, binary, declassify, argument, publish}
+use Rattle.secrec_ast.specs.Tree.{Tree, variable, index}
 use Rattle.secrec_ast.specs.Statements.{TargetTree, element_target, target_of}
 use Rattle.secrec_ast.specs.Heights.{height, target_height}
-
-pub tall : (e : Tree) → 1 ≤ height e
-tall (number p n) = omega arith
-tall (truth p b) = omega arith
-tall (variable p x) = omega arith
-tall (call p x es) = omega arith
-tall (index p a i) = omega arith
-tall (parentheses p e) = omega arith
-tall (negation p e) = omega arith
-tall (cast p t e) = omega arith
-tall (binary p op a b) = omega arith
-tall (declassify p e) = omega arith
-tall (argument p x) = omega arith
-tall (publish p x e) = omega arith
+use Rattle.expression_parser.proofs.Nodes.{tall}
 
 abbrev optional_target_height : ℕ → Option TargetTree → ℕ
 optional_target_height n None = n

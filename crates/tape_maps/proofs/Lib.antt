@@ -1,3 +1,2 @@
-mod ShareWords
 mod DealerWords
 pub mod Whole

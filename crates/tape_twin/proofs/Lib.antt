@@ -1,4 +1,3 @@
-pub mod Bits
 mod Differences
 pub mod FirstDifferences
 mod Runs

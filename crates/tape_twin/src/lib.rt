@@ -11,7 +11,6 @@ mod maps;
 mod running;
 mod twin_err;
 mod twinning;
-mod words;
 
 pub use laws::counting;
 pub use mapped_run::{MappedRun, map_run};

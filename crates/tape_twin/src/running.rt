@@ -8,8 +8,8 @@ ghost use Rattle.view_model.specs.TapeMaps.{CanRun};
 ghost use Rattle.program_views.specs.Views.{lengths_of, run_on};
 ghost use Rattle.tape_twin.specs.Accepted.{IsAcceptedProgram};
 
-use crate::words::{see_entries, see_words};
 use clear_eval::{Report, eval};
+use input_share::{see_entries, see_words};
 use std::alloc::{AllocError, Global};
 use tape_file::Tapes;
 use typed_tree::TypedProgram;

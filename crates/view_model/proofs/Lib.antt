@@ -1,3 +1,4 @@
+pub mod ShareWords
 pub mod Masks
 pub mod Dealings
 pub mod DealtSizes

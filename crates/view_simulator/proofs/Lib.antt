@@ -1,4 +1,3 @@
-pub mod Bits
 pub mod Zeros
 pub mod Suiting
 pub mod Pieces

@@ -2,7 +2,6 @@
 use Rattle.std.proofs.Common.{◌≡◌, ℕ, ◌+◌, ◌<◌, ◌≤◌, true, false, List, [], ◌∷◌, ◌++◌, length, take, drop, refl, sym, ap, ◌∙◌, arith, get_or, take-append-drop}
 use Rattle.std.specs.Prelude.{nat_le}
 use Rattle.std.proofs.lemmas.List.{take_more, take_all}
-use Rattle.gates.specs.Clear.{Values}
 use Rattle.sc_text.specs.declared.elements.Element.{Element}
 use Rattle.sc_text.specs.declared.event.Event.{Event}
 use Rattle.sc_text.specs.declared.event.Event.TheVariants.{Open, Publish}
@@ -13,7 +12,7 @@ use Rattle.input_share.specs.declared.entry.Part.{Part}
 use Rattle.input_share.specs.declared.entry.Part.TheVariants as part
 use Rattle.input_share.specs.declared.entry.ShareEntry.{ShareEntry}
 use Rattle.view_text.specs.View.{InputShare}
-use Rattle.view_model.specs.Dealing.{private_then, private_shares, hidden_then, hidden_sizes, hidden_draws}
+use Rattle.view_model.specs.Dealing.{hidden_then, hidden_sizes, hidden_draws}
 use Rattle.program_views.specs.Views.{share_then, input_shares, opening_then, openings, hidden_need}
 
 -- what is made of a list, and then of one entry more
@@ -37,14 +36,6 @@ sizes_append [] fs = refl
 sizes_append (e ∷ es) fs = ap (hidden_then e.value) (sizes_append es fs) ∙ size_append e.value (hidden_sizes es) (hidden_sizes fs)
 
 -- ---- shares
-
-share_append : (p : Part) (xs ys : Values) → private_then p (xs ++ ys) ≡ private_then p xs ++ ys
-share_append (part.Public value) xs ys = refl
-share_append (part.Private shared) xs ys = refl
-
-pub shares_append : (es fs : List ShareEntry) → private_shares (es ++ fs) ≡ private_shares es ++ private_shares fs
-shares_append [] fs = refl
-shares_append (e ∷ es) fs = ap (private_then e.part) (shares_append es fs) ∙ share_append e.part (private_shares es) (private_shares fs)
 
 named_append : (name : List ℕ) (p : Part) (xs ys : List InputShare) → share_then name p (xs ++ ys) ≡ share_then name p xs ++ ys
 named_append name (part.Public value) xs ys = refl

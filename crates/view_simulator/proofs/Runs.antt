@@ -1,14 +1,11 @@
 -- Told the public part, the opened words and the mapped tapes of a run, the simulator answers as the run does.
-use Rattle.std.proofs.Common.{◌≡◌, ℕ, List, [], ◌++◌, refl, sym, ap, ◌∙◌, subst}
+use Rattle.std.proofs.Common.{◌≡◌, ℕ, List, [], ◌++◌, sym, ap, ◌∙◌, subst}
 use Rattle.std.specs.Prelude.{Result, Ok, Err}
 use Rattle.proto_core.specs.declared.party.Number.{Number}
-use Rattle.proto_core.specs.declared.party.Number.TheVariants.{One, Two, Three}
 use Rattle.protocol_model.specs.Gates.{gates_script}
 use Rattle.protocol_model.specs.Network.{Delivery, net}
 use Rattle.gates.specs.declared.gate.Gate.{Gate}
-use Rattle.gates.specs.Clear.{Values}
 use Rattle.shared_gates.specs.Model.{run_gates}
-use Rattle.shared_gates.proofs.OwnShares.{own-same}
 use Rattle.secrec_ast.specs.Programs.{ProgramTree}
 use Rattle.typed_tree.specs.Programs.{TypedProgramTree}
 use Rattle.reached_instances.specs.Instances.{Instance}
@@ -28,20 +25,11 @@ use Rattle.program_views.specs.Laws.{IsGivenTo, ViewIsSimulated}
 use Rattle.program_views.proofs.Blind.{takes_same_course, is_ended}
 use Rattle.program_views.proofs.Simulated.{same_lengths, views_simulated}
 use Rattle.program_views.proofs.Corresponding.{tapes_corresponding}
+use Rattle.program_views.proofs.Nets.{same_scripts}
 use Rattle.view_simulator.specs.declared.errors.SimulateErr.{SimulateErr}
 use Rattle.view_simulator.specs.declared.errors.SimulateErr.TheVariants.{OpenedShort, EmptyLink, Stalled, Memory}
 use Rattle.view_simulator.specs.Simulating.{scripts_made, net_told, IsSimulation}
 use Rattle.view_simulator.specs.Laws.{IsViewOrRefusal, NetsAreSimulated, RunsAreSimulated}
-
--- scripts read no share: the first miner's, and then those of the others, may be taken from elsewhere
-module _ (dealt others : Number → Values) (sizes : List ℕ) (gates : List Gate) where
-  abbrev mixed : Number → Values
-  mixed One = dealt One
-  mixed Two = others Two
-  mixed Three = others Three
-
-  same_scripts : (k : Number) → gates_script k (run_gates dealt sizes [] gates) ≡ gates_script k (run_gates others sizes [] gates)
-  same_scripts k = (own-same One dealt mixed refl sizes [] gates).scripts k ∙ (own-same Two mixed others refl sizes [] gates).scripts k
 
 module _
     (i : Number) (source : ProgramTree) (p : TypedProgramTree) (is : List Instance) (entries : List Entry) (given : IsGivenTo source p is entries)

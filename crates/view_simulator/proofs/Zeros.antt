@@ -28,7 +28,7 @@ use Rattle.language_model.specs.Words.{truth_word}
 use Rattle.clear_eval.specs.Offers.{input_given, public_given, part_given}
 use Rattle.code_inputs.specs.Inputs.{AreSound}
 use Rattle.view_simulator.specs.Making.{HasKnownWords, IsOfWords}
-use Rattle.view_simulator.proofs.Bits.{bits_small, one_small}
+use Rattle.input_share.proofs.Bits.{bits_small, one_small}
 
 abbrev pub zeros_of : DataType → Shape → Value
 zeros_of Uint64 Scalar = Number 0

@@ -2,7 +2,6 @@
 ghost use Rattle.std.specs.Prelude.{◌≡◌, ◌≤◌, ◌-◌, [], ◌∷◌, ◌++◌, true, length, take, IfOk, OnOk};
 ghost use Rattle.proto_core.specs.declared.party.Number.{Number as NumberValue};
 ghost use Rattle.joint_run.specs.Three.{each_of};
-ghost use Rattle.view_model.specs.Dealing.{private_shares};
 ghost use Rattle.view_model.specs.TapeMaps.{miners_of};
 ghost use Rattle.program_views.specs.Views.{can_deal};
 ghost use Rattle.view_simulator.specs.Making.{CanBeMade, made_in_order, seen_in_order, seen_of};
@@ -10,7 +9,6 @@ ghost use Rattle.view_simulator.specs.Making.{CanBeMade, made_in_order, seen_in_
 use crate::dealing::suffices;
 use arrival_order::{Arrival, arrivals};
 use clear_eval::Report;
-use gates::{Values, Words};
 use input_share::ShareEntry;
 use joint_run::Tapes as MinersTapes;
 use made_inputs::made_entries;
@@ -19,6 +17,7 @@ use proto_core::{Link, Number};
 use std::alloc::{AllocError, Global};
 use tape_file::Tapes;
 use value_file::PublicPart;
+use view_model::own_shares;
 
 /// What the simulator has a miner see: its input shares, the words that it drew, and the messages that came, in order of arrival.
 #[derive(Drop)]
@@ -26,27 +25,6 @@ pub(crate) struct Made {
     pub inputs: Vec<ShareEntry>,
     pub drew: Vec<u64>,
     pub got: Vec<Arrival>,
-}
-
-// The share words of an input, if it is private, as one value more.
-fn push_shares(alloc: Global, values: &mut Values, entry: &ShareEntry) -> Result<(), AllocError>
-    ensures { OnOk result (values.new ≡ values.old ++ private_shares (entry.now ∷ [])) }
-{
-    match entry.part.words() {
-        Some(words) => values.push(Words::new(Vec::from_slice(alloc, words)?)),
-        None => Ok(()),
-    }
-}
-
-/// A miner's shares of the private inputs, in their order.
-fn own_shares(alloc: Global, entries: &[ShareEntry]) -> Result<Values, AllocError>
-    ensures { IfOk result (λ values. values ≡ private_shares entries.now) }
-{
-    let mut values = Values::new(alloc);
-    for entry in entries {
-        push_shares(alloc, &mut values, entry)?;
-    }
-    Ok(values)
 }
 
 /// The miners' tapes, of which no word is drawn yet.

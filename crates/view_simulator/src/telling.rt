@@ -10,9 +10,10 @@ ghost use Rattle.program_views.specs.Views.{lengths_of, told_run};
 ghost use Rattle.tape_twin.specs.Accepted.{IsAcceptedProgram};
 ghost use Rattle.view_simulator.specs.Making.{CanBeMade};
 
-use crate::words::{see_part, see_words};
+use crate::words::see_part;
 use clear_eval::{BlindErr, Report, blind};
 use gate_scripts::few_words_fit;
+use input_share::see_words;
 use std::alloc::Global;
 use tape_file::Tapes;
 use typed_tree::TypedProgram;

@@ -2,6 +2,7 @@
 use Rattle.std.proofs.Common.{◌≡◌, ℕ, ◌-◌, Bool, List, [], length, map, take, Some, refl, sym, ◌∙◌, ap}
 use Rattle.std.specs.Prelude.{if◌then◌else◌}
 use Rattle.std.proofs.lemmas.Bool.{le-leb}
+use Rattle.std.proofs.lemmas.Option.{same_Some}
 use Rattle.sc_text.specs.declared.end.Ending.{Ending}
 use Rattle.sc_text.specs.declared.elements.Element.{Element}
 use Rattle.proto_core.specs.declared.party.Number.{Number}
@@ -61,9 +62,6 @@ made_same v i inputs drew got opened how cost a b c d e f g =
     ∙ ap (λ x. made i inputs drew got x v.end.how v.end.cost) e
     ∙ ap (λ x. made i inputs drew got opened x v.end.cost) f
     ∙ ap (λ x. made i inputs drew got opened how x) g
-
-same_some : (x y : Ending) → Some x ≡ Some y → x ≡ y
-same_some x y e = cc
 
 -- ---- a net at its end
 
@@ -152,7 +150,7 @@ module _ (p : TypedProgramTree) (entries : List Entry) (t : FourTapes) (budget :
         ∙ ap (λ (s : Seen). s.drew) is_seen_so
 
     how_so : v.end.how ≡ (run).turns.stops.ending
-    how_so = same_some v.end.how (run).turns.stops.ending (sym (sees.how (run).turns.last (left_so i)) ∙ (run).turns.stops.ended)
+    how_so = same_Some v.end.how (run).turns.stops.ending (sym (sees.how (run).turns.last (left_so i)) ∙ (run).turns.stops.ended)
 
     cost_so : v.end.cost ≡ (r).cost
     cost_so =

@@ -215,9 +215,6 @@ kinds_fit : (ks : List Kind) → Each Fits (map (λ kind. byte (kind_byte kind))
 kinds_fit [] = tt
 kinds_fit (k ∷ ks) = (kind_fits k, kinds_fit ks)
 
-same_some : {A : Type 0} (a b : A) → ◌≡◌ {A = Option A} (Some a) (Some b) → a ≡ b
-same_some a b e = cc
-
 each_at : {A : Type 0} (P : A → Type 0) (xs : List A) → ((k : ℕ) (x : A) → slice_get xs k ≡ Some x → P x) → Each P xs
 each_at P [] h = tt
 each_at P (x ∷ xs) h = (h zero x refl, each_at P xs (λ k y e. h (suc k) y e))

@@ -20,25 +20,25 @@ run_dealt-requires-clause-runs c =
     let entries = c.args.inputs.now in
     let sound : AreSound entries = record { form = c.requires.inputs; words = subst (All HasWords) c.entries.ensures c.see_entries.ensures } in
     let suffice : Suffice entries c.args.tapes.now.dealer = record {
-      words = subst AreWords c.dealer.ensures c.see_words.ensures;
+      words = subst AreWords c.dealer.ensures c.see_words.ensures.words;
       enough = subst (λ (w : List ℕ). need_of entries ≤ length w) c.dealer-2.ensures c.in-Ok.ensures.enough;
     } in
     can_run_so (typed_program_tree c.args.program.now) c.requires.accepted c.in_ok-code.code c.in_ok-code.ensures entries c.args.tapes.now
-    sound suffice (subst AreWords c.miner1.ensures c.see_words-2.ensures) (subst AreWords c.miner2.ensures c.see_words-3.ensures)
-    (subst AreWords c.miner3.ensures c.see_words-4.ensures)
+    sound suffice (subst AreWords c.miner1.ensures c.see_words-2.ensures.words) (subst AreWords c.miner2.ensures c.see_words-3.ensures.words)
+    (subst AreWords c.miner3.ensures c.see_words-4.ensures.words)
 
 pub returns-in_err-end-in-Ok : goal.returns-in_err-end-in-Ok
 returns-in_err-end-in-Ok c =
     let entries = c.args.inputs.now in
     let sound : AreSound entries = record { form = c.requires.inputs; words = subst (All HasWords) c.entries.ensures c.see_entries.ensures } in
     let suffice : Suffice entries c.args.tapes.now.dealer = record {
-      words = subst AreWords c.dealer.ensures c.see_words.ensures;
+      words = subst AreWords c.dealer.ensures c.see_words.ensures.words;
       enough = subst (λ (w : List ℕ). need_of entries ≤ length w) c.dealer-2.ensures c.in-Ok.ensures.enough;
     } in
     code_refused (typed_program_tree c.args.program.now) entries c.args.tapes.now c.args.budget (delivery_seen c.args.delivery.now) _ _
     (report_so (typed_program_tree c.args.program.now) c.requires.accepted c.in_ok-code.code c.in_ok-code.ensures entries c.args.tapes.now
-    sound suffice (subst AreWords c.miner1.ensures c.see_words-2.ensures) (subst AreWords c.miner2.ensures c.see_words-3.ensures)
-    (subst AreWords c.miner3.ensures c.see_words-4.ensures) c.args.budget)
+    sound suffice (subst AreWords c.miner1.ensures c.see_words-2.ensures.words) (subst AreWords c.miner2.ensures c.see_words-3.ensures.words)
+    (subst AreWords c.miner3.ensures c.see_words-4.ensures.words) c.args.budget)
     c.in_err-end-in-Ok.ensures c.from_residual-in_err-end-in-Ok.result c.from_residual-in_err-end-in-Ok.ensures.1
 
 pub returns-in-Ok : goal.returns-in-Ok
@@ -47,12 +47,12 @@ returns-in-Ok c =
     let t = c.args.tapes.now in
     let sound : AreSound entries = record { form = c.requires.inputs; words = subst (All HasWords) c.entries.ensures c.see_entries.ensures } in
     let suffice : Suffice entries t.dealer = record {
-      words = subst AreWords c.dealer.ensures c.see_words.ensures;
+      words = subst AreWords c.dealer.ensures c.see_words.ensures.words;
       enough = subst (λ (w : List ℕ). need_of entries ≤ length w) c.dealer-2.ensures c.in-Ok.ensures.enough;
     } in
-    let one = subst AreWords c.miner1.ensures c.see_words-2.ensures in
-    let two = subst AreWords c.miner2.ensures c.see_words-3.ensures in
-    let three = subst AreWords c.miner3.ensures c.see_words-4.ensures in
+    let one = subst AreWords c.miner1.ensures c.see_words-2.ensures.words in
+    let two = subst AreWords c.miner2.ensures c.see_words-3.ensures.words in
+    let three = subst AreWords c.miner3.ensures c.see_words-4.ensures.words in
     record {
       can = record { sound = sound; suffice = suffice; words = each_words t one two three };
       file = files_so entries t c.in-Ok.files _ _ c.dealer-2.ensures c.lengths.ensures c.in-Ok.ensures.first c.in-Ok.ensures.second c.in-Ok.ensures.third;

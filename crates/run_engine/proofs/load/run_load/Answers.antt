@@ -23,8 +23,8 @@ unreachable-requires c =
     let entries = c.args.load.now.inputs in
     let tapes = c.args.load.now.tapes in
     let have = have_words entries tapes c.requires.inputs (subst (All HasWords) c.entries.ensures c.see_entries.ensures)
-    (subst AreWords c.dealer.ensures c.see_words.ensures) (subst AreWords c.miner1.ensures c.see_words-2.ensures)
-    (subst AreWords c.miner2.ensures c.see_words-3.ensures) (subst AreWords c.miner3.ensures c.see_words-4.ensures) in
+    (subst AreWords c.dealer.ensures c.see_words.ensures.words) (subst AreWords c.miner1.ensures c.see_words-2.ensures.words)
+    (subst AreWords c.miner2.ensures c.see_words-3.ensures.words) (subst AreWords c.miner3.ensures c.see_words-4.ensures.words) in
     let is = never_refused (typed_program_tree c.in_ok-program.program) entries tapes c.in_ok-program.ensures.accepted have c.in-Err-EmptyLink.field-0
     c.in-Err-EmptyLink.ensures in
     absurd (let wrong = sym c.in-Err-EmptyLink.field-0-is ∙ is in cc)
@@ -34,8 +34,8 @@ unreachable-requires-in-Err-Stalled c =
     let entries = c.args.load.now.inputs in
     let tapes = c.args.load.now.tapes in
     let have = have_words entries tapes c.requires.inputs (subst (All HasWords) c.entries.ensures c.see_entries.ensures)
-    (subst AreWords c.dealer.ensures c.see_words.ensures) (subst AreWords c.miner1.ensures c.see_words-2.ensures)
-    (subst AreWords c.miner2.ensures c.see_words-3.ensures) (subst AreWords c.miner3.ensures c.see_words-4.ensures) in
+    (subst AreWords c.dealer.ensures c.see_words.ensures.words) (subst AreWords c.miner1.ensures c.see_words-2.ensures.words)
+    (subst AreWords c.miner2.ensures c.see_words-3.ensures.words) (subst AreWords c.miner3.ensures c.see_words-4.ensures.words) in
     let is = never_refused (typed_program_tree c.in_ok-program.program) entries tapes c.in_ok-program.ensures.accepted have c.in-Err-Stalled.field-0
     c.in-Err-Stalled.ensures in
     absurd (let wrong = sym c.in-Err-Stalled.field-0-is ∙ is in cc)

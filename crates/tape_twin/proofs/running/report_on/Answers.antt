@@ -18,10 +18,10 @@ returns-clause-can c =
     let t = c.args.tapes.now in
     let words : All HasWords es = subst (λ (xs : List Entry). All HasWords xs) c.entries.ensures c.see_entries.ensures in
     let are : AreTapes t =
-    tapes-are t (subst (λ (w : List ℕ). AreWords w) c.dealer.ensures c.see_words.ensures)
-    (subst (λ (w : List ℕ). AreWords w) c.miner1.ensures c.see_words-2.ensures)
-    (subst (λ (w : List ℕ). AreWords w) c.miner2.ensures c.see_words-3.ensures)
-    (subst (λ (w : List ℕ). AreWords w) c.miner3.ensures c.see_words-4.ensures) in
+    tapes-are t (subst (λ (w : List ℕ). AreWords w) c.dealer.ensures c.see_words.ensures.words)
+    (subst (λ (w : List ℕ). AreWords w) c.miner1.ensures c.see_words-2.ensures.words)
+    (subst (λ (w : List ℕ). AreWords w) c.miner2.ensures c.see_words-3.ensures.words)
+    (subst (λ (w : List ℕ). AreWords w) c.miner3.ensures c.see_words-4.ensures.words) in
     if-ok (λ report. report_seen report ≡ eval p (offered es c.lengths.result) c.args.budget) (λ report. CanRun es report.gates.items t)
     (λ report same.
     gates-run p es t c.args.budget report.gates.items c.requires.accepted c.requires.inputs words are

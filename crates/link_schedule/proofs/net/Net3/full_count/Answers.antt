@@ -1,7 +1,7 @@
 use Rattle.std.proofs.Common.{arith}
 use Rattle.protocol_model.specs.Network.{all_links}
 use Rattle.link_schedule.specs.Net.{is_under_way}
-use Rattle.link_schedule.proofs.Walks.{count_yes, count_no}
+use Rattle.protocol_model.proofs.Choosing.{count_yes, count_no}
 use Rattle.link_schedule.proofs.net.Net3.full_count.Goals as goal
 use Rattle.link_schedule.proofs.net.Net3.full_count.Goals.{then-is_under_way, else-is_under_way}
 

@@ -1,7 +1,7 @@
 use Rattle.std.proofs.Common.{◌+◌, drop, sym, ◌∙◌, ap, arith}
 use Rattle.protocol_model.specs.Network.{all_links, those, link_at}
 use Rattle.link_schedule.specs.Net.{is_under_way}
-use Rattle.link_schedule.proofs.Walks.{at_later, at_other}
+use Rattle.protocol_model.proofs.Choosing.{at_later, at_other}
 use Rattle.link_schedule.proofs.net.Net3.full_link.Goals as goal
 use Rattle.link_schedule.proofs.net.Net3.full_link.Goals.{then-is_under_way+else-left-eq0, else-is_under_way}
 

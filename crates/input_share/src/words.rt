@@ -1,16 +1,17 @@
 // Words that are read are words of 64 bits.
-ghost use Rattle.std.specs.Prelude.{◌<◌, ◌^◌, All};
+ghost use Rattle.std.specs.Prelude.{◌<◌, ◌^◌, length, All};
 ghost use Rattle.proto_core.specs.Lists.{AreWords};
 ghost use Rattle.input_share.specs.Values.{elements_of};
 ghost use Rattle.input_share.specs.AddUp.{HasWords};
 
 use value_file::{Entry, Value};
 
-/// A tape has words of 64 bits.
+/// A tape has words of 64 bits, and fewer than 2^64.
 pub fn see_words(words: &[u64])
-    ensures { AreWords words.now }
+    ensures words { AreWords words.now }
+    ensures few { length words.now < 2 ^ 64 }
 {
-    let _seen = words.len();
+    let _count = words.len();
 }
 
 fn see_numbers(numbers: &[u64])
@@ -21,8 +22,9 @@ fn see_numbers(numbers: &[u64])
     }
 }
 
+/// A value has words of 64 bits.
 #[tactic(auto, using(crate::proofs::Bits::bits_small, crate::proofs::Bits::one_small))]
-fn see_value(value: &Value)
+pub fn see_value(value: &Value)
     ensures { All (λ n. n < 2 ^ 64) (elements_of value.now) }
 {
     match value {

@@ -3,7 +3,7 @@ ghost use Rattle.std.specs.Prelude.{◌≡◌, ◌++◌, ◌∷◌, [], IfOk, On
 ghost use Rattle.view_model.specs.Dealing.{private_shares};
 
 use gates::{Values, Words};
-use input_share::{ShareEntry, ShareFile};
+use input_share::ShareEntry;
 use std::alloc::{AllocError, Global};
 
 // The share words of an input, if it is private, as one value more.
@@ -17,11 +17,11 @@ fn push_shares(alloc: Global, values: &mut Values, entry: &ShareEntry) -> Result
 }
 
 /// A miner's shares of the private inputs, in their order.
-pub fn own_shares(alloc: Global, file: &ShareFile) -> Result<Values, AllocError>
-    ensures { IfOk result (λ values. values ≡ private_shares file.now.entries) }
+pub fn own_shares(alloc: Global, entries: &[ShareEntry]) -> Result<Values, AllocError>
+    ensures { IfOk result (λ values. values ≡ private_shares entries.now) }
 {
     let mut values = Values::new(alloc);
-    for entry in file.entries() {
+    for entry in entries {
         push_shares(alloc, &mut values, entry)?;
     }
     Ok(values)

@@ -1,12 +1,12 @@
 use Rattle.std.proofs.Common.{◌≡◌, ◌+◌, [], ◌∷◌, ◌++◌, take, sym, ◌∙◌, ap}
 use Rattle.std.proofs.lemmas.List.{take_more}
 use Rattle.view_model.specs.Dealing.{private_shares}
-use Rattle.program_run.proofs.ShareWords.{shares_append}
-use Rattle.program_run.proofs.dealt.own_shares.Goals as goal
+use Rattle.view_model.proofs.ShareWords.{shares_append}
+use Rattle.view_model.proofs.dealt.own_shares.Goals as goal
 
 pub loop-entry-preserved : goal.loop-entry-preserved
 loop-entry-preserved c =
-    let items = c.entries-entry-items.result.now in
+    let items = c.args.entries.now in
     let k = c.loop-entry.entry-index in
     let entry = c.entry-item.result in
     let more : take (k + 1) items ≡ take k items ++ entry ∷ [] =

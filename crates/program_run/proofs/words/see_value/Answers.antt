@@ -1,5 +1,0 @@
-use Rattle.program_run.proofs.Bits.{bits_small}
-use Rattle.program_run.proofs.words.see_value.Goals as goal
-
-pub returns-in-Truths : goal.returns-in-Truths
-returns-in-Truths c = rw c.in-Truths.is (bits_small _)

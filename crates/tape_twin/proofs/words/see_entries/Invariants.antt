@@ -1,6 +1,0 @@
-use Rattle.std.proofs.Common.{All, take}
-use Rattle.input_share.specs.AddUp.{HasWords}
-use Rattle.tape_twin.proofs.words.see_entries.Given as goal
-
-abbrev pub invariant-loop-entry : goal.invariant-loop-entry
-invariant-loop-entry l = All HasWords (take l.entry-index l.entries)
