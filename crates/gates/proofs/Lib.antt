@@ -5,3 +5,4 @@ pub mod Sizes
 pub mod BlockSizes
 pub mod Growing
 pub mod WordSteps
+pub mod Held

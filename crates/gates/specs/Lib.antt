@@ -3,4 +3,5 @@ pub mod Counts
 pub mod Clear
 pub mod WordTests
 pub mod Evaluated
+pub mod Held
 pub mod Vectors

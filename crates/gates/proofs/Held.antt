@@ -1,0 +1,108 @@
+-- Values by what is held of them.
+use Rattle.std.proofs.Common.{◌≡◌, ℕ, zero, suc, ◌+◌, ◌≤◌, ◌<◌, ◌⊎◌, inl, inr, List, [], ◌∷◌, ◌++◌, length, Bool, true, false, cond, Option, None, refl, sym, ◌∙◌, ap, arith}
+use Rattle.std.proofs.lemmas.Bool.{cases_lt}
+use Rattle.std.proofs.lemmas.List.{get_or_append_left, get_or-append-add}
+use Rattle.std.specs.Option.{unwrap_or}
+use Rattle.std.specs.BTreeMap.{BTreeMap}
+use Rattle.std.specs.BTreeSet.{BTreeSet, contains}
+use Rattle.std.specs.Ordering.{nat_cmp}
+use Rattle.gates.specs.Clear.{Values, value}
+use Rattle.gates.specs.Held.{held_at, first_values, NothingFrom, if_kept, kept_from, kept_only}
+
+length_push : (xs : List (List ℕ)) (x : List ℕ) → length (xs ++ x ∷ []) ≡ suc (length xs)
+length_push [] x = refl
+length_push (y ∷ ys) x = ap suc (length_push ys x)
+
+pub length_first : (at : ℕ → List ℕ) (n : ℕ) → length (first_values at n) ≡ n
+length_first at zero = refl
+length_first at (suc n) = length_push (first_values at n) (at n) ∙ ap suc (length_first at n)
+
+-- ---- one more
+
+first_same : (at other : ℕ → List ℕ) (n : ℕ) → ((k : ℕ) → k < n → at k ≡ other k) → first_values at n ≡ first_values other n
+first_same at other zero h = refl
+first_same at other (suc n) h =
+    ap (λ xs. xs ++ at n ∷ []) (first_same at other n (λ k l. h k (omega (arith, l)))) ∙ ap (λ x. first_values other n ++ x ∷ []) (h n (omega arith))
+
+pub first_push :
+    (at other : ℕ → List ℕ) (n m : ℕ) (words : List ℕ) → m ≡ n + 1 → ((k : ℕ) → k < n → at k ≡ other k) → at n ≡ words →
+    first_values at m ≡ first_values other n ++ words ∷ []
+first_push at other n m words is h w =
+    let next : m ≡ suc n = omega (arith, is) in
+    ap (first_values at) next ∙ ap (λ xs. xs ++ at n ∷ []) (first_same at other n h) ∙ ap (λ x. first_values other n ++ x ∷ []) w
+
+-- ---- the value of a number
+
+first_step :
+    (at : ℕ → List ℕ) (n k : ℕ) → (k < n → value (first_values at n) k ≡ at k) → k < suc n → (k < n) ⊎ (n ≤ k) →
+    value (first_values at n ++ at n ∷ []) k ≡ at k
+first_step at n k before l (inl below) =
+    let there : k < length (first_values at n) = omega (arith, below, length_first at n) in
+    get_or_append_left (first_values at n) (at n ∷ []) [] k there ∙ before below
+first_step at n k before l (inr from) =
+    let xs = first_values at n in
+    let is : k ≡ n = omega (arith, l, from) in
+    let place : k ≡ length xs + 0 = omega (arith, is, length_first at n) in
+    ap (value (xs ++ at n ∷ [])) place ∙ get_or-append-add xs (at n ∷ []) 0 [] ∙ ap at (sym is)
+
+first_at : (at : ℕ → List ℕ) (n k : ℕ) → k < n → value (first_values at n) k ≡ at k
+first_at at zero k l = absurd (omega (arith, l))
+first_at at (suc n) k l = first_step at n k (first_at at n k) l (cases_lt k n)
+
+beyond : (values : Values) (k : ℕ) → length values ≤ k → value values k ≡ []
+beyond [] k l = refl
+beyond (x ∷ xs) zero l = absurd (omega (arith, l))
+beyond (x ∷ xs) (suc k) l = beyond xs k (omega (arith, l))
+
+pub value_held : (held : BTreeMap ℕ (List ℕ)) (n : ℕ) → NothingFrom n held → (k : ℕ) → value (first_values (held_at held) n) k ≡ held_at held k
+value_held held n none k = by_place (cases_lt k n)
+  where
+    by_place : (k < n) ⊎ (n ≤ k) → value (first_values (held_at held) n) k ≡ held_at held k
+    by_place (inl below) = first_at (held_at held) n k below
+    by_place (inr from) =
+        let past : length (first_values (held_at held) n) ≤ k = omega (arith, from, length_first (held_at held) n) in
+        beyond (first_values (held_at held) n) k past
+        ∙ sym (ap (λ found. unwrap_or found []) (none k from))
+
+-- ---- some are kept
+
+kept_push : (numbers : BTreeSet ℕ) (k : ℕ) (values : Values) (words : List ℕ) →
+    kept_from numbers k (values ++ words ∷ []) ≡ kept_from numbers k values ++ if_kept numbers (k + length values) words ∷ []
+kept_push numbers k [] words = ap (λ j. if_kept numbers j words ∷ []) (omega arith)
+kept_push numbers k (x ∷ xs) words =
+    ap (λ later. if_kept numbers k x ∷ later)
+    (kept_push numbers (suc k) xs words
+    ∙ ap (λ j. kept_from numbers (suc k) xs ++ if_kept numbers j words ∷ []) (omega arith))
+
+pub first_kept : (numbers : BTreeSet ℕ) (at other : ℕ → List ℕ) (n : ℕ) → ((k : ℕ) → at k ≡ if_kept numbers k (other k)) →
+    first_values at n ≡ kept_only numbers (first_values other n)
+first_kept numbers at other zero h = refl
+first_kept numbers at other (suc n) h =
+    let xs = first_values other n in
+    let place : 0 + length xs ≡ n = omega (arith, length_first other n) in
+    ap (λ ys. ys ++ at n ∷ []) (first_kept numbers at other n h)
+    ∙ ap (λ x. kept_from numbers 0 xs ++ x ∷ []) (h n)
+    ∙ sym (kept_push numbers 0 xs (other n) ∙ ap (λ j. kept_from numbers 0 xs ++ if_kept numbers j (other n) ∷ []) place)
+
+pub unwrap_if : (b : Bool) (found : Option (List ℕ)) → unwrap_or (cond b found None) [] ≡ cond b (unwrap_or found []) []
+unwrap_if true found = refl
+unwrap_if false found = refl
+
+pub kept_length : (numbers : BTreeSet ℕ) (k : ℕ) (values : Values) → length (kept_from numbers k values) ≡ length values
+kept_length numbers k [] = refl
+kept_length numbers k (words ∷ values) = ap suc (kept_length numbers (suc k) values)
+
+if_among : (numbers : BTreeSet ℕ) (k : ℕ) (words : List ℕ) → contains nat_cmp numbers k ≡ true → if_kept numbers k words ≡ words
+if_among numbers k words h = ap (λ b. cond b words []) h
+
+-- a value of one of these numbers is as before
+pub kept_value :
+    (numbers : BTreeSet ℕ) (from : ℕ) (values : Values) (k : ℕ) → contains nat_cmp numbers (from + k) ≡ true →
+    value (kept_from numbers from values) k ≡ value values k
+kept_value numbers from [] k h = refl
+kept_value numbers from (words ∷ values) zero h =
+    let here : from + 0 ≡ from = omega arith in
+    if_among numbers from words (sym (ap (contains nat_cmp numbers) here) ∙ h)
+kept_value numbers from (words ∷ values) (suc k) h =
+    let there : suc from + k ≡ from + suc k = omega arith in
+    kept_value numbers (suc from) values k (ap (contains nat_cmp numbers) there ∙ h)
