@@ -15,7 +15,7 @@ use Rattle.raw_steps.specs.Instructions.{instruction, raw_function, names_of}
 use Rattle.raw_steps.proofs.Passing.{unmapped}
 use Rattle.well_typed.specs.Programs.{IsWellTyped}
 use Rattle.well_typed.proofs.Reaching.{accepted_well_typed}
-use Rattle.lowered_code.specs.Laws.{raw_code_of_program}
+use Rattle.lowered_code.specs.RawCodes.{raw_code_of_program}
 use Rattle.lowered_code.proofs.Limits.{within_small}
 use Rattle.lowered_code.proofs.RegistersOfPrograms.{small_numbered}
 use Rattle.lowered_code.proofs.Verified.{well_typed_verified}

@@ -26,7 +26,7 @@ use Rattle.language_model.specs.Effects.{GivenInput}
 use Rattle.language_model.specs.Evaluation.{behind}
 use Rattle.language_model.specs.Values.{ring_for}
 use Rattle.code_model.specs.Kinded.{IsSingle, AreSingle}
-use Rattle.gate_laws.specs.Facts.{InRange, Dealt}
+use Rattle.gate_laws.specs.Dealt.{InRange, Dealt}
 use Rattle.gate_laws.specs.Offers.{IsDealt, AreOffered}
 use Rattle.gate_laws.proofs.Ranges.{Below, below_cons, below_none, one_below}
 use Rattle.code_inputs.specs.Inputs.{element_given, is_array, is_private, AreGivenAs, dealt_of}

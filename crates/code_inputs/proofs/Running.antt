@@ -8,7 +8,7 @@ use Rattle.language_model.specs.Effects.{Clear}
 use Rattle.language_model.specs.Reports.{Offered, world_of}
 use Rattle.verified_code.specs.Settled.{settled}
 use Rattle.well_typed.proofs.Reaching.{accepted_well_typed}
-use Rattle.lowered_code.specs.Laws.{raw_code_of_program}
+use Rattle.lowered_code.specs.RawCodes.{raw_code_of_program}
 use Rattle.lowered_code.proofs.Limits.{within_small}
 use Rattle.lowered_code.proofs.RegistersOfPrograms.{small_numbered}
 use Rattle.lowered_code.proofs.Verified.{code_right, well_typed_verified, accepted_runs}

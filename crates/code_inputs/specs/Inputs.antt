@@ -19,7 +19,7 @@ use Rattle.view_model.specs.Dealing.{dealt_to}
 use Rattle.view_model.specs.Held.{private_kinds, private_values}
 use Rattle.typed_tree.specs.Shapes.{shape_of}
 use Rattle.language_model.specs.Effects.{GivenInput}
-use Rattle.gate_laws.specs.Facts.{Dealt}
+use Rattle.gate_laws.specs.Dealt.{Dealt}
 
 -- ---- WHAT IS GIVEN
 

@@ -15,7 +15,7 @@ use Rattle.code_model.specs.Kinded.{AreSingle}
 use Rattle.code_model.specs.Laws.{AreFitting}
 use Rattle.well_typed.specs.Programs.{IsWellTyped}
 use Rattle.well_typed.specs.Sources.{IsWellWritten}
-use Rattle.lowered_code.specs.Laws.{raw_code_of_program}
+use Rattle.lowered_code.specs.RawCodes.{raw_code_of_program}
 use Rattle.gate_laws.specs.Offers.{AreOffered}
 use Rattle.gate_laws.specs.Machines.{AreTaking}
 use Rattle.gate_laws.specs.Laws.{LiteralsAreWords, IsDealing, MayRun, GatesSuit}

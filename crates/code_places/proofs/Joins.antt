@@ -4,7 +4,7 @@ use Rattle.protocol_model.specs.Gates.{sizes_of}
 use Rattle.shared_gates.specs.Model.{run_gates, sizes_after}
 use Rattle.shared_gates.proofs.GatesBehind.{gates-then, sizes-then}
 use Rattle.driven_nodes.proofs.NodeRuns.{RunsJoin}
-use Rattle.gate_laws.specs.Facts.{Dealt}
+use Rattle.gate_laws.specs.Dealt.{Dealt}
 use Rattle.code_places.specs.Places.{run_dealt}
 
 pub run_dealt_joins : (d : Dealt) → RunsJoin (run_dealt d)

@@ -13,7 +13,8 @@ use Rattle.driven_nodes.specs.Steps.{On, Wants, place_of}
 use Rattle.driven_nodes.specs.Twins.{TwinBy}
 use Rattle.code_places.specs.Places.{Place, first_place, notices_between}
 use Rattle.code_places.specs.Twins.{GoAlike, EndAlike}
-use Rattle.code_places.specs.Laws.{in_the_clear, when_told}
+use Rattle.code_places.specs.Laws.{in_the_clear}
+use Rattle.code_places.specs.Places.{when_told}
 use Rattle.code_places.proofs.Turns.{begins_alike, code_has_twins}
 
 abbrev number : (secret : Bool) → Kind

@@ -18,7 +18,8 @@ use Rattle.blind_evaluation.proofs.Alike.{retold, Retold, SameOutcome, AlikeAt, 
 use Rattle.blind_evaluation.proofs.Rows.{clear, unseen}
 use Rattle.code_places.specs.Places.{Place, telling_stage, place, stopped, went, next_step}
 use Rattle.code_places.specs.Twins.{LikeMachine, LikeStage, GoAlike, EndAlike}
-use Rattle.code_places.specs.Laws.{in_the_clear, when_told, CodeHasTwins, BeginsAlike}
+use Rattle.code_places.specs.Laws.{in_the_clear, CodeHasTwins, BeginsAlike}
+use Rattle.code_places.specs.Places.{when_told}
 use Rattle.code_places.proofs.QuietSteps.{IsOpening, quiet_or_opening}
 use Rattle.code_places.proofs.Quiet.{Quiet}
 use Rattle.code_places.proofs.Asks.{gates_by, Gives, Wanting, Asks, quiet_asks, asks_then, declassified_asks}

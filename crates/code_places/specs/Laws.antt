@@ -2,24 +2,25 @@
 use Rattle.std.specs.Prelude.{◌≡◌, ◌≢◌, ℕ, List, ◌++◌, [], Some, Ok, Err}
 use Rattle.gates.specs.declared.gate.Gate.{Gate}
 use Rattle.language_model.specs.Beginnings.{Begins}
-use Rattle.language_model.specs.Effects.{World, Clear, Answers, Stage, Short, Run}
-use Rattle.language_model.specs.Reports.{Offered, world_of, public_part}
+use Rattle.language_model.specs.Effects.{World, Clear, Stage, Short, Run}
+use Rattle.language_model.specs.Reports.{Offered, world_of}
 use Rattle.verified_code.specs.Steps.{Declassify, Function}
 use Rattle.code_model.specs.Machine.{Machine, step}
-use Rattle.driven_nodes.specs.Steps.{Steps, ToRun}
+use Rattle.driven_nodes.specs.Steps.{ToRun}
 use Rattle.driven_nodes.specs.Twins.{Course, Twins}
-use Rattle.code_places.specs.Places.{Place, next_step, first_place, code_steps, code_course}
+use Rattle.code_places.specs.Places.{Place, next_step, first_place}
+use Rattle.code_places.specs.Laws.{code_course}
 use Rattle.code_places.specs.Twins.{GoAlike, EndAlike}
 
 -- ---- BESIDE THE RUN IN THE CLEAR
 
+-- in the clear nothing has to be told
+abbrev pub code_course : World → List Function → Course Place Gate
+code_course w c = record { step = λ p. step_told w c p []; gates = λ p. p.stage.gates; opened = λ p. p.stage.opened }
+
 -- the code's steps in the clear
 abbrev pub in_the_clear : Offered → List Function → Course Place Gate
 in_the_clear o c = code_course (world_of Clear o) c
-
--- and those of one who knows the public part and is told what is opened
-abbrev pub when_told : Offered → List Function → Steps Place Gate
-when_told o c = code_steps (world_of Answers (public_part o)) c
 
 -- each step in the clear has one beside it
 abbrev pub CodeHasTwins : Offered → List Function → Type 0

@@ -11,7 +11,7 @@ use Rattle.proto_core.specs.Strand.{Field, Words, Bits, Form, Notice, Shown, Pub
 use Rattle.protocol_model.specs.Gates.{sizes_of}
 use Rattle.gates.specs.declared.gate.Gate.{Gate}
 use Rattle.shared_gates.specs.Model.{run_gates, sizes_after}
-use Rattle.gate_laws.specs.Facts.{Dealt}
+use Rattle.gate_laws.specs.Dealt.{Dealt}
 use Rattle.language_model.specs.Effects.{World, Stage, RunStop, Ended, Short, Run}
 use Rattle.language_model.specs.Values.{Secrecy, Plain, Private}
 use Rattle.language_model.specs.Reports.{beginning}
@@ -19,7 +19,6 @@ use Rattle.typed_tree.specs.declared.kinds.Shape.{Shape}
 use Rattle.verified_code.specs.Steps.{Step, Publish, Declassify, Function}
 use Rattle.code_model.specs.Machine.{Machine, step, start}
 use Rattle.driven_nodes.specs.Steps.{Went, On, Over, Wants, Steps, ToRun, gained, last_of}
-use Rattle.driven_nodes.specs.Twins.{Course}
 
 -- ---- PLACES
 
@@ -88,9 +87,9 @@ notices_between p q values =
 abbrev pub code_steps : World → List Function → Steps Place Gate
 code_steps w c = record { step = step_told w c; gates = λ p. p.stage.gates; notices = notices_between }
 
--- in the clear nothing has to be told
-abbrev pub code_course : World → List Function → Course Place Gate
-code_course w c = record { step = λ p. step_told w c p []; gates = λ p. p.stage.gates; opened = λ p. p.stage.opened }
+-- the code's steps for one who knows the public part and is told what is opened
+abbrev pub when_told : Offered → List Function → Steps Place Gate
+when_told o c = code_steps (world_of Answers (public_part o)) c
 
 -- gates behind others, on what is dealt
 abbrev pub run_dealt : Dealt → ToRun Gate

@@ -3,7 +3,7 @@ ghost use Rattle.std.specs.Prelude.{ℕ, List};
 ghost use Rattle.language_model.specs.Effects.{World};
 ghost use Rattle.language_model.specs.Reports.{Offered};
 ghost use Rattle.verified_code.specs.Steps.{Function};
-ghost use Rattle.gate_laws.specs.Facts.{Dealt};
+ghost use Rattle.gate_laws.specs.Dealt.{Dealt};
 ghost use Rattle.code_places.specs.Places.{run_dealt};
 ghost use Rattle.code_places.specs.Laws.{CodeHasTwins, BeginsAlike, OnlyDeclassifyOpens, WantsBeforeItTells, RunsInParts};
 

@@ -9,13 +9,15 @@ use Rattle.language_model.specs.Tapes.{AtMost}
 use Rattle.language_model.proofs.Onward.{stage_of}
 use Rattle.verified_code.specs.Steps.{Function}
 use Rattle.code_model.specs.Machine.{Machine, step, further, exec}
-use Rattle.gate_laws.specs.Facts.{none_of, Dealt, IsAt}
+use Rattle.gate_laws.specs.Facts.{none_of, IsAt}
+use Rattle.gate_laws.specs.Dealt.{Dealt}
 use Rattle.gate_laws.specs.Laws.{MayRun}
 use Rattle.driven_nodes.specs.Steps.{Stopped}
 use Rattle.driven_nodes.specs.Twins.{gates_by, gates_of, stand_by, stand_after, TwinBy}
 use Rattle.code_places.specs.Places.{Place, place, stopped, went, next_step}
 use Rattle.code_places.specs.Twins.{GoAlike, EndAlike}
-use Rattle.code_places.specs.Laws.{in_the_clear, when_told, CodeHasTwins}
+use Rattle.code_places.specs.Laws.{in_the_clear, CodeHasTwins}
+use Rattle.code_places.specs.Places.{when_told}
 use Rattle.code_places.proofs.Turns.{gained_more}
 use Rattle.code_runs.proofs.Stays.{untold, Stays, After, none_left, same_step, after_step}
 

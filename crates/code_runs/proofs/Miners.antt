@@ -28,7 +28,8 @@ use Rattle.reached_instances.specs.Instances.{Instance}
 use Rattle.code_model.specs.Programs.{code_of}
 use Rattle.code_model.proofs.Means.{means}
 use Rattle.verified_code.specs.Steps.{Function}
-use Rattle.gate_laws.specs.Facts.{nothing_handed, drawn_by, none_of, Dealt, run_at, IsAt}
+use Rattle.gate_laws.specs.Facts.{nothing_handed, none_of, run_at, IsAt}
+use Rattle.gate_laws.specs.Dealt.{drawn_by, Dealt}
 use Rattle.gate_laws.proofs.Steps.{start_stands}
 use Rattle.driven_nodes.specs.Driven.{Turn, path, stop, notices}
 use Rattle.driven_nodes.specs.Steps.{Stand, Running, Stopped, Short, next_turn}
@@ -38,11 +39,13 @@ use Rattle.driven_nodes.proofs.NodeRuns.{SameRunAs, nodes_run_the_gates}
 use Rattle.driven_nodes.proofs.StepLaws as laws
 use Rattle.code_places.specs.Places.{Place, first_place, run_dealt}
 use Rattle.code_places.specs.Twins.{GoAlike, EndAlike}
-use Rattle.code_places.specs.Laws.{in_the_clear, when_told}
+use Rattle.code_places.specs.Laws.{in_the_clear}
+use Rattle.code_places.specs.Places.{when_told}
 use Rattle.code_places.proofs.Joins.{run_dealt_joins}
 use Rattle.code_places.proofs.Turns.{code_has_twins, begins_alike}
 use Rattle.code_runs.specs.Telling.{Tells}
-use Rattle.code_runs.specs.Runs.{miners, MayRunShared, StopsAs, RunAsReported, MinersRunTheCode, MinersRunTheProgram}
+use Rattle.code_runs.specs.Runs.{miners, StopsAs, RunAsReported}
+use Rattle.code_runs.specs.Laws.{MayRunShared, MinersRunTheCode, MinersRunTheProgram}
 use Rattle.code_runs.proofs.Stays.{Stays}
 use Rattle.code_runs.proofs.Values.{ready, same_opened}
 use Rattle.code_runs.proofs.Shown.{reads}

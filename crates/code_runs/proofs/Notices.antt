@@ -28,7 +28,8 @@ use Rattle.language_model.specs.Values.{Secrecy, Plain, Private, Value, plain, r
 use Rattle.blind_evaluation.specs.Courses.{LikeEvent}
 use Rattle.typed_tree.specs.declared.kinds.Shape.{Shape}
 use Rattle.verified_code.specs.Steps.{Step, Declassify, Publish, Function}
-use Rattle.gate_laws.specs.Facts.{InRange, drawn_by, AllStand, fact_from, Dealt, run_at}
+use Rattle.gate_laws.specs.Facts.{AllStand, fact_from, run_at}
+use Rattle.gate_laws.specs.Dealt.{InRange, drawn_by, Dealt}
 use Rattle.gate_laws.proofs.Openings.{read_same}
 use Rattle.driven_nodes.specs.Steps.{gained, last_of}
 use Rattle.code_places.specs.Places.{Place, next_step, field_of, form_of, publishing, told_by, where_made, notices_between}

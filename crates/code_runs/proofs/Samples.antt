@@ -15,12 +15,13 @@ use Rattle.language_model.specs.Reports.{Offered, world_of}
 use Rattle.verified_code.specs.Steps.{Step, Argument, Declassify, Publish, Jump, ReturnNone, Function}
 use Rattle.code_model.specs.Meaning.{mean, IsForward}
 use Rattle.code_model.specs.Kinded.{StepFits, IsFitting, IsSingle, AreSingle, is_return, public_scalar}
-use Rattle.gate_laws.specs.Facts.{drawn_by}
+use Rattle.gate_laws.specs.Dealt.{drawn_by}
 use Rattle.gate_laws.specs.Machines.{StepTakes}
 use Rattle.gate_laws.specs.Laws.{MayRun}
 use Rattle.gate_laws.proofs.Ranges.{one_below}
 use Rattle.gate_laws.proofs.Samples.{hidden_number, of_place, input, dealt, is_dealing}
-use Rattle.code_runs.specs.Runs.{MayRunShared, RunAsReported}
+use Rattle.code_runs.specs.Runs.{RunAsReported}
+use Rattle.code_runs.specs.Laws.{MayRunShared}
 use Rattle.code_runs.proofs.Miners.{miners_run_the_code}
 
 main_steps : List Step

@@ -20,7 +20,7 @@ use Rattle.language_model.specs.Effects.{Clear, Stage}
 use Rattle.language_model.specs.Reports.{Offered, world_of}
 use Rattle.verified_code.specs.Steps.{Step, Declassify, Publish, Function}
 use Rattle.code_model.specs.Machine.{Machine}
-use Rattle.gate_laws.specs.Facts.{Dealt, drawn_by}
+use Rattle.gate_laws.specs.Dealt.{Dealt, drawn_by}
 use Rattle.gate_laws.specs.Laws.{MayRun}
 use Rattle.gate_laws.proofs.Gains.{opened_split}
 use Rattle.driven_nodes.specs.Steps.{Went, On, Over, Wants, gained, last_of}

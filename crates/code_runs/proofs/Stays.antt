@@ -14,7 +14,8 @@ use Rattle.code_model.specs.Machine.{Machine, step}
 use Rattle.code_model.specs.Kinded.{IsWithin}
 use Rattle.code_model.specs.Laws.{StaysAt}
 use Rattle.code_model.proofs.Kept.{keeps}
-use Rattle.gate_laws.specs.Facts.{none_of, Dealt, run_at, IsAt}
+use Rattle.gate_laws.specs.Facts.{none_of, run_at, IsAt}
+use Rattle.gate_laws.specs.Dealt.{Dealt}
 use Rattle.gate_laws.specs.Machines.{MachineStands, ArrivesAt}
 use Rattle.gate_laws.specs.Laws.{MayRun}
 use Rattle.gate_laws.proofs.Walks.{keep_standing}

@@ -16,14 +16,15 @@ use Rattle.language_model.specs.Reports.{Offered, world_of}
 use Rattle.language_model.proofs.Onward.{stage_of}
 use Rattle.verified_code.specs.Steps.{Function}
 use Rattle.code_model.specs.Machine.{Machine, step, further, exec}
-use Rattle.gate_laws.specs.Facts.{drawn_by, Dealt}
+use Rattle.gate_laws.specs.Dealt.{drawn_by, Dealt}
 use Rattle.gate_laws.specs.Laws.{MayRun}
 use Rattle.driven_nodes.specs.Driven.{Turn, shares_behind, tapes_behind, place_behind, notices}
 use Rattle.driven_nodes.specs.Steps.{On, Over, place_of, Stand, Running, Stopped, gained, last_of, stand_of, turn_of, next_turn}
 use Rattle.driven_nodes.specs.Twins.{shown, Follows, untold, told, TwinBy}
 use Rattle.code_places.specs.Places.{Place, place, stopped, went, next_step, notices_between, run_dealt}
 use Rattle.code_places.specs.Twins.{GoAlike, EndAlike}
-use Rattle.code_places.specs.Laws.{in_the_clear, when_told, CodeHasTwins}
+use Rattle.code_places.specs.Laws.{in_the_clear, CodeHasTwins}
+use Rattle.code_places.specs.Places.{when_told}
 use Rattle.code_runs.specs.Telling.{Tells}
 use Rattle.code_runs.specs.Telling as tells
 use Rattle.code_runs.proofs.Stays.{untold as untold_same, Stays, Along, Final, After, none_left, same_step, after_step}

@@ -23,7 +23,8 @@ use Rattle.shared_plans.proofs.PlanRuns.{made-then}
 use Rattle.language_model.specs.Effects.{Clear, Stage}
 use Rattle.language_model.specs.Reports.{Offered, world_of}
 use Rattle.language_model.specs.Tapes.{AtMost}
-use Rattle.gate_laws.specs.Facts.{drawn_by, none_of, Dealt, run_at, IsAt}
+use Rattle.gate_laws.specs.Facts.{none_of, run_at, IsAt}
+use Rattle.gate_laws.specs.Dealt.{drawn_by, Dealt}
 use Rattle.driven_nodes.specs.Steps.{last_of}
 
 kinded_behind :

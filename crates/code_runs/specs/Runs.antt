@@ -1,10 +1,8 @@
 -- Three miners that run code, beside its run in the clear.
-use Rattle.std.specs.Prelude.{◌≡◌, ℕ, ◌-◌, nat_le, true, List, [], length, Option, Some}
-use Rattle.std.specs.List.{slice_get}
+use Rattle.std.specs.Prelude.{◌≡◌, ℕ, ◌-◌, List, [], Option, Some}
 use Rattle.sc_text.specs.declared.end.Ending.{Ending}
 use Rattle.proto_core.specs.declared.party.Number.{Number}
 use Rattle.proto_core.specs.declared.link.Link.{Link}
-use Rattle.proto_core.specs.Lists.{AreWords}
 use Rattle.proto_core.specs.Strand.{Mail, Strand, told_in}
 use Rattle.proto_core.specs.Script.{Move}
 use Rattle.proto_core.specs.Net.{nothing, run_of, opened_by, Finishes}
@@ -13,22 +11,16 @@ use Rattle.protocol_model.specs.Gates as model
 use Rattle.protocol_model.specs.Runs.{Shares, Tapes, Ready, run_messages, run_values}
 use Rattle.protocol_model.specs.Network.{Accepted, Default, Delivery, Shuffled, net, order_of, walked}
 use Rattle.protocol_model.specs.Schedules.{AnyOrder}
-use Rattle.shared_gates.specs.Model.{miner_of}
-use Rattle.language_model.specs.Effects.{Clear, Ended}
-use Rattle.language_model.specs.Reports.{Report, Offered, world_of, dealing, eval}
+use Rattle.language_model.specs.Effects.{Ended}
+use Rattle.language_model.specs.Reports.{Report, Offered}
 use Rattle.blind_evaluation.specs.Courses.{LikeEvents}
-use Rattle.typed_tree.specs.Programs.{TypedProgramTree}
-use Rattle.reached_instances.specs.Instances.{Instance}
 use Rattle.verified_code.specs.Steps.{Function}
-use Rattle.code_model.specs.Meaning.{fuel, mean, AreForward}
-use Rattle.code_model.specs.Programs.{code_of}
-use Rattle.code_model.specs.Fit.{IsFitProgram}
-use Rattle.gate_laws.specs.Facts.{Dealt, drawn_by}
-use Rattle.gate_laws.specs.Laws.{MayRun, IsDealing}
+use Rattle.code_model.specs.Meaning.{fuel}
+use Rattle.gate_laws.specs.Dealt.{Dealt}
 use Rattle.driven_nodes.specs.Driven.{Turn, path, stop, notices, driven_nodes}
 use Rattle.driven_nodes.specs.Steps.{Stand, Running, Stopped, next_turn}
 use Rattle.code_places.specs.Places.{Place, first_place, run_dealt}
-use Rattle.code_places.specs.Laws.{when_told}
+use Rattle.code_places.specs.Places.{when_told}
 use Rattle.code_runs.specs.Telling.{Tells}
 
 -- ---- THE MINERS
@@ -59,17 +51,6 @@ abbrev pub scripts : Dealt → Report → Number → List Move
 scripts d r i = gates_script i (gates_to_run d r)
 
 -- ---- WHAT THEY COME TO
-
--- code that may run in the clear and whose jumps go forward, inputs that are dealt, and tapes of words, as long as they are offered
-pub record MayRunShared (o : Offered) (d : Dealt) (c : List Function) (tapes : Tapes) : Type 0 where
-  pub code : MayRun (world_of Clear o) d c
-  pub main : Function
-  pub first : slice_get c 0 ≡ Some main
-  pub forward : AreForward c
-  pub dealt : IsDealing d
-  pub dealer : nat_le (dealing (world_of Clear o)) o.dealer ≡ true
-  pub words : (i : Number) → AreWords (tapes i)
-  pub long : (i : Number) → length (tapes i) ≡ drawn_by o.lengths (miner_of i)
 
 -- where they stop, beside the report of the run in the clear: only what is published may differ
 pub record StopsAs (r : Report) (budget : ℕ) (last : Place) : Type 0 where
@@ -105,11 +86,3 @@ module _ (o : Offered) (d : Dealt) (c : List Function) (budget : ℕ) (tapes : T
     pub in_order : walked (miners o d c budget tapes) 0 nothing (order_of (scripts d r) Default) ≡ Accepted
     pub shuffled : (words : ℕ → ℕ) → walked (miners o d c budget tapes) 0 nothing (order_of (scripts d r) (Shuffled words)) ≡ Accepted
     pub any_order : (order : List Link) → AnyOrder (miners o d c budget tapes) (messages d r tapes) order
-
-  abbrev pub MinersRunTheCode : Type 0
-  MinersRunTheCode = MayRunShared o d c tapes → RunAsReported (mean c o budget)
-
--- where the code is that of a program, the report is that of its evaluation
-abbrev pub MinersRunTheProgram : Offered → Dealt → TypedProgramTree → List Instance → (budget : ℕ) → Tapes → Type 0
-MinersRunTheProgram o d p is budget tapes =
-    IsFitProgram p is → MayRunShared o d (code_of p is) tapes → RunAsReported o d (code_of p is) budget tapes (eval p o budget)

@@ -12,7 +12,7 @@ use Rattle.proto_core.specs.Strand.{Field, Words, Bits, Form, Notice, Shown, Pub
 use Rattle.gates.specs.Clear.{ring_of}
 use Rattle.shared_gates.specs.Shares.{AreShares}
 use Rattle.language_model.specs.Values.{ring_for, element_of}
-use Rattle.gate_laws.specs.Facts.{InRange}
+use Rattle.gate_laws.specs.Dealt.{InRange}
 
 abbrev pub type_of : Field → DataType
 type_of Words = Uint64

@@ -5,8 +5,8 @@ ghost use Rattle.language_model.specs.Reports.{Offered};
 ghost use Rattle.typed_tree.specs.Programs.{TypedProgramTree};
 ghost use Rattle.reached_instances.specs.Instances.{Instance};
 ghost use Rattle.verified_code.specs.Steps.{Function};
-ghost use Rattle.gate_laws.specs.Facts.{Dealt};
-ghost use Rattle.code_runs.specs.Runs.{MinersRunTheCode, MinersRunTheProgram};
+ghost use Rattle.gate_laws.specs.Dealt.{Dealt};
+ghost use Rattle.code_runs.specs.Laws.{MinersRunTheCode, MinersRunTheProgram};
 
 /// Law: three miners run code that may run in the clear, each with its shares of the inputs and its tape, and told what is opened by its
 /// own last value. They send the messages of the joint run of the report's gates, end with their shares of all its values, and stop where

@@ -27,8 +27,8 @@ use Rattle.language_model.specs.Effects.{Words}
 use Rattle.language_model.specs.Reports.{Report}
 use Rattle.clear_eval.specs.Offers.{offered}
 use Rattle.verified_code.specs.Settled.{settled}
-use Rattle.lowered_code.specs.Laws.{raw_code_of_program}
-use Rattle.gate_laws.specs.Facts.{Dealt, drawn_by}
+use Rattle.lowered_code.specs.RawCodes.{raw_code_of_program}
+use Rattle.gate_laws.specs.Dealt.{Dealt, drawn_by}
 use Rattle.gate_laws.specs.Laws.{IsDealing}
 use Rattle.code_runs.specs.Telling.{elements_told, Tells}
 use Rattle.code_runs.specs.Telling as tells
@@ -46,7 +46,7 @@ use Rattle.program_views.specs.Views.{net_of}
 use Rattle.program_views.specs.Laws.{IsGivenTo}
 use Rattle.program_views.proofs.Simulated.{drew_counted}
 use Rattle.program_run.specs.Accepted.{IsAccepted}
-use Rattle.program_run.specs.Miners.{CanBeDealt}
+use Rattle.program_run.specs.Dealt.{CanBeDealt}
 use Rattle.own_code.specs.OwnCode.{Ended}
 use Rattle.miner_runs.specs.OwnRuns.{own_end, OwnRunAsReported}
 use Rattle.miner_runs.specs.Programs.{OwnRunsOnShares}

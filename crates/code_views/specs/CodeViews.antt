@@ -16,8 +16,8 @@ use Rattle.reached_instances.specs.Instances.{Instance}
 use Rattle.reached_instances.specs.Reached.{IsReachedList}
 use Rattle.clear_eval.specs.Offers.{offered}
 use Rattle.verified_code.specs.Settled.{settled}
-use Rattle.lowered_code.specs.Laws.{raw_code_of_program}
-use Rattle.gate_laws.specs.Facts.{drawn_by}
+use Rattle.lowered_code.specs.RawCodes.{raw_code_of_program}
+use Rattle.gate_laws.specs.Dealt.{drawn_by}
 use Rattle.driven_nodes.specs.Steps.{Stopped}
 use Rattle.code_places.specs.Places.{Place}
 use Rattle.code_runs.specs.Telling.{elements_told}
@@ -26,7 +26,7 @@ use Rattle.view_model.specs.TapeMaps.{miners_of}
 use Rattle.code_inputs.specs.Inputs.{dealt_of}
 use Rattle.program_views.specs.Views.{lengths_of, run_on, received, view_of, scripts_of, net_of}
 use Rattle.program_run.specs.Accepted.{IsAccepted}
-use Rattle.program_run.specs.Miners.{CanBeDealt}
+use Rattle.program_run.specs.Dealt.{CanBeDealt}
 use Rattle.own_code.specs.OwnCode.{Ended, Reached}
 use Rattle.miner_runs.specs.OwnRuns.{own_nodes}
 

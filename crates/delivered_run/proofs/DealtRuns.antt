@@ -19,12 +19,13 @@ use Rattle.clear_eval.specs.Offers.{offered, offered_with, part_given}
 use Rattle.gates.specs.Clear.{Values}
 use Rattle.view_model.specs.Dealing.{private_shares}
 use Rattle.view_model.specs.TapeMaps.{miners_of}
-use Rattle.gate_laws.specs.Facts.{Dealt}
+use Rattle.gate_laws.specs.Dealt.{Dealt}
 use Rattle.code_inputs.specs.Inputs.{dealt_of}
 use Rattle.miner_runs.specs.OwnRuns.{OwnRunAsReported, public_world}
 use Rattle.miner_runs.proofs.OwnRuns.{own_miners_run_the_code}
 use Rattle.link_schedule.specs.Net.{NetState, Own}
-use Rattle.program_run.specs.Reports.{CanRunOn, code_report, lengths_of}
+use Rattle.program_run.specs.Reports.{lengths_of}
+use Rattle.program_run.specs.Codes.{CanRunOn, code_report}
 use Rattle.program_run.specs.declared.running.RunReport.{RunReport}
 use Rattle.program_run.proofs.Told.{known_so}
 use Rattle.counted_net.specs.declared.delivery.DeliveryErr.{DeliveryErr}

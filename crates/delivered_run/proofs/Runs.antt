@@ -15,7 +15,7 @@ use Rattle.gates.specs.Clear.{Values}
 use Rattle.language_model.specs.Effects.{Ended, RunStop}
 use Rattle.language_model.specs.Reports.{Offered, Report}
 use Rattle.verified_code.specs.Steps.{Function}
-use Rattle.gate_laws.specs.Facts.{Dealt}
+use Rattle.gate_laws.specs.Dealt.{Dealt}
 use Rattle.driven_nodes.specs.Steps.{Stopped}
 use Rattle.code_places.specs.Places.{Place}
 use Rattle.code_runs.specs.Runs.{messages, scripts, shares}

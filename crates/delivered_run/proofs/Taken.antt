@@ -12,14 +12,15 @@ use Rattle.language_model.specs.Reports.{Report}
 use Rattle.code_inputs.specs.Inputs.{Suffice, dealt_of}
 use Rattle.code_runs.specs.Runs.{scripts}
 use Rattle.program_run.specs.Accepted.{IsAccepted}
-use Rattle.program_run.specs.Miners.{CanBeDealt}
+use Rattle.program_run.specs.Dealt.{CanBeDealt}
 use Rattle.program_run.proofs.Told.{ended_so}
 use Rattle.miner_runs.specs.OwnRuns.{OwnRunAsReported}
 use Rattle.miner_runs.proofs.Programs.{own_runs_where_accepted}
 use Rattle.program_run.specs.Reports.{eval_with}
 use Rattle.delivered_run.specs.Deliveries.{net_of}
 use Rattle.delivered_run.specs.Undealt.{no_scripts}
-use Rattle.delivered_run.specs.Laws.{HaveWords, IsMade, MadeIsTaken}
+use Rattle.delivered_run.specs.Laws.{MadeIsTaken}
+use Rattle.delivered_run.specs.Premises.{HaveWords, IsMade}
 
 -- ---- where the inputs can't be dealt there is no run
 

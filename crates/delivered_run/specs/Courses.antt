@@ -14,10 +14,10 @@ use Rattle.language_model.specs.Reports.{Offered, Report}
 use Rattle.clear_eval.specs.Offers.{offered}
 use Rattle.verified_code.specs.Steps.{Function}
 use Rattle.view_model.specs.TapeMaps.{miners_of}
-use Rattle.gate_laws.specs.Facts.{Dealt}
+use Rattle.gate_laws.specs.Dealt.{Dealt}
 use Rattle.code_inputs.specs.Inputs.{dealt_of}
 use Rattle.code_runs.specs.Runs.{messages}
-use Rattle.program_run.specs.Miners.{CanBeDealt}
+use Rattle.program_run.specs.Dealt.{CanBeDealt}
 use Rattle.program_run.specs.Reports.{eval_with, lengths_of}
 use Rattle.miner_runs.specs.OwnRuns.{OwnRunAsReported, own_nodes}
 use Rattle.link_schedule.specs.Net.{NetState, by_number, net_node}

@@ -7,7 +7,7 @@ use Rattle.tape_file.specs.Tapes.{FourTapes}
 use Rattle.typed_tree.specs.Programs.{TypedProgramTree}
 use Rattle.value_file.specs.declared.inputs.Entry.{Entry}
 use Rattle.language_model.specs.Reports.{Report}
-use Rattle.gate_laws.specs.Facts.{Dealt}
+use Rattle.gate_laws.specs.Dealt.{Dealt}
 use Rattle.code_inputs.specs.Inputs.{dealt_of}
 use Rattle.code_runs.specs.Runs.{scripts}
 use Rattle.program_run.specs.Reports.{TellsAs, eval_with}

@@ -3,4 +3,5 @@ pub mod Deliveries
 pub mod Courses
 pub mod Nets
 pub mod Undealt
+pub mod Premises
 pub mod Laws

@@ -13,7 +13,8 @@ use Rattle.language_model.specs.Values.{Secrecy, Plain, Private, Value, size, vi
 use Rattle.language_model.specs.Operations.{charged, largest, not_too_large, number_of, made_private, concatenated_from, concatenated, position, element_at}
 use Rattle.language_model.specs.Operations.{element_from, element_of_array}
 use Rattle.language_model.specs.Operations.{with_element_from, with_element, filled_from, filled}
-use Rattle.gate_laws.specs.Facts.{bound, InRange, IsProper, none_of, Fact, facts_of, Dealt, Suits}
+use Rattle.gate_laws.specs.Facts.{IsProper, none_of, Fact, facts_of, Suits}
+use Rattle.gate_laws.specs.Dealt.{bound, InRange, Dealt}
 use Rattle.gate_laws.proofs.Effects.{NoFacts, suits_bind, charge_suits, test_suits, first_stand, second_stand}
 use Rattle.gate_laws.proofs.Gains.{fact, gate_suits}
 use Rattle.gate_laws.proofs.Singles.{rep_gain, part_gain, cat_gain, put_gain}

@@ -22,7 +22,8 @@ use Rattle.language_model.specs.Words as W
 use Rattle.language_model.specs.Operations.{words_of_operator, is_scalar_left, is_scalar_right, is_product, result_shape, private_result, product_with}
 use Rattle.language_model.specs.Operations.{combined_from, operator_traps, operated}
 use Rattle.code_model.specs.Kinded.{left_array, right_array}
-use Rattle.gate_laws.specs.Facts.{bound, InRange, HasRange, IsProper, drawn_by, none_of, Fact, facts_of, Dealt, Suits}
+use Rattle.gate_laws.specs.Facts.{HasRange, IsProper, none_of, Fact, facts_of, Suits}
+use Rattle.gate_laws.specs.Dealt.{bound, InRange, drawn_by, Dealt}
 use Rattle.gate_laws.specs.Rows.{element_taken, has_gates, secrecy_suits, OperandsSuit}
 use Rattle.gate_laws.proofs.Effects.{Tell, suits_bind, suits_with, test_suits, draw_suits, first_stand, second_stand}
 use Rattle.gate_laws.proofs.Gains.{fact, gate_suits}

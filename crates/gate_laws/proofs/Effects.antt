@@ -19,7 +19,8 @@ use Rattle.shared_plans.specs.GateRuns.{GateRun, words_drawn}
 use Rattle.shared_plans.proofs.KindedPlans.{shared-grown}
 use Rattle.language_model.specs.Effects.{Words, World, Stage, Ended, Run, Effect, ◌>>=◌, carry, done, end, charge, test, with_more, fits, drawn_yet}
 use Rattle.language_model.specs.Effects.{take_words, draw, emit}
-use Rattle.gate_laws.specs.Facts.{and_told, drawn_by, none_of, Fact, Stands, AllStand, Dealt, run_at, IsAt, Grows, Comes, ComesAt, Suits}
+use Rattle.gate_laws.specs.Facts.{and_told, none_of, Fact, Stands, AllStand, run_at, IsAt, Grows, Comes, ComesAt, Suits}
+use Rattle.gate_laws.specs.Dealt.{drawn_by, Dealt}
 
 -- ---- facts
 

@@ -16,7 +16,8 @@ use Rattle.shared_plans.specs.Outcomes.{OpensNone, Follows}
 use Rattle.shared_plans.proofs.KindedPlans.{kind-behind}
 use Rattle.shared_plans.proofs.PlanRuns.{longer-formed, words-then, made-then}
 use Rattle.language_model.specs.Effects.{World, Stage, gate, planned}
-use Rattle.gate_laws.specs.Facts.{handed_by_gate, handed_values, Handed, Fact, Stands, AllStand, Dealt, run_at, IsAt, Comes, Suits}
+use Rattle.gate_laws.specs.Facts.{handed_by_gate, handed_values, Handed, Fact, Stands, AllStand, run_at, IsAt, Comes, Suits}
+use Rattle.gate_laws.specs.Dealt.{Dealt}
 use Rattle.gate_laws.proofs.Effects.{Any}
 
 pub opened_split : (values : Values) (xs ys : List Gate) → opened_values values (xs ++ ys) ≡ opened_values values xs ++ opened_values values ys

@@ -21,7 +21,7 @@ use Rattle.typed_tree.specs.declared.operators.BoolOperator.TheVariants as truth
 use Rattle.typed_tree.specs.declared.operators.BinaryOperator.{BinaryOperator}
 use Rattle.typed_tree.specs.declared.operators.BinaryOperator.TheVariants.{Words, Bools}
 use Rattle.typed_tree.specs.Operators.{element_made}
-use Rattle.gate_laws.specs.Facts.{bound}
+use Rattle.gate_laws.specs.Dealt.{bound}
 use Rattle.gate_laws.specs.Rows.{element_taken}
 use Rattle.gate_laws.proofs.Ranges.{Below, below_head, below_tail, two_below, truth_below}
 

@@ -32,7 +32,8 @@ use Rattle.shared_plans.proofs.PlanRuns.{made-then}
 use Rattle.language_model.specs.Effects.{World, Source, Clear, Answers, Stage, Short, Effect, ◌>>=◌, carry, done, gate, emit, answer, show, words_each}
 use Rattle.language_model.specs.Values.{Secrecy, Plain, Private, Value, plain, size, ring_for, elements_of}
 use Rattle.language_model.specs.Operations.{read_answer, revealed, opened_from, declassified}
-use Rattle.gate_laws.specs.Facts.{handed_values, Handed, and_told, InRange, IsProper, drawn_by, none_of, Fact, Stands, facts_of, Dealt, run_at, IsAt}
+use Rattle.gate_laws.specs.Facts.{handed_values, Handed, and_told, IsProper, none_of, Fact, Stands, facts_of, run_at, IsAt}
+use Rattle.gate_laws.specs.Dealt.{InRange, drawn_by, Dealt}
 use Rattle.gate_laws.specs.Facts.{Grows, Comes, ComesAt, Suits}
 use Rattle.gate_laws.proofs.Effects.{Tell, suits_bind, suits_owed, draw_suits}
 use Rattle.gate_laws.proofs.Gains.{fact, opened_split, handed_split}

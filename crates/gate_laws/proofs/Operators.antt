@@ -26,7 +26,8 @@ use Rattle.language_model.specs.Values.{ring_for}
 use Rattle.language_model.specs.Words.{flipped, word_meaning, truth_meaning, meaning}
 use Rattle.language_model.specs.Operations.{flip, words_for_equality, words_for_order, words_of_word_operator, words_of_bool_operator, words_of_operator}
 use Rattle.language_model.specs.Operations.{equal_gates, less_gates, word_gates, or_gates, bool_gates, operator_gates}
-use Rattle.gate_laws.specs.Facts.{InRange, drawn_by, none_of, Fact, Dealt, Suits}
+use Rattle.gate_laws.specs.Facts.{none_of, Fact, Suits}
+use Rattle.gate_laws.specs.Dealt.{InRange, drawn_by, Dealt}
 use Rattle.gate_laws.specs.Rows.{element_taken, has_gates}
 use Rattle.gate_laws.proofs.Effects.{Tell, Any, suits_bind}
 use Rattle.gate_laws.proofs.Gains.{fact, gate_suits, planned_suits}

@@ -13,7 +13,8 @@ use Rattle.typed_tree.specs.declared.kinds.Shape.{Shape}
 use Rattle.language_model.specs.Effects.{World, Effect, done, gate}
 use Rattle.language_model.specs.Values.{Secrecy, Plain, Private, Value, plain, size, ring_for}
 use Rattle.language_model.specs.Operations.{charged, no_traps, number_from, number_of, stretched, made_private, classified_from, classified}
-use Rattle.gate_laws.specs.Facts.{InRange, HasRange, IsProper, none_of, Fact, fact_from, facts_of, Dealt, Suits}
+use Rattle.gate_laws.specs.Facts.{HasRange, IsProper, none_of, Fact, fact_from, facts_of, Suits}
+use Rattle.gate_laws.specs.Dealt.{InRange, Dealt}
 use Rattle.gate_laws.proofs.Effects.{Tell, Any, NoFacts, suits_bind, suits_with, suits_done, charge_suits}
 use Rattle.gate_laws.proofs.Gains.{fact, gate_suits}
 use Rattle.gate_laws.proofs.Singles.{const_gain, rep_gain}

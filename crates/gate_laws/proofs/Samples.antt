@@ -20,7 +20,7 @@ use Rattle.bytecode.specs.declared.kind.Kind.{Kind}
 use Rattle.verified_code.specs.Steps.{Step, Argument, Binary, Declassify, Publish, ReturnNone, Function}
 use Rattle.code_model.specs.Meaning.{mean_in}
 use Rattle.code_model.specs.Kinded.{StepFits, IsFitting, IsIn, IsSingle, AreSingle, is_return, public_scalar}
-use Rattle.gate_laws.specs.Facts.{Dealt}
+use Rattle.gate_laws.specs.Dealt.{Dealt}
 use Rattle.gate_laws.specs.Machines.{StepTakes}
 use Rattle.gate_laws.specs.Laws.{MayRun, IsDealing, GatesSuit}
 use Rattle.gate_laws.proofs.Ranges.{one_below}

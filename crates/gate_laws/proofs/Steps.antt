@@ -24,7 +24,8 @@ use Rattle.code_model.specs.Machine.{Caller, Machine, at, next, values_at, begun
 use Rattle.code_model.specs.Machine.{same_bool, step, begin_at}
 use Rattle.code_model.specs.Kinded.{IsWithin, HasKind, cast_source}
 use Rattle.code_model.proofs.Places.{put_all}
-use Rattle.gate_laws.specs.Facts.{bound, IsProper, none_of, Fact, AllStand, facts_of, Dealt, run_at, IsAt, Grows, ComesAt, Suits}
+use Rattle.gate_laws.specs.Facts.{IsProper, none_of, Fact, AllStand, facts_of, run_at, IsAt, Grows, ComesAt, Suits}
+use Rattle.gate_laws.specs.Dealt.{bound, Dealt}
 use Rattle.gate_laws.specs.Rows.{secrecy_suits, OperandsSuit, IsOfElements}
 use Rattle.gate_laws.specs.Offers.{AreOffered}
 use Rattle.gate_laws.specs.Machines.{ValueStands, FrameStands, CallersStand, MachineStands, ArrivesAt, HasElement, StepTakes}

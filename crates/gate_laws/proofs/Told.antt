@@ -23,7 +23,8 @@ use Rattle.shared_gates.specs.Shares.{Kind, Shared}
 use Rattle.shared_gates.specs.Model.{miner_of}
 use Rattle.shared_gates.specs.Computed.{opened_values}
 use Rattle.shared_plans.proofs.PlanRuns.{longer-formed, words-then, made-then}
-use Rattle.gate_laws.specs.Facts.{bound, IsProper, handed_values, Handed, and_handed, drawn_by, none_of, Fact, facts_of, Dealt, run_at, Suits}
+use Rattle.gate_laws.specs.Facts.{IsProper, handed_values, Handed, and_handed, none_of, Fact, facts_of, run_at, Suits}
+use Rattle.gate_laws.specs.Dealt.{bound, drawn_by, Dealt}
 use Rattle.gate_laws.specs.Offers.{IsOffered, AreOffered}
 use Rattle.gate_laws.proofs.Effects.{Tell, Any, NoFacts, suits_bind, suits_again, suits_with, suits_done, suits_end, charge_suits, test_suits, emit_suits}
 use Rattle.gate_laws.proofs.Effects.{draw_suits}

@@ -30,7 +30,8 @@ use Rattle.language_model.specs.Values.{Secrecy, Plain, Private, Value, size}
 use Rattle.language_model.specs.Words.{flipped, cast_word}
 use Rattle.language_model.specs.Operations.{negated_from, negated, words_for_equality, words_for_conversion, words_for_bits, cast_from, cast_to, size_told}
 use Rattle.language_model.specs.Operations.{summed_from, summed, bits_from, bits_extracted, largest, not_too_large}
-use Rattle.gate_laws.specs.Facts.{InRange, IsProper, drawn_by, none_of, Fact, facts_of, Dealt, Suits}
+use Rattle.gate_laws.specs.Facts.{IsProper, none_of, Fact, facts_of, Suits}
+use Rattle.gate_laws.specs.Dealt.{InRange, drawn_by, Dealt}
 use Rattle.code_model.specs.Kinded.{cast_source}
 use Rattle.gate_laws.specs.Rows.{IsOfElements}
 use Rattle.gate_laws.proofs.Effects.{suits_bind, charge_suits, test_suits, draw_suits}

@@ -16,7 +16,8 @@ use Rattle.code_model.specs.Kinded.{IsWithin}
 use Rattle.code_model.specs.Laws.{StaysAt}
 use Rattle.code_model.proofs.Within.{next_there}
 use Rattle.code_model.proofs.Kept.{keeps, begins}
-use Rattle.gate_laws.specs.Facts.{nothing_handed, drawn_by, none_of, Dealt, run_at, IsAt}
+use Rattle.gate_laws.specs.Facts.{nothing_handed, none_of, run_at, IsAt}
+use Rattle.gate_laws.specs.Dealt.{drawn_by, Dealt}
 use Rattle.gate_laws.specs.Machines.{MachineStands, ArrivesAt}
 use Rattle.gate_laws.specs.Laws.{MayRun, IsDealing, StepsKeepStanding, GatesSuit, RunsMakeSuitedGates}
 use Rattle.gate_laws.proofs.Steps.{act, start_stands}

@@ -1,33 +1,24 @@
 -- What is known at a stage of a run: its gates as a run of gates on shares, and the values of numbers that they make.
 use Rattle.std.specs.Prelude.{◌≡◌, ℕ, ◌+◌, ◌<◌, ◌^◌, List, [], ◌∷◌, ◌++◌, length, map, Some, None, Ok, Err}
 use Rattle.secrec_ast.specs.declared.expression.DataType.{DataType}
-use Rattle.secrec_ast.specs.declared.expression.DataType.TheVariants.{Uint64}
-use Rattle.secrec_ast.specs.declared.expression.DataType.TheVariants as datatype
 use Rattle.proto_core.specs.declared.party.Number.{Number}
-use Rattle.proto_core.specs.Lists.{at, AreWords}
+use Rattle.proto_core.specs.Lists.{AreWords}
 use Rattle.gates.specs.declared.ring_kind.RingKind.{RingKind}
 use Rattle.gates.specs.declared.gate.Gate.{Gate}
 use Rattle.gates.specs.declared.gate.Gate.TheVariants.{Result}
 use Rattle.sc_text.specs.declared.event.Event.{Event}
 use Rattle.sc_text.specs.declared.event.Event.TheVariants.{Publish}
 use Rattle.gates.specs.Clear.{Values, value, FitFrom}
-use Rattle.gates.specs.Counts.{Miner, Miner1, Miner2, Miner3}
+use Rattle.gates.specs.Counts.{Miner}
 use Rattle.shared_gates.specs.Shares.{Kind, Shared, kind_at}
 use Rattle.shared_gates.specs.Model.{miner_of}
 use Rattle.shared_gates.specs.Computed.{opened_values}
 use Rattle.shared_plans.specs.GateRuns.{GateRun, IsWellFormed, value_count, words_drawn}
-use Rattle.language_model.specs.Effects.{Words, World, Clear, Stage, Run, Effect}
+use Rattle.language_model.specs.Effects.{World, Clear, Stage, Run, Effect}
 use Rattle.language_model.specs.Values.{Secrecy, Plain, Private, Value, ring_for, element_of}
+use Rattle.gate_laws.specs.Dealt.{Dealt, InRange, drawn_by}
 
 -- ---- WORDS
-
--- numbers are below 2^64, truth values below 2
-abbrev pub bound : DataType → ℕ
-bound Uint64 = 2 ^ 64
-bound datatype.Bool = 2
-
-abbrev pub InRange : DataType → List ℕ → Type 0
-InRange e words = (k : ℕ) → at words k < bound e
 
 abbrev pub HasRange : Value → Type 0
 HasRange v = InRange v.shape.element v.words
@@ -36,11 +27,6 @@ HasRange v = InRange v.shape.element v.words
 pub record IsProper (v : Value) : Type 0 where
   pub range : HasRange v
   pub small : length v.words < 2 ^ 64
-
-abbrev pub drawn_by : Words → Miner → ℕ
-drawn_by d Miner1 = d.first
-drawn_by d Miner2 = d.second
-drawn_by d Miner3 = d.third
 
 -- no word of any miner
 abbrev pub none_of : Miner → ℕ
@@ -92,12 +78,6 @@ pub data Handed : List Event → List (List ℕ) → Type 0 where
       → Handed (es ++ Publish text (map (element_of e) words) ∷ []) (vs ++ words ∷ [])
 
 -- ---- STAGES
-
--- what is dealt: the private inputs, in which ring each is shared, and each miner's shares of them
-pub record Dealt : Type 0 where
-  pub inputs : Values
-  pub kinds : List Kind
-  pub shares : Number → Values
 
 module _ (w : World) (d : Dealt) where
   -- the gates of a stage as a run on shares, where the values that they make are shared like this

@@ -19,7 +19,8 @@ use Rattle.code_model.specs.Machine.{Machine, step}
 use Rattle.code_model.specs.Meaning.{mean_in}
 use Rattle.code_model.specs.Kinded.{AreSingle, IsWithin}
 use Rattle.code_model.specs.Laws.{AreFitting}
-use Rattle.gate_laws.specs.Facts.{handed_values, Handed, drawn_by, none_of, Dealt, run_at, IsAt}
+use Rattle.gate_laws.specs.Facts.{handed_values, Handed, none_of, run_at, IsAt}
+use Rattle.gate_laws.specs.Dealt.{drawn_by, Dealt}
 use Rattle.gate_laws.specs.Offers.{AreOffered}
 use Rattle.gate_laws.specs.Machines.{MachineStands, ArrivesAt, AreTaking}
 

@@ -1,3 +1,4 @@
+pub mod Dealt
 pub mod Facts
 pub mod Rows
 pub mod Offers

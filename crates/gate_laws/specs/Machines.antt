@@ -13,7 +13,8 @@ use Rattle.bytecode.specs.declared.kind.Kind.{Kind}
 use Rattle.verified_code.specs.Steps.{Step, Literal, Binary, Not, Cast, Fill, Put, Cat, Sum, Bits, Function}
 use Rattle.code_model.specs.Machine.{Caller, Machine}
 use Rattle.code_model.specs.Kinded.{HasKind, IsIn, cast_source, left_array, right_array}
-use Rattle.gate_laws.specs.Facts.{bound, IsProper, none_of, AllStand, facts_of, Dealt, run_at, IsAt, Grows, Comes}
+use Rattle.gate_laws.specs.Facts.{IsProper, none_of, AllStand, facts_of, run_at, IsAt, Grows, Comes}
+use Rattle.gate_laws.specs.Dealt.{bound, Dealt}
 use Rattle.gate_laws.specs.Rows.{element_taken, secrecy_suits}
 
 -- ---- MACHINES

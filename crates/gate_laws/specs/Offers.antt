@@ -5,7 +5,7 @@ use Rattle.shared_gates.specs.Shares.{Shared, kind_at}
 use Rattle.language_model.specs.Effects.{GivenInput}
 use Rattle.language_model.specs.Values.{ring_for}
 use Rattle.language_model.specs.Evaluation.{behind}
-use Rattle.gate_laws.specs.Facts.{InRange, Dealt}
+use Rattle.gate_laws.specs.Dealt.{InRange, Dealt}
 
 -- private input number k is dealt with these words, in the ring of its elements
 pub record IsDealt (d : Dealt) (x : GivenInput) (k : ℕ) : Type 0 where

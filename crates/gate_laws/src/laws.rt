@@ -3,7 +3,7 @@ ghost use Rattle.std.specs.Prelude.{ℕ, List};
 ghost use Rattle.language_model.specs.Effects.{World};
 ghost use Rattle.bytecode.specs.Raw.{RawCode};
 ghost use Rattle.verified_code.specs.Steps.{Function};
-ghost use Rattle.gate_laws.specs.Facts.{Dealt};
+ghost use Rattle.gate_laws.specs.Dealt.{Dealt};
 ghost use Rattle.gate_laws.specs.Laws.{StepsKeepStanding, RunsMakeSuitedGates, VerifiedSuits};
 
 /// Law: a step of code from a stage whose gates suit leads to one, in the clear and blind, also where the run ends. The gates that it

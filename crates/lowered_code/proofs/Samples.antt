@@ -27,7 +27,8 @@ use Rattle.verified_code.specs.Verified.{IsVerified}
 use Rattle.code_model.specs.Fit.{the_main}
 use Rattle.code_model.specs.Programs.{code_of}
 use Rattle.well_typed.specs.Programs.{IsWellTypedInstance, IsWellTyped}
-use Rattle.lowered_code.specs.Laws.{HasNumberedRegisters, raw_code_of_program}
+use Rattle.lowered_code.specs.Laws.{HasNumberedRegisters}
+use Rattle.lowered_code.specs.RawCodes.{raw_code_of_program}
 use Rattle.lowered_code.proofs.Verified.{well_typed_verified}
 
 -- template <domain D> D uint64 f(D uint64 x) { return x + 1; }

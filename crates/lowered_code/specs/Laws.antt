@@ -11,7 +11,6 @@ use Rattle.reached_instances.specs.Reached.{IsReachedList}
 use Rattle.program_limits.specs.Limits.{IsWithinLimits}
 use Rattle.language_model.specs.Effects.{World}
 use Rattle.language_model.specs.Reports.{evaluated}
-use Rattle.bytecode.specs.Raw.{RawCode}
 use Rattle.verified_code.specs.Settled.{settled}
 use Rattle.verified_code.specs.Steps.{Function}
 use Rattle.verified_code.specs.Verified.{IsVerified}
@@ -19,9 +18,10 @@ use Rattle.code_model.specs.Fit.{IsFitProgram}
 use Rattle.code_model.specs.Kinded.{IsIn}
 use Rattle.code_model.specs.Meaning.{mean_in}
 use Rattle.code_model.specs.Programs.{code_of}
-use Rattle.raw_steps.specs.Instructions.{nowhere, raw_code_of}
+use Rattle.raw_steps.specs.Instructions.{nowhere}
 use Rattle.well_typed.specs.Programs.{IsWellTyped}
 use Rattle.well_typed.specs.Sources.{IsWellWritten}
+use Rattle.lowered_code.specs.RawCodes.{raw_code_of_program}
 
 -- a well-typed program fits what its code asks of it
 abbrev pub FitsWhereWellTyped : TypedProgramTree → List Instance → Type 0
@@ -50,10 +50,6 @@ AreSmall p is = (i : Instance) → Among i is → (f : TypedFunctionTree) → sl
 abbrev pub HasNumbersWhereSmall : ProgramTree → Type 0
 HasNumbersWhereSmall source =
     (p : TypedProgramTree) → typed_of source ≡ Some p → (is : List Instance) → AreSmall p is → HasNumberedRegisters (code_of p is)
-
--- instructions with the numbers that the bytes say
-abbrev pub raw_code_of_program : TypedProgramTree → List Instance → RawCode
-raw_code_of_program p is = raw_code_of (code_of p is)
 
 -- it is verified, and settles to the code
 abbrev pub IsVerifiedWhereWellTyped : TypedProgramTree → List Instance → Type 0

@@ -1,1 +1,2 @@
+pub mod RawCodes
 pub mod Laws

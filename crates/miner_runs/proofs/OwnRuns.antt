@@ -19,7 +19,7 @@ use Rattle.shared_gates.proofs.Models.{gates-sound}
 use Rattle.language_model.specs.Reports.{Report, Offered}
 use Rattle.verified_code.specs.Steps.{Function}
 use Rattle.code_model.specs.Meaning.{fuel}
-use Rattle.gate_laws.specs.Facts.{Dealt}
+use Rattle.gate_laws.specs.Dealt.{Dealt}
 use Rattle.driven_nodes.specs.Alike.{Alike, AreAlike}
 use Rattle.driven_nodes.specs.Driven.{path, stop, Goes}
 use Rattle.driven_nodes.specs.Steps.{Stand, Stopped}
@@ -31,11 +31,13 @@ use Rattle.code_places.specs.Laws.{in_the_clear}
 use Rattle.code_places.specs.Twins.{GoAlike, EndAlike}
 use Rattle.code_places.proofs.Turns.{code_has_twins, begins_alike}
 use Rattle.code_runs.specs.Telling.{Tells}
-use Rattle.code_runs.specs.Runs.{next, start, miners, gates_to_run, messages, shares, scripts, MayRunShared, RunAsReported}
+use Rattle.code_runs.specs.Runs.{next, start, miners, gates_to_run, messages, shares, scripts, RunAsReported}
+use Rattle.code_runs.specs.Laws.{MayRunShared}
 use Rattle.code_runs.proofs.Miners as driven
 use Rattle.code_runs.proofs.Notices.{retold}
 use Rattle.own_code.specs.OwnCode.{Ended, Reached}
-use Rattle.miner_runs.specs.OwnRuns.{public_world, own_nodes, own_end, OwnRunAsReported, OwnMinersRunTheCode}
+use Rattle.miner_runs.specs.OwnRuns.{public_world, own_nodes, own_end, OwnRunAsReported}
+use Rattle.miner_runs.specs.Laws.{OwnMinersRunTheCode}
 use Rattle.miner_runs.proofs.Deeds.{DoAlike, like_third}
 use Rattle.miner_runs.proofs.Turns.{end_of, own_alike}
 

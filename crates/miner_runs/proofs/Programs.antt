@@ -4,7 +4,7 @@ use Rattle.language_model.specs.Reports.{Report, Offered}
 use Rattle.clear_eval.specs.Offers.{offered}
 use Rattle.verified_code.specs.Steps.{Function}
 use Rattle.verified_code.specs.Settled.{settled}
-use Rattle.lowered_code.specs.Laws.{raw_code_of_program}
+use Rattle.lowered_code.specs.RawCodes.{raw_code_of_program}
 use Rattle.tape_file.specs.Tapes.{FourTapes}
 use Rattle.value_file.specs.declared.inputs.Entry.{Entry}
 use Rattle.typed_tree.specs.Programs.{TypedProgramTree}
@@ -14,7 +14,7 @@ use Rattle.code_inputs.specs.Laws.{IsAccepted}
 use Rattle.program_run.specs.Reports.{lengths_of}
 use Rattle.program_run.proofs.Shared.{may_run_shared, means_so}
 use Rattle.miner_runs.specs.OwnRuns.{OwnRunAsReported}
-use Rattle.miner_runs.specs.Programs.{OwnRunsWhereAccepted}
+use Rattle.miner_runs.specs.Laws.{OwnRunsWhereAccepted}
 use Rattle.miner_runs.proofs.OwnRuns.{own_miners_run_the_code}
 
 pub own_runs_where_accepted : (p : TypedProgramTree) (entries : List Entry) (t : FourTapes) (budget : ℕ) → OwnRunsWhereAccepted p entries t budget

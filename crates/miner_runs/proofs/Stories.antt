@@ -14,7 +14,7 @@ use Rattle.language_model.specs.Effects.{World}
 use Rattle.language_model.specs.Reports.{Report, Offered}
 use Rattle.verified_code.specs.Steps.{Function}
 use Rattle.code_model.specs.Meaning.{fuel, mean}
-use Rattle.gate_laws.specs.Facts.{Dealt}
+use Rattle.gate_laws.specs.Dealt.{Dealt}
 use Rattle.code_places.specs.Places.{first_place}
 use Rattle.code_runs.specs.Runs.{messages}
 use Rattle.code_runs.proofs.Notices.{retold}

@@ -16,7 +16,7 @@ use Rattle.shared_gates.specs.Model.{AllSizesSuit, sizes_after}
 use Rattle.shared_gates.proofs.GatesBehind.{sizes-then}
 use Rattle.language_model.specs.Effects.{World}
 use Rattle.verified_code.specs.Steps.{Function}
-use Rattle.gate_laws.specs.Facts.{Dealt}
+use Rattle.gate_laws.specs.Dealt.{Dealt}
 use Rattle.driven_nodes.specs.Driven.{Turn, telling, shares_behind, tapes_behind, place_behind, LeadsTogether, driven, path, Goes}
 use Rattle.driven_nodes.specs.Steps.{Went, On, Over, Wants, Steps, Stand, Running, Stopped, place_of, stand_of, gained, last_of, turn_of, next_turn}
 use Rattle.driven_nodes.specs.Twins.{Course, gates_by, gates_of, ReadsBy, Reads, Follows, untold, told, TwinBy, Twins}

@@ -2,3 +2,4 @@
 pub mod OwnRuns
 pub mod Stories
 pub mod Programs
+pub mod Laws

@@ -12,12 +12,12 @@ use Rattle.protocol_model.specs.Schedules.{AnyOrder}
 use Rattle.language_model.specs.Effects.{World, Answers}
 use Rattle.language_model.specs.Reports.{Report, Offered, world_of, public_part}
 use Rattle.verified_code.specs.Steps.{Function}
-use Rattle.code_model.specs.Meaning.{fuel, mean}
-use Rattle.gate_laws.specs.Facts.{Dealt}
+use Rattle.code_model.specs.Meaning.{fuel}
+use Rattle.gate_laws.specs.Dealt.{Dealt}
 use Rattle.driven_nodes.specs.Steps.{Stopped}
 use Rattle.code_places.specs.Places.{Place, first_place}
 use Rattle.code_runs.specs.Telling.{Tells}
-use Rattle.code_runs.specs.Runs.{messages, shares, scripts, MayRunShared, TurnsComeTo}
+use Rattle.code_runs.specs.Runs.{messages, shares, scripts, TurnsComeTo}
 use Rattle.own_code.specs.OwnCode.{Ended, Reached, own_code}
 
 -- the world of one who has no private input, and is told what is opened
@@ -60,6 +60,3 @@ module _ (o : Offered) (d : Dealt) (c : List Function) (budget : ℕ) (tapes : T
     pub posted_count :
         (mail : Mail) → MailBegins mail (messages d r tapes) → (l : Link)
         → length (posted (own_nodes o d c budget tapes) mail l) ≡ posted_count (scripts d r) (counts mail) l
-
-  abbrev pub OwnMinersRunTheCode : Type 0
-  OwnMinersRunTheCode = MayRunShared o d c tapes → OwnRunAsReported (mean c o budget)

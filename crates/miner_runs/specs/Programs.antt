@@ -7,12 +7,10 @@ use Rattle.reached_instances.specs.Instances.{Instance}
 use Rattle.reached_instances.specs.Reached.{IsReachedList}
 use Rattle.clear_eval.specs.Offers.{offered}
 use Rattle.verified_code.specs.Settled.{settled}
-use Rattle.lowered_code.specs.Laws.{raw_code_of_program}
+use Rattle.lowered_code.specs.RawCodes.{raw_code_of_program}
 use Rattle.view_model.specs.TapeMaps.{miners_of}
 use Rattle.code_inputs.specs.Inputs.{dealt_of}
-use Rattle.program_run.specs.Accepted.{IsAccepted}
 use Rattle.program_run.specs.Reports.{eval_with, lengths_of}
-use Rattle.program_run.specs.Miners.{CanBeDealt}
 use Rattle.miner_runs.specs.OwnRuns.{OwnRunAsReported}
 
 -- they run the program's code as its evaluation in the clear reports
@@ -22,6 +20,3 @@ pub record OwnRunsOnShares (p : TypedProgramTree) (entries : List Entry) (t : Fo
   pub run :
       OwnRunAsReported (offered entries (lengths_of t)) (dealt_of entries t.dealer) (settled (raw_code_of_program p reached)) budget (miners_of t)
       (eval_with p entries t budget)
-
-abbrev pub OwnRunsWhereAccepted : TypedProgramTree → List Entry → FourTapes → (budget : ℕ) → Type 0
-OwnRunsWhereAccepted p entries t budget = IsAccepted p → CanBeDealt entries t → OwnRunsOnShares p entries t budget

@@ -12,9 +12,9 @@ use Rattle.language_model.specs.Effects as effects
 use Rattle.language_model.specs.Reports.{Report, Offered}
 use Rattle.verified_code.specs.Steps.{Function}
 use Rattle.code_model.specs.Meaning.{mean}
-use Rattle.gate_laws.specs.Facts.{Dealt}
+use Rattle.gate_laws.specs.Dealt.{Dealt}
 use Rattle.code_runs.specs.Telling.{Tells}
-use Rattle.code_runs.specs.Runs.{MayRunShared}
+use Rattle.code_runs.specs.Laws.{MayRunShared}
 use Rattle.miner_core.specs.declared.answer.End.TheVariants as end
 use Rattle.miner_core.specs.Story.{Story, node, has_opened, has_told, HasEnded}
 use Rattle.miner_runs.specs.OwnRuns.{public_world, own_nodes}

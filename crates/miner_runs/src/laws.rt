@@ -9,11 +9,11 @@ ghost use Rattle.value_file.specs.declared.inputs.Entry.{Entry};
 ghost use Rattle.language_model.specs.Reports.{Offered};
 ghost use Rattle.typed_tree.specs.Programs.{TypedProgramTree};
 ghost use Rattle.verified_code.specs.Steps.{Function};
-ghost use Rattle.gate_laws.specs.Facts.{Dealt};
+ghost use Rattle.gate_laws.specs.Dealt.{Dealt};
 ghost use Rattle.miner_core.specs.Story.{Story};
-ghost use Rattle.miner_runs.specs.OwnRuns.{OwnMinersRunTheCode};
+ghost use Rattle.miner_runs.specs.Laws.{OwnMinersRunTheCode};
 ghost use Rattle.miner_runs.specs.Stories.{DoesItsPart, HaveDoneWhereAccepted};
-ghost use Rattle.miner_runs.specs.Programs.{OwnRunsWhereAccepted};
+ghost use Rattle.miner_runs.specs.Laws.{OwnRunsWhereAccepted};
 
 /// Law: three miners run code that may run in the clear, each by its shares of the inputs and its own values and tape alone: it tests its
 /// gates on its own values, and is told what is opened by its own last value. No gate is found unfit, and no tape too short. They send

@@ -21,23 +21,25 @@ use Rattle.code_model.specs.Meaning.{mean}
 use Rattle.verified_code.proofs.Sound.{verified_is_sound}
 use Rattle.code_model.proofs.Settled.{sound_forward}
 use Rattle.well_typed.proofs.Reaching.{accepted_well_typed}
-use Rattle.lowered_code.specs.Laws.{raw_code_of_program}
+use Rattle.lowered_code.specs.RawCodes.{raw_code_of_program}
 use Rattle.lowered_code.proofs.Limits.{within_small}
 use Rattle.lowered_code.proofs.RegistersOfPrograms.{small_numbered}
 use Rattle.lowered_code.proofs.Verified.{code_right, well_typed_verified, accepted_runs}
-use Rattle.gate_laws.specs.Facts.{Dealt, drawn_by}
+use Rattle.gate_laws.specs.Dealt.{Dealt, drawn_by}
 use Rattle.view_model.specs.TapeMaps.{miners_of}
 use Rattle.code_inputs.specs.Inputs.{AreSound, Suffice, dealt_of}
 use Rattle.code_inputs.specs.Laws.{IsAccepted}
 use Rattle.code_inputs.proofs.Offering.{are_dealt}
 use Rattle.code_inputs.proofs.Running.{runs_on_inputs}
-use Rattle.code_runs.specs.Runs.{MayRunShared, RunAsReported}
+use Rattle.code_runs.specs.Runs.{RunAsReported}
+use Rattle.code_runs.specs.Laws.{MayRunShared}
 use Rattle.code_runs.proofs.Miners.{miners_run_the_code}
 use Rattle.program_run.specs.Accepted.{IsAccepted as Accepted}
 use Rattle.program_run.specs.Miners.{RunsWhereAccepted}
 use Rattle.bytecode.specs.Raw.{RawCode}
 use Rattle.program_run.specs.Codes.{IsCodeOf}
-use Rattle.program_run.specs.Reports.{CanRunOn, code_report, eval_with, lengths_of}
+use Rattle.program_run.specs.Reports.{eval_with, lengths_of}
+use Rattle.program_run.specs.Codes.{CanRunOn, code_report}
 use Rattle.program_run.proofs.Offering.{are_given, need_same}
 
 enough_so : (need have : ℕ) → need ≤ have → nat_le need have ≡ true

@@ -1,7 +1,5 @@
 -- A program's run by three miners, under every order of delivery.
 use Rattle.std.specs.Prelude.{ℕ, List}
-use Rattle.proto_core.specs.declared.party.Number.{Number}
-use Rattle.proto_core.specs.Lists.{AreWords}
 use Rattle.tape_file.specs.Tapes.{FourTapes}
 use Rattle.value_file.specs.declared.inputs.Entry.{Entry}
 use Rattle.typed_tree.specs.Programs.{TypedProgramTree}
@@ -9,18 +7,13 @@ use Rattle.reached_instances.specs.Instances.{Instance}
 use Rattle.reached_instances.specs.Reached.{IsReachedList}
 use Rattle.clear_eval.specs.Offers.{offered}
 use Rattle.verified_code.specs.Settled.{settled}
-use Rattle.lowered_code.specs.Laws.{raw_code_of_program}
+use Rattle.lowered_code.specs.RawCodes.{raw_code_of_program}
 use Rattle.view_model.specs.TapeMaps.{miners_of}
-use Rattle.code_inputs.specs.Inputs.{AreSound, Suffice, dealt_of}
+use Rattle.code_inputs.specs.Inputs.{dealt_of}
 use Rattle.code_runs.specs.Runs.{RunAsReported}
 use Rattle.program_run.specs.Accepted.{IsAccepted}
 use Rattle.program_run.specs.Reports.{eval_with, lengths_of}
-
--- inputs of words, and tapes of words of which the dealer's suffices
-pub record CanBeDealt (entries : List Entry) (t : FourTapes) : Type 0 where
-  pub sound : AreSound entries
-  pub suffice : Suffice entries t.dealer
-  pub words : (i : Number) → AreWords (miners_of t i)
+use Rattle.program_run.specs.Dealt.{CanBeDealt}
 
 -- each miner with its shares of the inputs and its tape alone, they run the program's code as its evaluation in the clear reports, in any
 -- order of delivery

@@ -5,13 +5,7 @@ use Rattle.language_model.specs.Reports.{Report, eval}
 use Rattle.typed_tree.specs.Programs.{TypedProgramTree}
 use Rattle.value_file.specs.declared.inputs.Entry.{Entry}
 use Rattle.tape_file.specs.Tapes.{FourTapes}
-use Rattle.bytecode.specs.Raw.{RawCode}
-use Rattle.verified_code.specs.Settled.{settled}
-use Rattle.code_model.specs.Meaning.{mean}
 use Rattle.clear_eval.specs.Offers.{offered}
-use Rattle.view_model.specs.TapeMaps.{miners_of}
-use Rattle.code_inputs.specs.Inputs.{dealt_of}
-use Rattle.code_runs.specs.Runs.{MayRunShared}
 use Rattle.program_run.specs.declared.running.RunReport.{RunReport}
 
 -- the lengths of the tapes of the dealer and of miners 1, 2 and 3
@@ -22,16 +16,7 @@ lengths_of tapes = length tapes.dealer ∷ length tapes.one ∷ length tapes.two
 abbrev pub eval_with : TypedProgramTree → List Entry → FourTapes → (budget : ℕ) → Report
 eval_with p entries tapes budget = eval p (offered entries (lengths_of tapes)) budget
 
--- code that three miners may run on shares of these entries, dealt with the dealer's words, and on these tapes
-abbrev pub CanRunOn : RawCode → List Entry → FourTapes → Type 0
-CanRunOn code entries tapes =
-    MayRunShared (offered entries (lengths_of tapes)) (dealt_of entries tapes.dealer) (settled code) (miners_of tapes)
-
--- what its run in the clear gives
-abbrev pub code_report : RawCode → List Entry → FourTapes → (budget : ℕ) → Report
-code_report code entries tapes budget = mean (settled code) (offered entries (lengths_of tapes)) budget
-
--- its events, its end and its cost
+-- a report's events, its end and its cost
 pub record TellsAs (r : Report) (told : RunReport) : Type 0 where
   pub events : told.events.items ≡ r.events
   pub stop : r.stop ≡ Ended told.end.how

@@ -12,7 +12,7 @@ use Rattle.tape_file.specs.Tapes.{FourTapes}
 use Rattle.language_model.specs.Effects.{Words, World, Clear}
 use Rattle.language_model.specs.Reports.{Report}
 use Rattle.language_model.specs.Tapes.{AtMost, HasWords}
-use Rattle.gate_laws.specs.Facts.{drawn_by}
+use Rattle.gate_laws.specs.Dealt.{drawn_by}
 use Rattle.gate_laws.specs.Laws.{GatesSuit}
 use Rattle.view_model.specs.Dealing.{dealt_to, private_sizes}
 use Rattle.view_model.specs.Held.{private_values}

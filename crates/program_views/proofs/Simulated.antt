@@ -17,7 +17,7 @@ use Rattle.tape_file.specs.Tapes.{FourTapes}
 use Rattle.language_model.specs.Effects.{Words, World, Clear, words_each}
 use Rattle.language_model.specs.Reports.{Report, world_of}
 use Rattle.language_model.proofs.Kept.{words_kept}
-use Rattle.gate_laws.specs.Facts.{drawn_by}
+use Rattle.gate_laws.specs.Dealt.{drawn_by}
 use Rattle.gate_laws.specs.Laws.{GatesSuit}
 use Rattle.clear_eval.specs.Offers.{offered}
 use Rattle.blind_evaluation.specs.Courses.{TakeSameCourse}
@@ -29,7 +29,8 @@ use Rattle.code_inputs.specs.Inputs.{dealt_of}
 use Rattle.code_inputs.proofs.Running.{evaluation_suits}
 use Rattle.program_views.specs.Views.{lengths_of, run_on, told_run, nothing_seen, view_with, seen_of, view_of, can_deal, made_of, simulated}
 use Rattle.program_views.specs.TapeMaps.{mapped}
-use Rattle.program_views.specs.Laws.{IsGivenTo, ViewIsSimulated, ViewsAreSimulated}
+use Rattle.program_views.specs.Laws.{IsGivenTo, ViewsAreSimulated}
+use Rattle.program_views.specs.Simulated.{ViewIsSimulated}
 use Rattle.program_views.proofs.Given.{given_so, need_known}
 use Rattle.program_views.proofs.Dealt.{reaches, opens_its_words, draws_its_words}
 use Rattle.program_views.proofs.Undealt.{none_drawn}

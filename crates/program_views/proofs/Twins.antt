@@ -14,7 +14,8 @@ use Rattle.view_text.specs.View.{View}
 use Rattle.view_model.specs.TapeMaps.{AreTapes}
 use Rattle.view_model.specs.Counting.{NoneIs, AreDistinct}
 use Rattle.program_views.specs.Views.{lengths_of, run_on, simulated}
-use Rattle.program_views.specs.TapeMaps.{mapped, mapped_back, MapsCorrespond, twinned, IsTwin, GivesView, AllGive, AsMany}
+use Rattle.program_views.specs.TapeMaps.{mapped, mapped_back, MapsCorrespond, twinned, IsTwin}
+use Rattle.program_views.specs.Counting.{GivesView, AllGive, AsMany}
 use Rattle.program_views.specs.Laws.{AreBothGivenTo, TwinsSeeTheSame, TwinsAreAsMany}
 use Rattle.program_views.proofs.Simulated.{same_lengths, exactly}
 use Rattle.program_views.proofs.Corresponding.{maps_correspond}

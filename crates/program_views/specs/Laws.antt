@@ -1,5 +1,5 @@
 -- What is promised of the views of a program's run.
-use Rattle.std.specs.Prelude.{◌≡◌, ℕ, List, ◌++◌, map, take, Some}
+use Rattle.std.specs.Prelude.{◌≡◌, ℕ, List, map}
 use Rattle.secrec_ast.specs.Programs.{ProgramTree}
 use Rattle.typed_tree.specs.Programs.{TypedProgramTree}
 use Rattle.reached_instances.specs.Instances.{Instance}
@@ -8,19 +8,18 @@ use Rattle.proto_core.specs.Net.{nothing}
 use Rattle.protocol_model.specs.Network.{Accepted, Default, Delivery, Shuffled, order_of, walked}
 use Rattle.protocol_model.specs.Arrivals.{arrived}
 use Rattle.protocol_model.specs.Runs.{nodes_of}
-use Rattle.shared_gates.specs.Model.{miner_of}
 use Rattle.value_file.specs.declared.inputs.Entry.{Entry}
-use Rattle.value_file.specs.Public.{part_of}
 use Rattle.tape_file.specs.Tapes.{FourTapes}
 use Rattle.language_model.specs.Reports.{Report}
-use Rattle.gate_laws.specs.Facts.{drawn_by}
 use Rattle.view_text.specs.View.{View}
 use Rattle.view_model.specs.TapeMaps.{miners_of, no_values, gates_dealt, AreTapes}
 use Rattle.view_model.specs.Counting.{AreDistinct}
 use Rattle.code_inputs.specs.Inputs.{AreSound}
 use Rattle.code_inputs.specs.Laws.{IsAccepted}
-use Rattle.program_views.specs.Views.{lengths_of, run_on, view_of, simulated, seen_of, scripts_of, net_of}
-use Rattle.program_views.specs.TapeMaps.{mapped, MapsCorrespond, twinned, AreAlike, IsTwin, AllGive, AsMany}
+use Rattle.program_views.specs.Views.{lengths_of, run_on, seen_of, scripts_of, net_of}
+use Rattle.program_views.specs.TapeMaps.{MapsCorrespond, twinned, AreAlike, IsTwin}
+use Rattle.program_views.specs.Counting.{AllGive, AsMany}
+use Rattle.program_views.specs.Simulated.{ViewIsSimulated}
 
 -- an accepted program, and inputs that may stand in a file
 pub record IsGivenTo (source : ProgramTree) (p : TypedProgramTree) (is : List Instance) (entries : List Entry) : Type 0 where
@@ -28,19 +27,6 @@ pub record IsGivenTo (source : ProgramTree) (p : TypedProgramTree) (is : List In
   pub inputs : AreSound entries
 
 -- ---- VIEWS
-
--- there is a view, with as many words drawn as the report counts; and the simulator makes it of the public part of the inputs, the words
--- that were opened, also with more words behind them, and the mapped tapes
-pub record ViewIsSimulated (i : Number) (p : TypedProgramTree) (entries : List Entry) (t : FourTapes) (budget : ℕ) (delivery : Delivery) : Type 0 where
-  pub view : View
-  pub seen : view_of i p entries t budget delivery ≡ Some view
-  pub drew : view.drew ≡ take (drawn_by (run_on p entries (lengths_of t) budget).drawn (miner_of i)) (miners_of t i)
-  pub made :
-      simulated i p (part_of entries) (run_on p entries (lengths_of t) budget).opened (mapped i p entries t budget) budget delivery ≡ Some view
-  pub made_with_more :
-      (more : List ℕ)
-      → simulated i p (part_of entries) ((run_on p entries (lengths_of t) budget).opened ++ more) (mapped i p entries t budget) budget delivery
-      ≡ Some view
 
 abbrev pub ViewsAreSimulated : Number → (source : ProgramTree) (p : TypedProgramTree) → List Entry → FourTapes → (budget : ℕ) → Delivery → Type 0
 ViewsAreSimulated i source p entries t budget delivery =

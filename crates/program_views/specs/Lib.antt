@@ -1,4 +1,6 @@
 pub mod Views
 pub mod TapeMaps
+pub mod Counting
+pub mod Simulated
 pub mod Laws
 pub mod Vectors

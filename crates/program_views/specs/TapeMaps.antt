@@ -1,14 +1,12 @@
 -- The tapes that a miner's view of the run of a program is made of, the way back, and the twins.
-use Rattle.std.specs.Prelude.{◌≡◌, ℕ, List, [], ◌∷◌, length, Some}
+use Rattle.std.specs.Prelude.{◌≡◌, ℕ, List}
 use Rattle.proto_core.specs.declared.party.Number.{Number}
 use Rattle.protocol_model.specs.Network.{Delivery}
 use Rattle.value_file.specs.declared.inputs.Entry.{Entry}
 use Rattle.value_file.specs.Public.{part_of}
 use Rattle.tape_file.specs.Tapes.{FourTapes}
 use Rattle.typed_tree.specs.Programs.{TypedProgramTree}
-use Rattle.view_text.specs.View.{View}
 use Rattle.view_model.specs.TapeMaps.{miners_of, to_simulated, from_simulated, AreTapes, SameLengths}
-use Rattle.view_model.specs.Counting.{AreDistinct}
 use Rattle.program_views.specs.Views.{lengths_of, run_on, view_of}
 
 -- ---- THE MAPS
@@ -48,25 +46,3 @@ pub record IsTwin (i : Number) (p : TypedProgramTree) (first second : List Entry
   pub own : miners_of t2 i ≡ miners_of t i
   pub sees : (delivery : Delivery) → view_of i p second t2 budget delivery ≡ view_of i p first t budget delivery
   pub back : twinned i p second first t2 budget ≡ t
-
--- ---- COUNTING
-
--- tapes of words, as long as these, which give miner i this view
-pub record GivesView (i : Number) (p : TypedProgramTree) (entries : List Entry) (lengths : List ℕ) (budget : ℕ) (delivery : Delivery) (view : View)
-    (t : FourTapes) : Type 0 where
-  pub words : AreTapes t
-  pub long : lengths_of t ≡ lengths
-  pub sees : view_of i p entries t budget delivery ≡ Some view
-
-abbrev pub AllGive :
-    (i : Number) → TypedProgramTree → List Entry → (lengths : List ℕ) → (budget : ℕ) → Delivery → View → List FourTapes → Type 0
-AllGive i p entries lengths budget delivery view [] = Unit {0}
-AllGive i p entries lengths budget delivery view (t ∷ ts) =
-    GivesView i p entries lengths budget delivery view t × AllGive i p entries lengths budget delivery view ts
-
--- as many distinct tapes, which give the same view with these inputs
-pub record AsMany (i : Number) (p : TypedProgramTree) (second : List Entry) (lengths : List ℕ) (budget : ℕ) (delivery : Delivery) (view : View)
-    (ts twins : List FourTapes) : Type 0 where
-  pub count : length twins ≡ length ts
-  pub distinct : AreDistinct twins
-  pub give : AllGive i p second lengths budget delivery view twins

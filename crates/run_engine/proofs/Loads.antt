@@ -23,7 +23,7 @@ use Rattle.workload_program.specs.LoadTree.{load_typed}
 use Rattle.workload_program.proofs.Runnable.{load_is_runnable}
 use Rattle.program_run.specs.Accepted.{IsAccepted}
 use Rattle.delivered_run.specs.Deliveries.{HasRunOf, IsRunOf, net_of}
-use Rattle.delivered_run.specs.Laws.{HaveWords}
+use Rattle.delivered_run.specs.Premises.{HaveWords}
 use Rattle.counted_net.specs.declared.delivery.DeliveryErr.{DeliveryErr}
 use Rattle.counted_net.specs.declared.delivery.DeliveryErr.TheVariants as refusal
 use Rattle.delivered_run.specs.declared.running.DeliveredRun.{DeliveredRun}

@@ -9,13 +9,14 @@ use Rattle.well_written.proofs.Grammar.{well_written}
 use Rattle.placed_text.proofs.Spelled.{placed_where_spelled}
 use Rattle.program_run.specs.Accepted.{IsAccepted}
 use Rattle.protocol_model.specs.Network.{Accepted, Delivery}
-use Rattle.program_run.specs.Miners.{CanBeDealt}
+use Rattle.program_run.specs.Dealt.{CanBeDealt}
 use Rattle.miner_runs.specs.Programs.{OwnRunsOnShares}
 use Rattle.miner_runs.proofs.Programs.{own_runs_where_accepted}
-use Rattle.delivered_run.specs.Laws.{HaveWords, IsMade}
+use Rattle.delivered_run.specs.Premises.{HaveWords, IsMade}
 use Rattle.delivered_run.proofs.Taken.{made_deliveries_are_taken}
 use Rattle.code_inputs.specs.Inputs.{AreSound}
-use Rattle.program_views.specs.Laws.{IsGivenTo, ViewIsSimulated}
+use Rattle.program_views.specs.Laws.{IsGivenTo}
+use Rattle.program_views.specs.Simulated.{ViewIsSimulated}
 use Rattle.program_views.specs.TapeMaps.{MapsCorrespond}
 use Rattle.program_views.proofs.Corresponding.{tapes_corresponding}
 use Rattle.program_views.proofs.Simulated.{views_simulated}

@@ -15,7 +15,7 @@ use Rattle.value_file.specs.declared.inputs.Entry.{Entry}
 use Rattle.value_file.specs.Input.{read_of as inputs_read_of}
 use Rattle.input_share.proofs.OfWords.{read_of_words as inputs_are_read}
 use Rattle.code_inputs.specs.Inputs.{AreSound}
-use Rattle.delivered_run.specs.Laws.{HaveWords}
+use Rattle.delivered_run.specs.Premises.{HaveWords}
 use Rattle.view_model.specs.TapeMaps.{miners_of}
 use Rattle.run_engine.specs.Reading.{bad_input, bad_tape, inputs_at, read_or, tape_file_at, tapes_at}
 

@@ -14,7 +14,7 @@ use Rattle.typed_tree.specs.Programs.{TypedProgramTree}
 use Rattle.value_file.specs.declared.inputs.Entry.{Entry}
 use Rattle.tape_file.specs.Tapes.{FourTapes}
 use Rattle.bytecode.specs.Raw.{RawCode}
-use Rattle.lowered_code.specs.Laws.{raw_code_of_program}
+use Rattle.lowered_code.specs.RawCodes.{raw_code_of_program}
 use Rattle.reached_instances.specs.Instances.{Instance}
 use Rattle.reached_instances.specs.Reached.{IsReachedList}
 use Rattle.reached_instances.proofs.ReachedLists.{is_the_only_list}

@@ -7,9 +7,9 @@ use Rattle.tape_file.specs.Tapes.{FourTapes}
 use Rattle.typed_tree.specs.Programs.{TypedProgramTree}
 use Rattle.value_file.specs.declared.inputs.Entry.{Entry}
 use Rattle.value_file.specs.Public.{part_of}
-use Rattle.delivered_run.specs.Laws.{HaveWords}
+use Rattle.delivered_run.specs.Premises.{HaveWords}
 use Rattle.protocol_model.specs.Network.{Delivery}
-use Rattle.program_views.specs.Laws.{ViewIsSimulated}
+use Rattle.program_views.specs.Simulated.{ViewIsSimulated}
 use Rattle.program_views.specs.TapeMaps.{IsTwin, MapsCorrespond, twinned}
 use Rattle.program_views.proofs.Corresponding.{tapes_corresponding}
 use Rattle.program_views.proofs.Simulated.{views_simulated}

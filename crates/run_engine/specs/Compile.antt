@@ -7,7 +7,7 @@ use Rattle.command_frame.specs.Answer.{Answer, Effect, ◌>>=◌}
 use Rattle.command_words.specs.Ask.{CompileAsk}
 use Rattle.bytecode.specs.Raw.{RawCode}
 use Rattle.bytecode.specs.Written.{written_code}
-use Rattle.lowered_code.specs.Laws.{raw_code_of_program}
+use Rattle.lowered_code.specs.RawCodes.{raw_code_of_program}
 use Rattle.reached_instances.specs.Instances.{Instance}
 use Rattle.typed_tree.specs.Programs.{TypedProgramTree}
 use Rattle.run_engine.specs.Judging.{Finding}

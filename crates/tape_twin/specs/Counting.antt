@@ -10,7 +10,8 @@ use Rattle.tape_file.specs.Tapes.{FourTapes}
 use Rattle.view_model.specs.Counting.{AreDistinct}
 use Rattle.view_text.specs.View.{View}
 use Rattle.program_views.specs.Laws.{AreBothGivenTo}
-use Rattle.program_views.specs.TapeMaps.{AllGive, AsMany, twinned}
+use Rattle.program_views.specs.TapeMaps.{twinned}
+use Rattle.program_views.specs.Counting.{AllGive, AsMany}
 
 -- of tapes that give a miner this view with the first inputs, none twice, the twins are as many, none twice, and give it this view with the
 -- second inputs

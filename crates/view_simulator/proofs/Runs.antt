@@ -21,7 +21,8 @@ use Rattle.view_model.specs.Seen.{gates_made}
 use Rattle.view_model.proofs.DealtSizes.{sizes_hidden}
 use Rattle.program_views.specs.Views.{lengths_of, run_on, told_run, view_of, scripts_of, net_of}
 use Rattle.program_views.specs.TapeMaps.{mapped}
-use Rattle.program_views.specs.Laws.{IsGivenTo, ViewIsSimulated}
+use Rattle.program_views.specs.Laws.{IsGivenTo}
+use Rattle.program_views.specs.Simulated.{ViewIsSimulated}
 use Rattle.program_views.proofs.Blind.{takes_same_course, is_ended}
 use Rattle.program_views.proofs.Simulated.{same_lengths, views_simulated}
 use Rattle.program_views.proofs.Corresponding.{tapes_corresponding}

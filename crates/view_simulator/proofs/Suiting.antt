@@ -22,11 +22,11 @@ use Rattle.language_model.proofs.Walk.{main_of}
 use Rattle.language_model.proofs.Kept.{words_kept}
 use Rattle.verified_code.specs.Settled.{settled}
 use Rattle.well_typed.proofs.Reaching.{accepted_well_typed}
-use Rattle.lowered_code.specs.Laws.{raw_code_of_program}
+use Rattle.lowered_code.specs.RawCodes.{raw_code_of_program}
 use Rattle.lowered_code.proofs.Limits.{within_small}
 use Rattle.lowered_code.proofs.RegistersOfPrograms.{small_numbered}
 use Rattle.lowered_code.proofs.Verified.{code_right, well_typed_verified, accepted_runs}
-use Rattle.gate_laws.specs.Facts.{Dealt, drawn_by}
+use Rattle.gate_laws.specs.Dealt.{Dealt, drawn_by}
 use Rattle.gate_laws.specs.Laws.{MayRun, GatesSuit}
 use Rattle.gate_laws.proofs.Walks.{make_suited_gates}
 use Rattle.clear_eval.specs.Offers.{offered, offered_with}

@@ -24,7 +24,7 @@ use Rattle.input_share.specs.declared.dealing.Dealt as sharing
 use Rattle.language_model.specs.Effects.{Words}
 use Rattle.language_model.specs.Reports.{Report}
 use Rattle.clear_eval.specs.Offers.{offered}
-use Rattle.gate_laws.specs.Facts.{Dealt, drawn_by}
+use Rattle.gate_laws.specs.Dealt.{Dealt, drawn_by}
 use Rattle.view_text.specs.View.{InputShare, Received, View}
 use Rattle.view_model.specs.TapeMaps.{AreTapes, gates_dealt, miners_of, no_values}
 use Rattle.view_model.specs.Seen.{Seen, seen_by}

@@ -10,7 +10,7 @@ use Rattle.proto_core.specs.Strand.{Act, Mail, Notice, Ran, Strand, told_in}
 use Rattle.protocol_model.specs.Arrivals.{arrivals}
 use Rattle.shared_gates.specs.Model.{miner_of}
 use Rattle.input_share.specs.ShareFile.{MinerFile}
-use Rattle.gate_laws.specs.Facts.{drawn_by}
+use Rattle.gate_laws.specs.Dealt.{drawn_by}
 use Rattle.code_places.specs.Places.{Place}
 use Rattle.own_code.specs.OwnCode.{Ended}
 use Rattle.miner_core.specs.Story.{node}

@@ -37,7 +37,7 @@ use Rattle.well_typed.proofs.Bindings.{declared_type}
 use Rattle.well_typed.proofs.Heads.{parameter_slots, function_at}
 use Rattle.well_typed.proofs.Reaching.{accepted_well_typed, reached_checked}
 use Rattle.bytecode.specs.Writable.{IsWritable}
-use Rattle.lowered_code.specs.Laws.{raw_code_of_program}
+use Rattle.lowered_code.specs.RawCodes.{raw_code_of_program}
 use Rattle.lowered_code.proofs.Limits.{within_small}
 use Rattle.lowered_code.proofs.RegistersOfBodies.{statements_take}
 use Rattle.lowered_code.proofs.RegistersOfPrograms.{small_numbered}

@@ -15,7 +15,7 @@ use Rattle.code_model.specs.Kinded.{IsIn}
 use Rattle.raw_steps.specs.Instructions.{function_names, raw_code_of}
 use Rattle.raw_steps.specs.Right.{AreRight}
 use Rattle.well_typed.specs.Sources.{IsWellWritten}
-use Rattle.lowered_code.specs.Laws.{raw_code_of_program}
+use Rattle.lowered_code.specs.RawCodes.{raw_code_of_program}
 use Rattle.said_code.specs.Says.{StepSays}
 use Rattle.said_code.specs.Laws.{is_word}
 use Rattle.writable_code.specs.Sources.{is_line, IsPlacedProgram}

@@ -1,7 +1,7 @@
 use Rattle.std.proofs.Common.{◌≡◌, Some, None, subst, sym, ◌∙◌, ap}
 use Rattle.typed_tree.specs.Programs.{typed_program_tree}
 use Rattle.verified_code.specs.Verified.{first_fault}
-use Rattle.lowered_code.specs.Laws.{raw_code_of_program}
+use Rattle.lowered_code.specs.RawCodes.{raw_code_of_program}
 use Rattle.lowered_code.proofs.Verified.{accepted_runs}
 use Rattle.lowering.specs.Narrow.{IsJustRefusal}
 use Rattle.writable_code.proofs.Programs.{accepted_writable}
