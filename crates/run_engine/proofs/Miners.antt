@@ -1,5 +1,5 @@
 -- The programs that `run` reads are run by three miners on shares.
-use Rattle.std.proofs.Common.{◌≡◌, ℕ, List}
+use Rattle.std.proofs.Common.{◌≡◌, ◌∙◌, ℕ, List}
 use Rattle.outside.specs.Files.{Contents}
 use Rattle.command_words.specs.Ask.{RunAsk}
 use Rattle.tape_file.specs.Tapes.{FourTapes}
@@ -22,6 +22,9 @@ use Rattle.program_views.proofs.Corresponding.{tapes_corresponding}
 use Rattle.program_views.proofs.Simulated.{views_simulated}
 use Rattle.proto_core.specs.declared.party.Number.{Number}
 use Rattle.view_model.specs.TapeMaps.{AreTapes}
+use Rattle.code_views.specs.CodeViews.{SeesItsView}
+use Rattle.code_views.proofs.CodeViews.{code_views_are_views}
+use Rattle.viewed_run.proofs.Agreeing.{nets_agree}
 use Rattle.run_engine.specs.Runs.{HoldsRun, HoldsTyped, net_for}
 use Rattle.run_engine.proofs.OfWords.{read_of_words}
 
@@ -69,6 +72,13 @@ views_made i ask files p entries tapes delivery h =
     let have = read_of_words files ask.input ask.source entries tapes h.inputs h.tapes in
     views_simulated i h.program.tree p entries tapes ask.budget delivery h.program.within.list
     (given_to ask.program files p entries h.program have.sound) (of_words entries tapes have)
+
+pub views_seen : (i : Number) (ask : RunAsk) (files : Contents) (p : TypedProgramTree) (entries : List Entry) (tapes : FourTapes) (delivery : Delivery)
+    → HoldsRun ask files p entries tapes delivery → CanBeDealt entries tapes → net_for ask p entries tapes delivery ≡ Accepted
+    → SeesItsView i p entries tapes ask.budget delivery
+views_seen i ask files p entries tapes delivery h can accepts =
+    code_views_are_views i p entries tapes ask.budget delivery (accepted_so ask.program files p h.program) can
+    ((nets_agree p entries tapes ask.budget delivery).answers ∙ accepts)
 
 pub maps_made : (i : Number) (ask : RunAsk) (files : Contents) (p : TypedProgramTree) (entries : List Entry) (tapes : FourTapes) (delivery : Delivery)
     → HoldsRun ask files p entries tapes delivery → MapsCorrespond i p entries tapes ask.budget

@@ -20,6 +20,7 @@ ghost use Rattle.protocol_model.specs.Network.{Accepted, Delivery};
 ghost use Rattle.program_run.specs.Dealt.{CanBeDealt};
 ghost use Rattle.miner_runs.specs.Programs.{OwnRunsOnShares};
 ghost use Rattle.delivered_run.specs.Premises.{HaveWords, IsMade};
+ghost use Rattle.code_views.specs.CodeViews.{SeesItsView};
 ghost use Rattle.program_views.specs.Simulated.{ViewIsSimulated};
 ghost use Rattle.program_views.specs.TapeMaps.{IsTwin, MapsCorrespond, twinned};
 ghost use Rattle.run_engine.specs.Eval.{eval_text, need_text};
@@ -230,6 +231,13 @@ pub fn secrec<F: Files, O: Sink, E: Sink, L: Links, C: Spawner>(
     // tapes that correspond one to one with the real ones; each of these is as long as its own, and the miner's own is as it was.
     ensures views_are_simulated { (g : Given) (i : Number) → IsGiven (texts words.now) (F.state files.old).contents g →
         ViewIsSimulated i g.program g.entries g.tapes g.ask.budget g.delivery }
+
+    // And it is what its miner has where the three run the program's code, each by its own shares and tape alone: its shares of the private
+    // inputs, the messages that come to it in order of arrival, the openings that it tells, its end, and the words of its tape that it drew.
+    ensures views_are_what_miners_see { (g : Given) (i : Number) → IsGiven (texts words.now) (F.state files.old).contents g →
+        CanBeDealt g.entries g.tapes → net_given g ≡ Accepted → SeesItsView i g.program g.entries g.tapes g.ask.budget g.delivery }
+
+    // The tapes of the simulator are found from the real ones, and these from them.
     ensures tapes_correspond { (g : Given) (i : Number) → IsGiven (texts words.now) (F.state files.old).contents g →
         MapsCorrespond i g.program g.entries g.tapes g.ask.budget }
 

@@ -3,7 +3,7 @@ use Rattle.command_frame.proofs.Wholes.{complete, carried_out, end_says_nothing,
 use Rattle.command_frame.proofs.Wholes.{no_link_failed, refused_prints_nothing, usage_of_unnamed, usage_said, usage_unnamed, write_counted}
 use Rattle.command_frame.proofs.Wholes.{write_cuts, write_said}
 use Rattle.run_engine.proofs.Headline.{ends_by_budget_and_tapes, prints, refuses, schedule_refused, writes}
-use Rattle.run_engine.proofs.Miners.{made_taken, maps_made, miners_run, views_made}
+use Rattle.run_engine.proofs.Miners.{made_taken, maps_made, miners_run, views_made, views_seen}
 use Rattle.run_engine.proofs.Promises.{check_keeps, compile_keeps, deal_keeps, eval_keeps, need_keeps, run_keeps, load_keeps}
 use Rattle.run_engine.proofs.Runs.{has_answer, no_command}
 use Rattle.run_engine.proofs.Tops.{over, printed_so, stops_told, telling}
@@ -128,6 +128,10 @@ returns-clause-run_writes_views_and_links g c = λ given is taken t steady.
 pub returns-clause-views_are_simulated : goal.returns-clause-views_are_simulated
 returns-clause-views_are_simulated g c = λ given i is.
     views_made i given.ask _ given.program given.entries given.tapes given.delivery is.held
+
+pub returns-clause-views_are_what_miners_see : goal.returns-clause-views_are_what_miners_see
+returns-clause-views_are_what_miners_see g c = λ given i is can accepts.
+    views_seen i given.ask _ given.program given.entries given.tapes given.delivery is.held can accepts
 
 pub returns-clause-tapes_correspond : goal.returns-clause-tapes_correspond
 returns-clause-tapes_correspond g c = λ given i is. maps_made i given.ask _ given.program given.entries given.tapes given.delivery is.held
