@@ -36,7 +36,7 @@ module _ (w : World) (c : List Function) (m : Machine) where
   step_onward (Some (Put line a i x)) =
       onward_bind (walk.with_element_holds w w (is_onward w) law line (m.registers a) (m.registers i) (m.registers x)) (λ _. onward_done _)
   step_onward (Some (Size d r)) = onward_bind (walk.size_holds w w (is_onward w) law (m.registers r)) (λ _. onward_done _)
-  step_onward (Some (Cat line d a b)) = onward_bind (walk.joined_holds w w (is_onward w) law line (m.registers a) (m.registers b)) (λ _. onward_done _)
+  step_onward (Some (Cat line d a b)) = onward_bind (walk.concatenated_holds w w (is_onward w) law line (m.registers a) (m.registers b)) (λ _. onward_done _)
   step_onward (Some (Sum d r)) = onward_bind (walk.summed_holds w w (is_onward w) law (m.registers r)) (λ _. onward_done _)
   step_onward (Some (Bits line d r)) = onward_bind (walk.bits_holds w w (is_onward w) law line (m.registers r)) (λ _. onward_done _)
   step_onward (Some (Declassify d r)) = onward_bind (walk.declassified_holds w w (is_onward w) law (m.registers r)) (λ _. onward_done _)
