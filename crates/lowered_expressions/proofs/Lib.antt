@@ -3,3 +3,4 @@ pub mod Building
 pub mod Nodes
 pub mod Cuts
 pub mod Arguments
+pub mod Noted

@@ -1,3 +1,4 @@
 pub mod Built
 pub mod Views
 pub mod Parts
+pub mod inner

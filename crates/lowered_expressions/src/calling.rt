@@ -7,29 +7,39 @@ ghost use Rattle.reached_instances.specs.Views.{setting};
 ghost use Rattle.language_model.specs.Evaluation.{bound_at, next_is_private, slot_is_private, slots_of};
 ghost use Rattle.code_model.specs.Expressions.{result_at};
 ghost use Rattle.lowered_expressions.specs.Views.{numbers_of};
+ghost use Rattle.lowered_expressions.specs.inner.Notes.{arguments_notes};
 
 use crate::around::Around;
+use crate::notes::{Note, noted_domains};
 use crate::operands::is_private;
-use reached_instances::{
-    BoundDomain, Instance, Setting, binding_of, domain_under, domains, slot_domain,
-};
+use reached_instances::{BoundDomain, Instance, Setting, binding_of, domain_under, slot_domain};
 use std::alloc::{AllocError, Global};
 use typed_tree::{Returned, Slot, TypedExpression};
 
-/// What a call of a function with these arguments binds its domain variables to.
+/// A call: the line of its construct, the number of its function, and the register of what it gives, if there is one.
+#[derive(Clone, Copy)]
+pub struct CallHead {
+    pub line: u32,
+    pub function: usize,
+    pub to: Option<usize>,
+}
+
+/// What a call of a function with these arguments binds its domain variables to, by the arguments' notes.
 pub fn bound_at(
     alloc: Global,
     here: &Setting<'_>,
     function: usize,
+    notes: &[Note],
     list: &Vec<TypedExpression>,
 ) -> Result<Vec<BoundDomain>, AllocError>
+    requires { notes.now ≡ arguments_notes (setting here.now) (typed_trees_of (map typed_tree list.now.items)) }
     ensures { IfOk result (λ b. b.items ≡ bound_at (slice_get (setting here.now).functions function)
         (domains (setting here.now) (typed_trees_of (map typed_tree list.now.items)))) }
 {
     let Some(callee) = here.functions.get(function) else {
         return Ok(Vec::new(alloc));
     };
-    let domains = domains(alloc, here, list)?;
+    let domains = noted_domains(alloc, notes, list.len())?;
     binding_of(alloc, callee, &domains)
 }
 

@@ -33,6 +33,14 @@ pub struct Operation {
     pub operands: Operands,
 }
 
+/// Of an operation on two operands, of which the left one's code is there: the register of its value, and whether the left operand
+/// is private.
+#[derive(Clone, Copy)]
+pub struct LeftOperand {
+    pub to: usize,
+    pub secret: bool,
+}
+
 /// The step of an operation on one operand.
 pub fn one_step<'p>(one: One, to: usize, source: usize) -> Step<'p>
     ensures { step_seen result ≡ one_step one to source }

@@ -1,20 +1,22 @@
-// The code of expressions. They call one another, so they stand together. Each node has a register of its own; the kind of it is
-// found by a walk over the tree below, so that the time grows with the size of a tree times its height.
-ghost use Rattle.std.specs.Prelude.{◌≡◌, ◌+◌, ◌++◌, ◌∷◌, [], IfOk, OnOk, Some, length, map};
+// The code of expressions. They call one another, so they stand together. Each node has a register of its own; its kind is read off
+// the notes of the tree, of which each function takes those of its own expressions: the time grows with the size of a tree.
+ghost use Rattle.std.specs.Prelude.{◌≡◌, ◌+◌, ◌≤◌, ◌++◌, ◌∷◌, [], IfOk, OnOk, Some, length, map};
 ghost use Rattle.typed_tree.specs.Tree.{binary_node, call_node, cat_node, cut_node, element_node, typed_tree, typed_trees_of};
 ghost use Rattle.verified_code.specs.Steps as S;
 ghost use Rattle.language_model.specs.Evaluation.{gives_private};
 ghost use Rattle.code_model.specs.Expressions.{arguments_code, arguments_places, classifying, expression_code, lacks, picked};
-ghost use Rattle.code_model.specs.Kinds.{arguments_kinds, expression_kinds, kind_in, private_kind_in, width};
+ghost use Rattle.code_model.specs.Kinds.{arguments_kinds, expression_kinds, private_kind_in};
 ghost use Rattle.lowered_expressions.specs.Built.{with_code};
 ghost use Rattle.lowered_expressions.specs.Parts.{binary_rest, cut_rest, one_node, with_call, with_expression, with_operand};
 ghost use Rattle.lowered_expressions.specs.Views.{built, here_of, numbers_of};
+ghost use Rattle.lowered_expressions.specs.inner.Notes.{arguments_notes, notes_of};
 
 use crate::around::Around;
 use crate::body::Body;
-use crate::calling::{bound_at, next_is_private, number_of, slots_of};
-use crate::closing::{One, Operation, close_binary, close_cut, one_step};
-use crate::kinds::{gives_private, kind, kind_of, private_kind};
+use crate::calling::{CallHead, bound_at, next_is_private, number_of, slots_of};
+use crate::closing::{LeftOperand, One, Operation, close_binary, close_cut, one_step};
+use crate::kinds::kind_of;
+use crate::notes::{Note, behind_first, first_is_private, first_kind, first_private_kind, parted};
 use crate::operands::{WantedOperand, wanted};
 use crate::step::Step;
 use crate::words::{lacks, mixes, operator_of, scalar, truth_word};
@@ -24,43 +26,44 @@ use secrec_ast::DataType;
 use std::alloc::AllocError;
 use typed_tree::{BinaryOperator, Connective, Operands, Slot, TypedExpression};
 
-/// Puts the registers and the code of an expression behind a body: its value stands in the first of them. An error comes where memory
-/// runs short.
+/// Puts the registers and the code of an expression, of which these are the notes, behind a body: its value stands in the first of
+/// them. An error comes where memory runs short.
 #[cycle(expressions)]
 pub fn expression(
     body: &mut Body<'_>,
     around: &Around<'_>,
+    notes: &[Note],
     e: &TypedExpression,
 ) -> Result<(), AllocError>
+    requires { notes.now ≡ notes_of (here_of around.now) (typed_tree e.now) }
     ensures { OnOk result (built body.new ≡ with_expression (numbers_of around.now) (here_of around.now) (built body.old) (typed_tree e.now)) }
 {
-    let kind = kind(around.alloc, &around.here, e)?;
     match e {
-        TypedExpression::Word(word) => literal(body, kind, *word),
-        TypedExpression::Truth(truth) => literal(body, kind, truth_word(*truth)),
-        TypedExpression::Variable(slot) => variable(body, kind, *slot),
+        TypedExpression::Word(word) => literal(body, first_kind(notes), *word),
+        TypedExpression::Truth(truth) => { literal(body, first_kind(notes), truth_word(*truth)) }
+        TypedExpression::Variable(slot) => variable(body, first_kind(notes), *slot),
         TypedExpression::Call(line, function, list) => {
-            read_call(body, around, kind, *line, *function, list)
+            read_call(body, around, notes, *line, *function, list)
         }
-        TypedExpression::Size(x) => one(body, around, kind, One::Size, x),
-        TypedExpression::Cat(line, a, b) => cat(body, around, kind, *line, a, b),
-        TypedExpression::Sum(x) => one(body, around, kind, One::Sum, x),
-        TypedExpression::BitExtract(line, x) => { one(body, around, kind, One::Bits(*line), x) }
-        TypedExpression::Element(line, a, i) => element(body, around, kind, *line, a, i),
-        TypedExpression::Not(x) => one(body, around, kind, One::Not, x),
-        TypedExpression::Cast(cast, x) => one(body, around, kind, One::Cast(*cast), x),
+        TypedExpression::Size(x) => one(body, around, notes, One::Size, x),
+        TypedExpression::Cat(line, a, b) => cat(body, around, notes, *line, a, b),
+        TypedExpression::Sum(x) => one(body, around, notes, One::Sum, x),
+        TypedExpression::BitExtract(line, x) => { one(body, around, notes, One::Bits(*line), x) }
+        TypedExpression::Element(line, a, i) => element(body, around, notes, *line, a, i),
+        TypedExpression::Not(x) => one(body, around, notes, One::Not, x),
+        TypedExpression::Cast(cast, x) => one(body, around, notes, One::Cast(*cast), x),
         TypedExpression::Binary(line, operator, operands, a, b) => {
             let operation = Operation {
                 line: *line,
                 operator: *operator,
                 operands: *operands,
             };
-            binary(body, around, kind, operation, a, b)
+            binary(body, around, notes, operation, a, b)
         }
         TypedExpression::CutShort(connective, a, b) => {
-            cut(body, around, kind, *connective, a, b)
+            cut(body, around, notes, *connective, a, b)
         }
-        TypedExpression::Declassify(x) => one(body, around, kind, One::Declassify, x),
+        TypedExpression::Declassify(x) => one(body, around, notes, One::Declassify, x),
     }
 }
 
@@ -92,16 +95,18 @@ pub fn operand(
     around: &Around<'_>,
     private: bool,
     classified: usize,
+    notes: &[Note],
     e: &TypedExpression,
 ) -> Result<usize, AllocError>
+    requires { notes.now ≡ notes_of (here_of around.now) (typed_tree e.now) }
     ensures built { OnOk result (built body.new ≡
         with_operand (numbers_of around.now) (here_of around.now) (built body.old) private classified (typed_tree e.now)) }
     ensures register { IfOk result (λ r. r ≡
         picked (lacks private (gives_private (here_of around.now) (typed_tree e.now))) classified (length (built body.old).kinds)) }
 {
-    let given = gives_private(around.alloc, &around.here, e)?;
+    let given = first_is_private(notes);
     let value = body.next_register();
-    expression(body, around, e)?;
+    expression(body, around, notes, e)?;
     wanted(
         body,
         WantedOperand {
@@ -117,17 +122,17 @@ pub fn operand(
 fn one(
     body: &mut Body<'_>,
     around: &Around<'_>,
-    kind: Kind,
+    notes: &[Note],
     one: One,
     x: &TypedExpression,
 ) -> Result<(), AllocError>
-    requires { kind ≡ kind_in (here_of around.now) (one_node one (typed_tree x.now)) }
+    requires { notes.now ≡ notes_of (here_of around.now) (one_node one (typed_tree x.now)) }
     ensures { OnOk result (built body.new ≡
         with_expression (numbers_of around.now) (here_of around.now) (built body.old) (one_node one (typed_tree x.now))) }
 {
-    let to = body.fresh(kind)?;
+    let to = body.fresh(first_kind(notes))?;
     let source = body.next_register();
-    expression(body, around, x)?;
+    expression(body, around, behind_first(notes), x)?;
     body.push(one_step(one, to, source))
 }
 
@@ -136,20 +141,21 @@ fn one(
 fn element(
     body: &mut Body<'_>,
     around: &Around<'_>,
-    kind: Kind,
+    notes: &[Note],
     line: u32,
     array: &TypedExpression,
     index: &TypedExpression,
 ) -> Result<(), AllocError>
-    requires { kind ≡ kind_in (here_of around.now) (element_node line (typed_tree array.now) (typed_tree index.now)) }
+    requires { notes.now ≡ notes_of (here_of around.now) (element_node line (typed_tree array.now) (typed_tree index.now)) }
     ensures { OnOk result (built body.new ≡ with_expression (numbers_of around.now) (here_of around.now) (built body.old)
         (element_node line (typed_tree array.now) (typed_tree index.now))) }
 {
-    let to = body.fresh(kind)?;
+    let (left, right) = parted(behind_first(notes));
+    let to = body.fresh(first_kind(notes))?;
     let from = body.next_register();
-    expression(body, around, array)?;
+    expression(body, around, left, array)?;
     let at = body.next_register();
-    expression(body, around, index)?;
+    expression(body, around, right, index)?;
     body.push(Step::At {
         line,
         to,
@@ -163,20 +169,22 @@ fn element(
 fn cat(
     body: &mut Body<'_>,
     around: &Around<'_>,
-    kind: Kind,
+    notes: &[Note],
     line: u32,
     a: &TypedExpression,
     b: &TypedExpression,
 ) -> Result<(), AllocError>
-    requires { kind ≡ kind_in (here_of around.now) (cat_node line (typed_tree a.now) (typed_tree b.now)) }
+    requires { notes.now ≡ notes_of (here_of around.now) (cat_node line (typed_tree a.now) (typed_tree b.now)) }
     ensures { OnOk result (built body.new ≡ with_expression (numbers_of around.now) (here_of around.now) (built body.old)
         (cat_node line (typed_tree a.now) (typed_tree b.now))) }
 {
-    let to = body.fresh(kind)?;
-    let first = body.fresh(private_kind(&around.here, a))?;
-    let second = body.fresh(private_kind(&around.here, b))?;
-    let left = operand(body, around, kind.secret, first, a)?;
-    let right = operand(body, around, kind.secret, second, b)?;
+    let (left, right) = parted(behind_first(notes));
+    let private = first_is_private(notes);
+    let to = body.fresh(first_kind(notes))?;
+    let first = body.fresh(first_private_kind(left))?;
+    let second = body.fresh(first_private_kind(right))?;
+    let left = operand(body, around, private, first, left, a)?;
+    let right = operand(body, around, private, second, right, b)?;
     body.push(Step::Cat {
         line,
         to,
@@ -190,21 +198,27 @@ fn cat(
 fn binary(
     body: &mut Body<'_>,
     around: &Around<'_>,
-    kind: Kind,
+    notes: &[Note],
     operation: Operation,
     a: &TypedExpression,
     b: &TypedExpression,
 ) -> Result<(), AllocError>
-    requires { kind ≡ kind_in (here_of around.now)
+    requires { notes.now ≡ notes_of (here_of around.now)
         (binary_node operation.line operation.operator operation.operands (typed_tree a.now) (typed_tree b.now)) }
     ensures { OnOk result (built body.new ≡ with_expression (numbers_of around.now) (here_of around.now) (built body.old)
         (binary_node operation.line operation.operator operation.operands (typed_tree a.now) (typed_tree b.now))) }
 {
-    let to = body.fresh(kind)?;
-    body.fresh(private_kind(&around.here, a))?;
-    body.fresh(private_kind(&around.here, b))?;
-    expression(body, around, a)?;
-    both(body, around, to, operation, a, b)
+    let (left, right) = parted(behind_first(notes));
+    let private = first_is_private(left);
+    let to = body.fresh(first_kind(notes))?;
+    body.fresh(first_private_kind(left))?;
+    body.fresh(first_private_kind(right))?;
+    expression(body, around, left, a)?;
+    let left_operand = LeftOperand {
+        to,
+        secret: private,
+    };
+    both(body, around, left_operand, operation, right, b)
 }
 
 // The right operand of an operation, the left one's code being there, and its step.
@@ -212,28 +226,29 @@ fn binary(
 fn both(
     body: &mut Body<'_>,
     around: &Around<'_>,
-    to: usize,
+    left: LeftOperand,
     operation: Operation,
-    a: &TypedExpression,
+    notes: &[Note],
     b: &TypedExpression,
 ) -> Result<(), AllocError>
-    requires { length (built body.old).kinds ≡ to + 3 + width (typed_tree a.now) }
+    requires notes { notes.now ≡ notes_of (here_of around.now) (typed_tree b.now) }
+    requires registers { left.to + 3 ≤ length (built body.old).kinds }
     ensures { OnOk result (built body.new ≡ with_code (built body.old) (expression_kinds (here_of around.now) (typed_tree b.now))
-        (binary_rest to (length (built body.old).kinds) (length (built body.old).pieces) operation.line operation.operator operation.operands
-        (gives_private (here_of around.now) (typed_tree a.now)) (gives_private (here_of around.now) (typed_tree b.now))
+        (binary_rest left.to (length (built body.old).kinds) (length (built body.old).pieces) operation.line operation.operator operation.operands
+        left.secret (gives_private (here_of around.now) (typed_tree b.now))
         (λ p. expression_code (numbers_of around.now) (here_of around.now) (length (built body.old).kinds) p (typed_tree b.now)))) }
 {
-    let left = gives_private(around.alloc, &around.here, a)?;
-    let right = gives_private(around.alloc, &around.here, b)?;
+    let LeftOperand { to, secret } = left;
+    let right = first_is_private(notes);
     let value = body.next_register();
-    expression(body, around, b)?;
+    expression(body, around, notes, b)?;
     let left_operand = WantedOperand {
-        lacks: mixes(operation.operator, left, right),
+        lacks: mixes(operation.operator, secret, right),
         classified: to + 1,
         value: to + 3,
     };
     let right_operand = WantedOperand {
-        lacks: mixes(operation.operator, right, left),
+        lacks: mixes(operation.operator, right, secret),
         classified: to + 2,
         value,
     };
@@ -245,29 +260,37 @@ fn both(
 fn cut(
     body: &mut Body<'_>,
     around: &Around<'_>,
-    kind: Kind,
+    notes: &[Note],
     connective: Connective,
     a: &TypedExpression,
     b: &TypedExpression,
 ) -> Result<(), AllocError>
-    requires { kind ≡ kind_in (here_of around.now) (cut_node connective (typed_tree a.now) (typed_tree b.now)) }
+    requires { notes.now ≡ notes_of (here_of around.now) (cut_node connective (typed_tree a.now) (typed_tree b.now)) }
     ensures { OnOk result (built body.new ≡ with_expression (numbers_of around.now) (here_of around.now) (built body.old)
         (cut_node connective (typed_tree a.now) (typed_tree b.now))) }
 {
-    let secret = gives_private(around.alloc, &around.here, a)?;
-    let to = body.fresh(kind)?;
+    let (left, right) = parted(behind_first(notes));
+    let secret = first_is_private(left);
+    let to = body.fresh(first_kind(notes))?;
     body.fresh(kind_of(secret, scalar(DataType::Bool)))?;
     body.fresh(kind_of(true, scalar(DataType::Bool)))?;
-    expression(body, around, a)?;
+    expression(body, around, left, a)?;
     if secret {
         let operation = Operation {
             line: 0,
             operator: BinaryOperator::Bools(operator_of(connective)),
             operands: Operands::Scalars,
         };
-        both(body, around, to, operation, a, b)
+        both(
+            body,
+            around,
+            LeftOperand { to, secret },
+            operation,
+            right,
+            b,
+        )
     } else {
-        cut_short(body, around, to, connective, a, b)
+        cut_short(body, around, to, connective, right, b)
     }
 }
 
@@ -278,20 +301,21 @@ fn cut_short(
     around: &Around<'_>,
     to: usize,
     connective: Connective,
-    a: &TypedExpression,
+    notes: &[Note],
     b: &TypedExpression,
 ) -> Result<(), AllocError>
-    requires { length (built body.old).kinds ≡ to + 3 + width (typed_tree a.now) }
+    requires notes { notes.now ≡ notes_of (here_of around.now) (typed_tree b.now) }
+    requires registers { to + 3 ≤ length (built body.old).kinds }
     ensures { OnOk result (built body.new ≡ with_code (built body.old) (expression_kinds (here_of around.now) (typed_tree b.now))
         (cut_rest to (length (built body.old).kinds) (length (built body.old).pieces) connective
         (gives_private (here_of around.now) (typed_tree b.now))
         (λ p. expression_code (numbers_of around.now) (here_of around.now) (length (built body.old).kinds) p (typed_tree b.now)))) }
 {
-    let secret = gives_private(around.alloc, &around.here, b)?;
+    let secret = first_is_private(notes);
     let branch = body.next_place();
     body.push(Step::ReturnNone)?;
     let value = body.next_register();
-    expression(body, around, b)?;
+    expression(body, around, notes, b)?;
     close_cut(body, connective, secret, to, value, branch)
 }
 
@@ -300,36 +324,42 @@ fn cut_short(
 fn read_call(
     body: &mut Body<'_>,
     around: &Around<'_>,
-    kind: Kind,
+    notes: &[Note],
     line: u32,
     function: usize,
     list: &Vec<TypedExpression>,
 ) -> Result<(), AllocError>
-    requires { kind ≡ kind_in (here_of around.now) (call_node line function (typed_trees_of (map typed_tree list.now.items))) }
+    requires { notes.now ≡ notes_of (here_of around.now) (call_node line function (typed_trees_of (map typed_tree list.now.items))) }
     ensures { OnOk result (built body.new ≡ with_expression (numbers_of around.now) (here_of around.now) (built body.old)
         (call_node line function (typed_trees_of (map typed_tree list.now.items)))) }
 {
-    let to = body.fresh(kind)?;
-    call(body, around, line, function, Some(to), list)
+    let to = body.fresh(first_kind(notes))?;
+    let head = CallHead {
+        line,
+        function,
+        to: Some(to),
+    };
+    call(body, around, head, behind_first(notes), list)
 }
 
-/// Puts the code of a call's arguments and the call behind a body; what it gives goes to a register, if there is one. An error
-/// comes where memory runs short.
+/// Puts the code of a call's arguments, of which these are the notes, and the call behind a body. An error comes where memory runs
+/// short.
 #[cycle(expressions)]
 pub fn call(
     body: &mut Body<'_>,
     around: &Around<'_>,
-    line: u32,
-    function: usize,
-    to: Option<usize>,
+    head: CallHead,
+    notes: &[Note],
     list: &Vec<TypedExpression>,
 ) -> Result<(), AllocError>
-    ensures { OnOk result (built body.new ≡ with_call (numbers_of around.now) (here_of around.now) (built body.old) line function to
-        (typed_trees_of (map typed_tree list.now.items))) }
+    requires { notes.now ≡ arguments_notes (here_of around.now) (typed_trees_of (map typed_tree list.now.items)) }
+    ensures { OnOk result (built body.new ≡ with_call (numbers_of around.now) (here_of around.now) (built body.old) head.line head.function
+        head.to (typed_trees_of (map typed_tree list.now.items))) }
 {
-    let binding = bound_at(around.alloc, &around.here, function, list)?;
+    let CallHead { line, function, to } = head;
+    let binding = bound_at(around.alloc, &around.here, function, notes, list)?;
     let slots = slots_of(&around.here, function);
-    let arguments = arguments(body, around, &binding, slots, list)?;
+    let arguments = arguments(body, around, &binding, slots, notes, list)?;
     let function = number_of(around, function, binding);
     body.push(Step::Call {
         line,
@@ -346,8 +376,10 @@ fn arguments(
     around: &Around<'_>,
     binding: &[BoundDomain],
     slots: &[Slot],
+    notes: &[Note],
     list: &Vec<TypedExpression>,
 ) -> Result<Vec<usize>, AllocError>
+    requires { notes.now ≡ arguments_notes (here_of around.now) (typed_trees_of (map typed_tree list.now.items)) }
     ensures built { OnOk result (built body.new ≡ with_code (built body.old)
         (arguments_kinds (here_of around.now) (typed_trees_of (map typed_tree list.now.items)))
         (arguments_code (numbers_of around.now) (here_of around.now) binding.now slots.now (length (built body.old).kinds)
@@ -356,10 +388,13 @@ fn arguments(
         (length (built body.old).kinds) (typed_trees_of (map typed_tree list.now.items))) }
 {
     let mut registers = Vec::new(around.alloc);
+    let mut rest = notes;
     for e in list {
+        let (own, behind) = parted(rest);
         let private = next_is_private(binding, slots, registers.len());
-        let register = argument(body, around, private, e)?;
+        let register = argument(body, around, private, own, e)?;
         registers.push(register)?;
+        rest = behind;
     }
     Ok(registers)
 }
@@ -371,8 +406,10 @@ pub fn argument(
     body: &mut Body<'_>,
     around: &Around<'_>,
     private: bool,
+    notes: &[Note],
     e: &TypedExpression,
 ) -> Result<usize, AllocError>
+    requires { notes.now ≡ notes_of (here_of around.now) (typed_tree e.now) }
     ensures built { OnOk result (built body.new ≡ with_code (built body.old)
         (private_kind_in (here_of around.now) (typed_tree e.now) ∷ expression_kinds (here_of around.now) (typed_tree e.now))
         (expression_code (numbers_of around.now) (here_of around.now) (length (built body.old).kinds + 1) (length (built body.old).pieces) (typed_tree e.now)
@@ -381,6 +418,6 @@ pub fn argument(
     ensures register { IfOk result (λ r. r ≡ picked (lacks private (gives_private (here_of around.now) (typed_tree e.now)))
         (length (built body.old).kinds) (length (built body.old).kinds + 1)) }
 {
-    let classified = body.fresh(private_kind(&around.here, e))?;
-    operand(body, around, private, classified, e)
+    let classified = body.fresh(first_private_kind(notes))?;
+    operand(body, around, private, classified, notes, e)
 }

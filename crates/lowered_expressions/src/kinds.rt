@@ -25,8 +25,8 @@ fn returned_shape(given: Returned) -> Shape
     }
 }
 
-// The shape of what a call gives.
-fn called_shape(functions: &[TypedFunction], function: usize) -> Shape
+/// The shape of what a call gives.
+pub fn called_shape(functions: &[TypedFunction], function: usize) -> Shape
     ensures { result ≡ called_shape (slice_get (map typed_function_tree functions.now) function) }
 {
     match functions.get(function) {

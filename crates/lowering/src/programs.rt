@@ -103,7 +103,8 @@ fn all_functions(
 /// use. It is exactly what the definitions of a program's code say.
 ///
 /// `TooLarge` comes only where a number of the code is too large for its field, so that the code can't be written; `Memory` where
-/// memory runs short. The time grows with the size of each function times its height.
+/// memory runs short. The time grows with the size of the functions; but the steps of a loop are gone over once for each loop around
+/// them, to settle its breaks and continues.
 pub fn lower(
     alloc: Global,
     program: &TypedProgram,

@@ -12,17 +12,28 @@ use Rattle.verified_code.specs.Steps.{ReturnNone}
 use Rattle.code_model.specs.Kinds.{width, widths, kind_of, kind_in, private_kind_in, truth_kind, expression_kinds, arguments_kinds}
 use Rattle.code_model.specs.Expressions.{expression_code, arguments_code, arguments_places, lacks, picked}
 use Rattle.code_model.proofs.Widths.{expression_registers}
-use Rattle.bytecode.specs.declared.kind.Kind.{Kind}
 use Rattle.lowered_expressions.specs.Built.{Built, with_kind, with_code}
 use Rattle.lowered_expressions.specs.Parts.{binary_rest, cut_rest, cut_closed}
 use Rattle.lowered_expressions.specs.Views.{built, here_of, numbers_of}
+use Rattle.lowered_expressions.specs.inner.Notes.{notes_of, arguments_notes, behind_part, first_part, first_is_private, first_kind, first_private_kind}
 use Rattle.lowered_expressions.proofs.Building.{begun_three, two_parts, part_registers, then_code, registers_more, places_more}
 use Rattle.lowered_expressions.proofs.Nodes.{element_made, cat_made, cat_of, cut_of}
 use Rattle.lowered_expressions.proofs.Cuts.{cut_made}
 use Rattle.lowered_expressions.proofs.Arguments as several
+use Rattle.lowered_expressions.proofs.Noted.{left_found, right_found, first_is, behind_is, rest_of}
 use Rattle.lowered_expressions.proofs.expressions.+expressions.Goals as goal
 
 -- ---- ELEMENTS
+
+pub element-expression-requires : goal.element-expression-requires
+element-expression-requires t c =
+    let here = here_of c.args.around.now in
+    let a = typed_tree c.args.array.now in
+    let i = typed_tree c.args.index.now in
+    let smaller : 3 * width a < 3 * (width a + width i) + 1 = omega arith in
+    let found : c.parted.result.0.now ≡ notes_of here a =
+    left_found here _ a i c.args.notes.now c.behind_first.result.now c.parted.result.0.now c.requires c.behind_first.ensures c.parted.ensures.first in
+    search rules
 
 pub element-returns : goal.element-returns
 element-returns t c =
@@ -36,11 +47,22 @@ element-returns t c =
     (kind_in here (element_node c.args.line a i)) (expression_kinds here a) (expression_kinds here i)
     (λ n q. expression_code number here n q a) (λ n q. expression_code number here n q i) c.args.line c.in_ok-to.to c.next_register-from.result
     c.next_register-at.result (width a)
-    (c.in_ok-to.ensures.built ∙ ap (with_kind b) c.requires) c.in_ok-expression.ensures c.in_ok-expression-2.ensures p c.in_ok-to.ensures.number
+    (c.in_ok-to.ensures.built ∙ ap (with_kind b) (c.first_kind.ensures ∙ ap first_kind c.requires)) c.in_ok-expression.ensures
+    c.in_ok-expression-2.ensures p c.in_ok-to.ensures.number
     c.next_register-from.ensures c.next_register-at.ensures (expression_registers here a))
     c.push.ensures
 
 -- ---- ARRAYS ONE BEHIND ANOTHER
+
+pub cat-operand-requires : goal.cat-operand-requires
+cat-operand-requires t c =
+    let here = here_of c.args.around.now in
+    let x = typed_tree c.args.a.now in
+    let y = typed_tree c.args.b.now in
+    let smaller : 3 * width x + 1 < 3 * (width x + width y) + 2 = omega arith in
+    let left : c.parted.result.0.now ≡ notes_of here x =
+    left_found here _ x y c.args.notes.now c.behind_first.result.now c.parted.result.0.now c.requires c.behind_first.ensures c.parted.ensures.first in
+    search rules
 
 pub cat-returns : goal.cat-returns
 cat-returns t c =
@@ -50,23 +72,29 @@ cat-returns t c =
     let y = typed_tree c.args.b.now in
     let b = built c.args.body.now in
     let node = cat_node c.args.line x y in
-    let secret : c.args.kind.secret ≡ gives_private here node = ap (λ (k : Kind). k.secret) c.requires in
+    let kind : c.first_kind.result ≡ kind_in here node = c.first_kind.ensures ∙ ap first_kind c.requires in
+    let secret : c.first_is_private-private.result ≡ gives_private here node = c.first_is_private-private.ensures ∙ ap first_is_private c.requires in
+    let left : c.parted.result.0.now ≡ notes_of here x =
+    left_found here _ x y c.args.notes.now c.behind_first.result.now c.parted.result.0.now c.requires c.behind_first.ensures c.parted.ensures.first in
+    let right : c.parted.result.1.now ≡ notes_of here y =
+    right_found here _ x y c.args.notes.now c.behind_first.result.now c.parted.result.1.now c.requires c.behind_first.ensures c.parted.ensures.behind in
     let begun = begun_three b (built c.fresh.new.self) (built c.fresh-2.new.self) (built c.fresh-3.new.self) (kind_in here node) (private_kind_in here x)
     (private_kind_in here y)
-    (c.in_ok-to.ensures.built ∙ ap (with_kind b) c.requires)
-    (c.in_ok-first.ensures.built ∙ ap (with_kind (built c.fresh.new.self)) c.private_kind.ensures)
-    (c.in_ok-second.ensures.built ∙ ap (with_kind (built c.fresh-2.new.self)) c.private_kind-2.ensures) in
+    (c.in_ok-to.ensures.built ∙ ap (with_kind b) kind)
+    (c.in_ok-first.ensures.built ∙ ap (with_kind (built c.fresh.new.self)) (c.first_private_kind.ensures ∙ ap first_private_kind left))
+    (c.in_ok-second.ensures.built ∙ ap (with_kind (built c.fresh-2.new.self)) (c.first_private_kind-2.ensures ∙ ap first_private_kind right)) in
     let n1 : length (built c.fresh.new.self).kinds ≡ length b.kinds + 1 =
-    ap (λ (z : Built). length z.kinds) c.in_ok-to.ensures.built ∙ length_push b.kinds c.args.kind in
+    ap (λ (z : Built). length z.kinds) c.in_ok-to.ensures.built ∙ length_push b.kinds c.first_kind.result in
     let n2 : length (built c.fresh-2.new.self).kinds ≡ length (built c.fresh.new.self).kinds + 1 =
-    ap (λ (z : Built). length z.kinds) c.in_ok-first.ensures.built ∙ length_push (built c.fresh.new.self).kinds c.private_kind.result in
+    ap (λ (z : Built). length z.kinds) c.in_ok-first.ensures.built ∙ length_push (built c.fresh.new.self).kinds c.first_private_kind.result in
     let one : c.in_ok-first.first ≡ c.in_ok-to.to + 1 = omega (arith, n1, c.in_ok-first.ensures.number, c.in_ok-to.ensures.number) in
     let two : c.in_ok-second.second ≡ c.in_ok-to.to + 2 = omega (arith, n1, n2, c.in_ok-second.ensures.number, c.in_ok-to.ensures.number) in
     on_ok_weaker c.push.result
     (λ p. cat_made b (built c.fresh-3.new.self) (built c.operand.new.body) (built c.operand-2.new.body) (built c.push.new.self)
     (kind_in here node ∷ private_kind_in here x ∷ private_kind_in here y ∷ []) (expression_kinds here x) (expression_kinds here y)
     (λ n q. expression_code number here n q x) (λ n q. expression_code number here n q y)
-    (lacks c.args.kind.secret (gives_private here x)) (lacks c.args.kind.secret (gives_private here y)) c.args.line c.in_ok-to.to c.in_ok-first.first
+    (lacks c.first_is_private-private.result (gives_private here x)) (lacks c.first_is_private-private.result (gives_private here y)) c.args.line
+    c.in_ok-to.to c.in_ok-first.first
     c.in_ok-second.second c.in_ok-left.left c.in_ok-right.right (width x)
     begun c.in_ok-left.ensures.built c.in_ok-right.ensures.built p c.in_ok-to.ensures.number one two c.in_ok-left.ensures.register
     c.in_ok-right.ensures.register (expression_registers here x)
@@ -76,17 +104,31 @@ cat-returns t c =
 
 -- ---- OPERATIONS ON TWO OPERANDS
 
+pub binary-expression-requires : goal.binary-expression-requires
+binary-expression-requires t c =
+    let here = here_of c.args.around.now in
+    let x = typed_tree c.args.a.now in
+    let y = typed_tree c.args.b.now in
+    let smaller : 3 * width x < 3 * (width x + width y) + 2 = omega arith in
+    let left : c.parted.result.0.now ≡ notes_of here x =
+    left_found here _ x y c.args.notes.now c.behind_first.result.now c.parted.result.0.now c.requires c.behind_first.ensures c.parted.ensures.first in
+    search rules
+
 pub binary-both-requires : goal.binary-both-requires
 binary-both-requires t c =
     let here = here_of c.args.around.now in
     let x = typed_tree c.args.a.now in
     let y = typed_tree c.args.b.now in
     let smaller : 3 * width y + 1 < 3 * (width x + width y) + 2 = omega arith in
-    let begun = begun_three (built c.args.body.now) (built c.fresh.new.self) (built c.fresh-2.new.self) (built c.fresh-3.new.self) c.args.kind
-    c.private_kind.result c.private_kind-2.result c.in_ok-to.ensures.built c.in_ok-fresh.ensures.built c.in_ok-fresh-2.ensures.built in
+    let begun = begun_three (built c.args.body.now) (built c.fresh.new.self) (built c.fresh-2.new.self) (built c.fresh-3.new.self)
+    c.first_kind.result c.first_private_kind.result c.first_private_kind-2.result c.in_ok-to.ensures.built c.in_ok-fresh.ensures.built
+    c.in_ok-fresh-2.ensures.built in
+    let right : c.parted.result.1.now ≡ notes_of here y =
+    right_found here _ x y c.args.notes.now c.behind_first.result.now c.parted.result.1.now c.requires c.behind_first.ensures c.parted.ensures.behind in
     let there : length (built c.expression.new.body).kinds ≡ c.in_ok-to.to + 3 + width x =
     part_registers (built c.args.body.now) (built c.fresh-3.new.self) (built c.expression.new.body) _ 3 (expression_kinds here x) _ (width x) c.in_ok-to.to
     begun c.in_ok-expression.ensures (expression_registers here x) c.in_ok-to.ensures.number in
+    let within : c.in_ok-to.to + 3 ≤ length (built c.expression.new.body).kinds = omega (arith, there) in
     search rules
 
 pub binary-returns : goal.binary-returns
@@ -98,20 +140,39 @@ binary-returns t c =
     let b = built c.args.body.now in
     let o = c.args.operation in
     let node = binary_node o.line o.operator o.operands x y in
+    let kind : c.first_kind.result ≡ kind_in here node = c.first_kind.ensures ∙ ap first_kind c.requires in
+    let left : c.parted.result.0.now ≡ notes_of here x =
+    left_found here _ x y c.args.notes.now c.behind_first.result.now c.parted.result.0.now c.requires c.behind_first.ensures c.parted.ensures.first in
+    let right : c.parted.result.1.now ≡ notes_of here y =
+    right_found here _ x y c.args.notes.now c.behind_first.result.now c.parted.result.1.now c.requires c.behind_first.ensures c.parted.ensures.behind in
+    let secret : c.first_is_private-private.result ≡ gives_private here x = c.first_is_private-private.ensures ∙ ap first_is_private left in
     let begun = begun_three b (built c.fresh.new.self) (built c.fresh-2.new.self) (built c.fresh-3.new.self) (kind_in here node) (private_kind_in here x)
     (private_kind_in here y)
-    (c.in_ok-to.ensures.built ∙ ap (with_kind b) c.requires)
-    (c.in_ok-fresh.ensures.built ∙ ap (with_kind (built c.fresh.new.self)) c.private_kind.ensures)
-    (c.in_ok-fresh-2.ensures.built ∙ ap (with_kind (built c.fresh-2.new.self)) c.private_kind-2.ensures) in
+    (c.in_ok-to.ensures.built ∙ ap (with_kind b) kind)
+    (c.in_ok-fresh.ensures.built ∙ ap (with_kind (built c.fresh.new.self)) (c.first_private_kind.ensures ∙ ap first_private_kind left))
+    (c.in_ok-fresh-2.ensures.built ∙ ap (with_kind (built c.fresh-2.new.self)) (c.first_private_kind-2.ensures ∙ ap first_private_kind right)) in
+    let rest = λ (g : Bool) (n u q : ℕ). binary_rest n u q o.line o.operator o.operands g (gives_private here y) (λ r. expression_code number here u r y) in
     on_ok_weaker c.both.result
     (λ p. two_parts b (built c.fresh-3.new.self) (built c.expression.new.body) (built c.both.new.body)
     (kind_in here node ∷ private_kind_in here x ∷ private_kind_in here y ∷ []) 3 (expression_kinds here x) (expression_kinds here y)
     (λ n q. expression_code number here n q x)
-    (λ n u q. binary_rest n u q o.line o.operator o.operands (gives_private here x) (gives_private here y) (λ r. expression_code number here u r y))
-    c.in_ok-to.to (width x) begun c.in_ok-expression.ensures p c.in_ok-to.ensures.number (expression_registers here x))
+    (rest (gives_private here x)) c.in_ok-to.to (width x) begun c.in_ok-expression.ensures
+    (p ∙ ap (λ (g : Bool). with_code (built c.expression.new.body) (expression_kinds here y)
+    (rest g c.in_ok-to.to (length (built c.expression.new.body).kinds) (length (built c.expression.new.body).pieces))) secret)
+    c.in_ok-to.ensures.number (expression_registers here x))
     c.both.ensures
 
 -- ---- CONNECTIVES
+
+pub cut-expression-requires : goal.cut-expression-requires
+cut-expression-requires t c =
+    let here = here_of c.args.around.now in
+    let x = typed_tree c.args.a.now in
+    let y = typed_tree c.args.b.now in
+    let smaller : 3 * width x < 3 * (width x + width y) + 2 = omega arith in
+    let left : c.parted.result.0.now ≡ notes_of here x =
+    left_found here _ x y c.args.notes.now c.behind_first.result.now c.parted.result.0.now c.requires c.behind_first.ensures c.parted.ensures.first in
+    search rules
 
 pub cut-both-requires : goal.cut-both-requires
 cut-both-requires t c =
@@ -119,11 +180,14 @@ cut-both-requires t c =
     let x = typed_tree c.args.a.now in
     let y = typed_tree c.args.b.now in
     let smaller : 3 * width y + 1 < 3 * (width x + width y) + 2 = omega arith in
-    let begun = begun_three (built c.args.body.now) (built c.fresh.new.self) (built c.fresh-2.new.self) (built c.fresh-3.new.self) c.args.kind
-    c.kind_of.result c.kind_of-2.result c.in_ok-to.ensures.built c.in_ok-fresh.ensures.built c.in_ok-fresh-2.ensures.built in
+    let begun = begun_three (built c.args.body.now) (built c.fresh.new.self) (built c.fresh-2.new.self) (built c.fresh-3.new.self)
+    c.first_kind.result c.kind_of.result c.kind_of-2.result c.in_ok-to.ensures.built c.in_ok-fresh.ensures.built c.in_ok-fresh-2.ensures.built in
+    let right : c.parted.result.1.now ≡ notes_of here y =
+    right_found here _ x y c.args.notes.now c.behind_first.result.now c.parted.result.1.now c.requires c.behind_first.ensures c.parted.ensures.behind in
     let there : length (built c.expression.new.body).kinds ≡ c.in_ok-to.to + 3 + width x =
     part_registers (built c.args.body.now) (built c.fresh-3.new.self) (built c.expression.new.body) _ 3 (expression_kinds here x) _ (width x) c.in_ok-to.to
     begun c.in_ok-expression.ensures (expression_registers here x) c.in_ok-to.ensures.number in
+    let within : c.in_ok-to.to + 3 ≤ length (built c.expression.new.body).kinds = omega (arith, there) in
     search rules
 
 pub cut-cut_short-requires : goal.cut-cut_short-requires
@@ -132,11 +196,14 @@ cut-cut_short-requires t c =
     let x = typed_tree c.args.a.now in
     let y = typed_tree c.args.b.now in
     let smaller : 3 * width y + 1 < 3 * (width x + width y) + 2 = omega arith in
-    let begun = begun_three (built c.args.body.now) (built c.fresh.new.self) (built c.fresh-2.new.self) (built c.fresh-3.new.self) c.args.kind
-    c.kind_of.result c.kind_of-2.result c.in_ok-to.ensures.built c.in_ok-fresh.ensures.built c.in_ok-fresh-2.ensures.built in
+    let begun = begun_three (built c.args.body.now) (built c.fresh.new.self) (built c.fresh-2.new.self) (built c.fresh-3.new.self)
+    c.first_kind.result c.kind_of.result c.kind_of-2.result c.in_ok-to.ensures.built c.in_ok-fresh.ensures.built c.in_ok-fresh-2.ensures.built in
+    let right : c.parted.result.1.now ≡ notes_of here y =
+    right_found here _ x y c.args.notes.now c.behind_first.result.now c.parted.result.1.now c.requires c.behind_first.ensures c.parted.ensures.behind in
     let there : length (built c.expression.new.body).kinds ≡ c.in_ok-to.to + 3 + width x =
     part_registers (built c.args.body.now) (built c.fresh-3.new.self) (built c.expression.new.body) _ 3 (expression_kinds here x) _ (width x) c.in_ok-to.to
     begun c.in_ok-expression.ensures (expression_registers here x) c.in_ok-to.ensures.number in
+    let within : c.in_ok-to.to + 3 ≤ length (built c.expression.new.body).kinds = omega (arith, there) in
     search rules
 
 pub cut-returns-then-secret : goal.cut-returns-then-secret
@@ -148,23 +215,27 @@ cut-returns-then-secret t c =
     let b = built c.args.body.now in
     let n = c.args.connective in
     let node = cut_node n x y in
-    let private : gives_private here x ≡ true = sym c.in_ok-secret.ensures ∙ c.if-secret.true in
-    let first : c.kind_of.result ≡ truth_kind (gives_private here x) = c.kind_of.ensures ∙ ap₂ kind_of c.in_ok-secret.ensures c.scalar.ensures in
+    let kind : c.first_kind.result ≡ kind_in here node = c.first_kind.ensures ∙ ap first_kind c.requires in
+    let left : c.parted.result.0.now ≡ notes_of here x =
+    left_found here _ x y c.args.notes.now c.behind_first.result.now c.parted.result.0.now c.requires c.behind_first.ensures c.parted.ensures.first in
+    let secret : c.first_is_private-secret.result ≡ gives_private here x = c.first_is_private-secret.ensures ∙ ap first_is_private left in
+    let private : gives_private here x ≡ true = sym secret ∙ c.if-secret.true in
+    let first : c.kind_of.result ≡ truth_kind (gives_private here x) = c.kind_of.ensures ∙ ap₂ kind_of secret c.scalar.ensures in
     let second : c.kind_of-2.result ≡ truth_kind true = c.kind_of-2.ensures ∙ ap (kind_of true) c.scalar-2.ensures in
     let begun = begun_three b (built c.fresh.new.self) (built c.fresh-2.new.self) (built c.fresh-3.new.self) (kind_in here node)
     (truth_kind (gives_private here x)) (truth_kind true)
-    (c.in_ok-to.ensures.built ∙ ap (with_kind b) c.requires)
+    (c.in_ok-to.ensures.built ∙ ap (with_kind b) kind)
     (c.in_ok-fresh.ensures.built ∙ ap (with_kind (built c.fresh.new.self)) first)
     (c.in_ok-fresh-2.ensures.built ∙ ap (with_kind (built c.fresh-2.new.self)) second) in
-    let rest = λ (o : BoolOperator) (n u q : ℕ). binary_rest n u q 0 (binary.Bools o) Scalars (gives_private here x) (gives_private here y)
+    let rest = λ (g : Bool) (o : BoolOperator) (n u q : ℕ). binary_rest n u q 0 (binary.Bools o) Scalars g (gives_private here y)
     (λ r. expression_code number here u r y) in
     on_ok_weaker c.both.result
     (λ p. two_parts b (built c.fresh-3.new.self) (built c.expression.new.body) (built c.both.new.body)
     (kind_in here node ∷ truth_kind (gives_private here x) ∷ truth_kind true ∷ []) 3 (expression_kinds here x) (expression_kinds here y)
-    (λ n q. expression_code number here n q x) (rest (connective n))
+    (λ n q. expression_code number here n q x) (rest (gives_private here x) (connective n))
     c.in_ok-to.to (width x) begun c.in_ok-expression.ensures
-    (p ∙ ap (λ (o : BoolOperator). with_code (built c.expression.new.body) (expression_kinds here y)
-    (rest o c.in_ok-to.to (length (built c.expression.new.body).kinds) (length (built c.expression.new.body).pieces))) c.operator_of.ensures)
+    (p ∙ ap₂ (λ (g : Bool) (o : BoolOperator). with_code (built c.expression.new.body) (expression_kinds here y)
+    (rest g o c.in_ok-to.to (length (built c.expression.new.body).kinds) (length (built c.expression.new.body).pieces))) secret c.operator_of.ensures)
     c.in_ok-to.ensures.number (expression_registers here x)
     ∙ ap (λ (g : Bool). with_code b (expression_kinds here node) (cut_of number here n x y b g)) (sym private))
     c.both.ensures
@@ -178,12 +249,16 @@ cut-returns-else-secret t c =
     let b = built c.args.body.now in
     let n = c.args.connective in
     let node = cut_node n x y in
-    let private : gives_private here x ≡ false = sym c.in_ok-secret.ensures ∙ c.if-secret.false in
-    let first : c.kind_of.result ≡ truth_kind (gives_private here x) = c.kind_of.ensures ∙ ap₂ kind_of c.in_ok-secret.ensures c.scalar.ensures in
+    let kind : c.first_kind.result ≡ kind_in here node = c.first_kind.ensures ∙ ap first_kind c.requires in
+    let left : c.parted.result.0.now ≡ notes_of here x =
+    left_found here _ x y c.args.notes.now c.behind_first.result.now c.parted.result.0.now c.requires c.behind_first.ensures c.parted.ensures.first in
+    let secret : c.first_is_private-secret.result ≡ gives_private here x = c.first_is_private-secret.ensures ∙ ap first_is_private left in
+    let private : gives_private here x ≡ false = sym secret ∙ c.if-secret.false in
+    let first : c.kind_of.result ≡ truth_kind (gives_private here x) = c.kind_of.ensures ∙ ap₂ kind_of secret c.scalar.ensures in
     let second : c.kind_of-2.result ≡ truth_kind true = c.kind_of-2.ensures ∙ ap (kind_of true) c.scalar-2.ensures in
     let begun = begun_three b (built c.fresh.new.self) (built c.fresh-2.new.self) (built c.fresh-3.new.self) (kind_in here node)
     (truth_kind (gives_private here x)) (truth_kind true)
-    (c.in_ok-to.ensures.built ∙ ap (with_kind b) c.requires)
+    (c.in_ok-to.ensures.built ∙ ap (with_kind b) kind)
     (c.in_ok-fresh.ensures.built ∙ ap (with_kind (built c.fresh.new.self)) first)
     (c.in_ok-fresh-2.ensures.built ∙ ap (with_kind (built c.fresh-2.new.self)) second) in
     on_ok_weaker c.cut_short.result
@@ -206,7 +281,7 @@ cut_short-returns t c =
     (λ n q. expression_code number here n q y) c.args.connective (gives_private here y) c.args.to c.next_register-value.result c.next_place-branch.result
     c.in_ok-push.ensures c.in_ok-expression.ensures
     (p ∙ ap (λ (g : Bool). cut_closed (built c.expression.new.body) c.args.connective g c.args.to c.next_register-value.result c.next_place-branch.result)
-    c.in_ok-secret.ensures)
+    (c.first_is_private-secret.ensures ∙ ap first_is_private c.requires.notes))
     c.next_register-value.ensures c.next_place-branch.ensures)
     c.close_cut.ensures
 
@@ -222,6 +297,11 @@ arguments-argument-requires t c =
     (subst (λ (y : TypedExpression). width (typed_tree y) + 1 ≤ widths (typed_trees_of (map typed_tree es))) (sym c.e-item.is)
     (several.widths_item es i x c.loop-e-test.true)) in
     let smaller : 3 * width (typed_tree x) + 2 < 3 * widths (typed_trees_of (map typed_tree c.args.list.now.items)) = omega arith in
+    let here = here_of c.args.around.now in
+    let own : c.parted.result.0.now ≡ notes_of here (typed_tree x) =
+    c.parted.ensures.first
+    ∙ ap first_part (c.loop-e.invariant.rest ∙ ap (arguments_notes here) (rest_of es i x c.loop-e-test.true c.e-item.is))
+    ∙ first_is here (typed_tree x) (arguments_notes here (typed_trees_of (map typed_tree (drop (i + 1) es)))) in
     search rules
 
 pub arguments-loop-e-preserved : goal.arguments-loop-e-preserved
@@ -255,6 +335,10 @@ arguments-loop-e-preserved t c =
     let own = private_kind_in here e ∷ expression_kinds here e in
     let last = several.argument_code number here bound (drop i ss) (length before.kinds) (length before.pieces) e in
     record {
+      rest =
+          c.parted.ensures.behind
+          ∙ ap behind_part (c.loop-e.invariant.rest ∙ ap (arguments_notes here) (rest_of xs i x c.loop-e-test.true c.e-item.is))
+          ∙ behind_is here e (arguments_notes here (typed_trees_of (map typed_tree (drop (i + 1) xs))));
       count = omega (arith, c.loop-e.invariant.count, ap length c.in_ok-push.ensures.items, length_push c.loop-e.registers.items c.in_ok-register.register);
       code =
           c.in_ok-register.ensures.built

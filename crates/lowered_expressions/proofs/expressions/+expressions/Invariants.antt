@@ -1,10 +1,11 @@
-use Rattle.std.proofs.Common.{◌≡◌, ◌+◌, ◌*◌, length, take}
+use Rattle.std.proofs.Common.{◌≡◌, ◌+◌, ◌*◌, length, take, drop}
 use Rattle.std.specs.Prelude.{map}
 use Rattle.typed_tree.specs.Tree.{typed_tree, typed_trees_of}
 use Rattle.code_model.specs.Kinds.{width, widths, arguments_kinds}
 use Rattle.code_model.specs.Expressions.{arguments_code, arguments_places}
 use Rattle.lowered_expressions.specs.Built.{with_code}
 use Rattle.lowered_expressions.specs.Views.{built, here_of, numbers_of}
+use Rattle.lowered_expressions.specs.inner.Notes.{arguments_notes}
 use Rattle.lowered_expressions.proofs.expressions.+expressions.Given as goal
 
 abbrev pub decreases-expression : goal.decreases-expression
@@ -48,6 +49,7 @@ decreases-argument l = 3 * width (typed_tree l.e.now) + 2
 
 abbrev pub invariant-arguments-loop-e : goal.invariant-arguments-loop-e
 invariant-arguments-loop-e l = record {
+  rest : l.rest ≡ arguments_notes (here_of l.around) (typed_trees_of (map typed_tree (drop l.e-index l.e-items)));
   count : length l.registers.items ≡ l.e-index;
   code : built l.body ≡ with_code (built l.initial.body) (arguments_kinds (here_of l.around) (typed_trees_of (map typed_tree (take l.e-index l.e-items))))
       (arguments_code (numbers_of l.around) (here_of l.around) l.binding l.slots (length (built l.initial.body).kinds) (length (built l.initial.body).pieces)

@@ -1,0 +1,236 @@
+// The notes of expressions: one walk over a tree. The functions call one another, so they stand together.
+ghost use Rattle.std.specs.Prelude.{◌≡◌, ◌++◌, IfOk, OnOk, false, map};
+ghost use Rattle.std.specs.List.{slice_get};
+ghost use Rattle.typed_tree.specs.Tree.{typed_tree, typed_trees_of};
+ghost use Rattle.typed_tree.specs.Programs.{typed_function_tree};
+ghost use Rattle.reached_instances.specs.declared.instance.BoundDomain.TheVariants.{Public};
+ghost use Rattle.reached_instances.specs.Domains.{call_domain, domains, joined_domain};
+ghost use Rattle.reached_instances.specs.Views.{setting};
+ghost use Rattle.typed_tree.specs.Shapes.{shape_of};
+ghost use Rattle.lowered_expressions.specs.inner.Notes.{arguments_notes, given_in, given_of, notes_of, one_given, operands_notes};
+
+use crate::closing::One;
+use crate::kinds::{called_shape, slot_shape};
+use crate::notes::{Given, Note, nothing_noted};
+use crate::words::{cast_shape, result_shape, scalar};
+use reached_instances::{BoundDomain, Setting, binding_of, given_domain, slot_domain};
+use secrec_ast::DataType;
+use std::alloc::{AllocError, Global};
+use typed_tree::{Shape, TypedExpression, TypedFunction};
+
+fn given_of(domain: BoundDomain, shape: Shape) -> Given
+    ensures { result ≡ given_of domain shape }
+{
+    Given { domain, shape }
+}
+
+// A public value of a shape.
+fn public(shape: Shape) -> Given
+    ensures { result ≡ given_of Public shape }
+{
+    given_of(BoundDomain::Public, shape)
+}
+
+// What an operation on one operand gives.
+fn one_given(one: One, operand: Given) -> Given
+    ensures { result ≡ one_given one operand }
+{
+    let Given { domain, shape } = operand;
+    match one {
+        One::Size => public(scalar(DataType::Uint64)),
+        One::Sum => given_of(domain, scalar(DataType::Uint64)),
+        One::Bits(_) => given_of(
+            domain,
+            Shape {
+                element: DataType::Bool,
+                array: true,
+            },
+        ),
+        One::Not => operand,
+        One::Cast(cast) => given_of(domain, cast_shape(cast, shape.array)),
+        One::Declassify => public(shape),
+    }
+}
+
+// An element of an array.
+fn element_given(array: Given) -> Given
+    ensures { result ≡ given_of array.domain (shape_of array.shape.element false) }
+{
+    given_of(array.domain, scalar(array.shape.element))
+}
+
+// A value of this shape that two operands give together.
+fn joined(left: Given, right: Given, shape: Shape) -> Given
+    ensures { result ≡ given_of (joined_domain left.domain right.domain) shape }
+{
+    match left.domain {
+        BoundDomain::Public => given_of(right.domain, shape),
+        BoundDomain::Private(_) => given_of(left.domain, shape),
+    }
+}
+
+// Who may see what a call gives, by its arguments' domains.
+fn call_domain(
+    alloc: Global,
+    functions: &[TypedFunction],
+    function: usize,
+    arguments: &[BoundDomain],
+) -> Result<BoundDomain, AllocError>
+    ensures { IfOk result (λ d. d ≡
+        call_domain (slice_get (map typed_function_tree functions.now) function) arguments.now) }
+{
+    let Some(callee) = functions.get(function) else {
+        return Ok(BoundDomain::Public);
+    };
+    let binding = binding_of(alloc, callee, arguments)?;
+    Ok(given_domain(&binding, callee.given))
+}
+
+// Notes an expression and what is in it; what it gives.
+#[cycle(noting)]
+fn note(
+    alloc: Global,
+    notes: &mut Vec<Note>,
+    here: &Setting<'_>,
+    e: &TypedExpression,
+) -> Result<Given, AllocError>
+    ensures notes { OnOk result (notes.new.items ≡ notes.old.items ++ notes_of (setting here.now) (typed_tree e.now)) }
+    ensures given { IfOk result (λ given. given ≡ given_in (setting here.now) (typed_tree e.now)) }
+{
+    let place = notes.len();
+    notes.push(nothing_noted())?;
+    let given = note_operands(alloc, notes, here, e)?;
+    let nodes = notes.len() - place;
+    notes[place] = Note { given, nodes };
+    Ok(given)
+}
+
+// Notes the operands of an expression; what the expression gives.
+#[cycle(noting)]
+fn note_operands(
+    alloc: Global,
+    notes: &mut Vec<Note>,
+    here: &Setting<'_>,
+    e: &TypedExpression,
+) -> Result<Given, AllocError>
+    ensures notes { OnOk result (notes.new.items ≡ notes.old.items ++ operands_notes (setting here.now) (typed_tree e.now)) }
+    ensures given { IfOk result (λ given. given ≡ given_in (setting here.now) (typed_tree e.now)) }
+{
+    match e {
+        TypedExpression::Word(_) => Ok(public(scalar(DataType::Uint64))),
+        TypedExpression::Truth(_) => Ok(public(scalar(DataType::Bool))),
+        TypedExpression::Variable(slot) => {
+            Ok(given_of(slot_domain(here, *slot), slot_shape(here, *slot)))
+        }
+        TypedExpression::Call(_, function, list) => {
+            let domains = note_arguments(alloc, notes, here, list)?;
+            let domain = call_domain(alloc, here.functions, *function, &domains)?;
+            Ok(given_of(domain, called_shape(here.functions, *function)))
+        }
+        TypedExpression::Size(x) => note_one(alloc, notes, here, One::Size, x),
+        TypedExpression::Sum(x) => note_one(alloc, notes, here, One::Sum, x),
+        TypedExpression::BitExtract(line, x) => note_one(alloc, notes, here, One::Bits(*line), x),
+        TypedExpression::Not(x) => note_one(alloc, notes, here, One::Not, x),
+        TypedExpression::Cast(cast, x) => note_one(alloc, notes, here, One::Cast(*cast), x),
+        TypedExpression::Declassify(x) => note_one(alloc, notes, here, One::Declassify, x),
+        TypedExpression::Element(_, a, i) => {
+            let (array, _) = note_two(alloc, notes, here, a, i)?;
+            Ok(element_given(array))
+        }
+        TypedExpression::Cat(_, a, b) => {
+            let (left, right) = note_two(alloc, notes, here, a, b)?;
+            Ok(joined(left, right, left.shape))
+        }
+        TypedExpression::Binary(_, operator, operands, a, b) => {
+            let (left, right) = note_two(alloc, notes, here, a, b)?;
+            Ok(joined(left, right, result_shape(*operator, *operands)))
+        }
+        TypedExpression::CutShort(_, a, b) => {
+            let (left, right) = note_two(alloc, notes, here, a, b)?;
+            Ok(joined(left, right, scalar(DataType::Bool)))
+        }
+    }
+}
+
+// Notes the operand of an operation; what the operation gives.
+#[cycle(noting)]
+fn note_one(
+    alloc: Global,
+    notes: &mut Vec<Note>,
+    here: &Setting<'_>,
+    one: One,
+    x: &TypedExpression,
+) -> Result<Given, AllocError>
+    ensures notes { OnOk result (notes.new.items ≡ notes.old.items ++ notes_of (setting here.now) (typed_tree x.now)) }
+    ensures given { IfOk result (λ given. given ≡ one_given one (given_in (setting here.now) (typed_tree x.now))) }
+{
+    let operand = note(alloc, notes, here, x)?;
+    Ok(one_given(one, operand))
+}
+
+// Notes two operands; what they give.
+#[cycle(noting)]
+fn note_two(
+    alloc: Global,
+    notes: &mut Vec<Note>,
+    here: &Setting<'_>,
+    a: &TypedExpression,
+    b: &TypedExpression,
+) -> Result<(Given, Given), AllocError>
+    ensures notes { OnOk result (notes.new.items ≡ notes.old.items ++
+        (notes_of (setting here.now) (typed_tree a.now) ++ notes_of (setting here.now) (typed_tree b.now))) }
+    ensures left { IfOk result (λ given. given.0 ≡ given_in (setting here.now) (typed_tree a.now)) }
+    ensures right { IfOk result (λ given. given.1 ≡ given_in (setting here.now) (typed_tree b.now)) }
+{
+    let left = note(alloc, notes, here, a)?;
+    let right = note(alloc, notes, here, b)?;
+    Ok((left, right))
+}
+
+// Notes the arguments of a call; who may see what they give.
+#[cycle(noting)]
+fn note_arguments(
+    alloc: Global,
+    notes: &mut Vec<Note>,
+    here: &Setting<'_>,
+    list: &Vec<TypedExpression>,
+) -> Result<Vec<BoundDomain>, AllocError>
+    ensures notes { OnOk result (notes.new.items ≡ notes.old.items ++
+        arguments_notes (setting here.now) (typed_trees_of (map typed_tree list.now.items))) }
+    ensures domains { IfOk result (λ found. found.items ≡
+        domains (setting here.now) (typed_trees_of (map typed_tree list.now.items))) }
+{
+    let mut domains = Vec::new(alloc);
+    for each in list {
+        let given = note(alloc, notes, here, each)?;
+        domains.push(given.domain)?;
+    }
+    Ok(domains)
+}
+
+/// The notes of an expression. An error comes where memory runs short.
+pub fn notes_of(
+    alloc: Global,
+    here: &Setting<'_>,
+    e: &TypedExpression,
+) -> Result<Vec<Note>, AllocError>
+    ensures { IfOk result (λ notes. notes.items ≡ notes_of (setting here.now) (typed_tree e.now)) }
+{
+    let mut notes = Vec::new(alloc);
+    note(alloc, &mut notes, here, e)?;
+    Ok(notes)
+}
+
+/// The notes of the arguments of a call. An error comes where memory runs short.
+pub fn arguments_notes(
+    alloc: Global,
+    here: &Setting<'_>,
+    list: &Vec<TypedExpression>,
+) -> Result<Vec<Note>, AllocError>
+    ensures { IfOk result (λ notes. notes.items ≡
+        arguments_notes (setting here.now) (typed_trees_of (map typed_tree list.now.items))) }
+{
+    let mut notes = Vec::new(alloc);
+    let _ = note_arguments(alloc, &mut notes, here, list)?;
+    Ok(notes)
+}
