@@ -5,3 +5,4 @@ pub mod Shares
 pub mod Tapes
 pub mod Blocks
 pub mod Turns
+pub mod LettingGo

@@ -1,5 +1,6 @@
 // A miner's gates, block by block.
-ghost use Rattle.std.specs.Prelude.{◌≡◌, ◌≤◌, ◌<◌, length, true, false, None, IfSome, IfOk, OnOk};
+ghost use Rattle.std.specs.Prelude.{◌≡◌, ◌≢◌, ◌≤◌, ◌<◌, ◌⊎◌, length, true, false, None, IfSome, IfOk, OnOk};
+ghost use Rattle.gates.specs.Held.{kept_only};
 ghost use Rattle.block_steps.specs.Outcomes.{outcome_of};
 ghost use Rattle.joint_run.specs.Steps.{second_value};
 ghost use Rattle.gate_node.specs.Nodes.{gates_left, work_left, engine_outcome, IsSoundRun, IsSound, EngineStands, RunStands, Keeps, KeepsGates, measure};
@@ -14,6 +15,7 @@ use gates::{BLOCK_LEN, Gate, Values};
 use joint_run::local_share;
 use proto_core::{BadMessage, Link, Party};
 use std::alloc::{AllocError, Global};
+use std::collections::BTreeSet;
 use std::mem;
 
 /// What a miner is at.
@@ -66,9 +68,21 @@ impl<P: Party> Engine<P> {
         }
     }
 
+    /// Lets go the shares of all values but those of these numbers, where no gate is at work and none is left.
+    pub fn keep_only(&mut self, numbers: &BTreeSet<u64>)
+        ensures let_go { self.old.work ≡ Work.Idle → length self.old.gates.items ≤ self.old.begun → self.new.values ≡ kept_only numbers.now self.old.values }
+        ensures same { self.new ≡ record self.old { values = self.new.values } }
+        ensures only_then { (self.new.values ≡ self.old.values) ⊎ ((self.old.work ≡ Work.Idle) × (length self.old.gates.items ≤ self.old.begun)) }
+    {
+        if self.is_idle() && self.begun >= self.gates.len() {
+            self.values.keep_only(numbers);
+        }
+    }
+
     /// Whether no gate is at work. It is looked at first, since what a gate has at work is large, and moved as often as it is gone on with.
     fn is_idle(&self) -> bool
-        ensures { result ≡ true → self.now.work ≡ Work.Idle }
+        ensures idle { result ≡ true → self.now.work ≡ Work.Idle }
+        ensures at_work { result ≡ false → self.now.work ≢ Work.Idle }
     {
         match &self.work {
             Work::Idle => true,
