@@ -1,5 +1,5 @@
 // What the simulator has a miner see.
-ghost use Rattle.std.specs.Prelude.{◌≡◌, ◌≤◌, ◌-◌, [], ◌∷◌, ◌++◌, true, length, take, IfOk, OnOk};
+ghost use Rattle.std.specs.Prelude.{◌≡◌, ◌≤◌, ◌-◌, true, length, take, IfOk};
 ghost use Rattle.proto_core.specs.declared.party.Number.{Number as NumberValue};
 ghost use Rattle.joint_run.specs.Three.{each_of};
 ghost use Rattle.view_model.specs.TapeMaps.{miners_of};
