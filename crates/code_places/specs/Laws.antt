@@ -8,8 +8,7 @@ use Rattle.verified_code.specs.Steps.{Declassify, Function}
 use Rattle.code_model.specs.Machine.{Machine, step}
 use Rattle.driven_nodes.specs.Steps.{ToRun}
 use Rattle.driven_nodes.specs.Twins.{Course, Twins}
-use Rattle.code_places.specs.Places.{Place, next_step, first_place}
-use Rattle.code_places.specs.Laws.{code_course}
+use Rattle.code_places.specs.Places.{Place, next_step, step_told, first_place, when_told}
 use Rattle.code_places.specs.Twins.{GoAlike, EndAlike}
 
 -- ---- BESIDE THE RUN IN THE CLEAR
