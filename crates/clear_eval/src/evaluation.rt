@@ -26,7 +26,7 @@ use crate::words::{bool_operator, decides, is_private};
 use reached_instances::{BoundDomain, domain};
 use std::alloc::Global;
 use typed_tree::{BinaryOperator, Connective, Operands, Slot, TypedExpression, TypedStatement};
-use value_steps::{Halt, Stage, Value, World, joined, operation, tested, wanted};
+use value_steps::{Halt, Operation, Stage, Value, World, joined, operation, tested, wanted};
 
 /// Evaluates an expression.
 #[inline(never)]
@@ -207,18 +207,12 @@ fn not_cut_short(
     ensures spends { stage.new.left ≤ stage.old.left }
 {
     let right = value(around, stage, frame, right)?;
-    let operator = BinaryOperator::Bools(bool_operator(connective));
-    let operands = Operands::Scalars;
-    operation(
-        around.alloc,
-        around.world,
-        stage,
-        0,
-        operator,
-        operands,
-        left,
-        right,
-    )
+    let step = Operation {
+        line: 0,
+        operator: BinaryOperator::Bools(bool_operator(connective)),
+        operands: Operands::Scalars,
+    };
+    operation(around.alloc, around.world, stage, step, left, right)
 }
 
 /// Goes on behind a public left operand of a connective.

@@ -23,8 +23,9 @@ use reached_instances::domain;
 use std::alloc::Global;
 use typed_tree::{TypedExpression, TypedStatement};
 use value_steps::{
-    Halt, Stage, Value, World, asked_for, asserted, bits_extracted, cast_to, declassified,
-    element_of_array, filled, negated, operation, published, size_told, summed, wanted,
+    Asked, Halt, Operation, Stage, Value, World, asked_for, asserted, bits_extracted, cast_to,
+    declassified, element_of_array, filled, negated, operation, published, size_told, summed,
+    wanted,
 };
 
 /// The value of a literal or a variable.
@@ -94,7 +95,12 @@ pub fn on_two(
         TypedExpression::Binary(line, operator, operands, _, _) => {
             let x = x.into_value(alloc)?;
             let y = y.into_value(alloc)?;
-            operation(alloc, world, stage, *line, *operator, *operands, x, y)
+            let step = Operation {
+                line: *line,
+                operator: *operator,
+                operands: *operands,
+            };
+            operation(alloc, world, stage, step, x, y)
         }
         _ => Ok(x.into_value(alloc)?),
     }
@@ -144,17 +150,12 @@ pub fn plain(
             Ok(Flow::Goes)
         }
         TypedStatement::Input(line, slot, name) => {
-            let shape = slot_shape(&around.at, *slot);
-            let private = is_private_slot(&around.at, *slot);
-            let value = asked_for(
-                around.alloc,
-                around.world,
-                stage,
-                private,
-                shape,
-                *line,
-                name,
-            )?;
+            let asked = Asked {
+                line: *line,
+                private: is_private_slot(&around.at, *slot),
+                shape: slot_shape(&around.at, *slot),
+            };
+            let value = asked_for(around.alloc, around.world, stage, asked, name)?;
             store(around.alloc, &around.at, stage, frame, *slot, value)?;
             Ok(Flow::Goes)
         }

@@ -14,8 +14,7 @@ ghost use Rattle.code_machine.specs.Standing.{IsThere};
 
 use crate::change::{Change, into_register};
 use crate::machine::Machine;
-use crate::operands::array_with;
-use bytecode::Register;
+use crate::operands::{PutStep, array_with};
 use sc_text::TrapKind;
 use std::alloc::Global;
 use value_steps::{Halt, Secrecy, Stage, Value, charge, test_at};
@@ -46,31 +45,28 @@ pub(crate) fn put(
     alloc: Global,
     machine: &Machine,
     stage: &mut Stage<'_>,
-    line: u32,
-    array: Register,
-    index: Register,
-    value: Register,
+    element: PutStep,
 ) -> Result<Change, Halt>
-    requires array_there { IsThere machine.now array }
-    requires index_there { IsThere machine.now index }
-    requires value_there { IsThere machine.now value }
+    requires array_there { IsThere machine.now element.array }
+    requires index_there { IsThere machine.now element.index }
+    requires value_there { IsThere machine.now element.value }
     ensures step { (code : RawCode) → Does (changed code (machine_seen code machine.now))
-        (into array.0 (machine_seen code machine.now) (row.with_element line (kept machine.now array)
-        (kept machine.now index) (kept machine.now value)))
+        (into element.array.0 (machine_seen code machine.now) (row.with_element element.line (kept machine.now element.array)
+        (kept machine.now element.index) (kept machine.now element.value)))
         (stage_seen stage.old) result (stage_seen stage.new) }
     ensures safe { IfOk result (IsSafe machine.now) }
     ensures enough { (code : RawCode) → IfOk result (HasEnough code) }
 {
-    let old = machine.register(array);
+    let old = machine.register(element.array);
     match old.secrecy {
         Secrecy::Plain => {
-            let place = place_in(stage, line, old, machine.register(index))?;
-            let word = seen_word(machine.register(value));
-            Ok(Change::Element(array, place, word))
+            let place = place_in(stage, element.line, old, machine.register(element.index))?;
+            let word = seen_word(machine.register(element.value));
+            Ok(Change::Element(element.array, place, word))
         }
         Secrecy::Private(_) => {
-            let made = array_with(alloc, machine, stage, line, array, index, value);
-            into_register(array, made)
+            let made = array_with(alloc, machine, stage, element);
+            into_register(element.array, made)
         }
     }
 }

@@ -8,36 +8,47 @@ ghost use Rattle.code_machine.specs.Standing.{IsThere};
 use crate::machine::Machine;
 use bytecode::Register;
 use std::alloc::Global;
-use typed_tree::{BinaryOperator, Operands};
 use value_steps::{
-    Applied, Halt, Stage, Value, World, bits_extracted, element_of_array, filled, joined, operated,
-    with_element,
+    Applied, Halt, Operation, Stage, Value, World, bits_extracted, element_of_array, filled,
+    joined, operated, with_element,
 };
 
-/// An operator between two registers.
+/// An operation between two registers.
+#[derive(Clone, Copy)]
+pub(crate) struct BinaryStep {
+    pub(crate) operation: Operation,
+    pub(crate) left: Register,
+    pub(crate) right: Register,
+}
+
+/// An element of an array that is written, with the line of its construct: the registers of the array, the index and the element.
+#[derive(Clone, Copy)]
+pub(crate) struct PutStep {
+    pub(crate) line: u32,
+    pub(crate) array: Register,
+    pub(crate) index: Register,
+    pub(crate) value: Register,
+}
+
+/// The result of an operation between two registers.
 pub(crate) fn combined(
     alloc: Global,
     world: &World<'_>,
     machine: &Machine,
     stage: &mut Stage<'_>,
-    line: u32,
-    operator: BinaryOperator,
-    operands: Operands,
-    left: Register,
-    right: Register,
+    binary: BinaryStep,
 ) -> Result<Value, Halt>
-    requires left_there { IsThere machine.now left }
-    requires right_there { IsThere machine.now right }
-    ensures { Does value_seen (row.operated (world_seen world.now) line operator operands (kept machine.now left) (kept machine.now right))
-        (stage_seen stage.old) result (stage_seen stage.new) }
+    requires left_there { IsThere machine.now binary.left }
+    requires right_there { IsThere machine.now binary.right }
+    ensures { Does value_seen (row.operated (world_seen world.now) binary.operation.line binary.operation.operator binary.operation.operands
+        (kept machine.now binary.left) (kept machine.now binary.right)) (stage_seen stage.old) result (stage_seen stage.new) }
 {
     let applied = Applied {
-        operator,
-        operands,
-        left: machine.register(left),
-        right: machine.register(right),
+        operation: binary.operation,
+        left: machine.register(binary.left),
+        right: machine.register(binary.right),
     };
-    operated(alloc, world, stage, line, &applied)
+    operated(alloc, world, stage, &applied)
 }
 
 /// An array of equal elements.
@@ -122,23 +133,20 @@ pub(crate) fn array_with(
     alloc: Global,
     machine: &Machine,
     stage: &mut Stage<'_>,
-    line: u32,
-    array: Register,
-    index: Register,
-    value: Register,
+    element: PutStep,
 ) -> Result<Value, Halt>
-    requires array_there { IsThere machine.now array }
-    requires index_there { IsThere machine.now index }
-    requires value_there { IsThere machine.now value }
-    ensures { Does value_seen (row.with_element line (kept machine.now array) (kept machine.now index) (kept machine.now value))
-        (stage_seen stage.old) result (stage_seen stage.new) }
+    requires array_there { IsThere machine.now element.array }
+    requires index_there { IsThere machine.now element.index }
+    requires value_there { IsThere machine.now element.value }
+    ensures { Does value_seen (row.with_element element.line (kept machine.now element.array) (kept machine.now element.index)
+        (kept machine.now element.value)) (stage_seen stage.old) result (stage_seen stage.new) }
 {
-    let old = machine.copied(alloc, array)?;
+    let old = machine.copied(alloc, element.array)?;
     with_element(
         stage,
-        line,
+        element.line,
         old,
-        machine.register(index),
-        machine.register(value),
+        machine.register(element.index),
+        machine.register(element.value),
     )
 }

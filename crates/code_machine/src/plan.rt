@@ -16,7 +16,7 @@ use crate::arrays::put;
 use crate::calls::{charge_call, registers_for};
 use crate::change::{Change, into_register};
 use crate::machine::Machine;
-use crate::operands::{bits, combined, concatenated, element, repeated};
+use crate::operands::{BinaryStep, PutStep, bits, combined, concatenated, element, repeated};
 use crate::places::{assert_at, branch, into_place};
 use crate::texts::{argument, publish};
 use crate::values::{
@@ -27,31 +27,38 @@ use sc_text::Ending;
 use secrec_ast::DataType;
 use std::alloc::Global;
 use typed_tree::Shape;
-use value_steps::{Halt, Stage, Value, World};
+use value_steps::{Halt, Operation, Stage, Value, World};
 use verified_code::{Step, Verified};
 
-/// A call: it is charged, and the called function begins.
+/// A call, with the line of its construct: of which function, the register of its result, if one is wanted, and those of its arguments.
+#[derive(Clone, Copy)]
+struct CallStep<'c> {
+    line: u32,
+    function: FunctionPlace,
+    to: Option<Register>,
+    arguments: &'c [Register],
+}
+
+/// A call is charged, and the called function begins.
 fn enter(
     alloc: Global,
     code: &Verified,
     machine: &Machine,
     stage: &mut Stage<'_>,
-    line: u32,
-    function: FunctionPlace,
-    to: Option<Register>,
-    arguments: &[Register],
+    call: CallStep<'_>,
 ) -> Result<Change, Halt>
-    requires to_there { IsThereIfAny machine.now to }
-    requires arguments_there { AreAllThere machine.now arguments.now }
+    requires to_there { IsThereIfAny machine.now call.to }
+    requires arguments_there { AreAllThere machine.now call.arguments.now }
     ensures step { (w : Around) → Does (changed code.now (machine_seen code.now machine.now))
-        (step w (settled code.now) (Some (steps.Call line function.0 (place_of to) (map (λ r. r.0) arguments.now))) (machine_seen code.now machine.now))
+        (step w (settled code.now) (Some (steps.Call call.entry.line call.entry.function.0 (place_of call.entry.to)
+        (map (λ r. r.0) call.entry.arguments.now))) (machine_seen code.now machine.now))
         (stage_seen stage.old) result (stage_seen stage.new) }
     ensures safe { IfOk result (IsSafe machine.now) }
     ensures enough { IfOk result (HasEnough code.now) }
 {
-    charge_call(machine, stage, line, arguments)?;
-    let registers = registers_for(alloc, code, machine, function, arguments)?;
-    Ok(Change::Enter(function, to, registers))
+    charge_call(machine, stage, call.line, call.arguments)?;
+    let registers = registers_for(alloc, code, machine, call.function, call.arguments)?;
+    Ok(Change::Enter(call.function, call.to, registers))
 }
 
 /// A return: the last caller goes on, with the value of a register or one that nobody reads. Where `main` is left the run is done.
@@ -103,12 +110,19 @@ pub(crate) fn change_of(
             to,
             left,
             right,
-        } => into_register(
-            to,
-            combined(
-                alloc, world, machine, stage, line, operator, operands, left, right,
-            ),
-        ),
+        } => {
+            let operation = Operation {
+                line,
+                operator,
+                operands,
+            };
+            let binary = BinaryStep {
+                operation,
+                left,
+                right,
+            };
+            into_register(to, combined(alloc, world, machine, stage, binary))
+        }
         Step::Not { to, source } => into_register(to, negation(alloc, machine, stage, source)),
         Step::Cast { cast, to, source } => into_register(
             to,
@@ -134,7 +148,15 @@ pub(crate) fn change_of(
             array,
             index,
             value,
-        } => put(alloc, machine, stage, line, array, index, value),
+        } => {
+            let element = PutStep {
+                line,
+                array,
+                index,
+                value,
+            };
+            put(alloc, machine, stage, element)
+        }
         Step::Size { to, source } => into_register(to, size_of(alloc, machine, stage, source)),
         Step::Cat {
             line,
@@ -174,7 +196,15 @@ pub(crate) fn change_of(
             function,
             to,
             arguments,
-        } => enter(alloc, code, machine, stage, line, function, to, arguments),
+        } => {
+            let call = CallStep {
+                line,
+                function,
+                to,
+                arguments,
+            };
+            enter(alloc, code, machine, stage, call)
+        }
         Step::Return { source } => leave(alloc, machine, Some(source)),
         Step::ReturnNone => leave(alloc, machine, None),
     }

@@ -13,7 +13,7 @@ use bytecode::{Kind, Register};
 use sc_text::Name;
 use std::alloc::{AllocError, Global};
 use typed_tree::Shape;
-use value_steps::{Halt, Stage, Value, World, asked_for, published};
+use value_steps::{Asked, Halt, Stage, Value, World, asked_for, published};
 
 /// A name of the code in memory of its own. Each name of verified code is one; for another text no memory is found.
 fn name_in(alloc: Global, text: &str) -> Result<Name, AllocError>
@@ -38,11 +38,15 @@ pub(crate) fn argument(
         (stage_seen stage.old) result (stage_seen stage.new) }
 {
     let name = name_in(alloc, text)?;
-    let shape = Shape {
-        element: kind.element,
-        array: kind.array,
+    let asked = Asked {
+        line,
+        private: kind.secret,
+        shape: Shape {
+            element: kind.element,
+            array: kind.array,
+        },
     };
-    asked_for(alloc, world, stage, kind.secret, shape, line, &name)
+    asked_for(alloc, world, stage, asked, &name)
 }
 
 /// A value is published under a name.

@@ -150,9 +150,18 @@ pub enum Pair {
     Put,
 }
 
-fn pair_step<'p>(pair: Pair, line: u32, slot: usize, number: usize, value: usize) -> Step<'p>
-    ensures { step_seen result ≡ pair_step pair line slot number value }
+/// A number and a value that are stored: what is done with them, the line of the statement, and the slot of the array.
+#[derive(Clone, Copy)]
+pub struct PairStore {
+    pub pair: Pair,
+    pub line: u32,
+    pub slot: usize,
+}
+
+fn pair_step<'p>(store: PairStore, number: usize, value: usize) -> Step<'p>
+    ensures { step_seen result ≡ pair_step store.pair store.line store.slot number value }
 {
+    let PairStore { pair, line, slot } = store;
     match pair {
         Pair::Fill => Step::Fill {
             line,
@@ -173,21 +182,19 @@ fn pair_step<'p>(pair: Pair, line: u32, slot: usize, number: usize, value: usize
 pub fn pair_store(
     body: &mut Body<'_>,
     around: &Around<'_>,
-    pair: Pair,
-    line: u32,
-    slot: usize,
+    store: PairStore,
     number: &TypedExpression,
     e: &TypedExpression,
 ) -> Result<(), AllocError>
     ensures { OnOk result (built body.new ≡ with_leaf (numbers_of around.now) (here_of around.now) (built body.old)
-        (pair_command pair line slot (typed_tree number.now) (typed_tree e.now))) }
+        (pair_command store.pair store.line store.slot (typed_tree number.now) (typed_tree e.now))) }
 {
-    let private = slot_is_private(&around.here, slot);
+    let private = slot_is_private(&around.here, store.slot);
     let classified = body.fresh(private_kind(&around.here, e))?;
     let first = body.next_register();
     expression(body, around, number)?;
     let second = operand(body, around, private, classified, e)?;
-    body.push(pair_step(pair, line, slot, first, second))
+    body.push(pair_step(store, first, second))
 }
 
 /// An expression that is evaluated for what it does: a call has a register for what it gives only if it gives something.

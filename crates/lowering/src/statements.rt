@@ -7,7 +7,8 @@ ghost use Rattle.lowering.specs.inner.Pieces.{with_command, with_commands};
 ghost use Rattle.lowering.specs.inner.Views.{numbers_at, place_seen};
 
 use crate::commands::{
-    Pair, assertion, default_store, input, pair_store, publishing, returning, store, unread,
+    Pair, PairStore, assertion, default_store, input, pair_store, publishing, returning, store,
+    unread,
 };
 use crate::place::LoweringContext;
 use crate::settling::{push, settle};
@@ -37,11 +38,21 @@ fn statement<'p>(
         TypedStatement::Store(slot, e) => store(body, &at.around, *slot, e),
         TypedStatement::StoreDefault(slot) => default_store(body, &at.around, *slot),
         TypedStatement::Fill(line, slot, size, e) => {
-            pair_store(body, &at.around, Pair::Fill, *line, *slot, size, e)
+            let fill = PairStore {
+                pair: Pair::Fill,
+                line: *line,
+                slot: *slot,
+            };
+            pair_store(body, &at.around, fill, size, e)
         }
         TypedStatement::Input(line, slot, text) => { input(body, &at.around, *line, *slot, text) }
         TypedStatement::StoreElement(line, slot, position, e) => {
-            pair_store(body, &at.around, Pair::Put, *line, *slot, position, e)
+            let put = PairStore {
+                pair: Pair::Put,
+                line: *line,
+                slot: *slot,
+            };
+            pair_store(body, &at.around, put, position, e)
         }
         TypedStatement::Publish(text, e) => publishing(body, &at.around, text, e),
         TypedStatement::Evaluate(e) => unread(body, &at.around, e),

@@ -81,8 +81,13 @@ pub fn statement<'p>(
             Ok(TypedStatement::DoWhile(body, condition))
         }
         Statement::For(_, start, e, step, body) => {
+            let head = ForHead {
+                start,
+                condition: e,
+                step,
+            };
             let outer = place.enter();
-            let made = looped(alloc, declarations, place, start, e, step, body)?;
+            let made = looped(alloc, declarations, place, head, body)?;
             place.leave(outer);
             Ok(made)
         }
@@ -117,25 +122,31 @@ fn inside<'p>(
     Ok(Box::new(alloc, made)?)
 }
 
+// The head of a `for`: what stands before its body.
+#[derive(Clone, Copy)]
+struct ForHead<'p> {
+    start: &'p ForStart,
+    condition: &'p Option<Expression>,
+    step: &'p ForStep,
+}
+
 // The parts of a `for`, in its block.
 #[cycle(statements)]
 fn looped<'p>(
     alloc: Global,
     declarations: &Declarations<'p>,
     place: &mut FunctionScope<'p>,
-    start: &'p ForStart,
-    e: &'p Option<Expression>,
-    step: &'p ForStep,
+    head: ForHead<'p>,
     body: &'p Statement,
 ) -> Result<TypedStatement, ResolveErr>
     ensures made { Answers (with_place command (place_seen place.new)) result
-        (looped (declared declarations.now) (start_tree start.now) (optional e.now) (step_tree step.now)
+        (looped (declared declarations.now) (start_tree head.entry.start.now) (optional head.entry.condition.now) (step_tree head.entry.step.now)
         (resolved (declared declarations.now) (statement body.now)) (place_seen place.old)) }
     ensures outer { IfOk result (λ _. (place_seen place.new).scope.outer ≡ (place_seen place.old).scope.outer) }
 {
-    let start = started(alloc, declarations, place, start)?;
-    let condition = condition_of(alloc, declarations, place, e)?;
-    let step = Box::new(alloc, stepped(alloc, declarations, place, step)?)?;
+    let start = started(alloc, declarations, place, head.start)?;
+    let condition = condition_of(alloc, declarations, place, head.condition)?;
+    let step = Box::new(alloc, stepped(alloc, declarations, place, head.step)?)?;
     let body = inside(alloc, declarations, place, body)?;
     let mut both = Vec::new(alloc);
     both.push(start)?;

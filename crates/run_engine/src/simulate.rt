@@ -14,7 +14,7 @@ use command_words::SimulateWords;
 use delivered_run::DeliveryErr;
 use outside::Files;
 use std::alloc::{AllocError, Global};
-use view_simulator::{SimulateErr, simulate};
+use view_simulator::{SimulateErr, SimulatedRun, simulate};
 use view_text::View;
 
 // The line of opened words that don't suffice.
@@ -83,10 +83,15 @@ pub fn plan_simulate<F: Files>(
     let opened = read_opened_file(alloc, files, &words.opened)?;
     let tapes = read_tape_file(alloc, files, &words.sim)?;
     let delivery = read_delivery(alloc, files, &words.order)?;
-    let (miner, budget) = (words.miner, words.budget);
-    match simulate(
-        alloc, miner, &program, &part, &opened, &tapes, budget, &delivery,
-    ) {
+    let run = SimulatedRun {
+        program: &program,
+        part: &part,
+        opened: &opened,
+        tapes: &tapes,
+        budget: words.budget,
+        delivery: &delivery,
+    };
+    match simulate(alloc, words.miner, &run) {
         Ok(view) => Ok(simulate_plan(alloc, words, &view)?),
         Err(refusal) => Err(simulate_stop(alloc, refusal)),
     }

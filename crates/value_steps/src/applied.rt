@@ -6,11 +6,18 @@ use crate::value::{Secrecy, Value};
 use std::alloc::{AllocError, Global};
 use typed_tree::{BinaryOperator, BoolOperator, Operands, Shape, WordOperator};
 
-/// An operator between two values.
+/// An operator with the line of its construct, and how its operands stand side by side.
 #[derive(Clone, Copy)]
-pub struct Applied<'v> {
+pub struct Operation {
+    pub line: u32,
     pub operator: BinaryOperator,
     pub operands: Operands,
+}
+
+/// An operation between two values.
+#[derive(Clone, Copy)]
+pub struct Applied<'v> {
+    pub operation: Operation,
     pub left: &'v Value,
     pub right: &'v Value,
 }
@@ -24,10 +31,10 @@ impl Applied<'_> {
 
     /// How many elements the result has.
     pub(crate) fn result_size(&self) -> u64
-        ensures size { result ≡ W.result_size self.now.operands (value_seen self.now.left.now) (value_seen self.now.right.now) }
+        ensures size { result ≡ W.result_size self.now.operation.operands (value_seen self.now.left.now) (value_seen self.now.right.now) }
         ensures bounded { result ≤ 1048576 }
     {
-        match self.operands {
+        match self.operation.operands {
             Operands::Scalars => 1,
             Operands::ArrayAndScalar | Operands::Arrays => self.left.size(),
             Operands::ScalarAndArray => self.right.size(),
@@ -36,9 +43,9 @@ impl Applied<'_> {
 
     /// Whether the operands fit each other: two arrays have the same size.
     pub(crate) fn are_alike(&self) -> bool
-        ensures { result ≡ W.are_alike self.now.operands (value_seen self.now.left.now) (value_seen self.now.right.now) }
+        ensures { result ≡ W.are_alike self.now.operation.operands (value_seen self.now.left.now) (value_seen self.now.right.now) }
     {
-        match self.operands {
+        match self.operation.operands {
             Operands::Arrays => self.left.size() == self.right.size(),
             Operands::Scalars | Operands::ArrayAndScalar | Operands::ScalarAndArray => true,
         }
@@ -46,19 +53,19 @@ impl Applied<'_> {
 
     /// Whether no public divisor is 0.
     pub(crate) fn may_divide(&self) -> bool
-        ensures { result ≡ W.may_divide self.now.operator (visible_words (value_seen self.now.right.now)) }
+        ensures { result ≡ W.may_divide self.now.operation.operator (visible_words (value_seen self.now.right.now)) }
     {
         match self.right.secrecy {
-            Secrecy::Plain => vector_ops::may_divide(self.operator, &self.right.words),
-            Secrecy::Private(_) => vector_ops::may_divide(self.operator, &[]),
+            Secrecy::Plain => vector_ops::may_divide(self.operation.operator, &self.right.words),
+            Secrecy::Private(_) => vector_ops::may_divide(self.operation.operator, &[]),
         }
     }
 
     /// Whether the left operand is a scalar beside an array.
     pub(crate) fn is_scalar_left(&self) -> bool
-        ensures { result ≡ is_scalar_left self.now.operands }
+        ensures { result ≡ is_scalar_left self.now.operation.operands }
     {
-        match self.operands {
+        match self.operation.operands {
             Operands::ScalarAndArray => true,
             Operands::Scalars | Operands::ArrayAndScalar | Operands::Arrays => false,
         }
@@ -66,9 +73,9 @@ impl Applied<'_> {
 
     /// Whether the right operand is a scalar beside an array.
     pub(crate) fn is_scalar_right(&self) -> bool
-        ensures { result ≡ is_scalar_right self.now.operands }
+        ensures { result ≡ is_scalar_right self.now.operation.operands }
     {
-        match self.operands {
+        match self.operation.operands {
             Operands::ArrayAndScalar => true,
             Operands::Scalars | Operands::ScalarAndArray | Operands::Arrays => false,
         }
@@ -76,9 +83,10 @@ impl Applied<'_> {
 
     /// The left words, one for each element of the result.
     pub(crate) fn left_words(&self, alloc: Global) -> Result<Vec<u64>, AllocError>
-        ensures { IfOk result (λ words. words.items ≡ W.left_words self.now.operands (value_seen self.now.left.now) (value_seen self.now.right.now)) }
+        ensures { IfOk result (λ words. words.items
+            ≡ W.left_words self.now.operation.operands (value_seen self.now.left.now) (value_seen self.now.right.now)) }
     {
-        match self.operands {
+        match self.operation.operands {
             Operands::ScalarAndArray => {
                 vector_ops::repeated(alloc, self.right.words.len(), self.left.word())
             }
@@ -90,9 +98,10 @@ impl Applied<'_> {
 
     /// The right words, one for each element of the result.
     pub(crate) fn right_words(&self, alloc: Global) -> Result<Vec<u64>, AllocError>
-        ensures { IfOk result (λ words. words.items ≡ W.right_words self.now.operands (value_seen self.now.left.now) (value_seen self.now.right.now)) }
+        ensures { IfOk result (λ words. words.items
+            ≡ W.right_words self.now.operation.operands (value_seen self.now.left.now) (value_seen self.now.right.now)) }
     {
-        match self.operands {
+        match self.operation.operands {
             Operands::ArrayAndScalar => {
                 vector_ops::repeated(alloc, self.left.words.len(), self.right.word())
             }
@@ -106,11 +115,11 @@ impl Applied<'_> {
     #[tactic(auto, using(crate::proofs::ResultSizes::length_each_two))]
     pub(crate) fn result_words(&self, alloc: Global) -> Result<Vec<u64>, AllocError>
         ensures words { IfOk result (λ words. words.items
-            ≡ W.result_words self.now.operator self.now.operands (value_seen self.now.left.now) (value_seen self.now.right.now)) }
+            ≡ W.result_words self.now.operation.operator self.now.operation.operands (value_seen self.now.left.now) (value_seen self.now.right.now)) }
         ensures bounded { IfOk result (λ words. length words.items ≤ 1048576) }
     {
-        let (op, left, right) = (self.operator, self.left, self.right);
-        match self.operands {
+        let (op, left, right) = (self.operation.operator, self.left, self.right);
+        match self.operation.operands {
             Operands::Scalars | Operands::Arrays => {
                 vector_ops::each(alloc, op, &left.words, &right.words)
             }
@@ -125,14 +134,14 @@ impl Applied<'_> {
 
     /// The shape of the result.
     pub(crate) fn result_shape(&self) -> Shape
-        ensures { result ≡ result_shape self.now.operator self.now.operands }
+        ensures { result ≡ result_shape self.now.operation.operator self.now.operation.operands }
     {
-        let array = match self.operands {
+        let array = match self.operation.operands {
             Operands::Scalars => false,
             Operands::ArrayAndScalar | Operands::ScalarAndArray | Operands::Arrays => true,
         };
         Shape {
-            element: self.operator.result(),
+            element: self.operation.operator.result(),
             array,
         }
     }

@@ -15,6 +15,14 @@ use sc_text::{Ending, Name, TrapKind};
 use std::alloc::Global;
 use typed_tree::Shape;
 
+/// What an input is asked for as: private or not, and of a shape. The line is that of the statement.
+#[derive(Clone, Copy)]
+pub struct Asked {
+    pub line: u32,
+    pub private: bool,
+    pub shape: Shape,
+}
+
 /// An input, and how many private ones stand before it.
 #[derive(Clone, Copy)]
 pub(crate) struct Placed<'w> {
@@ -70,30 +78,28 @@ fn given_value(
     }
 }
 
-/// The input of a name, where one is wanted that is private or not and has this shape. Another one, or none, is a trap.
+/// The input of a name, where one is asked for. Another one, or none, is a trap.
 pub fn asked_for(
     alloc: Global,
     world: &World<'_>,
     stage: &mut Stage<'_>,
-    private: bool,
-    shape: Shape,
-    line: u32,
+    asked: Asked,
     name: &Name,
 ) -> Result<Value, Halt>
-    ensures step { Does value_seen (asked_for private shape line (input_named (world_seen world.now) name.now)) (stage_seen stage.old) result
-        (stage_seen stage.new) }
+    ensures step { Does value_seen (asked_for asked.private asked.shape asked.line (input_named (world_seen world.now) name.now))
+        (stage_seen stage.old) result (stage_seen stage.new) }
     ensures spends { stage.new.left ≤ stage.old.left }
 {
     charge(stage, 1)?;
     let Some(placed) = input_named(world, name) else {
         return Err(Halt::Ended(Ending::Trap {
             kind: TrapKind::Argument,
-            line,
+            line: asked.line,
         }));
     };
-    let declared = is_as_declared(private, shape, placed.given);
-    test_at(stage, declared, TrapKind::Argument, line)?;
+    let declared = is_as_declared(asked.private, asked.shape, placed.given);
+    test_at(stage, declared, TrapKind::Argument, asked.line)?;
     let size = placed.given.words.len() as u64;
     charge(stage, size.saturating_sub(1))?;
-    given_value(alloc, stage, private, placed)
+    given_value(alloc, stage, asked.private, placed)
 }

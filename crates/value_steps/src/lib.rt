@@ -24,12 +24,12 @@ mod telling;
 mod value;
 mod world;
 
-pub use applied::Applied;
+pub use applied::{Applied, Operation};
 pub use arrays::{element_of_array, filled, joined, with_element};
 pub use classification::wanted;
 pub use conditions::{asserted, tested};
 pub use halt::Halt;
-pub use inputs::asked_for;
+pub use inputs::{Asked, asked_for};
 pub use one_operand::{bits_extracted, cast_to, negated, size_told, summed};
 pub use opening::declassified;
 pub use operators::{operated, operation};

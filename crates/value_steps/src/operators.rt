@@ -1,11 +1,12 @@
 // Operators between two operands.
 ghost use Rattle.std.specs.Prelude.{◌≡◌, ◌≤◌, length};
-ghost use Rattle.language_model.specs.Operations.{operation, operated, combined_from, private_result, product_with, charged, operator_traps, is_classified};
+ghost use Rattle.language_model.specs.Operations.{operated, combined_from, private_result, product_with, charged, operator_traps, is_classified};
+ghost use Rattle.language_model.specs.Operations as row;
 ghost use Rattle.language_model.specs.Words as W;
 ghost use Rattle.value_steps.specs.Steps.{Does, itself};
 ghost use Rattle.value_steps.specs.Views.{stage_seen, value_seen, world_seen, secrecy_seen};
 
-use crate::applied::{Applied, is_product};
+use crate::applied::{Applied, Operation, is_product};
 use crate::classification::wanted;
 use crate::drawing::{draw, words_of_operator};
 use crate::gating::{gate, number_of, ring_for};
@@ -18,16 +19,18 @@ use crate::world::World;
 use gates::{Gate, Words};
 use sc_text::TrapKind;
 use std::alloc::Global;
-use typed_tree::{BinaryOperator, Operands};
+use typed_tree::BinaryOperator;
 
 /// Charges an operator, and tests for its traps: arrays of two sizes, and a public divisor that is 0.
-fn charged(stage: &mut Stage<'_>, line: u32, applied: &Applied<'_>) -> Result<(), Halt>
+fn charged(stage: &mut Stage<'_>, applied: &Applied<'_>) -> Result<(), Halt>
     ensures step { Does itself (charged
-        (operator_traps line applied.now.operator applied.now.operands (value_seen applied.now.left.now) (value_seen applied.now.right.now))
-        (W.result_size applied.now.operands (value_seen applied.now.left.now) (value_seen applied.now.right.now))) (stage_seen stage.old) result
-        (stage_seen stage.new) }
+        (operator_traps applied.now.operation.line applied.now.operation.operator applied.now.operation.operands
+        (value_seen applied.now.left.now) (value_seen applied.now.right.now))
+        (W.result_size applied.now.operation.operands (value_seen applied.now.left.now) (value_seen applied.now.right.now)))
+        (stage_seen stage.old) result (stage_seen stage.new) }
     ensures spends { stage.new.left ≤ stage.old.left }
 {
+    let line = applied.operation.line;
     charge(stage, 1)?;
     test_at(stage, applied.are_alike(), TrapKind::Length, line)?;
     test_at(stage, applied.may_divide(), TrapKind::Div, line)?;
@@ -42,17 +45,18 @@ fn private_result(
     applied: &Applied<'_>,
 ) -> Result<Value, Halt>
     ensures step { Does value_seen
-        (private_result (world_seen world.now) applied.now.operator applied.now.operands (value_seen applied.now.left.now)
+        (private_result (world_seen world.now) applied.now.operation.operator applied.now.operation.operands (value_seen applied.now.left.now)
         (value_seen applied.now.right.now)) (stage_seen stage.old) result (stage_seen stage.new) }
     ensures spends { stage.new.left ≤ stage.old.left }
 {
+    let operator = applied.operation.operator;
     let n = applied.result_size();
-    draw(world, stage, words_of_operator(applied.operator, n))?;
+    draw(world, stage, words_of_operator(operator, n))?;
     let first = number_of(alloc, stage, applied.left)?;
     let second = number_of(alloc, stage, applied.right)?;
     let left = stretched(stage, applied.is_scalar_left(), n, first)?;
     let right = stretched(stage, applied.is_scalar_right(), n, second)?;
-    let number = operator_gates(alloc, stage, applied.operator, n, left, right)?;
+    let number = operator_gates(alloc, stage, operator, n, left, right)?;
     let words = applied.result_words(alloc)?;
     Ok(Value::hidden(applied.result_shape(), number, words))
 }
@@ -67,8 +71,9 @@ fn product_with(
     known: Vec<u64>,
 ) -> Result<Value, Halt>
     ensures step { Does value_seen
-        (product_with applied.now.operator applied.now.operands scalar (value_seen private.now) known.items
-        (W.result_words applied.now.operator applied.now.operands (value_seen applied.now.left.now) (value_seen applied.now.right.now)))
+        (product_with applied.now.operation.operator applied.now.operation.operands scalar (value_seen private.now) known.items
+        (W.result_words applied.now.operation.operator applied.now.operation.operands (value_seen applied.now.left.now)
+        (value_seen applied.now.right.now)))
         (stage_seen stage.old) result (stage_seen stage.new) }
     ensures spends { stage.new.left ≤ stage.old.left }
 {
@@ -95,7 +100,8 @@ fn combined(
 ) -> Result<Value, Halt>
     ensures step { Does value_seen
         (combined_from (secrecy_seen applied.now.left.now.secrecy) (secrecy_seen applied.now.right.now.secrecy)
-        (world_seen world.now) applied.now.operator applied.now.operands (value_seen applied.now.left.now) (value_seen applied.now.right.now))
+        (world_seen world.now) applied.now.operation.operator applied.now.operation.operands (value_seen applied.now.left.now)
+        (value_seen applied.now.right.now))
         (stage_seen stage.old) result (stage_seen stage.new) }
     ensures spends { stage.new.left ≤ stage.old.left }
 {
@@ -123,15 +129,14 @@ pub fn operated(
     alloc: Global,
     world: &World<'_>,
     stage: &mut Stage<'_>,
-    line: u32,
     applied: &Applied<'_>,
 ) -> Result<Value, Halt>
     ensures step { Does value_seen
-        (operated (world_seen world.now) line applied.now.operator applied.now.operands (value_seen applied.now.left.now)
-        (value_seen applied.now.right.now)) (stage_seen stage.old) result (stage_seen stage.new) }
+        (operated (world_seen world.now) applied.now.operation.line applied.now.operation.operator applied.now.operation.operands
+        (value_seen applied.now.left.now) (value_seen applied.now.right.now)) (stage_seen stage.old) result (stage_seen stage.new) }
     ensures spends { stage.new.left ≤ stage.old.left }
 {
-    charged(stage, line, applied)?;
+    charged(stage, applied)?;
     combined(alloc, world, stage, applied)
 }
 
@@ -147,25 +152,23 @@ pub fn operation(
     alloc: Global,
     world: &World<'_>,
     stage: &mut Stage<'_>,
-    line: u32,
-    operator: BinaryOperator,
-    operands: Operands,
+    operation: Operation,
     left: Value,
     right: Value,
 ) -> Result<Value, Halt>
-    ensures step { Does value_seen (operation (world_seen world.now) line operator operands (value_seen left) (value_seen right))
+    ensures step { Does value_seen
+        (row.operation (world_seen world.now) operation.line operation.operator operation.operands (value_seen left) (value_seen right))
         (stage_seen stage.old) result (stage_seen stage.new) }
     ensures spends { stage.new.left ≤ stage.old.left }
 {
-    let classify_left = is_classified(operator, &left, &right);
-    let classify_right = is_classified(operator, &right, &left);
+    let classify_left = is_classified(operation.operator, &left, &right);
+    let classify_right = is_classified(operation.operator, &right, &left);
     let left = wanted(alloc, stage, classify_left, left)?;
     let right = wanted(alloc, stage, classify_right, right)?;
     let applied = Applied {
-        operator,
-        operands,
+        operation,
         left: &left,
         right: &right,
     };
-    operated(alloc, world, stage, line, &applied)
+    operated(alloc, world, stage, &applied)
 }

@@ -18,4 +18,4 @@ mod words;
 
 pub use errors::SimulateErr;
 pub use laws::{runs_are_simulated, told_runs_can_be_made};
-pub use simulating::simulate;
+pub use simulating::{SimulatedRun, simulate};

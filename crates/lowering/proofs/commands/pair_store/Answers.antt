@@ -18,7 +18,7 @@ returns c =
     let n = typed_tree c.args.number.now in
     let e = typed_tree c.args.e.now in
     let b = built c.args.body.now in
-    let last = pair_step c.args.pair c.args.line c.args.slot in
+    let last = pair_step c.args.store.pair c.args.store.line c.args.store.slot in
     let l = lacks c.slot_is_private-private.result (gives_private here e) in
     on_ok_weaker c.push.result
     (λ p. pair_made b (built c.fresh.new.self) (built c.expression.new.body) (built c.operand.new.body) (built c.push.new.self) (private_kind_in here e)
@@ -29,5 +29,5 @@ returns c =
     c.in_ok-second.ensures.register (expression_registers here n)
     ∙ ap (λ (w : Bool). with_code b (private_kind_in here e ∷ (expression_kinds here n ++ expression_kinds here e)) (pair_code number here b n e w last))
     c.slot_is_private-private.ensures
-    ∙ pair_is number here b c.args.pair c.args.line c.args.slot n e)
+    ∙ pair_is number here b c.args.store.pair c.args.store.line c.args.store.slot n e)
     c.push.ensures
