@@ -48,15 +48,18 @@ module _ {condition : Frame → Effect Value} {step body : Frame → Effect Flow
   unfolding turns
   at_test = t.same ∙ sym (carry-carry (condition fr s) tested behind_test)
 
-  behind_the_test : (b b' : Bool) (s2 : Stage) → carry (condition fr s) tested ≡ Ok (b, s2) → b ≡ b' → whole_turns condition step body fr0 s0 ≡ behind_test b' s2
-  behind_the_test b b' s2 h is = at_test ∙ ap (λ r. carry r behind_test) (h ∙ ap (λ (x : Bool). Ok (x, s2)) is)
+  at_end : (s2 : Stage) → carry (condition fr s) tested ≡ Ok (false, s2) → whole_turns condition step body fr0 s0 ≡ Ok (goes fr, s2)
+  at_end s2 h = at_test ∙ ap (λ r. carry r behind_test) h
+
+  at_body : (s2 : Stage) → carry (condition fr s) tested ≡ Ok (true, s2) → whole_turns condition step body fr0 s0 ≡ carry (body fr s2) behind_body
+  at_body s2 h = at_test ∙ ap (λ r. carry r behind_test) h
 
   behind_the_body : (b : Bool) (s2 s3 : Stage) (g : Flow) → carry (condition fr s) tested ≡ Ok (b, s2) → b ≡ true → body fr s2 ≡ Ok (g, s3)
       → whole_turns condition step body fr0 s0 ≡ turned g (λ f u. carry (step f u) behind_step) s3
-  behind_the_body b s2 s3 g h yes h' = behind_the_test b true s2 h yes ∙ ap (λ r. carry r behind_body) h'
+  behind_the_body b s2 s3 g h yes h' = at_body s2 (h ∙ ap (λ (x : Bool). Ok (x, s2)) yes) ∙ ap (λ r. carry r behind_body) h'
 
   pub ended : (b : Bool) (s2 : Stage) → carry (condition fr s) tested ≡ Ok (b, s2) → b ≡ false → whole_turns condition step body fr0 s0 ≡ Ok (goes fr, s2)
-  ended b s2 h no = behind_the_test b false s2 h no
+  ended b s2 h no = at_end s2 (h ∙ ap (λ (x : Bool). Ok (x, s2)) no)
 
   pub stopped_in_test : {Y : Type 0} (seen : Y → Flow) (s2 : Stage) (h : Halt) (r : Result Y Halt)
       → Does itself (λ u. carry (condition fr u) tested) s (Err h) s2 → IsErrAnd r (λ e. e ≡ h) → Does seen (whole_turns condition step body fr0) s0 r s2
@@ -67,7 +70,7 @@ module _ {condition : Frame → Effect Value} {step body : Frame → Effect Flow
       → carry (condition fr s) tested ≡ Ok (b, s2) → b ≡ true → Does seen (body fr) s2 (Err h) s3 → IsErrAnd r (λ e. e ≡ h)
       → Does seen (whole_turns condition step body fr0) s0 r s3
   stopped_in_body seen b s2 s3 h r h' yes d i =
-      stop_run seen seen (whole_turns condition step body fr0) s0 (body fr) s2 s3 behind_body h r (behind_the_test b true s2 h' yes) d i
+      stop_run seen seen (whole_turns condition step body fr0) s0 (body fr) s2 s3 behind_body h r (at_body s2 (h' ∙ ap (λ (x : Bool). Ok (x, s2)) yes)) d i
 
   pub left_behind_body : (b : Bool) (s2 s3 : Stage) (g out : Flow) → carry (condition fr s) tested ≡ Ok (b, s2) → b ≡ true → body fr s2 ≡ Ok (g, s3)
       → ((next : Frame → Effect Flow) → turned g next ≡ done out) → whole_turns condition step body fr0 s0 ≡ Ok (out, s3)
@@ -121,11 +124,6 @@ module _ {condition : Frame → Effect Value} {body : Frame → Effect Flow} {fr
       ∙ ap (λ (e : Effect Flow). e s1) (on (λ f u. carry (condition f u) (λ v w. carry (tested v w) (again_on f))))
       ∙ sym (carry-carry (condition f s1) tested (again_on f))
 
-  again_behind_test : (b b' : Bool) (s1 s3 : Stage) (g : Flow) (f : Frame) → body fr s ≡ Ok (g, s1)
-      → ((next : Frame → Effect Flow) → turned g next ≡ next f) → carry (condition f s1) tested ≡ Ok (b, s3) → b ≡ b'
-      → whole_repeats condition body fr0 s0 ≡ again_on f b' s3
-  again_behind_test b b' s1 s3 g f h on h' is = again_at_test s1 g f h on ∙ ap (λ r. carry r (again_on f)) (h' ∙ ap (λ (x : Bool). Ok (x, s3)) is)
-
   pub again_stopped_in_body : {Y : Type 0} (seen : Y → Flow) (s1 : Stage) (h : Halt) (r : Result Y Halt)
       → Does seen (body fr) s (Err h) s1 → IsErrAnd r (λ e. e ≡ h) → Does seen (whole_repeats condition body fr0) s0 r s1
   again_stopped_in_body seen s1 h r d i =
@@ -144,11 +142,12 @@ module _ {condition : Frame → Effect Value} {body : Frame → Effect Flow} {fr
 
   pub again_ended : (b : Bool) (s1 s3 : Stage) (g : Flow) (f : Frame) → body fr s ≡ Ok (g, s1) → ((next : Frame → Effect Flow) → turned g next ≡ next f)
       → carry (condition f s1) tested ≡ Ok (b, s3) → b ≡ false → whole_repeats condition body fr0 s0 ≡ Ok (goes f, s3)
-  again_ended b s1 s3 g f h on h' no = again_behind_test b false s1 s3 g f h on h' no
+  again_ended b s1 s3 g f h on h' no = again_at_test s1 g f h on ∙ ap (λ r. carry r (again_on f)) (h' ∙ ap (λ (x : Bool). Ok (x, s3)) no)
 
   pub next_repeat : (b : Bool) (s1 s3 : Stage) (g : Flow) (f : Frame) → body fr s ≡ Ok (g, s1) → ((next : Frame → Effect Flow) → turned g next ≡ next f)
       → carry (condition f s1) tested ≡ Ok (b, s3) → b ≡ true → s3.left < s.left → Repeats condition body fr0 s0 f s3
-  next_repeat b s1 s3 g f h on h' yes less = go t.rest t.enough (again_behind_test b true s1 s3 g f h on h' yes)
+  next_repeat b s1 s3 g f h on h' yes less =
+      go t.rest t.enough (again_at_test s1 g f h on ∙ ap (λ r. carry r (again_on f)) (h' ∙ ap (λ (x : Bool). Ok (x, s3)) yes))
     where
       go : (n : ℕ) → s.left ≤ n → whole_repeats condition body fr0 s0 ≡ repeats n condition body f s3 → Repeats condition body fr0 s0 f s3
       go zero enough same = absurd (omega arith)

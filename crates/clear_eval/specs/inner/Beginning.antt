@@ -1,6 +1,6 @@
 -- Cited by private functions alone: no contract of another crate rests on it.
 -- The body of a function that is about to run.
-use Rattle.std.specs.Prelude.{◌≡◌, ℕ, ◌+◌, ◌<◌, List, map, sum}
+use Rattle.std.specs.Prelude.{◌≡◌, ◌+◌, ◌<◌, List, map, sum}
 use Rattle.std.specs.List.{slice_get}
 use Rattle.typed_tree.specs.Commands.{command, commands_of}
 use Rattle.typed_tree.specs.Programs.{typed_function_tree}

@@ -37,7 +37,8 @@ arguments-value-requires t c =
     let x = c.e-item.result in
     let lighter = item_lighter es list i x c.deref-e-items.ensures.value c.e-item.is c.loop-e-test.true in
     let smaller = falls c.args.around.now (weight_of x) (weight_of_all (trees list) + 1) (omega arith) in
-    let here = item_sound c.args.around.now.at c.args.frame.now.items es list i x c.deref-e-items.ensures.value c.e-item.is c.loop-e-test.true c.requires.here in
+    let here = item_sound c.args.around.now.at c.args.frame.now.items es list i x c.deref-e-items.ensures.value c.e-item.is c.loop-e-test.true
+    c.requires.here in
     search rules
 
 pub arguments-loop-e-preserved : goal.arguments-loop-e-preserved

@@ -83,8 +83,8 @@ abbrev pub invariant-arguments-loop-e : goal.invariant-arguments-loop-e
 invariant-arguments-loop-e l = record {
   each : length l.values.items ≡ l.e-index;
   spends : l.stage.left ≤ l.initial.stage.left;
-  step : arguments (world_seen l.around.world.now) (calls_from l.around) (setting l.around.at.here) l.binding l.slots (typed_trees_of (map typed_tree l.e-items))
-      (frame_seen l.frame.items) (stage_seen l.initial.stage)
+  step : arguments (world_seen l.around.world.now) (calls_from l.around) (setting l.around.at.here) l.binding l.slots
+      (typed_trees_of (map typed_tree l.e-items)) (frame_seen l.frame.items) (stage_seen l.initial.stage)
       ≡ carry (arguments (world_seen l.around.world.now) (calls_from l.around) (setting l.around.at.here) l.binding (drop l.e-index l.slots)
       (typed_trees_of (map typed_tree (drop l.e-index l.e-items))) (frame_seen l.frame.items) (stage_seen l.stage))
       (λ xs. done (map value_seen l.values.items ++ xs));
