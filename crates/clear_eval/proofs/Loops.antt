@@ -56,10 +56,10 @@ module _ {condition : Frame → Effect Value} {step body : Frame → Effect Flow
 
   behind_the_body : (b : Bool) (s2 s3 : Stage) (g : Flow) → carry (condition fr s) tested ≡ Ok (b, s2) → b ≡ true → body fr s2 ≡ Ok (g, s3)
       → whole_turns condition step body fr0 s0 ≡ turned g (λ f u. carry (step f u) behind_step) s3
-  behind_the_body b s2 s3 g h yes h' = at_body s2 (h ∙ ap (λ (x : Bool). Ok (x, s2)) yes) ∙ ap (λ r. carry r behind_body) h'
+  behind_the_body b s2 s3 g h is_true h' = at_body s2 (h ∙ ap (λ (x : Bool). Ok (x, s2)) is_true) ∙ ap (λ r. carry r behind_body) h'
 
   pub ended : (b : Bool) (s2 : Stage) → carry (condition fr s) tested ≡ Ok (b, s2) → b ≡ false → whole_turns condition step body fr0 s0 ≡ Ok (goes fr, s2)
-  ended b s2 h no = at_end s2 (h ∙ ap (λ (x : Bool). Ok (x, s2)) no)
+  ended b s2 h is_false = at_end s2 (h ∙ ap (λ (x : Bool). Ok (x, s2)) is_false)
 
   pub stopped_in_test : {Y : Type 0} (seen : Y → Flow) (s2 : Stage) (h : Halt) (r : Result Y Halt)
       → Does itself (λ u. carry (condition fr u) tested) s (Err h) s2 → IsErrAnd r (λ e. e ≡ h) → Does seen (whole_turns condition step body fr0) s0 r s2
@@ -69,19 +69,19 @@ module _ {condition : Frame → Effect Value} {step body : Frame → Effect Flow
   pub stopped_in_body : {Y : Type 0} (seen : Y → Flow) (b : Bool) (s2 s3 : Stage) (h : Halt) (r : Result Y Halt)
       → carry (condition fr s) tested ≡ Ok (b, s2) → b ≡ true → Does seen (body fr) s2 (Err h) s3 → IsErrAnd r (λ e. e ≡ h)
       → Does seen (whole_turns condition step body fr0) s0 r s3
-  stopped_in_body seen b s2 s3 h r h' yes d i =
-      stop_run seen seen (whole_turns condition step body fr0) s0 (body fr) s2 s3 behind_body h r (at_body s2 (h' ∙ ap (λ (x : Bool). Ok (x, s2)) yes)) d i
+  stopped_in_body seen b s2 s3 h r h' is_true d i =
+      stop_run seen seen (whole_turns condition step body fr0) s0 (body fr) s2 s3 behind_body h r (at_body s2 (h' ∙ ap (λ (x : Bool). Ok (x, s2)) is_true)) d i
 
   pub left_behind_body : (b : Bool) (s2 s3 : Stage) (g out : Flow) → carry (condition fr s) tested ≡ Ok (b, s2) → b ≡ true → body fr s2 ≡ Ok (g, s3)
       → ((next : Frame → Effect Flow) → turned g next ≡ done out) → whole_turns condition step body fr0 s0 ≡ Ok (out, s3)
-  left_behind_body b s2 s3 g out h yes h' on =
-      behind_the_body b s2 s3 g h yes h' ∙ ap (λ (e : Effect Flow). e s3) (on (λ f u. carry (step f u) behind_step))
+  left_behind_body b s2 s3 g out h is_true h' on =
+      behind_the_body b s2 s3 g h is_true h' ∙ ap (λ (e : Effect Flow). e s3) (on (λ f u. carry (step f u) behind_step))
 
   -- behind the body comes the step
   pub at_step : (b : Bool) (s2 s3 : Stage) (g : Flow) (f : Frame) → carry (condition fr s) tested ≡ Ok (b, s2) → b ≡ true → body fr s2 ≡ Ok (g, s3)
       → ((next : Frame → Effect Flow) → turned g next ≡ next f) → whole_turns condition step body fr0 s0 ≡ carry (step f s3) behind_step
-  at_step b s2 s3 g f h yes h' on =
-      behind_the_body b s2 s3 g h yes h' ∙ ap (λ (e : Effect Flow). e s3) (on (λ f u. carry (step f u) behind_step))
+  at_step b s2 s3 g f h is_true h' on =
+      behind_the_body b s2 s3 g h is_true h' ∙ ap (λ (e : Effect Flow). e s3) (on (λ f u. carry (step f u) behind_step))
 
   pub stopped_in_step : {Y : Type 0} (seen : Y → Flow) (s3 s4 : Stage) (f : Frame) (h : Halt) (r : Result Y Halt)
       → whole_turns condition step body fr0 s0 ≡ carry (step f s3) behind_step → Does seen (step f) s3 (Err h) s4 → IsErrAnd r (λ e. e ≡ h)
@@ -142,12 +142,12 @@ module _ {condition : Frame → Effect Value} {body : Frame → Effect Flow} {fr
 
   pub again_ended : (b : Bool) (s1 s3 : Stage) (g : Flow) (f : Frame) → body fr s ≡ Ok (g, s1) → ((next : Frame → Effect Flow) → turned g next ≡ next f)
       → carry (condition f s1) tested ≡ Ok (b, s3) → b ≡ false → whole_repeats condition body fr0 s0 ≡ Ok (goes f, s3)
-  again_ended b s1 s3 g f h on h' no = again_at_test s1 g f h on ∙ ap (λ r. carry r (again_on f)) (h' ∙ ap (λ (x : Bool). Ok (x, s3)) no)
+  again_ended b s1 s3 g f h on h' is_false = again_at_test s1 g f h on ∙ ap (λ r. carry r (again_on f)) (h' ∙ ap (λ (x : Bool). Ok (x, s3)) is_false)
 
   pub next_repeat : (b : Bool) (s1 s3 : Stage) (g : Flow) (f : Frame) → body fr s ≡ Ok (g, s1) → ((next : Frame → Effect Flow) → turned g next ≡ next f)
       → carry (condition f s1) tested ≡ Ok (b, s3) → b ≡ true → s3.left < s.left → Repeats condition body fr0 s0 f s3
-  next_repeat b s1 s3 g f h on h' yes less =
-      go t.rest t.enough (again_at_test s1 g f h on ∙ ap (λ r. carry r (again_on f)) (h' ∙ ap (λ (x : Bool). Ok (x, s3)) yes))
+  next_repeat b s1 s3 g f h on h' is_true less =
+      go t.rest t.enough (again_at_test s1 g f h on ∙ ap (λ r. carry r (again_on f)) (h' ∙ ap (λ (x : Bool). Ok (x, s3)) is_true))
     where
       go : (n : ℕ) → s.left ≤ n → whole_repeats condition body fr0 s0 ≡ repeats n condition body f s3 → Repeats condition body fr0 s0 f s3
       go zero enough same = absurd (omega arith)

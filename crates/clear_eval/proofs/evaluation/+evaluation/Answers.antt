@@ -8,21 +8,22 @@ use Rattle.typed_tree.specs.Programs.{typed_function_tree}
 use Rattle.typed_tree.specs.Sound.{count_of}
 use Rattle.reached_instances.specs.Views.{setting}
 use Rattle.language_model.specs.Effects.{carry}
-use Rattle.language_model.specs.Evaluation.{arguments, next_is_private}
+use Rattle.language_model.specs.Operations.{joined}
+use Rattle.language_model.specs.Evaluation.{arguments, is_private, next_is_private}
 use Rattle.value_steps.specs.Steps.{itself}
 use Rattle.value_steps.specs.Views.{value_seen, stage_seen, world_seen}
 use Rattle.clear_eval.specs.inner.Calling.{call_charged}
 use Rattle.clear_eval.specs.inner.Measures.{weight, weight_of_all, command_weight, commands_weight, work}
 use Rattle.clear_eval.specs.inner.Parts.{HasOne, HasTwo, HasOneWithin, HasTwoWithin}
 use Rattle.clear_eval.specs.inner.Standing.{AreSoundAmong, IsSoundAround, IsSoundIn, AreSoundIn, IsSoundNode, IsSoundStatement, AreSoundStatements, HasRoomFor}
-use Rattle.clear_eval.specs.inner.Standing.{parameters_around}
+use Rattle.clear_eval.specs.inner.Standing.{evaluation_at, parameters_around}
 use Rattle.clear_eval.specs.inner.Views.{frame_seen, flow_seen, functions_around, calls_from}
-use Rattle.clear_eval.proofs.Arguments.{behind_those, arguments_more}
+use Rattle.clear_eval.proofs.Arguments.{behind_those, arguments_more, joined_both}
 use Rattle.clear_eval.proofs.Calls.{call_run, body_behind}
 use Rattle.clear_eval.proofs.Lists.{trees, commands, item_lighter, item_sound, statement_lighter, statement_sound, trees-drop, behind-drop, counted}
 use Rattle.clear_eval.proofs.Loops.{ended, stopped_in_test, stopped_in_body, left_behind_body, at_step, stopped_in_step, left_behind_step, next_turn}
 use Rattle.clear_eval.proofs.Loops.{again_stopped_in_body, again_left, again_stopped_in_test, again_ended, next_repeat}
-use Rattle.clear_eval.proofs.Runs.{stop_run, go_run}
+use Rattle.clear_eval.proofs.Runs.{stop_run, go_run, rest_run}
 use Rattle.clear_eval.proofs.Sound.{room_for, still_sound, still_sound_statement, sound_commands}
 use Rattle.clear_eval.proofs.Work.{weight_of, weight_of_statement, falls, work_less, work_body}
 use Rattle.clear_eval.proofs.evaluation.+evaluation.Goals as goal
@@ -246,6 +247,23 @@ on_arrays-value_wanted-requires-2 t c =
     let y = c.args.arrays.right.now in
     let smaller = falls c.args.around.now (weight_of y + 1) (weight_of c.args.arrays.left.now + weight_of y + 3) (omega arith) in
     search rules
+
+pub on_arrays-returns-clause-step : goal.on_arrays-returns-clause-step
+on_arrays-returns-clause-step t c =
+    let around = c.args.around.now in
+    let frame = c.args.frame.now.items in
+    let e = typed_tree c.args.e.now in
+    let a = typed_tree c.args.arrays.left.now in
+    let b = typed_tree c.args.arrays.right.now in
+    let x = value_seen c.in_ok-x.x in
+    let y = value_seen c.in_ok-y.y in
+    let s = stage_seen c.args.stage.now in
+    let s2 = stage_seen c.value_wanted-2.new.stage in
+    rest_run value_seen (evaluation_at around frame c.args.e.now) s (joined c.args.arrays.line x y) s2 (stage_seen c.joined.new.stage) c.joined.result
+    (joined_both (world_seen around.world.now) (calls_from around) (setting around.at.here) c.args.arrays.line a b e (frame_seen frame)
+    c.is_private-private.result x y s (stage_seen c.value_wanted.new.stage) s2 c.requires.parts
+    (c.is_private-private.ensures ∙ ap is_private c.in_ok-domain.ensures) c.in_ok-x.ensures.step c.in_ok-y.ensures.step)
+    c.joined.ensures.step
 
 pub connected-value-requires : goal.connected-value-requires
 connected-value-requires t c =
