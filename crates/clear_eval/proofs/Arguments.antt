@@ -1,14 +1,14 @@
--- The arguments of a call, one after another.
-use Rattle.std.proofs.Common.{◌≡◌, Bool, List, [], ◌∷◌, ◌++◌, Ok, sym, ap, ◌∙◌, append_assoc}
+-- The arguments of a call, one after another, and the arrays that are joined.
+use Rattle.std.proofs.Common.{◌≡◌, ℕ, Bool, List, [], ◌∷◌, ◌++◌, Ok, sym, ap, ◌∙◌, append_assoc}
 use mathlib.Core.Path.{fun_ext}
 use Rattle.typed_tree.specs.declared.kinds.Slot.{Slot}
-use Rattle.typed_tree.specs.Tree.{TypedTree, TypedTrees, also}
+use Rattle.typed_tree.specs.Tree.{TypedTree, TypedTrees, also, cat_node}
 use Rattle.reached_instances.specs.declared.instance.BoundDomain.{BoundDomain}
 use Rattle.reached_instances.specs.Domains.{Setting}
 use Rattle.language_model.specs.Effects.{World, Stage, Run, Effect, carry, done}
 use Rattle.language_model.specs.Values.{Value}
-use Rattle.language_model.specs.Operations.{wanted}
-use Rattle.language_model.specs.Evaluation.{Frame, Calls, value, arguments, next_is_private, behind_next}
+use Rattle.language_model.specs.Operations.{wanted, concatenated}
+use Rattle.language_model.specs.Evaluation.{Frame, Calls, gives_private, value, arguments, next_is_private, behind_next}
 use Rattle.clear_eval.proofs.Runs.{carry-carry}
 
 -- what is done with the arguments behind those that are there
@@ -35,3 +35,25 @@ arguments_more w calls here b ss e es fr vs private v a s s1 s2 p h h' =
 
     behind_value : Value → Effect (List Value)
     behind_value x u = carry (wanted (next_is_private b ss) x u) behind_argument
+
+-- the arrays that are joined, each as it is wanted
+pub joined_both : (w : World) (calls : Calls) (here : Setting) (line : ℕ) (a b e : TypedTree) (fr : Frame) (private : Bool) (x y : Value) (s s1 s2 : Stage)
+    → e ≡ cat_node line a b → private ≡ gives_private here e
+    → carry (value w calls here a fr s) (wanted private) ≡ Ok (x, s1) → carry (value w calls here b fr s1) (wanted private) ≡ Ok (y, s2)
+    → value w calls here e fr s ≡ concatenated line x y s2
+unfolding value
+joined_both w calls here line a b e fr private x y s s1 s2 is p h h' =
+    ap (λ n. value w calls here n fr s) is
+    ∙ sym (carry-carry (value w calls here a fr s) (wanted given) behind_left)
+    ∙ ap (λ r. carry r behind_left) (ap (λ q. carry (value w calls here a fr s) (wanted q)) (sym same) ∙ h)
+    ∙ sym (carry-carry (value w calls here b fr s1) (wanted given) (concatenated line x))
+    ∙ ap (λ r. carry r (concatenated line x)) (ap (λ q. carry (value w calls here b fr s1) (wanted q)) (sym same) ∙ h')
+  where
+    given : Bool
+    given = gives_private here (cat_node line a b)
+
+    same : private ≡ given
+    same = p ∙ ap (gives_private here) is
+
+    behind_left : Value → Effect Value
+    behind_left u t = carry (value w calls here b fr t) (λ v t'. carry (wanted given v t') (concatenated line u))

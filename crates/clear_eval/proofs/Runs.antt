@@ -31,3 +31,11 @@ go_run first seen c s m t t1 t2 k x (Ok y) e h d = e ∙ ap (λ z. carry z k) h 
 go_run first seen c s m t t1 t2 k x (Err halt.Memory) e h d = tt
 go_run first seen c s m t t1 t2 k x (Err (halt.Ended n)) e h d = e ∙ ap (λ z. carry z k) h ∙ d
 go_run first seen c s m t t1 t2 k x (Err halt.Short) e h d = e ∙ ap (λ z. carry z k) h ∙ d
+
+-- what is left of a run after its first parts, and a call that did it
+pub rest_run : {Y B : Type 0} (seen : Y → B) (c : Effect B) (s : Stage) (m : Effect B) (t t' : Stage) (r : Result Y Halt)
+    → c s ≡ m t → Does seen m t r t' → Does seen c s r t'
+rest_run seen c s m t t' (Ok y) e d = e ∙ d
+rest_run seen c s m t t' (Err halt.Memory) e d = tt
+rest_run seen c s m t t' (Err (halt.Ended n)) e d = e ∙ d
+rest_run seen c s m t t' (Err halt.Short) e d = e ∙ d

@@ -2,13 +2,32 @@
 use Rattle.std.proofs.Common.{◌≡◌, ℕ, zero, suc, ◌+◌, ◌<◌, ◌≤◌, List, [], ◌∷◌, arith}
 use Rattle.std.specs.Prelude.{map, sum, Some}
 use Rattle.std.specs.List.{slice_get}
+use Rattle.typed_tree.specs.declared.expression.TypedExpression.{TypedExpression}
+use Rattle.typed_tree.specs.declared.statement.TypedStatement.{TypedStatement}
+use Rattle.typed_tree.specs.Tree.{typed_tree}
+use Rattle.typed_tree.specs.Statements.{typed_statement}
 use Rattle.typed_tree.specs.Programs.{TypedFunctionTree}
 use Rattle.std.proofs.lemmas.List.Sums.{sum_by-cons}
-use Rattle.clear_eval.specs.inner.Measures.{body_weight, work}
+use Rattle.clear_eval.specs.declared.place.Around.{Around}
+use Rattle.clear_eval.specs.inner.Measures.{weight, statement_weight, body_weight, work}
+use Rattle.clear_eval.specs.inner.Views.{functions_around}
+
+abbrev pub weight_of : TypedExpression → ℕ
+weight_of e = weight (typed_tree e)
+
+abbrev pub weight_of_statement : TypedStatement → ℕ
+weight_of_statement s = statement_weight (typed_statement s)
+
+-- what is left to do where something of this weight stands
+abbrev pub work_around : Around → ℕ → ℕ
+work_around around n = work (functions_around around.at) around.at.depth n
 
 pub work_less : (fs : List TypedFunctionTree) (depth n m : ℕ) → n < m → work fs depth n < work fs depth m
 unfolding work
 work_less fs depth n m h = grind arith
+
+pub falls : (around : Around) (n m : ℕ) → n < m → work_around around n < work_around around m
+falls around n m h = work_less (functions_around around.at) around.at.depth n m h
 
 one_more : (g : TypedFunctionTree) (fs : List TypedFunctionTree) → sum (map body_weight (g ∷ fs)) ≡ body_weight g + sum (map body_weight fs)
 one_more g fs = sum_by-cons (λ (x : ℕ). x) (body_weight g) (map body_weight fs)

@@ -13,6 +13,16 @@ use std::alloc::{AllocError, Global};
 use typed_tree::{TypedFunction, TypedStatement};
 use value_steps::Value;
 
+/// A function that is called, by its number among the functions of a program: what its domain variables are bound to, and for how many
+/// calls inside one another its body has room.
+#[derive(Clone, Copy)]
+pub struct Callee<'f, 'b> {
+    pub functions: &'f [TypedFunction],
+    pub depth: usize,
+    pub number: usize,
+    pub binding: &'b [BoundDomain],
+}
+
 /// The body of a function that is about to run: where it stands, what is in the function's slots, and its statements.
 #[derive(Drop)]
 pub struct Begun<'a> {
@@ -21,19 +31,22 @@ pub struct Begun<'a> {
     pub body: &'a Vec<TypedStatement>,
 }
 
-/// Begins the function of this number, with its arguments in its first slots.
+/// Begins a function that is called, with its arguments in its first slots.
 pub fn begin<'a>(
     alloc: Global,
-    functions: &'a [TypedFunction],
-    depth: usize,
-    number: usize,
-    binding: &'a [BoundDomain],
+    callee: &Callee<'a, 'a>,
     arguments: Vec<Value>,
 ) -> Result<Begun<'a>, AllocError>
-    requires program { AreSoundAmong (map typed_function_tree functions.now) }
-    requires fitting { HasRoomFor functions.now number (length arguments.items) }
-    ensures { IfOk result (IsBegun functions.now depth number binding.now (map value_seen arguments.items)) }
+    requires program { AreSoundAmong (map typed_function_tree callee.now.functions.now) }
+    requires fitting { HasRoomFor callee.now.functions.now callee.now.number (length arguments.items) }
+    ensures { IfOk result (IsBegun callee.now (map value_seen arguments.items)) }
 {
+    let Callee {
+        functions,
+        depth,
+        number,
+        binding,
+    } = *callee;
     let function = &functions[number];
     let frame = enter(alloc, binding, &function.slots, arguments)?;
     Ok(Begun {

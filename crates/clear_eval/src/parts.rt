@@ -5,6 +5,14 @@ ghost use Rattle.clear_eval.specs.inner.Parts.{HasParts, HasStatementParts};
 
 use typed_tree::{Connective, TypedExpression, TypedStatement};
 
+/// Two arrays that are joined, the left one first, and the line of the expression.
+#[derive(Clone, Copy)]
+pub struct Joined<'a> {
+    pub line: u32,
+    pub left: &'a TypedExpression,
+    pub right: &'a TypedExpression,
+}
+
 /// What of an expression is evaluated before it.
 #[derive(Clone, Copy)]
 pub enum Parts<'a> {
@@ -14,8 +22,8 @@ pub enum Parts<'a> {
     One(&'a TypedExpression),
     /// Two operands, the left one first.
     Two(&'a TypedExpression, &'a TypedExpression),
-    /// Two arrays, each classified right behind its evaluation; with the line of the expression.
-    Joined(u32, &'a TypedExpression, &'a TypedExpression),
+    /// Two arrays, each classified right behind its evaluation.
+    Joined(Joined<'a>),
     /// The arguments of a call, with its line and the number of its function.
     Call(u32, usize, &'a Vec<TypedExpression>),
     /// The operands of a connective, of which the right one may be left out.
@@ -39,7 +47,11 @@ pub fn parts_of(e: &TypedExpression) -> Parts<'_>
         TypedExpression::Declassify(x) => Parts::One(x),
         TypedExpression::Element(_, x, y) => Parts::Two(x, y),
         TypedExpression::Binary(_, _, _, x, y) => Parts::Two(x, y),
-        TypedExpression::Cat(line, x, y) => Parts::Joined(*line, x, y),
+        TypedExpression::Cat(line, left, right) => Parts::Joined(Joined {
+            line: *line,
+            left,
+            right,
+        }),
         TypedExpression::Call(line, number, list) => Parts::Call(*line, *number, list),
         TypedExpression::CutShort(connective, x, y) => Parts::Connected(*connective, x, y),
     }

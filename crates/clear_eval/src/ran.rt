@@ -10,6 +10,7 @@ ghost use Rattle.clear_eval.specs.Offers.{offered_with};
 ghost use Rattle.clear_eval.specs.Reports.{stop_seen, ran_seen, report_seen};
 ghost use Rattle.clear_eval.specs.inner.Standing.{body_at, AreSoundAmong};
 
+use crate::beginning::Callee;
 use crate::dealer::dealing;
 use crate::evaluation::body;
 use crate::report::{Needs, Report};
@@ -120,16 +121,13 @@ fn run_main(
         return Ok(StopReason::Ended(Ending::Done));
     }
     let arguments = Vec::new(alloc);
-    match body(
-        alloc,
-        world,
+    let callee = Callee {
         functions,
-        DEEPEST_BELOW_MAIN,
-        stage,
-        0,
-        &[],
-        arguments,
-    ) {
+        depth: DEEPEST_BELOW_MAIN,
+        number: 0,
+        binding: &[],
+    };
+    match body(alloc, world, stage, &callee, arguments) {
         Ok(_) => Ok(StopReason::Ended(Ending::Done)),
         Err(Halt::Ended(ending)) => Ok(StopReason::Ended(ending)),
         Err(Halt::Short) => Ok(StopReason::Short),

@@ -107,25 +107,32 @@ fn taken(alloc: Global, frame: &mut Vec<Value>, slot: usize) -> Value
     mem::replace(&mut frame[slot], empty)
 }
 
+/// The array that a statement changes: its slot, and the statement's line.
+#[derive(Clone, Copy)]
+pub struct ArrayPlace {
+    pub line: u32,
+    pub slot: usize,
+}
+
 /// Changes an element of the array in a slot. The array is written in place.
 pub fn set_element(
     alloc: Global,
     stage: &mut Stage<'_>,
     frame: &mut Vec<Value>,
-    line: u32,
-    slot: usize,
+    place: ArrayPlace,
     index: &Value,
     element: &Value,
 ) -> Result<(), Halt>
-    requires { slot < length frame.old.items }
-    ensures step { Does (goes_on frame.new.items) (with_element_in line slot (value_seen index.now) (value_seen element.now) (frame_seen frame.old.items))
+    requires { place.slot < length frame.old.items }
+    ensures step { Does (goes_on frame.new.items)
+        (with_element_in place.line place.slot (value_seen index.now) (value_seen element.now) (frame_seen frame.old.items))
         (stage_seen stage.old) result (stage_seen stage.new) }
     ensures slots { length frame.new.items ≡ length frame.old.items }
     ensures spends { stage.new.left ≤ stage.old.left }
 {
-    let array = taken(alloc, frame, slot);
-    let array = with_element(stage, line, array, index, element)?;
-    put(frame, slot, array);
+    let array = taken(alloc, frame, place.slot);
+    let array = with_element(stage, place.line, array, index, element)?;
+    put(frame, place.slot, array);
     Ok(())
 }
 

@@ -14,9 +14,9 @@ ghost use Rattle.clear_eval.specs.inner.Standing.{evaluation_at, flow_at, IsSoun
 
 use crate::flow::Flow;
 use crate::held::Held;
-use crate::place::StatementContext;
+use crate::place::{Around, StatementContext};
 use crate::slots::{
-    default_value, is_private_slot, put, set_element, slot_shape, slot_value, store,
+    ArrayPlace, default_value, is_private_slot, put, set_element, slot_shape, slot_value, store,
 };
 use crate::words::{is_private, nothing, truth_value, word_value};
 use reached_instances::domain;
@@ -32,22 +32,20 @@ use value_steps::{
 #[tactic(auto, unfolding(language_model::specs::Evaluation::value))]
 #[inline(never)]
 pub fn leaf(
-    alloc: Global,
-    world: &World<'_>,
-    at: &StatementContext<'_>,
+    around: &Around<'_, '_>,
     stage: &mut Stage<'_>,
     frame: &Vec<Value>,
     e: &TypedExpression,
 ) -> Result<Value, Halt>
-    requires here { IsSoundIn at.now frame.now.items e.now }
+    requires here { IsSoundIn around.now.at frame.now.items e.now }
     requires leaf { is_leaf (typed_tree e.now) ≡ true }
-    ensures step { Does value_seen (evaluation_at world.now at.now frame.now.items e.now) (stage_seen stage.old) result (stage_seen stage.new) }
+    ensures step { Does value_seen (evaluation_at around.now frame.now.items e.now) (stage_seen stage.old) result (stage_seen stage.new) }
     ensures spends { stage.new.left ≤ stage.old.left }
 {
     match e {
-        TypedExpression::Word(word) => Ok(word_value(alloc, *word)?),
-        TypedExpression::Truth(truth) => Ok(truth_value(alloc, *truth)?),
-        TypedExpression::Variable(slot) => Ok(slot_value(frame, *slot).copy(alloc)?),
+        TypedExpression::Word(word) => Ok(word_value(around.alloc, *word)?),
+        TypedExpression::Truth(truth) => Ok(truth_value(around.alloc, *truth)?),
+        TypedExpression::Variable(slot) => Ok(slot_value(frame, *slot).copy(around.alloc)?),
         _ => unreachable!(),
     }
 }
@@ -130,16 +128,14 @@ pub fn decided(
 #[tactic(auto, unfolding(language_model::specs::Evaluation::execute))]
 #[inline(never)]
 pub fn plain(
-    alloc: Global,
-    world: &World<'_>,
-    at: &StatementContext<'_>,
+    around: &Around<'_, '_>,
     stage: &mut Stage<'_>,
     frame: &mut Vec<Value>,
     s: &TypedStatement,
 ) -> Result<Flow, Halt>
-    requires here { IsSoundStatement at.now frame.old.items s.now }
+    requires here { IsSoundStatement around.now.at frame.old.items s.now }
     requires plain { is_plain (typed_statement s.now) ≡ true }
-    ensures step { Does (flow_seen frame.new.items) (flow_at world.now at.now frame.old.items s.now) (stage_seen stage.old) result (stage_seen stage.new) }
+    ensures step { Does (flow_seen frame.new.items) (flow_at around.now frame.old.items s.now) (stage_seen stage.old) result (stage_seen stage.new) }
     ensures slots { length frame.new.items ≡ length frame.old.items }
     ensures spends { stage.new.left ≤ stage.old.left }
 {
@@ -147,20 +143,20 @@ pub fn plain(
         TypedStatement::Empty => Ok(Flow::Goes),
         TypedStatement::Break => Ok(Flow::Stops),
         TypedStatement::Continue => Ok(Flow::Skips),
-        TypedStatement::Return(None) => Ok(Flow::Returns(nothing(alloc)?)),
+        TypedStatement::Return(None) => Ok(Flow::Returns(nothing(around.alloc)?)),
         TypedStatement::StoreDefault(slot) => {
-            let value = default_value(alloc, at, *slot)?;
-            store(alloc, at, stage, frame, *slot, value)?;
+            let value = default_value(around.alloc, &around.at, *slot)?;
+            store(around.alloc, &around.at, stage, frame, *slot, value)?;
             Ok(Flow::Goes)
         }
         TypedStatement::Input(line, slot, name) => {
             let asked = Asked {
                 line: *line,
-                private: is_private_slot(at, *slot),
-                shape: slot_shape(at, *slot),
+                private: is_private_slot(&around.at, *slot),
+                shape: slot_shape(&around.at, *slot),
             };
-            let value = asked_for(alloc, world, stage, asked, name)?;
-            store(alloc, at, stage, frame, *slot, value)?;
+            let value = asked_for(around.alloc, around.world, stage, asked, name)?;
+            store(around.alloc, &around.at, stage, frame, *slot, value)?;
             Ok(Flow::Goes)
         }
         _ => unreachable!(),
@@ -170,24 +166,22 @@ pub fn plain(
 /// The step of a statement with one expression, on its value.
 #[inline(never)]
 pub fn with_one(
-    alloc: Global,
-    world: &World<'_>,
-    at: &StatementContext<'_>,
+    around: &Around<'_, '_>,
     stage: &mut Stage<'_>,
     frame: &mut Vec<Value>,
     s: &TypedStatement,
     x: Value,
 ) -> Result<Flow, Halt>
-    requires { IsSoundStatement at.now frame.old.items s.now }
+    requires { IsSoundStatement around.now.at frame.old.items s.now }
     ensures step { Does (flow_seen frame.new.items)
-        (after_one (world_seen world.now) (place_seen at.now) (typed_statement s.now) (value_seen x) (frame_seen frame.old.items))
+        (after_one (world_seen around.now.world.now) (place_seen around.now.at) (typed_statement s.now) (value_seen x) (frame_seen frame.old.items))
         (stage_seen stage.old) result (stage_seen stage.new) }
     ensures slots { length frame.new.items ≡ length frame.old.items }
     ensures spends { stage.new.left ≤ stage.old.left }
 {
     match s {
         TypedStatement::Return(Some(_)) => {
-            let value = wanted(alloc, stage, at.private_result, x)?;
+            let value = wanted(around.alloc, stage, around.at.private_result, x)?;
             Ok(Flow::Returns(value))
         }
         TypedStatement::Assert(line, _) => {
@@ -195,11 +189,11 @@ pub fn with_one(
             Ok(Flow::Goes)
         }
         TypedStatement::Store(slot, _) => {
-            store(alloc, at, stage, frame, *slot, x)?;
+            store(around.alloc, &around.at, stage, frame, *slot, x)?;
             Ok(Flow::Goes)
         }
         TypedStatement::Publish(name, _) => {
-            published(alloc, world, stage, name, &x)?;
+            published(around.alloc, around.world, stage, name, &x)?;
             Ok(Flow::Goes)
         }
         _ => Ok(Flow::Goes),
@@ -209,32 +203,34 @@ pub fn with_one(
 /// The step of a statement with two expressions, on their values.
 #[inline(never)]
 pub fn with_two(
-    alloc: Global,
-    world: &World<'_>,
-    at: &StatementContext<'_>,
+    around: &Around<'_, '_>,
     stage: &mut Stage<'_>,
     frame: &mut Vec<Value>,
     s: &TypedStatement,
     x: Value,
     y: Value,
 ) -> Result<Flow, Halt>
-    requires { IsSoundStatement at.now frame.old.items s.now }
+    requires { IsSoundStatement around.now.at frame.old.items s.now }
     ensures step { Does (flow_seen frame.new.items)
-        (after_two (world_seen world.now) (place_seen at.now) (typed_statement s.now) (value_seen x) (value_seen y) (frame_seen frame.old.items))
+        (after_two (world_seen around.now.world.now) (place_seen around.now.at) (typed_statement s.now) (value_seen x) (value_seen y) (frame_seen frame.old.items))
         (stage_seen stage.old) result (stage_seen stage.new) }
     ensures slots { length frame.new.items ≡ length frame.old.items }
     ensures spends { stage.new.left ≤ stage.old.left }
 {
     match s {
         TypedStatement::Fill(line, slot, _, _) => {
-            let element = wanted(alloc, stage, is_private_slot(at, *slot), y)?;
-            let array = filled(alloc, stage, *line, &x, &element)?;
+            let element = wanted(around.alloc, stage, is_private_slot(&around.at, *slot), y)?;
+            let array = filled(around.alloc, stage, *line, &x, &element)?;
             put(frame, *slot, array);
             Ok(Flow::Goes)
         }
         TypedStatement::StoreElement(line, slot, _, _) => {
-            let element = wanted(alloc, stage, is_private_slot(at, *slot), y)?;
-            set_element(alloc, stage, frame, *line, *slot, &x, &element)?;
+            let element = wanted(around.alloc, stage, is_private_slot(&around.at, *slot), y)?;
+            let place = ArrayPlace {
+                line: *line,
+                slot: *slot,
+            };
+            set_element(around.alloc, stage, frame, place, &x, &element)?;
             Ok(Flow::Goes)
         }
         _ => Ok(Flow::Goes),

@@ -61,7 +61,7 @@ abbrev pub HasParts : TypedTree → Parts → Type 0
 HasParts e parts.Leaf = is_leaf e ≡ true
 HasParts e (parts.One x) = HasOne e (typed_tree x.now)
 HasParts e (parts.Two x y) = HasTwo e (typed_tree x.now) (typed_tree y.now)
-HasParts e (parts.Joined line x y) = e ≡ cat_node line (typed_tree x.now) (typed_tree y.now)
+HasParts e (parts.Joined j) = e ≡ cat_node j.line (typed_tree j.left.now) (typed_tree j.right.now)
 HasParts e (parts.Call line k es) = e ≡ call_node line k (typed_trees_of (map typed_tree es.now.items))
 HasParts e (parts.Connected c x y) = e ≡ cut_node c (typed_tree x.now) (typed_tree y.now)
 

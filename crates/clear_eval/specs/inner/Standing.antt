@@ -14,47 +14,51 @@ use Rattle.reached_instances.specs.Views.{setting}
 use Rattle.language_model.specs.Effects.{Effect, carry}
 use Rattle.language_model.specs.Values.{Value}
 use Rattle.language_model.specs.Operations.{wanted, tested}
-use Rattle.language_model.specs.Evaluation.{Flow, either, value, execute, execute_all, turns, repeats, body_of, call_at}
+use Rattle.language_model.specs.Evaluation.{Frame, Flow, either, value, execute, execute_all, turns, repeats, body_of, call_at}
 use Rattle.value_steps.specs.declared.value.Value as held
 use Rattle.value_steps.specs.declared.world.World as fixed
 use Rattle.value_steps.specs.Views.{world_seen}
+use Rattle.clear_eval.specs.declared.place.Around.{Around}
 use Rattle.clear_eval.specs.declared.place.StatementContext as standing
 use Rattle.clear_eval.specs.inner.Views.{frame_seen, place_seen, functions_around, calls_from}
 
-abbrev pub node_at : fixed.World → standing.StatementContext → List held.Value → TypedTree → Effect Value
-node_at w at frame e = value (world_seen w) (calls_from w at) (setting at.here) e (frame_seen frame)
+-- what an expression and a statement do, with these values in the slots
+abbrev pub value_of : Around → TypedExpression → Frame → Effect Value
+value_of around e = value (world_seen around.world.now) (calls_from around) (setting around.at.here) (typed_tree e)
 
-abbrev pub evaluation_at : fixed.World → standing.StatementContext → List held.Value → TypedExpression → Effect Value
-evaluation_at w at frame e = value (world_seen w) (calls_from w at) (setting at.here) (typed_tree e) (frame_seen frame)
+abbrev pub flow_of : Around → TypedStatement → Frame → Effect Flow
+flow_of around s = execute (world_seen around.world.now) (calls_from around) (place_seen around.at) (typed_statement s)
+
+abbrev pub node_at : Around → List held.Value → TypedTree → Effect Value
+node_at around frame e = value (world_seen around.world.now) (calls_from around) (setting around.at.here) e (frame_seen frame)
+
+abbrev pub evaluation_at : Around → List held.Value → TypedExpression → Effect Value
+evaluation_at around frame e = value_of around e (frame_seen frame)
 
 -- an expression's value, wanted as a private one or as it is
-abbrev pub wanted_at : fixed.World → standing.StatementContext → List held.Value → Bool → TypedExpression → Effect Value
-wanted_at w at frame private e s = carry (evaluation_at w at frame e s) (wanted private)
+abbrev pub wanted_at : Around → List held.Value → Bool → TypedExpression → Effect Value
+wanted_at around frame private e s = carry (evaluation_at around frame e s) (wanted private)
 
 -- a condition
-abbrev pub test_at : fixed.World → standing.StatementContext → List held.Value → TypedExpression → Effect Bool
-test_at w at frame e s = carry (evaluation_at w at frame e s) tested
+abbrev pub test_at : Around → List held.Value → TypedExpression → Effect Bool
+test_at around frame e s = carry (evaluation_at around frame e s) tested
 
-abbrev pub flow_at : fixed.World → standing.StatementContext → List held.Value → TypedStatement → Effect Flow
-flow_at w at frame s = execute (world_seen w) (calls_from w at) (place_seen at) (typed_statement s) (frame_seen frame)
+abbrev pub flow_at : Around → List held.Value → TypedStatement → Effect Flow
+flow_at around frame s = flow_of around s (frame_seen frame)
 
-abbrev pub flow_of_all : fixed.World → standing.StatementContext → List held.Value → List TypedStatement → Effect Flow
-flow_of_all w at frame ss = execute_all (world_seen w) (calls_from w at) (place_seen at) (typed_statements_of (map typed_statement ss)) (frame_seen frame)
+abbrev pub flow_of_all : Around → List held.Value → List TypedStatement → Effect Flow
+flow_of_all around frame ss =
+    execute_all (world_seen around.world.now) (calls_from around) (place_seen around.at) (typed_statements_of (map typed_statement ss)) (frame_seen frame)
 
-abbrev pub branch_at : fixed.World → standing.StatementContext → List held.Value → TypedExpression → (first second : TypedStatement) → Effect Flow
-branch_at w at frame e first second s = carry (test_at w at frame e s) (λ t. either t (flow_at w at frame first) (flow_at w at frame second))
+abbrev pub branch_at : Around → List held.Value → TypedExpression → (first second : TypedStatement) → Effect Flow
+branch_at around frame e first second s = carry (test_at around frame e s) (λ t. either t (flow_at around frame first) (flow_at around frame second))
 
 -- a loop begins with as many turns before it as there can be: each is charged
-abbrev pub turns_at : fixed.World → standing.StatementContext → List held.Value → TypedExpression → (step body : TypedStatement) → Effect Flow
-turns_at w at frame e step body =
-    λ s. turns (s.left + 1) (value (world_seen w) (calls_from w at) (setting at.here) (typed_tree e))
-    (execute (world_seen w) (calls_from w at) (place_seen at) (typed_statement step))
-    (execute (world_seen w) (calls_from w at) (place_seen at) (typed_statement body)) (frame_seen frame) s
+abbrev pub turns_at : Around → List held.Value → TypedExpression → (step body : TypedStatement) → Effect Flow
+turns_at around frame e step body = λ s. turns (s.left + 1) (value_of around e) (flow_of around step) (flow_of around body) (frame_seen frame) s
 
-abbrev pub repeats_at : fixed.World → standing.StatementContext → List held.Value → TypedExpression → (body : TypedStatement) → Effect Flow
-repeats_at w at frame e body =
-    λ s. repeats (s.left + 1) (value (world_seen w) (calls_from w at) (setting at.here) (typed_tree e))
-    (execute (world_seen w) (calls_from w at) (place_seen at) (typed_statement body)) (frame_seen frame) s
+abbrev pub repeats_at : Around → List held.Value → TypedExpression → (body : TypedStatement) → Effect Flow
+repeats_at around frame e body = λ s. repeats (s.left + 1) (value_of around e) (flow_of around body) (frame_seen frame) s
 
 -- the body of a function, with room for so many calls inside one another
 abbrev pub body_at : fixed.World → List TypedFunction → (depth number : ℕ) → List BoundDomain → List Value → Effect Value
@@ -75,18 +79,22 @@ AreSoundAmong fs = AreSoundFunctions (map parameters_of fs) fs
 abbrev pub IsSoundAround : standing.StatementContext → Type 0
 IsSoundAround at = AreSoundAmong (functions_around at)
 
+-- how many parameters each function has
+abbrev pub parameters_around : standing.StatementContext → List ℕ
+parameters_around at = map parameters_of (functions_around at)
+
 abbrev pub IsSoundNode : standing.StatementContext → List held.Value → TypedTree → Type 0
-IsSoundNode at frame e = IsSoundTree (length frame) (map parameters_of (functions_around at)) e
+IsSoundNode at frame e = IsSoundTree (length frame) (parameters_around at) e
 
 -- an expression and so on names only slots of this frame, and functions that are there
 abbrev pub IsSoundIn : standing.StatementContext → List held.Value → TypedExpression → Type 0
-IsSoundIn at frame e = IsSoundTree (length frame) (map parameters_of (functions_around at)) (typed_tree e)
+IsSoundIn at frame e = IsSoundTree (length frame) (parameters_around at) (typed_tree e)
 
 abbrev pub AreSoundIn : standing.StatementContext → List held.Value → List TypedExpression → Type 0
-AreSoundIn at frame es = AreSoundTrees (length frame) (map parameters_of (functions_around at)) (typed_trees_of (map typed_tree es))
+AreSoundIn at frame es = AreSoundTrees (length frame) (parameters_around at) (typed_trees_of (map typed_tree es))
 
 abbrev pub IsSoundStatement : standing.StatementContext → List held.Value → TypedStatement → Type 0
-IsSoundStatement at frame s = IsSoundStatementTree (length frame) (map parameters_of (functions_around at)) (typed_statement s)
+IsSoundStatement at frame s = IsSoundStatementTree (length frame) (parameters_around at) (typed_statement s)
 
 abbrev pub AreSoundStatements : standing.StatementContext → List held.Value → List TypedStatement → Type 0
-AreSoundStatements at frame ss = AreSoundStatementTrees (length frame) (map parameters_of (functions_around at)) (typed_statements_of (map typed_statement ss))
+AreSoundStatements at frame ss = AreSoundStatementTrees (length frame) (parameters_around at) (typed_statements_of (map typed_statement ss))

@@ -7,8 +7,8 @@ use Rattle.reached_instances.specs.Views.{setting}
 use Rattle.language_model.specs.Values.{Value}
 use Rattle.language_model.specs.Evaluation.{Frame, Calls, Flow, goes, returns, stops, skips, StatementContext, nothing, call_at}
 use Rattle.value_steps.specs.declared.value.Value as held
-use Rattle.value_steps.specs.declared.world.World as fixed
 use Rattle.value_steps.specs.Views.{value_seen, world_seen}
+use Rattle.clear_eval.specs.declared.place.Around.{Around}
 use Rattle.clear_eval.specs.declared.place.StatementContext as standing
 use Rattle.clear_eval.specs.declared.flow.Flow as going
 use Rattle.clear_eval.specs.declared.flow.Flow.TheVariants as flow
@@ -43,5 +43,5 @@ abbrev pub functions_around : standing.StatementContext → List TypedFunctionTr
 functions_around at = map typed_function_tree at.here.functions.now
 
 -- the calls that a place has room for
-abbrev pub calls_from : fixed.World → standing.StatementContext → Calls
-calls_from w at = call_at (world_seen w) (functions_around at) at.depth
+abbrev pub calls_from : Around → Calls
+calls_from around = call_at (world_seen around.world.now) (functions_around around.at) around.at.depth

@@ -18,10 +18,10 @@ use Rattle.clear_eval.proofs.beginning.begin.Goals as goal
 
 pub returns : goal.returns
 returns c =
-    let fs = c.args.functions.now in
-    let k = c.args.number in
+    let fs = c.args.callee.now.functions.now in
+    let k = c.args.callee.now.number in
     let g = c.index-functions-number.result in
-    let b = c.args.binding.now in
+    let b = c.args.callee.now.binding.now in
     let xs = map value_seen c.args.arguments.items in
     let there : slice_get fs k ≡ Some g =
     c.requires.fitting.there ∙ ap Some

@@ -5,85 +5,87 @@ use Rattle.typed_tree.specs.Statements.{typed_statement, typed_statements_of}
 use Rattle.typed_tree.specs.Programs.{typed_function_tree}
 use Rattle.reached_instances.specs.Views.{setting}
 use Rattle.language_model.specs.Effects.{carry, done}
-use Rattle.language_model.specs.Evaluation.{arguments, value, execute, execute_all}
+use Rattle.language_model.specs.Evaluation.{arguments, execute_all}
 use Rattle.value_steps.specs.Views.{value_seen, stage_seen, world_seen}
-use Rattle.clear_eval.specs.inner.Views.{frame_seen, place_seen, functions_around, calls_from}
+use Rattle.clear_eval.specs.inner.Views.{frame_seen, place_seen, calls_from}
+use Rattle.clear_eval.specs.inner.Standing.{value_of, flow_of}
 use Rattle.clear_eval.specs.inner.Measures.{weight, weight_of_all, statement_weight, statements_weight, work}
 use Rattle.clear_eval.proofs.Loops.{Turns, Repeats}
-use Rattle.clear_eval.proofs.evaluation.+evaluation.Given as goal
+use Rattle.clear_eval.proofs.Work.{work_around}
+use Rattle.clear_eval.proofs.evaluation.+evaluation.GivenInput as goal
 
 abbrev pub decreases-value : goal.decreases-value
-decreases-value l = work (functions_around l.at.now) l.at.now.depth (weight (typed_tree l.e.now))
+decreases-value l = work_around l.around.now (weight (typed_tree l.e.now))
 
 abbrev pub decreases-operand : goal.decreases-operand
-decreases-operand l = work (functions_around l.at.now) l.at.now.depth (weight (typed_tree l.e.now) + 1)
+decreases-operand l = work_around l.around.now (weight (typed_tree l.e.now) + 1)
 
 abbrev pub decreases-on_value : goal.decreases-on_value
-decreases-on_value l = work (functions_around l.at.now) l.at.now.depth (weight (typed_tree l.x.now) + 3)
+decreases-on_value l = work_around l.around.now (weight (typed_tree l.x.now) + 3)
 
 abbrev pub decreases-on_values : goal.decreases-on_values
-decreases-on_values l = work (functions_around l.at.now) l.at.now.depth (weight (typed_tree l.x.now) + weight (typed_tree l.y.now) + 3)
+decreases-on_values l = work_around l.around.now (weight (typed_tree l.x.now) + weight (typed_tree l.y.now) + 3)
 
 abbrev pub decreases-value_wanted : goal.decreases-value_wanted
-decreases-value_wanted l = work (functions_around l.at.now) l.at.now.depth (weight (typed_tree l.e.now) + 1)
+decreases-value_wanted l = work_around l.around.now (weight (typed_tree l.e.now) + 1)
 
 abbrev pub decreases-on_arrays : goal.decreases-on_arrays
-decreases-on_arrays l = work (functions_around l.at.now) l.at.now.depth (weight (typed_tree l.x.now) + weight (typed_tree l.y.now) + 3)
+decreases-on_arrays l = work_around l.around.now (weight (typed_tree l.arrays.left.now) + weight (typed_tree l.arrays.right.now) + 3)
 
 abbrev pub decreases-connected : goal.decreases-connected
-decreases-connected l = work (functions_around l.at.now) l.at.now.depth (weight (typed_tree l.x.now) + weight (typed_tree l.y.now) + 3)
+decreases-connected l = work_around l.around.now (weight (typed_tree l.x.now) + weight (typed_tree l.y.now) + 3)
 
 abbrev pub decreases-not_cut_short : goal.decreases-not_cut_short
-decreases-not_cut_short l = work (functions_around l.at.now) l.at.now.depth (weight (typed_tree l.right.now) + 1)
+decreases-not_cut_short l = work_around l.around.now (weight (typed_tree l.right.now) + 1)
 
 abbrev pub decreases-cut_short : goal.decreases-cut_short
-decreases-cut_short l = work (functions_around l.at.now) l.at.now.depth (weight (typed_tree l.right.now) + 1)
+decreases-cut_short l = work_around l.around.now (weight (typed_tree l.right.now) + 1)
 
 abbrev pub decreases-arguments : goal.decreases-arguments
-decreases-arguments l = work (functions_around l.at.now) l.at.now.depth (weight_of_all (typed_trees_of (map typed_tree l.list.now.items)) + 1)
+decreases-arguments l = work_around l.around.now (weight_of_all (typed_trees_of (map typed_tree l.list.now.items)) + 1)
 
 abbrev pub decreases-call : goal.decreases-call
-decreases-call l = work (functions_around l.at.now) l.at.now.depth (weight_of_all (typed_trees_of (map typed_tree l.list.now.items)) + 3)
+decreases-call l = work_around l.around.now (weight_of_all (typed_trees_of (map typed_tree l.list.now.items)) + 3)
 
 abbrev pub decreases-called : goal.decreases-called
-decreases-called l = work (functions_around l.at.now) l.at.now.depth 1
+decreases-called l = work_around l.around.now 1
 
 abbrev pub decreases-body : goal.decreases-body
-decreases-body l = work (map typed_function_tree l.functions.now) (l.depth + 1) 0
+decreases-body l = work (map typed_function_tree l.callee.now.functions.now) (l.callee.now.depth + 1) 0
 
 abbrev pub decreases-statement : goal.decreases-statement
-decreases-statement l = work (functions_around l.at.now) l.at.now.depth (statement_weight (typed_statement l.s.now))
+decreases-statement l = work_around l.around.now (statement_weight (typed_statement l.s.now))
 
 abbrev pub decreases-one_within : goal.decreases-one_within
-decreases-one_within l = work (functions_around l.at.now) l.at.now.depth (weight (typed_tree l.x.now) + 3)
+decreases-one_within l = work_around l.around.now (weight (typed_tree l.x.now) + 3)
 
 abbrev pub decreases-two_within : goal.decreases-two_within
-decreases-two_within l = work (functions_around l.at.now) l.at.now.depth (weight (typed_tree l.x.now) + weight (typed_tree l.y.now) + 3)
+decreases-two_within l = work_around l.around.now (weight (typed_tree l.x.now) + weight (typed_tree l.y.now) + 3)
 
 abbrev pub decreases-holds : goal.decreases-holds
-decreases-holds l = work (functions_around l.at.now) l.at.now.depth (weight (typed_tree l.condition.now) + 1)
+decreases-holds l = work_around l.around.now (weight (typed_tree l.condition.now) + 1)
 
 abbrev pub decreases-branch : goal.decreases-branch
-decreases-branch l = work (functions_around l.at.now) l.at.now.depth
+decreases-branch l = work_around l.around.now
     (weight (typed_tree l.condition.now) + statement_weight (typed_statement l.first.now) + statement_weight (typed_statement l.second.now) + 3)
 
 abbrev pub decreases-statements : goal.decreases-statements
-decreases-statements l = work (functions_around l.at.now) l.at.now.depth (statements_weight (typed_statements_of (map typed_statement l.list.now.items)))
+decreases-statements l = work_around l.around.now (statements_weight (typed_statements_of (map typed_statement l.list.now.items)))
 
 abbrev pub decreases-turns : goal.decreases-turns
-decreases-turns l = work (functions_around l.at.now) l.at.now.depth
+decreases-turns l = work_around l.around.now
     (weight (typed_tree l.condition.now) + statement_weight (typed_statement l.step.now) + statement_weight (typed_statement l.body.now) + 2)
 
 abbrev pub decreases-repeats : goal.decreases-repeats
-decreases-repeats l = work (functions_around l.at.now) l.at.now.depth (statement_weight (typed_statement l.body.now) + weight (typed_tree l.condition.now) + 2)
+decreases-repeats l = work_around l.around.now (statement_weight (typed_statement l.body.now) + weight (typed_tree l.condition.now) + 2)
 
 abbrev pub invariant-arguments-loop-e : goal.invariant-arguments-loop-e
 invariant-arguments-loop-e l = record {
   each : length l.values.items ≡ l.e-index;
   spends : l.stage.left ≤ l.initial.stage.left;
-  step : arguments (world_seen l.world) (calls_from l.world l.at) (setting l.at.here) l.binding l.slots (typed_trees_of (map typed_tree l.e-items))
-      (frame_seen l.frame.items) (stage_seen l.initial.stage)
-      ≡ carry (arguments (world_seen l.world) (calls_from l.world l.at) (setting l.at.here) l.binding (drop l.e-index l.slots)
+  step : arguments (world_seen l.around.world.now) (calls_from l.around) (setting l.around.at.here) l.binding l.slots
+      (typed_trees_of (map typed_tree l.e-items)) (frame_seen l.frame.items) (stage_seen l.initial.stage)
+      ≡ carry (arguments (world_seen l.around.world.now) (calls_from l.around) (setting l.around.at.here) l.binding (drop l.e-index l.slots)
       (typed_trees_of (map typed_tree (drop l.e-index l.e-items))) (frame_seen l.frame.items) (stage_seen l.stage))
       (λ xs. done (map value_seen l.values.items ++ xs));
 }
@@ -92,9 +94,9 @@ abbrev pub invariant-statements-loop-s : goal.invariant-statements-loop-s
 invariant-statements-loop-s l = record {
   slots : length l.frame.items ≡ length l.initial.frame.items;
   spends : l.stage.left ≤ l.initial.stage.left;
-  step : execute_all (world_seen l.world) (calls_from l.world l.at) (place_seen l.at) (typed_statements_of (map typed_statement l.s-items))
+  step : execute_all (world_seen l.around.world.now) (calls_from l.around) (place_seen l.around.at) (typed_statements_of (map typed_statement l.s-items))
       (frame_seen l.initial.frame.items) (stage_seen l.initial.stage)
-      ≡ execute_all (world_seen l.world) (calls_from l.world l.at) (place_seen l.at) (typed_statements_of (map typed_statement (drop l.s-index l.s-items)))
+      ≡ execute_all (world_seen l.around.world.now) (calls_from l.around) (place_seen l.around.at) (typed_statements_of (map typed_statement (drop l.s-index l.s-items)))
       (frame_seen l.frame.items) (stage_seen l.stage);
 }
 
@@ -102,9 +104,9 @@ abbrev pub invariant-turns-loop-again : goal.invariant-turns-loop-again
 invariant-turns-loop-again l = record {
   slots : length l.frame.items ≡ length l.initial.frame.items;
   spends : l.stage.left ≤ l.initial.stage.left;
-  turns : Turns (value (world_seen l.world) (calls_from l.world l.at) (setting l.at.here) (typed_tree l.condition))
-      (execute (world_seen l.world) (calls_from l.world l.at) (place_seen l.at) (typed_statement l.step))
-      (execute (world_seen l.world) (calls_from l.world l.at) (place_seen l.at) (typed_statement l.body))
+  turns : Turns (value_of l.around l.condition)
+      (flow_of l.around l.step)
+      (flow_of l.around l.body)
       (frame_seen l.initial.frame.items) (stage_seen l.initial.stage) (frame_seen l.frame.items) (stage_seen l.stage);
 }
 
@@ -115,8 +117,8 @@ abbrev pub invariant-repeats-loop-flow : goal.invariant-repeats-loop-flow
 invariant-repeats-loop-flow l = record {
   slots : length l.frame.items ≡ length l.initial.frame.items;
   spends : l.stage.left ≤ l.initial.stage.left;
-  turns : Repeats (value (world_seen l.world) (calls_from l.world l.at) (setting l.at.here) (typed_tree l.condition))
-      (execute (world_seen l.world) (calls_from l.world l.at) (place_seen l.at) (typed_statement l.body))
+  turns : Repeats (value_of l.around l.condition)
+      (flow_of l.around l.body)
       (frame_seen l.initial.frame.items) (stage_seen l.initial.stage) (frame_seen l.frame.items) (stage_seen l.stage);
 }
 

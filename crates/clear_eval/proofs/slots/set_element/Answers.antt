@@ -9,15 +9,15 @@ use Rattle.clear_eval.proofs.slots.set_element.Goals as goal
 
 pub returns-clause-step : goal.returns-clause-step
 returns-clause-step c =
-    let k = c.args.slot in
+    let k = c.args.place.slot in
     let fr = frame_seen c.args.frame.now.items in
     let j = value_seen c.args.index.now in
     let a = value_seen c.args.element.now in
     let s = stage_seen c.args.stage.now in
     let s' = stage_seen c.with_element.new.stage in
     let v = value_seen c.in_ok-array.array in
-    let stepped : with_element c.args.line (fr k) j a s ≡ Ok (v, s') =
-    ap (λ x. with_element c.args.line x j a s) (sym c.taken-array.ensures.value) ∙ c.in_ok-array.ensures.step in
+    let stepped : with_element c.args.place.line (fr k) j a s ≡ Ok (v, s') =
+    ap (λ x. with_element c.args.place.line x j a s) (sym c.taken-array.ensures.value) ∙ c.in_ok-array.ensures.step in
     let behind : Run Value → Run Flow = λ r. carry r (λ x. done (goes (put k x fr))) in
     let ends : Frame → Run Flow = λ f. Ok (goes f, s') in
     ap behind stepped ∙ ap ends (sym (c.put.ensures.put ∙ c.taken-array.ensures.others v))
