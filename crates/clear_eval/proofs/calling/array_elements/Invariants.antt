@@ -2,7 +2,7 @@ use Rattle.std.proofs.Common.{◌≡◌, ◌≤◌, ◌*◌, take}
 use Rattle.std.specs.Prelude.{map, sum}
 use Rattle.language_model.specs.Evaluation.{array_elements}
 use Rattle.value_steps.specs.Views.{value_seen}
-use Rattle.clear_eval.proofs.calling.array_elements.GivenInput as goal
+use Rattle.clear_eval.proofs.calling.array_elements.Given as goal
 
 abbrev pub invariant-loop-argument : goal.invariant-loop-argument
 invariant-loop-argument l = record {

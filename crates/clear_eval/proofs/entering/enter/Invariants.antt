@@ -2,7 +2,7 @@ use Rattle.std.proofs.Common.{◌≡◌, ◌<◌, ℕ, length, get_or}
 use Rattle.std.specs.Prelude.{map}
 use Rattle.language_model.specs.Evaluation.{entered, nothing}
 use Rattle.value_steps.specs.Views.{value_seen}
-use Rattle.clear_eval.proofs.entering.enter.GivenInput as goal
+use Rattle.clear_eval.proofs.entering.enter.Given as goal
 
 abbrev pub invariant-loop-number : goal.invariant-loop-number
 invariant-loop-number l = record {

@@ -12,7 +12,7 @@ use Rattle.clear_eval.specs.inner.Standing.{value_of, flow_of}
 use Rattle.clear_eval.specs.inner.Measures.{weight, weight_of_all, statement_weight, statements_weight, work}
 use Rattle.clear_eval.proofs.Loops.{Turns, Repeats}
 use Rattle.clear_eval.proofs.Work.{work_around}
-use Rattle.clear_eval.proofs.evaluation.+evaluation.GivenInput as goal
+use Rattle.clear_eval.proofs.evaluation.+evaluation.Given as goal
 
 abbrev pub decreases-value : goal.decreases-value
 decreases-value l = work_around l.around.now (weight (typed_tree l.e.now))
