@@ -4,3 +4,4 @@ pub mod OwnGates
 pub mod Made
 pub mod Told
 pub mod LettingGo
+pub mod OtherGates

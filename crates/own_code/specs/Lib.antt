@@ -1,2 +1,3 @@
 pub mod OwnCode
 pub mod LettingGo
+pub mod EarlierGates
