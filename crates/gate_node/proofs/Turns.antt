@@ -25,7 +25,7 @@ use Rattle.gate_node.specs.declared.engine.Work.TheVariants as work
 use Rattle.gate_node.specs.declared.engine.Engine.{Engine}
 use Rattle.gate_node.specs.OwnGates.{Halted, own_gates, then_gates}
 use Rattle.gate_node.specs.Shares.{shares_of}
-use Rattle.gate_node.specs.Nodes.{blocks_then, protocol_at, size_at, gates_left, running_left, work_left}
+use Rattle.gate_node.specs.Nodes.{blocks_then, protocol_at, size_at, gates_left, running_left, work_left, engine_left}
 use Rattle.gate_node.proofs.Always.{then-all, then-assoc}
 use Rattle.gate_node.proofs.OwnGates.{run-behind}
 use Rattle.gate_node.proofs.Blocks.{blocks-begin}
@@ -160,3 +160,22 @@ module _ {P : Type 0} (i : Number) (e f : Engine P) (same : f.gates.items ≡ e.
       blocks_then (protocol_at r) i r.begun (value e.values r.gate.u) (second_value e.values r.gate.v) e.tape.1 (joined r.made here)
       (λ all tape. own_gates i e.dealt (drop e.begun l) (e.values ++ all) tape))) same
   work-same work.Halt = refl
+
+-- gates that have begun are let go
+module _ {P : Type 0} (i : Number) (e : Engine P) (f : Engine P) (same : drop f.begun f.gates.items ≡ drop e.begun e.gates.items) where
+  pub work-kept : (w : Work P) → work_left i (record e { gates = f.gates; begun = f.begun }) w ≡ work_left i e w
+  work-kept work.Idle = ap (λ l. own_gates i e.dealt l e.values e.tape.1) same
+  work-kept (work.Between r) =
+      ap (λ l.
+      blocks_then (protocol_at r) i r.begun (value e.values r.gate.u) (second_value e.values r.gate.v) e.tape.1 r.made
+      (λ all tape. own_gates i e.dealt l (e.values ++ all) tape)) same
+  work-kept (work.Within r block) =
+      ap (λ l.
+      then_do (pending_left i block)
+      (λ here.
+      blocks_then (protocol_at r) i r.begun (value e.values r.gate.u) (second_value e.values r.gate.v) e.tape.1 (joined r.made here)
+      (λ all tape. own_gates i e.dealt l (e.values ++ all) tape))) same
+  work-kept work.Halt = refl
+
+  pub engine-kept : f ≡ record e { gates = f.gates; begun = f.begun } → engine_left i f ≡ engine_left i e
+  engine-kept is = subst (λ v. engine_left i v ≡ engine_left i e) (sym is) (work-kept e.work)

@@ -53,6 +53,19 @@ fn second_value(values: &Values, number: Option<u64>) -> &[u64]
 }
 
 impl<P: Party> Engine<P> {
+    /// Once all its gates have begun, they are let go.
+    pub fn let_go_gates(&mut self)
+        requires within { self.old.begun ≤ length self.old.gates.items }
+        ensures left { gates_left P.me self.new ≡ gates_left P.me self.old }
+        ensures same { self.new ≡ record self.old { gates = self.new.gates; begun = self.new.begun } }
+        ensures within { self.new.begun ≤ length self.new.gates.items }
+    {
+        if self.begun >= self.gates.len() {
+            self.gates.clear();
+            self.begun = 0;
+        }
+    }
+
     /// Whether no gate is at work. It is looked at first, since what a gate has at work is large, and moved as often as it is gone on with.
     fn is_idle(&self) -> bool
         ensures { result ≡ true → self.now.work ≡ Work.Idle }
@@ -134,7 +147,9 @@ impl<P: Party> Engine<P> {
         }
     }
 
-    /// The gate at work, as far as the messages lead: to its end, to a wait, or not at all where it couldn't begin.
+    /// The gate at work, as far as the messages lead: to its end, to a wait, or not at all where it couldn't begin. It stands apart, since its
+    /// blocks are large, and a function's places are made anew with each call.
+    #[inline(never)]
     fn finish(&mut self) -> Result<Stand, AllocError>
         requires sound { IsSound P.me self.old }
         ensures same { OnOk result (engine_outcome P.me self.new ≡ engine_outcome P.me self.old) }
@@ -159,19 +174,17 @@ impl<P: Party> Engine<P> {
         }
     }
 
-    /// The oldest gate begins that hasn't; false where there is none. A gate that sends nothing is through at once.
-    fn begin_gate(&mut self) -> Result<bool, AllocError>
+    /// The oldest gate begins that hasn't. A gate that sends nothing is through at once.
+    #[inline(never)]
+    fn begin_next(&mut self) -> Result<(), AllocError>
         requires idle { self.old.work ≡ Work.Idle }
+        requires more { self.old.begun < length self.old.gates.items }
         requires sound { IsSound P.me self.old }
         ensures same { OnOk result (engine_outcome P.me self.new ≡ engine_outcome P.me self.old) }
-        ensures through { IfOk result (λ more. more ≡ false → EngineStands P.me Stand.Through self.new) }
-        ensures falls { IfOk result (λ more. more ≡ true → length (gates_left P.me self.new) < length (gates_left P.me self.old)) }
+        ensures falls { OnOk result (length (gates_left P.me self.new) < length (gates_left P.me self.old)) }
         ensures sound { IsSound P.me self.new }
         ensures kept { OnOk result (Keeps self.old self.new) }
     {
-        if self.begun >= self.gates.len() {
-            return Ok(false);
-        }
         let gate = &self.gates[self.begun];
         self.begun += 1;
         match begins(
@@ -195,6 +208,23 @@ impl<P: Party> Engine<P> {
                 });
             }
         }
+        Ok(())
+    }
+
+    /// The oldest gate begins that hasn't; false where there is none.
+    fn begin_gate(&mut self) -> Result<bool, AllocError>
+        requires idle { self.old.work ≡ Work.Idle }
+        requires sound { IsSound P.me self.old }
+        ensures same { OnOk result (engine_outcome P.me self.new ≡ engine_outcome P.me self.old) }
+        ensures through { IfOk result (λ more. more ≡ false → EngineStands P.me Stand.Through self.new) }
+        ensures falls { IfOk result (λ more. more ≡ true → length (gates_left P.me self.new) < length (gates_left P.me self.old)) }
+        ensures sound { IsSound P.me self.new }
+        ensures kept { OnOk result (Keeps self.old self.new) }
+    {
+        if self.begun >= self.gates.len() {
+            return Ok(false);
+        }
+        self.begin_next()?;
         Ok(true)
     }
 

@@ -60,13 +60,15 @@ impl<P: Party> GateNode<P> {
         }
     }
 
-    /// Further gates, behind those before; with no memory left all is as before.
+    /// Further gates, behind those before; with no memory left nothing else is to be done than before. Gates that have begun are let go once
+    /// all have.
     pub fn add(&mut self, gates: Vec<Gate>) -> Result<(), AllocError>
         ensures left { OnOk result (engine_left P.me self.new ≡ then_do (engine_left P.me self.old) (then_gates P.me self.old.dealt gates.items)) }
         ensures err { OnErr result (engine_left P.me self.new ≡ engine_left P.me self.old) }
         ensures kept { IsSameButGates self.old self.new }
     {
         let mut gates = gates;
+        self.engine.let_go_gates();
         self.engine.gates.append(&mut gates)?;
         Ok(())
     }

@@ -74,6 +74,7 @@ pub(crate) struct Engine<P: Party> {
 
 impl<P: Party> Engine<P> {
     /// The next step, whose gates begin.
+    #[inline(never)]
     fn begin(&mut self) -> Result<(), AllocError>
         requires ready { self.old.at ≡ Ready }
         requires fuel { 0 < self.old.fuel }
@@ -112,6 +113,7 @@ impl<P: Party> Engine<P> {
     }
 
     /// The same step once more, told the value that was made last.
+    #[inline(never)]
     fn again(&mut self) -> Result<(), AllocError>
         requires again { self.old.at ≡ Again }
         requires through { IsThrough P.me self.old.node }
@@ -139,6 +141,7 @@ impl<P: Party> Engine<P> {
     }
 
     /// A step is through with its gates: it is told, and the run goes on.
+    #[inline(never)]
     fn goes_on(&mut self, turned: Turned, speech: &Speech, before: Told) -> Result<(), AllocError>
         requires through { IsThrough P.me self.old.node }
         requires sound { IsSound P.me self.old }
