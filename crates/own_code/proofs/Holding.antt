@@ -1,9 +1,10 @@
 -- Two lists of as many values that have the same of some numbers, and go on so when more values are made.
-use Rattle.std.proofs.Common.{◌≡◌, ◌⊎◌, ℕ, ◌+◌, ◌-◌, ◌<◌, ◌≤◌, List, [], ◌∷◌, ◌++◌, length, inl, inr, refl, sym, ◌∙◌, ap, arith, length-append}
+use Rattle.std.proofs.Common.{◌≡◌, ◌⊎◌, ℕ, ◌+◌, ◌-◌, ◌<◌, ◌≤◌, List, [], ◌∷◌, ◌++◌, length, inl, inr, refl, sym, ◌∙◌, ap}
+use Rattle.std.proofs.Common.{arith, length-append}
 use Rattle.std.proofs.lemmas.Bool.{cases_lt}
 use Rattle.std.proofs.lemmas.List.{length-map, get_or_append_left, get_or-append_right}
 use Rattle.protocol_model.specs.Gates.{nth_value, sizes_of}
-use Rattle.gates.specs.Clear.{Values, value}
+use Rattle.gates.specs.Clear.{Values}
 use Rattle.gates.specs.Counts.{size_of}
 use Rattle.shared_gates.proofs.Models.{nth_value-value, size-value}
 use Rattle.named_values.specs.Named.{Numbers, or_from, AllOf, AreAmong}

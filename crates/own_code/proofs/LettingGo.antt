@@ -1,6 +1,6 @@
 -- Code is run alike on two lists of values that have the same of those that its machine names.
-use Rattle.std.proofs.Common.{◌≡◌, ℕ, zero, suc, ◌+◌, ◌-◌, ◌≤◌, List, [], ◌∷◌, ◌++◌, length, drop, inl, inr, refl, sym, ◌∙◌, ap, subst, arith, Ok, Err}
-use Rattle.std.proofs.Common.{append-nil, length-append}
+use Rattle.std.proofs.Common.{◌≡◌, ℕ, zero, suc, ◌+◌, ◌-◌, ◌≤◌, List, [], ◌∷◌, ◌++◌, length, drop, inl, inr, Ok, Err}
+use Rattle.std.proofs.Common.{refl, sym, ◌∙◌, ap, subst, arith, append-nil, length-append}
 use Rattle.std.proofs.lemmas.List.{drop_at}
 use Rattle.proto_core.specs.declared.party.Number.{Number}
 use Rattle.proto_core.specs.Strand.{Notice, Strand, Ends, then_do}
@@ -8,12 +8,12 @@ use Rattle.protocol_model.specs.Gates.{nth_value}
 use Rattle.gates.specs.declared.gate.Gate.{Gate}
 use Rattle.gates.specs.Clear.{Values}
 use Rattle.gates.specs.Counts.{made_by_all}
-use Rattle.language_model.specs.Effects.{World, Stage, Stop, Short, Run}
+use Rattle.language_model.specs.Effects.{World, Stop, Short, Run}
 use Rattle.language_model.specs.Effects as effect
 use Rattle.verified_code.specs.Steps.{Function}
 use Rattle.code_model.specs.Machine.{Machine, step}
 use Rattle.driven_nodes.specs.Driven.{telling}
-use Rattle.driven_nodes.specs.Steps.{Went, On, Over, Wants, Stand, place_of, stand_of, gained, last_of}
+use Rattle.driven_nodes.specs.Steps.{Went, On, Over, Wants, place_of, stand_of, gained, last_of}
 use Rattle.code_places.specs.Places.{Place, telling_stage, stopped, went, next_step, step_told, notices_between, where_made, told_by}
 use Rattle.code_places.proofs.Turns.{gained_more}
 use Rattle.gate_node.specs.OwnGates.{Halted, Whole, Stuck, own_gates}
@@ -117,7 +117,7 @@ module _ (w : World) (c : List Function) where
 
       -- so many values more, and the step has led here
       module _ (made : Values) (z : Went Place) (leads_here : Leads Taken p z)
-          (count : (length made) ≡ made_by_all (gates_between p (place_of z))) (tape : List ℕ) where
+          (count : length made ≡ made_by_all (gates_between p (place_of z))) (tape : List ℕ) where
         abbrev all : Values
         all = values ++ made
 
@@ -151,7 +151,8 @@ module _ (w : World) (c : List Function) where
         told_alike =
             telling_then (notices_between p (place_of z) all) (go_on on (stand_of z) all tape)
             ∙ ap (λ s. telling (notices_between p (place_of z) all) s) goes_alike
-            ∙ ap (λ last. telling (told last) (without_values (go_on on (stand_of z) all_held tape))) (same_last values held is_held.as_many is_held.last made)
+            ∙ ap (λ last. telling (told last) (without_values (go_on on (stand_of z) all_held tape)))
+            (same_last values held is_held.as_many is_held.last made)
             ∙ sym (telling_then (notices_between p (place_of z) all_held) (go_on on (stand_of z) all_held tape))
           where
             told : (last : List ℕ) → List Notice

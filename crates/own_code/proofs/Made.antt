@@ -4,7 +4,7 @@ use Rattle.std.proofs.Common.{append_assoc, append-nil, length-append}
 use Rattle.std.specs.Prelude.{Option, Some, None}
 use Rattle.std.proofs.lemmas.List.{length-map}
 use Rattle.proto_core.specs.declared.party.Number.{Number}
-use Rattle.proto_core.specs.Strand.{Shape, accepts, Mail, taken, Strand, Ends, Acts, Waits, run, then_do}
+use Rattle.proto_core.specs.Strand.{Shape, accepts, Mail, taken, Strand, Ends, Acts, Waits, run}
 use Rattle.proto_core.specs.declared.link.Link.{Link}
 use Rattle.proto_core.proofs.Strands.{run-none, run-took, run-refused}
 use Rattle.protocol_model.specs.Gates.{Joined, nth_value, operand, sizes_of}
@@ -69,7 +69,8 @@ module _ (i : Number) (dealt : Values) where
   gate_count (Result ring u) values tape = joined_count (Resharing ring) (size_of (sizes_of values) u) u None values tape
   gate_count gate values tape = refl
 
-  further : (values made : Values) (n m : ℕ) → length made ≡ n → (h : Halted) → HasBehind (values ++ made) m h → HasBehind values (n + m) h
+  further :
+      (values made : Values) (n m : ℕ) → length made ≡ n → (h : Halted) → HasBehind (values ++ made) m h → HasBehind values (n + m) h
   further values made n m count (Whole all tape) h = (
     made ++ h.0,
     h.1 ∙ append_assoc values made h.0,
@@ -77,7 +78,9 @@ module _ (i : Number) (dealt : Values) where
   )
   further values made n m count Stuck h = tt
 
-  pub gates_count : (gates : List Gate) (values : Values) (tape : List ℕ) → EndsAlways (HasBehind values (made_by_all gates)) (own_gates i dealt gates values tape)
+  pub gates_count :
+      (gates : List Gate) (values : Values) (tape : List ℕ) →
+      EndsAlways (HasBehind values (made_by_all gates)) (own_gates i dealt gates values tape)
   gates_count [] values tape = ([], sym (append-nil values), refl)
   gates_count (gate ∷ gates) values tape =
       subst (EndsAlways (HasBehind values (made_by gate + made_by_all gates))) (sym (gate_first i dealt gate gates values tape))

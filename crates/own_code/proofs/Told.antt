@@ -1,5 +1,6 @@
 -- A step that wants words makes the same gates when it is told some.
-use Rattle.std.proofs.Common.{◌≡◌, ℕ, ◌+◌, ◌-◌, List, [], ◌∷◌, ◌++◌, Bool, true, false, cond, Ok, Err, Option, Some, None, ◌⊎◌, inl, inr, refl, sym, ◌∙◌, ap, subst}
+use Rattle.std.proofs.Common.{◌≡◌, ◌⊎◌, ℕ, ◌+◌, ◌-◌, List, [], Bool, true, false, cond, Some, None, Ok, Err, inl, inr}
+use Rattle.std.proofs.Common.{refl, sym, ◌∙◌, ap, subst}
 use Rattle.std.specs.Prelude.{length, nat_le, take, drop}
 use Rattle.sc_text.specs.declared.end.Ending.TheVariants.{Budget, Tape}
 use Rattle.sc_text.specs.declared.end.TapeOwner.{TapeOwner}
@@ -8,14 +9,14 @@ use Rattle.sc_text.specs.declared.event.Event.TheVariants as event
 use Rattle.gates.specs.declared.gate.Gate.{Gate}
 use Rattle.gates.specs.declared.gate.Gate.TheVariants.{Const, Open}
 use Rattle.language_model.specs.Effects.{Words, World, Source, Clear, Answers, Stage, Stop, Ended, Short, Run, Effect, ◌>>=◌, carry, done, charge}
-use Rattle.language_model.specs.Effects.{words_each, fits, drawn_yet, take_words, draw, gate, answer, emit, show}
+use Rattle.language_model.specs.Effects.{words_each, fits, drawn_yet, draw, gate, answer, emit, show}
 use Rattle.language_model.specs.Values.{Secrecy, Plain, Private, Value, plain, size, ring_for, elements_of}
 use Rattle.blind_evaluation.specs.Courses.{IsEnded}
-use Rattle.language_model.specs.Operations.{charged, no_traps, number_from, number_of, read_answer, revealed, opened_from, declassified}
-use Rattle.verified_code.specs.Steps.{Step, Declassify, Function}
+use Rattle.language_model.specs.Operations.{charged, no_traps, number_from, read_answer, revealed, opened_from, declassified}
+use Rattle.verified_code.specs.Steps.{Function}
 use Rattle.code_model.specs.Machine.{Machine, next, step}
 use Rattle.driven_nodes.specs.Steps.{Went, On, Over, Wants, place_of}
-use Rattle.code_places.specs.Places.{Place, place, telling_stage, stopped, went, next_step, step_told}
+use Rattle.code_places.specs.Places.{Place, telling_stage, stopped, went, next_step, step_told}
 use Rattle.code_places.specs.Laws.{stage_behind}
 use Rattle.code_places.proofs.Quiet.{KeptAt, Quiet}
 use Rattle.code_places.proofs.QuietSteps.{IsOpening, quiet_or_opening}
