@@ -123,15 +123,6 @@ pub record IsSameButGates {P : Type 0} (before after : Engine P) : Type 0 where
   pub values : after.values ≡ before.values
   pub tape : after.tape ≡ before.tape
 
--- all is as before but the values
-pub record IsSameButValues {P : Type 0} (before after : Engine P) : Type 0 where
-  pub links : after.links ≡ before.links
-  pub dealt : after.dealt ≡ before.dealt
-  pub tape : after.tape ≡ before.tape
-  pub gates : after.gates ≡ before.gates
-  pub begun : after.begun ≡ before.begun
-  pub work : after.work ≡ before.work
-
 abbrev pub with_links : {P : Type 0} → Engine P → Links → Engine P
 with_links e links = record e { links = links }
 

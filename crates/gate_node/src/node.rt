@@ -1,11 +1,8 @@
-ghost use Rattle.std.specs.Prelude.{◌≡◌, ◌-◌, ℕ, [], length, IsTrue, IfOk, OnOk, OnErr};
-ghost use Rattle.std.specs.BTreeSet.{contains};
-ghost use Rattle.std.specs.Ordering.{nat_cmp};
+ghost use Rattle.std.specs.Prelude.{◌≡◌, ◌-◌, [], length, IfOk, OnOk, OnErr};
 ghost use Rattle.proto_core.specs.Strand.{Ends, then_do};
 ghost use Rattle.block_steps.specs.Outcomes.{came_from_previous, came_from_next};
-ghost use Rattle.gates.specs.Clear.{value};
 ghost use Rattle.gate_node.specs.OwnGates.{Whole, then_gates};
-ghost use Rattle.gate_node.specs.Nodes.{engine_left, engine_outcome, EngineStands, Keeps, IsSameButGates, IsSameButValues, with_links};
+ghost use Rattle.gate_node.specs.Nodes.{engine_left, engine_outcome, EngineStands, Keeps, IsSameButGates, with_links};
 
 use crate::engine::{Engine, Work};
 use crate::stand::Stand;
@@ -14,7 +11,6 @@ use block_steps::Links;
 use gates::{Gate, Values};
 use proto_core::{Msg, Party};
 use std::alloc::{AllocError, Global};
-use std::collections::BTreeSet;
 use std::marker::Model;
 
 /// A miner that runs gates on its own shares. Contracts see what it has, and by `engine_left` what is left for it to do.
@@ -75,17 +71,6 @@ impl<P: Party> GateNode<P> {
         self.engine.let_go_gates();
         self.engine.gates.append(&mut gates)?;
         Ok(())
-    }
-
-    /// Lets go its shares of the values that gates have made but those of these numbers, where all gates are through.
-    pub fn keep_only(&mut self, numbers: &BTreeSet<u64>)
-        requires through { engine_left P.me self.old ≡ Ends (Whole self.old.values self.old.tape.1) }
-        ensures through { engine_left P.me self.new ≡ Ends (Whole self.new.values self.new.tape.1) }
-        ensures as_many { length self.new.values ≡ length self.old.values }
-        ensures kept { (k : ℕ) → IsTrue (contains nat_cmp numbers.now k) → value self.new.values k ≡ value self.old.values k }
-        ensures same { IsSameButValues self.old self.new }
-    {
-        let _ = numbers;
     }
 
     /// A message comes from the previous miner; with no memory left all is as before.
