@@ -5,3 +5,4 @@ pub mod Does
 pub mod Callers
 pub mod Worth
 pub mod Gains
+pub mod Naming

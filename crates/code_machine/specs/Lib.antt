@@ -3,3 +3,4 @@ pub mod Standing
 pub mod Parts
 pub mod Changes
 pub mod Marks
+pub mod Named

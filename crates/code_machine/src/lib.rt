@@ -13,6 +13,7 @@ mod fuel;
 mod laws;
 mod machine;
 mod marks;
+mod named;
 mod operands;
 mod places;
 mod plan;

@@ -1,5 +1,6 @@
 pub mod Quiet
 pub mod Turns
+pub mod Forgetting
 pub mod Begins
 pub mod Gates
 pub mod Notices

@@ -1,5 +1,5 @@
 -- An engine stays where its story leads.
-use Rattle.std.proofs.Common.{◌≡◌, ◌≢◌, ℕ, true, false, if◌then◌else◌, List, [], ◌∷◌, ◌++◌, map, refl, sym, ◌∙◌, ap, subst}
+use Rattle.std.proofs.Common.{◌≡◌, ◌≢◌, ℕ, false, if◌then◌else◌, List, [], ◌∷◌, ◌++◌, map, refl, sym, ◌∙◌, ap, subst}
 use Rattle.std.specs.Prelude.{Option, None, Some, Result, Ok, Err, Vec}
 use Rattle.std.specs.declared.alloc.Global.{Global}
 use Rattle.std.proofs.lemmas.Bool.{false_from_ne_true}
@@ -37,13 +37,15 @@ use Rattle.miner_core.specs.declared.engine.Engine.{Engine}
 use Rattle.miner_core.specs.declared.task.Task.{Task}
 use Rattle.own_code.specs.OwnCode.{Ended, Reached, Unfit, own_code}
 use Rattle.miner_core.specs.Views.{notice_seen, task_world, task_code}
-use Rattle.miner_core.specs.Engines.{place_at, goes_on_at, behind_node, engine_left, engine_outcome, engine_told, IsSound, IsOver, Rests, Keeps}
+use Rattle.miner_core.specs.Engines.{place_at, goes_on_at, behind_node, engine_left, engine_outcome, engine_told, forgetting, shown, IsSound, IsOver, Rests}
+use Rattle.miner_core.specs.Engines.{Keeps}
 use Rattle.miner_core.specs.declared.answer.Step.{Step}
 use Rattle.miner_core.specs.declared.answer.MinerErr.{MinerErr}
 use Rattle.miner_core.specs.declared.answer.MinerErr.TheVariants as error
 use Rattle.miner_core.specs.Story.{Story, received, start_of, story_of, mail_in, strand_in, standing, stands_at, Follows, Leads, IsAnswerOf, IsAnswer}
 use Rattle.miner_core.specs.Story.{DeliverAnswers}
 use Rattle.miner_core.specs.Story as story
+use Rattle.miner_core.proofs.Forgetting.{run_forgetting, told_forgetting, standing_forgetting, answer_alike}
 use Rattle.miner_core.proofs.Quiet.{QuietAt, quiet_come}
 
 not_at_end_awaits : (l : Link) → Awaits l ≡ AtItsEnd → ⊥
@@ -139,12 +141,12 @@ module _ {P : Type 0} (i : Number) where
   told_is e s h =
       sym (ap (λ r. map notice_seen e.notices.items ++ told_in r.acts) (rests_still e s h) ∙ append-none (map notice_seen e.notices.items))
 
-  pub follows : (e e2 : Engine P) (s : Story) (at : Stand) → Leads i e s → engine_outcome i e2 ≡ engine_outcome i e → engine_told i e2 ≡ engine_told i e →
-      Rests i at e2 → IsSound i e2 → Follows i e2 s
+  pub follows : (e e2 : Engine P) (s : Story) (at : Stand) → Leads i e s → shown (engine_outcome i e2) ≡ shown (engine_outcome i e) →
+      engine_told i e2 ≡ engine_told i e → Rests i at e2 → IsSound i e2 → Follows i e2 s
   follows e e2 s at leads same told rests sound =
       record {
         sound = sound;
-        same = standing_is e2 at rests ∙ same ∙ leads.same;
+        same = ap shown (standing_is e2 at rests) ∙ same ∙ leads.same;
         told = told_is e2 at rests ∙ told ∙ leads.told;
       }
 
@@ -176,19 +178,32 @@ module _ {P : Type 0} (i : Number) where
     run_is : run (engine_left i (with_links e l)) (mail_left i l) ≡ later
     run_is = ap (λ v. run v (mail_left i l)) (left_same e l) ∙ ap (run (engine_left i e)) mail
 
-    come_same : engine_outcome i (with_links e l) ≡ outcome i [] [] [] (story.node i s2)
-    come_same =
+    come_outcome : engine_outcome i (with_links e l) ≡ outcome i e.node.links.to_next e.node.links.to_previous e.node.links.opened.items later
+    come_outcome =
         ap (outcome i l.to_next l.to_previous l.opened.items) run_is
         ∙ ap (λ v. outcome i v l.to_previous l.opened.items later) next
         ∙ ap (λ v. outcome i e.node.links.to_next v l.opened.items later) previous
         ∙ ap (λ (v : Vec ℕ Global). outcome i e.node.links.to_next e.node.links.to_previous v.items later) opened
-        ∙ sym (ap (outcome i [] [] []) node_is ∙ kahn-step i (strand_in i s) (mail_in i s) more (standing i e) f.same)
+
+    come_same : shown (engine_outcome i (with_links e l)) ≡ shown (outcome i [] [] [] (story.node i s2))
+    come_same =
+        let k = e.node.links in
+        let mine = forgetting (strand_in i s) in
+        ap shown come_outcome
+        ∙ sym (ap (outcome i k.to_next k.to_previous k.opened.items) (run_forgetting (engine_left i e) (added (mail_left i k) more)))
+        ∙ sym (ap (λ r. shown (outcome i [] [] [] r)) node_is
+        ∙ sym (ap (outcome i [] [] []) (run_forgetting (strand_in i s) (added (mail_in i s) more)))
+        ∙ kahn-step i mine (mail_in i s) more (shown (standing i e))
+        (f.same ∙ sym (ap (outcome i [] [] []) (run_forgetting (strand_in i s) (mail_in i s)))))
 
     come_told : engine_told i (with_links e l) ≡ story.has_told i s2
     come_told =
         ap (λ r. map notice_seen e.notices.items ++ told_in r.acts) run_is
         ∙ ap (λ ns. ns ++ told_in later.acts) f.told
-        ∙ ap (λ (o : Outcome Ended). story.has_told i s ++ told_in (run o.left (added o.unread more)).acts) f.same
+        ∙ ap (λ ns. story.has_told i s ++ ns)
+        (sym (told_forgetting (engine_left i e) (added (mail_left i e.node.links) more))
+        ∙ ap (λ (o : Outcome Ended). told_in (run o.left (added o.unread more)).acts) f.same
+        ∙ told_forgetting (story.node i s).left (added (story.node i s).unread more))
         ∙ sym (ap (λ (r : Ran Ended). told_in r.acts) node_is
         ∙ ap (λ (r : Ran Ended). told_in r.acts) (run-added (strand_in i s) (mail_in i s) more)
         ∙ told-append (story.node i s).acts (run (story.node i s).left (added (story.node i s).unread more)).acts)
@@ -282,10 +297,11 @@ module _ {P : Type 0} (i : Number) where
         record {
           sound = record { stands = stands; quiet = subst (λ v. QuietAt v (mail_left i l)) (sym left) (λ more. refl) };
           same =
-              ap (outcome i l.to_next l.to_previous l.opened.items) same
+              ap shown
+              (ap (outcome i l.to_next l.to_previous l.opened.items) same
               ∙ ap (λ v. outcome i v l.to_previous l.opened.items (story.node i s)) to_next
               ∙ ap (λ v. outcome i [] v l.opened.items (story.node i s)) to_previous
-              ∙ ap (λ v. outcome i [] [] v (story.node i s)) opened;
+              ∙ ap (λ v. outcome i [] [] v (story.node i s)) opened);
           told =
               ap (λ r. map notice_seen e.notices.items ++ told_in r.acts) same
               ∙ ap (λ ns. map notice_seen ns ++ told_in (story.node i s).acts) notices;
@@ -299,10 +315,17 @@ module _ {P : Type 0} (i : Number) where
   -- an engine that follows a story answers as it says
   pub answer_of : (e : Engine P) (s : Story) (r : Result Step MinerErr) → Follows i e s → IsAnswerOf (engine_left i e) (mail_left i e.node.links) r
       → IsAnswer i s r
-  answer_of e s r f h = subst (λ o. IsAnswerOf o.left o.unread r) f.same h
+  answer_of e s r f h =
+      let n = story.node i s in
+      (answer_alike n.left n.unread r).1
+      (subst (λ (o : Outcome Ended). IsAnswerOf o.left o.unread r) f.same ((answer_alike (engine_left i e) (mail_left i e.node.links) r).0 h))
 
   pub standing_of_story : (e : Engine P) (s : Story) → Follows i e s → standing_with (engine_left i e) (mail_left i e.node.links) ≡ stands_at i s
-  standing_of_story e s f = ap (λ (o : Outcome Ended). standing_with o.left o.unread) f.same
+  standing_of_story e s f =
+      let n = story.node i s in
+      sym (standing_forgetting (engine_left i e) (mail_left i e.node.links))
+      ∙ ap (λ (o : Outcome Ended). standing_with o.left o.unread) f.same
+      ∙ standing_forgetting n.left n.unread
 
 -- the story is of what is kept
 pub story_kept : {P : Type 0} (e e2 : Engine P) (budget : ℕ) → Keeps e e2 → story_of e2 budget ≡ story_of e budget

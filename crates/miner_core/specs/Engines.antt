@@ -25,8 +25,24 @@ use Rattle.code_turns.specs.declared.telling.Told.{Told}
 use Rattle.miner_core.specs.declared.engine.At.{At}
 use Rattle.miner_core.specs.declared.engine.At.TheVariants as at
 use Rattle.miner_core.specs.declared.engine.Engine.{Engine}
+use Rattle.own_code.specs.EarlierGates.{end_without_gates}
+use Rattle.own_code.specs.LettingGo.{forget}
 use Rattle.own_code.specs.OwnCode.{Ended, Reached, Unfit, From, go_on, tell_and_go_on, own_code}
 use Rattle.miner_core.specs.Views.{task_world, task_code, notice_seen, told_since}
+
+-- ---- what is let go
+
+-- an end, whatever the values are, and the gates of its place
+abbrev pub forgotten : Ended → Ended
+forgotten e = end_without_gates (forget e)
+
+abbrev pub forgetting : Strand Ended → Strand Ended
+forgetting s = then_do s (λ e. Ends (forgotten e))
+
+abbrev pub shown : Outcome Ended → Outcome Ended
+shown o = record o { left = forgetting o.left }
+
+-- ---- what is left
 
 module _ {P : Type 0} (i : Number) where
   abbrev pub place_at : Engine P → Place

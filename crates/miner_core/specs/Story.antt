@@ -23,7 +23,7 @@ use Rattle.miner_core.specs.declared.engine.Engine.{Engine}
 use Rattle.miner_core.specs.declared.task.Task.{Task}
 use Rattle.own_code.specs.OwnCode.{Ended, Reached, Unfit, own_code}
 use Rattle.miner_core.specs.Views.{task_world, task_code, notice_seen}
-use Rattle.miner_core.specs.Engines.{engine_left, engine_outcome, engine_told, IsSound}
+use Rattle.miner_core.specs.Engines.{engine_left, engine_outcome, engine_told, shown, IsSound}
 
 pub record Story : Type 0 where
   pub world : World
@@ -139,14 +139,14 @@ module _ {P : Type 0} (i : Number) where
       let l = e.node.links in
       record { to_next = l.to_next; to_previous = l.to_previous; opened = l.opened.items; left = engine_left i e; unread = mail_left i l }
 
-  -- it is where its story leads
+  -- it is where its story leads, whatever values it has let go, and which gates
   pub record Follows (e : Engine P) (s : Story) : Type 0 where
     pub sound : IsSound i e
-    pub same : standing e ≡ outcome i [] [] [] (node i s)
+    pub same : shown (standing e) ≡ shown (outcome i [] [] [] (node i s))
     pub told : map notice_seen e.notices.items ≡ has_told i s
 
   -- it comes there with the messages that it has
   pub record Leads (e : Engine P) (s : Story) : Type 0 where
     pub sound : IsSound i e
-    pub same : engine_outcome i e ≡ outcome i [] [] [] (node i s)
+    pub same : shown (engine_outcome i e) ≡ shown (outcome i [] [] [] (node i s))
     pub told : engine_told i e ≡ has_told i s

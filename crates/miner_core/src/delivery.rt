@@ -39,6 +39,7 @@ impl<P: Party> Engine<P> {
             at: At::Ready,
             node: GateNode::new(alloc, dealt, tape),
             notices: Vec::new(alloc),
+            let_go_at: 0,
         })
     }
 

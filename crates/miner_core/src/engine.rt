@@ -2,7 +2,7 @@ ghost use Rattle.std.specs.Prelude.{◌≡◌, ◌<◌, true, false, IfOk, OnOk,
 ghost use Rattle.gate_node.specs.Nodes as node;
 ghost use Rattle.code_turns.specs.declared.outcome.Turned.TheVariants.{Short};
 ghost use Rattle.miner_core.specs.declared.engine.At.TheVariants.{Ready, Again};
-ghost use Rattle.miner_core.specs.Engines.{engine_left, engine_outcome, engine_told, IsSound, IsThrough, IsOver, Rests, Keeps, KeepsLinks, GoesOn};
+ghost use Rattle.miner_core.specs.Engines.{engine_left, engine_outcome, engine_told, shown, IsSound, IsThrough, IsOver, Rests, Keeps, KeepsLinks, GoesOn};
 ghost use Rattle.miner_core.specs.Engines.{acting, led_to, measure};
 
 use crate::notice::{Notice, tell};
@@ -58,8 +58,8 @@ fn wants_words(turned: Turned) -> bool
     }
 }
 
-/// A miner that runs code: what it runs, the machine and its stage, for how many steps fuel lasts, what it is at, its gates and links, and
-/// what it has told.
+/// A miner that runs code: what it runs, the machine and its stage, for how many steps fuel lasts, what it is at, its gates and links,
+/// what it has told, and from how many values on it lets go those that aren't needed.
 #[derive(Drop)]
 pub(crate) struct Engine<P: Party> {
     pub alloc: Global,
@@ -70,6 +70,7 @@ pub(crate) struct Engine<P: Party> {
     pub at: At,
     pub node: GateNode<P>,
     pub notices: Vec<Notice>,
+    pub let_go_at: usize,
 }
 
 impl<P: Party> Engine<P> {
@@ -165,12 +166,12 @@ impl<P: Party> Engine<P> {
         Ok(())
     }
 
-    /// The next step, if fuel is left.
+    /// The next step, if fuel is left. Before it, what isn't needed any more is let go.
     fn ready(&mut self) -> Result<bool, AllocError>
         requires ready { self.old.at ≡ Ready }
         requires through { IsThrough P.me self.old.node }
         requires sound { IsSound P.me self.old }
-        ensures same { OnOk result (engine_outcome P.me self.new ≡ engine_outcome P.me self.old) }
+        ensures same { OnOk result (shown (engine_outcome P.me self.new) ≡ shown (engine_outcome P.me self.old)) }
         ensures told { OnOk result (engine_told P.me self.new ≡ engine_told P.me self.old) }
         ensures kept { OnOk result (Keeps self.old self.new) }
         ensures sound { OnOk result (IsSound P.me self.new) }
@@ -180,6 +181,7 @@ impl<P: Party> Engine<P> {
         if self.fuel == 0 {
             return Ok(false);
         }
+        self.let_go()?;
         self.begin()?;
         Ok(true)
     }
@@ -188,7 +190,7 @@ impl<P: Party> Engine<P> {
     fn turn(&mut self) -> Result<bool, AllocError>
         requires through { IsThrough P.me self.old.node }
         requires sound { IsSound P.me self.old }
-        ensures same { OnOk result (engine_outcome P.me self.new ≡ engine_outcome P.me self.old) }
+        ensures same { OnOk result (shown (engine_outcome P.me self.new) ≡ shown (engine_outcome P.me self.old)) }
         ensures told { OnOk result (engine_told P.me self.new ≡ engine_told P.me self.old) }
         ensures kept { OnOk result (Keeps self.old self.new) }
         ensures sound { OnOk result (IsSound P.me self.new) }
@@ -228,7 +230,7 @@ impl<P: Party> Engine<P> {
     /// are there, is the same before and behind.
     pub fn advance(&mut self) -> Result<Stand, AllocError>
         requires sound { IsSound P.me self.old }
-        ensures same { OnOk result (engine_outcome P.me self.new ≡ engine_outcome P.me self.old) }
+        ensures same { OnOk result (shown (engine_outcome P.me self.new) ≡ shown (engine_outcome P.me self.old)) }
         ensures told { OnOk result (engine_told P.me self.new ≡ engine_told P.me self.old) }
         ensures stands { IfOk result (λ s. Rests P.me s self.new) }
         ensures sound { OnOk result (IsSound P.me self.new) }

@@ -1,11 +1,15 @@
 //! A miner at work on verified code, message by message: it knows the public part of the inputs, its own shares of the private ones and its
 //! own tape. Whatever messages have come, it has done what they lead to of its part in the run, and no more.
+//!
+//! Of its shares of the values that gates have made it keeps, from time to time, only those that the code can still name and the last one,
+//! and of the gates that have run none: what it does is the same as with all of them.
 #![tactic(auto)]
 
 mod answer;
 mod delivery;
 mod engine;
 mod laws;
+mod letting_go;
 mod miner;
 mod notice;
 mod stepping;

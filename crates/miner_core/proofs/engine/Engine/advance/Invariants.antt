@@ -1,10 +1,10 @@
 use Rattle.std.proofs.Common.{◌≡◌}
-use Rattle.miner_core.specs.Engines.{engine_outcome, engine_told, IsSound, Keeps, measure}
+use Rattle.miner_core.specs.Engines.{engine_outcome, engine_told, shown, IsSound, Keeps, measure}
 use Rattle.miner_core.proofs.engine.Engine.advance.Given as goal
 
 abbrev pub invariant-loop-stand : goal.invariant-loop-stand
 invariant-loop-stand g l = record {
-  same : engine_outcome g.P.Party.me l.self ≡ engine_outcome g.P.Party.me l.fn.self;
+  same : shown (engine_outcome g.P.Party.me l.self) ≡ shown (engine_outcome g.P.Party.me l.fn.self);
   told : engine_told g.P.Party.me l.self ≡ engine_told g.P.Party.me l.fn.self;
   sound : IsSound g.P.Party.me l.self;
   kept : Keeps l.fn.self l.self;

@@ -1,16 +1,24 @@
-use Rattle.std.proofs.Common.{refl}
+use Rattle.std.proofs.Common.{refl, ◌∙◌, ap}
+use Rattle.miner_core.specs.Engines.{shown}
+use Rattle.miner_core.proofs.Forgetting.{shown_same, shown_told, links_kept}
 use Rattle.miner_core.proofs.Turns.{beside_same, beside_told, holds_links}
 use Rattle.miner_core.proofs.engine.Engine.ready.Goals as goal
 
 pub returns-clause-same : goal.returns-clause-same
 returns-clause-same g c =
-    let e = c.args.self.now in
-    beside_same g.P.Party.me e e.at refl c.begin.new.self c.in_ok-begin.ensures.left c.in_ok-begin.ensures.kept
+    let i = g.P.Party.me in
+    let e = c.let_go.new.self in
+    ap shown (beside_same i e e.at refl c.begin.new.self c.in_ok-begin.ensures.left c.in_ok-begin.ensures.kept)
+    ∙ shown_same i c.args.self.now e c.in_ok-let_go.ensures.left c.in_ok-let_go.ensures.kept
 
 pub returns-clause-told : goal.returns-clause-told
 returns-clause-told g c =
-    let e = c.args.self.now in
-    beside_told g.P.Party.me e e.at refl c.begin.new.self c.in_ok-begin.ensures.left c.in_ok-begin.ensures.kept
+    let i = g.P.Party.me in
+    let e = c.let_go.new.self in
+    beside_told i e e.at refl c.begin.new.self c.in_ok-begin.ensures.left c.in_ok-begin.ensures.kept
+    ∙ shown_told i c.args.self.now e c.in_ok-let_go.ensures.left c.in_ok-let_go.ensures.kept
 
 pub returns-clause-kept : goal.returns-clause-kept
-returns-clause-kept g c = holds_links c.args.self.now c.begin.new.self c.in_ok-begin.ensures.kept
+returns-clause-kept g c =
+    holds_links c.args.self.now c.begin.new.self
+    (links_kept c.args.self.now c.let_go.new.self c.begin.new.self c.in_ok-let_go.ensures.kept c.in_ok-begin.ensures.kept)

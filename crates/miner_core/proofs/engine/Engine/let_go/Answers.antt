@@ -1,0 +1,22 @@
+use Rattle.std.proofs.Common.{rules, ◌≡◌, length, ap}
+use Rattle.std.specs.Prelude.{IsTrue}
+use Rattle.std.specs.BTreeSet.{contains}
+use Rattle.std.specs.Ordering.{nat_cmp}
+use Rattle.value_steps.specs.Views.{stage_seen}
+use Rattle.named_values.specs.Besides.{with_gates}
+use Rattle.miner_core.specs.Engines.{place_at}
+use Rattle.miner_core.proofs.Forgetting.{is_held, let_go_left}
+use Rattle.miner_core.proofs.engine.Engine.let_go.Goals as goal
+
+pub returns-clause-left : goal.returns-clause-left
+returns-clause-left g c =
+    let i = g.P.Party.me in
+    let e = c.args.self.now in
+    let n = c.keep_only.new.self in
+    let k = c.keep_only.ensures in
+    let needed = c.in_ok-numbers in
+    let counted : e.stage.made ≡ length e.node.values = search rules in
+    let_go_left i e n (record e.stage { gates = c.clear.new.self }) c.saturating_add-self.result c.requires.ready c.requires.through k.through k.same
+    (ap (λ gates. with_gates gates (stage_seen e.stage)) c.clear.ensures.items)
+    (is_held (place_at i e) (λ number. IsTrue (contains nat_cmp needed.numbers number)) e.node.values n.values k.as_many counted
+    (needed.ensures.named e.task.code) needed.ensures.last k.kept)
