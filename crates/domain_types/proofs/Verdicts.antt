@@ -136,7 +136,11 @@ listed_if_checked p is test w i (reached j k ds c made) =
     refl
 
 pub are_the_checked : (p : ProgramTree) (is : List Instance) (test : ℕ → Bool) → IsWorked (declared_by p) is test → AreTheChecked p is
-are_the_checked p is test w i = (listed_if_checked p is test w i, λ m. checked_if_reached p i (w.visited.reached i m))
+are_the_checked p is test w =
+    record {
+      listed = λ i. (listed_if_checked p is test w i, λ m. checked_if_reached p i (w.visited.reached i m));
+      once = w.visited.once;
+    }
 
 -- WHAT IS CALLED
 

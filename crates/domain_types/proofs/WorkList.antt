@@ -1,19 +1,22 @@
 -- The work list as it grows: what is listed, and what is visited.
 use Rattle.std.proofs.Common.{◌≡◌, ℕ, zero, suc, ◌+◌, List, [], ◌∷◌, ◌++◌, take, ◌⊎◌, inl, inr, refl, sym, ap, ◌∙◌, subst, subst₂, Option, Some, None}
 use Rattle.std.proofs.Common.{Bool, true, false, arith, append_assoc, append-nil}
+use Rattle.std.proofs.lemmas.Bool.{both_ways, or_parts}
 use Rattle.std.specs.Prelude.{nat_eq, ◌||◌, if◌then◌else◌}
 use Rattle.std.specs.List.{slice_get}
 use Rattle.std.proofs.lemmas.List.Folds.{list_any-append}
 use Rattle.std.proofs.lemmas.Option.{same_Some}
 use Rattle.domain_types.specs.declared.fault.TypeFault.{TypeFault}
 use Rattle.domain_types.specs.declared.value_type.Protection.{Protection}
+use Rattle.secrec_ast.specs.Programs.{FunctionTree}
+use Rattle.domain_types.specs.ProgramTypes.{is_without}
 use Rattle.domain_types.specs.Declarations.{Declared}
 use Rattle.sc_text.specs.Lists.{Among}
 use Rattle.domain_types.specs.inner.LeastFault.{least}
 use Rattle.domain_types.specs.Reached.{Call, Instance}
-use Rattle.domain_types.specs.Instances.{same_instance, is_listed}
-use Rattle.domain_types.specs.inner.WorkList.{added, with_binding, with_calls, instance_faults, instance_calls, gathered, is_called, IsReached}
-use Rattle.domain_types.specs.inner.WorkList.{begins, follows, AreVisited}
+use Rattle.domain_types.specs.Instances.{same_instance, is_listed, IsEachOnce}
+use Rattle.domain_types.specs.inner.WorkList.{added, with_binding, with_calls, with_plain, plain_instances, instance_faults, instance_calls, gathered, is_called}
+use Rattle.domain_types.specs.inner.WorkList.{IsReached, begins, follows, AreVisited}
 use Rattle.sc_text.proofs.Lists.{among_left, among_right, among_parts}
 use Rattle.domain_types.proofs.Visits.{then_least}
 use Rattle.domain_types.proofs.Listing.{same_instance-Decides}
@@ -85,6 +88,51 @@ came i j is = go (is_listed i is)
     go true m = inl m
     go false m = last (among_parts j is (i ∷ []) m)
 
+-- EACH ONCE
+
+among_is_listed : (i : Instance) (is : List Instance) → is_listed i is ≡ false → Among i is → ⊥
+among_is_listed i [] e m = m
+among_is_listed i (j ∷ js) e (inl same) = both_ways (same_instance i j) (or_parts (same_instance i j) (is_listed i js) e).0 ((same_instance-Decides i j).1 same)
+among_is_listed i (j ∷ js) e (inr m) = among_is_listed i js (or_parts (same_instance i j) (is_listed i js) e).1 m
+
+once_behind : (is : List Instance) (i : Instance) → IsEachOnce is → (Among i is → ⊥) → IsEachOnce (is ++ i ∷ [])
+once_behind [] i o new = (λ m. m, tt)
+once_behind (j ∷ js) i o new = (λ m. go (among_parts j js (i ∷ []) m), once_behind js i o.1 (λ m. new (inr m)))
+  where
+    go : Among j js ⊎ Among j (i ∷ []) → ⊥
+    go (inl m) = o.0 m
+    go (inr (inl e)) = new (inl (sym e))
+    go (inr (inr m)) = m
+
+added_once : (i : Instance) (is : List Instance) → IsEachOnce is → IsEachOnce (added is i)
+added_once i is o = go (is_listed i is) refl
+  where
+    go : (b : Bool) → is_listed i is ≡ b → IsEachOnce (if b then is else is ++ i ∷ [])
+    go true e = o
+    go false e = once_behind is i o (among_is_listed i is e)
+
+calls_once : (is : List Instance) (cs : List Call) → IsEachOnce is → IsEachOnce (with_calls is cs)
+calls_once is [] o = o
+calls_once is (c ∷ cs) o = calls_once (with_binding is c.function c.binding) cs (go c.binding)
+  where
+    go : (b : Option (List Protection)) → IsEachOnce (with_binding is c.function b)
+    go None = o
+    go (Some ds) = added_once (record { function = c.function; binding = ds }) is o
+
+with_plain_once : (is : List Instance) (n : ℕ) (fs : List FunctionTree) → IsEachOnce is → IsEachOnce (with_plain is n fs)
+with_plain_once is n [] o = o
+with_plain_once is n (f ∷ fs) o = with_plain_once (if is_without f.variables then added is i else is) (n + 1) fs (go (is_without f.variables))
+  where
+    i : Instance
+    i = record { function = n; binding = [] }
+
+    go : (b : Bool) → IsEachOnce (if b then added is i else is)
+    go true = added_once i is o
+    go false = o
+
+pub plain_once : (d : Declared) → IsEachOnce (plain_instances d)
+plain_once d = with_plain_once [] 0 d.functions tt
+
 -- a list grows at its end
 abbrev pub Grows : List Instance → List Instance → Type 0
 Grows is js = (rest : List Instance) × (js ≡ is ++ rest)
@@ -154,12 +202,13 @@ call_came is (c ∷ cs) j m = go (call_came (with_binding is c.function c.bindin
 
 -- THE LOOP
 
-pub begun : (d : Declared) (start : List Instance) → AreVisited d start [] start
-begun d start = record { starts = λ i m. m; reached = λ i m. begins i m; followed = λ c ds m e. absurd m }
+pub begun : (d : Declared) (start : List Instance) → IsEachOnce start → AreVisited d start [] start
+begun d start once = record { starts = λ i m. m; reached = λ i m. begins i m; once = once; followed = λ c ds m e. absurd m }
 
 pub one_visited : (d : Declared) (start done is : List Instance) (i : Instance) → AreVisited d start done is → Among i is
     → AreVisited d start (done ++ i ∷ []) (with_calls is (instance_calls d i))
-one_visited d start done is i old there = record { starts = starts; reached = each; followed = followed }
+one_visited d start done is i old there =
+    record { starts = starts; reached = each; once = calls_once is (instance_calls d i) old.once; followed = followed }
   where
     starts : (j : Instance) → Among j start → Among j (with_calls is (instance_calls d i))
     starts j m = still_there j is (with_calls is (instance_calls d i)) (grows_by_calls is (instance_calls d i)) (old.starts j m)

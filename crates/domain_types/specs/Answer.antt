@@ -9,13 +9,14 @@ use Rattle.sc_text.specs.Lists.{Among}
 use Rattle.domain_types.specs.declared.instance.Instance.{Instance}
 use Rattle.domain_types.specs.Reached as reached
 use Rattle.domain_types.specs.Reached.{IsChecked}
-use Rattle.domain_types.specs.Instances.{instance_seen}
+use Rattle.domain_types.specs.Instances.{instance_seen, IsEachOnce}
 use Rattle.domain_types.specs.ProgramTypes.{IsRefused}
 use Rattle.domain_types.specs.Typing.{IsTypedProgram}
 
--- the instances that are checked, and no others
-abbrev pub AreTheChecked : ProgramTree → List reached.Instance → Type 0
-AreTheChecked p is = (i : reached.Instance) → IsChecked p i ↔ Among i is
+-- the instances that are checked, each once, and no others
+pub record AreTheChecked (p : ProgramTree) (is : List reached.Instance) : Type 0 where
+  pub listed : (i : reached.Instance) → IsChecked p i ↔ Among i is
+  pub once : IsEachOnce is
 
 -- the fault that is told, if there is one
 abbrev pub IsTold : Option TypeFault → ProgramTree → Type 0

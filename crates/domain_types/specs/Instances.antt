@@ -1,9 +1,10 @@
 -- Instances as the checker keeps them, and when two are the same.
-use Rattle.std.specs.Prelude.{◌≡◌, Bool, true, false, nat_eq, ◌&&◌, List, map, vec_items}
+use Rattle.std.specs.Prelude.{◌≡◌, Bool, true, false, nat_eq, ◌&&◌, List, [], ◌∷◌, map, vec_items}
 use Rattle.std.specs.List.{list_any}
 use Rattle.std.specs.BTreeSet.{BTreeSet, contains}
 use Rattle.std.specs.Cmp.Lexicographic.{pointwise}
 use Rattle.std.specs.declared.cmp.Ordering.{Ordering}
+use Rattle.sc_text.specs.Lists.{Among}
 use Rattle.domain_types.specs.declared.value_type.Protection.{Protection}
 use Rattle.domain_types.specs.declared.value_type.Protection.TheVariants.{Public, Private}
 use Rattle.domain_types.specs.declared.instance.Instance.{Instance}
@@ -23,6 +24,11 @@ same_instance i j = nat_eq i.function j.function && pointwise same_protection i.
 
 abbrev pub is_listed : reached.Instance → List reached.Instance → Bool
 is_listed i is = list_any (same_instance i) is
+
+-- no instance stands again behind itself
+abbrev pub IsEachOnce : List reached.Instance → Type 0
+IsEachOnce [] = Unit {0}
+IsEachOnce (i ∷ is) = (Among i is → ⊥) × IsEachOnce is
 
 -- the set has just the instances of the list
 pub record IsSeen (cmp : Instance → Instance → Ordering) (instances : List Instance) (seen : BTreeSet Instance) : Type 0 where

@@ -18,7 +18,7 @@ use crate::visiting::{called_heads, visit_all};
 use secrec_ast::Program;
 use std::alloc::{AllocError, Global};
 
-// The instances that are checked, and the fault that is told, if there is one.
+// The instances that are checked, each once, and the fault that is told, if there is one.
 fn survey(
     alloc: Global,
     program: &Program,
@@ -42,8 +42,8 @@ fn survey(
     Ok((visits.list.into_instances(), least_fault))
 }
 
-/// Checks a program against the type rules: the instances of its functions that are checked, or the fault at the least place,
-/// and there of the least number.
+/// Checks a program against the type rules: the instances of its functions that are checked, each once, or the fault at the least
+/// place, and there of the least number.
 pub fn check(alloc: Global, program: &Program) -> Result<Vec<Instance>, TypeErr>
     ensures { IsVerdict result (program_tree program.now) }
 {

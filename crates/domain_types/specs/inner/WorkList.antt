@@ -12,7 +12,7 @@ use Rattle.domain_types.specs.FunctionTypes.{function_faults, domain_variables_f
 use Rattle.sc_text.specs.Lists.{Among}
 use Rattle.domain_types.specs.Reached.{Call, function_calls, Instance}
 use Rattle.domain_types.specs.ProgramTypes.{is_without}
-use Rattle.domain_types.specs.Instances.{is_listed}
+use Rattle.domain_types.specs.Instances.{is_listed, IsEachOnce}
 
 -- WHAT IS LISTED
 
@@ -74,9 +74,10 @@ pub data IsReached (d : Declared) (start : List Instance) : Instance → Type 0 
   follows : (i : Instance) (k : ℕ) (ds : List Protection) → IsReached d start i
       → Among (record { function = k; binding = Some ds }) (instance_calls d i) → IsReached d start (record { function = k; binding = ds })
 
--- a list that began with `start`, of which `done` are visited: each call there is followed
+-- a list that began with `start`, with each instance once, of which `done` are visited: each call there is followed
 pub record AreVisited (d : Declared) (start done is : List Instance) : Type 0 where
   pub starts : (i : Instance) → Among i start → Among i is
   pub reached : (i : Instance) → Among i is → IsReached d start i
+  pub once : IsEachOnce is
   pub followed : (c : Call) (ds : List Protection) → Among c (gathered (instance_calls d) done) → c.binding ≡ Some ds
       → Among (record { function = c.function; binding = ds }) is

@@ -6,7 +6,7 @@ use Rattle.std.specs.Ordering.{nat_cmp}
 use Rattle.domain_types.specs.Views.{declared, tree_at, calls_seen}
 use Rattle.domain_types.specs.Instances.{instance_seen}
 use Rattle.domain_types.specs.inner.WorkList.{with_calls, with_plain, plain_instances, instance_calls, is_called, AreVisited}
-use Rattle.domain_types.proofs.WorkList.{begun, next_visited, next_least, next_called}
+use Rattle.domain_types.proofs.WorkList.{begun, plain_once, next_visited, next_least, next_called}
 use Rattle.domain_types.proofs.visiting.visit_all.Goals as goal
 
 pub loop-next-init : goal.loop-next-init
@@ -15,7 +15,7 @@ loop-next-init c =
     let same : c.in_ok-list.list ≡ plain_instances d = c.in_ok-list.ensures ∙ ap (λ fs. with_plain [] 0 (map tree_at fs)) c.deref.ensures.value in
     record {
       least_fault = refl;
-      visited = subst (AreVisited d (plain_instances d) []) (sym same) (begun d (plain_instances d));
+      visited = subst (AreVisited d (plain_instances d) []) (sym same) (begun d (plain_instances d) (plain_once d));
       called = λ k. let e = c.new-called.ensures.empty in grind arith;
     }
 
