@@ -27,6 +27,7 @@ use Rattle.own_code.proofs.Holding.{same_words}
 use Rattle.own_code.proofs.LettingGo.{code_needs}
 use Rattle.own_code.proofs.OtherGates.{runs_alike}
 use Rattle.miner_core.specs.declared.engine.At.TheVariants as at
+use Rattle.miner_core.specs.declared.letting_go.Letting.{Letting}
 use Rattle.miner_core.specs.declared.engine.Engine.{Engine}
 use Rattle.miner_core.specs.declared.notice.Notice as said
 use Rattle.miner_core.specs.declared.answer.End.{End}
@@ -136,11 +137,11 @@ gates_first s =
     then-all s (λ e. Ends (end_without_gates (forget e))) (λ e. Ends (forget (end_without_gates e))) in_both_orders
     ∙ sym (then-assoc s (λ e. Ends (end_without_gates e)) (λ e. Ends (forget e)))
 
-module _ {P : Type 0} (i : Number) (e : Engine P) (n : gates.Engine P) (s : reached.Stage) (when : ℕ) (ready : e.at ≡ at.Ready)
+module _ {P : Type 0} (i : Number) (e : Engine P) (n : gates.Engine P) (s : reached.Stage) (when : Letting) (ready : e.at ≡ at.Ready)
     (through : IsThrough i e.node) (through2 : IsThrough i n) (same : node.IsSameButValues e.node n)
     (stage : stage_seen s ≡ with_gates [] (stage_seen e.stage)) (held : IsHeld (place_at i e) e.node.values n.values) where
   abbrev behind : Engine P
-  behind = record e { node = n; stage = s; let_go_at = when }
+  behind = record e { node = n; stage = s; letting = when }
 
   abbrev code : Values → Place → Values → List ℕ → Strand Ended
   code d p values tape = own_code (task_world e.task) (task_code e.task) i d e.fuel p values tape

@@ -8,6 +8,7 @@ ghost use Rattle.miner_core.specs.Story.{Story, Follows, Leads, story_of, receiv
 
 use crate::answer::{End, MinerErr, Step};
 use crate::engine::{At, Engine};
+use crate::letting_go::Letting;
 use crate::task::Task;
 use code_machine::{beginning, most_steps, start};
 use gate_node::{GateNode, Stand};
@@ -39,7 +40,7 @@ impl<P: Party> Engine<P> {
             at: At::Ready,
             node: GateNode::new(alloc, dealt, tape),
             notices: Vec::new(alloc),
-            let_go_at: 0,
+            letting: Letting { done: 0, next: 0 },
         })
     }
 

@@ -5,6 +5,7 @@ ghost use Rattle.miner_core.specs.declared.engine.At.TheVariants.{Ready, Again};
 ghost use Rattle.miner_core.specs.Engines.{engine_left, engine_outcome, engine_told, shown, IsSound, IsThrough, IsOver, Rests, Keeps, KeepsLinks, GoesOn};
 ghost use Rattle.miner_core.specs.Engines.{acting, led_to, measure};
 
+use crate::letting_go::Letting;
 use crate::notice::{Notice, tell};
 use crate::stepping::{gates_from, step_told};
 use crate::task::Task;
@@ -59,7 +60,7 @@ fn wants_words(turned: Turned) -> bool
 }
 
 /// A miner that runs code: what it runs, the machine and its stage, for how many steps fuel lasts, what it is at, its gates and links,
-/// what it has told, and from how many values on it lets go those that aren't needed.
+/// what it has told, and when it lets go values that aren't needed.
 #[derive(Drop)]
 pub(crate) struct Engine<P: Party> {
     pub alloc: Global,
@@ -70,7 +71,7 @@ pub(crate) struct Engine<P: Party> {
     pub at: At,
     pub node: GateNode<P>,
     pub notices: Vec<Notice>,
-    pub let_go_at: usize,
+    pub letting: Letting,
 }
 
 impl<P: Party> Engine<P> {

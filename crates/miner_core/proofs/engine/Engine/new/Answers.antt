@@ -16,7 +16,7 @@ returns-clause-leads g c =
       at = Ready;
       node = c.new.result;
       notices = c.new-2.result;
-      let_go_at = 0;
+      letting = record { done = 0; next = 0 };
     })
     c.args.dealt c.args.tape.items c.args.budget refl c.fuel-fuel.ensures c.in_ok-machine.ensures.begins c.beginning.ensures n.dealt n.left
     n.from_previous n.from_next n.to_next n.to_previous n.opened c.new-2.ensures.items c.in_ok-machine.ensures.stands
