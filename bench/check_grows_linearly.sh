@@ -44,7 +44,8 @@ shapes = {
 
 def run(path):
     out, into = os.pipe()
-    child = os.posix_spawn(program, [program, "check", path], {}, file_actions=[(os.POSIX_SPAWN_DUP2, into, 1), (os.POSIX_SPAWN_DUP2, into, 2), (os.POSIX_SPAWN_CLOSE, out)])
+    actions = [(os.POSIX_SPAWN_DUP2, into, 1), (os.POSIX_SPAWN_DUP2, into, 2), (os.POSIX_SPAWN_CLOSE, out)]
+    child = os.posix_spawn(program, [program, "check", path], {}, file_actions=actions)
     os.close(into)
     text = os.read(out, 4096)
     _, status, used = os.wait4(child, 0)

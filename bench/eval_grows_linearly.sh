@@ -11,9 +11,12 @@ program, work = sys.argv[1:]
 
 HEAD = "import stdlib; import shared3p; domain p shared3p;\n"
 shapes = {
-    "loop": ("public", HEAD + "void main() { uint64[[1]] a = argument(\"a\"); uint64 s = 0; uint64 i = 0; for (i = 0; i < size(a); i++) { s = s + a[i]; a[i] = s; } publish(\"s\", s); }\n"),
-    "operators": ("private", HEAD + "void main() { p uint64[[1]] a = argument(\"a\"); publish(\"s\", declassify(sum(a * a + a))); publish(\"l\", declassify(sum((uint64)(a < a)))); }\n"),
-    "calls": ("private", HEAD + "p uint64[[1]] f(p uint64[[1]] a, uint64 n) { if (n == 0) return a; return f(a + 1, n - 1); }\nvoid main() { p uint64[[1]] a = argument(\"a\"); publish(\"s\", declassify(sum(f(a, 20)))); }\n"),
+    "loop": ("public", HEAD + "void main() { uint64[[1]] a = argument(\"a\"); uint64 s = 0; uint64 i = 0; "
+        "for (i = 0; i < size(a); i++) { s = s + a[i]; a[i] = s; } publish(\"s\", s); }\n"),
+    "operators": ("private", HEAD + "void main() { p uint64[[1]] a = argument(\"a\"); publish(\"s\", declassify(sum(a * a + a))); "
+        "publish(\"l\", declassify(sum((uint64)(a < a)))); }\n"),
+    "calls": ("private", HEAD + "p uint64[[1]] f(p uint64[[1]] a, uint64 n) { if (n == 0) return a; return f(a + 1, n - 1); }\n"
+        "void main() { p uint64[[1]] a = argument(\"a\"); publish(\"s\", declassify(sum(f(a, 20)))); }\n"),
 }
 
 def written(name, text):
