@@ -48,6 +48,7 @@ pub still_sound_statement : (at : StatementContext) (vs us : List Value) (s : Ty
     → IsSoundStatement at us s
 still_sound_statement at vs us s same h = subst (λ n. IsSoundStatementTree n (parameters_around at) (typed_statement s)) (sym same) h
 
-pub sound_statements : (at : StatementContext) (vs : List Value) (s : TypedStatement) (c : TypedStatementTree) → typed_statement s ≡ c → IsSoundStatement at vs s
+pub sound_statements : (at : StatementContext) (vs : List Value) (s : TypedStatement) (c : TypedStatementTree) → typed_statement s ≡ c
+    → IsSoundStatement at vs s
     → IsSoundStatementTree (length vs) (parameters_around at) c
 sound_statements at vs s c is h = subst (IsSoundStatementTree (length vs) (parameters_around at)) is h

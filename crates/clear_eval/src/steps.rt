@@ -212,7 +212,8 @@ pub fn with_two(
 ) -> Result<Flow, Halt>
     requires { IsSoundStatement around.now.at frame.old.items s.now }
     ensures step { Does (flow_seen frame.new.items)
-        (after_two (world_seen around.now.world.now) (place_seen around.now.at) (typed_statement s.now) (value_seen x) (value_seen y) (frame_seen frame.old.items))
+        (after_two (world_seen around.now.world.now) (place_seen around.now.at) (typed_statement s.now) (value_seen x) (value_seen y)
+        (frame_seen frame.old.items))
         (stage_seen stage.old) result (stage_seen stage.new) }
     ensures slots { length frame.new.items ≡ length frame.old.items }
     ensures spends { stage.new.left ≤ stage.old.left }

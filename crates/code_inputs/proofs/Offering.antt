@@ -2,7 +2,6 @@
 use Rattle.std.proofs.Common.{◌≡◌, ℕ, suc, ◌+◌, ◌<◌, ◌≤◌, ◌^◌, List, [], ◌∷◌, ◌++◌, length, map, All, Bool, true, false}
 use Rattle.std.proofs.Common.{refl, sym, ap, ◌∙◌, subst, arith, inl, inr}
 use Rattle.std.specs.Prelude.{if◌then◌else◌, get_or}
-use Rattle.protocol_model.specs.Gates.{sizes_of}
 use Rattle.gates.specs.Clear.{Values, value}
 use Rattle.shared_gates.specs.Shares.{Kind, Shared, kind_at}
 use Rattle.typed_tree.specs.declared.kinds.Shape.{Shape}
@@ -18,10 +17,9 @@ use Rattle.value_file.specs.Input.{AreEntries, name_of, elements_of as count_in}
 use Rattle.value_file.specs.Values.{type_of, count_of}
 use Rattle.input_share.specs.Values.{bit_word, elements_of}
 use Rattle.input_share.proofs.Elements.{length-elements_of}
-use Rattle.view_model.specs.Dealing.{private_sizes, size_then}
 use Rattle.view_model.specs.Held.{ring_kind, kind_then, private_kinds, value_then, private_values}
 use Rattle.view_model.proofs.DealtSizes.{sizes_dealt}
-use Rattle.view_model.proofs.Holding.{dealt_held}
+use Rattle.view_model.proofs.Holding.{dealt_held, sizes_values}
 use Rattle.language_model.specs.Effects.{GivenInput}
 use Rattle.language_model.specs.Evaluation.{behind}
 use Rattle.language_model.specs.Values.{ring_for}
@@ -33,16 +31,6 @@ use Rattle.code_inputs.specs.Inputs.{element_given, is_array, is_private, AreGiv
 use Rattle.code_inputs.specs.Laws.{AreDealtWhereSound, AreOfferedWhereSound}
 
 -- ---- WHAT IS DEALT
-
-sizes_values : (es : List Entry) → sizes_of (private_values es) ≡ private_sizes es
-sizes_values [] = refl
-sizes_values (e ∷ es) = by_domain e.domain (sizes_values es)
-  where
-    by_domain : (d : Domain) → sizes_of (private_values es) ≡ private_sizes es
-        → sizes_of (value_then d e.value (private_values es)) ≡ size_then d (count_of e.value) (private_sizes es)
-    by_domain domain.Public rest = rest
-    by_domain domain.Private rest =
-        ap (λ n. n ∷ sizes_of (private_values es)) (length-elements_of e.value) ∙ ap (λ ns. count_of e.value ∷ ns) rest
 
 pub are_dealt : (entries : List Entry) (dealer : List ℕ) → AreDealtWhereSound entries dealer
 are_dealt entries dealer sound suffice =

@@ -1,12 +1,11 @@
 -- Three miners, of whom one receives a message.
 use Rattle.std.proofs.Common.{◌≡◌, ◌≤◌, ℕ, Bool, true, false, if◌then◌else◌, List, [], ◌∷◌, ◌++◌, length, refl, sym, ◌∙◌, ap, subst, arith}
-use Rattle.std.specs.Prelude.{Option, Some, None}
 use Rattle.proto_core.specs.declared.party.Number.{Number}
 use Rattle.proto_core.specs.declared.party.Number.TheVariants.{One, Two, Three}
 use Rattle.proto_core.specs.declared.link.Link.{Link}
 use Rattle.proto_core.specs.Parties.{receiver_of, sender_of, is_same, of_three}
 use Rattle.proto_core.proofs.Numbers.{same_is}
-use Rattle.protocol_model.specs.Network.{Accepted, Counts, Stalled, at_the_end, into_counts, none_delivered, one_more, or_stalled, posted_count, stands_at}
+use Rattle.protocol_model.specs.Network.{Counts, into_counts, none_delivered, one_more, posted_count, stands_at}
 use Rattle.counted_net.specs.declared.moves.Move.{Move}
 use Rattle.counted_net.specs.declared.moves.Scripts.{Scripts}
 use Rattle.counted_net.specs.declared.cursor.Cursor.{Cursor}
@@ -127,26 +126,3 @@ net_more s links more l before later given counts as_more one_given receives is 
           ∙ ap (λ (c : Counts). one_more l c k) (λ d. λ j. is.counted j d)
           ∙ ap (λ (c : Counts). c k) (sym got);
     }
-
--- ---- behind the last delivery
-
-module _ (waits : Number → Option Link) where
-  pub first_waits : (l : Link) → waits One ≡ Some l → at_the_end waits ≡ Stalled One l
-  first_waits l a = ap (λ o. or_stalled One o (or_stalled Two (waits Two) (or_stalled Three (waits Three) Accepted))) a
-
-  pub second_waits : (l : Link) → waits One ≡ None → waits Two ≡ Some l → at_the_end waits ≡ Stalled Two l
-  second_waits l a b =
-      ap (λ o. or_stalled One o (or_stalled Two (waits Two) (or_stalled Three (waits Three) Accepted))) a
-      ∙ ap (λ o. or_stalled Two o (or_stalled Three (waits Three) Accepted)) b
-
-  pub third_waits : (l : Link) → waits One ≡ None → waits Two ≡ None → waits Three ≡ Some l → at_the_end waits ≡ Stalled Three l
-  third_waits l a b c =
-      ap (λ o. or_stalled One o (or_stalled Two (waits Two) (or_stalled Three (waits Three) Accepted))) a
-      ∙ ap (λ o. or_stalled Two o (or_stalled Three (waits Three) Accepted)) b
-      ∙ ap (λ o. or_stalled Three o Accepted) c
-
-  pub none_waits : waits One ≡ None → waits Two ≡ None → waits Three ≡ None → at_the_end waits ≡ Accepted
-  none_waits a b c =
-      ap (λ o. or_stalled One o (or_stalled Two (waits Two) (or_stalled Three (waits Three) Accepted))) a
-      ∙ ap (λ o. or_stalled Two o (or_stalled Three (waits Three) Accepted)) b
-      ∙ ap (λ o. or_stalled Three o Accepted) c

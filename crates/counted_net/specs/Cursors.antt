@@ -1,22 +1,12 @@
 -- Where a miner stands in its script, by how many messages have come.
 use Rattle.std.specs.Prelude.{◌≡◌, ◌+◌, ◌<◌, ◌≤◌, ℕ, Bool, true, false, List, length, drop, slice_index, Some}
 use Rattle.proto_core.specs.declared.link.Link.{Link}
-use Rattle.proto_core.specs.declared.link.Link.TheVariants.{Link12, Link13, Link21, Link23, Link31, Link32}
-use Rattle.protocol_model.specs.Network.{Counts, one_less, one_more, sent_by, stands_at}
+use Rattle.protocol_model.specs.Network.{Counts, one_less, one_more, place_of, sent_by, stands_at}
 use Rattle.counted_net.specs.declared.moves.Move.{Move}
 use Rattle.counted_net.specs.declared.moves.Move.TheVariants.{Sends, Takes}
 use Rattle.counted_net.specs.declared.tally.Tally.{Tally}
 use Rattle.counted_net.specs.declared.cursor.Cursor.{Cursor}
 use Rattle.counted_net.specs.Scripts.{plain}
-
--- where the count of a link stands
-abbrev pub place_of : Link → ℕ
-place_of Link12 = 0
-place_of Link13 = 1
-place_of Link21 = 2
-place_of Link23 = 3
-place_of Link31 = 4
-place_of Link32 = 5
 
 abbrev pub tally_on : Tally → Link → ℕ
 tally_on t l = slice_index t.counts (place_of l)

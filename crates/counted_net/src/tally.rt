@@ -1,8 +1,8 @@
 // Numbers of messages, link by link.
 ghost use Rattle.std.specs.Prelude.{◌≡◌, ◌<◌, ◌-◌, ◌^◌};
 ghost use Rattle.proto_core.specs.declared.link.Link.{Link};
-ghost use Rattle.protocol_model.specs.Network.{one_less, one_more};
-ghost use Rattle.counted_net.specs.Cursors.{place_of, tally_on};
+ghost use Rattle.protocol_model.specs.Network.{one_less, one_more, place_of};
+ghost use Rattle.counted_net.specs.Cursors.{tally_on};
 
 use proto_core::Link;
 

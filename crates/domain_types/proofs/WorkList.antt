@@ -15,7 +15,8 @@ use Rattle.sc_text.specs.Lists.{Among}
 use Rattle.domain_types.specs.inner.LeastFault.{least}
 use Rattle.domain_types.specs.Reached.{Call, Instance}
 use Rattle.domain_types.specs.Instances.{same_instance, is_listed, IsEachOnce}
-use Rattle.domain_types.specs.inner.WorkList.{added, with_binding, with_calls, with_plain, plain_instances, instance_faults, instance_calls, gathered, is_called}
+use Rattle.domain_types.specs.inner.WorkList.{added, with_binding, with_calls, with_plain, plain_instances}
+use Rattle.domain_types.specs.inner.WorkList.{instance_faults, instance_calls, gathered, is_called}
 use Rattle.domain_types.specs.inner.WorkList.{IsReached, begins, follows, AreVisited}
 use Rattle.sc_text.proofs.Lists.{among_left, among_right, among_parts}
 use Rattle.domain_types.proofs.Visits.{then_least}

@@ -32,7 +32,8 @@ module _
           ∙ ap (λ l. own_gates i e.dealt l f.values e.tape.1) (drop_all e.begun e.gates.items done.1))
 
 module _
-    {P : Type 0} (numbers : BTreeSet ℕ) (e : Engine P) (after : Values) (go : e.work ≡ work.Idle → length e.gates.items ≤ e.begun → after ≡ kept_only numbers e.values)
+    {P : Type 0} (numbers : BTreeSet ℕ) (e : Engine P) (after : Values)
+    (go : e.work ≡ work.Idle → length e.gates.items ≤ e.begun → after ≡ kept_only numbers e.values)
     (then : (after ≡ e.values) ⊎ IsDone e) where
   pub as_many_still : length after ≡ length e.values
   as_many_still = by then

@@ -3,13 +3,11 @@ use Rattle.std.proofs.Common.{◌≡◌, ℕ, ◌+◌, ◌-◌, ◌<◌, true, f
 use Rattle.std.proofs.Common.{length-append, refl, sym, ◌∙◌, ap, arith}
 use Rattle.std.proofs.lemmas.Grind.{common_steps}
 use Rattle.std.proofs.lemmas.List.{append_assoc, take_more, drop_more}
-use Rattle.std.specs.Prelude.{Option, Some, None, Result, Ok, Err}
-use Rattle.proto_core.specs.declared.party.Number.{Number}
-use Rattle.proto_core.specs.declared.party.Number.TheVariants.{One, Two, Three}
+use Rattle.std.specs.Prelude.{Result, Ok, Err}
 use Rattle.proto_core.specs.declared.link.Link.{Link}
 use Rattle.proto_core.specs.Net.{delivered}
 use Rattle.proto_core.proofs.Beginnings.{append-none}
-use Rattle.protocol_model.specs.Network.{Accepted, EmptyLink, Stalled, or_stalled, at_the_end, walked}
+use Rattle.protocol_model.specs.Network.{EmptyLink, Stalled, walked}
 use Rattle.link_schedule.specs.declared.errors.RunErr.{RunErr}
 use Rattle.link_schedule.specs.declared.errors.RunErr.TheVariants as running
 use Rattle.link_schedule.specs.Net.{NetState, nodes_in, net_mail, net_posted, is_under_way, after}
@@ -98,26 +96,3 @@ module _ (old now : NetState) (schedule : List Link) (k : ℕ) (h : AtEntry old 
       by_answer (Err (running.Stalled miner link)) g = (walks_is ∙ g, h.here ∙ ap (after old) all_taken)
       by_answer (Err (running.EmptyLink entry link sent)) g = absurd g
       by_answer (Err running.Memory) g = absurd g
-
--- ---- behind the last entry
-
-module _ (waits : Number → Option Link) where
-  pub first_waits : (l : Link) → waits One ≡ Some l → at_the_end waits ≡ Stalled One l
-  first_waits l a = ap (λ o. or_stalled One o (or_stalled Two (waits Two) (or_stalled Three (waits Three) Accepted))) a
-
-  pub second_waits : (l : Link) → waits One ≡ None → waits Two ≡ Some l → at_the_end waits ≡ Stalled Two l
-  second_waits l a b =
-      ap (λ o. or_stalled One o (or_stalled Two (waits Two) (or_stalled Three (waits Three) Accepted))) a
-      ∙ ap (λ o. or_stalled Two o (or_stalled Three (waits Three) Accepted)) b
-
-  pub third_waits : (l : Link) → waits One ≡ None → waits Two ≡ None → waits Three ≡ Some l → at_the_end waits ≡ Stalled Three l
-  third_waits l a b c =
-      ap (λ o. or_stalled One o (or_stalled Two (waits Two) (or_stalled Three (waits Three) Accepted))) a
-      ∙ ap (λ o. or_stalled Two o (or_stalled Three (waits Three) Accepted)) b
-      ∙ ap (λ o. or_stalled Three o Accepted) c
-
-  pub none_waits : waits One ≡ None → waits Two ≡ None → waits Three ≡ None → at_the_end waits ≡ Accepted
-  none_waits a b c =
-      ap (λ o. or_stalled One o (or_stalled Two (waits Two) (or_stalled Three (waits Three) Accepted))) a
-      ∙ ap (λ o. or_stalled Two o (or_stalled Three (waits Three) Accepted)) b
-      ∙ ap (λ o. or_stalled Three o Accepted) c

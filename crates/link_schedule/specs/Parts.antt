@@ -2,11 +2,11 @@
 use Rattle.std.specs.Prelude.{◌≡◌, ◌≢◌, ◌⊎◌, ℕ, Bool, true, false, List, [], length, slice_index}
 use Rattle.proto_core.specs.declared.party.Number.{Number}
 use Rattle.proto_core.specs.declared.link.Link.{Link}
-use Rattle.proto_core.specs.declared.link.Link.TheVariants.{Link12, Link13, Link21, Link23, Link31, Link32}
 use Rattle.proto_core.specs.Parties.{sender_of, receiver_of, is_same}
 use Rattle.proto_core.specs.Strand.{Mail, on_link}
 use Rattle.proto_core.specs.Net.{into, added, nothing}
 use Rattle.proto_core.specs.Standing.{AtItsEnd, standing_of}
+use Rattle.protocol_model.specs.Network.{place_of}
 use Rattle.miner_core.specs.Story.{Story, received, mail_in, node, stands_at}
 use Rattle.link_schedule.specs.declared.given.Given.{Given}
 use Rattle.link_schedule.specs.declared.miners.Miners.{Miners}
@@ -84,15 +84,6 @@ pub record IsPart (net : NetState) (i : Number) (s : Story) : Type 0 where
   pub none_late : stands_at i s ≢ AtItsEnd → late ≡ nothing
 
 -- ---- counts
-
--- where the count of a link stands
-abbrev pub place_of : Link → ℕ
-place_of Link12 = 0
-place_of Link13 = 1
-place_of Link21 = 2
-place_of Link23 = 3
-place_of Link31 = 4
-place_of Link32 = 5
 
 abbrev pub given_on : Given → Link → ℕ
 given_on g l = slice_index g.counts (place_of l)

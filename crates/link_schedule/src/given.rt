@@ -1,8 +1,8 @@
 // How many messages of each link were delivered.
 ghost use Rattle.std.specs.Prelude.{◌≡◌, ◌<◌, ◌-◌, ◌^◌};
 ghost use Rattle.proto_core.specs.declared.link.Link.{Link};
-ghost use Rattle.protocol_model.specs.Network.{one_more};
-ghost use Rattle.link_schedule.specs.Parts.{given_on, place_of};
+ghost use Rattle.protocol_model.specs.Network.{one_more, place_of};
+ghost use Rattle.link_schedule.specs.Parts.{given_on};
 
 use proto_core::Link;
 

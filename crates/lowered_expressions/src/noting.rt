@@ -1,10 +1,8 @@
 // The notes of expressions: one walk over a tree. The functions call one another, so they stand together.
 ghost use Rattle.std.specs.Prelude.{◌≡◌, ◌++◌, IfOk, OnOk, false, map};
-ghost use Rattle.std.specs.List.{slice_get};
 ghost use Rattle.typed_tree.specs.Tree.{typed_tree, typed_trees_of};
-ghost use Rattle.typed_tree.specs.Programs.{typed_function_tree};
 ghost use Rattle.reached_instances.specs.declared.instance.BoundDomain.TheVariants.{Public};
-ghost use Rattle.reached_instances.specs.Domains.{call_domain, domains, joined_domain};
+ghost use Rattle.reached_instances.specs.Domains.{domains, joined_domain};
 ghost use Rattle.reached_instances.specs.Views.{setting};
 ghost use Rattle.typed_tree.specs.Shapes.{shape_of};
 ghost use Rattle.lowered_expressions.specs.inner.Notes.{arguments_notes, given_in, given_of, notes_of, one_given, operands_notes};
@@ -13,10 +11,10 @@ use crate::closing::One;
 use crate::kinds::{called_shape, slot_shape};
 use crate::notes::{Given, Note, nothing_noted};
 use crate::words::{cast_shape, result_shape, scalar};
-use reached_instances::{BoundDomain, Setting, binding_of, given_domain, slot_domain};
+use reached_instances::{BoundDomain, Setting, call_domain, joined_domain, slot_domain};
 use secrec_ast::DataType;
 use std::alloc::{AllocError, Global};
-use typed_tree::{Shape, TypedExpression, TypedFunction};
+use typed_tree::{Shape, TypedExpression};
 
 fn given_of(domain: BoundDomain, shape: Shape) -> Given
     ensures { result ≡ given_of domain shape }
@@ -63,27 +61,7 @@ fn element_given(array: Given) -> Given
 fn joined(left: Given, right: Given, shape: Shape) -> Given
     ensures { result ≡ given_of (joined_domain left.domain right.domain) shape }
 {
-    match left.domain {
-        BoundDomain::Public => given_of(right.domain, shape),
-        BoundDomain::Private(_) => given_of(left.domain, shape),
-    }
-}
-
-// Who may see what a call gives, by its arguments' domains.
-fn call_domain(
-    alloc: Global,
-    functions: &[TypedFunction],
-    function: usize,
-    arguments: &[BoundDomain],
-) -> Result<BoundDomain, AllocError>
-    ensures { IfOk result (λ d. d ≡
-        call_domain (slice_get (map typed_function_tree functions.now) function) arguments.now) }
-{
-    let Some(callee) = functions.get(function) else {
-        return Ok(BoundDomain::Public);
-    };
-    let binding = binding_of(alloc, callee, arguments)?;
-    Ok(given_domain(&binding, callee.given))
+    given_of(joined_domain(left.domain, right.domain), shape)
 }
 
 // Notes an expression and what is in it; what it gives.

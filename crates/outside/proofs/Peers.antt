@@ -41,9 +41,11 @@ of_rest a b c p from to ne ne' =
 pub ruleset peers = (of_first, of_second, of_third, of_rest, not_first, not_second, not_third)
 
 -- the bytes that were copied to the front of a slice, and those that are then still to come
-pub came_split : (bytes now : List ℕ) (taken n : ℕ) (front rest : List ℕ) → now ≡ bytes → length front ≡ n → front ≡ take n (take (length now - taken) (drop taken now)) → drop taken bytes ≡ take n (front ++ rest) ++ drop (taken + n) bytes
+pub came_split : (bytes now : List ℕ) (taken n : ℕ) (front rest : List ℕ) → now ≡ bytes → length front ≡ n
+    → front ≡ take n (take (length now - taken) (drop taken now)) → drop taken bytes ≡ take n (front ++ rest) ++ drop (taken + n) bytes
 came_split bytes now taken n front rest same len is =
-    let all : take (length now - taken) (drop taken now) ≡ drop taken now = ap (λ (m : ℕ). take m (drop taken now)) (sym (length-drop taken now)) ∙ take-length (drop taken now) in
+    let all : take (length now - taken) (drop taken now) ≡ drop taken now =
+    ap (λ (m : ℕ). take m (drop taken now)) (sym (length-drop taken now)) ∙ take-length (drop taken now) in
     let seam : take n (front ++ rest) ≡ front = rw (← len) (take-append_seam front rest) in
     let whole : take n (drop taken now) ++ drop n (drop taken now) ≡ drop taken now = take-append-drop n (drop taken now) in
     let later : drop n (drop taken now) ≡ drop (taken + n) now = drop-drop n taken now in

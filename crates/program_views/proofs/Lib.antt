@@ -6,4 +6,5 @@ pub mod Simulated
 pub mod Corresponding
 pub mod Nets
 pub mod Twins
+pub mod Shares
 mod Samples

@@ -10,3 +10,4 @@ pub mod Coming
 pub mod Completing
 pub mod GateSchedules
 pub mod Slots
+pub mod Waiting

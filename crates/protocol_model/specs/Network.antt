@@ -83,6 +83,15 @@ counted scripts entry got (l ∷ ls) =
 abbrev pub all_links : List Link
 all_links = Link12 ∷ Link13 ∷ Link21 ∷ Link23 ∷ Link31 ∷ Link32 ∷ []
 
+-- where the count of a link stands in a list of six
+abbrev pub place_of : Link → ℕ
+place_of Link12 = 0
+place_of Link13 = 1
+place_of Link21 = 2
+place_of Link23 = 3
+place_of Link31 = 4
+place_of Link32 = 5
+
 -- those of which a test holds, in order
 abbrev pub those : (Link → Bool) → List Link → List Link
 those p [] = []

@@ -18,6 +18,6 @@ pub use instance::{BoundDomain, Instance};
 pub use laws::one_list;
 pub use list::ReachedInstances;
 pub use reaching::reached_instances;
-pub use seeing::{domain, domains};
-pub use setting::{Setting, domain_under, given_domain, slot_domain};
+pub use seeing::{call_domain, domain, domains};
+pub use setting::{Setting, domain_under, given_domain, joined_domain, slot_domain};
 pub use templates::template_count;

@@ -12,8 +12,10 @@ use crate::setting::{Setting, given_domain, joined_domain, slot_domain};
 use std::alloc::{AllocError, Global};
 use typed_tree::{TypedExpression, TypedFunction};
 
-// Who may see what a call gives back, by its arguments' domains.
-fn call_domain(
+/// Who may see what a call of the function with this number gives back, by its arguments' domains.
+///
+/// An error comes where memory runs short.
+pub fn call_domain(
     alloc: Global,
     functions: &[TypedFunction],
     function: usize,

@@ -115,7 +115,7 @@ dealt_held (e ∷ es) words fit are enough =
     (need_rest e es words enough))
     (fit 0 e (omega arith)) (omega arith)
 
-sizes_values : (es : List Entry) → sizes_of (private_values es) ≡ private_sizes es
+pub sizes_values : (es : List Entry) → sizes_of (private_values es) ≡ private_sizes es
 sizes_values [] = refl
 sizes_values (e ∷ es) = by_domain e.domain (sizes_values es)
   where

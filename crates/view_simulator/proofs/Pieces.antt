@@ -8,12 +8,8 @@ use Rattle.sc_text.specs.declared.event.Event.TheVariants.{Open, Publish}
 use Rattle.value_file.specs.declared.public.PublicValue.{PublicValue}
 use Rattle.value_file.specs.declared.public.PublicValue.TheVariants.{Known, Hidden}
 use Rattle.value_file.specs.declared.public.PublicEntry.{PublicEntry}
-use Rattle.input_share.specs.declared.entry.Part.{Part}
-use Rattle.input_share.specs.declared.entry.Part.TheVariants as part
-use Rattle.input_share.specs.declared.entry.ShareEntry.{ShareEntry}
-use Rattle.view_text.specs.View.{InputShare}
 use Rattle.view_model.specs.Dealing.{hidden_then, hidden_sizes, hidden_draws}
-use Rattle.program_views.specs.Views.{share_then, input_shares, opening_then, openings, hidden_need}
+use Rattle.program_views.specs.Views.{opening_then, openings, hidden_need}
 
 -- what is made of a list, and then of one entry more
 pub one_more :
@@ -34,17 +30,6 @@ size_append (Hidden kind shape) xs ys = refl
 pub sizes_append : (es fs : List PublicEntry) → hidden_sizes (es ++ fs) ≡ hidden_sizes es ++ hidden_sizes fs
 sizes_append [] fs = refl
 sizes_append (e ∷ es) fs = ap (hidden_then e.value) (sizes_append es fs) ∙ size_append e.value (hidden_sizes es) (hidden_sizes fs)
-
--- ---- shares
-
-named_append : (name : List ℕ) (p : Part) (xs ys : List InputShare) → share_then name p (xs ++ ys) ≡ share_then name p xs ++ ys
-named_append name (part.Public value) xs ys = refl
-named_append name (part.Private shared) xs ys = refl
-
-pub input_shares_append : (es fs : List ShareEntry) → input_shares (es ++ fs) ≡ input_shares es ++ input_shares fs
-input_shares_append [] fs = refl
-input_shares_append (e ∷ es) fs =
-    ap (share_then e.name e.part) (input_shares_append es fs) ∙ named_append e.name e.part (input_shares es) (input_shares fs)
 
 -- ---- openings
 

@@ -19,6 +19,8 @@ pub record IsBegun (callee : Callee) (xs : List Value) (b : Begun) : Type 0 wher
   pub executes : (w : World) (calls : Calls) (s : Stage) →
       body_of w calls (map typed_function_tree callee.functions.now) (slice_get (map typed_function_tree callee.functions.now) callee.number)
       callee.binding.now xs s
-      ≡ carry (execute_all w calls (place_seen b.at) (typed_statements_of (map typed_statement b.body.now.items)) (frame_seen b.frame.items) s) (λ g. done (result_of g))
+      ≡ carry (execute_all w calls (place_seen b.at) (typed_statements_of (map typed_statement b.body.now.items)) (frame_seen b.frame.items) s)
+      (λ g. done (result_of g))
   pub sound : AreSoundStatements b.at b.frame.items b.body.now.items
-  pub lighter : statements_weight (typed_statements_of (map typed_statement b.body.now.items)) < sum (map body_weight (map typed_function_tree callee.functions.now)) + 2
+  pub lighter : statements_weight (typed_statements_of (map typed_statement b.body.now.items))
+      < sum (map body_weight (map typed_function_tree callee.functions.now)) + 2

@@ -259,7 +259,8 @@ on_arrays-returns-clause-step t c =
     let y = value_seen c.in_ok-y.y in
     let s = stage_seen c.args.stage.now in
     let s2 = stage_seen c.value_wanted-2.new.stage in
-    rest_run value_seen (evaluation_at around frame c.args.e.now) s (concatenated c.args.arrays.line x y) s2 (stage_seen c.concatenated.new.stage) c.concatenated.result
+    rest_run value_seen (evaluation_at around frame c.args.e.now) s (concatenated c.args.arrays.line x y) s2
+    (stage_seen c.concatenated.new.stage) c.concatenated.result
     (joined_both (world_seen around.world.now) (calls_from around) (setting around.at.here) c.args.arrays.line a b e (frame_seen frame)
     c.is_private-private.result x y s (stage_seen c.value_wanted.new.stage) s2 c.requires.parts
     (c.is_private-private.ensures ∙ ap is_private c.in_ok-domain.ensures) c.in_ok-x.ensures.step c.in_ok-y.ensures.step)

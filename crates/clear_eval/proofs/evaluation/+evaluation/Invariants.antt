@@ -96,8 +96,8 @@ invariant-statements-loop-s l = record {
   spends : l.stage.left ≤ l.initial.stage.left;
   step : execute_all (world_seen l.around.world.now) (calls_from l.around) (place_seen l.around.at) (typed_statements_of (map typed_statement l.s-items))
       (frame_seen l.initial.frame.items) (stage_seen l.initial.stage)
-      ≡ execute_all (world_seen l.around.world.now) (calls_from l.around) (place_seen l.around.at) (typed_statements_of (map typed_statement (drop l.s-index l.s-items)))
-      (frame_seen l.frame.items) (stage_seen l.stage);
+      ≡ execute_all (world_seen l.around.world.now) (calls_from l.around) (place_seen l.around.at)
+      (typed_statements_of (map typed_statement (drop l.s-index l.s-items))) (frame_seen l.frame.items) (stage_seen l.stage);
 }
 
 abbrev pub invariant-turns-loop-again : goal.invariant-turns-loop-again

@@ -3,7 +3,7 @@ use Rattle.std.proofs.lemmas.List.{take_more}
 use Rattle.input_share.specs.declared.entry.ShareEntry.{ShareEntry}
 use Rattle.view_text.specs.View.{InputShare}
 use Rattle.program_views.specs.Views.{input_shares}
-use Rattle.viewed_run.proofs.Pieces.{shares_append}
+use Rattle.program_views.proofs.Shares.{shares_append}
 use Rattle.viewed_run.proofs.parts.input_shares.Goals as goal
 
 pub loop-entry-preserved : goal.loop-entry-preserved

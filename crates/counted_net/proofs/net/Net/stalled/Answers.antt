@@ -2,7 +2,8 @@ use Rattle.std.proofs.Common.{sym, ◌∙◌}
 use Rattle.proto_core.specs.declared.party.Number.TheVariants.{One, Two, Three}
 use Rattle.protocol_model.specs.Network.{into_counts, stands_at}
 use Rattle.counted_net.specs.Nets.{got_of, scripts_in}
-use Rattle.counted_net.proofs.Together.{first_waits, none_waits, second_waits, third_waits, waits_so}
+use Rattle.protocol_model.proofs.Waiting.{first_waits, none_waits, second_waits, third_waits}
+use Rattle.counted_net.proofs.Together.{waits_so}
 use Rattle.counted_net.proofs.net.Net.stalled.Goals as goal
 
 pub returns-in-Some : goal.returns-in-Some

@@ -17,5 +17,6 @@ returns c =
     (λ g k v b w g' i t. search rules) _ es c.retain.new.self.entries refl c.retain.ensures.filtered in
     first_kept numbers (held_at c.retain.new.self) (held_at c.self.inside.held) c.self.inside.count
     (λ k. ap (λ found. unwrap_or found []) (ap (lookup (is_at (nat_cmp k))) filtered
-    ∙ lookup-filter-keys (is_at (nat_cmp k)) (λ x. contains nat_cmp numbers x) (contains nat_cmp numbers k) (λ x h. ap (contains nat_cmp numbers) (sym (search rules))) es) ∙ unwrap_if (contains nat_cmp numbers k) (lookup (is_at (nat_cmp k)) es))
+    ∙ lookup-filter-keys (is_at (nat_cmp k)) (λ x. contains nat_cmp numbers x) (contains nat_cmp numbers k)
+    (λ x h. ap (contains nat_cmp numbers) (sym (search rules))) es) ∙ unwrap_if (contains nat_cmp numbers k) (lookup (is_at (nat_cmp k)) es))
     ∙ ap (kept_only numbers) c.self.view_is

@@ -3,7 +3,7 @@ use Rattle.proto_core.specs.declared.party.Number.TheVariants.{One, Two, Three}
 use Rattle.protocol_model.specs.Network.{waits_for}
 use Rattle.link_schedule.specs.Net.{net_node}
 use Rattle.link_schedule.proofs.Joining.{net_of, waits_is}
-use Rattle.link_schedule.proofs.Entries.{first_waits, second_waits, third_waits, none_waits}
+use Rattle.protocol_model.proofs.Waiting.{first_waits, second_waits, third_waits, none_waits}
 use Rattle.link_schedule.proofs.net.Net3.stalled.Goals as goal
 
 pub awaited-requires : goal.awaited-requires

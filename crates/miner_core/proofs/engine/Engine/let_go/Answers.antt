@@ -16,7 +16,8 @@ returns-clause-left g c =
     let k = c.keep_only.ensures in
     let needed = c.in_ok-numbers in
     let counted : e.stage.made ≡ length e.node.values = search rules in
-    let_go_left i e n (record e.stage { gates = c.clear.new.self }) (record { done = c.len-done.result; next = c.saturating_add-next.result }) c.requires.ready c.requires.through k.through k.same
+    let_go_left i e n (record e.stage { gates = c.clear.new.self }) (record { done = c.len-done.result; next = c.saturating_add-next.result })
+    c.requires.ready c.requires.through k.through k.same
     (ap (λ gates. with_gates gates (stage_seen e.stage)) c.clear.ensures.items)
     (is_held (place_at i e) (λ number. IsTrue (contains nat_cmp needed.numbers number)) e.node.values n.values k.as_many counted
     (needed.ensures.named e.task.code) needed.ensures.last k.kept)
