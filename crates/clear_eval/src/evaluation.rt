@@ -25,8 +25,10 @@ use crate::steps::{decided, leaf, on_one, on_two, plain, with_one, with_two};
 use crate::words::{bool_operator, decides, is_private};
 use reached_instances::{BoundDomain, domain};
 use std::alloc::Global;
-use typed_tree::{BinaryOperator, Connective, Operands, Slot, TypedExpression, TypedStatement};
-use value_steps::{Halt, Operation, Stage, Value, World, concatenated, operation, tested, wanted};
+use typed_tree::{
+    BinaryOperator, Connective, Operands, Operation, Slot, TypedExpression, TypedStatement,
+};
+use value_steps::{Halt, Stage, Value, World, concatenated, operation, tested, wanted};
 
 /// Evaluates an expression.
 #[inline(never)]

@@ -21,11 +21,10 @@ use crate::slots::{
 use crate::words::{is_private, nothing, truth_value, word_value};
 use reached_instances::domain;
 use std::alloc::Global;
-use typed_tree::{TypedExpression, TypedStatement};
+use typed_tree::{Operation, TypedExpression, TypedStatement};
 use value_steps::{
-    Asked, Halt, Operation, Stage, Value, World, asked_for, asserted, bits_extracted, cast_to,
-    declassified, element_of_array, filled, negated, operation, published, size_told, summed,
-    wanted,
+    Asked, Halt, Stage, Value, World, asked_for, asserted, bits_extracted, cast_to, declassified,
+    element_of_array, filled, negated, operation, published, size_told, summed, wanted,
 };
 
 /// The value of a literal or a variable.

@@ -8,9 +8,10 @@ ghost use Rattle.code_machine.specs.Standing.{IsThere};
 use crate::machine::Machine;
 use bytecode::Register;
 use std::alloc::Global;
+use typed_tree::Operation;
 use value_steps::{
-    Applied, Halt, Operation, Stage, Value, World, bits_extracted, concatenated, element_of_array,
-    filled, operated, with_element,
+    Applied, Halt, Stage, Value, World, bits_extracted, concatenated, element_of_array, filled,
+    operated, with_element,
 };
 
 /// An operation between two registers.

@@ -26,8 +26,8 @@ use bytecode::{FunctionPlace, Register};
 use sc_text::Ending;
 use secrec_ast::DataType;
 use std::alloc::Global;
-use typed_tree::Shape;
-use value_steps::{Halt, Operation, Stage, Value, World};
+use typed_tree::{Operation, Shape};
+use value_steps::{Halt, Stage, Value, World};
 use verified_code::{Step, Verified};
 
 /// A call, with the line of its construct: of which function, the register of its result, if one is wanted, and those of its arguments.

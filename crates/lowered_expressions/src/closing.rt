@@ -12,7 +12,7 @@ use crate::step::Step;
 use crate::words::{deciding, truth_word};
 use secrec_ast::DataType;
 use std::alloc::AllocError;
-use typed_tree::{BinaryOperator, Cast, Connective, Operands};
+use typed_tree::{Cast, Connective, Operation};
 
 /// An operation on one operand.
 #[derive(Clone, Copy)]
@@ -23,14 +23,6 @@ pub enum One {
     Not,
     Cast(Cast),
     Declassify,
-}
-
-/// An operation on two operands, with the line of its construct.
-#[derive(Clone, Copy)]
-pub struct Operation {
-    pub line: u32,
-    pub operator: BinaryOperator,
-    pub operands: Operands,
 }
 
 /// Of an operation on two operands, of which the left one's code is there: the register of its value, and whether the left operand

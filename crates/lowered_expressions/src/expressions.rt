@@ -14,7 +14,7 @@ ghost use Rattle.lowered_expressions.specs.inner.Notes.{arguments_notes, notes_o
 use crate::around::Around;
 use crate::body::Body;
 use crate::calling::{CallHead, bound_at, next_is_private, number_of, slots_of};
-use crate::closing::{LeftOperand, One, Operation, close_binary, close_cut, one_step};
+use crate::closing::{LeftOperand, One, close_binary, close_cut, one_step};
 use crate::kinds::kind_of;
 use crate::notes::{Note, behind_first, first_is_private, first_kind, first_private_kind, parted};
 use crate::operands::{WantedOperand, wanted};
@@ -24,7 +24,7 @@ use bytecode::Kind;
 use reached_instances::BoundDomain;
 use secrec_ast::DataType;
 use std::alloc::AllocError;
-use typed_tree::{BinaryOperator, Connective, Operands, Slot, TypedExpression};
+use typed_tree::{BinaryOperator, Connective, Operands, Operation, Slot, TypedExpression};
 
 /// Puts the registers and the code of an expression, of which these are the notes, behind a body: its value stands in the first of
 /// them. An error comes where memory runs short.

@@ -1,9 +1,9 @@
 -- Where a miner refuses a message, it says what the protocol's own refusal says, and goes on refusing it.
 use Rattle.std.proofs.Common.{◌≡◌, ◌≢◌, ℕ, zero, suc, ◌+◌, ◌*◌, ◌<◌, ◌≤◌, ◌==◌, Bool, true, false, ◌&&◌, if◌then◌else◌}
-use Rattle.std.proofs.Common.{List, [], ◌∷◌, ◌++◌, length, take, drop, refl, sym, ◌∙◌, ap, subst, arith, inl, inr, is_none}
+use Rattle.std.proofs.Common.{List, [], ◌∷◌, ◌++◌, length, take, drop, refl, sym, ◌∙◌, ap, ap₂, subst, arith, inl, inr, is_none, length-append}
 use Rattle.std.specs.Prelude.{Option, Some, None, replicate}
 use Rattle.std.specs.List.{list_all}
-use Rattle.std.proofs.lemmas.List.{get_or-take, get_or-drop, length-take, length-drop, drop-drop}
+use Rattle.std.proofs.lemmas.List.{get_or-take, get_or-drop, length-take, length-drop, length-replicate, drop-drop}
 use Rattle.proto_core.specs.declared.link.Link.{Link}
 use Rattle.proto_core.specs.declared.refused.BadMessage.{BadMessage}
 use Rattle.proto_core.specs.declared.refused.BadMessage.TheVariants.{BadLength, NotABit}
@@ -144,6 +144,24 @@ module _ (n before after : ℕ) (m : List ℕ) where
         | inr bits ↦ fault_by_bits one_bit_field m (bits.0 ∙ size)
             ∙ wrong_bit refused.cause (omega (arith, bits.0)) (subst (λ v. WrongBit m v n refused.cause) place bits.1)
       ]
+
+-- so many words are as long as the fields to the end of that of bits
+fields_times : (b a n : ℕ) → b * n + n ≤ (b + suc a) * n
+fields_times b a n = grind arith
+
+bits_within : (n before after : ℕ) → before * n + n ≤ length (replicate before Words ++ Bits ∷ replicate after Words) * n
+bits_within n before after =
+    let many : length (replicate before Words ++ Bits ∷ replicate after Words) ≡ before + suc after =
+    length-append (replicate before Words) (Bits ∷ replicate after Words)
+    ∙ ap₂ (λ b a. b + suc a) (length-replicate before Words) (length-replicate after Words) in
+    subst (λ k. before * n + n ≤ k * n) (sym many) (fields_times before after n)
+
+pub wrong_bit_is_told :
+    (n before after : ℕ) (m : List ℕ) (cause : BadMessage) → length m ≡ length (replicate before Words ++ Bits ∷ replicate after Words) * n →
+    WrongBit m (before * n) n cause → fault_of (shaped n (replicate before Words ++ Bits ∷ replicate after Words)) m ≡ Some cause
+wrong_bit_is_told n before after m cause size h =
+    fault_by_bits (one_bit_field n before after m) m size
+    ∙ wrong_bit n before after m cause (subst (λ k. before * n + n ≤ k) (sym size) (bits_within n before after)) h
 
 one_times : (n : ℕ) → n ≡ 1 * n
 one_times n = omega arith

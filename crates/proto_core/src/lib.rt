@@ -4,6 +4,7 @@
 mod block;
 mod elementwise;
 mod interactive;
+mod laws;
 mod link;
 mod messages;
 mod msg;
@@ -16,6 +17,7 @@ mod share;
 pub use block::{Block, Full};
 pub use elementwise::{add_blocks, subtract_blocks, zero_block};
 pub use interactive::{Interactive, interactive_is_lawful};
+pub use laws::a_wrong_bit_is_told_at_its_place;
 pub use link::Link;
 pub use messages::Messages;
 pub use msg::{Msg, check_bits};

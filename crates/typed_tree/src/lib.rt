@@ -11,5 +11,7 @@ mod statement;
 pub use expression::TypedExpression;
 pub use function::{Returned, TypedFunction, TypedProgram};
 pub use kinds::{Shape, Slot, SlotDomain};
-pub use operators::{BinaryOperator, BoolOperator, Cast, Connective, Operands, WordOperator};
+pub use operators::{
+    BinaryOperator, BoolOperator, Cast, Connective, Operands, Operation, WordOperator,
+};
 pub use statement::TypedStatement;

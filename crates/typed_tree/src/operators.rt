@@ -92,6 +92,14 @@ pub enum Operands {
     Arrays,
 }
 
+/// An operation between two operands: its operator, with the line of its construct, and which operands are arrays.
+#[derive(Clone, Copy)]
+pub struct Operation {
+    pub line: u32,
+    pub operator: BinaryOperator,
+    pub operands: Operands,
+}
+
 /// A cast, by what it casts and to what.
 #[derive(Clone, Copy)]
 pub enum Cast {

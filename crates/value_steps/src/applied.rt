@@ -4,15 +4,7 @@ ghost use Rattle.language_model.specs.Operations.{is_product};
 
 use crate::value::{Secrecy, Value};
 use std::alloc::{AllocError, Global};
-use typed_tree::{BinaryOperator, BoolOperator, Operands, Shape, WordOperator};
-
-/// An operator with the line of its construct, and how its operands stand side by side.
-#[derive(Clone, Copy)]
-pub struct Operation {
-    pub line: u32,
-    pub operator: BinaryOperator,
-    pub operands: Operands,
-}
+use typed_tree::{BinaryOperator, BoolOperator, Operands, Operation, Shape, WordOperator};
 
 /// An operation between two values.
 #[derive(Clone, Copy)]

@@ -24,7 +24,7 @@ mod telling;
 mod value;
 mod world;
 
-pub use applied::{Applied, Operation};
+pub use applied::Applied;
 pub use arrays::{concatenated, element_of_array, filled, with_element};
 pub use classification::wanted;
 pub use conditions::{asserted, tested};

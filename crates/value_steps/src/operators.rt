@@ -6,7 +6,7 @@ ghost use Rattle.language_model.specs.Words as W;
 ghost use Rattle.value_steps.specs.Steps.{Does, itself};
 ghost use Rattle.value_steps.specs.Views.{stage_seen, value_seen, world_seen, secrecy_seen};
 
-use crate::applied::{Applied, Operation, is_product};
+use crate::applied::{Applied, is_product};
 use crate::classification::wanted;
 use crate::drawing::{draw, words_of_operator};
 use crate::gating::{gate, number_of, ring_for};
@@ -19,7 +19,7 @@ use crate::world::World;
 use gates::{Gate, Words};
 use sc_text::TrapKind;
 use std::alloc::Global;
-use typed_tree::BinaryOperator;
+use typed_tree::{BinaryOperator, Operation};
 
 /// Charges an operator, and tests for its traps: arrays of two sizes, and a public divisor that is 0.
 fn charged(stage: &mut Stage<'_>, applied: &Applied<'_>) -> Result<(), Halt>
