@@ -4,8 +4,8 @@
 # renamed when it is whole, so nobody ever meets half of one; a lock lets one build at a time work in a checkout.
 
 # What a build from nothing takes, by estimate: processor minutes in all, and minutes of its longest chain of crates (docs/performance.md).
-build_work=120
-build_chain=30
+build_work=145
+build_chain=40
 
 # Ends the script with a status that no run of the program has.
 give_up() {
