@@ -31,7 +31,7 @@ use Rattle.run_engine.specs.Words.{IsAnswer}
 use Rattle.run_engine.proofs.Promises.{outside_with}
 use Rattle.run_engine.proofs.RunRefusals.{run_refused_by_net}
 
--- ---- a delivery that leaves nothing to come
+-- ---- a complete delivery
 
 module _ (words : List (List ℕ)) (f f' : FilesState) (o o' : SinkState) (s : Status)
     (gives : (ask : RunAsk) → words_of words ≡ Some (run ask) → Gives (RunEffect ask f.contents) f f' o o' s)

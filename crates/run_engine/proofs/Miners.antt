@@ -6,6 +6,9 @@ use Rattle.tape_file.specs.Tapes.{FourTapes}
 use Rattle.typed_tree.specs.Programs.{TypedProgramTree}
 use Rattle.value_file.specs.declared.inputs.Entry.{Entry}
 use Rattle.well_written.proofs.Grammar.{well_written}
+use Rattle.lowered_code.proofs.Verified.{accepted_runs}
+use Rattle.reached_instances.specs.Instances.{Instance}
+use Rattle.reached_instances.specs.Reached.{IsReachedList}
 use Rattle.placed_text.proofs.Spelled.{placed_where_spelled}
 use Rattle.program_run.specs.Accepted.{IsAccepted}
 use Rattle.protocol_model.specs.Network.{Accepted, Delivery}
@@ -25,6 +28,7 @@ use Rattle.view_model.specs.TapeMaps.{AreTapes}
 use Rattle.code_views.specs.CodeViews.{SeesItsView}
 use Rattle.code_views.proofs.CodeViews.{code_views_are_views}
 use Rattle.viewed_run.proofs.Agreeing.{nets_agree}
+use Rattle.run_engine.specs.Compile.{CodeMeansProgram}
 use Rattle.run_engine.specs.Runs.{HoldsRun, HoldsTyped, net_for}
 use Rattle.run_engine.proofs.OfWords.{read_of_words}
 
@@ -39,6 +43,11 @@ accepted_so path files p h =
       of = h.typed;
       within = h.within;
     }
+
+pub code_means : (path : List ℕ) (files : Contents) (p : TypedProgramTree) → HoldsTyped path files p → (reached : List Instance)
+    → IsReachedList p reached → CodeMeansProgram p reached
+code_means path files p h reached are =
+    let a = accepted_so path files p h in accepted_runs a.source a.typed a.written p a.of reached are a.within
 
 pub miners_run : (ask : RunAsk) (files : Contents) (p : TypedProgramTree) (entries : List Entry) (tapes : FourTapes) (delivery : Delivery)
     → HoldsRun ask files p entries tapes delivery → CanBeDealt entries tapes → OwnRunsOnShares p entries tapes ask.budget

@@ -59,7 +59,7 @@ module _ (g : Given) where
   abbrev pub view_given : Number → Option View
   view_given i = view_of i g.program g.entries g.tapes g.ask.budget g.delivery
 
-  -- ---- WHAT IS DONE WHERE THE DELIVERY LEAVES NOTHING TO COME
+  -- ---- WHAT IS DONE WHERE THE DELIVERY IS COMPLETE
 
   -- the text and the end are those of the evaluation, or memory ran out
   abbrev pub PrintsEvaluation : (before after : SinkState) → Status → Type 0
@@ -84,7 +84,7 @@ abbrev pub RefusesSchedule : Given → (before after : SinkState) → Status →
 RefusesSchedule g before after given =
     ((given ≡ Schedule) × PutLine (refused_line (net_given g)) before after) ⊎ (given ≡ Memory)
 
--- why a call of `run` is refused for its schedule: the file is there and not of its form, or the delivery leaves something to come
+-- why a call of `run` is refused for its schedule: the file is there and not of its form, or the delivery isn't complete
 pub data ScheduleRefused (ask : RunAsk) (files : Contents) : Type 0 where
   not_a_schedule : (path bytes : List ℕ) (line : ℕ) → ask.order ≡ scheduled path → file_at files path ≡ Some bytes → links_of bytes ≡ Err line
       → ScheduleRefused ask files

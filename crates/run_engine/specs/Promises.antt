@@ -61,8 +61,8 @@ abbrev pub EvalEffect : (Report → List ℕ) → EvalAsk → Contents → Effec
 EvalEffect text ask files effect = (program : TypedProgramTree) × (entries : List Entry) × HoldsEvaluation ask files program entries
     × (effect ≡ report_effect text (report_for program entries ask.budget))
 
--- of `run`, over files that are all as they must be, and a delivery that leaves nothing to come: the text of the evaluation with tapes of
--- these lengths, its end, and, where they are asked for, the miners' views and the links that were delivered
+-- of `run`, over files that are all as they must be, and a complete delivery: the text of the evaluation with tapes of these lengths,
+-- its end, and, where they are asked for, the miners' views and the links that were delivered
 abbrev pub RunEffect : RunAsk → Contents → Effect → Type 0
 RunEffect ask files effect = (program : TypedProgramTree) × (entries : List Entry) × (tapes : FourTapes) × (delivery : Delivery)
     × HoldsRun ask files program entries tapes delivery × (net_for ask program entries tapes delivery ≡ Accepted)

@@ -47,7 +47,7 @@ fn loaded_plan(alloc: Global, ran: &DeliveredRun) -> Result<Plan, AllocError>
     })
 }
 
-// Three miners run a workload. Its program is accepted, and the delivery that is made leaves nothing to come.
+// Three miners run a workload. Its program is accepted, and the delivery that is made is complete.
 fn run_load(alloc: Global, load: &Workload) -> Result<DeliveredRun, Stop>
     requires program { string_bytes load.now.program ≡ load_program }
     requires inputs { AreInputs load.now.inputs }

@@ -23,13 +23,16 @@ ghost use Rattle.delivered_run.specs.Premises.{HaveWords, IsMade};
 ghost use Rattle.code_views.specs.CodeViews.{SeesItsView};
 ghost use Rattle.program_views.specs.Simulated.{ViewIsSimulated};
 ghost use Rattle.program_views.specs.TapeMaps.{IsTwin, MapsCorrespond, twinned};
+ghost use Rattle.reached_instances.specs.Instances.{Instance};
+ghost use Rattle.reached_instances.specs.Reached.{IsReachedList};
+ghost use Rattle.run_engine.specs.Compile.{CodeMeansProgram};
 ghost use Rattle.run_engine.specs.Eval.{eval_text, need_text};
 ghost use Rattle.run_engine.specs.Headline.{EndsByBudgetAndTapes, Given, IsGiven, PrintsEvaluation, RefusesSchedule, ScheduleRefused};
 ghost use Rattle.run_engine.specs.Headline.{WritesViewsAndLinks, net_given};
 ghost use Rattle.run_engine.specs.MapPromises.{HoldsMap, MapEffect, MapRefused};
 ghost use Rattle.run_engine.specs.Obeying.{Acted, Obeyed, Planned};
 ghost use Rattle.run_engine.specs.Promises.{AllSteady, CheckEffect, CompileEffect, DealEffect, EvalEffect, RunEffect, Keeps, is_done, LoadEffect};
-ghost use Rattle.run_engine.specs.Runs.{DealRefused, EvalRefused, IsNotTaken, ProgramRefused, RunRefused, HoldsRun, net_for};
+ghost use Rattle.run_engine.specs.Runs.{DealRefused, EvalRefused, IsNotTaken, ProgramRefused, RunRefused, HoldsRun, HoldsTyped, net_for};
 ghost use Rattle.run_engine.specs.SimulatePromises.{HoldsOfRun, IsOfRun, SimulateEffect, SimulateRefused};
 ghost use Rattle.run_engine.specs.TwinPromises.{AreTaken, HoldsTwin, TwinEffect, TwinRefused};
 ghost use Rattle.run_engine.specs.Load.{IsNeverRefused};
@@ -195,6 +198,10 @@ pub fn secrec<F: Files, O: Sink, E: Sink, L: Links, C: Spawner>(
     ensures compiles { (ask : CompileAsk) → words_of (texts words.now) ≡ Some (compile ask) → (F.state files.old).told ≡ true →
         Keeps (CompileEffect ask (F.state files.old).contents) (ProgramRefused ask.program (F.state files.old).contents) is_end
         (F.state files.old) (F.state files.new) (O.state out.old) (O.state out.new) result }
+    // What it writes is verified code that does what the program does.
+    ensures compiled_code_means_program { (ask : CompileAsk) (program : TypedProgramTree) (reached : List Instance) →
+        words_of (texts words.now) ≡ Some (compile ask) → HoldsTyped ask.program (F.state files.old).contents program →
+        IsReachedList program reached → CodeMeansProgram program reached }
     ensures evaluates { (ask : EvalAsk) → words_of (texts words.now) ≡ Some (eval ask) → (F.state files.old).told ≡ true →
         Keeps (EvalEffect eval_text ask (F.state files.old).contents) (EvalRefused ask (F.state files.old).contents) is_end
         (F.state files.old) (F.state files.new) (O.state out.old) (O.state out.new) result }
@@ -205,14 +212,14 @@ pub fn secrec<F: Files, O: Sink, E: Sink, L: Links, C: Spawner>(
         Keeps (RunEffect ask (F.state files.old).contents) (RunRefused ask (F.state files.old).contents) is_end
         (F.state files.old) (F.state files.new) (O.state out.old) (O.state out.new) result }
 
-    // THE HEADLINE, of a call of `run`: over an accepted program, inputs, tapes and an order of delivery. Where that leaves nothing to come
-    // the three miners open and publish exactly what evaluation in the clear does with tapes of these lengths, and end as it ends; or memory
-    // ran out.
+    // THE HEADLINE, of a call of `run`: over an accepted program, inputs, tapes and an order of delivery. Where that is complete (each
+    // message is delivered once, and no entry is without one) the three miners open and publish exactly what evaluation in the clear does
+    // with tapes of these lengths, and end as it ends; or memory ran out.
     ensures run_prints_evaluation { (g : Given) → IsGiven (texts words.now) (F.state files.old).contents g → net_given g ≡ Accepted →
         (F.state files.old).told ≡ true → AllSteady (F.state files.old) (O.state out.old) →
         PrintsEvaluation g (O.state out.old) (O.state out.new) result }
 
-    // The delivery that takes always the first link with a message, and each that words choose, leaves nothing to come.
+    // The delivery that takes always the first link with a message, and each that words choose, is complete.
     ensures made_deliveries_are_complete { (g : Given) → IsGiven (texts words.now) (F.state files.old).contents g → IsMade g.delivery →
         net_given g ≡ Accepted }
 
@@ -241,16 +248,17 @@ pub fn secrec<F: Files, O: Sink, E: Sink, L: Links, C: Spawner>(
     ensures tapes_correspond { (g : Given) (i : Number) → IsGiven (texts words.now) (F.state files.old).contents g →
         MapsCorrespond i g.program g.entries g.tapes g.ask.budget }
 
-    // A delivery that leaves something to come is refused: the entry that has no message is named, or else the miner that is left waiting;
-    // or memory ran out. And `run` is refused so only then, or for a schedule file that is not of its form.
+    // A delivery that isn't complete is refused: the entry that has no message is named, or else the miner that is left waiting; or memory
+    // ran out. And `run` is refused so only then, or for a schedule file that is not of its form.
     ensures schedule_refused_if { (g : Given) → IsGiven (texts words.now) (F.state files.old).contents g → IsNotTaken (net_given g) →
         (F.state files.old).told ≡ true → AllSteady (F.state files.old) (O.state out.old) →
         RefusesSchedule g (E.state err.old) (E.state err.new) result }
     ensures schedule_refused_only { (ask : RunAsk) → words_of (texts words.now) ≡ Some (run ask) → (F.state files.old).told ≡ true →
         result ≡ Status.Schedule → ScheduleRefused ask (F.state files.old).contents }
 
-    // And so it is because three miners run the program's code, each with its shares of the inputs and its own tape alone: under every order
-    // of delivery they open and publish what that evaluation does, and end as it does, where the dealer's tape has words enough.
+    // This is what three miners do who run the program's code, each with its shares of the inputs and its own tape alone: under every
+    // complete order of delivery they open and publish what that evaluation does, and end as it does, where the dealer's tape has words
+    // enough.
     ensures runs_on_shares { (g : Given) → IsGiven (texts words.now) (F.state files.old).contents g → CanBeDealt g.entries g.tapes →
         OwnRunsOnShares g.program g.entries g.tapes g.ask.budget }
 

@@ -3,7 +3,7 @@ use Rattle.command_frame.proofs.Wholes.{complete, carried_out, end_says_nothing,
 use Rattle.command_frame.proofs.Wholes.{no_link_failed, refused_prints_nothing, usage_of_unnamed, usage_said, usage_unnamed, write_counted}
 use Rattle.command_frame.proofs.Wholes.{write_cuts, write_said}
 use Rattle.run_engine.proofs.Headline.{ends_by_budget_and_tapes, prints, refuses, schedule_refused, writes}
-use Rattle.run_engine.proofs.Miners.{made_taken, maps_made, miners_run, views_made, views_seen}
+use Rattle.run_engine.proofs.Miners.{code_means, made_taken, maps_made, miners_run, views_made, views_seen}
 use Rattle.run_engine.proofs.Promises.{check_keeps, compile_keeps, deal_keeps, eval_keeps, need_keeps, run_keeps, load_keeps}
 use Rattle.run_engine.proofs.Runs.{has_answer, no_command}
 use Rattle.run_engine.proofs.Tops.{over, printed_so, stops_told, telling}
@@ -94,6 +94,9 @@ pub returns-clause-compiles : goal.returns-clause-compiles
 returns-clause-compiles g c = λ ask asks t.
     compile_keeps _ _ _ _ _ _ _ _ _ _ (returns-clause-answered g c t) (λ answer a. returns-clause-answer_carried_out g c answer a t)
     (λ answer a steady. returns-clause-complete g c answer a steady t) ask asks
+
+pub returns-clause-compiled_code_means_program : goal.returns-clause-compiled_code_means_program
+returns-clause-compiled_code_means_program g c = λ ask program reached asks holds are. code_means ask.program _ program holds reached are
 
 pub returns-clause-evaluates : goal.returns-clause-evaluates
 returns-clause-evaluates g c = λ ask asks t.
