@@ -55,7 +55,7 @@ pub record IsWithinWeight (size : ℕ) (f : RawFunction) : Type 0 where
   pub instructions : length f.body ≤ weight size
   pub registers : length f.registers ≤ weight size
 
--- as many functions as sizes; a size is counted up to the largest number of 32 bits, and a smaller one is all that there is
+-- one function for each size. Sizes are counted up to the largest number of 32 bits, and nothing is said of a function that reaches it
 abbrev pub AreWithinWeight : List ℕ → List RawFunction → Type 0
 AreWithinWeight [] [] = Unit {0}
 AreWithinWeight (size ∷ sizes) (f ∷ fs) = (size + 1 < 2 ^ 32 → IsWithinWeight size f) × AreWithinWeight sizes fs

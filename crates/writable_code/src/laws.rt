@@ -16,8 +16,8 @@ pub fn accepted_code_is_writable()
     ensures { (p : ProgramTree) → IsWritableWhereAccepted p }
 {}
 
-/// Law: each function of the raw code of a typed program's instances has at most as many instructions as its weight, and at most as many
-/// registers. The weight is 16 times the size of the function that the instance is of, wherever this is less than the largest that is counted.
+/// Law: each function of the raw code of a typed program's instances has at most as many instructions, and at most as many registers, as its
+/// weight, which is 16 times the size of the function that the instance is of, where this size is below the largest that is counted.
 pub fn functions_are_within_their_weight()
     ensures { (p : ProgramTree) → IsWithinWeightWhereTyped p }
 {}
