@@ -1,6 +1,6 @@
 -- The functions of a program within its limits have few registers.
-use Rattle.std.proofs.Common.{◌≡◌, ℕ, zero, suc, ◌+◌, ◌≤◌, List, [], ◌∷◌, ◌++◌, length, map, Option, Some, None, Bool, true, false, refl, sym, ap, ◌∙◌, subst}
-use Rattle.std.proofs.Common.{arith, length-append}
+use Rattle.std.proofs.Common.{◌≡◌, ℕ, zero, suc, ◌+◌, ◌<◌, ◌≤◌, List, [], ◌∷◌, ◌++◌, length, map, Option, Some, None, Bool, true, false, refl, sym, ap, ◌∙◌}
+use Rattle.std.proofs.Common.{subst, arith, length-append}
 use Rattle.std.specs.Prelude.{slice_get, nat_le}
 use Rattle.std.proofs.lemmas.Bool.{leb-true, leb-false}
 use Rattle.std.proofs.lemmas.List.{length-map}
@@ -13,7 +13,7 @@ use Rattle.typed_tree.specs.declared.function.Returned.{Returned}
 use Rattle.typed_tree.specs.declared.function.Returned.TheVariants.{Nothing, Value}
 use Rattle.typed_tree.specs.Programs.{TypedFunctionTree, TypedProgramTree}
 use Rattle.name_resolution.specs.Functions.{slots_written, given_back, with_parameters, function_made, function_from, function_behind, typed_function}
-use Rattle.name_resolution.specs.Functions.{and_functions, typed_functions, with_functions, program_of, typed_of}
+use Rattle.name_resolution.specs.Functions.{and_functions, typed_functions, program_of, typed_of}
 use Rattle.name_resolution.specs.Order.{reached}
 use Rattle.name_resolution.specs.Bodies.{resolved_all}
 use Rattle.name_resolution.specs.Scopes.{FunctionScope, no_place, declaring}
@@ -30,6 +30,7 @@ use Rattle.code_model.specs.Programs.{last_kinds, function_code, numbers_in, cod
 use Rattle.code_model.proofs.Widths.{statements_registers}
 use Rattle.raw_steps.specs.Instructions.{nowhere}
 use Rattle.raw_steps.proofs.Passing.{unmapped}
+use Rattle.well_typed.proofs.Calling.{known_in}
 use Rattle.well_typed.proofs.SlotsWritten.{slots_count}
 use Rattle.lowered_code.specs.Laws.{AreSmall, HasNumberedRegisters}
 use Rattle.lowered_code.proofs.Standing.{found_among}
@@ -49,7 +50,7 @@ pub record IsSized (f : FunctionTree) (t : TypedFunctionTree) : Type 0 where
   pub registers : statements_width t.body + length t.slots ≤ statements_nodes f.body.statements + statements_nodes f.body.statements + length f.parameters
   pub size : t.size ≡ size_of f
 
-function_sized : (d : Declared) (f : FunctionTree) (t : TypedFunctionTree) → typed_function d f ≡ Some t → IsSized f t
+pub function_sized : (d : Declared) (f : FunctionTree) (t : TypedFunctionTree) → typed_function d f ≡ Some t → IsSized f t
 function_sized d f t e =
     let start = with_parameters f.parameters no_place in
     let r = then_there (function_behind d f) (resolved_all d f.body.statements start) t e in
@@ -61,11 +62,12 @@ function_sized d f t e =
     ≤ statements_nodes f.body.statements + statements_nodes f.body.statements + length f.parameters = omega (arith, takes, many, first) in
     subst (IsSized f) (some_is (function_made f r.part.0 m.left m.right) t m.is) (record { registers = fine; size = refl })
 
+-- the function that a typed one is of
 typed_at : (d : Declared) (fs : List FunctionTree) (ts : List TypedFunctionTree) → typed_functions d fs ≡ Some ts → (k : ℕ) (t : TypedFunctionTree)
-    → slice_get ts k ≡ Some t → (f : FunctionTree) × IsSized f t
+    → slice_get ts k ≡ Some t → (f : FunctionTree) × (typed_function d f ≡ Some t)
 typed_at d [] ts e k t there = let n : [] ≡ ts = cc in nothing k (ap (λ z. slice_get z k) n ∙ there)
   where
-    nothing : (k : ℕ) → slice_get [] k ≡ Some t → (f : FunctionTree) × IsSized f t
+    nothing : (k : ℕ) → slice_get [] k ≡ Some t → (f : FunctionTree) × (typed_function d f ≡ Some t)
     nothing k h = cc
 typed_at d (f ∷ fs) ts e k t there =
     let m = both_there and_functions (typed_function d f) (typed_functions d fs) ts e in
@@ -74,10 +76,19 @@ typed_at d (f ∷ fs) ts e k t there =
   where
     go : (u : TypedFunctionTree) (us : List TypedFunctionTree) → typed_function d f ≡ Some u → typed_functions d fs ≡ Some us → (k : ℕ)
         → slice_get (u ∷ us) k ≡ Some t
-        → ((us : List TypedFunctionTree) → typed_functions d fs ≡ Some us → (j : ℕ) → slice_get us j ≡ Some t → (f : FunctionTree) × IsSized f t)
-        → (f : FunctionTree) × IsSized f t
-    go u us g h zero there rest = (f, subst (IsSized f) (some_is u t there) (function_sized d f u g))
+        → ((us : List TypedFunctionTree) → typed_functions d fs ≡ Some us → (j : ℕ) → slice_get us j ≡ Some t
+        → (f : FunctionTree) × (typed_function d f ≡ Some t))
+        → (f : FunctionTree) × (typed_function d f ≡ Some t)
+    go u us g h zero there rest = (f, g ∙ there)
     go u us g h (suc j) there rest = rest us h j there
+
+-- likewise in a program
+pub written_at : (source : ProgramTree) (p : TypedProgramTree) → typed_of source ≡ Some p → (k : ℕ) (t : TypedFunctionTree)
+    → slice_get p.functions k ≡ Some t → (f : FunctionTree) × (typed_function (known_in source) f ≡ Some t)
+written_at source p resolved k t e =
+    let m = mapped program_of (typed_functions (known_in source) (reached (declared_by source))) p resolved in
+    let same : p.functions ≡ m.part = sym (ap (λ (z : TypedProgramTree). z.functions) m.is) in
+    typed_at (known_in source) (reached (declared_by source)) m.part m.there k t (sym (ap (λ z. slice_get z k) same) ∙ e)
 
 -- ---- REGISTERS
 
@@ -89,7 +100,7 @@ one_last : (b : List BoundDomain) (g : Returned) → length (last_kinds b g) ≤
 one_last b Nothing = omega arith
 one_last b (Value s) = omega arith
 
-own_registers : (number : Numbers) (fs : List TypedFunctionTree) (f : TypedFunctionTree) (b : List BoundDomain) → length (function_code number fs f b).kinds
+pub own_registers : (number : Numbers) (fs : List TypedFunctionTree) (f : TypedFunctionTree) (b : List BoundDomain) → length (function_code number fs f b).kinds
     ≤ statements_width f.body + length f.slots + 5
 own_registers number fs f b =
     let here = (place_in fs f b).here in
@@ -105,11 +116,12 @@ own_registers number fs f b =
     let m4 = one_last b f.given in
     omega (arith, n1, n2, n3, m1, m2, m3, m4)
 
-uncounted : (n : ℕ) → counted n ≤ 4095 → n ≤ 4095
+-- a smaller number than the largest is counted in full
+pub uncounted : (n : ℕ) → counted n < 4294967295 → counted n ≡ n
 uncounted n h = go (nat_le n 4294967295) refl
   where
-    go : (b : Bool) → nat_le n 4294967295 ≡ b → n ≤ 4095
-    go true e = let same = min-eq_left (leb-true n 4294967295 e) in omega (arith, same, h)
+    go : (b : Bool) → nat_le n 4294967295 ≡ b → counted n ≡ n
+    go true e = min-eq_left (leb-true n 4294967295 e)
     go false e = absurd (let l = leb-false n 4294967295 e in large l)
       where
         large : 4294967296 ≤ n → ⊥
@@ -119,9 +131,9 @@ sized_few : (f : FunctionTree) (t : TypedFunctionTree) → IsSized f t → t.siz
 sized_few f t s h =
     let size = s.size in
     let own : counted (function_nodes f) ≤ 4095 = subst (λ n. n ≤ 4095) size h in
-    let few = uncounted (function_nodes f) own in
+    let same = uncounted (function_nodes f) (omega (arith, own)) in
     let registers = s.registers in
-    omega (arith, few, registers)
+    omega (arith, own, same, registers)
 
 pub small_numbered : (source : ProgramTree) (p : TypedProgramTree) → typed_of source ≡ Some p → (is : List Instance) → AreSmall p is
     → HasNumberedRegisters (code_of p is)
@@ -129,21 +141,12 @@ small_numbered source p resolved is small f there =
     let x = unmapped (instance_code p.functions (numbers_in is)) is there.0 f there.1 in
     subst (λ (g : Function). length g.kinds ≤ nowhere) x.2 (go x.0 (slice_get p.functions x.0.function) refl (small x.0 (found_among is there.0 x.0 x.1)))
   where
-    known : Declared
-    known = with_functions (declared_by source) (reached (declared_by source))
-
-    sized : (k : ℕ) (t : TypedFunctionTree) → slice_get p.functions k ≡ Some t → (f : FunctionTree) × IsSized f t
-    sized k t e =
-        let m = mapped program_of (typed_functions known (reached (declared_by source))) p resolved in
-        let same : p.functions ≡ m.part = sym (ap (λ (z : TypedProgramTree). z.functions) m.is) in
-        typed_at known (reached (declared_by source)) m.part m.there k t (sym (ap (λ z. slice_get z k) same) ∙ e)
-
     go : (i : Instance) (o : Option TypedFunctionTree) → slice_get p.functions i.function ≡ o
         → ((t : TypedFunctionTree) → slice_get p.functions i.function ≡ Some t → t.size ≤ 4095)
         → length (code_of_found (numbers_in is) p.functions i.binding o).kinds ≤ nowhere
     go i None e h = omega arith
     go i (Some t) e h =
-        let s = sized i.function t e in
-        let few = sized_few s.0 t s.1 (h t e) in
+        let w = written_at source p resolved i.function t e in
+        let few = sized_few w.0 t (function_sized (known_in source) w.0 t w.1) (h t e) in
         let own = own_registers (numbers_in is) p.functions t i.binding in
         omega (arith, few, own)

@@ -1,6 +1,9 @@
 pub mod Counts
+pub mod Making
+pub mod Counting
 pub mod Lengths
 pub mod Names
 pub mod Fields
 pub mod Resolving
+pub mod Weights
 pub mod Programs

@@ -1,25 +1,20 @@
 -- The code of an accepted program within the limits of size has room in its bytes.
 use Rattle.std.proofs.Common.{◌≡◌, ℕ, zero, suc, ◌+◌, ◌<◌, ◌≤◌, ◌^◌, List, [], ◌∷◌, ◌++◌, length, map, Option, Some, None, Bool, true, false, cond}
 use Rattle.std.proofs.Common.{refl, sym, ap, ◌∙◌, subst, arith, length-append, inl, inr}
-use Rattle.std.specs.Prelude.{slice_get, nat_le, nat_lt, sum}
+use Rattle.std.specs.Prelude.{slice_get, nat_lt, sum}
 use Rattle.std.specs.List.{flat_map}
-use Rattle.std.proofs.lemmas.Bool.{leb-true, leb-false, ltb-false}
+use Rattle.std.proofs.lemmas.Bool.{ltb-false}
 use Rattle.std.proofs.lemmas.List.{length-map}
 use Rattle.std.proofs.lemmas.List.Sums.{sum_by-cons}
-use Rattle.std.proofs.Math.Nat.{min-eq_left, min-eq_right}
 use Rattle.sc_text.specs.Lists.{Among}
 use Rattle.sc_text.specs.Name.{is_name}
 use Rattle.secrec_ast.specs.Programs.{FunctionTree, ProgramTree}
 use Rattle.domain_types.specs.Declarations.{Declared, declared_by, functions_of}
 use Rattle.domain_types.specs.Typing.{IsTypedProgram}
 use Rattle.typed_tree.specs.Programs.{TypedFunctionTree, TypedProgramTree}
-use Rattle.name_resolution.specs.Functions.{slots_written, given_back, with_parameters, function_made, function_from, function_behind, typed_function}
-use Rattle.name_resolution.specs.Functions.{typed_functions, program_of, typed_of}
+use Rattle.name_resolution.specs.Functions.{typed_function, typed_functions, program_of, typed_of}
 use Rattle.name_resolution.specs.Order.{reached}
-use Rattle.name_resolution.specs.Bodies.{resolved_all}
-use Rattle.name_resolution.specs.Scopes.{no_place}
-use Rattle.name_resolution.specs.Sizes.{function_nodes, counted}
-use Rattle.name_resolution.proofs.SoundValues.{mapped, both_there, then_there, some_is}
+use Rattle.name_resolution.proofs.SoundValues.{mapped, some_is}
 use Rattle.reached_instances.specs.Instances.{Instance}
 use Rattle.reached_instances.specs.Reached.{IsReachedList}
 use Rattle.reached_instances.proofs.ReachedLists.{is_the_only_list}
@@ -27,19 +22,16 @@ use Rattle.program_limits.specs.Limits as limits
 use Rattle.program_limits.specs.Limits.{size_in, sizes, templates, is_too_large, IsWithinLimits}
 use Rattle.verified_code.specs.Steps.{Step, Function, Literal, Move, Store, Binary, Not, Cast, Classify, Fill, At, Put, Size, Cat, Sum, Bits, Declassify}
 use Rattle.verified_code.specs.Steps.{Argument, Publish, Assert, Branch, Jump, Call, Return, ReturnNone}
-use Rattle.code_model.specs.Statements.{statements_width}
 use Rattle.code_model.specs.Programs.{numbers_in, code_of_found, instance_code, code_of}
 use Rattle.raw_steps.specs.Instructions.{function_names}
 use Rattle.raw_steps.proofs.Passing.{unmapped}
 use Rattle.well_typed.specs.Sources.{IsWellWritten}
 use Rattle.well_typed.proofs.Calling.{known_in}
-use Rattle.well_typed.proofs.Bindings.{declared_type}
-use Rattle.well_typed.proofs.Heads.{parameter_slots, function_at}
+use Rattle.well_typed.proofs.Heads.{function_at}
 use Rattle.well_typed.proofs.Reaching.{accepted_well_typed, reached_checked}
 use Rattle.bytecode.specs.Writable.{IsWritable}
 use Rattle.lowered_code.specs.RawCodes.{raw_code_of_program}
 use Rattle.lowered_code.proofs.Limits.{within_small}
-use Rattle.lowered_code.proofs.RegistersOfBodies.{statements_take}
 use Rattle.lowered_code.proofs.RegistersOfPrograms.{small_numbered}
 use Rattle.lowered_code.proofs.Standing.{found_among}
 use Rattle.lowered_code.proofs.Verified.{code_right}
@@ -49,43 +41,26 @@ use Rattle.said_code.proofs.Saying.{says_what_trees_say}
 use Rattle.said_code.proofs.Words.{well_typed_words}
 use Rattle.writable_code.specs.Sources.{is_line, StandPlaced, AreAllPlaced, IsPlacedProgram}
 use Rattle.writable_code.specs.Laws.{HasRoom, IsWritableWhereAccepted}
-use Rattle.writable_code.proofs.Counts.{counts}
 use Rattle.writable_code.proofs.Fields.{writable}
-use Rattle.writable_code.proofs.Lengths.{two, function_short}
-use Rattle.writable_code.proofs.Resolving.{statements_made}
+use Rattle.writable_code.proofs.Lengths.{function_short}
+use Rattle.writable_code.proofs.Making.{body_made}
+use Rattle.writable_code.proofs.Resolving.{StandSaid, statements_made}
+use Rattle.writable_code.proofs.Weights.{IsModest, function_modest}
 
 -- ---- FUNCTIONS
 
--- so many registers and statements for its size, and lines and names that are told
-pub record IsModest (t : TypedFunctionTree) : Type 0 where
-  pub width : statements_width t.body ≤ two t.size
-  pub typed_statements : counts t.body + 2 ≤ t.size
+-- a typed function whose lines and names are told, and which is modest for its size
+pub record IsSaid (t : TypedFunctionTree) : Type 0 where
+  pub modest : IsModest t.size t
   pub say : StatementsSay any_number is_line is_name t.body
 
-uncounted : (n : ℕ) → counted n ≤ 4095 → counted n ≡ n
-uncounted n h = go (nat_le n 4294967295) refl
-  where
-    go : (b : Bool) → nat_le n 4294967295 ≡ b → counted n ≡ n
-    go true e = min-eq_left (leb-true n 4294967295 e)
-    go false e = absurd (let l = leb-false n 4294967295 e in large l)
-      where
-        large : 4294967296 ≤ n → ⊥
-        large l = let same = min-eq_right (let k : 4294967295 ≤ n = omega (arith, l) in k) in omega (arith, same, h)
-
-function_modest : (d : Declared) (f : FunctionTree) (t : TypedFunctionTree) → typed_function d f ≡ Some t → StandPlaced f.body.statements → t.size ≤ 4095
-    → IsModest t
-function_modest d f t e placed small =
-    let start = with_parameters f.parameters no_place in
-    let r = then_there (function_behind d f) (resolved_all d f.body.statements start) t e in
-    let m = both_there (function_from f r.part.0) (slots_written d f.variables r.part.1.slots) (given_back d f.variables f.returned) t r.is in
-    let same = some_is (function_made f r.part.0 m.left m.right) t m.is in
-    let takes = (statements_take d f.body.statements).from start r.part.0 r.part.1 r.there in
-    let made = (statements_made d f.body.statements placed).from start r.part.0 r.part.1 r.there in
-    let many = made.many in
-    let slots = ap length (parameter_slots f.parameters no_place) ∙ length-map f.parameters declared_type in
-    let size : counted (function_nodes f) ≤ 4095 = subst (λ (z : TypedFunctionTree). z.size ≤ 4095) (sym same) small in
-    let own = uncounted (function_nodes f) size in
-    subst IsModest same (record { width = omega (arith, takes, own, slots); typed_statements = omega (arith, many, own); say = made.say })
+function_said : (d : Declared) (f : FunctionTree) (t : TypedFunctionTree) → typed_function d f ≡ Some t → StandPlaced f.body.statements → t.size ≤ 4095
+    → IsSaid t
+function_said d f t e placed small =
+    record {
+      modest = function_modest d f t e (omega (arith, small));
+      say = body_made StandSaid d f t (statements_made d f.body.statements placed) e;
+    }
 
 placed_at : (fs : List FunctionTree) (n : ℕ) (f : FunctionTree) → AreAllPlaced fs → slice_get fs n ≡ Some f → StandPlaced f.body.statements
 placed_at [] n f h e = cc
@@ -169,7 +144,7 @@ module _ (source : ProgramTree) (accepted : IsTypedProgram source) (written : Is
   pub record IsTyped (i : Instance) : Type 0 where
     pub called : TypedFunctionTree
     pub there : slice_get p.functions i.function ≡ Some called
-    pub modest : IsModest called
+    pub said : IsSaid called
     pub small : called.size ≤ 4095
 
   typed_at : (i : Instance) → Among i is → IsTyped i
@@ -182,7 +157,7 @@ module _ (source : ProgramTree) (accepted : IsTypedProgram source) (written : Is
       record {
         called = u.0;
         there = there;
-        modest = function_modest (known_in source) x.function u.0 u.2 (placed_at (functions_of source.items) x.number x.function placed x.there) small;
+        said = function_said (known_in source) x.function u.0 u.2 (placed_at (functions_of source.items) x.number x.function placed x.there) small;
         small = small;
       }
 
@@ -196,23 +171,23 @@ module _ (source : ProgramTree) (accepted : IsTypedProgram source) (written : Is
       let short = function_short (numbers_in is) p.functions t.called i.binding in
       let steps = short.steps in
       let names = short.names in
-      let width = t.modest.width in
-      let typed_statements = t.modest.typed_statements in
+      let most = t.said.modest.steps in
+      let typed_statements = t.said.modest.typed_statements in
       let small = t.small in
       let size = size_there i m in
       let is_code = ap (code_of_found (numbers_in is) p.functions i.binding) t.there in
       subst (λ (f : Function). (length f.steps < 2 ^ 16) × (length (function_names f) ≤ limits.size_of p i)) (sym is_code)
-      (omega (arith, steps, width, typed_statements, small), omega (arith, names, typed_statements, size))
+      (omega (arith, steps, most, small), omega (arith, names, typed_statements, size))
 
   instances_say : InstancesSay any_number is_line is_name p is
   instances_say i m f there =
       let t = typed_at i m in
-      subst (λ (z : TypedFunctionTree). StatementsSay any_number is_line is_name z.body) (some_is t.called f (sym t.there ∙ there)) t.modest.say
+      subst (λ (z : TypedFunctionTree). StatementsSay any_number is_line is_name z.body) (some_is t.called f (sym t.there ∙ there)) t.said.say
 
   has_room : HasRoom (code_of p is)
   has_room =
       let all = sizes_within p is within reached_list in
-      let many = each_counts p is (λ i m. let size = size_there i m in let some = (typed_at i m).modest.typed_statements in omega (arith, size, some)) in
+      let many = each_counts p is (λ i m. let size = size_there i m in let some = (typed_at i m).said.modest.typed_statements in omega (arith, size, some)) in
       let codes = length-map is own_code in
       let names = all_within p (λ i. function_names (own_code i)) is (λ i m. (instance_short i m).1) in
       let mapped_names = ap length (map_names own_code is) in

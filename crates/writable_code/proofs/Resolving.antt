@@ -1,6 +1,6 @@
--- What is typed of a statement has at most as many statements that make steps as the statement has nodes, and says lines and names of the text.
-use Rattle.std.proofs.Common.{◌≡◌, ℕ, ◌+◌, ◌≤◌, List, [], ◌∷◌, length, map, Option, Some, None, Bool, true, false, cond, refl, ap, subst, arith}
-use Rattle.std.specs.Prelude.{option_map, nat_eq}
+-- What is typed of a statement says lines and names of the text.
+use Rattle.std.proofs.Common.{◌≡◌, ℕ, List, [], ◌∷◌, length, map, Option, Some, None, Bool, true, false, cond, refl, subst}
+use Rattle.std.specs.Prelude.{nat_eq}
 use Rattle.sc_text.specs.Name.{is_name}
 use Rattle.secrec_ast.specs.declared.expression.DataType.{DataType}
 use Rattle.secrec_ast.specs.declared.expression.DataType.TheVariants.{Uint64}
@@ -22,13 +22,11 @@ use Rattle.typed_tree.specs.Operators.{operator_on, operands_of, may_cut_short}
 use Rattle.typed_tree.specs.Statements.{TypedStatementTree, TypedStatementTrees, none, also, empty_statement, block_statement, if_statement, loop_statement}
 use Rattle.typed_tree.specs.Statements.{do_statement, break_statement, continue_statement, return_statement, assert_statement, store_statement}
 use Rattle.typed_tree.specs.Statements.{default_statement, fill_statement, input_statement, element_statement, publish_statement, evaluate_statement}
-use Rattle.name_resolution.specs.Scopes.{FunctionScope, Scope, variable_named, entering, behind_block}
-use Rattle.name_resolution.specs.Sizes.{nodes, nodes_all, optional_nodes, declaration_nodes, assignment_nodes, start_nodes, step_nodes, statement_nodes}
-use Rattle.name_resolution.specs.Sizes.{statements_nodes}
+use Rattle.name_resolution.specs.Scopes.{FunctionScope, Scope, variable_named}
 use Rattle.name_resolution.specs.Values.{TypedValue, TypedCall, of_both, variable_value, element_value, negated, cast_value, declassified_value, operation_node}
 use Rattle.name_resolution.specs.Values.{operation_made, operation, gives_value, with_shape, value_given, shape_returned, tree_of_value, built_in_value, called}
 use Rattle.name_resolution.specs.Values.{and_values, value, values, call_made}
-use Rattle.name_resolution.specs.Resolving.{Resolving, ◌>>=◌, carry, done, reading, next_slot, declare, closed, in_block, tree_in, resolved_value, expression}
+use Rattle.name_resolution.specs.Resolving.{Resolving, ◌>>=◌, done, reading, next_slot, declare, in_block, tree_in, resolved_value, expression}
 use Rattle.name_resolution.specs.Resolving.{named}
 use Rattle.name_resolution.specs.Bodies.{tree_in_call, calling, evaluated, default_of, from_value, initial, declared, assigned_to, assigned, started, stepped}
 use Rattle.name_resolution.specs.Bodies.{condition_of, returned, looped, resolved, resolved_all}
@@ -38,7 +36,7 @@ use Rattle.said_code.specs.Says.{TreeSays, TreesSay, StatementSays, StatementsSa
 use Rattle.writable_code.specs.Sources.{is_line, IsLine, IsPlaced, ArePlaced, IsPlacedIf, DeclaresPlaced, AssignsPlaced, StartsPlaced, StepsPlaced}
 use Rattle.writable_code.specs.Sources.{StandsPlaced}
 use Rattle.writable_code.specs.Sources.{StandPlaced}
-use Rattle.writable_code.proofs.Counts.{count, counts}
+use Rattle.writable_code.proofs.Making.{Makes, Anything, anything, makes_done, makes_bind, makes_reading, makes_block}
 
 abbrev pub Said : TypedTree → Type 0
 Said = TreeSays any_number is_line is_name
@@ -125,44 +123,6 @@ mutual
       let m = both_there and_values (value d s e) (values d s es) vs h in
       subst AllSaid (some_is _ vs m.is) (value_said d s e m.left p.0 m.left_there, values_said d s es m.right p.1 m.right_there)
 
--- ---- WHAT IS MADE AT A PLACE
-
-pub record Makes {A : Type 0} (P : A → Type 0) (m : Resolving A) : Type 0 where
-  pub from : (s : FunctionScope) (a : A) (q : FunctionScope) → m s ≡ Some (a, q) → P a
-
-abbrev pair_of : {A : Type 0} → A → FunctionScope → A × FunctionScope
-pair_of a p = (a, p)
-
-made_as : {A : Type 0} (P : A → Type 0) (a b : A) (p q : FunctionScope) → Some (pair_of a p) ≡ Some (pair_of b q) → P a → P b
-made_as P a b p q e h =
-    let same : pair_of a p ≡ pair_of b q = cc in
-    subst P (ap (λ z. z.0) same) h
-
-makes_done : {A : Type 0} (P : A → Type 0) (a : A) → P a → Makes P (done a)
-makes_done P a h = record { from = λ s b q e. made_as P a b s q e h }
-
-makes_bind : {A B : Type 0} (P : A → Type 0) (Q : B → Type 0) (m : Resolving A) (f : A → Resolving B) → Makes P m → ((a : A) → P a → Makes Q (f a))
-    → Makes Q (m >>= f)
-makes_bind {A = A} {B = B} P Q m f h g = record { from = λ s b q e. go s b q (m s) refl e }
-  where
-    go : (s : FunctionScope) (b : B) (q : FunctionScope) (o : Option (A × FunctionScope)) → m s ≡ o → carry o f ≡ Some (b, q) → Q b
-    go s b q None t e = cc
-    go s b q (Some r) t e = (g r.0 (h.from s r.0 r.1 t)).from r.1 b q e
-
-makes_reading : {A : Type 0} (P : A → Type 0) (f : FunctionScope → Option A) → ((s : FunctionScope) (a : A) → f s ≡ Some a → P a) → Makes P (reading f)
-makes_reading {A = A} P f h = record { from = λ s b q e. go s b q (f s) refl e }
-  where
-    go : (s : FunctionScope) (b : A) (q : FunctionScope) (o : Option A) → f s ≡ o → option_map (λ a. pair_of a s) o ≡ Some (b, q) → P b
-    go s b q None t e = cc
-    go s b q (Some a) t e = made_as P a b s q e (h s a t)
-
-makes_block : {A : Type 0} (P : A → Type 0) (m : Resolving A) → Makes P m → Makes P (in_block m)
-makes_block {A = A} P m h = record { from = λ s b q e. go s b q (m (entering s)) refl e }
-  where
-    go : (s : FunctionScope) (b : A) (q : FunctionScope) (o : Option (A × FunctionScope)) → m (entering s) ≡ o → closed s o ≡ Some (b, q) → P b
-    go s b q None t e = cc
-    go s b q (Some r) t e = made_as P r.0 b (behind_block s r.1) q e (h.from (entering s) r.0 r.1 t)
-
 -- ---- EXPRESSIONS
 
 expression_made : (d : Declared) (e : Tree) → IsPlaced e → Makes Said (expression d e)
@@ -184,46 +144,43 @@ calling_made d line x es l p = makes_reading Said (calling d line x es) read
 
 -- ---- COMMANDS
 
-pub record Made (n : ℕ) (c : TypedStatementTree) : Type 0 where
-  pub many : count c ≤ n
-  pub says : StatementSays any_number is_line is_name c
+abbrev pub StandsSaid : TypedStatementTree → Type 0
+StandsSaid = StatementSays any_number is_line is_name
 
-pub record AreMade (n : ℕ) (cs : TypedStatementTrees) : Type 0 where
-  pub many : counts cs ≤ n
-  pub say : StatementsSay any_number is_line is_name cs
+abbrev pub StandSaid : TypedStatementTrees → Type 0
+StandSaid = StatementsSay any_number is_line is_name
 
 -- a statement made of one expression
-one_made : (d : Declared) (e : Tree) (n : ℕ) (make : TypedTree → TypedStatementTree) → IsPlaced e → ((t : TypedTree) → Said t → Made n (make t))
-    → Makes (Made n) (expression d e >>= λ v. done (make v))
-one_made d e n make p h =
-    makes_bind Said (Made n) (expression d e) (λ v. done (make v)) (expression_made d e p) (λ v s. makes_done (Made n) (make v) (h v s))
+one_made : (d : Declared) (e : Tree) (make : TypedTree → TypedStatementTree) → IsPlaced e → ((t : TypedTree) → Said t → StandsSaid (make t))
+    → Makes StandsSaid (expression d e >>= λ v. done (make v))
+one_made d e make p h =
+    makes_bind Said StandsSaid (expression d e) (λ v. done (make v)) (expression_made d e p) (λ v s. makes_done StandsSaid (make v) (h v s))
 
-evaluate_made : (d : Declared) (e : Tree) → IsPlaced e → 1 ≤ nodes e → Makes (Made (nodes e)) (expression d e >>= λ v. done (evaluate_statement v))
-evaluate_made d e p some = one_made d e (nodes e) evaluate_statement p (λ t s. record { many = some; says = s })
+evaluate_made : (d : Declared) (e : Tree) → IsPlaced e → Makes StandsSaid (expression d e >>= λ v. done (evaluate_statement v))
+evaluate_made d e p = one_made d e evaluate_statement p (λ t s. s)
 
-evaluated_made : (d : Declared) (e : Tree) → IsPlaced e → Makes (Made (nodes e)) (evaluated d e)
-evaluated_made d (number p w) h = evaluate_made d (number p w) h (omega arith)
-evaluated_made d (truth p w) h = evaluate_made d (truth p w) h (omega arith)
-evaluated_made d (variable p x) h = evaluate_made d (variable p x) h (omega arith)
+evaluated_made : (d : Declared) (e : Tree) → IsPlaced e → Makes StandsSaid (evaluated d e)
+evaluated_made d (number p w) h = evaluate_made d (number p w) h
+evaluated_made d (truth p w) h = evaluate_made d (truth p w) h
+evaluated_made d (variable p x) h = evaluate_made d (variable p x) h
 evaluated_made d (call p x es) h =
-    makes_bind Said (Made (1 + nodes_all es)) (reading (calling d p.line x es)) (λ v. done (evaluate_statement v)) (calling_made d p.line x es h.0 h.1)
-    (λ v s. makes_done (Made (1 + nodes_all es)) (evaluate_statement v) (record { many = omega arith; says = s }))
-evaluated_made d (index p a i) h = evaluate_made d (index p a i) h (omega arith)
-evaluated_made d (parentheses p e) h = evaluate_made d (parentheses p e) h (omega arith)
-evaluated_made d (negation p e) h = evaluate_made d (negation p e) h (omega arith)
-evaluated_made d (cast p t e) h = evaluate_made d (cast p t e) h (omega arith)
-evaluated_made d (binary p op a b) h = evaluate_made d (binary p op a b) h (omega arith)
-evaluated_made d (declassify p e) h = evaluate_made d (declassify p e) h (omega arith)
-evaluated_made d (argument p x) h = evaluate_made d (argument p x) h (omega arith)
-evaluated_made d (publish p x e) h =
-    one_made d e (1 + nodes e) (publish_statement x) h.2 (λ t s. record { many = omega arith; says = (h.1, s) })
+    makes_bind Said StandsSaid (reading (calling d p.line x es)) (λ v. done (evaluate_statement v)) (calling_made d p.line x es h.0 h.1)
+    (λ v s. makes_done StandsSaid (evaluate_statement v) s)
+evaluated_made d (index p a i) h = evaluate_made d (index p a i) h
+evaluated_made d (parentheses p e) h = evaluate_made d (parentheses p e) h
+evaluated_made d (negation p e) h = evaluate_made d (negation p e) h
+evaluated_made d (cast p t e) h = evaluate_made d (cast p t e) h
+evaluated_made d (binary p op a b) h = evaluate_made d (binary p op a b) h
+evaluated_made d (declassify p e) h = evaluate_made d (declassify p e) h
+evaluated_made d (argument p x) h = evaluate_made d (argument p x) h
+evaluated_made d (publish p x e) h = one_made d e (publish_statement x) h.2 (λ t s. (h.1, s))
 
 -- ---- DECLARATIONS
 
-store_made : (d : Declared) (k : ℕ) (e : Tree) → IsPlaced e → Makes (Made 1) (expression d e >>= λ v. done (store_statement k v))
-store_made d k e p = one_made d e 1 (store_statement k) p (λ t s. record { many = omega arith; says = s })
+store_made : (d : Declared) (k : ℕ) (e : Tree) → IsPlaced e → Makes StandsSaid (expression d e >>= λ v. done (store_statement k v))
+store_made d k e p = one_made d e (store_statement k) p (λ t s. s)
 
-from_value_made : (d : Declared) (k : ℕ) (e : Tree) → IsPlaced e → Makes (Made 1) (from_value d k e)
+from_value_made : (d : Declared) (k : ℕ) (e : Tree) → IsPlaced e → Makes StandsSaid (from_value d k e)
 from_value_made d k (number p w) h = store_made d k (number p w) h
 from_value_made d k (truth p w) h = store_made d k (truth p w) h
 from_value_made d k (variable p x) h = store_made d k (variable p x) h
@@ -234,7 +191,7 @@ from_value_made d k (negation p e) h = store_made d k (negation p e) h
 from_value_made d k (cast p t e) h = store_made d k (cast p t e) h
 from_value_made d k (binary p op a b) h = store_made d k (binary p op a b) h
 from_value_made d k (declassify p e) h = store_made d k (declassify p e) h
-from_value_made d k (argument p x) h = makes_done (Made 1) (input_statement p.line k x) (record { many = omega arith; says = (h.0, h.1) })
+from_value_made d k (argument p x) h = makes_done StandsSaid (input_statement p.line k x) (h.0, h.1)
 from_value_made d k (publish p x e) h = store_made d k (publish p x e) h
 
 default_said : (element : DataType) → Said (default_of element)
@@ -242,60 +199,47 @@ default_said Uint64 = refl
 default_said datatype.Bool = tt
 
 initial_made : (d : Declared) (line k : ℕ) (element : DataType) (size value : Option Tree) → IsLine line → IsPlacedIf size → IsPlacedIf value
-    → Makes (Made 1) (initial d line k element size value)
-initial_made d line k element None None l h v = makes_done (Made 1) (default_statement k) (record { many = omega arith; says = tt })
+    → Makes StandsSaid (initial d line k element size value)
+initial_made d line k element None None l h v = makes_done StandsSaid (default_statement k) tt
 initial_made d line k element None (Some e) l h v = from_value_made d k e v
 initial_made d line k element (Some n) None l h v =
-    one_made d n 1 (λ m. fill_statement line k m (default_of element)) h (λ t s. record { many = omega arith; says = (l, s, default_said element) })
+    one_made d n (λ m. fill_statement line k m (default_of element)) h (λ t s. (l, s, default_said element))
 initial_made d line k element (Some n) (Some e) l h v =
-    makes_bind Said (Made 1) (expression d n) (λ m. expression d e >>= λ v. done (fill_statement line k m v)) (expression_made d n h)
-    (λ m s. one_made d e 1 (λ v. fill_statement line k m v) v (λ t z. record { many = omega arith; says = (l, s, z) }))
+    makes_bind Said StandsSaid (expression d n) (λ m. expression d e >>= λ v. done (fill_statement line k m v)) (expression_made d n h)
+    (λ m s. one_made d e (λ v. fill_statement line k m v) v (λ t z. (l, s, z)))
 
-abbrev Anything : {A : Type 0} → A → Type 0
-Anything a = Unit {0}
-
-anything : {A : Type 0} (m : Resolving A) → Makes Anything m
-anything m = record { from = λ s a q e. tt }
-
-declared_made : (d : Declared) (t : DeclarationTree) → DeclaresPlaced t → Makes (Made (declaration_nodes t)) (declared d t)
+declared_made : (d : Declared) (t : DeclarationTree) → DeclaresPlaced t → Makes StandsSaid (declared d t)
 declared_made d t h =
-    let n = declaration_nodes t in
-    makes_bind Anything (Made n) next_slot _ (anything next_slot) (λ k u.
-    makes_bind (Made 1) (Made n) (initial d t.declared.place.line k t.declared.element t.size t.value) _
-    (initial_made d t.declared.place.line k t.declared.element t.size t.value h.0 h.1 h.2) (λ c m.
-    makes_bind Anything (Made n) (declare t.variable t.declared) _ (anything (declare t.variable t.declared)) (λ x z.
-    makes_done (Made n) c (let many = m.many in record { many = omega (arith, many); says = m.says }))))
+    makes_bind Anything StandsSaid next_slot _ (anything next_slot) (λ k u.
+    makes_bind StandsSaid StandsSaid (initial d t.declared.place.line k t.declared.element t.size t.value) _
+    (initial_made d t.declared.place.line k t.declared.element t.size t.value h.0 h.1 h.2) (λ c s.
+    makes_bind Anything StandsSaid (declare t.variable t.declared) _ (anything (declare t.variable t.declared)) (λ x z. makes_done StandsSaid c s)))
 
 -- ---- ASSIGNMENTS
 
 assigned_to_made : (d : Declared) (line k : ℕ) (i : Option Tree) (e : Tree) → IsLine line → IsPlacedIf i → IsPlaced e
-    → Makes (Made 1) (assigned_to d line k i e)
+    → Makes StandsSaid (assigned_to d line k i e)
 assigned_to_made d line k None e l h p = store_made d k e p
 assigned_to_made d line k (Some i) e l h p =
-    makes_bind Said (Made 1) (expression d i) (λ j. expression d e >>= λ v. done (element_statement line k j v)) (expression_made d i h)
-    (λ j s. one_made d e 1 (λ v. element_statement line k j v) p (λ t z. record { many = omega arith; says = (l, s, z) }))
+    makes_bind Said StandsSaid (expression d i) (λ j. expression d e >>= λ v. done (element_statement line k j v)) (expression_made d i h)
+    (λ j s. one_made d e (λ v. element_statement line k j v) p (λ t z. (l, s, z)))
 
-wider : (n k : ℕ) (m : Resolving TypedStatementTree) → n ≤ k → Makes (Made n) m → Makes (Made k) m
-wider n k m l h =
-    record { from = λ s a q e. let x = h.from s a q e in let many = x.many in record { many = omega (arith, l, many); says = x.says } }
-
-assigned_made : (d : Declared) (a : AssignmentTree) → AssignsPlaced a → Makes (Made (assignment_nodes a)) (assigned d a)
+assigned_made : (d : Declared) (a : AssignmentTree) → AssignsPlaced a → Makes StandsSaid (assigned d a)
 assigned_made d a h =
-    let n = assignment_nodes a in
-    makes_bind Anything (Made n) (named a.target.variable.text) _ (anything (named a.target.variable.text)) (λ x u.
-    wider 1 n _ (omega arith) (assigned_to_made d a.target.variable.place.line x.slot a.target.index a.value h.0 h.1 h.2))
+    makes_bind Anything StandsSaid (named a.target.variable.text) _ (anything (named a.target.variable.text)) (λ x u.
+    assigned_to_made d a.target.variable.place.line x.slot a.target.index a.value h.0 h.1 h.2)
 
 -- ---- STATEMENTS
 
-empty_made : Makes (Made 0) (done empty_statement)
-empty_made = makes_done (Made 0) empty_statement (record { many = omega arith; says = tt })
+empty_made : Makes StandsSaid (done empty_statement)
+empty_made = makes_done StandsSaid empty_statement tt
 
-started_made : (d : Declared) (a : StartTree) → StartsPlaced a → Makes (Made (start_nodes a)) (started d a)
+started_made : (d : Declared) (a : StartTree) → StartsPlaced a → Makes StandsSaid (started d a)
 started_made d starts_with_nothing h = empty_made
 started_made d (starts_with_declaration t) h = declared_made d t h
 started_made d (starts_with_assignment a) h = assigned_made d a h
 
-stepped_made : (d : Declared) (b : StepTree) → StepsPlaced b → Makes (Made (step_nodes b)) (stepped d b)
+stepped_made : (d : Declared) (b : StepTree) → StepsPlaced b → Makes StandsSaid (stepped d b)
 stepped_made d steps_by_nothing h = empty_made
 stepped_made d (steps_by_assignment a) h = assigned_made d a h
 stepped_made d (steps_by_expression e) h = evaluated_made d e h
@@ -304,77 +248,55 @@ condition_made : (d : Declared) (e : Option Tree) → IsPlacedIf e → Makes Sai
 condition_made d None h = makes_done Said (truth_node _) tt
 condition_made d (Some e) h = expression_made d e h
 
-returned_made : (d : Declared) (e : Option Tree) → IsPlacedIf e → Makes (Made 1) (returned d e)
-returned_made d None h = makes_done (Made 1) (return_statement None) (record { many = omega arith; says = tt })
-returned_made d (Some e) h = one_made d e 1 (λ v. return_statement (Some v)) h (λ t s. record { many = omega arith; says = s })
+returned_made : (d : Declared) (e : Option Tree) → IsPlacedIf e → Makes StandsSaid (returned d e)
+returned_made d None h = makes_done StandsSaid (return_statement None) tt
+returned_made d (Some e) h = one_made d e (λ v. return_statement (Some v)) h (λ t s. s)
 
-looped_made : (d : Declared) (a : StartTree) (e : Option Tree) (b : StepTree) (n : ℕ) (body : Resolving TypedStatementTree) → StartsPlaced a → IsPlacedIf e
-    → StepsPlaced b → Makes (Made n) body
-    → Makes (Made (1 + (start_nodes a + (optional_nodes e + (step_nodes b + n))))) (looped d a e b body)
-looped_made d a e b n body ha he hb h =
-    let all = 1 + (start_nodes a + (optional_nodes e + (step_nodes b + n))) in
-    makes_bind (Made (start_nodes a)) (Made all) (started d a) _ (started_made d a ha) (λ x sx.
-    makes_bind Said (Made all) (condition_of d e) _ (condition_made d e he) (λ v sv.
-    makes_bind (Made (step_nodes b)) (Made all) (stepped d b) _ (stepped_made d b hb) (λ c sc.
-    makes_bind (Made n) (Made all) (in_block body) _ (makes_block (Made n) body h) (λ y sy.
-    makes_done (Made all) (block_statement (also x (also (loop_statement v c y) none)))
-    (let one = sx.many in let two = sc.many in let three = sy.many in
-    record { many = omega (arith, one, two, three); says = (sx.says, ((sv, sc.says, sy.says), tt)) })))))
+looped_made : (d : Declared) (a : StartTree) (e : Option Tree) (b : StepTree) (body : Resolving TypedStatementTree) → StartsPlaced a → IsPlacedIf e
+    → StepsPlaced b → Makes StandsSaid body
+    → Makes StandsSaid (looped d a e b body)
+looped_made d a e b body ha he hb h =
+    makes_bind StandsSaid StandsSaid (started d a) _ (started_made d a ha) (λ x sx.
+    makes_bind Said StandsSaid (condition_of d e) _ (condition_made d e he) (λ v sv.
+    makes_bind StandsSaid StandsSaid (stepped d b) _ (stepped_made d b hb) (λ c sc.
+    makes_bind StandsSaid StandsSaid (in_block body) _ (makes_block StandsSaid body h) (λ y sy.
+    makes_done StandsSaid (block_statement (also x (also (loop_statement v c y) none))) (sx, ((sv, sc, sy), tt))))))
 
 mutual
-  statement_made : (d : Declared) (t : StatementTree) → StandsPlaced t → Makes (Made (statement_nodes t)) (resolved d t)
+  statement_made : (d : Declared) (t : StatementTree) → StandsPlaced t → Makes StandsSaid (resolved d t)
   statement_made d (block p ss) h =
-      let all = 1 + statements_nodes ss in
-      makes_bind (AreMade (statements_nodes ss)) (Made all) (in_block (resolved_all d ss)) _
-      (makes_block (AreMade (statements_nodes ss)) (resolved_all d ss) (statements_made d ss h))
-      (λ cs s. makes_done (Made all) (block_statement cs) (let many = s.many in record { many = omega (arith, many); says = s.say }))
-  statement_made d (empty p) h = wider 0 1 _ (omega arith) empty_made
+      makes_bind StandSaid StandsSaid (in_block (resolved_all d ss)) _ (makes_block StandSaid (resolved_all d ss) (statements_made d ss h))
+      (λ cs s. makes_done StandsSaid (block_statement cs) s)
+  statement_made d (empty p) h = empty_made
   statement_made d (branch p e body) h =
-      let n = statement_nodes body in
-      let all = 1 + (nodes e + n) in
-      makes_bind Said (Made all) (expression d e) _ (expression_made d e h.0) (λ v sv.
-      makes_bind (Made n) (Made all) (in_block (resolved d body)) _ (makes_block (Made n) (resolved d body) (statement_made d body h.1)) (λ c s.
-      makes_done (Made all) (if_statement v c empty_statement) (let many = s.many in record { many = omega (arith, many); says = (sv, s.says, tt) })))
+      makes_bind Said StandsSaid (expression d e) _ (expression_made d e h.0) (λ v sv.
+      makes_bind StandsSaid StandsSaid (in_block (resolved d body)) _ (makes_block StandsSaid (resolved d body) (statement_made d body h.1)) (λ c s.
+      makes_done StandsSaid (if_statement v c empty_statement) (sv, s, tt)))
   statement_made d (choice p e body otherwise) h =
-      let n = statement_nodes body in
-      let k = statement_nodes otherwise in
-      let all = 1 + (nodes e + (n + k)) in
-      makes_bind Said (Made all) (expression d e) _ (expression_made d e h.0) (λ v sv.
-      makes_bind (Made n) (Made all) (in_block (resolved d body)) _ (makes_block (Made n) (resolved d body) (statement_made d body h.1)) (λ b sb.
-      makes_bind (Made k) (Made all) (in_block (resolved d otherwise)) _ (makes_block (Made k) (resolved d otherwise) (statement_made d otherwise h.2)) (λ c sc.
-      makes_done (Made all) (if_statement v b c)
-      (let one = sb.many in let two = sc.many in record { many = omega (arith, one, two); says = (sv, sb.says, sc.says) }))))
+      makes_bind Said StandsSaid (expression d e) _ (expression_made d e h.0) (λ v sv.
+      makes_bind StandsSaid StandsSaid (in_block (resolved d body)) _ (makes_block StandsSaid (resolved d body) (statement_made d body h.1)) (λ b sb.
+      makes_bind StandsSaid StandsSaid (in_block (resolved d otherwise)) _ (makes_block StandsSaid (resolved d otherwise) (statement_made d otherwise h.2))
+      (λ c sc. makes_done StandsSaid (if_statement v b c) (sv, sb, sc))))
   statement_made d (while_loop p e body) h =
-      let n = statement_nodes body in
-      let all = 1 + (nodes e + n) in
-      makes_bind Said (Made all) (expression d e) _ (expression_made d e h.0) (λ v sv.
-      makes_bind (Made n) (Made all) (in_block (resolved d body)) _ (makes_block (Made n) (resolved d body) (statement_made d body h.1)) (λ c s.
-      makes_done (Made all) (loop_statement v empty_statement c) (let many = s.many in record { many = omega (arith, many); says = (sv, tt, s.says) })))
+      makes_bind Said StandsSaid (expression d e) _ (expression_made d e h.0) (λ v sv.
+      makes_bind StandsSaid StandsSaid (in_block (resolved d body)) _ (makes_block StandsSaid (resolved d body) (statement_made d body h.1)) (λ c s.
+      makes_done StandsSaid (loop_statement v empty_statement c) (sv, tt, s)))
   statement_made d (do_loop p body e) h =
-      let n = statement_nodes body in
-      let all = 1 + (n + nodes e) in
-      makes_bind (Made n) (Made all) (in_block (resolved d body)) _ (makes_block (Made n) (resolved d body) (statement_made d body h.0)) (λ c s.
-      makes_bind Said (Made all) (expression d e) _ (expression_made d e h.1) (λ v sv.
-      makes_done (Made all) (do_statement c v) (let many = s.many in record { many = omega (arith, many); says = (s.says, sv) })))
+      makes_bind StandsSaid StandsSaid (in_block (resolved d body)) _ (makes_block StandsSaid (resolved d body) (statement_made d body h.0)) (λ c s.
+      makes_bind Said StandsSaid (expression d e) _ (expression_made d e h.1) (λ v sv. makes_done StandsSaid (do_statement c v) (s, sv)))
   statement_made d (for_loop p a e b body) h =
-      let all = 1 + (start_nodes a + (optional_nodes e + (step_nodes b + statement_nodes body))) in
-      makes_block (Made all) (looped d a e b (resolved d body))
-      (looped_made d a e b (statement_nodes body) (resolved d body) h.0 h.1 h.2 (statement_made d body h.3))
-  statement_made d (breaks p) h = makes_done (Made 1) break_statement (record { many = omega arith; says = tt })
-  statement_made d (continues p) h = makes_done (Made 1) continue_statement (record { many = omega arith; says = tt })
-  statement_made d (returns p e) h = wider 1 (1 + optional_nodes e) _ (omega arith) (returned_made d e h)
-  statement_made d (assertion p e) h =
-      one_made d e (1 + nodes e) (assert_statement p.line) h.1 (λ t s. record { many = omega arith; says = (h.0, s) })
+      makes_block StandsSaid (looped d a e b (resolved d body))
+      (looped_made d a e b (resolved d body) h.0 h.1 h.2 (statement_made d body h.3))
+  statement_made d (breaks p) h = makes_done StandsSaid break_statement tt
+  statement_made d (continues p) h = makes_done StandsSaid continue_statement tt
+  statement_made d (returns p e) h = returned_made d e h
+  statement_made d (assertion p e) h = one_made d e (assert_statement p.line) h.1 (λ t s. (h.0, s))
   statement_made d (declaration t) h = declared_made d t h
   statement_made d (assignment a) h = assigned_made d a h
-  statement_made d (evaluation e) h = wider (nodes e) (1 + nodes e) _ (omega arith) (evaluated_made d e h)
+  statement_made d (evaluation e) h = evaluated_made d e h
 
-  pub statements_made : (d : Declared) (ts : StatementTrees) → StandPlaced ts → Makes (AreMade (statements_nodes ts)) (resolved_all d ts)
-  statements_made d Statements'.none h = makes_done (AreMade 0) none (record { many = omega arith; say = tt })
+  pub statements_made : (d : Declared) (ts : StatementTrees) → StandPlaced ts → Makes StandSaid (resolved_all d ts)
+  statements_made d Statements'.none h = makes_done StandSaid none tt
   statements_made d (Statements'.also t ts) h =
-      let n = statement_nodes t in
-      let k = statements_nodes ts in
-      makes_bind (Made n) (AreMade (n + k)) (resolved d t) _ (statement_made d t h.0) (λ c s.
-      makes_bind (AreMade k) (AreMade (n + k)) (resolved_all d ts) _ (statements_made d ts h.1) (λ cs ss.
-      makes_done (AreMade (n + k)) (also c cs)
-      (let one = s.many in let two = ss.many in record { many = omega (arith, one, two); say = (s.says, ss.say) })))
+      makes_bind StandsSaid StandSaid (resolved d t) _ (statement_made d t h.0) (λ c s.
+      makes_bind StandSaid StandSaid (resolved_all d ts) _ (statements_made d ts h.1) (λ cs ss. makes_done StandSaid (also c cs) (s, ss)))

@@ -1,5 +1,5 @@
--- What is promised of raw code: that it can be written.
-use Rattle.std.specs.Prelude.{◌≡◌, ◌<◌, ◌^◌, ℕ, List, length, Some}
+-- What is promised of raw code: that it can be written, and that no function of it is heavier than its tree.
+use Rattle.std.specs.Prelude.{◌≡◌, ℕ, ◌+◌, ◌*◌, ◌^◌, ◌<◌, ◌≤◌, List, [], ◌∷◌, length, Some}
 use Rattle.std.specs.List.{slice_get, flat_map}
 use Rattle.sc_text.specs.Name.{is_name}
 use Rattle.secrec_ast.specs.Programs.{ProgramTree}
@@ -8,7 +8,8 @@ use Rattle.typed_tree.specs.Programs.{TypedProgramTree}
 use Rattle.name_resolution.specs.Functions.{typed_of}
 use Rattle.reached_instances.specs.Instances.{Instance}
 use Rattle.reached_instances.specs.Reached.{IsReachedList}
-use Rattle.program_limits.specs.Limits.{IsWithinLimits}
+use Rattle.program_limits.specs.Limits.{sizes, IsWithinLimits}
+use Rattle.bytecode.specs.Raw.{RawFunction}
 use Rattle.bytecode.specs.Writable.{IsWritable}
 use Rattle.verified_code.specs.Steps.{Step, Function}
 use Rattle.code_model.specs.Kinded.{IsIn}
@@ -43,3 +44,24 @@ abbrev pub IsWritableWhereAccepted : ProgramTree → Type 0
 IsWritableWhereAccepted source =
     IsTypedProgram source → IsWellWritten source → IsPlacedProgram source → (p : TypedProgramTree) → typed_of source ≡ Some p → (is : List Instance)
     → IsReachedList p is → IsWithinLimits p → IsWritable (raw_code_of_program p is)
+
+-- ---- WEIGHTS
+
+-- of a function of this size, which is the number of its tree's nodes and its parameters
+abbrev pub weight : ℕ → ℕ
+weight size = 16 * size
+
+pub record IsWithinWeight (size : ℕ) (f : RawFunction) : Type 0 where
+  pub instructions : length f.body ≤ weight size
+  pub registers : length f.registers ≤ weight size
+
+-- one function for each size. Sizes are counted up to the largest number of 32 bits, and nothing is said of a function that reaches it
+abbrev pub AreWithinWeight : List ℕ → List RawFunction → Type 0
+AreWithinWeight [] [] = Unit {0}
+AreWithinWeight (size ∷ sizes) (f ∷ fs) = (size + 1 < 2 ^ 32 → IsWithinWeight size f) × AreWithinWeight sizes fs
+AreWithinWeight _ _ = ⊥
+
+-- the code of whatever instances of a typed program
+abbrev pub IsWithinWeightWhereTyped : ProgramTree → Type 0
+IsWithinWeightWhereTyped source =
+    (p : TypedProgramTree) → typed_of source ≡ Some p → (is : List Instance) → AreWithinWeight (sizes p is) (raw_code_of_program p is).functions

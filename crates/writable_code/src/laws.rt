@@ -1,8 +1,8 @@
-// What is true of the raw code of an accepted program: it can be written.
+// What is true of the raw code of an accepted program: it can be written, and no function of it is heavier than its tree.
 ghost use Rattle.std.specs.Prelude.{List};
 ghost use Rattle.secrec_ast.specs.Programs.{ProgramTree};
 ghost use Rattle.verified_code.specs.Steps.{Function};
-ghost use Rattle.writable_code.specs.Laws.{IsWritableWhereRight, IsWritableWhereAccepted};
+ghost use Rattle.writable_code.specs.Laws.{IsWritableWhereRight, IsWritableWhereAccepted, IsWithinWeightWhereTyped};
 
 /// Law: the raw code of steps that are right is writable, where it has few functions, few steps in each and few names, and where its
 /// literals are words, its lines have 32 bits and its names are names.
@@ -14,4 +14,10 @@ pub fn right_code_is_writable()
 /// inputs and results have names, and that is within the limits of size.
 pub fn accepted_code_is_writable()
     ensures { (p : ProgramTree) → IsWritableWhereAccepted p }
+{}
+
+/// Law: each function of the raw code of a typed program's instances has at most as many instructions, and at most as many registers, as its
+/// weight, which is 16 times the size of the function that the instance is of, where this size is below the largest that is counted.
+pub fn functions_are_within_their_weight()
+    ensures { (p : ProgramTree) → IsWithinWeightWhereTyped p }
 {}
