@@ -5,7 +5,8 @@
 . "$(dirname "$0")/begin.sh"
 
 python3 - "$program" "$work" <<'PY'
-import os, sys, time
+import os, sys
+from measure import called, least, written
 
 program, work = sys.argv[1:]
 
@@ -43,28 +44,19 @@ shapes = {
 }
 
 def run(path):
-    out, into = os.pipe()
-    actions = [(os.POSIX_SPAWN_DUP2, into, 1), (os.POSIX_SPAWN_DUP2, into, 2), (os.POSIX_SPAWN_CLOSE, out)]
-    child = os.posix_spawn(program, [program, "check", path], {}, file_actions=actions)
-    os.close(into)
-    text = os.read(out, 4096)
-    _, status, used = os.wait4(child, 0)
-    os.close(out)
+    status, text, took = called(program, "check", path)
     # (a program that is too large to be run has been read, typed and counted whole)
-    accepted = status == 0 and text == b"ok\n" or os.WEXITSTATUS(status) == 3 and text.startswith(b"error: X")
-    assert accepted, (path, status, text)
-    return used.ru_utime + used.ru_stime, used.ru_maxrss
+    assert status == 0 and text == b"ok\n" or status == 3 and text.startswith(b"error: X"), (path, status, text)
+    return took
 
 print(f"{'program':12} {'KiB':>6} {'seconds':>9} {'peak kB':>9}   over the size before: time, memory")
 for name, made in shapes.items():
     before = None
     for size in (65536, 262144, 1048576):
-        path = f"{work}/{name}.sc"
-        with open(path, "w") as file:
-            file.write(made(size))
+        path = written(f"{work}/{name}.sc", made(size))
         assert os.stat(path).st_size <= 1048576, path
-        seconds, peak = min(run(path) for _ in range(5))
-        ratios = f"{seconds / before[0]:9.1f} {peak / before[1]:6.1f}" if before else ""
-        print(f"{name:12} {os.stat(path).st_size // 1024:6} {seconds:9.3f} {peak:9}   {ratios}")
-        before = seconds, peak
+        took = least(5, lambda: run(path))
+        ratios = f"{took.seconds / before.seconds:9.1f} {took.peak / before.peak:6.1f}" if before else ""
+        print(f"{name:12} {os.stat(path).st_size // 1024:6} {took.seconds:9.3f} {took.peak:9}   {ratios}")
+        before = took
 PY

@@ -5,7 +5,8 @@
 . "$(dirname "$0")/begin.sh"
 
 python3 - "$program" "$work" <<'PY'
-import os, subprocess, sys
+import sys
+from measure import least, ran, written
 
 program, work = sys.argv[1:]
 SEED = "00" * 31 + "07"
@@ -17,29 +18,16 @@ void main() {
 """
 
 
-def written(name, text):
-    with open(f"{work}/{name}", "w") as file:
-        file.write(text)
-    return f"{work}/{name}"
-
-
 def inputs(count):
     private = '{"name":"x","domain":"private","type":"uint64","value":3}'
-    return written("input.json", '{"inputs":[%s,{"name":"n","domain":"public","type":"uint64","value":%d}]}' % (private, count))
+    return written(f"{work}/input.json", '{"inputs":[%s,{"name":"n","domain":"public","type":"uint64","value":%d}]}' % (private, count))
 
 
 def seconds(count, *options):
     """The least processor time of three runs."""
-    words = [program, "run", written("products.sc", PRODUCTS), "--input", inputs(count), "--seed", SEED, "--words", "400000",
+    words = [program, "run", written(f"{work}/products.sc", PRODUCTS), "--input", inputs(count), "--seed", SEED, "--words", "400000",
              "--budget", "100000000", *options]
-    least = None
-    for _ in range(3):
-        before = os.times()
-        subprocess.run(words, check=True, stdout=subprocess.DEVNULL)
-        after = os.times()
-        spent = after.children_user + after.children_system - before.children_user - before.children_system
-        least = spent if least is None else min(least, spent)
-    return least
+    return least(3, lambda: ran(*words)).seconds
 
 
 recorded = f"{work}/recorded"

@@ -5,7 +5,8 @@
 . "$(dirname "$0")/begin.sh"
 
 python3 - "$program" "$work" <<'PY'
-import os, subprocess, sys
+import sys
+from measure import least, ran, written
 
 program, work = sys.argv[1:]
 
@@ -19,25 +20,16 @@ shapes = {
         "void main() { p uint64[[1]] a = argument(\"a\"); publish(\"s\", declassify(sum(f(a, 20)))); }\n"),
 }
 
-def written(name, text):
-    path = f"{work}/{name}"
-    with open(path, "w") as file:
-        file.write(text)
-    return path
-
 def run(source, given):
-    child = subprocess.Popen([program, "eval", source, "--input", given, "--budget", "1000000000"], stdout=subprocess.DEVNULL)
-    _, status, used = os.wait4(child.pid, 0)
-    assert status == 0, (source, status)
-    return used.ru_utime + used.ru_stime, used.ru_maxrss
+    return ran(program, "eval", source, "--input", given, "--budget", "1000000000")
 
 print(f"{'program':12} {'elements':>9} {'seconds':>9} {'peak kB':>9}   over the size before: time, memory")
 for name, (domain, text) in shapes.items():
-    source, last = written(name + ".sc", text), None
+    source, last = written(f"{work}/{name}.sc", text), None
     for size in (4096, 16384, 65536):
-        given = written("a.json", '{"inputs":[{"name":"a","domain":"%s","type":"uint64","value":[%s]}]}' % (domain, ",".join(["1"] * size)))
-        used = min(run(source, given) for _ in range(3))
-        over = "" if last is None else f"   {used[0] / last[0]:.1f} {used[1] / last[1]:.1f}"
-        print(f"{name:12} {size:9} {used[0]:9.3f} {used[1]:9}{over}")
-        last = used
+        given = written(f"{work}/a.json", '{"inputs":[{"name":"a","domain":"%s","type":"uint64","value":[%s]}]}' % (domain, ",".join(["1"] * size)))
+        took = least(3, lambda: run(source, given))
+        over = "" if last is None else f"   {took.seconds / last.seconds:.1f} {took.peak / last.peak:.1f}"
+        print(f"{name:12} {size:9} {took.seconds:9.3f} {took.peak:9}{over}")
+        last = took
 PY

@@ -6,7 +6,8 @@
 . "$(dirname "$0")/begin.sh"
 
 python3 - "$program" "$work" <<'PY'
-import os, sys
+import sys
+from measure import called, least, written
 
 program, work = sys.argv[1:]
 
@@ -37,53 +38,41 @@ def made(shape, parts, functions):
     calls = "".join(f"x = f{k}(x, b);\n" for k in range(functions))
     return HEAD + "".join(FUNCTION % (k, body) for k in range(functions)) + "void main() { uint64 x; bool b;\n" + calls + "}\n"
 
-def run(*words):
-    out, into = os.pipe()
-    actions = [(os.POSIX_SPAWN_DUP2, into, 1), (os.POSIX_SPAWN_DUP2, into, 2), (os.POSIX_SPAWN_CLOSE, out)]
-    child = os.posix_spawn(program, [program, *words], {}, file_actions=actions)
-    os.close(into)
-    text = os.read(out, 4096)
-    _, status, used = os.wait4(child, 0)
-    os.close(out)
-    return os.waitstatus_to_exitcode(status), text, used
-
-def written(text):
-    path = f"{work}/made.sc"
-    with open(path, "w") as file:
-        file.write(text)
-    return path
+def source(shape, parts, functions):
+    """The path of such a program."""
+    return written(f"{work}/made.sc", made(shape, parts, functions))
 
 def greatest(shape):
     """The most parts in one another that are accepted."""
     low, high = 1, 128
     while low + 1 < high:
         middle = (low + high) // 2
-        status, text, _ = run("check", written(made(shape, middle, 1)))
+        status, text, _ = called(program, "check", source(shape, middle, 1))
         assert status == 0 or text.startswith(b"error: Y2"), (middle, status, text)
         low, high = (middle, high) if status == 0 else (low, middle)
     return low
 
 def measured(shape, parts, functions):
-    path = written(made(shape, parts, functions))
+    path = source(shape, parts, functions)
     def once():
-        status, text, used = run("compile", path, "--code", f"{work}/made.code")
+        status, text, took = called(program, "compile", path, "--code", f"{work}/made.code")
         assert status == 0 and text.startswith(b"functions "), (parts, functions, status, text)
-        return used.ru_utime + used.ru_stime, used.ru_maxrss
-    return min(once() for _ in range(5))
+        return took
+    return least(5, once)
 
-def row(name, parts, functions, used, before):
-    over = f"{used[0] / before[0]:9.1f} {used[1] / before[1]:6.1f}" if before else ""
-    print(f"{name:14} {parts:5} {functions:9} {used[0]:9.3f} {used[1]:9}   {over}")
+def row(name, parts, functions, took, before):
+    over = f"{took.seconds / before.seconds:9.1f} {took.peak / before.peak:6.1f}" if before else ""
+    print(f"{name:14} {parts:5} {functions:9} {took.seconds:9.3f} {took.peak:9}   {over}")
 
 print(f"{'program':14} {'parts':>5} {'functions':>9} {'seconds':>9} {'peak kB':>9}   over the row before: time, memory")
 for name, shape in shapes.items():
     most, before = greatest(shape), None
     for functions in (4, 8, 15):
-        used = measured(shape, most, functions)
-        row(name, most, functions, used, before)
-        before = used
+        took = measured(shape, most, functions)
+        row(name, most, functions, took, before)
+        before = took
     for parts in (most // 2, most // 4, most // 8):
-        used = measured(shape, parts, 15)
-        row("  less high", parts, 15, used, before)
-        before = used
+        took = measured(shape, parts, 15)
+        row("  less high", parts, 15, took, before)
+        before = took
 PY

@@ -8,7 +8,8 @@
 for name in multiply compare; do rustc -O -o "$work/${name}_by_hand" "$top/bench/${name}_by_hand.rs"; done
 
 python3 - "$program" "$work" <<'PY'
-import os, subprocess, sys
+import sys
+from measure import least, ran, written
 
 program, work = sys.argv[1:]
 HEAD = "import stdlib; import shared3p; domain p shared3p;\n"
@@ -33,12 +34,6 @@ STEPS = """void main() {
 """
 
 
-def written(name, text):
-    with open(f"{work}/{name}", "w") as file:
-        file.write(text)
-    return f"{work}/{name}"
-
-
 def entry(name, domain, value):
     return '{"name":"%s","domain":"%s","type":"uint64","value":%s}' % (name, domain, value)
 
@@ -51,20 +46,13 @@ def pairs(count):
     return [entry("a", "private", numbers(count, 2862933555777941757)), entry("b", "private", numbers(count, 3202034522624059733))]
 
 
-def timed(words):
-    child = subprocess.Popen(words, stdout=subprocess.DEVNULL)
-    _, status, used = os.wait4(child.pid, 0)
-    assert status == 0, (words, status)
-    return used.ru_utime + used.ru_stime, used.ru_maxrss
-
-
-def least(*words):
-    return min(timed(words) for _ in range(5))
+def taken(*words):
+    return least(5, lambda: ran(*words))
 
 
 def called(command, text, entries, *more):
-    source, given = written("p.sc", text), written("p.json", '{"inputs":[' + ",".join(entries) + "]}")
-    return least(program, command, source, "--input", given, "--budget", "1000000000000", *more)
+    source, given = written(f"{work}/p.sc", text), written(f"{work}/p.json", '{"inputs":[' + ",".join(entries) + "]}")
+    return taken(program, command, source, "--input", given, "--budget", "1000000000000", *more)
 
 
 def run(text, entries, words):
@@ -73,7 +61,7 @@ def run(text, entries, words):
 
 def by_hand(name, count):
     program = f"{work}/{name}_by_hand"
-    return least(program, str(count))[0] - least(program, str(count), "words")[0]
+    return taken(program, str(count)).seconds - taken(program, str(count), "words").seconds
 
 
 def told(name, size, seconds, memory, last, more=""):
@@ -86,18 +74,17 @@ print(f"{'what':12} {'how many':>9} {'seconds':>9} {'ns each':>9} {'peak MB':>9}
 SIZE, last = 65536, None
 for times in (4, 16, 64):
     products = lambda n: run(PRODUCTS, pairs(SIZE) + [entry("n", "public", n)], 4 * SIZE + 3 * SIZE * times)
-    (none, _), (seconds, memory), hand = products(0), products(times), by_hand("multiply", SIZE * times)
-    ratio = f"without any {none:.3f}; by hand {hand:.3f}; over by hand {(seconds - none) / hand:.2f}"
-    last = told("products", SIZE * times, seconds - none, memory, last, ratio)
+    none, took, hand = products(0).seconds, products(times), by_hand("multiply", SIZE * times)
+    ratio = f"without any {none:.3f}; by hand {hand:.3f}; over by hand {(took.seconds - none) / hand:.2f}"
+    last = told("products", SIZE * times, took.seconds - none, took.peak, last, ratio)
 last = None
 for size in (4096, 16384, 65536):
-    (seconds, memory), hand = run(COMPARISONS, pairs(size), 119 * size), by_hand("compare", size)
-    last = told("comparisons", size, seconds, memory, last, f"by hand {hand:.3f}; over by hand {seconds / hand:.2f}")
+    took, hand = run(COMPARISONS, pairs(size), 119 * size), by_hand("compare", size)
+    last = told("comparisons", size, took.seconds, took.peak, last, f"by hand {hand:.3f}; over by hand {took.seconds / hand:.2f}")
 last = evaluated = None
 for size in (62500, 250000, 1000000):
     given = [entry("n", "public", size)]
-    seconds, memory = called("eval", STEPS, given)
-    evaluated = told("steps, eval", size, seconds, memory, evaluated)
-    ran = run(STEPS, given, 1)
-    last = told("steps, run", size, *ran, last, f"over eval {ran[0] / seconds:.2f}")
+    clear, shared = called("eval", STEPS, given), run(STEPS, given, 1)
+    evaluated = told("steps, eval", size, clear.seconds, clear.peak, evaluated)
+    last = told("steps, run", size, shared.seconds, shared.peak, last, f"over eval {shared.seconds / clear.seconds:.2f}")
 PY

@@ -38,21 +38,14 @@ PY
 # the kernel, the time that went by (seconds), and its peak memory (kilobytes).
 measure() {
   python3 - "$program" "$top/examples/sum/sum.sc" "$work/$1.tape" "$work/$2.json" <<'PY'
-import os, sys, time
+import sys
+from measure import called, least
 program, source, tape, inputs = sys.argv[1:]
 def run():
-    out, into = os.pipe()
-    start = time.monotonic()
-    words = [program, "run", source, "--input", inputs, "--tape", tape]
-    child = os.posix_spawn(program, words, {}, file_actions=[(os.POSIX_SPAWN_DUP2, into, 1), (os.POSIX_SPAWN_CLOSE, out)])
-    os.close(into)
-    text = os.read(out, 4096)
-    _, status, used = os.wait4(child, 0)
-    seconds = time.monotonic() - start
-    os.close(out)
+    status, text, took = called(program, "run", source, "--input", inputs, "--tape", tape)
     assert status == 0 and text == b"open 13\npublish s 13\nend done cost 7\n", (status, text)
-    return used.ru_utime + used.ru_stime, used.ru_utime, used.ru_stime, seconds, used.ru_maxrss
-print("%.3f %.3f %.3f %d" % min(run() for _ in range(5))[1:])
+    return took
+print("%.3f %.3f %.3f %d" % least(5, run)[1:])
 PY
 }
 

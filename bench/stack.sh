@@ -5,33 +5,26 @@
 # that `./secrec` runs can be named.
 . "$(dirname "$0")/begin.sh"
 
-PYTHONDONTWRITEBYTECODE=1 python3 - "$program" "$work" "$top/tools" <<'PY'
-import subprocess, sys
-
-program, work, tools = sys.argv[1:]
-sys.path.insert(0, tools)
+python3 - "$program" "$work" <<'PY'
+import sys
 from deep_programs import SHAPES, deepest
+from measure import called, written
 
+program, work = sys.argv[1:]
 WITHIN = 8192  # kB
 
 
-def written(name, text):
-    with open(f"{work}/{name}", "w") as file:
-        file.write(text)
-    return f"{work}/{name}"
-
-
 def is_accepted(text):
-    return subprocess.run([program, "check", written("tried.sc", text)], capture_output=True).returncode == 0
+    return called(program, "check", written(f"{work}/tried.sc", text))[0] == 0
 
 
-given = written("given.json", '{"inputs":[]}')
+given = written(f"{work}/given.json", '{"inputs":[]}')
 
 
 def ended(source, kilobytes):
-    words = f"ulimit -S -s {kilobytes} && exec '{program}' eval '{source}' --input '{given}'"
-    ran = subprocess.run(["bash", "-c", words], capture_output=True)
-    return ran.returncode >= 0 and b"depth" in (ran.stdout + ran.stderr).lower()
+    limited = f'ulimit -S -s {kilobytes} && exec "$0" "$@"'
+    status, text, _ = called("bash", "-c", limited, program, "eval", source, "--input", given)
+    return status >= 0 and b"depth" in text.lower()
 
 
 beyond = False
@@ -42,7 +35,7 @@ for name, made in SHAPES.items():
         print(f"{name:28} no program of this shape is accepted")
         beyond = True
         continue
-    source = written("deep.sc", made(parts))
+    source = written(f"{work}/deep.sc", made(parts))
     low, high = 0, 64 * 1024
     if not ended(source, high):
         print(f"{name:28} {parts:5}   doesn't end within {high}")

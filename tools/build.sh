@@ -1,10 +1,11 @@
-# Sourced by ./secrec and ./install: proves and builds the program `secrec` where no build of these sources is at hand.
+# Sourced by ./secrec and ./install, by four checks in .ci and by bench/begin.sh: proves and builds the program `secrec` where no build of
+# these sources is at hand, and says which crates it is made of.
 #
 # A build stands in .build/SUM, SUM being a checksum of all that the program is made of. It is made under another name and
 # renamed when it is whole, so nobody ever meets half of one; a lock lets one build at a time work in a checkout.
 
 # What a build from nothing takes, by estimate: processor minutes in all, and minutes of its longest chain of crates (docs/performance.md).
-build_work=145
+build_work=143
 build_chain=40
 
 # Ends the script with a status that no run of the program has.

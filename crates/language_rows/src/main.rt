@@ -1,11 +1,13 @@
 //! Rows of the language that no whole call of the program shows, as lines: the tokens and trees that texts are read as, with the place
-//! of each node, the instances that are checked and reached, typed trees, and runs with their gates, in the clear and blind.
+//! of each node, the instances that are checked and reached, typed trees, runs with their gates, in the clear and blind, and tapes that a
+//! view is made of.
 //!
 //! Each case is a line, made of what the calls answer; a run takes a few. A line costs no proof: the file `stdout` says what must be
 //! printed, worked out by hand. What whole calls show stands in the row files of the crate `rows`.
 #![tactic(auto)]
 
 mod instances;
+mod mapping;
 mod runs;
 mod sources;
 mod tokens;
@@ -23,7 +25,8 @@ fn tell(alloc: Global, text: &mut String) -> Result<(), AllocError> {
     instances::tell(alloc, text)?;
     typed_trees::tell(alloc, text)?;
     values::tell(alloc, text)?;
-    runs::tell(alloc, text)
+    runs::tell(alloc, text)?;
+    mapping::tell(alloc, text)
 }
 
 fn main(rt: HostRuntime) -> Result<()> {

@@ -21,8 +21,8 @@ fn typed_body(alloc: Global, body: &str) -> Option<TypedProgram>
     typed(alloc, text.as_str())
 }
 
-// The inputs of these entries.
-fn inputs_of(alloc: Global, entries: &str) -> Option<Inputs>
+/// The inputs of these entries.
+pub fn inputs_of(alloc: Global, entries: &str) -> Option<Inputs>
     ensures { IfSome result (λ inputs. AreInputs inputs) }
 {
     let file = format!(in alloc; "{{\"inputs\":[{entries}]}}").ok()?;

@@ -1,5 +1,5 @@
-//! Rows of single protocols, gates, plans and joint runs, as lines: messages, shares and values, which are compared with those
-//! that were worked out by hand.
+//! Rows of single protocols, gates, plans, joint runs and single miners, as lines: messages, shares, values and refusals, which are
+//! compared with those that were worked out by hand.
 //!
 //! Each case is a line, made of what the calls answer. A line costs no proof: the file `stdout` says what must be printed.
 #![tactic(auto)]
@@ -9,6 +9,7 @@ mod converting;
 mod gate_lists;
 mod joint_runs;
 mod lines;
+mod miners;
 mod multiplying;
 mod opening;
 mod plans;
@@ -35,7 +36,8 @@ fn tell(alloc: Global, text: &mut String) -> Result<(), AllocError> {
     tell_protocols(text)?;
     gate_lists::tell(alloc, text)?;
     plans::tell(alloc, text)?;
-    joint_runs::tell(alloc, text)
+    joint_runs::tell(alloc, text)?;
+    miners::tell(alloc, text)
 }
 
 fn main(rt: HostRuntime) -> Result<()> {
