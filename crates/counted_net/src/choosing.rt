@@ -7,7 +7,7 @@ use crate::net::Net;
 use proto_core::Link;
 
 /// All links, in order.
-const LINKS: [Link; 6] = [
+pub const LINKS: [Link; 6] = [
     Link::Link12,
     Link::Link13,
     Link::Link21,

@@ -23,7 +23,7 @@ fn place(link: Link) -> usize
 
 /// How many messages of each link.
 #[derive(Drop)]
-pub(crate) struct Tally {
+pub struct Tally {
     counts: [usize; 6],
 }
 

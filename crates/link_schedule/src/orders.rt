@@ -6,21 +6,12 @@ ghost use Rattle.link_schedule.specs.Net.{net_mail, nodes_in};
 ghost use Rattle.link_schedule.specs.Orders.{full_links, Makes};
 
 use crate::net::Net3;
+use counted_net::{LINKS, ORDER_STREAM};
 use proto_core::Link;
 use rand_chacha::ChaCha20Rng;
 use rand_core::SeedableRng;
 use rand_core::utils::NextWord;
 use std::alloc::AllocError;
-
-/// All links, in order.
-const LINKS: [Link; 6] = [
-    Link::Link12,
-    Link::Link13,
-    Link::Link21,
-    Link::Link23,
-    Link::Link31,
-    Link::Link32,
-];
 
 impl Net3 {
     /// How many links have a message under way.
@@ -60,7 +51,7 @@ impl Net3 {
         ensures chosen { result ≡ chosen word (full_links (nodes_in self.now) (net_mail self.now)) }
         ensures bound { length self.now.delivered < 2 ^ 63 }
     {
-        // A list in memory is no longer than this.
+        // For the proof: a vector's length is below 2^63.
         let _recorded = &self.recorded;
         let count = self.full_count();
         if count == 0 {
@@ -95,7 +86,7 @@ impl Net3 {
             return Err(AllocError);
         }
         let mut words = ChaCha20Rng::from_seed(seed);
-        words.set_stream(4);
+        words.set_stream(ORDER_STREAM);
         while let Some(link) = self.chosen(words.next_word()) {
             self.deliver_full(link)?;
         }
