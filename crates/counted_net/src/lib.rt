@@ -12,7 +12,7 @@ mod net;
 mod tally;
 
 pub use answer::{ORDER_STREAM, deliver_counts};
-pub use choosing::LINKS;
+pub use choosing::chosen_link;
 pub use delivery::{Delivery, DeliveryErr};
 pub use moves::{Move, Scripts};
 pub use tally::Tally;
