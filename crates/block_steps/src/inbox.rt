@@ -63,19 +63,4 @@ impl Inbox {
             self.taken += 1;
         }
     }
-
-    /// All messages that came, taken or not.
-    pub fn messages(&self) -> &Messages
-        ensures { result.now ≡ self.now.0 }
-    {
-        &self.messages
-    }
-
-    /// How many messages were not taken.
-    #[tactic(auto, using(crate::proofs::Inboxes::inbox_steps))]
-    pub fn unread(&self) -> usize
-        ensures { result ≡ length self.now.1 }
-    {
-        self.messages.len() - self.taken
-    }
 }

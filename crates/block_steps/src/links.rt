@@ -49,20 +49,6 @@ impl Links {
         self.from_next.push(msg)
     }
 
-    /// What came from the previous miner.
-    pub fn from_previous(&self) -> &Inbox
-        ensures { result.now ≡ self.now.from_previous }
-    {
-        &self.from_previous
-    }
-
-    /// What came from the next miner.
-    pub fn from_next(&self) -> &Inbox
-        ensures { result.now ≡ self.now.from_next }
-    {
-        &self.from_next
-    }
-
     /// The messages that went to the next miner, oldest first.
     pub fn to_next(&self) -> &Messages
         ensures { result.now ≡ self.now.to_next }

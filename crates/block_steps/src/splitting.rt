@@ -1,5 +1,5 @@
 // Numbers split into two words each, block by block.
-ghost use Rattle.std.specs.Prelude.{◌≡◌, ◌≤◌, length, OnOk, IfOk};
+ghost use Rattle.std.specs.Prelude.{◌≡◌, ◌≤◌, false, length, OnOk, IfOk};
 ghost use Rattle.proto_core.specs.declared.party.Number.TheVariants as number;
 ghost use Rattle.split_share.specs.Splitting.{split_draws};
 ghost use Rattle.split_share.specs.SplitStrand.{split_strand, awaits12, awaits13};
@@ -83,7 +83,7 @@ pub fn begin<P: Party>(
     ensures unread { OnOk result (IsBeside links.old links.new) }
 {
     match P::number() {
-        Number::One => deal(negated, u, words, links),
+        Number::One => deal(u, words, links),
         Number::Two => Ok(Progress::Goes(Splits {
             state: Splitting::Two(Split::<P2, Waiting>::start(&Block::from_words(u), negated)),
             of: PhantomData,
@@ -95,9 +95,8 @@ pub fn begin<P: Party>(
     }
 }
 
-/// The first miner's part.
+/// The first miner's part, which is the same where the splitting is negated.
 fn deal<P: Party>(
-    negated: bool,
     u: &[u64],
     words: &[u64],
     links: &mut Links,
@@ -106,11 +105,11 @@ fn deal<P: Party>(
     requires short { length u.now ≤ 512 }
     requires drawn { length words.now ≡ length u.now }
     ensures same { IfOk result (λ to. outcome_of P.me links.new (progress_left splitting_left to)
-        ≡ outcome_of P.me links.old (split_strand negated (length u.now) number.One u.now words.now)) }
+        ≡ outcome_of P.me links.old (split_strand false (length u.now) number.One u.now words.now)) }
     ensures begins { IfOk result HasBegun }
     ensures unread { OnOk result (IsBeside links.old links.new) }
 {
-    let (to_two, to_three, x, y) = Split::<P1, Sent>::start(&Block::from_words(u), negated, words);
+    let (to_two, to_three, x, y) = Split::<P1, Sent>::start(&Block::from_words(u), words);
     links.to_next.push(&to_two)?;
     links.to_previous.push(&to_three)?;
     Ok(Progress::Made {

@@ -2,6 +2,12 @@ use crate::instruction::Instruction;
 use crate::kind::Kind;
 use sc_text::Name;
 
+/// The letters with which the text of code begins.
+pub(crate) const MAGIC: [u8; 4] = *b"SC3P";
+
+/// The version of code, which stands behind them.
+pub(crate) const VERSION: u8 = 1;
+
 /// A function. Its parameters are its first registers.
 #[derive(Drop)]
 pub struct CodeFunction {

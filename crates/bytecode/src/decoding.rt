@@ -7,7 +7,7 @@ ghost use Rattle.bytecode.specs.InMemory.{raw_code, raw_function, raw_head};
 ghost use Rattle.bytecode.specs.Layouts.{read};
 ghost use Rattle.bytecode.specs.inner.Reading.{Reads};
 
-use crate::code::{Code, CodeFunction};
+use crate::code::{Code, CodeFunction, MAGIC, VERSION};
 use crate::fault::{DecodeErr, DecodeFault, FaultKind, Stopped};
 use crate::heads::{Head, all_heads};
 use crate::names::all_names;
@@ -18,11 +18,11 @@ use std::alloc::{AllocError, Global};
 fn opening(reader: &mut Reader<'_>) -> Result<(), Stopped>
     ensures { Reads (λ _. 1) (read opening_layout reader.old) result reader.new }
 {
-    reader.expect(83, FaultKind::BadTag)?;
-    reader.expect(67, FaultKind::BadTag)?;
-    reader.expect(51, FaultKind::BadTag)?;
-    reader.expect(80, FaultKind::BadTag)?;
-    reader.expect(1, FaultKind::BadVersion)
+    reader.expect(MAGIC[0], FaultKind::BadTag)?;
+    reader.expect(MAGIC[1], FaultKind::BadTag)?;
+    reader.expect(MAGIC[2], FaultKind::BadTag)?;
+    reader.expect(MAGIC[3], FaultKind::BadTag)?;
+    reader.expect(VERSION, FaultKind::BadVersion)
 }
 
 fn push_count(counts: &mut Vec<u16>, count: u16) -> Result<(), AllocError>

@@ -5,7 +5,7 @@ ghost use Rattle.bytecode.specs.InMemory.{raw_code, raw_function, raw_instructio
 ghost use Rattle.bytecode.specs.Kinds.{kind_byte};
 ghost use Rattle.bytecode.specs.Written.{body_numbers, byte, bytes_of, head_numbers, instruction_numbers, name_numbers, written_code};
 
-use crate::code::{Code, CodeFunction};
+use crate::code::{Code, CodeFunction, MAGIC, VERSION};
 use crate::instruction::Instruction;
 use crate::kind::{Kind, return_byte};
 use crate::numbers::{Number, push_numbers};
@@ -102,11 +102,11 @@ pub fn encode(alloc: Global, code: &Code) -> Result<Vec<u8>, AllocError>
     push_numbers(
         &mut text,
         &[
-            Number(1, 83),
-            Number(1, 67),
-            Number(1, 51),
-            Number(1, 80),
-            Number(1, 1),
+            Number(1, MAGIC[0] as u64),
+            Number(1, MAGIC[1] as u64),
+            Number(1, MAGIC[2] as u64),
+            Number(1, MAGIC[3] as u64),
+            Number(1, VERSION as u64),
             Number(2, code.names.len() as u64),
         ],
     )?;

@@ -4,6 +4,9 @@ use crate::operator::BinaryOperator;
 #[derive(Clone, Copy)]
 pub struct Register(pub u16);
 
+/// The register that stands in a call for no result.
+pub const NO_RESULT: u16 = 65_535;
+
 /// A name of the code, by its place.
 #[derive(Clone, Copy)]
 pub struct NamePlace(pub u16);

@@ -23,7 +23,7 @@ pub use code::{Code, CodeFunction};
 pub use decoding::decode;
 pub use encoding::encode;
 pub use fault::{DecodeErr, DecodeFault, FaultKind};
-pub use instruction::{FunctionPlace, Instruction, JumpTarget, NamePlace, Register};
+pub use instruction::{FunctionPlace, Instruction, JumpTarget, NO_RESULT, NamePlace, Register};
 pub use kind::Kind;
 pub use laws::{read_code_is_written, written_code_is_read_again};
 pub use operator::BinaryOperator;

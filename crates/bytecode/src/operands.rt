@@ -8,7 +8,7 @@ ghost use Rattle.bytecode.specs.inner.Tags.{made, operands_of};
 ghost use Rattle.bytecode.specs.Writable.{arguments_at};
 
 use crate::fault::Stopped;
-use crate::instruction::{FunctionPlace, Instruction, JumpTarget, NamePlace, Register};
+use crate::instruction::{FunctionPlace, Instruction, JumpTarget, NO_RESULT, NamePlace, Register};
 use crate::operator::operator_of;
 use crate::reader::Reader;
 use crate::tag::{Tag, tag_of};
@@ -189,7 +189,7 @@ fn arguments_at(parameters: &[u16], function: u16) -> usize
 fn result_of(to: u16) -> Option<Register>
     ensures { result_register result ≡ to }
 {
-    if to == 65_535 {
+    if to == NO_RESULT {
         None
     } else {
         Some(Register(to))

@@ -4,7 +4,7 @@ ghost use Rattle.bytecode.specs.InMemory.{raw_instruction, result_register, trut
 ghost use Rattle.bytecode.specs.Written.{byte, bytes_of, instruction_numbers, short, source_line, word};
 ghost use Rattle.bytecode.specs.declared.instruction.Register.{Register};
 
-use crate::instruction::{Instruction, Register};
+use crate::instruction::{Instruction, NO_RESULT, Register};
 use crate::numbers::{Number, push_numbers};
 use std::alloc::AllocError;
 
@@ -109,7 +109,7 @@ fn result_register(to: Option<Register>) -> u16
 {
     match to {
         Some(register) => register.0,
-        None => 65_535,
+        None => NO_RESULT,
     }
 }
 

@@ -1,5 +1,6 @@
 pub mod Counts
 pub mod Made
+pub mod Marks
 pub mod Settling
 pub mod Shapes
 pub mod Together

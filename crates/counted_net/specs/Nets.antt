@@ -1,12 +1,12 @@
 -- Three miners in a net, by their scripts and the links on which messages were delivered, in order.
-use Rattle.std.specs.Prelude.{◌≡◌, ℕ, Bool, true, false, List, [], ◌∷◌, ◌++◌, length, Result, Ok, Err, Vec}
+use Rattle.std.specs.Prelude.{◌≡◌, ℕ, Bool, true, false, List, [], ◌∷◌, ◌++◌, length, Result, Ok, Err, Vec, slice_index_or}
 use Rattle.std.specs.declared.alloc.Global.{Global}
 use Rattle.proto_core.specs.declared.party.Number.{Number}
 use Rattle.proto_core.specs.declared.link.Link.{Link}
 use Rattle.proto_core.specs.Parties.{sender_of, of_three}
 use Rattle.proto_core.specs.Script as script
 use Rattle.protocol_model.specs.Network.{Accepted, Answer, Counts, Stalled, all_links, at_the_end, into_counts, is_full}
-use Rattle.protocol_model.specs.Network.{none_delivered, one_more, posted_count, stands_at, those}
+use Rattle.protocol_model.specs.Network.{none_delivered, one_more, place_of, posted_count, stands_at, those}
 use Rattle.counted_net.specs.declared.moves.Move.{Move}
 use Rattle.counted_net.specs.declared.moves.Scripts.{Scripts}
 use Rattle.counted_net.specs.declared.tally.Tally.{Tally}
@@ -46,6 +46,10 @@ after net l = record net { delivered = net.delivered ++ l ∷ [] }
 -- whether a message of this link was sent and not delivered
 abbrev pub is_under_way : NetState → Link → Bool
 is_under_way net l = is_full (scripts_in net) (got_of net.delivered) l
+
+-- whether a link is marked, by the marks of all links in order
+abbrev pub is_marked : List Bool → Link → Bool
+is_marked marks l = slice_index_or marks (place_of l) false
 
 -- the links with a message under way, in the order of all links
 abbrev pub full_links : NetState → List Link

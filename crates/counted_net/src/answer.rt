@@ -16,6 +16,9 @@ use rand_core::SeedableRng;
 use rand_core::utils::NextWord;
 use std::alloc::Global;
 
+/// The stream of ChaCha20 from which an order takes its words.
+pub const ORDER_STREAM: u64 = 4;
+
 /// Always on the first link with a message under way, until none has one.
 fn in_turn(alloc: Global, scripts: &Scripts) -> Result<Vec<Link>, DeliveryErr>
     ensures { IsNetAnswer (plain_of scripts.now) network.Default result }
@@ -45,7 +48,7 @@ fn shuffled(alloc: Global, scripts: &Scripts, seed: [u8; 32]) -> Result<Vec<Link
 {
     let mut net = Net::new(alloc, scripts);
     let mut words = ChaCha20Rng::from_seed(seed);
-    words.set_stream(4);
+    words.set_stream(ORDER_STREAM);
     while let Some(link) = net.chosen(words.next_word()) {
         net.give(link)?;
     }

@@ -11,6 +11,8 @@ mod moves;
 mod net;
 mod tally;
 
-pub use answer::deliver_counts;
+pub use answer::{ORDER_STREAM, deliver_counts};
+pub use choosing::chosen_link;
 pub use delivery::{Delivery, DeliveryErr};
 pub use moves::{Move, Scripts};
+pub use tally::Tally;

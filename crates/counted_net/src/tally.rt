@@ -7,7 +7,7 @@ ghost use Rattle.counted_net.specs.Cursors.{tally_on};
 use proto_core::Link;
 
 /// Where the count of a link stands.
-fn place(link: Link) -> usize
+pub(crate) fn place(link: Link) -> usize
     ensures place { result ≡ place_of link }
     ensures within { result < 6 }
 {
@@ -23,7 +23,7 @@ fn place(link: Link) -> usize
 
 /// How many messages of each link.
 #[derive(Drop)]
-pub(crate) struct Tally {
+pub struct Tally {
     counts: [usize; 6],
 }
 

@@ -11,7 +11,7 @@ ghost use Rattle.domain_types.specs.Views.{setting, calls_seen};
 ghost use Rattle.domain_types.specs.inner.LeastFault.{least};
 
 use crate::calls::Found;
-use crate::expressions::{place_of, value, variable};
+use crate::expressions::{value, variable};
 use crate::fault::{TypeFault, TypeProblem};
 use crate::least_fault::note_if;
 use crate::operations::indexing;
@@ -151,7 +151,7 @@ fn first_value<'p>(
         return Ok(());
     }
     let given = value(found, here, variables, e)?;
-    store_typed(&mut found.least_fault, place_of(e), declared, given);
+    store_typed(&mut found.least_fault, e.place(), declared, given);
     Ok(())
 }
 
@@ -176,7 +176,7 @@ fn initial<'p>(
         (None, Some(e)) => first_value(found, here, variables, declared, e),
         (Some(size), None) => {
             let counted = value(found, here, variables, size)?;
-            sized(&mut found.least_fault, place_of(size), declared, counted);
+            sized(&mut found.least_fault, size.place(), declared, counted);
             Ok(())
         }
         (Some(size), Some(e)) => {
@@ -184,8 +184,8 @@ fn initial<'p>(
             let given = value(found, here, variables, e)?;
             filled(
                 &mut found.least_fault,
-                place_of(size),
-                place_of(e),
+                size.place(),
+                e.place(),
                 declared,
                 counted,
                 given,
@@ -245,7 +245,7 @@ fn target<'p>(
             Ok(indexing(
                 &mut found.least_fault,
                 place,
-                place_of(position),
+                position.place(),
                 held,
                 counted,
             ))
@@ -270,7 +270,7 @@ pub fn assignment<'p>(
     let given = value(found, here, variables, &assignment.value)?;
     store_typed(
         &mut found.least_fault,
-        place_of(&assignment.value),
+        assignment.value.place(),
         wanted,
         given,
     );

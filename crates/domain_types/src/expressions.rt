@@ -1,7 +1,6 @@
 // The types of expressions: the checker goes over a tree once, keeps the least fault and what is called.
 ghost use Rattle.std.specs.Prelude.{◌≡◌, IfOk, Some, map, option_map, vec_items};
 ghost use Rattle.secrec_ast.specs.Tree.{expression, trees_of};
-ghost use Rattle.secrec_ast.specs.Heights.{place_of};
 ghost use Rattle.domain_types.specs.Types.{value_of, void_faults, public_scalar};
 ghost use Rattle.domain_types.specs.declared.value_type.ExpressionType.TheVariants.{Value};
 ghost use Rattle.domain_types.specs.Scopes.{variable_named};
@@ -23,26 +22,6 @@ use crate::variables::Variables;
 use sc_text::Span;
 use secrec_ast::{DataType, Expression};
 use std::alloc::AllocError;
-
-/// Where an expression begins.
-pub fn place_of(e: &Expression) -> Span
-    ensures { result ≡ place_of (expression e.now) }
-{
-    match e {
-        Expression::Number(place, _)
-        | Expression::Truth(place, _)
-        | Expression::Variable(place, _)
-        | Expression::Call(place, _, _)
-        | Expression::Index(place, _, _)
-        | Expression::Parentheses(place, _)
-        | Expression::Not(place, _)
-        | Expression::Cast(place, _, _)
-        | Expression::Binary(place, _, _, _)
-        | Expression::Declassify(place, _)
-        | Expression::Argument(place, _)
-        | Expression::Publish(place, _, _) => *place,
-    }
-}
 
 /// What an expression that is used as a value gives: a void call there is a fault.
 pub fn used(
@@ -179,7 +158,7 @@ pub fn expression<'p>(
         Expression::Index(place, array, position) => {
             let held = value(found, here, variables, array)?;
             let counted = value(found, here, variables, position)?;
-            let at = place_of(position);
+            let at = position.place();
             Ok(given(indexing(&mut found.least_fault, *place, at, held, counted)))
         }
         Expression::Parentheses(_, inner) => {
@@ -227,7 +206,7 @@ pub fn value<'p>(
         (value_faults (setting here.now) variables.now (expression e.now)) (calls_of (setting here.now) variables.now (expression e.now))) }
 {
     let t = expression(found, here, variables, e)?;
-    Ok(used(&mut found.least_fault, place_of(e), t))
+    Ok(used(&mut found.least_fault, e.place(), t))
 }
 
 // The arguments of a call, where each has a type.
@@ -246,7 +225,7 @@ fn arguments<'p>(
     let mut types = Some(Vec::new(here.alloc));
     for argument in list {
         let given = value(found, here, variables, argument)?;
-        types = with_argument(types, place_of(argument), given)?;
+        types = with_argument(types, argument.place(), given)?;
     }
     Ok(types)
 }

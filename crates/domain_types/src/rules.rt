@@ -10,6 +10,7 @@ use crate::value_type::{Protection, ValueType};
 use sc_text::Span;
 use secrec_ast::DataType;
 
+/// Whether a domain is private.
 pub fn is_private(domain: Protection) -> bool
     ensures { result ≡ is_private domain }
 {
@@ -19,6 +20,7 @@ pub fn is_private(domain: Protection) -> bool
     }
 }
 
+/// Whether the elements are numbers, and not truth values.
 pub fn is_uint64(element: DataType) -> bool
     ensures { result ≡ is_uint64 element }
 {
@@ -28,19 +30,18 @@ pub fn is_uint64(element: DataType) -> bool
     }
 }
 
+/// Whether the elements are of one type.
 pub fn same_element(a: DataType, b: DataType) -> bool
     ensures { result ≡ same_element a b }
 {
-    match a {
-        DataType::Uint64 => is_uint64(b),
-        DataType::Bool => !is_uint64(b),
-    }
+    a == b
 }
 
+/// Whether both are arrays, or both scalars.
 pub fn same_dimension(a: bool, b: bool) -> bool
     ensures { result ≡ same_dimension a b }
 {
-    if a { b } else { !b }
+    a == b
 }
 
 /// The domain of what operands of these domains make together.

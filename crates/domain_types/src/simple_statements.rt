@@ -10,7 +10,7 @@ ghost use Rattle.domain_types.specs.inner.LeastFault.{least};
 
 use crate::calls::Found;
 use crate::declaring::{assignment, declaration};
-use crate::expressions::{expression, place_of, value};
+use crate::expressions::{expression, value};
 use crate::fault::{TypeFault, TypeProblem};
 use crate::least_fault::note;
 use crate::rules::{scalar, store_typed};
@@ -100,7 +100,7 @@ pub fn for_condition(
             least_fault,
             DataType::Bool,
             TypeProblem::PrivateCondition,
-            place_of(e),
+            e.place(),
             given,
         );
     }
@@ -123,7 +123,7 @@ pub fn returning<'p>(
         },
         (ResultType::Value(_), None) => note(least_fault, place, TypeProblem::TypeMismatch),
         (ResultType::Value(declared), Some(e)) => {
-            store_typed(least_fault, place_of(e), written(here, declared), given);
+            store_typed(least_fault, e.place(), written(here, declared), given);
         }
     }
 }

@@ -7,7 +7,7 @@ ghost use Rattle.domain_types.specs.Views.{setting, calls_seen};
 ghost use Rattle.domain_types.specs.inner.LeastFault.{least};
 
 use crate::calls::Found;
-use crate::expressions::{place_of, value};
+use crate::expressions::value;
 use crate::fault::TypeProblem;
 use crate::rules::scalar;
 use crate::setting::Setting;
@@ -34,7 +34,7 @@ pub fn test<'p>(
             &mut found.least_fault,
             DataType::Bool,
             private_one,
-            place_of(e),
+            e.place(),
             given,
         );
     }

@@ -2,7 +2,6 @@
 ghost use Rattle.std.specs.Prelude.{◌≡◌, ◌≢◌, ◌≤◌, ◌<◌, ◌⊎◌, length, true, false, None, IfSome, IfOk, OnOk};
 ghost use Rattle.gates.specs.Held.{kept_only};
 ghost use Rattle.block_steps.specs.Outcomes.{outcome_of};
-ghost use Rattle.joint_run.specs.Steps.{second_value};
 ghost use Rattle.gate_node.specs.Nodes.{gates_left, work_left, engine_outcome, IsSoundRun, IsSound, EngineStands, RunStands, Keeps, KeepsGates, measure};
 
 use crate::beginning::{Beginning, begins};
@@ -12,7 +11,7 @@ use crate::stand::Stand;
 use crate::tape::Tape;
 use block_steps::{Links, Pending, Progress, begin};
 use gates::{BLOCK_LEN, Gate, Values};
-use joint_run::local_share;
+use joint_run::{local_share, second_value};
 use proto_core::{BadMessage, Link, Party};
 use std::alloc::{AllocError, Global};
 use std::collections::BTreeSet;
@@ -42,16 +41,6 @@ pub(crate) struct Engine<P: Party> {
     pub begun: usize,
     pub work: Work<P>,
     pub links: Links,
-}
-
-/// The words of the second operand, none where there is no such operand.
-fn second_value(values: &Values, number: Option<u64>) -> &[u64]
-    ensures { result.now ≡ second_value values.now number }
-{
-    match number {
-        Some(number) => values.value(number),
-        None => &[],
-    }
 }
 
 impl<P: Party> Engine<P> {

@@ -1,4 +1,4 @@
-ghost use Rattle.std.specs.Prelude.{◌≡◌, ◌≤◌, ◌-◌, ℕ, IsTrue, [], length, IfOk, OnOk, OnErr};
+ghost use Rattle.std.specs.Prelude.{◌≡◌, ◌≤◌, ℕ, IsTrue, [], length, IfOk, OnOk, OnErr};
 ghost use Rattle.std.specs.Ordering.{nat_cmp};
 ghost use Rattle.std.specs.BTreeSet.{contains};
 ghost use Rattle.gates.specs.Clear.{value};
@@ -136,12 +136,5 @@ impl<P: Party> GateNode<P> {
         ensures { result.now ≡ self.now.links }
     {
         &self.engine.links
-    }
-
-    /// How many words of its tape were drawn.
-    pub fn drawn(&self) -> usize
-        ensures { result ≡ length self.now.tape.0 - length self.now.tape.1 }
-    {
-        self.engine.tape.drawn()
     }
 }

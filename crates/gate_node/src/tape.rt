@@ -1,5 +1,5 @@
 // A miner's random words.
-ghost use Rattle.std.specs.Prelude.{◌≡◌, ◌-◌, ◌≤◌, length, drop};
+ghost use Rattle.std.specs.Prelude.{◌≡◌, ◌≤◌, length, drop};
 
 use std::marker::Model;
 
@@ -33,14 +33,6 @@ impl Tape {
         ensures { result.now ≡ self.now.1 }
     {
         &self.words.as_slice()[self.drawn..]
-    }
-
-    /// How many words were drawn.
-    #[tactic(auto, using(crate::proofs::Tapes::tape_steps))]
-    pub fn drawn(&self) -> usize
-        ensures { result ≡ length self.now.0 - length self.now.1 }
-    {
-        self.drawn
     }
 
     /// Draws words.

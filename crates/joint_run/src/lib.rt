@@ -30,7 +30,7 @@ pub use joint_err::JointErr;
 pub use local::local_share;
 pub use outputs::{Outputs, Shared};
 pub use own_operands::{Operands, Own};
-pub use run::{JointRun, operands};
+pub use run::{JointRun, operands, second_value};
 pub use shares::SharedValues;
 pub use step::run_gate;
 pub use suiting::suits;

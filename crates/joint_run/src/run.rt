@@ -64,7 +64,7 @@ pub(crate) fn run_local(
 }
 
 /// The words of the second operand, none where there is no such operand.
-fn second_value(values: &Values, number: Option<u64>) -> &[u64]
+pub fn second_value(values: &Values, number: Option<u64>) -> &[u64]
     ensures { result.now ≡ second_value values.now number }
 {
     match number {

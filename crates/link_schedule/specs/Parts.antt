@@ -1,14 +1,14 @@
 -- Three miners, each at work on its part of a net.
-use Rattle.std.specs.Prelude.{◌≡◌, ◌≢◌, ◌⊎◌, ℕ, Bool, true, false, List, [], length, slice_index}
+use Rattle.std.specs.Prelude.{◌≡◌, ◌≢◌, ◌⊎◌, ℕ, Bool, true, false, List, [], length}
 use Rattle.proto_core.specs.declared.party.Number.{Number}
 use Rattle.proto_core.specs.declared.link.Link.{Link}
 use Rattle.proto_core.specs.Parties.{sender_of, receiver_of, is_same}
 use Rattle.proto_core.specs.Strand.{Mail, on_link}
 use Rattle.proto_core.specs.Net.{into, added, nothing}
 use Rattle.proto_core.specs.Standing.{AtItsEnd, standing_of}
-use Rattle.protocol_model.specs.Network.{place_of}
+use Rattle.counted_net.specs.declared.tally.Tally.{Tally}
+use Rattle.counted_net.specs.Cursors.{tally_on}
 use Rattle.miner_core.specs.Story.{Story, received, mail_in, node, stands_at}
-use Rattle.link_schedule.specs.declared.given.Given.{Given}
 use Rattle.link_schedule.specs.declared.miners.Miners.{Miners}
 use Rattle.link_schedule.specs.Net.{Own, NetState, by_number, own_in, net_mail, net_node}
 
@@ -85,10 +85,7 @@ pub record IsPart (net : NetState) (i : Number) (s : Story) : Type 0 where
 
 -- ---- counts
 
-abbrev pub given_on : Given → Link → ℕ
-given_on g l = slice_index g.counts (place_of l)
-
 -- three miners of which this is the net, and the counts of what was delivered
-pub record IsNet (net : NetState) (m : Miners) (given : Given) : Type 0 where
+pub record IsNet (net : NetState) (m : Miners) (given : Tally) : Type 0 where
   pub parts : (i : Number) → IsPart net i (story_in m i)
-  pub counted : (l : Link) → given_on given l ≡ length (net_mail net l)
+  pub counted : (l : Link) → tally_on given l ≡ length (net_mail net l)

@@ -3,7 +3,6 @@
 #![tactic(auto)]
 
 mod errors;
-mod given;
 mod laws;
 mod miners;
 mod net;

@@ -7,8 +7,8 @@ ghost use Rattle.link_schedule.specs.Parts.{AreAlike, IsFresh, IsAt, own_of};
 ghost use Rattle.link_schedule.specs.Answers.{DeliverAnswers};
 
 use crate::errors::DeliverErr;
-use crate::given::Given;
 use crate::miners::Miners;
+use counted_net::Tally;
 use miner_core::Miner;
 use proto_core::{Link, Msg, P1, P2, P3};
 use std::alloc::{AllocError, Global};
@@ -20,7 +20,7 @@ use std::marker::Model;
 /// Once memory was wanting, it is of no further use: each call that delivers answers so.
 pub struct Net3 {
     pub(crate) miners: Miners,
-    pub(crate) given: Given,
+    pub(crate) given: Tally,
     pub(crate) recorded: Vec<Link>,
     pub(crate) lost: bool,
 }
@@ -76,7 +76,7 @@ impl Net3 {
                 two: miner2,
                 three: miner3,
             },
-            given: Given::new(),
+            given: Tally::new(),
             recorded: Vec::new(alloc),
             lost: false,
         })

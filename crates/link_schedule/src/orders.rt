@@ -1,72 +1,36 @@
 // Orders of deliveries that a net makes itself.
 ghost use Rattle.std.specs.Prelude.{◌≡◌, ◌<◌, ◌^◌, true, false, length, IsErr, OnOk, OnErr};
-ghost use Rattle.protocol_model.specs.Network.{chosen, link_at};
+ghost use Rattle.protocol_model.specs.Network.{chosen};
 ghost use Rattle.tape_file.specs.Seeds.{stream_word};
 ghost use Rattle.link_schedule.specs.Net.{net_mail, nodes_in};
 ghost use Rattle.link_schedule.specs.Orders.{full_links, Makes};
 
 use crate::net::Net3;
+use counted_net::{ORDER_STREAM, chosen_link};
 use proto_core::Link;
 use rand_chacha::ChaCha20Rng;
 use rand_core::SeedableRng;
 use rand_core::utils::NextWord;
 use std::alloc::AllocError;
 
-/// All links, in order.
-const LINKS: [Link; 6] = [
-    Link::Link12,
-    Link::Link13,
-    Link::Link21,
-    Link::Link23,
-    Link::Link31,
-    Link::Link32,
-];
-
 impl Net3 {
-    /// How many links have a message under way.
-    fn full_count(&self) -> usize
-        requires { self.now.lost ≡ false }
-        ensures { result ≡ length (full_links (nodes_in self.now) (net_mail self.now)) }
-    {
-        let mut count = 0;
-        for link in &LINKS {
-            if self.is_under_way(*link) {
-                count += 1;
-            }
-        }
-        count
-    }
-
-    /// Of the links with a message under way, in order, the one of this number, from 0.
-    fn full_link(&self, number: usize) -> Option<Link>
-        requires { self.now.lost ≡ false }
-        ensures { result ≡ link_at (full_links (nodes_in self.now) (net_mail self.now)) number }
-    {
-        let mut left = number;
-        for link in &LINKS {
-            if self.is_under_way(*link) {
-                if left == 0 {
-                    return Some(*link);
-                }
-                left -= 1;
-            }
-        }
-        None
-    }
-
     /// Of the links with a message under way, in order, the one that a word chooses.
     fn chosen(&self, word: u32) -> Option<Link>
         requires { self.now.lost ≡ false }
         ensures chosen { result ≡ chosen word (full_links (nodes_in self.now) (net_mail self.now)) }
         ensures bound { length self.now.delivered < 2 ^ 63 }
     {
-        // A list in memory is no longer than this.
+        // For the proof: a vector's length is below 2^63.
         let _recorded = &self.recorded;
-        let count = self.full_count();
-        if count == 0 {
-            return None;
-        }
-        self.full_link(word as usize % count)
+        let full = [
+            self.is_under_way(Link::Link12),
+            self.is_under_way(Link::Link13),
+            self.is_under_way(Link::Link21),
+            self.is_under_way(Link::Link23),
+            self.is_under_way(Link::Link31),
+            self.is_under_way(Link::Link32),
+        ];
+        chosen_link(&full, word)
     }
 
     /// Delivers always the first link, in the order 12, 13, 21, 23, 31, 32, that has a message under way, until none has.
@@ -95,7 +59,7 @@ impl Net3 {
             return Err(AllocError);
         }
         let mut words = ChaCha20Rng::from_seed(seed);
-        words.set_stream(4);
+        words.set_stream(ORDER_STREAM);
         while let Some(link) = self.chosen(words.next_word()) {
             self.deliver_full(link)?;
         }

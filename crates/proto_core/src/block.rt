@@ -3,6 +3,9 @@ ghost use Rattle.std.specs.Prelude.{◌≡◌, ◌+◌, ◌<◌, ◌≤◌, ◌�
 use crate::share::Share;
 use std::marker::{Model, PhantomData};
 
+/// How many words a block can have.
+const CAPACITY: usize = 512;
+
 /// The block has 512 words already.
 #[derive(Debug, Drop)]
 pub struct Full;
@@ -10,7 +13,7 @@ pub struct Full;
 /// At most 512 words of one party in a ring, kept in place: its shares of a block of elements, or words that mask them.
 #[derive(Drop)]
 pub struct Block<R, P> {
-    words: [u64; 512],
+    words: [u64; CAPACITY],
     len: usize,
     of: PhantomData<(R, P)>,
 }
@@ -24,15 +27,12 @@ impl<R, P> Model for Block<R, P> {
 }
 
 impl<R, P> Block<R, P> {
-    /// How many words a block can have.
-    pub const CAPACITY: usize = 512;
-
     /// No words.
     pub fn new() -> Self
         ensures { result ≡ [] }
     {
         Block {
-            words: [0; 512],
+            words: [0; CAPACITY],
             len: 0,
             of: PhantomData,
         }
@@ -68,7 +68,7 @@ impl<R, P> Block<R, P> {
         ensures { MatchResult result (λ _. (length self.old < 512) × (self.new ≡ self.old ++ word ∷ []))
             (λ _. (length self.old ≡ 512) × (self.new ≡ self.old)) }
     {
-        if self.len() < 512 {
+        if self.len() < CAPACITY {
             self.append(word);
             Ok(())
         } else {

@@ -6,10 +6,13 @@ use crate::block::Block;
 use crate::refused::BadMessage;
 use std::marker::Model;
 
+/// How many words a message can have.
+const CAPACITY: usize = 2048;
+
 /// A message between two miners: at most 2,048 words, kept in place.
 #[derive(Drop)]
 pub struct Msg {
-    words: [u64; 2048],
+    words: [u64; CAPACITY],
     len: usize,
 }
 
@@ -22,15 +25,12 @@ impl Model for Msg {
 }
 
 impl Msg {
-    /// How many words a message can have.
-    pub const CAPACITY: usize = 2048;
-
     /// No words.
     pub fn new() -> Self
         ensures { result ≡ [] }
     {
         Msg {
-            words: [0; 2048],
+            words: [0; CAPACITY],
             len: 0,
         }
     }

@@ -102,19 +102,3 @@ place_of (binary p op a b) = p
 place_of (declassify p e) = p
 place_of (argument p x) = p
 place_of (publish p x e) = p
-
-abbrev pub statement_place : StatementTree → Span
-statement_place (block p ss) = p
-statement_place (empty p) = p
-statement_place (branch p e s) = p
-statement_place (choice p e s t) = p
-statement_place (while_loop p e s) = p
-statement_place (do_loop p s e) = p
-statement_place (for_loop p a e b s) = p
-statement_place (breaks p) = p
-statement_place (continues p) = p
-statement_place (returns p e) = p
-statement_place (assertion p e) = p
-statement_place (declaration d) = d.declared.place
-statement_place (assignment a) = a.target.variable.place
-statement_place (evaluation e) = place_of e

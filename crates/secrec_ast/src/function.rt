@@ -18,6 +18,7 @@ impl Drop for DomainVariable {
     }
 }
 
+/// A parameter of a function.
 pub struct Parameter {
     pub declared: DeclaredType,
     pub variable: Identifier,

@@ -111,6 +111,7 @@ impl Target {
     }
 }
 
+/// A value that goes to a variable, or to an element of one.
 pub struct Assignment {
     pub target: Target,
     pub value: Expression,

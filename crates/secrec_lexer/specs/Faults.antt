@@ -1,12 +1,8 @@
 -- What is said of a text that is refused.
 use Rattle.sc_text.specs.declared.code.PlacedFault.{PlacedFault}
 use Rattle.sc_text.specs.declared.code.PlacedFault.TheVariants as placed
-use Rattle.sc_text.specs.declared.fault.Fault.{Fault}
-use Rattle.sc_text.specs.declared.fault.Fault.TheVariants as said
 use Rattle.secrec_lexer.specs.declared.lex_err.LexFault.{LexFault}
 use Rattle.secrec_lexer.specs.declared.lex_err.LexFault.TheVariants as faults
-use Rattle.secrec_lexer.specs.declared.lex_err.LexErr.{LexErr}
-use Rattle.secrec_lexer.specs.declared.lex_err.LexErr.TheVariants as errors
 
 -- the fault by the name that it is printed for
 abbrev pub placed_fault : LexFault → PlacedFault
@@ -16,8 +12,3 @@ placed_fault faults.OpenText = placed.OpenText
 placed_fault faults.OpenComment = placed.OpenComment
 placed_fault faults.BadName = placed.BadName
 placed_fault faults.TooLong = placed.TooLong
-
--- the fault whose line a command says
-abbrev pub fault_said : LexErr → Fault
-fault_said errors.Memory = said.Memory
-fault_said (errors.Refused fault place) = said.Placed (placed_fault fault) place

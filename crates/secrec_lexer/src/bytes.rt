@@ -6,18 +6,21 @@ ghost use Rattle.secrec_lexer.specs.Bytes.{is_blank, is_newline, name_run, first
 
 use std::str;
 
+/// Whether a byte is a space, a tab, a carriage return or a newline.
 pub fn is_blank(byte: u8) -> bool
     ensures { result ≡ is_blank byte }
 {
     byte == b' ' || byte == b'\t' || byte == b'\r' || byte == b'\n'
 }
 
+/// Whether a byte ends a line.
 pub fn is_newline(byte: u8) -> bool
     ensures { result ≡ is_newline byte }
 {
     byte == b'\n'
 }
 
+/// Whether a byte is a letter, a digit or `_`.
 pub fn is_name_byte(byte: u8) -> bool
     ensures { result ≡ is_name_byte byte }
 {

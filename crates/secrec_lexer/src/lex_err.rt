@@ -1,8 +1,8 @@
 ghost use Rattle.std.specs.Prelude.{◌≡◌};
 ghost use Rattle.secrec_lexer.specs.declared.lex_err.LexErr.TheVariants.{Memory};
-ghost use Rattle.secrec_lexer.specs.Faults.{placed_fault, fault_said};
+ghost use Rattle.secrec_lexer.specs.Faults.{placed_fault};
 
-use sc_text::{Fault, PlacedFault, Span};
+use sc_text::{PlacedFault, Span};
 use std::alloc::{AllocError, AllocFailed};
 
 /// What is wrong with a text.
@@ -59,21 +59,6 @@ impl From<LexFault> for PlacedFault {
             LexFault::OpenComment => PlacedFault::OpenComment,
             LexFault::BadName => PlacedFault::BadName,
             LexFault::TooLong => PlacedFault::TooLong,
-        }
-    }
-}
-
-/// The fault whose line a command says.
-impl From<LexErr> for Fault {
-    ghost from_gives = { λ error fault. fault ≡ fault_said error };
-
-    fn from(error: LexErr) -> Self {
-        match error {
-            LexErr::Memory => Fault::Memory,
-            LexErr::Refused { fault, place } => Fault::Placed {
-                fault: fault.into(),
-                span: place,
-            },
         }
     }
 }

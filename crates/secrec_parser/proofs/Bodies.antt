@@ -30,22 +30,22 @@ use Rattle.secrec_parser.proofs.Statements.{LowStatement, Follow, keyword_reads,
 
 -- Loops, where what reads their bodies is given
 
-module _ (max_height : ℕ) (two : 2 ≤ max_height) (inside : Bool) (inner : Inner)
+module _ (max_height : ℕ) (two : 2 ≤ max_height) (in_loop : Bool) (inner : Inner)
     (reads_inner : (w : List Token) → IsEnded w → Reads (IsStatement true) (LowStatement (max_height - 1)) Follow w (inner w))
   where
     abbrev Guarded : Tree × StatementTree → Phrase
     Guarded = Both parenthesised (λ e. IsStatement true)
 
-    while_down : (c : StatementTree) (s : List Token) → family_of c ≡ 3 → IsStatement inside c s
+    while_down : (c : StatementTree) (s : List Token) → family_of c ≡ 3 → IsStatement in_loop c s
         → (p : Span) × (b : Tree × StatementTree) × (c ≡ while_loop p b.0 b.1) × (sign_at p signs.While then Guarded b) s
     while_down (while_loop p e b) s f v = (p, (e, b), refl, v)
     while_down c s f v = absurd (omega (arith, f))
 
-    pub while_reads : (x : Token) (m : List Token) → x.kind ≡ kinds.Sign signs.While → family (leader_of inside x) ≡ 3 → IsEnded (x ∷ m)
-        → Reads (IsStatement inside) (LowStatement max_height) Follow (x ∷ m) (while_step (max_height - 1) inner x.place m)
+    pub while_reads : (x : Token) (m : List Token) → x.kind ≡ kinds.Sign signs.While → family (leader_of in_loop x) ≡ 3 → IsEnded (x ∷ m)
+        → Reads (IsStatement in_loop) (LowStatement max_height) Follow (x ∷ m) (while_step (max_height - 1) inner x.place m)
     unfolding while_step
     while_reads x m k fam en =
-        keyword_reads inside max_height signs.While 3 Guarded (λ p b. while_loop p b.0 b.1) Follow refl (λ p b s v. v) while_down follow_same
+        keyword_reads in_loop max_height signs.While 3 Guarded (λ p b. while_loop p b.0 b.1) Follow refl (λ p b s v. v) while_down follow_same
         (λ p. ((leaf, empty origin), parens ++ lone signs.Semicolon, (parens, lone signs.Semicolon, refl, are_parens, refl), omega (arith, two)))
         x m _ k fam en (λ en2.
         seq parenthesised (Low (max_height - 1)) Any (λ e. IsStatement true) (λ e s. while_loop x.place e s) (LowStatement max_height) Follow
@@ -64,7 +64,7 @@ module _ (max_height : ℕ) (two : 2 ≤ max_height) (inside : Bool) (inner : In
     abbrev Repeated : StatementTree × (Tree × Unit {0}) → Phrase
     Repeated = Both (IsStatement true) Ended
 
-    do_down : (c : StatementTree) (s : List Token) → family_of c ≡ 4 → IsStatement inside c s
+    do_down : (c : StatementTree) (s : List Token) → family_of c ≡ 4 → IsStatement in_loop c s
         → (p : Span) × (b : StatementTree × (Tree × Unit {0})) × (c ≡ do_loop p b.0 b.1.0) × (sign_at p signs.Do then Repeated b) s
     do_down (do_loop p b e) s f v = (p, (b, (e, tt)), refl, v)
     do_down c s f v = absurd (omega (arith, f))
@@ -72,11 +72,11 @@ module _ (max_height : ℕ) (two : 2 ≤ max_height) (inside : Bool) (inner : In
     ended : Ended (empty origin) (leaf, tt) (lone signs.While ++ parens ++ lone signs.Semicolon)
     ended = (lone signs.While, parens ++ lone signs.Semicolon, refl, (origin, refl), (parens, lone signs.Semicolon, refl, are_parens, (origin, refl)))
 
-    pub do_reads : (x : Token) (m : List Token) → x.kind ≡ kinds.Sign signs.Do → family (leader_of inside x) ≡ 4 → IsEnded (x ∷ m)
-        → Reads (IsStatement inside) (LowStatement max_height) Follow (x ∷ m) (do_step (max_height - 1) inner x.place m)
+    pub do_reads : (x : Token) (m : List Token) → x.kind ≡ kinds.Sign signs.Do → family (leader_of in_loop x) ≡ 4 → IsEnded (x ∷ m)
+        → Reads (IsStatement in_loop) (LowStatement max_height) Follow (x ∷ m) (do_step (max_height - 1) inner x.place m)
     unfolding do_step do_behind
     do_reads x m k fam en =
-        keyword_reads inside max_height signs.Do 4 Repeated (λ p b. do_loop p b.0 b.1.0) Any refl (λ p b s v. v) do_down follow_any
+        keyword_reads in_loop max_height signs.Do 4 Repeated (λ p b. do_loop p b.0 b.1.0) Any refl (λ p b s v. v) do_down follow_any
         (λ p. (
           (empty origin, (leaf, tt)),
           lone signs.Semicolon ++ lone signs.While ++ parens ++ lone signs.Semicolon,
@@ -105,16 +105,16 @@ module _ (max_height : ℕ) (two : 2 ≤ max_height) (inside : Bool) (inner : In
     abbrev Headed : HeadingParts × StatementTree → Phrase
     Headed = Both IsHeading (λ h. IsStatement true)
 
-    for_down : (c : StatementTree) (s : List Token) → family_of c ≡ 5 → IsStatement inside c s
+    for_down : (c : StatementTree) (s : List Token) → family_of c ≡ 5 → IsStatement in_loop c s
         → (p : Span) × (b : HeadingParts × StatementTree) × (c ≡ for_loop p b.0.0 b.0.1 b.0.2 b.1) × (sign_at p signs.For then Headed b) s
     for_down (for_loop p a e b t) s f v = (p, ((a, e, b), t), refl, v)
     for_down c s f v = absurd (omega (arith, f))
 
-    pub for_reads : (x : Token) (m : List Token) → x.kind ≡ kinds.Sign signs.For → family (leader_of inside x) ≡ 5 → IsEnded (x ∷ m)
-        → Reads (IsStatement inside) (LowStatement max_height) Follow (x ∷ m) (for_step (max_height - 1) inner x.place m)
+    pub for_reads : (x : Token) (m : List Token) → x.kind ≡ kinds.Sign signs.For → family (leader_of in_loop x) ≡ 5 → IsEnded (x ∷ m)
+        → Reads (IsStatement in_loop) (LowStatement max_height) Follow (x ∷ m) (for_step (max_height - 1) inner x.place m)
     unfolding for_step
     for_reads x m k fam en =
-        keyword_reads inside max_height signs.For 5 Headed (λ p b. for_loop p b.0.0 b.0.1 b.0.2 b.1) Follow refl (λ p b s v. v) for_down follow_same
+        keyword_reads in_loop max_height signs.For 5 Headed (λ p b. for_loop p b.0.0 b.0.1 b.0.2 b.1) Follow refl (λ p b s v. v) for_down follow_same
         (λ p. (
           ((starts_with_nothing, None, steps_by_nothing), empty origin),
           heads ++ lone signs.Semicolon,
@@ -146,13 +146,13 @@ unfolding listed_of list_of
 of_list statements.none = refl
 of_list (statements.also s ss) = ap (statements.also s) (of_list ss)
 
-pub all_up : (inside : Bool) (ss : List StatementTree) (ts : List Token) → AreAll (IsStatement inside) ss ts → AreStatements inside (statements_of ss) ts
-all_up inside [] ts v = v
-all_up inside (s ∷ ss) ts v = (v.0, v.1, v.2, v.3, all_up inside ss v.1 v.4)
+pub all_up : (in_loop : Bool) (ss : List StatementTree) (ts : List Token) → AreAll (IsStatement in_loop) ss ts → AreStatements in_loop (statements_of ss) ts
+all_up in_loop [] ts v = v
+all_up in_loop (s ∷ ss) ts v = (v.0, v.1, v.2, v.3, all_up in_loop ss v.1 v.4)
 
-pub all_down : (inside : Bool) (ss : List StatementTree) (ts : List Token) → AreStatements inside (statements_of ss) ts → AreAll (IsStatement inside) ss ts
-all_down inside [] ts v = v
-all_down inside (s ∷ ss) ts v = (v.0, v.1, v.2, v.3, all_down inside ss v.1 v.4)
+pub all_down : (in_loop : Bool) (ss : List StatementTree) (ts : List Token) → AreStatements in_loop (statements_of ss) ts → AreAll (IsStatement in_loop) ss ts
+all_down in_loop [] ts v = v
+all_down in_loop (s ∷ ss) ts v = (v.0, v.1, v.2, v.3, all_down in_loop ss v.1 v.4)
 
 abbrev pub LowStatements : ℕ → List StatementTree → Type 0
 LowStatements h ss = statement_heights (statements_of ss) ≤ h
@@ -172,34 +172,34 @@ low_more h (s ∷ found) a f g =
 no_starter : (x : Token) (k : Sign) → x.kind ≡ kinds.Sign k → starter (kinds.Sign k) ≡ false → starter x.kind ≡ true → ⊥
 no_starter x k e f g = let h : starter (kinds.Sign k) ≡ true = ap starter (sym e) ∙ g in cc
 
-module _ (h : ℕ) (inside : Bool) (inner : Inner)
-    (reads_inner : (w : List Token) → IsEnded w → Reads (IsStatement inside) (LowStatement h) Follow w (inner w))
+module _ (h : ℕ) (in_loop : Bool) (inner : Inner)
+    (reads_inner : (w : List Token) → IsEnded w → Reads (IsStatement in_loop) (LowStatement h) Follow w (inner w))
   where
     abbrev pub Close : Token → Type 0
     Close x = x.kind ≡ kinds.Sign signs.RightBrace
 
     -- a statement does not begin with `else`
-    after_statement : (a b : StatementTree) (s m : List Token) → IsStatement inside b s → Stops (Follow a) (s ++ m)
-    after_statement a b [] m v = absurd (statement_some inside b v)
-    after_statement a b (y ∷ s) m v = λ k. absurd (no_starter y signs.Else k refl (starts inside b (y ∷ s) m (s ++ m) y v refl))
+    after_statement : (a b : StatementTree) (s m : List Token) → IsStatement in_loop b s → Stops (Follow a) (s ++ m)
+    after_statement a b [] m v = absurd (statement_some in_loop b v)
+    after_statement a b (y ∷ s) m v = λ k. absurd (no_starter y signs.Else k refl (starts in_loop b (y ∷ s) m (s ++ m) y v refl))
 
     before_close : (a : StatementTree) (m : List Token) → Stops Close m → Stops (Follow a) m
     before_close a [] st = st
     before_close a (y ∷ m) st = λ k. let f : kinds.Sign signs.RightBrace ≡ kinds.Sign signs.Else = sym st ∙ k in cc
 
     all_reads : (w : List Token) → IsEnded w
-        → Reads (Made (λ zs. [] ++ zs) (λ zs ts. Unit {0} × AreAll (IsStatement inside) zs ts)) (LowStatements h) (λ zs x. Close x) w
+        → Reads (Made (λ zs. [] ++ zs) (λ zs ts. Unit {0} × AreAll (IsStatement in_loop) zs ts)) (LowStatements h) (λ zs x. Close x) w
         (listed (λ found w. at_sign signs.RightBrace w) inner [] w)
     all_reads w en =
-        listed_reads (IsStatement inside) (LowStatement h) Follow (LowStatements h) Close (λ ss. Unit {0})
+        listed_reads (IsStatement in_loop) (LowStatement h) Follow (LowStatements h) Close (λ ss. Unit {0})
         (λ found w. at_sign signs.RightBrace w) inner reads_inner
-        (low_part h) (low_more h) after_statement before_close (statement_some inside)
-        (λ found x m t a zs s m' m2 b v eq. no_starter x signs.RightBrace (is_sign-true signs.RightBrace x t) refl (starts inside a s m' m2 x v eq))
+        (low_part h) (low_more h) after_statement before_close (statement_some in_loop)
+        (λ found x m t a zs s m' m2 b v eq. no_starter x signs.RightBrace (is_sign-true signs.RightBrace x t) refl (starts in_loop a s m' m2 x v eq))
         (λ found x m t e. is_sign-false signs.RightBrace x t e) (λ found x m a t b. tt)
         [] w (omega arith) tt en
 
     abbrev pub Statements : List StatementTree → Phrase
-    Statements ss ts = AreStatements inside (statements_of ss) ts
+    Statements ss ts = AreStatements in_loop (statements_of ss) ts
 
     abbrev pub Filled : List StatementTree × Unit {0} → Phrase
     Filled = Both Statements (λ ss (u : Unit {0}). sign signs.RightBrace)
@@ -207,16 +207,16 @@ module _ (h : ℕ) (inside : Bool) (inner : Inner)
     statements_reads : (w : List Token) → IsEnded w
         → Reads Statements (LowStatements h) (λ zs x. Close x) w (listed (λ found w. at_sign signs.RightBrace w) inner [] w)
     statements_reads w en =
-        reads_same (Made (λ zs. [] ++ zs) (λ zs ts. Unit {0} × AreAll (IsStatement inside) zs ts)) Statements (LowStatements h) (λ zs x. Close x)
+        reads_same (Made (λ zs. [] ++ zs) (λ zs ts. Unit {0} × AreAll (IsStatement in_loop) zs ts)) Statements (LowStatements h) (λ zs x. Close x)
         (λ zs x. Close x)
-        (λ c s v. subst (λ z. Statements z s) (sym v.1) (all_up inside v.0 s v.2.1))
-        (λ c s v. (c, refl, (tt, all_down inside c s v)))
+        (λ c s v. subst (λ z. Statements z s) (sym v.1) (all_up in_loop v.0 s v.2.1))
+        (λ c s v. (c, refl, (tt, all_down in_loop c s v)))
         (λ c m st. st) w _ (all_reads w en)
 
     -- statements and their closing brace
     pub braced_reads : (w : List Token) → IsEnded w
         → Reads (Made (λ (v : List StatementTree × Unit {0}). v.0)
-        (Both (λ ss ts. AreStatements inside (statements_of ss) ts) (λ ss (u : Unit {0}). sign signs.RightBrace))) (LowStatements h) Any w (braced inner w)
+        (Both (λ ss ts. AreStatements in_loop (statements_of ss) ts) (λ ss (u : Unit {0}). sign signs.RightBrace))) (LowStatements h) Any w (braced inner w)
     braced_reads w en =
         seq Statements (LowStatements h) (λ zs x. Close x) (λ ss (u : Unit {0}). sign signs.RightBrace) (λ ss u. ss) (LowStatements h) Any
         (λ ss u t v f. f)
@@ -225,26 +225,26 @@ module _ (h : ℕ) (inside : Bool) (inner : Inner)
         w (listed (λ found w. at_sign signs.RightBrace w) inner [] w) _ (statements_reads w en) (λ ss r is g.
         sign_end signs.RightBrace ss (LowStatements h) g.fits r (good_ended g en))
 
-module _ (max_height : ℕ) (one : 1 ≤ max_height) (inside : Bool) (inner : Inner)
-    (reads_inner : (w : List Token) → IsEnded w → Reads (IsStatement inside) (LowStatement (max_height - 1)) Follow w (inner w))
+module _ (max_height : ℕ) (one : 1 ≤ max_height) (in_loop : Bool) (inner : Inner)
+    (reads_inner : (w : List Token) → IsEnded w → Reads (IsStatement in_loop) (LowStatement (max_height - 1)) Follow w (inner w))
   where
     abbrev In : List StatementTree × Unit {0} → Phrase
-    In = Both (λ ss ts. AreStatements inside (statements_of ss) ts) (λ ss (u : Unit {0}). sign signs.RightBrace)
+    In = Both (λ ss ts. AreStatements in_loop (statements_of ss) ts) (λ ss (u : Unit {0}). sign signs.RightBrace)
 
-    block_down : (c : StatementTree) (s : List Token) → family_of c ≡ 0 → IsStatement inside c s
+    block_down : (c : StatementTree) (s : List Token) → family_of c ≡ 0 → IsStatement in_loop c s
         → (p : Span) × (b : List StatementTree × Unit {0}) × (c ≡ block p (statements_of b.0)) × (sign_at p signs.LeftBrace then In b) s
     block_down (block p ss) s f v = (
       p,
       (listed_of ss, tt),
       ap (block p) (sym (of_list ss)),
-      (v.0, v.1, v.2, v.3, (v.4.0, v.4.1, v.4.2, subst (λ z. AreStatements inside z v.4.0) (sym (of_list ss)) v.4.3, v.4.4)),
+      (v.0, v.1, v.2, v.3, (v.4.0, v.4.1, v.4.2, subst (λ z. AreStatements in_loop z v.4.0) (sym (of_list ss)) v.4.3, v.4.4)),
     )
     block_down c s f v = absurd (omega (arith, f))
 
-    pub block_reads : (x : Token) (m : List Token) → x.kind ≡ kinds.Sign signs.LeftBrace → family (leader_of inside x) ≡ 0 → IsEnded (x ∷ m)
-        → Reads (IsStatement inside) (LowStatement max_height) Follow (x ∷ m) (braced inner m >>= λ ss. Ok (block x.place (statements_of ss.0), ss.1))
+    pub block_reads : (x : Token) (m : List Token) → x.kind ≡ kinds.Sign signs.LeftBrace → family (leader_of in_loop x) ≡ 0 → IsEnded (x ∷ m)
+        → Reads (IsStatement in_loop) (LowStatement max_height) Follow (x ∷ m) (braced inner m >>= λ ss. Ok (block x.place (statements_of ss.0), ss.1))
     block_reads x m k fam en =
-        keyword_reads inside max_height signs.LeftBrace 0 In (λ p b. block p (statements_of b.0)) Any refl (λ p b s v. v) block_down follow_any
+        keyword_reads in_loop max_height signs.LeftBrace 0 In (λ p b. block p (statements_of b.0)) Any refl (λ p b s v. v) block_down follow_any
         (λ p. (([], tt), lone signs.RightBrace, ([], lone signs.RightBrace, refl, refl, (origin, refl)), omega (arith, one)))
         x m _ k fam en (λ en2.
         reads_same (Made (λ ss. block x.place (statements_of ss)) (Made (λ (v : List StatementTree × Unit {0}). v.0) In))
@@ -255,4 +255,4 @@ module _ (max_height : ℕ) (one : 1 ≤ max_height) (inside : Bool) (inner : In
         (made (Made (λ (v : List StatementTree × Unit {0}). v.0) In) (LowStatements (max_height - 1)) Any (λ ss. block x.place (statements_of ss))
         (LowStatement max_height) Any
         (λ ss f. omega (arith, f)) (λ ss f. omega (arith, f, one)) (λ ss m st. any_stops (λ y. Unit {0}) [] m st)
-        m (braced inner m) (braced_reads (max_height - 1) inside inner reads_inner m en2)))
+        m (braced inner m) (braced_reads (max_height - 1) in_loop inner reads_inner m en2)))

@@ -79,16 +79,16 @@ all_closed : (c : StatementTree) (r : List Token) → IsEnded r → Closed c →
 all_closed c [] en k = cc
 all_closed c (y ∷ r) en k = λ e. k
 
-module _ (max_height : ℕ) (inside : Bool) (x : Token) (m : List Token) (en : IsEnded (x ∷ m)) (o : Outcome StatementTree)
-    (reads : Reads (IsStatement inside) (LowStatement max_height) Follow (x ∷ m) o) where
+module _ (max_height : ℕ) (in_loop : Bool) (x : Token) (m : List Token) (en : IsEnded (x ∷ m)) (o : Outcome StatementTree)
+    (reads : Reads (IsStatement in_loop) (LowStatement max_height) Follow (x ∷ m) o) where
   -- the family of what was read
-  read_family : (c : StatementTree) (r : List Token) → o ≡ Ok (c, r) → family (leader_of inside x) ≡ family_of c
+  read_family : (c : StatementTree) (r : List Token) → o ≡ Ok (c, r) → family (leader_of in_loop x) ≡ family_of c
   read_family c r e =
-      let g : Good (IsStatement inside) (LowStatement max_height) Follow (x ∷ m) c r =
-      subst (Reads (IsStatement inside) (LowStatement max_height) Follow (x ∷ m)) e reads in
-      family_is inside c g.s r m x g.here (sym g.split)
+      let g : Good (IsStatement in_loop) (LowStatement max_height) Follow (x ∷ m) c r =
+      subst (Reads (IsStatement in_loop) (LowStatement max_height) Follow (x ∷ m)) e reads in
+      family_is in_loop c g.s r m x g.here (sym g.split)
 
-  pub trivial_greedy : (n : ℕ) → family (leader_of inside x) ≡ n → (n ≡ 2 → ⊥) → (n ≡ 3 → ⊥) → (n ≡ 5 → ⊥) → Greedy o
+  pub trivial_greedy : (n : ℕ) → family (leader_of in_loop x) ≡ n → (n ≡ 2 → ⊥) → (n ≡ 3 → ⊥) → (n ≡ 5 → ⊥) → Greedy o
   trivial_greedy n f i w t c r enr e =
       let g = sym (read_family c r e) ∙ f in
       all_closed c r enr (trivial c (λ k. i (sym g ∙ k)) (λ k. w (sym g ∙ k)) (λ k. t (sym g ∙ k)))
@@ -119,85 +119,87 @@ else_greedy inner p e s (x ∷ m) gi en = go (is_sign signs.Else x) refl
         subst (λ z. Stops (Follow z) r) e2.0 (subst (Stops (Follow (branch p e s))) e2.1 (λ k. absurd (is_sign-false signs.Else x t k)))
 
 module _ (max_height : ℕ) (lower : Bool → Inner)
-    (reads_lower : 1 ≤ max_height → (inside : Bool) (w : List Token) → IsEnded w
-    → Reads (IsStatement inside) (LowStatement (max_height - 1)) Follow w (lower inside w))
-    (greedy_lower : 1 ≤ max_height → (inside : Bool) (w : List Token) → IsEnded w → Greedy (lower inside w))
-    (inside : Bool) (x : Token) (m : List Token) (en : IsEnded (x ∷ m))
+    (reads_lower : 1 ≤ max_height → (in_loop : Bool) (w : List Token) → IsEnded w
+    → Reads (IsStatement in_loop) (LowStatement (max_height - 1)) Follow w (lower in_loop w))
+    (greedy_lower : 1 ≤ max_height → (in_loop : Bool) (w : List Token) → IsEnded w → Greedy (lower in_loop w))
+    (in_loop : Bool) (x : Token) (m : List Token) (en : IsEnded (x ∷ m))
   where
-    by_reads : (l : Leader) → leader_of inside x ≡ l → least l ≤ max_height
-        → Reads (IsStatement inside) (LowStatement max_height) Follow (x ∷ m) (statement_by l max_height lower inside x m)
+    by_reads : (l : Leader) → leader_of in_loop x ≡ l → least l ≤ max_height
+        → Reads (IsStatement in_loop) (LowStatement max_height) Follow (x ∷ m) (statement_by l max_height lower in_loop x m)
     unfolding led
     by_reads leaders.Block e low =
-        block_reads max_height low inside (lower inside) (reads_lower low inside) x m (leads inside x leaders.Block signs.LeftBrace e refl) (ap family e) en
-    by_reads leaders.Empty e low = empty_reads inside max_height low x m (leads inside x leaders.Empty signs.Semicolon e refl) (ap family e) en
+        block_reads max_height low in_loop (lower in_loop) (reads_lower low in_loop) x m (leads in_loop x leaders.Block signs.LeftBrace e refl) (ap family e) en
+    by_reads leaders.Empty e low = empty_reads in_loop max_height low x m (leads in_loop x leaders.Empty signs.Semicolon e refl) (ap family e) en
     by_reads leaders.If e low =
-        if_reads max_height low inside (lower inside) (reads_lower (omega (arith, low)) inside)
-        (λ w r s enw enr f. greedy_lower (omega (arith, low)) inside w enw s r enr f) x m (leads inside x leaders.If signs.If e refl) (ap family e) en
+        if_reads max_height low in_loop (lower in_loop) (reads_lower (omega (arith, low)) in_loop)
+        (λ w r s enw enr f. greedy_lower (omega (arith, low)) in_loop w enw s r enr f) x m (leads in_loop x leaders.If signs.If e refl) (ap family e) en
     by_reads leaders.While e low =
-        while_reads max_height low inside (lower true) (reads_lower (omega (arith, low)) true) x m (leads inside x leaders.While signs.While e refl)
+        while_reads max_height low in_loop (lower true) (reads_lower (omega (arith, low)) true) x m (leads in_loop x leaders.While signs.While e refl)
         (ap family e) en
     by_reads leaders.DoWhile e low =
-        do_reads max_height low inside (lower true) (reads_lower (omega (arith, low)) true) x m (leads inside x leaders.DoWhile signs.Do e refl)
+        do_reads max_height low in_loop (lower true) (reads_lower (omega (arith, low)) true) x m (leads in_loop x leaders.DoWhile signs.Do e refl)
         (ap family e) en
     by_reads leaders.For e low =
-        for_reads max_height low inside (lower true) (reads_lower (omega (arith, low)) true) x m (leads inside x leaders.For signs.For e refl) (ap family e) en
+        for_reads max_height low in_loop (lower true) (reads_lower (omega (arith, low)) true) x m (leads in_loop x leaders.For signs.For e refl)
+        (ap family e) en
     by_reads leaders.Break e low =
-        let k = leads inside x leaders.Break signs.Break e refl in
-        break_reads inside max_height low x m k (leads_inside inside x signs.Break leaders.Break k e no_break) (ap family e) en
+        let k = leads in_loop x leaders.Break signs.Break e refl in
+        break_reads in_loop max_height low x m k (leads_inside in_loop x signs.Break leaders.Break k e no_break) (ap family e) en
     by_reads leaders.Continue e low =
-        let k = leads inside x leaders.Continue signs.Continue e refl in
-        continue_reads inside max_height low x m k (leads_inside inside x signs.Continue leaders.Continue k e no_continue) (ap family e) en
-    by_reads leaders.Return e low = return_reads inside max_height low x m (leads inside x leaders.Return signs.Return e refl) (ap family e) en
-    by_reads leaders.Assert e low = assert_reads inside max_height low x m (leads inside x leaders.Assert signs.Assert e refl) (ap family e) en
-    by_reads leaders.Declaration e low = typed_reads max_height low inside x m e en
+        let k = leads in_loop x leaders.Continue signs.Continue e refl in
+        continue_reads in_loop max_height low x m k (leads_inside in_loop x signs.Continue leaders.Continue k e no_continue) (ap family e) en
+    by_reads leaders.Return e low = return_reads in_loop max_height low x m (leads in_loop x leaders.Return signs.Return e refl) (ap family e) en
+    by_reads leaders.Assert e low = assert_reads in_loop max_height low x m (leads in_loop x leaders.Assert signs.Assert e refl) (ap family e) en
+    by_reads leaders.Declaration e low = typed_reads max_height low in_loop x m e en
     by_reads leaders.Name e low = behind m en
       where
         behind : (m : List Token) → IsEnded (x ∷ m)
-            → Reads (IsStatement inside) (LowStatement max_height) Follow (x ∷ m) (steps.name_statement max_height (x ∷ m) m)
-        behind [] en = let k = name_kind inside x.kind x.place e in let f = after_kind x [] (kinds.Name k.0) en k.1 refl in absurd (false_true f)
-        behind (y ∷ n) en = let k = name_kind inside x.kind x.place e in named_reads inside x y n k.0 k.1 (ap family e) en max_height low
-    by_reads leaders.Expression e low = expression_reads max_height inside x m e en
+            → Reads (IsStatement in_loop) (LowStatement max_height) Follow (x ∷ m) (steps.name_statement max_height (x ∷ m) m)
+        behind [] en = let k = name_kind in_loop x.kind x.place e in let f = after_kind x [] (kinds.Name k.0) en k.1 refl in absurd (false_true f)
+        behind (y ∷ n) en = let k = name_kind in_loop x.kind x.place e in named_reads in_loop x y n k.0 k.1 (ap family e) en max_height low
+    by_reads leaders.Expression e low = expression_reads max_height in_loop x m e en
 
-    high_reads : (l : Leader) → leader_of inside x ≡ l → max_height < least l → (l ≡ leaders.Expression → ⊥)
-        → Bad (IsStatement inside) (LowStatement max_height) Follow (x ∷ m) TooHigh (x ∷ m)
+    high_reads : (l : Leader) → leader_of in_loop x ≡ l → max_height < least l → (l ≡ leaders.Expression → ⊥)
+        → Bad (IsStatement in_loop) (LowStatement max_height) Follow (x ∷ m) TooHigh (x ∷ m)
     high_reads l e high other =
-        too_high (IsStatement inside) (LowStatement max_height) Follow x m
-        (λ c s m' m2 v f st eq. let h = least_high inside c s m' m2 x v eq in let g = ap least e in omega (arith, f, h, g, high))
-        (sample inside x l e other)
+        too_high (IsStatement in_loop) (LowStatement max_height) Follow x m
+        (λ c s m' m2 v f st eq. let h = least_high in_loop c s m' m2 x v eq in let g = ap least e in omega (arith, f, h, g, high))
+        (sample in_loop x l e other)
 
     no_expression : (l : Leader) → max_height < least l → l ≡ leaders.Expression → ⊥
     no_expression l high e = let f = ap least e in omega (arith, f, high)
 
-    head_reads : Reads (IsStatement inside) (LowStatement max_height) Follow (x ∷ m)
-        (cond (nat_lt max_height (least (leader_of inside x))) (Err (TooHigh, x ∷ m)) (statement_by (leader_of inside x) max_height lower inside x m))
-    head_reads = go (nat_lt max_height (least (leader_of inside x))) refl
+    head_reads : Reads (IsStatement in_loop) (LowStatement max_height) Follow (x ∷ m)
+        (cond (nat_lt max_height (least (leader_of in_loop x))) (Err (TooHigh, x ∷ m)) (statement_by (leader_of in_loop x) max_height lower in_loop x m))
+    head_reads = go (nat_lt max_height (least (leader_of in_loop x))) refl
       where
-        go : (b : Bool) → nat_lt max_height (least (leader_of inside x)) ≡ b
-            → Reads (IsStatement inside) (LowStatement max_height) Follow (x ∷ m)
-            (cond b (Err (TooHigh, x ∷ m)) (statement_by (leader_of inside x) max_height lower inside x m))
-        go true t = let high = ltb-true max_height (least (leader_of inside x)) t in
-            high_reads (leader_of inside x) refl high (no_expression (leader_of inside x) high)
-        go false t = by_reads (leader_of inside x) refl (ltb-false max_height (least (leader_of inside x)) t)
+        go : (b : Bool) → nat_lt max_height (least (leader_of in_loop x)) ≡ b
+            → Reads (IsStatement in_loop) (LowStatement max_height) Follow (x ∷ m)
+            (cond b (Err (TooHigh, x ∷ m)) (statement_by (leader_of in_loop x) max_height lower in_loop x m))
+        go true t = let high = ltb-true max_height (least (leader_of in_loop x)) t in
+            high_reads (leader_of in_loop x) refl high (no_expression (leader_of in_loop x) high)
+        go false t = by_reads (leader_of in_loop x) refl (ltb-false max_height (least (leader_of in_loop x)) t)
 
     keeps_end : {A : Type 0} (W : A → Phrase) (Fits : A → Type 0) (F : A → Token → Type 0) (w : List Token) (o : Outcome A) → Reads W Fits F w o
         → IsEnded w → (a : A) (r : List Token) → o ≡ Ok (a, r) → IsEnded r
     keeps_end W Fits F w o reads enw a r e = good_ended {W = W} {Fits = Fits} {F = F} (subst (Reads W Fits F w) e reads) enw
 
-    behind_first : (l : Leader) (s : Sign) → leader_of inside x ≡ l → keyword l ≡ Some s → IsEnded m
-    behind_first l s e f = let k = leads inside x l s e f in after_kind x m (kinds.Sign s) en k refl
+    behind_first : (l : Leader) (s : Sign) → leader_of in_loop x ≡ l → keyword l ≡ Some s → IsEnded m
+    behind_first l s e f = let k = leads in_loop x l s e f in after_kind x m (kinds.Sign s) en k refl
 
     test_ended : 2 ≤ max_height → IsEnded m → (a : Tree) (r : List Token) → steps.parenthesised (max_height - 1) m ≡ Ok (a, r) → IsEnded r
     test_ended two enm a r e = keeps_end parenthesised (Low (max_height - 1)) Any m (steps.parenthesised (max_height - 1) m)
         (parenthesised_reads (max_height - 1) (omega (arith, two)) m enm) enm a r e
 
-    if_greedy : 2 ≤ max_height → IsEnded m → Greedy (if_step (max_height - 1) (lower inside) x.place m)
+    if_greedy : 2 ≤ max_height → IsEnded m → Greedy (if_step (max_height - 1) (lower in_loop) x.place m)
     unfolding if_step
     if_greedy two enm =
-        greedy_bind (steps.parenthesised (max_height - 1) m) (λ e. lower inside e.1 >>= λ s. else_step (lower inside) x.place e.0 s.0 s.1) (λ a r f.
-        greedy_bind (lower inside r) (λ s. else_step (lower inside) x.place a s.0 s.1) (λ s r2 f2.
+        greedy_bind (steps.parenthesised (max_height - 1) m) (λ e. lower in_loop e.1 >>= λ s. else_step (lower in_loop) x.place e.0 s.0 s.1) (λ a r f.
+        greedy_bind (lower in_loop r) (λ s. else_step (lower in_loop) x.place a s.0 s.1) (λ s r2 f2.
         let enr = test_ended two enm a r f in
-        else_greedy (lower inside) x.place a s r2 (greedy_lower (omega (arith, two)) inside)
-        (keeps_end (IsStatement inside) (LowStatement (max_height - 1)) Follow r (lower inside r) (reads_lower (omega (arith, two)) inside r enr) enr s r2 f2)))
+        else_greedy (lower in_loop) x.place a s r2 (greedy_lower (omega (arith, two)) in_loop)
+        (keeps_end (IsStatement in_loop) (LowStatement (max_height - 1)) Follow r (lower in_loop r)
+        (reads_lower (omega (arith, two)) in_loop r enr) enr s r2 f2)))
 
     while_greedy : 2 ≤ max_height → IsEnded m → Greedy (while_step (max_height - 1) (lower true) x.place m)
     unfolding while_step
@@ -213,12 +215,12 @@ module _ (max_height : ℕ) (lower : Bool → Inner)
         (keeps_end IsHeading (LowHeading (max_height - 1)) Any m (steps.heading (max_height - 1) m)
         (heading_reads (max_height - 1) (omega (arith, two)) m enm) enm a r f)))
 
-    plain_greedy : (l : Leader) → leader_of inside x ≡ l → least l ≤ max_height → (family l ≡ 2 → ⊥) → (family l ≡ 3 → ⊥) → (family l ≡ 5 → ⊥)
-        → Greedy (statement_by l max_height lower inside x m)
+    plain_greedy : (l : Leader) → leader_of in_loop x ≡ l → least l ≤ max_height → (family l ≡ 2 → ⊥) → (family l ≡ 3 → ⊥) → (family l ≡ 5 → ⊥)
+        → Greedy (statement_by l max_height lower in_loop x m)
     plain_greedy l e low i w f =
-        trivial_greedy max_height inside x m en (statement_by l max_height lower inside x m) (by_reads l e low) (family l) (ap family e) i w f
+        trivial_greedy max_height in_loop x m en (statement_by l max_height lower in_loop x m) (by_reads l e low) (family l) (ap family e) i w f
 
-    by_greedy : (l : Leader) → leader_of inside x ≡ l → least l ≤ max_height → Greedy (statement_by l max_height lower inside x m)
+    by_greedy : (l : Leader) → leader_of in_loop x ≡ l → least l ≤ max_height → Greedy (statement_by l max_height lower in_loop x m)
     unfolding led
     by_greedy leaders.If e low = if_greedy low (behind_first leaders.If signs.If e refl)
     by_greedy leaders.While e low = while_greedy low (behind_first leaders.While signs.While e refl)
@@ -234,33 +236,33 @@ module _ (max_height : ℕ) (lower : Bool → Inner)
     by_greedy leaders.Name e low = plain_greedy leaders.Name e low (λ f. omega (arith, f)) (λ f. omega (arith, f)) (λ f. omega (arith, f))
     by_greedy leaders.Expression e low = plain_greedy leaders.Expression e low (λ f. omega (arith, f)) (λ f. omega (arith, f)) (λ f. omega (arith, f))
 
-    head_greedy : Greedy (cond (nat_lt max_height (least (leader_of inside x))) (Err (TooHigh, x ∷ m))
-        (statement_by (leader_of inside x) max_height lower inside x m))
-    head_greedy = go (nat_lt max_height (least (leader_of inside x))) refl
+    head_greedy : Greedy (cond (nat_lt max_height (least (leader_of in_loop x))) (Err (TooHigh, x ∷ m))
+        (statement_by (leader_of in_loop x) max_height lower in_loop x m))
+    head_greedy = go (nat_lt max_height (least (leader_of in_loop x))) refl
       where
-        go : (b : Bool) → nat_lt max_height (least (leader_of inside x)) ≡ b
-            → Greedy (cond b (Err (TooHigh, x ∷ m)) (statement_by (leader_of inside x) max_height lower inside x m))
+        go : (b : Bool) → nat_lt max_height (least (leader_of in_loop x)) ≡ b
+            → Greedy (cond b (Err (TooHigh, x ∷ m)) (statement_by (leader_of in_loop x) max_height lower in_loop x m))
         go true t = λ c r enr (f : Err (TooHigh, x ∷ m) ≡ Ok (c, r)). cc
-        go false t = by_greedy (leader_of inside x) refl (ltb-false max_height (least (leader_of inside x)) t)
+        go false t = by_greedy (leader_of in_loop x) refl (ltb-false max_height (least (leader_of in_loop x)) t)
 
-    pub head_both : Reads (IsStatement inside) (LowStatement max_height) Follow (x ∷ m) (statement_step max_height lower inside (x ∷ m))
-        × Greedy (statement_step max_height lower inside (x ∷ m))
+    pub head_both : Reads (IsStatement in_loop) (LowStatement max_height) Follow (x ∷ m) (statement_step max_height lower in_loop (x ∷ m))
+        × Greedy (statement_step max_height lower in_loop (x ∷ m))
     unfolding statement_step
     head_both = (head_reads, head_greedy)
 
-statement_both : (max_height : ℕ) (inside : Bool) (w : List Token) → IsEnded w
-    → Reads (IsStatement inside) (LowStatement max_height) Follow w (statement_at_most max_height inside w) × Greedy (statement_at_most max_height inside w)
+statement_both : (max_height : ℕ) (in_loop : Bool) (w : List Token) → IsEnded w
+    → Reads (IsStatement in_loop) (LowStatement max_height) Follow w (statement_at_most max_height in_loop w) × Greedy (statement_at_most max_height in_loop w)
 unfolding statement_at_most
-statement_both max_height inside [] en = cc
-statement_both zero inside (x ∷ m) en =
-    head_both zero (λ i m. Err (TooHigh, m)) (λ one. absurd (omega (arith, one))) (λ one. absurd (omega (arith, one))) inside x m en
-statement_both (suc h) inside (x ∷ m) en =
+statement_both max_height in_loop [] en = cc
+statement_both zero in_loop (x ∷ m) en =
+    head_both zero (λ i m. Err (TooHigh, m)) (λ one. absurd (omega (arith, one))) (λ one. absurd (omega (arith, one))) in_loop x m en
+statement_both (suc h) in_loop (x ∷ m) en =
     let d : h ≡ suc h - 1 = omega arith in
     head_both (suc h) (statement_at_most h)
     (λ one i w enw. subst (λ n. Reads (IsStatement i) (LowStatement n) Follow w (statement_at_most h i w)) d (statement_both h i w enw).0)
-    (λ one i w enw. (statement_both h i w enw).1) inside x m en
+    (λ one i w enw. (statement_both h i w enw).1) in_loop x m en
 
 -- a statement of at most this height is read as the grammar spells it
-pub statement_reads : (max_height : ℕ) (inside : Bool) (w : List Token) → IsEnded w
-    → Reads (IsStatement inside) (LowStatement max_height) Follow w (statement_at_most max_height inside w)
-statement_reads max_height inside w en = (statement_both max_height inside w en).0
+pub statement_reads : (max_height : ℕ) (in_loop : Bool) (w : List Token) → IsEnded w
+    → Reads (IsStatement in_loop) (LowStatement max_height) Follow w (statement_at_most max_height in_loop w)
+statement_reads max_height in_loop w en = (statement_both max_height in_loop w en).0

@@ -59,11 +59,12 @@ family_of (declaration d) = 10
 family_of (assignment a) = 10
 family_of (evaluation e) = 10
 
-pub leader_at : (inside : Bool) (x : Token) (k : TokenKind) → k ≡ x.kind → leader_of inside x ≡ leader_of inside (token x.place k)
-leader_at inside x k e = ap (λ z. leader_of inside (token x.place z)) (sym e)
+pub leader_at : (in_loop : Bool) (x : Token) (k : TokenKind) → k ≡ x.kind → leader_of in_loop x ≡ leader_of in_loop (token x.place k)
+leader_at in_loop x k e = ap (λ z. leader_of in_loop (token x.place z)) (sym e)
 
-family_at : (inside : Bool) (x : Token) (k : TokenKind) (n : ℕ) → k ≡ x.kind → family (leader_of inside (token x.place k)) ≡ n → family (leader_of inside x) ≡ n
-family_at inside x k n e f = ap family (leader_at inside x k e) ∙ f
+family_at : (in_loop : Bool) (x : Token) (k : TokenKind) (n : ℕ) → k ≡ x.kind → family (leader_of in_loop (token x.place k)) ≡ n
+    → family (leader_of in_loop x) ≡ n
+family_at in_loop x k n e f = ap family (leader_at in_loop x k e) ∙ f
 
 -- what a type begins with
 abbrev pub begins_type : TokenKind → Bool
@@ -93,25 +94,25 @@ declared_kind t s m m2 x v eq = go t.domain v.1.3
     go domains.Public (inr u) = ap begins_type (sym (head_kind v.1.0 [] (v.1.1 ++ m) m2 u.0 (kinds.Sign signs.Public) x u.1 eq2))
     go (domains.Named y) u = ap begins_type (sym (head_kind v.1.0 [] (v.1.1 ++ m) m2 y.place (kinds.Name y.text) x u eq2))
 
-type_family : (inside : Bool) (k : TokenKind) (p : Span) → begins_type k ≡ true → family (leader_of inside (token p k)) ≡ 10
-type_family inside (kinds.Name bytes) p e = refl
-type_family inside (kinds.Sign signs.Public) p e = refl
-type_family inside (kinds.Sign signs.Uint64) p e = refl
-type_family inside (kinds.Sign signs.Uint) p e = refl
-type_family inside (kinds.Sign signs.Bool) p e = refl
-type_family inside k p e = absurd (false_true e)
+type_family : (in_loop : Bool) (k : TokenKind) (p : Span) → begins_type k ≡ true → family (leader_of in_loop (token p k)) ≡ 10
+type_family in_loop (kinds.Name bytes) p e = refl
+type_family in_loop (kinds.Sign signs.Public) p e = refl
+type_family in_loop (kinds.Sign signs.Uint64) p e = refl
+type_family in_loop (kinds.Sign signs.Uint) p e = refl
+type_family in_loop (kinds.Sign signs.Bool) p e = refl
+type_family in_loop k p e = absurd (false_true e)
 
-expression_family : (inside : Bool) (k : TokenKind) (p : Span) (n : ℕ) → expressions.least k ≡ Some n → family (leader_of inside (token p k)) ≡ 10
-expression_family inside (kinds.Name bytes) p n e = refl
-expression_family inside (kinds.Number v) p n e = refl
-expression_family inside (kinds.Sign signs.True) p n e = refl
-expression_family inside (kinds.Sign signs.False) p n e = refl
-expression_family inside (kinds.Sign signs.Argument) p n e = refl
-expression_family inside (kinds.Sign signs.LeftParenthesis) p n e = refl
-expression_family inside (kinds.Sign signs.Exclamation) p n e = refl
-expression_family inside (kinds.Sign signs.Declassify) p n e = refl
-expression_family inside (kinds.Sign signs.Publish) p n e = refl
-expression_family inside k p n e = absurd (none-some n e)
+expression_family : (in_loop : Bool) (k : TokenKind) (p : Span) (n : ℕ) → expressions.least k ≡ Some n → family (leader_of in_loop (token p k)) ≡ 10
+expression_family in_loop (kinds.Name bytes) p n e = refl
+expression_family in_loop (kinds.Number v) p n e = refl
+expression_family in_loop (kinds.Sign signs.True) p n e = refl
+expression_family in_loop (kinds.Sign signs.False) p n e = refl
+expression_family in_loop (kinds.Sign signs.Argument) p n e = refl
+expression_family in_loop (kinds.Sign signs.LeftParenthesis) p n e = refl
+expression_family in_loop (kinds.Sign signs.Exclamation) p n e = refl
+expression_family in_loop (kinds.Sign signs.Declassify) p n e = refl
+expression_family in_loop (kinds.Sign signs.Publish) p n e = refl
+expression_family in_loop k p n e = absurd (none-some n e)
 
 -- the first token of a phrase is that of its first part
 pub front : {P Q : Phrase} (s m m2 : List Token) (x : Token) (v : (P then Q) s) → s ++ m ≡ x ∷ m2 → v.0 ++ (v.1 ++ m) ≡ x ∷ m2
@@ -120,39 +121,39 @@ front s m m2 x v eq = sym (append_assoc v.0 v.1 m) ∙ ap (λ l. l ++ m) (sym v.
 pub led_kind : (p : Span) (k : Sign) (Q : Phrase) (s m m2 : List Token) (x : Token) → (sign_at p k then Q) s → s ++ m ≡ x ∷ m2 → kinds.Sign k ≡ x.kind
 led_kind p k Q s m m2 x v eq = head_kind s v.1 m m2 p (kinds.Sign k) x (v.2 ∙ ap (λ l. l ++ v.1) v.3) eq
 
-pub family_is : (inside : Bool) (c : StatementTree) (s m m2 : List Token) (x : Token) → IsStatement inside c s → s ++ m ≡ x ∷ m2
-    → family (leader_of inside x) ≡ family_of c
-family_is inside (block p ss) s m m2 x v eq = family_at inside x (kinds.Sign signs.LeftBrace) 0 (led_kind p signs.LeftBrace _ s m m2 x v eq) refl
-family_is inside (empty p) s m m2 x v eq = family_at inside x (kinds.Sign signs.Semicolon) 1 (head_kind s [] m m2 p (kinds.Sign signs.Semicolon) x v eq) refl
-family_is inside (branch p e b) s m m2 x v eq = family_at inside x (kinds.Sign signs.If) 2 (led_kind p signs.If _ s m m2 x v eq) refl
-family_is inside (choice p e b t) s m m2 x v eq = family_at inside x (kinds.Sign signs.If) 2 (led_kind p signs.If _ s m m2 x v.1 eq) refl
-family_is inside (while_loop p e b) s m m2 x v eq = family_at inside x (kinds.Sign signs.While) 3 (led_kind p signs.While _ s m m2 x v eq) refl
-family_is inside (do_loop p b e) s m m2 x v eq = family_at inside x (kinds.Sign signs.Do) 4 (led_kind p signs.Do _ s m m2 x v eq) refl
-family_is inside (for_loop p a e b t) s m m2 x v eq = family_at inside x (kinds.Sign signs.For) 5 (led_kind p signs.For _ s m m2 x v eq) refl
-family_is inside (breaks p) s m m2 x v eq =
-    family_at inside x (kinds.Sign signs.Break) 6 (led_kind p signs.Break _ s m m2 x v.1 eq)
+pub family_is : (in_loop : Bool) (c : StatementTree) (s m m2 : List Token) (x : Token) → IsStatement in_loop c s → s ++ m ≡ x ∷ m2
+    → family (leader_of in_loop x) ≡ family_of c
+family_is in_loop (block p ss) s m m2 x v eq = family_at in_loop x (kinds.Sign signs.LeftBrace) 0 (led_kind p signs.LeftBrace _ s m m2 x v eq) refl
+family_is in_loop (empty p) s m m2 x v eq = family_at in_loop x (kinds.Sign signs.Semicolon) 1 (head_kind s [] m m2 p (kinds.Sign signs.Semicolon) x v eq) refl
+family_is in_loop (branch p e b) s m m2 x v eq = family_at in_loop x (kinds.Sign signs.If) 2 (led_kind p signs.If _ s m m2 x v eq) refl
+family_is in_loop (choice p e b t) s m m2 x v eq = family_at in_loop x (kinds.Sign signs.If) 2 (led_kind p signs.If _ s m m2 x v.1 eq) refl
+family_is in_loop (while_loop p e b) s m m2 x v eq = family_at in_loop x (kinds.Sign signs.While) 3 (led_kind p signs.While _ s m m2 x v eq) refl
+family_is in_loop (do_loop p b e) s m m2 x v eq = family_at in_loop x (kinds.Sign signs.Do) 4 (led_kind p signs.Do _ s m m2 x v eq) refl
+family_is in_loop (for_loop p a e b t) s m m2 x v eq = family_at in_loop x (kinds.Sign signs.For) 5 (led_kind p signs.For _ s m m2 x v eq) refl
+family_is in_loop (breaks p) s m m2 x v eq =
+    family_at in_loop x (kinds.Sign signs.Break) 6 (led_kind p signs.Break _ s m m2 x v.1 eq)
     (subst (λ b. family (leader_of b (token x.place (kinds.Sign signs.Break))) ≡ 6) (sym v.0) refl)
-family_is inside (continues p) s m m2 x v eq =
-    family_at inside x (kinds.Sign signs.Continue) 7 (led_kind p signs.Continue _ s m m2 x v.1 eq)
+family_is in_loop (continues p) s m m2 x v eq =
+    family_at in_loop x (kinds.Sign signs.Continue) 7 (led_kind p signs.Continue _ s m m2 x v.1 eq)
     (subst (λ b. family (leader_of b (token x.place (kinds.Sign signs.Continue))) ≡ 7) (sym v.0) refl)
-family_is inside (returns p e) s m m2 x v eq = family_at inside x (kinds.Sign signs.Return) 8 (led_kind p signs.Return _ s m m2 x v eq) refl
-family_is inside (assertion p e) s m m2 x v eq = family_at inside x (kinds.Sign signs.Assert) 9 (led_kind p signs.Assert _ s m m2 x v eq) refl
-family_is inside (declaration d) s m m2 x v eq =
+family_is in_loop (returns p e) s m m2 x v eq = family_at in_loop x (kinds.Sign signs.Return) 8 (led_kind p signs.Return _ s m m2 x v eq) refl
+family_is in_loop (assertion p e) s m m2 x v eq = family_at in_loop x (kinds.Sign signs.Assert) 9 (led_kind p signs.Assert _ s m m2 x v eq) refl
+family_is in_loop (declaration d) s m m2 x v eq =
     let u = v.3 in
     let eq1 : v.0 ++ (v.1 ++ m) ≡ x ∷ m2 = front s m m2 x v eq in
-    type_family inside x.kind x.place
+    type_family in_loop x.kind x.place
     (declared_kind d.declared u.0 (u.1 ++ (v.1 ++ m)) m2 x u.3 (sym (append_assoc u.0 u.1 (v.1 ++ m)) ∙ ap (λ l. l ++ (v.1 ++ m)) (sym u.2) ∙ eq1))
-family_is inside (assignment a) s m m2 x v eq =
+family_is in_loop (assignment a) s m m2 x v eq =
     let u = v.3 in
     let w = u.3 in
     let y = a.target.variable in
     let at : s ≡ token y.place (kinds.Name y.text) ∷ ((w.1 ++ u.1) ++ v.1) =
     v.2 ∙ ap (λ l. l ++ v.1) (u.2 ∙ ap (λ l. l ++ u.1) (w.2 ∙ ap (λ l. l ++ w.1) w.3)) in
-    family_at inside x (kinds.Name y.text) 10 (head_kind s ((w.1 ++ u.1) ++ v.1) m m2 y.place (kinds.Name y.text) x at eq) refl
-family_is inside (evaluation e) s m m2 x v eq =
+    family_at in_loop x (kinds.Name y.text) 10 (head_kind s ((w.1 ++ u.1) ++ v.1) m m2 y.place (kinds.Name y.text) x at eq) refl
+family_is in_loop (evaluation e) s m m2 x v eq =
     let b = begins loosest e v.0 v.3 in
     let at : s ≡ token b.place b.kind ∷ (b.behind ++ v.1) = v.2 ∙ ap (λ l. l ++ v.1) b.split in
-    family_at inside x b.kind 10 (head_kind s (b.behind ++ v.1) m m2 b.place b.kind x at eq) (expression_family inside b.kind x.place b.n b.low)
+    family_at in_loop x b.kind 10 (head_kind s (b.behind ++ v.1) m m2 b.place b.kind x at eq) (expression_family in_loop b.kind x.place b.n b.low)
 
 -- a statement is as high as its first token tells at least
 pub statement_tall : (c : StatementTree) → 1 ≤ statement_height c
@@ -216,11 +217,11 @@ high (declaration d) = omega arith
 high (assignment a) = omega arith
 high (evaluation e) = omega arith
 
-pub least_high : (inside : Bool) (c : StatementTree) (s m m2 : List Token) (x : Token) → IsStatement inside c s → s ++ m ≡ x ∷ m2
-    → least (leader_of inside x) ≤ statement_height c
-least_high inside c s m m2 x v eq =
-    let f = least_family (leader_of inside x) in
-    let g = ap least_of (family_is inside c s m m2 x v eq) in
+pub least_high : (in_loop : Bool) (c : StatementTree) (s m m2 : List Token) (x : Token) → IsStatement in_loop c s → s ++ m ≡ x ∷ m2
+    → least (leader_of in_loop x) ≤ statement_height c
+least_high in_loop c s m m2 x v eq =
+    let f = least_family (leader_of in_loop x) in
+    let g = ap least_of (family_is in_loop c s m m2 x v eq) in
     let k = high c in
     omega (arith, f, g, k)
 
@@ -244,25 +245,25 @@ keyword leaders.Expression = None
 same_sign : (a b : Sign) → Some a ≡ Some b → kinds.Sign a ≡ kinds.Sign b
 same_sign a b e = cc
 
-keyword_kind : (inside : Bool) (k : TokenKind) (p : Span) (s : Sign) → keyword (leader_of inside (token p k)) ≡ Some s → k ≡ kinds.Sign s
-keyword_kind inside (kinds.Sign signs.LeftBrace) p s e = same_sign signs.LeftBrace s e
-keyword_kind inside (kinds.Sign signs.Semicolon) p s e = same_sign signs.Semicolon s e
-keyword_kind inside (kinds.Sign signs.If) p s e = same_sign signs.If s e
-keyword_kind inside (kinds.Sign signs.While) p s e = same_sign signs.While s e
-keyword_kind inside (kinds.Sign signs.Do) p s e = same_sign signs.Do s e
-keyword_kind inside (kinds.Sign signs.For) p s e = same_sign signs.For s e
+keyword_kind : (in_loop : Bool) (k : TokenKind) (p : Span) (s : Sign) → keyword (leader_of in_loop (token p k)) ≡ Some s → k ≡ kinds.Sign s
+keyword_kind in_loop (kinds.Sign signs.LeftBrace) p s e = same_sign signs.LeftBrace s e
+keyword_kind in_loop (kinds.Sign signs.Semicolon) p s e = same_sign signs.Semicolon s e
+keyword_kind in_loop (kinds.Sign signs.If) p s e = same_sign signs.If s e
+keyword_kind in_loop (kinds.Sign signs.While) p s e = same_sign signs.While s e
+keyword_kind in_loop (kinds.Sign signs.Do) p s e = same_sign signs.Do s e
+keyword_kind in_loop (kinds.Sign signs.For) p s e = same_sign signs.For s e
 keyword_kind true (kinds.Sign signs.Break) p s e = same_sign signs.Break s e
 keyword_kind true (kinds.Sign signs.Continue) p s e = same_sign signs.Continue s e
-keyword_kind inside (kinds.Sign signs.Return) p s e = same_sign signs.Return s e
-keyword_kind inside (kinds.Sign signs.Assert) p s e = same_sign signs.Assert s e
-keyword_kind inside k p s e = absurd (none-some s e)
+keyword_kind in_loop (kinds.Sign signs.Return) p s e = same_sign signs.Return s e
+keyword_kind in_loop (kinds.Sign signs.Assert) p s e = same_sign signs.Assert s e
+keyword_kind in_loop k p s e = absurd (none-some s e)
 
 -- the sign of a leader
-pub leads : (inside : Bool) (x : Token) (l : Leader) (s : Sign) → leader_of inside x ≡ l → keyword l ≡ Some s → x.kind ≡ kinds.Sign s
-leads inside x l s e f = keyword_kind inside x.kind x.place s (ap keyword e ∙ f)
+pub leads : (in_loop : Bool) (x : Token) (l : Leader) (s : Sign) → leader_of in_loop x ≡ l → keyword l ≡ Some s → x.kind ≡ kinds.Sign s
+leads in_loop x l s e f = keyword_kind in_loop x.kind x.place s (ap keyword e ∙ f)
 
 -- `break` and `continue` lead inside a loop alone
-pub leads_inside : (inside : Bool) (x : Token) (s : Sign) (l : Leader) → x.kind ≡ kinds.Sign s → leader_of inside x ≡ l
-    → (leader_of false (token x.place (kinds.Sign s)) ≡ l → ⊥) → inside ≡ true
+pub leads_inside : (in_loop : Bool) (x : Token) (s : Sign) (l : Leader) → x.kind ≡ kinds.Sign s → leader_of in_loop x ≡ l
+    → (leader_of false (token x.place (kinds.Sign s)) ≡ l → ⊥) → in_loop ≡ true
 leads_inside true x s l k e other = refl
 leads_inside false x s l k e other = absurd (other (sym (leader_at false x (kinds.Sign s) (sym k)) ∙ e))

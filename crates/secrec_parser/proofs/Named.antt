@@ -36,8 +36,8 @@ use Rattle.secrec_parser.proofs.Headings.{declared_by, is_declared_by, uint_toke
 use Rattle.secrec_parser.proofs.Starts.{else_token, declared_leader, expression_leader}
 use Rattle.secrec_parser.proofs.Statements.{LowStatement, Follow, follow_any, Declared, declared_statement_reads, Acted, acted_up, action_statement_reads}
 
-declared_up : (inside : Bool) (c : StatementTree) (s : List Token) → Declared c s → IsStatement inside c s
-declared_up inside c s v = subst (λ z. IsStatement inside z s) (sym v.1) v.2
+declared_up : (in_loop : Bool) (c : StatementTree) (s : List Token) → Declared c s → IsStatement in_loop c s
+declared_up in_loop c s v = subst (λ z. IsStatement in_loop z s) (sym v.1) v.2
 
 declared_some : (c : StatementTree) → Declared c [] → ⊥
 declared_some c v =
@@ -61,39 +61,39 @@ acted_some c v = go v.0.0 w.3
 
 -- Led by a type
 
-module _ (max_height : ℕ) (one : 1 ≤ max_height) (inside : Bool) (x : Token) (m : List Token) (is : leader_of inside x ≡ leaders.Declaration)
+module _ (max_height : ℕ) (one : 1 ≤ max_height) (in_loop : Bool) (x : Token) (m : List Token) (is : leader_of in_loop x ≡ leaders.Declaration)
     (en : IsEnded (x ∷ m)) where
-  typed_down : (c : StatementTree) (s m' m2 : List Token) → family_of c ≡ 10 → IsStatement inside c s → s ++ m' ≡ x ∷ m2 → Declared c s
+  typed_down : (c : StatementTree) (s m' m2 : List Token) → family_of c ≡ 10 → IsStatement in_loop c s → s ++ m' ≡ x ∷ m2 → Declared c s
   typed_down (declaration d) s m' m2 f v eq = ((d, tt), refl, v)
   typed_down (assignment a) s m' m2 f v eq =
       let k = assignment_head a v.0 (v.1 ++ m') m2 x v.3 (front s m' m2 x v eq) in
-      let l : leaders.Name ≡ leaders.Declaration = sym (leader_at inside x (kinds.Name a.target.variable.text) k) ∙ is in
+      let l : leaders.Name ≡ leaders.Declaration = sym (leader_at in_loop x (kinds.Name a.target.variable.text) k) ∙ is in
       cc
   typed_down (evaluation e) s m' m2 f v eq =
       let k = first_token loosest e v.0 (v.1 ++ m') m2 x v.3 (front s m' m2 x v eq) in
-      absurd (expression_leader inside x.kind x.place k.0 k.1 is)
+      absurd (expression_leader in_loop x.kind x.place k.0 k.1 is)
   typed_down c s m' m2 f v eq = absurd (omega (arith, f))
 
-  pub typed_reads : Reads (IsStatement inside) (LowStatement max_height) Follow (x ∷ m) (declaration_statement (max_height - 1) (x ∷ m))
+  pub typed_reads : Reads (IsStatement in_loop) (LowStatement max_height) Follow (x ∷ m) (declaration_statement (max_height - 1) (x ∷ m))
   typed_reads =
-      reads_as Declared (IsStatement inside) (LowStatement max_height) Any Follow x (declared_up inside)
-      (λ c s m' m2 v st eq. typed_down c s m' m2 (sym (family_is inside c s m' m2 x v eq) ∙ ap family is) v eq)
+      reads_as Declared (IsStatement in_loop) (LowStatement max_height) Any Follow x (declared_up in_loop)
+      (λ c s m' m2 v st eq. typed_down c s m' m2 (sym (family_is in_loop c s m' m2 x v eq) ∙ ap family is) v eq)
       follow_any (x ∷ m) m _ refl (declared_statement_reads max_height one (x ∷ m) en)
 
 -- Led by an expression that begins with no name
 
-module _ (max_height : ℕ) (inside : Bool) (x : Token) (m : List Token) (is : leader_of inside x ≡ leaders.Expression) (en : IsEnded (x ∷ m)) where
-  acted_down : (c : StatementTree) (s m' m2 : List Token) → family_of c ≡ 10 → IsStatement inside c s → s ++ m' ≡ x ∷ m2 → Acted c s
+module _ (max_height : ℕ) (in_loop : Bool) (x : Token) (m : List Token) (is : leader_of in_loop x ≡ leaders.Expression) (en : IsEnded (x ∷ m)) where
+  acted_down : (c : StatementTree) (s m' m2 : List Token) → family_of c ≡ 10 → IsStatement in_loop c s → s ++ m' ≡ x ∷ m2 → Acted c s
   acted_down (declaration d) s m' m2 f v eq =
-      absurd (declared_leader inside x.kind x.place (no_declaration d v.0 (v.1 ++ m') m2 x v.3 (front s m' m2 x v eq)) is)
+      absurd (declared_leader in_loop x.kind x.place (no_declaration d v.0 (v.1 ++ m') m2 x v.3 (front s m' m2 x v eq)) is)
   acted_down (assignment a) s m' m2 f v eq = ((assigns a, tt), refl, v)
   acted_down (evaluation e) s m' m2 f v eq = ((evaluates e, tt), refl, v)
   acted_down c s m' m2 f v eq = absurd (omega (arith, f))
 
-  pub expression_reads : Reads (IsStatement inside) (LowStatement max_height) Follow (x ∷ m) (action_statement max_height (x ∷ m))
+  pub expression_reads : Reads (IsStatement in_loop) (LowStatement max_height) Follow (x ∷ m) (action_statement max_height (x ∷ m))
   expression_reads =
-      reads_as Acted (IsStatement inside) (LowStatement max_height) Any Follow x (acted_up inside)
-      (λ c s m' m2 v st eq. acted_down c s m' m2 (sym (family_is inside c s m' m2 x v eq) ∙ ap family is) v eq)
+      reads_as Acted (IsStatement in_loop) (LowStatement max_height) Any Follow x (acted_up in_loop)
+      (λ c s m' m2 v st eq. acted_down c s m' m2 (sym (family_is in_loop c s m' m2 x v eq) ∙ ap family is) v eq)
       follow_any (x ∷ m) m _ refl (action_statement_reads max_height (x ∷ m) en)
 
 -- Led by a name
@@ -123,7 +123,7 @@ operator_kind (kinds.Number n) op e = cc
 operator_kind (kinds.Text b) op e = cc
 operator_kind kinds.End op e = cc
 
-module _ (inside : Bool) (x y : Token) (n : List Token) (text : List ℕ) (k : x.kind ≡ kinds.Name text) (fam : family (leader_of inside x) ≡ 10)
+module _ (in_loop : Bool) (x y : Token) (n : List Token) (text : List ℕ) (k : x.kind ≡ kinds.Name text) (fam : family (leader_of in_loop x) ≡ 10)
     (en : IsEnded (x ∷ y ∷ n)) where
   abbrev self : Tree
   self = variable x.place text
@@ -131,20 +131,20 @@ module _ (inside : Bool) (x y : Token) (n : List Token) (text : List ℕ) (k : x
   is_self : (l : ℕ) → IsExpression l self (x ∷ [])
   is_self l = ap (λ z. token x.place z ∷ []) k
 
-  family_known : (c : StatementTree) (s m m2 : List Token) → IsStatement inside c s → s ++ m ≡ x ∷ m2 → family_of c ≡ 10
-  family_known c s m m2 v eq = sym (family_is inside c s m m2 x v eq) ∙ fam
+  family_known : (c : StatementTree) (s m m2 : List Token) → IsStatement in_loop c s → s ++ m ≡ x ∷ m2 → family_of c ≡ 10
+  family_known c s m m2 v eq = sym (family_is in_loop c s m m2 x v eq) ∙ fam
 
   -- a declaration
-  declared_down : is_type y ≡ true → (c : StatementTree) (s m m2 : List Token) → family_of c ≡ 10 → IsStatement inside c s → s ++ m ≡ x ∷ y ∷ m2 → Declared c s
+  declared_down : is_type y ≡ true → (c : StatementTree) (s m m2 : List Token) → family_of c ≡ 10 → IsStatement in_loop c s → s ++ m ≡ x ∷ y ∷ m2 → Declared c s
   declared_down t (declaration d) s m m2 f v eq = ((d, tt), refl, v)
   declared_down t (assignment a) s m m2 f v eq = absurd (type_follows_not y t (action_follows (assigns a) s m m2 x y text v eq k))
   declared_down t (evaluation e) s m m2 f v eq = absurd (type_follows_not y t (action_follows (evaluates e) s m m2 x y text v eq k))
   declared_down t c s m m2 f v eq = absurd (omega (arith, f))
 
   named_declared : (max_height : ℕ) → 1 ≤ max_height → is_type y ≡ true
-      → Reads (IsStatement inside) (LowStatement max_height) Follow (x ∷ y ∷ n) (declaration_statement (max_height - 1) (x ∷ y ∷ n))
+      → Reads (IsStatement in_loop) (LowStatement max_height) Follow (x ∷ y ∷ n) (declaration_statement (max_height - 1) (x ∷ y ∷ n))
   named_declared max_height one t =
-      reads_peek Declared (IsStatement inside) (LowStatement max_height) Any Follow x y (declared_up inside)
+      reads_peek Declared (IsStatement in_loop) (LowStatement max_height) Any Follow x y (declared_up in_loop)
       (λ c s m m2 v st eq. declared_down t c s m m2 (family_known c s m (y ∷ m2) v eq) v eq)
       follow_any (
         declaration (declared_by x text),
@@ -157,7 +157,7 @@ module _ (inside : Bool) (x y : Token) (n : List Token) (text : List ℕ) (k : x
       declared_some (x ∷ y ∷ n) n _ refl (declared_statement_reads max_height one (x ∷ y ∷ n) en)
 
   -- an assignment or an expression
-  acted_named : is_type y ≡ false → (c : StatementTree) (s m m2 : List Token) → family_of c ≡ 10 → IsStatement inside c s → s ++ m ≡ x ∷ y ∷ m2 → Acted c s
+  acted_named : is_type y ≡ false → (c : StatementTree) (s m m2 : List Token) → family_of c ≡ 10 → IsStatement in_loop c s → s ++ m ≡ x ∷ y ∷ m2 → Acted c s
   acted_named t (declaration d) s m m2 f v eq =
       absurd (clash (is_type y) (declaration_second d v.0 (v.1 ++ m) m2 x y text v.3 (front s m (y ∷ m2) x v eq) k) t)
   acted_named t (assignment a) s m m2 f v eq = ((assigns a, tt), refl, v)
@@ -165,9 +165,9 @@ module _ (inside : Bool) (x y : Token) (n : List Token) (text : List ℕ) (k : x
   acted_named t c s m m2 f v eq = absurd (omega (arith, f))
 
   named_acted : (max_height : ℕ) → 2 ≤ max_height → is_type y ≡ false
-      → Reads (IsStatement inside) (LowStatement max_height) Follow (x ∷ y ∷ n) (action_statement max_height (x ∷ y ∷ n))
+      → Reads (IsStatement in_loop) (LowStatement max_height) Follow (x ∷ y ∷ n) (action_statement max_height (x ∷ y ∷ n))
   named_acted max_height two t =
-      reads_peek Acted (IsStatement inside) (LowStatement max_height) Any Follow x y (acted_up inside)
+      reads_peek Acted (IsStatement in_loop) (LowStatement max_height) Any Follow x y (acted_up in_loop)
       (λ c s m m2 v st eq. acted_named t c s m m2 (family_known c s m (y ∷ m2) v eq) v eq)
       follow_any (
         evaluation self,
@@ -180,7 +180,7 @@ module _ (inside : Bool) (x y : Token) (n : List Token) (text : List ℕ) (k : x
       acted_some (x ∷ y ∷ n) n _ refl (action_statement_reads max_height (x ∷ y ∷ n) en)
 
   -- where a declaration alone has room
-  before_fault : (b : StatementTree) × (s : List Token) × IsStatement inside b (x ∷ s) × LowStatement 1 b
+  before_fault : (b : StatementTree) × (s : List Token) × IsStatement in_loop b (x ∷ s) × LowStatement 1 b
   before_fault = (
     declaration (declared_by x text),
     uint_token ∷ name_token ∷ lone signs.Semicolon,
@@ -188,14 +188,14 @@ module _ (inside : Bool) (x y : Token) (n : List Token) (text : List ℕ) (k : x
     omega arith,
   )
 
-  nothing_fits : is_type y ≡ false → (c : StatementTree) (s m m2 : List Token) → family_of c ≡ 10 → IsStatement inside c s → LowStatement 1 c
+  nothing_fits : is_type y ≡ false → (c : StatementTree) (s m m2 : List Token) → family_of c ≡ 10 → IsStatement in_loop c s → LowStatement 1 c
       → s ++ m ≡ x ∷ y ∷ m2 → ⊥
   nothing_fits t (declaration d) s m m2 f v l eq = clash (is_type y) (declaration_second d v.0 (v.1 ++ m) m2 x y text v.3 (front s m (y ∷ m2) x v eq) k) t
   nothing_fits t (assignment a) s m m2 f v l eq = let h = tall a.value in omega (arith, h, l)
   nothing_fits t (evaluation e) s m m2 f v l eq = let h = tall e in omega (arith, h, l)
   nothing_fits t c s m m2 f v l eq = omega (arith, f)
 
-  no_way : is_type y ≡ false → follows_name y ≡ false → (c : StatementTree) (s m m2 : List Token) → family_of c ≡ 10 → IsStatement inside c s
+  no_way : is_type y ≡ false → follows_name y ≡ false → (c : StatementTree) (s m m2 : List Token) → family_of c ≡ 10 → IsStatement in_loop c s
       → s ++ m ≡ x ∷ y ∷ m2 → ⊥
   no_way t u (declaration d) s m m2 f v eq = clash (is_type y) (declaration_second d v.0 (v.1 ++ m) m2 x y text v.3 (front s m (y ∷ m2) x v eq) k) t
   no_way t u (assignment a) s m m2 f v eq = clash (follows_name y) (action_follows (assigns a) s m m2 x y text v eq k) u
@@ -203,7 +203,7 @@ module _ (inside : Bool) (x y : Token) (n : List Token) (text : List ℕ) (k : x
   no_way t u c s m m2 f v eq = omega (arith, f)
 
   abbrev Begun : Type 0
-  Begun = (b : StatementTree) × (s : List Token) × IsStatement inside b (x ∷ y ∷ s)
+  Begun = (b : StatementTree) × (s : List Token) × IsStatement in_loop b (x ∷ y ∷ s)
 
   call_begun : y.kind ≡ kinds.Sign signs.LeftParenthesis → Begun
   call_begun f = (
@@ -309,38 +309,38 @@ module _ (inside : Bool) (x y : Token) (n : List Token) (text : List ℕ) (k : x
       go false false false None (Some op) ae be ce ue oe f = operator_begun op oe
       go false false false None None ae be ce ue oe f = absurd (false_true f)
 
-  named_fault : is_type y ≡ false → Reads (IsStatement inside) (LowStatement 1) Follow (x ∷ y ∷ n) (only_declares (y ∷ n))
+  named_fault : is_type y ≡ false → Reads (IsStatement in_loop) (LowStatement 1) Follow (x ∷ y ∷ n) (only_declares (y ∷ n))
   named_fault t = go (follows_name y) refl
     where
       go : (b : Bool) → follows_name y ≡ b
-          → Reads (IsStatement inside) (LowStatement 1) Follow (x ∷ y ∷ n) (cond b (Err (TooHigh, y ∷ n)) (Err (Unexpected, y ∷ n)))
+          → Reads (IsStatement in_loop) (LowStatement 1) Follow (x ∷ y ∷ n) (cond b (Err (TooHigh, y ∷ n)) (Err (Unexpected, y ∷ n)))
       go true f =
-          second_fault (IsStatement inside) (LowStatement 1) Follow x y n TooHigh before_fault
+          second_fault (IsStatement in_loop) (LowStatement 1) Follow x y n TooHigh before_fault
           (λ c s m m2 v l st eq. nothing_fits t c s m m2 (family_known c s m (y ∷ m2) v eq) v l eq) (follows_begun f)
       go false f =
-          second_fault (IsStatement inside) (LowStatement 1) Follow x y n Unexpected before_fault
+          second_fault (IsStatement in_loop) (LowStatement 1) Follow x y n Unexpected before_fault
           (λ c s m m2 v al st eq. no_way t f c s m m2 (family_known c s m (y ∷ m2) v eq) v eq) tt
 
   declares_is : declares (x ∷ y ∷ n) ≡ is_type y
   declares_is = ap (λ z. declares (token x.place z ∷ y ∷ n)) k
 
   pub named_reads : (max_height : ℕ) → 1 ≤ max_height
-      → Reads (IsStatement inside) (LowStatement max_height) Follow (x ∷ y ∷ n) (name_statement max_height (x ∷ y ∷ n) (y ∷ n))
+      → Reads (IsStatement in_loop) (LowStatement max_height) Follow (x ∷ y ∷ n) (name_statement max_height (x ∷ y ∷ n) (y ∷ n))
   unfolding name_statement
   named_reads max_height one =
-      subst (λ b. Reads (IsStatement inside) (LowStatement max_height) Follow (x ∷ y ∷ n)
+      subst (λ b. Reads (IsStatement in_loop) (LowStatement max_height) Follow (x ∷ y ∷ n)
       (cond b (declaration_statement (max_height - 1) (x ∷ y ∷ n))
       (cond (nat_eq max_height 1) (only_declares (y ∷ n)) (action_statement max_height (x ∷ y ∷ n))))) (sym declares_is)
       (go (is_type y) refl)
     where
       go2 : is_type y ≡ false → (b : Bool) → nat_eq max_height 1 ≡ b
-          → Reads (IsStatement inside) (LowStatement max_height) Follow (x ∷ y ∷ n) (cond b (only_declares (y ∷ n)) (action_statement max_height (x ∷ y ∷ n)))
-      go2 t true e = subst (λ r. Reads (IsStatement inside) (LowStatement r) Follow (x ∷ y ∷ n) (only_declares (y ∷ n)))
+          → Reads (IsStatement in_loop) (LowStatement max_height) Follow (x ∷ y ∷ n) (cond b (only_declares (y ∷ n)) (action_statement max_height (x ∷ y ∷ n)))
+      go2 t true e = subst (λ r. Reads (IsStatement in_loop) (LowStatement r) Follow (x ∷ y ∷ n) (only_declares (y ∷ n)))
           (sym (eqb-true max_height 1 e)) (named_fault t)
       go2 t false e = let f = eqb-false max_height 1 e in named_acted max_height (omega (arith, f, one)) t
 
       go : (b : Bool) → is_type y ≡ b
-          → Reads (IsStatement inside) (LowStatement max_height) Follow (x ∷ y ∷ n)
+          → Reads (IsStatement in_loop) (LowStatement max_height) Follow (x ∷ y ∷ n)
           (cond b (declaration_statement (max_height - 1) (x ∷ y ∷ n))
           (cond (nat_eq max_height 1) (only_declares (y ∷ n)) (action_statement max_height (x ∷ y ∷ n))))
       go true t = named_declared max_height one t

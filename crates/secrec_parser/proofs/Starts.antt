@@ -78,28 +78,28 @@ expression_starter (kinds.Sign signs.Declassify) n e = refl
 expression_starter (kinds.Sign signs.Publish) n e = refl
 expression_starter k n e = absurd (none-some n e)
 
-pub starts : (inside : Bool) (c : StatementTree) (s m m2 : List Token) (x : Token) → IsStatement inside c s → s ++ m ≡ x ∷ m2 → starter x.kind ≡ true
-starts inside (block p ss) s m m2 x v eq = ap starter (sym (led_kind p signs.LeftBrace _ s m m2 x v eq))
-starts inside (empty p) s m m2 x v eq = ap starter (sym (head_kind s [] m m2 p (kinds.Sign signs.Semicolon) x v eq))
-starts inside (branch p e b) s m m2 x v eq = ap starter (sym (led_kind p signs.If _ s m m2 x v eq))
-starts inside (choice p e b t) s m m2 x v eq = ap starter (sym (led_kind p signs.If _ s m m2 x v.1 eq))
-starts inside (while_loop p e b) s m m2 x v eq = ap starter (sym (led_kind p signs.While _ s m m2 x v eq))
-starts inside (do_loop p b e) s m m2 x v eq = ap starter (sym (led_kind p signs.Do _ s m m2 x v eq))
-starts inside (for_loop p a e b t) s m m2 x v eq = ap starter (sym (led_kind p signs.For _ s m m2 x v eq))
-starts inside (breaks p) s m m2 x v eq = ap starter (sym (led_kind p signs.Break _ s m m2 x v.1 eq))
-starts inside (continues p) s m m2 x v eq = ap starter (sym (led_kind p signs.Continue _ s m m2 x v.1 eq))
-starts inside (returns p e) s m m2 x v eq = ap starter (sym (led_kind p signs.Return _ s m m2 x v eq))
-starts inside (assertion p e) s m m2 x v eq = ap starter (sym (led_kind p signs.Assert _ s m m2 x v eq))
-starts inside (declaration d) s m m2 x v eq = type_starter x.kind (no_declaration d v.0 (v.1 ++ m) m2 x v.3 (front s m m2 x v eq))
-starts inside (assignment a) s m m2 x v eq = ap starter (sym (assignment_head a v.0 (v.1 ++ m) m2 x v.3 (front s m m2 x v eq)))
-starts inside (evaluation e) s m m2 x v eq =
+pub starts : (in_loop : Bool) (c : StatementTree) (s m m2 : List Token) (x : Token) → IsStatement in_loop c s → s ++ m ≡ x ∷ m2 → starter x.kind ≡ true
+starts in_loop (block p ss) s m m2 x v eq = ap starter (sym (led_kind p signs.LeftBrace _ s m m2 x v eq))
+starts in_loop (empty p) s m m2 x v eq = ap starter (sym (head_kind s [] m m2 p (kinds.Sign signs.Semicolon) x v eq))
+starts in_loop (branch p e b) s m m2 x v eq = ap starter (sym (led_kind p signs.If _ s m m2 x v eq))
+starts in_loop (choice p e b t) s m m2 x v eq = ap starter (sym (led_kind p signs.If _ s m m2 x v.1 eq))
+starts in_loop (while_loop p e b) s m m2 x v eq = ap starter (sym (led_kind p signs.While _ s m m2 x v eq))
+starts in_loop (do_loop p b e) s m m2 x v eq = ap starter (sym (led_kind p signs.Do _ s m m2 x v eq))
+starts in_loop (for_loop p a e b t) s m m2 x v eq = ap starter (sym (led_kind p signs.For _ s m m2 x v eq))
+starts in_loop (breaks p) s m m2 x v eq = ap starter (sym (led_kind p signs.Break _ s m m2 x v.1 eq))
+starts in_loop (continues p) s m m2 x v eq = ap starter (sym (led_kind p signs.Continue _ s m m2 x v.1 eq))
+starts in_loop (returns p e) s m m2 x v eq = ap starter (sym (led_kind p signs.Return _ s m m2 x v eq))
+starts in_loop (assertion p e) s m m2 x v eq = ap starter (sym (led_kind p signs.Assert _ s m m2 x v eq))
+starts in_loop (declaration d) s m m2 x v eq = type_starter x.kind (no_declaration d v.0 (v.1 ++ m) m2 x v.3 (front s m m2 x v eq))
+starts in_loop (assignment a) s m m2 x v eq = ap starter (sym (assignment_head a v.0 (v.1 ++ m) m2 x v.3 (front s m m2 x v eq)))
+starts in_loop (evaluation e) s m m2 x v eq =
     let f = first_token loosest e v.0 (v.1 ++ m) m2 x v.3 (front s m m2 x v eq) in expression_starter x.kind f.0 f.1
 
 abbrev pub else_token : Token
 else_token = token origin (kinds.Sign signs.Else)
 
-pub statement_some : (inside : Bool) (c : StatementTree) → IsStatement inside c [] → ⊥
-statement_some inside c v = let f : false ≡ true = starts inside c [] (else_token ∷ []) [] else_token v refl in cc
+pub statement_some : (in_loop : Bool) (c : StatementTree) → IsStatement in_loop c [] → ⊥
+statement_some in_loop c v = let f : false ≡ true = starts in_loop c [] (else_token ∷ []) [] else_token v refl in cc
 
 -- Leaders of declarations, names and expressions
 
@@ -111,40 +111,40 @@ is_expression : Leader → Bool
 is_expression leaders.Expression = true
 is_expression other = false
 
-pub declared_leader : (inside : Bool) (k : TokenKind) (p : Span) → begins_type k ≡ true → leader_of inside (token p k) ≡ leaders.Expression → ⊥
+pub declared_leader : (in_loop : Bool) (k : TokenKind) (p : Span) → begins_type k ≡ true → leader_of in_loop (token p k) ≡ leaders.Expression → ⊥
 unfolding is_expression
-declared_leader inside (kinds.Name bytes) p e f = false_true (ap is_expression f)
-declared_leader inside (kinds.Sign signs.Public) p e f = false_true (ap is_expression f)
-declared_leader inside (kinds.Sign signs.Uint64) p e f = false_true (ap is_expression f)
-declared_leader inside (kinds.Sign signs.Uint) p e f = false_true (ap is_expression f)
-declared_leader inside (kinds.Sign signs.Bool) p e f = false_true (ap is_expression f)
-declared_leader inside k p e f = false_true e
+declared_leader in_loop (kinds.Name bytes) p e f = false_true (ap is_expression f)
+declared_leader in_loop (kinds.Sign signs.Public) p e f = false_true (ap is_expression f)
+declared_leader in_loop (kinds.Sign signs.Uint64) p e f = false_true (ap is_expression f)
+declared_leader in_loop (kinds.Sign signs.Uint) p e f = false_true (ap is_expression f)
+declared_leader in_loop (kinds.Sign signs.Bool) p e f = false_true (ap is_expression f)
+declared_leader in_loop k p e f = false_true e
 
-pub expression_leader : (inside : Bool) (k : TokenKind) (p : Span) (n : ℕ) → expressions.least k ≡ Some n
-    → leader_of inside (token p k) ≡ leaders.Declaration → ⊥
+pub expression_leader : (in_loop : Bool) (k : TokenKind) (p : Span) (n : ℕ) → expressions.least k ≡ Some n
+    → leader_of in_loop (token p k) ≡ leaders.Declaration → ⊥
 unfolding is_declaration
-expression_leader inside (kinds.Name bytes) p n e f = false_true (ap is_declaration f)
-expression_leader inside (kinds.Number v) p n e f = false_true (ap is_declaration f)
-expression_leader inside (kinds.Sign signs.True) p n e f = false_true (ap is_declaration f)
-expression_leader inside (kinds.Sign signs.False) p n e f = false_true (ap is_declaration f)
-expression_leader inside (kinds.Sign signs.Argument) p n e f = false_true (ap is_declaration f)
-expression_leader inside (kinds.Sign signs.LeftParenthesis) p n e f = false_true (ap is_declaration f)
-expression_leader inside (kinds.Sign signs.Exclamation) p n e f = false_true (ap is_declaration f)
-expression_leader inside (kinds.Sign signs.Declassify) p n e f = false_true (ap is_declaration f)
-expression_leader inside (kinds.Sign signs.Publish) p n e f = false_true (ap is_declaration f)
-expression_leader inside k p n e f = none-some n e
+expression_leader in_loop (kinds.Name bytes) p n e f = false_true (ap is_declaration f)
+expression_leader in_loop (kinds.Number v) p n e f = false_true (ap is_declaration f)
+expression_leader in_loop (kinds.Sign signs.True) p n e f = false_true (ap is_declaration f)
+expression_leader in_loop (kinds.Sign signs.False) p n e f = false_true (ap is_declaration f)
+expression_leader in_loop (kinds.Sign signs.Argument) p n e f = false_true (ap is_declaration f)
+expression_leader in_loop (kinds.Sign signs.LeftParenthesis) p n e f = false_true (ap is_declaration f)
+expression_leader in_loop (kinds.Sign signs.Exclamation) p n e f = false_true (ap is_declaration f)
+expression_leader in_loop (kinds.Sign signs.Declassify) p n e f = false_true (ap is_declaration f)
+expression_leader in_loop (kinds.Sign signs.Publish) p n e f = false_true (ap is_declaration f)
+expression_leader in_loop k p n e f = none-some n e
 
 is_name : Leader → Bool
 is_name leaders.Name = true
 is_name other = false
 
-pub name_kind : (inside : Bool) (k : TokenKind) (p : Span) → leader_of inside (token p k) ≡ leaders.Name → (text : List ℕ) × (k ≡ kinds.Name text)
+pub name_kind : (in_loop : Bool) (k : TokenKind) (p : Span) → leader_of in_loop (token p k) ≡ leaders.Name → (text : List ℕ) × (k ≡ kinds.Name text)
 unfolding is_name
-name_kind inside (kinds.Name text) p e = (text, refl)
-name_kind inside (kinds.Sign signs.LeftBrace) p e = absurd (false_true (ap is_name e))
+name_kind in_loop (kinds.Name text) p e = (text, refl)
+name_kind in_loop (kinds.Sign signs.LeftBrace) p e = absurd (false_true (ap is_name e))
 name_kind true (kinds.Sign signs.Break) p e = absurd (false_true (ap is_name e))
 name_kind true (kinds.Sign signs.Continue) p e = absurd (false_true (ap is_name e))
-name_kind inside k p e = absurd (false_true (ap is_name e))
+name_kind in_loop k p e = absurd (false_true (ap is_name e))
 
 -- what a declaration begins with that begins with no name
 pub data Typed (x : Token) : Type 0 where
@@ -153,18 +153,18 @@ pub data Typed (x : Token) : Type 0 where
   uint_type : x.kind ≡ kinds.Sign signs.Uint → Typed x
   bool_type : x.kind ≡ kinds.Sign signs.Bool → Typed x
 
-pub typed : (inside : Bool) (x : Token) → leader_of inside x ≡ leaders.Declaration → Typed x
+pub typed : (in_loop : Bool) (x : Token) → leader_of in_loop x ≡ leaders.Declaration → Typed x
 unfolding is_declaration
-typed inside x e = go inside x.kind refl e
+typed in_loop x e = go in_loop x.kind refl e
   where
-    go : (inside : Bool) (k : TokenKind) → x.kind ≡ k → leader_of inside (token x.place k) ≡ leaders.Declaration → Typed x
-    go inside (kinds.Sign signs.Public) k e = open_type k
-    go inside (kinds.Sign signs.Uint64) k e = uint64_type k
-    go inside (kinds.Sign signs.Uint) k e = uint_type k
-    go inside (kinds.Sign signs.Bool) k e = bool_type k
+    go : (in_loop : Bool) (k : TokenKind) → x.kind ≡ k → leader_of in_loop (token x.place k) ≡ leaders.Declaration → Typed x
+    go in_loop (kinds.Sign signs.Public) k e = open_type k
+    go in_loop (kinds.Sign signs.Uint64) k e = uint64_type k
+    go in_loop (kinds.Sign signs.Uint) k e = uint_type k
+    go in_loop (kinds.Sign signs.Bool) k e = bool_type k
     go true (kinds.Sign signs.Break) k e = absurd (false_true (ap is_declaration e))
     go true (kinds.Sign signs.Continue) k e = absurd (false_true (ap is_declaration e))
-    go inside kind k e = absurd (false_true (ap is_declaration e))
+    go in_loop kind k e = absurd (false_true (ap is_declaration e))
 
 -- Samples
 
@@ -216,12 +216,12 @@ are_heads = (
   ),
 )
 
-module _ (inside : Bool) (x : Token) where
+module _ (in_loop : Bool) (x : Token) where
   here : (s : Sign) → x.kind ≡ kinds.Sign s → sign_at x.place s (x ∷ [])
   here s k = ap (λ z. token x.place z ∷ []) k
 
   abbrev Sample : Type 0
-  Sample = (c : StatementTree) × (t : List Token) × IsStatement inside c (x ∷ t)
+  Sample = (c : StatementTree) × (t : List Token) × IsStatement in_loop c (x ∷ t)
 
   declared_as : (t : DeclaredType) → DeclarationTree
   declared_as t = record { declared = t; variable = some_name; size = None; value = None }
@@ -298,7 +298,7 @@ module _ (inside : Bool) (x : Token) where
   )
 
   -- a statement of each leader but an expression
-  pub sample : (l : Leader) → leader_of inside x ≡ l → (l ≡ leaders.Expression → ⊥) → Sample
+  pub sample : (l : Leader) → leader_of in_loop x ≡ l → (l ≡ leaders.Expression → ⊥) → Sample
   sample leaders.Block e other = (
     block x.place statements.none,
     lone signs.RightBrace,
@@ -306,11 +306,11 @@ module _ (inside : Bool) (x : Token) where
       x ∷ [],
       lone signs.RightBrace,
       refl,
-      here signs.LeftBrace (leads inside x leaders.Block signs.LeftBrace e refl),
+      here signs.LeftBrace (leads in_loop x leaders.Block signs.LeftBrace e refl),
       ([], lone signs.RightBrace, refl, refl, (origin, refl)),
     ),
   )
-  sample leaders.Empty e other = (empty x.place, [], here signs.Semicolon (leads inside x leaders.Empty signs.Semicolon e refl))
+  sample leaders.Empty e other = (empty x.place, [], here signs.Semicolon (leads in_loop x leaders.Empty signs.Semicolon e refl))
   sample leaders.If e other = (
     branch x.place leaf (empty origin),
     parens ++ lone signs.Semicolon,
@@ -318,7 +318,7 @@ module _ (inside : Bool) (x : Token) where
       x ∷ [],
       parens ++ lone signs.Semicolon,
       refl,
-      here signs.If (leads inside x leaders.If signs.If e refl),
+      here signs.If (leads in_loop x leaders.If signs.If e refl),
       (parens, lone signs.Semicolon, refl, are_parens, refl),
     ),
   )
@@ -329,7 +329,7 @@ module _ (inside : Bool) (x : Token) where
       x ∷ [],
       parens ++ lone signs.Semicolon,
       refl,
-      here signs.While (leads inside x leaders.While signs.While e refl),
+      here signs.While (leads in_loop x leaders.While signs.While e refl),
       (parens, lone signs.Semicolon, refl, are_parens, refl),
     ),
   )
@@ -340,7 +340,7 @@ module _ (inside : Bool) (x : Token) where
       x ∷ [],
       lone signs.Semicolon ++ lone signs.While ++ parens ++ lone signs.Semicolon,
       refl,
-      here signs.Do (leads inside x leaders.DoWhile signs.Do e refl),
+      here signs.Do (leads in_loop x leaders.DoWhile signs.Do e refl),
       (
         lone signs.Semicolon,
         lone signs.While ++ parens ++ lone signs.Semicolon,
@@ -357,22 +357,22 @@ module _ (inside : Bool) (x : Token) where
       x ∷ [],
       heads ++ lone signs.Semicolon,
       refl,
-      here signs.For (leads inside x leaders.For signs.For e refl),
+      here signs.For (leads in_loop x leaders.For signs.For e refl),
       (heads, lone signs.Semicolon, refl, are_heads, refl),
     ),
   )
   sample leaders.Break e other =
-      let k = leads inside x leaders.Break signs.Break e refl in (
+      let k = leads in_loop x leaders.Break signs.Break e refl in (
         breaks x.place,
         lone signs.Semicolon,
-        (leads_inside inside x signs.Break leaders.Break k e no_break, (x ∷ [], lone signs.Semicolon, refl, here signs.Break k, (origin, refl))),
+        (leads_inside in_loop x signs.Break leaders.Break k e no_break, (x ∷ [], lone signs.Semicolon, refl, here signs.Break k, (origin, refl))),
       )
   sample leaders.Continue e other =
-      let k = leads inside x leaders.Continue signs.Continue e refl in (
+      let k = leads in_loop x leaders.Continue signs.Continue e refl in (
         continues x.place,
         lone signs.Semicolon,
         (
-          leads_inside inside x signs.Continue leaders.Continue k e no_continue,
+          leads_inside in_loop x signs.Continue leaders.Continue k e no_continue,
           (x ∷ [], lone signs.Semicolon, refl, here signs.Continue k, (origin, refl)),
         ),
       )
@@ -383,7 +383,7 @@ module _ (inside : Bool) (x : Token) where
       x ∷ [],
       lone signs.Semicolon,
       refl,
-      here signs.Return (leads inside x leaders.Return signs.Return e refl),
+      here signs.Return (leads in_loop x leaders.Return signs.Return e refl),
       ([], lone signs.Semicolon, refl, refl, (origin, refl)),
     ),
   )
@@ -394,12 +394,12 @@ module _ (inside : Bool) (x : Token) where
       x ∷ [],
       parens ++ lone signs.Semicolon,
       refl,
-      here signs.Assert (leads inside x leaders.Assert signs.Assert e refl),
+      here signs.Assert (leads in_loop x leaders.Assert signs.Assert e refl),
       (parens, lone signs.Semicolon, refl, are_parens, (origin, refl)),
     ),
   )
-  sample leaders.Declaration e other = typed_sample (typed inside x e)
+  sample leaders.Declaration e other = typed_sample (typed in_loop x e)
   sample leaders.Name e other =
-      let k = name_kind inside x.kind x.place e in
+      let k = name_kind in_loop x.kind x.place e in
       (evaluation (variable x.place k.0), lone signs.Semicolon, (x ∷ [], lone signs.Semicolon, refl, ap (λ z. token x.place z ∷ []) k.1, (origin, refl)))
   sample leaders.Expression e other = absurd (other refl)

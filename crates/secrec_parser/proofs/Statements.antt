@@ -39,28 +39,28 @@ Follow c x = x.kind ≡ kinds.Sign signs.Else → Closed c
 
 -- A statement that a keyword leads
 
-module _ (inside : Bool) (max_height : ℕ) {B : Type 0} (k : Sign) (n : ℕ) (W : B → Phrase) (f : Span → B → StatementTree) (G : StatementTree → Token → Type 0)
+module _ (in_loop : Bool) (max_height : ℕ) {B : Type 0} (k : Sign) (n : ℕ) (W : B → Phrase) (f : Span → B → StatementTree) (G : StatementTree → Token → Type 0)
     (goes_on : is_end (kinds.Sign k) ≡ false)
-    (up : (p : Span) (b : B) (s : List Token) → (sign_at p k then W b) s → IsStatement inside (f p b) s)
-    (down : (c : StatementTree) (s : List Token) → family_of c ≡ n → IsStatement inside c s → (p : Span) × (b : B) × (c ≡ f p b) × (sign_at p k then W b) s)
+    (up : (p : Span) (b : B) (s : List Token) → (sign_at p k then W b) s → IsStatement in_loop (f p b) s)
+    (down : (c : StatementTree) (s : List Token) → family_of c ≡ n → IsStatement in_loop c s → (p : Span) × (b : B) × (c ≡ f p b) × (sign_at p k then W b) s)
     (stop : (c : StatementTree) (m : List Token) → Stops (Follow c) m → Stops (G c) m)
     (alive : (p : Span) → Living (f p) W (LowStatement max_height))
   where
     abbrev Led : StatementTree → Phrase
     Led = Made (λ (v : Span × B). f v.0 v.1) (Both (λ p. one_at p (kinds.Sign k)) (λ p. W))
 
-    led_up : (c : StatementTree) (s : List Token) → Led c s → IsStatement inside c s
-    led_up c s v = subst (λ z. IsStatement inside z s) (sym v.1) (up v.0.0 v.0.1 s v.2)
+    led_up : (c : StatementTree) (s : List Token) → Led c s → IsStatement in_loop c s
+    led_up c s v = subst (λ z. IsStatement in_loop z s) (sym v.1) (up v.0.0 v.0.1 s v.2)
 
-    led_down : (c : StatementTree) (s : List Token) → family_of c ≡ n → IsStatement inside c s → Led c s
+    led_down : (c : StatementTree) (s : List Token) → family_of c ≡ n → IsStatement in_loop c s → Led c s
     led_down c s e v = let d = down c s e v in ((d.0, d.1), d.2, d.3)
 
-    pub keyword_reads : (x : Token) (m : List Token) (o : Outcome StatementTree) → x.kind ≡ kinds.Sign k → family (leader_of inside x) ≡ n
+    pub keyword_reads : (x : Token) (m : List Token) (o : Outcome StatementTree) → x.kind ≡ kinds.Sign k → family (leader_of in_loop x) ≡ n
         → IsEnded (x ∷ m) → (IsEnded m → Reads (Made (f x.place) W) (LowStatement max_height) G m o)
-        → Reads (IsStatement inside) (LowStatement max_height) Follow (x ∷ m) o
+        → Reads (IsStatement in_loop) (LowStatement max_height) Follow (x ∷ m) o
     keyword_reads x m o is fam en r =
-        reads_as Led (IsStatement inside) (LowStatement max_height) G Follow x led_up
-        (λ c s m' m2 v st eq. led_down c s (sym (family_is inside c s m' m2 x v eq) ∙ fam) v)
+        reads_as Led (IsStatement in_loop) (LowStatement max_height) G Follow x led_up
+        (λ c s m' m2 v st eq. led_down c s (sym (family_is in_loop c s m' m2 x v eq) ∙ fam) v)
         stop (x ∷ m) m o refl
         (known (kinds.Sign k) (λ p. W) f (LowStatement max_height) G goes_on alive x m o is en r)
 
@@ -77,68 +77,68 @@ follow_through c d (y ∷ m) f st = λ e. f (st e)
 
 -- Statements that end with a semicolon, and hold none
 
-pub break_reads : (inside : Bool) (max_height : ℕ) → 1 ≤ max_height → (x : Token) (m : List Token) → x.kind ≡ kinds.Sign signs.Break → inside ≡ true
-    → family (leader_of inside x) ≡ 6 → IsEnded (x ∷ m)
-    → Reads (IsStatement inside) (LowStatement max_height) Follow (x ∷ m) (expect signs.Semicolon m >>= λ b. Ok (breaks x.place, b.1))
-break_reads inside max_height one x m k within fam en =
-    keyword_reads inside max_height signs.Break 6 (λ (u : Unit {0}). sign signs.Semicolon) (λ p u. breaks p) Any refl
+pub break_reads : (in_loop : Bool) (max_height : ℕ) → 1 ≤ max_height → (x : Token) (m : List Token) → x.kind ≡ kinds.Sign signs.Break → in_loop ≡ true
+    → family (leader_of in_loop x) ≡ 6 → IsEnded (x ∷ m)
+    → Reads (IsStatement in_loop) (LowStatement max_height) Follow (x ∷ m) (expect signs.Semicolon m >>= λ b. Ok (breaks x.place, b.1))
+break_reads in_loop max_height one x m k within fam en =
+    keyword_reads in_loop max_height signs.Break 6 (λ (u : Unit {0}). sign signs.Semicolon) (λ p u. breaks p) Any refl
     (λ p u s v. (within, v)) down follow_any (λ p. (tt, lone signs.Semicolon, (origin, refl), one))
     x m _ k fam en (λ en2. sign_end signs.Semicolon (breaks x.place) (LowStatement max_height) one m en2)
   where
-    down : (c : StatementTree) (s : List Token) → family_of c ≡ 6 → IsStatement inside c s
+    down : (c : StatementTree) (s : List Token) → family_of c ≡ 6 → IsStatement in_loop c s
         → (p : Span) × (b : Unit {0}) × (c ≡ breaks p) × (sign_at p signs.Break then sign signs.Semicolon) s
     down (breaks p) s e v = (p, tt, refl, v.1)
     down c s e v = absurd (omega (arith, e))
 
-pub continue_reads : (inside : Bool) (max_height : ℕ) → 1 ≤ max_height → (x : Token) (m : List Token) → x.kind ≡ kinds.Sign signs.Continue
-    → inside ≡ true → family (leader_of inside x) ≡ 7 → IsEnded (x ∷ m)
-    → Reads (IsStatement inside) (LowStatement max_height) Follow (x ∷ m) (expect signs.Semicolon m >>= λ b. Ok (continues x.place, b.1))
-continue_reads inside max_height one x m k within fam en =
-    keyword_reads inside max_height signs.Continue 7 (λ (u : Unit {0}). sign signs.Semicolon) (λ p u. continues p) Any refl
+pub continue_reads : (in_loop : Bool) (max_height : ℕ) → 1 ≤ max_height → (x : Token) (m : List Token) → x.kind ≡ kinds.Sign signs.Continue
+    → in_loop ≡ true → family (leader_of in_loop x) ≡ 7 → IsEnded (x ∷ m)
+    → Reads (IsStatement in_loop) (LowStatement max_height) Follow (x ∷ m) (expect signs.Semicolon m >>= λ b. Ok (continues x.place, b.1))
+continue_reads in_loop max_height one x m k within fam en =
+    keyword_reads in_loop max_height signs.Continue 7 (λ (u : Unit {0}). sign signs.Semicolon) (λ p u. continues p) Any refl
     (λ p u s v. (within, v)) down follow_any (λ p. (tt, lone signs.Semicolon, (origin, refl), one))
     x m _ k fam en (λ en2. sign_end signs.Semicolon (continues x.place) (LowStatement max_height) one m en2)
   where
-    down : (c : StatementTree) (s : List Token) → family_of c ≡ 7 → IsStatement inside c s
+    down : (c : StatementTree) (s : List Token) → family_of c ≡ 7 → IsStatement in_loop c s
         → (p : Span) × (b : Unit {0}) × (c ≡ continues p) × (sign_at p signs.Continue then sign signs.Semicolon) s
     down (continues p) s e v = (p, tt, refl, v.1)
     down c s e v = absurd (omega (arith, e))
 
-pub empty_reads : (inside : Bool) (max_height : ℕ) → 1 ≤ max_height → (x : Token) (m : List Token) → x.kind ≡ kinds.Sign signs.Semicolon
-    → family (leader_of inside x) ≡ 1 → IsEnded (x ∷ m) → Good (IsStatement inside) (LowStatement max_height) Follow (x ∷ m) (empty x.place) m
-empty_reads inside max_height one x m k fam en =
-    one_reads (IsStatement inside) (LowStatement max_height) Follow x m (empty x.place) (after_kind x m (kinds.Sign signs.Semicolon) en k refl)
+pub empty_reads : (in_loop : Bool) (max_height : ℕ) → 1 ≤ max_height → (x : Token) (m : List Token) → x.kind ≡ kinds.Sign signs.Semicolon
+    → family (leader_of in_loop x) ≡ 1 → IsEnded (x ∷ m) → Good (IsStatement in_loop) (LowStatement max_height) Follow (x ∷ m) (empty x.place) m
+empty_reads in_loop max_height one x m k fam en =
+    one_reads (IsStatement in_loop) (LowStatement max_height) Follow x m (empty x.place) (after_kind x m (kinds.Sign signs.Semicolon) en k refl)
     (ap (λ z. token x.place z ∷ []) k) one
-    (λ c s m' m2 v st eq. only c s m' m2 (sym (family_is inside c s m' m2 x v eq) ∙ fam) v eq)
+    (λ c s m' m2 v st eq. only c s m' m2 (sym (family_is in_loop c s m' m2 x v eq) ∙ fam) v eq)
   where
-    only : (c : StatementTree) (s m' m2 : List Token) → family_of c ≡ 1 → IsStatement inside c s → s ++ m' ≡ x ∷ m2 → (c ≡ empty x.place) × (s ≡ x ∷ [])
+    only : (c : StatementTree) (s m' m2 : List Token) → family_of c ≡ 1 → IsStatement in_loop c s → s ++ m' ≡ x ∷ m2 → (c ≡ empty x.place) × (s ≡ x ∷ [])
     only (empty p) s m' m2 e v eq =
         let hd = cons_head (sym (ap (λ l. l ++ m') v) ∙ eq) in
         (ap (λ (t : Token). empty t.place) hd, v ∙ ap (λ t. t ∷ []) hd)
     only c s m' m2 e v eq = absurd (omega (arith, e))
 
-pub return_reads : (inside : Bool) (max_height : ℕ) → 1 ≤ max_height → (x : Token) (m : List Token) → x.kind ≡ kinds.Sign signs.Return
-    → family (leader_of inside x) ≡ 8 → IsEnded (x ∷ m)
-    → Reads (IsStatement inside) (LowStatement max_height) Follow (x ∷ m) (return_step (max_height - 1) x.place m)
+pub return_reads : (in_loop : Bool) (max_height : ℕ) → 1 ≤ max_height → (x : Token) (m : List Token) → x.kind ≡ kinds.Sign signs.Return
+    → family (leader_of in_loop x) ≡ 8 → IsEnded (x ∷ m)
+    → Reads (IsStatement in_loop) (LowStatement max_height) Follow (x ∷ m) (return_step (max_height - 1) x.place m)
 unfolding return_step
-return_reads inside max_height one x m k fam en =
-    keyword_reads inside max_height signs.Return 8 TestPart (λ p e. returns p e) Any refl
+return_reads in_loop max_height one x m k fam en =
+    keyword_reads in_loop max_height signs.Return 8 TestPart (λ p e. returns p e) Any refl
     (λ p e s v. v) down follow_any (λ p. (None, lone signs.Semicolon, ([], lone signs.Semicolon, refl, refl, (origin, refl)), omega (arith, one)))
     x m _ k fam en (λ en2.
     made TestPart (LowOption (max_height - 1)) Any (λ e. returns x.place e) (LowStatement max_height) Any
     (λ e f. omega (arith, f)) (λ e f. omega (arith, f, one)) (λ e m st. any_stops (λ y. Unit {0}) [] m st) m (steps.test_part (max_height - 1) m)
     (test_reads (max_height - 1) m en2))
   where
-    down : (c : StatementTree) (s : List Token) → family_of c ≡ 8 → IsStatement inside c s
+    down : (c : StatementTree) (s : List Token) → family_of c ≡ 8 → IsStatement in_loop c s
         → (p : Span) × (b : Option Tree) × (c ≡ returns p b) × (sign_at p signs.Return then TestPart b) s
     down (returns p e) s f v = (p, e, refl, v)
     down c s e v = absurd (omega (arith, e))
 
-pub assert_reads : (inside : Bool) (max_height : ℕ) → 2 ≤ max_height → (x : Token) (m : List Token) → x.kind ≡ kinds.Sign signs.Assert
-    → family (leader_of inside x) ≡ 9 → IsEnded (x ∷ m)
-    → Reads (IsStatement inside) (LowStatement max_height) Follow (x ∷ m) (assert_step (max_height - 1) x.place m)
+pub assert_reads : (in_loop : Bool) (max_height : ℕ) → 2 ≤ max_height → (x : Token) (m : List Token) → x.kind ≡ kinds.Sign signs.Assert
+    → family (leader_of in_loop x) ≡ 9 → IsEnded (x ∷ m)
+    → Reads (IsStatement in_loop) (LowStatement max_height) Follow (x ∷ m) (assert_step (max_height - 1) x.place m)
 unfolding assert_step
-assert_reads inside max_height two x m k fam en =
-    keyword_reads inside max_height signs.Assert 9 (Both parenthesised (λ e (u : Unit {0}). sign signs.Semicolon)) (λ p v. assertion p v.0) Any refl
+assert_reads in_loop max_height two x m k fam en =
+    keyword_reads in_loop max_height signs.Assert 9 (Both parenthesised (λ e (u : Unit {0}). sign signs.Semicolon)) (λ p v. assertion p v.0) Any refl
     (λ p v s u. u) down follow_any
     (λ p. ((leaf, tt), parens ++ lone signs.Semicolon, (parens, lone signs.Semicolon, refl, are_parens, (origin, refl)), omega (arith, two)))
     x m _ k fam en (λ en2.
@@ -150,7 +150,7 @@ assert_reads inside max_height two x m k fam en =
     let fits = g.fits in
     sign_end signs.Semicolon (assertion x.place e) (LowStatement max_height) (omega (arith, fits, two)) r (good_ended g en2)))
   where
-    down : (c : StatementTree) (s : List Token) → family_of c ≡ 9 → IsStatement inside c s
+    down : (c : StatementTree) (s : List Token) → family_of c ≡ 9 → IsStatement in_loop c s
         → (p : Span) × (b : Tree × Unit {0}) × (c ≡ assertion p b.0)
         × (sign_at p signs.Assert then Both parenthesised (λ e (u : Unit {0}). sign signs.Semicolon) b) s
     down (assertion p e) s f v = (p, (e, tt), refl, v)
@@ -177,10 +177,10 @@ declared_statement_reads max_height one w en =
 abbrev pub Acted : StatementTree → Phrase
 Acted = Made (λ (v : ActionTree × Unit {0}). statement_of v.0) (Both IsAction (λ a (u : Unit {0}). sign signs.Semicolon))
 
-pub acted_up : (inside : Bool) (c : StatementTree) (s : List Token) → Acted c s → IsStatement inside c s
-acted_up inside c s v = subst (λ z. IsStatement inside z s) (sym v.1) (go v.0.0 v.2)
+pub acted_up : (in_loop : Bool) (c : StatementTree) (s : List Token) → Acted c s → IsStatement in_loop c s
+acted_up in_loop c s v = subst (λ z. IsStatement in_loop z s) (sym v.1) (go v.0.0 v.2)
   where
-    go : (a : ActionTree) → (IsAction a then sign signs.Semicolon) s → IsStatement inside (statement_of a) s
+    go : (a : ActionTree) → (IsAction a then sign signs.Semicolon) s → IsStatement in_loop (statement_of a) s
     go (assigns a) v = v
     go (evaluates e) v = v
 
@@ -206,13 +206,13 @@ action_statement_reads max_height w en =
 
 -- Statements that hold statements, where what reads those is given
 
-module _ (max_height : ℕ) (two : 2 ≤ max_height) (inside : Bool) (inner : Inner)
-    (reads_inner : (w : List Token) → IsEnded w → Reads (IsStatement inside) (LowStatement (max_height - 1)) Follow w (inner w))
+module _ (max_height : ℕ) (two : 2 ≤ max_height) (in_loop : Bool) (inner : Inner)
+    (reads_inner : (w : List Token) → IsEnded w → Reads (IsStatement in_loop) (LowStatement (max_height - 1)) Follow w (inner w))
   where
     -- `else` and its statement, or nothing, behind the statement s
     pub ElseTail : StatementTree → Option StatementTree → Phrase
     ElseTail s None ts = nothing ts
-    ElseTail s (Some t) ts = Closed s × (sign signs.Else then IsStatement inside t) ts
+    ElseTail s (Some t) ts = Closed s × (sign signs.Else then IsStatement in_loop t) ts
 
     abbrev pub if_tree : Span → Tree → StatementTree → Option StatementTree → StatementTree
     if_tree p e s None = branch p e s
@@ -224,7 +224,7 @@ module _ (max_height : ℕ) (two : 2 ≤ max_height) (inside : Bool) (inner : In
       Tail = Made (if_tree p e s) (ElseTail s)
 
       abbrev Other : StatementTree → Phrase
-      Other = Made (λ t. choice p e s t) (λ t. sign signs.Else then IsStatement inside t)
+      Other = Made (λ t. choice p e s t) (λ t. sign signs.Else then IsStatement in_loop t)
 
       other_reads : is_sign signs.Else x ≡ true
           → Reads Tail (LowStatement max_height) Follow (x ∷ m) (expect signs.Else (x ∷ m) >>= λ a. inner a.1 >>= λ t. Ok (choice p e s t.0, t.1))
@@ -235,10 +235,10 @@ module _ (max_height : ℕ) (two : 2 ≤ max_height) (inside : Bool) (inner : In
           (λ c ts v. (Some v.0, v.1, (free k, v.2)))
           (λ c ts m' m2 v st eq. down k c ts m' m2 v st eq)
           (λ c m' st. st) (x ∷ m) m _ refl
-          (sign_seq signs.Else (IsStatement inside) (λ t. choice p e s t) (LowStatement max_height) Follow
+          (sign_seq signs.Else (IsStatement in_loop) (λ t. choice p e s t) (LowStatement max_height) Follow
           (empty origin, lone signs.Semicolon, refl, omega (arith, low, low_body, two))
           (x ∷ m) _ en (λ q r en2.
-          made (IsStatement inside) (LowStatement (max_height - 1)) Follow (λ t. choice p e s t) (LowStatement max_height) Follow
+          made (IsStatement in_loop) (LowStatement (max_height - 1)) Follow (λ t. choice p e s t) (LowStatement max_height) Follow
           (λ t f. omega (arith, f)) (λ t f. omega (arith, f, low, low_body, two)) (λ t m' st. follow_through (choice p e s t) t m' (λ c. c) st)
           r (inner r) (reads_inner r en2)))
         where
@@ -260,7 +260,7 @@ module _ (max_height : ℕ) (two : 2 ≤ max_height) (inside : Bool) (inner : In
           only : (c : StatementTree) (ts m' m2 : List Token) (o : Option StatementTree) → c ≡ if_tree p e s o → ElseTail s o ts → ts ++ m' ≡ x ∷ m2
               → (c ≡ branch p e s) × (ts ≡ [])
           only c ts m' m2 None f n eq = (f, n)
-          only c ts m' m2 (Some t) f u eq = absurd (is_sign-false signs.Else x is (sign_head signs.Else (IsStatement inside t) ts m' m2 x u.1 eq))
+          only c ts m' m2 (Some t) f u eq = absurd (is_sign-false signs.Else x is (sign_head signs.Else (IsStatement in_loop t) ts m' m2 x u.1 eq))
 
       else_head : Reads Tail (LowStatement max_height) Follow (x ∷ m) (else_step inner p e s (x ∷ m))
       else_head = go (is_sign signs.Else x) refl
@@ -295,7 +295,7 @@ module _ (max_height : ℕ) (two : 2 ≤ max_height) (inside : Bool) (inner : In
     low_first p e s (Some t) f = omega (arith, f)
 
     abbrev Branches : Tree × (StatementTree × Option StatementTree) → Phrase
-    Branches = Both parenthesised (λ e. Both (IsStatement inside) (λ s. ElseTail s))
+    Branches = Both parenthesised (λ e. Both (IsStatement in_loop) (λ s. ElseTail s))
 
     then_nothing : {P : Phrase} (s : List Token) → (P then nothing) s → P s
     then_nothing {P = P} s v = subst P (sym (v.2 ∙ ap (λ l. v.0 ++ l) v.4 ∙ append-nil v.0)) v.3
@@ -304,25 +304,25 @@ module _ (max_height : ℕ) (two : 2 ≤ max_height) (inside : Bool) (inner : In
     and_nothing s v = (s, [], sym (append-nil s), v, refl)
 
     if_case : (p : Span) (e : Tree) (b : StatementTree) (o : Option StatementTree) (s : List Token)
-        → (sign_at p signs.If then (parenthesised e then (IsStatement inside b then ElseTail b o))) s → IsStatement inside (if_tree p e b o) s
+        → (sign_at p signs.If then (parenthesised e then (IsStatement in_loop b then ElseTail b o))) s → IsStatement in_loop (if_tree p e b o) s
     unfolding ElseTail
     if_case p e b None s v =
         let u = v.4 in
-        (v.0, v.1, v.2, v.3, (u.0, u.1, u.2, u.3, then_nothing {P = IsStatement inside b} u.1 u.4))
+        (v.0, v.1, v.2, v.3, (u.0, u.1, u.2, u.3, then_nothing {P = IsStatement in_loop b} u.1 u.4))
     if_case p e b (Some t) s v =
         let u = v.4 in
         let w = u.4 in
         (w.4.0, (v.0, v.1, v.2, v.3, (u.0, u.1, u.2, u.3, (w.0, w.1, w.2, w.3, w.4.1))))
 
     if_up : (p : Span) (b : Tree × (StatementTree × Option StatementTree)) (s : List Token) → (sign_at p signs.If then Branches b) s
-        → IsStatement inside (if_tree p b.0 b.1.0 b.1.1) s
+        → IsStatement in_loop (if_tree p b.0 b.1.0 b.1.1) s
     if_up p b s v = if_case p b.0 b.1.0 b.1.1 s v
 
-    if_down : (c : StatementTree) (s : List Token) → family_of c ≡ 2 → IsStatement inside c s
+    if_down : (c : StatementTree) (s : List Token) → family_of c ≡ 2 → IsStatement in_loop c s
         → (p : Span) × (b : Tree × (StatementTree × Option StatementTree)) × (c ≡ if_tree p b.0 b.1.0 b.1.1) × (sign_at p signs.If then Branches b) s
     unfolding ElseTail
     if_down (branch p e b) s f v =
-        (p, (e, (b, None)), refl, (v.0, v.1, v.2, v.3, (v.4.0, v.4.1, v.4.2, v.4.3, and_nothing {P = IsStatement inside b} v.4.1 v.4.4)))
+        (p, (e, (b, None)), refl, (v.0, v.1, v.2, v.3, (v.4.0, v.4.1, v.4.2, v.4.3, and_nothing {P = IsStatement in_loop b} v.4.1 v.4.4)))
     if_down (choice p e b t) s f v =
         let w = v.1 in
         let u = w.4 in
@@ -331,11 +331,11 @@ module _ (max_height : ℕ) (two : 2 ≤ max_height) (inside : Bool) (inner : In
     if_down c s f v = absurd (omega (arith, f))
 
     pub if_reads : (greedy : (w r : List Token) (s : StatementTree) → IsEnded w → IsEnded r → inner w ≡ Ok (s, r) → Stops (Follow s) r)
-        → (x : Token) (m : List Token) → x.kind ≡ kinds.Sign signs.If → family (leader_of inside x) ≡ 2 → IsEnded (x ∷ m)
-        → Reads (IsStatement inside) (LowStatement max_height) Follow (x ∷ m) (if_step (max_height - 1) inner x.place m)
+        → (x : Token) (m : List Token) → x.kind ≡ kinds.Sign signs.If → family (leader_of in_loop x) ≡ 2 → IsEnded (x ∷ m)
+        → Reads (IsStatement in_loop) (LowStatement max_height) Follow (x ∷ m) (if_step (max_height - 1) inner x.place m)
     unfolding if_step ElseTail
     if_reads greedy x m k fam en =
-        keyword_reads inside max_height signs.If 2 Branches (λ p b. if_tree p b.0 b.1.0 b.1.1) Follow refl if_up if_down follow_same
+        keyword_reads in_loop max_height signs.If 2 Branches (λ p b. if_tree p b.0 b.1.0 b.1.1) Follow refl if_up if_down follow_same
         (λ p. (
           (leaf, (empty origin, None)),
           parens ++ lone signs.Semicolon,
@@ -343,7 +343,7 @@ module _ (max_height : ℕ) (two : 2 ≤ max_height) (inside : Bool) (inner : In
           omega (arith, two),
         ))
         x m _ k fam en (λ en2.
-        seq parenthesised (Low (max_height - 1)) Any (λ e. Both (IsStatement inside) (λ s. ElseTail s)) (λ e v. if_tree x.place e v.0 v.1)
+        seq parenthesised (Low (max_height - 1)) Any (λ e. Both (IsStatement in_loop) (λ s. ElseTail s)) (λ e v. if_tree x.place e v.0 v.1)
         (LowStatement max_height) Follow
         (λ e v t u f. low_test x.place e v.0 v.1 f)
         (λ e v t m u st. any_stops (Follow (if_tree x.place e v.0 v.1)) t m st)
@@ -351,7 +351,7 @@ module _ (max_height : ℕ) (two : 2 ≤ max_height) (inside : Bool) (inner : In
         m (steps.parenthesised (max_height - 1) m) _ (parenthesised_reads (max_height - 1) (omega (arith, two)) m en2) (λ e r is g.
         let low = g.fits in
         let en3 = good_ended g en2 in
-        seq (IsStatement inside) (LowStatement (max_height - 1)) Follow (λ s. ElseTail s) (λ s o. if_tree x.place e s o) (LowStatement max_height) Follow
+        seq (IsStatement in_loop) (LowStatement (max_height - 1)) Follow (λ s. ElseTail s) (λ s o. if_tree x.place e s o) (LowStatement max_height) Follow
         (λ s o t u f. low_first x.place e s o f)
         (λ s o t m u st. tail_first x.place e s o t m u st)
         (λ s t u. (None, [], refl, λ f. omega (arith, f, low, two)))

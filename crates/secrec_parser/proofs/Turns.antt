@@ -50,84 +50,84 @@ module _ {A : Type 0} (stop : List A → List Token → Bool) (inner : List Toke
       ∙ ap (λ o. o >>= λ a. list_from stop inner n (found ++ a.0 ∷ []) a.1) f
 
 -- a statement that holds none is read without what reads the statements in it
-lower_unused : (l : Leader) (max_height : ℕ) (f g : Bool → Inner) (inside : Bool) (x : Token) (m : List Token) → least l ≤ 0
-    → statement_by l max_height f inside x m ≡ statement_by l max_height g inside x m
-lower_unused leaders.Expression max_height f g inside x m h = refl
-lower_unused leaders.Block max_height f g inside x m h = absurd (omega arith)
-lower_unused leaders.Empty max_height f g inside x m h = absurd (omega arith)
-lower_unused leaders.If max_height f g inside x m h = absurd (omega arith)
-lower_unused leaders.While max_height f g inside x m h = absurd (omega arith)
-lower_unused leaders.DoWhile max_height f g inside x m h = absurd (omega arith)
-lower_unused leaders.For max_height f g inside x m h = absurd (omega arith)
-lower_unused leaders.Break max_height f g inside x m h = absurd (omega arith)
-lower_unused leaders.Continue max_height f g inside x m h = absurd (omega arith)
-lower_unused leaders.Return max_height f g inside x m h = absurd (omega arith)
-lower_unused leaders.Assert max_height f g inside x m h = absurd (omega arith)
-lower_unused leaders.Declaration max_height f g inside x m h = absurd (omega arith)
-lower_unused leaders.Name max_height f g inside x m h = absurd (omega arith)
+lower_unused : (l : Leader) (max_height : ℕ) (f g : Bool → Inner) (in_loop : Bool) (x : Token) (m : List Token) → least l ≤ 0
+    → statement_by l max_height f in_loop x m ≡ statement_by l max_height g in_loop x m
+lower_unused leaders.Expression max_height f g in_loop x m h = refl
+lower_unused leaders.Block max_height f g in_loop x m h = absurd (omega arith)
+lower_unused leaders.Empty max_height f g in_loop x m h = absurd (omega arith)
+lower_unused leaders.If max_height f g in_loop x m h = absurd (omega arith)
+lower_unused leaders.While max_height f g in_loop x m h = absurd (omega arith)
+lower_unused leaders.DoWhile max_height f g in_loop x m h = absurd (omega arith)
+lower_unused leaders.For max_height f g in_loop x m h = absurd (omega arith)
+lower_unused leaders.Break max_height f g in_loop x m h = absurd (omega arith)
+lower_unused leaders.Continue max_height f g in_loop x m h = absurd (omega arith)
+lower_unused leaders.Return max_height f g in_loop x m h = absurd (omega arith)
+lower_unused leaders.Assert max_height f g in_loop x m h = absurd (omega arith)
+lower_unused leaders.Declaration max_height f g in_loop x m h = absurd (omega arith)
+lower_unused leaders.Name max_height f g in_loop x m h = absurd (omega arith)
 
 -- a statement that holds none of its height
-statement_here : (max_height : ℕ) (inside : Bool) (x : Token) (m : List Token)
-    → statement_at_most max_height inside (x ∷ m)
-    ≡ cond (nat_lt max_height (least (leader_of inside x))) (Err (TooHigh, x ∷ m))
-    (statement_by (leader_of inside x) max_height (statement_at_most (max_height - 1)) inside x m)
+statement_here : (max_height : ℕ) (in_loop : Bool) (x : Token) (m : List Token)
+    → statement_at_most max_height in_loop (x ∷ m)
+    ≡ cond (nat_lt max_height (least (leader_of in_loop x))) (Err (TooHigh, x ∷ m))
+    (statement_by (leader_of in_loop x) max_height (statement_at_most (max_height - 1)) in_loop x m)
 unfolding statement_at_most statement_step
-statement_here zero inside x m = go (nat_lt zero (least (leader_of inside x))) refl
+statement_here zero in_loop x m = go (nat_lt zero (least (leader_of in_loop x))) refl
   where
-    go : (b : Bool) → nat_lt zero (least (leader_of inside x)) ≡ b
-        → cond b (Err (TooHigh, x ∷ m)) (statement_by (leader_of inside x) zero (λ i m. Err (TooHigh, m)) inside x m)
-        ≡ cond b (Err (TooHigh, x ∷ m)) (statement_by (leader_of inside x) zero (statement_at_most (zero - 1)) inside x m)
+    go : (b : Bool) → nat_lt zero (least (leader_of in_loop x)) ≡ b
+        → cond b (Err (TooHigh, x ∷ m)) (statement_by (leader_of in_loop x) zero (λ i m. Err (TooHigh, m)) in_loop x m)
+        ≡ cond b (Err (TooHigh, x ∷ m)) (statement_by (leader_of in_loop x) zero (statement_at_most (zero - 1)) in_loop x m)
     go true e = refl
-    go false e = lower_unused (leader_of inside x) zero (λ i m. Err (TooHigh, m)) (statement_at_most (zero - 1)) inside x m
-        (ltb-false zero (least (leader_of inside x)) e)
-statement_here (suc h) inside x m =
+    go false e = lower_unused (leader_of in_loop x) zero (λ i m. Err (TooHigh, m)) (statement_at_most (zero - 1)) in_loop x m
+        (ltb-false zero (least (leader_of in_loop x)) e)
+statement_here (suc h) in_loop x m =
     let d : h ≡ suc h - 1 = omega arith in
-    ap (λ n. cond (nat_lt (suc h) (least (leader_of inside x))) (Err (TooHigh, x ∷ m))
-    (statement_by (leader_of inside x) (suc h) (statement_at_most n) inside x m)) d
+    ap (λ n. cond (nat_lt (suc h) (least (leader_of in_loop x))) (Err (TooHigh, x ∷ m))
+    (statement_by (leader_of in_loop x) (suc h) (statement_at_most n) in_loop x m)) d
 
-pub statement_none : (max_height : ℕ) (inside : Bool) (w : List Token) → length w ≡ 0 → statement_at_most max_height inside w ≡ Err (Unexpected, w)
+pub statement_none : (max_height : ℕ) (in_loop : Bool) (w : List Token) → length w ≡ 0 → statement_at_most max_height in_loop w ≡ Err (Unexpected, w)
 unfolding statement_at_most statement_step
-statement_none zero inside [] e = refl
-statement_none (suc h) inside [] e = refl
-statement_none max_height inside (x ∷ m) e = absurd (omega (arith, e))
+statement_none zero in_loop [] e = refl
+statement_none (suc h) in_loop [] e = refl
+statement_none max_height in_loop (x ∷ m) e = absurd (omega (arith, e))
 
 -- where l is what leads the tokens, and n its least height
-module _ (max_height : ℕ) (inside : Bool) (w : List Token) (x : Token) (m : List Token) (l : Leader) (n : ℕ) (front : w ≡ x ∷ m)
-    (led_by : l ≡ leader_of inside x) (least_is : n ≡ least l) where
-  pub statement_high : max_height < n → statement_at_most max_height inside w ≡ Err (TooHigh, w)
+module _ (max_height : ℕ) (in_loop : Bool) (w : List Token) (x : Token) (m : List Token) (l : Leader) (n : ℕ) (front : w ≡ x ∷ m)
+    (led_by : l ≡ leader_of in_loop x) (least_is : n ≡ least l) where
+  pub statement_high : max_height < n → statement_at_most max_height in_loop w ≡ Err (TooHigh, w)
   statement_high lt =
       let f = ap least led_by in
-      ap (statement_at_most max_height inside) front ∙ statement_here max_height inside x m
-      ∙ ap (λ b. cond b (Err (TooHigh, x ∷ m)) (statement_by (leader_of inside x) max_height (statement_at_most (max_height - 1)) inside x m))
-      (lt-ltb max_height (least (leader_of inside x)) (omega (arith, f, least_is, lt)))
+      ap (statement_at_most max_height in_loop) front ∙ statement_here max_height in_loop x m
+      ∙ ap (λ b. cond b (Err (TooHigh, x ∷ m)) (statement_by (leader_of in_loop x) max_height (statement_at_most (max_height - 1)) in_loop x m))
+      (lt-ltb max_height (least (leader_of in_loop x)) (omega (arith, f, least_is, lt)))
       ∙ ap (λ v. Err (TooHigh, v)) (sym front)
 
-  pub statement_leads : n ≤ max_height → statement_at_most max_height inside w ≡ statement_by l max_height (statement_at_most (max_height - 1)) inside x m
+  pub statement_leads : n ≤ max_height → statement_at_most max_height in_loop w ≡ statement_by l max_height (statement_at_most (max_height - 1)) in_loop x m
   statement_leads le =
       let f = ap least led_by in
-      ap (statement_at_most max_height inside) front ∙ statement_here max_height inside x m
-      ∙ ap (λ b. cond b (Err (TooHigh, x ∷ m)) (statement_by (leader_of inside x) max_height (statement_at_most (max_height - 1)) inside x m))
-      (le-ltb max_height (least (leader_of inside x)) (omega (arith, f, least_is, le)))
-      ∙ ap (λ l. statement_by l max_height (statement_at_most (max_height - 1)) inside x m) (sym led_by)
+      ap (statement_at_most max_height in_loop) front ∙ statement_here max_height in_loop x m
+      ∙ ap (λ b. cond b (Err (TooHigh, x ∷ m)) (statement_by (leader_of in_loop x) max_height (statement_at_most (max_height - 1)) in_loop x m))
+      (le-ltb max_height (least (leader_of in_loop x)) (omega (arith, f, least_is, le)))
+      ∙ ap (λ l. statement_by l max_height (statement_at_most (max_height - 1)) in_loop x m) (sym led_by)
 
-  pub statement_declares : n ≤ max_height → l ≡ leaders.Declaration → statement_at_most max_height inside w ≡ declaration_statement (max_height - 1) w
-  statement_declares le is = statement_leads le ∙ ap (λ l. statement_by l max_height (statement_at_most (max_height - 1)) inside x m) is
+  pub statement_declares : n ≤ max_height → l ≡ leaders.Declaration → statement_at_most max_height in_loop w ≡ declaration_statement (max_height - 1) w
+  statement_declares le is = statement_leads le ∙ ap (λ l. statement_by l max_height (statement_at_most (max_height - 1)) in_loop x m) is
       ∙ ap (declaration_statement (max_height - 1)) (sym front)
 
-  pub statement_names : n ≤ max_height → l ≡ leaders.Name → statement_at_most max_height inside w ≡ name_statement max_height w m
-  statement_names le is = statement_leads le ∙ ap (λ l. statement_by l max_height (statement_at_most (max_height - 1)) inside x m) is
+  pub statement_names : n ≤ max_height → l ≡ leaders.Name → statement_at_most max_height in_loop w ≡ name_statement max_height w m
+  statement_names le is = statement_leads le ∙ ap (λ l. statement_by l max_height (statement_at_most (max_height - 1)) in_loop x m) is
       ∙ ap (λ v. name_statement max_height v m) (sym front)
 
-  pub statement_evaluates : n ≤ max_height → l ≡ leaders.Expression → statement_at_most max_height inside w ≡ action_statement max_height w
-  statement_evaluates le is = statement_leads le ∙ ap (λ l. statement_by l max_height (statement_at_most (max_height - 1)) inside x m) is
+  pub statement_evaluates : n ≤ max_height → l ≡ leaders.Expression → statement_at_most max_height in_loop w ≡ action_statement max_height w
+  statement_evaluates le is = statement_leads le ∙ ap (λ l. statement_by l max_height (statement_at_most (max_height - 1)) in_loop x m) is
       ∙ ap (action_statement max_height) (sym front)
 
   pub statement_led : n ≤ max_height → (l ≡ leaders.Declaration → ⊥) → (l ≡ leaders.Name → ⊥) → (l ≡ leaders.Expression → ⊥)
-      → statement_at_most max_height inside w ≡ led l max_height (statement_at_most (max_height - 1)) inside x.place m
+      → statement_at_most max_height in_loop w ≡ led l max_height (statement_at_most (max_height - 1)) in_loop x.place m
   statement_led le d k e = statement_leads le ∙ other l d k e
     where
       other : (l : Leader) → (l ≡ leaders.Declaration → ⊥) → (l ≡ leaders.Name → ⊥) → (l ≡ leaders.Expression → ⊥)
-          → statement_by l max_height (statement_at_most (max_height - 1)) inside x m ≡ led l max_height (statement_at_most (max_height - 1)) inside x.place m
+          → statement_by l max_height (statement_at_most (max_height - 1)) in_loop x m ≡ led l max_height (statement_at_most (max_height - 1)) in_loop x.place m
       other leaders.Declaration d k e = absurd (d refl)
       other leaders.Name d k e = absurd (k refl)
       other leaders.Expression d k e = absurd (e refl)
@@ -209,17 +209,17 @@ pub taken : {B Y : Type 0} (view : B → Y) (r : Result (B × Bor (List Token)) 
 taken view r o n x e t = subst (λ z. Takes (λ x. (view x.0, x.1.now)) z o n) e t
 
 -- a leader that leads a statement that holds none
-pub led_short : (l : Leader) (max_height : ℕ) (lower : Bool → Inner) (inside : Bool) (p : Span) (m : List Token) → (l ≡ leaders.Block → ⊥) →
+pub led_short : (l : Leader) (max_height : ℕ) (lower : Bool → Inner) (in_loop : Bool) (p : Span) (m : List Token) → (l ≡ leaders.Block → ⊥) →
     (l ≡ leaders.If → ⊥) → (l ≡ leaders.While → ⊥) → (l ≡ leaders.DoWhile → ⊥) → (l ≡ leaders.For → ⊥)
-    → led l max_height lower inside p m ≡ short l max_height p
+    → led l max_height lower in_loop p m ≡ short l max_height p
     m
 unfolding led
-led_short leaders.Block max_height lower inside p m a b c d e = absurd (a refl)
-led_short leaders.If max_height lower inside p m a b c d e = absurd (b refl)
-led_short leaders.While max_height lower inside p m a b c d e = absurd (c refl)
-led_short leaders.DoWhile max_height lower inside p m a b c d e = absurd (d refl)
-led_short leaders.For max_height lower inside p m a b c d e = absurd (e refl)
-led_short l max_height lower inside p m a b c d e = refl
+led_short leaders.Block max_height lower in_loop p m a b c d e = absurd (a refl)
+led_short leaders.If max_height lower in_loop p m a b c d e = absurd (b refl)
+led_short leaders.While max_height lower in_loop p m a b c d e = absurd (c refl)
+led_short leaders.DoWhile max_height lower in_loop p m a b c d e = absurd (d refl)
+led_short leaders.For max_height lower in_loop p m a b c d e = absurd (e refl)
+led_short l max_height lower in_loop p m a b c d e = refl
 
 pub variables_go : (found : List DomainVariable) (w : List Token) → at_sign signs.Comma w ≡ true → length found < 4 → no_more_variables found w ≡ false
 variables_go found w e l = ap (λ b. not (b && nat_lt (length found) 4)) e ∙ ap not (lt-ltb (length found) 4 l)

@@ -143,26 +143,26 @@ Closed other = Unit {0}
 -- stand inside a loop.
 abbrev mutual
   pub IsStatement : Bool → StatementTree → Phrase
-  IsStatement inside (block p ss) ts = (sign_at p LeftBrace then AreStatements inside ss then sign RightBrace) ts
-  IsStatement inside (empty p) ts = sign_at p Semicolon ts
-  IsStatement inside (branch p e s) ts = (sign_at p If then parenthesised e then IsStatement inside s) ts
-  IsStatement inside (choice p e s t) ts =
-      Closed s × (sign_at p If then parenthesised e then IsStatement inside s then sign Else then IsStatement inside t) ts
-  IsStatement inside (while_loop p e s) ts = (sign_at p While then parenthesised e then IsStatement true s) ts
-  IsStatement inside (do_loop p s e) ts =
+  IsStatement in_loop (block p ss) ts = (sign_at p LeftBrace then AreStatements in_loop ss then sign RightBrace) ts
+  IsStatement in_loop (empty p) ts = sign_at p Semicolon ts
+  IsStatement in_loop (branch p e s) ts = (sign_at p If then parenthesised e then IsStatement in_loop s) ts
+  IsStatement in_loop (choice p e s t) ts =
+      Closed s × (sign_at p If then parenthesised e then IsStatement in_loop s then sign Else then IsStatement in_loop t) ts
+  IsStatement in_loop (while_loop p e s) ts = (sign_at p While then parenthesised e then IsStatement true s) ts
+  IsStatement in_loop (do_loop p s e) ts =
       (sign_at p Do then IsStatement true s then sign While then parenthesised e then sign Semicolon) ts
-  IsStatement inside (for_loop p a e b s) ts = (sign_at p For then heading a e b then IsStatement true s) ts
-  IsStatement inside (breaks p) ts = (inside ≡ true) × (sign_at p Break then sign Semicolon) ts
-  IsStatement inside (continues p) ts = (inside ≡ true) × (sign_at p Continue then sign Semicolon) ts
-  IsStatement inside (returns p e) ts = (sign_at p Return then optional (IsExpression loosest) e then sign Semicolon) ts
-  IsStatement inside (assertion p e) ts = (sign_at p Assert then parenthesised e then sign Semicolon) ts
-  IsStatement inside (declaration d) ts = (IsDeclaration d then sign Semicolon) ts
-  IsStatement inside (assignment a) ts = (IsAssignment a then sign Semicolon) ts
-  IsStatement inside (evaluation e) ts = (IsExpression loosest e then sign Semicolon) ts
+  IsStatement in_loop (for_loop p a e b s) ts = (sign_at p For then heading a e b then IsStatement true s) ts
+  IsStatement in_loop (breaks p) ts = (in_loop ≡ true) × (sign_at p Break then sign Semicolon) ts
+  IsStatement in_loop (continues p) ts = (in_loop ≡ true) × (sign_at p Continue then sign Semicolon) ts
+  IsStatement in_loop (returns p e) ts = (sign_at p Return then optional (IsExpression loosest) e then sign Semicolon) ts
+  IsStatement in_loop (assertion p e) ts = (sign_at p Assert then parenthesised e then sign Semicolon) ts
+  IsStatement in_loop (declaration d) ts = (IsDeclaration d then sign Semicolon) ts
+  IsStatement in_loop (assignment a) ts = (IsAssignment a then sign Semicolon) ts
+  IsStatement in_loop (evaluation e) ts = (IsExpression loosest e then sign Semicolon) ts
 
   pub AreStatements : Bool → StatementTrees → Phrase
-  AreStatements inside none ts = nothing ts
-  AreStatements inside (also s ss) ts = (IsStatement inside s then AreStatements inside ss) ts
+  AreStatements in_loop none ts = nothing ts
+  AreStatements in_loop (also s ss) ts = (IsStatement in_loop s then AreStatements in_loop ss) ts
 
 -- Functions
 

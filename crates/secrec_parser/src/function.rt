@@ -147,6 +147,7 @@ fn body<'a>(alloc: Global, tokens: &'a [Token], max_height: u8) -> Read<'a, Bloc
     Ok((Block { place, statements }, rest))
 }
 
+/// A function, whose body has statements of at most this height.
 #[tactic(auto, unfolding(crate::specs::inner::Steps::function_step))]
 pub fn function<'a>(alloc: Global, tokens: &'a [Token], max_height: u8) -> Read<'a, Function>
     ensures { Takes (λ x. (function_tree x.0, x.1.now)) result (function_step max_height tokens.now) (length tokens.now) }

@@ -33,8 +33,8 @@ pub fn is_type(token: &Token) -> bool
 }
 
 /// What a statement is that begins with a token, inside a loop or not.
-pub fn leader_of(token: &Token, inside: bool) -> Leader
-    ensures { result ≡ leader_of inside token.now }
+pub fn leader_of(token: &Token, in_loop: bool) -> Leader
+    ensures { result ≡ leader_of in_loop token.now }
 {
     if token.is(Sign::LeftBrace) {
         Leader::Block
@@ -48,9 +48,9 @@ pub fn leader_of(token: &Token, inside: bool) -> Leader
         Leader::DoWhile
     } else if token.is(Sign::For) {
         Leader::For
-    } else if token.is(Sign::Break) && inside {
+    } else if token.is(Sign::Break) && in_loop {
         Leader::Break
-    } else if token.is(Sign::Continue) && inside {
+    } else if token.is(Sign::Continue) && in_loop {
         Leader::Continue
     } else if token.is(Sign::Return) {
         Leader::Return

@@ -23,14 +23,14 @@ fn statement<'a>(
     alloc: Global,
     tokens: &'a [Token],
     max_height: u8,
-    inside: bool,
+    in_loop: bool,
 ) -> Read<'a, Statement>
-    ensures { Takes (λ x. (statement x.0, x.1.now)) result (statement_at_most max_height inside tokens.now) (length tokens.now) }
+    ensures { Takes (λ x. (statement x.0, x.1.now)) result (statement_at_most max_height in_loop tokens.now) (length tokens.now) }
 {
     let Some((token, rest)) = tokens.split_first() else {
         return Err(Stopped::At(ParseProblem::Unexpected, tokens));
     };
-    let leader = leader_of(token, inside);
+    let leader = leader_of(token, in_loop);
     if max_height < leader.least_height() {
         return Err(Stopped::At(ParseProblem::TooHigh, tokens));
     }
@@ -38,7 +38,7 @@ fn statement<'a>(
         Leader::Declaration => declaration_statement(alloc, tokens, max_height - 1),
         Leader::Name => name_statement(alloc, tokens, rest, max_height),
         Leader::Expression => action_statement(alloc, tokens, max_height),
-        _ => led(alloc, leader, token.place, rest, max_height, inside),
+        _ => led(alloc, leader, token.place, rest, max_height, in_loop),
     }
 }
 
@@ -51,18 +51,18 @@ fn led<'a>(
     place: Span,
     tokens: &'a [Token],
     max_height: u8,
-    inside: bool,
+    in_loop: bool,
 ) -> Read<'a, Statement>
     requires { least leader ≤ max_height }
-    ensures { Takes (λ x. (statement x.0, x.1.now)) result (led leader max_height (statement_at_most (max_height - 1)) inside place tokens.now)
+    ensures { Takes (λ x. (statement x.0, x.1.now)) result (led leader max_height (statement_at_most (max_height - 1)) in_loop place tokens.now)
         (length tokens.now + 1) }
 {
     match leader {
         Leader::Block => {
-            let (statements, rest) = braced(alloc, tokens, max_height - 1, inside)?;
+            let (statements, rest) = braced(alloc, tokens, max_height - 1, in_loop)?;
             Ok((Statement::Block(place, statements), rest))
         }
-        Leader::If => if_statement(alloc, place, tokens, max_height - 1, inside),
+        Leader::If => if_statement(alloc, place, tokens, max_height - 1, in_loop),
         Leader::While => while_statement(alloc, place, tokens, max_height - 1),
         Leader::DoWhile => do_statement(alloc, place, tokens, max_height - 1),
         Leader::For => for_statement(alloc, place, tokens, max_height - 1),
@@ -76,14 +76,14 @@ pub fn braced<'a>(
     alloc: Global,
     tokens: &'a [Token],
     max_height: u8,
-    inside: bool,
+    in_loop: bool,
 ) -> Read<'a, Vec<Statement>>
-    ensures { Takes (λ x. (map statement x.0.items, x.1.now)) result (braced (statement_at_most max_height inside) tokens.now) (length tokens.now) }
+    ensures { Takes (λ x. (map statement x.0.items, x.1.now)) result (braced (statement_at_most max_height in_loop) tokens.now) (length tokens.now) }
 {
     let mut found = Vec::new(alloc);
     let mut rest = tokens;
     while !at_sign(Sign::RightBrace, rest) {
-        let (next, behind) = statement(alloc, rest, max_height, inside)?;
+        let (next, behind) = statement(alloc, rest, max_height, in_loop)?;
         found.push(next)?;
         rest = behind;
     }
@@ -97,18 +97,18 @@ fn if_statement<'a>(
     place: Span,
     tokens: &'a [Token],
     max_height: u8,
-    inside: bool,
+    in_loop: bool,
 ) -> Read<'a, Statement>
-    ensures { Takes (λ x. (statement x.0, x.1.now)) result (if_step max_height (statement_at_most max_height inside) place tokens.now) (length tokens.now) }
+    ensures { Takes (λ x. (statement x.0, x.1.now)) result (if_step max_height (statement_at_most max_height in_loop) place tokens.now) (length tokens.now) }
 {
     let (test, rest) = parenthesised(alloc, tokens, max_height)?;
-    let first = statement(alloc, rest, max_height, inside);
+    let first = statement(alloc, rest, max_height, in_loop);
     let (body, rest) = boxed(alloc, first)?;
     if !at_sign(Sign::Else, rest) {
         return Ok((Statement::If(place, test, body, None), rest));
     }
     let (_, rest) = expect(Sign::Else, rest)?;
-    let second = statement(alloc, rest, max_height, inside);
+    let second = statement(alloc, rest, max_height, in_loop);
     let (other, rest) = boxed(alloc, second)?;
     Ok((Statement::If(place, test, body, Some(other)), rest))
 }

@@ -75,6 +75,7 @@ fn dimension<'a>(tokens: &'a [Token]) -> Read<'a, bool>
     }
 }
 
+/// The type of a declaration: a domain where one is named, a data type, and whether it is an array.
 #[tactic(auto, unfolding(crate::specs::inner::Steps::declared_type))]
 pub fn declared_type<'a>(alloc: Global, tokens: &'a [Token]) -> Read<'a, DeclaredType>
     ensures { Takes (λ x. (x.0, x.1.now)) result (declared_type tokens.now) (length tokens.now) }

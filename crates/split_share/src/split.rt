@@ -54,13 +54,11 @@ impl Split<P1, Sent> {
     /// the blocks the first miner's shares of both words, which are zeros, negated or not.
     pub fn start(
         u: &Block<AddRing, P1>,
-        negated: bool,
         words: &[u64],
     ) -> (Msg, Msg, Block<XorRing, P1>, Block<XorRing, P1>)
         requires { length words.now ≡ length u.now }
         ensures { OneSplits u.now words.now result.0 result.1 result.2 result.3 }
     {
-        let _ = negated;
         let n = u.len();
         let parts: Block<AddRing, P1> = Block::from_words(words);
         let to_two = Msg::from_block(&parts);

@@ -45,7 +45,7 @@ pub fn split_together(
 {
     let miner2 = Split::<P2, Waiting>::start(u2, negated);
     let miner3 = Split::<P3, Waiting>::start(u3, negated);
-    let (sent12, sent13, x1, y1) = Split::<P1, Sent>::start(u1, negated, words);
+    let (sent12, sent13, x1, y1) = Split::<P1, Sent>::start(u1, words);
     let shares2 = miner2.got12(&sent12).unwrap();
     let shares3 = miner3.got13(&sent13).unwrap();
     Splitting {

@@ -16,10 +16,7 @@ pub(crate) fn is_word(element: DataType) -> bool
 pub(crate) fn same_element(left: DataType, right: DataType) -> bool
     ensures { result ≡ same_element left right }
 {
-    match left {
-        DataType::Uint64 => is_word(right),
-        DataType::Bool => !is_word(right),
-    }
+    left == right
 }
 
 pub(crate) fn same_kind(left: Kind, right: Kind) -> bool

@@ -11,7 +11,9 @@ use crate::kinds::{
     size_fits, sum_fits,
 };
 use crate::operators::binary_fits;
-use bytecode::{Code, CodeFunction, FunctionPlace, Instruction, Kind, NamePlace, Register};
+use bytecode::{
+    Code, CodeFunction, FunctionPlace, Instruction, Kind, NO_RESULT, NamePlace, Register,
+};
 
 /// Where an instruction stands.
 #[derive(Clone, Copy)]
@@ -37,7 +39,7 @@ fn result_there(kinds: &[Kind], to: Option<Register>) -> bool
     ensures { result ≡ (result_register to == 65535 || is_there kinds.now (result_register to)) }
 {
     match to {
-        Some(register) => register.0 == 65_535 || is_there(kinds, register),
+        Some(register) => register.0 == NO_RESULT || is_there(kinds, register),
         None => true,
     }
 }
@@ -83,7 +85,7 @@ fn result_fits(kinds: &[Kind], gives: Option<Kind>, to: Option<Register>) -> boo
     ensures { result ≡ (result_register to == 65535 || gives_fits gives (kind_at kinds.now (result_register to))) }
 {
     match to {
-        Some(register) => register.0 == 65_535 || gives_fits(kinds, gives, register),
+        Some(register) => register.0 == NO_RESULT || gives_fits(kinds, gives, register),
         None => true,
     }
 }

@@ -8,7 +8,7 @@ ghost use Rattle.verified_code.specs.Settled.{binary_step, name_at, result_at, s
 
 use crate::kinds::kind_at;
 use crate::step::Step;
-use bytecode::{Instruction, Kind, NamePlace, Register};
+use bytecode::{Instruction, Kind, NO_RESULT, NamePlace, Register};
 use sc_text::Name;
 use secrec_ast::DataType;
 use typed_tree::{BinaryOperator, BoolOperator, Cast, Operands, WordOperator};
@@ -90,7 +90,7 @@ fn result_in(to: Option<Register>) -> Option<Register>
     ensures { place_of result ≡ result_at (result_register to) }
 {
     match to {
-        Some(register) if register.0 != 65_535 => Some(register),
+        Some(register) if register.0 != NO_RESULT => Some(register),
         _ => None,
     }
 }

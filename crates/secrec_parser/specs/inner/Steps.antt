@@ -229,15 +229,15 @@ is_type x = is_sign signs.Uint64 x || is_sign signs.Uint x || is_sign signs.Bool
 
 -- what a statement that begins with a token is, as far as the token tells
 abbrev pub leader_of : Bool → Token → Leader
-leader_of inside x =
+leader_of in_loop x =
     if is_sign signs.LeftBrace x then leaders.Block
     else if is_sign signs.Semicolon x then leaders.Empty
     else if is_sign signs.If x then leaders.If
     else if is_sign signs.While x then leaders.While
     else if is_sign signs.Do x then leaders.DoWhile
     else if is_sign signs.For x then leaders.For
-    else if is_sign signs.Break x && inside then leaders.Break
-    else if is_sign signs.Continue x && inside then leaders.Continue
+    else if is_sign signs.Break x && in_loop then leaders.Break
+    else if is_sign signs.Continue x && in_loop then leaders.Continue
     else if is_sign signs.Return x then leaders.Return
     else if is_sign signs.Assert x then leaders.Assert
     else if is_sign signs.Public x || is_type x then leaders.Declaration
@@ -416,30 +416,30 @@ short other max_height p m = Ok (empty p, m)
 
 -- what a keyword, a brace or a semicolon leads, which stands at this place before the tokens
 unfoldable pub led : Leader → ℕ → (Bool → Inner) → Bool → Span → List Token → Outcome StatementTree
-led leaders.Block max_height lower inside p m = braced (lower inside) m >>= λ ss. Ok (block p (statements_of ss.0), ss.1)
-led leaders.If max_height lower inside p m = if_step (max_height - 1) (lower inside) p m
-led leaders.While max_height lower inside p m = while_step (max_height - 1) (lower true) p m
-led leaders.DoWhile max_height lower inside p m = do_step (max_height - 1) (lower true) p m
-led leaders.For max_height lower inside p m = for_step (max_height - 1) (lower true) p m
-led other max_height lower inside p m = short other max_height p m
+led leaders.Block max_height lower in_loop p m = braced (lower in_loop) m >>= λ ss. Ok (block p (statements_of ss.0), ss.1)
+led leaders.If max_height lower in_loop p m = if_step (max_height - 1) (lower in_loop) p m
+led leaders.While max_height lower in_loop p m = while_step (max_height - 1) (lower true) p m
+led leaders.DoWhile max_height lower in_loop p m = do_step (max_height - 1) (lower true) p m
+led leaders.For max_height lower in_loop p m = for_step (max_height - 1) (lower true) p m
+led other max_height lower in_loop p m = short other max_height p m
 
 abbrev pub statement_by : Leader → ℕ → (Bool → Inner) → Bool → Token → List Token → Outcome StatementTree
-statement_by leaders.Declaration max_height lower inside x m = declaration_statement (max_height - 1) (x ∷ m)
-statement_by leaders.Name max_height lower inside x m = name_statement max_height (x ∷ m) m
-statement_by leaders.Expression max_height lower inside x m = action_statement max_height (x ∷ m)
-statement_by other max_height lower inside x m = led other max_height lower inside x.place m
+statement_by leaders.Declaration max_height lower in_loop x m = declaration_statement (max_height - 1) (x ∷ m)
+statement_by leaders.Name max_height lower in_loop x m = name_statement max_height (x ∷ m) m
+statement_by leaders.Expression max_height lower in_loop x m = action_statement max_height (x ∷ m)
+statement_by other max_height lower in_loop x m = led other max_height lower in_loop x.place m
 
 -- one statement, where `lower` reads the statements in it
 unfoldable pub statement_step : ℕ → (Bool → Inner) → Bool → List Token → Outcome StatementTree
-statement_step max_height lower inside [] = Err (Unexpected, [])
-statement_step max_height lower inside (x ∷ m) =
-    if nat_lt max_height (least (leader_of inside x)) then Err (TooHigh, x ∷ m)
-    else statement_by (leader_of inside x) max_height lower inside x m
+statement_step max_height lower in_loop [] = Err (Unexpected, [])
+statement_step max_height lower in_loop (x ∷ m) =
+    if nat_lt max_height (least (leader_of in_loop x)) then Err (TooHigh, x ∷ m)
+    else statement_by (leader_of in_loop x) max_height lower in_loop x m
 
 -- a statement of at most this height
 unfoldable pub statement_at_most : ℕ → Bool → List Token → Outcome StatementTree
-statement_at_most zero inside w = statement_step zero (λ i m. Err (TooHigh, m)) inside w
-statement_at_most (suc h) inside w = statement_step (suc h) (statement_at_most h) inside w
+statement_at_most zero in_loop w = statement_step zero (λ i m. Err (TooHigh, m)) in_loop w
+statement_at_most (suc h) in_loop w = statement_step (suc h) (statement_at_most h) in_loop w
 
 -- Functions
 

@@ -33,7 +33,7 @@ arguments-loop-argument-preserved t c =
     let more : map expression (take (i + 1) xs) ≡ ts ++ expression x ∷ [] = ap (map expression) (take_more xs i x c.loop-argument-test.true)
     ∙ map-append expression (take i xs) (get_or xs i x ∷ []) ∙ ap (λ z. ts ++ expression z ∷ []) (sym c.argument-item.is) in
     record {
-      kind = c.in_ok-types.ensures ∙ ap (λ p. and_argument (option_map vec_items c.loop-argument.types) p c.in_ok-given.given) c.place_of.ensures
+      kind = c.in_ok-types.ensures ∙ ap (λ p. and_argument (option_map vec_items c.loop-argument.types) p c.in_ok-given.given) c.place.ensures
           ∙ ap (and_argument (option_map vec_items c.loop-argument.types) (place_of (expression x))) c.in_ok-given.ensures.kind
           ∙ ap (λ g. and_argument g (place_of (expression x)) (value_type w s (expression x))) c.loop-argument.invariant.kind
           ∙ sym (arguments_of-more w s ts (expression x)) ∙ ap (λ l. arguments_of w s (trees_of l)) (sym more);
@@ -120,7 +120,7 @@ expression-returns-in_ok-counted-in-Index t c =
     let lent : c.deref.result.now ≡ c.in-Index.array.value = cc in
     let other : c.deref-in-Index.result.now ≡ c.in-Index.position.value = cc in
     let again : c.deref-in-Index-2.result.now ≡ c.in-Index.position.value = cc in
-    let at : c.place_of-at.result ≡ place_of b = c.place_of-at.ensures ∙ ap (λ x. place_of (expression x)) again in
+    let at : c.place-at.result ≡ place_of b = c.place-at.ensures ∙ ap (λ x. place_of (expression x)) again in
     let k : Found = record { least_fault = c.indexing.new.least_fault; calls = h.calls } in
     let left : Gives (value_type w s a) u f g (value_faults w s a) (calls_of w s a) =
     subst (λ (x : Expression). Gives (value_type w s (expression x)) u f g (value_faults w s (expression x)) (calls_of w s (expression x))) lent

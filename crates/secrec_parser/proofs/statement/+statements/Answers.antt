@@ -16,7 +16,7 @@ use Rattle.secrec_parser.proofs.statement.+statements.Goals as goal
 pub braced-returns-in_err-next : goal.braced-returns-in_err-next
 braced-returns-in_err-next t c =
     let i = c.loop-alloc.invariant.step in
-    let inner = statement_at_most c.args.max_height c.args.inside in
+    let inner = statement_at_most c.args.max_height c.args.in_loop in
     let found = map statement c.loop-alloc.found.items in
     let p = err_from_is_err_and c.from_residual.result c.from_residual.ensures.1 in
     rw (p.1, p.2)
@@ -30,7 +30,7 @@ braced-returns-in_err-next t c =
 pub braced-loop-alloc-preserved : goal.braced-loop-alloc-preserved
 braced-loop-alloc-preserved t c =
     let i = c.loop-alloc.invariant.step in
-    let inner = statement_at_most c.args.max_height c.args.inside in
+    let inner = statement_at_most c.args.max_height c.args.in_loop in
     let found = map statement c.loop-alloc.found.items in
     let e = c.in_ok-next.ensures in
     let l = e.1 in
@@ -50,7 +50,7 @@ braced-loop-alloc-preserved t c =
 pub braced-returns : goal.braced-returns
 braced-returns t c =
     let i = c.loop-alloc.invariant.step in
-    let inner = statement_at_most c.args.max_height c.args.inside in
+    let inner = statement_at_most c.args.max_height c.args.in_loop in
     let found = map statement c.loop-alloc.found.items in
     let w = c.loop-alloc.rest.now in
     subst (λ o. Takes (λ x. (map statement x.0.items, x.1.now)) c.closed.result (o >>= λ ss. expect signs.RightBrace ss.1 >>= λ b. Ok (ss.0, b.1))
@@ -61,7 +61,7 @@ braced-returns t c =
 
 pub if_statement-returns-then-not-at_sign : goal.if_statement-returns-then-not-at_sign
 if_statement-returns-then-not-at_sign t c =
-    let inner = statement_at_most c.args.max_height c.args.inside in
+    let inner = statement_at_most c.args.max_height c.args.in_loop in
     let w = c.in_ok-test.rest.now in
     let w2 = c.in_ok-body.rest.now in
     let test = c.in_ok-test.test in
@@ -78,7 +78,7 @@ if_statement-returns-then-not-at_sign t c =
 
 pub if_statement-returns : goal.if_statement-returns
 if_statement-returns t c =
-    let inner = statement_at_most c.args.max_height c.args.inside in
+    let inner = statement_at_most c.args.max_height c.args.in_loop in
     let w = c.in_ok-test.rest.now in
     let w2 = c.in_ok-body.rest.now in
     let w3 = c.in_ok-rest.rest.now in
@@ -100,33 +100,33 @@ if_statement-returns t c =
 
 pub led-returns-in_default : goal.led-returns-in_default
 led-returns-in_default t c =
-    rw (led_short c.args.leader c.args.max_height (statement_at_most (c.args.max_height - 1)) c.args.inside c.args.place c.args.tokens.now
+    rw (led_short c.args.leader c.args.max_height (statement_at_most (c.args.max_height - 1)) c.args.in_loop c.args.place c.args.tokens.now
     c.in_default.not-Block
     c.in_default.not-If c.in_default.not-While c.in_default.not-DoWhile c.in_default.not-For) c.short_statement.ensures
 
 pub statement-returns-in_default : goal.statement-returns-in_default
-statement-returns-in_default t c = statement_none c.args.max_height c.args.inside c.args.tokens.now c.in_default.ensures.cases
+statement-returns-in_default t c = statement_none c.args.max_height c.args.in_loop c.args.tokens.now c.in_default.ensures.cases
 
 pub statement-returns-then-max_height-least_height : goal.statement-returns-then-max_height-least_height
 statement-returns-then-max_height-least_height t c =
-    statement_high c.args.max_height c.args.inside c.args.tokens.now c.in-Some.token.now c.in-Some.rest.now c.leader_of-leader.result
+    statement_high c.args.max_height c.args.in_loop c.args.tokens.now c.in-Some.token.now c.in-Some.rest.now c.leader_of-leader.result
     c.least_height.result c.in-Some.ensures.cases.0 c.leader_of-leader.ensures c.least_height.ensures c.if-max_height-least_height.true
 
 pub statement-returns-in-Declaration : goal.statement-returns-in-Declaration
 statement-returns-in-Declaration t c =
-    rw (statement_declares c.args.max_height c.args.inside c.args.tokens.now c.in-Some.token.now c.in-Some.rest.now c.leader_of-leader.result
+    rw (statement_declares c.args.max_height c.args.in_loop c.args.tokens.now c.in-Some.token.now c.in-Some.rest.now c.leader_of-leader.result
     c.least_height.result c.in-Some.ensures.cases.0 c.leader_of-leader.ensures c.least_height.ensures c.if-max_height-least_height.false
     c.in-Declaration.is) c.declaration_statement.ensures
 
 pub statement-returns-in-Name : goal.statement-returns-in-Name
 statement-returns-in-Name t c =
-    rw (statement_names c.args.max_height c.args.inside c.args.tokens.now c.in-Some.token.now c.in-Some.rest.now c.leader_of-leader.result
+    rw (statement_names c.args.max_height c.args.in_loop c.args.tokens.now c.in-Some.token.now c.in-Some.rest.now c.leader_of-leader.result
     c.least_height.result c.in-Some.ensures.cases.0 c.leader_of-leader.ensures c.least_height.ensures c.if-max_height-least_height.false
     c.in-Name.is) c.name_statement.ensures
 
 pub statement-returns-in-Expression : goal.statement-returns-in-Expression
 statement-returns-in-Expression t c =
-    rw (statement_evaluates c.args.max_height c.args.inside c.args.tokens.now c.in-Some.token.now c.in-Some.rest.now c.leader_of-leader.result
+    rw (statement_evaluates c.args.max_height c.args.in_loop c.args.tokens.now c.in-Some.token.now c.in-Some.rest.now c.leader_of-leader.result
     c.least_height.result c.in-Some.ensures.cases.0 c.leader_of-leader.ensures c.least_height.ensures c.if-max_height-least_height.false
     c.in-Expression.is) c.action_statement.ensures
 
@@ -134,8 +134,8 @@ pub statement-returns-in_default-leader : goal.statement-returns-in_default-lead
 statement-returns-in_default-leader t c =
     let front = c.in-Some.ensures.cases.0 in
     let longer = ap length front in
-    takes_less statement c.led.result (statement_at_most c.args.max_height c.args.inside c.args.tokens.now) (length c.in-Some.rest.now + 1)
+    takes_less statement c.led.result (statement_at_most c.args.max_height c.args.in_loop c.args.tokens.now) (length c.in-Some.rest.now + 1)
     (length c.args.tokens.now) (omega (arith, longer))
-    (rw (statement_led c.args.max_height c.args.inside c.args.tokens.now c.in-Some.token.now c.in-Some.rest.now c.leader_of-leader.result
+    (rw (statement_led c.args.max_height c.args.in_loop c.args.tokens.now c.in-Some.token.now c.in-Some.rest.now c.leader_of-leader.result
     c.least_height.result front c.leader_of-leader.ensures c.least_height.ensures c.if-max_height-least_height.false
     c.in_default-leader.not-Declaration c.in_default-leader.not-Name c.in_default-leader.not-Expression) c.led.ensures)

@@ -31,8 +31,8 @@ invariant-braced-loop-alloc l = record {
   shorter : length l.rest ≤ length l.tokens;
   step :
       (n : ℕ) × (length l.rest < n)
-      × (listed (λ found w. at_sign signs.RightBrace w) (statement_at_most l.max_height l.inside) [] l.tokens
-      ≡ list_from (λ found w. at_sign signs.RightBrace w) (statement_at_most l.max_height l.inside) n (map statement l.found.items) l.rest);
+      × (listed (λ found w. at_sign signs.RightBrace w) (statement_at_most l.max_height l.in_loop) [] l.tokens
+      ≡ list_from (λ found w. at_sign signs.RightBrace w) (statement_at_most l.max_height l.in_loop) n (map statement l.found.items) l.rest);
 }
 
 abbrev pub decreases-braced-loop-alloc : goal.decreases-braced-loop-alloc
