@@ -21,7 +21,6 @@ use front_end::{ProgramErr, ProgramFault, read_program};
 use outside::Files;
 use program_limits::{LimitErr, check_limits};
 use program_typing::checked_tree;
-use sc_text::Fault;
 use secrec_ast::Program;
 use std::alloc::Global;
 use typed_tree::TypedProgram;
@@ -31,11 +30,7 @@ use typed_tree::TypedProgram;
 fn program_stop(alloc: Global, fault: ProgramFault) -> Stop
     ensures { IsRefusalFor (bad_program fault) result }
 {
-    let fault = Fault::Placed {
-        fault: fault.fault,
-        span: fault.place,
-    };
-    refusal_of(alloc, Status::Program, &fault)
+    refusal_of(alloc, Status::Program, &ProgramErr::Refused(fault).into())
 }
 
 // Why an accepted program is too large.
