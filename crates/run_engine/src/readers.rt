@@ -1,5 +1,5 @@
 // Input, public, opened, tape and schedule files, read from their paths.
-ghost use Rattle.std.specs.Prelude.{◌≡◌, ◌∷◌, [], true, IfOk, IfErr};
+ghost use Rattle.std.specs.Prelude.{◌≡◌, ◌≢◌, ◌∷◌, [], true, IfOk, IfErr};
 ghost use Rattle.command_frame.specs.Reads.{OnlyRead, Gives, StopNames};
 ghost use Rattle.command_frame.specs.Status.{can_refuse};
 ghost use Rattle.command_frame.specs.Stops.{IsRefusalFor};
@@ -8,7 +8,8 @@ ghost use Rattle.command_frame.specs.declared.status.Status.TheVariants.{Input};
 ghost use Rattle.sc_text.specs.declared.fault.Fault.TheVariants.{Input as InputFile};
 ghost use Rattle.value_file.specs.Input.{AreInputs};
 ghost use Rattle.value_file.specs.PublicFile.{IsWritable};
-ghost use Rattle.run_engine.specs.Reading.{bad_opened, bad_tape, bad_schedule, field_fault, top_fault};
+ghost use Rattle.value_file.specs.declared.read_err.ReadErr.{ReadErr};
+ghost use Rattle.run_engine.specs.Reading.{bad_input, bad_opened, bad_tape, bad_schedule, field_fault, top_fault};
 ghost use Rattle.run_engine.specs.Reading.{entry_field, inputs_at, opened_at, public_at, tape_file_at, schedule_file_at};
 
 use command_frame::{Status, Stop, read_file, refused};
@@ -69,6 +70,24 @@ fn input_stop(alloc: Global, fault: InputFault) -> Stop
     refusal_of(alloc, Status::Input, &Fault::Input(fault))
 }
 
+// Why an input file or a public file is refused.
+#[tactic(auto, unfolding(crate::specs::Reading::bad_input))]
+fn read_stop(alloc: Global, error: value_file::ReadErr) -> Stop
+    ensures refusal { error ≢ ReadErr.Memory → IsRefusalFor (bad_input error) result }
+    ensures memory { error ≡ ReadErr.Memory → result ≡ Stop.Memory }
+{
+    match error {
+        value_file::ReadErr::Memory => Stop::Memory,
+        value_file::ReadErr::Syntax => input_stop(alloc, InputFault::NotJson),
+        value_file::ReadErr::BadField { entry, name } => {
+            input_stop(alloc, field_fault(entry, name))
+        }
+        value_file::ReadErr::TooLong { entry } => {
+            input_stop(alloc, InputFault::TooMany { entry })
+        }
+    }
+}
+
 /// The inputs of the file at this path.
 #[tactic(auto, unfolding(crate::specs::Reading::inputs_at, crate::specs::Reading::bad_input))]
 pub fn read_inputs<F: Files>(alloc: Global, files: &mut F, path: &str) -> Result<Inputs, Stop>
@@ -81,14 +100,7 @@ pub fn read_inputs<F: Files>(alloc: Global, files: &mut F, path: &str) -> Result
     let bytes = read_file(alloc, files, path)?;
     match value_file::read(alloc, &bytes) {
         Ok(inputs) => Ok(inputs),
-        Err(value_file::ReadErr::Memory) => Err(Stop::Memory),
-        Err(value_file::ReadErr::Syntax) => Err(input_stop(alloc, InputFault::NotJson)),
-        Err(value_file::ReadErr::BadField { entry, name }) => {
-            Err(input_stop(alloc, field_fault(entry, name)))
-        }
-        Err(value_file::ReadErr::TooLong { entry }) => {
-            Err(input_stop(alloc, InputFault::TooMany { entry }))
-        }
+        Err(error) => Err(read_stop(alloc, error)),
     }
 }
 
@@ -108,14 +120,7 @@ pub fn read_public_file<F: Files>(
     let bytes = read_file(alloc, files, path)?;
     match value_file::read_public(alloc, &bytes) {
         Ok(part) => Ok(part),
-        Err(value_file::ReadErr::Memory) => Err(Stop::Memory),
-        Err(value_file::ReadErr::Syntax) => Err(input_stop(alloc, InputFault::NotJson)),
-        Err(value_file::ReadErr::BadField { entry, name }) => {
-            Err(input_stop(alloc, field_fault(entry, name)))
-        }
-        Err(value_file::ReadErr::TooLong { entry }) => {
-            Err(input_stop(alloc, InputFault::TooMany { entry }))
-        }
+        Err(error) => Err(read_stop(alloc, error)),
     }
 }
 
