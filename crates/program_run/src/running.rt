@@ -19,12 +19,7 @@ pub struct RunReport {
 pub fn lengths(tapes: &Tapes) -> [u64; 4]
     ensures { result ≡ lengths_of tapes.now }
 {
-    [
-        tapes.dealer().len() as u64,
-        tapes.miner1().len() as u64,
-        tapes.miner2().len() as u64,
-        tapes.miner3().len() as u64,
-    ]
+    tapes.lengths()
 }
 
 /// The run that ends before it begins, since the dealer's tape has too few words.
