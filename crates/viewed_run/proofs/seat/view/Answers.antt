@@ -1,5 +1,4 @@
-use Rattle.std.proofs.Common.{List, take, sym, ◌∙◌, ap}
-use Rattle.proto_core.specs.Strand.{Notice}
+use Rattle.std.proofs.Common.{take, ◌∙◌, ap}
 use Rattle.code_views.specs.CodeViews.{shown_in}
 use Rattle.program_views.specs.Views.{input_shares}
 use Rattle.viewed_run.proofs.Sitting.{sees_from}
