@@ -37,13 +37,6 @@ impl Arrival {
         self.link
     }
 
-    /// The words of the message.
-    pub fn message(&self) -> &[u64]
-        ensures { result.now ≡ self.now.message }
-    {
-        &self.message
-    }
-
     /// The words of the message, for their new owner.
     pub fn into_message(self) -> Vec<u64>
         ensures { result.items ≡ self.message }

@@ -3,14 +3,12 @@ use Rattle.std.proofs.Common.{◌≡◌, ℕ, List, Result, Ok, Err, sym, ◌∙
 use Rattle.std.specs.Result.{IsErrAnd}
 use Rattle.proto_core.specs.declared.party.Number.{Number}
 use Rattle.proto_core.specs.declared.party.Number.TheVariants.{One, Two, Three}
-use Rattle.proto_core.specs.Lists.{AreWords}
 use Rattle.protocol_model.specs.Network.{Delivery}
 use Rattle.tape_file.specs.Tapes.{FourTapes}
 use Rattle.value_file.specs.declared.inputs.Entry.{Entry}
 use Rattle.input_share.specs.Dealing.{dealt}
 use Rattle.input_share.specs.declared.dealing.Dealt as sharing
 use Rattle.typed_tree.specs.Programs.{TypedProgramTree}
-use Rattle.view_model.specs.TapeMaps.{miners_of}
 use Rattle.language_model.specs.Reports.{Report}
 use Rattle.code_inputs.specs.Inputs.{dealt_of}
 use Rattle.program_run.specs.Reports.{eval_with, lengths_of}
@@ -35,11 +33,6 @@ files_so entries t files words lens dealer long first second third = each
     each One = first ∙ same One
     each Two = second ∙ same Two
     each Three = third ∙ same Three
-
-pub each_words : (t : FourTapes) → AreWords t.one → AreWords t.two → AreWords t.three → (i : Number) → AreWords (miners_of t i)
-each_words t one two three One = one
-each_words t one two three Two = two
-each_words t one two three Three = three
 
 module _ (p : TypedProgramTree) (entries : List Entry) (t : FourTapes) (budget : ℕ) (given : Delivery) where
   pub course_refused :

@@ -8,12 +8,13 @@ ghost use Rattle.delivered_run.specs.Deliveries.{IsRunOf, delivery_seen};
 
 use crate::running::{DeliveredRun, Job, NetRun, run_dealt, run_refused};
 use counted_net::{Delivery, DeliveryErr};
-use input_share::{Dealt, deal, see_entries, see_words};
-use program_run::{compile_program, lengths};
+use input_share::{Dealt, deal, see_entries};
+use program_run::compile_program;
 use std::alloc::Global;
 use tape_file::Tapes;
 use typed_tree::TypedProgram;
 use value_file::Inputs;
+use view_model::see_tapes;
 
 /// How a program's run went.
 pub enum Course {
@@ -62,10 +63,7 @@ pub fn run_in_net(
     ensures { IsCourseOf (typed_program_tree program.now) inputs.now tapes.now budget (delivery_seen delivery.now) result }
 {
     see_entries(inputs.entries());
-    see_words(tapes.dealer());
-    see_words(tapes.miner1());
-    see_words(tapes.miner2());
-    see_words(tapes.miner3());
+    see_tapes(tapes);
     let code = compile_program(alloc, program)?;
     let job = Job {
         code: &code,
@@ -73,7 +71,7 @@ pub fn run_in_net(
         tapes,
         budget,
     };
-    match deal(alloc, inputs, tapes.dealer(), lengths(tapes)) {
+    match deal(alloc, inputs, tapes.dealer(), tapes.lengths()) {
         Ok(files) => {
             let end = run_dealt(alloc, &job, &files, delivery)?;
             Ok(Course::Dealt { files, end })

@@ -18,7 +18,7 @@ use crate::net::{Setting, deliver_all, net};
 use counted_net::{Delivery, DeliveryErr};
 use input_share::{DealErr, Dealt};
 use link_schedule::Net3;
-use program_run::{RunReport, lengths, undealt};
+use program_run::{RunReport, undealt};
 use proto_core::Link;
 use sc_text::End;
 use std::alloc::{AllocError, Global};
@@ -108,7 +108,7 @@ pub(crate) fn run_dealt(
     let setting = Setting {
         code: job.code,
         part: &part,
-        lengths: lengths(job.tapes),
+        lengths: job.tapes.lengths(),
         budget: job.budget,
     };
     let mut net = net(alloc, &setting, files, job.tapes)?;

@@ -1,7 +1,6 @@
 pub mod Bits
 pub mod Steps
 pub mod Elements
-pub mod Found
 pub mod AddUpLaws
 pub mod WrittenLaws
 pub mod ShapeLaws

@@ -29,7 +29,7 @@ use Rattle.value_file.specs.declared.public.PublicEntry.{PublicEntry}
 use Rattle.value_file.specs.declared.read_err.Field.TheVariants as field
 use Rattle.value_file.specs.declared.read_err.ReadErr.{ReadErr}
 use Rattle.value_file.specs.declared.read_err.ReadErr.TheVariants.{Syntax, BadField, TooLong}
-use Rattle.value_file.specs.Input.{AreEntries, IsEntry, ◌>>=◌, data_type_in, domain_in, elements_of, entries_after, entry_of, field_or, found_or}
+use Rattle.value_file.specs.Input.{AreEntries, IsEntry, ◌>>=◌, data_type_in, domain_in, elements_of, entries_after, entry_of, field_or, found_or, head_of}
 use Rattle.value_file.specs.Input.{inputs_in, name_in, name_of, new_name, read_of, value_in, within_limit}
 use Rattle.value_file.specs.Json.{json_of, list_in, text_in, text_of}
 use Rattle.value_file.specs.PublicFile.{public_count, public_elements_of, public_entry_of, public_name_of, public_value_of, public_within_limit}
@@ -254,26 +254,32 @@ name_so earlier d =
     if_then (λ _. ⊤) (IsFresh earlier) (new_name earlier) (text_in (codes "name") d) (any (text_in (codes "name") d))
     (λ text _. fresh_so earlier text)
 
+head_so : (place : ℕ) (earlier : List (List ℕ)) (d : Data) → IfOk (head_of place earlier d) (λ head. IsFresh earlier head.name)
+head_so place earlier d =
+    ok_then (IsFresh earlier) (λ head. IsFresh earlier head.name) (field_or place field.Name (name_in earlier d)) _
+    (found_ok (IsFresh earlier) (BadField (Some place) field.Name) (name_in earlier d) (name_so earlier d))
+    (λ name fresh.
+    ok_then (λ _. ⊤) (λ head. IsFresh earlier head.name) (field_or place field.Domain (domain_in d)) _
+    (found_ok (λ _. ⊤) (BadField (Some place) field.Domain) (domain_in d) (any (domain_in d)))
+    (λ domain _.
+    ok_then (λ _. ⊤) (λ head. IsFresh earlier head.name) (field_or place field.Type (data_type_in d)) _
+    (found_ok (λ _. ⊤) (BadField (Some place) field.Type) (data_type_in d) (any (data_type_in d)))
+    (λ kind _. fresh)))
+
 abbrev IsGoodEntry : List (List ℕ) → Entry → Type 0
 IsGoodEntry earlier e = IsEntry earlier e.name (count_of e.value) × IsOfWords e.value
 
 entry_good : (place : ℕ) (earlier : List (List ℕ)) (d : Data) → AreSmall d → IfOk (entry_of place earlier d) (IsGoodEntry earlier)
 unfolding entry_of within_limit
 entry_good place earlier d small =
-    ok_then (IsFresh earlier) (IsGoodEntry earlier) (field_or place field.Name (name_in earlier d)) _
-    (found_ok (IsFresh earlier) (BadField (Some place) field.Name) (name_in earlier d) (name_so earlier d))
-    (λ name fresh.
-    ok_then (λ _. ⊤) (IsGoodEntry earlier) (field_or place field.Domain (domain_in d)) _
-    (found_ok (λ _. ⊤) (BadField (Some place) field.Domain) (domain_in d) (any (domain_in d)))
-    (λ domain _.
-    ok_then (λ _. ⊤) (IsGoodEntry earlier) (field_or place field.Type (data_type_in d)) _
-    (found_ok (λ _. ⊤) (BadField (Some place) field.Type) (data_type_in d) (any (data_type_in d)))
-    (λ kind _.
-    ok_then IsOfWords (IsGoodEntry earlier) (field_or place field.Value (value_in kind d)) _
-    (found_ok IsOfWords (BadField (Some place) field.Value) (value_in kind d) (field_small kind d small))
+    ok_then (λ head. IsFresh earlier head.name) (IsGoodEntry earlier) (head_of place earlier d) _ (head_so place earlier d)
+    (λ head fresh.
+    ok_then IsOfWords (IsGoodEntry earlier) (field_or place field.Value (value_in head.data_type d)) _
+    (found_ok IsOfWords (BadField (Some place) field.Value) (value_in head.data_type d) (field_small head.data_type d small))
     (λ value words.
-    ok_else (IsGoodEntry earlier) (nat_lt 65536 (count_of value)) (TooLong place) (record { name = name; domain = domain; value = value })
-    (λ h. (record { fresh = fresh; short = ltb-false 65536 (count_of value) h }, words))))))
+    ok_else (IsGoodEntry earlier) (nat_lt 65536 (count_of value)) (TooLong place)
+    (record { name = head.name; domain = head.domain; value = value })
+    (λ h. (record { fresh = fresh; short = ltb-false 65536 (count_of value) h }, words))))
 
 module _ {E : Type 0} (one : ℕ → List (List ℕ) → Data → Result E ReadErr) (name : E → List ℕ) (count : E → ℕ) (P : E → Type 0) where
   -- an entry that is read, behind entries of these names
@@ -328,20 +334,13 @@ IsGoodPublic earlier e = IsEntry earlier e.name (public_count e.value) × IsShow
 public_entry_good : (place : ℕ) (earlier : List (List ℕ)) (d : Data) → AreSmall d → IfOk (public_entry_of place earlier d) (IsGoodPublic earlier)
 unfolding public_entry_of public_within_limit
 public_entry_good place earlier d small =
-    ok_then (IsFresh earlier) (IsGoodPublic earlier) (field_or place field.Name (name_in earlier d)) _
-    (found_ok (IsFresh earlier) (BadField (Some place) field.Name) (name_in earlier d) (name_so earlier d))
-    (λ name fresh.
-    ok_then (λ _. ⊤) (IsGoodPublic earlier) (field_or place field.Domain (domain_in d)) _
-    (found_ok (λ _. ⊤) (BadField (Some place) field.Domain) (domain_in d) (any (domain_in d)))
-    (λ domain _.
-    ok_then (λ _. ⊤) (IsGoodPublic earlier) (field_or place field.Type (data_type_in d)) _
-    (found_ok (λ _. ⊤) (BadField (Some place) field.Type) (data_type_in d) (any (data_type_in d)))
-    (λ kind _.
-    ok_then IsShownOfWords (IsGoodPublic earlier) (public_value_of place domain kind d) _
-    (public_value_so place domain kind d small)
+    ok_then (λ head. IsFresh earlier head.name) (IsGoodPublic earlier) (head_of place earlier d) _ (head_so place earlier d)
+    (λ head fresh.
+    ok_then IsShownOfWords (IsGoodPublic earlier) (public_value_of place head.domain head.data_type d) _
+    (public_value_so place head.domain head.data_type d small)
     (λ value words.
-    ok_else (IsGoodPublic earlier) (nat_lt 65536 (public_count value)) (TooLong place) (record { name = name; value = value })
-    (λ h. (record { fresh = fresh; short = ltb-false 65536 (public_count value) h }, words))))))
+    ok_else (IsGoodPublic earlier) (nat_lt 65536 (public_count value)) (TooLong place) (record { name = head.name; value = value })
+    (λ h. (record { fresh = fresh; short = ltb-false 65536 (public_count value) h }, words))))
 
 pub public_read_of_words : (bytes : List ℕ) (part : List PublicEntry) → read_public_of bytes ≡ Ok part → ArePublicRead part
 unfolding read_public_of

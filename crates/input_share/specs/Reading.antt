@@ -13,7 +13,7 @@ use Rattle.value_file.specs.declared.read_err.ReadErr.{ReadErr}
 use Rattle.value_file.specs.declared.read_err.ReadErr.TheVariants.{Syntax, BadField, TooLong}
 use Rattle.value_file.specs.Json.{json_of, list_in}
 use Rattle.value_file.specs.Values.{all_in, count_of, number_in, size_of}
-use Rattle.value_file.specs.Input.{◌>>=◌, found_or, field_or, name_in, domain_in, data_type_in, value_in, inputs_in, AreEntries}
+use Rattle.value_file.specs.Input.{◌>>=◌, found_or, field_or, head_of, value_in, inputs_in, AreEntries}
 use Rattle.value_file.specs.PublicFile.{shape_in}
 use Rattle.input_share.specs.declared.entry.Part.{Part}
 use Rattle.input_share.specs.declared.entry.Part.TheVariants.{Public, Private}
@@ -56,11 +56,9 @@ share_within_limit place entry = if nat_lt 65536 (part_count entry.part) then Er
 -- the entry at this place, behind entries of these names
 unfoldable pub share_entry_of : ℕ → List (List ℕ) → Data → Result ShareEntry ReadErr
 share_entry_of place earlier d = do
-  name ← field_or place field.Name (name_in earlier d)
-  domain ← field_or place field.Domain (domain_in d)
-  kind ← field_or place field.Type (data_type_in d)
-  part ← part_of place domain kind d
-  share_within_limit place (record { name = name; part = part })
+  head ← head_of place earlier d
+  part ← part_of place head.domain head.data_type d
+  share_within_limit place (record { name = head.name; part = part })
 
 abbrev pub share_name_of : ShareEntry → List ℕ
 share_name_of entry = entry.name

@@ -1,6 +1,5 @@
 -- A miner's share file, as contracts see it.
-use Rattle.std.specs.Prelude.{ℕ, List, [], ◌∷◌, Option, Some, None, if◌then◌else◌}
-use Rattle.std.specs.Str.{bytes_eq}
+use Rattle.std.specs.Prelude.{ℕ, List, Option, Some, None}
 use Rattle.proto_core.specs.declared.party.Number.{Number}
 use Rattle.input_share.specs.declared.entry.Part.{Part}
 use Rattle.input_share.specs.declared.entry.Part.TheVariants.{Public, Private}
@@ -16,8 +15,3 @@ pub record MinerFile : Type 0 where
 abbrev pub words_in : Part → Option (List ℕ)
 words_in (Public value) = None
 words_in (Private shared) = Some shared.words
-
--- the share words of the first entry of this name, if there is one and it is private
-abbrev pub share_in : List ℕ → List ShareEntry → Option (List ℕ)
-share_in name [] = None
-share_in name (entry ∷ entries) = if bytes_eq entry.name name then words_in entry.part else share_in name entries

@@ -16,7 +16,7 @@ use proto_core::Number;
 use serde_json::Value as Json;
 use std::alloc::{AllocError, Global};
 use std::marker::Model;
-use value_file::fields::{MAX_ELEMENTS, bad, data_type, domain, name, value_field};
+use value_file::fields::{EntryHead, MAX_ELEMENTS, bad, entry_head, value_field};
 use value_file::json::{json, list_field};
 use value_file::{DataType, Domain, Field, ReadErr, Shape, Words, numbers, shape_field};
 
@@ -148,15 +148,11 @@ fn entry<'v>(
     ensures remembered { IfOk result (λ entry.
         map (λ n. n.now) names.new.keys ≡ map (λ n. n.now) names.old.keys ++ entry.name ∷ []) }
 {
-    let Some(name) = name(alloc, names, json)? else {
-        return Err(bad(place, Field::Name));
-    };
-    let Some(domain) = domain(json) else {
-        return Err(bad(place, Field::Domain));
-    };
-    let Some(data_type) = data_type(json) else {
-        return Err(bad(place, Field::Type));
-    };
+    let EntryHead {
+        name,
+        domain,
+        data_type,
+    } = entry_head(alloc, place, names, json)?;
     let part = part(alloc, place, domain, data_type, json)?;
     if part_count(&part) > MAX_ELEMENTS {
         return Err(ReadErr::TooLong { entry: place });

@@ -1,7 +1,5 @@
 // A miner's share file.
-ghost use Rattle.std.specs.Prelude.{◌≡◌, length, option_map};
-ghost use Rattle.std.specs.Str.{bytes_eq};
-ghost use Rattle.input_share.specs.ShareFile.{share_in};
+ghost use Rattle.std.specs.Prelude.{◌≡◌, length};
 
 use crate::entry::ShareEntry;
 use proto_core::Number;
@@ -41,12 +39,6 @@ impl Model for ShareFile {
     ghost invariant = { λ file. length file.lens ≡ 4 };
 }
 
-fn is_named(entry: &ShareEntry, name: &[u8]) -> bool
-    ensures { result ≡ bytes_eq entry.now.name name.now }
-{
-    entry.name.as_str().as_bytes() == name
-}
-
 impl ShareFile {
     /// The file of these entries.
     pub fn new(entries: Vec<ShareEntry>, lens: [u64; 4], miner: Number) -> Self
@@ -79,17 +71,5 @@ impl ShareFile {
         ensures { result ≡ self.now.miner }
     {
         self.miner
-    }
-
-    /// The share words of the first entry of this name, if there is one and it is private.
-    pub fn share_of(&self, name: &[u8]) -> Option<&[u64]>
-        ensures { option_map (λ words. words.now) result ≡ share_in name.now self.now.entries }
-    {
-        for entry in &self.entries {
-            if is_named(entry, name) {
-                return entry.part.words();
-            }
-        }
-        None
     }
 }

@@ -1,4 +1,4 @@
-// Words that are read are words of 64 bits.
+// What is known of words that are at hand. No call here changes or answers anything: each is for the proof of its caller.
 ghost use Rattle.std.specs.Prelude.{◌<◌, ◌^◌, length, All};
 ghost use Rattle.proto_core.specs.Lists.{AreWords};
 ghost use Rattle.input_share.specs.Values.{elements_of};
@@ -6,7 +6,7 @@ ghost use Rattle.input_share.specs.AddUp.{HasWords};
 
 use value_file::{Entry, Value};
 
-/// A tape has words of 64 bits, and fewer than 2^64.
+/// For proofs: from here on each of these words is known to be below 2^64, and so is how many they are. Nothing is changed or answered.
 pub fn see_words(words: &[u64])
     ensures words { AreWords words.now }
     ensures few { length words.now < 2 ^ 64 }
@@ -22,7 +22,7 @@ fn see_numbers(numbers: &[u64])
     }
 }
 
-/// A value has words of 64 bits.
+/// For proofs: from here on each word of the value is known to be below 2^64. Nothing is changed or answered.
 #[tactic(auto, using(crate::proofs::Bits::bits_small, crate::proofs::Bits::one_small))]
 pub fn see_value(value: &Value)
     ensures { All (λ n. n < 2 ^ 64) (elements_of value.now) }
@@ -37,7 +37,7 @@ pub fn see_value(value: &Value)
     }
 }
 
-/// Inputs are of words of 64 bits.
+/// For proofs: from here on each word of the inputs is known to be below 2^64. Nothing is changed or answered.
 pub fn see_entries(entries: &[Entry])
     ensures { All HasWords entries.now }
 {

@@ -9,4 +9,4 @@ mod running;
 
 pub use compiling::compile_program;
 pub use laws::accepted_programs_run_on_shares;
-pub use running::{RunReport, lengths, undealt};
+pub use running::{RunReport, undealt};

@@ -2,29 +2,15 @@
 ghost use Rattle.std.specs.Prelude.{◌≡◌, []};
 ghost use Rattle.sc_text.specs.declared.end.Ending.TheVariants.{Tape};
 ghost use Rattle.sc_text.specs.declared.end.TapeOwner.TheVariants.{Dealer};
-ghost use Rattle.program_run.specs.Reports.{lengths_of};
 
 use sc_text::{End, Ending, Event, TapeOwner};
 use std::alloc::Global;
-use tape_file::Tapes;
 
 /// What a run told, in order, and how it ended at which cost.
 #[derive(Drop)]
 pub struct RunReport {
     pub events: Vec<Event>,
     pub end: End,
-}
-
-/// The lengths of the tapes of the dealer and of miners 1, 2 and 3.
-pub fn lengths(tapes: &Tapes) -> [u64; 4]
-    ensures { result ≡ lengths_of tapes.now }
-{
-    [
-        tapes.dealer().len() as u64,
-        tapes.miner1().len() as u64,
-        tapes.miner2().len() as u64,
-        tapes.miner3().len() as u64,
-    ]
 }
 
 /// The run that ends before it begins, since the dealer's tape has too few words.

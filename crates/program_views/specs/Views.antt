@@ -14,6 +14,7 @@ use Rattle.input_share.specs.declared.entry.Part.{Part}
 use Rattle.input_share.specs.declared.entry.Part.TheVariants as part
 use Rattle.input_share.specs.declared.entry.ShareEntry.{ShareEntry}
 use Rattle.tape_file.specs.Tapes.{FourTapes}
+pub use Rattle.tape_file.specs.Tapes.{lengths_of}
 use Rattle.typed_tree.specs.Programs.{TypedProgramTree}
 use Rattle.language_model.specs.Effects.{Answers, RunStop, Ended, Short}
 use Rattle.language_model.specs.Reports.{Report, world_of, eval, evaluated}
@@ -24,10 +25,6 @@ use Rattle.view_model.specs.TapeMaps.{is_dealt, gates_dealt}
 use Rattle.view_model.specs.Seen.{Seen, seen_by, made_for}
 
 -- ---- THE RUN
-
--- of the dealer's tape and of those of miners 1, 2 and 3
-abbrev pub lengths_of : FourTapes → List ℕ
-lengths_of t = length t.dealer ∷ length t.one ∷ length t.two ∷ length t.three ∷ []
 
 -- in the clear
 abbrev pub run_on : TypedProgramTree → List Entry → (lengths : List ℕ) → (budget : ℕ) → Report

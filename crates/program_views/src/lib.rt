@@ -1,10 +1,12 @@
 //! What each miner sees of a program's run on the inputs of a file is what the simulator makes of the public part and the opened words.
 //!
-//! There is nothing to run here: definitions in `specs/`, and the laws that follow from them.
+//! Definitions in `specs/`, and the laws that follow from them; what runs here only puts parts of a view together.
 #![tactic(auto)]
 
 mod laws;
+mod parts;
 
 pub use laws::{
     nets_are_counted, tapes_correspond, twins_are_as_many, twins_see_the_same, views_are_simulated,
 };
+pub use parts::{input_shares, received};

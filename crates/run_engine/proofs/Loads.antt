@@ -7,15 +7,12 @@ use Rattle.sc_text.specs.declared.end.End.{End}
 use Rattle.sc_text.specs.declared.event.Event.{Event}
 use Rattle.sc_text.specs.Event.{run_text}
 use Rattle.proto_core.specs.declared.link.Link.{Link}
-use Rattle.proto_core.specs.declared.party.Number.{Number}
-use Rattle.proto_core.specs.declared.party.Number.TheVariants.{One, Two, Three}
-use Rattle.proto_core.specs.Lists.{AreWords}
 use Rattle.protocol_model.specs.Network.{Accepted, Default, EmptyLink, Stalled}
 use Rattle.input_share.specs.AddUp.{HasWords}
 use Rattle.tape_file.specs.Tapes.{FourTapes}
 use Rattle.value_file.specs.declared.inputs.Entry.{Entry}
 use Rattle.value_file.specs.Input.{AreInputs}
-use Rattle.view_model.specs.TapeMaps.{miners_of}
+use Rattle.view_model.specs.TapeMaps.{AreTapes}
 use Rattle.typed_tree.specs.Programs.{TypedProgramTree}
 use Rattle.workload.specs.Load.{load_entries, load_program, load_seed}
 use Rattle.tape_file.specs.Seeds.{seed_tapes}
@@ -94,14 +91,8 @@ memory_on (Err given) is = is
 
 -- ---- its run
 
-pub have_words : (entries : List Entry) (tapes : FourTapes) → AreInputs entries → All HasWords entries → AreWords tapes.dealer → AreWords tapes.one
-    → AreWords tapes.two → AreWords tapes.three → HaveWords entries tapes
-have_words entries tapes form words dealer one two three = record { sound = record { form = form; words = words }; dealer = dealer; words = each }
-  where
-    each : (i : Number) → AreWords (miners_of tapes i)
-    each One = one
-    each Two = two
-    each Three = three
+pub have_words : (entries : List Entry) (tapes : FourTapes) → AreInputs entries → All HasWords entries → AreTapes tapes → HaveWords entries tapes
+have_words entries tapes form words are = record { sound = record { form = form; words = words }; dealer = are.dealer; words = are.miners }
 
 -- no schedule is refused
 module _ (p : TypedProgramTree) (entries : List Entry) (tapes : FourTapes) (accepted : IsAccepted p) (have : HaveWords entries tapes) where

@@ -6,7 +6,6 @@ ghost use Rattle.command_frame.specs.Stops.{IsRefusalFor};
 ghost use Rattle.command_words.specs.Views.{deal_ask};
 ghost use Rattle.input_share.specs.Written.{file_bytes};
 ghost use Rattle.tape_file.specs.Format.{own_bytes};
-ghost use Rattle.program_run.specs.Reports.{lengths_of};
 ghost use Rattle.run_engine.specs.Deal.{short_tape, deal_of, deal_paths, written_paths};
 ghost use Rattle.run_engine.specs.Paths.{file_of, path_to};
 
@@ -85,18 +84,6 @@ fn writes(
     Ok(writes)
 }
 
-// The lengths of the tapes of the dealer and of miners 1, 2 and 3.
-fn lengths(tapes: &Tapes) -> [u64; 4]
-    ensures { result ≡ lengths_of tapes.now }
-{
-    [
-        tapes.dealer().len() as u64,
-        tapes.miner1().len() as u64,
-        tapes.miner2().len() as u64,
-        tapes.miner3().len() as u64,
-    ]
-}
-
 /// Reads and checks the files, deals, and says what is to be written.
 #[tactic(auto, unfolding(crate::specs::Deal::deal_of, crate::specs::Deal::deal_paths), using(command_frame::proofs::Naming::names_first, command_frame::proofs::Naming::names_later))]
 pub fn plan_deal<F: Files>(alloc: Global, files: &mut F, words: &DealWords) -> Result<Plan, Stop>
@@ -108,7 +95,7 @@ pub fn plan_deal<F: Files>(alloc: Global, files: &mut F, words: &DealWords) -> R
 {
     let inputs = read_inputs(alloc, files, &words.input)?;
     let tapes = read_tape_file(alloc, files, &words.tape)?;
-    match deal(alloc, &inputs, tapes.dealer(), lengths(&tapes)) {
+    match deal(alloc, &inputs, tapes.dealer(), tapes.lengths()) {
         Ok(dealt) => Ok(Plan {
             writes: writes(alloc, &words.to, &dealt, &tapes)?,
             text: Vec::new(alloc),

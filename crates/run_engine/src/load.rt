@@ -16,9 +16,10 @@ use crate::programs::typed_of_text;
 use command_frame::{Plan, Stop};
 use command_words::LoadWords;
 use delivered_run::{DeliveredRun, Delivery, DeliveryErr, run_delivered};
-use input_share::{see_entries, see_words};
+use input_share::see_entries;
 use sc_text::run_text;
 use std::alloc::{AllocError, Global};
+use view_model::see_tapes;
 use workload::{Workload, make};
 
 /// The most that the run may cost.
@@ -56,10 +57,7 @@ fn run_load(alloc: Global, load: &Workload) -> Result<DeliveredRun, Stop>
 {
     let program = typed_of_text(alloc, load.program.as_bytes())?;
     see_entries(load.inputs.entries());
-    see_words(load.tapes.dealer());
-    see_words(load.tapes.miner1());
-    see_words(load.tapes.miner2());
-    see_words(load.tapes.miner3());
+    see_tapes(&load.tapes);
     match run_delivered(
         alloc,
         &program,

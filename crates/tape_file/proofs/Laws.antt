@@ -4,7 +4,7 @@ use Rattle.std.proofs.Math.Seq.{take-add}
 use Rattle.std.proofs.lemmas.List.{length-append, append_assoc, append-nil, take_all}
 use Rattle.std.proofs.lemmas.Bool.{le-ltb, eq-eqb}
 use Rattle.tape_file.specs.Format.{bytes_of, word_at, words_at, tape_bytes, tapes_at, lengths_fault, fault_of, read_of, IsSized, IsSound}
-use Rattle.tape_file.specs.Tapes.{FourTapes, AreShort, IsWord}
+use Rattle.tape_file.specs.Tapes.{FourTapes, lengths_of, AreShort, IsWord}
 use Rattle.tape_file.proofs.WordLists.{length-bytes_of, length-words_at, words_at-append, words_at-bytes_of, bytes_of-words_at}
 
 -- the words behind the first n bytes, with those bytes, are the first m bytes
@@ -190,14 +190,19 @@ pub record AreTapes (tapes : FourTapes) (d a b c : List ℕ) : Type 0 where
 tapes_of-same : (tapes : FourTapes) (d a b c : List ℕ) → AreTapes tapes d a b c → tapes_of d a b c ≡ tapes
 tapes_of-same tapes d a b c same = rw (same.dealer, same.one, same.two, same.three) refl
 
+-- the lengths of the lists
+pub same-lengths : (tapes : FourTapes) (lengths d a b c : List ℕ) → AreTapes tapes d a b c → lengths ≡ lengths_of tapes
+    → lengths ≡ lengths_of (tapes_of d a b c)
+same-lengths tapes lengths d a b c same long = long ∙ ap lengths_of (sym (tapes_of-same tapes d a b c same))
+
 -- a file to which lengths and tapes were written one after the other
-pub pushed : (tapes : FourTapes) (d a b c start one two three four end : List ℕ) → AreTapes tapes d a b c → start ≡ []
-    → one ≡ start ++ bytes_of (length d ∷ length a ∷ length b ∷ length c ∷ [])
+pub pushed : (tapes : FourTapes) (lengths d a b c start one two three four end : List ℕ) → AreTapes tapes d a b c → lengths ≡ lengths_of tapes
+    → start ≡ [] → one ≡ start ++ bytes_of lengths
     → two ≡ one ++ bytes_of d → three ≡ two ++ bytes_of a → four ≡ three ++ bytes_of b → end ≡ four ++ bytes_of c
     → end ≡ tape_bytes tapes
 unfolding tape_bytes
-pushed tapes d a b c start one two three four end same e0 e1 e2 e3 e4 e5 =
-    let written : end ≡ tape_bytes (tapes_of d a b c) = rw (e5, e4, e3, e2, e1, e0) refl in
+pushed tapes lengths d a b c start one two three four end same long e0 e1 e2 e3 e4 e5 =
+    let written : end ≡ tape_bytes (tapes_of d a b c) = rw (e5, e4, e3, e2, e1, e0, same-lengths tapes lengths d a b c same long) refl in
     written ∙ ap tape_bytes (tapes_of-same tapes d a b c same)
 
 -- what was written of those lists is read as the tapes

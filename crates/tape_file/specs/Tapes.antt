@@ -1,5 +1,5 @@
 -- The tapes of one run, as contracts see them.
-use Rattle.std.specs.Prelude.{ℕ, ◌^◌, ◌<◌, ◌≤◌, List, length, All}
+use Rattle.std.specs.Prelude.{ℕ, ◌^◌, ◌<◌, ◌≤◌, List, [], ◌∷◌, length, All}
 
 -- the words of the dealer's tape and of the tapes of miners 1, 2 and 3
 pub record FourTapes : Type 0 where
@@ -7,6 +7,10 @@ pub record FourTapes : Type 0 where
   pub one : List ℕ
   pub two : List ℕ
   pub three : List ℕ
+
+-- the lengths of the tapes of the dealer and of miners 1, 2 and 3
+abbrev pub lengths_of : FourTapes → List ℕ
+lengths_of tapes = length tapes.dealer ∷ length tapes.one ∷ length tapes.two ∷ length tapes.three ∷ []
 
 -- a word has 64 bits
 abbrev pub IsWord : ℕ → Type 0

@@ -104,14 +104,8 @@ pub fn write(alloc: Global, tapes: &Tapes) -> Result<Vec<u8>, AllocError>
     let miner1 = tapes.miner1();
     let miner2 = tapes.miner2();
     let miner3 = tapes.miner3();
-    let lengths = [
-        dealer.len() as u64,
-        miner1.len() as u64,
-        miner2.len() as u64,
-        miner3.len() as u64,
-    ];
     let mut file = Vec::new(alloc);
-    push_words(&mut file, &lengths)?;
+    push_words(&mut file, &tapes.lengths())?;
     push_words(&mut file, dealer)?;
     push_words(&mut file, miner1)?;
     push_words(&mut file, miner2)?;

@@ -1,5 +1,6 @@
 // The tapes of one run.
 ghost use Rattle.std.specs.Prelude.{◌≡◌};
+ghost use Rattle.tape_file.specs.Tapes.{lengths_of};
 
 use std::marker::Model;
 
@@ -71,13 +72,15 @@ impl Tapes {
         &self.miner3
     }
 
-    /// The words of the four tapes, the dealer's first. No memory is taken.
-    pub fn into_parts(self) -> (Vec<u64>, Vec<u64>, Vec<u64>, Vec<u64>)
-        ensures dealer { result.0.items ≡ self.dealer }
-        ensures miner1 { result.1.items ≡ self.one }
-        ensures miner2 { result.2.items ≡ self.two }
-        ensures miner3 { result.3.items ≡ self.three }
+    /// The lengths of the tapes of the dealer and of miners 1, 2 and 3.
+    pub fn lengths(&self) -> [u64; 4]
+        ensures { result ≡ lengths_of self.now }
     {
-        (self.dealer, self.miner1, self.miner2, self.miner3)
+        [
+            self.dealer.len() as u64,
+            self.miner1.len() as u64,
+            self.miner2.len() as u64,
+            self.miner3.len() as u64,
+        ]
     }
 }

@@ -32,8 +32,10 @@ fn copied(alloc: Global, tapes: &Tapes) -> Result<Tapes, AllocError>
 fn memory_wanting(refused: JointErr) -> AllocError
     requires { refused ≡ Memory }
 {
-    let _ = refused;
-    AllocError
+    match refused {
+        JointErr::Memory => AllocError,
+        JointErr::Dealt | JointErr::Unsuited { .. } | JointErr::TapeEnds { .. } => unreachable!(),
+    }
 }
 
 /// The miners' tapes, mapped on what was dealt, with these words of the dealer.

@@ -5,22 +5,7 @@ ghost use Rattle.tape_twin.specs.Alike.{PartsDiffer, WordsDiffer, OneBegins};
 
 use sc_text::Name;
 use std::alloc::{AllocError, Global};
-use value_file::{DataType, Domain, Entry, Shape, Value};
-
-/// Whether two lists of truth values are the same.
-fn same_bits(x: &[bool], y: &[bool]) -> bool
-    ensures { IsTrue result ↔ (x.now ≡ y.now) }
-{
-    if x.len() != y.len() {
-        return false;
-    }
-    for k in 0..x.len() {
-        if x[k] != y[k] {
-            return false;
-        }
-    }
-    true
-}
+use value_file::{Domain, Entry, Value};
 
 /// Whether two values are the same.
 fn same_value(x: &Value, y: &Value) -> bool
@@ -30,28 +15,7 @@ fn same_value(x: &Value, y: &Value) -> bool
         (Value::Number(a), Value::Number(b)) => *a == *b,
         (Value::Truth(a), Value::Truth(b)) => *a == *b,
         (Value::Numbers(a), Value::Numbers(b)) => a.as_slice() == b.as_slice(),
-        (Value::Truths(a), Value::Truths(b)) => same_bits(a.as_slice(), b.as_slice()),
-        _ => false,
-    }
-}
-
-/// Whether two data types are the same.
-fn same_type(x: DataType, y: DataType) -> bool
-    ensures { IsTrue result ↔ (x ≡ y) }
-{
-    match (x, y) {
-        (DataType::Uint64, DataType::Uint64) | (DataType::Bool, DataType::Bool) => true,
-        _ => false,
-    }
-}
-
-/// Whether two shapes are the same.
-fn same_shape(x: Shape, y: Shape) -> bool
-    ensures { IsTrue result ↔ (x ≡ y) }
-{
-    match (x, y) {
-        (Shape::Scalar, Shape::Scalar) => true,
-        (Shape::Array(m), Shape::Array(n)) => m == n,
+        (Value::Truths(a), Value::Truths(b)) => a.as_slice() == b.as_slice(),
         _ => false,
     }
 }
@@ -63,8 +27,7 @@ fn same_shown(x: &Entry, y: &Entry) -> bool
     match (x.domain, y.domain) {
         (Domain::Public, Domain::Public) => same_value(&x.value, &y.value),
         (Domain::Private, Domain::Private) => {
-            same_type(x.value.data_type(), y.value.data_type())
-                && same_shape(x.value.shape(), y.value.shape())
+            x.value.data_type() == y.value.data_type() && x.value.shape() == y.value.shape()
         }
         _ => false,
     }

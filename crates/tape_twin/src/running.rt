@@ -9,23 +9,12 @@ ghost use Rattle.program_views.specs.Views.{lengths_of, run_on};
 ghost use Rattle.tape_twin.specs.Accepted.{IsAcceptedProgram};
 
 use clear_eval::{Report, eval};
-use input_share::{see_entries, see_words};
+use input_share::see_entries;
 use std::alloc::{AllocError, Global};
 use tape_file::Tapes;
 use typed_tree::TypedProgram;
 use value_file::Inputs;
-
-// The lengths of the tapes of the dealer and of miners 1, 2 and 3.
-fn lengths(tapes: &Tapes) -> [u64; 4]
-    ensures { result ≡ lengths_of tapes.now }
-{
-    [
-        tapes.dealer().len() as u64,
-        tapes.miner1().len() as u64,
-        tapes.miner2().len() as u64,
-        tapes.miner3().len() as u64,
-    ]
-}
+use view_model::see_tapes;
 
 /// The run of an accepted program in the clear, with tapes as long as these. Its gates can run on them.
 pub(crate) fn report_on(
@@ -42,9 +31,6 @@ pub(crate) fn report_on(
     ensures can { IfOk result (λ report. CanRun inputs.now report.gates.items tapes.now) }
 {
     see_entries(inputs.entries());
-    see_words(tapes.dealer());
-    see_words(tapes.miner1());
-    see_words(tapes.miner2());
-    see_words(tapes.miner3());
-    eval(alloc, program, inputs, budget, lengths(tapes))
+    see_tapes(tapes);
+    eval(alloc, program, inputs, budget, tapes.lengths())
 }

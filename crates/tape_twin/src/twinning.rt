@@ -9,15 +9,15 @@ ghost use Rattle.tape_twin.specs.Accepted.{IsAcceptedProgram};
 ghost use Rattle.tape_twin.specs.Alike.{RefusesTwin};
 
 use crate::alike::{first_difference, public_difference};
-use crate::maps::from_sim;
 use crate::running::report_on;
 use crate::twin_err::TwinErr;
 use proto_core::Number;
 use std::alloc::Global;
 use tape_file::Tapes;
-use tape_maps::to_simulated;
+use tape_maps::{from_simulated, to_simulated};
 use typed_tree::TypedProgram;
 use value_file::Inputs;
+use view_model::see_tapes;
 
 /// Two inputs of a program.
 #[derive(Clone, Copy)]
@@ -53,6 +53,7 @@ pub fn twin(
         Some(name) => return Err(TwinErr::PublicDiffers(name)),
         None => {}
     }
+    see_tapes(tapes);
     let one = report_on(alloc, program, first, tapes, budget)?;
     let other = report_on(alloc, program, second, tapes, budget)?;
     match first_difference(&one.opened, &other.opened) {
@@ -62,8 +63,9 @@ pub fn twin(
             second,
         }),
         None => {
+            // The tapes of the view are as long, so the second run has the same gates on them.
             let seen = to_simulated(alloc, miner, first, &one.gates, tapes)?;
-            Ok(from_sim(alloc, miner, program, second, &seen, budget)?)
+            Ok(from_simulated(alloc, miner, second, &other.gates, &seen)?)
         }
     }
 }

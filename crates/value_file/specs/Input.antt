@@ -11,6 +11,7 @@ use Rattle.value_file.specs.declared.value.Domain.TheVariants as domain
 use Rattle.value_file.specs.declared.value.DataType.{DataType}
 use Rattle.value_file.specs.declared.value.DataType.TheVariants as data_type
 use Rattle.value_file.specs.declared.value.Value.{Value}
+use Rattle.value_file.specs.declared.fields.EntryHead.{EntryHead}
 use Rattle.value_file.specs.declared.inputs.Entry.{Entry}
 use Rattle.value_file.specs.declared.read_err.Field.{Field}
 use Rattle.value_file.specs.declared.read_err.Field.TheVariants as field
@@ -62,6 +63,14 @@ data_type_in d = option_and_then data_type_of (text_in (codes "type") d)
 abbrev pub value_in : DataType → Data → Option Value
 value_in kind d = option_and_then (value_of kind) (find.get (codes "value") d)
 
+-- what an entry of each kind has: its name, behind entries of these names, who may know it, and its data type
+abbrev pub head_of : ℕ → List (List ℕ) → Data → Result EntryHead ReadErr
+head_of place earlier d = do
+  name ← field_or place field.Name (name_in earlier d)
+  domain ← field_or place field.Domain (domain_in d)
+  kind ← field_or place field.Type (data_type_in d)
+  Ok (record { name = name; domain = domain; data_type = kind })
+
 -- an entry has at most 65,536 elements
 unfoldable pub within_limit : ℕ → Entry → Result Entry ReadErr
 within_limit place entry = if nat_lt 65536 (count_of entry.value) then Err (TooLong place) else Ok entry
@@ -69,11 +78,9 @@ within_limit place entry = if nat_lt 65536 (count_of entry.value) then Err (TooL
 -- the entry at this place, behind entries of these names
 unfoldable pub entry_of : ℕ → List (List ℕ) → Data → Result Entry ReadErr
 entry_of place earlier d = do
-  name ← field_or place field.Name (name_in earlier d)
-  domain ← field_or place field.Domain (domain_in d)
-  kind ← field_or place field.Type (data_type_in d)
-  value ← field_or place field.Value (value_in kind d)
-  within_limit place (record { name = name; domain = domain; value = value })
+  head ← head_of place earlier d
+  value ← field_or place field.Value (value_in head.data_type d)
+  within_limit place (record { name = head.name; domain = head.domain; value = value })
 
 abbrev pub name_of : Entry → List ℕ
 name_of entry = entry.name

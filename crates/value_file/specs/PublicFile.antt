@@ -16,7 +16,7 @@ use Rattle.value_file.specs.declared.read_err.ReadErr.{ReadErr}
 use Rattle.value_file.specs.declared.read_err.ReadErr.TheVariants.{Syntax, TooLong}
 use Rattle.value_file.specs.Json.{json_of}
 use Rattle.value_file.specs.Values.{count_of, number_in, size_of}
-use Rattle.value_file.specs.Input.{AreEntries, ◌>>=◌, found_or, field_or, name_in, domain_in, data_type_in, value_in, inputs_in}
+use Rattle.value_file.specs.Input.{AreEntries, ◌>>=◌, found_or, field_or, head_of, value_in, inputs_in}
 
 -- a text has to be the word `scalar`, and else stands the count of the elements
 abbrev pub shape_from : Option (List ℕ) → Data → Option Shape
@@ -46,11 +46,9 @@ public_within_limit place entry = if nat_lt 65536 (public_count entry.value) the
 -- the entry at this place, behind entries of these names
 unfoldable pub public_entry_of : ℕ → List (List ℕ) → Data → Result PublicEntry ReadErr
 public_entry_of place earlier d = do
-  name ← field_or place field.Name (name_in earlier d)
-  domain ← field_or place field.Domain (domain_in d)
-  kind ← field_or place field.Type (data_type_in d)
-  value ← public_value_of place domain kind d
-  public_within_limit place (record { name = name; value = value })
+  head ← head_of place earlier d
+  value ← public_value_of place head.domain head.data_type d
+  public_within_limit place (record { name = head.name; value = value })
 
 abbrev pub public_name_of : PublicEntry → List ℕ
 public_name_of entry = entry.name

@@ -3,7 +3,8 @@ ghost use Rattle.std.specs.Prelude.{◌≡◌, ◌++◌, ◌∷◌, [], Some, co
 ghost use Rattle.std.specs.List.{list_any};
 ghost use Rattle.std.specs.Str.{bytes_eq};
 ghost use Rattle.serde_json.specs.View.{view};
-ghost use Rattle.value_file.specs.Input.{name_in, new_name, domain_in, data_type_in, value_in};
+ghost use Rattle.value_file.specs.Input.{name_in, new_name, domain_in, data_type_in, head_of, value_in};
+ghost use Rattle.value_file.specs.Reads.{Reads};
 ghost use Rattle.value_file.specs.declared.read_err.ReadErr.TheVariants.{BadField};
 
 use crate::json::text_field;
@@ -42,7 +43,7 @@ fn is_new<'v>(names: &mut IndexSet<&'v str>, name: &'v str) -> Result<bool, Allo
 
 /// The name of an entry, if it is of good form and new; it is remembered.
 #[tactic(auto, unfolding(crate::specs::Input::new_name))]
-pub fn name<'v>(
+fn name<'v>(
     alloc: Global,
     names: &mut IndexSet<&'v str>,
     json: &'v Json,
@@ -64,7 +65,7 @@ pub fn name<'v>(
 
 /// The domain of an entry, if it is good.
 #[tactic(auto, unfolding(crate::specs::Input::domain_of))]
-pub fn domain(json: &Json) -> Option<Domain>
+fn domain(json: &Json) -> Option<Domain>
     ensures { result ≡ domain_in (view json.now) }
 {
     match text_field(json, "domain")? {
@@ -76,7 +77,7 @@ pub fn domain(json: &Json) -> Option<Domain>
 
 /// The data type of an entry, if it is good.
 #[tactic(auto, unfolding(crate::specs::Input::data_type_of))]
-pub fn data_type(json: &Json) -> Option<DataType>
+fn data_type(json: &Json) -> Option<DataType>
     ensures { result ≡ data_type_in (view json.now) }
 {
     match text_field(json, "type")? {
@@ -84,6 +85,43 @@ pub fn data_type(json: &Json) -> Option<DataType>
         "bool" => Some(DataType::Bool),
         _ => None,
     }
+}
+
+/// What an entry of each kind has: its name, who may know it, and its data type.
+#[derive(Drop)]
+pub struct EntryHead {
+    pub name: Name,
+    pub domain: Domain,
+    pub data_type: DataType,
+}
+
+/// The name, the domain and the data type of the entry at this place, or the refusal of the first of them that is wrong. The name is
+/// remembered.
+pub fn entry_head<'v>(
+    alloc: Global,
+    place: u64,
+    names: &mut IndexSet<&'v str>,
+    json: &'v Json,
+) -> Result<EntryHead, ReadErr>
+    ensures reads { Reads (head_of place (map (λ n. n.now) names.old.keys) (view json.now)) result }
+    ensures new { IfOk result (λ head. new_name (map (λ n. n.now) names.old.keys) head.name ≡ Some head.name) }
+    ensures remembered { IfOk result (λ head.
+        map (λ n. n.now) names.new.keys ≡ map (λ n. n.now) names.old.keys ++ head.name ∷ []) }
+{
+    let Some(name) = name(alloc, names, json)? else {
+        return Err(bad(place, Field::Name));
+    };
+    let Some(domain) = domain(json) else {
+        return Err(bad(place, Field::Domain));
+    };
+    let Some(data_type) = data_type(json) else {
+        return Err(bad(place, Field::Type));
+    };
+    Ok(EntryHead {
+        name,
+        domain,
+        data_type,
+    })
 }
 
 /// The value of an entry of this type, if it is good.

@@ -29,13 +29,6 @@ impl Words {
     {
         &self.words
     }
-
-    /// The vector of the numbers. No memory is taken.
-    pub fn into_vec(self) -> Vec<u64>
-        ensures { result.items ≡ self }
-    {
-        self.words
-    }
 }
 
 /// The truth values of an array. Clauses see their list.
@@ -63,12 +56,5 @@ impl Bits {
         ensures { result.now ≡ self.now }
     {
         &self.bits
-    }
-
-    /// The vector of the truth values. No memory is taken.
-    pub fn into_vec(self) -> Vec<bool>
-        ensures { result.items ≡ self }
-    {
-        self.bits
     }
 }

@@ -6,7 +6,7 @@ ghost use Rattle.value_file.specs.PublicFile.{IsWritable, public_count, public_e
 ghost use Rattle.value_file.specs.PublicFile.{shape_of_data};
 ghost use Rattle.value_file.specs.Reads.{Reads};
 
-use crate::fields::{MAX_ELEMENTS, bad, data_type, domain, name, value_field};
+use crate::fields::{EntryHead, MAX_ELEMENTS, bad, entry_head, value_field};
 use crate::json::{json, list_field};
 use crate::public::{PublicEntry, PublicPart, PublicValue};
 use crate::read_err::{Field, ReadErr};
@@ -67,15 +67,11 @@ fn entry<'v>(
     ensures remembered { IfOk result (λ entry.
         map (λ n. n.now) names.new.keys ≡ map (λ n. n.now) names.old.keys ++ entry.name ∷ []) }
 {
-    let Some(name) = name(alloc, names, json)? else {
-        return Err(bad(place, Field::Name));
-    };
-    let Some(domain) = domain(json) else {
-        return Err(bad(place, Field::Domain));
-    };
-    let Some(data_type) = data_type(json) else {
-        return Err(bad(place, Field::Type));
-    };
+    let EntryHead {
+        name,
+        domain,
+        data_type,
+    } = entry_head(alloc, place, names, json)?;
     let value = public_value(alloc, place, domain, data_type, json)?;
     if value.count() > MAX_ELEMENTS {
         return Err(ReadErr::TooLong { entry: place });

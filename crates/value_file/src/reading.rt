@@ -5,7 +5,7 @@ ghost use Rattle.value_file.specs.Input.{AreInputs, IsEntry, entry_of, entries_a
 ghost use Rattle.value_file.specs.Values.{count_of};
 ghost use Rattle.value_file.specs.Reads.{Reads};
 
-use crate::fields::{MAX_ELEMENTS, bad, data_type, domain, name, value_field};
+use crate::fields::{EntryHead, MAX_ELEMENTS, bad, entry_head, value_field};
 use crate::inputs::{Entry, Inputs};
 use crate::json::{json, list_field};
 use crate::read_err::{Field, ReadErr};
@@ -26,15 +26,11 @@ fn entry<'v>(
     ensures remembered { IfOk result (λ entry.
         map (λ n. n.now) names.new.keys ≡ map (λ n. n.now) names.old.keys ++ entry.name ∷ []) }
 {
-    let Some(name) = name(alloc, names, json)? else {
-        return Err(bad(place, Field::Name));
-    };
-    let Some(domain) = domain(json) else {
-        return Err(bad(place, Field::Domain));
-    };
-    let Some(data_type) = data_type(json) else {
-        return Err(bad(place, Field::Type));
-    };
+    let EntryHead {
+        name,
+        domain,
+        data_type,
+    } = entry_head(alloc, place, names, json)?;
     let Some(value) = value_field(alloc, data_type, json)? else {
         return Err(bad(place, Field::Value));
     };

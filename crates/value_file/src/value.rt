@@ -13,14 +13,14 @@ pub enum Domain {
 }
 
 /// The data type of a value: numbers below 2^64, or truth values.
-#[derive(Clone, Copy)]
+#[derive(Clone, Copy, PartialEq, Eq)]
 pub enum DataType {
     Uint64,
     Bool,
 }
 
 /// The shape of a value: a scalar, or an array of so many elements.
-#[derive(Clone, Copy)]
+#[derive(Clone, Copy, PartialEq, Eq)]
 pub enum Shape {
     Scalar,
     Array(u64),

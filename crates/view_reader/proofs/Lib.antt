@@ -1,3 +1,4 @@
+mod Collected
 mod Texts
 mod OpenedRead
 mod OpenedLaws

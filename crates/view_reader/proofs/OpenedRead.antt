@@ -1,15 +1,13 @@
 -- The lines of a file of opened values, one after another.
-use Rattle.std.proofs.Common.{◌≡◌, ℕ, ◌<◌, ◌+◌, List, [], ◌∷◌, ◌++◌, map, take, drop, length, refl, sym, ◌∙◌, ap, arith}
+use Rattle.std.proofs.Common.{◌≡◌, ℕ, ◌<◌, ◌+◌, List, [], ◌∷◌, ◌++◌, map, drop, length, refl, sym, ◌∙◌, ap, arith}
 use Rattle.std.specs.Prelude.{Option, Some, None, option_map, Result, Ok, Err, get_or}
 use Rattle.std.specs.Borrow.{Bor}
 use Rattle.std.proofs.lemmas.List.{drop_more, append_assoc, drop_all}
 use Rattle.proto_core.proofs.Beginnings.{append-none}
 use Rattle.sc_text.specs.declared.elements.Element.{Element}
-use Rattle.sc_text.specs.Elements.{elements_text}
 use Rattle.view_text.specs.Reading.{words_in_line, lines_in}
 use Rattle.view_text.proofs.Found.{nothing_found, same_found}
-use Rattle.view_text.proofs.Written.{opened_more}
-use Rattle.view_reader.specs.Opened.{element_word, opened_bytes, opened_words, opening_in, in_front}
+use Rattle.view_reader.specs.Opened.{element_word, opened_words, opening_in, in_front}
 use Rattle.view_reader.specs.Opened.{at_the_end, openings_from, openings_of, words_read, opened_of}
 
 -- words that were read, and those that come behind them
@@ -105,10 +103,3 @@ pub last_open : (bytes words : List ℕ) (lines : List (Bor (List ℕ))) (i : �
     opened_of bytes ≡ behind words (openings_from (i + 1) (left_from i lines rest)) → opened_of bytes ≡ Err (length lines + 1)
 last_open bytes words lines i [] at h e = absurd (omega (arith, h))
 last_open bytes words lines i (x ∷ xs) at h e = none_left bytes words lines i (x ∷ xs) at e
-
--- ---- written
-
-pub opening_written : (openings : List (List Element)) (k : ℕ) (d : List Element) → k < length openings →
-    opened_bytes (take (k + 1) openings)
-    ≡ opened_bytes (take k openings) ++ 111 ∷ 112 ∷ 101 ∷ 110 ∷ (elements_text (get_or openings k d) ++ 10 ∷ [])
-opening_written openings k d lt = opened_more [] openings k d lt

@@ -21,6 +21,6 @@ pub use laws::{
     first_wrong_opening_is_named, opened_values_are_read_again,
     opened_values_that_are_read_were_written,
 };
-pub use opened::{read_opened, write_opened};
+pub use opened::read_opened;
 pub use read_err::ReadErr;
 pub use view_reading::read;

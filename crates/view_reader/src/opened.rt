@@ -1,14 +1,13 @@
 // The file of opened values.
-ghost use Rattle.std.specs.Prelude.{◌≡◌, ◌++◌, Some, None, map, if◌then◌else◌, IfOk, option_map, string_bytes};
+ghost use Rattle.std.specs.Prelude.{◌≡◌, ◌++◌, Some, None, map, if◌then◌else◌, IfOk, option_map};
 ghost use Rattle.view_text.specs.Reading.{words_in_line};
-ghost use Rattle.view_reader.specs.Opened.{element_word, opened_bytes, opened_of, opening_in};
+ghost use Rattle.view_reader.specs.Opened.{element_word, opened_of, opening_in};
 ghost use Rattle.view_reader.specs.Reads.{Reads};
 
 use crate::elements::{elements_in, push_words};
 use crate::lines::{lines_in, words_in_line};
 use crate::read_err::ReadErr;
 use crate::words::is_word;
-use sc_text::Elements;
 use std::alloc::{AllocError, Global};
 
 /// Puts the words of an opening behind those that are there, or answers that the line is none.
@@ -54,15 +53,4 @@ pub fn read_opened(alloc: Global, bytes: &[u8]) -> Result<Vec<u64>, ReadErr>
         return Err(ReadErr::BadView { line });
     }
     Ok(opened)
-}
-
-/// Writes a file of opened values, a line for each opening.
-pub fn write_opened(alloc: Global, openings: &[Elements]) -> Result<Vec<u8>, AllocError>
-    ensures { IfOk result (λ file. file.items ≡ opened_bytes openings.now) }
-{
-    let mut text = String::new(alloc);
-    for elements in openings {
-        writeln!(text, "open{elements}")?;
-    }
-    Ok(text.into_bytes())
 }

@@ -2,8 +2,6 @@
 use Rattle.std.proofs.Common.{◌≡◌, ℕ, List, length, sym, ap, ◌∙◌, subst}
 use Rattle.std.specs.Prelude.{Result, Ok, Err, Some, IfOk, IsErrAnd}
 use Rattle.proto_core.specs.declared.party.Number.{Number}
-use Rattle.proto_core.specs.declared.party.Number.TheVariants.{One, Two, Three}
-use Rattle.proto_core.specs.Lists.{AreWords}
 use Rattle.proto_core.specs.declared.link.Link.{Link}
 use Rattle.protocol_model.specs.Network.{Accepted, Delivery, net, order_of}
 use Rattle.gates.specs.declared.gate.Gate.{Gate}
@@ -20,7 +18,6 @@ use Rattle.counted_net.specs.declared.delivery.DeliveryErr.{DeliveryErr}
 use Rattle.counted_net.specs.declared.delivery.DeliveryErr.TheVariants as refused
 use Rattle.counted_net.specs.Answers.{IsNetAnswer}
 use Rattle.view_text.specs.View.{View}
-use Rattle.view_model.specs.TapeMaps.{miners_of, AreTapes}
 use Rattle.view_model.specs.Seen.{Seen}
 use Rattle.program_views.specs.Views.{lengths_of, told_run, view_with, made_of}
 use Rattle.view_simulator.specs.Refusals.{told_refusal, net_refusal}
@@ -76,14 +73,6 @@ module _ (i : Number) (p : TypedProgramTree) (part : List PublicEntry) (opened :
         }
 
 -- ---- WHAT IS SURE OF THE GATES
-
-pub tapes_are : (t : FourTapes) → AreWords t.dealer → AreWords t.one → AreWords t.two → AreWords t.three → AreTapes t
-tapes_are t dealer one two three = record { dealer = dealer; miners = own }
-  where
-    own : (i : Number) → AreWords (miners_of t i)
-    own One = one
-    own Two = two
-    own Three = three
 
 -- what is sure of the gates of the run is sure of those of its report
 pub of_report :

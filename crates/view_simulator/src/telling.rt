@@ -1,5 +1,5 @@
 // The run of one who is told what is opened.
-ghost use Rattle.std.specs.Prelude.{◌≡◌, [], length, IfOk};
+ghost use Rattle.std.specs.Prelude.{[], length, IfOk};
 ghost use Rattle.typed_tree.specs.Programs.{typed_program_tree};
 ghost use Rattle.typed_tree.specs.Sound.{IsSound};
 ghost use Rattle.value_file.specs.PublicFile.{IsWritable};
@@ -18,18 +18,7 @@ use std::alloc::Global;
 use tape_file::Tapes;
 use typed_tree::TypedProgram;
 use value_file::PublicPart;
-
-// The lengths of the tapes of the dealer and of miners 1, 2 and 3.
-fn lengths(tapes: &Tapes) -> [u64; 4]
-    ensures { result ≡ lengths_of tapes.now }
-{
-    [
-        tapes.dealer().len() as u64,
-        tapes.miner1().len() as u64,
-        tapes.miner2().len() as u64,
-        tapes.miner3().len() as u64,
-    ]
-}
+use view_model::see_tapes;
 
 /// The run of an accepted program by one who knows the public part alone and is told these words, with tapes as long as these. Its
 /// gates can be run on them with the shares that are made for a miner, and none takes 2^64 elements.
@@ -51,10 +40,7 @@ pub(crate) fn run_told(
 {
     see_part(part.entries());
     see_words(opened);
-    see_words(tapes.dealer());
-    see_words(tapes.miner1());
-    see_words(tapes.miner2());
-    see_words(tapes.miner3());
+    see_tapes(tapes);
     few_words_fit();
-    blind(alloc, program, part, opened, budget, lengths(tapes))
+    blind(alloc, program, part, opened, budget, tapes.lengths())
 }

@@ -1,58 +1,16 @@
 // The view of what a miner sees.
-ghost use Rattle.std.specs.Prelude.{◌≡◌, [], ◌∷◌, ◌++◌, map, Some, IfOk, OnOk};
+ghost use Rattle.std.specs.Prelude.{◌≡◌, [], ◌++◌, Some, IfOk, OnOk};
 ghost use Rattle.clear_eval.specs.Reports.{report_seen};
-ghost use Rattle.program_views.specs.Views.{input_shares, received, opening_then, openings, view_with};
+ghost use Rattle.program_views.specs.Views.{opening_then, openings, view_with};
 ghost use Rattle.view_simulator.specs.Making.{seen_of};
 
 use crate::made::Made;
-use arrival_order::Arrival;
 use clear_eval::Report;
-use input_share::ShareEntry;
+use program_views::{input_shares, received};
 use proto_core::Number;
 use sc_text::{Elements, Event};
 use std::alloc::{AllocError, Global};
-use view_text::{InputShare, Received, View};
-
-// The share of an input, if it is private, by its name.
-fn push_share(
-    alloc: Global,
-    shares: &mut Vec<InputShare>,
-    entry: &ShareEntry,
-) -> Result<(), AllocError>
-    ensures { OnOk result (shares.new.items ≡ shares.old.items ++ input_shares (entry.now ∷ [])) }
-{
-    match entry.part.words() {
-        Some(words) => {
-            let name = entry.name.copy(alloc)?;
-            let words = words.to_vec(alloc)?;
-            shares.push(InputShare::new(name, words))?;
-            Ok(())
-        }
-        None => Ok(()),
-    }
-}
-
-/// The shares of the private inputs, by name.
-fn input_shares(alloc: Global, entries: &[ShareEntry]) -> Result<Vec<InputShare>, AllocError>
-    ensures { IfOk result (λ shares. shares.items ≡ input_shares entries.now) }
-{
-    let mut shares = Vec::new(alloc);
-    for entry in entries {
-        push_share(alloc, &mut shares, entry)?;
-    }
-    Ok(shares)
-}
-
-/// The messages that came, for a view.
-fn received(alloc: Global, got: Vec<Arrival>) -> Result<Vec<Received>, AllocError>
-    ensures { IfOk result (λ all. all.items ≡ map received got.items) }
-{
-    let mut all = Vec::new(alloc);
-    for arrival in got {
-        all.push(Received::new(arrival.link(), arrival.into_message()))?;
-    }
-    Ok(all)
-}
+use view_text::View;
 
 // The elements that were opened, if any were.
 fn push_opening(alloc: Global, opened: &mut Vec<Elements>, event: &Event) -> Result<(), AllocError>

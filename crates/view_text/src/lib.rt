@@ -3,7 +3,6 @@
 
 mod laws;
 mod numbers;
-mod parts;
 mod view;
 mod writing;
 
@@ -11,7 +10,6 @@ pub use laws::{
     equal_texts_are_equal_views, first_wrong_line_is_named, views_are_read_again,
     views_end_as_runs_do, what_is_read_was_written,
 };
-pub use numbers::{word_in, words_in};
-pub use parts::words_of;
+pub use numbers::word_in;
 pub use view::{InputShare, Received, View};
 pub use writing::write;

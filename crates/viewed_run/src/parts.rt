@@ -3,48 +3,17 @@ ghost use Rattle.std.specs.Prelude.{◌≡◌, ◌++◌, ◌∷◌, [], map, tak
 ghost use Rattle.proto_core.specs.Parties.{from_previous, from_next};
 ghost use Rattle.proto_core.specs.Strand.{Mail};
 ghost use Rattle.protocol_model.specs.Arrivals.{arrivals};
-ghost use Rattle.program_views.specs.Views.{input_shares, received};
+ghost use Rattle.program_views.specs.Views.{received};
 ghost use Rattle.code_views.specs.CodeViews.{shown_in};
 ghost use Rattle.miner_core.specs.Views.{notice_seen};
 
-use arrival_order::{Arrival, arrivals};
-use input_share::{Part, ShareEntry, ShareFile};
+use arrival_order::arrivals;
 use miner_core::Notice;
 use proto_core::{Link, Messages, Number};
 use sc_text::Elements;
 use std::alloc::{AllocError, Global};
 use vector_ops::elements;
-use view_text::{InputShare, Received};
-
-/// The share of an input, if it is private, as one more.
-fn push_share(
-    alloc: Global,
-    shares: &mut Vec<InputShare>,
-    entry: &ShareEntry,
-) -> Result<(), AllocError>
-    ensures { OnOk result (shares.new.items ≡ shares.old.items ++ input_shares (entry.now ∷ [])) }
-{
-    match &entry.part {
-        Part::Public(_) => Ok(()),
-        Part::Private(shared) => {
-            let name = entry.name.copy(alloc)?;
-            let words = Vec::from_slice(alloc, shared.words.as_slice())?;
-            shares.push(InputShare::new(name, words))?;
-            Ok(())
-        }
-    }
-}
-
-/// A miner's shares of the private inputs, by name, in their order.
-pub(crate) fn input_shares(alloc: Global, file: &ShareFile) -> Result<Vec<InputShare>, AllocError>
-    ensures { IfOk result (λ shares. shares.items ≡ input_shares file.now.entries) }
-{
-    let mut shares = Vec::new(alloc);
-    for entry in file.entries() {
-        push_share(alloc, &mut shares, entry)?;
-    }
-    Ok(shares)
-}
+use view_text::Received;
 
 /// As many words from the front of a tape, or all.
 #[tactic(auto, using(std::proofs::lemmas::List::take_min))]
@@ -53,16 +22,6 @@ pub(crate) fn front(alloc: Global, tape: &[u64], count: u64) -> Result<Vec<u64>,
 {
     let count = count.min(tape.len() as u64) as usize;
     Vec::from_slice(alloc, &tape[..count])
-}
-
-/// These messages, as a view has them.
-fn as_received(alloc: Global, messages: Vec<Arrival>) -> Result<Vec<Received>, AllocError>
-    ensures { IfOk result (λ got. got.items ≡ map received messages.items) }
-{
-    messages
-        .into_iter()
-        .map(|m| Received::new(m.link(), m.into_message()))
-        .collect(alloc)
 }
 
 /// The messages that come to a miner by an order of deliveries, of those that its previous miner and its next one have sent to it.
@@ -77,7 +36,7 @@ pub(crate) fn received(
         → got.items ≡ map received (arrivals miner mail order.now)) }
 {
     let messages = arrivals(alloc, miner, previous, next, order)?;
-    let got = as_received(alloc, messages)?;
+    let got = program_views::received(alloc, messages)?;
     Ok(got)
 }
 

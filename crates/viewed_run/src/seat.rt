@@ -5,10 +5,11 @@ ghost use Rattle.code_places.specs.Places.{Place};
 ghost use Rattle.miner_core.specs.Story.{node};
 ghost use Rattle.viewed_run.specs.Seats.{HasStopped, SeesFrom, Sits, StopsAt};
 
-use crate::parts::{front, input_shares, openings, received};
+use crate::parts::{front, openings, received};
 use input_share::{Dealt, ShareFile};
 use link_schedule::Net3;
 use miner_core::Miner;
+use program_views::input_shares;
 use proto_core::{Link, Messages, P1, P2, P3, Party};
 use sc_text::End;
 use std::alloc::{AllocError, Global};
@@ -94,7 +95,7 @@ pub(crate) fn view<P: Party>(alloc: Global, seat: &Seat<'_, P>) -> Result<View, 
 {
     let miner = P::number();
     let end = end(seat.miner);
-    let inputs = input_shares(alloc, seat.file)?;
+    let inputs = input_shares(alloc, seat.file.entries())?;
     let drew = front(alloc, seat.tape, seat.miner.drawn())?;
     let got = received(alloc, miner, seat.previous, seat.next, seat.order)?;
     let opened = openings(alloc, seat.miner.notices())?;

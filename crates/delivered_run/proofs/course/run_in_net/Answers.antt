@@ -1,5 +1,5 @@
 use Rattle.std.proofs.Common.{◌≡◌, ◌≤◌, ℕ, List, length, All, subst}
-use Rattle.proto_core.specs.Lists.{AreWords}
+use Rattle.proto_core.specs.declared.party.Number.TheVariants.{One, Two, Three}
 use Rattle.input_share.specs.AddUp.{HasWords}
 use Rattle.input_share.specs.Dealing.{need_of}
 use Rattle.input_share.specs.Refusal.{Refuses}
@@ -11,7 +11,7 @@ use Rattle.program_run.specs.Reports.{lengths_of}
 use Rattle.program_run.proofs.Shared.{can_run_so, report_so}
 use Rattle.delivered_run.specs.Courses.{HasNetRun}
 use Rattle.delivered_run.specs.Deliveries.{delivery_seen}
-use Rattle.delivered_run.proofs.Going.{code_refused, course_refused, each_words, files_so}
+use Rattle.delivered_run.proofs.Going.{code_refused, course_refused, files_so}
 use Rattle.delivered_run.proofs.Undealt.{undealt_ran, undealt_refused}
 use Rattle.delivered_run.proofs.course.run_in_net.Goals as goal
 
@@ -20,25 +20,25 @@ run_dealt-requires-clause-runs c =
     let entries = c.args.inputs.now in
     let sound : AreSound entries = record { form = c.requires.inputs; words = subst (All HasWords) c.entries.ensures c.see_entries.ensures } in
     let suffice : Suffice entries c.args.tapes.now.dealer = record {
-      words = subst AreWords c.dealer.ensures c.see_words.ensures.words;
-      enough = subst (λ (w : List ℕ). need_of entries ≤ length w) c.dealer-2.ensures c.in-Ok.ensures.enough;
+      words = c.see_tapes.ensures.words.dealer;
+      enough = subst (λ (w : List ℕ). need_of entries ≤ length w) c.dealer.ensures c.in-Ok.ensures.enough;
     } in
     can_run_so (typed_program_tree c.args.program.now) c.requires.accepted c.in_ok-code.code c.in_ok-code.ensures entries c.args.tapes.now
-    sound suffice (subst AreWords c.miner1.ensures c.see_words-2.ensures.words) (subst AreWords c.miner2.ensures c.see_words-3.ensures.words)
-    (subst AreWords c.miner3.ensures c.see_words-4.ensures.words)
+    sound suffice (c.see_tapes.ensures.words.miners One) (c.see_tapes.ensures.words.miners Two)
+    (c.see_tapes.ensures.words.miners Three)
 
 pub returns-in_err-end-in-Ok : goal.returns-in_err-end-in-Ok
 returns-in_err-end-in-Ok c =
     let entries = c.args.inputs.now in
     let sound : AreSound entries = record { form = c.requires.inputs; words = subst (All HasWords) c.entries.ensures c.see_entries.ensures } in
     let suffice : Suffice entries c.args.tapes.now.dealer = record {
-      words = subst AreWords c.dealer.ensures c.see_words.ensures.words;
-      enough = subst (λ (w : List ℕ). need_of entries ≤ length w) c.dealer-2.ensures c.in-Ok.ensures.enough;
+      words = c.see_tapes.ensures.words.dealer;
+      enough = subst (λ (w : List ℕ). need_of entries ≤ length w) c.dealer.ensures c.in-Ok.ensures.enough;
     } in
     code_refused (typed_program_tree c.args.program.now) entries c.args.tapes.now c.args.budget (delivery_seen c.args.delivery.now) _ _
     (report_so (typed_program_tree c.args.program.now) c.requires.accepted c.in_ok-code.code c.in_ok-code.ensures entries c.args.tapes.now
-    sound suffice (subst AreWords c.miner1.ensures c.see_words-2.ensures.words) (subst AreWords c.miner2.ensures c.see_words-3.ensures.words)
-    (subst AreWords c.miner3.ensures c.see_words-4.ensures.words) c.args.budget)
+    sound suffice (c.see_tapes.ensures.words.miners One) (c.see_tapes.ensures.words.miners Two)
+    (c.see_tapes.ensures.words.miners Three) c.args.budget)
     c.in_err-end-in-Ok.ensures c.from_residual-in_err-end-in-Ok.result c.from_residual-in_err-end-in-Ok.ensures.1
 
 pub returns-in-Ok : goal.returns-in-Ok
@@ -47,19 +47,17 @@ returns-in-Ok c =
     let t = c.args.tapes.now in
     let sound : AreSound entries = record { form = c.requires.inputs; words = subst (All HasWords) c.entries.ensures c.see_entries.ensures } in
     let suffice : Suffice entries t.dealer = record {
-      words = subst AreWords c.dealer.ensures c.see_words.ensures.words;
-      enough = subst (λ (w : List ℕ). need_of entries ≤ length w) c.dealer-2.ensures c.in-Ok.ensures.enough;
+      words = c.see_tapes.ensures.words.dealer;
+      enough = subst (λ (w : List ℕ). need_of entries ≤ length w) c.dealer.ensures c.in-Ok.ensures.enough;
     } in
-    let one = subst AreWords c.miner1.ensures c.see_words-2.ensures.words in
-    let two = subst AreWords c.miner2.ensures c.see_words-3.ensures.words in
-    let three = subst AreWords c.miner3.ensures c.see_words-4.ensures.words in
     record {
-      can = record { sound = sound; suffice = suffice; words = each_words t one two three };
-      file = files_so entries t c.in-Ok.files _ _ c.dealer-2.ensures c.lengths.ensures c.in-Ok.ensures.first c.in-Ok.ensures.second c.in-Ok.ensures.third;
+      can = record { sound = sound; suffice = suffice; words = c.see_tapes.ensures.words.miners };
+      file = files_so entries t c.in-Ok.files _ _ c.dealer.ensures c.lengths.ensures c.in-Ok.ensures.first c.in-Ok.ensures.second c.in-Ok.ensures.third;
       ran = subst (λ r. HasNetRun (offered entries (lengths_of t)) (dealt_of entries t.dealer) c.args.budget (miners_of t) r
           (delivery_seen c.args.delivery.now) c.in_ok-end-in-Ok.end)
           (report_so (typed_program_tree c.args.program.now) c.requires.accepted c.in_ok-code.code c.in_ok-code.ensures entries t
-          sound suffice one two three c.args.budget)
+          sound suffice (c.see_tapes.ensures.words.miners One) (c.see_tapes.ensures.words.miners Two) (c.see_tapes.ensures.words.miners Three)
+          c.args.budget)
           c.in_ok-end-in-Ok.ensures;
     }
 
@@ -68,7 +66,7 @@ returns-in_err-run-in-Err c =
     let p = typed_program_tree c.args.program.now in
     let given = delivery_seen c.args.delivery.now in
     let short =
-    subst (λ (w : List ℕ). Refuses (need_of c.args.inputs.now) (length w) c.in-Err.refusal) c.dealer-2.ensures c.in-Err.ensures.short in
+    subst (λ (w : List ℕ). Refuses (need_of c.args.inputs.now) (length w) c.in-Err.refusal) c.dealer.ensures c.in-Err.ensures.short in
     course_refused p c.args.inputs.now c.args.tapes.now c.args.budget given _
     (undealt_refused p c.args.inputs.now c.args.tapes.now c.args.budget given c.in-Err.refusal short _ c.in_err-run-in-Err.ensures)
     c.from_residual-in_err-run-in-Err.result c.from_residual-in_err-run-in-Err.ensures.1
@@ -77,5 +75,5 @@ pub returns : goal.returns
 returns c =
     undealt_ran (typed_program_tree c.args.program.now) c.args.inputs.now c.args.tapes.now c.args.budget (delivery_seen c.args.delivery.now)
     c.in-Err.refusal
-    (subst (λ (w : List ℕ). Refuses (need_of c.args.inputs.now) (length w) c.in-Err.refusal) c.dealer-2.ensures c.in-Err.ensures.short)
+    (subst (λ (w : List ℕ). Refuses (need_of c.args.inputs.now) (length w) c.in-Err.refusal) c.dealer.ensures c.in-Err.ensures.short)
     c.in_ok-run-in-Err.run' c.in_ok-run-in-Err.ensures

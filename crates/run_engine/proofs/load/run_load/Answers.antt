@@ -1,5 +1,4 @@
 use Rattle.std.proofs.Common.{sym, ◌∙◌, subst}
-use Rattle.proto_core.specs.Lists.{AreWords}
 use Rattle.input_share.specs.AddUp.{HasWords}
 use Rattle.std.specs.Prelude.{All}
 use Rattle.typed_tree.specs.Programs.{typed_program_tree}
@@ -23,8 +22,7 @@ unreachable-requires c =
     let entries = c.args.load.now.inputs in
     let tapes = c.args.load.now.tapes in
     let have = have_words entries tapes c.requires.inputs (subst (All HasWords) c.entries.ensures c.see_entries.ensures)
-    (subst AreWords c.dealer.ensures c.see_words.ensures.words) (subst AreWords c.miner1.ensures c.see_words-2.ensures.words)
-    (subst AreWords c.miner2.ensures c.see_words-3.ensures.words) (subst AreWords c.miner3.ensures c.see_words-4.ensures.words) in
+    c.see_tapes.ensures.words in
     let is = never_refused (typed_program_tree c.in_ok-program.program) entries tapes c.in_ok-program.ensures.accepted have c.in-Err-EmptyLink.field-0
     c.in-Err-EmptyLink.ensures in
     absurd (let wrong = sym c.in-Err-EmptyLink.field-0-is ∙ is in cc)
@@ -34,8 +32,7 @@ unreachable-requires-in-Err-Stalled c =
     let entries = c.args.load.now.inputs in
     let tapes = c.args.load.now.tapes in
     let have = have_words entries tapes c.requires.inputs (subst (All HasWords) c.entries.ensures c.see_entries.ensures)
-    (subst AreWords c.dealer.ensures c.see_words.ensures.words) (subst AreWords c.miner1.ensures c.see_words-2.ensures.words)
-    (subst AreWords c.miner2.ensures c.see_words-3.ensures.words) (subst AreWords c.miner3.ensures c.see_words-4.ensures.words) in
+    c.see_tapes.ensures.words in
     let is = never_refused (typed_program_tree c.in_ok-program.program) entries tapes c.in_ok-program.ensures.accepted have c.in-Err-Stalled.field-0
     c.in-Err-Stalled.ensures in
     absurd (let wrong = sym c.in-Err-Stalled.field-0-is ∙ is in cc)

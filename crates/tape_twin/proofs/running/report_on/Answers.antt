@@ -1,6 +1,5 @@
 use Rattle.std.proofs.Common.{◌≡◌, List, ℕ, All, ◌∙◌, ap, subst}
 use Rattle.gate_maps.proofs.Passing.{if-ok}
-use Rattle.proto_core.specs.Lists.{AreWords}
 use Rattle.typed_tree.specs.Programs.{typed_program_tree}
 use Rattle.value_file.specs.declared.inputs.Entry.{Entry}
 use Rattle.input_share.specs.AddUp.{HasWords}
@@ -8,7 +7,7 @@ use Rattle.language_model.specs.Reports.{Report, eval}
 use Rattle.clear_eval.specs.Offers.{offered}
 use Rattle.clear_eval.specs.Reports.{report_seen}
 use Rattle.view_model.specs.TapeMaps.{AreTapes, CanRun}
-use Rattle.tape_twin.proofs.Runs.{tapes-are, gates-run}
+use Rattle.tape_twin.proofs.Runs.{gates-run}
 use Rattle.tape_twin.proofs.running.report_on.Goals as goal
 
 pub returns-clause-can : goal.returns-clause-can
@@ -17,11 +16,7 @@ returns-clause-can c =
     let es = c.args.inputs.now in
     let t = c.args.tapes.now in
     let words : All HasWords es = subst (λ (xs : List Entry). All HasWords xs) c.entries.ensures c.see_entries.ensures in
-    let are : AreTapes t =
-    tapes-are t (subst (λ (w : List ℕ). AreWords w) c.dealer.ensures c.see_words.ensures.words)
-    (subst (λ (w : List ℕ). AreWords w) c.miner1.ensures c.see_words-2.ensures.words)
-    (subst (λ (w : List ℕ). AreWords w) c.miner2.ensures c.see_words-3.ensures.words)
-    (subst (λ (w : List ℕ). AreWords w) c.miner3.ensures c.see_words-4.ensures.words) in
+    let are : AreTapes t = c.see_tapes.ensures.words in
     if-ok (λ report. report_seen report ≡ eval p (offered es c.lengths.result) c.args.budget) (λ report. CanRun es report.gates.items t)
     (λ report same.
     gates-run p es t c.args.budget report.gates.items c.requires.accepted c.requires.inputs words are

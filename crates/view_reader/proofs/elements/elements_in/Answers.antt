@@ -1,5 +1,5 @@
 use Rattle.std.proofs.Common.{rules}
-use Rattle.view_text.proofs.Collected.{parts_more, parts_none}
+use Rattle.view_reader.proofs.Collected.{parts_more, parts_none}
 use Rattle.view_text.specs.Reading.{element_in}
 use Rattle.view_reader.proofs.elements.elements_in.Goals as goal
 

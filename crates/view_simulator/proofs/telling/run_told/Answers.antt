@@ -1,6 +1,5 @@
 use Rattle.std.proofs.Common.{◌<◌, ◌^◌, ℕ, List, [], length, All, subst, arith}
 use Rattle.proto_core.specs.declared.party.Number.TheVariants.{One}
-use Rattle.proto_core.specs.Lists.{AreWords}
 use Rattle.gates.specs.declared.gate.Gate.{Gate}
 use Rattle.typed_tree.specs.Programs.{typed_program_tree}
 use Rattle.value_file.specs.declared.public.PublicEntry.{PublicEntry}
@@ -13,7 +12,7 @@ use Rattle.program_views.specs.Views.{lengths_of, told_run}
 use Rattle.view_simulator.specs.Making.{IsOfWords, CanBeMade}
 use Rattle.view_simulator.specs.Laws.{IsTold}
 use Rattle.view_simulator.proofs.Suiting.{can_be_made}
-use Rattle.view_simulator.proofs.Answering.{of_report, tapes_are}
+use Rattle.view_simulator.proofs.Answering.{of_report}
 use Rattle.view_simulator.proofs.telling.run_told.Goals as goal
 
 pub returns : goal.returns
@@ -25,14 +24,12 @@ returns c =
     let run : Report = told_run p part opened (lengths_of s) c.args.budget in
     let accepted = c.requires.accepted in
     let known : All IsOfWords part = subst (λ (es : List PublicEntry). All IsOfWords es) c.entries.ensures c.see_part.ensures in
-    let are : AreTapes s =
-    tapes_are s (subst AreWords c.dealer.ensures c.see_words-2.ensures.words) (subst AreWords c.miner1.ensures c.see_words-3.ensures.words)
-    (subst AreWords c.miner2.ensures c.see_words-4.ensures.words) (subst AreWords c.miner3.ensures c.see_words-5.ensures.words) in
+    let are : AreTapes s = c.see_tapes.ensures.words in
     let told : IsTold part opened s =
     record { form = c.requires.part; known = known; opened_words = c.see_words.ensures.words; tapes = are } in
     let can : CanBeMade part run.gates s =
     can_be_made accepted.source p accepted.instances accepted.accepted part opened s c.args.budget told in
-    let few : length s.one < 2 ^ 64 = subst (λ (ws : List ℕ). length ws < 2 ^ 64) c.miner1.ensures c.see_words-3.ensures.few in
+    let few : length s.one < 2 ^ 64 = c.see_tapes.ensures.few One in
     let reach = can.reach One One in
     let fit : SizesFit (hidden_sizes part) [] run.gates =
     c.few_words_fit.ensures (λ k. private_shares (made_entries One part s.dealer)) (hidden_sizes part) [] run.gates (omega (arith, reach, few)) in

@@ -4,11 +4,11 @@ use Rattle.input_share.specs.declared.entry.ShareEntry.{ShareEntry}
 use Rattle.view_text.specs.View.{InputShare}
 use Rattle.program_views.specs.Views.{input_shares}
 use Rattle.program_views.proofs.Shares.{shares_append}
-use Rattle.viewed_run.proofs.parts.input_shares.Goals as goal
+use Rattle.program_views.proofs.parts.input_shares.Goals as goal
 
 pub loop-entry-preserved : goal.loop-entry-preserved
 loop-entry-preserved c =
-    let items = c.entries-entry-items.result.now in
+    let items = c.args.entries.now in
     let k = c.loop-entry.entry-index in
     let entry = c.entry-item.result in
     let more : take (k + 1) items ≡ take k items ++ entry ∷ [] =

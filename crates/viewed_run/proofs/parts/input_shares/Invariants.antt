@@ -1,6 +1,0 @@
-use Rattle.std.proofs.Common.{◌≡◌, take}
-use Rattle.program_views.specs.Views.{input_shares}
-use Rattle.viewed_run.proofs.parts.input_shares.Given as goal
-
-abbrev pub invariant-loop-entry : goal.invariant-loop-entry
-invariant-loop-entry l = l.shares.items ≡ input_shares (take l.entry-index l.entry-items)
