@@ -47,17 +47,6 @@ pub fn slot_shape(at: &StatementContext<'_>, slot: usize) -> Shape
     }
 }
 
-/// The words of 0, of false, or of the empty array.
-pub fn default_words(alloc: Global, array: bool) -> Result<Vec<u64>, AllocError>
-    ensures { IfOk result (λ words. words.items ≡ default_words array) }
-{
-    if array {
-        Ok(Vec::new(alloc))
-    } else {
-        Ok(vec![in alloc; 0]?)
-    }
-}
-
 /// What a declaration stores that names no value: 0, false or the empty array, which everybody may see.
 pub fn default_value(
     alloc: Global,
@@ -68,11 +57,7 @@ pub fn default_value(
         plain (slot_shape (setting at.now.here) slot) (default_words (slot_shape (setting at.now.here) slot).array)) }
 {
     let shape = slot_shape(at, slot);
-    Ok(Value {
-        secrecy: Secrecy::Plain,
-        shape,
-        words: default_words(alloc, shape.array)?,
-    })
+    Value::never_stored(alloc, false, shape)
 }
 
 /// The value in a slot.

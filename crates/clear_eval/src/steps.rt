@@ -18,7 +18,7 @@ use crate::place::{Around, StatementContext};
 use crate::slots::{
     ArrayPlace, default_value, is_private_slot, put, set_element, slot_shape, slot_value, store,
 };
-use crate::words::{is_private, nothing, truth_value, word_value};
+use crate::words::{is_private, truth_value};
 use reached_instances::domain;
 use std::alloc::Global;
 use typed_tree::{Operation, TypedExpression, TypedStatement};
@@ -42,7 +42,7 @@ pub fn leaf(
     ensures spends { stage.new.left ≤ stage.old.left }
 {
     match e {
-        TypedExpression::Word(word) => Ok(word_value(around.alloc, *word)?),
+        TypedExpression::Word(word) => Ok(Value::number(around.alloc, *word)?),
         TypedExpression::Truth(truth) => Ok(truth_value(around.alloc, *truth)?),
         TypedExpression::Variable(slot) => Ok(slot_value(frame, *slot).copy(around.alloc)?),
         _ => unreachable!(),
@@ -142,7 +142,7 @@ pub fn plain(
         TypedStatement::Empty => Ok(Flow::Goes),
         TypedStatement::Break => Ok(Flow::Stops),
         TypedStatement::Continue => Ok(Flow::Skips),
-        TypedStatement::Return(None) => Ok(Flow::Returns(nothing(around.alloc)?)),
+        TypedStatement::Return(None) => Ok(Flow::Returns(Value::unread(around.alloc)?)),
         TypedStatement::StoreDefault(slot) => {
             let value = default_value(around.alloc, &around.at, *slot)?;
             store(around.alloc, &around.at, stage, frame, *slot, value)?;

@@ -1,9 +1,6 @@
 // Values that come from the program's text.
-ghost use Rattle.std.specs.Prelude.{◌≡◌, [], ◌∷◌, false, IfOk};
-ghost use Rattle.secrec_ast.specs.declared.expression.DataType.TheVariants.{Uint64};
-ghost use Rattle.typed_tree.specs.Shapes.{shape_of};
-ghost use Rattle.language_model.specs.Values.{plain};
-ghost use Rattle.language_model.specs.Evaluation.{is_private, nothing, truth_value, connective as operator_of, decides};
+ghost use Rattle.std.specs.Prelude.{◌≡◌, IfOk};
+ghost use Rattle.language_model.specs.Evaluation.{is_private, truth_value, connective as operator_of, decides};
 ghost use Rattle.value_steps.specs.Views.{value_seen};
 
 use reached_instances::BoundDomain;
@@ -22,20 +19,6 @@ pub fn is_private(domain: BoundDomain) -> bool
     }
 }
 
-/// A public number.
-pub fn word_value(alloc: Global, word: u64) -> Result<Value, AllocError>
-    ensures { IfOk result (λ v. value_seen v ≡ plain (shape_of Uint64 false) (word ∷ [])) }
-{
-    Ok(Value {
-        secrecy: Secrecy::Plain,
-        shape: Shape {
-            element: DataType::Uint64,
-            array: false,
-        },
-        words: vec![in alloc; word]?,
-    })
-}
-
 /// A public truth value.
 pub fn truth_value(alloc: Global, truth: bool) -> Result<Value, AllocError>
     ensures { IfOk result (λ v. value_seen v ≡ truth_value truth) }
@@ -48,13 +31,6 @@ pub fn truth_value(alloc: Global, truth: bool) -> Result<Value, AllocError>
         },
         words: vec![in alloc; u64::from(truth)]?,
     })
-}
-
-/// What a function gives that gives nothing.
-pub fn nothing(alloc: Global) -> Result<Value, AllocError>
-    ensures { IfOk result (λ v. value_seen v ≡ nothing) }
-{
-    word_value(alloc, 0)
 }
 
 /// The operator that a connective is where both operands are evaluated.

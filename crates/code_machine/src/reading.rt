@@ -6,10 +6,9 @@ ghost use Rattle.code_machine.specs.Views.{machine_seen, registers_seen};
 
 use crate::machine::Machine;
 use bytecode::Register;
-use secrec_ast::DataType;
 use std::alloc::{AllocError, Global};
 use typed_tree::Shape;
-use value_steps::Value;
+use value_steps::{Value, number_shape};
 use verified_code::{Step, Verified};
 
 impl Machine {
@@ -27,10 +26,7 @@ impl Machine {
     {
         match self.registers.get(register.0 as usize) {
             Some(value) => value.shape,
-            None => Shape {
-                element: DataType::Uint64,
-                array: false,
-            },
+            None => number_shape(),
         }
     }
 
@@ -41,13 +37,7 @@ impl Machine {
     {
         match self.registers.get(register.0 as usize) {
             Some(value) => value.copy(alloc),
-            None => {
-                let shape = Shape {
-                    element: DataType::Uint64,
-                    array: false,
-                };
-                Ok(Value::plain(shape, vec![in alloc; 0]?))
-            }
+            None => Value::unread(alloc),
         }
     }
 }
