@@ -5,7 +5,6 @@ ghost use Rattle.language_model.specs.Evaluation.{begins, entered};
 ghost use Rattle.value_steps.specs.Views.{value_seen};
 ghost use Rattle.clear_eval.specs.inner.Views.{frame_seen};
 
-use crate::words::is_private;
 use reached_instances::{BoundDomain, domain_under};
 use std::alloc::{AllocError, Global};
 use typed_tree::Slot;
@@ -23,7 +22,7 @@ fn beginning(
     match slots.get(number) {
         None => Value::unread(alloc),
         Some(slot) => {
-            let private = is_private(domain_under(binding, slot.domain));
+            let private = domain_under(binding, slot.domain).is_private();
             Value::never_stored(alloc, private, slot.shape)
         }
     }

@@ -6,9 +6,10 @@ ghost use Rattle.code_machine.specs.Views.{machine_seen, registers_seen};
 
 use crate::machine::Machine;
 use bytecode::Register;
+use secrec_ast::DataType;
 use std::alloc::{AllocError, Global};
 use typed_tree::Shape;
-use value_steps::{Value, number_shape};
+use value_steps::Value;
 use verified_code::{Step, Verified};
 
 impl Machine {
@@ -26,7 +27,7 @@ impl Machine {
     {
         match self.registers.get(register.0 as usize) {
             Some(value) => value.shape,
-            None => number_shape(),
+            None => Shape::scalar(DataType::Uint64),
         }
     }
 

@@ -36,5 +36,5 @@ pub use operators::{operated, operation};
 pub use publishing::published;
 pub use stage::{Drawn, Stage};
 pub use steps::{MOST_CALLS, charge, charge_elements, charged, test_at};
-pub use value::{Secrecy, Value, number_shape};
+pub use value::{Secrecy, Value};
 pub use world::{GivenInput, Lengths, Source, World};

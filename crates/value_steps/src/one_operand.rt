@@ -2,7 +2,7 @@
 ghost use Rattle.std.specs.Prelude.{◌≡◌, ◌≤◌, ◌*◌, length, IfOk};
 ghost use Rattle.std.specs.List.{flat_map};
 ghost use Rattle.gates.specs.Clear.{bits_of};
-ghost use Rattle.language_model.specs.Operations.{negated, cast_to, cast_shape, changed, size_told, summed, summed_from, bits_extracted};
+ghost use Rattle.language_model.specs.Operations.{negated, cast_to, changed, size_told, summed, summed_from, bits_extracted};
 ghost use Rattle.language_model.specs.Operations.{bits_from};
 ghost use Rattle.value_steps.specs.Steps.{Does, itself};
 ghost use Rattle.value_steps.specs.Views.{stage_seen, value_seen, world_seen, secrecy_seen};
@@ -13,7 +13,7 @@ use crate::halt::Halt;
 use crate::operator_gates::{cast_gates, flip};
 use crate::stage::Stage;
 use crate::steps::{charge, charged, charged_array};
-use crate::value::{Secrecy, Value, number_shape};
+use crate::value::{Secrecy, Value};
 use crate::world::World;
 use gates::Gate;
 use secrec_ast::DataType;
@@ -40,17 +40,6 @@ pub fn negated(alloc: Global, stage: &mut Stage<'_>, value: Value) -> Result<Val
     }
 }
 
-/// The shape of what a cast gives.
-fn cast_shape(cast: Cast, array: bool) -> Shape
-    ensures { result ≡ cast_shape cast array }
-{
-    let element = match cast {
-        Cast::WordToWord | Cast::BoolToWord => DataType::Uint64,
-        Cast::WordToBool | Cast::BoolToBool => DataType::Bool,
-    };
-    Shape { element, array }
-}
-
 /// A private value as one of another data type.
 fn changed(
     alloc: Global,
@@ -67,7 +56,7 @@ fn changed(
     let operand = number_of(alloc, stage, &value)?;
     let number = cast_gates(alloc, stage, cast, n, operand)?;
     let words = vector_ops::cast_words(alloc, cast, &value.words)?;
-    let shape = cast_shape(cast, value.shape.array);
+    let shape = cast.shape(value.shape.array);
     Ok(Value::hidden(shape, number, words))
 }
 
@@ -87,7 +76,7 @@ pub fn cast_to(
         (Cast::WordToWord | Cast::BoolToBool, _) => Ok(value),
         (Cast::WordToBool | Cast::BoolToWord, Secrecy::Plain) => {
             let words = vector_ops::cast_words(alloc, cast, &value.words)?;
-            let shape = cast_shape(cast, value.shape.array);
+            let shape = cast.shape(value.shape.array);
             Ok(Value::plain(shape, words))
         }
         (Cast::WordToBool | Cast::BoolToWord, Secrecy::Private(_)) => {
@@ -117,7 +106,7 @@ fn summed_value(alloc: Global, stage: &mut Stage<'_>, value: &Value) -> Result<V
             let operand = number_of(alloc, stage, value)?;
             let number = gate(stage, Gate::Sum { operand })?;
             let words = vector_ops::repeated(alloc, 1, total)?;
-            Ok(Value::hidden(number_shape(), number, words))
+            Ok(Value::hidden(Shape::scalar(DataType::Uint64), number, words))
         }
     }
 }

@@ -1,7 +1,5 @@
 // What a run computes with.
-ghost use Rattle.std.specs.Prelude.{◌≡◌, ◌≤◌, false, length, IfOk};
-ghost use Rattle.secrec_ast.specs.declared.expression.DataType.TheVariants.{Uint64};
-ghost use Rattle.typed_tree.specs.Shapes.{shape_of};
+ghost use Rattle.std.specs.Prelude.{◌≡◌, ◌≤◌, length, IfOk};
 ghost use Rattle.language_model.specs.Values.{default_words};
 
 use secrec_ast::DataType;
@@ -36,16 +34,6 @@ impl Drop for Value {
                 words: _,
             } => {}
         }
-    }
-}
-
-/// The shape of a number.
-pub fn number_shape() -> Shape
-    ensures { result ≡ shape_of Uint64 false }
-{
-    Shape {
-        element: DataType::Uint64,
-        array: false,
     }
 }
 
@@ -85,7 +73,7 @@ impl Value {
         ensures { IfOk result (λ v. value_seen v ≡ scalar_word word) }
     {
         let words = vector_ops::repeated(alloc, 1, word)?;
-        Ok(Value::plain(number_shape(), words))
+        Ok(Value::plain(Shape::scalar(DataType::Uint64), words))
     }
 
     /// The value that nobody reads, which a function gives that gives nothing.
