@@ -7,7 +7,6 @@ ghost use Rattle.clear_eval.specs.inner.Standing.{HasRoomFor, AreSoundAmong};
 
 use crate::entering::enter;
 use crate::place::StatementContext;
-use crate::words::is_private;
 use reached_instances::{BoundDomain, Setting, given_domain};
 use std::alloc::{AllocError, Global};
 use typed_tree::{TypedFunction, TypedStatement};
@@ -56,7 +55,7 @@ pub fn begin<'a>(
                 slots: &function.slots,
                 binding,
             },
-            private_result: is_private(given_domain(binding, function.given)),
+            private_result: given_domain(binding, function.given).is_private(),
             depth,
         },
         frame,

@@ -4,7 +4,6 @@ ghost use Rattle.std.specs.List.{slice_get};
 ghost use Rattle.typed_tree.specs.Tree.{typed_tree, typed_trees_of};
 ghost use Rattle.reached_instances.specs.Domains.{domains};
 ghost use Rattle.reached_instances.specs.Views.{setting};
-ghost use Rattle.language_model.specs.Effects.{charge};
 ghost use Rattle.language_model.specs.Evaluation.{array_elements, bound_at, slots_of};
 ghost use Rattle.value_steps.specs.Steps.{Does, itself};
 ghost use Rattle.value_steps.specs.Views.{value_seen, stage_seen};
@@ -16,7 +15,7 @@ use reached_instances::{BoundDomain, binding_of, domains};
 use sc_text::{Ending, TrapKind};
 use std::alloc::{AllocError, Global};
 use typed_tree::{Slot, TypedExpression};
-use value_steps::{Halt, Stage, Value, charge};
+use value_steps::{Halt, Stage, Value, charge, charge_elements};
 
 /// What a call of the function of this number, with these arguments, binds its domain variables to.
 pub fn bound_by(
@@ -57,24 +56,9 @@ fn array_elements(arguments: &[Value]) -> u128
 {
     let mut count = 0;
     for argument in arguments {
-        if argument.shape.array {
-            count += argument.words.len() as u128;
-        }
+        count += argument.array_elements() as u128;
     }
     count
-}
-
-// Charges a call for the elements of the arrays among its arguments.
-fn charge_arguments(stage: &mut Stage<'_>, arguments: &[Value]) -> Result<(), Halt>
-    ensures step { Does itself (charge (sum (map array_elements (map value_seen arguments.now)))) (stage_seen stage.old) result (stage_seen stage.new) }
-    ensures spends { stage.new.left ≤ stage.old.left }
-{
-    let count = array_elements(arguments);
-    if count <= stage.left as u128 {
-        charge(stage, count as u64)
-    } else {
-        Err(Halt::Ended(Ending::Budget))
-    }
 }
 
 /// Charges a call, where there is room for so many calls inside one another: 1, and then the elements of its arrays.
@@ -95,5 +79,5 @@ pub fn charge_call(
             line,
         }));
     }
-    charge_arguments(stage, arguments)
+    charge_elements(stage, array_elements(arguments))
 }

@@ -1,32 +1,14 @@
 // How a function is entered and left.
 ghost use Rattle.std.specs.Prelude.{◌≡◌, ◌≤◌, IfOk, length, map};
 ghost use Rattle.std.specs.List.{slice_get};
-ghost use Rattle.language_model.specs.Values.{never_stored};
 ghost use Rattle.language_model.specs.Evaluation.{begins, entered};
 ghost use Rattle.value_steps.specs.Views.{value_seen};
 ghost use Rattle.clear_eval.specs.inner.Views.{frame_seen};
 
-use crate::slots::default_words;
-use crate::words::{is_private, nothing};
 use reached_instances::{BoundDomain, domain_under};
 use std::alloc::{AllocError, Global};
-use typed_tree::{Shape, Slot};
-use value_steps::{Secrecy, Value};
-
-/// What a slot begins as into which nothing was stored.
-fn never_stored(alloc: Global, private: bool, shape: Shape) -> Result<Value, AllocError>
-    ensures { IfOk result (λ v. value_seen v ≡ never_stored private shape) }
-{
-    Ok(Value {
-        secrecy: if private {
-            Secrecy::Private(None)
-        } else {
-            Secrecy::Plain
-        },
-        shape,
-        words: default_words(alloc, shape.array)?,
-    })
-}
+use typed_tree::Slot;
+use value_steps::Value;
 
 /// What the slot of this number begins as where a function is called under this binding.
 fn beginning(
@@ -38,10 +20,10 @@ fn beginning(
     ensures { IfOk result (λ v. value_seen v ≡ begins binding.now (slice_get slots.now number)) }
 {
     match slots.get(number) {
-        None => nothing(alloc),
+        None => Value::unread(alloc),
         Some(slot) => {
-            let private = is_private(domain_under(binding, slot.domain));
-            never_stored(alloc, private, slot.shape)
+            let private = domain_under(binding, slot.domain).is_private();
+            Value::never_stored(alloc, private, slot.shape)
         }
     }
 }

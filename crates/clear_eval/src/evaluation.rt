@@ -20,10 +20,10 @@ use crate::flow::Flow;
 use crate::held::Held;
 use crate::parts::{Joined, Parts, StatementParts, parts_of, statement_parts_of};
 use crate::place::Around;
-use crate::slots::{next_is_private, slot_value};
+use crate::slots::slot_value;
 use crate::steps::{decided, leaf, on_one, on_two, plain, with_one, with_two};
-use crate::words::{bool_operator, decides, is_private};
-use reached_instances::{BoundDomain, domain};
+use crate::words::decides;
+use reached_instances::{BoundDomain, domain, next_is_private};
 use std::alloc::Global;
 use typed_tree::{
     BinaryOperator, Connective, Operands, Operation, Slot, TypedExpression, TypedStatement,
@@ -156,7 +156,7 @@ fn on_arrays(
     ensures step { Does value_seen (evaluation_at around.now frame.now.items e.now) (stage_seen stage.old) result (stage_seen stage.new) }
     ensures spends { stage.new.left ≤ stage.old.left }
 {
-    let private = is_private(domain(around.alloc, &around.at.here, e)?);
+    let private = domain(around.alloc, &around.at.here, e)?.is_private();
     let x = value_wanted(around, stage, frame, private, arrays.left)?;
     let y = value_wanted(around, stage, frame, private, arrays.right)?;
     concatenated(around.alloc, stage, arrays.line, x, &y)
@@ -181,7 +181,7 @@ fn connected(
         (stage_seen stage.old) result (stage_seen stage.new) }
     ensures spends { stage.new.left ≤ stage.old.left }
 {
-    let private = is_private(domain(around.alloc, &around.at.here, x)?);
+    let private = domain(around.alloc, &around.at.here, x)?.is_private();
     let x = value(around, stage, frame, x)?;
     if private {
         not_cut_short(around, stage, frame, connective, x, y)
@@ -211,7 +211,7 @@ fn not_cut_short(
     let right = value(around, stage, frame, right)?;
     let step = Operation {
         line: 0,
-        operator: BinaryOperator::Bools(bool_operator(connective)),
+        operator: BinaryOperator::Bools(connective.operator()),
         operands: Operands::Scalars,
     };
     operation(around.alloc, around.world, stage, step, left, right)

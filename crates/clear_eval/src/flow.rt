@@ -6,7 +6,6 @@ ghost use Rattle.value_steps.specs.declared.value.Value.{Value as Kept};
 ghost use Rattle.clear_eval.specs.inner.Flows.{LeavesLoop};
 ghost use Rattle.clear_eval.specs.inner.Views.{flow_seen};
 
-use crate::words::nothing;
 use std::alloc::{AllocError, Global};
 use value_steps::Value;
 
@@ -38,7 +37,7 @@ impl Flow {
     {
         match self {
             Flow::Returns(value) => Ok(value),
-            Flow::Goes | Flow::Stops | Flow::Skips => nothing(alloc),
+            Flow::Goes | Flow::Stops | Flow::Skips => Value::unread(alloc),
         }
     }
 

@@ -4,7 +4,7 @@ ghost use Rattle.typed_tree.specs.Programs.{typed_function_tree, typed_program_t
 ghost use Rattle.typed_tree.specs.Sound.{IsSound};
 ghost use Rattle.language_model.specs.Effects.{Ended};
 ghost use Rattle.language_model.specs.Evaluation.{deepest};
-ghost use Rattle.language_model.specs.Reports.{beginning, reported, report_of, evaluated, world_of};
+ghost use Rattle.language_model.specs.Reports.{reported, report_of, evaluated, world_of};
 ghost use Rattle.value_steps.specs.Views.{given_seen, source_seen, stage_seen, world_seen};
 ghost use Rattle.clear_eval.specs.Offers.{offered_with};
 ghost use Rattle.clear_eval.specs.Reports.{stop_seen, ran_seen, report_seen};
@@ -17,10 +17,7 @@ use crate::report::{Needs, Report};
 use sc_text::{End, Ending, TapeOwner};
 use std::alloc::{AllocError, Global};
 use typed_tree::{TypedFunction, TypedProgram};
-use value_steps::{Drawn, GivenInput, Halt, Lengths, Source, Stage, World};
-
-/// How many calls may stand in one another inside `main`.
-const DEEPEST_BELOW_MAIN: usize = 63;
+use value_steps::{GivenInput, Halt, Lengths, MOST_CALLS, Source, Stage, World};
 
 /// Why a run stopped.
 #[derive(Clone, Copy)]
@@ -85,25 +82,6 @@ impl Ran<'_> {
     }
 }
 
-/// The stage where a run begins, with all of its budget.
-fn beginning(alloc: Global, budget: u64, answers: &[u64]) -> Stage<'_>
-    ensures { stage_seen result ≡ beginning budget answers.now }
-{
-    Stage {
-        left: budget,
-        drawn: Drawn {
-            first: 0,
-            second: 0,
-            third: 0,
-        },
-        made: 0,
-        gates: Vec::new(alloc),
-        events: Vec::new(alloc),
-        opened: Vec::new(alloc),
-        answers,
-    }
-}
-
 /// Runs `main`, function number 0, and tells why it stopped; where there is no function, nothing is done.
 fn run_main(
     alloc: Global,
@@ -123,7 +101,7 @@ fn run_main(
     let arguments = Vec::new(alloc);
     let callee = Callee {
         functions,
-        depth: DEEPEST_BELOW_MAIN,
+        depth: MOST_CALLS,
         number: 0,
         binding: &[],
     };
@@ -164,7 +142,7 @@ pub fn run<'a>(
     requires { IsSound (typed_program_tree program.now) }
     ensures { IfOk result (λ ran. ran_seen ran ≡ evaluated (world_seen world.now) (typed_program_tree program.now) budget answers.now) }
 {
-    let mut stage = beginning(alloc, budget, answers);
+    let mut stage = Stage::new(alloc, budget, answers);
     let (need, have) = (dealing(world.inputs), world.dealer);
     if need > have as u128 {
         let owner = TapeOwner::Dealer;

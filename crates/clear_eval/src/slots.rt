@@ -1,62 +1,18 @@
 // The slots of a function that is running.
-ghost use Rattle.std.specs.Prelude.{◌≡◌, ◌≤◌, ◌<◌, IfOk, length, drop};
+ghost use Rattle.std.specs.Prelude.{◌≡◌, ◌≤◌, ◌<◌, IfOk, length};
 ghost use Rattle.reached_instances.specs.Views.{setting};
 ghost use Rattle.language_model.specs.Values.{Value as Meant, plain, default_words};
-ghost use Rattle.language_model.specs.Evaluation.{put, next_is_private, slot_is_private, slot_shape, stored};
+ghost use Rattle.language_model.specs.Evaluation.{put, slot_shape, stored};
 ghost use Rattle.value_steps.specs.Steps.{Does};
 ghost use Rattle.value_steps.specs.Views.{value_seen, stage_seen};
 ghost use Rattle.clear_eval.specs.inner.Views.{frame_seen, goes_on};
 ghost use Rattle.clear_eval.specs.inner.Elements.{with_element_in};
 
 use crate::place::StatementContext;
-use crate::words::is_private;
-use reached_instances::{BoundDomain, domain_under, slot_domain};
-use secrec_ast::DataType;
+use reached_instances::{slot_is_private, slot_shape};
 use std::alloc::{AllocError, Global};
 use std::mem;
-use typed_tree::{Shape, Slot};
 use value_steps::{Halt, Secrecy, Stage, Value, charged, wanted, with_element};
-
-/// Whether a slot's values are private.
-pub fn is_private_slot(at: &StatementContext<'_>, slot: usize) -> bool
-    ensures { result ≡ slot_is_private (setting at.now.here) slot }
-{
-    is_private(slot_domain(&at.here, slot))
-}
-
-/// Whether the parameter of this number is private, where a function with these slots is called under this binding.
-pub fn next_is_private(binding: &[BoundDomain], slots: &[Slot], number: usize) -> bool
-    ensures { result ≡ next_is_private binding.now (drop number slots.now) }
-{
-    match slots.get(number) {
-        None => false,
-        Some(slot) => is_private(domain_under(binding, slot.domain)),
-    }
-}
-
-/// The shape of a slot's values.
-pub fn slot_shape(at: &StatementContext<'_>, slot: usize) -> Shape
-    ensures { result ≡ slot_shape (setting at.now.here) slot }
-{
-    match at.here.slots.get(slot) {
-        None => Shape {
-            element: DataType::Uint64,
-            array: false,
-        },
-        Some(slot) => slot.shape,
-    }
-}
-
-/// The words of 0, of false, or of the empty array.
-pub fn default_words(alloc: Global, array: bool) -> Result<Vec<u64>, AllocError>
-    ensures { IfOk result (λ words. words.items ≡ default_words array) }
-{
-    if array {
-        Ok(Vec::new(alloc))
-    } else {
-        Ok(vec![in alloc; 0]?)
-    }
-}
 
 /// What a declaration stores that names no value: 0, false or the empty array, which everybody may see.
 pub fn default_value(
@@ -67,12 +23,8 @@ pub fn default_value(
     ensures { IfOk result (λ v. value_seen v ≡
         plain (slot_shape (setting at.now.here) slot) (default_words (slot_shape (setting at.now.here) slot).array)) }
 {
-    let shape = slot_shape(at, slot);
-    Ok(Value {
-        secrecy: Secrecy::Plain,
-        shape,
-        words: default_words(alloc, shape.array)?,
-    })
+    let shape = slot_shape(&at.here, slot);
+    Value::never_stored(alloc, false, shape)
 }
 
 /// The value in a slot.
@@ -151,7 +103,7 @@ pub fn store(
     ensures slots { length frame.new.items ≡ length frame.old.items }
     ensures spends { stage.new.left ≤ stage.old.left }
 {
-    let value = wanted(alloc, stage, is_private_slot(at, slot), value)?;
+    let value = wanted(alloc, stage, slot_is_private(&at.here, slot), value)?;
     charged(stage, value.size())?;
     put(frame, slot, value);
     Ok(())

@@ -15,11 +15,9 @@ ghost use Rattle.clear_eval.specs.inner.Standing.{evaluation_at, flow_at, IsSoun
 use crate::flow::Flow;
 use crate::held::Held;
 use crate::place::{Around, StatementContext};
-use crate::slots::{
-    ArrayPlace, default_value, is_private_slot, put, set_element, slot_shape, slot_value, store,
-};
-use crate::words::{is_private, nothing, truth_value, word_value};
-use reached_instances::domain;
+use crate::slots::{ArrayPlace, default_value, put, set_element, slot_value, store};
+use crate::words::truth_value;
+use reached_instances::{domain, slot_is_private, slot_shape};
 use std::alloc::Global;
 use typed_tree::{Operation, TypedExpression, TypedStatement};
 use value_steps::{
@@ -42,7 +40,7 @@ pub fn leaf(
     ensures spends { stage.new.left ≤ stage.old.left }
 {
     match e {
-        TypedExpression::Word(word) => Ok(word_value(around.alloc, *word)?),
+        TypedExpression::Word(word) => Ok(Value::number(around.alloc, *word)?),
         TypedExpression::Truth(truth) => Ok(truth_value(around.alloc, *truth)?),
         TypedExpression::Variable(slot) => Ok(slot_value(frame, *slot).copy(around.alloc)?),
         _ => unreachable!(),
@@ -118,7 +116,7 @@ pub fn decided(
         (stage_seen stage.old) result (stage_seen stage.new) }
     ensures spends { stage.new.left ≤ stage.old.left }
 {
-    let private = is_private(domain(alloc, &at.here, right)?);
+    let private = domain(alloc, &at.here, right)?.is_private();
     let value = truth_value(alloc, truth)?;
     wanted(alloc, stage, private, value)
 }
@@ -142,7 +140,7 @@ pub fn plain(
         TypedStatement::Empty => Ok(Flow::Goes),
         TypedStatement::Break => Ok(Flow::Stops),
         TypedStatement::Continue => Ok(Flow::Skips),
-        TypedStatement::Return(None) => Ok(Flow::Returns(nothing(around.alloc)?)),
+        TypedStatement::Return(None) => Ok(Flow::Returns(Value::unread(around.alloc)?)),
         TypedStatement::StoreDefault(slot) => {
             let value = default_value(around.alloc, &around.at, *slot)?;
             store(around.alloc, &around.at, stage, frame, *slot, value)?;
@@ -151,8 +149,8 @@ pub fn plain(
         TypedStatement::Input(line, slot, name) => {
             let asked = Asked {
                 line: *line,
-                private: is_private_slot(&around.at, *slot),
-                shape: slot_shape(&around.at, *slot),
+                private: slot_is_private(&around.at.here, *slot),
+                shape: slot_shape(&around.at.here, *slot),
             };
             let value = asked_for(around.alloc, around.world, stage, asked, name)?;
             store(around.alloc, &around.at, stage, frame, *slot, value)?;
@@ -219,13 +217,23 @@ pub fn with_two(
 {
     match s {
         TypedStatement::Fill(line, slot, _, _) => {
-            let element = wanted(around.alloc, stage, is_private_slot(&around.at, *slot), y)?;
+            let element = wanted(
+                around.alloc,
+                stage,
+                slot_is_private(&around.at.here, *slot),
+                y,
+            )?;
             let array = filled(around.alloc, stage, *line, &x, &element)?;
             put(frame, *slot, array);
             Ok(Flow::Goes)
         }
         TypedStatement::StoreElement(line, slot, _, _) => {
-            let element = wanted(around.alloc, stage, is_private_slot(&around.at, *slot), y)?;
+            let element = wanted(
+                around.alloc,
+                stage,
+                slot_is_private(&around.at.here, *slot),
+                y,
+            )?;
             let place = ArrayPlace {
                 line: *line,
                 slot: *slot,

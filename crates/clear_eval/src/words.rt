@@ -1,40 +1,12 @@
 // Values that come from the program's text.
-ghost use Rattle.std.specs.Prelude.{◌≡◌, [], ◌∷◌, false, IfOk};
-ghost use Rattle.secrec_ast.specs.declared.expression.DataType.TheVariants.{Uint64};
-ghost use Rattle.typed_tree.specs.Shapes.{shape_of};
-ghost use Rattle.language_model.specs.Values.{plain};
-ghost use Rattle.language_model.specs.Evaluation.{is_private, nothing, truth_value, connective as operator_of, decides};
+ghost use Rattle.std.specs.Prelude.{◌≡◌, IfOk};
+ghost use Rattle.language_model.specs.Evaluation.{truth_value, decides};
 ghost use Rattle.value_steps.specs.Views.{value_seen};
 
-use reached_instances::BoundDomain;
 use secrec_ast::DataType;
 use std::alloc::{AllocError, Global};
-use typed_tree::{BoolOperator, Connective, Shape};
+use typed_tree::{Connective, Shape};
 use value_steps::{Secrecy, Value};
-
-/// Whether a domain is one of those whose values nobody sees alone.
-pub fn is_private(domain: BoundDomain) -> bool
-    ensures { result ≡ is_private domain }
-{
-    match domain {
-        BoundDomain::Public => false,
-        BoundDomain::Private(_) => true,
-    }
-}
-
-/// A public number.
-pub fn word_value(alloc: Global, word: u64) -> Result<Value, AllocError>
-    ensures { IfOk result (λ v. value_seen v ≡ plain (shape_of Uint64 false) (word ∷ [])) }
-{
-    Ok(Value {
-        secrecy: Secrecy::Plain,
-        shape: Shape {
-            element: DataType::Uint64,
-            array: false,
-        },
-        words: vec![in alloc; word]?,
-    })
-}
 
 /// A public truth value.
 pub fn truth_value(alloc: Global, truth: bool) -> Result<Value, AllocError>
@@ -42,29 +14,9 @@ pub fn truth_value(alloc: Global, truth: bool) -> Result<Value, AllocError>
 {
     Ok(Value {
         secrecy: Secrecy::Plain,
-        shape: Shape {
-            element: DataType::Bool,
-            array: false,
-        },
+        shape: Shape::scalar(DataType::Bool),
         words: vec![in alloc; u64::from(truth)]?,
     })
-}
-
-/// What a function gives that gives nothing.
-pub fn nothing(alloc: Global) -> Result<Value, AllocError>
-    ensures { IfOk result (λ v. value_seen v ≡ nothing) }
-{
-    word_value(alloc, 0)
-}
-
-/// The operator that a connective is where both operands are evaluated.
-pub fn bool_operator(connective: Connective) -> BoolOperator
-    ensures { result ≡ operator_of connective }
-{
-    match connective {
-        Connective::AndAlso => BoolOperator::And,
-        Connective::OrElse => BoolOperator::Or,
-    }
 }
 
 /// Whether a left operand decides alone.

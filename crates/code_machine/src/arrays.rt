@@ -1,8 +1,7 @@
 // How an element of an array is written.
-ghost use Rattle.std.specs.Prelude.{◌≡◌, ◌<◌, IfOk};
-ghost use Rattle.gates.specs.Clear.{first_word};
+ghost use Rattle.std.specs.Prelude.{◌<◌, IfOk};
 ghost use Rattle.language_model.specs.Operations as row;
-ghost use Rattle.language_model.specs.Values.{visible_words, size};
+ghost use Rattle.language_model.specs.Values.{size};
 ghost use Rattle.bytecode.specs.Raw.{RawCode};
 ghost use Rattle.value_steps.specs.Steps.{Does, itself};
 ghost use Rattle.value_steps.specs.Views.{stage_seen, value_seen};
@@ -19,23 +18,13 @@ use sc_text::TrapKind;
 use std::alloc::Global;
 use value_steps::{Halt, Secrecy, Stage, Value, charge, test_at};
 
-/// The first word of a public value. A private one isn't looked at: it gives 0.
-fn seen_word(value: &Value) -> u64
-    ensures { result ≡ first_word (visible_words (value_seen value.now)) }
-{
-    match value.secrecy {
-        Secrecy::Plain => vector_ops::first_word(&value.words),
-        Secrecy::Private(_) => 0,
-    }
-}
-
 /// The place that an index means in an array; one beyond the array is a trap.
 fn place_in(stage: &mut Stage<'_>, line: u32, array: &Value, index: &Value) -> Result<u64, Halt>
     ensures step { Does itself (Parts.place_in line (value_seen array.now) (value_seen index.now)) (stage_seen stage.old) result (stage_seen stage.new) }
     ensures within { IfOk result (λ place. place < size (value_seen array.now)) }
 {
     charge(stage, 1)?;
-    let place = seen_word(index);
+    let place = index.seen_word();
     test_at(stage, place < array.size(), TrapKind::Index, line)?;
     Ok(place)
 }
@@ -61,7 +50,7 @@ pub(crate) fn put(
     match old.secrecy {
         Secrecy::Plain => {
             let place = place_in(stage, element.line, old, machine.register(element.index))?;
-            let word = seen_word(machine.register(element.value));
+            let word = machine.register(element.value).seen_word();
             Ok(Change::Element(element.array, place, word))
         }
         Secrecy::Private(_) => {

@@ -1,10 +1,8 @@
-// Where a function begins, and where a run does.
-ghost use Rattle.std.specs.Prelude.{◌≡◌, ◌≤◌, [], IfOk, Some, length, map, slice_get};
-ghost use Rattle.language_model.specs.Reports.{beginning};
-ghost use Rattle.language_model.specs.Values.{default_words};
+// Where a function begins, and where code does.
+ghost use Rattle.std.specs.Prelude.{◌≡◌, ◌≤◌, IfOk, Some, length, map, slice_get};
 ghost use Rattle.verified_code.specs.Settled.{settled};
 ghost use Rattle.code_model.specs.Machine.{begun, filled_with, start};
-ghost use Rattle.value_steps.specs.Views.{stage_seen, value_seen};
+ghost use Rattle.value_steps.specs.Views.{value_seen};
 ghost use Rattle.code_machine.specs.Standing.{Stands, kinds_at};
 ghost use Rattle.code_machine.specs.Views.{machine_seen, registers_seen};
 
@@ -12,36 +10,18 @@ use crate::machine::Machine;
 use bytecode::Kind;
 use std::alloc::{AllocError, Global};
 use typed_tree::Shape;
-use value_steps::{Drawn, Secrecy, Stage, Value};
+use value_steps::Value;
 use verified_code::Verified;
-
-/// The words of 0, of false, or of the empty array.
-fn default_words(alloc: Global, array: bool) -> Result<Vec<u64>, AllocError>
-    ensures { IfOk result (λ words. words.items ≡ default_words array) }
-{
-    if array {
-        Ok(Vec::new(alloc))
-    } else {
-        Ok(vec![in alloc; 0]?)
-    }
-}
 
 /// What a register of a kind begins as.
 fn begun(alloc: Global, kind: Kind) -> Result<Value, AllocError>
     ensures { IfOk result (λ v. value_seen v ≡ begun (Some kind)) }
 {
-    Ok(Value {
-        secrecy: if kind.secret {
-            Secrecy::Private(None)
-        } else {
-            Secrecy::Plain
-        },
-        shape: Shape {
-            element: kind.element,
-            array: kind.array,
-        },
-        words: default_words(alloc, kind.array)?,
-    })
+    let shape = Shape {
+        element: kind.element,
+        array: kind.array,
+    };
+    Value::never_stored(alloc, kind.secret, shape)
 }
 
 /// The registers of a function that is called: the arguments, and what the others begin as.
@@ -82,23 +62,4 @@ pub fn start(alloc: Global, code: &Verified) -> Result<Machine, AllocError>
         registers,
         callers: Vec::new(alloc),
     })
-}
-
-/// The stage where a run begins, with all of its budget.
-pub fn beginning(alloc: Global, budget: u64) -> Stage<'static>
-    ensures { stage_seen result ≡ beginning budget [] }
-{
-    Stage {
-        left: budget,
-        drawn: Drawn {
-            first: 0,
-            second: 0,
-            third: 0,
-        },
-        made: 0,
-        gates: Vec::new(alloc),
-        events: Vec::new(alloc),
-        opened: Vec::new(alloc),
-        answers: &[],
-    }
 }

@@ -1,6 +1,5 @@
 // How a function is called.
 ghost use Rattle.std.specs.Prelude.{◌≡◌, ◌≤◌, IfOk, length, map, sum};
-ghost use Rattle.language_model.specs.Effects.{charge};
 ghost use Rattle.language_model.specs.Evaluation.{array_elements};
 ghost use Rattle.code_model.specs.Machine.{filled_with, values_at};
 ghost use Rattle.value_steps.specs.Steps.{Does, itself};
@@ -12,21 +11,10 @@ ghost use Rattle.code_machine.specs.Views.{all_kept, registers_seen};
 use crate::begin::{filled, kinds_at};
 use crate::machine::Machine;
 use bytecode::{FunctionPlace, Register};
-use sc_text::{Ending, TrapKind};
+use sc_text::TrapKind;
 use std::alloc::{AllocError, Global};
-use value_steps::{Halt, Stage, Value, charge, test_at};
+use value_steps::{Halt, MOST_CALLS, Stage, Value, charge, charge_elements, test_at};
 use verified_code::Verified;
-
-/// As many calls may stand in one another beside `main`.
-const LIMIT: usize = 63;
-
-/// How many elements a value counts with as an argument: an array's all, and another's none.
-fn elements(value: &Value) -> u64
-    ensures exact { result ≡ array_elements (value_seen value.now) }
-    ensures few { result ≤ 1048576 }
-{
-    if value.shape.array { value.size() } else { 0 }
-}
 
 /// How many elements the arrays among these registers have together.
 fn array_elements(machine: &Machine, arguments: &[Register]) -> u128
@@ -35,20 +23,9 @@ fn array_elements(machine: &Machine, arguments: &[Register]) -> u128
 {
     let mut count = 0;
     for argument in arguments {
-        count += elements(machine.register(*argument)) as u128;
+        count += machine.register(*argument).array_elements() as u128;
     }
     count
-}
-
-/// Charges so much, which may be more than a budget can be.
-fn charge_all(stage: &mut Stage<'_>, count: u128) -> Result<(), Halt>
-    ensures { Does itself (charge count) (stage_seen stage.old) result (stage_seen stage.new) }
-{
-    if count <= stage.left as u128 {
-        charge(stage, count as u64)
-    } else {
-        Err(Halt::Ended(Ending::Budget))
-    }
 }
 
 /// Charges a call, where there is room for one more: 1, and then the elements of its arrays.
@@ -63,8 +40,13 @@ pub(crate) fn charge_call(
         (stage_seen stage.old) result (stage_seen stage.new) }
 {
     charge(stage, 1)?;
-    test_at(stage, machine.callers.len() < LIMIT, TrapKind::Depth, line)?;
-    charge_all(stage, array_elements(machine, arguments))
+    test_at(
+        stage,
+        machine.callers.len() < MOST_CALLS,
+        TrapKind::Depth,
+        line,
+    )?;
+    charge_elements(stage, array_elements(machine, arguments))
 }
 
 /// The values of registers, in memory of their own.

@@ -18,7 +18,7 @@ fn longest(code: &Verified) -> usize
 }
 
 /// How many steps code can have with this budget, where its jumps go forward.
-pub fn fuel(code: &Verified, budget: u64) -> u128
+pub fn most_steps(code: &Verified, budget: u64) -> u128
     ensures { result ≡ fuel (settled code.now) budget }
 {
     let longest = longest(code) as u128;

@@ -23,9 +23,10 @@ mod stepping;
 mod texts;
 mod values;
 
-pub use begin::{beginning, start};
-pub use fuel::fuel as most_steps;
+pub use begin::start;
+pub use fuel::most_steps;
 pub use laws::steps_only_gain;
 pub use machine::{Caller, Machine};
 pub use marks::{Mark, marked, rewind};
 pub use stepping::step;
+pub use texts::name_in;

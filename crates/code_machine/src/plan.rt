@@ -24,9 +24,8 @@ use crate::values::{
 };
 use bytecode::{FunctionPlace, Register};
 use sc_text::Ending;
-use secrec_ast::DataType;
 use std::alloc::Global;
-use typed_tree::{Operation, Shape};
+use typed_tree::Operation;
 use value_steps::{Halt, Stage, Value, World};
 use verified_code::{Step, Verified};
 
@@ -72,12 +71,8 @@ fn leave(alloc: Global, machine: &Machine, source: Option<Register>) -> Result<C
     if machine.callers.is_empty() {
         return Err(Halt::Ended(Ending::Done));
     }
-    let words = vec![in alloc; 0]?;
-    let shape = Shape {
-        element: DataType::Uint64,
-        array: false,
-    };
-    Ok(Change::Leave(source, Value::plain(shape, words)))
+    let unread = Value::unread(alloc)?;
+    Ok(Change::Leave(source, unread))
 }
 
 /// The change that a step makes.

@@ -27,10 +27,7 @@ impl Machine {
     {
         match self.registers.get(register.0 as usize) {
             Some(value) => value.shape,
-            None => Shape {
-                element: DataType::Uint64,
-                array: false,
-            },
+            None => Shape::scalar(DataType::Uint64),
         }
     }
 
@@ -41,13 +38,7 @@ impl Machine {
     {
         match self.registers.get(register.0 as usize) {
             Some(value) => value.copy(alloc),
-            None => {
-                let shape = Shape {
-                    element: DataType::Uint64,
-                    array: false,
-                };
-                Ok(Value::plain(shape, vec![in alloc; 0]?))
-            }
+            None => Value::unread(alloc),
         }
     }
 }

@@ -29,7 +29,7 @@ fn count_of(code: &Code, function: usize) -> usize
 }
 
 /// The step that comes next. What it names is there.
-fn next_step<'c>(code: &'c Verified, machine: &Machine) -> Option<Step<'c>>
+fn coming_step<'c>(code: &'c Verified, machine: &Machine) -> Option<Step<'c>>
     requires { Stands code.now machine.now }
     ensures step { option_map step_in result ≡ step_at code.now machine.now.function machine.now.place }
     ensures there { IfSome result (λ s. AreThere (length machine.now.registers.items) (step_in s)) }
@@ -57,7 +57,7 @@ pub fn step(
     ensures kept { IfErr result (λ _. machine_seen code.now machine.new ≡ machine_seen code.now machine.old) }
     ensures stands { Stands code.now machine.new }
 {
-    let Some(step) = next_step(code, machine) else {
+    let Some(step) = coming_step(code, machine) else {
         return Err(Halt::Ended(Ending::Done));
     };
     let change = change_of(alloc, world, code, machine, stage, step)?;

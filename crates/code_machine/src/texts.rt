@@ -16,7 +16,7 @@ use typed_tree::Shape;
 use value_steps::{Asked, Halt, Stage, Value, World, asked_for, published};
 
 /// A name of the code in memory of its own. Each name of verified code is one; for another text no memory is found.
-fn name_in(alloc: Global, text: &str) -> Result<Name, AllocError>
+pub fn name_in(alloc: Global, text: &str) -> Result<Name, AllocError>
     ensures { IfOk result (λ name. name ≡ text.now) }
 {
     match Name::from_str(alloc, text)? {

@@ -4,7 +4,7 @@ ghost use Rattle.code_places.specs.Places.{told_by, next_step};
 ghost use Rattle.code_machine.specs.Views.{machine_seen};
 ghost use Rattle.code_turns.specs.Views.{speech_seen};
 
-use code_machine::Machine;
+use code_machine::{Machine, name_in};
 use sc_text::Name;
 use std::alloc::{AllocError, Global};
 use typed_tree::Shape;
@@ -27,16 +27,6 @@ impl Drop for Speech {
         match self {
             Speech::Nothing | Speech::Opens(_) | Speech::Gives(_, _) => {}
         }
-    }
-}
-
-/// A name of the code in memory of its own. Each name of verified code is one; for another text no memory is found.
-fn name_in(alloc: Global, text: &str) -> Result<Name, AllocError>
-    ensures { IfOk result (λ name. name ≡ text.now) }
-{
-    match Name::from_str(alloc, text)? {
-        Some(name) => Ok(name),
-        None => Err(AllocError),
     }
 }
 

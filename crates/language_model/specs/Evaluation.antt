@@ -9,8 +9,6 @@ use Rattle.secrec_ast.specs.declared.expression.DataType.TheVariants.{Uint64}
 use Rattle.secrec_ast.specs.declared.expression.DataType.TheVariants as datatype
 use Rattle.typed_tree.specs.declared.kinds.Shape.{Shape}
 use Rattle.typed_tree.specs.declared.kinds.Slot.{Slot}
-use Rattle.typed_tree.specs.declared.operators.BoolOperator.{BoolOperator}
-use Rattle.typed_tree.specs.declared.operators.BoolOperator.TheVariants as truth
 use Rattle.typed_tree.specs.declared.operators.BinaryOperator.TheVariants as binary
 use Rattle.typed_tree.specs.declared.operators.Operands.TheVariants.{Scalars}
 use Rattle.typed_tree.specs.declared.operators.Connective.{Connective}
@@ -24,9 +22,10 @@ use Rattle.typed_tree.specs.Statements.{fill_statement, input_statement, element
 use Rattle.typed_tree.specs.Statements as Statements'
 use Rattle.typed_tree.specs.Programs.{TypedFunctionTree}
 use Rattle.reached_instances.specs.declared.instance.BoundDomain.{BoundDomain}
-use Rattle.reached_instances.specs.declared.instance.BoundDomain.TheVariants as bound
 use Rattle.reached_instances.specs.Domains.{Setting, domain, domains, domain_under, slot_domain, given_domain, binding_of}
+pub use Rattle.reached_instances.specs.Domains.{is_private, next_is_private, shape_at, slot_is_private, slot_shape}
 use Rattle.gates.specs.declared.gate.Gate.TheVariants.{Input}
+pub use Rattle.typed_tree.specs.Operators.{connective}
 use Rattle.typed_tree.specs.Shapes.{shape_of}
 use Rattle.language_model.specs.Effects.{World, GivenInput, Effect, ◌>>=◌, done, end, charge, test, gate}
 use Rattle.language_model.specs.Values.{Value, plain, never_stored, size, default_words}
@@ -51,16 +50,9 @@ nothing = plain (shape_of Uint64 false) (0 ∷ [])
 
 -- ---- WHO MAY SEE WHAT
 
-abbrev pub is_private : BoundDomain → Bool
-is_private bound.Public = false
-is_private (bound.Private k) = true
-
 -- whether an expression gives a private value
 abbrev pub gives_private : Setting → TypedTree → Bool
 gives_private here e = is_private (domain here e)
-
-abbrev pub slot_is_private : Setting → ℕ → Bool
-slot_is_private here k = is_private (slot_domain here.binding (slice_get here.slots k))
 
 -- ---- INPUTS
 
@@ -117,10 +109,6 @@ bound_at None ds = []
 bound_at (Some f) ds = binding_of f ds
 
 -- whether the next parameter is private
-abbrev pub next_is_private : List BoundDomain → List Slot → Bool
-next_is_private b [] = false
-next_is_private b (s ∷ ss) = is_private (domain_under b s.domain)
-
 abbrev pub behind_next : List Slot → List Slot
 behind_next [] = []
 behind_next (s ∷ ss) = ss
@@ -130,10 +118,6 @@ behind_next (s ∷ ss) = ss
 abbrev pub either : {A : Type 0} → Bool → A → A → A
 either true a b = a
 either false a b = b
-
-abbrev pub connective : Connective → BoolOperator
-connective AndAlso = truth.And
-connective OrElse = truth.Or
 
 -- whether a left operand decides alone
 abbrev pub decides : Connective → Bool → Bool
@@ -249,13 +233,6 @@ repeats (suc n) condition body fr = do
 pub record StatementContext : Type 0 where
   pub here : Setting
   pub secret_result : Bool
-
-abbrev pub shape_at : Option Slot → Shape
-shape_at None = shape_of Uint64 false
-shape_at (Some s) = s.shape
-
-abbrev pub slot_shape : Setting → ℕ → Shape
-slot_shape here k = shape_at (slice_get here.slots k)
 
 -- a value is stored in a whole variable, classified before where this is private
 abbrev pub stored : Setting → ℕ → Value → Frame → Effect Flow

@@ -26,7 +26,7 @@ use Rattle.typed_tree.specs.declared.operators.Operands.{Operands}
 use Rattle.typed_tree.specs.declared.operators.Operands.TheVariants.{Scalars, ArrayAndScalar, ScalarAndArray}
 use Rattle.typed_tree.specs.declared.operators.Cast.{Cast}
 use Rattle.typed_tree.specs.declared.operators.Cast.TheVariants.{WordToWord, WordToBool, BoolToWord, BoolToBool}
-use Rattle.typed_tree.specs.Operators.{element_made}
+pub use Rattle.typed_tree.specs.Operators.{cast_shape, is_product, result_shape}
 use Rattle.typed_tree.specs.Shapes.{shape_of}
 use Rattle.language_model.specs.Effects.{Words, World, Effect, ◌>>=◌, done, charge, test, words_each, draw, gate, planned, next_number, emit, answer, show}
 use Rattle.language_model.specs.Values.{Secrecy, Plain, Private, Value, plain, hidden, is_secret, size, visible_words, is_true, ring_for, elements_of}
@@ -199,16 +199,6 @@ abbrev pub operator_gates : BinaryOperator → ℕ → (u v : ℕ) → Effect �
 operator_gates (binary.Words op) = word_gates op
 operator_gates (binary.Bools op) = bool_gates op
 
--- a product with a public operand classifies nothing
-abbrev pub is_product : BinaryOperator → Bool
-is_product (binary.Words word.Multiply) = true
-is_product (binary.Bools truth.And) = true
-is_product op = false
-
-abbrev pub result_shape : BinaryOperator → Operands → Shape
-result_shape op Scalars = shape_of (element_made op) false
-result_shape op ds = shape_of (element_made op) true
-
 -- between two private operands
 abbrev pub private_result : World → BinaryOperator → Operands → Value → Value → Effect Value
 private_result w op ds x y = do
@@ -273,12 +263,6 @@ abbrev pub words_of_cast : Cast → ℕ → Words
 words_of_cast WordToBool n = words_for_equality n
 words_of_cast BoolToWord n = words_for_conversion n
 words_of_cast c n = words_each 0
-
-abbrev pub cast_shape : Cast → (array : Bool) → Shape
-cast_shape WordToWord array = shape_of Uint64 array
-cast_shape WordToBool array = shape_of datatype.Bool array
-cast_shape BoolToWord array = shape_of Uint64 array
-cast_shape BoolToBool array = shape_of datatype.Bool array
 
 -- a number is true where it isn't 0
 abbrev pub cast_gates : Cast → ℕ → ℕ → Effect ℕ

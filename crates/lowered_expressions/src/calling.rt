@@ -1,18 +1,17 @@
 // What a call names.
-ghost use Rattle.std.specs.Prelude.{◌≡◌, IfOk, drop, map};
+ghost use Rattle.std.specs.Prelude.{◌≡◌, IfOk, map};
 ghost use Rattle.std.specs.List.{slice_get};
 ghost use Rattle.typed_tree.specs.Tree.{typed_tree, typed_trees_of};
 ghost use Rattle.reached_instances.specs.Domains.{domains};
 ghost use Rattle.reached_instances.specs.Views.{setting};
-ghost use Rattle.language_model.specs.Evaluation.{bound_at, next_is_private, slot_is_private, slots_of};
+ghost use Rattle.language_model.specs.Evaluation.{bound_at, slots_of};
 ghost use Rattle.code_model.specs.Expressions.{result_at};
 ghost use Rattle.lowered_expressions.specs.Views.{numbers_of};
 ghost use Rattle.lowered_expressions.specs.inner.Notes.{arguments_notes};
 
 use crate::around::Around;
 use crate::notes::{Note, noted_domains};
-use crate::operands::is_private;
-use reached_instances::{BoundDomain, Instance, Setting, binding_of, domain_under, slot_domain};
+use reached_instances::{BoundDomain, Instance, Setting, binding_of};
 use std::alloc::{AllocError, Global};
 use typed_tree::{Returned, Slot, TypedExpression};
 
@@ -51,23 +50,6 @@ pub fn slots_of<'a>(here: &Setting<'a>, function: usize) -> &'a [Slot]
         None => &[],
         Some(callee) => &callee.slots,
     }
-}
-
-/// Whether the parameter of this number is private, where a function with these slots is called under this binding.
-pub fn next_is_private(binding: &[BoundDomain], slots: &[Slot], number: usize) -> bool
-    ensures { result ≡ next_is_private binding.now (drop number slots.now) }
-{
-    match slots.get(number) {
-        None => false,
-        Some(slot) => is_private(domain_under(binding, slot.domain)),
-    }
-}
-
-/// Whether what stands in a slot is private.
-pub fn slot_is_private(here: &Setting<'_>, slot: usize) -> bool
-    ensures { result ≡ slot_is_private (setting here.now) slot }
-{
-    is_private(slot_domain(here, slot))
 }
 
 /// The register of what a call gives, where the function gives something.

@@ -13,18 +13,18 @@ ghost use Rattle.lowered_expressions.specs.inner.Notes.{arguments_notes, notes_o
 
 use crate::around::Around;
 use crate::body::Body;
-use crate::calling::{CallHead, bound_at, next_is_private, number_of, slots_of};
+use crate::calling::{CallHead, bound_at, number_of, slots_of};
 use crate::closing::{LeftOperand, One, close_binary, close_cut, one_step};
 use crate::kinds::kind_of;
 use crate::notes::{Note, behind_first, first_is_private, first_kind, first_private_kind, parted};
 use crate::operands::{WantedOperand, wanted};
 use crate::step::Step;
-use crate::words::{lacks, mixes, operator_of, scalar, truth_word};
+use crate::words::{lacks, mixes, truth_word};
 use bytecode::Kind;
-use reached_instances::BoundDomain;
+use reached_instances::{BoundDomain, next_is_private};
 use secrec_ast::DataType;
 use std::alloc::AllocError;
-use typed_tree::{BinaryOperator, Connective, Operands, Operation, Slot, TypedExpression};
+use typed_tree::{BinaryOperator, Connective, Operands, Operation, Shape, Slot, TypedExpression};
 
 /// Puts the registers and the code of an expression, of which these are the notes, behind a body: its value stands in the first of
 /// them. An error comes where memory runs short.
@@ -272,13 +272,13 @@ fn cut(
     let (left, right) = parted(behind_first(notes));
     let secret = first_is_private(left);
     let to = body.fresh(first_kind(notes))?;
-    body.fresh(kind_of(secret, scalar(DataType::Bool)))?;
-    body.fresh(kind_of(true, scalar(DataType::Bool)))?;
+    body.fresh(kind_of(secret, Shape::scalar(DataType::Bool)))?;
+    body.fresh(kind_of(true, Shape::scalar(DataType::Bool)))?;
     expression(body, around, left, a)?;
     if secret {
         let operation = Operation {
             line: 0,
-            operator: BinaryOperator::Bools(operator_of(connective)),
+            operator: BinaryOperator::Bools(connective.operator()),
             operands: Operands::Scalars,
         };
         both(

@@ -4,13 +4,11 @@ ghost use Rattle.std.specs.List.{slice_get};
 ghost use Rattle.typed_tree.specs.Tree.{typed_tree};
 ghost use Rattle.typed_tree.specs.Programs.{typed_function_tree};
 ghost use Rattle.reached_instances.specs.Views.{setting};
-ghost use Rattle.language_model.specs.Evaluation.{gives_private, slot_shape};
+ghost use Rattle.language_model.specs.Evaluation.{gives_private};
 ghost use Rattle.code_model.specs.Kinds.{called_shape, kind_in, kind_of, private_kind_in, returned_shape, shape_in};
 
-use crate::operands::is_private;
-use crate::words::{cast_shape, result_shape, scalar};
 use bytecode::Kind;
-use reached_instances::{Setting, domain};
+use reached_instances::{Setting, domain, slot_shape};
 use secrec_ast::DataType;
 use std::alloc::{AllocError, Global};
 use typed_tree::{Returned, Shape, TypedExpression, TypedFunction};
@@ -20,7 +18,7 @@ fn returned_shape(given: Returned) -> Shape
     ensures { result ≡ returned_shape given }
 {
     match given {
-        Returned::Nothing => scalar(DataType::Uint64),
+        Returned::Nothing => Shape::scalar(DataType::Uint64),
         Returned::Value(slot) => slot.shape,
     }
 }
@@ -30,18 +28,8 @@ pub fn called_shape(functions: &[TypedFunction], function: usize) -> Shape
     ensures { result ≡ called_shape (slice_get (map typed_function_tree functions.now) function) }
 {
     match functions.get(function) {
-        None => scalar(DataType::Uint64),
+        None => Shape::scalar(DataType::Uint64),
         Some(callee) => returned_shape(callee.given),
-    }
-}
-
-/// The shape of what stands in a slot.
-pub fn slot_shape(here: &Setting<'_>, slot: usize) -> Shape
-    ensures { result ≡ slot_shape (setting here.now) slot }
-{
-    match here.slots.get(slot) {
-        None => scalar(DataType::Uint64),
-        Some(slot) => slot.shape,
     }
 }
 
@@ -51,18 +39,20 @@ fn shape(here: &Setting<'_>, e: &TypedExpression) -> Shape
 {
     match e {
         TypedExpression::Word(_) | TypedExpression::Size(_) | TypedExpression::Sum(_) => {
-            scalar(DataType::Uint64)
+            Shape::scalar(DataType::Uint64)
         }
-        TypedExpression::Truth(_) | TypedExpression::CutShort(_, _, _) => scalar(DataType::Bool),
+        TypedExpression::Truth(_) | TypedExpression::CutShort(_, _, _) => Shape::scalar(
+            DataType::Bool,
+        ),
         TypedExpression::Variable(slot) => slot_shape(here, *slot),
         TypedExpression::Call(_, function, _) => called_shape(here.functions, *function),
         TypedExpression::BitExtract(_, _) => Shape {
             element: DataType::Bool,
             array: true,
         },
-        TypedExpression::Element(_, array, _) => scalar(shape(here, array).element),
-        TypedExpression::Cast(cast, operand) => cast_shape(*cast, shape(here, operand).array),
-        TypedExpression::Binary(_, operator, operands, _, _) => result_shape(*operator, *operands),
+        TypedExpression::Element(_, array, _) => Shape::scalar(shape(here, array).element),
+        TypedExpression::Cast(cast, operand) => cast.shape(shape(here, operand).array),
+        TypedExpression::Binary(_, operator, operands, _, _) => operator.result_shape(*operands),
         TypedExpression::Cat(_, operand, _)
         | TypedExpression::Not(operand)
         | TypedExpression::Declassify(operand) => shape(here, operand),
@@ -89,7 +79,7 @@ pub fn gives_private(
     ensures { IfOk result (λ p. p ≡ gives_private (setting here.now) (typed_tree e.now)) }
 {
     let domain = domain(alloc, here, e)?;
-    Ok(is_private(domain))
+    Ok(domain.is_private())
 }
 
 /// The kind of what an expression gives. An error comes where memory runs short.

@@ -16,9 +16,9 @@ mod words;
 
 pub use around::Around;
 pub use body::Body;
-pub use calling::{given_to, slot_is_private};
+pub use calling::given_to;
 pub use entries::{argument, call, expression, operand};
-pub use kinds::{kind, kind_of, private_kind, slot_shape};
-pub use operands::{WantedOperand, is_private, wanted};
+pub use kinds::{kind, kind_of, private_kind};
+pub use operands::{WantedOperand, wanted};
 pub use step::{BodyPiece, Step};
 pub use words::lacks;

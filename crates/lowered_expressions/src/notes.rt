@@ -5,8 +5,6 @@ ghost use Rattle.lowered_expressions.specs.inner.Notes.{behind_first, behind_par
 ghost use Rattle.lowered_expressions.specs.inner.Notes.{first_private_kind, noted_domains, nothing_noted};
 
 use crate::kinds::kind_of;
-use crate::operands::is_private;
-use crate::words::scalar;
 use bytecode::Kind;
 use reached_instances::BoundDomain;
 use secrec_ast::DataType;
@@ -34,7 +32,7 @@ pub fn nothing_noted() -> Note
     Note {
         given: Given {
             domain: BoundDomain::Public,
-            shape: scalar(DataType::Uint64),
+            shape: Shape::scalar(DataType::Uint64),
         },
         nodes: 0,
     }
@@ -54,7 +52,7 @@ fn first_note(notes: &[Note]) -> Note
 pub fn first_is_private(notes: &[Note]) -> bool
     ensures { result ≡ first_is_private notes.now }
 {
-    is_private(first_note(notes).given.domain)
+    first_note(notes).given.domain.is_private()
 }
 
 /// The kind of what the first expression gives.
@@ -62,7 +60,7 @@ pub fn first_kind(notes: &[Note]) -> Kind
     ensures { result ≡ first_kind notes.now }
 {
     let given = first_note(notes).given;
-    kind_of(is_private(given.domain), given.shape)
+    kind_of(given.domain.is_private(), given.shape)
 }
 
 /// The kind of what the first expression gives, once it is classified.

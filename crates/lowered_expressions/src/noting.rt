@@ -8,10 +8,11 @@ ghost use Rattle.typed_tree.specs.Shapes.{shape_of};
 ghost use Rattle.lowered_expressions.specs.inner.Notes.{arguments_notes, given_in, given_of, notes_of, one_given, operands_notes};
 
 use crate::closing::One;
-use crate::kinds::{called_shape, slot_shape};
+use crate::kinds::called_shape;
 use crate::notes::{Given, Note, nothing_noted};
-use crate::words::{cast_shape, result_shape, scalar};
-use reached_instances::{BoundDomain, Setting, call_domain, joined_domain, slot_domain};
+use reached_instances::{
+    BoundDomain, Setting, call_domain, joined_domain, slot_domain, slot_shape,
+};
 use secrec_ast::DataType;
 use std::alloc::{AllocError, Global};
 use typed_tree::{Shape, TypedExpression};
@@ -35,8 +36,8 @@ fn one_given(one: One, operand: Given) -> Given
 {
     let Given { domain, shape } = operand;
     match one {
-        One::Size => public(scalar(DataType::Uint64)),
-        One::Sum => given_of(domain, scalar(DataType::Uint64)),
+        One::Size => public(Shape::scalar(DataType::Uint64)),
+        One::Sum => given_of(domain, Shape::scalar(DataType::Uint64)),
         One::Bits(_) => given_of(
             domain,
             Shape {
@@ -45,7 +46,7 @@ fn one_given(one: One, operand: Given) -> Given
             },
         ),
         One::Not => operand,
-        One::Cast(cast) => given_of(domain, cast_shape(cast, shape.array)),
+        One::Cast(cast) => given_of(domain, cast.shape(shape.array)),
         One::Declassify => public(shape),
     }
 }
@@ -54,7 +55,7 @@ fn one_given(one: One, operand: Given) -> Given
 fn element_given(array: Given) -> Given
     ensures { result ≡ given_of array.domain (shape_of array.shape.element false) }
 {
-    given_of(array.domain, scalar(array.shape.element))
+    given_of(array.domain, Shape::scalar(array.shape.element))
 }
 
 // A value of this shape that two operands give together.
@@ -95,8 +96,8 @@ fn note_operands(
     ensures given { IfOk result (λ given. given ≡ given_in (setting here.now) (typed_tree e.now)) }
 {
     match e {
-        TypedExpression::Word(_) => Ok(public(scalar(DataType::Uint64))),
-        TypedExpression::Truth(_) => Ok(public(scalar(DataType::Bool))),
+        TypedExpression::Word(_) => Ok(public(Shape::scalar(DataType::Uint64))),
+        TypedExpression::Truth(_) => Ok(public(Shape::scalar(DataType::Bool))),
         TypedExpression::Variable(slot) => {
             Ok(given_of(slot_domain(here, *slot), slot_shape(here, *slot)))
         }
@@ -121,11 +122,11 @@ fn note_operands(
         }
         TypedExpression::Binary(_, operator, operands, a, b) => {
             let (left, right) = note_two(alloc, notes, here, a, b)?;
-            Ok(joined(left, right, result_shape(*operator, *operands)))
+            Ok(joined(left, right, operator.result_shape(*operands)))
         }
         TypedExpression::CutShort(_, a, b) => {
             let (left, right) = note_two(alloc, notes, here, a, b)?;
-            Ok(joined(left, right, scalar(DataType::Bool)))
+            Ok(joined(left, right, Shape::scalar(DataType::Bool)))
         }
     }
 }

@@ -1,13 +1,11 @@
 // Operands that may have to be classified.
 ghost use Rattle.std.specs.Prelude.{◌≡◌, IfOk, OnOk};
-ghost use Rattle.language_model.specs.Evaluation.{is_private};
 ghost use Rattle.code_model.specs.Expressions.{classifying, picked};
 ghost use Rattle.lowered_expressions.specs.Built.{with_steps};
 ghost use Rattle.lowered_expressions.specs.Views.{built};
 
 use crate::body::Body;
 use crate::step::Step;
-use reached_instances::BoundDomain;
 use std::alloc::AllocError;
 
 /// The register of an operand's value, that of its classification, and whether it lacks it.
@@ -16,16 +14,6 @@ pub struct WantedOperand {
     pub lacks: bool,
     pub classified: usize,
     pub value: usize,
-}
-
-/// Whether a domain is one of those whose values nobody sees alone.
-pub fn is_private(domain: BoundDomain) -> bool
-    ensures { result ≡ is_private domain }
-{
-    match domain {
-        BoundDomain::Public => false,
-        BoundDomain::Private(_) => true,
-    }
 }
 
 /// Classifies an operand where it lacks that; the register where it stands then.

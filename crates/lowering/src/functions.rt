@@ -12,7 +12,7 @@ ghost use Rattle.lowering.specs.inner.Views.{function_seen};
 use crate::place::LoweringContext;
 use crate::statements::statements;
 use bytecode::Kind;
-use lowered_expressions::{Around, Body, BodyPiece, Step, is_private, kind_of};
+use lowered_expressions::{Around, Body, BodyPiece, Step, kind_of};
 use reached_instances::{BoundDomain, domain_under, given_domain};
 use secrec_ast::DataType;
 use std::alloc::{AllocError, Global};
@@ -31,7 +31,7 @@ pub struct FunctionSteps<'p> {
 fn slot_kind(binding: &[BoundDomain], slot: Slot) -> Kind
     ensures { result ≡ slot_kind binding.now slot }
 {
-    kind_of(is_private(domain_under(binding, slot.domain)), slot.shape)
+    kind_of(domain_under(binding, slot.domain).is_private(), slot.shape)
 }
 
 // The kind of what a function gives back, if anything.
@@ -147,7 +147,7 @@ pub fn function_steps<'p>(
     let binding = around.here.binding;
     let at = LoweringContext {
         around: *around,
-        secret_result: is_private(given_domain(binding, function.given)),
+        secret_result: given_domain(binding, function.given).is_private(),
     };
     let registers = first_registers(around.alloc, binding, &function.slots)?;
     let mut body = Body {

@@ -12,8 +12,9 @@ ghost use Rattle.lowering.specs.inner.Views.{numbers_at, place_seen};
 use crate::place::LoweringContext;
 use lowered_expressions::{
     Around, Body, Step, WantedOperand, argument, call, expression, given_to, kind, kind_of, lacks,
-    operand, private_kind, slot_is_private, slot_shape, wanted,
+    operand, private_kind, wanted,
 };
+use reached_instances::{slot_is_private, slot_shape};
 use sc_text::Name;
 use secrec_ast::DataType;
 use std::alloc::AllocError;

@@ -10,12 +10,13 @@ use crate::answer::{End, MinerErr, Step};
 use crate::engine::{At, Engine};
 use crate::letting_go::Letting;
 use crate::task::Task;
-use code_machine::{beginning, most_steps, start};
+use code_machine::{most_steps, start};
 use gate_node::{GateNode, Stand};
 use gates::Values;
 use proto_core::{Link, Msg, Party};
 use sc_text::Ending;
 use std::alloc::{AllocError, Global};
+use value_steps::Stage;
 
 impl<P: Party> Engine<P> {
     /// Before the first step.
@@ -30,12 +31,13 @@ impl<P: Party> Engine<P> {
         ensures leads { IfOk result (λ e. Leads P.me e (start_of task dealt tape.items budget)) }
     {
         let fuel = most_steps(&task.code, budget);
+        let stage = Stage::new(alloc, budget, &[]);
         let machine = start(alloc, &task.code)?;
         Ok(Engine {
             alloc,
             task,
             machine,
-            stage: beginning(alloc, budget),
+            stage,
             fuel,
             at: At::Ready,
             node: GateNode::new(alloc, dealt, tape),

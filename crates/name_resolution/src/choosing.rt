@@ -1,9 +1,9 @@
-// Which operator a sign means on operands of one data type, and what it gives.
+// Which operator a sign means on operands of one data type.
 ghost use Rattle.std.specs.Prelude.{◌≡◌};
-ghost use Rattle.typed_tree.specs.Operators.{word_operator, bool_operator, operator_on, operands_of, may_cut_short, cast_between};
+ghost use Rattle.typed_tree.specs.Operators.{word_operator, bool_operator, operator_on, may_cut_short};
 
 use secrec_ast::{DataType, Operator};
-use typed_tree::{BinaryOperator, BoolOperator, Cast, Connective, Operands, WordOperator};
+use typed_tree::{BinaryOperator, BoolOperator, Connective, Operands, WordOperator};
 
 fn word_operator(sign: Operator) -> Option<WordOperator>
     ensures { result ≡ word_operator sign }
@@ -65,18 +65,6 @@ pub fn operator_on(sign: Operator, left: DataType, right: DataType) -> Option<Bi
     }
 }
 
-/// Which of two operands are arrays.
-pub fn operands_of(left: bool, right: bool) -> Operands
-    ensures { result ≡ operands_of left right }
-{
-    match (left, right) {
-        (false, false) => Operands::Scalars,
-        (true, false) => Operands::ArrayAndScalar,
-        (false, true) => Operands::ScalarAndArray,
-        (true, true) => Operands::Arrays,
-    }
-}
-
 /// Whether a sign means an operator that may cut short: between scalars alone.
 pub fn may_cut_short(sign: Operator, operands: Operands) -> Option<Connective>
     ensures { result ≡ may_cut_short sign operands }
@@ -85,17 +73,5 @@ pub fn may_cut_short(sign: Operator, operands: Operands) -> Option<Connective>
         (Operator::AndAlso, Operands::Scalars) => Some(Connective::AndAlso),
         (Operator::OrElse, Operands::Scalars) => Some(Connective::OrElse),
         _ => None,
-    }
-}
-
-/// The cast from one data type to another.
-pub fn cast_between(given: DataType, wanted: DataType) -> Cast
-    ensures { result ≡ cast_between given wanted }
-{
-    match (given, wanted) {
-        (DataType::Uint64, DataType::Uint64) => Cast::WordToWord,
-        (DataType::Uint64, DataType::Bool) => Cast::WordToBool,
-        (DataType::Bool, DataType::Uint64) => Cast::BoolToWord,
-        (DataType::Bool, DataType::Bool) => Cast::BoolToBool,
     }
 }

@@ -13,13 +13,13 @@ ghost use Rattle.name_resolution.specs.Values.{call_made};
 ghost use Rattle.name_resolution.specs.Answer.{Answers};
 ghost use Rattle.name_resolution.specs.inner.Views.{valued, values_seen, pair_seen, call_seen};
 
-use crate::choosing::{cast_between, may_cut_short, operands_of, operator_on};
+use crate::choosing::{may_cut_short, operator_on};
 use crate::resolve_err::ResolveErr;
 use crate::variables::Variables;
 use domain_types::{BuiltIn, Called, Declarations};
 use secrec_ast::{DataType, DeclaredType, Expression, Function, Operator, ResultType};
 use std::alloc::{AllocError, Global};
-use typed_tree::{BinaryOperator, Shape, TypedExpression};
+use typed_tree::{BinaryOperator, Cast, Operands, Shape, TypedExpression};
 
 /// An expression that gives a value, and the shape of the value.
 #[derive(Drop)]
@@ -80,7 +80,7 @@ fn cast(alloc: Global, element: DataType, operand: Valued) -> Result<Valued, Res
     ensures { Answers valued result (Some (cast_value element (valued operand))) }
 {
     let shape = operand.shape;
-    let cast = cast_between(shape.element, element);
+    let cast = Cast::between(shape.element, element);
     let tree = TypedExpression::Cast(cast, Box::new(alloc, operand.tree)?);
     Ok(Valued {
         tree,
@@ -111,7 +111,7 @@ fn operation_node(
     ensures { IfOk result (λ t. typed_tree t ≡ operation_node line operator (valued left) (valued right)
         (may_cut_short sign (operands_of left.shape.array right.shape.array))) }
 {
-    let operands = operands_of(left.shape.array, right.shape.array);
+    let operands = Operands::of(left.shape.array, right.shape.array);
     let left = Box::new(alloc, left.tree)?;
     let right = Box::new(alloc, right.tree)?;
     match may_cut_short(sign, operands) {

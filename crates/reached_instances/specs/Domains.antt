@@ -1,6 +1,8 @@
 -- Who may see what an expression gives, where the domain variables of its function are bound.
-use Rattle.std.specs.Prelude.{ℕ, zero, suc, Bool, false, nat_eq, if◌then◌else◌, List, [], ◌∷◌, ◌++◌, Option, Some, None, unwrap_or}
+use Rattle.std.specs.Prelude.{ℕ, zero, suc, Bool, true, false, nat_eq, if◌then◌else◌, List, [], ◌∷◌, ◌++◌, Option, Some, None, unwrap_or}
 use Rattle.std.specs.List.{slice_get}
+use Rattle.secrec_ast.specs.declared.expression.DataType.TheVariants.{Uint64}
+use Rattle.typed_tree.specs.declared.kinds.Shape.{Shape}
 use Rattle.typed_tree.specs.declared.kinds.SlotDomain.{SlotDomain}
 use Rattle.typed_tree.specs.declared.kinds.SlotDomain.TheVariants as slot
 use Rattle.typed_tree.specs.declared.kinds.Slot.{Slot}
@@ -10,8 +12,14 @@ use Rattle.typed_tree.specs.Tree.{TypedTree, TypedTrees, word_node, truth_node, 
 use Rattle.typed_tree.specs.Tree.{element_node, not_node, cast_node, binary_node, cut_node, declassify_node}
 use Rattle.typed_tree.specs.Tree as Tree'
 use Rattle.typed_tree.specs.Programs.{TypedFunctionTree}
+use Rattle.typed_tree.specs.Shapes.{shape_of}
 use Rattle.reached_instances.specs.declared.instance.BoundDomain.{BoundDomain}
 use Rattle.reached_instances.specs.declared.instance.BoundDomain.TheVariants.{Public, Private}
+
+-- one of those whose values nobody sees alone
+abbrev pub is_private : BoundDomain → Bool
+is_private Public = false
+is_private (Private k) = true
 
 -- the domain that is written at a slot or a result, under a binding
 abbrev pub domain_under : List BoundDomain → SlotDomain → BoundDomain
@@ -57,6 +65,22 @@ pub record Setting : Type 0 where
 abbrev pub slot_domain : List BoundDomain → Option Slot → BoundDomain
 slot_domain b None = Public
 slot_domain b (Some s) = domain_under b s.domain
+
+abbrev pub slot_is_private : Setting → ℕ → Bool
+slot_is_private here k = is_private (slot_domain here.binding (slice_get here.slots k))
+
+-- the parameter of the first of these slots, where a function is called under a binding
+abbrev pub next_is_private : List BoundDomain → List Slot → Bool
+next_is_private b [] = false
+next_is_private b (s ∷ ss) = is_private (domain_under b s.domain)
+
+-- the shape of what stands in a slot; where there is none, that of a number
+abbrev pub shape_at : Option Slot → Shape
+shape_at None = shape_of Uint64 false
+shape_at (Some s) = s.shape
+
+abbrev pub slot_shape : Setting → ℕ → Shape
+slot_shape here k = shape_at (slice_get here.slots k)
 
 abbrev pub given_domain : List BoundDomain → Returned → BoundDomain
 given_domain b Nothing = Public

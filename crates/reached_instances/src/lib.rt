@@ -19,5 +19,8 @@ pub use laws::one_list;
 pub use list::ReachedInstances;
 pub use reaching::reached_instances;
 pub use seeing::{call_domain, domain, domains};
-pub use setting::{Setting, domain_under, given_domain, joined_domain, slot_domain};
+pub use setting::{
+    Setting, domain_under, given_domain, joined_domain, next_is_private, slot_domain,
+    slot_is_private, slot_shape,
+};
 pub use templates::template_count;

@@ -1,10 +1,11 @@
-ghost use Rattle.std.specs.Prelude.{◌≡◌};
+ghost use Rattle.std.specs.Prelude.{◌≡◌, drop};
 ghost use Rattle.std.specs.List.{slice_get};
-ghost use Rattle.reached_instances.specs.Domains.{domain_under, slot_domain, given_domain, joined_domain};
+ghost use Rattle.reached_instances.specs.Domains.{domain_under, slot_domain, slot_is_private, next_is_private, slot_shape, given_domain, joined_domain};
 ghost use Rattle.reached_instances.specs.Views.{setting};
 
 use crate::instance::BoundDomain;
-use typed_tree::{Returned, Slot, SlotDomain, TypedFunction};
+use secrec_ast::DataType;
+use typed_tree::{Returned, Shape, Slot, SlotDomain, TypedFunction};
 
 /// Where an expression stands: in a function of these that has these slots, whose domain variables are so bound.
 #[derive(Clone, Copy)]
@@ -32,6 +33,33 @@ pub fn slot_domain(here: &Setting<'_>, number: usize) -> BoundDomain
     match here.slots.get(number) {
         None => BoundDomain::Public,
         Some(slot) => domain_under(here.binding, slot.domain),
+    }
+}
+
+/// Whether what stands in a slot is private.
+pub fn slot_is_private(here: &Setting<'_>, number: usize) -> bool
+    ensures { result ≡ slot_is_private (setting here.now) number }
+{
+    slot_domain(here, number).is_private()
+}
+
+/// Whether the parameter of this number is private, where a function with these slots is called under this binding.
+pub fn next_is_private(binding: &[BoundDomain], slots: &[Slot], number: usize) -> bool
+    ensures { result ≡ next_is_private binding.now (drop number slots.now) }
+{
+    match slots.get(number) {
+        None => false,
+        Some(slot) => domain_under(binding, slot.domain).is_private(),
+    }
+}
+
+/// The shape of what stands in a slot; where there is none, that of a number.
+pub fn slot_shape(here: &Setting<'_>, number: usize) -> Shape
+    ensures { result ≡ slot_shape (setting here.now) number }
+{
+    match here.slots.get(number) {
+        None => Shape::scalar(DataType::Uint64),
+        Some(slot) => slot.shape,
     }
 }
 

@@ -5,6 +5,7 @@ use Rattle.secrec_ast.specs.declared.expression.DataType.TheVariants.{Uint64}
 use Rattle.secrec_ast.specs.declared.expression.DataType.TheVariants as datatype
 use Rattle.secrec_ast.specs.declared.expression.Operator.{Operator}
 use Rattle.secrec_ast.specs.declared.expression.Operator.TheVariants as sign
+use Rattle.typed_tree.specs.declared.kinds.Shape.{Shape}
 use Rattle.typed_tree.specs.declared.operators.WordOperator.{WordOperator}
 use Rattle.typed_tree.specs.declared.operators.WordOperator.TheVariants as word
 use Rattle.typed_tree.specs.declared.operators.BoolOperator.{BoolOperator}
@@ -17,6 +18,7 @@ use Rattle.typed_tree.specs.declared.operators.Operands.{Operands}
 use Rattle.typed_tree.specs.declared.operators.Operands.TheVariants.{Scalars, ArrayAndScalar, ScalarAndArray, Arrays}
 use Rattle.typed_tree.specs.declared.operators.Cast.{Cast}
 use Rattle.typed_tree.specs.declared.operators.Cast.TheVariants.{WordToWord, WordToBool, BoolToWord, BoolToBool}
+use Rattle.typed_tree.specs.Shapes.{shape_of}
 
 abbrev pub word_operator : Operator → Option WordOperator
 word_operator sign.Add = Some word.Add
@@ -88,6 +90,21 @@ operands_of true false = ArrayAndScalar
 operands_of false true = ScalarAndArray
 operands_of true true = Arrays
 
+abbrev pub result_shape : BinaryOperator → Operands → Shape
+result_shape op Scalars = shape_of (element_made op) false
+result_shape op ds = shape_of (element_made op) true
+
+-- a product with a public operand classifies nothing
+abbrev pub is_product : BinaryOperator → Bool
+is_product (Words word.Multiply) = true
+is_product (Bools truth.And) = true
+is_product op = false
+
+-- the operator that a connective is where both operands are evaluated
+abbrev pub connective : Connective → BoolOperator
+connective AndAlso = truth.And
+connective OrElse = truth.Or
+
 -- `&&` and `||` may cut short between scalars alone
 abbrev pub may_cut_short : Operator → Operands → Option Connective
 may_cut_short sign.AndAlso Scalars = Some AndAlso
@@ -99,3 +116,9 @@ cast_between Uint64 Uint64 = WordToWord
 cast_between Uint64 datatype.Bool = WordToBool
 cast_between datatype.Bool Uint64 = BoolToWord
 cast_between datatype.Bool datatype.Bool = BoolToBool
+
+abbrev pub cast_shape : Cast → (array : Bool) → Shape
+cast_shape WordToWord array = shape_of Uint64 array
+cast_shape WordToBool array = shape_of datatype.Bool array
+cast_shape BoolToWord array = shape_of Uint64 array
+cast_shape BoolToBool array = shape_of datatype.Bool array

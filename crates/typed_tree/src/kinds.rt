@@ -1,3 +1,6 @@
+ghost use Rattle.std.specs.Prelude.{◌≡◌, false};
+ghost use Rattle.typed_tree.specs.Shapes.{shape_of};
+
 use secrec_ast::DataType;
 
 /// What a value is made of, whoever may see it: the type of its elements, and whether it is an array.
@@ -5,6 +8,18 @@ use secrec_ast::DataType;
 pub struct Shape {
     pub element: DataType,
     pub array: bool,
+}
+
+impl Shape {
+    /// The shape of a scalar.
+    pub fn scalar(element: DataType) -> Shape
+        ensures { result ≡ shape_of element false }
+    {
+        Shape {
+            element,
+            array: false,
+        }
+    }
 }
 
 /// Who may see what stands in a slot.

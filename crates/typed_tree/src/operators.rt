@@ -1,7 +1,8 @@
 // Operators, casts, and what they give.
 ghost use Rattle.std.specs.Prelude.{◌≡◌};
-ghost use Rattle.typed_tree.specs.Operators.{word_result, element_made};
+ghost use Rattle.typed_tree.specs.Operators.{word_result, element_made, result_shape, is_product, connective, operands_of, cast_between, cast_shape};
 
+use crate::kinds::Shape;
 use secrec_ast::DataType;
 
 /// An operator on uint64 words.
@@ -74,6 +75,26 @@ impl BinaryOperator {
             BinaryOperator::Bools(_) => DataType::Bool,
         }
     }
+
+    /// The shape of what it gives.
+    pub fn result_shape(self, operands: Operands) -> Shape
+        ensures { result ≡ result_shape self operands }
+    {
+        Shape {
+            element: self.result(),
+            array: !matches!(operands, Operands::Scalars),
+        }
+    }
+
+    /// Whether it is a product: one with a public operand classifies nothing.
+    pub fn is_product(self) -> bool
+        ensures { result ≡ is_product self }
+    {
+        matches!(
+            self,
+            BinaryOperator::Words(WordOperator::Multiply) | BinaryOperator::Bools(BoolOperator::And)
+        )
+    }
 }
 
 /// `&&` or `||` between two scalars: where the left one is public it may decide alone.
@@ -83,6 +104,18 @@ pub enum Connective {
     OrElse,
 }
 
+impl Connective {
+    /// The operator that it is where both operands are evaluated.
+    pub fn operator(self) -> BoolOperator
+        ensures { result ≡ connective self }
+    {
+        match self {
+            Connective::AndAlso => BoolOperator::And,
+            Connective::OrElse => BoolOperator::Or,
+        }
+    }
+}
+
 /// Which of two operands are arrays.
 #[derive(Clone, Copy)]
 pub enum Operands {
@@ -90,6 +123,20 @@ pub enum Operands {
     ArrayAndScalar,
     ScalarAndArray,
     Arrays,
+}
+
+impl Operands {
+    /// Which of a left and a right operand are arrays.
+    pub fn of(left: bool, right: bool) -> Operands
+        ensures { result ≡ operands_of left right }
+    {
+        match (left, right) {
+            (false, false) => Operands::Scalars,
+            (true, false) => Operands::ArrayAndScalar,
+            (false, true) => Operands::ScalarAndArray,
+            (true, true) => Operands::Arrays,
+        }
+    }
 }
 
 /// An operation between two operands: its operator, with the line of its construct, and which operands are arrays.
@@ -107,4 +154,29 @@ pub enum Cast {
     WordToBool,
     BoolToWord,
     BoolToBool,
+}
+
+impl Cast {
+    /// The cast from one data type to another.
+    pub fn between(given: DataType, wanted: DataType) -> Cast
+        ensures { result ≡ cast_between given wanted }
+    {
+        match (given, wanted) {
+            (DataType::Uint64, DataType::Uint64) => Cast::WordToWord,
+            (DataType::Uint64, DataType::Bool) => Cast::WordToBool,
+            (DataType::Bool, DataType::Uint64) => Cast::BoolToWord,
+            (DataType::Bool, DataType::Bool) => Cast::BoolToBool,
+        }
+    }
+
+    /// The shape of what it gives.
+    pub fn shape(self, array: bool) -> Shape
+        ensures { result ≡ cast_shape self array }
+    {
+        let element = match self {
+            Cast::WordToWord | Cast::BoolToWord => DataType::Uint64,
+            Cast::WordToBool | Cast::BoolToBool => DataType::Bool,
+        };
+        Shape { element, array }
+    }
 }

@@ -1,10 +1,7 @@
 // An operator and its operands, side by side: a scalar meets every element of an array.
-ghost use Rattle.std.specs.Prelude.{◌≡◌};
-ghost use Rattle.language_model.specs.Operations.{is_product};
-
 use crate::value::{Secrecy, Value};
 use std::alloc::{AllocError, Global};
-use typed_tree::{BinaryOperator, BoolOperator, Operands, Operation, Shape, WordOperator};
+use typed_tree::{Operands, Operation, Shape};
 
 /// An operation between two values.
 #[derive(Clone, Copy)]
@@ -128,23 +125,8 @@ impl Applied<'_> {
     pub(crate) fn result_shape(&self) -> Shape
         ensures { result ≡ result_shape self.now.operation.operator self.now.operation.operands }
     {
-        let array = match self.operation.operands {
-            Operands::Scalars => false,
-            Operands::ArrayAndScalar | Operands::ScalarAndArray | Operands::Arrays => true,
-        };
-        Shape {
-            element: self.operation.operator.result(),
-            array,
-        }
-    }
-}
-
-/// Whether the operator is a product: one with a public operand classifies nothing.
-pub(crate) fn is_product(op: BinaryOperator) -> bool
-    ensures { result ≡ is_product op }
-{
-    match op {
-        BinaryOperator::Words(op) => op == WordOperator::Multiply,
-        BinaryOperator::Bools(op) => op == BoolOperator::And,
+        self.operation
+            .operator
+            .result_shape(self.operation.operands)
     }
 }

@@ -35,6 +35,6 @@ pub use opening::declassified;
 pub use operators::{operated, operation};
 pub use publishing::published;
 pub use stage::{Drawn, Stage};
-pub use steps::{charge, charged, test, test_at};
+pub use steps::{MOST_CALLS, charge, charge_elements, charged, test_at};
 pub use value::{Secrecy, Value};
 pub use world::{GivenInput, Lengths, Source, World};

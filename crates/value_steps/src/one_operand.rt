@@ -1,10 +1,8 @@
 // Operations of one operand.
-ghost use Rattle.std.specs.Prelude.{◌≡◌, ◌≤◌, ◌*◌, false, length, IfOk};
+ghost use Rattle.std.specs.Prelude.{◌≡◌, ◌≤◌, ◌*◌, length, IfOk};
 ghost use Rattle.std.specs.List.{flat_map};
 ghost use Rattle.gates.specs.Clear.{bits_of};
-ghost use Rattle.secrec_ast.specs.declared.expression.DataType.TheVariants.{Uint64};
-ghost use Rattle.typed_tree.specs.Shapes.{shape_of};
-ghost use Rattle.language_model.specs.Operations.{negated, cast_to, cast_shape, changed, scalar_word, size_told, summed, summed_from, bits_extracted};
+ghost use Rattle.language_model.specs.Operations.{negated, cast_to, changed, size_told, summed, summed_from, bits_extracted};
 ghost use Rattle.language_model.specs.Operations.{bits_from};
 ghost use Rattle.value_steps.specs.Steps.{Does, itself};
 ghost use Rattle.value_steps.specs.Views.{stage_seen, value_seen, world_seen, secrecy_seen};
@@ -42,17 +40,6 @@ pub fn negated(alloc: Global, stage: &mut Stage<'_>, value: Value) -> Result<Val
     }
 }
 
-/// The shape of what a cast gives.
-fn cast_shape(cast: Cast, array: bool) -> Shape
-    ensures { result ≡ cast_shape cast array }
-{
-    let element = match cast {
-        Cast::WordToWord | Cast::BoolToWord => DataType::Uint64,
-        Cast::WordToBool | Cast::BoolToBool => DataType::Bool,
-    };
-    Shape { element, array }
-}
-
 /// A private value as one of another data type.
 fn changed(
     alloc: Global,
@@ -69,7 +56,7 @@ fn changed(
     let operand = number_of(alloc, stage, &value)?;
     let number = cast_gates(alloc, stage, cast, n, operand)?;
     let words = vector_ops::cast_words(alloc, cast, &value.words)?;
-    let shape = cast_shape(cast, value.shape.array);
+    let shape = cast.shape(value.shape.array);
     Ok(Value::hidden(shape, number, words))
 }
 
@@ -89,7 +76,7 @@ pub fn cast_to(
         (Cast::WordToWord | Cast::BoolToBool, _) => Ok(value),
         (Cast::WordToBool | Cast::BoolToWord, Secrecy::Plain) => {
             let words = vector_ops::cast_words(alloc, cast, &value.words)?;
-            let shape = cast_shape(cast, value.shape.array);
+            let shape = cast.shape(value.shape.array);
             Ok(Value::plain(shape, words))
         }
         (Cast::WordToBool | Cast::BoolToWord, Secrecy::Private(_)) => {
@@ -98,31 +85,13 @@ pub fn cast_to(
     }
 }
 
-/// The shape of a number.
-fn scalar_shape() -> Shape
-    ensures { result ≡ shape_of Uint64 false }
-{
-    Shape {
-        element: DataType::Uint64,
-        array: false,
-    }
-}
-
-/// A number that everybody may see.
-fn scalar_word(alloc: Global, word: u64) -> Result<Value, AllocError>
-    ensures { IfOk result (λ value. value_seen value ≡ scalar_word word) }
-{
-    let words = vector_ops::repeated(alloc, 1, word)?;
-    Ok(Value::plain(scalar_shape(), words))
-}
-
 /// How many elements a value has: everybody may know that.
 pub fn size_told(alloc: Global, stage: &mut Stage<'_>, value: &Value) -> Result<Value, Halt>
     ensures step { Does value_seen (size_told (value_seen value.now)) (stage_seen stage.old) result (stage_seen stage.new) }
     ensures spends { stage.new.left ≤ stage.old.left }
 {
     charge(stage, 1)?;
-    Ok(scalar_word(alloc, value.size())?)
+    Ok(Value::number(alloc, value.size())?)
 }
 
 /// The sum of the words of a value that was charged.
@@ -132,12 +101,12 @@ fn summed_value(alloc: Global, stage: &mut Stage<'_>, value: &Value) -> Result<V
 {
     let total = vector_ops::wrapping_sum(&value.words);
     match value.secrecy {
-        Secrecy::Plain => Ok(scalar_word(alloc, total)?),
+        Secrecy::Plain => Ok(Value::number(alloc, total)?),
         Secrecy::Private(_) => {
             let operand = number_of(alloc, stage, value)?;
             let number = gate(stage, Gate::Sum { operand })?;
             let words = vector_ops::repeated(alloc, 1, total)?;
-            Ok(Value::hidden(scalar_shape(), number, words))
+            Ok(Value::hidden(Shape::scalar(DataType::Uint64), number, words))
         }
     }
 }

@@ -6,7 +6,7 @@ ghost use Rattle.language_model.specs.Words as W;
 ghost use Rattle.value_steps.specs.Steps.{Does, itself};
 ghost use Rattle.value_steps.specs.Views.{stage_seen, value_seen, world_seen, secrecy_seen};
 
-use crate::applied::{Applied, is_product};
+use crate::applied::Applied;
 use crate::classification::wanted;
 use crate::drawing::{draw, words_of_operator};
 use crate::gating::{gate, number_of, ring_for};
@@ -144,7 +144,7 @@ pub fn operated(
 fn is_classified(operator: BinaryOperator, this: &Value, other: &Value) -> bool
     ensures { result ≡ is_classified operator (value_seen this.now) (value_seen other.now) }
 {
-    !is_product(operator) && other.is_private() && !this.is_private()
+    !operator.is_product() && other.is_private() && !this.is_private()
 }
 
 /// An operator on two values: a public one beside a private one is classified first, but in a product.

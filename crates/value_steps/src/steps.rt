@@ -1,6 +1,6 @@
 // The steps of which operations are made: charges and tests.
 ghost use Rattle.std.specs.Prelude.{◌≤◌, ◌+◌, is_ok, OnOk, IsTrue, if◌then◌else◌};
-ghost use Rattle.language_model.specs.Effects.{Stage as Reached, charge, test};
+ghost use Rattle.language_model.specs.Effects.{charge, test};
 ghost use Rattle.language_model.specs.Operations.{charged, no_traps, not_too_large};
 ghost use Rattle.value_steps.specs.Steps.{Does, itself};
 ghost use Rattle.value_steps.specs.Views.{stage_seen};
@@ -11,6 +11,9 @@ use sc_text::{Ending, TrapKind};
 
 /// No array has more elements.
 const LARGEST: u64 = 1_048_576;
+
+/// So many calls may stand in one another, beside `main`.
+pub const MOST_CALLS: usize = 63;
 
 /// Charges `n`. A charge over what is left of the budget isn't made, and ends the run.
 pub fn charge(stage: &mut Stage<'_>, n: u64) -> Result<(), Halt>
@@ -25,14 +28,15 @@ pub fn charge(stage: &mut Stage<'_>, n: u64) -> Result<(), Halt>
     }
 }
 
-/// A test whose failure is a trap.
-pub fn test(holds: bool, kind: TrapKind, line: u32) -> Result<(), Halt>
-    ensures { (s : Reached) → Does itself (test holds kind line) s result s }
+/// Charges a call for the elements of its arrays, which may be more than a budget can be.
+pub fn charge_elements(stage: &mut Stage<'_>, count: u128) -> Result<(), Halt>
+    ensures step { Does itself (charge count) (stage_seen stage.old) result (stage_seen stage.new) }
+    ensures spends { stage.new.left ≤ stage.old.left }
 {
-    if holds {
-        Ok(())
+    if count <= stage.left as u128 {
+        charge(stage, count as u64)
     } else {
-        Err(Halt::Ended(Ending::Trap { kind, line }))
+        Err(Halt::Ended(Ending::Budget))
     }
 }
 

@@ -1,6 +1,8 @@
 // What a run computes with.
-ghost use Rattle.std.specs.Prelude.{◌≤◌, length};
+ghost use Rattle.std.specs.Prelude.{◌≡◌, ◌≤◌, length, IfOk};
+ghost use Rattle.language_model.specs.Values.{default_words};
 
+use secrec_ast::DataType;
 use std::alloc::{AllocError, Global};
 use typed_tree::Shape;
 
@@ -35,9 +37,22 @@ impl Drop for Value {
     }
 }
 
+/// The words of 0, of false, or of the empty array.
+fn default_words(alloc: Global, array: bool) -> Result<Vec<u64>, AllocError>
+    ensures { IfOk result (λ words. words.items ≡ default_words array) }
+{
+    if array {
+        Ok(Vec::new(alloc))
+    } else {
+        Ok(vec![in alloc; 0]?)
+    }
+}
+
 impl Value {
     ghost use Rattle.std.specs.Prelude.{◌≡◌, ◌≤◌, length, IfOk};
-    ghost use Rattle.language_model.specs.Values.{plain, hidden, size, visible_words, is_secret};
+    ghost use Rattle.language_model.specs.Values.{plain, hidden, size, visible_words, is_secret, never_stored};
+    ghost use Rattle.language_model.specs.Evaluation.{array_elements, nothing};
+    ghost use Rattle.language_model.specs.Operations.{scalar_word};
     ghost use Rattle.gates.specs.Clear.{first_word};
     ghost use Rattle.value_steps.specs.Views.{value_seen};
 
@@ -51,6 +66,36 @@ impl Value {
             shape,
             words,
         }
+    }
+
+    /// A number that everybody may see.
+    pub fn number(alloc: Global, word: u64) -> Result<Value, AllocError>
+        ensures { IfOk result (λ v. value_seen v ≡ scalar_word word) }
+    {
+        let words = vector_ops::repeated(alloc, 1, word)?;
+        Ok(Value::plain(Shape::scalar(DataType::Uint64), words))
+    }
+
+    /// The value that nobody reads, which a function gives that gives nothing.
+    pub fn unread(alloc: Global) -> Result<Value, AllocError>
+        ensures { IfOk result (λ v. value_seen v ≡ nothing) }
+    {
+        Value::number(alloc, 0)
+    }
+
+    /// What a variable begins as into which nothing was stored: 0, false or the empty array, private or not.
+    pub fn never_stored(alloc: Global, private: bool, shape: Shape) -> Result<Value, AllocError>
+        ensures { IfOk result (λ v. value_seen v ≡ never_stored private shape) }
+    {
+        Ok(Value {
+            secrecy: if private {
+                Secrecy::Private(None)
+            } else {
+                Secrecy::Plain
+            },
+            shape,
+            words: default_words(alloc, shape.array)?,
+        })
     }
 
     /// The private value of a gate.
@@ -103,6 +148,14 @@ impl Value {
         self.words.len() as u64
     }
 
+    /// How many elements the value counts with as an argument: an array's all, and another's none.
+    pub fn array_elements(&self) -> u64
+        ensures exact { result ≡ array_elements (value_seen self.now) }
+        ensures few { result ≤ 1048576 }
+    {
+        if self.shape.array { self.size() } else { 0 }
+    }
+
     /// Whether not everybody may see the value.
     pub(crate) fn is_private(&self) -> bool
         ensures { result ≡ is_secret (value_seen self.now).secrecy }
@@ -121,7 +174,7 @@ impl Value {
     }
 
     /// The first word of a public value. A private one isn't looked at: it gives 0.
-    pub(crate) fn seen_word(&self) -> u64
+    pub fn seen_word(&self) -> u64
         ensures { result ≡ first_word (visible_words (value_seen self.now)) }
     {
         match self.secrecy {

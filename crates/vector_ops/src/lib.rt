@@ -13,4 +13,4 @@ mod words;
 pub use operators::{operation, truth_operation, word_operation};
 pub use pairs::{each, each_and_scalar, may_divide, scalar_and_each};
 pub use printing::elements;
-pub use words::{bits, cast_words, first_word, flipped, joined, low_bits, repeated, wrapping_sum};
+pub use words::{bits, cast_words, first_word, flipped, low_bits, repeated, wrapping_sum};

@@ -86,13 +86,3 @@ pub fn repeated(alloc: Global, count: usize, word: u64) -> Result<Vec<u64>, Allo
 {
     vec![in alloc; word; count]
 }
-
-/// The words of one list and then of another.
-pub fn joined(alloc: Global, xs: &[u64], ys: &[u64]) -> Result<Vec<u64>, AllocError>
-    ensures { IfOk result (λ words. words.items ≡ xs.now ++ ys.now) }
-{
-    let mut words = Vec::new(alloc);
-    words.extend_from_slice(xs)?;
-    words.extend_from_slice(ys)?;
-    Ok(words)
-}

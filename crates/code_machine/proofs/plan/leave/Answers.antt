@@ -1,8 +1,5 @@
-use Rattle.std.proofs.Common.{◌≡◌, ◌<◌, false, length, Ok, ap, sym, ◌∙◌, arith}
-use Rattle.secrec_ast.specs.declared.expression.DataType.TheVariants.{Uint64}
-use Rattle.typed_tree.specs.Shapes.{shape_of}
+use Rattle.std.proofs.Common.{◌≡◌, ◌<◌, length, Ok, ap, sym, ◌∙◌, arith}
 use Rattle.language_model.specs.Evaluation.{nothing}
-use Rattle.language_model.specs.Values.{plain}
 use Rattle.verified_code.specs.InMemory.{place_of}
 use Rattle.value_steps.specs.Views.{value_seen}
 use Rattle.code_machine.specs.Changes.{back_to, returned}
@@ -17,7 +14,7 @@ returns-clause-step c = λ code s.
     let m = machine_seen code own in
     let fr = registers_seen own.registers.items in
     let r = place_of c.args.source in
-    let other : value_seen c.plain.result ≡ nothing = c.plain.ensures ∙ ap (plain (shape_of Uint64 false)) c.in_ok-words.ensures.items in
+    let other : value_seen c.in_ok-unread.unread ≡ nothing = c.in_ok-unread.ensures in
     let some : 0 < length own.callers.items = grind arith in
     resumes cs (returned r nothing fr) m s (omega (arith, callers-count code own.callers.items, some))
     ∙ ap (λ v. Ok (back_to cs (returned r v fr) m, s)) (sym other)

@@ -235,7 +235,7 @@ cut-returns-then-secret t c =
     (λ n q. expression_code number here n q x) (rest (gives_private here x) (connective n))
     c.in_ok-to.to (width x) begun c.in_ok-expression.ensures
     (p ∙ ap₂ (λ (g : Bool) (o : BoolOperator). with_code (built c.expression.new.body) (expression_kinds here y)
-    (rest g o c.in_ok-to.to (length (built c.expression.new.body).kinds) (length (built c.expression.new.body).pieces))) secret c.operator_of.ensures)
+    (rest g o c.in_ok-to.to (length (built c.expression.new.body).kinds) (length (built c.expression.new.body).pieces))) secret c.operator.ensures)
     c.in_ok-to.ensures.number (expression_registers here x)
     ∙ ap (λ (g : Bool). with_code b (expression_kinds here node) (cut_of number here n x y b g)) (sym private))
     c.both.ensures

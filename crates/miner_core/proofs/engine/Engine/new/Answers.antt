@@ -11,12 +11,12 @@ returns-clause-leads g c =
       alloc = c.args.alloc;
       task = c.args.task;
       machine = c.in_ok-machine.machine;
-      stage = c.beginning.result;
-      fuel = c.fuel-fuel.result;
+      stage = c.new-stage.result;
+      fuel = c.most_steps-fuel.result;
       at = Ready;
       node = c.new.result;
       notices = c.new-2.result;
       letting = record { done = 0; next = 0 };
     })
-    c.args.dealt c.args.tape.items c.args.budget refl c.fuel-fuel.ensures c.in_ok-machine.ensures.begins c.beginning.ensures n.dealt n.left
+    c.args.dealt c.args.tape.items c.args.budget refl c.most_steps-fuel.ensures c.in_ok-machine.ensures.begins c.new-stage.ensures n.dealt n.left
     n.from_previous n.from_next n.to_next n.to_previous n.opened c.new-2.ensures.items c.in_ok-machine.ensures.stands

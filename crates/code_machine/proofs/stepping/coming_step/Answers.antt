@@ -8,7 +8,7 @@ use Rattle.verified_code.specs.Settled.{settled}
 use Rattle.verified_code.specs.Verified.{IsVerified}
 use Rattle.code_machine.specs.Standing.{AreThere, kinds_at}
 use Rattle.code_machine.proofs.There.{step-there}
-use Rattle.code_machine.proofs.stepping.next_step.Goals as goal
+use Rattle.code_machine.proofs.stepping.coming_step.Goals as goal
 
 named : (code : RawCode) → IsVerified code → (function place n : ℕ) → length (kinds_at code function) ≤ n → (o : Option declared.Step)
     → option_map step_in o ≡ step_at code function place → IfSome o (λ i. AreThere n (step_in i))
