@@ -9,7 +9,6 @@ pub(crate) const MAGIC: [u8; 4] = *b"SC3P";
 pub(crate) const VERSION: u8 = 1;
 
 /// A function. Its parameters are its first registers.
-#[derive(Drop)]
 pub struct CodeFunction {
     pub parameters: u16,
     /// What the function gives back, if anything.
@@ -19,9 +18,30 @@ pub struct CodeFunction {
     pub body: Vec<Instruction>,
 }
 
+// Written out, so that an early exit calls this once.
+impl Drop for CodeFunction {
+    fn drop(self) {
+        let CodeFunction {
+            parameters: _,
+            gives: _,
+            registers: _,
+            body: _,
+        } = self;
+    }
+}
+
 /// Code: the names of its arguments and results, and its functions, of which the first is main.
-#[derive(Drop)]
 pub struct Code {
     pub names: Vec<Name>,
     pub functions: Vec<CodeFunction>,
+}
+
+// Written out, so that an early exit calls this once.
+impl Drop for Code {
+    fn drop(self) {
+        let Code {
+            names: _,
+            functions: _,
+        } = self;
+    }
 }

@@ -13,11 +13,23 @@ pub struct Needs {
 
 /// What a run gave: how it ended and at which cost, the words that it used of the tapes, what it told, the opened words one after
 /// another, and its gates.
-#[derive(Drop)]
 pub struct Report {
     pub end: End,
     pub needs: Needs,
     pub events: Vec<Event>,
     pub opened: Vec<u64>,
     pub gates: Vec<Gate>,
+}
+
+// Written out, so that an early exit calls this once.
+impl Drop for Report {
+    fn drop(self) {
+        let Report {
+            end: _,
+            needs: _,
+            events: _,
+            opened: _,
+            gates: _,
+        } = self;
+    }
 }

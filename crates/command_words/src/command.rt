@@ -7,7 +7,6 @@ use proto_core::Number;
 use std::alloc::AllocError;
 
 /// Where the tapes of a run come from.
-#[derive(Drop)]
 pub enum TapeSource {
     /// The path of a tape file.
     File(String),
@@ -15,8 +14,16 @@ pub enum TapeSource {
     Seed(TapeSeed),
 }
 
+// Written out, so that an early exit calls this once.
+impl Drop for TapeSource {
+    fn drop(self) {
+        match self {
+            TapeSource::File(_) | TapeSource::Seed(_) => {}
+        }
+    }
+}
+
 /// In which order the messages of a run are delivered.
-#[derive(Drop)]
 pub enum DeliveryOrder {
     /// Always on the first link, in the order 12, 13, 21, 23, 31, 32, that has one.
     InTurn,
@@ -26,9 +33,17 @@ pub enum DeliveryOrder {
     Shuffle([u8; 32]),
 }
 
+// Written out, so that an early exit calls this once.
+impl Drop for DeliveryOrder {
+    fn drop(self) {
+        match self {
+            DeliveryOrder::InTurn | DeliveryOrder::Schedule(_) | DeliveryOrder::Shuffle(_) => {}
+        }
+    }
+}
+
 /// The words of `run`: the paths of the program and the input file, the tapes, the most that the run may cost, the order of deliveries,
 /// the path to which the links that were delivered are written, and the start of the paths to which the three views are.
-#[derive(Drop)]
 pub struct RunWords {
     pub program: String,
     pub input: String,
@@ -37,6 +52,21 @@ pub struct RunWords {
     pub order: DeliveryOrder,
     pub recorded: Option<String>,
     pub views: Option<String>,
+}
+
+// Written out, so that an early exit calls this once.
+impl Drop for RunWords {
+    fn drop(self) {
+        let RunWords {
+            program: _,
+            input: _,
+            source: _,
+            budget: _,
+            order: _,
+            recorded: _,
+            views: _,
+        } = self;
+    }
 }
 
 /// The words of `deal`: the paths of the input file and the tape file, and the start of the paths that are written.
@@ -116,7 +146,6 @@ pub struct LoadWords {
 }
 
 /// A command, with its words.
-#[derive(Drop)]
 pub enum Command {
     Check(CheckWords),
     Compile(CompileWords),
@@ -128,6 +157,24 @@ pub enum Command {
     Simulate(SimulateWords),
     Twin(TwinWords),
     Load(LoadWords),
+}
+
+// Written out, so that an early exit calls this once.
+impl Drop for Command {
+    fn drop(self) {
+        match self {
+            Command::Check(_)
+            | Command::Compile(_)
+            | Command::Eval(_)
+            | Command::Need(_)
+            | Command::Run(_)
+            | Command::Deal(_)
+            | Command::Map(_)
+            | Command::Simulate(_)
+            | Command::Twin(_)
+            | Command::Load(_) => {}
+        }
+    }
 }
 
 /// Why words aren't read as a command.

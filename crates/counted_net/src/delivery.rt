@@ -6,7 +6,6 @@ use proto_core::{Link, Number};
 use std::alloc::AllocError;
 
 /// In which order the miners' messages are delivered.
-#[derive(Drop)]
 pub enum Delivery {
     /// Always on the first link, in the order 12, 13, 21, 23, 31, 32, on which a message is under way.
     InTurn,
@@ -14,6 +13,15 @@ pub enum Delivery {
     Scheduled(Vec<Link>),
     /// On a link that the words of a seed choose, among those on which a message is under way.
     Shuffled([u8; 32]),
+}
+
+// Written out, so that an early exit calls this once.
+impl Drop for Delivery {
+    fn drop(self) {
+        match self {
+            Delivery::InTurn | Delivery::Scheduled(_) | Delivery::Shuffled(_) => {}
+        }
+    }
 }
 
 /// Why a run under a schedule gives nothing.

@@ -11,9 +11,19 @@ pub enum Move {
 }
 
 /// What each miner sends and takes, in order.
-#[derive(Drop)]
 pub struct Scripts {
     pub one: Vec<Move>,
     pub two: Vec<Move>,
     pub three: Vec<Move>,
+}
+
+// Written out, so that an early exit calls this once.
+impl Drop for Scripts {
+    fn drop(self) {
+        let Scripts {
+            one: _,
+            two: _,
+            three: _,
+        } = self;
+    }
 }

@@ -22,9 +22,15 @@ use std::marker::Model;
 ///
 /// After an error, which comes only where memory is wanting, it is of no further use, where nothing else is said: no more is
 /// known of it.
-#[derive(Drop)]
 pub struct GateNode<P: Party> {
     engine: Engine<P>,
+}
+
+// Written out, so that an early exit calls this once.
+impl<P: Party> Drop for GateNode<P> {
+    fn drop(self) {
+        let GateNode { engine: _ } = self;
+    }
 }
 
 impl<P: Party> Model for GateNode<P> {

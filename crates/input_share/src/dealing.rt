@@ -16,11 +16,21 @@ use std::alloc::{AllocError, Global};
 use value_file::{DataType, Domain, Entry, Inputs, Value, Words};
 
 /// The share files of miners 1, 2 and 3.
-#[derive(Drop)]
 pub struct Dealt {
     pub first: ShareFile,
     pub second: ShareFile,
     pub third: ShareFile,
+}
+
+// Written out, so that an early exit calls this once.
+impl Drop for Dealt {
+    fn drop(self) {
+        let Dealt {
+            first: _,
+            second: _,
+            third: _,
+        } = self;
+    }
 }
 
 /// Why inputs are not dealt.

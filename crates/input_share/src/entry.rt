@@ -6,11 +6,21 @@ use sc_text::Name;
 use value_file::{DataType, Shape, Value, Words};
 
 /// One miner's share of a private value: a word for each element, in order.
-#[derive(Drop)]
 pub struct Shared {
     pub data_type: DataType,
     pub shape: Shape,
     pub words: Words,
+}
+
+// Written out, so that an early exit calls this once.
+impl Drop for Shared {
+    fn drop(self) {
+        let Shared {
+            data_type: _,
+            shape: _,
+            words: _,
+        } = self;
+    }
 }
 
 /// What a miner has of an input: a public value as it is, a private one as its share.

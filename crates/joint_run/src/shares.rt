@@ -9,11 +9,21 @@ use proto_core::Number;
 use std::alloc::{AllocError, Global};
 
 /// The three miners' shares of values, each at its number from 0 on.
-#[derive(Drop)]
 pub struct SharedValues {
     pub first: Values,
     pub second: Values,
     pub third: Values,
+}
+
+// Written out, so that an early exit calls this once.
+impl Drop for SharedValues {
+    fn drop(self) {
+        let SharedValues {
+            first: _,
+            second: _,
+            third: _,
+        } = self;
+    }
 }
 
 impl SharedValues {

@@ -8,7 +8,6 @@ use proto_core::{Link, Messages, Msg};
 use std::alloc::{AllocError, Global};
 
 /// The messages of each of the six links, oldest first.
-#[derive(Drop)]
 pub struct Traffic {
     on12: Messages,
     on13: Messages,
@@ -16,6 +15,20 @@ pub struct Traffic {
     on23: Messages,
     on31: Messages,
     on32: Messages,
+}
+
+// Written out, so that an early exit calls this once.
+impl Drop for Traffic {
+    fn drop(self) {
+        let Traffic {
+            on12: _,
+            on13: _,
+            on21: _,
+            on23: _,
+            on31: _,
+            on32: _,
+        } = self;
+    }
 }
 
 impl Traffic {

@@ -39,11 +39,21 @@ pub(crate) fn awaited<P: Party>(miner: &Miner<P>) -> Option<Link>
 }
 
 /// The three miners of a net.
-#[derive(Drop)]
 pub(crate) struct Miners {
     pub one: Miner<P1>,
     pub two: Miner<P2>,
     pub three: Miner<P3>,
+}
+
+// Written out, so that an early exit calls this once.
+impl Drop for Miners {
+    fn drop(self) {
+        let Miners {
+            one: _,
+            two: _,
+            three: _,
+        } = self;
+    }
 }
 
 impl Miners {

@@ -61,7 +61,6 @@ fn wants_words(turned: Turned) -> bool
 
 /// A miner that runs code: what it runs, the machine and its stage, for how many steps fuel lasts, what it is at, its gates and links,
 /// what it has told, and when it lets go values that aren't needed.
-#[derive(Drop)]
 pub(crate) struct Engine<P: Party> {
     pub alloc: Global,
     pub task: Task,
@@ -72,6 +71,23 @@ pub(crate) struct Engine<P: Party> {
     pub node: GateNode<P>,
     pub notices: Vec<Notice>,
     pub letting: Letting,
+}
+
+// Written out, so that an early exit calls this once.
+impl<P: Party> Drop for Engine<P> {
+    fn drop(self) {
+        let Engine {
+            alloc: _,
+            task: _,
+            machine: _,
+            stage: _,
+            fuel: _,
+            at: _,
+            node: _,
+            notices: _,
+            letting: _,
+        } = self;
+    }
 }
 
 impl<P: Party> Engine<P> {

@@ -24,12 +24,23 @@ use value_steps::Drawn;
 /// two links. All that it has sent, opened and told, and where it stands, is a function of these.
 ///
 /// Once memory was wanting, it is of no further use: each delivery answers so.
-#[derive(Drop)]
 pub struct Miner<P: Party> {
     engine: Engine<P>,
     stand: Stand,
     budget: u64,
     lost: bool,
+}
+
+// Written out, so that an early exit calls this once.
+impl<P: Party> Drop for Miner<P> {
+    fn drop(self) {
+        let Miner {
+            engine: _,
+            stand: _,
+            budget: _,
+            lost: _,
+        } = self;
+    }
 }
 
 impl<P: Party> Model for Miner<P> {

@@ -8,12 +8,23 @@ use verified_code::Verified;
 
 /// What a miner is to run: code, and what all three know of the inputs and tapes. In words: how many the dealer's tape and each miner's
 /// tape have. Of a private input the words are zeros, as many as it has.
-#[derive(Drop)]
 pub struct Task {
     pub code: Verified,
     pub dealer: u64,
     pub lengths: Lengths,
     pub inputs: Vec<GivenInput>,
+}
+
+// Written out, so that an early exit calls this once.
+impl Drop for Task {
+    fn drop(self) {
+        let Task {
+            code: _,
+            dealer: _,
+            lengths: _,
+            inputs: _,
+        } = self;
+    }
 }
 
 impl Task {

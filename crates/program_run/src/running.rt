@@ -7,10 +7,16 @@ use sc_text::{End, Ending, Event, TapeOwner};
 use std::alloc::Global;
 
 /// What a run told, in order, and how it ended at which cost.
-#[derive(Drop)]
 pub struct RunReport {
     pub events: Vec<Event>,
     pub end: End,
+}
+
+// Written out, so that an early exit calls this once.
+impl Drop for RunReport {
+    fn drop(self) {
+        let RunReport { events: _, end: _ } = self;
+    }
 }
 
 /// The run that ends before it begins, since the dealer's tape has too few words.

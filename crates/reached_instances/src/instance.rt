@@ -23,8 +23,18 @@ impl BoundDomain {
 }
 
 /// A function of a typed program, by its number, with what each of its domain variables is bound to; a plain function has none.
-#[derive(PartialEq, Eq, Hash, Drop)]
+#[derive(PartialEq, Eq, Hash)]
 pub struct Instance {
     pub function: usize,
     pub binding: Vec<BoundDomain>,
+}
+
+// Written out, so that an early exit calls this once.
+impl Drop for Instance {
+    fn drop(self) {
+        let Instance {
+            function: _,
+            binding: _,
+        } = self;
+    }
 }

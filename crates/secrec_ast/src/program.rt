@@ -22,8 +22,14 @@ impl Drop for Item {
 }
 
 /// A program, with the place where its text ends.
-#[derive(Drop)]
 pub struct Program {
     pub items: Vec<Item>,
     pub end: Span,
+}
+
+// Written out, so that an early exit calls this once.
+impl Drop for Program {
+    fn drop(self) {
+        let Program { items: _, end: _ } = self;
+    }
 }

@@ -10,7 +10,6 @@ pub enum Returned {
 }
 
 /// A function; a template stands here once, whatever its domain variables are bound to.
-#[derive(Drop)]
 pub struct TypedFunction {
     pub name: Name,
     /// How many domain variables it has. A call binds each one to the private domain among the arguments at the parameters whose
@@ -26,9 +25,30 @@ pub struct TypedFunction {
     pub size: u32,
 }
 
+// Written out, so that an early exit calls this once.
+impl Drop for TypedFunction {
+    fn drop(self) {
+        let TypedFunction {
+            name: _,
+            variables: _,
+            parameters: _,
+            slots: _,
+            given: _,
+            body: _,
+            size: _,
+        } = self;
+    }
+}
+
 /// The functions that `main` reaches, in the order in which they are first called: `main` is number 0, and the others follow as
 /// calls name them where the code is read from its start, function by function, arguments before the call.
-#[derive(Drop)]
 pub struct TypedProgram {
     pub functions: Vec<TypedFunction>,
+}
+
+// Written out, so that an early exit calls this once.
+impl Drop for TypedProgram {
+    fn drop(self) {
+        let TypedProgram { functions: _ } = self;
+    }
 }

@@ -15,9 +15,15 @@ use std::alloc::{AllocError, Global};
 use std::marker::Model;
 
 /// Code that is verified. Clauses see it as raw code.
-#[derive(Drop)]
 pub struct Verified {
     code: Code,
+}
+
+// Written out, so that an early exit calls this once.
+impl Drop for Verified {
+    fn drop(self) {
+        let Verified { code: _ } = self;
+    }
 }
 
 impl Model for Verified {
