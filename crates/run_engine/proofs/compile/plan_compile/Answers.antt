@@ -13,6 +13,6 @@ returns-clause-answer g c = λ found h t.
     (at_path c.deref.result.now ask.program c.deref.ensures (g.F.Files.state c.args.files.now) (typed_program_tree c.in_ok-program.program)
     c.in_ok-program.ensures.answer found h t)
     c.in_ok-code.ensures
-    ∙ ap (λ code. done_with (written_effect ask.code code)) (sym c.code-2.ensures.code)
-    ∙ ap (λ path. done_with (written_effect path (raw_code c.code-2.result.now))) (sym c.deref-2.ensures)
+    ∙ ap (λ code. done_with (written_effect ask.code code)) (sym c.code.ensures.code)
+    ∙ ap (λ path. done_with (written_effect path (raw_code c.code.result.now))) (sym c.deref-2.ensures)
     ∙ ap done_with (sym c.in_ok-code_plan.ensures.effect)
