@@ -1,5 +1,5 @@
 -- Where steps lead: they only add to what was made, and one that wants words leaves the machine and has told nothing.
-use Rattle.std.proofs.Common.{◌≡◌, ℕ, List, [], None, Ok, Err, refl, sym, ◌∙◌, ap, subst}
+use Rattle.std.proofs.Common.{◌≡◌, ℕ, List, [], Ok, Err, refl, sym, ◌∙◌, ap, subst}
 use Rattle.language_model.specs.Beginnings.{Begins}
 use Rattle.language_model.specs.Effects.{World, Stage, RunStop, Ended, Short, Run}
 use Rattle.language_model.proofs.Onward.{stage_of}

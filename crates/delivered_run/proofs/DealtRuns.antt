@@ -12,7 +12,6 @@ use Rattle.input_share.specs.Dealing.{dealt}
 use Rattle.input_share.specs.ShareFile.{MinerFile}
 use Rattle.bytecode.specs.Raw.{RawCode}
 use Rattle.verified_code.specs.Settled.{settled}
-use Rattle.verified_code.specs.Steps.{Function}
 use Rattle.language_model.specs.Effects.{Answers, World}
 use Rattle.language_model.specs.Reports.{Offered, Report, world_of}
 use Rattle.clear_eval.specs.Offers.{offered, offered_with, part_given}
@@ -26,7 +25,6 @@ use Rattle.miner_runs.proofs.OwnRuns.{own_miners_run_the_code}
 use Rattle.link_schedule.specs.Net.{NetState, Own}
 use Rattle.program_run.specs.Reports.{lengths_of}
 use Rattle.program_run.specs.Codes.{CanRunOn, code_report}
-use Rattle.program_run.specs.declared.running.RunReport.{RunReport}
 use Rattle.program_run.proofs.Told.{known_so}
 use Rattle.counted_net.specs.declared.delivery.DeliveryErr.{DeliveryErr}
 use Rattle.delivered_run.specs.declared.running.NetRun.{NetRun}

@@ -1,27 +1,22 @@
 -- Three miners in a net, whose messages are all delivered, have run as the report says.
-use Rattle.std.proofs.Common.{◌≡◌, ℕ, ◌-◌, false, List, [], ◌∷◌, Some, Ok, Err, refl, sym, ◌∙◌, ap, subst}
+use Rattle.std.proofs.Common.{◌≡◌, ℕ, ◌-◌, false, List, Ok, Err, refl, sym, ◌∙◌, ap, subst}
 use Rattle.std.proofs.lemmas.Option.{same_Some}
-use Rattle.sc_text.specs.declared.end.Ending.{Ending}
-use Rattle.sc_text.specs.declared.event.Event.{Event}
 use Rattle.proto_core.specs.declared.party.Number.{Number}
 use Rattle.proto_core.specs.declared.party.Number.TheVariants.{One, Two, Three}
 use Rattle.proto_core.specs.declared.link.Link.{Link}
-use Rattle.proto_core.specs.Strand.{Mail, Notice, Strand, Ends, told_in}
+use Rattle.proto_core.specs.Strand.{Mail, Strand, told_in}
 use Rattle.proto_core.specs.Net.{nothing, run_of, all_delivered}
 use Rattle.protocol_model.specs.Network.{Accepted, Answer, Default, Delivery, EmptyLink, Listed, Shuffled, Stalled, order_of, walked}
 use Rattle.protocol_model.specs.Complete.{IsComplete}
 use Rattle.protocol_model.specs.Runs.{Tapes}
-use Rattle.gates.specs.Clear.{Values}
-use Rattle.language_model.specs.Effects.{Ended, RunStop}
+use Rattle.language_model.specs.Effects.{Ended}
 use Rattle.language_model.specs.Reports.{Offered, Report}
 use Rattle.verified_code.specs.Steps.{Function}
 use Rattle.gate_laws.specs.Dealt.{Dealt}
-use Rattle.driven_nodes.specs.Steps.{Stopped}
-use Rattle.code_places.specs.Places.{Place}
 use Rattle.code_runs.specs.Runs.{messages, scripts, shares}
 use Rattle.told_events.specs.Telling.{told_together}
 use Rattle.told_events.proofs.Together.{told_together_are_the_events}
-use Rattle.own_code.specs.OwnCode.{Ended as AtEnd, Reached}
+use Rattle.own_code.specs.OwnCode.{Ended as AtEnd}
 use Rattle.miner_runs.specs.OwnRuns.{OwnRunAsReported, own_end, own_nodes, public_world}
 use Rattle.link_schedule.specs.Answers.{net_walked}
 use Rattle.link_schedule.specs.Net.{NetState, Own, after, net_mail, net_node, nodes_in}

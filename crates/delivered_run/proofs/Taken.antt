@@ -1,20 +1,19 @@
 -- Deliveries that are made leave nothing to come.
-use Rattle.std.proofs.Common.{◌≡◌, ◌≤◌, ◌<◌, ◌⊎◌, ℕ, List, [], length, refl, sym, ◌∙◌, ap, inl, inr}
+use Rattle.std.proofs.Common.{◌≡◌, ◌≤◌, ◌<◌, ℕ, List, length, refl, sym, ◌∙◌, ap, inl, inr}
 use Rattle.std.proofs.lemmas.Bool.{cases_lt}
 use Rattle.proto_core.specs.declared.party.Number.{Number}
 use Rattle.proto_core.specs.Script.{Move}
-use Rattle.protocol_model.specs.Network.{Accepted, Answer, Default, Delivery, Listed, Shuffled, net}
+use Rattle.protocol_model.specs.Network.{Accepted, Default, Delivery, Listed, Shuffled, net}
 use Rattle.tape_file.specs.Tapes.{FourTapes}
 use Rattle.value_file.specs.declared.inputs.Entry.{Entry}
 use Rattle.input_share.specs.Dealing.{need_of}
 use Rattle.typed_tree.specs.Programs.{TypedProgramTree}
 use Rattle.language_model.specs.Reports.{Report}
-use Rattle.code_inputs.specs.Inputs.{Suffice, dealt_of}
+use Rattle.code_inputs.specs.Inputs.{dealt_of}
 use Rattle.code_runs.specs.Runs.{scripts}
 use Rattle.program_run.specs.Accepted.{IsAccepted}
 use Rattle.program_run.specs.Dealt.{CanBeDealt}
 use Rattle.program_run.proofs.Told.{ended_so}
-use Rattle.miner_runs.specs.OwnRuns.{OwnRunAsReported}
 use Rattle.miner_runs.proofs.Programs.{own_runs_where_accepted}
 use Rattle.program_run.specs.Reports.{eval_with}
 use Rattle.delivered_run.specs.Deliveries.{net_of}

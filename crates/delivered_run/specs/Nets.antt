@@ -1,7 +1,6 @@
 -- Three miners in a net: what they were made with, what a delivery of a net does, and what its miners have told.
 use Rattle.std.specs.Prelude.{◌≡◌, ◌-◌, ℕ, List, [], map, false, Some, Result, Ok, Err}
 use Rattle.sc_text.specs.declared.end.Ending.{Ending}
-use Rattle.proto_core.specs.declared.party.Number.{Number}
 use Rattle.proto_core.specs.declared.party.Number.TheVariants.{One}
 use Rattle.proto_core.specs.Strand.{Ends, told_in}
 use Rattle.protocol_model.specs.Network.{Accepted, Default, Delivery, EmptyLink, Listed, Shuffled, Stalled}

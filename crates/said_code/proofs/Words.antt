@@ -1,5 +1,5 @@
 -- The words that stand in a well-typed tree are below 2^64.
-use Rattle.std.proofs.Common.{◌≡◌, ◌^◌, List, [], ◌∷◌, Option, Some, None, Bool, refl, sym, ◌∙◌, subst}
+use Rattle.std.proofs.Common.{◌^◌, List, [], ◌∷◌, Option, Some, None, Bool, refl, sym, ◌∙◌, subst}
 use Rattle.std.proofs.lemmas.Bool.{lt-ltb}
 use Rattle.std.proofs.lemmas.Option.{same_Some}
 use Rattle.typed_tree.specs.declared.kinds.Shape.{Shape}

@@ -1,5 +1,5 @@
 -- The protocol splits, and each view can be made without the others' shares.
-use Rattle.std.proofs.Common.{◌≡◌, ℕ, ◌<◌, ◌^◌, ◌*◌, ◌%◌, Bool, true, false, List, [], ◌∷◌, map, length, refl, sym, ◌∙◌, ap, subst, arith, bit_xor}
+use Rattle.std.proofs.Common.{◌≡◌, ℕ, ◌<◌, ◌^◌, ◌%◌, Bool, true, false, List, [], ◌∷◌, map, length, refl, sym, ◌∙◌, ap, subst, arith, bit_xor}
 use Rattle.std.specs.Int.Bits.{xor_zero_l, xor_zero_r}
 use Rattle.share_ring.specs.Rings.{add_ring, xor_ring}
 use Rattle.share_ring.specs.RingsKeepLaws.{add_ring_laws, xor_ring_laws}
@@ -11,10 +11,10 @@ use Rattle.proto_core.specs.declared.party.Number.TheVariants.{One, Two, Three}
 use Rattle.proto_core.specs.Parties.{sender_of, receiver_of}
 use Rattle.proto_core.specs.Lists.{at, AreWords}
 use Rattle.proto_core.specs.Elementwise.{plus, minus, zeros}
-use Rattle.proto_core.specs.Strand.{Words, accepts, Act, Sent, Mail, Ends, Ran, acted, run, on_link, opened_in, Begins}
-use Rattle.proto_core.specs.Net.{into, mail_of, posted, run_of, nothing, Finishes}
+use Rattle.proto_core.specs.Strand.{accepts, Act, Sent, Ends, Ran, run, on_link, opened_in, Begins}
+use Rattle.proto_core.specs.Net.{into, run_of, nothing, Finishes}
 use Rattle.proto_core.specs.Script.{EndsWith, Moves, Matched, UsesOwnLinks, sends_on}
-use Rattle.proto_core.specs.Protocol.{Joint, Fits, Lawful, with_words, strands_of, IsMessage, AreMessages, AreBlocks, IsBlock}
+use Rattle.proto_core.specs.Protocol.{Joint, Fits, Lawful, with_words, strands_of, AreMessages, AreBlocks, IsBlock}
 use Rattle.proto_core.specs.Resharing.{sum_of_three}
 use Rattle.proto_core.proofs.Each.{length-each, at-each, each-ext, each-is, AreWords-each}
 use Rattle.proto_core.proofs.ElementwiseLaws.{length-minus, length-zeros, AreWords-minus, AreWords-zeros}

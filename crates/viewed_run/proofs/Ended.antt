@@ -1,5 +1,5 @@
 -- What a miner saw of a run of dealt inputs is the view that it has of such a run.
-use Rattle.std.proofs.Common.{◌≡◌, ℕ, ◌-◌, Bool, List, [], length, map, take, Some, refl, sym, ◌∙◌, ap}
+use Rattle.std.proofs.Common.{◌≡◌, ℕ, ◌-◌, Bool, List, length, map, take, Some, sym, ◌∙◌, ap}
 use Rattle.std.specs.Prelude.{if◌then◌else◌}
 use Rattle.std.proofs.lemmas.Bool.{le-leb}
 use Rattle.std.proofs.lemmas.Option.{same_Some}
@@ -9,7 +9,7 @@ use Rattle.proto_core.specs.declared.party.Number.{Number}
 use Rattle.proto_core.specs.declared.link.Link.{Link}
 use Rattle.proto_core.specs.Parties.{sender_of}
 use Rattle.proto_core.specs.Strand.{Mail, Ran, on_link, told_in}
-use Rattle.protocol_model.specs.Arrivals.{Arrival, arrivals}
+use Rattle.protocol_model.specs.Arrivals.{arrivals}
 use Rattle.protocol_model.specs.Gates as model
 use Rattle.protocol_model.specs.Gates.{gates_script}
 use Rattle.protocol_model.specs.Network.{Delivery, order_of}

@@ -1,5 +1,5 @@
 -- What a miner saw by what its view is made of, it saw in its net.
-use Rattle.std.proofs.Common.{◌≡◌, ◌-◌, ℕ, List, map, take, Option, Some, None, refl, sym, ◌∙◌, subst}
+use Rattle.std.proofs.Common.{◌≡◌, ◌-◌, ℕ, List, map, take, Option, Some, None, sym, ◌∙◌, subst}
 use Rattle.sc_text.specs.declared.elements.Element.{Element}
 use Rattle.sc_text.specs.declared.end.End.{End}
 use Rattle.sc_text.specs.declared.end.Ending.{Ending}

@@ -8,7 +8,6 @@ use Rattle.tape_file.specs.Tapes.{FourTapes}
 use Rattle.typed_tree.specs.Programs.{TypedProgramTree}
 use Rattle.value_file.specs.declared.inputs.Entry.{Entry}
 use Rattle.input_share.specs.declared.dealing.Dealt.{Dealt}
-use Rattle.view_text.specs.View.{View}
 use Rattle.view_model.specs.TapeMaps.{miners_of}
 use Rattle.program_views.specs.Views.{view_of}
 use Rattle.program_run.specs.Accepted.{IsAccepted}

@@ -1,9 +1,8 @@
 -- A tree that tokens spell whose numbers are words is well written.
-use Rattle.std.proofs.Common.{◌≡◌, ℕ, ◌-◌, ◌<◌, ◌^◌, List, [], ◌∷◌, ◌++◌, ◌⊎◌, inl, inr, refl, sym, subst, Option, Some, None, Bool, true, false, arith}
+use Rattle.std.proofs.Common.{◌≡◌, ℕ, ◌-◌, List, [], ◌∷◌, inl, inr, sym, subst, Option, Some, None, Bool, true, false, arith}
 use Rattle.secrec_lexer.specs.declared.token.TokenKind.TheVariants as kinds
 use Rattle.secrec_lexer.specs.declared.token.Token.{Token}
 use Rattle.secrec_lexer.specs.declared.sign.Sign.TheVariants as signs
-use Rattle.secrec_lexer.specs.Lexis.{HasTokens}
 use Rattle.secrec_ast.specs.Tree.{Tree, Trees, number, truth, variable, call, index, parentheses, negation, cast, binary, declassify, argument, publish}
 use Rattle.secrec_ast.specs.declared.expression.Operator.{Operator}
 use Rattle.secrec_ast.specs.Tree as Tree'
@@ -18,10 +17,10 @@ use Rattle.expression_parser.specs.Phrases.{Phrase, sign_at, sign, one_at, one, 
 use Rattle.expression_parser.specs.Grammar.{IsExpression, AreArguments, AreMore, IsDataType, loosest, unary, level, sign_of}
 use Rattle.secrec_parser.specs.Sugar.{held_in, updated}
 use Rattle.secrec_parser.specs.Grammar.{identifier, parenthesised, optional, AreAll, IsType, initialiser, IsDeclaration, bracketed, IsTarget}
-use Rattle.secrec_parser.specs.Grammar.{compound, stepping, IsAssigned, IsAssignment, IsStart, IsStep, heading, IsStatement, AreStatements}
-use Rattle.secrec_parser.specs.Grammar.{IsTemplate, IsResult, AreParameters, IsBlock, IsFunction, IsItem, IsProgram}
+use Rattle.secrec_parser.specs.Grammar.{compound, IsAssigned, IsAssignment, IsStart, IsStep, heading, IsStatement, AreStatements}
+use Rattle.secrec_parser.specs.Grammar.{IsTemplate, IsResult, AreParameters, IsBlock, IsFunction, IsItem}
 use Rattle.well_typed.specs.Sources.{HasWords, HaveWords, HasWordsIf, DeclaresWords, AssignsWords, StartsWithWords, StepsByWords, MayStand}
-use Rattle.well_typed.specs.Sources.{MayStandAll, AreWellWritten, IsWellWritten}
+use Rattle.well_typed.specs.Sources.{MayStandAll, AreWellWritten}
 use Rattle.well_written.specs.Laws.{IsWellWrittenWhereSpelled}
 use Rattle.well_written.proofs.Words.{AreWords, words_parts, words_lexed}
 

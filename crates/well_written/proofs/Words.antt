@@ -17,7 +17,7 @@ use Rattle.secrec_lexer.specs.declared.piece.Piece.TheVariants.{End, Blank, Lexe
 use Rattle.secrec_lexer.specs.Bytes.{is_blank, name_run, first_line, begins, size_to_close}
 use Rattle.secrec_lexer.specs.Signs.{single_sign, longer_sign, keyword}
 use Rattle.secrec_lexer.specs.Pieces.{comment, number_spelled, word_value, number, word, text, longest, sign, first}
-use Rattle.secrec_lexer.specs.Lexis.{token_at, Lexes, ended, blank, lexeme}
+use Rattle.secrec_lexer.specs.Lexis.{Lexes, ended, blank, lexeme}
 
 -- a number is a word
 abbrev pub IsWord : TokenKind → Type 0

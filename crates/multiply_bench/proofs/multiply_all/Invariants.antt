@@ -1,4 +1,4 @@
-use Rattle.std.proofs.Common.{◌-◌, ◌≡◌, ◌+◌, ◌*◌, ◌^◌, ◌<◌, ◌≤◌, length, ℕ}
+use Rattle.std.proofs.Common.{◌-◌, ◌≤◌}
 use Rattle.multiply_bench.proofs.multiply_all.Given as goal
 
 abbrev pub invariant-loop-from : goal.invariant-loop-from

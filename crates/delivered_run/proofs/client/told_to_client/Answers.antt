@@ -1,4 +1,4 @@
-use Rattle.std.proofs.Common.{◌≡◌, ◌+◌, List, [], ◌∷◌, ◌++◌, drop, map, sym, ◌∙◌, ap, append_assoc}
+use Rattle.std.proofs.Common.{◌+◌, List, [], ◌∷◌, ◌++◌, drop, map, sym, ◌∙◌, ap, append_assoc}
 use Rattle.sc_text.specs.declared.event.Event.{Event}
 use Rattle.told_events.specs.Telling.{first_words, told_beside, told_by_three}
 use Rattle.miner_core.specs.declared.notice.Notice.{Notice}

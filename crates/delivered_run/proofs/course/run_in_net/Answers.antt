@@ -1,4 +1,4 @@
-use Rattle.std.proofs.Common.{◌≡◌, ◌≤◌, ℕ, List, length, All, subst}
+use Rattle.std.proofs.Common.{◌≤◌, ℕ, List, length, All, subst}
 use Rattle.proto_core.specs.declared.party.Number.TheVariants.{One, Two, Three}
 use Rattle.input_share.specs.AddUp.{HasWords}
 use Rattle.input_share.specs.Dealing.{need_of}

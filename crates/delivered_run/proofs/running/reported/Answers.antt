@@ -1,4 +1,4 @@
-use Rattle.std.proofs.Common.{◌≡◌, ◌-◌, List, map, sym, ◌∙◌, ap}
+use Rattle.std.proofs.Common.{◌-◌, List, map, sym, ◌∙◌, ap}
 use Rattle.proto_core.specs.declared.party.Number.{Number}
 use Rattle.proto_core.specs.Strand.{Notice, told_in}
 use Rattle.proto_core.specs.declared.party.Number.TheVariants.{One, Two}

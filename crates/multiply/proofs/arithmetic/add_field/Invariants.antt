@@ -1,4 +1,4 @@
-use Rattle.std.proofs.Common.{◌≡◌, ◌≤◌, ◌+◌, length}
+use Rattle.std.proofs.Common.{◌≡◌, ◌≤◌, ◌+◌}
 use Rattle.proto_core.specs.Lists.{at}
 use Rattle.proto_core.proofs.Edits.{edited}
 use Rattle.multiply.proofs.arithmetic.add_field.Given as goal

@@ -1,4 +1,4 @@
-use Rattle.std.proofs.Common.{◌≡◌, ◌<◌, ◌≤◌, min, get_or, length, refl, arith}
+use Rattle.std.proofs.Common.{◌<◌, ◌≤◌, min, get_or, length, refl, arith}
 use Rattle.tape_twin.proofs.Differences.{words-differ, one-begins, past-shorter}
 use Rattle.tape_twin.proofs.alike.first_difference.Goals as goal
 
