@@ -4,9 +4,9 @@
 # A build stands in .build/SUM, SUM being a checksum of all that the program is made of. It is made under another name and
 # renamed when it is whole, so nobody ever meets half of one; a lock lets one build at a time work in a checkout.
 
-# What a build from nothing takes, by estimate: processor minutes in all, and minutes of its longest chain of crates (docs/performance.md).
-build_work=143
-build_chain=40
+# What a build from nothing took: processor minutes in all, and minutes on four processors, which its longest chain of crates sets (docs/performance.md).
+build_work=70
+build_chain=24
 
 # Ends the script with a status that no run of the program has.
 give_up() {
