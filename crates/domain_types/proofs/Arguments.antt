@@ -4,7 +4,7 @@ use Rattle.secrec_ast.specs.Tree.{Tree, trees_of}
 use Rattle.secrec_ast.specs.Heights.{place_of}
 use Rattle.domain_types.specs.declared.value_type.Argument.{Argument}
 use Rattle.domain_types.specs.declared.value_type.ValueType.{ValueType}
-use Rattle.domain_types.specs.Declarations.{Setting}
+use Rattle.domain_types.specs.Settings.{Setting}
 use Rattle.domain_types.specs.Scopes.{Scope}
 use Rattle.domain_types.specs.ExpressionTypes.{with_argument, and_argument, arguments_of, value_type, value_faults, argument_list_faults}
 use Rattle.domain_types.specs.Reached.{calls_of, calls_of_all}

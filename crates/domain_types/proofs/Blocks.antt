@@ -9,7 +9,7 @@ use Rattle.secrec_ast.specs.Statements.{StartTree, starts_with_nothing, starts_w
 use Rattle.secrec_ast.specs.Statements.{block, empty, branch, choice, while_loop, do_loop, for_loop, breaks, continues, returns, assertion}
 use Rattle.secrec_ast.specs.Statements.{declaration, assignment, evaluation, StatementTrees, none, also, statements_of}
 use Rattle.domain_types.specs.declared.fault.TypeFault.{TypeFault}
-use Rattle.domain_types.specs.Declarations.{Setting}
+use Rattle.domain_types.specs.Settings.{Setting}
 use Rattle.domain_types.specs.Scopes.{Variable, Scope, inner, leaving}
 use Rattle.domain_types.specs.StatementTypes.{after, after_all, after_start, statement_faults, block_faults, start_faults, optional_type}
 use Rattle.domain_types.specs.StatementTypes.{optional_faults, step_faults, is_step_typed, for_rule, for_own}

@@ -4,7 +4,7 @@ use Rattle.std.specs.Prelude.{map, bytes_eq, option_map, option_and_then}
 use Rattle.std.specs.List.{slice_get}
 use denote.Ref.{Bor}
 use Rattle.secrec_ast.specs.declared.statement.Identifier.{Identifier}
-use Rattle.domain_types.specs.Declarations.{number_in}
+use Rattle.declarations.specs.Declarations.{number_in}
 use Rattle.domain_types.specs.FunctionTypes.{first_named}
 use Rattle.domain_types.specs.inner.Lent.{identifier_at, text_at}
 

@@ -1,3 +1,4 @@
+pub use Rattle.declarations.proofs.Names
 pub mod TypingRows
 pub mod TypingSteps
 pub mod TypingRules
@@ -7,8 +8,6 @@ pub mod TypingStatements
 pub mod TypingFunctions
 pub mod TypingPrograms
 pub mod Faults
-pub mod Names
-pub mod Naming
 pub mod HeadNames
 pub mod Bindings
 pub mod Calling
@@ -17,7 +16,6 @@ pub mod Arguments
 pub mod Visits
 pub mod Blocks
 pub mod Returning
-pub mod Growing
 pub mod Laws
 pub mod Listing
 pub mod WorkList

@@ -13,8 +13,8 @@ use Rattle.std.proofs.lemmas.Slice.Eq.{bytes_eq-Decides}
 use Rattle.std.specs.BTreeMap.{BTreeMap}
 use Rattle.std.specs.Map.{update}
 use denote.Ref.{Bor}
-use Rattle.domain_types.specs.Index.{found}
-use Rattle.domain_types.proofs.Names.{bytes_eq-swap}
+use Rattle.declarations.specs.Index.{found}
+use Rattle.declarations.proofs.Names.{bytes_eq-swap}
 use Rattle.domain_types.specs.inner.Table.{variable_of, scope_at, latest_in}
 
 -- the variables of all blocks

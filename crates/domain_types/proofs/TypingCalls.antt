@@ -18,11 +18,12 @@ use Rattle.domain_types.specs.declared.value_type.Protection.TheVariants.{Public
 use Rattle.domain_types.specs.declared.value_type.ValueType.{ValueType}
 use Rattle.domain_types.specs.declared.value_type.ExpressionType.{ExpressionType}
 use Rattle.domain_types.specs.declared.value_type.ExpressionType.TheVariants.{Value}
-use Rattle.domain_types.specs.declared.value_type.BuiltIn.{BuiltIn}
-use Rattle.domain_types.specs.declared.value_type.BuiltIn.TheVariants.{Size, Cat, Sum, BitExtract}
+use Rattle.declarations.specs.declared.built_in.BuiltIn.{BuiltIn}
+use Rattle.declarations.specs.declared.built_in.BuiltIn.TheVariants.{Size, Cat, Sum, BitExtract}
 use Rattle.domain_types.specs.Types.{fault_at, fault_if, of_typed, meet, mix_faults, is_uint64, same_element, store_faults, scalar_of, public_scalar}
-use Rattle.domain_types.specs.Declarations.{Declared, Setting, type_written, Callee, built_in, defined, built_in_named, function_named}
-use Rattle.domain_types.specs.Declarations.{callee_or_function, callee}
+use Rattle.declarations.specs.Declarations.{Declared, Callee, built_in, defined, built_in_named, function_named}
+use Rattle.domain_types.specs.Settings.{Setting, type_written}
+use Rattle.declarations.specs.Declarations.{callee_or_function, callee}
 use Rattle.domain_types.specs.ExpressionTypes.{array_of, size_faults, cat_faults, sum_faults, bit_extract_faults, built_in_faults, built_in_result}
 use Rattle.domain_types.specs.ExpressionTypes.{bound_by, with_domain, binding_by, bound_faults, binding_faults, argument_faults, within}
 use Rattle.domain_types.specs.ExpressionTypes.{defined_faults, result_type, callee_faults, callee_type, call_faults, call_type}

@@ -18,7 +18,8 @@ use Rattle.domain_types.specs.declared.value_type.ValueType.{ValueType}
 use Rattle.domain_types.specs.declared.value_type.ExpressionType.{ExpressionType}
 use Rattle.domain_types.specs.declared.value_type.ExpressionType.TheVariants.{Void, Value}
 use Rattle.domain_types.specs.Types.{of_typed, value_of, void_faults, scalar_of, public_scalar}
-use Rattle.domain_types.specs.Declarations.{Declared, Setting, Callee, built_in, defined, callee}
+use Rattle.declarations.specs.Declarations.{Declared, Callee, built_in, defined, callee}
+use Rattle.domain_types.specs.Settings.{Setting}
 use Rattle.domain_types.specs.Scopes.{Variable, Scope, variable_named}
 use Rattle.domain_types.specs.ExpressionTypes.{variable_type, variable_faults, operator_faults, operator_type, negation_faults, negation_type}
 use Rattle.domain_types.specs.ExpressionTypes.{cast_type, declassified, index_faults, index_type, with_argument, built_in_faults, built_in_result}

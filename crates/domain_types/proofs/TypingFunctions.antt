@@ -12,7 +12,8 @@ use Rattle.secrec_ast.specs.Programs.{FunctionTree, ItemTree}
 use Rattle.domain_types.specs.declared.fault.TypeProblem.TheVariants.{UnknownName, Twice, TypeMismatch, MissingReturn}
 use Rattle.domain_types.specs.declared.value_type.ExpressionType.TheVariants.{Value}
 use Rattle.domain_types.specs.Types.{fault_if}
-use Rattle.domain_types.specs.Declarations.{Declared, Setting, type_written, is_known_kind, number_in}
+use Rattle.declarations.specs.Declarations.{Declared, is_known_kind, number_in}
+use Rattle.domain_types.specs.Settings.{Setting, type_written}
 use Rattle.domain_types.specs.Scopes.{Scope, nothing_known, is_among, twice_faults}
 use Rattle.domain_types.specs.ExpressionTypes.{result_type}
 use Rattle.domain_types.specs.StatementTypes.{domain_faults, one_returns}

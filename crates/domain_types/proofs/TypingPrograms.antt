@@ -7,9 +7,9 @@ use Rattle.secrec_ast.specs.declared.statement.Identifier.{Identifier}
 use Rattle.secrec_ast.specs.Programs.{FunctionTree, ItemTree, imports, kind, domain, defines, ProgramTree}
 use Rattle.domain_types.specs.declared.fault.TypeProblem.TheVariants.{UnknownName, Twice, NoMain, BadImport}
 use Rattle.domain_types.specs.declared.fault.TypeFault.{TypeFault}
-use Rattle.domain_types.specs.declared.value_type.BuiltIn.{BuiltIn}
+use Rattle.declarations.specs.declared.built_in.BuiltIn.{BuiltIn}
 use Rattle.domain_types.specs.Types.{fault_if}
-use Rattle.domain_types.specs.Declarations.{Declared, declared_by, functions_of, is_known_kind, built_in_named}
+use Rattle.declarations.specs.Declarations.{Declared, declared_by, functions_of, is_known_kind, built_in_named}
 use Rattle.domain_types.specs.ExpressionTypes.{within}
 use Rattle.domain_types.specs.FunctionTypes.{function_faults, head_faults}
 use Rattle.sc_text.specs.Lists.{Among}

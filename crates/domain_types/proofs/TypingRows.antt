@@ -15,7 +15,7 @@ use Rattle.secrec_ast.specs.Statements.{StatementTree, declaration, evaluation, 
 use Rattle.secrec_ast.specs.Programs.{FunctionTree, imports, domain as domain_item, defines, ProgramTree}
 use Rattle.domain_types.specs.declared.fault.TypeProblem.TheVariants.{PrivateToPublic}
 use Rattle.domain_types.specs.declared.value_type.Protection.{Protection}
-use Rattle.domain_types.specs.Declarations.{declared_by}
+use Rattle.declarations.specs.Declarations.{declared_by}
 use Rattle.domain_types.specs.ExpressionTypes.{within, operator_faults, operator_type}
 use Rattle.sc_text.specs.Lists.{Among}
 use Rattle.domain_types.specs.Reached.{Call, Calls, Instance, function_calls, plain}

@@ -26,7 +26,7 @@ use Rattle.domain_types.specs.declared.value_type.Protection.TheVariants.{Public
 use Rattle.domain_types.specs.declared.value_type.ValueType.{ValueType}
 use Rattle.domain_types.specs.declared.value_type.ExpressionType.TheVariants.{Value}
 use Rattle.domain_types.specs.Types.{fault_at, fault_if, of_typed, scalar_faults, store_faults, scalar_of, public_scalar}
-use Rattle.domain_types.specs.Declarations.{Setting, domain_of, in_domain, type_written}
+use Rattle.domain_types.specs.Settings.{Setting, domain_of, in_domain, type_written}
 use Rattle.domain_types.specs.Scopes.{Variable, Scope, inner, with_variable, variable_in, variable_named, is_among, twice_faults}
 use Rattle.domain_types.specs.ExpressionTypes.{variable_type, variable_faults, index_faults, index_type, of_two, result_type, type_of, value_type, value_faults}
 use Rattle.domain_types.specs.StatementTypes.{test_own, test_faults, domain_faults, is_argument, sized_faults, filled_faults, initial_faults}

@@ -11,7 +11,7 @@ use Rattle.secrec_ast.specs.Programs.{FunctionTree, ProgramTree}
 use Rattle.domain_types.specs.declared.fault.TypeFault.{TypeFault}
 use Rattle.domain_types.specs.declared.fault.TypeProblem.TheVariants.{NoMain}
 use Rattle.domain_types.specs.Types.{fault_if}
-use Rattle.domain_types.specs.Declarations.{Declared, declared_by, functions_of}
+use Rattle.declarations.specs.Declarations.{Declared, declared_by, functions_of}
 use Rattle.domain_types.specs.ExpressionTypes.{within}
 use Rattle.domain_types.specs.FunctionTypes.{function_faults, protections_of, domain_variables_faults}
 use Rattle.sc_text.specs.Lists.{Among}

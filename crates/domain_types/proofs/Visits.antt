@@ -6,7 +6,7 @@ use Rattle.domain_types.specs.declared.fault.TypeFault.{TypeFault}
 use Rattle.domain_types.specs.declared.value_type.ValueType.{ValueType}
 use Rattle.secrec_ast.specs.Tree.{Tree}
 use Rattle.domain_types.specs.Types.{of_typed}
-use Rattle.domain_types.specs.Declarations.{Setting}
+use Rattle.domain_types.specs.Settings.{Setting}
 use Rattle.domain_types.specs.Scopes.{Scope}
 use Rattle.domain_types.specs.ExpressionTypes.{value_type, value_faults}
 use Rattle.domain_types.specs.Reached.{Call, calls_of}

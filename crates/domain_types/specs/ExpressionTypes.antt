@@ -27,11 +27,12 @@ use Rattle.domain_types.specs.declared.value_type.ValueType.{ValueType}
 use Rattle.domain_types.specs.declared.value_type.ExpressionType.{ExpressionType}
 use Rattle.domain_types.specs.declared.value_type.Argument.{Argument}
 use Rattle.domain_types.specs.declared.value_type.ExpressionType.TheVariants.{Void, Value}
-use Rattle.domain_types.specs.declared.value_type.BuiltIn.{BuiltIn}
-use Rattle.domain_types.specs.declared.value_type.BuiltIn.TheVariants.{Size, Cat, Sum, BitExtract}
+use Rattle.declarations.specs.declared.built_in.BuiltIn.{BuiltIn}
+use Rattle.declarations.specs.declared.built_in.BuiltIn.TheVariants.{Size, Cat, Sum, BitExtract}
 use Rattle.domain_types.specs.Types.{fault_at, fault_if, of_typed, unless_refused, value_of, void_faults, is_private, meet, mix_faults, is_uint64}
 use Rattle.domain_types.specs.Types.{same_element, store_faults, scalar_faults, scalar_of, public_scalar}
-use Rattle.domain_types.specs.Declarations.{Declared, bind, Setting, type_written, Callee, built_in, defined, callee}
+use Rattle.declarations.specs.Declarations.{Declared, Callee, built_in, defined, callee}
+use Rattle.domain_types.specs.Settings.{bind, Setting, type_written}
 use Rattle.domain_types.specs.Scopes.{Variable, Scope, variable_named}
 
 -- VARIABLES

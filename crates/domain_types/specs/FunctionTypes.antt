@@ -10,7 +10,8 @@ use Rattle.secrec_ast.specs.Programs.{FunctionTree, ItemTree, imports, kind, dom
 use Rattle.domain_types.specs.declared.fault.TypeProblem.TheVariants.{UnknownName, Twice, TypeMismatch, MissingReturn}
 use Rattle.domain_types.specs.declared.fault.TypeFault.{TypeFault}
 use Rattle.domain_types.specs.Types.{fault_at, fault_if}
-use Rattle.domain_types.specs.Declarations.{Declared, Setting, type_written, is_known_kind}
+use Rattle.declarations.specs.Declarations.{Declared, is_known_kind}
+use Rattle.domain_types.specs.Settings.{Setting, type_written}
 use Rattle.domain_types.specs.Scopes.{Scope, nothing_known, with_variable, twice_faults}
 use Rattle.domain_types.specs.ExpressionTypes.{is_named}
 use Rattle.domain_types.specs.StatementTypes.{domain_faults, block_faults, one_returns}

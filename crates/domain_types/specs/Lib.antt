@@ -1,7 +1,7 @@
+pub use Rattle.declarations.specs.declared.built_in.BuiltIn
+pub use Rattle.declarations.specs.Declarations
 pub mod Types
-pub mod Declarations
-pub mod Index
-pub mod Named
+pub mod Settings
 pub mod Views
 pub mod Scopes
 pub mod ExpressionTypes

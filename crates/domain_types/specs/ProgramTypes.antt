@@ -8,7 +8,7 @@ use Rattle.secrec_ast.specs.Programs.{FunctionTree, ItemTree, imports, kind, dom
 use Rattle.domain_types.specs.declared.fault.TypeProblem.TheVariants.{UnknownName, Twice, NoMain, BadImport}
 use Rattle.domain_types.specs.declared.fault.TypeFault.{TypeFault}
 use Rattle.domain_types.specs.Types.{fault_if}
-use Rattle.domain_types.specs.Declarations.{Declared, declared_by, functions_of, number_in, is_known_kind, built_in_named}
+use Rattle.declarations.specs.Declarations.{Declared, declared_by, functions_of, number_in, is_known_kind, built_in_named}
 use Rattle.domain_types.specs.ExpressionTypes.{within}
 use Rattle.domain_types.specs.FunctionTypes.{function_faults, head_faults}
 use Rattle.domain_types.specs.Reached.{Call, Instance, Calls, IsChecked}

@@ -14,7 +14,8 @@ use Rattle.sc_text.specs.declared.span.Span.{Span}
 use Rattle.domain_types.specs.declared.value_type.Argument.{Argument}
 use Rattle.domain_types.specs.declared.value_type.Protection.{Protection}
 use Rattle.domain_types.specs.Types.{unless_refused}
-use Rattle.domain_types.specs.Declarations.{Declared, declared_by, functions_of, Setting, Callee, built_in, defined, callee}
+use Rattle.declarations.specs.Declarations.{Declared, declared_by, functions_of, Callee, built_in, defined, callee}
+use Rattle.domain_types.specs.Settings.{Setting}
 use Rattle.domain_types.specs.Scopes.{Scope, inner, nothing_known}
 use Rattle.domain_types.specs.ExpressionTypes.{arguments_of, binding_by, defined_faults, within}
 use Rattle.domain_types.specs.StatementTypes.{after, after_start}

@@ -17,7 +17,7 @@ use Rattle.domain_types.specs.declared.fault.TypeProblem.TheVariants.{UnknownNam
 use Rattle.domain_types.specs.declared.fault.TypeFault.{TypeFault}
 use Rattle.domain_types.specs.declared.value_type.ValueType.{ValueType}
 use Rattle.domain_types.specs.Types.{fault_at, fault_if, of_typed, scalar_faults, store_faults, scalar_of}
-use Rattle.domain_types.specs.Declarations.{Setting, domain_of, type_written}
+use Rattle.domain_types.specs.Settings.{Setting, domain_of, type_written}
 use Rattle.domain_types.specs.Scopes.{Variable, Scope, inner, with_variable, variable_named, twice_faults}
 use Rattle.domain_types.specs.ExpressionTypes.{variable_type, variable_faults, index_faults, index_type, of_two, type_of, value_type, faults, value_faults}
 

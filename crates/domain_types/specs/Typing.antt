@@ -27,11 +27,12 @@ use Rattle.domain_types.specs.declared.value_type.Protection.TheVariants.{Public
 use Rattle.domain_types.specs.declared.value_type.ValueType.{ValueType}
 use Rattle.domain_types.specs.declared.value_type.ExpressionType.{ExpressionType}
 use Rattle.domain_types.specs.declared.value_type.ExpressionType.TheVariants.{Void, Value}
-use Rattle.domain_types.specs.declared.value_type.BuiltIn.{BuiltIn}
-use Rattle.domain_types.specs.declared.value_type.BuiltIn.TheVariants.{Size, Cat, Sum, BitExtract}
+use Rattle.declarations.specs.declared.built_in.BuiltIn.{BuiltIn}
+use Rattle.declarations.specs.declared.built_in.BuiltIn.TheVariants.{Size, Cat, Sum, BitExtract}
 use Rattle.domain_types.specs.Types.{scalar_of, public_scalar}
-use Rattle.domain_types.specs.Declarations.{Declared, declared_by, functions_of, is_known_kind, built_in_named, Setting, type_written, Callee}
-use Rattle.domain_types.specs.Declarations.{built_in, defined, callee}
+use Rattle.declarations.specs.Declarations.{Declared, declared_by, functions_of, is_known_kind, built_in_named, Callee}
+use Rattle.domain_types.specs.Settings.{Setting, type_written}
+use Rattle.declarations.specs.Declarations.{built_in, defined, callee}
 use Rattle.domain_types.specs.Scopes.{Scope, nothing_known, inner, variable_named, is_among}
 use Rattle.domain_types.specs.ExpressionTypes.{cast_type, declassified, array_of, bound_by, within, variable_type, result_type}
 use Rattle.domain_types.specs.StatementTypes.{is_argument, after, after_start, one_returns}

@@ -17,7 +17,7 @@ use Rattle.domain_types.specs.declared.fault.TypeProblem.TheVariants.{UnknownNam
 use Rattle.domain_types.specs.declared.fault.TypeProblem.TheVariants.{PrivateToPublic, PrivateDivision, PrivateAssert, MissingReturn}
 use Rattle.domain_types.specs.declared.fault.TypeFault.{TypeFault}
 use Rattle.domain_types.specs.declared.value_type.Protection.TheVariants.{Public, Private}
-use Rattle.domain_types.specs.Declarations.{declared_by}
+use Rattle.declarations.specs.Declarations.{declared_by}
 use Rattle.domain_types.specs.ExpressionTypes.{within, operator_faults, operator_type, index_faults, index_type, defined_faults, call_faults, call_type}
 use Rattle.domain_types.specs.StatementTypes.{sized_faults}
 use Rattle.domain_types.specs.FunctionTypes.{function_faults}

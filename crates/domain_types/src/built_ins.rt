@@ -2,13 +2,14 @@
 ghost use Rattle.std.specs.Prelude.{◌≡◌};
 ghost use Rattle.domain_types.specs.Types.{unless_refused};
 ghost use Rattle.domain_types.specs.ExpressionTypes.{size_faults, cat_faults, sum_faults, bit_extract_faults, built_in_faults, built_in_result};
-ghost use Rattle.domain_types.specs.declared.value_type.BuiltIn.TheVariants.{Size, Cat, Sum, BitExtract};
+ghost use Rattle.declarations.specs.declared.built_in.BuiltIn.TheVariants.{Size, Cat, Sum, BitExtract};
 ghost use Rattle.domain_types.specs.inner.LeastFault.{least};
 
 use crate::fault::{TypeFault, TypeProblem};
 use crate::least_fault::{note, note_if};
 use crate::rules::{is_uint64, meet, mix, same_element};
-use crate::value_type::{Argument, BuiltIn, Protection, ValueType};
+use crate::value_type::{Argument, Protection, ValueType};
+use declarations::BuiltIn;
 use sc_text::Span;
 use secrec_ast::DataType;
 

@@ -2,20 +2,20 @@
 ghost use Rattle.std.specs.Prelude.{IfOk, Some, option_map, option_and_then, vec_items};
 ghost use Rattle.secrec_ast.specs.Programs.{function_tree};
 ghost use Rattle.domain_types.specs.Types.{of_typed};
-ghost use Rattle.domain_types.specs.Declarations.{defined, callee};
+ghost use Rattle.declarations.specs.Declarations.{defined, callee};
 ghost use Rattle.domain_types.specs.ExpressionTypes.{defined_faults, callee_type, call_faults, call_type};
 ghost use Rattle.domain_types.specs.Reached.{call_of};
-ghost use Rattle.domain_types.specs.Views.{declared};
+ghost use Rattle.declarations.specs.Views.{declared};
 ghost use Rattle.domain_types.specs.inner.Walks.{Gives};
 
 use crate::built_ins::built_in;
 use crate::calls::{Call, Found};
-use crate::declarations::Called;
 use crate::defined_calls::{defined_call, result_type};
 use crate::fault::TypeProblem;
 use crate::least_fault::note;
 use crate::setting::Setting;
 use crate::value_type::{Argument, ExpressionType};
+use declarations::Called;
 use sc_text::Span;
 use secrec_ast::Function;
 use std::alloc::AllocError;

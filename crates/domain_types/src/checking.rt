@@ -7,7 +7,6 @@ ghost use Rattle.domain_types.specs.ProgramTypes.{IsAccepted, IsRefused};
 ghost use Rattle.domain_types.specs.Typing.{IsTypedProgram};
 ghost use Rattle.domain_types.specs.Answer.{AreTheChecked, IsTold, IsVerdict};
 
-use crate::collecting::collect;
 use crate::fault::{TypeFault, TypeProblem};
 use crate::instance::Instance;
 use crate::items::{has_main, items};
@@ -15,6 +14,7 @@ use crate::least_fault::note_if;
 use crate::protections::Protections;
 use crate::type_err::TypeErr;
 use crate::visiting::{called_heads, visit_all};
+use declarations::collect;
 use secrec_ast::Program;
 use std::alloc::{AllocError, Global};
 

@@ -2,8 +2,9 @@
 ghost use Rattle.std.specs.Prelude.{◌≡◌, IfOk, option_map, vec_items};
 ghost use Rattle.secrec_ast.specs.Programs.{function_tree};
 ghost use Rattle.domain_types.specs.Types.{is_faultless, of_typed, unless_refused};
-ghost use Rattle.domain_types.specs.Declarations.{type_written};
-ghost use Rattle.domain_types.specs.Views.{declared, setting};
+ghost use Rattle.domain_types.specs.Settings.{type_written};
+ghost use Rattle.declarations.specs.Views.{declared};
+ghost use Rattle.domain_types.specs.Views.{setting};
 ghost use Rattle.domain_types.specs.ExpressionTypes.{is_named, bound_from, bound_by, bound_faults, binding_faults, binding_by, argument_faults};
 ghost use Rattle.domain_types.specs.ExpressionTypes.{defined_faults, within, result_type};
 ghost use Rattle.domain_types.specs.inner.LeastFault.{least};

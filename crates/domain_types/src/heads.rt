@@ -3,15 +3,15 @@ ghost use Rattle.std.specs.Prelude.{◌≡◌, [], reverse};
 ghost use Rattle.secrec_ast.specs.Programs.{function_tree};
 ghost use Rattle.domain_types.specs.FunctionTypes.{is_earlier, later_of, hiding_faults, kind_faults, is_variable, is_in_parameter};
 ghost use Rattle.domain_types.specs.FunctionTypes.{domain_variable_faults, domain_variables_faults};
-ghost use Rattle.domain_types.specs.Views.{declared};
+ghost use Rattle.declarations.specs.Views.{declared};
 ghost use Rattle.domain_types.specs.inner.LeastFault.{least};
 
-use crate::declarations::Declarations;
 use crate::defined_calls::is_named;
 use crate::fault::{TypeFault, TypeProblem};
 use crate::items::is_known_kind;
 use crate::least_fault::{note, note_if};
 use crate::protections::Protections;
+use declarations::Declarations;
 use sc_text::Span;
 use secrec_ast::{DomainVariable, Function, Identifier, Parameter};
 

@@ -1,15 +1,14 @@
 // The faults of declarations.
 ghost use Rattle.std.specs.Prelude.{◌≡◌, [], IfOk, map};
 ghost use Rattle.secrec_ast.specs.Programs.{function_tree, item_tree};
-ghost use Rattle.domain_types.specs.Declarations.{is_known_kind};
+ghost use Rattle.declarations.specs.Declarations.{is_known_kind};
 ghost use Rattle.domain_types.specs.ProgramTypes.{is_module, space_faults, item_faults, items_faults, is_main, has_main};
-ghost use Rattle.domain_types.specs.Views.{declared, tree_at};
+ghost use Rattle.declarations.specs.Views.{declared, tree_at};
 ghost use Rattle.domain_types.specs.inner.LeastFault.{least};
 
-use crate::declarations::Declarations;
 use crate::fault::{TypeFault, TypeProblem};
 use crate::least_fault::note_if;
-use crate::name_index::NameIndex;
+use declarations::{Declarations, NameIndex};
 use secrec_ast::{Function, Identifier, Item, ResultType};
 use std::alloc::{AllocError, Global};
 

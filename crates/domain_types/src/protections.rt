@@ -4,7 +4,7 @@ ghost use Rattle.secrec_ast.specs.Programs.{item_tree};
 ghost use Rattle.domain_types.specs.FunctionTypes.{protections_of, first_named};
 ghost use Rattle.domain_types.specs.inner.Lent.{identifier_at};
 
-use crate::name_index::NameIndex;
+use declarations::NameIndex;
 use secrec_ast::{Identifier, Item};
 use std::alloc::{AllocError, Global};
 use std::marker::Model;
@@ -50,7 +50,7 @@ impl<'p> Protections<'p> {
     }
 
     // These and one behind them.
-    #[tactic(auto, using(crate::proofs::Growing::collecting))]
+    #[tactic(auto, using(declarations::proofs::Growing::collecting))]
     fn with(self, identifier: &'p Identifier) -> Result<Protections<'p>, AllocError>
         ensures { IfOk result (λ protections. protections ≡ self.entry ++ identifier.now ∷ []) }
     {
@@ -64,7 +64,7 @@ impl<'p> Protections<'p> {
     }
 
     /// The kinds and domains that these declarations declare.
-    #[tactic(auto, using(crate::proofs::Growing::collecting))]
+    #[tactic(auto, using(declarations::proofs::Growing::collecting))]
     pub fn collect(alloc: Global, items: &'p [Item]) -> Result<Protections<'p>, AllocError>
         ensures { IfOk result (λ protections. protections ≡ protections_of (map item_tree items.now)) }
     {

@@ -1,9 +1,9 @@
 ghost use Rattle.std.specs.Prelude.{◌≡◌};
-ghost use Rattle.domain_types.specs.Declarations.{bind, bound_to, domain_of, type_written};
+ghost use Rattle.domain_types.specs.Settings.{bind, bound_to, domain_of, type_written};
 ghost use Rattle.domain_types.specs.Views.{setting};
 
-use crate::declarations::Declarations;
 use crate::value_type::{Protection, ValueType};
+use declarations::Declarations;
 use secrec_ast::{DeclaredType, Domain, DomainVariable, Function};
 use std::alloc::Global;
 

@@ -24,15 +24,6 @@ pub enum ExpressionType {
     Value(ValueType),
 }
 
-/// A function that is there without a declaration.
-#[derive(Clone, Copy)]
-pub enum BuiltIn {
-    Size,
-    Cat,
-    Sum,
-    BitExtract,
-}
-
 /// An argument of a call: where it begins, and its type.
 #[derive(Clone, Copy)]
 pub struct Argument {

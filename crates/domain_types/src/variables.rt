@@ -1,5 +1,5 @@
 ghost use Rattle.std.specs.Prelude.{ℕ, List, ◌≡◌, ◌≢◌, ◌<◌, ◌≤◌, length, drop, IfOk, None, option_map, bytes_eq, if◌then◌else◌};
-ghost use Rattle.domain_types.specs.Index.{found};
+ghost use Rattle.declarations.specs.Index.{found};
 ghost use Rattle.domain_types.specs.Scopes.{held_by, nothing_known, inner, leaving, with_variable, variable_named, is_among};
 
 use crate::value_type::ValueType;

@@ -6,9 +6,9 @@ use Rattle.secrec_ast.specs.declared.function.Function.{Function}
 use Rattle.secrec_ast.specs.Tree.{Tree, trees_of}
 use Rattle.secrec_ast.specs.Statements.{StatementTree, statements_of}
 use Rattle.secrec_ast.specs.Programs.{FunctionTree}
-use Rattle.domain_types.specs.Declarations.{Declared}
-use Rattle.domain_types.specs.Named.{name_of}
-use Rattle.domain_types.specs.Views.{tree_at}
+use Rattle.declarations.specs.Declarations.{Declared}
+use Rattle.declarations.specs.Named.{name_of}
+use Rattle.declarations.specs.Views.{tree_at}
 use Rattle.name_resolution.specs.Order.{function_name, called_in, called_in_all, called_by, called_by_all}
 
 pub named_trees : (fs : List (Bor Function)) → map function_name (map tree_at fs) ≡ map name_of fs

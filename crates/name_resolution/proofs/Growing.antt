@@ -3,7 +3,7 @@ use Rattle.std.proofs.Common.{◌≡◌, List, [], ◌∷◌, ◌++◌, refl, sy
 use Rattle.std.specs.Prelude.{map}
 use Rattle.std.proofs.lemmas.List.{map-append}
 use Rattle.secrec_ast.specs.Tree.{Tree, trees_of}
-use Rattle.domain_types.specs.Declarations.{Declared}
+use Rattle.declarations.specs.Declarations.{Declared}
 use Rattle.name_resolution.specs.Scopes.{Scope}
 use Rattle.name_resolution.specs.Values.{TypedValue, of_both, and_values, value, values}
 use Rattle.secrec_ast.specs.declared.statement.DeclaredType.{DeclaredType}

@@ -11,8 +11,8 @@ use Rattle.secrec_ast.specs.declared.function.DomainVariable.{DomainVariable}
 use Rattle.secrec_ast.specs.declared.function.Function.{Function}
 use Rattle.secrec_ast.specs.Tree.{expression, trees_of}
 use Rattle.secrec_ast.specs.Statements.{StatementTree, statement, statements_of}
-use Rattle.domain_types.specs.Declarations.{Declared}
-use Rattle.domain_types.specs.Views.{tree_at}
+use Rattle.declarations.specs.Declarations.{Declared}
+use Rattle.declarations.specs.Views.{tree_at}
 use Rattle.name_resolution.specs.declared.resolve_err.ResolveErr.{ResolveErr}
 use Rattle.name_resolution.specs.declared.resolve_err.ResolveErr.TheVariants.{Unresolved, Memory}
 use Rattle.name_resolution.specs.Answer.{Answers}

@@ -13,7 +13,7 @@ use Rattle.secrec_ast.specs.Statements.{starts_with_assignment, StepTree, steps_
 use Rattle.secrec_ast.specs.Statements.{block, empty, branch, choice, while_loop, do_loop, for_loop, breaks, continues, returns, assertion}
 use Rattle.secrec_ast.specs.Statements.{declaration, assignment, evaluation, StatementTrees}
 use Rattle.secrec_ast.specs.Statements as Statements'
-use Rattle.domain_types.specs.Declarations.{Declared, callee}
+use Rattle.declarations.specs.Declarations.{Declared, callee}
 use Rattle.name_resolution.specs.declared.variables.Known.{Known}
 use Rattle.typed_tree.specs.Tree.{TypedTree, truth_node}
 use Rattle.typed_tree.specs.Statements.{TypedStatementTree, TypedStatementTrees, none, also, empty_statement, block_statement, if_statement, loop_statement}

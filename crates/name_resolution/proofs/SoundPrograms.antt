@@ -6,7 +6,7 @@ use Rattle.secrec_ast.specs.declared.statement.DeclaredType.{DeclaredType}
 use Rattle.secrec_ast.specs.declared.function.DomainVariable.{DomainVariable}
 use Rattle.secrec_ast.specs.declared.function.Parameter.{Parameter}
 use Rattle.secrec_ast.specs.Programs.{FunctionTree, ProgramTree}
-use Rattle.domain_types.specs.Declarations.{Declared, declared_by}
+use Rattle.declarations.specs.Declarations.{Declared, declared_by}
 use Rattle.typed_tree.specs.declared.kinds.Slot.{Slot}
 use Rattle.name_resolution.specs.Scopes.{FunctionScope, no_place, declaring}
 use Rattle.name_resolution.specs.Bodies.{resolved_all}

@@ -7,9 +7,9 @@ use Rattle.std.proofs.lemmas.Option.{slice_get-map}
 use Rattle.secrec_ast.specs.Tree.{Tree, Trees, number, truth, variable, call, index, parentheses, negation, cast, binary, declassify, argument, publish}
 use Rattle.secrec_ast.specs.Tree as Tree'
 use Rattle.secrec_ast.specs.Programs.{FunctionTree}
-use Rattle.domain_types.specs.declared.value_type.BuiltIn.{BuiltIn}
-use Rattle.domain_types.specs.declared.value_type.BuiltIn.TheVariants.{Size, Cat, Sum, BitExtract}
-use Rattle.domain_types.specs.Declarations.{Declared, Callee, built_in, defined, built_in_named, function_named, callee_or_function, callee}
+use Rattle.declarations.specs.declared.built_in.BuiltIn.{BuiltIn}
+use Rattle.declarations.specs.declared.built_in.BuiltIn.TheVariants.{Size, Cat, Sum, BitExtract}
+use Rattle.declarations.specs.Declarations.{Declared, Callee, built_in, defined, built_in_named, function_named, callee_or_function, callee}
 use Rattle.typed_tree.specs.declared.operators.BinaryOperator.{BinaryOperator}
 use Rattle.typed_tree.specs.declared.operators.Connective.{Connective}
 use Rattle.typed_tree.specs.Tree.{call_node, typed_trees_of}

@@ -8,7 +8,7 @@ use Rattle.secrec_ast.specs.declared.function.Parameter.{Parameter}
 use Rattle.secrec_ast.specs.declared.function.ResultType.{ResultType}
 use Rattle.secrec_ast.specs.declared.function.ResultType.TheVariants as result
 use Rattle.secrec_ast.specs.Programs.{FunctionTree, ProgramTree}
-use Rattle.domain_types.specs.Declarations.{Declared, declared_by, number_in}
+use Rattle.declarations.specs.Declarations.{Declared, declared_by, number_in}
 use Rattle.typed_tree.specs.declared.kinds.SlotDomain.{SlotDomain}
 use Rattle.typed_tree.specs.declared.kinds.SlotDomain.TheVariants.{Public, Private, Variable}
 use Rattle.typed_tree.specs.declared.kinds.Slot.{Slot}

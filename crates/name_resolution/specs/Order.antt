@@ -9,7 +9,7 @@ use Rattle.secrec_ast.specs.Statements.{block, empty, branch, choice, while_loop
 use Rattle.secrec_ast.specs.Statements.{declaration, assignment, evaluation, StatementTrees}
 use Rattle.secrec_ast.specs.Statements as Statements'
 use Rattle.secrec_ast.specs.Programs.{FunctionTree}
-use Rattle.domain_types.specs.Declarations.{Declared, Callee, built_in, defined, callee, number_in}
+use Rattle.declarations.specs.Declarations.{Declared, Callee, built_in, defined, callee, number_in}
 
 abbrev pub function_name : FunctionTree → List ℕ
 function_name f = f.function.text

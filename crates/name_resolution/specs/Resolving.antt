@@ -3,7 +3,7 @@ use Rattle.std.specs.Prelude.{ℕ, List, length, Option, Some, None, option_map}
 use Rattle.secrec_ast.specs.declared.statement.DeclaredType.{DeclaredType}
 use Rattle.secrec_ast.specs.declared.statement.Identifier.{Identifier}
 use Rattle.secrec_ast.specs.Tree.{Tree}
-use Rattle.domain_types.specs.Declarations.{Declared}
+use Rattle.declarations.specs.Declarations.{Declared}
 use Rattle.name_resolution.specs.declared.variables.Known.{Known}
 use Rattle.typed_tree.specs.Tree.{TypedTree}
 use Rattle.name_resolution.specs.Scopes.{FunctionScope, known_of, variable_named, declaring, entering, behind_block}

@@ -1,7 +1,7 @@
 ghost use Rattle.std.specs.Prelude.{◌≡◌, map};
-ghost use Rattle.domain_types.specs.Named.{name_of};
+ghost use Rattle.declarations.specs.Named.{name_of};
 
-use domain_types::{Called, Declarations, NameIndex};
+use declarations::{Called, Declarations, NameIndex};
 use secrec_ast::Function;
 use std::alloc::{AllocError, Global};
 
@@ -26,8 +26,8 @@ impl Drop for CalledFunctions<'_> {
 
 impl<'p> CalledFunctions<'p> {
     ghost use Rattle.std.specs.Prelude.{[], IfOk};
-    ghost use Rattle.domain_types.specs.Declarations.{callee};
-    ghost use Rattle.domain_types.specs.Views.{declared};
+    ghost use Rattle.declarations.specs.Declarations.{callee};
+    ghost use Rattle.declarations.specs.Views.{declared};
     ghost use Rattle.name_resolution.specs.Order.{with_callee};
     ghost use Rattle.name_resolution.specs.inner.Views.{found_seen};
 

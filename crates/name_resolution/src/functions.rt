@@ -1,7 +1,7 @@
 // Functions as typed ones.
 ghost use Rattle.std.specs.Prelude.{◌≡◌, ◌<◌, length, IfOk, MatchOption, map};
 ghost use Rattle.secrec_ast.specs.Programs.{function_tree};
-ghost use Rattle.domain_types.specs.Views.{declared, tree_at};
+ghost use Rattle.declarations.specs.Views.{declared, tree_at};
 ghost use Rattle.name_resolution.specs.Functions.{variable_number, slot_domain, slot_written, slots_written, given_back, with_parameters};
 ghost use Rattle.name_resolution.specs.Functions.{typed_function, typed_functions};
 ghost use Rattle.typed_tree.specs.Programs.{typed_function_tree};
@@ -13,7 +13,7 @@ use crate::resolve_err::ResolveErr;
 use crate::sizes::size_of;
 use crate::statements::statements;
 use crate::values::shape_written;
-use domain_types::Declarations;
+use declarations::Declarations;
 use secrec_ast::{DeclaredType, Domain, DomainVariable, Function, Parameter, ResultType};
 use std::alloc::{AllocError, Global};
 use typed_tree::{Returned, Slot, SlotDomain, TypedFunction};

@@ -9,7 +9,7 @@ ghost use Rattle.typed_tree.specs.Sound.{IsSound};
 use crate::functions::typed_functions;
 use crate::order::reached;
 use crate::resolve_err::ResolveErr;
-use domain_types::collect;
+use declarations::collect;
 use secrec_ast::Program;
 use std::alloc::Global;
 use typed_tree::TypedProgram;

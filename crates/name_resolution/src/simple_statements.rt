@@ -2,7 +2,7 @@
 ghost use Rattle.std.specs.Prelude.{◌≡◌, IfOk};
 ghost use Rattle.secrec_ast.specs.Tree.{expression};
 ghost use Rattle.secrec_ast.specs.Statements.{optional, declaration_tree, assignment_tree, start_tree, step_tree};
-ghost use Rattle.domain_types.specs.Views.{declared};
+ghost use Rattle.declarations.specs.Views.{declared};
 ghost use Rattle.typed_tree.specs.Tree.{typed_tree};
 ghost use Rattle.typed_tree.specs.Statements.{typed_statement};
 ghost use Rattle.name_resolution.specs.Resolving.{resolved_value, known_at};
@@ -15,7 +15,7 @@ use crate::place::FunctionScope;
 use crate::resolve_err::ResolveErr;
 use crate::values::{call, value};
 use crate::variables::Known;
-use domain_types::Declarations;
+use declarations::Declarations;
 use secrec_ast::{Assignment, DataType, Declaration, Expression, ForStart, ForStep};
 use std::alloc::Global;
 use typed_tree::{TypedExpression, TypedStatement};

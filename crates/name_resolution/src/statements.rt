@@ -1,7 +1,7 @@
 // Statements: a `for`, and each branch or body, is a block.
 ghost use Rattle.std.specs.Prelude.{◌≡◌, IfOk, map};
 ghost use Rattle.secrec_ast.specs.Statements.{statement, statements_of, start_tree, step_tree, optional};
-ghost use Rattle.domain_types.specs.Views.{declared};
+ghost use Rattle.declarations.specs.Views.{declared};
 ghost use Rattle.typed_tree.specs.Statements.{typed_statement};
 ghost use Rattle.name_resolution.specs.Resolving.{in_block};
 ghost use Rattle.name_resolution.specs.Bodies.{looped, resolved, resolved_all};
@@ -13,7 +13,7 @@ use crate::resolve_err::ResolveErr;
 use crate::simple_statements::{
     assigned, condition_of, declared, evaluated, expression, returned, started, stepped,
 };
-use domain_types::Declarations;
+use declarations::Declarations;
 use secrec_ast::{Expression, ForStart, ForStep, Statement};
 use std::alloc::Global;
 use typed_tree::TypedStatement;

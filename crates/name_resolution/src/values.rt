@@ -2,8 +2,8 @@
 ghost use Rattle.std.specs.Prelude.{◌≡◌, true, false, IfOk, Some, map, option_map};
 ghost use Rattle.secrec_ast.specs.Tree.{expression, trees_of};
 ghost use Rattle.secrec_ast.specs.Programs.{function_tree};
-ghost use Rattle.domain_types.specs.Declarations.{defined, callee};
-ghost use Rattle.domain_types.specs.Views.{declared};
+ghost use Rattle.declarations.specs.Declarations.{defined, callee};
+ghost use Rattle.declarations.specs.Views.{declared};
 ghost use Rattle.typed_tree.specs.Tree.{typed_tree};
 ghost use Rattle.name_resolution.specs.Scopes.{variable_named, shape_written};
 ghost use Rattle.typed_tree.specs.Operators.{operands_of, may_cut_short};
@@ -16,7 +16,7 @@ ghost use Rattle.name_resolution.specs.inner.Views.{valued, values_seen, pair_se
 use crate::choosing::{may_cut_short, operator_on};
 use crate::resolve_err::ResolveErr;
 use crate::variables::Variables;
-use domain_types::{BuiltIn, Called, Declarations};
+use declarations::{BuiltIn, Called, Declarations};
 use secrec_ast::{DataType, DeclaredType, Expression, Function, Operator, ResultType};
 use std::alloc::{AllocError, Global};
 use typed_tree::{BinaryOperator, Cast, Operands, Shape, TypedExpression};

@@ -1,5 +1,5 @@
 ghost use Rattle.std.specs.Prelude.{ℕ, List, ◌≡◌, ◌≢◌, ◌<◌, ◌≤◌, length, drop, IfOk, None, option_map, bytes_eq, if◌then◌else◌};
-ghost use Rattle.domain_types.specs.Index.{found};
+ghost use Rattle.declarations.specs.Index.{found};
 ghost use Rattle.name_resolution.specs.Scopes.{known_of, nothing_known, inner, leaving, with_variable, variable_named};
 
 use std::alloc::{AllocError, Global};

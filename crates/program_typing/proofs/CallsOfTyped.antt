@@ -21,7 +21,8 @@ use Rattle.domain_types.specs.declared.value_type.ValueType.{ValueType}
 use Rattle.domain_types.specs.declared.value_type.ExpressionType.{ExpressionType}
 use Rattle.domain_types.specs.declared.value_type.ExpressionType.TheVariants.{Value}
 use Rattle.domain_types.specs.Types.{public_scalar}
-use Rattle.domain_types.specs.Declarations.{Declared, Setting, Callee, built_in, defined, callee}
+use Rattle.domain_types.specs.Declarations.{Declared, Callee, built_in, defined, callee}
+use Rattle.domain_types.specs.Settings.{Setting}
 use Rattle.domain_types.specs.Scopes.{Scope, inner}
 use Rattle.domain_types.specs.ExpressionTypes.{binding_by, within, defined_faults, result_type, arguments_of}
 use Rattle.domain_types.specs.StatementTypes.{is_argument, after, after_start}

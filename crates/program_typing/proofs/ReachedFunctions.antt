@@ -18,7 +18,7 @@ use Rattle.secrec_ast.specs.Statements.{block, empty, branch, choice, while_loop
 use Rattle.secrec_ast.specs.Statements.{declaration, assignment, evaluation, StatementTrees}
 use Rattle.secrec_ast.specs.Statements as Statements'
 use Rattle.secrec_ast.specs.Programs.{FunctionTree}
-use Rattle.domain_types.specs.declared.value_type.BuiltIn.{BuiltIn}
+use Rattle.domain_types.specs.BuiltIn.{BuiltIn}
 use Rattle.domain_types.specs.Declarations.{Declared, Callee, built_in, defined, built_in_named, function_named, callee_or_function, callee, number_in}
 use Rattle.sc_text.specs.Lists.{Among}
 use Rattle.domain_types.proofs.Names.{bytes_eq-swap}

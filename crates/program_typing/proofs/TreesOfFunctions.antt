@@ -11,7 +11,8 @@ use Rattle.secrec_ast.specs.declared.function.ResultType.TheVariants as result
 use Rattle.secrec_ast.specs.Programs.{FunctionTree}
 use Rattle.domain_types.specs.declared.value_type.Protection.{Protection}
 use Rattle.domain_types.specs.declared.value_type.ValueType.{ValueType}
-use Rattle.domain_types.specs.Declarations.{Declared, Setting, bind, bound_to, number_in, private_domain, domain_of_name, domain_of, in_domain, type_written}
+use Rattle.domain_types.specs.Declarations.{Declared, number_in}
+use Rattle.domain_types.specs.Settings.{Setting, bind, bound_to, private_domain, domain_of_name, domain_of, in_domain, type_written}
 use Rattle.domain_types.specs.Scopes as checked
 use Rattle.domain_types.specs.ExpressionTypes.{within}
 use Rattle.domain_types.specs.FunctionTypes as head

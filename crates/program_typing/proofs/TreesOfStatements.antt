@@ -19,7 +19,8 @@ use Rattle.domain_types.specs.declared.value_type.ValueType.{ValueType}
 use Rattle.domain_types.specs.declared.value_type.ExpressionType.{ExpressionType}
 use Rattle.domain_types.specs.declared.value_type.ExpressionType.TheVariants.{Value}
 use Rattle.domain_types.specs.Types.{scalar_of, public_scalar}
-use Rattle.domain_types.specs.Declarations.{Declared, Setting, in_domain, domain_of, type_written}
+use Rattle.domain_types.specs.Declarations.{Declared}
+use Rattle.domain_types.specs.Settings.{Setting, in_domain, domain_of, type_written}
 use Rattle.domain_types.specs.Scopes as checked
 use Rattle.domain_types.specs.ExpressionTypes.{cast_type, declassified}
 use Rattle.domain_types.specs.StatementTypes.{is_argument, variable_declared, after, after_all, after_start}

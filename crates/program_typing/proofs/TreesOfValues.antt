@@ -20,10 +20,11 @@ use Rattle.domain_types.specs.declared.value_type.Protection.{Protection}
 use Rattle.domain_types.specs.declared.value_type.ValueType.{ValueType}
 use Rattle.domain_types.specs.declared.value_type.ExpressionType.{ExpressionType}
 use Rattle.domain_types.specs.declared.value_type.ExpressionType.TheVariants.{Void, Value}
-use Rattle.domain_types.specs.declared.value_type.BuiltIn.{BuiltIn}
-use Rattle.domain_types.specs.declared.value_type.BuiltIn.TheVariants.{Size, Cat, Sum, BitExtract}
+use Rattle.domain_types.specs.BuiltIn.{BuiltIn}
+use Rattle.domain_types.specs.BuiltIn.TheVariants.{Size, Cat, Sum, BitExtract}
 use Rattle.domain_types.specs.Types.{scalar_of, public_scalar}
-use Rattle.domain_types.specs.Declarations.{Declared, Setting, in_domain, domain_of, type_written, Callee, built_in, defined, callee}
+use Rattle.domain_types.specs.Declarations.{Declared, Callee, built_in, defined, callee}
+use Rattle.domain_types.specs.Settings.{Setting, in_domain, domain_of, type_written}
 use Rattle.domain_types.specs.Scopes as checked
 use Rattle.domain_types.specs.ExpressionTypes.{within, variable_type, result_type, cast_type, declassified}
 use Rattle.sc_text.specs.Lists.{Among}

@@ -14,9 +14,10 @@ use Rattle.domain_types.specs.declared.value_type.Protection.{Protection}
 use Rattle.domain_types.specs.declared.value_type.ValueType.{ValueType}
 use Rattle.domain_types.specs.declared.value_type.ExpressionType.{ExpressionType}
 use Rattle.domain_types.specs.declared.value_type.ExpressionType.TheVariants.{Void, Value}
-use Rattle.domain_types.specs.declared.value_type.BuiltIn.{BuiltIn}
-use Rattle.domain_types.specs.declared.value_type.BuiltIn.TheVariants.{Size, Cat, Sum, BitExtract}
-use Rattle.domain_types.specs.Declarations.{Declared, Setting, declared_by, functions_of, domain_of, in_domain, type_written, defined, callee}
+use Rattle.domain_types.specs.BuiltIn.{BuiltIn}
+use Rattle.domain_types.specs.BuiltIn.TheVariants.{Size, Cat, Sum, BitExtract}
+use Rattle.domain_types.specs.Declarations.{Declared, declared_by, functions_of, defined, callee}
+use Rattle.domain_types.specs.Settings.{Setting, domain_of, in_domain, type_written}
 use Rattle.domain_types.specs.Scopes as checked
 use Rattle.domain_types.specs.ExpressionTypes.{within, with_domain, binding_by, defined_faults, result_type}
 use Rattle.domain_types.specs.FunctionTypes as head

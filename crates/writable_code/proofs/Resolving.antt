@@ -12,8 +12,8 @@ use Rattle.secrec_ast.specs.Statements.{starts_with_assignment, StepTree}
 use Rattle.secrec_ast.specs.Statements.{steps_by_nothing, steps_by_assignment, steps_by_expression, StatementTree, block, empty, branch, choice, while_loop}
 use Rattle.secrec_ast.specs.Statements.{do_loop, for_loop, breaks, continues, returns, assertion, declaration, assignment, evaluation, StatementTrees}
 use Rattle.secrec_ast.specs.Statements as Statements'
-use Rattle.domain_types.specs.declared.value_type.BuiltIn.{BuiltIn}
-use Rattle.domain_types.specs.declared.value_type.BuiltIn.TheVariants.{Size, Cat, Sum, BitExtract}
+use Rattle.domain_types.specs.BuiltIn.{BuiltIn}
+use Rattle.domain_types.specs.BuiltIn.TheVariants.{Size, Cat, Sum, BitExtract}
 use Rattle.domain_types.specs.Declarations.{Declared, Callee, built_in, defined, callee}
 use Rattle.typed_tree.specs.declared.operators.BinaryOperator.{BinaryOperator}
 use Rattle.typed_tree.specs.declared.operators.Connective.{Connective}

@@ -2,7 +2,7 @@
 -- The table of variables that the checker keeps: the latest variable of each name, and which one it hides.
 use Rattle.std.specs.Prelude.{ℕ, ◌≡◌, ◌≤◌, ◌-◌, if◌then◌else◌, List, [], ◌∷◌, length, reverse, map, take, drop, Option, Some, None, bytes_eq}
 use Rattle.domain_types.specs.Scopes.{Variable, Scope}
-use Rattle.domain_types.specs.Index.{found}
+use Rattle.declarations.specs.Index.{found}
 use Rattle.domain_types.specs.declared.variables.Latest.{Latest}
 use Rattle.domain_types.specs.declared.variables.VariableEntry.{VariableEntry}
 use Rattle.domain_types.specs.declared.variables.Variables.TheInside.{Inside}

@@ -6,7 +6,7 @@ use Rattle.secrec_ast.specs.declared.statement.Identifier.{Identifier}
 use Rattle.secrec_ast.specs.Programs.{FunctionTree}
 use Rattle.domain_types.specs.declared.fault.TypeFault.{TypeFault}
 use Rattle.domain_types.specs.declared.value_type.Protection.{Protection}
-use Rattle.domain_types.specs.Declarations.{Declared}
+use Rattle.declarations.specs.Declarations.{Declared}
 use Rattle.domain_types.specs.ExpressionTypes.{within}
 use Rattle.domain_types.specs.FunctionTypes.{function_faults, domain_variables_faults}
 use Rattle.sc_text.specs.Lists.{Among}

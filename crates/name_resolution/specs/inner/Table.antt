@@ -2,7 +2,7 @@
 -- The table of variables of a place: the latest variable of each name, and which one it hides.
 use Rattle.std.specs.Prelude.{ℕ, ◌≡◌, ◌≤◌, ◌-◌, if◌then◌else◌, List, [], ◌∷◌, length, reverse, map, take, drop, Option, Some, None, bytes_eq}
 use Rattle.name_resolution.specs.Scopes.{Variable, Scope}
-use Rattle.domain_types.specs.Index.{found}
+use Rattle.declarations.specs.Index.{found}
 use Rattle.name_resolution.specs.declared.variables.Latest.{Latest}
 use Rattle.name_resolution.specs.declared.variables.VariableEntry.{VariableEntry}
 use Rattle.name_resolution.specs.declared.variables.Variables.TheInside.{Inside}

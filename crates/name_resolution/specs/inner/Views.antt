@@ -5,7 +5,7 @@ use Rattle.std.specs.declared.alloc.Global.{Global}
 use denote.Ref.{Bor}
 use Rattle.secrec_ast.specs.declared.statement.DeclaredType.{DeclaredType}
 use Rattle.secrec_ast.specs.Programs.{FunctionTree}
-use Rattle.domain_types.specs.Views.{tree_at}
+use Rattle.declarations.specs.Views.{tree_at}
 use Rattle.name_resolution.specs.declared.values.Valued.{Valued}
 use Rattle.name_resolution.specs.declared.values.CallMade.{CallMade}
 use Rattle.name_resolution.specs.declared.found.CalledFunctions.{CalledFunctions}

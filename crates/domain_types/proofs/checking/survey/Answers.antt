@@ -4,10 +4,10 @@ use Rattle.std.specs.BTreeSet.{contains}
 use Rattle.std.specs.Ordering.{nat_cmp}
 use Rattle.secrec_ast.specs.Programs.{item_tree, program_tree}
 use Rattle.domain_types.specs.FunctionTypes.{protections_of}
-use Rattle.domain_types.specs.Declarations.{declared_in, declared_by}
+use Rattle.declarations.specs.Declarations.{declared_in, declared_by}
 use Rattle.domain_types.specs.ProgramTypes.{items_faults, has_main}
 use Rattle.domain_types.specs.Answer.{AreTheChecked, IsTold}
-use Rattle.domain_types.specs.Views.{declared, tree_at}
+use Rattle.declarations.specs.Views.{declared, tree_at}
 use Rattle.domain_types.specs.inner.LeastFault.{least}
 use Rattle.domain_types.proofs.Verdicts.{IsWorked, noted, last_kept, told, are_the_checked}
 use Rattle.domain_types.proofs.checking.survey.Goals as goal

@@ -9,7 +9,7 @@ use Rattle.domain_types.specs.declared.calls.Found.{Found}
 use Rattle.domain_types.specs.declared.value_type.Argument.{Argument}
 use Rattle.domain_types.specs.declared.value_type.ExpressionType.{ExpressionType}
 use Rattle.domain_types.specs.Types.{of_typed}
-use Rattle.domain_types.specs.Declarations.{callee}
+use Rattle.declarations.specs.Declarations.{callee}
 use Rattle.domain_types.specs.ExpressionTypes.{and_argument, of_two, given_value, negation_type, operator_type, index_type, call_type}
 use Rattle.domain_types.specs.ExpressionTypes.{negation_faults, operator_faults, index_faults, call_faults, type_of, value_type, faults, value_faults}
 use Rattle.domain_types.specs.ExpressionTypes.{arguments_of, argument_list_faults}

@@ -2,7 +2,7 @@ use Rattle.std.proofs.Common.{◌≡◌, [], length}
 use Rattle.std.specs.Prelude.{map}
 use Rattle.secrec_ast.specs.Programs.{item_tree}
 use Rattle.domain_types.specs.ProgramTypes.{items_faults}
-use Rattle.domain_types.specs.Views.{declared}
+use Rattle.declarations.specs.Views.{declared}
 use Rattle.domain_types.specs.inner.LeastFault.{least}
 use Rattle.domain_types.proofs.items.items.Given as goal
 

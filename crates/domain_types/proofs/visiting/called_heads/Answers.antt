@@ -4,7 +4,7 @@ use Rattle.std.specs.BTreeSet.{contains}
 use Rattle.std.specs.Ordering.{nat_cmp}
 use Rattle.std.proofs.Math.Seq.{drop-cons}
 use Rattle.domain_types.specs.FunctionTypes.{domain_variables_faults}
-use Rattle.domain_types.specs.Views.{declared, tree_at}
+use Rattle.declarations.specs.Views.{declared, tree_at}
 use Rattle.domain_types.specs.inner.WorkList.{heads_faults}
 use Rattle.domain_types.specs.inner.LeastFault.{least}
 use Rattle.domain_types.proofs.Faults.{least-append}

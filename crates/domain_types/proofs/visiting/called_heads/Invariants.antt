@@ -2,7 +2,7 @@ use Rattle.std.proofs.Common.{◌≡◌, drop}
 use Rattle.std.specs.Prelude.{map}
 use Rattle.std.specs.BTreeSet.{contains}
 use Rattle.std.specs.Ordering.{nat_cmp}
-use Rattle.domain_types.specs.Views.{declared, tree_at}
+use Rattle.declarations.specs.Views.{declared, tree_at}
 use Rattle.domain_types.specs.inner.WorkList.{heads_faults}
 use Rattle.domain_types.specs.inner.LeastFault.{least}
 use Rattle.domain_types.proofs.visiting.called_heads.Given as goal

@@ -1,6 +1,6 @@
 use Rattle.std.proofs.Common.{◌≡◌, [], drop}
 use Rattle.std.specs.Prelude.{map}
-use Rattle.domain_types.specs.Views.{tree_at}
+use Rattle.declarations.specs.Views.{tree_at}
 use Rattle.domain_types.specs.inner.WorkList.{with_plain}
 use Rattle.domain_types.proofs.visiting.plain.Given as goal
 

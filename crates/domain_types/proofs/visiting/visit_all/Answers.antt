@@ -3,7 +3,8 @@ use Rattle.std.specs.Prelude.{map, ◌||◌}
 use Rattle.std.specs.List.{slice_get}
 use Rattle.std.specs.BTreeSet.{contains}
 use Rattle.std.specs.Ordering.{nat_cmp}
-use Rattle.domain_types.specs.Views.{declared, tree_at, calls_seen}
+use Rattle.declarations.specs.Views.{declared, tree_at}
+use Rattle.domain_types.specs.Views.{calls_seen}
 use Rattle.domain_types.specs.Instances.{instance_seen}
 use Rattle.domain_types.specs.inner.WorkList.{with_calls, with_plain, plain_instances, instance_calls, is_called, AreVisited}
 use Rattle.domain_types.proofs.WorkList.{begun, plain_once, next_visited, next_least, next_called}

@@ -1,7 +1,7 @@
 use Rattle.std.proofs.Common.{◌+◌, [], ◌∷◌, ◌≡◌, ◌++◌, ap, ◌∙◌, sym, take, get_or, Some}
 use Rattle.std.specs.Prelude.{map}
 use Rattle.std.proofs.lemmas.List.{take_more, map-append}
-use Rattle.domain_types.specs.Views.{declared}
+use Rattle.declarations.specs.Views.{declared}
 use Rattle.name_resolution.specs.Functions.{slots_written}
 use Rattle.name_resolution.specs.inner.Views.{type_at}
 use Rattle.name_resolution.proofs.Growing.{slots_written_more}

@@ -1,6 +1,6 @@
 use Rattle.std.proofs.Common.{◌≡◌, Some, take}
 use Rattle.std.specs.Prelude.{map}
-use Rattle.domain_types.specs.Views.{declared}
+use Rattle.declarations.specs.Views.{declared}
 use Rattle.name_resolution.specs.Functions.{slots_written}
 use Rattle.name_resolution.specs.inner.Views.{type_at}
 use Rattle.name_resolution.proofs.functions.slots_written.Given as goal

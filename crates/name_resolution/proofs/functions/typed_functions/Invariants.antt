@@ -1,6 +1,6 @@
 use Rattle.std.proofs.Common.{◌≡◌, Some, take}
 use Rattle.std.specs.Prelude.{map}
-use Rattle.domain_types.specs.Views.{declared, tree_at}
+use Rattle.declarations.specs.Views.{declared, tree_at}
 use Rattle.typed_tree.specs.Programs.{typed_function_tree}
 use Rattle.name_resolution.specs.Functions.{typed_functions}
 use Rattle.name_resolution.proofs.functions.typed_functions.Given as goal

@@ -2,7 +2,7 @@ use Rattle.std.proofs.Common.{◌+◌, [], ◌∷◌, ◌≡◌, ◌++◌, ap, �
 use Rattle.std.specs.Prelude.{map}
 use Rattle.std.proofs.lemmas.List.{take_more, map-append}
 use Rattle.secrec_ast.specs.Tree.{expression, trees_of}
-use Rattle.domain_types.specs.Views.{declared}
+use Rattle.declarations.specs.Views.{declared}
 use Rattle.name_resolution.specs.Order.{called_in, called_in_all}
 use Rattle.name_resolution.specs.inner.Views.{found_seen}
 use Rattle.name_resolution.proofs.Calls.{called_in_all_more}

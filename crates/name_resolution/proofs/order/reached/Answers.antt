@@ -2,7 +2,7 @@ use Rattle.std.proofs.Common.{◌≡◌, ap, ◌∙◌, sym, add-one}
 use Rattle.std.specs.Prelude.{option_map}
 use Rattle.std.specs.List.{slice_get}
 use Rattle.std.proofs.lemmas.Option.{slice_get-map}
-use Rattle.domain_types.specs.Views.{declared, tree_at}
+use Rattle.declarations.specs.Views.{declared, tree_at}
 use Rattle.name_resolution.specs.Order.{read_one, known_after}
 use Rattle.name_resolution.specs.inner.Views.{found_seen}
 use Rattle.name_resolution.proofs.Reading.{copied_is}

@@ -1,5 +1,5 @@
 use Rattle.std.proofs.Common.{◌≡◌}
-use Rattle.domain_types.specs.Views.{declared}
+use Rattle.declarations.specs.Views.{declared}
 use Rattle.name_resolution.specs.Order.{known_after}
 use Rattle.name_resolution.specs.inner.Views.{found_seen}
 use Rattle.name_resolution.proofs.order.reached.Given as goal

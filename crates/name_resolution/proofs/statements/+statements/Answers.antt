@@ -3,7 +3,7 @@ use Rattle.std.specs.Prelude.{map}
 use Rattle.std.proofs.lemmas.List.{take_all, take_more, map-append}
 use Rattle.secrec_ast.specs.Statements.{statement, statements_of, start_tree, step_tree, optional}
 use Rattle.secrec_ast.specs.Equations.{for_statement_is}
-use Rattle.domain_types.specs.Views.{declared}
+use Rattle.declarations.specs.Views.{declared}
 use Rattle.typed_tree.specs.Statements.{typed_statement, typed_statements_of}
 use Rattle.name_resolution.specs.Scopes.{FunctionScope}
 use Rattle.name_resolution.specs.Bodies.{looped, resolved, resolved_all}

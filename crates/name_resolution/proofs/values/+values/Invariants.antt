@@ -1,7 +1,7 @@
 use Rattle.std.proofs.Common.{◌≡◌, Some, take}
 use Rattle.std.specs.Prelude.{map}
 use Rattle.secrec_ast.specs.Tree.{expression, trees_of}
-use Rattle.domain_types.specs.Views.{declared}
+use Rattle.declarations.specs.Views.{declared}
 use Rattle.name_resolution.specs.Values.{values}
 use Rattle.name_resolution.specs.inner.Views.{valued}
 use Rattle.name_resolution.proofs.values.+values.Given as goal

@@ -1,7 +1,7 @@
 use Rattle.std.proofs.Common.{ap, ◌∙◌, sym, cond}
 use Rattle.std.specs.Prelude.{bytes_eq}
 use Rattle.std.proofs.lemmas.Map.Text.{btree_map_updates_str}
-use Rattle.domain_types.specs.Index.{found}
+use Rattle.declarations.specs.Index.{found}
 use Rattle.name_resolution.proofs.variables.put_back.Goals as goal
 
 pub returns-in-None : goal.returns-in-None

@@ -2,9 +2,9 @@ use Rattle.std.proofs.Common.{◌≡◌, ◌≤◌, length, sym, ap, ◌∙◌, 
 use Rattle.std.specs.Prelude.{map, option_map}
 use Rattle.std.specs.List.{slice_get}
 use Rattle.std.proofs.lemmas.Option.{slice_get_past}
-use Rattle.domain_types.specs.Declarations.{number_in}
+use Rattle.declarations.specs.Declarations.{number_in}
 use Rattle.domain_types.specs.inner.Lent.{identifier_at, text_at}
-use Rattle.domain_types.proofs.Naming.{there_at}
+use Rattle.declarations.proofs.Naming.{there_at}
 use Rattle.domain_types.proofs.HeadNames.{first_found}
 use Rattle.domain_types.proofs.protections.Protections.first.Goals as goal
 

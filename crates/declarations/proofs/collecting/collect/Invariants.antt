@@ -1,10 +1,10 @@
 use Rattle.std.proofs.Common.{◌≡◌, ◌++◌, length}
 use Rattle.std.specs.Prelude.{map}
 use Rattle.secrec_ast.specs.Programs.{item_tree}
-use Rattle.domain_types.specs.Declarations.{domains_of, functions_of}
-use Rattle.domain_types.specs.Named.{name_of}
-use Rattle.domain_types.specs.Views.{tree_at}
-use Rattle.domain_types.proofs.collecting.collect.Given as goal
+use Rattle.declarations.specs.Declarations.{domains_of, functions_of}
+use Rattle.declarations.specs.Named.{name_of}
+use Rattle.declarations.specs.Views.{tree_at}
+use Rattle.declarations.proofs.collecting.collect.Given as goal
 
 abbrev pub invariant-loop-item : goal.invariant-loop-item
 invariant-loop-item l = record {

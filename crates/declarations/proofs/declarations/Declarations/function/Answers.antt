@@ -2,11 +2,11 @@ use Rattle.std.proofs.Common.{◌≡◌, sym, ap, ◌∙◌, Some, arith, length
 use Rattle.std.specs.Prelude.{map}
 use Rattle.std.specs.List.{slice_get}
 use Rattle.std.proofs.lemmas.Option.{slice_get_past}
-use Rattle.domain_types.specs.Declarations.{number_in, defined}
-use Rattle.domain_types.specs.Views.{tree_at}
-use Rattle.domain_types.specs.Named.{name_of}
-use Rattle.domain_types.proofs.Naming.{named_at, nowhere, there_at}
-use Rattle.domain_types.proofs.declarations.Declarations.function.Goals as goal
+use Rattle.declarations.specs.Declarations.{number_in, defined}
+use Rattle.declarations.specs.Views.{tree_at}
+use Rattle.declarations.specs.Named.{name_of}
+use Rattle.declarations.proofs.Naming.{named_at, nowhere, there_at}
+use Rattle.declarations.proofs.declarations.Declarations.function.Goals as goal
 
 pub returns-in-None-get : goal.returns-in-None-get
 returns-in-None-get c =

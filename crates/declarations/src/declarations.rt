@@ -1,8 +1,8 @@
 ghost use Rattle.std.specs.Prelude.{◌≡◌, map};
-ghost use Rattle.domain_types.specs.Named.{name_of};
+ghost use Rattle.declarations.specs.Named.{name_of};
 
+use crate::built_in::BuiltIn as BuiltInFunction;
 use crate::name_index::NameIndex;
-use crate::value_type::BuiltIn as BuiltInFunction;
 use secrec_ast::Function;
 
 /// What a program declares, for look-ups by name.
@@ -47,8 +47,8 @@ pub enum Called<'p> {
 
 impl<'p> Declarations<'p> {
     ghost use Rattle.std.specs.Prelude.{option_map};
-    ghost use Rattle.domain_types.specs.Views.{tree_at, declared, callee_of};
-    ghost use Rattle.domain_types.specs.Declarations.{built_in_named, function_named, callee};
+    ghost use Rattle.declarations.specs.Views.{tree_at, declared, callee_of};
+    ghost use Rattle.declarations.specs.Declarations.{built_in_named, function_named, callee};
 
     /// The same, but that its functions are these, whose names are given.
     pub fn with_functions(

@@ -4,7 +4,7 @@ use Rattle.std.specs.BTreeMap.{BTreeMap, get_by}
 use Rattle.std.specs.Cmp.Lexicographic.{slice_cmp}
 use Rattle.std.specs.Ordering.{nat_cmp}
 use denote.Ref.{Bor}
-use Rattle.domain_types.specs.Declarations.{number_in}
+use Rattle.declarations.specs.Declarations.{number_in}
 
 -- what a map has at a name
 abbrev pub found : {X : Type 0} → BTreeMap (Bor (List ℕ)) X → List ℕ → Option X

@@ -1,15 +1,8 @@
 -- What a program declares, and what a name of it means.
 use Rattle.std.specs.Prelude.{ℕ, ◌+◌, Bool, false, ◌&&◌, ◌||◌, if◌then◌else◌, List, [], ◌∷◌, Option, Some, None, codes, bytes_eq, option_map}
-use Rattle.secrec_ast.specs.declared.statement.Domain.{Domain}
-use Rattle.secrec_ast.specs.declared.statement.Domain.TheVariants as domain
-use Rattle.secrec_ast.specs.declared.statement.DeclaredType.{DeclaredType}
-use Rattle.secrec_ast.specs.declared.function.DomainVariable.{DomainVariable}
 use Rattle.secrec_ast.specs.Programs.{FunctionTree, ItemTree, imports, kind, domain as domains_item, defines, ProgramTree}
-use Rattle.domain_types.specs.declared.value_type.Protection.{Protection}
-use Rattle.domain_types.specs.declared.value_type.Protection.TheVariants.{Public, Private}
-use Rattle.domain_types.specs.declared.value_type.ValueType.{ValueType}
-use Rattle.domain_types.specs.declared.value_type.BuiltIn.{BuiltIn}
-use Rattle.domain_types.specs.declared.value_type.BuiltIn.TheVariants.{Size, Cat, Sum, BitExtract}
+use Rattle.declarations.specs.declared.built_in.BuiltIn.{BuiltIn}
+use Rattle.declarations.specs.declared.built_in.BuiltIn.TheVariants.{Size, Cat, Sum, BitExtract}
 
 -- what the whole program declares, wherever it stands: which modules are imported, whether the kind `shared3p` is declared,
 -- the names of the private domains and the functions, both in order
@@ -71,47 +64,6 @@ is_known_kind d x = bytes_eq x (codes "shared3p") && (d.shared3p || d.kind_decla
 abbrev pub number_in : List ℕ → List (List ℕ) → Option ℕ
 number_in x [] = None
 number_in x (y ∷ ys) = if bytes_eq x y then Some 0 else option_map (λ k. k + 1) (number_in x ys)
-
--- a domain variable and what it is bound to
-pub record Bound : Type 0 where
-  pub name : List ℕ
-  pub domain : Protection
-
-abbrev pub bound_to : List ℕ → List Bound → Option Protection
-bound_to x [] = None
-bound_to x (b ∷ bs) = if bytes_eq x b.name then Some b.domain else bound_to x bs
-
--- each domain variable with its domain
-abbrev pub bind : List DomainVariable → List Protection → List Bound
-bind [] ds = []
-bind (v ∷ vs) [] = []
-bind (v ∷ vs) (d ∷ ds) = record { name = v.variable.text; domain = d } ∷ bind vs ds
-
--- where a piece of a program stands: in a function whose domain variables are so bound
-pub record Setting : Type 0 where
-  pub declared : Declared
-  pub bound : List Bound
-
-abbrev pub private_domain : Option ℕ → Option Protection
-private_domain None = None
-private_domain (Some k) = Some (Private k)
-
--- a domain variable hides a domain
-abbrev pub domain_of_name : Setting → List ℕ → Option Protection → Option Protection
-domain_of_name w x (Some d) = Some d
-domain_of_name w x None = private_domain (number_in x w.declared.domains)
-
--- the domain that is written; none where its name is unknown
-abbrev pub domain_of : Setting → Domain → Option Protection
-domain_of w domain.Public = Some Public
-domain_of w (domain.Named x) = domain_of_name w x.text (bound_to x.text w.bound)
-
-abbrev pub in_domain : DeclaredType → Protection → ValueType
-in_domain t d = record { domain = d; element = t.element; array = t.array }
-
--- the type that is written; none where its domain is unknown
-abbrev pub type_written : Setting → DeclaredType → Option ValueType
-type_written w t = option_map (in_domain t) (domain_of w t.domain)
 
 -- what a called name means: a built-in function, or a function of the program with its number
 pub data Callee : Type 0 where

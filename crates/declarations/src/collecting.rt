@@ -1,8 +1,8 @@
 // What the declarations of a program declare.
 ghost use Rattle.std.specs.Prelude.{◌≡◌, IfOk, map};
 ghost use Rattle.secrec_ast.specs.Programs.{item_tree};
-ghost use Rattle.domain_types.specs.Declarations.{is_imported, is_kind, declared_in};
-ghost use Rattle.domain_types.specs.Views.{declared};
+ghost use Rattle.declarations.specs.Declarations.{is_imported, is_kind, declared_in};
+ghost use Rattle.declarations.specs.Views.{declared};
 
 use crate::declarations::Declarations;
 use crate::name_index::NameIndex;

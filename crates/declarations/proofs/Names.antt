@@ -7,8 +7,8 @@ use Rattle.std.specs.Map.{update}
 use Rattle.std.proofs.lemmas.List.{map-append, length-map}
 use Rattle.std.proofs.lemmas.Slice.Eq.{bytes_eq-Decides}
 use denote.Ref.{Bor}
-use Rattle.domain_types.specs.Declarations.{number_in}
-use Rattle.domain_types.specs.Index.{found, text_of, IsNumbered}
+use Rattle.declarations.specs.Declarations.{number_in}
+use Rattle.declarations.specs.Index.{found, text_of, IsNumbered}
 
 -- the number of a name in a list and one more
 abbrev pub behind : Option ℕ → ℕ → Bool → Option ℕ

@@ -1,8 +1,8 @@
 use Rattle.std.proofs.Common.{◌≡◌, drop}
 use Rattle.std.specs.Prelude.{map, ◌||◌}
 use Rattle.secrec_ast.specs.Programs.{item_tree}
-use Rattle.domain_types.specs.Declarations.{is_kind}
-use Rattle.domain_types.proofs.collecting.declares_kind.Given as goal
+use Rattle.declarations.specs.Declarations.{is_kind}
+use Rattle.declarations.proofs.collecting.declares_kind.Given as goal
 
 abbrev pub invariant-loop-item : goal.invariant-loop-item
 invariant-loop-item l = is_kind l.name (map item_tree l.items) ≡ l.found || is_kind l.name (map item_tree (drop l.item-index l.items))

@@ -5,9 +5,9 @@ use Rattle.std.specs.Prelude.{map, bytes_eq, option_map}
 use Rattle.std.specs.List.{slice_get}
 use denote.Ref.{Bor}
 use Rattle.secrec_ast.specs.declared.function.Function.{Function}
-use Rattle.domain_types.specs.Declarations.{number_in, function_named, defined}
-use Rattle.domain_types.specs.Named.{name_of}
-use Rattle.domain_types.specs.Views.{tree_at}
+use Rattle.declarations.specs.Declarations.{number_in, function_named, defined}
+use Rattle.declarations.specs.Named.{name_of}
+use Rattle.declarations.specs.Views.{tree_at}
 
 pub unnamed : (x : List ℕ) (n : ℕ) (fs : List (Bor Function)) → number_in x (map name_of fs) ≡ None → function_named x n (map tree_at fs) ≡ None
 unnamed x n [] e = refl

@@ -3,10 +3,10 @@ use Rattle.std.specs.Prelude.{bytes_eq}
 use Rattle.std.specs.Map.{update}
 use Rattle.std.proofs.lemmas.Grind.{common_steps}
 use Rattle.std.proofs.lemmas.Map.Text.{btree_map_updates_str}
-use Rattle.domain_types.specs.Index.{found}
-use Rattle.domain_types.proofs.Names.{numbered_more, numbered_again}
-use Rattle.domain_types.proofs.name_index.NameIndex.with.Goals as goal
-use Rattle.domain_types.proofs.name_index.NameIndex.with.Goals.{then-is_none+in_ok-insert, else-is_none}
+use Rattle.declarations.specs.Index.{found}
+use Rattle.declarations.proofs.Names.{numbered_more, numbered_again}
+use Rattle.declarations.proofs.name_index.NameIndex.with.Goals as goal
+use Rattle.declarations.proofs.name_index.NameIndex.with.Goals.{then-is_none+in_ok-insert, else-is_none}
 
 pub invariant_of-result : goal.invariant_of-result
 invariant_of-result c =

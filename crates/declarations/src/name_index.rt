@@ -1,5 +1,5 @@
 ghost use Rattle.std.specs.Prelude.{◌≡◌, ◌++◌, ◌∷◌, [], IfOk};
-ghost use Rattle.domain_types.specs.Declarations.{number_in};
+ghost use Rattle.declarations.specs.Declarations.{number_in};
 
 use std::alloc::{AllocError, Global};
 use std::collections::BTreeMap;
@@ -28,7 +28,7 @@ impl<'p> Model for NameIndex<'p> {
 
     ghost Value = { List (List ℕ) };
 
-    ghost use Rattle.domain_types.specs.Index.{text_of, IsNumbered};
+    ghost use Rattle.declarations.specs.Index.{text_of, IsNumbered};
 
     ghost view = { λ a. map text_of a.names.items };
 

@@ -1,0 +1,4 @@
+pub mod Declarations
+pub mod Index
+pub mod Named
+pub mod Views
