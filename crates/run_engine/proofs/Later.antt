@@ -8,7 +8,7 @@ use Rattle.protocol_model.specs.Network.{Delivery}
 use Rattle.typed_tree.specs.Programs.{TypedProgramTree}
 use Rattle.program_run.specs.Accepted.{IsAccepted}
 use Rattle.tape_twin.specs.Accepted.{IsAcceptedProgram}
-use Rattle.run_engine.specs.Reading.{delivery_at}
+use Rattle.program_commands.specs.Reading.{delivery_at}
 
 -- as at the beginning
 pub record IsStill (f g : FilesState) : Type 0 where

@@ -33,19 +33,19 @@ use Rattle.command_frame.specs.Answer.{Answer, Effect, effect_of}
 use Rattle.command_frame.specs.Reads.{Gives, KeepsTo, PlanNames, StopNames, StopsReading}
 use Rattle.command_frame.proofs.Wholes.{unchanged}
 use Rattle.command_words.specs.Ask.{LoadAsk, load, words_of}
-use Rattle.run_engine.specs.Ends.{ending_status}
-use Rattle.run_engine.specs.Eval.{end_of}
-use Rattle.run_engine.specs.Judging.{Finding, HasFinding, nothing}
+use Rattle.program_commands.specs.Ends.{ending_status}
+use Rattle.program_commands.specs.Eval.{end_of}
+use Rattle.program_commands.specs.Judging.{Finding, HasFinding, nothing}
 use Rattle.run_engine.specs.Load.{load_budget, load_effect, load_links, load_of, load_report, load_tapes, loaded_effect, messages_text}
 use Rattle.run_engine.specs.Obeying.{Planned}
-use Rattle.run_engine.specs.OfText.{Decides, IsFoundOf, program_in}
+use Rattle.program_commands.specs.OfText.{Decides, IsFoundOf, program_in}
 use Rattle.run_engine.specs.Run.{run_report}
 use Rattle.run_engine.specs.Told.{Outside}
 use Rattle.run_engine.specs.Words.{answer_to, question_of, reads_of, writes_of, IsAnswer}
-use Rattle.run_engine.proofs.Judged.{found_nothing}
-use Rattle.run_engine.proofs.OfTexts.{only_memory}
+use Rattle.program_commands.proofs.Judged.{found_nothing}
+use Rattle.program_commands.proofs.OfTexts.{only_memory}
 use Rattle.run_engine.proofs.Planned.{told_end}
-use Rattle.run_engine.proofs.Refusals.{Refuses, no_ending, status_in_answer}
+use Rattle.program_commands.proofs.Refusals.{Refuses, no_ending, status_in_answer}
 use Rattle.run_engine.proofs.Runs.{command_answers, is_answer}
 
 -- ---- the program of a workload

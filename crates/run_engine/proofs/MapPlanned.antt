@@ -14,10 +14,10 @@ use Rattle.view_reader.specs.Opened.{opened_bytes}
 use Rattle.program_views.specs.TapeMaps.{mapped}
 use Rattle.program_views.specs.Views.{lengths_of, openings, run_on}
 use Rattle.tape_twin.specs.declared.mapped_run.MappedRun.{MappedRun}
-use Rattle.run_engine.specs.Judging.{Finding}
+use Rattle.program_commands.specs.Judging.{Finding}
 use Rattle.run_engine.specs.Map.{made_effect, map_effect, map_of, open_bytes, sim_bytes, writes_to}
-use Rattle.run_engine.specs.Programs.{program_at}
-use Rattle.run_engine.specs.Reading.{inputs_at, tape_file_at}
+use Rattle.program_commands.specs.Programs.{program_at}
+use Rattle.program_commands.specs.Reading.{inputs_at, tape_file_at}
 
 -- the file of the tapes in memory, and the lines of what was opened
 sim_so : (ask : MapAsk) (p : TypedProgramTree) (entries : List Entry) (tapes made : FourTapes) → made ≡ mapped ask.miner p entries tapes ask.budget

@@ -1,25 +1,18 @@
--- What `compile` and `run` plan is what is decided of the files.
-use Rattle.std.proofs.Common.{◌≡◌, ℕ, List, [], ◌++◌, length, true, Option, Some, None, Ok, Err, refl, sym, ◌∙◌, ap, subst, inl, inr}
-use Rattle.std.proofs.lemmas.List.{length-map}
-use Rattle.outside.specs.Files.{Contents, FilesState}
-use Rattle.command_frame.specs.Answer.{Answer, Effect, Written, effect_of}
+-- What `run` plans is what is decided of the files.
+use Rattle.std.proofs.Common.{◌≡◌, ℕ, List, [], ◌++◌, true, Option, Some, None, Ok, Err, refl, sym, ◌∙◌, ap, subst}
+use Rattle.outside.specs.Files.{FilesState}
+use Rattle.command_frame.specs.Answer.{Effect, Written, effect_of}
 use Rattle.command_frame.specs.declared.plan.Plan.{Plan}
 use Rattle.command_frame.specs.declared.stop.Stop.{Stop}
 use Rattle.command_frame.specs.Reads.{OnlyRead, Stops}
-use Rattle.command_words.specs.Ask.{CompileAsk, RunAsk}
+use Rattle.command_words.specs.Ask.{RunAsk}
 use Rattle.sc_text.specs.declared.end.End.{End}
 use Rattle.sc_text.specs.declared.event.Event.{Event}
 use Rattle.sc_text.specs.Event.{run_text}
 use Rattle.typed_tree.specs.Programs.{TypedProgramTree}
 use Rattle.value_file.specs.declared.inputs.Entry.{Entry}
 use Rattle.tape_file.specs.Tapes.{FourTapes}
-use Rattle.bytecode.specs.Raw.{RawCode}
-use Rattle.lowered_code.specs.RawCodes.{raw_code_of_program}
-use Rattle.reached_instances.specs.Instances.{Instance}
-use Rattle.reached_instances.specs.Reached.{IsReachedList}
-use Rattle.reached_instances.proofs.ReachedLists.{is_the_only_list}
 use Rattle.language_model.specs.Reports.{Report}
-use Rattle.program_run.specs.Codes.{IsCodeOf}
 use Rattle.program_run.specs.Reports.{TellsAs, eval_with}
 use Rattle.program_run.specs.declared.running.RunReport.{RunReport}
 use Rattle.delivered_run.specs.Deliveries.{HasRunOf, delivered_of, net_of}
@@ -35,65 +28,15 @@ use Rattle.proto_core.specs.declared.link.Link.{Link}
 use Rattle.proto_core.specs.declared.party.Number.{Number}
 use Rattle.proto_core.specs.declared.party.Number.TheVariants.{One, Two, Three}
 use Rattle.protocol_model.specs.Network.{Accepted, Delivery, EmptyLink, Stalled}
-use Rattle.run_engine.specs.Compile.{code_bytes, compile_of, written_effect}
-use Rattle.run_engine.specs.Ends.{ending_status}
-use Rattle.run_engine.specs.Eval.{end_of, ending_of}
-use Rattle.run_engine.specs.Judging.{Finding, FoundAt, IsReachedAs, IsReachedBy, Sized, its_program}
-use Rattle.run_engine.specs.Programs.{program_at, small_enough, tree_at}
-use Rattle.run_engine.specs.Reading.{delivery_at, inputs_at, tapes_at}
+use Rattle.program_commands.specs.Ends.{ending_status}
+use Rattle.program_commands.specs.Eval.{end_of, ending_of}
+use Rattle.program_commands.specs.Judging.{Finding}
+use Rattle.program_commands.specs.Programs.{program_at}
+use Rattle.program_commands.specs.Reading.{delivery_at, inputs_at, tapes_at}
 use Rattle.run_engine.specs.Run.{HasRan, IsRan, IsDeliveryStop, by_net, empty_line, ran_effect, recorded_links, refused_with, run_effect, run_of}
 use Rattle.run_engine.specs.Run.{run_report, run_told, stalled_line}
 use Rattle.run_engine.specs.Views.{view_files}
-use Rattle.run_engine.proofs.Judged.{refused_so}
-use Rattle.run_engine.proofs.Refusals.{steps}
-use Rattle.run_engine.proofs.Sizes.{tree_judged}
-
-abbrev pub done_with : Effect → Answer
-done_with effect = Ok effect
-
--- where a path is the same, so is the program that is found there
-pub at_path :
-    (path other : List ℕ) → path ≡ other → (f : FilesState) (p : TypedProgramTree)
-    → ((found : Finding) → FoundAt (its_program path) f.contents found → f.told ≡ true → program_at found f.contents path ≡ Ok p)
-    → (found : Finding) → FoundAt (its_program other) f.contents found → f.told ≡ true → program_at found f.contents other ≡ Ok p
-at_path path other same f p given =
-    subst
-    (λ (x : List ℕ). (found : Finding) → FoundAt (its_program x) f.contents found → f.told ≡ true → program_at found f.contents x ≡ Ok p) same given
-
--- ---- the code of a program that was read
-
-small : (sized : Sized) (p : TypedProgramTree) → small_enough sized ≡ Ok p → sized ≡ Ok p
-small (Ok q) p is = let same : q ≡ p = cc in cc
-small (Err error) p is = absurd cc
-
--- what is found is what the program reaches
-reached_found : (found : Finding) (path : List ℕ) (files : Contents) (p : TypedProgramTree) → FoundAt (its_program path) files found
-    → program_at found files path ≡ Ok p → IsReachedList p found.reached
-unfolding program_at
-reached_found found path files p h is =
-    elim (steps (tree_at found.judged files path) (λ tree. small_enough found.sized) (Ok p) is) [
-      | inl (c, e, wrong) ↦ absurd cc
-      | inr (tree, e, rest) ↦
-          let by_tree : IsReachedAs (Ok tree) found.sized found.reached =
-          subst (λ judged. IsReachedAs judged found.sized found.reached) (tree_judged files path found.judged tree e) h.reached in
-          subst (λ sized. IsReachedBy sized found.reached) (small found.sized p rest) by_tree
-    ]
-
-code_found : (found : Finding) (path : List ℕ) (files : Contents) (p : TypedProgramTree) (raw : RawCode) → FoundAt (its_program path) files found
-    → program_at found files path ≡ Ok p → IsCodeOf p raw → raw_code_of_program p found.reached ≡ raw
-code_found found path files p raw h is of =
-    ap (raw_code_of_program p) (is_the_only_list p found.reached of.reached (reached_found found path files p h is) of.are) ∙ sym of.code
-
-counted : (p : TypedProgramTree) (reached : List Instance) → length reached ≡ length (raw_code_of_program p reached).functions
-counted p reached = sym (length-map _ _ ∙ length-map reached _)
-
-pub compiled :
-    (found : Finding) (ask : CompileAsk) (files : Contents) (p : TypedProgramTree) (raw : RawCode) → FoundAt (its_program ask.program) files found
-    → program_at found files ask.program ≡ Ok p → IsCodeOf p raw → compile_of found ask files ≡ Ok (written_effect ask.code raw)
-unfolding compile_of code_bytes
-compiled found ask files p raw h is of =
-    rw is
-    (rw (counted p found.reached) (ap (λ c. Ok (written_effect ask.code c)) (code_found found ask.program files p raw h is of)))
+use Rattle.program_commands.proofs.Judged.{refused_so}
 
 -- ---- the run of a program that was read
 

@@ -21,13 +21,13 @@ use Rattle.program_views.specs.Views.{lengths_of, made_of, told_run, view_at}
 use Rattle.view_simulator.specs.Simulating.{IsMadeView, IsSimulation}
 use Rattle.view_simulator.specs.declared.errors.SimulateErr.{SimulateErr}
 use Rattle.view_simulator.specs.declared.errors.SimulateErr.TheVariants as refusal
-use Rattle.run_engine.specs.Judging.{Finding}
-use Rattle.run_engine.specs.Programs.{program_at}
-use Rattle.run_engine.specs.Reading.{delivery_at, opened_at, public_at, tape_file_at}
+use Rattle.program_commands.specs.Judging.{Finding}
+use Rattle.program_commands.specs.Programs.{program_at}
+use Rattle.program_commands.specs.Reading.{delivery_at, opened_at, public_at, tape_file_at}
 use Rattle.run_engine.specs.Run.{by_net, empty_line, refused_with, stalled_line}
 use Rattle.run_engine.specs.Simulate.{IsSimulateStop, by_told, net_simulated, short_line, short_with}
 use Rattle.run_engine.specs.Simulate.{simulate_effect, simulate_of, stop_told, view_simulated}
-use Rattle.run_engine.proofs.Judged.{refused_so}
+use Rattle.program_commands.proofs.Judged.{refused_so}
 
 -- what gives a view has ended
 ended_so : (i : Number) (seen : Seen) (r : Report) (s : RunStop) (view : View) → view_at i seen r s ≡ Some view → IsEnded s

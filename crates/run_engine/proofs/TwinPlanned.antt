@@ -16,12 +16,12 @@ use Rattle.tape_twin.specs.FirstDifference.{at_entry, at_word, difference}
 use Rattle.tape_twin.specs.declared.twin_err.TwinErr.{TwinErr}
 use Rattle.tape_twin.specs.declared.twin_err.TwinErr.TheVariants as refusal
 use Rattle.tape_twin.proofs.FirstDifferences.{alike_have_none, told_at_entry, told_at_word}
-use Rattle.run_engine.specs.Judging.{Finding}
-use Rattle.run_engine.specs.Programs.{program_at}
-use Rattle.run_engine.specs.Reading.{inputs_at, tape_file_at}
+use Rattle.program_commands.specs.Judging.{Finding}
+use Rattle.program_commands.specs.Programs.{program_at}
+use Rattle.program_commands.specs.Reading.{inputs_at, tape_file_at}
 use Rattle.run_engine.specs.Twin.{IsTwinStop, by_difference, entry_line, twin_bytes, twin_effect, twin_of, unlike}
 use Rattle.run_engine.specs.Twin.{word_line, writes_to, written_effect}
-use Rattle.run_engine.proofs.Judged.{refused_so}
+use Rattle.program_commands.proofs.Judged.{refused_so}
 
 written_so : (ask : TwinAsk) (p : TypedProgramTree) (first second : List Entry) (tapes made : FourTapes)
     → made ≡ twinned ask.miner p first second tapes ask.budget → twin_effect ask p first second tapes ≡ written_effect ask.to made

@@ -1,19 +1,9 @@
-pub mod Check
-pub mod Compile
-pub mod Deal
-pub mod Ends
-pub mod Eval
 pub mod Headline
-pub mod Judging
 pub mod Map
 pub mod MapPromises
 pub mod Obeying
-pub mod Paths
 pub mod Load
-pub mod OfText
-pub mod Programs
 pub mod Promises
-pub mod Reading
 pub mod Run
 pub mod Runs
 pub mod Simulate
@@ -21,6 +11,5 @@ pub mod SimulatePromises
 pub mod Told
 pub mod Twin
 pub mod TwinPromises
-pub mod Vectors
 pub mod Views
 pub mod Words

@@ -15,8 +15,8 @@ use Rattle.delivered_run.specs.declared.running.DeliveredRun.{DeliveredRun}
 use Rattle.command_frame.specs.Answer.{Answer, Effect}
 use Rattle.command_frame.specs.declared.status.Status.{Status}
 use Rattle.command_words.specs.Ask.{LoadAsk}
-use Rattle.run_engine.specs.Ends.{ending_status}
-use Rattle.run_engine.specs.Eval.{end_status, eval_text}
+use Rattle.program_commands.specs.Ends.{ending_status}
+use Rattle.program_commands.specs.Eval.{end_status, eval_text}
 use Rattle.run_engine.specs.Run.{run_report}
 
 -- ---- the run

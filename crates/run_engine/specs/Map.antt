@@ -14,9 +14,9 @@ use Rattle.view_reader.specs.Opened.{opened_bytes}
 use Rattle.program_views.specs.TapeMaps.{mapped}
 use Rattle.program_views.specs.Views.{lengths_of, openings, run_on}
 use Rattle.tape_twin.specs.declared.mapped_run.MappedRun.{MappedRun}
-use Rattle.run_engine.specs.Judging.{Finding}
-use Rattle.run_engine.specs.Programs.{program_at}
-use Rattle.run_engine.specs.Reading.{inputs_at, tape_file_at}
+use Rattle.program_commands.specs.Judging.{Finding}
+use Rattle.program_commands.specs.Programs.{program_at}
+use Rattle.program_commands.specs.Reading.{inputs_at, tape_file_at}
 
 -- the file of the tapes that the miner's view is made of
 unfoldable pub sim_bytes : Number → TypedProgramTree → List Entry → FourTapes → (budget : ℕ) → List ℕ

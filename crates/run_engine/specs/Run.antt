@@ -28,11 +28,11 @@ use Rattle.program_views.specs.Views.{view_of}
 use Rattle.view_text.specs.View.{View}
 use Rattle.command_frame.specs.declared.plan.Plan.{Plan}
 use Rattle.delivered_run.specs.declared.running.DeliveredRun.{DeliveredRun}
-use Rattle.run_engine.specs.Ends.{ending_status}
-use Rattle.run_engine.specs.Eval.{end_status, eval_text}
-use Rattle.run_engine.specs.Judging.{Finding}
-use Rattle.run_engine.specs.Programs.{program_at}
-use Rattle.run_engine.specs.Reading.{delivery_at, inputs_at, order_paths, source_paths, tapes_at}
+use Rattle.program_commands.specs.Ends.{ending_status}
+use Rattle.program_commands.specs.Eval.{end_status, eval_text}
+use Rattle.program_commands.specs.Judging.{Finding}
+use Rattle.program_commands.specs.Programs.{program_at}
+use Rattle.program_commands.specs.Reading.{delivery_at, inputs_at, order_paths, source_paths, tapes_at}
 use Rattle.run_engine.specs.Views.{view_files, view_paths}
 
 unfoldable pub run_report : TypedProgramTree → List Entry → FourTapes → (budget : ℕ) → Report

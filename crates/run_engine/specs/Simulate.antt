@@ -20,9 +20,9 @@ use Rattle.view_text.specs.View.{View}
 use Rattle.view_simulator.specs.Simulating.{net_told}
 use Rattle.view_simulator.specs.declared.errors.SimulateErr.{SimulateErr}
 use Rattle.view_simulator.specs.declared.errors.SimulateErr.TheVariants as refusal
-use Rattle.run_engine.specs.Judging.{Finding}
-use Rattle.run_engine.specs.Programs.{program_at}
-use Rattle.run_engine.specs.Reading.{delivery_at, opened_at, order_paths, public_at, tape_file_at}
+use Rattle.program_commands.specs.Judging.{Finding}
+use Rattle.program_commands.specs.Programs.{program_at}
+use Rattle.program_commands.specs.Reading.{delivery_at, opened_at, order_paths, public_at, tape_file_at}
 use Rattle.run_engine.specs.Run.{by_net, empty_line, refused_with, stalled_line}
 
 -- ---- opened words that don't suffice

@@ -18,9 +18,9 @@ use Rattle.program_views.specs.Views.{lengths_of}
 use Rattle.tape_twin.specs.FirstDifference.{Difference, at_entry, at_word, difference}
 use Rattle.tape_twin.specs.declared.twin_err.TwinErr.{TwinErr}
 use Rattle.tape_twin.specs.declared.twin_err.TwinErr.TheVariants as refusal
-use Rattle.run_engine.specs.Judging.{Finding}
-use Rattle.run_engine.specs.Programs.{program_at}
-use Rattle.run_engine.specs.Reading.{inputs_at, tape_file_at}
+use Rattle.program_commands.specs.Judging.{Finding}
+use Rattle.program_commands.specs.Programs.{program_at}
+use Rattle.program_commands.specs.Reading.{inputs_at, tape_file_at}
 
 -- ---- inputs that are not alike
 

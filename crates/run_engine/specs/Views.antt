@@ -5,7 +5,7 @@ use Rattle.proto_core.specs.declared.party.Number.{Number}
 use Rattle.proto_core.specs.declared.party.Number.TheVariants.{One, Two, Three}
 use Rattle.view_text.specs.Text.{view_bytes}
 use Rattle.view_text.specs.View.{View}
-use Rattle.run_engine.specs.Paths.{file_of, path_to}
+use Rattle.program_commands.specs.Paths.{file_of, path_to}
 
 -- a run that ended has a view
 abbrev pub view_file : (prefix suffix : List ℕ) → Option View → List Written

@@ -11,12 +11,11 @@ ghost use Rattle.workload_program.specs.LoadTree.{load_typed};
 ghost use Rattle.delivered_run.specs.Deliveries.{HasRunOf};
 ghost use Rattle.run_engine.specs.Load.{load_budget, load_effect, loaded_effect, messages_text};
 
-use crate::ends::status;
-use crate::programs::typed_of_text;
 use command_frame::{Plan, Stop};
 use command_words::LoadWords;
 use delivered_run::{DeliveredRun, Delivery, DeliveryErr, run_delivered};
 use input_share::see_entries;
+use program_commands::{ending_status, typed_of_text};
 use sc_text::run_text;
 use std::alloc::{AllocError, Global};
 use view_model::see_tapes;
@@ -44,7 +43,7 @@ fn loaded_plan(alloc: Global, ran: &DeliveredRun) -> Result<Plan, AllocError>
     Ok(Plan {
         writes: Vec::new(alloc),
         text,
-        status: status(ran.report.end.how),
+        status: ending_status(ran.report.end.how),
     })
 }
 

@@ -5,14 +5,13 @@ ghost use Rattle.command_frame.specs.Reads.{OnlyRead, Gives, KeepsTo, PlanNames,
 ghost use Rattle.command_words.specs.Views.{map_ask};
 ghost use Rattle.program_views.specs.Views.{openings};
 ghost use Rattle.view_reader.specs.Opened.{opened_bytes};
-ghost use Rattle.run_engine.specs.Judging.{Finding, FoundAt, HasFinding, its_program, Tells};
+ghost use Rattle.program_commands.specs.Judging.{Finding, FoundAt, HasFinding, its_program, Tells};
 ghost use Rattle.run_engine.specs.Map.{made_effect, map_of, map_paths, mapped_paths};
 
-use crate::programs::read_typed;
-use crate::readers::{read_inputs, read_tape_file};
 use command_frame::{Plan, PlannedWrite, Status, Stop};
 use command_words::MapWords;
 use outside::Files;
+use program_commands::{read_inputs, read_tape_file, read_typed};
 use sc_text::Event;
 use std::alloc::{AllocError, Global};
 use tape_twin::{MappedRun, map_run};

@@ -1,47 +1,30 @@
 // The command `run`.
 ghost use Rattle.std.specs.Prelude.{◌≡◌, ◌++◌, true, option_map, IfOk, IfErr, OnOk, string_bytes};
 ghost use Rattle.command_frame.specs.Answer.{effect_of, writes_of};
-ghost use Rattle.command_frame.specs.Reads.{OnlyRead, Gives, KeepsTo, PlanNames, StopNames, StopsReading};
-ghost use Rattle.command_words.specs.Views.{run_ask, source_ask};
+ghost use Rattle.command_frame.specs.Reads.{OnlyRead, Gives, KeepsTo, PlanNames, StopsReading};
+ghost use Rattle.command_words.specs.Views.{run_ask};
 ghost use Rattle.counted_net.specs.declared.delivery.DeliveryErr.TheVariants.{Memory as NoMemory};
 ghost use Rattle.delivered_run.specs.Deliveries.{delivery_seen};
 ghost use Rattle.program_run.specs.Accepted.{IsAccepted};
 ghost use Rattle.typed_tree.specs.Programs.{typed_program_tree};
 ghost use Rattle.value_file.specs.Input.{AreInputs};
-ghost use Rattle.run_engine.specs.Judging.{Finding, FoundAt, HasFinding, its_program, Tells};
-ghost use Rattle.run_engine.specs.Reading.{tapes_at, source_paths};
+ghost use Rattle.program_commands.specs.Judging.{Finding, FoundAt, HasFinding, its_program, Tells};
 ghost use Rattle.run_engine.specs.Run.{ran_effect, ran_paths, recorded_links, run_of, run_paths, IsRan};
 
-use crate::deliveries::{delivery_stop, read_delivery};
-use crate::ends::status;
-use crate::programs::read_typed;
-use crate::readers::{read_inputs, read_tape_file};
+use crate::deliveries::delivery_stop;
 use crate::views::view_writes;
 use command_frame::{Plan, PlannedWrite, Stop};
-use command_words::{RunWords, TapeSource};
+use command_words::RunWords;
 use delivered_run::{DeliveredRun, Delivery, DeliveryErr, run_delivered};
 use outside::Files;
+use program_commands::{ending_status, read_delivery, read_inputs, read_tapes, read_typed};
 use proto_core::Link;
 use sc_text::run_text;
 use std::alloc::{AllocError, Global};
-use tape_file::{Tapes, from_seed};
+use tape_file::Tapes;
 use typed_tree::TypedProgram;
 use value_file::Inputs;
 use viewed_run::run_seen;
-
-// The tapes of a file, or those that are drawn from a seed.
-#[tactic(auto, unfolding(crate::specs::Reading::tapes_at))]
-fn read_tapes<F: Files>(alloc: Global, files: &mut F, source: &TapeSource) -> Result<Tapes, Stop>
-    ensures files { OnlyRead (F.state files.old) (F.state files.new) }
-    ensures answer { Gives (λ tapes. tapes) (F.state files.old) (F.state files.new) result
-        (tapes_at (F.state files.old).contents (source_ask source.now)) }
-    ensures names { IfErr result (StopNames (source_paths (source_ask source.now))) }
-{
-    match source {
-        TapeSource::File(path) => read_tape_file(alloc, files, path),
-        TapeSource::Seed(seed) => Ok(from_seed(alloc, seed.seed, seed.words)?),
-    }
-}
 
 // Adds the links that were delivered to what is to be written, where they are asked for.
 fn record_links(
@@ -75,7 +58,7 @@ fn ran_plan(
     Ok(Plan {
         writes,
         text,
-        status: status(run.report.end.how),
+        status: ending_status(run.report.end.how),
     })
 }
 

@@ -3,16 +3,17 @@ ghost use Rattle.std.specs.Prelude.{◌≡◌, Some, true, IfOk, IfErr, string_b
 ghost use Rattle.command_frame.specs.Answer.{effect_of};
 ghost use Rattle.command_frame.specs.Reads.{OnlyRead, Gives, KeepsTo, PlanNames, StopsReading};
 ghost use Rattle.command_words.specs.Views.{simulate_ask};
-ghost use Rattle.run_engine.specs.Judging.{Finding, FoundAt, HasFinding, its_program, Tells};
+ghost use Rattle.program_commands.specs.Judging.{Finding, FoundAt, HasFinding, its_program, Tells};
 ghost use Rattle.run_engine.specs.Simulate.{short_line, simulate_effect, simulate_of, simulate_paths, simulated_paths, IsSimulateStop};
 
-use crate::deliveries::{delivery_stop, read_delivery};
-use crate::programs::read_typed;
-use crate::readers::{read_opened_file, read_public_file, read_tape_file};
+use crate::deliveries::delivery_stop;
 use command_frame::{Plan, PlannedWrite, Status, Stop, refused};
 use command_words::SimulateWords;
 use delivered_run::DeliveryErr;
 use outside::Files;
+use program_commands::{
+    read_delivery, read_opened_file, read_public_file, read_tape_file, read_typed,
+};
 use std::alloc::{AllocError, Global};
 use view_simulator::{SimulateErr, SimulatedRun, simulate};
 use view_text::View;

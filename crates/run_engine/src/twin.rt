@@ -3,14 +3,13 @@ ghost use Rattle.std.specs.Prelude.{◌≡◌, true, IfOk, IfErr, string_bytes};
 ghost use Rattle.command_frame.specs.Answer.{effect_of};
 ghost use Rattle.command_frame.specs.Reads.{OnlyRead, Gives, KeepsTo, PlanNames, StopsReading};
 ghost use Rattle.command_words.specs.Views.{twin_ask};
-ghost use Rattle.run_engine.specs.Judging.{Finding, FoundAt, HasFinding, its_program, Tells};
+ghost use Rattle.program_commands.specs.Judging.{Finding, FoundAt, HasFinding, its_program, Tells};
 ghost use Rattle.run_engine.specs.Twin.{entry_line, word_line, written_effect, twin_of, twin_paths, twinned_paths, IsTwinStop};
 
-use crate::programs::read_typed;
-use crate::readers::{read_inputs, read_tape_file};
 use command_frame::{Plan, PlannedWrite, Status, Stop, refused};
 use command_words::TwinWords;
 use outside::Files;
+use program_commands::{read_inputs, read_tape_file, read_typed};
 use std::alloc::{AllocError, Global};
 use tape_file::Tapes;
 use tape_twin::{Both, TwinErr, twin};

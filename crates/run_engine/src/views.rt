@@ -2,12 +2,12 @@
 ghost use Rattle.std.specs.Prelude.{◌≡◌, Some, IfOk, string_bytes};
 ghost use Rattle.command_frame.specs.Answer.{writes_of};
 ghost use Rattle.view_text.specs.Text.{view_bytes};
-ghost use Rattle.run_engine.specs.Paths.{path_to};
+ghost use Rattle.program_commands.specs.Paths.{path_to};
 ghost use Rattle.run_engine.specs.Views.{view_files};
 ghost use Rattle.viewed_run.specs.Seen.{view_in};
 
-use crate::paths::path_behind;
 use command_frame::PlannedWrite;
+use program_commands::path_behind;
 use std::alloc::{AllocError, Global};
 use view_text::{View, write};
 use viewed_run::Views;

@@ -2,10 +2,10 @@ use Rattle.std.proofs.Common.{sym, ◌∙◌, ap}
 use Rattle.command_words.specs.Views.{map_ask}
 use Rattle.typed_tree.specs.Programs.{typed_program_tree}
 use Rattle.run_engine.specs.Map.{made_effect}
-use Rattle.run_engine.specs.Reading.{inputs_at, tape_file_at}
+use Rattle.program_commands.specs.Reading.{inputs_at, tape_file_at}
 use Rattle.run_engine.proofs.Later.{has_instances, read_still, still, still_later}
 use Rattle.run_engine.proofs.MapPlanned.{effect_so, mapped_so}
-use Rattle.run_engine.proofs.Planned.{at_path, done_with}
+use Rattle.program_commands.proofs.Planned.{at_path, done_with}
 use Rattle.run_engine.proofs.map.plan_map.Goals as goal
 
 pub map_run-requires-clause-accepted : goal.map_run-requires-clause-accepted

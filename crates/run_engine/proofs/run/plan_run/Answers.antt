@@ -2,7 +2,8 @@ use Rattle.std.proofs.Common.{sym, ◌∙◌, ap}
 use Rattle.command_words.specs.Views.{run_ask}
 use Rattle.typed_tree.specs.Programs.{typed_program_tree}
 use Rattle.delivered_run.specs.Deliveries.{delivery_seen}
-use Rattle.run_engine.proofs.Planned.{at_path, done_with, ran, stops}
+use Rattle.program_commands.proofs.Planned.{at_path, done_with}
+use Rattle.run_engine.proofs.Planned.{ran, stops}
 use Rattle.run_engine.proofs.run.plan_run.Goals as goal
 
 pub returns-in-Ok-clause-answer : goal.returns-in-Ok-clause-answer

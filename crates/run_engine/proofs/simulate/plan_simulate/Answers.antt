@@ -2,9 +2,9 @@ use Rattle.std.proofs.Common.{sym, ◌∙◌, ap}
 use Rattle.command_words.specs.Views.{simulate_ask}
 use Rattle.typed_tree.specs.Programs.{typed_program_tree}
 use Rattle.delivered_run.specs.Deliveries.{delivery_seen}
-use Rattle.run_engine.specs.Reading.{opened_at, public_at, tape_file_at}
+use Rattle.program_commands.specs.Reading.{opened_at, public_at, tape_file_at}
 use Rattle.run_engine.proofs.Later.{has_instances, order_still, read_still, still, still_later}
-use Rattle.run_engine.proofs.Planned.{at_path, done_with}
+use Rattle.program_commands.proofs.Planned.{at_path, done_with}
 use Rattle.run_engine.proofs.SimulatePlanned.{simulated_so, stops}
 use Rattle.run_engine.proofs.simulate.plan_simulate.Goals as goal
 

@@ -3,7 +3,8 @@ use Rattle.command_frame.proofs.Wholes.{complete, carried_out, end_says_nothing,
 use Rattle.command_frame.proofs.Wholes.{no_link_failed, refused_prints_nothing, usage_of_unnamed, usage_said, usage_unnamed, write_counted}
 use Rattle.command_frame.proofs.Wholes.{write_cuts, write_said}
 use Rattle.run_engine.proofs.Headline.{ends_by_budget_and_tapes, prints, refuses, schedule_refused, writes}
-use Rattle.run_engine.proofs.Miners.{code_means, made_taken, maps_made, miners_run, views_made, views_seen}
+use Rattle.program_commands.proofs.Accepted.{code_means}
+use Rattle.run_engine.proofs.Miners.{made_taken, maps_made, miners_run, views_made, views_seen}
 use Rattle.run_engine.proofs.Promises.{check_keeps, compile_keeps, deal_keeps, eval_keeps, need_keeps, run_keeps, load_keeps}
 use Rattle.run_engine.proofs.Runs.{has_answer, no_command}
 use Rattle.run_engine.proofs.Tops.{over, printed_so, stops_told, telling}
