@@ -4,6 +4,7 @@ pub mod Codes
 pub mod Deals
 pub mod EvalRefusals
 pub mod Evals
+pub mod Exits
 pub mod Held
 pub mod Judged
 pub mod OfTexts

@@ -17,7 +17,8 @@ module _ (found : Finding) (path : List ℕ) (files : Contents) (h : FoundAt (it
   abbrev effected : TypedProgramTree → Answer
   effected p = Ok (effect p)
 
-  pub text_refused_only : (r : Answer) → Refuses (status_in_answer r) → (program_at found files path >>= effected) ≡ r → ProgramRefused path files (status_in_answer r)
+  pub text_refused_only : (r : Answer) → Refuses (status_in_answer r) → (program_at found files path >>= effected) ≡ r
+      → ProgramRefused path files (status_in_answer r)
   text_refused_only r why is =
       elim (steps (program_at found files path) effected r is) [
         | inl (c, e, is_r) ↦ refused_by_program path files r why.refusal c is_r (program_cases found files path h (Err c) e)

@@ -1,5 +1,5 @@
 // The command `deal`.
-ghost use Rattle.std.specs.Prelude.{◌≡◌, ◌∷◌, [], IfOk, IfErr, string_bytes, codes};
+ghost use Rattle.std.specs.Prelude.{◌≡◌, ◌∷◌, ◌++◌, [], IfOk, IfErr, OnOk, string_bytes, codes};
 ghost use Rattle.command_frame.specs.Answer.{effect_of, writes_of};
 ghost use Rattle.command_frame.specs.Reads.{OnlyRead, Gives, KeepsTo, StopsReading};
 ghost use Rattle.command_frame.specs.Stops.{IsRefusalFor};
@@ -7,10 +7,10 @@ ghost use Rattle.command_words.specs.Views.{deal_ask};
 ghost use Rattle.input_share.specs.Written.{file_bytes};
 ghost use Rattle.tape_file.specs.Format.{own_bytes};
 ghost use Rattle.program_commands.specs.Deal.{short_tape, deal_of, deal_paths, written_paths};
-ghost use Rattle.program_commands.specs.Paths.{file_of, path_to};
+ghost use Rattle.program_commands.specs.Paths.{file_of};
 
-use crate::paths::path_behind;
 use crate::readers::{read_inputs, read_tape_file, refusal_of};
+use crate::writes::add_write;
 use command_frame::{Plan, PlannedWrite, Status, Stop};
 use command_words::DealWords;
 use input_share::{DealErr, Dealt, ShareFile, deal, write_share};
@@ -27,36 +27,32 @@ fn short_stop(alloc: Global, need: u128, have: u64) -> Stop
     refusal_of(alloc, Status::Tape, &Fault::ShortTape { need, have })
 }
 
-// A share file that is to be written.
-fn share_write(
+// Adds a share file that is to be written.
+fn add_share(
     alloc: Global,
+    writes: &mut Vec<PlannedWrite>,
     prefix: &str,
     suffix: &str,
     file: &ShareFile,
-) -> Result<PlannedWrite, AllocError>
-    ensures path { IfOk result (λ write. string_bytes write.path ≡ path_to prefix.now suffix.now) }
-    ensures bytes { IfOk result (λ write. write.bytes.items ≡ file_bytes file.now) }
+) -> Result<(), AllocError>
+    ensures { OnOk result (writes_of writes.new.items ≡ writes_of writes.old.items ++ file_of prefix.now suffix.now (file_bytes file.now) ∷ []) }
 {
-    Ok(PlannedWrite {
-        path: path_behind(alloc, prefix, suffix)?,
-        bytes: write_share(alloc, file)?,
-    })
+    let bytes = write_share(alloc, file)?;
+    add_write(alloc, writes, prefix, suffix, bytes)
 }
 
-// A miner's tape file that is to be written.
-fn tape_write(
+// Adds a miner's tape file that is to be written.
+fn add_tape(
     alloc: Global,
+    writes: &mut Vec<PlannedWrite>,
     prefix: &str,
     suffix: &str,
     words: &[u64],
-) -> Result<PlannedWrite, AllocError>
-    ensures path { IfOk result (λ write. string_bytes write.path ≡ path_to prefix.now suffix.now) }
-    ensures bytes { IfOk result (λ write. write.bytes.items ≡ own_bytes words.now) }
+) -> Result<(), AllocError>
+    ensures { OnOk result (writes_of writes.new.items ≡ writes_of writes.old.items ++ file_of prefix.now suffix.now (own_bytes words.now) ∷ []) }
 {
-    Ok(PlannedWrite {
-        path: path_behind(alloc, prefix, suffix)?,
-        bytes: write_own(alloc, words)?,
-    })
+    let bytes = write_own(alloc, words)?;
+    add_write(alloc, writes, prefix, suffix, bytes)
 }
 
 // The six files in order.
@@ -75,12 +71,12 @@ fn writes(
         ∷ file_of (string_bytes prefix.now) (codes ".t3") (own_bytes tapes.now.three) ∷ []) }
 {
     let mut writes = Vec::new(alloc);
-    writes.push(share_write(alloc, prefix, ".1", &dealt.first)?)?;
-    writes.push(share_write(alloc, prefix, ".2", &dealt.second)?)?;
-    writes.push(share_write(alloc, prefix, ".3", &dealt.third)?)?;
-    writes.push(tape_write(alloc, prefix, ".t1", tapes.miner1())?)?;
-    writes.push(tape_write(alloc, prefix, ".t2", tapes.miner2())?)?;
-    writes.push(tape_write(alloc, prefix, ".t3", tapes.miner3())?)?;
+    add_share(alloc, &mut writes, prefix, ".1", &dealt.first)?;
+    add_share(alloc, &mut writes, prefix, ".2", &dealt.second)?;
+    add_share(alloc, &mut writes, prefix, ".3", &dealt.third)?;
+    add_tape(alloc, &mut writes, prefix, ".t1", tapes.miner1())?;
+    add_tape(alloc, &mut writes, prefix, ".t2", tapes.miner2())?;
+    add_tape(alloc, &mut writes, prefix, ".t3", tapes.miner3())?;
     Ok(writes)
 }
 

@@ -10,6 +10,7 @@ mod orders;
 mod paths;
 mod programs;
 mod readers;
+mod writes;
 
 pub use check::plan_check;
 pub use compile::plan_compile;
@@ -17,6 +18,6 @@ pub use deal::plan_deal;
 pub use ends::ending_status;
 pub use eval::{plan_eval, plan_need};
 pub use orders::read_delivery;
-pub use paths::path_behind;
 pub use programs::{read_typed, typed_of_text};
 pub use readers::{read_inputs, read_opened_file, read_public_file, read_tape_file, read_tapes};
+pub use writes::add_write;

@@ -4,7 +4,7 @@ use Rattle.outside.specs.Files.{FilesState}
 use Rattle.command_frame.specs.Answer.{Effect, Written, effect_of}
 use Rattle.command_frame.specs.declared.plan.Plan.{Plan}
 use Rattle.command_frame.specs.declared.stop.Stop.{Stop}
-use Rattle.command_frame.specs.Reads.{OnlyRead, Stops}
+use Rattle.command_frame.specs.Reads.{OnlyRead, StopNames, Stops}
 use Rattle.command_words.specs.Ask.{RunAsk}
 use Rattle.sc_text.specs.declared.end.End.{End}
 use Rattle.sc_text.specs.declared.event.Event.{Event}
@@ -37,6 +37,7 @@ use Rattle.run_engine.specs.Run.{HasRan, IsRan, IsDeliveryStop, by_net, empty_li
 use Rattle.run_engine.specs.Run.{run_report, run_told, stalled_line}
 use Rattle.run_engine.specs.Views.{view_files}
 use Rattle.program_commands.proofs.Judged.{refused_so}
+use Rattle.program_commands.proofs.Exits.{unnamed_memory, unnamed_refusal}
 
 -- ---- the run of a program that was read
 
@@ -142,3 +143,9 @@ module _ (f f1 f2 f3 : FilesState) (first : OnlyRead f f1) (second : OnlyRead f1
       refused_so f f4 stop (run_of found ask f.contents) of (emptied entry link sent is)
   stops f4 (refusal.Stalled miner link) stop is of = refused_so f f4 stop (run_of found ask f.contents) of (stalled miner link is)
   stops f4 refusal.Memory stop is of = subst (λ (s : Stop). Stops f f4 s (run_of found ask f.contents)) (sym of) tt
+
+-- a schedule that is refused names no file
+pub delivery_stop_names : (paths : List (List ℕ)) (e : DeliveryErr) (stop : Stop) → IsDeliveryStop e stop → StopNames paths stop
+delivery_stop_names paths (refusal.EmptyLink entry link sent) stop of = unnamed_refusal paths (refused_with (empty_line entry link sent)) stop of
+delivery_stop_names paths (refusal.Stalled miner link) stop of = unnamed_refusal paths (refused_with (stalled_line miner link)) stop of
+delivery_stop_names paths refusal.Memory stop of = unnamed_memory paths stop of

@@ -3,7 +3,7 @@ use Rattle.std.proofs.Common.{◌≡◌, ℕ, List, length, true, Option, Some, 
 use Rattle.outside.specs.Files.{FilesState}
 use Rattle.command_frame.specs.declared.stop.Stop.{Stop}
 use Rattle.command_frame.specs.Answer.{Answer, ◌>>=◌}
-use Rattle.command_frame.specs.Reads.{Stops}
+use Rattle.command_frame.specs.Reads.{StopNames, Stops}
 use Rattle.command_words.specs.Ask.{SimulateAsk}
 use Rattle.proto_core.specs.declared.link.Link.{Link}
 use Rattle.proto_core.specs.declared.party.Number.{Number}
@@ -28,6 +28,7 @@ use Rattle.run_engine.specs.Run.{by_net, empty_line, refused_with, stalled_line}
 use Rattle.run_engine.specs.Simulate.{IsSimulateStop, by_told, net_simulated, short_line, short_with}
 use Rattle.run_engine.specs.Simulate.{simulate_effect, simulate_of, stop_told, view_simulated}
 use Rattle.program_commands.proofs.Judged.{refused_so}
+use Rattle.program_commands.proofs.Exits.{unnamed_memory, unnamed_refusal}
 
 -- what gives a view has ended
 ended_so : (i : Number) (seen : Seen) (r : Report) (s : RunStop) (view : View) → view_at i seen r s ≡ Some view → IsEnded s
@@ -129,3 +130,10 @@ module _ (found : Finding) (ask : SimulateAsk) (f : FilesState) (p : TypedProgra
     pub stops : (f' : FilesState) (e : SimulateErr) (stop : Stop) → answers lent (Err e) → IsSimulateStop e stop
         → Stops f f' stop (simulate_of found ask f.contents)
     stops f' e stop h is = stops_so f' e stop (subst (λ (words : List ℕ). answers words (Err e)) same h) is
+
+-- a simulator that gives no view names no file
+pub simulate_stop_names : (paths : List (List ℕ)) (e : SimulateErr) (stop : Stop) → IsSimulateStop e stop → StopNames paths stop
+simulate_stop_names paths (refusal.OpenedShort have) stop of = unnamed_refusal paths (short_with (short_line have)) stop of
+simulate_stop_names paths (refusal.EmptyLink entry link sent) stop of = unnamed_refusal paths (refused_with (empty_line entry link sent)) stop of
+simulate_stop_names paths (refusal.Stalled miner link) stop of = unnamed_refusal paths (refused_with (stalled_line miner link)) stop of
+simulate_stop_names paths refusal.Memory stop of = unnamed_memory paths stop of

@@ -30,8 +30,8 @@ use Rattle.run_engine.specs.Told.{Outside}
 use Rattle.run_engine.specs.Words.{answer_to, question_of, IsAnswer}
 use Rattle.program_commands.proofs.Accepting.{program_cases, refused_by_program}
 use Rattle.program_commands.proofs.Held.{found_of, found_there, no_program, program_there}
-use Rattle.program_commands.proofs.Refusals.{ReadRefused, input_status, not_done, not_missing, opened_refused, opened_status, order_refused}
-use Rattle.program_commands.proofs.Refusals.{public_refused, refusing, schedule_status, status_in_answer, status_of_cause, steps, tape_file_refused, tape_status}
+use Rattle.program_commands.proofs.Refusals.{ReadRefused, input_status, not_done, not_missing, opened_refused, opened_status, order_refused, public_refused}
+use Rattle.program_commands.proofs.Refusals.{refusing, schedule_status, status_in_answer, status_of_cause, steps, tape_file_refused, tape_status}
 use Rattle.run_engine.proofs.RunRefusals.{net_cases, refused_by_net}
 use Rattle.run_engine.proofs.Runs.{HasAnswerOf, command_answers, is_answer}
 use Rattle.program_commands.proofs.Held.{read_there}

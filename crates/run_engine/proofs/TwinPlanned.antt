@@ -3,7 +3,7 @@ use Rattle.std.proofs.Common.{◌≡◌, ℕ, List, true, Some, Ok, Err, refl, s
 use Rattle.outside.specs.Files.{FilesState}
 use Rattle.command_frame.specs.declared.stop.Stop.{Stop}
 use Rattle.command_frame.specs.Answer.{Effect}
-use Rattle.command_frame.specs.Reads.{Stops}
+use Rattle.command_frame.specs.Reads.{StopNames, Stops}
 use Rattle.command_words.specs.Ask.{TwinAsk}
 use Rattle.typed_tree.specs.Programs.{TypedProgramTree}
 use Rattle.value_file.specs.declared.inputs.Entry.{Entry}
@@ -22,6 +22,7 @@ use Rattle.program_commands.specs.Reading.{inputs_at, tape_file_at}
 use Rattle.run_engine.specs.Twin.{IsTwinStop, by_difference, entry_line, twin_bytes, twin_effect, twin_of, unlike}
 use Rattle.run_engine.specs.Twin.{word_line, writes_to, written_effect}
 use Rattle.program_commands.proofs.Judged.{refused_so}
+use Rattle.program_commands.proofs.Exits.{unnamed_memory, unnamed_refusal}
 
 written_so : (ask : TwinAsk) (p : TypedProgramTree) (first second : List Entry) (tapes made : FourTapes)
     → made ≡ twinned ask.miner p first second tapes ask.budget → twin_effect ask p first second tapes ≡ written_effect ask.to made
@@ -65,3 +66,9 @@ module _ (found : Finding) (ask : TwinAsk) (f : FilesState) (p : TypedProgramTre
       refused_so f f' stop (twin_of found ask f.contents) is
       (at_some_word place x y (told_at_word p (lengths_of tapes) ask.budget first second place x y h.0 h.1))
   stops f' refusal.Memory stop h is = subst (λ (s : Stop). Stops f f' s (twin_of found ask f.contents)) (sym is) tt
+
+-- inputs that are refused name no file
+pub twin_stop_names : (paths : List (List ℕ)) (e : TwinErr) (stop : Stop) → IsTwinStop e stop → StopNames paths stop
+twin_stop_names paths (refusal.PublicDiffers name) stop of = unnamed_refusal paths (unlike (entry_line name)) stop of
+twin_stop_names paths (refusal.OpenedDiffers place first second) stop of = unnamed_refusal paths (unlike (word_line place first second)) stop of
+twin_stop_names paths refusal.Memory stop of = unnamed_memory paths stop of

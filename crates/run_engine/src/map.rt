@@ -1,9 +1,10 @@
 // The command `map`.
-ghost use Rattle.std.specs.Prelude.{◌≡◌, true, IfOk, IfErr, string_bytes};
-ghost use Rattle.command_frame.specs.Answer.{effect_of};
+ghost use Rattle.std.specs.Prelude.{◌≡◌, ◌∷◌, ◌++◌, [], true, IfOk, IfErr, OnOk, string_bytes};
+ghost use Rattle.command_frame.specs.Answer.{effect_of, writes_of};
 ghost use Rattle.command_frame.specs.Reads.{OnlyRead, Gives, KeepsTo, PlanNames, StopsReading};
 ghost use Rattle.command_words.specs.Views.{map_ask};
 ghost use Rattle.program_views.specs.Views.{openings};
+ghost use Rattle.value_file.specs.Public.{part_bytes, part_of};
 ghost use Rattle.view_reader.specs.Opened.{opened_bytes};
 ghost use Rattle.program_commands.specs.Judging.{Finding, FoundAt, HasFinding, its_program, Tells};
 ghost use Rattle.run_engine.specs.Map.{made_effect, map_of, map_paths, mapped_paths};
@@ -30,15 +31,25 @@ fn opened_lines(alloc: Global, events: &[Event]) -> Result<Vec<u8>, AllocError>
     Ok(text.into_bytes())
 }
 
-// A file that is to be written at a path.
-fn planned(path: &String, bytes: Vec<u8>) -> Result<PlannedWrite, AllocError>
-    ensures path { IfOk result (λ write. string_bytes write.path ≡ string_bytes path.now) }
-    ensures bytes { IfOk result (λ write. write.bytes.items ≡ bytes.items) }
+// Adds a file that is to be written at a path.
+fn add_planned(
+    writes: &mut Vec<PlannedWrite>,
+    path: &String,
+    bytes: Vec<u8>,
+) -> Result<(), AllocError>
+    ensures { OnOk result (writes_of writes.new.items ≡ writes_of writes.old.items ++ record { path = string_bytes path.now; bytes = bytes.items } ∷ []) }
 {
-    Ok(PlannedWrite {
-        path: path.clone()?,
-        bytes,
-    })
+    let path = path.clone()?;
+    writes.push(PlannedWrite { path, bytes })?;
+    Ok(())
+}
+
+// The file of the public part of inputs.
+fn public_file(alloc: Global, inputs: &Inputs) -> Result<Vec<u8>, AllocError>
+    ensures { IfOk result (λ file. file.items ≡ part_bytes (part_of inputs.now)) }
+{
+    let part = public_part(alloc, inputs)?;
+    write_public(alloc, &part)
 }
 
 // What is to be written of a run: the tapes that the miner's view is made of, the public part of the inputs, and what was opened.
@@ -52,11 +63,18 @@ fn map_plan(
     ensures effect { IfOk result (λ plan. effect_of plan ≡ made_effect (map_ask words.now) inputs.now run.now) }
     ensures names { IfOk result (PlanNames (mapped_paths (map_ask words.now))) }
 {
-    let part = public_part(alloc, inputs)?;
     let mut writes = Vec::new(alloc);
-    writes.push(planned(&words.sim, tape_file::write(alloc, &run.tapes)?)?)?;
-    writes.push(planned(&words.public, write_public(alloc, &part)?)?)?;
-    writes.push(planned(&words.opened, opened_lines(alloc, &run.report.events)?)?)?;
+    add_planned(
+        &mut writes,
+        &words.sim,
+        tape_file::write(alloc, &run.tapes)?,
+    )?;
+    add_planned(&mut writes, &words.public, public_file(alloc, inputs)?)?;
+    add_planned(
+        &mut writes,
+        &words.opened,
+        opened_lines(alloc, &run.report.events)?,
+    )?;
     Ok(Plan {
         writes,
         text: Vec::new(alloc),

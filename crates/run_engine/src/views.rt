@@ -1,31 +1,29 @@
 // The files of the miners' views.
-ghost use Rattle.std.specs.Prelude.{◌≡◌, Some, IfOk, string_bytes};
+ghost use Rattle.std.specs.Prelude.{◌≡◌, ◌∷◌, ◌++◌, [], Some, IfOk, OnOk};
 ghost use Rattle.command_frame.specs.Answer.{writes_of};
 ghost use Rattle.view_text.specs.Text.{view_bytes};
-ghost use Rattle.program_commands.specs.Paths.{path_to};
+ghost use Rattle.program_commands.specs.Paths.{file_of};
 ghost use Rattle.run_engine.specs.Views.{view_files};
 ghost use Rattle.viewed_run.specs.Seen.{view_in};
 
 use command_frame::PlannedWrite;
-use program_commands::path_behind;
+use program_commands::add_write;
 use std::alloc::{AllocError, Global};
 use view_text::{View, write};
 use viewed_run::Views;
 
-// A view file that is to be written.
-fn view_write(
+// Adds a view file that is to be written.
+fn add_view(
     alloc: Global,
+    writes: &mut Vec<PlannedWrite>,
     prefix: &str,
     suffix: &str,
     view: &View,
-) -> Result<PlannedWrite, AllocError>
-    ensures path { IfOk result (λ write. string_bytes write.path ≡ path_to prefix.now suffix.now) }
-    ensures bytes { IfOk result (λ write. write.bytes.items ≡ view_bytes view.now) }
+) -> Result<(), AllocError>
+    ensures { OnOk result (writes_of writes.new.items ≡ writes_of writes.old.items ++ file_of prefix.now suffix.now (view_bytes view.now) ∷ []) }
 {
-    Ok(PlannedWrite {
-        path: path_behind(alloc, prefix, suffix)?,
-        bytes: write(alloc, view)?,
-    })
+    let bytes = write(alloc, view)?;
+    add_write(alloc, writes, prefix, suffix, bytes)
 }
 
 /// The files of the views of miners 1, 2 and 3.
@@ -37,8 +35,8 @@ pub fn view_writes(
     ensures { IfOk result (λ writes. writes_of writes.items ≡ view_files (Some prefix.now) (λ i. Some (view_in views.now i))) }
 {
     let mut writes = Vec::new(alloc);
-    writes.push(view_write(alloc, prefix, ".1", &views.one)?)?;
-    writes.push(view_write(alloc, prefix, ".2", &views.two)?)?;
-    writes.push(view_write(alloc, prefix, ".3", &views.three)?)?;
+    add_view(alloc, &mut writes, prefix, ".1", &views.one)?;
+    add_view(alloc, &mut writes, prefix, ".2", &views.two)?;
+    add_view(alloc, &mut writes, prefix, ".3", &views.three)?;
     Ok(writes)
 }

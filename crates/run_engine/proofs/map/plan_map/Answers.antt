@@ -1,10 +1,11 @@
-use Rattle.std.proofs.Common.{sym, ◌∙◌, ap}
+use Rattle.std.proofs.Common.{[], ◌∷◌, refl, sym, ◌∙◌, ap}
 use Rattle.command_words.specs.Views.{map_ask}
 use Rattle.typed_tree.specs.Programs.{typed_program_tree}
-use Rattle.run_engine.specs.Map.{made_effect}
+use Rattle.run_engine.specs.Map.{made_effect, map_paths}
 use Rattle.program_commands.specs.Reading.{inputs_at, tape_file_at}
 use Rattle.run_engine.proofs.Later.{has_instances, read_still, still, still_later}
 use Rattle.run_engine.proofs.MapPlanned.{effect_so, mapped_so}
+use Rattle.program_commands.proofs.Exits.{first_in, second_in, stopped, stopped_at, third_in, unnamed_memory}
 use Rattle.program_commands.proofs.Planned.{at_path, done_with}
 use Rattle.run_engine.proofs.map.plan_map.Goals as goal
 
@@ -26,3 +27,34 @@ returns-clause-answer g c = λ found h t.
     (read_still tape_file_at f f2 second c.deref-3.result.now ask.tape c.deref-3.ensures c.in_ok-tapes.tapes c.in_ok-tapes.ensures.answer t)
     (effect_so ask p c.in_ok-inputs.inputs c.in_ok-tapes.tapes c.in_ok-made.made c.in_ok-made.ensures.report c.in_ok-made.ensures.tapes)
     ∙ ap done_with (sym c.in_ok-map_plan.ensures.effect)
+
+pub returns-in_err-program-clause-names : goal.returns-in_err-program-clause-names
+unfolding map_paths
+returns-in_err-program-clause-names g c =
+    let ask = map_ask c.args.words.now in
+    stopped_at _ _ _ _ _ c.from_residual.result c.from_residual.ensures.1 c.in_err-program.ensures.names
+    c.deref.ensures (first_in ask.program (ask.input ∷ ask.tape ∷ []))
+
+pub returns-in_err-inputs-clause-names : goal.returns-in_err-inputs-clause-names
+unfolding map_paths
+returns-in_err-inputs-clause-names g c =
+    let ask = map_ask c.args.words.now in
+    stopped_at _ _ _ _ _ c.from_residual-in_err-inputs.result c.from_residual-in_err-inputs.ensures.1 c.in_err-inputs.ensures.names
+    c.deref-2.ensures (second_in ask.program ask.input (ask.tape ∷ []))
+
+pub returns-in_err-tapes-clause-names : goal.returns-in_err-tapes-clause-names
+unfolding map_paths
+returns-in_err-tapes-clause-names g c =
+    let ask = map_ask c.args.words.now in
+    stopped_at _ _ _ _ _ c.from_residual-in_err-tapes.result c.from_residual-in_err-tapes.ensures.1 c.in_err-tapes.ensures.names
+    c.deref-3.ensures (third_in ask.program ask.input ask.tape [])
+
+pub returns-in_err-made-clause-names : goal.returns-in_err-made-clause-names
+returns-in_err-made-clause-names g c =
+    stopped _ _ _ c.from_residual-in_err-made.result c.from_residual-in_err-made.ensures.1
+    (unnamed_memory _ _ refl)
+
+pub returns-in_err-map_plan-clause-names : goal.returns-in_err-map_plan-clause-names
+returns-in_err-map_plan-clause-names g c =
+    stopped _ _ _ c.from_residual-in_err-map_plan.result c.from_residual-in_err-map_plan.ensures.1
+    (unnamed_memory _ _ refl)

@@ -1,11 +1,14 @@
-use Rattle.std.proofs.Common.{sym, ◌∙◌, ap}
+use Rattle.std.proofs.Common.{◌∷◌, refl, sym, ◌∙◌, ap}
+use Rattle.command_frame.proofs.Naming.{names_later}
 use Rattle.command_words.specs.Views.{simulate_ask}
 use Rattle.typed_tree.specs.Programs.{typed_program_tree}
 use Rattle.delivered_run.specs.Deliveries.{delivery_seen}
-use Rattle.program_commands.specs.Reading.{opened_at, public_at, tape_file_at}
+use Rattle.program_commands.specs.Reading.{opened_at, order_paths, public_at, tape_file_at}
 use Rattle.run_engine.proofs.Later.{has_instances, order_still, read_still, still, still_later}
 use Rattle.program_commands.proofs.Planned.{at_path, done_with}
-use Rattle.run_engine.proofs.SimulatePlanned.{simulated_so, stops}
+use Rattle.program_commands.proofs.Exits.{first_in, fourth_in, second_in, stopped, stopped_at, third_in, unnamed_memory}
+use Rattle.run_engine.specs.Simulate.{simulate_paths}
+use Rattle.run_engine.proofs.SimulatePlanned.{simulate_stop_names, simulated_so, stops}
 use Rattle.run_engine.proofs.simulate.plan_simulate.Goals as goal
 
 pub simulate-requires-clause-accepted : goal.simulate-requires-clause-accepted
@@ -54,3 +57,45 @@ returns-clause-answer g c = λ found h.
     (order_still f f4 s4 ask.order (delivery_seen c.in_ok-delivery.delivery) c.in_ok-delivery.ensures.answer)
     c.deref-5.result.now c.deref-5.ensures.value (g.F.Files.state c.read_delivery.new.files)
     c.in-Err.refusal c.simulate_stop.result c.in-Err.ensures c.simulate_stop.ensures
+
+pub returns-in_err-program-clause-names : goal.returns-in_err-program-clause-names
+unfolding simulate_paths
+returns-in_err-program-clause-names g c =
+    let ask = simulate_ask c.args.words.now in
+    stopped_at _ _ _ _ _ c.from_residual.result c.from_residual.ensures.1 c.in_err-program.ensures.names
+    c.deref.ensures (first_in ask.program (ask.public ∷ ask.opened ∷ ask.sim ∷ order_paths ask.order))
+
+pub returns-in_err-part-clause-names : goal.returns-in_err-part-clause-names
+unfolding simulate_paths
+returns-in_err-part-clause-names g c =
+    let ask = simulate_ask c.args.words.now in
+    stopped_at _ _ _ _ _ c.from_residual-in_err-part.result c.from_residual-in_err-part.ensures.1 c.in_err-part.ensures.names
+    c.deref-2.ensures (second_in ask.program ask.public (ask.opened ∷ ask.sim ∷ order_paths ask.order))
+
+pub returns-in_err-opened-clause-names : goal.returns-in_err-opened-clause-names
+unfolding simulate_paths
+returns-in_err-opened-clause-names g c =
+    let ask = simulate_ask c.args.words.now in
+    stopped_at _ _ _ _ _ c.from_residual-in_err-opened.result c.from_residual-in_err-opened.ensures.1 c.in_err-opened.ensures.names
+    c.deref-3.ensures (third_in ask.program ask.public ask.opened (ask.sim ∷ order_paths ask.order))
+
+pub returns-in_err-tapes-clause-names : goal.returns-in_err-tapes-clause-names
+unfolding simulate_paths
+returns-in_err-tapes-clause-names g c =
+    let ask = simulate_ask c.args.words.now in
+    stopped_at _ _ _ _ _ c.from_residual-in_err-tapes.result c.from_residual-in_err-tapes.ensures.1 c.in_err-tapes.ensures.names
+    c.deref-4.ensures (fourth_in ask.program ask.public ask.opened ask.sim (order_paths ask.order))
+
+pub returns-in_err-delivery-clause-names : goal.returns-in_err-delivery-clause-names
+unfolding simulate_paths
+returns-in_err-delivery-clause-names g c =
+    stopped _ _ _ c.from_residual-in_err-delivery.result c.from_residual-in_err-delivery.ensures.1
+    (names_later _ _ _ (names_later _ _ _ (names_later _ _ _ (names_later _ _ _ c.in_err-delivery.ensures.names))))
+
+pub returns-in_err-simulate_plan-in-Ok-clause-names : goal.returns-in_err-simulate_plan-in-Ok-clause-names
+returns-in_err-simulate_plan-in-Ok-clause-names g c =
+    stopped _ _ _ c.from_residual-in_err-simulate_plan-in-Ok.result c.from_residual-in_err-simulate_plan-in-Ok.ensures.1
+    (unnamed_memory _ _ refl)
+
+pub returns-clause-names : goal.returns-clause-names
+returns-clause-names g c = simulate_stop_names _ c.in-Err.refusal c.simulate_stop.result c.simulate_stop.ensures

@@ -1,10 +1,12 @@
-use Rattle.std.proofs.Common.{sym, ◌∙◌, ap}
+use Rattle.std.proofs.Common.{[], ◌∷◌, refl, sym, ◌∙◌, ap}
 use Rattle.command_words.specs.Views.{twin_ask}
 use Rattle.typed_tree.specs.Programs.{typed_program_tree}
 use Rattle.program_commands.specs.Reading.{inputs_at, tape_file_at}
 use Rattle.run_engine.proofs.Later.{has_instances, read_still, still, still_later}
 use Rattle.program_commands.proofs.Planned.{at_path, done_with}
-use Rattle.run_engine.proofs.TwinPlanned.{stops, twinned_so}
+use Rattle.program_commands.proofs.Exits.{first_in, fourth_in, second_in, stopped, stopped_at, third_in, unnamed_memory}
+use Rattle.run_engine.specs.Twin.{twin_paths}
+use Rattle.run_engine.proofs.TwinPlanned.{stops, twin_stop_names, twinned_so}
 use Rattle.run_engine.proofs.twin.plan_twin.Goals as goal
 
 pub twin-requires-clause-accepted : goal.twin-requires-clause-accepted
@@ -46,3 +48,39 @@ returns-clause-answer g c = λ found h.
     (read_still inputs_at f f2 s2 c.deref-3.result.now ask.second c.deref-3.ensures c.in_ok-second.second c.in_ok-second.ensures.answer)
     (read_still tape_file_at f f3 s3 c.deref-4.result.now ask.tape c.deref-4.ensures c.in_ok-tapes.tapes c.in_ok-tapes.ensures.answer)
     (g.F.Files.state c.read_tape_file.new.files) c.in-Err.refusal c.twin_stop.result c.in-Err.ensures.differ c.twin_stop.ensures
+
+pub returns-in_err-program-clause-names : goal.returns-in_err-program-clause-names
+unfolding twin_paths
+returns-in_err-program-clause-names g c =
+    let ask = twin_ask c.args.words.now in
+    stopped_at _ _ _ _ _ c.from_residual.result c.from_residual.ensures.1 c.in_err-program.ensures.names
+    c.deref.ensures (first_in ask.program (ask.input ∷ ask.second ∷ ask.tape ∷ []))
+
+pub returns-in_err-first-clause-names : goal.returns-in_err-first-clause-names
+unfolding twin_paths
+returns-in_err-first-clause-names g c =
+    let ask = twin_ask c.args.words.now in
+    stopped_at _ _ _ _ _ c.from_residual-in_err-first.result c.from_residual-in_err-first.ensures.1 c.in_err-first.ensures.names
+    c.deref-2.ensures (second_in ask.program ask.input (ask.second ∷ ask.tape ∷ []))
+
+pub returns-in_err-second-clause-names : goal.returns-in_err-second-clause-names
+unfolding twin_paths
+returns-in_err-second-clause-names g c =
+    let ask = twin_ask c.args.words.now in
+    stopped_at _ _ _ _ _ c.from_residual-in_err-second.result c.from_residual-in_err-second.ensures.1 c.in_err-second.ensures.names
+    c.deref-3.ensures (third_in ask.program ask.input ask.second (ask.tape ∷ []))
+
+pub returns-in_err-tapes-clause-names : goal.returns-in_err-tapes-clause-names
+unfolding twin_paths
+returns-in_err-tapes-clause-names g c =
+    let ask = twin_ask c.args.words.now in
+    stopped_at _ _ _ _ _ c.from_residual-in_err-tapes.result c.from_residual-in_err-tapes.ensures.1 c.in_err-tapes.ensures.names
+    c.deref-4.ensures (fourth_in ask.program ask.input ask.second ask.tape [])
+
+pub returns-in_err-twin_plan-in-Ok-clause-names : goal.returns-in_err-twin_plan-in-Ok-clause-names
+returns-in_err-twin_plan-in-Ok-clause-names g c =
+    stopped _ _ _ c.from_residual-in_err-twin_plan-in-Ok.result c.from_residual-in_err-twin_plan-in-Ok.ensures.1
+    (unnamed_memory _ _ refl)
+
+pub returns-clause-names : goal.returns-clause-names
+returns-clause-names g c = twin_stop_names _ c.in-Err.refusal c.twin_stop.result c.twin_stop.ensures
