@@ -176,6 +176,7 @@ pub fn secrec<F: Files, O: Sink, E: Sink, L: Links, C: Spawner>(
         OnlyWritten answer (F.state files.old) (F.state files.new) }
     ensures files_only_as_named { OnlyAmong (written_by (texts words.now)) (F.state files.old) (F.state files.new) }
     ensures links_fail_if_reached { result ≡ Status.Link → reach_miners (texts words.now) ≡ true }
+    ensures no_peer_or_child_stops { (result ≢ Status.Peer) × (result ≢ Status.Child) × (result ≢ Status.Disagree) }
     ensures links_unused { reach_miners (texts words.now) ≡ false → links.new ≡ links.old }
     ensures children_unused { start_programs (texts words.now) ≡ false → children.new ≡ children.old }
 

@@ -1,6 +1,6 @@
 use Rattle.command_words.specs.Views.{texts}
 use Rattle.command_frame.proofs.Wholes.{complete, carried_out, end_says_nothing, file_counted, file_missed, file_told, memory_cuts, memory_said}
-use Rattle.command_frame.proofs.Wholes.{no_link_failed, refused_prints_nothing, usage_of_unnamed, usage_said, usage_unnamed, write_counted}
+use Rattle.command_frame.proofs.Wholes.{no_link_failed, no_peer_or_child, refused_prints_nothing, usage_of_unnamed, usage_said, usage_unnamed, write_counted}
 use Rattle.command_frame.proofs.Wholes.{write_cuts, write_said}
 use Rattle.run_engine.proofs.Headline.{ends_by_budget_and_tapes, prints, refuses, schedule_refused, writes}
 use Rattle.program_commands.proofs.Accepted.{code_means}
@@ -80,6 +80,9 @@ returns-clause-files_only_as_named g c = c.act-ended.ensures.only
 
 pub returns-clause-links_fail_if_reached : goal.returns-clause-links_fail_if_reached
 returns-clause-links_fail_if_reached g c = rw c.ended_status.ensures (no_link_failed _ _ _ _ _ c.act-ended.result c.act-ended.ensures.anyhow)
+
+pub returns-clause-no_peer_or_child_stops : goal.returns-clause-no_peer_or_child_stops
+returns-clause-no_peer_or_child_stops g c = rw c.ended_status.ensures (no_peer_or_child _ _ _ _ _ c.act-ended.result c.act-ended.ensures.anyhow)
 
 pub returns-clause-complete : goal.returns-clause-complete
 returns-clause-complete g c = λ answer a steady.
