@@ -12,4 +12,5 @@ pub mod OfWords
 pub mod Planned
 pub mod Refusals
 pub mod Sizes
+pub mod Still
 pub mod Texts

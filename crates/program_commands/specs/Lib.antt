@@ -9,4 +9,5 @@ pub mod OfText
 pub mod Paths
 pub mod Programs
 pub mod Reading
+pub mod Schedules
 pub mod Vectors

@@ -4,6 +4,7 @@
 mod check;
 mod compile;
 mod deal;
+mod deliveries;
 mod ends;
 mod eval;
 mod orders;
@@ -15,6 +16,7 @@ mod writes;
 pub use check::plan_check;
 pub use compile::plan_compile;
 pub use deal::plan_deal;
+pub use deliveries::delivery_stop;
 pub use ends::ending_status;
 pub use eval::{plan_eval, plan_need};
 pub use orders::read_delivery;

@@ -1,24 +1,17 @@
 mod Deals
 pub mod Evals
 pub mod Headline
-pub mod Later
-pub mod MapPlanned
 pub mod MapRefusals
 pub mod Loads
 pub mod Miners
 pub mod Obeying
 pub mod OfWords
-pub mod Planned
-pub mod OpenLines
 pub mod Promises
 pub mod RunRefusals
 pub mod Runs
-pub mod SimulatePlanned
 pub mod SimulateRefusals
 pub mod Texts
 pub mod Tops
-pub mod TwinPlanned
 pub mod TwinRefusals
 pub mod ViewLaws
 pub mod ViewPromises
-pub mod Written

@@ -11,7 +11,7 @@ use Rattle.typed_tree.specs.Programs.{TypedProgramTree}
 use Rattle.value_file.specs.declared.inputs.Entry.{Entry}
 use Rattle.value_file.specs.Input.{read_of as inputs_read_of}
 use Rattle.program_commands.specs.Judging.{Finding, FoundAt, its_program}
-use Rattle.run_engine.specs.Map.{map_effect, map_of}
+use Rattle.tape_commands.specs.Map.{map_effect, map_of}
 use Rattle.run_engine.specs.MapPromises.{HoldsMap, MapRefused, for_input, for_program, for_tape}
 use Rattle.program_commands.specs.Programs.{program_at}
 use Rattle.program_commands.specs.Reading.{bad_input, bad_tape, inputs_at, tape_file_at}

@@ -9,9 +9,9 @@ use Rattle.command_frame.specs.Status.{can_refuse, is_end}
 use Rattle.command_frame.specs.Whole.{CarriedOut, HasFailed, IsAnswered, IsDone}
 use Rattle.command_words.specs.Ask.{CheckAsk, CompileAsk, DealAsk, EvalAsk, LoadAsk, RunAsk, check, compile, deal, eval, load, need, run, words_of}
 use Rattle.program_commands.specs.Eval.{end_of, eval_text, need_text, report_for}
-use Rattle.run_engine.specs.Load.{IsNeverRefused, load_report}
+use Rattle.miner_commands.specs.Load.{IsNeverRefused, load_report}
 use Rattle.run_engine.specs.Promises.{AllSteady, CheckEffect, CompileEffect, DealEffect, EvalEffect, LoadEffect, RunEffect, Gives, Keeps, is_done}
-use Rattle.run_engine.specs.Run.{run_report}
+use Rattle.miner_commands.specs.Run.{run_report}
 use Rattle.program_commands.specs.Held.{DealRefused, EvalRefused, ProgramRefused}
 use Rattle.run_engine.specs.Runs.{RunRefused}
 use Rattle.run_engine.specs.Told.{Outside}

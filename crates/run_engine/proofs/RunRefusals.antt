@@ -17,7 +17,8 @@ use Rattle.program_commands.specs.Judging.{Finding, FoundAt, its_program}
 use Rattle.program_commands.specs.Programs.{program_at}
 use Rattle.program_commands.specs.Reading.{bad_input, bad_schedule, bad_tape, delivery_at, inputs_at, schedule_file_at, tape_file_at, tapes_at}
 use Rattle.run_engine.specs.Headline.{refused_line}
-use Rattle.run_engine.specs.Run.{by_net, refused_with, run_of, run_report, run_told}
+use Rattle.miner_commands.specs.Run.{run_of, run_report, run_told}
+use Rattle.program_commands.specs.Schedules.{by_net, refused_with}
 use Rattle.run_engine.specs.Runs.{HoldsRun, IsNotTaken, RunRefused, net_for, not_taken}
 use Rattle.program_commands.specs.Held.{HoldsTyped}
 use Rattle.run_engine.specs.Runs.{bad_program, bad_input as input_refused, bad_schedule as schedule_refused, bad_tape as tape_refused}

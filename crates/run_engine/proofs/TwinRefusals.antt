@@ -19,7 +19,7 @@ use Rattle.program_commands.specs.Judging.{Finding, FoundAt, its_program}
 use Rattle.program_commands.specs.Programs.{program_at}
 use Rattle.program_commands.specs.Reading.{bad_input, bad_tape, inputs_at, tape_file_at}
 use Rattle.program_commands.specs.Held.{HoldsTyped}
-use Rattle.run_engine.specs.Twin.{by_difference, twin_effect, twin_of}
+use Rattle.tape_commands.specs.Twin.{by_difference, twin_effect, twin_of}
 use Rattle.run_engine.specs.TwinPromises.{AreTaken, HoldsTwin, TwinRefused, for_input, for_program, for_second, for_tape, not_alike}
 use Rattle.run_engine.specs.Told.{Outside}
 use Rattle.run_engine.specs.Words.{answer_to, question_of, IsAnswer}

@@ -1,15 +1,9 @@
 pub mod Headline
-pub mod Map
 pub mod MapPromises
 pub mod Obeying
-pub mod Load
 pub mod Promises
-pub mod Run
 pub mod Runs
-pub mod Simulate
 pub mod SimulatePromises
 pub mod Told
-pub mod Twin
 pub mod TwinPromises
-pub mod Views
 pub mod Words

@@ -11,7 +11,7 @@ use Rattle.tape_file.specs.Tapes.{FourTapes}
 use Rattle.value_file.specs.declared.inputs.Entry.{Entry}
 use Rattle.value_file.specs.declared.read_err.ReadErr.{ReadErr}
 use Rattle.value_file.specs.Input.{read_of as inputs_read_of}
-use Rattle.run_engine.specs.Map.{map_effect}
+use Rattle.tape_commands.specs.Map.{map_effect}
 use Rattle.program_commands.specs.Reading.{inputs_at, tape_file_at}
 use Rattle.program_commands.specs.Held.{HoldsTyped, ProgramRefused}
 

@@ -20,8 +20,8 @@ use Rattle.program_commands.specs.Check.{check_effect}
 use Rattle.program_commands.specs.Compile.{compile_effect}
 use Rattle.program_commands.specs.Deal.{deal_effect}
 use Rattle.program_commands.specs.Eval.{report_effect, report_for}
-use Rattle.run_engine.specs.Run.{run_told}
-use Rattle.run_engine.specs.Load.{load_effect}
+use Rattle.miner_commands.specs.Run.{run_told}
+use Rattle.miner_commands.specs.Load.{load_effect}
 use Rattle.program_commands.specs.Held.{HoldsTyped, HoldsEvaluation, HoldsDeal}
 use Rattle.run_engine.specs.Runs.{HoldsRun, net_for}
 

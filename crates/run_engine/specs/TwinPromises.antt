@@ -15,7 +15,7 @@ use Rattle.program_views.specs.TapeMaps.{AreAlike}
 use Rattle.program_views.specs.Views.{lengths_of}
 use Rattle.program_commands.specs.Reading.{inputs_at, tape_file_at}
 use Rattle.program_commands.specs.Held.{HoldsTyped, ProgramRefused}
-use Rattle.run_engine.specs.Twin.{twin_effect}
+use Rattle.tape_commands.specs.Twin.{twin_effect}
 
 -- the files that `twin` reads are there: a program of this typed tree, two inputs and these tapes
 pub record HoldsTwin (ask : TwinAsk) (files : Contents) (typed : TypedProgramTree) (first second : List Entry) (given : FourTapes) : Type 0 where

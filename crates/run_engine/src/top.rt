@@ -36,20 +36,18 @@ ghost use Rattle.program_commands.specs.Held.{DealRefused, EvalRefused, ProgramR
 ghost use Rattle.run_engine.specs.Runs.{IsNotTaken, RunRefused};
 ghost use Rattle.run_engine.specs.SimulatePromises.{HoldsOfRun, IsOfRun, SimulateEffect, SimulateRefused};
 ghost use Rattle.run_engine.specs.TwinPromises.{AreTaken, HoldsTwin, TwinEffect, TwinRefused};
-ghost use Rattle.run_engine.specs.Load.{IsNeverRefused};
+ghost use Rattle.miner_commands.specs.Load.{IsNeverRefused};
 ghost use Rattle.run_engine.specs.Told.{outside_of};
 ghost use Rattle.run_engine.specs.Words.{read_by, written_by, reach_miners, start_programs, IsAnswer, HasAnswer};
 
-use crate::load::plan_load;
-use crate::map::plan_map;
-use crate::run::plan_run;
-use crate::simulate::plan_simulate;
-use crate::twin::plan_twin;
 use command_frame::{Plan, Status, Stop, ended_status, finish_plan, say};
 use command_words::{Command, WordsErr, read};
+use miner_commands::{plan_load, plan_run};
 use outside::{Files, Links, Sink, Spawner};
 use program_commands::{plan_check, plan_compile, plan_deal, plan_eval, plan_need};
+use simulate_command::plan_simulate;
 use std::alloc::Global;
+use tape_commands::{plan_map, plan_twin};
 
 // Reads the files of a command and says what is to be done.
 fn plan<F: Files>(alloc: Global, files: &mut F, command: &Command) -> Result<Plan, Stop>
