@@ -1,7 +1,7 @@
 -- What the answers of `check` and `compile` are, which read a program alone.
-use Rattle.std.proofs.Common.{◌≡◌, ℕ, List, Some, Ok, refl, subst, sym}
+use Rattle.std.proofs.Common.{◌≡◌, ℕ, List, Some, refl, subst, sym}
 use Rattle.command_frame.specs.declared.status.Status.{Status}
-use Rattle.command_frame.specs.Answer.{Answer, Effect}
+use Rattle.command_frame.specs.Answer.{Answer}
 use Rattle.command_words.specs.Ask.{CheckAsk, CompileAsk, check, compile, words_of}
 use Rattle.reached_instances.specs.Instances.{Instance}
 use Rattle.reached_instances.specs.Reached.{IsReachedList}
