@@ -35,6 +35,9 @@ self : (n : ℕ) → nat_eq n n ≡ true
 self n = grind (arith, nat_tests)
 
 -- statuses of different codes
+abbrev Differ : (s w : Status) → Type 0
+Differ s w = nat_eq (code_of s) (code_of w) ≡ false
+
 clash : {X : Type 0} (s w : Status) → nat_eq (code_of s) (code_of w) ≡ false → s ≡ w → X
 clash s w differ is = never (nat_eq (code_of w) (code_of w)) (self (code_of w)) (subst (λ (x : Status). nat_eq (code_of x) (code_of w) ≡ false) is differ)
 
@@ -437,16 +440,30 @@ module _ {A : Type 0} (ask : Option A) (f f' : FilesState) (o o' : SinkState) wh
   file_counted (Err (stops.Failed objects.Links)) a is = absurd a.1
   file_counted (Err (stops.Failed objects.Children)) a is = absurd a.1
 
+  -- a status that no end and no refusal has, of another code than want of memory, usage, a file and the output
+  no_status : {X : Type 0} (w : Status) → is_end w ≡ false → can_refuse w ≡ false → Differ statuses.Memory w → Differ statuses.Usage w
+      → Differ statuses.File w → Differ statuses.Write w → (r : Result Status Stop) → ActsAnyhow ask f f' o o' r → status_in r ≡ w → X
+  no_status w unended unrefused of_memory of_usage of_file of_write (Ok s) a is = no_end s w a.1 unended is
+  no_status w unended unrefused of_memory of_usage of_file of_write (Err stops.Memory) a is = clash statuses.Memory w of_memory is
+  no_status w unended unrefused of_memory of_usage of_file of_write (Err stops.Usage) a is = clash statuses.Usage w of_usage is
+  no_status w unended unrefused of_memory of_usage of_file of_write (Err (stops.Refused r)) a is = no_refusal r.status w r.refuses unrefused is
+  no_status w unended unrefused of_memory of_usage of_file of_write (Err (stops.Failed (objects.File line))) a is = clash statuses.File w of_file is
+  no_status w unended unrefused of_memory of_usage of_file of_write (Err (stops.Failed objects.Output)) a is = clash statuses.Write w of_write is
+  no_status w unended unrefused of_memory of_usage of_file of_write (Err (stops.Failed objects.Links)) a is = absurd a.1
+  no_status w unended unrefused of_memory of_usage of_file of_write (Err (stops.Failed objects.Children)) a is = absurd a.1
+
   -- no link is reached
   pub no_link_failed : {X : Type 0} (r : Result Status Stop) → ActsAnyhow ask f f' o o' r → status_in r ≡ statuses.Link → X
-  no_link_failed (Ok s) a is = no_end s statuses.Link a.1 refl is
-  no_link_failed (Err stops.Memory) a is = clash statuses.Memory statuses.Link refl is
-  no_link_failed (Err stops.Usage) a is = clash statuses.Usage statuses.Link refl is
-  no_link_failed (Err (stops.Refused r)) a is = no_refusal r.status statuses.Link r.refuses refl is
-  no_link_failed (Err (stops.Failed (objects.File line))) a is = clash statuses.File statuses.Link refl is
-  no_link_failed (Err (stops.Failed objects.Output)) a is = clash statuses.Write statuses.Link refl is
-  no_link_failed (Err (stops.Failed objects.Links)) a is = absurd a.1
-  no_link_failed (Err (stops.Failed objects.Children)) a is = absurd a.1
+  no_link_failed = no_status statuses.Link refl refl refl refl refl refl
+
+  -- and no peer and no child
+  pub no_peer_or_child : (r : Result Status Stop) → ActsAnyhow ask f f' o o' r
+      → (status_in r ≢ statuses.Peer) × (status_in r ≢ statuses.Child) × (status_in r ≢ statuses.Disagree)
+  no_peer_or_child r a = (
+    no_status statuses.Peer refl refl refl refl refl refl r a,
+    no_status statuses.Child refl refl refl refl refl refl r a,
+    no_status statuses.Disagree refl refl refl refl refl refl r a,
+  )
 
   pub refused_prints_nothing : (r : Result Status Stop) → ActsAnyhow ask f f' o o' r → is_end (status_in r) ≡ false → status_in r ≢ statuses.Write
       → status_in r ≢ statuses.Memory → SameSink o o'

@@ -45,7 +45,8 @@ is_end OpenedShort = false
 is_end Write = false
 is_end Memory = false
 
--- a refusal may have this status, by its cause; a dealer's tape that is too short is a refusal, a run's is an end
+-- a refusal may have this status, by its cause; a dealer's tape that is too short is a refusal, a run's is an end. No command
+-- of today is refused for what a peer or a child did.
 abbrev pub can_refuse : Status → Bool
 can_refuse Done = false
 can_refuse Trap = false
@@ -58,9 +59,9 @@ can_refuse Budget = false
 can_refuse Tape = true
 can_refuse File = false
 can_refuse Link = false
-can_refuse Peer = true
-can_refuse Child = true
-can_refuse Disagree = true
+can_refuse Peer = false
+can_refuse Child = false
+can_refuse Disagree = false
 can_refuse NotAlike = true
 can_refuse OpenedShort = true
 can_refuse Write = false

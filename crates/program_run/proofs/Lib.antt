@@ -1,3 +1,4 @@
+pub mod Accepted
 pub mod Offering
 pub mod Shared
 pub mod Told

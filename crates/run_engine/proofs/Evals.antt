@@ -1,29 +1,23 @@
 -- What the answers of `eval` and `need` are, for files that are as they must be, and for files that are refused.
-use Rattle.std.proofs.Common.{◌≡◌, ℕ, List, Some, Ok, Err, refl, subst, sym, inl, inr}
-use Rattle.outside.specs.Files.{Contents}
+use Rattle.std.proofs.Common.{◌≡◌, ℕ, List, Some, Ok, refl, subst, sym, inl, inr}
 use Rattle.command_frame.specs.declared.status.Status.{Status}
-use Rattle.command_frame.specs.Answer.{Answer, Cause}
+use Rattle.command_frame.specs.Answer.{Answer}
 use Rattle.command_words.specs.Ask.{EvalAsk, eval, need, words_of}
 use Rattle.typed_tree.specs.Programs.{TypedProgramTree}
 use Rattle.value_file.specs.declared.inputs.Entry.{Entry}
 use Rattle.language_model.specs.Reports.{Report}
-use Rattle.run_engine.specs.Eval.{eval_of, eval_text, needs_of, need_text, report_at, report_effect, report_for}
-use Rattle.run_engine.specs.Judging.{Finding, FoundAt, its_program}
-use Rattle.run_engine.specs.Reading.{bad_input, inputs_at}
-use Rattle.run_engine.specs.Runs.{HoldsEvaluation, Evaluates, EvalRefused, of_program, bad_entries}
+use Rattle.program_commands.specs.Eval.{eval_of, eval_text, needs_of, need_text, report_effect, report_for}
+use Rattle.program_commands.specs.Judging.{Finding}
+use Rattle.program_commands.specs.Held.{HoldsEvaluation, Evaluates, EvalRefused}
 use Rattle.run_engine.specs.Told.{Outside}
 use Rattle.run_engine.specs.Words.{answer_to, question_of, IsAnswer}
-use Rattle.run_engine.proofs.EvalRefusals.{report_refused_only}
-use Rattle.run_engine.proofs.Held.{found_of, found_there, no_program, program_there}
-use Rattle.run_engine.proofs.Refusals.{Refuses, status_in_answer}
-use Rattle.run_engine.proofs.Runs.{HasAnswerOf, command_answers, is_answer, read_there}
+use Rattle.program_commands.proofs.EvalRefusals.{report_refused_only}
+use Rattle.program_commands.proofs.Held.{found_of, found_there}
+use Rattle.program_commands.proofs.Refusals.{Refuses, status_in_answer}
+use Rattle.run_engine.proofs.Runs.{HasAnswerOf, command_answers, is_answer}
+use Rattle.program_commands.proofs.Evals.{no_report, report_there}
 
 -- ---- files that are as they must be
-
-report_there : (ask : EvalAsk) (files : Contents) (p : TypedProgramTree) (entries : List Entry) (h : HoldsEvaluation ask files p entries)
-    → report_at (found_of ask.program files p h.program) ask files ≡ Ok (report_for p entries ask.budget)
-unfolding report_at
-report_there ask files p entries h = rw (program_there ask.program files p h.program h.program.within.list, h.inputs) refl
 
 abbrev pub printed : (Report → List ℕ) → Report → Answer
 printed text report = Ok (report_effect text report)
@@ -47,23 +41,6 @@ need_answered words ask outside p entries asks h =
     (is_answer words (need ask) outside found asks (found_there ask.program outside.files p h.program))
 
 -- ---- files that are refused
-
--- no report, for a cause of this status
-abbrev HasNoReport : EvalAsk → Contents → Status → Type 0
-HasNoReport ask files s = (found : Finding) × (c : Cause) × FoundAt (its_program ask.program) files found × (report_at found ask files ≡ Err c) × (s ≡ c.status)
-
-no_report : (ask : EvalAsk) (files : Contents) (s : Status) → EvalRefused ask files s → HasNoReport ask files s
-unfolding report_at inputs_at bad_input
-no_report ask files s (of_program refused) =
-    let no = no_program ask.program files s refused in
-    (no.found, no.cause, no.at, rw no.none refl, no.status)
-no_report ask files s (bad_entries is p h bytes err there bad) = (
-  found_of ask.program files p h,
-  bad_input err,
-  found_there ask.program files p h,
-  rw (program_there ask.program files p h h.within.list, read_there files ask.input bytes there, bad) refl,
-  is,
-)
 
 pub eval_answered_so : (words : List (List ℕ)) (ask : EvalAsk) (outside : Outside) (s : Status) → Evaluates (words_of words) ask
     → EvalRefused ask outside.files s → HasAnswerOf words outside s

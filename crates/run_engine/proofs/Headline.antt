@@ -25,8 +25,10 @@ use Rattle.value_file.specs.declared.inputs.Entry.{Entry}
 use Rattle.run_engine.specs.Headline.{EndsByBudgetAndTapes, EndsSomewhere, Given, IsGiven, PrintsEvaluation, RefusesSchedule, ScheduleRefused}
 use Rattle.run_engine.specs.Headline.{WritesViewsAndLinks, is_whole, net_given, not_a_schedule, not_complete, refused_line}
 use Rattle.run_engine.specs.Promises.{AllSteady, Gives, Keeps, RunEffect}
-use Rattle.run_engine.specs.Run.{refused_with, run_report, run_told}
-use Rattle.run_engine.specs.Runs.{IsNotTaken, ProgramRefused, RunRefused, bad_program, bad_input, bad_tape, bad_schedule, not_taken, bad_text, too_large}
+use Rattle.miner_commands.specs.Run.{run_report, run_told}
+use Rattle.program_commands.specs.Schedules.{refused_with}
+use Rattle.run_engine.specs.Runs.{IsNotTaken, RunRefused, bad_program, bad_input, bad_tape, bad_schedule, not_taken}
+use Rattle.program_commands.specs.Held.{ProgramRefused, bad_text, too_large}
 use Rattle.run_engine.specs.Words.{IsAnswer}
 use Rattle.run_engine.proofs.Promises.{outside_with}
 use Rattle.run_engine.proofs.RunRefusals.{run_refused_by_net}

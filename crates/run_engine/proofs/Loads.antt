@@ -1,30 +1,7 @@
--- The run of a workload, and what `load` answers.
-use Rattle.std.proofs.Common.{◌≡◌, ℕ, List, [], ◌++◌, length, Some, Ok, Err, Result, refl, ap, subst, sym, ◌∙◌, All}
+-- What `load` answers.
+use Rattle.std.proofs.Common.{◌≡◌, ℕ, List, [], Some, Ok, Err, Result, ap, subst, sym, ◌∙◌}
 use Rattle.std.specs.Prelude.{IfErr, IfOk}
-use Rattle.std.specs.Result.{IsErrAnd}
 use Rattle.outside.specs.Files.{FilesState}
-use Rattle.sc_text.specs.declared.end.End.{End}
-use Rattle.sc_text.specs.declared.event.Event.{Event}
-use Rattle.sc_text.specs.Event.{run_text}
-use Rattle.proto_core.specs.declared.link.Link.{Link}
-use Rattle.protocol_model.specs.Network.{Accepted, Default, EmptyLink, Stalled}
-use Rattle.input_share.specs.AddUp.{HasWords}
-use Rattle.tape_file.specs.Tapes.{FourTapes}
-use Rattle.value_file.specs.declared.inputs.Entry.{Entry}
-use Rattle.value_file.specs.Input.{AreInputs}
-use Rattle.view_model.specs.TapeMaps.{AreTapes}
-use Rattle.typed_tree.specs.Programs.{TypedProgramTree}
-use Rattle.workload.specs.Load.{load_entries, load_program, load_seed}
-use Rattle.tape_file.specs.Seeds.{seed_tapes}
-use Rattle.workload_program.specs.LoadTree.{load_typed}
-use Rattle.workload_program.proofs.Runnable.{load_is_runnable}
-use Rattle.program_run.specs.Accepted.{IsAccepted}
-use Rattle.delivered_run.specs.Deliveries.{HasRunOf, IsRunOf, net_of}
-use Rattle.delivered_run.specs.Premises.{HaveWords}
-use Rattle.counted_net.specs.declared.delivery.DeliveryErr.{DeliveryErr}
-use Rattle.counted_net.specs.declared.delivery.DeliveryErr.TheVariants as refusal
-use Rattle.delivered_run.specs.declared.running.DeliveredRun.{DeliveredRun}
-use Rattle.delivered_run.proofs.Taken.{made_deliveries_are_taken}
 use Rattle.command_frame.specs.declared.plan.Plan.{Plan}
 use Rattle.command_frame.specs.declared.object.Object.TheVariants as objects
 use Rattle.command_frame.specs.declared.stop.Stop.{Stop}
@@ -33,105 +10,15 @@ use Rattle.command_frame.specs.Answer.{Answer, Effect, effect_of}
 use Rattle.command_frame.specs.Reads.{Gives, KeepsTo, PlanNames, StopNames, StopsReading}
 use Rattle.command_frame.proofs.Wholes.{unchanged}
 use Rattle.command_words.specs.Ask.{LoadAsk, load, words_of}
-use Rattle.run_engine.specs.Ends.{ending_status}
-use Rattle.run_engine.specs.Eval.{end_of}
-use Rattle.run_engine.specs.Judging.{Finding, HasFinding, nothing}
-use Rattle.run_engine.specs.Load.{load_budget, load_effect, load_links, load_of, load_report, load_tapes, loaded_effect, messages_text}
+use Rattle.program_commands.specs.Eval.{end_of}
+use Rattle.program_commands.specs.Judging.{HasFinding, nothing}
+use Rattle.miner_commands.specs.Load.{load_effect, load_of, load_report}
 use Rattle.run_engine.specs.Obeying.{Planned}
-use Rattle.run_engine.specs.OfText.{Decides, IsFoundOf, program_in}
-use Rattle.run_engine.specs.Run.{run_report}
 use Rattle.run_engine.specs.Told.{Outside}
 use Rattle.run_engine.specs.Words.{answer_to, question_of, reads_of, writes_of, IsAnswer}
-use Rattle.run_engine.proofs.Judged.{found_nothing}
-use Rattle.run_engine.proofs.OfTexts.{only_memory}
-use Rattle.run_engine.proofs.Planned.{told_end}
-use Rattle.run_engine.proofs.Refusals.{Refuses, no_ending, status_in_answer}
+use Rattle.program_commands.proofs.Judged.{found_nothing}
+use Rattle.program_commands.proofs.Refusals.{Refuses, no_ending, status_in_answer}
 use Rattle.run_engine.proofs.Runs.{command_answers, is_answer}
-
--- ---- the program of a workload
-
-abbrev load_found : Finding
-load_found = record { judged = Ok load_is_runnable.tree; sized = Ok load_typed; reached = load_is_runnable.within.list }
-
-load_is_found : IsFoundOf load_program load_found
-load_is_found = record {
-  judged = load_is_runnable.accepted;
-  sized = (load_is_runnable.typed, load_is_runnable.within);
-  reached = load_is_runnable.within.reached;
-}
-
-load_in : program_in load_found ≡ Ok load_typed
-unfolding program_in
-load_in = refl
-
--- of the text of a workload
-module _ {X : Type 0} (view : X → TypedProgramTree) (text : List ℕ) (is : text ≡ load_program) (r : Result X Stop)
-    (all : (found : Finding) → IsFoundOf text found → Decides view r (program_in found)) where
-  decided : Decides view r (program_in load_found)
-  decided = all load_found (subst (λ (x : List ℕ). IsFoundOf x load_found) (sym is) load_is_found)
-
-pub load_is_typed : {X : Type 0} (view : X → TypedProgramTree) (text : List ℕ) → text ≡ load_program → (x : X)
-    → ((found : Finding) → IsFoundOf text found → Decides view (Ok x) (program_in found)) → view x ≡ load_typed
-load_is_typed view text is x all = let same : Ok load_typed ≡ Ok (view x) = sym load_in ∙ decided view text is (Ok x) all in cc
-
-pub load_stops : {X : Type 0} (view : X → TypedProgramTree) (text : List ℕ) → text ≡ load_program → (stop : Stop)
-    → ((found : Finding) → IsFoundOf text found → Decides view (Err stop) (program_in found)) → stop ≡ stops.Memory
-load_stops view text is stop all = only_memory stop (program_in load_found) load_typed load_in (decided view text is (Err stop) all)
-
-pub load_stops_on : {X Y : Type 0} (view : X → TypedProgramTree) (text : List ℕ) → text ≡ load_program → (stop : Stop)
-    → ((found : Finding) → IsFoundOf text found → Decides view (Err stop) (program_in found)) → (r : Result Y Stop) → IsErrAnd r (λ given. given ≡ stop)
-    → IfErr r (λ given. given ≡ stops.Memory)
-load_stops_on view text is stop all (Ok y) same = tt
-load_stops_on view text is stop all (Err given) same = same ∙ load_stops view text is stop all
-
--- want of memory, when it is handed on
-pub memory_on : {Y : Type 0} (r : Result Y Stop) → IsErrAnd r (λ given. given ≡ stops.Memory) → IfErr r (λ given. given ≡ stops.Memory)
-memory_on (Ok y) is = tt
-memory_on (Err given) is = is
-
--- ---- its run
-
-pub have_words : (entries : List Entry) (tapes : FourTapes) → AreInputs entries → All HasWords entries → AreTapes tapes → HaveWords entries tapes
-have_words entries tapes form words are = record { sound = record { form = form; words = words }; dealer = are.dealer; words = are.miners }
-
--- no schedule is refused
-module _ (p : TypedProgramTree) (entries : List Entry) (tapes : FourTapes) (accepted : IsAccepted p) (have : HaveWords entries tapes) where
-  taken : net_of p entries tapes load_budget Default ≡ Accepted
-  taken = made_deliveries_are_taken p entries tapes load_budget Default accepted have tt
-
-  pub never_refused : (e : DeliveryErr) → IsRunOf p entries tapes load_budget Default (Err e) → e ≡ refusal.Memory
-  never_refused (refusal.EmptyLink entry link sent) is = let wrong : Accepted ≡ EmptyLink entry link sent = sym taken ∙ is in absurd cc
-  never_refused (refusal.Stalled miner link) is = let wrong : Accepted ≡ Stalled miner link = sym taken ∙ is in absurd cc
-  never_refused refusal.Memory is = refl
-
-pub run_of_load : (p : TypedProgramTree) (entries : List Entry) (tapes : FourTapes) (ran : DeliveredRun) → p ≡ load_typed
-    → HasRunOf p entries tapes load_budget Default ran → HasRunOf load_typed entries tapes load_budget Default ran
-run_of_load p entries tapes ran is h = subst (λ (x : TypedProgramTree). HasRunOf x entries tapes load_budget Default ran) is h
-
--- ---- what is printed of it
-
-abbrev effect_with : List Event → End → List Link → Effect
-effect_with events end links =
-    record { writes = []; text = run_text events end ++ messages_text (length links); status = ending_status end.how }
-
-abbrev load_run : (number : ℕ) → DeliveredRun → Type 0
-load_run number ran = HasRunOf load_typed (load_entries number) (load_tapes number) load_budget Default ran
-
-loaded_so : (number : ℕ) (ran : DeliveredRun) → load_run number ran → loaded_effect ran ≡ load_effect number
-unfolding load_report load_links run_report
-loaded_so number ran h =
-    ap (effect_with ran.report.events.items ran.report.end) h.delivered
-    ∙ ap (λ end. effect_with ran.report.events.items end (load_links number)) (sym (told_end (load_report number) ran.report h.told))
-    ∙ ap (λ events. effect_with events (end_of (load_report number)) (load_links number)) h.told.events
-
-pub loaded : (number : ℕ) (entries : List Entry) (tapes : FourTapes) (ran : DeliveredRun) → entries ≡ load_entries number
-    → tapes ≡ seed_tapes (load_seed number) 131072
-    → HasRunOf load_typed entries tapes load_budget Default ran → loaded_effect ran ≡ load_effect number
-unfolding load_tapes
-loaded number entries tapes ran same taped h =
-    loaded_so number ran
-    (subst (λ (t : FourTapes). HasRunOf load_typed (load_entries number) t load_budget Default ran) taped
-    (subst (λ (es : List Entry). HasRunOf load_typed es tapes load_budget Default ran) same h))
 
 -- ---- the command's own part
 

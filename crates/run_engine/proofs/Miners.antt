@@ -5,12 +5,6 @@ use Rattle.command_words.specs.Ask.{RunAsk}
 use Rattle.tape_file.specs.Tapes.{FourTapes}
 use Rattle.typed_tree.specs.Programs.{TypedProgramTree}
 use Rattle.value_file.specs.declared.inputs.Entry.{Entry}
-use Rattle.well_written.proofs.Grammar.{well_written}
-use Rattle.lowered_code.proofs.Verified.{accepted_runs}
-use Rattle.reached_instances.specs.Instances.{Instance}
-use Rattle.reached_instances.specs.Reached.{IsReachedList}
-use Rattle.placed_text.proofs.Spelled.{placed_where_spelled}
-use Rattle.program_run.specs.Accepted.{IsAccepted}
 use Rattle.protocol_model.specs.Network.{Accepted, Delivery}
 use Rattle.program_run.specs.Dealt.{CanBeDealt}
 use Rattle.miner_runs.specs.Programs.{OwnRunsOnShares}
@@ -28,26 +22,10 @@ use Rattle.view_model.specs.TapeMaps.{AreTapes}
 use Rattle.code_views.specs.CodeViews.{SeesItsView}
 use Rattle.code_views.proofs.CodeViews.{code_views_are_views}
 use Rattle.viewed_run.proofs.Agreeing.{nets_agree}
-use Rattle.run_engine.specs.Compile.{CodeMeansProgram}
-use Rattle.run_engine.specs.Runs.{HoldsRun, HoldsTyped, net_for}
+use Rattle.run_engine.specs.Runs.{HoldsRun, net_for}
+use Rattle.program_commands.specs.Held.{HoldsTyped}
 use Rattle.run_engine.proofs.OfWords.{read_of_words}
-
-pub accepted_so : (path : List ℕ) (files : Contents) (p : TypedProgramTree) → HoldsTyped path files p → IsAccepted p
-accepted_so path files p h =
-    let spells = h.held.accepted.spells in
-    record {
-      source = h.tree;
-      typed = h.held.accepted.typed;
-      written = well_written h.held.bytes h.tree spells.tokens spells.lexed spells.spelled;
-      placed = placed_where_spelled h.held.bytes h.tree spells.tokens spells.lexed spells.spelled;
-      of = h.typed;
-      within = h.within;
-    }
-
-pub code_means : (path : List ℕ) (files : Contents) (p : TypedProgramTree) → HoldsTyped path files p → (reached : List Instance)
-    → IsReachedList p reached → CodeMeansProgram p reached
-code_means path files p h reached are =
-    let a = accepted_so path files p h in accepted_runs a.source a.typed a.written p a.of reached are a.within
+use Rattle.program_commands.proofs.Accepted.{accepted_so, written_so}
 
 pub miners_run : (ask : RunAsk) (files : Contents) (p : TypedProgramTree) (entries : List Entry) (tapes : FourTapes) (delivery : Delivery)
     → HoldsRun ask files p entries tapes delivery → CanBeDealt entries tapes → OwnRunsOnShares p entries tapes ask.budget
@@ -64,13 +42,16 @@ made_taken ask files p entries tapes delivery h made =
 
 pub given_to : (path : List ℕ) (files : Contents) (p : TypedProgramTree) (entries : List Entry) (h : HoldsTyped path files p) → AreSound entries
     → IsGivenTo h.tree p h.within.list entries
-unfolding accepted_so
-given_to path files p entries h sound =
-    let a = accepted_so path files p h in
-    record {
-      program = record { typed = a.typed; written = a.written; resolved = h.typed; reached = h.within.reached; within = h.within };
-      inputs = sound;
-    }
+given_to path files p entries h sound = record {
+  program = record {
+    typed = h.held.accepted.typed;
+    written = written_so path files p h;
+    resolved = h.typed;
+    reached = h.within.reached;
+    within = h.within;
+  };
+  inputs = sound;
+}
 
 pub of_words : (entries : List Entry) (tapes : FourTapes) → HaveWords entries tapes → AreTapes tapes
 of_words entries tapes have = record { dealer = have.dealer; miners = have.words }

@@ -15,11 +15,11 @@ use Rattle.command_frame.specs.Reads.{Gives, KeepsTo, OnlyRead, StopsReading}
 use Rattle.command_frame.specs.Whole.{EndsAs, StopsAtFile}
 use Rattle.command_frame.proofs.Wholes.{acts_anyhow, acts_as, among_written, ends_anyhow, ends_as, nothing_written, only_written, read_only}
 use Rattle.command_frame.proofs.Wholes.{reading_stops, same_sink, stops_anyhow, stops_as, stops_so, unchanged, writing_stops}
-use Rattle.run_engine.specs.Judging.{Finding, FoundAt, HasFinding, Tells}
+use Rattle.program_commands.specs.Judging.{Finding, FoundAt, HasFinding, Tells}
 use Rattle.run_engine.specs.Obeying.{Acted, CommandAnswers, Obeyed, Planned, WordsAnswer}
 use Rattle.run_engine.specs.Told.{told_over}
 use Rattle.run_engine.specs.Words.{answer_to, question_of, reads_of, read_by, writes_of, written_by}
-use Rattle.run_engine.proofs.Judged.{found_nothing}
+use Rattle.program_commands.proofs.Judged.{found_nothing}
 use Rattle.run_engine.proofs.Runs.{command_answers_over, found_by, found_of_usage, reads_by, writes_by}
 use Rattle.run_engine.proofs.Tops.{found_so, is_named}
 

@@ -8,18 +8,19 @@ use Rattle.command_frame.specs.Answer.{Answer, Effect}
 use Rattle.command_frame.specs.Status.{can_refuse, is_end}
 use Rattle.command_frame.specs.Whole.{CarriedOut, HasFailed, IsAnswered, IsDone}
 use Rattle.command_words.specs.Ask.{CheckAsk, CompileAsk, DealAsk, EvalAsk, LoadAsk, RunAsk, check, compile, deal, eval, load, need, run, words_of}
-use Rattle.run_engine.specs.Eval.{end_of, eval_text, need_text, report_for}
-use Rattle.run_engine.specs.Load.{IsNeverRefused, load_report}
+use Rattle.program_commands.specs.Eval.{end_of, eval_text, need_text, report_for}
+use Rattle.miner_commands.specs.Load.{IsNeverRefused, load_report}
 use Rattle.run_engine.specs.Promises.{AllSteady, CheckEffect, CompileEffect, DealEffect, EvalEffect, LoadEffect, RunEffect, Gives, Keeps, is_done}
-use Rattle.run_engine.specs.Run.{run_report}
-use Rattle.run_engine.specs.Runs.{DealRefused, EvalRefused, ProgramRefused, RunRefused}
+use Rattle.miner_commands.specs.Run.{run_report}
+use Rattle.program_commands.specs.Held.{DealRefused, EvalRefused, ProgramRefused}
+use Rattle.run_engine.specs.Runs.{RunRefused}
 use Rattle.run_engine.specs.Told.{Outside}
 use Rattle.run_engine.specs.Words.{IsAnswer, HasAnswer}
 use Rattle.run_engine.proofs.Deals.{deal_answered_so, deal_refused_only}
 use Rattle.run_engine.proofs.Evals.{eval_answered, eval_answered_so, eval_refused_so, need_answered}
-use Rattle.run_engine.proofs.Judged.{found_nothing}
+use Rattle.program_commands.proofs.Judged.{found_nothing}
 use Rattle.run_engine.proofs.Loads.{load_answered, load_never_refused}
-use Rattle.run_engine.proofs.Refusals.{Refuses, end_is, status_in_answer}
+use Rattle.program_commands.proofs.Refusals.{Refuses, end_is, status_in_answer}
 use Rattle.run_engine.proofs.RunRefusals.{run_answered, run_answered_so, run_refused_only}
 use Rattle.run_engine.proofs.Runs.{HasAnswerOf, carried_status, deal_answered, no_fault_end, no_fault_refusal, refused_if}
 use Rattle.run_engine.proofs.Texts.{check_answered, check_answered_so, check_refused_so, compile_answered, compile_answered_so, compile_refused_so}

@@ -12,21 +12,24 @@ use Rattle.tape_file.specs.Tapes.{FourTapes}
 use Rattle.typed_tree.specs.Programs.{TypedProgramTree}
 use Rattle.value_file.specs.declared.inputs.Entry.{Entry}
 use Rattle.value_file.specs.Input.{read_of as inputs_read_of}
-use Rattle.run_engine.specs.Eval.{end_of}
-use Rattle.run_engine.specs.Judging.{Finding, FoundAt, its_program}
-use Rattle.run_engine.specs.Programs.{program_at}
-use Rattle.run_engine.specs.Reading.{bad_input, bad_schedule, bad_tape, delivery_at, inputs_at, schedule_file_at, tape_file_at, tapes_at}
+use Rattle.program_commands.specs.Eval.{end_of}
+use Rattle.program_commands.specs.Judging.{Finding, FoundAt, its_program}
+use Rattle.program_commands.specs.Programs.{program_at}
+use Rattle.program_commands.specs.Reading.{bad_input, bad_schedule, bad_tape, delivery_at, inputs_at, schedule_file_at, tape_file_at, tapes_at}
 use Rattle.run_engine.specs.Headline.{refused_line}
-use Rattle.run_engine.specs.Run.{by_net, refused_with, run_of, run_report, run_told}
-use Rattle.run_engine.specs.Runs.{HoldsRun, HoldsTyped, IsNotTaken, RunRefused, net_for, not_taken}
+use Rattle.miner_commands.specs.Run.{run_of, run_report, run_told}
+use Rattle.program_commands.specs.Schedules.{by_net, refused_with}
+use Rattle.run_engine.specs.Runs.{HoldsRun, IsNotTaken, RunRefused, net_for, not_taken}
+use Rattle.program_commands.specs.Held.{HoldsTyped}
 use Rattle.run_engine.specs.Runs.{bad_program, bad_input as input_refused, bad_schedule as schedule_refused, bad_tape as tape_refused}
 use Rattle.run_engine.specs.Told.{Outside}
 use Rattle.run_engine.specs.Words.{answer_to, question_of, IsAnswer}
-use Rattle.run_engine.proofs.Held.{found_of, found_there, no_program, program_there}
-use Rattle.run_engine.proofs.Accepting.{program_cases, refused_by_program}
-use Rattle.run_engine.proofs.Refusals.{Refuses, ReadRefused, input_status, inputs_refused, no_ending, not_missing, order_refused, refusing}
-use Rattle.run_engine.proofs.Refusals.{schedule_status, status_in_answer, status_of_cause, steps, tape_status, tapes_refused}
-use Rattle.run_engine.proofs.Runs.{HasAnswerOf, command_answers, is_answer, read_there}
+use Rattle.program_commands.proofs.Held.{found_of, found_there, no_program, program_there}
+use Rattle.program_commands.proofs.Accepting.{program_cases, refused_by_program}
+use Rattle.program_commands.proofs.Refusals.{Refuses, ReadRefused, input_status, inputs_refused, no_ending, not_missing, order_refused, refusing}
+use Rattle.program_commands.proofs.Refusals.{schedule_status, status_in_answer, status_of_cause, steps, tape_status, tapes_refused}
+use Rattle.run_engine.proofs.Runs.{HasAnswerOf, command_answers, is_answer}
+use Rattle.program_commands.proofs.Held.{read_there}
 
 -- ---- files that are as they must be
 

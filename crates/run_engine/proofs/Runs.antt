@@ -1,29 +1,25 @@
 -- The answers to words: what the words ask for of the files, the program's file among them.
-use Rattle.std.proofs.Common.{◌≡◌, ◌≤◌, ◌⊎◌, ℕ, List, length, true, false, Some, None, Ok, Err, refl, subst, sym, ◌∙◌, inl, inr, arith}
-use Rattle.std.specs.Prelude.{nat_lt}
+use Rattle.std.proofs.Common.{◌≡◌, ◌≤◌, ◌⊎◌, ℕ, List, length, true, Some, None, Ok, Err, refl, subst, sym, ◌∙◌, inl, inr}
 use Rattle.std.proofs.lemmas.Bool.{false≢true}
-use Rattle.std.proofs.lemmas.Bool.Decides.{nat_tests}
-use Rattle.outside.specs.Files.{Contents, FilesState, file_at}
+use Rattle.outside.specs.Files.{Contents, FilesState}
 use Rattle.outside.specs.Sink.{SinkState}
 use Rattle.command_frame.specs.declared.status.Status.{Status}
 use Rattle.command_frame.specs.declared.status.Status.TheVariants as statuses
-use Rattle.command_frame.specs.Answer.{Answer, bytes_at, usage}
+use Rattle.command_frame.specs.Answer.{Answer, usage}
 use Rattle.command_frame.specs.Status.{can_refuse, is_end}
 use Rattle.command_frame.specs.Whole.{CarriedOut, HasFailed}
 use Rattle.command_words.specs.Ask.{Ask, DealAsk, deal, words_of}
-use Rattle.secrec_ast.specs.Programs.{ProgramTree}
-use Rattle.front_end.specs.Judgement.{Judged, IsJudged}
 use Rattle.input_share.specs.Dealing.{need_of}
 use Rattle.tape_file.specs.Tapes.{FourTapes}
 use Rattle.value_file.specs.declared.inputs.Entry.{Entry}
-use Rattle.run_engine.specs.Deal.{deal_of, deal_effect}
-use Rattle.run_engine.specs.Judging.{JudgedAt, Finding, FoundAt, HasFinding, Question, nothing}
-use Rattle.run_engine.specs.Programs.{bad_program, tree_at}
-use Rattle.run_engine.specs.Runs.{HoldsProgram, HoldsBadProgram, HoldsDeal}
+use Rattle.program_commands.specs.Deal.{deal_effect}
+use Rattle.program_commands.specs.Judging.{Finding, FoundAt, HasFinding, Question, nothing}
+use Rattle.program_commands.specs.Held.{HoldsDeal}
 use Rattle.run_engine.specs.Words.{answer_to, answer_of, question_of, question_in, reads_of, read_by, writes_of, written_by, IsAnswer, HasAnswer}
 use Rattle.run_engine.specs.Obeying.{CommandAnswers, WordsAnswer}
 use Rattle.run_engine.specs.Told.{Outside, Told, told_of}
-use Rattle.run_engine.proofs.Refusals.{status_in_answer}
+use Rattle.program_commands.proofs.Refusals.{status_in_answer}
+use Rattle.program_commands.proofs.Deals.{deal_answer}
 
 -- ---- words and answers
 
@@ -94,44 +90,7 @@ pub found_of_usage : (words : List (List ℕ)) (files : Contents) → words_of w
     → HasFinding (question_in words) files
 found_of_usage words files e h = subst (λ (q : Question). HasFinding q files) (sym (no_question words e)) h
 
--- ---- the file of the program
-
-pub read_there : (files : Contents) (path bytes : List ℕ) → file_at files path ≡ Some bytes → bytes_at files path ≡ Ok bytes
-unfolding bytes_at
-read_there files path bytes e = rw e refl
-
--- what the text of a file is judged to be
-judged_there : (files : Contents) (path bytes : List ℕ) (judged : Judged) → file_at files path ≡ Some bytes → IsJudged bytes judged
-    → JudgedAt (Some path) files judged
-judged_there files path bytes judged there is = λ other at. subst (λ (b : List ℕ). IsJudged b judged) (same other at) is
-  where
-    same : (other : List ℕ) → file_at files path ≡ Some other → bytes ≡ other
-    same other at = let both : Some bytes ≡ Some other = sym there ∙ at in cc
-
-pub held_judged : (path : List ℕ) (files : Contents) (tree : ProgramTree) → HoldsProgram path files tree → JudgedAt (Some path) files (Ok tree)
-held_judged path files tree h = judged_there files path h.bytes (Ok tree) h.there h.accepted
-
-pub bad_judged : (path : List ℕ) (files : Contents) (h : HoldsBadProgram path files) → JudgedAt (Some path) files (Err h.fault)
-bad_judged path files h = judged_there files path h.bytes (Err h.fault) h.there h.refused
-
-pub held_tree : (path : List ℕ) (files : Contents) (tree : ProgramTree) → HoldsProgram path files tree → tree_at (Ok tree) files path ≡ Ok tree
-unfolding tree_at
-held_tree path files tree h = rw (read_there files path h.bytes h.there) refl
-
-pub bad_tree : (path : List ℕ) (files : Contents) (h : HoldsBadProgram path files) → tree_at (Err h.fault) files path ≡ Err (bad_program h.fault)
-unfolding tree_at
-bad_tree path files h = rw (read_there files path h.bytes h.there) refl
-
 -- ---- `deal`
-
-enough : (have need : ℕ) → need ≤ have → nat_lt have need ≡ false
-enough have need h = grind (arith, nat_tests)
-
-deal_answer : (ask : DealAsk) (files : Contents) (entries : List Entry) (tapes : FourTapes) → HoldsDeal ask files entries tapes
-    → need_of entries ≤ length tapes.dealer
-    → deal_of ask files ≡ Ok (deal_effect ask.to entries tapes)
-unfolding deal_of
-deal_answer ask files entries tapes h most = rw (h.inputs, h.tapes, enough (length tapes.dealer) (need_of entries) most) refl
 
 abbrev dealt : List ℕ → List Entry → FourTapes → Answer
 dealt to entries tapes = Ok (deal_effect to entries tapes)

@@ -18,23 +18,24 @@ use Rattle.value_file.specs.PublicFile.{read_public_of}
 use Rattle.view_reader.specs.Opened.{opened_of}
 use Rattle.language_model.specs.Effects.{Ended, Short, RunStop}
 use Rattle.blind_evaluation.specs.Courses.{IsEnded}
-use Rattle.run_engine.specs.Judging.{Finding, FoundAt, its_program}
-use Rattle.run_engine.specs.Programs.{program_at}
-use Rattle.run_engine.specs.Reading.{bad_input, bad_opened, bad_schedule, bad_tape, delivery_at, opened_at, public_at, schedule_file_at, tape_file_at}
-use Rattle.run_engine.specs.Run.{by_net}
-use Rattle.run_engine.specs.Runs.{HoldsTyped}
-use Rattle.run_engine.specs.Simulate.{by_told, net_simulated, simulate_of, stop_told}
+use Rattle.program_commands.specs.Judging.{Finding, FoundAt, its_program}
+use Rattle.program_commands.specs.Programs.{program_at}
+use Rattle.program_commands.specs.Reading.{bad_input, bad_opened, bad_schedule, bad_tape, delivery_at, opened_at, public_at, schedule_file_at, tape_file_at}
+use Rattle.program_commands.specs.Schedules.{by_net}
+use Rattle.program_commands.specs.Held.{HoldsTyped}
+use Rattle.simulate_command.specs.Simulate.{by_told, net_simulated, simulate_of, stop_told}
 use Rattle.run_engine.specs.SimulatePromises.{HoldsSimulation, IsSimulated, SimulateRefused, for_opened, for_program}
 use Rattle.run_engine.specs.SimulatePromises.{for_public, for_schedule, for_tape, net_refuses, told_too_little}
 use Rattle.run_engine.specs.Told.{Outside}
 use Rattle.run_engine.specs.Words.{answer_to, question_of, IsAnswer}
-use Rattle.run_engine.proofs.Accepting.{program_cases, refused_by_program}
-use Rattle.run_engine.proofs.Held.{found_of, found_there, no_program, program_there}
-use Rattle.run_engine.proofs.Refusals.{ReadRefused, input_status, not_done, not_missing, opened_refused, opened_status, order_refused}
-use Rattle.run_engine.proofs.Refusals.{public_refused, refusing, schedule_status, status_in_answer, status_of_cause, steps, tape_file_refused, tape_status}
+use Rattle.program_commands.proofs.Accepting.{program_cases, refused_by_program}
+use Rattle.program_commands.proofs.Held.{found_of, found_there, no_program, program_there}
+use Rattle.program_commands.proofs.Refusals.{ReadRefused, input_status, not_done, not_missing, opened_refused, opened_status, order_refused, public_refused}
+use Rattle.program_commands.proofs.Refusals.{refusing, schedule_status, status_in_answer, status_of_cause, steps, tape_file_refused, tape_status}
 use Rattle.run_engine.proofs.RunRefusals.{net_cases, refused_by_net}
-use Rattle.run_engine.proofs.Runs.{HasAnswerOf, command_answers, is_answer, read_there}
-use Rattle.run_engine.proofs.SimulatePlanned.{by_the_net, by_the_words, enough, short_told, simulated_to, taken_so}
+use Rattle.run_engine.proofs.Runs.{HasAnswerOf, command_answers, is_answer}
+use Rattle.program_commands.proofs.Held.{read_there}
+use Rattle.simulate_command.proofs.SimulatePlanned.{by_the_net, by_the_words, enough, short_told, simulated_to, taken_so}
 
 -- ---- files that are as they must be
 

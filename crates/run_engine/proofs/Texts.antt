@@ -1,30 +1,23 @@
 -- What the answers of `check` and `compile` are, which read a program alone.
-use Rattle.std.proofs.Common.{◌≡◌, ℕ, List, Some, Ok, Err, refl, ap, subst, sym, ◌∙◌, inl, inr}
-use Rattle.outside.specs.Files.{Contents}
-use Rattle.sc_text.specs.declared.end.Ending.TheVariants.{Done}
+use Rattle.std.proofs.Common.{◌≡◌, ℕ, List, Some, refl, subst, sym}
 use Rattle.command_frame.specs.declared.status.Status.{Status}
-use Rattle.command_frame.specs.declared.status.Status.TheVariants as statuses
-use Rattle.command_frame.specs.Answer.{Answer, Effect, ◌>>=◌}
+use Rattle.command_frame.specs.Answer.{Answer}
 use Rattle.command_words.specs.Ask.{CheckAsk, CompileAsk, check, compile, words_of}
 use Rattle.reached_instances.specs.Instances.{Instance}
 use Rattle.reached_instances.specs.Reached.{IsReachedList}
 use Rattle.typed_tree.specs.Programs.{TypedProgramTree}
-use Rattle.run_engine.specs.Check.{check_effect, check_of}
-use Rattle.run_engine.specs.Compile.{compile_effect, compile_of}
-use Rattle.run_engine.specs.Judging.{Finding, FoundAt, its_program}
-use Rattle.run_engine.specs.Programs.{program_at}
-use Rattle.run_engine.specs.Runs.{HoldsTyped, ProgramRefused}
+use Rattle.program_commands.specs.Check.{check_effect, check_of}
+use Rattle.program_commands.specs.Compile.{compile_effect, compile_of}
+use Rattle.program_commands.specs.Held.{HoldsTyped, ProgramRefused}
 use Rattle.run_engine.specs.Told.{Outside}
 use Rattle.run_engine.specs.Words.{answer_to, question_of, IsAnswer}
-use Rattle.run_engine.proofs.Held.{finding, found_of, found_reaching, found_there, no_program, program_there}
-use Rattle.run_engine.proofs.Accepting.{program_cases, refused_by_program}
-use Rattle.run_engine.proofs.Refusals.{Refuses, no_ending, status_in_answer, steps}
+use Rattle.program_commands.proofs.Held.{finding, found_of, found_reaching, found_there, no_program, program_there}
+use Rattle.program_commands.proofs.Refusals.{Refuses, status_in_answer}
 use Rattle.run_engine.proofs.Runs.{HasAnswerOf, command_answers, is_answer}
+use Rattle.program_commands.proofs.Planned.{done_with}
+use Rattle.program_commands.proofs.Texts.{text_refused_only}
 
 -- ---- a program that is as it must be
-
-abbrev pub done_with : Effect → Answer
-done_with effect = Ok effect
 
 pub check_answered : (words : List (List ℕ)) (ask : CheckAsk) (outside : Outside) (p : TypedProgramTree) → words_of words ≡ Some (check ask)
     → HoldsTyped ask.program outside.files p → IsAnswer words outside (done_with check_effect)
@@ -57,29 +50,16 @@ compile_answered_so words ask outside s asks refused =
     let no = no_program ask.program outside.files s refused in
     (compile_of no.found ask outside.files, is_answer words (compile ask) outside no.found asks no.at, rw no.none (sym no.status))
 
--- a command that reads a program and has then an effect that ends as a program does
-module _ (found : Finding) (path : List ℕ) (files : Contents) (h : FoundAt (its_program path) files found) (effect : TypedProgramTree → Effect)
-    (ends : (p : TypedProgramTree) → (effect p).status ≡ statuses.Done) where
-  abbrev effected : TypedProgramTree → Answer
-  effected p = Ok (effect p)
-
-  refused_only : (r : Answer) → Refuses (status_in_answer r) → (program_at found files path >>= effected) ≡ r → ProgramRefused path files (status_in_answer r)
-  refused_only r why is =
-      elim (steps (program_at found files path) effected r is) [
-        | inl (c, e, is_r) ↦ refused_by_program path files r why.refusal c is_r (program_cases found files path h (Err c) e)
-        | inr (p, e, done) ↦ no_ending (status_in_answer r) Done why (ap status_in_answer (sym done) ∙ ends p)
-      ]
-
 pub check_refused_so : (words : List (List ℕ)) (ask : CheckAsk) (outside : Outside) → words_of words ≡ Some (check ask) → (answer : Answer)
     → IsAnswer words outside answer → Refuses (status_in_answer answer) → ProgramRefused ask.program outside.files (status_in_answer answer)
 unfolding answer_to question_of check_of
 check_refused_so words ask outside asks answer a why =
     let (found, at, is) = command_answers words (check ask) outside answer asks a in
-    refused_only found ask.program outside.files at (λ p. check_effect) (λ p. refl) answer why is
+    text_refused_only found ask.program outside.files at (λ p. check_effect) (λ p. refl) answer why is
 
 pub compile_refused_so : (words : List (List ℕ)) (ask : CompileAsk) (outside : Outside) → words_of words ≡ Some (compile ask) → (answer : Answer)
     → IsAnswer words outside answer → Refuses (status_in_answer answer) → ProgramRefused ask.program outside.files (status_in_answer answer)
 unfolding answer_to question_of compile_of
 compile_refused_so words ask outside asks answer a why =
     let (found, at, is) = command_answers words (compile ask) outside answer asks a in
-    refused_only found ask.program outside.files at (λ p. compile_effect ask.code p found.reached) (λ p. refl) answer why is
+    text_refused_only found ask.program outside.files at (λ p. compile_effect ask.code p found.reached) (λ p. refl) answer why is

@@ -17,7 +17,7 @@ use Rattle.command_frame.specs.Answer.{Answer}
 use Rattle.command_frame.specs.Status.{can_refuse}
 use Rattle.command_frame.specs.Whole.{StopsAtFile, status_in}
 use Rattle.command_frame.proofs.Wholes.{stops_so}
-use Rattle.run_engine.specs.Judging.{HasFinding, Tells}
+use Rattle.program_commands.specs.Judging.{HasFinding, Tells}
 use Rattle.run_engine.specs.Obeying.{WordsAnswer}
 use Rattle.run_engine.specs.Told.{Outside}
 use Rattle.run_engine.specs.Words.{question_in, question_of, read_by, written_by, HasAnswer, IsAnswer}

@@ -15,19 +15,20 @@ use Rattle.value_file.specs.Input.{read_of as inputs_read_of}
 use Rattle.program_views.specs.Views.{lengths_of}
 use Rattle.tape_twin.specs.FirstDifference.{Difference, at_entry, at_word, difference}
 use Rattle.tape_twin.proofs.FirstDifferences.{alike_have_none, none_are_alike}
-use Rattle.run_engine.specs.Judging.{Finding, FoundAt, its_program}
-use Rattle.run_engine.specs.Programs.{program_at}
-use Rattle.run_engine.specs.Reading.{bad_input, bad_tape, inputs_at, tape_file_at}
-use Rattle.run_engine.specs.Runs.{HoldsTyped}
-use Rattle.run_engine.specs.Twin.{by_difference, twin_effect, twin_of}
+use Rattle.program_commands.specs.Judging.{Finding, FoundAt, its_program}
+use Rattle.program_commands.specs.Programs.{program_at}
+use Rattle.program_commands.specs.Reading.{bad_input, bad_tape, inputs_at, tape_file_at}
+use Rattle.program_commands.specs.Held.{HoldsTyped}
+use Rattle.tape_commands.specs.Twin.{by_difference, twin_effect, twin_of}
 use Rattle.run_engine.specs.TwinPromises.{AreTaken, HoldsTwin, TwinRefused, for_input, for_program, for_second, for_tape, not_alike}
 use Rattle.run_engine.specs.Told.{Outside}
 use Rattle.run_engine.specs.Words.{answer_to, question_of, IsAnswer}
-use Rattle.run_engine.proofs.Accepting.{program_cases, refused_by_program}
-use Rattle.run_engine.proofs.Held.{found_of, found_there, no_program, program_there}
-use Rattle.run_engine.proofs.Refusals.{ReadRefused, input_status, inputs_refused, not_done, not_missing, refusing, status_in_answer, status_of_cause}
-use Rattle.run_engine.proofs.Refusals.{steps, tape_file_refused, tape_status}
-use Rattle.run_engine.proofs.Runs.{HasAnswerOf, command_answers, is_answer, read_there}
+use Rattle.program_commands.proofs.Accepting.{program_cases, refused_by_program}
+use Rattle.program_commands.proofs.Held.{found_of, found_there, no_program, program_there}
+use Rattle.program_commands.proofs.Refusals.{ReadRefused, input_status, inputs_refused, not_done, not_missing, refusing, status_in_answer, status_of_cause}
+use Rattle.program_commands.proofs.Refusals.{steps, tape_file_refused, tape_status}
+use Rattle.run_engine.proofs.Runs.{HasAnswerOf, command_answers, is_answer}
+use Rattle.program_commands.proofs.Held.{read_there}
 
 -- ---- files that are as they must be
 

@@ -20,7 +20,7 @@ use Rattle.run_engine.specs.SimulatePromises.{HoldsOfRun, IsOfRun, opened_and, t
 use Rattle.run_engine.specs.TwinPromises.{AreTaken, HoldsTwin}
 use Rattle.run_engine.proofs.Miners.{given_to, of_words}
 use Rattle.run_engine.proofs.OfWords.{file_of_words}
-use Rattle.run_engine.proofs.SimulatePlanned.{view_ended}
+use Rattle.simulate_command.proofs.SimulatePlanned.{view_ended}
 
 pub maps_correspond : (ask : MapAsk) (files : Contents) (p : TypedProgramTree) (entries : List Entry) (tapes : FourTapes)
     → HoldsMap ask files p entries tapes → MapsCorrespond ask.miner p entries tapes ask.budget

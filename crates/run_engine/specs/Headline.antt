@@ -23,10 +23,11 @@ use Rattle.view_text.specs.View.{View}
 use Rattle.tape_file.specs.Tapes.{FourTapes}
 use Rattle.typed_tree.specs.Programs.{TypedProgramTree}
 use Rattle.value_file.specs.declared.inputs.Entry.{Entry}
-use Rattle.run_engine.specs.Eval.{end_status, eval_text}
-use Rattle.run_engine.specs.Run.{empty_line, recorded_links, stalled_line}
+use Rattle.program_commands.specs.Eval.{end_status, eval_text}
+use Rattle.miner_commands.specs.Run.{recorded_links}
+use Rattle.program_commands.specs.Schedules.{empty_line, stalled_line}
 use Rattle.run_engine.specs.Runs.{HoldsRun, IsNotTaken}
-use Rattle.run_engine.specs.Views.{view_files}
+use Rattle.miner_commands.specs.Views.{view_files}
 
 -- ---- WHAT IS GIVEN
 

@@ -11,9 +11,9 @@ use Rattle.tape_file.specs.Tapes.{FourTapes}
 use Rattle.value_file.specs.declared.inputs.Entry.{Entry}
 use Rattle.value_file.specs.declared.read_err.ReadErr.{ReadErr}
 use Rattle.value_file.specs.Input.{read_of as inputs_read_of}
-use Rattle.run_engine.specs.Map.{map_effect}
-use Rattle.run_engine.specs.Reading.{inputs_at, tape_file_at}
-use Rattle.run_engine.specs.Runs.{HoldsTyped, ProgramRefused}
+use Rattle.tape_commands.specs.Map.{map_effect}
+use Rattle.program_commands.specs.Reading.{inputs_at, tape_file_at}
+use Rattle.program_commands.specs.Held.{HoldsTyped, ProgramRefused}
 
 -- the files that `map` reads are there: a program of this typed tree, these inputs and these tapes
 pub record HoldsMap (ask : MapAsk) (files : Contents) (typed : TypedProgramTree) (entries : List Entry) (given : FourTapes) : Type 0 where

@@ -10,7 +10,7 @@ use Rattle.command_frame.specs.Finish.{OnlyAmong}
 use Rattle.command_frame.specs.Reads.{Gives, KeepsTo, OnlyRead, StopsReading}
 use Rattle.command_frame.specs.Whole.{Acts, ActsAnyhow, EndsAnyhow, EndsAs, OnlyWritten, StopsAtFile}
 use Rattle.command_words.specs.Ask.{Ask, words_of}
-use Rattle.run_engine.specs.Judging.{Finding, FoundAt, HasFinding, Tells}
+use Rattle.program_commands.specs.Judging.{Finding, FoundAt, HasFinding, Tells}
 use Rattle.run_engine.specs.Told.{told_over}
 use Rattle.run_engine.specs.Words.{answer_to, question_in, question_of, reads_of, writes_of, read_by, written_by, IsAnswer}
 

@@ -16,13 +16,14 @@ use Rattle.language_model.specs.Reports.{Report}
 use Rattle.tape_file.specs.Tapes.{FourTapes}
 use Rattle.typed_tree.specs.Programs.{TypedProgramTree}
 use Rattle.value_file.specs.declared.inputs.Entry.{Entry}
-use Rattle.run_engine.specs.Check.{check_effect}
-use Rattle.run_engine.specs.Compile.{compile_effect}
-use Rattle.run_engine.specs.Deal.{deal_effect}
-use Rattle.run_engine.specs.Eval.{report_effect, report_for}
-use Rattle.run_engine.specs.Run.{run_told}
-use Rattle.run_engine.specs.Load.{load_effect}
-use Rattle.run_engine.specs.Runs.{HoldsTyped, HoldsEvaluation, HoldsRun, HoldsDeal, net_for}
+use Rattle.program_commands.specs.Check.{check_effect}
+use Rattle.program_commands.specs.Compile.{compile_effect}
+use Rattle.program_commands.specs.Deal.{deal_effect}
+use Rattle.program_commands.specs.Eval.{report_effect, report_for}
+use Rattle.miner_commands.specs.Run.{run_told}
+use Rattle.miner_commands.specs.Load.{load_effect}
+use Rattle.program_commands.specs.Held.{HoldsTyped, HoldsEvaluation, HoldsDeal}
+use Rattle.run_engine.specs.Runs.{HoldsRun, net_for}
 
 -- files and output are steady
 abbrev pub AllSteady : FilesState → SinkState → Type 0

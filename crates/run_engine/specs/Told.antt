@@ -3,7 +3,7 @@ use Rattle.std.specs.Prelude.{ℕ, ℤ, List}
 use Rattle.outside.specs.Files.{Contents, FilesState}
 use Rattle.outside.specs.Links.{LinksState}
 use Rattle.outside.specs.Spawner.{SpawnerState}
-use Rattle.run_engine.specs.Judging.{Finding}
+use Rattle.program_commands.specs.Judging.{Finding}
 
 -- what the objects tell as they are handed over: what the files hold, the bytes that are to come from each peer, and the status that each
 -- child ends with

@@ -13,9 +13,9 @@ use Rattle.value_file.specs.declared.read_err.ReadErr.{ReadErr}
 use Rattle.value_file.specs.Input.{read_of as inputs_read_of}
 use Rattle.program_views.specs.TapeMaps.{AreAlike}
 use Rattle.program_views.specs.Views.{lengths_of}
-use Rattle.run_engine.specs.Reading.{inputs_at, tape_file_at}
-use Rattle.run_engine.specs.Runs.{HoldsTyped, ProgramRefused}
-use Rattle.run_engine.specs.Twin.{twin_effect}
+use Rattle.program_commands.specs.Reading.{inputs_at, tape_file_at}
+use Rattle.program_commands.specs.Held.{HoldsTyped, ProgramRefused}
+use Rattle.tape_commands.specs.Twin.{twin_effect}
 
 -- the files that `twin` reads are there: a program of this typed tree, two inputs and these tapes
 pub record HoldsTwin (ask : TwinAsk) (files : Contents) (typed : TypedProgramTree) (first second : List Entry) (given : FourTapes) : Type 0 where

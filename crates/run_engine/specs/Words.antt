@@ -3,17 +3,17 @@ use Rattle.std.specs.Prelude.{◌≡◌, ℕ, List, [], Bool, false, Err}
 use Rattle.std.specs.Option.{option_map_or}
 use Rattle.command_frame.specs.Answer.{Answer, usage}
 use Rattle.command_words.specs.Ask.{Ask, run, deal, check, compile, eval, need, map_tape, simulate, twin, words_of, load}
-use Rattle.run_engine.specs.Check.{check_of, check_paths}
-use Rattle.run_engine.specs.Compile.{compile_of, compile_paths, compiled_paths}
-use Rattle.run_engine.specs.Deal.{deal_of, deal_paths, written_paths}
-use Rattle.run_engine.specs.Eval.{eval_of, needs_of, eval_paths}
-use Rattle.run_engine.specs.Judging.{Finding, FoundAt, Question, nothing, its_program}
+use Rattle.program_commands.specs.Check.{check_of, check_paths}
+use Rattle.program_commands.specs.Compile.{compile_of, compile_paths, compiled_paths}
+use Rattle.program_commands.specs.Deal.{deal_of, deal_paths, written_paths}
+use Rattle.program_commands.specs.Eval.{eval_of, needs_of, eval_paths}
+use Rattle.program_commands.specs.Judging.{Finding, FoundAt, Question, nothing, its_program}
 use Rattle.run_engine.specs.Told.{Outside, Told, told_of}
-use Rattle.run_engine.specs.Map.{map_of, map_paths, mapped_paths}
-use Rattle.run_engine.specs.Load.{load_of}
-use Rattle.run_engine.specs.Run.{ran_paths, run_of, run_paths}
-use Rattle.run_engine.specs.Simulate.{simulate_of, simulate_paths, simulated_paths}
-use Rattle.run_engine.specs.Twin.{twin_of, twin_paths, twinned_paths}
+use Rattle.tape_commands.specs.Map.{map_of, map_paths, mapped_paths}
+use Rattle.miner_commands.specs.Load.{load_of}
+use Rattle.miner_commands.specs.Run.{ran_paths, run_of, run_paths}
+use Rattle.simulate_command.specs.Simulate.{simulate_of, simulate_paths, simulated_paths}
+use Rattle.tape_commands.specs.Twin.{twin_of, twin_paths, twinned_paths}
 
 -- what a command decides of all that is told
 unfoldable pub answer_to : Ask → Told → Answer

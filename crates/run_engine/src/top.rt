@@ -25,33 +25,29 @@ ghost use Rattle.program_views.specs.Simulated.{ViewIsSimulated};
 ghost use Rattle.program_views.specs.TapeMaps.{IsTwin, MapsCorrespond, twinned};
 ghost use Rattle.reached_instances.specs.Instances.{Instance};
 ghost use Rattle.reached_instances.specs.Reached.{IsReachedList};
-ghost use Rattle.run_engine.specs.Compile.{CodeMeansProgram};
-ghost use Rattle.run_engine.specs.Eval.{eval_text, need_text};
+ghost use Rattle.program_commands.specs.Compile.{CodeMeansProgram};
+ghost use Rattle.program_commands.specs.Eval.{eval_text, need_text};
 ghost use Rattle.run_engine.specs.Headline.{EndsByBudgetAndTapes, Given, IsGiven, PrintsEvaluation, RefusesSchedule, ScheduleRefused};
 ghost use Rattle.run_engine.specs.Headline.{WritesViewsAndLinks, net_given};
 ghost use Rattle.run_engine.specs.MapPromises.{HoldsMap, MapEffect, MapRefused};
 ghost use Rattle.run_engine.specs.Obeying.{Acted, Obeyed, Planned};
 ghost use Rattle.run_engine.specs.Promises.{AllSteady, CheckEffect, CompileEffect, DealEffect, EvalEffect, RunEffect, Keeps, is_done, LoadEffect};
-ghost use Rattle.run_engine.specs.Runs.{DealRefused, EvalRefused, IsNotTaken, ProgramRefused, RunRefused, HoldsRun, HoldsTyped, net_for};
+ghost use Rattle.program_commands.specs.Held.{DealRefused, EvalRefused, ProgramRefused, HoldsTyped};
+ghost use Rattle.run_engine.specs.Runs.{IsNotTaken, RunRefused};
 ghost use Rattle.run_engine.specs.SimulatePromises.{HoldsOfRun, IsOfRun, SimulateEffect, SimulateRefused};
 ghost use Rattle.run_engine.specs.TwinPromises.{AreTaken, HoldsTwin, TwinEffect, TwinRefused};
-ghost use Rattle.run_engine.specs.Load.{IsNeverRefused};
+ghost use Rattle.miner_commands.specs.Load.{IsNeverRefused};
 ghost use Rattle.run_engine.specs.Told.{outside_of};
 ghost use Rattle.run_engine.specs.Words.{read_by, written_by, reach_miners, start_programs, IsAnswer, HasAnswer};
 
-use crate::check::plan_check;
-use crate::compile::plan_compile;
-use crate::deal::plan_deal;
-use crate::eval::{plan_eval, plan_need};
-use crate::load::plan_load;
-use crate::map::plan_map;
-use crate::run::plan_run;
-use crate::simulate::plan_simulate;
-use crate::twin::plan_twin;
 use command_frame::{Plan, Status, Stop, ended_status, finish_plan, say};
 use command_words::{Command, WordsErr, read};
+use miner_commands::{plan_load, plan_run};
 use outside::{Files, Links, Sink, Spawner};
+use program_commands::{plan_check, plan_compile, plan_deal, plan_eval, plan_need};
+use simulate_command::plan_simulate;
 use std::alloc::Global;
+use tape_commands::{plan_map, plan_twin};
 
 // Reads the files of a command and says what is to be done.
 fn plan<F: Files>(alloc: Global, files: &mut F, command: &Command) -> Result<Plan, Stop>
@@ -178,6 +174,7 @@ pub fn secrec<F: Files, O: Sink, E: Sink, L: Links, C: Spawner>(
         OnlyWritten answer (F.state files.old) (F.state files.new) }
     ensures files_only_as_named { OnlyAmong (written_by (texts words.now)) (F.state files.old) (F.state files.new) }
     ensures links_fail_if_reached { result ≡ Status.Link → reach_miners (texts words.now) ≡ true }
+    ensures no_peer_or_child_stops { (result ≢ Status.Peer) × (result ≢ Status.Child) × (result ≢ Status.Disagree) }
     ensures links_unused { reach_miners (texts words.now) ≡ false → links.new ≡ links.old }
     ensures children_unused { start_programs (texts words.now) ≡ false → children.new ≡ children.old }
 

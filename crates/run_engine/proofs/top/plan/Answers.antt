@@ -1,5 +1,5 @@
 use Rattle.run_engine.specs.Words.{answer_to, question_of, reads_of, writes_of}
-use Rattle.run_engine.proofs.Judged.{found_nothing}
+use Rattle.program_commands.proofs.Judged.{found_nothing}
 use Rattle.run_engine.proofs.Loads.{load_planned}
 use Rattle.run_engine.proofs.Obeying.{planned}
 use Rattle.run_engine.proofs.top.plan.Goals as goal

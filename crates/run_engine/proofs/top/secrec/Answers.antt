@@ -1,9 +1,10 @@
 use Rattle.command_words.specs.Views.{texts}
 use Rattle.command_frame.proofs.Wholes.{complete, carried_out, end_says_nothing, file_counted, file_missed, file_told, memory_cuts, memory_said}
-use Rattle.command_frame.proofs.Wholes.{no_link_failed, refused_prints_nothing, usage_of_unnamed, usage_said, usage_unnamed, write_counted}
+use Rattle.command_frame.proofs.Wholes.{no_link_failed, no_peer_or_child, refused_prints_nothing, usage_of_unnamed, usage_said, usage_unnamed, write_counted}
 use Rattle.command_frame.proofs.Wholes.{write_cuts, write_said}
 use Rattle.run_engine.proofs.Headline.{ends_by_budget_and_tapes, prints, refuses, schedule_refused, writes}
-use Rattle.run_engine.proofs.Miners.{code_means, made_taken, maps_made, miners_run, views_made, views_seen}
+use Rattle.program_commands.proofs.Accepted.{code_means}
+use Rattle.run_engine.proofs.Miners.{made_taken, maps_made, miners_run, views_made, views_seen}
 use Rattle.run_engine.proofs.Promises.{check_keeps, compile_keeps, deal_keeps, eval_keeps, need_keeps, run_keeps, load_keeps}
 use Rattle.run_engine.proofs.Runs.{has_answer, no_command}
 use Rattle.run_engine.proofs.Tops.{over, printed_so, stops_told, telling}
@@ -79,6 +80,9 @@ returns-clause-files_only_as_named g c = c.act-ended.ensures.only
 
 pub returns-clause-links_fail_if_reached : goal.returns-clause-links_fail_if_reached
 returns-clause-links_fail_if_reached g c = rw c.ended_status.ensures (no_link_failed _ _ _ _ _ c.act-ended.result c.act-ended.ensures.anyhow)
+
+pub returns-clause-no_peer_or_child_stops : goal.returns-clause-no_peer_or_child_stops
+returns-clause-no_peer_or_child_stops g c = rw c.ended_status.ensures (no_peer_or_child _ _ _ _ _ c.act-ended.result c.act-ended.ensures.anyhow)
 
 pub returns-clause-complete : goal.returns-clause-complete
 returns-clause-complete g c = λ answer a steady.

@@ -1,0 +1,3 @@
+pub mod LoadRuns
+pub mod Planned
+pub mod Written

@@ -1,0 +1,92 @@
+-- The command `run`: three miners run the program on shares, their messages delivered in an order that is asked for; what they open and
+-- publish is what evaluation in the clear does with tapes of these lengths.
+use Rattle.std.specs.Prelude.{◌≡◌, ℕ, List, [], ◌∷◌, ◌++◌, Option, Some, None, Result, Ok, Err}
+use Rattle.outside.specs.Files.{Contents}
+use Rattle.command_frame.specs.Answer.{Answer, Effect, Written, effect_of, ◌>>=◌}
+use Rattle.command_words.specs.Ask.{RunAsk}
+use Rattle.sc_text.specs.Event.{run_text}
+use Rattle.proto_core.specs.declared.link.Link.{Link}
+use Rattle.proto_core.specs.declared.party.Number.{Number}
+use Rattle.protocol_model.specs.Network as network
+use Rattle.protocol_model.specs.Network.{Delivery}
+use Rattle.schedule_file.specs.Text.{schedule_bytes}
+use Rattle.tape_file.specs.Tapes.{FourTapes}
+use Rattle.value_file.specs.declared.inputs.Entry.{Entry}
+use Rattle.typed_tree.specs.Programs.{TypedProgramTree}
+use Rattle.language_model.specs.Reports.{Report}
+use Rattle.program_run.specs.Reports.{eval_with}
+use Rattle.delivered_run.specs.Deliveries.{delivered_of, net_of, IsRefusedOf}
+use Rattle.counted_net.specs.declared.delivery.DeliveryErr.{DeliveryErr}
+use Rattle.program_views.specs.Views.{view_of}
+use Rattle.view_text.specs.View.{View}
+use Rattle.command_frame.specs.declared.plan.Plan.{Plan}
+use Rattle.delivered_run.specs.declared.running.DeliveredRun.{DeliveredRun}
+use Rattle.program_commands.specs.Ends.{ending_status}
+use Rattle.program_commands.specs.Eval.{end_status, eval_text}
+use Rattle.program_commands.specs.Judging.{Finding}
+use Rattle.program_commands.specs.Programs.{program_at}
+use Rattle.program_commands.specs.Reading.{delivery_at, inputs_at, order_paths, source_paths, tapes_at}
+use Rattle.program_commands.specs.Schedules.{by_net}
+use Rattle.miner_commands.specs.Views.{view_files, view_paths}
+
+unfoldable pub run_report : TypedProgramTree → List Entry → FourTapes → (budget : ℕ) → Report
+run_report program entries tapes budget = eval_with program entries tapes budget
+
+-- ---- the run
+
+-- the links that were delivered, where they are asked for
+abbrev pub recorded_links : Option (List ℕ) → List Link → List Written
+recorded_links None links = []
+recorded_links (Some path) links = record { path = path; bytes = schedule_bytes links } ∷ []
+
+-- the views come before the links
+abbrev pub run_effect : RunAsk → (Number → Option View) → Report → List Link → Effect
+run_effect ask views report links =
+    record { writes = view_files ask.views views ++ recorded_links ask.recorded links; text = eval_text report; status = end_status report }
+
+-- the same of a run in memory, with the files of its views
+abbrev pub ran_effect : RunAsk → (files : List Written) → DeliveredRun → Effect
+ran_effect ask files run =
+    record {
+      writes = files ++ recorded_links ask.recorded run.delivered.items;
+      text = run_text run.report.events.items run.report.end;
+      status = ending_status run.report.end.how;
+    }
+
+-- what is written and printed of a run, whose views, text and links are those that the definitions say
+abbrev pub run_told : RunAsk → TypedProgramTree → List Entry → FourTapes → Delivery → Effect
+run_told ask program entries tapes delivery =
+    run_effect ask (λ i. view_of i program entries tapes ask.budget delivery) (run_report program entries tapes ask.budget)
+    (delivered_of program entries tapes ask.budget delivery)
+
+module _ (ask : RunAsk) (p : TypedProgramTree) (entries : List Entry) (tapes : FourTapes) (delivery : Delivery) where
+  -- the net takes the delivery, and this is planned
+  pub record HasRan (plan : Plan) : Type 0 where
+    pub accepted : net_of p entries tapes ask.budget delivery ≡ network.Accepted
+    pub planned : effect_of plan ≡ run_told ask p entries tapes delivery
+
+  -- so it is, or the schedule is refused
+  abbrev pub IsRan : Result Plan DeliveryErr → Type 0
+  IsRan (Ok plan) = HasRan plan
+  IsRan (Err e) = IsRefusedOf p entries tapes ask.budget delivery e
+
+-- Each file is read and then checked: the program and its size, the input, the tapes, the schedule; then the program is run.
+unfoldable pub run_of : Finding → RunAsk → Contents → Answer
+run_of found ask files = do
+  program ← program_at found files ask.program
+  entries ← inputs_at files ask.input
+  tapes ← tapes_at files ask.source
+  delivery ← delivery_at files ask.order
+  _ ← by_net (net_of program entries tapes ask.budget delivery)
+  Ok (run_told ask program entries tapes delivery)
+
+-- the paths that `run` reads, and that it writes
+unfoldable pub run_paths : RunAsk → List (List ℕ)
+run_paths ask = ask.program ∷ ask.input ∷ (source_paths ask.source ++ order_paths ask.order)
+
+abbrev pub path_in : Option (List ℕ) → List (List ℕ)
+path_in None = []
+path_in (Some path) = path ∷ []
+
+unfoldable pub ran_paths : RunAsk → List (List ℕ)
+ran_paths ask = view_paths ask.views ++ path_in ask.recorded

@@ -1,0 +1,85 @@
+// The command `load`.
+ghost use Rattle.std.specs.Prelude.{◌≡◌, [], IfOk, IfErr, string_bytes};
+ghost use Rattle.command_frame.specs.Answer.{effect_of};
+ghost use Rattle.command_frame.specs.Reads.{PlanNames};
+ghost use Rattle.command_frame.specs.declared.stop.Stop.TheVariants.{Memory};
+ghost use Rattle.command_words.specs.Views.{load_ask};
+ghost use Rattle.protocol_model.specs.Network.{Default};
+ghost use Rattle.value_file.specs.Input.{AreInputs};
+ghost use Rattle.workload.specs.Load.{load_program};
+ghost use Rattle.workload_program.specs.LoadTree.{load_typed};
+ghost use Rattle.delivered_run.specs.Deliveries.{HasRunOf};
+ghost use Rattle.miner_commands.specs.Load.{load_budget, load_effect, loaded_effect, messages_text};
+
+use command_frame::{Plan, Stop};
+use command_words::LoadWords;
+use delivered_run::{DeliveredRun, Delivery, DeliveryErr, run_delivered};
+use input_share::see_entries;
+use program_commands::{ending_status, typed_of_text};
+use sc_text::run_text;
+use std::alloc::{AllocError, Global};
+use view_model::see_tapes;
+use workload::{Workload, make};
+
+/// The most that the run may cost.
+const BUDGET: u64 = 1_000_000;
+
+// How many messages were delivered.
+#[tactic(auto, unfolding(crate::specs::Load::messages_text))]
+fn messages_line(alloc: Global, count: u64) -> Result<String, AllocError>
+    ensures { IfOk result (λ line. string_bytes line ≡ messages_text count) }
+{
+    format!(in alloc; "messages {count}\n")
+}
+
+// What is to be printed of a run: its text, and how many messages were delivered.
+fn loaded_plan(alloc: Global, ran: &DeliveredRun) -> Result<Plan, AllocError>
+    ensures effect { IfOk result (λ plan. effect_of plan ≡ loaded_effect ran.now) }
+    ensures names { IfOk result (PlanNames []) }
+{
+    let line = messages_line(alloc, ran.delivered.len() as u64)?;
+    let mut text = run_text(alloc, &ran.report.events, &ran.report.end)?;
+    text.extend_from_slice(line.as_bytes())?;
+    Ok(Plan {
+        writes: Vec::new(alloc),
+        text,
+        status: ending_status(ran.report.end.how),
+    })
+}
+
+// Three miners run a workload. Its program is accepted, and the delivery that is made is complete.
+fn run_load(alloc: Global, load: &Workload) -> Result<DeliveredRun, Stop>
+    requires program { string_bytes load.now.program ≡ load_program }
+    requires inputs { AreInputs load.now.inputs }
+    ensures run { IfOk result (HasRunOf load_typed load.now.inputs load.now.tapes load_budget Default) }
+    ensures memory { IfErr result (λ stop. stop ≡ Memory) }
+{
+    let program = typed_of_text(alloc, load.program.as_bytes())?;
+    see_entries(load.inputs.entries());
+    see_tapes(&load.tapes);
+    match run_delivered(
+        alloc,
+        &program,
+        &load.inputs,
+        &load.tapes,
+        BUDGET,
+        &Delivery::InTurn,
+    ) {
+        Ok(ran) => Ok(ran),
+        Err(DeliveryErr::Memory) => Err(Stop::Memory),
+        Err(DeliveryErr::EmptyLink { .. }) => unreachable!(),
+        Err(DeliveryErr::Stalled { .. }) => unreachable!(),
+    }
+}
+
+/// Runs the workload of the number and says what is to be printed: what the miners opened and published, how they ended, and how many
+/// messages were delivered. Nothing but want of memory stops it.
+pub fn plan_load(alloc: Global, words: &LoadWords) -> Result<Plan, Stop>
+    ensures effect { IfOk result (λ plan. effect_of plan ≡ load_effect (load_ask words.now).number) }
+    ensures memory { IfErr result (λ stop. stop ≡ Memory) }
+    ensures names { IfOk result (PlanNames []) }
+{
+    let load = make(alloc, words.number)?;
+    let ran = run_load(alloc, &load)?;
+    Ok(loaded_plan(alloc, &ran)?)
+}

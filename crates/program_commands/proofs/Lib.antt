@@ -1,0 +1,16 @@
+pub mod Accepted
+pub mod Accepting
+pub mod Codes
+pub mod Deals
+pub mod EvalRefusals
+pub mod Evals
+pub mod Exits
+pub mod Held
+pub mod Judged
+pub mod OfTexts
+pub mod OfWords
+pub mod Planned
+pub mod Refusals
+pub mod Sizes
+pub mod Still
+pub mod Texts

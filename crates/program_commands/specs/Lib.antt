@@ -1,0 +1,13 @@
+pub mod Check
+pub mod Compile
+pub mod Deal
+pub mod Ends
+pub mod Eval
+pub mod Held
+pub mod Judging
+pub mod OfText
+pub mod Paths
+pub mod Programs
+pub mod Reading
+pub mod Schedules
+pub mod Vectors

@@ -1,0 +1,25 @@
+//! The commands that need no miners (`check`, `compile`, `eval`, `need` and `deal`), and the programs and files that commands read.
+#![tactic(auto)]
+
+mod check;
+mod compile;
+mod deal;
+mod deliveries;
+mod ends;
+mod eval;
+mod orders;
+mod paths;
+mod programs;
+mod readers;
+mod writes;
+
+pub use check::plan_check;
+pub use compile::plan_compile;
+pub use deal::plan_deal;
+pub use deliveries::delivery_stop;
+pub use ends::ending_status;
+pub use eval::{plan_eval, plan_need};
+pub use orders::read_delivery;
+pub use programs::{read_typed, typed_of_text};
+pub use readers::{read_inputs, read_opened_file, read_public_file, read_tape_file, read_tapes};
+pub use writes::add_write;

@@ -1,0 +1,23 @@
+// Files that are to be written, one behind another.
+ghost use Rattle.std.specs.Prelude.{◌≡◌, ◌∷◌, ◌++◌, [], OnOk};
+ghost use Rattle.command_frame.specs.Answer.{writes_of};
+ghost use Rattle.program_commands.specs.Paths.{file_of};
+
+use crate::paths::path_behind;
+use command_frame::PlannedWrite;
+use std::alloc::{AllocError, Global};
+
+/// Adds a file that is to be written, at a path behind the prefix.
+pub fn add_write(
+    alloc: Global,
+    writes: &mut Vec<PlannedWrite>,
+    prefix: &str,
+    suffix: &str,
+    bytes: Vec<u8>,
+) -> Result<(), AllocError>
+    ensures { OnOk result (writes_of writes.new.items ≡ writes_of writes.old.items ++ file_of prefix.now suffix.now bytes.items ∷ []) }
+{
+    let path = path_behind(alloc, prefix, suffix)?;
+    writes.push(PlannedWrite { path, bytes })?;
+    Ok(())
+}

@@ -1,0 +1,3 @@
+pub mod MapPlanned
+pub mod OpenLines
+pub mod TwinPlanned
