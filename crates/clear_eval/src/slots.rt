@@ -5,9 +5,10 @@ ghost use Rattle.language_model.specs.Values.{Value as Meant, plain, default_wor
 ghost use Rattle.language_model.specs.Evaluation.{put, slot_shape, stored};
 ghost use Rattle.value_steps.specs.Steps.{Does};
 ghost use Rattle.value_steps.specs.Views.{value_seen, stage_seen};
-ghost use Rattle.clear_eval.specs.inner.Views.{frame_seen, goes_on};
+ghost use Rattle.clear_eval.specs.inner.Views.{frame_seen, flow_seen};
 ghost use Rattle.clear_eval.specs.inner.Elements.{with_element_in};
 
+use crate::flow::Flow;
 use crate::place::StatementContext;
 use reached_instances::{slot_is_private, slot_shape};
 use std::alloc::{AllocError, Global};
@@ -66,7 +67,7 @@ pub struct ArrayPlace {
     pub slot: usize,
 }
 
-/// Changes an element of the array in a slot. The array is written in place.
+/// Changes an element of the array in a slot, and goes on. The array is written in place.
 pub fn set_element(
     alloc: Global,
     stage: &mut Stage<'_>,
@@ -74,9 +75,9 @@ pub fn set_element(
     place: ArrayPlace,
     index: &Value,
     element: &Value,
-) -> Result<(), Halt>
+) -> Result<Flow, Halt>
     requires { place.slot < length frame.old.items }
-    ensures step { Does (goes_on frame.new.items)
+    ensures step { Does (flow_seen frame.new.items)
         (with_element_in place.line place.slot (value_seen index.now) (value_seen element.now) (frame_seen frame.old.items))
         (stage_seen stage.old) result (stage_seen stage.new) }
     ensures slots { length frame.new.items ≡ length frame.old.items }
@@ -85,10 +86,10 @@ pub fn set_element(
     let array = taken(alloc, frame, place.slot);
     let array = with_element(stage, place.line, array, index, element)?;
     put(frame, place.slot, array);
-    Ok(())
+    Ok(Flow::Goes)
 }
 
-/// Stores a value in a whole variable, classified before where this is private.
+/// Stores a value in a whole variable, classified before where this is private, and goes on.
 pub fn store(
     alloc: Global,
     at: &StatementContext<'_>,
@@ -96,9 +97,9 @@ pub fn store(
     frame: &mut Vec<Value>,
     slot: usize,
     value: Value,
-) -> Result<(), Halt>
+) -> Result<Flow, Halt>
     requires { slot < length frame.old.items }
-    ensures step { Does (goes_on frame.new.items) (stored (setting at.now.here) slot (value_seen value) (frame_seen frame.old.items))
+    ensures step { Does (flow_seen frame.new.items) (stored (setting at.now.here) slot (value_seen value) (frame_seen frame.old.items))
         (stage_seen stage.old) result (stage_seen stage.new) }
     ensures slots { length frame.new.items ≡ length frame.old.items }
     ensures spends { stage.new.left ≤ stage.old.left }
@@ -106,5 +107,5 @@ pub fn store(
     let value = wanted(alloc, stage, slot_is_private(&at.here, slot), value)?;
     charged(stage, value.size())?;
     put(frame, slot, value);
-    Ok(())
+    Ok(Flow::Goes)
 }

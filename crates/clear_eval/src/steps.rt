@@ -143,8 +143,7 @@ pub fn plain(
         TypedStatement::Return(None) => Ok(Flow::Returns(Value::unread(around.alloc)?)),
         TypedStatement::StoreDefault(slot) => {
             let value = default_value(around.alloc, &around.at, *slot)?;
-            store(around.alloc, &around.at, stage, frame, *slot, value)?;
-            Ok(Flow::Goes)
+            store(around.alloc, &around.at, stage, frame, *slot, value)
         }
         TypedStatement::Input(line, slot, name) => {
             let asked = Asked {
@@ -153,8 +152,7 @@ pub fn plain(
                 shape: slot_shape(&around.at.here, *slot),
             };
             let value = asked_for(around.alloc, around.world, stage, asked, name)?;
-            store(around.alloc, &around.at, stage, frame, *slot, value)?;
-            Ok(Flow::Goes)
+            store(around.alloc, &around.at, stage, frame, *slot, value)
         }
         _ => unreachable!(),
     }
@@ -186,8 +184,7 @@ pub fn with_one(
             Ok(Flow::Goes)
         }
         TypedStatement::Store(slot, _) => {
-            store(around.alloc, &around.at, stage, frame, *slot, x)?;
-            Ok(Flow::Goes)
+            store(around.alloc, &around.at, stage, frame, *slot, x)
         }
         TypedStatement::Publish(name, _) => {
             published(around.alloc, around.world, stage, name, &x)?;
@@ -238,8 +235,7 @@ pub fn with_two(
                 line: *line,
                 slot: *slot,
             };
-            set_element(around.alloc, stage, frame, place, &x, &element)?;
-            Ok(Flow::Goes)
+            set_element(around.alloc, stage, frame, place, &x, &element)
         }
         _ => Ok(Flow::Goes),
     }

@@ -4,6 +4,7 @@ pub mod Missing
 pub mod Sequences
 pub mod Blocks
 pub mod Calls
+pub mod Arguments
 pub mod Counts
 pub mod Reading
 pub mod SoundValues

@@ -149,8 +149,7 @@ fn looped<'p>(
     let condition = condition_of(alloc, declarations, place, head.condition)?;
     let step = Box::new(alloc, stepped(alloc, declarations, place, head.step)?)?;
     let body = inside(alloc, declarations, place, body)?;
-    let mut both = Vec::new(alloc);
-    both.push(start)?;
-    both.push(TypedStatement::Loop(condition, step, body))?;
+    let turns = TypedStatement::Loop(condition, step, body);
+    let both = Vec::from_array(alloc, [start, turns])?;
     Ok(TypedStatement::Block(both))
 }

@@ -11,7 +11,7 @@ ghost use Rattle.name_resolution.specs.Values.{made, of_both, only, pair, variab
 ghost use Rattle.name_resolution.specs.Values.{operation_node, operation, shape_returned, tree_of_value, built_in_value, called, value, values};
 ghost use Rattle.name_resolution.specs.Values.{call_made};
 ghost use Rattle.name_resolution.specs.Answer.{Answers};
-ghost use Rattle.name_resolution.specs.inner.Views.{valued, values_seen, pair_seen, call_seen};
+ghost use Rattle.name_resolution.specs.inner.Views.{valued, operand_seen, values_seen, pair_seen, call_seen};
 
 use crate::choosing::{may_cut_short, operator_on};
 use crate::resolve_err::ResolveErr;
@@ -33,6 +33,21 @@ pub struct Valued {
 pub struct CallMade {
     pub tree: TypedExpression,
     pub gives: Option<Shape>,
+}
+
+/// An operand: an expression that gives a value, in a box, and the shape of the value.
+#[derive(Drop)]
+pub struct OperandMade {
+    pub tree: Box<TypedExpression>,
+    pub shape: Shape,
+}
+
+fn boxed(alloc: Global, value: Valued) -> Result<OperandMade, ResolveErr>
+    ensures { Answers operand_seen result (Some (valued value)) }
+{
+    let shape = value.shape;
+    let tree = Box::new(alloc, value.tree)?;
+    Ok(OperandMade { tree, shape })
 }
 
 fn scalar(tree: TypedExpression, element: DataType) -> Valued
@@ -59,75 +74,73 @@ fn variable<'p>(variables: &Variables<'p>, name: &'p str) -> Result<Valued, Reso
     }
 }
 
-fn element(alloc: Global, line: u32, array: Valued, position: Valued) -> Result<Valued, ResolveErr>
-    ensures { Answers valued result (element_value line (valued array) (valued position)) }
+fn element(line: u32, array: OperandMade, position: OperandMade) -> Valued
+    ensures { Some (valued result) ≡ element_value line (operand_seen array) (operand_seen position) }
 {
-    let position = Box::new(alloc, position.tree)?;
     let element = array.shape.element;
-    let array = Box::new(alloc, array.tree)?;
-    Ok(scalar(TypedExpression::Element(line, array, position), element))
+    scalar(
+        TypedExpression::Element(line, array.tree, position.tree),
+        element,
+    )
 }
 
-fn negated(alloc: Global, operand: Valued) -> Result<Valued, ResolveErr>
-    ensures { Answers valued result (Some (negated (valued operand))) }
+fn negated(operand: OperandMade) -> Valued
+    ensures { valued result ≡ negated (operand_seen operand) }
 {
-    let shape = operand.shape;
-    let tree = TypedExpression::Not(Box::new(alloc, operand.tree)?);
-    Ok(Valued { tree, shape })
+    Valued {
+        tree: TypedExpression::Not(operand.tree),
+        shape: operand.shape,
+    }
 }
 
-fn cast(alloc: Global, element: DataType, operand: Valued) -> Result<Valued, ResolveErr>
-    ensures { Answers valued result (Some (cast_value element (valued operand))) }
+fn cast(element: DataType, operand: OperandMade) -> Valued
+    ensures { valued result ≡ cast_value element (operand_seen operand) }
 {
     let shape = operand.shape;
     let cast = Cast::between(shape.element, element);
-    let tree = TypedExpression::Cast(cast, Box::new(alloc, operand.tree)?);
-    Ok(Valued {
-        tree,
+    Valued {
+        tree: TypedExpression::Cast(cast, operand.tree),
         shape: Shape {
             element,
             array: shape.array,
         },
-    })
+    }
 }
 
-fn declassified(alloc: Global, operand: Valued) -> Result<Valued, ResolveErr>
-    ensures { Answers valued result (Some (declassified_value (valued operand))) }
+fn declassified(operand: OperandMade) -> Valued
+    ensures { valued result ≡ declassified_value (operand_seen operand) }
 {
-    let shape = operand.shape;
-    let tree = TypedExpression::Declassify(Box::new(alloc, operand.tree)?);
-    Ok(Valued { tree, shape })
+    Valued {
+        tree: TypedExpression::Declassify(operand.tree),
+        shape: operand.shape,
+    }
 }
 
 // The node of an operator between two operands.
 fn operation_node(
-    alloc: Global,
     line: u32,
     sign: Operator,
     operator: BinaryOperator,
-    left: Valued,
-    right: Valued,
-) -> Result<TypedExpression, AllocError>
-    ensures { IfOk result (λ t. typed_tree t ≡ operation_node line operator (valued left) (valued right)
-        (may_cut_short sign (operands_of left.shape.array right.shape.array))) }
+    left: OperandMade,
+    right: OperandMade,
+) -> TypedExpression
+    ensures { typed_tree result ≡ operation_node line operator (operand_seen left) (operand_seen right)
+        (may_cut_short sign (operands_of left.shape.array right.shape.array)) }
 {
     let operands = Operands::of(left.shape.array, right.shape.array);
-    let left = Box::new(alloc, left.tree)?;
-    let right = Box::new(alloc, right.tree)?;
     match may_cut_short(sign, operands) {
-        Some(connective) => Ok(TypedExpression::CutShort(connective, left, right)),
-        None => Ok(TypedExpression::Binary(line, operator, operands, left, right)),
+        Some(connective) => TypedExpression::CutShort(connective, left.tree, right.tree),
+        None => TypedExpression::Binary(line, operator, operands, left.tree, right.tree),
     }
 }
 
 fn operation(
-    alloc: Global,
     line: u32,
     sign: Operator,
-    left: Valued,
-    right: Valued,
+    left: OperandMade,
+    right: OperandMade,
 ) -> Result<Valued, ResolveErr>
-    ensures { Answers valued result (operation line sign (valued left) (valued right)) }
+    ensures { Answers valued result (operation line sign (operand_seen left) (operand_seen right)) }
 {
     match operator_on(sign, left.shape.element, right.shape.element) {
         None => Err(ResolveErr::Unresolved),
@@ -136,7 +149,7 @@ fn operation(
                 element: operator.result(),
                 array: left.shape.array || right.shape.array,
             };
-            let tree = operation_node(alloc, line, sign, operator, left, right)?;
+            let tree = operation_node(line, sign, operator, left, right);
             Ok(Valued { tree, shape })
         }
     }
@@ -162,13 +175,13 @@ fn shape_returned(returned: &ResultType) -> Option<Shape>
 }
 
 // The one value.
-fn only(values: Vec<Valued>) -> Result<Valued, ResolveErr>
-    ensures { Answers valued result (only (map valued values.items)) }
+fn only(alloc: Global, values: Vec<Valued>) -> Result<OperandMade, ResolveErr>
+    ensures { Answers operand_seen result (only (map valued values.items)) }
 {
     let mut values = values;
     match values.pop() {
         Some(value) => if values.is_empty() {
-            Ok(value)
+            boxed(alloc, value)
         } else {
             Err(ResolveErr::Unresolved)
         },
@@ -177,13 +190,14 @@ fn only(values: Vec<Valued>) -> Result<Valued, ResolveErr>
 }
 
 // The two values.
-fn pair(values: Vec<Valued>) -> Result<(Valued, Valued), ResolveErr>
+fn pair(alloc: Global, values: Vec<Valued>) -> Result<(OperandMade, OperandMade), ResolveErr>
     ensures { Answers pair_seen result (pair (map valued values.items)) }
 {
     let mut values = values;
     match values.pop() {
         Some(second) => {
-            let first = only(values)?;
+            let first = only(alloc, values)?;
+            let second = boxed(alloc, second)?;
             Ok((first, second))
         }
         None => Err(ResolveErr::Unresolved),
@@ -200,23 +214,24 @@ fn built_in(
 {
     match function {
         BuiltIn::Size => {
-            let array = Box::new(alloc, only(arguments)?.tree)?;
-            Ok(scalar(TypedExpression::Size(array), DataType::Uint64))
+            let array = only(alloc, arguments)?;
+            Ok(scalar(TypedExpression::Size(array.tree), DataType::Uint64))
         }
         BuiltIn::Cat => {
-            let (first, second) = pair(arguments)?;
+            let (first, second) = pair(alloc, arguments)?;
             let element = first.shape.element;
-            let first = Box::new(alloc, first.tree)?;
-            let tree = TypedExpression::Cat(line, first, Box::new(alloc, second.tree)?);
-            Ok(array(tree, element))
+            Ok(array(TypedExpression::Cat(line, first.tree, second.tree), element))
         }
         BuiltIn::Sum => {
-            let array = Box::new(alloc, only(arguments)?.tree)?;
-            Ok(scalar(TypedExpression::Sum(array), DataType::Uint64))
+            let array = only(alloc, arguments)?;
+            Ok(scalar(TypedExpression::Sum(array.tree), DataType::Uint64))
         }
         BuiltIn::BitExtract => {
-            let words = Box::new(alloc, only(arguments)?.tree)?;
-            Ok(array(TypedExpression::BitExtract(line, words), DataType::Bool))
+            let words = only(alloc, arguments)?;
+            Ok(array(
+                TypedExpression::BitExtract(line, words.tree),
+                DataType::Bool,
+            ))
         }
     }
 }
@@ -322,30 +337,44 @@ pub fn value<'p>(
             }
         }
         Expression::Index(place, array, position) => {
-            let array = value(alloc, declarations, variables, array)?;
-            let position = value(alloc, declarations, variables, position)?;
-            element(alloc, place.line, array, position)
+            let array = operand(alloc, declarations, variables, array)?;
+            let position = operand(alloc, declarations, variables, position)?;
+            Ok(element(place.line, array, position))
         }
         Expression::Parentheses(_, inner) => value(alloc, declarations, variables, inner),
-        Expression::Not(_, operand) => {
-            let operand = value(alloc, declarations, variables, operand)?;
-            negated(alloc, operand)
+        Expression::Not(_, inner) => {
+            let operand = operand(alloc, declarations, variables, inner)?;
+            Ok(negated(operand))
         }
-        Expression::Cast(_, element, operand) => {
-            let operand = value(alloc, declarations, variables, operand)?;
-            cast(alloc, *element, operand)
+        Expression::Cast(_, element, inner) => {
+            let operand = operand(alloc, declarations, variables, inner)?;
+            Ok(cast(*element, operand))
         }
         Expression::Binary(place, sign, left, right) => {
-            let left = value(alloc, declarations, variables, left)?;
-            let right = value(alloc, declarations, variables, right)?;
-            operation(alloc, place.line, *sign, left, right)
+            let left = operand(alloc, declarations, variables, left)?;
+            let right = operand(alloc, declarations, variables, right)?;
+            operation(place.line, *sign, left, right)
         }
-        Expression::Declassify(_, operand) => {
-            let operand = value(alloc, declarations, variables, operand)?;
-            declassified(alloc, operand)
+        Expression::Declassify(_, inner) => {
+            let operand = operand(alloc, declarations, variables, inner)?;
+            Ok(declassified(operand))
         }
         Expression::Argument(_, _) | Expression::Publish(_, _, _) => Err(ResolveErr::Unresolved),
     }
+}
+
+// An operand.
+#[cycle(values)]
+fn operand<'p>(
+    alloc: Global,
+    declarations: &Declarations<'p>,
+    variables: &Variables<'p>,
+    e: &'p Expression,
+) -> Result<OperandMade, ResolveErr>
+    ensures { Answers operand_seen result (value (declared declarations.now) variables.now (expression e.now)) }
+{
+    let value = value(alloc, declarations, variables, e)?;
+    boxed(alloc, value)
 }
 
 // The arguments of a call.

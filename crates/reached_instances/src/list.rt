@@ -1,18 +1,25 @@
 // The list of the reached instances, with the number of each.
-ghost use Rattle.std.specs.Prelude.{◌≡◌, List};
+ghost use Rattle.std.specs.Prelude.{◌≡◌, [], List, OnOk};
 ghost use Rattle.reached_instances.specs.Instances as listed;
-ghost use Rattle.reached_instances.specs.Instances.{instance_seen, number_in};
+ghost use Rattle.reached_instances.specs.Instances.{instance_seen, listing_all, number_in};
 ghost use Rattle.reached_instances.specs.Views.{instances_seen};
 
 use crate::instance::Instance;
 use indexmap::IndexSet;
+use std::alloc::{AllocError, Global};
 use std::marker::Model;
 
 /// The instances that `main` reaches, each once, in the order in which they are first called; `main` is number 0. Clauses see
 /// the list.
-#[derive(Drop)]
 pub struct ReachedInstances {
     list: IndexSet<Instance>,
+}
+
+// Written out, so that an early exit calls this once.
+impl Drop for ReachedInstances {
+    fn drop(self) {
+        let ReachedInstances { list: _ } = self;
+    }
 }
 
 impl Model for ReachedInstances {
@@ -22,11 +29,23 @@ impl Model for ReachedInstances {
 }
 
 impl ReachedInstances {
-    /// These instances.
-    pub(crate) fn new(list: IndexSet<Instance>) -> ReachedInstances
-        ensures { result ≡ instances_seen list.keys }
+    /// No instances.
+    pub(crate) fn new(alloc: Global) -> ReachedInstances
+        ensures { result ≡ [] }
     {
-        ReachedInstances { list }
+        ReachedInstances {
+            list: IndexSet::new(alloc),
+        }
+    }
+
+    /// Lists instances that are called; those that are listed already stay where they are.
+    pub(crate) fn list_all(&mut self, found: Vec<Instance>) -> Result<(), AllocError>
+        ensures { OnOk result (self.new ≡ listing_all self.old (instances_seen found.items)) }
+    {
+        for instance in found {
+            self.list.insert(instance)?;
+        }
+        Ok(())
     }
 
     /// The instances in their order.

@@ -26,9 +26,6 @@ flow_seen vs (flow.Returns v) = returns (value_seen v)
 flow_seen vs flow.Stops = stops (frame_seen vs)
 flow_seen vs flow.Skips = skips (frame_seen vs)
 
-abbrev pub goes_on : List held.Value → Unit {0} → Flow
-goes_on vs u = goes (frame_seen vs)
-
 abbrev pub values_seen : Vec held.Value Global → List Value
 values_seen vs = map value_seen vs.items
 

@@ -7,6 +7,7 @@ use Rattle.secrec_ast.specs.declared.statement.DeclaredType.{DeclaredType}
 use Rattle.secrec_ast.specs.Programs.{FunctionTree}
 use Rattle.declarations.specs.Views.{tree_at}
 use Rattle.name_resolution.specs.declared.values.Valued.{Valued}
+use Rattle.name_resolution.specs.declared.values.OperandMade.{OperandMade}
 use Rattle.name_resolution.specs.declared.values.CallMade.{CallMade}
 use Rattle.name_resolution.specs.declared.found.CalledFunctions.{CalledFunctions}
 use Rattle.name_resolution.specs.declared.place.FunctionScope.{FunctionScope}
@@ -22,8 +23,11 @@ use Rattle.name_resolution.specs.Values.{TypedValue, TypedCall}
 abbrev pub valued : Valued → TypedValue
 valued v = record { tree = typed_tree v.tree; shape = v.shape }
 
-abbrev pub pair_seen : Valued × Valued → TypedValue × TypedValue
-pair_seen p = (valued p.0, valued p.1)
+abbrev pub operand_seen : OperandMade → TypedValue
+operand_seen o = record { tree = typed_tree o.tree.value; shape = o.shape }
+
+abbrev pub pair_seen : OperandMade × OperandMade → TypedValue × TypedValue
+pair_seen p = (operand_seen p.0, operand_seen p.1)
 
 abbrev pub values_seen : Vec Valued Global → List TypedValue
 values_seen vs = map valued vs.items

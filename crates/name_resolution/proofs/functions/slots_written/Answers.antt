@@ -1,6 +1,6 @@
 use Rattle.std.proofs.Common.{◌+◌, [], ◌∷◌, ◌≡◌, ◌++◌, ap, ◌∙◌, sym, take, get_or, Some}
 use Rattle.std.specs.Prelude.{map}
-use Rattle.std.proofs.lemmas.List.{take_more, map-append}
+use Rattle.std.proofs.lemmas.List.{take_all, take_more, map-append}
 use Rattle.declarations.specs.Views.{declared}
 use Rattle.name_resolution.specs.Functions.{slots_written}
 use Rattle.name_resolution.specs.inner.Views.{type_at}
@@ -30,3 +30,8 @@ returns-in-None c =
     ap (λ l. slots_written d vs (map type_at l)) (sym c.deref-each-items.ensures.value)
     ∙ slots_none d vs c.deref-each-items.result.now c.loop-each.each-index c.each-item.result c.loop-each-test.true c.each-item.is
     (sym c.slot_written.ensures ∙ c.in-None.is)
+
+pub returns : goal.returns
+returns c =
+    let all = take_all c.loop-each.each-index c.deref-each-items.result.now c.loop-each-test.false ∙ c.deref-each-items.ensures.value in
+    ap (λ l. slots_written (declared c.args.declarations.now) c.args.variables.now (map type_at l)) (sym all) ∙ c.loop-each.invariant

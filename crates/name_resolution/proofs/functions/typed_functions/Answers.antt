@@ -1,6 +1,6 @@
 use Rattle.std.proofs.Common.{◌+◌, [], ◌∷◌, ◌≡◌, ◌++◌, ap, ◌∙◌, sym, take, get_or, Some, None}
 use Rattle.std.specs.Prelude.{map}
-use Rattle.std.proofs.lemmas.List.{take_more, map-append}
+use Rattle.std.proofs.lemmas.List.{take_all, take_more, map-append}
 use Rattle.declarations.specs.Views.{declared, tree_at}
 use Rattle.typed_tree.specs.Programs.{typed_function_tree}
 use Rattle.name_resolution.specs.Functions.{typed_function, typed_functions}
@@ -34,3 +34,8 @@ returns-in_err-next c =
     ∙ functions_none d xs c.loop-each.each-index x c.loop-each-test.true c.each-item.is e in
     passed_on typed_function_tree functions_seen c.in_err-next.field-0.0
     (typed_function d (tree_at x)) _ c.from_residual.result c.from_residual.ensures.1 none c.in_err-next.ensures
+
+pub returns : goal.returns
+returns c =
+    let all = take_all c.loop-each.each-index c.deref-each-items.result.now c.loop-each-test.false ∙ c.deref-each-items.ensures.value in
+    ap (λ l. typed_functions (declared c.args.declarations.now) (map tree_at l)) (sym all) ∙ c.loop-each.invariant

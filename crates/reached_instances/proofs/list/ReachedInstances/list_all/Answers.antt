@@ -4,16 +4,15 @@ use Rattle.reached_instances.specs.Views.{instances_seen}
 use Rattle.reached_instances.proofs.Growing.{map_one}
 use Rattle.reached_instances.proofs.Listing.{listing_all-append}
 use Rattle.reached_instances.proofs.Keys.{key_listed}
-use Rattle.reached_instances.proofs.reaching.list_all.Goals as goal
+use Rattle.reached_instances.proofs.list.ReachedInstances.list_all.Goals as goal
 
 pub loop-instance-preserved : goal.loop-instance-preserved
 loop-instance-preserved c =
     let i = c.in-Some.instance in
-    let ks = c.loop-instance.list.keys in
-    let before = instances_seen c.args.list.now.keys in
+    let before = c.args.self.now in
     let listed = instances_seen c.loop-instance.yielded in
     ap instances_seen c.in_ok-insert.ensures.keys
-    ∙ key_listed ks i
+    ∙ key_listed c.loop-instance.self-inside.list.keys i
     ∙ ap (λ l. listing l (instance_seen i)) c.loop-instance.invariant
     ∙ sym (listing_all-append before listed (instance_seen i ∷ []))
     ∙ ap (listing_all before) (sym (map_one instance_seen c.loop-instance.yielded i))
