@@ -3,30 +3,9 @@ ghost use Rattle.std.specs.Prelude.{◌≡◌, IfOk, map};
 ghost use Rattle.bytecode.specs.InMemory.{raw_code, raw_function, raw_instruction};
 
 use crate::code::{Code, CodeFunction};
-use crate::instruction::{Instruction, Register};
-use crate::kind::Kind;
+use crate::instruction::Instruction;
 use sc_text::Name;
 use std::alloc::{AllocError, Global};
-
-fn copy_registers(alloc: Global, registers: &[Register]) -> Result<Vec<Register>, AllocError>
-    ensures { IfOk result (λ copies. copies.items ≡ registers.now) }
-{
-    let mut copies = Vec::with_capacity(alloc, registers.len())?;
-    for register in registers {
-        copies.push(*register)?;
-    }
-    Ok(copies)
-}
-
-fn copy_kinds(alloc: Global, kinds: &[Kind]) -> Result<Vec<Kind>, AllocError>
-    ensures { IfOk result (λ copies. copies.items ≡ kinds.now) }
-{
-    let mut copies = Vec::with_capacity(alloc, kinds.len())?;
-    for kind in kinds {
-        copies.push(*kind)?;
-    }
-    Ok(copies)
-}
 
 fn copy_names(alloc: Global, names: &[Name]) -> Result<Vec<Name>, AllocError>
     ensures { IfOk result (λ copies. copies.items ≡ names.now) }
@@ -171,7 +150,7 @@ impl Instruction {
                 arguments,
                 line,
             } => {
-                let arguments = copy_registers(alloc, arguments)?;
+                let arguments = Vec::from_slice(alloc, arguments)?;
                 Ok(Instruction::Call {
                     function: *function,
                     to: *to,
@@ -200,7 +179,7 @@ impl CodeFunction {
     pub fn copy(&self, alloc: Global) -> Result<CodeFunction, AllocError>
         ensures { IfOk result (λ copy. raw_function copy ≡ raw_function self.now) }
     {
-        let registers = copy_kinds(alloc, &self.registers)?;
+        let registers = Vec::from_slice(alloc, &self.registers)?;
         let body = copy_body(alloc, &self.body)?;
         Ok(CodeFunction {
             parameters: self.parameters,
