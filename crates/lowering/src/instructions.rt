@@ -1,5 +1,5 @@
 // The instruction of a step, where its numbers are small enough.
-ghost use Rattle.std.specs.Prelude.{◌≡◌, ◌++◌, ◌∷◌, [], IfErr, IfOk, OnOk, map};
+ghost use Rattle.std.specs.Prelude.{◌≡◌, ◌++◌, IfErr, IfOk, map};
 ghost use Rattle.std.specs.List.{flat_map, list_all};
 ghost use Rattle.bytecode.specs.InMemory.{operator_byte, raw_function, raw_instruction, result_register};
 ghost use Rattle.bytecode.specs.Written.{body_numbers, head_numbers, instruction_numbers};
@@ -11,6 +11,7 @@ ghost use Rattle.lowering.specs.inner.Views.{function_seen};
 
 use crate::errors::LowerErr;
 use crate::functions::FunctionSteps;
+use crate::lists::push;
 use crate::naming::{Names, place_among};
 use bytecode::{CodeFunction, FunctionPlace, Instruction, JumpTarget, NamePlace, Register};
 use lowered_expressions::Step;
@@ -358,13 +359,6 @@ fn instruction(alloc: Global, names: &Names<'_>, step: &Step<'_>) -> Result<Inst
         return Err(LowerErr::TooLarge);
     }
     Ok(capped_instruction(alloc, names, step)?)
-}
-
-fn push(body: &mut Vec<Instruction>, instruction: Instruction) -> Result<(), AllocError>
-    ensures { OnOk result (map raw_instruction body.new.items ≡ map raw_instruction body.old.items ++ raw_instruction instruction ∷ []) }
-{
-    body.push(instruction)?;
-    Ok(())
 }
 
 // The instructions of steps.
