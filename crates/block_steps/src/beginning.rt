@@ -39,18 +39,9 @@ pub fn begin<P: Party>(
     ensures unread { OnOk result (IsBeside links.old links.new) }
 {
     match exchange {
-        Exchange::Product(ring) => {
-            let block = begin_product(ring, u, v, words, links)?;
-            Ok(Progress::Goes(block))
-        }
-        Exchange::Opening(ring) => {
-            let block = begin_opening(ring, u, words, links)?;
-            Ok(Progress::Goes(block))
-        }
-        Exchange::Resharing(ring) => {
-            let block = begin_resharing(ring, u, words, links)?;
-            Ok(Progress::Goes(block))
-        }
+        Exchange::Product(ring) => begin_product(ring, u, v, words, links),
+        Exchange::Opening(ring) => begin_opening(ring, u, words, links),
+        Exchange::Resharing(ring) => begin_resharing(ring, u, words, links),
         Exchange::Conversion => {
             let state = converting::begin(u, words, links)?;
             Ok(Progress::Goes(Pending::Conversion(state)))
@@ -66,17 +57,24 @@ fn begin_product<P: Party>(
     v: &[u64],
     words: &[u64],
     links: &mut Links,
-) -> Result<Pending<P>, AllocError>
+) -> Result<Progress<Pending<P>, P>, AllocError>
     requires short { length u.now ≤ 512 }
     requires second { length v.now ≡ length u.now }
     requires drawn { length words.now ≡ 3 * length u.now }
-    ensures same { IfOk result (λ to. outcome_of P.me links.new (pending_left P.me to)
+    ensures same { IfOk result (λ to. outcome_of P.me links.new (progress_left (pending_left P.me) to)
         ≡ outcome_of P.me links.old (mul_strand (ring_of ring) (length u.now) P.me u.now v.now words.now)) }
+    ensures begins { IfOk result HasBegun }
     ensures unread { OnOk result (IsBeside links.old links.new) }
 {
     match ring {
-        RingKind::Arithmetic => Ok(Pending::Numbers(multiplying::begin(u, v, words, links)?)),
-        RingKind::Boolean => Ok(Pending::Bits(multiplying::begin(u, v, words, links)?)),
+        RingKind::Arithmetic => {
+            let block = multiplying::begin(u, v, words, links)?;
+            Ok(Progress::Goes(Pending::Numbers(block)))
+        }
+        RingKind::Boolean => {
+            let block = multiplying::begin(u, v, words, links)?;
+            Ok(Progress::Goes(Pending::Bits(block)))
+        }
     }
 }
 
@@ -86,16 +84,23 @@ fn begin_opening<P: Party>(
     u: &[u64],
     words: &[u64],
     links: &mut Links,
-) -> Result<Pending<P>, AllocError>
+) -> Result<Progress<Pending<P>, P>, AllocError>
     requires short { length u.now ≤ 512 }
     requires drawn { length words.now ≡ length u.now }
-    ensures same { IfOk result (λ to. outcome_of P.me links.new (pending_left P.me to)
+    ensures same { IfOk result (λ to. outcome_of P.me links.new (progress_left (pending_left P.me) to)
         ≡ outcome_of P.me links.old (open_strand (ring_of ring) (length u.now) P.me u.now words.now)) }
+    ensures begins { IfOk result HasBegun }
     ensures unread { OnOk result (IsBeside links.old links.new) }
 {
     match ring {
-        RingKind::Arithmetic => Ok(Pending::Numbers(opening::begin(u, words, links)?)),
-        RingKind::Boolean => Ok(Pending::Bits(opening::begin(u, words, links)?)),
+        RingKind::Arithmetic => {
+            let block = opening::begin(u, words, links)?;
+            Ok(Progress::Goes(Pending::Numbers(block)))
+        }
+        RingKind::Boolean => {
+            let block = opening::begin(u, words, links)?;
+            Ok(Progress::Goes(Pending::Bits(block)))
+        }
     }
 }
 
@@ -105,16 +110,23 @@ fn begin_resharing<P: Party>(
     u: &[u64],
     words: &[u64],
     links: &mut Links,
-) -> Result<Pending<P>, AllocError>
+) -> Result<Progress<Pending<P>, P>, AllocError>
     requires short { length u.now ≤ 512 }
     requires drawn { length words.now ≡ length u.now }
-    ensures same { IfOk result (λ to. outcome_of P.me links.new (pending_left P.me to)
+    ensures same { IfOk result (λ to. outcome_of P.me links.new (progress_left (pending_left P.me) to)
         ≡ outcome_of P.me links.old (reshare_strand (ring_of ring) (length u.now) P.me u.now words.now)) }
+    ensures begins { IfOk result HasBegun }
     ensures unread { OnOk result (IsBeside links.old links.new) }
 {
     match ring {
-        RingKind::Arithmetic => Ok(Pending::Numbers(resharing::begin(u, words, links)?)),
-        RingKind::Boolean => Ok(Pending::Bits(resharing::begin(u, words, links)?)),
+        RingKind::Arithmetic => {
+            let block = resharing::begin(u, words, links)?;
+            Ok(Progress::Goes(Pending::Numbers(block)))
+        }
+        RingKind::Boolean => {
+            let block = resharing::begin(u, words, links)?;
+            Ok(Progress::Goes(Pending::Bits(block)))
+        }
     }
 }
 

@@ -7,7 +7,7 @@ use Rattle.bytecode.specs.Layouts.{behind, Layout, Makes, Field, BadTag, read}
 use Rattle.bytecode.specs.Decoded.{operands, short_layout, repeated, any, is_operator, is_truth}
 use Rattle.bytecode.specs.declared.fault.Stopped.{Stopped}
 use Rattle.bytecode.specs.inner.Reading.{optional, Stops}
-use Rattle.bytecode.proofs.Reading.{step_ok, step_stops, seven, seven_ok, seven_stops-6}
+use Rattle.bytecode.proofs.Reading.{step_ok, step_stops, seven, seven_ok, seven_stops-3, seven_stops-4, seven_stops-5, seven_stops-6}
 use Rattle.bytecode.specs.Writable.{arguments_at}
 use Rattle.bytecode.specs.inner.Tags.{tag_byte, operands_of, made, has_operator, has_first, has_truth, has_second, has_third, has_line, has_word}
 
@@ -105,6 +105,43 @@ operands_stop tag b0 b1 b2 b3 b4 b5 b6 x0 x1 x2 x3 x4 x5 t0 t1 t2 t3 t4 t5 t6 e 
     (optional b2 (Field BadTag 1 is_truth Makes)) (optional b3 (Field BadTag 2 any Makes)) (optional b4 (Field BadTag 2 any Makes))
     (optional b5 (Field BadTag 4 any Makes)) (optional b6 (Field BadTag 8 any Makes)) (made tag) x0 x1 x2 x3 x4 x5 t0 t1 t2 t3 t4 t5 t6 e r0 r1 r2
     r3 r4 r5 s)
+
+-- likewise at an earlier operand
+pub operands_stop-second : (tag : Tag) (b0 b1 b2 b3 : Bool) (x0 x1 x2 : ℕ) (t0 t1 t2 t3 : List ℕ) (e : Stopped) → b0 ≡ has_operator tag
+    → b1 ≡ has_first tag → b2 ≡ has_truth tag → b3 ≡ has_second tag → read (optional b0 (Field BadTag 1 is_operator Makes)) t0 ≡ Ok (x0, t1)
+    → read (optional b1 (Field BadTag 2 any Makes)) t1 ≡ Ok (x1, t2) → read (optional b2 (Field BadTag 1 is_truth Makes)) t2 ≡ Ok (x2, t3)
+    → Stops (read (optional b3 (Field BadTag 2 any Makes)) t3) e → Stops (read (operands_of tag) t0) e
+operands_stop-second tag b0 b1 b2 b3 x0 x1 x2 t0 t1 t2 t3 e e0 e1 e2 e3 r0 r1 r2 s =
+    subst (λ l. Stops (read l t0) e) (same_flags tag b0 b1 b2 b3 (has_third tag) (has_line tag) (has_word tag) e0 e1 e2 e3 refl refl refl)
+    (seven_stops-3 (optional b0 (Field BadTag 1 is_operator Makes)) (optional b1 (Field BadTag 2 any Makes))
+    (optional b2 (Field BadTag 1 is_truth Makes)) (optional b3 (Field BadTag 2 any Makes)) (optional (has_third tag) (Field BadTag 2 any Makes))
+    (optional (has_line tag) (Field BadTag 4 any Makes)) (optional (has_word tag) (Field BadTag 8 any Makes)) (made tag) x0 x1 x2 t0 t1 t2 t3 e
+    r0 r1 r2 s)
+
+pub operands_stop-third : (tag : Tag) (b0 b1 b2 b3 b4 : Bool) (x0 x1 x2 x3 : ℕ) (t0 t1 t2 t3 t4 : List ℕ) (e : Stopped) → b0 ≡ has_operator tag
+    → b1 ≡ has_first tag → b2 ≡ has_truth tag → b3 ≡ has_second tag → b4 ≡ has_third tag
+    → read (optional b0 (Field BadTag 1 is_operator Makes)) t0 ≡ Ok (x0, t1) → read (optional b1 (Field BadTag 2 any Makes)) t1 ≡ Ok (x1, t2)
+    → read (optional b2 (Field BadTag 1 is_truth Makes)) t2 ≡ Ok (x2, t3) → read (optional b3 (Field BadTag 2 any Makes)) t3 ≡ Ok (x3, t4)
+    → Stops (read (optional b4 (Field BadTag 2 any Makes)) t4) e → Stops (read (operands_of tag) t0) e
+operands_stop-third tag b0 b1 b2 b3 b4 x0 x1 x2 x3 t0 t1 t2 t3 t4 e e0 e1 e2 e3 e4 r0 r1 r2 r3 s =
+    subst (λ l. Stops (read l t0) e) (same_flags tag b0 b1 b2 b3 b4 (has_line tag) (has_word tag) e0 e1 e2 e3 e4 refl refl)
+    (seven_stops-4 (optional b0 (Field BadTag 1 is_operator Makes)) (optional b1 (Field BadTag 2 any Makes))
+    (optional b2 (Field BadTag 1 is_truth Makes)) (optional b3 (Field BadTag 2 any Makes)) (optional b4 (Field BadTag 2 any Makes))
+    (optional (has_line tag) (Field BadTag 4 any Makes)) (optional (has_word tag) (Field BadTag 8 any Makes)) (made tag) x0 x1 x2 x3 t0 t1 t2 t3 t4 e
+    r0 r1 r2 r3 s)
+
+pub operands_stop-line : (tag : Tag) (b0 b1 b2 b3 b4 b5 : Bool) (x0 x1 x2 x3 x4 : ℕ) (t0 t1 t2 t3 t4 t5 : List ℕ) (e : Stopped)
+    → b0 ≡ has_operator tag → b1 ≡ has_first tag → b2 ≡ has_truth tag → b3 ≡ has_second tag → b4 ≡ has_third tag → b5 ≡ has_line tag
+    → read (optional b0 (Field BadTag 1 is_operator Makes)) t0 ≡ Ok (x0, t1) → read (optional b1 (Field BadTag 2 any Makes)) t1 ≡ Ok (x1, t2)
+    → read (optional b2 (Field BadTag 1 is_truth Makes)) t2 ≡ Ok (x2, t3) → read (optional b3 (Field BadTag 2 any Makes)) t3 ≡ Ok (x3, t4)
+    → read (optional b4 (Field BadTag 2 any Makes)) t4 ≡ Ok (x4, t5) → Stops (read (optional b5 (Field BadTag 4 any Makes)) t5) e
+    → Stops (read (operands_of tag) t0) e
+operands_stop-line tag b0 b1 b2 b3 b4 b5 x0 x1 x2 x3 x4 t0 t1 t2 t3 t4 t5 e e0 e1 e2 e3 e4 e5 r0 r1 r2 r3 r4 s =
+    subst (λ l. Stops (read l t0) e) (same_flags tag b0 b1 b2 b3 b4 b5 (has_word tag) e0 e1 e2 e3 e4 e5 refl)
+    (seven_stops-5 (optional b0 (Field BadTag 1 is_operator Makes)) (optional b1 (Field BadTag 2 any Makes))
+    (optional b2 (Field BadTag 1 is_truth Makes)) (optional b3 (Field BadTag 2 any Makes)) (optional b4 (Field BadTag 2 any Makes))
+    (optional b5 (Field BadTag 4 any Makes)) (optional (has_word tag) (Field BadTag 8 any Makes)) (made tag) x0 x1 x2 x3 x4 t0 t1 t2 t3 t4 t5 e
+    r0 r1 r2 r3 r4 s)
 
 pub plain_unless_call : (tag : Tag) → (tag ≡ tags.Call → ⊥) → IsPlain tag
 plain_unless_call tags.Literal h = tt

@@ -3,30 +3,9 @@ ghost use Rattle.std.specs.Prelude.{◌≡◌, IfOk, map};
 ghost use Rattle.bytecode.specs.InMemory.{raw_code, raw_function, raw_instruction};
 
 use crate::code::{Code, CodeFunction};
-use crate::instruction::{Instruction, Register};
-use crate::kind::Kind;
+use crate::instruction::Instruction;
 use sc_text::Name;
 use std::alloc::{AllocError, Global};
-
-fn copy_registers(alloc: Global, registers: &[Register]) -> Result<Vec<Register>, AllocError>
-    ensures { IfOk result (λ copies. copies.items ≡ registers.now) }
-{
-    let mut copies = Vec::with_capacity(alloc, registers.len())?;
-    for register in registers {
-        copies.push(*register)?;
-    }
-    Ok(copies)
-}
-
-fn copy_kinds(alloc: Global, kinds: &[Kind]) -> Result<Vec<Kind>, AllocError>
-    ensures { IfOk result (λ copies. copies.items ≡ kinds.now) }
-{
-    let mut copies = Vec::with_capacity(alloc, kinds.len())?;
-    for kind in kinds {
-        copies.push(*kind)?;
-    }
-    Ok(copies)
-}
 
 fn copy_names(alloc: Global, names: &[Name]) -> Result<Vec<Name>, AllocError>
     ensures { IfOk result (λ copies. copies.items ≡ names.now) }
@@ -43,19 +22,10 @@ impl Instruction {
     pub fn copy(&self, alloc: Global) -> Result<Instruction, AllocError>
         ensures { IfOk result (λ copy. raw_instruction copy ≡ raw_instruction self.now) }
     {
-        match self {
-            Instruction::Literal { to, word } => Ok(Instruction::Literal {
-                to: *to,
-                word: *word,
-            }),
-            Instruction::Move { to, source } => Ok(Instruction::Move {
-                to: *to,
-                source: *source,
-            }),
-            Instruction::Store { to, source } => Ok(Instruction::Store {
-                to: *to,
-                source: *source,
-            }),
+        match *self {
+            Instruction::Literal { to, word } => Ok(Instruction::Literal { to, word }),
+            Instruction::Move { to, source } => Ok(Instruction::Move { to, source }),
+            Instruction::Store { to, source } => Ok(Instruction::Store { to, source }),
             Instruction::Binary {
                 operator,
                 to,
@@ -63,34 +33,25 @@ impl Instruction {
                 right,
                 line,
             } => Ok(Instruction::Binary {
-                operator: *operator,
-                to: *to,
-                left: *left,
-                right: *right,
-                line: *line,
+                operator,
+                to,
+                left,
+                right,
+                line,
             }),
-            Instruction::Not { to, source } => Ok(Instruction::Not {
-                to: *to,
-                source: *source,
-            }),
-            Instruction::Cast { to, source } => Ok(Instruction::Cast {
-                to: *to,
-                source: *source,
-            }),
-            Instruction::Classify { to, source } => Ok(Instruction::Classify {
-                to: *to,
-                source: *source,
-            }),
+            Instruction::Not { to, source } => Ok(Instruction::Not { to, source }),
+            Instruction::Cast { to, source } => Ok(Instruction::Cast { to, source }),
+            Instruction::Classify { to, source } => Ok(Instruction::Classify { to, source }),
             Instruction::Fill {
                 to,
                 size,
                 value,
                 line,
             } => Ok(Instruction::Fill {
-                to: *to,
-                size: *size,
-                value: *value,
-                line: *line,
+                to,
+                size,
+                value,
+                line,
             }),
             Instruction::At {
                 to,
@@ -98,10 +59,10 @@ impl Instruction {
                 index,
                 line,
             } => Ok(Instruction::At {
-                to: *to,
-                array: *array,
-                index: *index,
-                line: *line,
+                to,
+                array,
+                index,
+                line,
             }),
             Instruction::Put {
                 array,
@@ -109,77 +70,58 @@ impl Instruction {
                 value,
                 line,
             } => Ok(Instruction::Put {
-                array: *array,
-                index: *index,
-                value: *value,
-                line: *line,
+                array,
+                index,
+                value,
+                line,
             }),
-            Instruction::Size { to, source } => Ok(Instruction::Size {
-                to: *to,
-                source: *source,
-            }),
+            Instruction::Size { to, source } => Ok(Instruction::Size { to, source }),
             Instruction::Cat {
                 to,
                 left,
                 right,
                 line,
             } => Ok(Instruction::Cat {
-                to: *to,
-                left: *left,
-                right: *right,
-                line: *line,
+                to,
+                left,
+                right,
+                line,
             }),
-            Instruction::Sum { to, source } => Ok(Instruction::Sum {
-                to: *to,
-                source: *source,
-            }),
-            Instruction::Bits { to, source, line } => Ok(Instruction::Bits {
-                to: *to,
-                source: *source,
-                line: *line,
-            }),
-            Instruction::Declassify { to, source } => Ok(Instruction::Declassify {
-                to: *to,
-                source: *source,
-            }),
+            Instruction::Sum { to, source } => Ok(Instruction::Sum { to, source }),
+            Instruction::Bits { to, source, line } => Ok(Instruction::Bits { to, source, line }),
+            Instruction::Declassify { to, source } => Ok(Instruction::Declassify { to, source }),
             Instruction::Argument { to, name, line } => Ok(Instruction::Argument {
-                to: *to,
-                name: *name,
-                line: *line,
+                to,
+                name,
+                line,
             }),
-            Instruction::Publish { name, source } => Ok(Instruction::Publish {
-                name: *name,
-                source: *source,
-            }),
-            Instruction::Assert { condition, line } => Ok(Instruction::Assert {
-                condition: *condition,
-                line: *line,
-            }),
+            Instruction::Publish { name, source } => Ok(Instruction::Publish { name, source }),
+            Instruction::Assert { condition, line } => Ok(Instruction::Assert { condition, line }),
             Instruction::Branch {
                 condition,
                 value,
                 target,
             } => Ok(Instruction::Branch {
-                condition: *condition,
-                value: *value,
-                target: *target,
+                condition,
+                value,
+                target,
             }),
-            Instruction::Jump { target } => Ok(Instruction::Jump { target: *target }),
+            Instruction::Jump { target } => Ok(Instruction::Jump { target }),
             Instruction::Call {
                 function,
                 to,
-                arguments,
+                ref arguments,
                 line,
             } => {
-                let arguments = copy_registers(alloc, arguments)?;
+                let arguments = Vec::from_slice(alloc, arguments)?;
                 Ok(Instruction::Call {
-                    function: *function,
-                    to: *to,
+                    function,
+                    to,
                     arguments,
-                    line: *line,
+                    line,
                 })
             }
-            Instruction::Return { source } => Ok(Instruction::Return { source: *source }),
+            Instruction::Return { source } => Ok(Instruction::Return { source }),
             Instruction::ReturnNone => Ok(Instruction::ReturnNone),
         }
     }
@@ -200,7 +142,7 @@ impl CodeFunction {
     pub fn copy(&self, alloc: Global) -> Result<CodeFunction, AllocError>
         ensures { IfOk result (λ copy. raw_function copy ≡ raw_function self.now) }
     {
-        let registers = copy_kinds(alloc, &self.registers)?;
+        let registers = Vec::from_slice(alloc, &self.registers)?;
         let body = copy_body(alloc, &self.body)?;
         Ok(CodeFunction {
             parameters: self.parameters,

@@ -1,5 +1,5 @@
 // How a whole text is read.
-ghost use Rattle.std.specs.Prelude.{◌≡◌, ◌++◌, ◌∷◌, ◌-◌, [], IfOk, OnOk, map};
+ghost use Rattle.std.specs.Prelude.{◌≡◌, ◌-◌, IfOk, map};
 ghost use Rattle.bytecode.specs.declared.fault.DecodeErr.TheVariants.{Refused};
 ghost use Rattle.bytecode.specs.Decoded.{bodies_layout, code_layout, decoded};
 ghost use Rattle.bytecode.specs.Decoding.{IsDecoded, function_layout, opening_layout, settled, some_functions_layout};
@@ -10,6 +10,7 @@ ghost use Rattle.bytecode.specs.inner.Reading.{Reads};
 use crate::code::{Code, CodeFunction, MAGIC, VERSION};
 use crate::fault::{DecodeErr, DecodeFault, FaultKind, Stopped};
 use crate::heads::{Head, all_heads};
+use crate::lists::push;
 use crate::names::all_names;
 use crate::operands::body;
 use crate::reader::Reader;
@@ -25,20 +26,13 @@ fn opening(reader: &mut Reader<'_>) -> Result<(), Stopped>
     reader.expect(VERSION, FaultKind::BadVersion)
 }
 
-fn push_count(counts: &mut Vec<u16>, count: u16) -> Result<(), AllocError>
-    ensures { OnOk result (counts.new.items ≡ counts.old.items ++ count ∷ []) }
-{
-    counts.push(count)?;
-    Ok(())
-}
-
 /// How many parameters the functions have.
 fn parameters_of(alloc: Global, heads: &[Head]) -> Result<Vec<u16>, AllocError>
     ensures { IfOk result (λ counts. counts.items ≡ map (λ h. h.parameters) heads.now) }
 {
     let mut counts = Vec::new(alloc);
     for head in heads {
-        push_count(&mut counts, head.parameters)?;
+        push(&mut counts, head.parameters)?;
     }
     Ok(counts)
 }
@@ -60,16 +54,6 @@ fn function(
     })
 }
 
-fn push_function(
-    functions: &mut Vec<CodeFunction>,
-    function: CodeFunction,
-) -> Result<(), AllocError>
-    ensures { OnOk result (functions.new.items ≡ functions.old.items ++ function ∷ []) }
-{
-    functions.push(function)?;
-    Ok(())
-}
-
 fn bodies(
     alloc: Global,
     reader: &mut Reader<'_>,
@@ -81,7 +65,7 @@ fn bodies(
     let mut functions = Vec::new(alloc);
     for head in heads {
         let next = function(alloc, reader, parameters, head)?;
-        push_function(&mut functions, next)?;
+        push(&mut functions, next)?;
     }
     Ok(functions)
 }

@@ -1,5 +1,5 @@
 // How what stands of functions before their bodies is read.
-ghost use Rattle.std.specs.Prelude.{◌≡◌, ◌++◌, ◌∷◌, [], OnOk, map};
+ghost use Rattle.std.specs.Prelude.{map};
 ghost use Rattle.bytecode.specs.Decoded.{head_layout, heads_layout, kind_layout, repeated};
 ghost use Rattle.bytecode.specs.InMemory.{raw_head};
 ghost use Rattle.bytecode.specs.Layouts.{read};
@@ -7,9 +7,10 @@ ghost use Rattle.bytecode.specs.inner.Reading.{Reads};
 
 use crate::fault::Stopped;
 use crate::kind::{Kind, kind_of, return_of};
+use crate::lists::push;
 use crate::reader::Reader;
 use crate::test::Test;
-use std::alloc::{AllocError, Global};
+use std::alloc::Global;
 
 /// What is told of a function before all bodies.
 #[derive(Drop)]
@@ -27,20 +28,13 @@ fn next_kind(reader: &mut Reader<'_>) -> Result<Kind, Stopped>
     Ok(kind_of(byte))
 }
 
-fn push_kind(kinds: &mut Vec<Kind>, kind: Kind) -> Result<(), AllocError>
-    ensures { OnOk result (kinds.new.items ≡ kinds.old.items ++ kind ∷ []) }
-{
-    kinds.push(kind)?;
-    Ok(())
-}
-
 fn kinds(alloc: Global, reader: &mut Reader<'_>, count: usize) -> Result<Vec<Kind>, Stopped>
     ensures { Reads (λ v. v.items) (read (repeated kind_layout count) reader.old) result reader.new }
 {
     let mut found = Vec::new(alloc);
     for place in 0..count {
         let next = next_kind(reader)?;
-        push_kind(&mut found, next)?;
+        push(&mut found, next)?;
     }
     Ok(found)
 }
@@ -61,13 +55,6 @@ fn next_head(alloc: Global, reader: &mut Reader<'_>) -> Result<Head, Stopped>
     })
 }
 
-fn push_head(heads: &mut Vec<Head>, head: Head) -> Result<(), AllocError>
-    ensures { OnOk result (heads.new.items ≡ heads.old.items ++ head ∷ []) }
-{
-    heads.push(head)?;
-    Ok(())
-}
-
 /// The next heads, so many.
 pub(crate) fn all_heads(
     alloc: Global,
@@ -79,7 +66,7 @@ pub(crate) fn all_heads(
     let mut found = Vec::new(alloc);
     for place in 0..count {
         let next = next_head(alloc, reader)?;
-        push_head(&mut found, next)?;
+        push(&mut found, next)?;
     }
     Ok(found)
 }

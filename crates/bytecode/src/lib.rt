@@ -10,6 +10,7 @@ mod heads;
 mod instruction;
 mod kind;
 mod laws;
+mod lists;
 mod names;
 mod numbers;
 mod operands;

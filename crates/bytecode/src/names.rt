@@ -1,5 +1,5 @@
 // How the names of a code are read.
-ghost use Rattle.std.specs.Prelude.{◌≡◌, ◌++◌, ◌∷◌, [], IfOk, IfSome, IsTrue, None, OnOk, Some, if◌then◌else◌, map, not, reverse};
+ghost use Rattle.std.specs.Prelude.{◌≡◌, ◌∷◌, [], IfOk, IfSome, IsTrue, None, Some, if◌then◌else◌, map, not, reverse};
 ghost use Rattle.std.specs.List.{list_any};
 ghost use Rattle.std.specs.Str.{bytes_eq};
 ghost use Rattle.bytecode.specs.Decoded.{names_layout};
@@ -8,6 +8,7 @@ ghost use Rattle.bytecode.specs.inner.Reading.{Reads};
 ghost use Rattle.bytecode.specs.Writable.{is_new_name};
 
 use crate::fault::{FaultKind, Stopped};
+use crate::lists::push;
 use crate::reader::Reader;
 use crate::test::Test;
 use indexmap::IndexSet;
@@ -40,11 +41,8 @@ fn new_name<'t>(
     let Ok(text) = str::from_utf8(bytes) else {
         return Ok(None);
     };
-    let Some(name) = Name::from_str(alloc, text)? else {
-        return Ok(None);
-    };
     if is_new(earlier, text)? {
-        Ok(Some(name))
+        Name::from_str(alloc, text)
     } else {
         Ok(None)
     }
@@ -69,13 +67,6 @@ fn next_name<'t>(
     }
 }
 
-fn push_name(names: &mut Vec<Name>, name: Name) -> Result<(), AllocError>
-    ensures { OnOk result (names.new.items ≡ names.old.items ++ name ∷ []) }
-{
-    names.push(name)?;
-    Ok(())
-}
-
 /// The next names, so many, none twice.
 pub(crate) fn all_names(
     alloc: Global,
@@ -88,7 +79,7 @@ pub(crate) fn all_names(
     let mut found = Vec::new(alloc);
     for place in 0..count {
         let next = next_name(alloc, reader, &mut earlier)?;
-        push_name(&mut found, next)?;
+        push(&mut found, next)?;
     }
     Ok(found)
 }

@@ -1,5 +1,5 @@
 // How an instruction is read.
-ghost use Rattle.std.specs.Prelude.{◌≡◌, ◌<◌, ◌++◌, ◌∷◌, [], OnOk, map};
+ghost use Rattle.std.specs.Prelude.{◌≡◌, ◌<◌, map};
 ghost use Rattle.bytecode.specs.Decoded.{body_layout, instruction_layout, operands, repeated, short_layout};
 ghost use Rattle.bytecode.specs.InMemory.{raw_instruction, result_register};
 ghost use Rattle.bytecode.specs.Layouts.{read};
@@ -9,11 +9,12 @@ ghost use Rattle.bytecode.specs.Writable.{arguments_at};
 
 use crate::fault::Stopped;
 use crate::instruction::{FunctionPlace, Instruction, JumpTarget, NO_RESULT, NamePlace, Register};
+use crate::lists::push;
 use crate::operator::operator_of;
 use crate::reader::Reader;
 use crate::tag::{Tag, tag_of};
 use crate::test::Test;
-use std::alloc::{AllocError, Global};
+use std::alloc::Global;
 
 /// What stands behind a tag; 0 where it has no such operand.
 #[derive(Clone, Copy)]
@@ -158,20 +159,13 @@ fn plain(reader: &mut Reader<'_>, tag: Tag) -> Result<Instruction, Stopped>
     ))
 }
 
-fn push_register(registers: &mut Vec<Register>, register: Register) -> Result<(), AllocError>
-    ensures { OnOk result (registers.new.items ≡ registers.old.items ++ register ∷ []) }
-{
-    registers.push(register)?;
-    Ok(())
-}
-
 fn registers(alloc: Global, reader: &mut Reader<'_>, count: usize) -> Result<Vec<Register>, Stopped>
     ensures { Reads (λ v. map (λ r. r.0) v.items) (read (repeated short_layout count) reader.old) result reader.new }
 {
     let mut registers = Vec::new(alloc);
     for place in 0..count {
         let register = Register(reader.short()?);
-        push_register(&mut registers, register)?;
+        push(&mut registers, register)?;
     }
     Ok(registers)
 }
@@ -227,16 +221,6 @@ pub(crate) fn instruction(
     }
 }
 
-fn push_instruction(
-    instructions: &mut Vec<Instruction>,
-    instruction: Instruction,
-) -> Result<(), AllocError>
-    ensures { OnOk result (instructions.new.items ≡ instructions.old.items ++ instruction ∷ []) }
-{
-    instructions.push(instruction)?;
-    Ok(())
-}
-
 /// The next instructions, so many.
 pub(crate) fn body(
     alloc: Global,
@@ -249,7 +233,7 @@ pub(crate) fn body(
     let mut instructions = Vec::new(alloc);
     for place in 0..count {
         let next = instruction(alloc, reader, parameters)?;
-        push_instruction(&mut instructions, next)?;
+        push(&mut instructions, next)?;
     }
     Ok(instructions)
 }

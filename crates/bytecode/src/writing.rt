@@ -136,10 +136,10 @@ pub(crate) fn push_instruction(
 ) -> Result<(), AllocError>
     ensures { OnOk result (text.new.items ≡ text.old.items ++ bytes_of (instruction_numbers (raw_instruction instruction.now))) }
 {
-    match instruction {
+    match *instruction {
         Instruction::Literal { to, word } => push_numbers(
             text,
-            &[Number(1, 0x01), Number(2, to.0 as u64), Number(8, *word)],
+            &[Number(1, 0x01), Number(2, to.0 as u64), Number(8, word)],
         ),
         Instruction::Move { to, source } => push_pair(text, 0x02, to.0, source.0),
         Instruction::Store { to, source } => push_pair(text, 0x03, to.0, source.0),
@@ -149,7 +149,7 @@ pub(crate) fn push_instruction(
             left,
             right,
             line,
-        } => push_binary(text, operator.byte(), to.0, left.0, right.0, *line),
+        } => push_binary(text, operator.byte(), to.0, left.0, right.0, line),
         Instruction::Not { to, source } => push_pair(text, 0x05, to.0, source.0),
         Instruction::Cast { to, source } => push_pair(text, 0x06, to.0, source.0),
         Instruction::Classify { to, source } => push_pair(text, 0x07, to.0, source.0),
@@ -158,33 +158,33 @@ pub(crate) fn push_instruction(
             size,
             value,
             line,
-        } => push_triple(text, 0x08, to.0, size.0, value.0, *line),
+        } => push_triple(text, 0x08, to.0, size.0, value.0, line),
         Instruction::At {
             to,
             array,
             index,
             line,
-        } => push_triple(text, 0x09, to.0, array.0, index.0, *line),
+        } => push_triple(text, 0x09, to.0, array.0, index.0, line),
         Instruction::Put {
             array,
             index,
             value,
             line,
-        } => push_triple(text, 0x0a, array.0, index.0, value.0, *line),
+        } => push_triple(text, 0x0a, array.0, index.0, value.0, line),
         Instruction::Size { to, source } => push_pair(text, 0x0b, to.0, source.0),
         Instruction::Cat {
             to,
             left,
             right,
             line,
-        } => push_triple(text, 0x0c, to.0, left.0, right.0, *line),
+        } => push_triple(text, 0x0c, to.0, left.0, right.0, line),
         Instruction::Sum { to, source } => push_pair(text, 0x0d, to.0, source.0),
         Instruction::Bits { to, source, line } => push_pair_with_line(
-            text, 0x0e, to.0, source.0, *line,
+            text, 0x0e, to.0, source.0, line,
         ),
         Instruction::Declassify { to, source } => push_pair(text, 0x0f, to.0, source.0),
         Instruction::Argument { to, name, line } => push_pair_with_line(
-            text, 0x10, to.0, name.0, *line,
+            text, 0x10, to.0, name.0, line,
         ),
         Instruction::Publish { name, source } => push_pair(text, 0x11, name.0, source.0),
         Instruction::Assert { condition, line } => push_numbers(
@@ -192,7 +192,7 @@ pub(crate) fn push_instruction(
             &[
                 Number(1, 0x12),
                 Number(2, condition.0 as u64),
-                Number(4, *line as u64),
+                Number(4, line as u64),
             ],
         ),
         Instruction::Branch {
@@ -204,7 +204,7 @@ pub(crate) fn push_instruction(
             &[
                 Number(1, 0x13),
                 Number(2, condition.0 as u64),
-                Number(1, *value as u64),
+                Number(1, value as u64),
                 Number(2, target.0 as u64),
             ],
         ),
@@ -212,9 +212,9 @@ pub(crate) fn push_instruction(
         Instruction::Call {
             function,
             to,
-            arguments,
+            ref arguments,
             line,
-        } => push_call(text, function.0, result_register(*to), arguments, *line),
+        } => push_call(text, function.0, result_register(to), arguments, line),
         Instruction::Return { source } => push_single(text, 0x17, source.0),
         Instruction::ReturnNone => push_numbers(text, &[Number(1, 0x18)]),
     }

@@ -1,11 +1,11 @@
 // The notes of expressions: one walk over a tree. The functions call one another, so they stand together.
-ghost use Rattle.std.specs.Prelude.{◌≡◌, ◌++◌, IfOk, OnOk, false, map};
+ghost use Rattle.std.specs.Prelude.{◌≡◌, ◌++◌, IfOk, OnOk, map};
 ghost use Rattle.typed_tree.specs.Tree.{typed_tree, typed_trees_of};
 ghost use Rattle.reached_instances.specs.declared.instance.BoundDomain.TheVariants.{Public};
-ghost use Rattle.reached_instances.specs.Domains.{domains, joined_domain};
+ghost use Rattle.reached_instances.specs.Domains.{domains};
 ghost use Rattle.reached_instances.specs.Views.{setting};
-ghost use Rattle.typed_tree.specs.Shapes.{shape_of};
 ghost use Rattle.lowered_expressions.specs.inner.Notes.{arguments_notes, given_in, given_of, notes_of, one_given, operands_notes};
+ghost use Rattle.lowered_expressions.specs.inner.Operands.{two_given};
 
 use crate::closing::One;
 use crate::kinds::called_shape;
@@ -51,18 +51,27 @@ fn one_given(one: One, operand: Given) -> Given
     }
 }
 
-// An element of an array.
-fn element_given(array: Given) -> Given
-    ensures { result ≡ given_of array.domain (shape_of array.shape.element false) }
-{
-    given_of(array.domain, Shape::scalar(array.shape.element))
+// An operation on two operands, as far as it tells what it gives.
+#[derive(Clone, Copy)]
+enum Two {
+    // An element of the left one.
+    Element,
+    // The left one and the right one behind it.
+    Cat,
+    // A value of this shape.
+    Of(Shape),
 }
 
-// A value of this shape that two operands give together.
-fn joined(left: Given, right: Given, shape: Shape) -> Given
-    ensures { result ≡ given_of (joined_domain left.domain right.domain) shape }
+// What an operation on two operands gives.
+fn two_given(two: Two, left: Given, right: Given) -> Given
+    ensures { result ≡ two_given two left right }
 {
-    given_of(joined_domain(left.domain, right.domain), shape)
+    let joined = joined_domain(left.domain, right.domain);
+    match two {
+        Two::Element => given_of(left.domain, Shape::scalar(left.shape.element)),
+        Two::Cat => given_of(joined, left.shape),
+        Two::Of(shape) => given_of(joined, shape),
+    }
 }
 
 // Notes an expression and what is in it; what it gives.
@@ -112,21 +121,15 @@ fn note_operands(
         TypedExpression::Not(x) => note_one(alloc, notes, here, One::Not, x),
         TypedExpression::Cast(cast, x) => note_one(alloc, notes, here, One::Cast(*cast), x),
         TypedExpression::Declassify(x) => note_one(alloc, notes, here, One::Declassify, x),
-        TypedExpression::Element(_, a, i) => {
-            let (array, _) = note_two(alloc, notes, here, a, i)?;
-            Ok(element_given(array))
-        }
-        TypedExpression::Cat(_, a, b) => {
-            let (left, right) = note_two(alloc, notes, here, a, b)?;
-            Ok(joined(left, right, left.shape))
-        }
+        TypedExpression::Element(_, a, i) => note_two(alloc, notes, here, Two::Element, a, i),
+        TypedExpression::Cat(_, a, b) => note_two(alloc, notes, here, Two::Cat, a, b),
         TypedExpression::Binary(_, operator, operands, a, b) => {
-            let (left, right) = note_two(alloc, notes, here, a, b)?;
-            Ok(joined(left, right, operator.result_shape(*operands)))
+            let two = Two::Of(operator.result_shape(*operands));
+            note_two(alloc, notes, here, two, a, b)
         }
         TypedExpression::CutShort(_, a, b) => {
-            let (left, right) = note_two(alloc, notes, here, a, b)?;
-            Ok(joined(left, right, Shape::scalar(DataType::Bool)))
+            let two = Two::Of(Shape::scalar(DataType::Bool));
+            note_two(alloc, notes, here, two, a, b)
         }
     }
 }
@@ -147,23 +150,24 @@ fn note_one(
     Ok(one_given(one, operand))
 }
 
-// Notes two operands; what they give.
+// Notes the two operands of an operation; what the operation gives.
 #[cycle(noting)]
 fn note_two(
     alloc: Global,
     notes: &mut Vec<Note>,
     here: &Setting<'_>,
+    two: Two,
     a: &TypedExpression,
     b: &TypedExpression,
-) -> Result<(Given, Given), AllocError>
+) -> Result<Given, AllocError>
     ensures notes { OnOk result (notes.new.items ≡ notes.old.items ++
         (notes_of (setting here.now) (typed_tree a.now) ++ notes_of (setting here.now) (typed_tree b.now))) }
-    ensures left { IfOk result (λ given. given.0 ≡ given_in (setting here.now) (typed_tree a.now)) }
-    ensures right { IfOk result (λ given. given.1 ≡ given_in (setting here.now) (typed_tree b.now)) }
+    ensures given { IfOk result (λ given. given ≡
+        two_given two (given_in (setting here.now) (typed_tree a.now)) (given_in (setting here.now) (typed_tree b.now))) }
 {
     let left = note(alloc, notes, here, a)?;
     let right = note(alloc, notes, here, b)?;
-    Ok((left, right))
+    Ok(two_given(two, left, right))
 }
 
 // Notes the arguments of a call; who may see what they give.

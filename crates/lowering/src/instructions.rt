@@ -1,5 +1,5 @@
 // The instruction of a step, where its numbers are small enough.
-ghost use Rattle.std.specs.Prelude.{◌≡◌, ◌++◌, ◌∷◌, [], IfErr, IfOk, OnOk, map};
+ghost use Rattle.std.specs.Prelude.{◌≡◌, ◌++◌, ◌&&◌, IfErr, IfOk, map};
 ghost use Rattle.std.specs.List.{flat_map, list_all};
 ghost use Rattle.bytecode.specs.InMemory.{operator_byte, raw_function, raw_instruction, result_register};
 ghost use Rattle.bytecode.specs.Written.{body_numbers, head_numbers, instruction_numbers};
@@ -11,6 +11,7 @@ ghost use Rattle.lowering.specs.inner.Views.{function_seen};
 
 use crate::errors::LowerErr;
 use crate::functions::FunctionSteps;
+use crate::lists::push;
 use crate::naming::{Names, place_among};
 use bytecode::{CodeFunction, FunctionPlace, Instruction, JumpTarget, NamePlace, Register};
 use lowered_expressions::Step;
@@ -23,6 +24,18 @@ fn is_short(number: usize) -> bool
     ensures { result ≡ is_short number }
 {
     number < 65_536
+}
+
+fn are_two_short(first: usize, second: usize) -> bool
+    ensures { result ≡ (is_short first && is_short second) }
+{
+    is_short(first) && is_short(second)
+}
+
+fn are_three_short(first: usize, second: usize, third: usize) -> bool
+    ensures { result ≡ (is_short first && (is_short second && is_short third)) }
+{
+    is_short(first) && are_two_short(second, third)
 }
 
 fn short(number: usize) -> u16
@@ -134,12 +147,12 @@ fn binary_operator(operator: BinaryOperator) -> bytecode::BinaryOperator
 fn are_short(names: &Names<'_>, step: &Step<'_>) -> bool
     ensures { result ≡ are_short (instruction (texts names.now) (step_seen step.now)) }
 {
-    match step {
+    match *step {
         Step::ReturnNone => true,
-        Step::Literal { to, .. } => is_short(*to),
-        Step::Jump { target } => is_short(*target),
-        Step::Assert { condition, .. } => is_short(*condition),
-        Step::Return { source } => is_short(*source),
+        Step::Literal { to, .. } => is_short(to),
+        Step::Jump { target } => is_short(target),
+        Step::Assert { condition, .. } => is_short(condition),
+        Step::Return { source } => is_short(source),
         Step::Move { to, source }
         | Step::Store { to, source }
         | Step::Not { to, source }
@@ -148,7 +161,7 @@ fn are_short(names: &Names<'_>, step: &Step<'_>) -> bool
         | Step::Size { to, source }
         | Step::Sum { to, source }
         | Step::Bits { to, source, .. }
-        | Step::Declassify { to, source } => is_short(*to) && is_short(*source),
+        | Step::Declassify { to, source } => are_two_short(to, source),
         Step::Binary {
             to,
             left,
@@ -160,38 +173,38 @@ fn are_short(names: &Names<'_>, step: &Step<'_>) -> bool
             left,
             right,
             ..
-        } => is_short(*to) && (is_short(*left) && is_short(*right)),
+        } => are_three_short(to, left, right),
         Step::Fill {
             to,
             size,
             value,
             ..
-        } => is_short(*to) && (is_short(*size) && is_short(*value)),
+        } => are_three_short(to, size, value),
         Step::At {
             to,
             array,
             index,
             ..
-        } => is_short(*to) && (is_short(*array) && is_short(*index)),
+        } => are_three_short(to, array, index),
         Step::Put {
             array,
             index,
             value,
             ..
-        } => is_short(*array) && (is_short(*index) && is_short(*value)),
-        Step::Argument { text, to, .. } => is_short(*to) && is_short(place_among(names, text)),
-        Step::Publish { text, source } => is_short(place_among(names, text)) && is_short(*source),
+        } => are_three_short(array, index, value),
+        Step::Argument { text, to, .. } => are_two_short(to, place_among(names, text)),
+        Step::Publish { text, source } => are_two_short(place_among(names, text), source),
         Step::Branch {
             condition,
             target,
             ..
-        } => is_short(*condition) && is_short(*target),
+        } => are_two_short(condition, target),
         Step::Call {
             function,
             to,
-            arguments,
+            ref arguments,
             ..
-        } => is_short(*function) && (is_short_result(*to) && are_all_short(arguments)),
+        } => is_short(function) && (is_short_result(to) && are_all_short(arguments)),
     }
 }
 
@@ -203,18 +216,18 @@ fn capped_instruction(
 ) -> Result<Instruction, AllocError>
     ensures { IfOk result (λ i. raw_instruction i ≡ capped_instruction (instruction (texts names.now) (step_seen step.now))) }
 {
-    match step {
+    match *step {
         Step::Literal { to, word, .. } => Ok(Instruction::Literal {
-            to: register(*to),
-            word: *word,
+            to: register(to),
+            word,
         }),
         Step::Move { to, source } => Ok(Instruction::Move {
-            to: register(*to),
-            source: register(*source),
+            to: register(to),
+            source: register(source),
         }),
         Step::Store { to, source } => Ok(Instruction::Store {
-            to: register(*to),
-            source: register(*source),
+            to: register(to),
+            source: register(source),
         }),
         Step::Binary {
             operator,
@@ -224,23 +237,23 @@ fn capped_instruction(
             line,
             ..
         } => Ok(Instruction::Binary {
-            operator: binary_operator(*operator),
-            to: register(*to),
-            left: register(*left),
-            right: register(*right),
-            line: *line,
+            operator: binary_operator(operator),
+            to: register(to),
+            left: register(left),
+            right: register(right),
+            line,
         }),
         Step::Not { to, source } => Ok(Instruction::Not {
-            to: register(*to),
-            source: register(*source),
+            to: register(to),
+            source: register(source),
         }),
         Step::Cast { to, source, .. } => Ok(Instruction::Cast {
-            to: register(*to),
-            source: register(*source),
+            to: register(to),
+            source: register(source),
         }),
         Step::Classify { to, source } => Ok(Instruction::Classify {
-            to: register(*to),
-            source: register(*source),
+            to: register(to),
+            source: register(source),
         }),
         Step::Fill {
             to,
@@ -248,10 +261,10 @@ fn capped_instruction(
             value,
             line,
         } => Ok(Instruction::Fill {
-            to: register(*to),
-            size: register(*size),
-            value: register(*value),
-            line: *line,
+            to: register(to),
+            size: register(size),
+            value: register(value),
+            line,
         }),
         Step::At {
             to,
@@ -259,10 +272,10 @@ fn capped_instruction(
             index,
             line,
         } => Ok(Instruction::At {
-            to: register(*to),
-            array: register(*array),
-            index: register(*index),
-            line: *line,
+            to: register(to),
+            array: register(array),
+            index: register(index),
+            line,
         }),
         Step::Put {
             array,
@@ -270,14 +283,14 @@ fn capped_instruction(
             value,
             line,
         } => Ok(Instruction::Put {
-            array: register(*array),
-            index: register(*index),
-            value: register(*value),
-            line: *line,
+            array: register(array),
+            index: register(index),
+            value: register(value),
+            line,
         }),
         Step::Size { to, source } => Ok(Instruction::Size {
-            to: register(*to),
-            source: register(*source),
+            to: register(to),
+            source: register(source),
         }),
         Step::Cat {
             to,
@@ -285,64 +298,64 @@ fn capped_instruction(
             right,
             line,
         } => Ok(Instruction::Cat {
-            to: register(*to),
-            left: register(*left),
-            right: register(*right),
-            line: *line,
+            to: register(to),
+            left: register(left),
+            right: register(right),
+            line,
         }),
         Step::Sum { to, source } => Ok(Instruction::Sum {
-            to: register(*to),
-            source: register(*source),
+            to: register(to),
+            source: register(source),
         }),
         Step::Bits { to, source, line } => Ok(Instruction::Bits {
-            to: register(*to),
-            source: register(*source),
-            line: *line,
+            to: register(to),
+            source: register(source),
+            line,
         }),
         Step::Declassify { to, source } => Ok(Instruction::Declassify {
-            to: register(*to),
-            source: register(*source),
+            to: register(to),
+            source: register(source),
         }),
         Step::Assert { condition, line } => Ok(Instruction::Assert {
-            condition: register(*condition),
-            line: *line,
+            condition: register(condition),
+            line,
         }),
         Step::Branch {
             condition,
             value,
             target,
         } => Ok(Instruction::Branch {
-            condition: register(*condition),
-            value: *value,
-            target: place_target(*target),
+            condition: register(condition),
+            value,
+            target: place_target(target),
         }),
         Step::Jump { target } => Ok(Instruction::Jump {
-            target: place_target(*target),
+            target: place_target(target),
         }),
         Step::Return { source } => Ok(Instruction::Return {
-            source: register(*source),
+            source: register(source),
         }),
         Step::Argument { line, text, to, .. } => Ok(Instruction::Argument {
-            to: register(*to),
+            to: register(to),
             name: name_place(place_among(names, text)),
-            line: *line,
+            line,
         }),
         Step::Publish { text, source } => Ok(Instruction::Publish {
             name: name_place(place_among(names, text)),
-            source: register(*source),
+            source: register(source),
         }),
         Step::Call {
             line,
             function,
             to,
-            arguments,
+            ref arguments,
         } => {
             let arguments = all_registers(alloc, arguments)?;
             Ok(Instruction::Call {
-                function: FunctionPlace(short(*function)),
-                to: result_register(*to),
+                function: FunctionPlace(short(function)),
+                to: result_register(to),
                 arguments,
-                line: *line,
+                line,
             })
         }
         Step::ReturnNone => Ok(Instruction::ReturnNone),
@@ -358,13 +371,6 @@ fn instruction(alloc: Global, names: &Names<'_>, step: &Step<'_>) -> Result<Inst
         return Err(LowerErr::TooLarge);
     }
     Ok(capped_instruction(alloc, names, step)?)
-}
-
-fn push(body: &mut Vec<Instruction>, instruction: Instruction) -> Result<(), AllocError>
-    ensures { OnOk result (map raw_instruction body.new.items ≡ map raw_instruction body.old.items ++ raw_instruction instruction ∷ []) }
-{
-    body.push(instruction)?;
-    Ok(())
 }
 
 // The instructions of steps.

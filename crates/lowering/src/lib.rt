@@ -4,6 +4,7 @@
 mod errors;
 mod functions;
 mod instructions;
+mod lists;
 mod naming;
 mod place;
 mod programs;

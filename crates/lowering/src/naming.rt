@@ -1,5 +1,5 @@
 // The names of code, each once, in the order of first use.
-ghost use Rattle.std.specs.Prelude.{◌≡◌, ◌++◌, ◌∷◌, [], IfOk, OnOk, map};
+ghost use Rattle.std.specs.Prelude.{◌≡◌, IfOk, OnOk, map};
 ghost use Rattle.std.specs.List.{flat_map};
 ghost use Rattle.raw_steps.specs.Instructions.{names_of, naming, naming_all, place_among, step_names};
 ghost use Rattle.lowered_expressions.specs.Views.{step_seen};
@@ -7,6 +7,7 @@ ghost use Rattle.lowering.specs.inner.Naming.{AreSame, texts};
 ghost use Rattle.lowering.specs.inner.Views.{function_seen};
 
 use crate::functions::FunctionSteps;
+use crate::lists::push;
 use indexmap::IndexSet;
 use lowered_expressions::Step;
 use sc_text::Name;
@@ -19,14 +20,6 @@ pub struct Names<'p> {
     pub list: Vec<Name>,
 }
 
-// Puts a name behind those that are there.
-fn push_name(list: &mut Vec<Name>, name: Name) -> Result<(), AllocError>
-    ensures { OnOk result (list.new.items ≡ list.old.items ++ name ∷ []) }
-{
-    list.push(name)?;
-    Ok(())
-}
-
 // One more name, unless it is there.
 fn note<'p>(alloc: Global, names: &mut Names<'p>, text: &'p Name) -> Result<(), AllocError>
     ensures { OnOk result (AreSame names.old → (texts names.new ≡ naming (texts names.old) text.now) × AreSame names.new) }
@@ -35,7 +28,7 @@ fn note<'p>(alloc: Global, names: &mut Names<'p>, text: &'p Name) -> Result<(), 
         Err(_) => Err(AllocError),
         Ok(new) => {
             if new {
-                push_name(&mut names.list, text.copy(alloc)?)?;
+                push(&mut names.list, text.copy(alloc)?)?;
             }
             Ok(())
         }

@@ -1,5 +1,5 @@
 // The code of programs.
-ghost use Rattle.std.specs.Prelude.{◌≡◌, ◌++◌, ◌∷◌, [], IfErr, IfOk, OnOk, map};
+ghost use Rattle.std.specs.Prelude.{◌≡◌, IfErr, IfOk, map};
 ghost use Rattle.std.specs.List.{flat_map};
 ghost use Rattle.bytecode.specs.InMemory.{raw_code, raw_function};
 ghost use Rattle.bytecode.specs.Written.{body_numbers, head_numbers};
@@ -14,6 +14,7 @@ ghost use Rattle.lowering.specs.inner.Views.{function_seen};
 use crate::errors::LowerErr;
 use crate::functions::{FunctionSteps, function_steps, nothing_steps};
 use crate::instructions::function;
+use crate::lists::push;
 use crate::naming::{Names, names_of};
 use bytecode::{Code, CodeFunction};
 use lowered_expressions::Around;
@@ -46,16 +47,6 @@ fn instance_steps<'p>(
     function_steps(&around, function)
 }
 
-fn push_steps<'p>(
-    all: &mut Vec<FunctionSteps<'p>>,
-    steps: FunctionSteps<'p>,
-) -> Result<(), AllocError>
-    ensures { OnOk result (map function_seen all.new.items ≡ map function_seen all.old.items ++ function_seen steps.entry ∷ []) }
-{
-    all.push(steps)?;
-    Ok(())
-}
-
 // The code of each instance.
 fn all_steps<'p>(
     alloc: Global,
@@ -67,19 +58,9 @@ fn all_steps<'p>(
     let mut all = Vec::new(alloc);
     for instance in instances.as_slice() {
         let steps = instance_steps(alloc, program, instances, instance)?;
-        push_steps(&mut all, steps)?;
+        push(&mut all, steps)?;
     }
     Ok(all)
-}
-
-fn push_function(
-    functions: &mut Vec<CodeFunction>,
-    function: CodeFunction,
-) -> Result<(), AllocError>
-    ensures { OnOk result (map raw_function functions.new.items ≡ map raw_function functions.old.items ++ raw_function function ∷ []) }
-{
-    functions.push(function)?;
-    Ok(())
 }
 
 // Functions with instructions for their steps.
@@ -94,7 +75,7 @@ fn all_functions(
     let mut functions = Vec::with_capacity(alloc, all.len())?;
     for steps in all {
         let next = function(alloc, names, steps)?;
-        push_function(&mut functions, next)?;
+        push(&mut functions, next)?;
     }
     Ok(functions)
 }

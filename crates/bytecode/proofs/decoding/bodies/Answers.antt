@@ -36,7 +36,7 @@ loop-head-preserved c =
     (map raw_function c.loop-head.functions.items) _ c.loop-head.reader _
     (read (bodies_layout ps (map raw_head c.args.heads.items)) c.args.reader.now) (ap (map raw_head) more) c.in_ok-next.ensures c.loop-head.invariant
     ∙ ap (λ xs. after xs (read (bodies_layout ps (map raw_head c.next.new.self.rest.items)) c.function.new.reader))
-    (sym (ap (map raw_function) c.in_ok-push_function.ensures ∙ map-append raw_function c.loop-head.functions.items _))
+    (sym (ap (map raw_function) c.in_ok-push.ensures ∙ map-append raw_function c.loop-head.functions.items _))
 
 pub returns : goal.returns
 returns c =

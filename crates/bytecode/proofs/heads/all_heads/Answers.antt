@@ -20,4 +20,4 @@ loop-place-preserved c =
     repeated_more head_layout c.args.count c.loop-place.place (map raw_head c.loop-place.found.items) _ c.loop-place.reader _
     (read (heads_layout c.args.count) c.args.reader.now) c.loop-place-test.true c.in_ok-next.ensures c.loop-place.invariant
     ∙ ap (λ xs. after xs (read (heads_layout (c.args.count - (c.loop-place.place + 1))) c.next_head.new.reader))
-    (sym (ap (map raw_head) c.in_ok-push_head.ensures ∙ map-append raw_head c.loop-place.found.items _))
+    (sym (ap (map raw_head) c.in_ok-push.ensures ∙ map-append raw_head c.loop-place.found.items _))

@@ -17,4 +17,4 @@ pub loop-place-preserved : goal.loop-place-preserved
 loop-place-preserved c =
     repeated_more kind_layout c.args.count c.loop-place.place c.loop-place.found.items _ c.loop-place.reader _
     (read (repeated kind_layout c.args.count) c.args.reader.now) c.loop-place-test.true c.in_ok-next.ensures c.loop-place.invariant
-    ∙ ap (λ xs. after xs (read (repeated kind_layout (c.args.count - (c.loop-place.place + 1))) c.next_kind.new.reader)) (sym c.in_ok-push_kind.ensures)
+    ∙ ap (λ xs. after xs (read (repeated kind_layout (c.args.count - (c.loop-place.place + 1))) c.next_kind.new.reader)) (sym c.in_ok-push.ensures)

@@ -24,7 +24,7 @@ loop-place-preserved c =
     ∙ ap (λ earlier. after (c.loop-place.found.items ++ c.in_ok-next.next ∷ []) (read (names_layout earlier later) c.next_name.new.reader))
     (sym c.in_ok-next.ensures.remembered)
     ∙ ap (λ xs. after xs (read (names_layout (reverse (map (λ n. n.now) c.next_name.new.earlier.keys)) later) c.next_name.new.reader))
-    (sym c.in_ok-push_name.ensures)
+    (sym c.in_ok-push.ensures)
 
 pub returns : goal.returns
 returns c =

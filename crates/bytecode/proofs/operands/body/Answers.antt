@@ -22,4 +22,4 @@ loop-place-preserved c =
     repeated_more (instruction_layout ps) c.args.count c.loop-place.place (map raw_instruction c.loop-place.instructions.items) _ c.loop-place.reader _
     (read (body_layout ps c.args.count) c.args.reader.now) c.loop-place-test.true c.in_ok-next.ensures c.loop-place.invariant
     ∙ ap (λ xs. after xs (read (body_layout ps (c.args.count - (c.loop-place.place + 1))) c.instruction.new.reader))
-    (sym (ap (map raw_instruction) c.in_ok-push_instruction.ensures ∙ map-append raw_instruction c.loop-place.instructions.items _))
+    (sym (ap (map raw_instruction) c.in_ok-push.ensures ∙ map-append raw_instruction c.loop-place.instructions.items _))

@@ -20,4 +20,4 @@ loop-place-preserved c =
     repeated_more short_layout c.args.count c.loop-place.place (map (λ (r : Register). r.0) c.loop-place.registers.items) _ c.loop-place.reader _
     (read (repeated short_layout c.args.count) c.args.reader.now) c.loop-place-test.true c.in_ok-short.ensures c.loop-place.invariant
     ∙ ap (λ xs. after xs (read (repeated short_layout (c.args.count - (c.loop-place.place + 1))) c.short.new.self))
-    (sym (ap (map (λ (r : Register). r.0)) c.in_ok-push_register.ensures ∙ map-append (λ (r : Register). r.0) c.loop-place.registers.items _))
+    (sym (ap (map (λ (r : Register). r.0)) c.in_ok-push.ensures ∙ map-append (λ (r : Register). r.0) c.loop-place.registers.items _))

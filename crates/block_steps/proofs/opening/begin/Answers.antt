@@ -1,0 +1,23 @@
+use Rattle.std.proofs.Common.{ℕ, List, [], ◌∷◌, ◌++◌, length, refl, ap, ◌∙◌}
+use Rattle.proto_core.specs.Parties.{to_next}
+use Rattle.proto_core.specs.Strand.{run}
+use Rattle.proto_core.specs.Net.{mail_of}
+use Rattle.open_result.specs.Opening.{open_masked}
+use Rattle.open_result.specs.Steps.{left_masked}
+use Rattle.block_steps.specs.Outcomes.{outcome}
+use Rattle.block_steps.proofs.Turns.{outcome-sent_next}
+use Rattle.block_steps.proofs.opening.begin.Goals as goal
+
+pub returns-clause-same : goal.returns-clause-same
+returns-clause-same g c =
+    let i = g.P.Party.me in
+    let r = g.R.ShareRing.ring in
+    let l = c.args.links.now in
+    let u = c.args.u.now in
+    let w = c.args.words.now in
+    let x = mail_of i l.from_previous.1 l.from_next.1 in
+    let n = c.push.new.self in
+    ap (λ (s : List ℕ × List ℕ). outcome i n l.to_previous l.opened.items (run (left_masked r i s) x))
+    (c.start-state.ensures.state ∙ ap (λ (b : List ℕ). (b, w)) c.from_words.ensures)
+    ∙ outcome-sent_next i l.to_next n l.to_previous l.opened.items w (to_next i) (open_masked r (length u) i u w) x refl
+    (c.in_ok-push.ensures.ok ∙ ap (λ (m : List ℕ). l.to_next ++ m ∷ []) c.start-state.ensures.mask)
