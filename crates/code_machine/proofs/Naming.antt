@@ -1,6 +1,6 @@
 -- What a machine names is among the numbers that were found in it.
 use Rattle.std.proofs.Common.{◌≡◌, ℕ, zero, suc, ◌⊎◌, inl, inr, Bool, true, false, List, [], ◌∷◌, ◌++◌, refl, subst}
-use Rattle.std.specs.Prelude.{◌||◌, map, get_or, nat_eq, IsTrue, Some, None}
+use Rattle.std.specs.Prelude.{◌||◌, not, map, get_or, nat_eq, IsTrue, Some, None}
 use Rattle.std.proofs.lemmas.Bool.{eq-eqb}
 use mathlib.Core.List.{reverse-cons}
 use Rattle.bytecode.specs.Raw.{RawCode}
@@ -67,3 +67,14 @@ module _ (k : ℕ) where
       → IsTrue (is_in m.registers.items k || is_in_any m.callers.items k)
   machine_names code m (inl h) = first_or (is_in m.registers.items k) (is_in_any m.callers.items k) (registers_name m.registers.items h)
   machine_names code m (inr h) = second_or (is_in m.registers.items k) (is_in_any m.callers.items k) (callers_name code m.callers.items h)
+
+-- where neither has a number, the machine doesn't name it
+no_name : (own others : Bool) → own ≡ false → not others ≡ true → IsTrue (own || others) → ⊥
+no_name true others e f h = absurd cc
+no_name false true e f h = absurd cc
+no_name false false e f h = absurd cc
+
+pub names_none :
+    (code : RawCode) (m : running.Machine) (k : ℕ) → is_in m.registers.items k ≡ false → not (is_in_any m.callers.items k) ≡ true →
+    MachineNames (machine_seen code m) k → ⊥
+names_none code m k own others names = no_name (is_in m.registers.items k) (is_in_any m.callers.items k) own others (machine_names k code m names)

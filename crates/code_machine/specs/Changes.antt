@@ -1,5 +1,5 @@
 -- What a step changes of a machine.
-use Rattle.std.specs.Prelude.{ℕ, ◌<◌, ◌≤◌, List, [], ◌∷◌, length, set, Option, Some, None, Result, Ok, Err}
+use Rattle.std.specs.Prelude.{ℕ, ◌<◌, ◌≤◌, List, [], ◌∷◌, length, Option, Some, None, Result, Ok, Err}
 use Rattle.std.specs.List.{slice_get}
 use Rattle.language_model.specs.Values.{Value, size}
 use Rattle.language_model.specs.Effects.{Effect}
@@ -11,15 +11,12 @@ use Rattle.verified_code.specs.InMemory.{place_of}
 use Rattle.code_model.specs.Machine.{Caller, Machine, steps_of, at, next, caller_of, received, resume}
 use Rattle.value_steps.specs.declared.halt.Halt.{Halt}
 use Rattle.value_steps.specs.declared.value.Value as held
-use Rattle.value_steps.specs.Views.{value_seen}
+use Rattle.value_steps.specs.Views.{value_seen, written}
 use Rattle.code_machine.specs.declared.machine.Machine as running
 use Rattle.code_machine.specs.declared.change.Change.{Change}
 use Rattle.code_machine.specs.declared.change.Change.TheVariants as change
 use Rattle.code_machine.specs.Views.{registers_seen}
 use Rattle.code_machine.specs.Standing.{HasAny, kinds_at}
-
-abbrev pub with_word : Value → ℕ → ℕ → Value
-with_word v i x = record v { words = set v.words i x }
 
 -- the value of a register, or another where none is named
 abbrev pub returned : Option ℕ → Value → Frame → Value
@@ -37,7 +34,7 @@ back_to (c ∷ cs) v m = resumed c v cs
 
 abbrev pub changed : RawCode → Machine → Change → Machine
 changed code m (change.Value d v) = next d.0 (value_seen v) m
-changed code m (change.Element a i x) = next a.0 (with_word (m.registers a.0) i x) m
+changed code m (change.Element a e) = next a.0 (written (m.registers a.0) e) m
 changed code m (change.Place place) = at place m
 changed code m (change.Enter g d vs) =
     record { steps = steps_of (slice_get (settled code) g.0); pc = 0; registers = registers_seen vs.items; stack = caller_of (place_of d) m ∷ m.stack }
@@ -46,7 +43,7 @@ changed code m (change.Leave r v) = back_to m.stack (returned (place_of r) (valu
 -- the registers that a change names are there, and so is the element, or the caller
 abbrev pub IsSafe : running.Machine → Change → Type 0
 IsSafe m (change.Value d v) = d.0 < length m.registers.items
-IsSafe m (change.Element a i x) = (a.0 < length m.registers.items) × (i < size (registers_seen m.registers.items a.0))
+IsSafe m (change.Element a e) = (a.0 < length m.registers.items) × (e.index < size (registers_seen m.registers.items a.0))
 IsSafe m (change.Place place) = Unit {0}
 IsSafe m (change.Enter g d vs) = HasAny (length m.registers.items) (place_of d)
 IsSafe m (change.Leave r v) = HasAny (length m.registers.items) (place_of r) × (0 < length m.callers.items)
@@ -54,7 +51,7 @@ IsSafe m (change.Leave r v) = HasAny (length m.registers.items) (place_of r) × 
 -- a function that begins has a register for each of its kinds
 abbrev pub HasEnough : RawCode → Change → Type 0
 HasEnough code (change.Value d v) = Unit {0}
-HasEnough code (change.Element a i x) = Unit {0}
+HasEnough code (change.Element a e) = Unit {0}
 HasEnough code (change.Place place) = Unit {0}
 HasEnough code (change.Enter g d vs) = length (kinds_at code g.0) ≤ length vs.items
 HasEnough code (change.Leave r v) = Unit {0}

@@ -1,5 +1,5 @@
 -- The numbers of the values that are held in memory.
-use Rattle.std.specs.Prelude.{ℕ, ◌||◌, Bool, false, List, [], ◌∷◌, Some, None, nat_eq}
+use Rattle.std.specs.Prelude.{ℕ, ◌+◌, ◌||◌, Bool, false, List, [], ◌∷◌, length, Some, None, nat_eq}
 use Rattle.value_steps.specs.declared.value.Secrecy as kept
 use Rattle.value_steps.specs.declared.value.Secrecy.TheVariants as secrecy
 use Rattle.value_steps.specs.declared.value.Value as held
@@ -21,3 +21,8 @@ is_in (v ∷ vs) k = is_of v k || is_in vs k
 abbrev pub is_in_any : List waiting.Caller → ℕ → Bool
 is_in_any [] k = false
 is_in_any (c ∷ cs) k = is_in c.registers.items k || is_in_any cs k
+
+-- how many registers these callers have
+abbrev pub count_kept : List waiting.Caller → ℕ
+count_kept [] = 0
+count_kept (c ∷ cs) = length c.registers.items + count_kept cs

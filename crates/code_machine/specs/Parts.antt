@@ -13,13 +13,6 @@ stored v = do
   _ ← row.charged row.no_traps (size v)
   done v
 
--- the place that an index means in an array
-abbrev pub place_in : (line : ℕ) → (array index : Value) → Effect ℕ
-place_in line v i = do
-  _ ← charge 1
-  _ ← test (nat_lt (row.position i) (size v)) trap.Index line
-  done (row.position i)
-
 -- a call, where so many calls stand in one another
 abbrev pub call_charged : (depth line : ℕ) → (arguments : List Value) → Effect (Unit {0})
 call_charged depth line xs = do

@@ -8,11 +8,11 @@ ghost use Rattle.code_machine.specs.Standing.{HasAny, Stands, StandsSomewhere};
 ghost use Rattle.code_machine.specs.Views.{machine_seen};
 
 use crate::machine::{Caller, Machine};
-use crate::registers::{put, put_word, taken};
+use crate::registers::{put, put_element, taken};
 use bytecode::{FunctionPlace, Register};
 use std::alloc::AllocError;
 use std::mem;
-use value_steps::Value;
+use value_steps::{Value, WrittenElement};
 
 impl Machine {
     /// A value goes to a register, and the next step comes.
@@ -26,14 +26,14 @@ impl Machine {
         self.place += 1;
     }
 
-    /// An element of the array in a register becomes a word, and the next step comes.
-    pub(crate) fn put_word(&mut self, array: Register, index: u64, word: u64)
-        requires safe { IsSafe self.old (change.Element array index word) }
+    /// An element is written into the array in a register, in place, and the next step comes.
+    pub(crate) fn put_element(&mut self, array: Register, element: WrittenElement)
+        requires safe { IsSafe self.old (change.Element array element) }
         requires room { self.old.place + 1 < 2 ^ 64 }
-        ensures changed { (code : RawCode) → machine_seen code self.new ≡ changed code (machine_seen code self.old) (change.Element array index word) }
+        ensures changed { (code : RawCode) → machine_seen code self.new ≡ changed code (machine_seen code self.old) (change.Element array element) }
         ensures stands { (code : RawCode) → Stands code self.old → Stands code self.new }
     {
-        put_word(&mut self.registers, array, index, word);
+        put_element(&mut self.registers, array, element);
         self.place += 1;
     }
 

@@ -1,35 +1,30 @@
 // How an element of an array is written.
-ghost use Rattle.std.specs.Prelude.{◌<◌, IfOk};
+ghost use Rattle.std.specs.Prelude.{IfOk};
 ghost use Rattle.language_model.specs.Operations as row;
-ghost use Rattle.language_model.specs.Values.{size};
 ghost use Rattle.bytecode.specs.Raw.{RawCode};
-ghost use Rattle.value_steps.specs.Steps.{Does, itself};
-ghost use Rattle.value_steps.specs.Views.{stage_seen, value_seen};
+ghost use Rattle.value_steps.specs.Steps.{Does};
+ghost use Rattle.value_steps.specs.Views.{stage_seen};
 ghost use Rattle.code_machine.specs.Changes.{HasEnough, IsSafe, changed};
 ghost use Rattle.code_machine.specs.Parts.{into};
-ghost use Rattle.code_machine.specs.Parts as Parts;
 ghost use Rattle.code_machine.specs.Views.{kept, machine_seen};
 ghost use Rattle.code_machine.specs.Standing.{IsThere};
 
-use crate::change::{Change, into_register};
+use crate::change::Change;
 use crate::machine::Machine;
-use crate::operands::{PutStep, array_with};
-use sc_text::TrapKind;
+use bytecode::Register;
 use std::alloc::Global;
-use value_steps::{Halt, Secrecy, Stage, Value, charge, test_at};
+use value_steps::{Halt, Stage, element_written};
 
-/// The place that an index means in an array; one beyond the array is a trap.
-fn place_in(stage: &mut Stage<'_>, line: u32, array: &Value, index: &Value) -> Result<u64, Halt>
-    ensures step { Does itself (Parts.place_in line (value_seen array.now) (value_seen index.now)) (stage_seen stage.old) result (stage_seen stage.new) }
-    ensures within { IfOk result (λ place. place < size (value_seen array.now)) }
-{
-    charge(stage, 1)?;
-    let place = index.seen_word();
-    test_at(stage, place < array.size(), TrapKind::Index, line)?;
-    Ok(place)
+/// An element of an array that is written, with the line of its construct: the registers of the array, the index and the element.
+#[derive(Clone, Copy)]
+pub(crate) struct PutStep {
+    pub(crate) line: u32,
+    pub(crate) array: Register,
+    pub(crate) index: Register,
+    pub(crate) value: Register,
 }
 
-/// An element of an array is written: that of a public array in place; a private one is copied, as its gate makes all of it anew.
+/// An element of an array is written. The array is changed in place, also a private one: the gate's number becomes its own.
 pub(crate) fn put(
     alloc: Global,
     machine: &Machine,
@@ -46,16 +41,13 @@ pub(crate) fn put(
     ensures safe { IfOk result (IsSafe machine.now) }
     ensures enough { (code : RawCode) → IfOk result (HasEnough code) }
 {
-    let old = machine.register(element.array);
-    match old.secrecy {
-        Secrecy::Plain => {
-            let place = place_in(stage, element.line, old, machine.register(element.index))?;
-            let word = machine.register(element.value).seen_word();
-            Ok(Change::Element(element.array, place, word))
-        }
-        Secrecy::Private(_) => {
-            let made = array_with(alloc, machine, stage, element);
-            into_register(element.array, made)
-        }
-    }
+    let written = element_written(
+        alloc,
+        stage,
+        element.line,
+        machine.register(element.array),
+        machine.register(element.index),
+        machine.register(element.value),
+    )?;
+    Ok(Change::Element(element.array, written))
 }

@@ -5,14 +5,14 @@ ghost use Rattle.code_machine.specs.Changes.{goes_to};
 use crate::machine::Machine;
 use bytecode::{FunctionPlace, Register};
 use std::alloc::AllocError;
-use value_steps::{Halt, Value};
+use value_steps::{Halt, Value, WrittenElement};
 
 /// What a step changes of a machine.
 pub(crate) enum Change {
     /// A value goes to a register, and the next step comes.
     Value(Register, Value),
-    /// An element of the array in a register becomes a word, and the next step comes.
-    Element(Register, u64, u64),
+    /// An element is written into the array in a register, and the next step comes.
+    Element(Register, WrittenElement),
     /// The step of a place comes.
     Place(usize),
     /// A function begins with these registers; its result goes to the caller's register, if one is named.
@@ -26,7 +26,7 @@ impl Drop for Change {
     fn drop(self) {
         match self {
             Change::Value(_, _)
-            | Change::Element(_, _, _)
+            | Change::Element(_, _)
             | Change::Place(_)
             | Change::Enter(_, _, _)
             | Change::Leave(_, _) => {}
@@ -55,8 +55,8 @@ impl Change {
                 machine.put(to, value);
                 Ok(())
             }
-            Change::Element(array, index, word) => {
-                machine.put_word(array, index, word);
+            Change::Element(array, element) => {
+                machine.put_element(array, element);
                 Ok(())
             }
             Change::Place(place) => {

@@ -11,7 +11,7 @@ use std::alloc::Global;
 use typed_tree::Operation;
 use value_steps::{
     Applied, Halt, Stage, Value, World, bits_extracted, concatenated, element_of_array, filled,
-    operated, with_element,
+    operated,
 };
 
 /// An operation between two registers.
@@ -20,15 +20,6 @@ pub(crate) struct BinaryStep {
     pub(crate) operation: Operation,
     pub(crate) left: Register,
     pub(crate) right: Register,
-}
-
-/// An element of an array that is written, with the line of its construct: the registers of the array, the index and the element.
-#[derive(Clone, Copy)]
-pub(crate) struct PutStep {
-    pub(crate) line: u32,
-    pub(crate) array: Register,
-    pub(crate) index: Register,
-    pub(crate) value: Register,
 }
 
 /// The result of an operation between two registers.
@@ -127,27 +118,4 @@ pub(crate) fn bits(
     ensures { Does value_seen (row.bits_extracted (world_seen world.now) line (kept machine.now source)) (stage_seen stage.old) result (stage_seen stage.new) }
 {
     bits_extracted(alloc, world, stage, line, machine.register(source))
-}
-
-/// An array with one element changed: a copy, as the gate of a private array makes it anew too.
-pub(crate) fn array_with(
-    alloc: Global,
-    machine: &Machine,
-    stage: &mut Stage<'_>,
-    element: PutStep,
-) -> Result<Value, Halt>
-    requires array_there { IsThere machine.now element.array }
-    requires index_there { IsThere machine.now element.index }
-    requires value_there { IsThere machine.now element.value }
-    ensures { Does value_seen (row.with_element element.line (kept machine.now element.array) (kept machine.now element.index)
-        (kept machine.now element.value)) (stage_seen stage.old) result (stage_seen stage.new) }
-{
-    let old = machine.copied(alloc, element.array)?;
-    with_element(
-        stage,
-        element.line,
-        old,
-        machine.register(element.index),
-        machine.register(element.value),
-    )
 }

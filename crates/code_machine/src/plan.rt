@@ -12,11 +12,11 @@ ghost use Rattle.code_machine.specs.Changes.{HasEnough, IsSafe, changed, left};
 ghost use Rattle.code_machine.specs.Standing.{AreAllThere, AreThere, IsThereIfAny};
 ghost use Rattle.code_machine.specs.Views.{machine_seen};
 
-use crate::arrays::put;
+use crate::arrays::{PutStep, put};
 use crate::calls::{charge_call, registers_for};
 use crate::change::{Change, into_register};
 use crate::machine::Machine;
-use crate::operands::{BinaryStep, PutStep, appended, bits, combined, element, repeated};
+use crate::operands::{BinaryStep, appended, bits, combined, element, repeated};
 use crate::places::{assert_at, branch, into_place};
 use crate::texts::{argument, publish};
 use crate::values::{

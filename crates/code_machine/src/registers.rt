@@ -4,14 +4,14 @@ ghost use Rattle.language_model.specs.Evaluation.{put};
 ghost use Rattle.language_model.specs.Values.{size};
 ghost use Rattle.verified_code.specs.InMemory.{place_of};
 ghost use Rattle.code_model.specs.Machine.{received};
-ghost use Rattle.value_steps.specs.Views.{value_seen};
-ghost use Rattle.code_machine.specs.Changes.{returned, with_word};
+ghost use Rattle.value_steps.specs.Views.{value_seen, written};
+ghost use Rattle.code_machine.specs.Changes.{returned};
 ghost use Rattle.code_machine.specs.Standing.{HasAny};
 ghost use Rattle.code_machine.specs.Views.{registers_seen};
 
 use bytecode::Register;
 use std::mem;
-use value_steps::Value;
+use value_steps::{Value, WrittenElement};
 
 /// A value goes to a register.
 pub(crate) fn put(registers: &mut Vec<Value>, register: Register, value: Value)
@@ -22,16 +22,15 @@ pub(crate) fn put(registers: &mut Vec<Value>, register: Register, value: Value)
     registers[register.0 as usize] = value;
 }
 
-/// An element of the array in a register becomes a word.
-pub(crate) fn put_word(registers: &mut Vec<Value>, register: Register, index: u64, word: u64)
+/// An element is written into the array in a register.
+pub(crate) fn put_element(registers: &mut Vec<Value>, register: Register, element: WrittenElement)
     requires there { register.0 < length registers.old.items }
-    requires within { index < size (registers_seen registers.old.items register.0) }
+    requires within { element.index < size (registers_seen registers.old.items register.0) }
     ensures put { registers_seen registers.new.items
-        ≡ put register.0 (with_word (registers_seen registers.old.items register.0) index word) (registers_seen registers.old.items) }
+        ≡ put register.0 (written (registers_seen registers.old.items register.0) element) (registers_seen registers.old.items) }
     ensures count { length registers.new.items ≡ length registers.old.items }
 {
-    let array = &mut registers[register.0 as usize];
-    array.words[index as usize] = word;
+    element.into_array(&mut registers[register.0 as usize]);
 }
 
 /// The value of a register, taken out, or the other value where no register is named.

@@ -6,3 +6,4 @@ pub mod Tapes
 pub mod Blocks
 pub mod Turns
 pub mod LettingGo
+pub mod Storing

@@ -1,5 +1,5 @@
 -- What a miner has that runs gates, and what is left for it to do.
-use Rattle.std.specs.Prelude.{◌≡◌, ℕ, ◌+◌, ◌-◌, ◌*◌, ◌≤◌, true, false, List, ◌++◌, length, take, drop}
+use Rattle.std.specs.Prelude.{◌≡◌, ℕ, ◌+◌, ◌-◌, ◌*◌, ◌<◌, ◌≤◌, true, false, List, [], ◌∷◌, ◌++◌, length, take, drop, set}
 use Rattle.proto_core.specs.declared.party.Number.{Number}
 use Rattle.proto_core.specs.Protocol.{Protocol}
 use Rattle.proto_core.specs.Strand.{Strand, Ends, then_do}
@@ -103,6 +103,35 @@ module _ {P : Type 0} (i : Number) where
 
   abbrev pub EngineStands : Stand → Engine P → Type 0
   EngineStands s e = StandsAs i s e.links e.values e.tape.1 (engine_left e)
+
+-- the same is left to do, and no message was taken or sent
+pub record IsAhead {P : Type 0} (i : Number) (before after : Engine P) : Type 0 where
+  pub left : engine_left i after ≡ engine_left i before
+  pub links : after.links ≡ before.links
+  pub dealt : after.dealt ≡ before.dealt
+  pub tape : after.tape ≡ before.tape
+
+-- the one gate that is left is a store into the array of this number, of a word at an index
+pub record StoresLast {P : Type 0} (i : Number) (array index word : ℕ) (e : Engine P) : Type 0 where
+  pub idle : e.work ≡ work.Idle
+  pub last : e.begun + 1 ≡ length e.gates.items
+  pub left : engine_left i e ≡ Ends (Whole (e.values ++ set (value e.values array) index word ∷ []) e.tape.1)
+  pub there : array < length e.values
+  pub within : index < length (value e.values array)
+
+-- its gates have come to these values, of which there are so many, the last one a store into the array of a number; but the array was let go
+pub record Stored {P : Type 0} (i : Number) (array count : ℕ) (values : Values) (before after : Engine P) : Type 0 where
+  pub came : engine_left i before ≡ Ends (Whole values before.tape.1)
+  pub left : engine_left i after ≡ Ends (Whole after.values after.tape.1)
+  pub let_go : after.values ≡ set values array []
+  pub earlier : array + 1 < length values
+  pub counted : length values ≡ count
+  pub links : after.links ≡ before.links
+  pub dealt : after.dealt ≡ before.dealt
+  pub tape : after.tape ≡ before.tape
+
+abbrev pub HasStored : {P : Type 0} (i : Number) (array count : ℕ) (before after : Engine P) → Type 0
+HasStored i array count before after = (values : Values) × Stored i array count values before after
 
 -- what came stays, and so does what it was made with
 pub record Keeps {P : Type 0} (before after : Engine P) : Type 0 where

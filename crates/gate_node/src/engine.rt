@@ -1,8 +1,9 @@
 // A miner's gates, block by block.
-ghost use Rattle.std.specs.Prelude.{◌≡◌, ◌≢◌, ◌≤◌, ◌<◌, ◌⊎◌, length, true, false, None, IfSome, IfOk, OnOk};
+ghost use Rattle.std.specs.Prelude.{◌≡◌, ◌≢◌, ◌+◌, ◌≤◌, ◌<◌, ◌⊎◌, length, true, false, None, IfSome, IfOk, OnOk};
 ghost use Rattle.gates.specs.Held.{kept_only};
 ghost use Rattle.block_steps.specs.Outcomes.{outcome_of};
 ghost use Rattle.gate_node.specs.Nodes.{gates_left, work_left, engine_outcome, IsSoundRun, IsSound, EngineStands, RunStands, Keeps, KeepsGates, measure};
+ghost use Rattle.gate_node.specs.Nodes.{StoresLast, HasStored, IsAhead};
 
 use crate::beginning::{Beginning, begins};
 use crate::made::Made;
@@ -10,8 +11,8 @@ use crate::running::Running;
 use crate::stand::Stand;
 use crate::tape::Tape;
 use block_steps::{Links, Pending, Progress, begin};
-use gates::{BLOCK_LEN, Gate, Values};
-use joint_run::{local_share, second_value};
+use gates::{BLOCK_LEN, Gate, Values, Words};
+use joint_run::{local_share, second_value, suits};
 use proto_core::{BadMessage, Link, Party};
 use std::alloc::{AllocError, Global};
 use std::collections::BTreeSet;
@@ -28,6 +29,13 @@ pub(crate) enum Work<P: Party> {
     Within(Running, Pending<P>),
     /// A gate couldn't begin.
     Halt,
+}
+
+/// A word that is stored into an array at an index.
+#[derive(Clone, Copy)]
+struct Store {
+    index: usize,
+    word: u64,
 }
 
 /// A miner's shares, its tape, its gates, of which so many have begun, what it is at, and its links.
@@ -66,6 +74,102 @@ impl<P: Party> Engine<P> {
         if self.is_idle() && self.begun >= self.gates.len() {
             self.values.keep_only(numbers);
         }
+    }
+
+    /// Where the one gate that is left is a store into the array of this number, and suits: what it stores.
+    fn last_store(&self, array: u64) -> Option<Store>
+        requires within { self.now.begun ≤ length self.now.gates.items }
+        ensures stores { IfSome result (λ s. StoresLast P.me array s.index s.word self.now) }
+    {
+        if !self.is_idle() || self.gates.len() - self.begun != 1 {
+            return None;
+        }
+        let gate = &self.gates[self.begun];
+        match gate {
+            Gate::Put {
+                operand,
+                index,
+                element,
+            } => {
+                if *operand != array || !suits(gate, &self.dealt, &self.values) {
+                    return None;
+                }
+                let word = self.values.value(*element)[0];
+                Some(Store {
+                    index: *index as usize,
+                    word,
+                })
+            }
+            _ => None,
+        }
+    }
+
+    /// The oldest gate that hasn't begun is run, where it sends nothing and suits; else all is as before.
+    fn run_alone(&mut self) -> Result<bool, AllocError>
+        requires idle { self.old.work ≡ Work.Idle }
+        requires more { self.old.begun < length self.old.gates.items }
+        ensures ahead { OnOk result (IsAhead P.me self.old self.new) }
+        ensures idle { self.new.work ≡ Work.Idle }
+        ensures gates { self.new.gates ≡ self.old.gates }
+        ensures within { self.new.begun ≤ length self.new.gates.items }
+        ensures falls { IfOk result (λ done. done ≡ true → self.new.begun ≡ self.old.begun + 1) }
+    {
+        let gate = &self.gates[self.begun];
+        match begins(
+            P::number(),
+            &self.dealt,
+            &self.values,
+            self.tape.left(),
+            gate,
+        ) {
+            Beginning::Alone => {
+                let share = local_share(self.alloc, P::number(), &self.dealt, &self.values, gate)?;
+                self.values.push(share)?;
+                self.begun += 1;
+                Ok(true)
+            }
+            Beginning::Unfit | Beginning::Together(_) => Ok(false),
+        }
+    }
+
+    /// Where the one gate that is left is a store into the array of this number, and there are `count` values then, it is run in place: the
+    /// array is let go, and its words are those of the gate's value but for the one that is stored. Else all is as before.
+    fn store_last(&mut self, array: u64, count: u64) -> Result<bool, AllocError>
+        requires sound { IsSound P.me self.old }
+        ensures stored { IfOk result (λ done. done ≡ true → HasStored P.me array count self.old self.new) }
+        ensures same { IfOk result (λ done. done ≡ false → self.new ≡ self.old) }
+        ensures sound { IsSound P.me self.new }
+    {
+        if count == 0 || self.values.len() as u64 != count - 1 {
+            return Ok(false);
+        }
+        let Some(store) = self.last_store(array) else {
+            return Ok(false);
+        };
+        let mut words = self.values.take(self.alloc, array).into_vec();
+        words[store.index] = store.word;
+        self.values.push(Words::new(words))?;
+        self.begun += 1;
+        Ok(true)
+    }
+
+    /// The gates that are left are run, where they send nothing and the last one is a store into the array of this number, with which there
+    /// are `count` values: it is done in place, and the array is let go. Else only some that send nothing may be run.
+    pub fn store_in_place(&mut self, array: u64, count: u64) -> Result<bool, AllocError>
+        requires sound { IsSound P.me self.old }
+        ensures stored { IfOk result (λ done. done ≡ true → HasStored P.me array count self.old self.new) }
+        ensures ahead { IfOk result (λ done. done ≡ false → IsAhead P.me self.old self.new) }
+        ensures sound { IsSound P.me self.new }
+    {
+        if !self.is_idle() {
+            return Ok(false);
+        }
+        while self.gates.len() - self.begun > 1 {
+            if !self.run_alone()? {
+                return Ok(false);
+            }
+        }
+        self.store_last(array, count)
     }
 
     /// Whether no gate is at work. It is looked at first, since what a gate has at work is large, and moved as often as it is gone on with.

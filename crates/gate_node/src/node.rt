@@ -1,4 +1,4 @@
-ghost use Rattle.std.specs.Prelude.{◌≡◌, ◌≤◌, ℕ, IsTrue, [], length, IfOk, OnOk, OnErr};
+ghost use Rattle.std.specs.Prelude.{◌≡◌, ◌≤◌, ℕ, IsTrue, true, false, [], length, IfOk, OnOk, OnErr};
 ghost use Rattle.std.specs.Ordering.{nat_cmp};
 ghost use Rattle.std.specs.BTreeSet.{contains};
 ghost use Rattle.gates.specs.Clear.{value};
@@ -6,7 +6,7 @@ ghost use Rattle.gates.specs.Held.{kept_only};
 ghost use Rattle.proto_core.specs.Strand.{Ends, then_do};
 ghost use Rattle.block_steps.specs.Outcomes.{came_from_previous, came_from_next};
 ghost use Rattle.gate_node.specs.OwnGates.{Whole, then_gates};
-ghost use Rattle.gate_node.specs.Nodes.{engine_left, engine_outcome, EngineStands, Keeps, IsSameButGates, IsSameButValues, with_links};
+ghost use Rattle.gate_node.specs.Nodes.{engine_left, engine_outcome, EngineStands, Keeps, HasStored, IsAhead, IsSameButGates, IsSameButValues, with_links};
 
 use crate::engine::{Engine, Work};
 use crate::stand::Stand;
@@ -95,6 +95,16 @@ impl<P: Party> GateNode<P> {
         ensures same { IsSameButValues self.old self.new }
     {
         self.engine.keep_only(numbers);
+    }
+
+    /// Runs the gates that are left, where they send nothing and the last one is a store into the array of this number, with which there are
+    /// `count` values: it is done in place, so that nothing of the array is copied, and the array is let go. Else only some that send nothing
+    /// may be run.
+    pub fn store_in_place(&mut self, array: u64, count: u64) -> Result<bool, AllocError>
+        ensures stored { IfOk result (λ done. done ≡ true → HasStored P.me array count self.old self.new) }
+        ensures ahead { IfOk result (λ done. done ≡ false → IsAhead P.me self.old self.new) }
+    {
+        self.engine.store_in_place(array, count)
     }
 
     /// A message comes from the previous miner; with no memory left all is as before.

@@ -1,8 +1,9 @@
 -- Values by what is held of them.
 use Rattle.std.proofs.Common.{◌≡◌, ℕ, zero, suc, ◌+◌, ◌≤◌, ◌<◌, ◌⊎◌, inl, inr, List, [], ◌∷◌}
-use Rattle.std.proofs.Common.{◌++◌, length, Bool, true, false, cond, Option, None, refl, sym, ◌∙◌, ap, arith}
-use Rattle.std.proofs.lemmas.Bool.{cases_lt}
-use Rattle.std.proofs.lemmas.List.{get_or_append_left, get_or-append-add}
+use Rattle.std.proofs.Common.{◌≢◌, ◌++◌, length, Bool, true, false, cond, Option, None, refl, sym, ◌∙◌, ap, arith}
+use Rattle.std.specs.Prelude.{set}
+use Rattle.std.proofs.lemmas.Bool.{cases_lt, cases_eq}
+use Rattle.std.proofs.lemmas.List.{get_or_append_left, get_or-append-add, get_or-set_same, get_or-set_other, length-set, ext_get_or}
 use Rattle.std.specs.Option.{unwrap_or}
 use Rattle.std.specs.BTreeMap.{BTreeMap}
 use Rattle.std.specs.BTreeSet.{BTreeSet, contains}
@@ -64,6 +65,22 @@ value_held held n none k = by_place (cases_lt k n)
         let past : length (first_values (held_at held) n) ≤ k = omega (arith, from, length_first (held_at held) n) in
         beyond (first_values (held_at held) n) k past
         ∙ sym (ap (λ found. unwrap_or found []) (none k from))
+
+-- ---- one is let go
+
+pub first_without :
+    (at other : ℕ → List ℕ) (n k : ℕ) → at k ≡ [] → ((j : ℕ) → j ≢ k → at j ≡ other j) → first_values at n ≡ set (first_values other n) k []
+first_without at other n k own others =
+    let same : length (first_values at n) ≡ length (set (first_values other n) k []) =
+    length_first at n ∙ sym (length-set (first_values other n) k [] ∙ length_first other n) in
+    ext_get_or [] (first_values at n) (set (first_values other n) k []) same (λ j l. by_place j (omega (arith, l, length_first at n)) (cases_eq j k))
+  where
+    by_place : (j : ℕ) → j < n → (j ≡ k) ⊎ (j ≡ k → ⊥) → value (first_values at n) j ≡ value (set (first_values other n) k []) j
+    by_place j l (inl is) =
+        let there : k < length (first_values other n) = omega (arith, l, is, length_first other n) in
+        first_at at n j l ∙ ap at is ∙ own ∙ sym (ap (value (set (first_values other n) k [])) is ∙ get_or-set_same (first_values other n) k [] [] there)
+    by_place j l (inr apart) =
+        first_at at n j l ∙ others j apart ∙ sym (get_or-set_other (first_values other n) k j [] [] apart ∙ first_at other n j l)
 
 -- ---- some are kept
 

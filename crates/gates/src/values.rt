@@ -1,5 +1,5 @@
 // Clear values by number.
-ghost use Rattle.std.specs.Prelude.{◌≡◌, [], ◌∷◌, ◌++◌, length, OnOk, OnErr};
+ghost use Rattle.std.specs.Prelude.{◌≡◌, [], ◌∷◌, ◌++◌, length, set, OnOk, OnErr};
 ghost use Rattle.gates.specs.Clear.{value};
 ghost use Rattle.gates.specs.Held.{kept_only};
 
@@ -65,6 +65,17 @@ impl Values {
         match self.held.get(&number) {
             Some(words) => words.as_slice(),
             None => &[],
+        }
+    }
+
+    /// The words of the value of a number, which lets them go; none where no value has it. None is copied.
+    pub fn take(&mut self, alloc: Global, number: u64) -> Words
+        ensures words { result ≡ value self.old number }
+        ensures let_go { self.new ≡ set self.old number [] }
+    {
+        match self.held.remove(&number) {
+            Some(words) => words,
+            None => Words::new(Vec::new(alloc)),
         }
     }
 

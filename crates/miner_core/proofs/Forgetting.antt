@@ -1,8 +1,10 @@
 -- What a miner does that has let go values, and the list of its gates.
-use Rattle.std.proofs.Common.{◌≡◌, ℕ, ◌-◌, Bool, true, false, List, [], ◌∷◌, ◌++◌, map, length, refl, sym, ◌∙◌, ap}
+use Rattle.std.proofs.Common.{◌≡◌, ◌≢◌, ℕ, ◌-◌, Bool, true, false, List, [], ◌∷◌, ◌++◌, map, length, refl, sym, ◌∙◌, ap, subst, arith}
+use Rattle.std.proofs.lemmas.List.{length-set, get_or-set_other}
 use Rattle.std.specs.Prelude.{cond, None, Result, Ok, Err, Vec}
 use Rattle.std.specs.declared.alloc.Global.{Global}
 use Rattle.proto_core.specs.declared.party.Number.{Number}
+use Rattle.proto_core.specs.Strand as told
 use Rattle.proto_core.specs.Strand.{accepts, Mail, Strand, Ends, Acts, Waits, taken, Ran, acted, run, then_do, told_in}
 use Rattle.proto_core.specs.Standing.{standing_with}
 use Rattle.proto_core.proofs.Strands.{run-none, run-took, run-refused}
@@ -10,7 +12,10 @@ use Rattle.gates.specs.Clear.{Values, value}
 use Rattle.value_steps.specs.Views.{stage_seen}
 use Rattle.value_steps.specs.declared.stage.Stage as reached
 use Rattle.code_machine.specs.Views.{machine_seen}
-use Rattle.driven_nodes.specs.Steps.{Running, Stopped, Short}
+use Rattle.bytecode.specs.Raw.{RawCode}
+use Rattle.driven_nodes.specs.Driven.{telling}
+use Rattle.driven_nodes.specs.Steps.{Running, Stopped, Short, last_of}
+use Rattle.code_turns.specs.declared.outcome.Turned.TheVariants as turned
 use Rattle.protocol_model.specs.Gates.{nth_value}
 use Rattle.code_places.specs.Places.{Place, place}
 use Rattle.block_steps.specs.declared.links.Links.{Links}
@@ -26,6 +31,7 @@ use Rattle.own_code.specs.OwnCode.{Ended, Reached, Unfit, own_code}
 use Rattle.own_code.proofs.Holding.{same_words}
 use Rattle.own_code.proofs.LettingGo.{code_needs}
 use Rattle.own_code.proofs.OtherGates.{runs_alike}
+use Rattle.miner_core.specs.declared.engine.At.{At}
 use Rattle.miner_core.specs.declared.engine.At.TheVariants as at
 use Rattle.miner_core.specs.declared.letting_go.Letting.{Letting}
 use Rattle.miner_core.specs.declared.engine.Engine.{Engine}
@@ -36,9 +42,9 @@ use Rattle.miner_core.specs.declared.answer.Step.{Step}
 use Rattle.miner_core.specs.declared.answer.Step.TheVariants as step
 use Rattle.miner_core.specs.declared.answer.MinerErr.{MinerErr}
 use Rattle.miner_core.specs.declared.answer.MinerErr.TheVariants as error
-use Rattle.miner_core.specs.Views.{task_world, task_code, notice_seen}
+use Rattle.miner_core.specs.Views.{task_world, task_code, notice_seen, told_since}
 use Rattle.miner_core.specs.Engines.{place_at, goes_on_at, behind_node, engine_left, engine_outcome, engine_told, forgetting, shown, IsThrough}
-use Rattle.miner_core.specs.Engines.{KeepsLinks}
+use Rattle.miner_core.specs.Engines.{KeepsLinks, LeadsOn}
 use Rattle.miner_core.specs.Story.{IsEnd, HasEnded, IsAnswerOf}
 
 -- ---- IT DOES THE SAME
@@ -187,6 +193,56 @@ is_held p N values held as_many counted named last kept =
           same_words values held (length values - 1) (sym (kept (length values - 1) last))
           ∙ ap (λ n. nth_value held (n - 1)) (sym as_many);
     }
+
+-- ---- AN ARRAY THAT IS STORED INTO
+
+forgetting_telling : (ns : List told.Notice) (s : Strand Ended) → forgetting (telling ns s) ≡ telling ns (forgetting s)
+forgetting_telling [] s = refl
+forgetting_telling (n ∷ ns) s = ap (Acts (told.Told n)) (forgetting_telling ns s)
+
+module _ {P : Type 0} (i : Number) (e : Engine P) (n : gates.Engine P) (when : Letting) (array : ℕ) (values : Values)
+    (leads : LeadsOn e.at) (stored : node.Stored i array e.stage.made values e.node n)
+    (frees : (code : RawCode) → MachineNames (machine_seen code e.machine) array → ⊥) where
+  abbrev spared : Engine P
+  spared = record e { node = n; letting = when }
+
+  still_held : IsHeld (place_at i e) values n.values
+  still_held =
+      is_held (place_at i e) (λ k. k ≢ array) values n.values (ap length stored.let_go ∙ length-set values array []) (sym stored.counted)
+      (λ k names is. frees e.task.code (subst (MachineNames (machine_seen e.task.code e.machine)) is names))
+      (λ is. absurd (omega (arith, is, stored.earlier)))
+      (λ k apart. ap (λ v. value v k) stored.let_go ∙ get_or-set_other values array k [] [] apart)
+
+  abbrev code_with : Values → Values → Strand Ended
+  code_with d own = own_code (task_world e.task) (task_code e.task) i d e.fuel (place_at i e) own e.node.tape.1
+
+  code_alike : forgetting (code_with n.dealt n.values) ≡ forgetting (code_with e.node.dealt values)
+  code_alike =
+      ap (λ d. forgetting (code_with d n.values)) stored.dealt
+      ∙ values_first (code_with e.node.dealt n.values)
+      ∙ ap without_gates
+      (sym (code_needs (task_world e.task) (task_code e.task) i e.node.dealt e.fuel (place_at i e) values n.values e.node.tape.1 still_held))
+      ∙ sym (values_first (code_with e.node.dealt values))
+
+  goes_alike : (a : At) → LeadsOn a → forgetting (goes_on_at i spared a n.values e.node.tape.1) ≡ forgetting (goes_on_at i e a values e.node.tape.1)
+  goes_alike (at.Acts turned.On speech before) l =
+      forgetting_telling (told_since speech before e.stage (last_of n.values)) (code_with n.dealt n.values)
+      ∙ ap (λ last. telling (told_since speech before e.stage last) (forgetting (code_with n.dealt n.values))) (sym still_held.last)
+      ∙ ap (telling (told_since speech before e.stage (last_of values))) code_alike
+      ∙ sym (forgetting_telling (told_since speech before e.stage (last_of values)) (code_with e.node.dealt values))
+  goes_alike (at.Acts (turned.Over ending) speech before) l = absurd l
+  goes_alike (at.Acts turned.Short speech before) l = absurd l
+  goes_alike at.Ready l = absurd l
+  goes_alike at.Again l = absurd l
+  goes_alike (at.Over ending) l = absurd l
+  goes_alike at.Short l = absurd l
+
+  pub spared_left : forgetting (engine_left i spared) ≡ forgetting (engine_left i e)
+  spared_left =
+      ap (λ v. forgetting (then_do v (behind_node i spared e.at))) stored.left
+      ∙ ap (λ (t : List ℕ × List ℕ). forgetting (goes_on_at i spared e.at n.values t.1)) stored.tape
+      ∙ goes_alike e.at leads
+      ∙ sym (ap (λ v. forgetting (then_do v (behind_node i e e.at))) stored.came)
 
 pub links_kept : {P : Type 0} (e e2 e3 : Engine P) → KeepsLinks e e2 → KeepsLinks e2 e3 → KeepsLinks e e3
 links_kept e e2 e3 k l =

@@ -7,7 +7,6 @@ use Rattle.proto_core.specs.Net.{added, nothing}
 use Rattle.proto_core.proofs.Beginnings.{append-none}
 use Rattle.proto_core.proofs.Strands.{run-added, run-then_do, told-append}
 use Rattle.protocol_model.specs.Gates.{sizes_of, gates_strand}
-use Rattle.protocol_model.specs.Gates as model
 use Rattle.protocol_model.proofs.Scripts.{silent_then}
 use Rattle.gates.specs.declared.gate.Gate.{Gate}
 use Rattle.gates.specs.Clear.{Values}

@@ -124,6 +124,11 @@ pub record KeepsLinks {P : Type 0} (before after : Engine P) : Type 0 where
 abbrev pub acting : {P : Type 0} → Engine P → Turned → Speech → Told → Engine P
 acting e t speech before = record e { at = at.Acts t speech before }
 
+-- the gates of a step run behind which another step comes
+abbrev pub LeadsOn : At → Type 0
+LeadsOn (at.Acts turned.On speech before) = Unit {0}
+LeadsOn a = ⊥
+
 -- it wants no words
 abbrev pub GoesOn : Turned → Type 0
 GoesOn turned.On = Unit {0}

@@ -183,7 +183,7 @@ impl<P: Party> Engine<P> {
         Ok(())
     }
 
-    /// The next step, if fuel is left. Before it, what isn't needed any more is let go.
+    /// The next step, if fuel is left. Before it, what isn't needed any more is let go; an array into which it stores is, where it can be.
     fn ready(&mut self) -> Result<bool, AllocError>
         requires ready { self.old.at ≡ Ready }
         requires through { IsThrough P.me self.old.node }
@@ -200,6 +200,7 @@ impl<P: Party> Engine<P> {
         }
         self.let_go()?;
         self.begin()?;
+        self.store_in_place()?;
         Ok(true)
     }
 

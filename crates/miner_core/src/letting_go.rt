@@ -1,5 +1,6 @@
-// What a miner lets go between two steps: values that nothing can name any more, and the list of its gates.
-ghost use Rattle.std.specs.Prelude.{◌≡◌, ◌-◌, ◌&&◌, ◌||◌, ℕ, length, nat_eq, nat_le, nat_lt, IsTrue, IfOk, OnOk};
+// What a miner lets go: between two steps values that nothing can name any more, and the list of its gates; and behind a step the array into
+// which it has stored.
+ghost use Rattle.std.specs.Prelude.{◌≡◌, ◌-◌, ◌&&◌, ◌||◌, ℕ, length, nat_eq, nat_le, nat_lt, IsTrue, IfSome, IfOk, OnOk};
 ghost use Rattle.std.specs.BTreeSet.{contains};
 ghost use Rattle.std.specs.Ordering.{nat_cmp};
 ghost use Rattle.bytecode.specs.Raw.{RawCode};
@@ -8,10 +9,11 @@ ghost use Rattle.code_machine.specs.Views.{machine_seen};
 ghost use Rattle.driven_nodes.specs.Steps.{last_of};
 ghost use Rattle.named_values.specs.Named.{AreAmong, MachineNames};
 ghost use Rattle.miner_core.specs.declared.engine.At.TheVariants.{Ready};
-ghost use Rattle.miner_core.specs.Engines.{engine_left, forgetting, IsSound, IsThrough, KeepsLinks};
+ghost use Rattle.miner_core.specs.Engines.{engine_left, forgetting, measure, IsSound, IsThrough, KeepsLinks, LeadsOn};
 
-use crate::engine::Engine;
-use code_turns::last_words;
+use crate::engine::{At, Engine};
+use code_turns::{Turned, last_words};
+use gates::Gate;
 use proto_core::Party;
 use std::alloc::AllocError;
 use std::collections::BTreeSet;
@@ -21,6 +23,9 @@ const STRIDE: usize = 1024;
 
 /// How many words a large value has, at least.
 const LARGE: usize = 4096;
+
+/// How many words an array has, at least, that is let go where it is stored into.
+const ARRAY: usize = 32;
 
 /// When values are let go: how many there were when it was done last, and from how many on it is done again, whatever their size.
 #[derive(Clone, Copy)]
@@ -80,6 +85,53 @@ impl<P: Party> Engine<P> {
         let done = self.node.values().len();
         let next = done.saturating_add(numbers.len().max(STRIDE));
         self.letting = Letting { done, next };
+        Ok(())
+    }
+
+    /// The number of the array into which the step at work has stored last, where it is large, and nothing names it behind the step. No more
+    /// registers are looked through than it has words.
+    fn spent(&self) -> Option<u64>
+        ensures leads { IfSome result (λ array. LeadsOn self.now.at) }
+        ensures frees { IfSome result (λ array. (code : RawCode) → MachineNames (machine_seen code self.now.machine) array → ⊥) }
+    {
+        let At::Acts {
+            turned: Turned::On,
+            ..
+        } = &self.at
+        else {
+            return None;
+        };
+        let values = self.node.values();
+        if self.stage.made <= values.len() as u64 {
+            return None;
+        }
+        let Some(Gate::Put { operand, .. }) = self.stage.gates.last() else {
+            return None;
+        };
+        let size = values.value(*operand).len();
+        if size >= ARRAY && self.machine.frees(*operand, size) {
+            Some(*operand)
+        } else {
+            None
+        }
+    }
+
+    /// Where the step at work stores into an array that nothing names behind it, it is stored in place, and the array is let go. What is left
+    /// to do, and all that is sent, opened and told then, is the same. No more words are held than before, so nothing large is left to let go.
+    #[inline(never)]
+    pub fn store_in_place(&mut self) -> Result<(), AllocError>
+        requires sound { IsSound P.me self.old }
+        ensures left { OnOk result (forgetting (engine_left P.me self.new) ≡ forgetting (engine_left P.me self.old)) }
+        ensures kept { OnOk result (KeepsLinks self.old self.new) }
+        ensures sound { OnOk result (IsSound P.me self.new) }
+        ensures beside { measure self.new ≡ measure self.old }
+    {
+        let Some(array) = self.spent() else {
+            return Ok(());
+        };
+        if self.node.store_in_place(array, self.stage.made)? {
+            self.letting.done = self.node.values().len();
+        }
         Ok(())
     }
 }

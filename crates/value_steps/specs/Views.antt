@@ -1,11 +1,12 @@
 -- What the types of a run stand for.
-use Rattle.std.specs.Prelude.{ℕ, List, map, Vec}
+use Rattle.std.specs.Prelude.{ℕ, List, map, set, Vec}
 use Rattle.std.specs.declared.alloc.Global.{Global}
 use Rattle.language_model.specs.Effects.{Words, World, Source, Clear, Answers, Stage, GivenInput}
 use Rattle.language_model.specs.Values.{Secrecy, Plain, Private, Value}
 use Rattle.value_steps.specs.declared.value.Secrecy as kept
 use Rattle.value_steps.specs.declared.value.Secrecy.TheVariants as secrecy
 use Rattle.value_steps.specs.declared.value.Value as held
+use Rattle.value_steps.specs.declared.arrays.WrittenElement as wrote
 use Rattle.value_steps.specs.declared.stage.Drawn as drawn
 use Rattle.value_steps.specs.declared.stage.Stage as reached
 use Rattle.value_steps.specs.declared.world.Lengths as lengths
@@ -21,6 +22,10 @@ secrecy_seen (secrecy.Private k) = Private k
 
 abbrev pub value_seen : held.Value → Value
 value_seen v = record { secrecy = secrecy_seen v.secrecy; shape = v.shape; words = v.words.items }
+
+-- an array into which an element was written
+abbrev pub written : Value → wrote.WrittenElement → Value
+written v e = record v { secrecy = secrecy_seen e.secrecy; words = set v.words e.index e.word }
 
 abbrev pub drawn_seen : drawn.Drawn → Words
 drawn_seen d = record { first = d.first; second = d.second; third = d.third }

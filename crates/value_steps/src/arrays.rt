@@ -1,8 +1,9 @@
 // Arrays and their elements.
-ghost use Rattle.std.specs.Prelude.{◌≡◌, ◌≤◌, ◌+◌, ◌++◌, ◌<◌, length, set, IfOk};
+ghost use Rattle.std.specs.Prelude.{◌≡◌, ◌≤◌, ◌+◌, ◌++◌, ◌<◌, IfOk};
 ghost use Rattle.language_model.specs.Operations.{concatenated, element_of_array, with_element, filled};
+ghost use Rattle.language_model.specs.Values.{size};
 ghost use Rattle.value_steps.specs.Steps.{Does, itself};
-ghost use Rattle.value_steps.specs.Views.{stage_seen, value_seen};
+ghost use Rattle.value_steps.specs.Views.{stage_seen, value_seen, written};
 
 use crate::gating::{gate, number_of};
 use crate::halt::Halt;
@@ -92,13 +93,66 @@ pub fn element_of_array(
     }
 }
 
-/// Words with the one at an index changed.
-fn with_word(mut words: Vec<u64>, index: u64, word: u64) -> Vec<u64>
-    requires { index < length words.items }
-    ensures { result.items ≡ set words.items index word }
+/// What becomes of an array by an element that is written: the word at an index, and who may see the array then.
+#[derive(Clone, Copy)]
+pub struct WrittenElement {
+    pub index: u64,
+    pub word: u64,
+    pub secrecy: Secrecy,
+}
+
+impl WrittenElement {
+    /// The array with the element, which is written in place.
+    pub fn into_array(self, array: &mut Value)
+        requires { self.index < size (value_seen array.old) }
+        ensures { value_seen array.new ≡ written (value_seen array.old) self }
+    {
+        array.words[self.index as usize] = self.word;
+        array.secrecy = self.secrecy;
+    }
+}
+
+/// What becomes of an array by an element that is written at an index. Nothing of the array is copied.
+pub fn element_written(
+    alloc: Global,
+    stage: &mut Stage<'_>,
+    line: u32,
+    array: &Value,
+    index: &Value,
+    element: &Value,
+) -> Result<WrittenElement, Halt>
+    ensures step { Does (written (value_seen array.now)) (with_element line (value_seen array.now) (value_seen index.now) (value_seen element.now))
+        (stage_seen stage.old) result (stage_seen stage.new) }
+    ensures within { IfOk result (λ e. e.index < size (value_seen array.now)) }
+    ensures spends { stage.new.left ≤ stage.old.left }
 {
-    words[index as usize] = word;
-    words
+    charge(stage, 1)?;
+    let place = index.seen_word();
+    test_at(stage, place < array.size(), TrapKind::Index, line)?;
+    match array.secrecy {
+        Secrecy::Plain => Ok(WrittenElement {
+            index: place,
+            word: element.seen_word(),
+            secrecy: Secrecy::Plain,
+        }),
+        Secrecy::Private(_) => {
+            let operand = number_of(alloc, stage, array)?;
+            let element_number = number_of(alloc, stage, element)?;
+            let number = gate(
+                stage,
+                Gate::Put {
+                    operand,
+                    index: place,
+                    element: element_number,
+                },
+            )?;
+            Ok(WrittenElement {
+                index: place,
+                word: element.word(),
+                secrecy: Secrecy::Private(Some(number)),
+            })
+        }
+    }
 }
 
 /// An array with its element at an index changed. The array is written in place.
@@ -113,31 +167,11 @@ pub fn with_element(
         (stage_seen stage.old) result (stage_seen stage.new) }
     ensures spends { stage.new.left ≤ stage.old.left }
 {
-    charge(stage, 1)?;
-    let place = index.seen_word();
-    test_at(stage, place < array.size(), TrapKind::Index, line)?;
-    let shape = array.shape;
-    match array.secrecy {
-        Secrecy::Plain => {
-            let words = with_word(array.into_words(), place, element.seen_word());
-            Ok(Value::plain(shape, words))
-        }
-        Secrecy::Private(_) => {
-            let alloc = *array.words.allocator();
-            let operand = number_of(alloc, stage, &array)?;
-            let element_number = number_of(alloc, stage, element)?;
-            let number = gate(
-                stage,
-                Gate::Put {
-                    operand,
-                    index: place,
-                    element: element_number,
-                },
-            )?;
-            let words = with_word(array.into_words(), place, element.word());
-            Ok(Value::hidden(shape, number, words))
-        }
-    }
+    let mut array = array;
+    let alloc = *array.words.allocator();
+    let written = element_written(alloc, stage, line, &array, index, element)?;
+    written.into_array(&mut array);
+    Ok(array)
 }
 
 /// An array of so many elements that all are this one.

@@ -25,7 +25,9 @@ mod value;
 mod world;
 
 pub use applied::Applied;
-pub use arrays::{concatenated, element_of_array, filled, with_element};
+pub use arrays::{
+    WrittenElement, concatenated, element_of_array, element_written, filled, with_element,
+};
 pub use classification::wanted;
 pub use conditions::{asserted, tested};
 pub use halt::Halt;

@@ -1,0 +1,91 @@
+-- The last gate, a store into an array that is let go, is run in place.
+use Rattle.std.proofs.Common.{◌≡◌, ℕ, ◌+◌, ◌<◌, ◌≤◌, Bool, true, IsTrue, ◌↔◌, List, [], ◌∷◌, ◌++◌, length, drop, get_or, refl, sym, ◌∙◌, ap, subst, arith}
+use Rattle.std.specs.Prelude.{set}
+use Rattle.std.proofs.lemmas.List.{drop_all, length-map, length_push, set-append_left}
+use Rattle.proto_core.specs.declared.party.Number.{Number}
+use Rattle.proto_core.specs.Strand.{Ends}
+use Rattle.protocol_model.specs.Gates.{sizes_of}
+use Rattle.gates.specs.declared.gate.Gate.{Gate}
+use Rattle.gates.specs.declared.gate.Gate.TheVariants.{Put}
+use Rattle.gates.specs.Clear.{Values, value, first_word}
+use Rattle.shared_gates.specs.Model.{SizesSuit}
+use Rattle.shared_gates.proofs.Models.{size-value}
+use Rattle.gate_node.specs.declared.engine.Work.TheVariants as work
+use Rattle.gate_node.specs.declared.engine.Engine.{Engine}
+use Rattle.gate_node.specs.OwnGates.{Whole, own_gates}
+use Rattle.gate_node.specs.Nodes.{engine_left, work_left, StoresLast, HasStored, IsAhead}
+use Rattle.gate_node.proofs.Blocks.{drop-front, gate-alone, alone-can}
+
+module _ {P : Type 0} (i : Number) (e : Engine P) (array index v : ℕ) where
+  abbrev store : Gate
+  store = Put array index v
+
+  pub stores-last :
+      (word : ℕ) (b : Bool) → e.work ≡ work.Idle → e.begun + 1 ≡ length e.gates.items → get_or e.gates.items e.begun store ≡ store →
+      IsTrue b ↔ SizesSuit (sizes_of e.dealt) (sizes_of e.values) store → b ≡ true → word ≡ first_word (value e.values v) →
+      StoresLast i array index word e
+  stores-last word b idle last is tells told has =
+      let suit : SizesSuit (sizes_of e.dealt) (sizes_of e.values) store = tells.0 told in
+      let some : e.begun < length e.gates.items = omega (arith, last) in
+      let none : length e.gates.items ≤ e.begun + 1 = omega (arith, last) in
+      let many : length (sizes_of e.values) ≡ length e.values = length-map e.values length in
+      let size : length (value e.values array) ≡ _ = size-value e.values array in
+      record {
+        idle = idle;
+        last = last;
+        left =
+            ap (work_left i e) idle
+            ∙ ap (λ l. own_gates i e.dealt l e.values e.tape.1)
+            (drop-front e.begun e.gates.items store some is ∙ ap (λ l. store ∷ l) (drop_all (e.begun + 1) e.gates.items none))
+            ∙ gate-alone i e.dealt e.values e.tape.1 store [] (alone-can i e.dealt e.values e.tape.1 store b tells told tt) tt
+            ∙ ap (λ x. Ends (Whole (e.values ++ set (value e.values array) index x ∷ []) e.tape.1)) (sym has);
+        there = subst (λ n. array < n) many suit.0;
+        within = subst (λ n. index < n) (sym size) suit.2;
+      }
+
+module _ {P : Type 0} (i : Number) (array index word count : ℕ) (e : Engine P) (h : StoresLast i array index word e) (values : Values) (begun : ℕ) where
+  abbrev after : Engine P
+  after = record e { values = values; begun = begun }
+
+  pub has-stored :
+      values ≡ set e.values array [] ++ set (value e.values array) index word ∷ [] → begun ≡ e.begun + 1 → length e.values + 1 ≡ count →
+      HasStored i array count e after
+  has-stored is next counted =
+      let new : List ℕ = set (value e.values array) index word in
+      let all : Values = e.values ++ new ∷ [] in
+      let more : length all ≡ length e.values + 1 = length_push e.values new in
+      let none : length e.gates.items ≤ begun = omega (arith, h.last, next) in (
+        all,
+        record {
+          came = h.left;
+          left = ap (work_left i after) h.idle ∙ ap (λ l. own_gates i e.dealt l values e.tape.1) (drop_all begun e.gates.items none);
+          let_go = is ∙ sym (set-append_left e.values (new ∷ []) array [] h.there);
+          earlier = omega (arith, more, h.there);
+          counted = more ∙ counted;
+          links = refl;
+          dealt = refl;
+          tape = refl;
+        },
+      )
+
+-- other gates were run before
+pub stored_behind :
+    {P : Type 0} (i : Number) (array count : ℕ) (e f h : Engine P) → IsAhead i e f → HasStored i array count f h → HasStored i array count e h
+stored_behind i array count e f h ahead stored =
+    let s = stored.1 in (
+      stored.0,
+      record {
+        came = sym ahead.left ∙ s.came ∙ ap (λ (t : List ℕ × List ℕ). Ends (Whole stored.0 t.1)) ahead.tape;
+        left = s.left;
+        let_go = s.let_go;
+        earlier = s.earlier;
+        counted = s.counted;
+        links = s.links ∙ ahead.links;
+        dealt = s.dealt ∙ ahead.dealt;
+        tape = s.tape ∙ ahead.tape;
+      },
+    )
+
+pub ahead_of_all : {P : Type 0} (i : Number) (e f h : Engine P) → IsAhead i e f → IsAhead i f h → IsAhead i e h
+ahead_of_all i e f h a b =
+    record { left = b.left ∙ a.left; links = b.links ∙ a.links; dealt = b.dealt ∙ a.dealt; tape = b.tape ∙ a.tape }

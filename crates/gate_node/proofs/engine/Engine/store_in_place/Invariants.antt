@@ -1,0 +1,14 @@
+use Rattle.std.proofs.Common.{◌≡◌, ◌-◌, ◌≤◌, length}
+use Rattle.gate_node.specs.declared.engine.Work.TheVariants as work
+use Rattle.gate_node.specs.Nodes.{IsAhead}
+use Rattle.gate_node.proofs.engine.Engine.store_in_place.Given as goal
+
+abbrev pub invariant-loop-self : goal.invariant-loop-self
+invariant-loop-self g l = record {
+  ahead : IsAhead g.P.Party.me l.fn.self l.self;
+  idle : l.self.work ≡ work.Idle;
+  within : l.self.begun ≤ length l.self.gates.items;
+}
+
+abbrev pub decreases-loop-self : goal.decreases-loop-self
+decreases-loop-self g l = length l.self.gates.items - l.self.begun
