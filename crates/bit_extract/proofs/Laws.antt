@@ -2,7 +2,7 @@
 use Rattle.std.proofs.Common.{◌≡◌, ℕ, ◌+◌, ◌*◌, ◌/◌, ◌%◌, ◌^◌, ◌<◌, ◌≤◌, Some, List, [], ◌∷◌, ◌++◌, length, map, drop, get_or, refl, sym, ◌∙◌, ap}
 use Rattle.std.proofs.Common.{subst, arith, false}
 use Rattle.std.specs.Prelude.{slice_get}
-use Rattle.share_ring.specs.Rings.{add_ring, xor_ring}
+use Rattle.gates.specs.Rings.{add_ring, xor_ring}
 use Rattle.gates.specs.declared.gate.Gate.{Gate}
 use Rattle.gates.specs.Clear.{Values, value, each_two, FitFrom}
 use Rattle.gates.specs.Counts.{Miner, size_of, words_of_all, words_of_split}

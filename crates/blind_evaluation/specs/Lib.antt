@@ -1,1 +1,2 @@
 pub mod Courses
+pub use Rattle.bit_extract.specs.Plan

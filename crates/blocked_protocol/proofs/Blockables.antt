@@ -5,7 +5,7 @@ use Rattle.proto_core.specs.declared.party.Number.{Number}
 use Rattle.proto_core.specs.declared.party.Number.TheVariants.{One, Two, Three}
 use Rattle.multiply.specs.Multiplying.{mul_protocol}
 use Rattle.open_result.specs.Opening.{open_protocol}
-use Rattle.reshare.specs.Resharing.{reshare_protocol}
+use Rattle.open_result.specs.Resharing.{reshare_protocol}
 use Rattle.share_convert.specs.Converting.{conv_draws, conv_protocol}
 use Rattle.split_share.specs.Splitting.{split_draws, split_protocol}
 use Rattle.blocked_protocol.specs.Blocked.{Additive, Blockable}

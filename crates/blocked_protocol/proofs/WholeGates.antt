@@ -14,8 +14,8 @@ use Rattle.multiply.specs.Multiplying.{mul_protocol}
 use Rattle.multiply.specs.MultiplyingLaws.{mul_lawful}
 use Rattle.open_result.specs.Opening.{open_protocol}
 use Rattle.open_result.specs.OpeningLaws.{open-lawful}
-use Rattle.reshare.specs.Resharing.{reshare_protocol}
-use Rattle.reshare.specs.ResharingLaws.{reshare-lawful}
+use Rattle.open_result.specs.Resharing.{reshare_protocol}
+use Rattle.open_result.specs.ResharingLaws.{reshare-lawful}
 use Rattle.share_convert.specs.Converting.{conv_protocol}
 use Rattle.share_convert.specs.ConvertingLaws.{conv_lawful}
 use Rattle.split_share.specs.Splitting as splitting

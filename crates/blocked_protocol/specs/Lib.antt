@@ -1,3 +1,11 @@
 pub mod Blocked
 pub mod Outcomes
 pub mod Vectors
+pub use Rattle.open_result.specs.Opening
+pub use Rattle.open_result.specs.Resharing
+pub use Rattle.split_share.specs.Splitting
+pub use Rattle.multiply.specs.Multiplying
+pub use Rattle.multiply.specs.Products
+pub use Rattle.share_convert.specs.BitLaws
+pub use Rattle.share_convert.specs.Converting
+pub use Rattle.share_convert.specs.Bits

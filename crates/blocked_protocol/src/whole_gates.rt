@@ -3,7 +3,7 @@ ghost use Rattle.share_ring.specs.Ring.{Ring, RingLaws};
 ghost use Rattle.proto_core.specs.Protocol.{Lawful};
 ghost use Rattle.multiply.specs.Multiplying.{mul_protocol};
 ghost use Rattle.open_result.specs.Opening.{open_protocol};
-ghost use Rattle.reshare.specs.Resharing.{reshare_protocol};
+ghost use Rattle.open_result.specs.Resharing.{reshare_protocol};
 ghost use Rattle.share_convert.specs.Converting.{conv_protocol};
 ghost use Rattle.split_share.specs.Splitting.{split_protocol};
 ghost use Rattle.blocked_protocol.specs.Blocked.{blocked};

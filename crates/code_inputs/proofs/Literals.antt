@@ -11,10 +11,10 @@ use Rattle.verified_code.specs.Steps.{Step, Function, Literal, Move, Store, Bina
 use Rattle.verified_code.specs.Steps.{Argument, Publish, Assert, Branch, Jump, Call, Return, ReturnNone}
 use Rattle.code_model.specs.Kinded.{IsIn}
 use Rattle.code_model.specs.Programs.{code_of}
-use Rattle.raw_steps.specs.Instructions.{instruction, raw_function, names_of}
-use Rattle.raw_steps.proofs.Passing.{unmapped}
-use Rattle.well_typed.specs.Programs.{IsWellTyped}
-use Rattle.well_typed.proofs.Reaching.{accepted_well_typed}
+use Rattle.lowered_code.specs.Instructions.{instruction, raw_function, names_of}
+use Rattle.lowered_code.proofs.Passing.{unmapped}
+use Rattle.said_code.specs.Programs.{IsWellTyped}
+use Rattle.said_code.proofs.Reaching.{accepted_well_typed}
 use Rattle.lowered_code.specs.RawCodes.{raw_code_of_program}
 use Rattle.lowered_code.proofs.Limits.{within_small}
 use Rattle.lowered_code.proofs.RegistersOfPrograms.{small_numbered}

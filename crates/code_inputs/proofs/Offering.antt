@@ -3,7 +3,7 @@ use Rattle.std.proofs.Common.{◌≡◌, ℕ, suc, ◌+◌, ◌<◌, ◌≤◌, 
 use Rattle.std.proofs.Common.{refl, sym, ap, ◌∙◌, subst, arith, inl, inr}
 use Rattle.std.specs.Prelude.{if◌then◌else◌, get_or}
 use Rattle.gates.specs.Clear.{Values, value}
-use Rattle.shared_gates.specs.Shares.{Kind, Shared, kind_at}
+use Rattle.view_model.specs.Shares.{Kind, Shared, kind_at}
 use Rattle.typed_tree.specs.declared.kinds.Shape.{Shape}
 use Rattle.typed_tree.specs.Shapes.{shape_of}
 use Rattle.value_file.specs.declared.value.DataType as told

@@ -7,7 +7,7 @@ use Rattle.value_file.specs.declared.inputs.Entry.{Entry}
 use Rattle.language_model.specs.Effects.{Clear}
 use Rattle.language_model.specs.Reports.{Offered, world_of}
 use Rattle.verified_code.specs.Settled.{settled}
-use Rattle.well_typed.proofs.Reaching.{accepted_well_typed}
+use Rattle.said_code.proofs.Reaching.{accepted_well_typed}
 use Rattle.lowered_code.specs.RawCodes.{raw_code_of_program}
 use Rattle.lowered_code.proofs.Limits.{within_small}
 use Rattle.lowered_code.proofs.RegistersOfPrograms.{small_numbered}

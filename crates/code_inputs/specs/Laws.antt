@@ -13,8 +13,8 @@ use Rattle.language_model.specs.Reports.{Offered, world_of, eval}
 use Rattle.verified_code.specs.Settled.{settled}
 use Rattle.code_model.specs.Kinded.{AreSingle}
 use Rattle.code_model.specs.Laws.{AreFitting}
-use Rattle.well_typed.specs.Programs.{IsWellTyped}
-use Rattle.well_typed.specs.Sources.{IsWellWritten}
+use Rattle.said_code.specs.Programs.{IsWellTyped}
+use Rattle.said_code.specs.Sources.{IsWellWritten}
 use Rattle.lowered_code.specs.RawCodes.{raw_code_of_program}
 use Rattle.gate_laws.specs.Offers.{AreOffered}
 use Rattle.gate_laws.specs.Machines.{AreTaking}

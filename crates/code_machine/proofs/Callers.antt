@@ -5,7 +5,7 @@ use Rattle.std.proofs.lemmas.List.{length-map, length-reverse}
 use Rattle.language_model.specs.Effects.{Stage}
 use Rattle.language_model.specs.Values.{Value}
 use Rattle.bytecode.specs.Raw.{RawCode}
-use Rattle.code_model.specs.Machine.{Caller, Machine, resume}
+use Rattle.named_values.specs.Machine.{Caller, Machine, resume}
 use Rattle.code_machine.specs.declared.machine.Caller as waiting
 use Rattle.code_machine.specs.Changes.{back_to}
 use Rattle.code_machine.specs.Standing.{CanAllGoOn, CanGoOn}

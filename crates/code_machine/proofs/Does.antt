@@ -6,7 +6,7 @@ use Rattle.sc_text.specs.declared.end.TrapKind.TheVariants as trap
 use Rattle.language_model.specs.Effects.{Stage, Run, Effect, ◌>>=◌, carry, charge, done, test}
 use Rattle.language_model.specs.Values.{Value}
 use Rattle.language_model.specs.Evaluation.{array_elements}
-use Rattle.code_model.specs.Machine.{Machine, limit}
+use Rattle.named_values.specs.Machine.{Machine, limit}
 use Rattle.value_steps.specs.declared.halt.Halt.{Halt}
 use Rattle.value_steps.specs.declared.halt.Halt.TheVariants as halt
 use Rattle.value_steps.specs.Steps.{Does}

@@ -9,7 +9,7 @@ use Rattle.std.proofs.lemmas.Grind.{get_or-set_at}
 use Rattle.bytecode.specs.declared.kind.Kind.{Kind}
 use Rattle.language_model.specs.Values.{Value}
 use Rattle.language_model.specs.Evaluation.{Frame, put, nothing}
-use Rattle.code_model.specs.Machine.{begun, filled_with, behind_first}
+use Rattle.named_values.specs.Machine.{begun, filled_with, behind_first}
 use Rattle.value_steps.specs.declared.value.Value as held
 use Rattle.value_steps.specs.Views.{value_seen}
 use Rattle.code_machine.specs.Views.{registers_seen}

@@ -10,7 +10,7 @@ use Rattle.bytecode.specs.InMemory.{raw_code, raw_function, raw_instruction}
 use Rattle.verified_code.specs.Steps.{Function}
 use Rattle.verified_code.specs.Settled.{settle, settled, settled_function}
 use Rattle.verified_code.specs.InMemory as in_memory
-use Rattle.code_model.specs.Machine as model
+use Rattle.named_values.specs.Machine as model
 
 -- a function as it runs
 abbrev pub runs_as : Code → memory.CodeFunction → Function

@@ -9,7 +9,7 @@ use Rattle.language_model.proofs.Walk as walk
 use Rattle.language_model.proofs.Onward.{Onward, Went, is_onward, onward_law, stage_of}
 use Rattle.verified_code.specs.Steps.{kind_shape, Step, Literal, Move, Store, Binary, Not, Cast, Classify, Fill, At, Put, Size, Cat, Sum, Bits, Declassify}
 use Rattle.verified_code.specs.Steps.{Argument, Publish, Assert, Branch, Jump, Call, Return, ReturnNone, Function}
-use Rattle.code_model.specs.Machine.{Caller, Machine, at, next, resume, same_bool, step}
+use Rattle.named_values.specs.Machine.{Caller, Machine, at, next, resume, same_bool, step}
 use Rattle.code_machine.specs.Marks.{HasGained, reached}
 
 module _ (w : World) (p : List Function) (m : Machine) where

@@ -6,7 +6,7 @@ use mathlib.Core.List.{reverse-cons}
 use Rattle.bytecode.specs.Raw.{RawCode}
 use Rattle.language_model.specs.Values.{Private}
 use Rattle.language_model.specs.Evaluation.{nothing}
-use Rattle.code_model.specs.Machine.{Caller}
+use Rattle.named_values.specs.Machine.{Caller}
 use Rattle.named_values.specs.Named.{FrameNames, CallersName, MachineNames}
 use Rattle.value_steps.specs.declared.value.Secrecy as kept
 use Rattle.value_steps.specs.declared.value.Secrecy.TheVariants as secrecy

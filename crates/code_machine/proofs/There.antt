@@ -15,7 +15,7 @@ use Rattle.verified_code.specs.Sound.{passes}
 use Rattle.verified_code.specs.Steps.{Function, Step}
 use Rattle.verified_code.specs.Verified.{IsVerified, here}
 use Rattle.verified_code.proofs.Sound.{verified_is_sound}
-use Rattle.code_model.specs.Machine.{kinds_of}
+use Rattle.named_values.specs.Machine.{kinds_of}
 use Rattle.code_machine.specs.Standing.{AreBelow, AreThere, HasAny, kinds_at}
 
 -- what a mapped list has at a place comes from there

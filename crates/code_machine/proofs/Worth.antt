@@ -5,7 +5,7 @@ use Rattle.std.proofs.lemmas.List.{length-map}
 use Rattle.bytecode.specs.declared.code.CodeFunction.{CodeFunction}
 use Rattle.bytecode.specs.InMemory.{raw_function, raw_instruction}
 use Rattle.verified_code.specs.Settled.{settle, settled_function}
-use Rattle.code_model.specs.Meaning.{worth, longest}
+use Rattle.named_values.specs.Meaning.{worth, longest}
 
 pub worth_is : (l n : ℕ) → worth l n ≡ n * (l + 1)
 worth_is l zero = omega arith

@@ -8,7 +8,7 @@ use Rattle.bytecode.specs.declared.instruction.Register.{Register}
 use Rattle.bytecode.specs.Raw.{RawCode}
 use Rattle.verified_code.specs.Settled.{settled}
 use Rattle.verified_code.specs.InMemory.{place_of}
-use Rattle.code_model.specs.Machine.{Caller, Machine, steps_of, at, next, caller_of, received, resume}
+use Rattle.named_values.specs.Machine.{Caller, Machine, steps_of, at, next, caller_of, received, resume}
 use Rattle.value_steps.specs.declared.halt.Halt.{Halt}
 use Rattle.value_steps.specs.declared.value.Value as held
 use Rattle.value_steps.specs.Views.{value_seen, written}

@@ -4,3 +4,6 @@ pub mod Parts
 pub mod Changes
 pub mod Marks
 pub mod Named
+pub use Rattle.named_values.specs.Machine
+pub use Rattle.named_values.specs.Besides
+pub use Rattle.named_values.specs.Meaning

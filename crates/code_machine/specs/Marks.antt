@@ -3,7 +3,7 @@ use Rattle.std.specs.Prelude.{◌≡◌, ℕ, List, length, take, Ok, Err}
 use Rattle.language_model.specs.Beginnings.{Begins}
 use Rattle.language_model.specs.Effects.{Run, Stage, World}
 use Rattle.bytecode.specs.Raw.{RawCode}
-use Rattle.code_model.specs.Machine.{Machine}
+use Rattle.named_values.specs.Machine.{Machine}
 use Rattle.value_steps.specs.Views.{drawn_seen}
 use Rattle.code_machine.specs.declared.marks.Mark.{Mark}
 use Rattle.code_machine.specs.Views.{stepped}

@@ -5,7 +5,7 @@ use Rattle.language_model.specs.Effects.{Effect, ◌>>=◌, done, charge, test}
 use Rattle.language_model.specs.Values.{Value, size}
 use Rattle.language_model.specs.Operations as row
 use Rattle.language_model.specs.Evaluation.{array_elements, either}
-use Rattle.code_model.specs.Machine.{Machine, at, next, limit, same_bool}
+use Rattle.named_values.specs.Machine.{Machine, at, next, limit, same_bool}
 
 -- a value is stored in a variable
 abbrev pub stored : Value → Effect Value

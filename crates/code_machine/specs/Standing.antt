@@ -8,7 +8,7 @@ use Rattle.verified_code.specs.InMemory.{place_of}
 use Rattle.verified_code.specs.Settled.{settled}
 use Rattle.verified_code.specs.Steps.{Step, Literal, Move, Store, Binary, Not, Cast, Classify, Fill, At, Put, Size, Cat, Sum, Bits, Declassify}
 use Rattle.verified_code.specs.Steps.{Argument, Publish, Assert, Branch, Jump, Call, Return, ReturnNone}
-use Rattle.code_model.specs.Machine.{kinds_of}
+use Rattle.named_values.specs.Machine.{kinds_of}
 use Rattle.code_machine.specs.declared.machine.Caller as waiting
 use Rattle.code_machine.specs.declared.machine.Machine as running
 

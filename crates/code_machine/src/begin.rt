@@ -1,7 +1,7 @@
 // Where a function begins, and where code does.
 ghost use Rattle.std.specs.Prelude.{◌≡◌, ◌≤◌, IfOk, Some, length, map, slice_get};
 ghost use Rattle.verified_code.specs.Settled.{settled};
-ghost use Rattle.code_model.specs.Machine.{begun, filled_with, start};
+ghost use Rattle.named_values.specs.Machine.{begun, filled_with, start};
 ghost use Rattle.value_steps.specs.Views.{value_seen};
 ghost use Rattle.code_machine.specs.Standing.{Stands, kinds_at};
 ghost use Rattle.code_machine.specs.Views.{machine_seen, registers_seen};

@@ -1,7 +1,7 @@
 // How a function is called.
 ghost use Rattle.std.specs.Prelude.{◌≡◌, ◌≤◌, IfOk, length, map, sum};
 ghost use Rattle.language_model.specs.Evaluation.{array_elements};
-ghost use Rattle.code_model.specs.Machine.{filled_with, values_at};
+ghost use Rattle.named_values.specs.Machine.{filled_with, values_at};
 ghost use Rattle.value_steps.specs.Steps.{Does, itself};
 ghost use Rattle.value_steps.specs.Views.{stage_seen, value_seen};
 ghost use Rattle.code_machine.specs.Parts.{call_charged};

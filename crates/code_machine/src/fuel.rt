@@ -1,7 +1,7 @@
 // How many steps code can have.
 ghost use Rattle.std.specs.Prelude.{◌≡◌, ◌<◌, ◌^◌};
 ghost use Rattle.verified_code.specs.Settled.{settled};
-ghost use Rattle.code_model.specs.Meaning.{fuel, longest};
+ghost use Rattle.named_values.specs.Meaning.{fuel, longest};
 
 use verified_code::Verified;
 

@@ -1,7 +1,7 @@
 // What each step leaves of a stage.
 ghost use Rattle.language_model.specs.Effects.{Stage, World};
 ghost use Rattle.bytecode.specs.Raw.{RawCode};
-ghost use Rattle.code_model.specs.Machine.{Machine};
+ghost use Rattle.named_values.specs.Machine.{Machine};
 ghost use Rattle.code_machine.specs.Marks.{OnlyGains};
 
 /// Law: a step, however it ends, takes no gate, no event and no opened word back. So a stage that was marked before a step is there

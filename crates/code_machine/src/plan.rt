@@ -5,7 +5,7 @@ ghost use Rattle.bytecode.specs.Raw.{RawCode};
 ghost use Rattle.verified_code.specs.InMemory.{place_of, step_in};
 ghost use Rattle.verified_code.specs.Settled.{settled};
 ghost use Rattle.verified_code.specs.Steps as steps;
-ghost use Rattle.code_model.specs.Machine.{step};
+ghost use Rattle.named_values.specs.Machine.{step};
 ghost use Rattle.value_steps.specs.Steps.{Does};
 ghost use Rattle.value_steps.specs.Views.{stage_seen, world_seen};
 ghost use Rattle.code_machine.specs.Changes.{HasEnough, IsSafe, changed, left};

@@ -3,7 +3,7 @@ ghost use Rattle.std.specs.Prelude.{◌≡◌, ◌<◌, length};
 ghost use Rattle.language_model.specs.Evaluation.{put};
 ghost use Rattle.language_model.specs.Values.{size};
 ghost use Rattle.verified_code.specs.InMemory.{place_of};
-ghost use Rattle.code_model.specs.Machine.{received};
+ghost use Rattle.named_values.specs.Machine.{received};
 ghost use Rattle.value_steps.specs.Views.{value_seen, written};
 ghost use Rattle.code_machine.specs.Changes.{returned};
 ghost use Rattle.code_machine.specs.Standing.{HasAny};

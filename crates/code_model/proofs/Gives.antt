@@ -11,7 +11,7 @@ use Rattle.typed_tree.specs.declared.operators.BinaryOperator.{BinaryOperator}
 use Rattle.typed_tree.specs.declared.operators.Operands.{Operands}
 use Rattle.typed_tree.specs.declared.operators.Cast.{Cast}
 use Rattle.typed_tree.specs.declared.operators.Cast.TheVariants.{WordToWord, WordToBool, BoolToWord, BoolToBool}
-use Rattle.bit_extract.specs.Plan.{bits_plan}
+use Rattle.blind_evaluation.specs.Plan.{bits_plan}
 use Rattle.gates.specs.declared.gate.Gate.TheVariants.{Spread}
 use Rattle.gates.specs.Clear.{bits_of}
 use Rattle.std.specs.List.{flat_map}

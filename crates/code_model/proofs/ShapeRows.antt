@@ -15,7 +15,7 @@ use Rattle.sc_text.specs.declared.end.TrapKind.TheVariants as trap
 use Rattle.sc_text.specs.declared.event.Event.TheVariants as event
 use Rattle.gates.specs.declared.gate.Gate.TheVariants as gates
 use Rattle.gates.specs.Clear.{each_two, first_word, bits_of}
-use Rattle.bit_extract.specs.Plan.{bits_plan}
+use Rattle.blind_evaluation.specs.Plan.{bits_plan}
 use Rattle.typed_tree.specs.declared.kinds.Shape.{Shape}
 use Rattle.typed_tree.specs.declared.operators.BinaryOperator.{BinaryOperator}
 use Rattle.typed_tree.specs.declared.operators.Operands.{Operands}

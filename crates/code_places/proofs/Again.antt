@@ -11,7 +11,7 @@ use Rattle.language_model.specs.Operations.{read_answer, revealed, opened_from, 
 use Rattle.language_model.proofs.Onward.{Onward, onward_bind, onward_done, is_onward, onward_law, stage_of, begins_none, begins_then}
 use Rattle.language_model.proofs.Walk.{declassified_holds}
 use Rattle.verified_code.specs.Steps.{Step, Declassify, Function}
-use Rattle.code_model.specs.Machine.{Machine, next, step}
+use Rattle.gate_laws.specs.Machine.{Machine, next, step}
 use Rattle.code_places.specs.Places.{next_step}
 use Rattle.code_places.specs.Laws.{stage_behind, OnlyDeclassifyOpens, HasToldNothing, WantsBeforeItTells}
 use Rattle.code_places.proofs.Quiet.{Kept, KeptAt, Quiet, quiet_draw, quiet_gate}

@@ -7,7 +7,7 @@ use Rattle.language_model.specs.Values.{Secrecy, Plain, Private, Value, plain, s
 use Rattle.language_model.specs.Evaluation.{Frame, put, array_elements, either}
 use Rattle.bytecode.specs.declared.kind.Kind.{Kind}
 use Rattle.verified_code.specs.Steps.{Function}
-use Rattle.code_model.specs.Machine.{Caller, Machine, at, next, values_at, begun, behind_first, filled_with, kinds_of, entering, received, start}
+use Rattle.gate_laws.specs.Machine.{Caller, Machine, at, next, values_at, begun, behind_first, filled_with, kinds_of, entering, received, start}
 use Rattle.blind_evaluation.proofs.AlikeValues.{LikeValues, plains, unmade, made, like_size, like_shape}
 use Rattle.code_places.specs.Twins.{LikeWords, LikeValue, LikeRegisters, LikeCaller, LikeMachine}
 

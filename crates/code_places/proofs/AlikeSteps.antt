@@ -12,7 +12,7 @@ use Rattle.language_model.specs.Reports.{Offered}
 use Rattle.verified_code.specs.Steps.{kind_shape, Step, Literal, Move, Store, Binary, Not, Cast, Classify, Fill, At, Put, Size, Cat, Sum, Bits}
 use Rattle.verified_code.specs.Steps.{Declassify}
 use Rattle.verified_code.specs.Steps.{Argument, Publish, Assert, Branch, Jump, Call, Return, ReturnNone, Function}
-use Rattle.code_model.specs.Machine.{Caller, Machine, limit, same_bool, resume, step}
+use Rattle.gate_laws.specs.Machine.{Caller, Machine, limit, same_bool, resume, step}
 use Rattle.blind_evaluation.proofs.Alike.{Alike, alike_bind, alike_done, same_bind, any_bind, end_alike, charge_alike, charge_equal, test_equal}
 use Rattle.blind_evaluation.proofs.AlikeValues.{LikeValues, plains}
 use Rattle.blind_evaluation.proofs.Rows.{clear, unseen, sized_alike, classified_alike, negated_alike, size_told_alike, summed_alike}

@@ -1,8 +1,8 @@
 -- Gates on what is dealt are run part by part.
 use Rattle.std.proofs.Common.{[], ◌++◌, refl, sym, ap, ◌∙◌}
 use Rattle.protocol_model.specs.Gates.{sizes_of}
-use Rattle.shared_gates.specs.Model.{run_gates, sizes_after}
-use Rattle.shared_gates.proofs.GatesBehind.{gates-then, sizes-then}
+use Rattle.gate_laws.specs.Model.{run_gates, sizes_after}
+use Rattle.gate_laws.proofs.GatesBehind.{gates-then, sizes-then}
 use Rattle.driven_nodes.proofs.NodeRuns.{RunsJoin}
 use Rattle.gate_laws.specs.Dealt.{Dealt}
 use Rattle.code_places.specs.Places.{run_dealt}

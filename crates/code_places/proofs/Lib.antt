@@ -8,3 +8,4 @@ pub mod Again
 pub mod Joins
 pub mod Turns
 pub mod Samples
+pub use Rattle.gate_laws.proofs.Models

@@ -11,7 +11,7 @@ use Rattle.gates.specs.declared.gate.Gate.TheVariants.{Const, Add, Sub, MulPub, 
 use Rattle.gates.specs.Clear.{bits_of, first_word}
 use Rattle.equality.specs.Plan.{eq_plan}
 use Rattle.bit_extract.specs.Plan.{bits_plan}
-use Rattle.compare.specs.Plan.{less_plan}
+use Rattle.language_model.specs.Plan.{less_plan}
 use Rattle.typed_tree.specs.declared.kinds.Shape.{Shape}
 use Rattle.typed_tree.specs.declared.operators.WordOperator.{WordOperator}
 use Rattle.typed_tree.specs.declared.operators.WordOperator.TheVariants as word

@@ -9,7 +9,7 @@ use Rattle.language_model.specs.Evaluation.{nothing, array_elements, input_named
 use Rattle.verified_code.specs.Steps.{kind_shape, Step, Literal, Move, Store, Binary, Not, Cast, Classify, Fill, At, Put, Size, Cat, Sum, Bits}
 use Rattle.verified_code.specs.Steps.{Declassify}
 use Rattle.verified_code.specs.Steps.{Argument, Publish, Assert, Branch, Jump, Call, Return, ReturnNone, Function}
-use Rattle.code_model.specs.Machine.{Caller, Machine, values_at, limit, resume, step}
+use Rattle.gate_laws.specs.Machine.{Caller, Machine, values_at, limit, resume, step}
 use Rattle.code_places.proofs.Quiet.{Quiet, quiet_bind, quiet_done, quiet_end, quiet_charge, quiet_test}
 use Rattle.code_places.proofs.QuietRows.{untrapped_quiet, classified_quiet, operated_quiet, negated_quiet, cast_quiet, size_quiet}
 use Rattle.code_places.proofs.QuietRows.{summed_quiet, bits_quiet}

@@ -10,7 +10,7 @@ use Rattle.language_model.specs.Effects.{Stage, RunStop, Ended, Short, Run}
 use Rattle.language_model.specs.Reports.{Offered}
 use Rattle.language_model.proofs.Onward.{stage_of}
 use Rattle.verified_code.specs.Steps.{Step, Function}
-use Rattle.code_model.specs.Machine.{Machine, next, step}
+use Rattle.gate_laws.specs.Machine.{Machine, next, step}
 use Rattle.driven_nodes.specs.Steps.{On, gained}
 use Rattle.driven_nodes.specs.Twins.{Follows, untold, told, TwinBy}
 use Rattle.blind_evaluation.specs.Courses.{LikeEvents}

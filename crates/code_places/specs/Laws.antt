@@ -5,7 +5,7 @@ use Rattle.language_model.specs.Beginnings.{Begins}
 use Rattle.language_model.specs.Effects.{World, Clear, Stage, Short, Run}
 use Rattle.language_model.specs.Reports.{Offered, world_of}
 use Rattle.verified_code.specs.Steps.{Declassify, Function}
-use Rattle.code_model.specs.Machine.{Machine, step}
+use Rattle.gate_laws.specs.Machine.{Machine, step}
 use Rattle.driven_nodes.specs.Steps.{ToRun}
 use Rattle.driven_nodes.specs.Twins.{Course, Twins}
 use Rattle.code_places.specs.Places.{Place, next_step, step_told, first_place, when_told}

@@ -10,14 +10,14 @@ use Rattle.sc_text.specs.declared.event.Event.{Event}
 use Rattle.proto_core.specs.Strand.{Field, Words, Bits, Form, Notice, Shown, Published, Handed}
 use Rattle.protocol_model.specs.Gates.{sizes_of}
 use Rattle.gates.specs.declared.gate.Gate.{Gate}
-use Rattle.shared_gates.specs.Model.{run_gates, sizes_after}
+use Rattle.gate_laws.specs.Model.{run_gates, sizes_after}
 use Rattle.gate_laws.specs.Dealt.{Dealt}
 use Rattle.language_model.specs.Effects.{World, Answers, Stage, RunStop, Ended, Short, Run}
 use Rattle.language_model.specs.Values.{Secrecy, Plain, Private}
 use Rattle.language_model.specs.Reports.{Offered, beginning, world_of, public_part}
 use Rattle.typed_tree.specs.declared.kinds.Shape.{Shape}
 use Rattle.verified_code.specs.Steps.{Step, Publish, Declassify, Function}
-use Rattle.code_model.specs.Machine.{Machine, step, start}
+use Rattle.gate_laws.specs.Machine.{Machine, step, start}
 use Rattle.driven_nodes.specs.Steps.{Went, On, Over, Wants, Steps, ToRun, gained, last_of}
 
 -- ---- PLACES

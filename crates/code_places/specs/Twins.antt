@@ -6,7 +6,7 @@ use Rattle.language_model.specs.Effects.{Stage}
 use Rattle.language_model.specs.Values.{Secrecy, Plain, Private, Value}
 use Rattle.language_model.specs.Evaluation.{Frame}
 use Rattle.blind_evaluation.specs.Courses.{LikeEvents}
-use Rattle.code_model.specs.Machine.{Caller, Machine}
+use Rattle.gate_laws.specs.Machine.{Caller, Machine}
 use Rattle.code_places.specs.Places.{Place}
 
 -- a gate's value has as many words, any other the same ones

@@ -16,7 +16,7 @@ use Rattle.protocol_model.specs.Schedules.{AnyOrder}
 use Rattle.shared_gates.specs.Model.{miner_of}
 use Rattle.shared_gates.proofs.Models.{gates-sound}
 use Rattle.shared_gates.proofs.Silence.{gates-silent}
-use Rattle.blind_evaluation.specs.Courses.{LikeEvents}
+use Rattle.code_model.specs.Courses.{LikeEvents}
 use Rattle.language_model.specs.Effects.{World, Clear, Stage, RunStop, words_each}
 use Rattle.language_model.specs.Reports.{Report, Offered, world_of, beginning, reported, not_dealt}
 use Rattle.code_model.specs.Machine.{start, exec}

@@ -21,11 +21,11 @@ use Rattle.gates.proofs.Sizes.{FitFrom-append}
 use Rattle.gates.proofs.Columns.{stands}
 use Rattle.shared_gates.specs.Shares.{AreShares, Holds, share_at}
 use Rattle.shared_gates.specs.Model.{miner_of}
-use Rattle.shared_plans.specs.GateRuns.{end_shares}
+use Rattle.gate_laws.specs.GateRuns.{end_shares}
 use Rattle.language_model.specs.Effects.{Clear, Stage}
 use Rattle.language_model.specs.Reports.{Offered, world_of}
 use Rattle.language_model.specs.Values.{Secrecy, Plain, Private, Value, plain, ring_for, element_of, elements_of}
-use Rattle.blind_evaluation.specs.Courses.{LikeEvent}
+use Rattle.code_model.specs.Courses.{LikeEvent}
 use Rattle.typed_tree.specs.declared.kinds.Shape.{Shape}
 use Rattle.verified_code.specs.Steps.{Step, Declassify, Publish, Function}
 use Rattle.gate_laws.specs.Facts.{AllStand, fact_from, run_at}

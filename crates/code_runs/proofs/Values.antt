@@ -17,9 +17,9 @@ use Rattle.shared_gates.specs.Kinds.{Kinded, AllKinded}
 use Rattle.shared_gates.specs.Model.{miner_of}
 use Rattle.shared_gates.specs.Computed.{Computed}
 use Rattle.shared_gates.proofs.Models.{nth_value-value}
-use Rattle.shared_plans.specs.GateRuns.{GateRun, model_gates, end_shares, opened_words, words_drawn}
-use Rattle.shared_plans.proofs.GateRunLaws.{run-goes, run-computes, run-count}
-use Rattle.shared_plans.proofs.PlanRuns.{made-then}
+use Rattle.gate_laws.specs.GateRuns.{GateRun, model_gates, end_shares, opened_words, words_drawn}
+use Rattle.gate_laws.proofs.GateRunLaws.{run-goes, run-computes, run-count}
+use Rattle.gate_laws.proofs.PlanRuns.{made-then}
 use Rattle.language_model.specs.Effects.{Clear, Stage}
 use Rattle.language_model.specs.Reports.{Offered, world_of}
 use Rattle.language_model.specs.Tapes.{AtMost}

@@ -2,3 +2,6 @@
 pub mod Telling
 pub mod Runs
 pub mod Laws
+pub use Rattle.gate_laws.specs.Dealt
+pub use Rattle.code_places.specs.Places
+pub use Rattle.shared_gates.specs.Model

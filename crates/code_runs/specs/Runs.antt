@@ -13,7 +13,7 @@ use Rattle.protocol_model.specs.Network.{Accepted, Default, Delivery, Shuffled, 
 use Rattle.protocol_model.specs.Schedules.{AnyOrder}
 use Rattle.language_model.specs.Effects.{Ended}
 use Rattle.language_model.specs.Reports.{Report, Offered}
-use Rattle.blind_evaluation.specs.Courses.{LikeEvents}
+use Rattle.code_model.specs.Courses.{LikeEvents}
 use Rattle.verified_code.specs.Steps.{Function}
 use Rattle.code_model.specs.Meaning.{fuel}
 use Rattle.gate_laws.specs.Dealt.{Dealt}

@@ -4,7 +4,7 @@ use Rattle.language_model.specs.Beginnings.{Begins}
 use Rattle.language_model.specs.Effects.{World, Stage, RunStop, Ended, Short, Run}
 use Rattle.language_model.proofs.Onward.{stage_of}
 use Rattle.verified_code.specs.Steps.{Function}
-use Rattle.code_model.specs.Machine.{Machine, step}
+use Rattle.code_machine.specs.Machine.{Machine, step}
 use Rattle.driven_nodes.specs.Steps as turns
 use Rattle.driven_nodes.specs.Steps.{Went, Wants, place_of}
 use Rattle.code_places.proofs.Again.{wants_before_it_tells, gates_stand}

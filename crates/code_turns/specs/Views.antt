@@ -8,7 +8,7 @@ use Rattle.value_steps.specs.declared.halt.Halt.{Halt}
 use Rattle.value_steps.specs.declared.halt.Halt.TheVariants as halt
 use Rattle.value_steps.specs.declared.stage.Stage as reached
 use Rattle.value_steps.specs.Views.{stage_seen, value_seen}
-use Rattle.code_model.specs.Machine.{Machine}
+use Rattle.code_machine.specs.Machine.{Machine}
 use Rattle.code_machine.specs.declared.machine.Machine as running
 use Rattle.code_machine.specs.Views.{machine_seen}
 use Rattle.driven_nodes.specs.Steps.{Went, On, Over, Wants}

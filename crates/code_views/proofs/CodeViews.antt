@@ -27,27 +27,27 @@ use Rattle.language_model.specs.Effects.{Words}
 use Rattle.language_model.specs.Reports.{Report}
 use Rattle.clear_eval.specs.Offers.{offered}
 use Rattle.verified_code.specs.Settled.{settled}
-use Rattle.lowered_code.specs.RawCodes.{raw_code_of_program}
+use Rattle.miner_runs.specs.RawCodes.{raw_code_of_program}
 use Rattle.gate_laws.specs.Dealt.{Dealt, drawn_by}
 use Rattle.gate_laws.specs.Laws.{IsDealing}
-use Rattle.code_runs.specs.Telling.{elements_told, Tells}
-use Rattle.code_runs.specs.Telling as tells
-use Rattle.code_runs.specs.Runs.{gates_to_run, messages, shares}
+use Rattle.miner_runs.specs.Telling.{elements_told, Tells}
+use Rattle.miner_runs.specs.Telling as tells
+use Rattle.miner_runs.specs.Runs.{gates_to_run, messages, shares}
 use Rattle.view_text.specs.View.{View}
 use Rattle.view_model.specs.Dealing.{private_then, private_shares, dealt_to, private_sizes}
 use Rattle.view_model.specs.Held.{private_values}
 use Rattle.view_model.specs.TapeMaps.{miners_of, no_values, gates_dealt, AreTapes}
 use Rattle.view_model.specs.Seen.{Seen, seen_by}
 use Rattle.view_model.proofs.DealtSizes.{sizes_dealt}
-use Rattle.code_inputs.specs.Inputs.{dealt_of}
-use Rattle.code_inputs.proofs.Offering.{are_dealt}
+use Rattle.program_views.specs.Inputs.{dealt_of}
+use Rattle.program_views.proofs.Offering.{are_dealt}
 use Rattle.program_views.specs.Views.{lengths_of, run_on, share_then, input_shares, received, openings, nothing_seen, view_at, seen_of, view_of}
 use Rattle.program_views.specs.Views.{net_of}
 use Rattle.program_views.specs.Laws.{IsGivenTo}
 use Rattle.program_views.proofs.Simulated.{drew_counted}
-use Rattle.program_run.specs.Accepted.{IsAccepted}
-use Rattle.program_run.specs.Dealt.{CanBeDealt}
-use Rattle.own_code.specs.OwnCode.{Ended}
+use Rattle.miner_runs.specs.Accepted.{IsAccepted}
+use Rattle.miner_runs.specs.Dealt.{CanBeDealt}
+use Rattle.miner_runs.specs.OwnCode.{Ended}
 use Rattle.miner_runs.specs.OwnRuns.{own_end, OwnRunAsReported}
 use Rattle.miner_runs.specs.Programs.{OwnRunsOnShares}
 use Rattle.miner_runs.proofs.Programs.{own_runs_where_accepted}

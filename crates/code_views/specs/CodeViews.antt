@@ -16,18 +16,18 @@ use Rattle.reached_instances.specs.Instances.{Instance}
 use Rattle.reached_instances.specs.Reached.{IsReachedList}
 use Rattle.clear_eval.specs.Offers.{offered}
 use Rattle.verified_code.specs.Settled.{settled}
-use Rattle.lowered_code.specs.RawCodes.{raw_code_of_program}
+use Rattle.miner_runs.specs.RawCodes.{raw_code_of_program}
 use Rattle.gate_laws.specs.Dealt.{drawn_by}
 use Rattle.driven_nodes.specs.Steps.{Stopped}
-use Rattle.code_places.specs.Places.{Place}
-use Rattle.code_runs.specs.Telling.{elements_told}
+use Rattle.miner_runs.specs.Places.{Place}
+use Rattle.miner_runs.specs.Telling.{elements_told}
 use Rattle.view_text.specs.View.{View}
 use Rattle.view_model.specs.TapeMaps.{miners_of}
-use Rattle.code_inputs.specs.Inputs.{dealt_of}
+use Rattle.program_views.specs.Inputs.{dealt_of}
 use Rattle.program_views.specs.Views.{lengths_of, run_on, received, view_of, scripts_of, net_of}
-use Rattle.program_run.specs.Accepted.{IsAccepted}
-use Rattle.program_run.specs.Dealt.{CanBeDealt}
-use Rattle.own_code.specs.OwnCode.{Ended, Reached}
+use Rattle.miner_runs.specs.Accepted.{IsAccepted}
+use Rattle.miner_runs.specs.Dealt.{CanBeDealt}
+use Rattle.miner_runs.specs.OwnCode.{Ended, Reached}
 use Rattle.miner_runs.specs.OwnRuns.{own_nodes}
 
 -- the openings among what a miner tells

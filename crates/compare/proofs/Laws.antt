@@ -4,7 +4,7 @@ use Rattle.std.proofs.Common.{subst, arith, length-append}
 use Rattle.std.specs.Prelude.{slice_get}
 use Rattle.std.specs.Int.{w64, bit_not}
 use Rattle.std.proofs.lemmas.List.{append_assoc, drop_more}
-use Rattle.share_ring.specs.Rings.{xor_ring}
+use Rattle.gates.specs.Rings.{xor_ring}
 use Rattle.gates.specs.declared.gate.Gate.{Gate}
 use Rattle.gates.specs.declared.gate.Gate.TheVariants.{Cat}
 use Rattle.gates.specs.Clear.{Values, value, each_two, FitFrom}

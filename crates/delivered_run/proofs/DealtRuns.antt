@@ -18,8 +18,8 @@ use Rattle.clear_eval.specs.Offers.{offered, offered_with, part_given}
 use Rattle.gates.specs.Clear.{Values}
 use Rattle.view_model.specs.Dealing.{private_shares}
 use Rattle.view_model.specs.TapeMaps.{miners_of}
-use Rattle.gate_laws.specs.Dealt.{Dealt}
-use Rattle.code_inputs.specs.Inputs.{dealt_of}
+use Rattle.told_events.specs.Dealt.{Dealt}
+use Rattle.program_run.specs.Inputs.{dealt_of}
 use Rattle.miner_runs.specs.OwnRuns.{OwnRunAsReported, public_world}
 use Rattle.miner_runs.proofs.OwnRuns.{own_miners_run_the_code}
 use Rattle.link_schedule.specs.Net.{NetState, Own}

@@ -10,7 +10,7 @@ use Rattle.input_share.specs.Dealing.{dealt}
 use Rattle.input_share.specs.declared.dealing.Dealt as sharing
 use Rattle.typed_tree.specs.Programs.{TypedProgramTree}
 use Rattle.language_model.specs.Reports.{Report}
-use Rattle.code_inputs.specs.Inputs.{dealt_of}
+use Rattle.program_run.specs.Inputs.{dealt_of}
 use Rattle.program_run.specs.Reports.{eval_with, lengths_of}
 use Rattle.delivered_run.specs.declared.course.Course.{Course}
 use Rattle.delivered_run.specs.declared.course.Course.TheVariants as course

@@ -5,3 +5,5 @@ pub mod Runs
 pub mod DealtRuns
 pub mod Undealt
 pub mod Going
+pub use Rattle.miner_runs.proofs.Programs
+pub use Rattle.program_run.proofs.Told

@@ -2,8 +2,8 @@
 use Rattle.std.specs.Prelude.{ℕ, List}
 use Rattle.sc_text.specs.declared.elements.Element.{Element}
 use Rattle.typed_tree.specs.declared.kinds.Shape.{Shape}
-use Rattle.code_places.specs.Places.{form_of}
-use Rattle.code_runs.specs.Telling.{elements_told}
+use Rattle.miner_core.specs.Places.{form_of}
+use Rattle.program_run.specs.Telling.{elements_told}
 use Rattle.told_events.specs.Telling.{all_added_up}
 
 -- elements of a value of this shape, of which the three miners have these shares

@@ -14,9 +14,9 @@ use Rattle.language_model.specs.Reports.{Offered, Report}
 use Rattle.clear_eval.specs.Offers.{offered}
 use Rattle.verified_code.specs.Steps.{Function}
 use Rattle.view_model.specs.TapeMaps.{miners_of}
-use Rattle.gate_laws.specs.Dealt.{Dealt}
-use Rattle.code_inputs.specs.Inputs.{dealt_of}
-use Rattle.code_runs.specs.Runs.{messages}
+use Rattle.told_events.specs.Dealt.{Dealt}
+use Rattle.program_run.specs.Inputs.{dealt_of}
+use Rattle.told_events.specs.Runs.{messages}
 use Rattle.program_run.specs.Dealt.{CanBeDealt}
 use Rattle.program_run.specs.Reports.{eval_with, lengths_of}
 use Rattle.miner_runs.specs.OwnRuns.{OwnRunAsReported, own_nodes}

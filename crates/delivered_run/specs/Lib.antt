@@ -5,3 +5,4 @@ pub mod Nets
 pub mod Undealt
 pub mod Premises
 pub mod Laws
+pub use Rattle.miner_runs.specs.Programs

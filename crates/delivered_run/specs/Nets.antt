@@ -10,9 +10,9 @@ use Rattle.language_model.specs.Reports.{world_of}
 use Rattle.clear_eval.specs.Offers.{offered_with, part_given}
 use Rattle.verified_code.specs.Steps.{Function}
 use Rattle.driven_nodes.specs.Steps.{Stopped}
-use Rattle.code_places.specs.Places.{Place}
+use Rattle.miner_core.specs.Places.{Place}
 use Rattle.told_events.specs.Telling.{told_together}
-use Rattle.own_code.specs.OwnCode.{Reached}
+use Rattle.miner_core.specs.OwnCode.{Reached}
 use Rattle.miner_core.specs.Story.{Story}
 use Rattle.link_schedule.specs.Answers.{net_walked}
 use Rattle.link_schedule.specs.Net.{NetState, Own, after, net_node}

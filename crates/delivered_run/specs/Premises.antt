@@ -6,7 +6,7 @@ use Rattle.protocol_model.specs.Network.{Default, Delivery, Listed, Shuffled}
 use Rattle.tape_file.specs.Tapes.{FourTapes}
 use Rattle.value_file.specs.declared.inputs.Entry.{Entry}
 use Rattle.view_model.specs.TapeMaps.{miners_of}
-use Rattle.code_inputs.specs.Inputs.{AreSound}
+use Rattle.program_run.specs.Inputs.{AreSound}
 
 -- inputs that may stand in a file, of words, and tapes of words
 pub record HaveWords (entries : List Entry) (t : FourTapes) : Type 0 where

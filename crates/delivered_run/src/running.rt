@@ -5,7 +5,7 @@ ghost use Rattle.input_share.specs.Dealing.{dealt};
 ghost use Rattle.value_file.specs.Input.{AreInputs};
 ghost use Rattle.view_model.specs.TapeMaps.{miners_of};
 ghost use Rattle.clear_eval.specs.Offers.{offered};
-ghost use Rattle.code_inputs.specs.Inputs.{dealt_of};
+ghost use Rattle.program_run.specs.Inputs.{dealt_of};
 ghost use Rattle.program_run.specs.Reports.{lengths_of};
 ghost use Rattle.program_run.specs.Codes.{CanRunOn, code_report};
 ghost use Rattle.delivered_run.specs.Courses.{IsNetRun};

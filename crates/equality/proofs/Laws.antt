@@ -3,7 +3,7 @@ use Rattle.std.proofs.Common.{◌≡◌, ℕ, ◌+◌, ◌*◌, ◌/◌, ◌%◌
 use Rattle.std.proofs.Common.{subst, arith, true}
 use Rattle.std.specs.Prelude.{slice_get}
 use Rattle.std.specs.Int.{w64, bit_not}
-use Rattle.share_ring.specs.Rings.{add_ring, xor_ring}
+use Rattle.gates.specs.Rings.{add_ring, xor_ring}
 use Rattle.gates.specs.declared.gate.Gate.{Gate}
 use Rattle.gates.specs.Clear.{Values, value, FitFrom}
 use Rattle.gates.specs.WordTests.{zero_test}

@@ -1,7 +1,7 @@
 -- Rows with two operands.
 use Rattle.std.proofs.Common.{◌≡◌, ℕ, ◌<◌, ◌^◌, List, [], ◌∷◌, ◌++◌, length, Bool, true, false, refl, sym, ap, ◌∙◌, subst, arith}
 use Rattle.std.proofs.lemmas.Bool.{eqb-true}
-use Rattle.shared_gates.proofs.Models.{length-each_two}
+use Rattle.shared_plans.proofs.Models.{length-each_two}
 use Rattle.sc_text.specs.declared.end.TrapKind.TheVariants as trap
 use Rattle.secrec_ast.specs.declared.expression.DataType.{DataType}
 use Rattle.secrec_ast.specs.declared.expression.DataType.TheVariants.{Uint64}

@@ -13,8 +13,8 @@ use Rattle.proto_core.specs.declared.party.Number.TheVariants.{One, Two, Three}
 use Rattle.gates.specs.Clear.{FitFrom}
 use Rattle.gates.specs.Counts.{Miner}
 use Rattle.gates.proofs.Sizes.{FitFrom-append}
-use Rattle.shared_gates.specs.Shares.{Kind, Shared, kind_at}
-use Rattle.shared_gates.specs.Model.{miner_of}
+use Rattle.shared_plans.specs.Shares.{Kind, Shared, kind_at}
+use Rattle.shared_plans.specs.Model.{miner_of}
 use Rattle.shared_plans.specs.GateRuns.{GateRun, words_drawn}
 use Rattle.shared_plans.proofs.KindedPlans.{shared-grown}
 use Rattle.language_model.specs.Effects.{Words, World, Stage, Ended, Run, Effect, ◌>>=◌, carry, done, end, charge, test, with_more, fits, drawn_yet}

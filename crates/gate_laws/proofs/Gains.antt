@@ -8,9 +8,9 @@ use Rattle.gates.specs.Clear.{Values, value, FitFrom}
 use Rattle.gates.specs.Counts.{Miner, made_by, made_by_all}
 use Rattle.gates.proofs.Sizes.{FitFrom-append}
 use Rattle.gates.proofs.Columns.{stands}
-use Rattle.shared_gates.specs.Shares.{Kind, Shared, kind_at}
-use Rattle.shared_gates.specs.Model.{miner_of}
-use Rattle.shared_gates.specs.Computed.{opened_by_gate, opened_values}
+use Rattle.shared_plans.specs.Shares.{Kind, Shared, kind_at}
+use Rattle.shared_plans.specs.Model.{miner_of}
+use Rattle.shared_plans.specs.Computed.{opened_by_gate, opened_values}
 use Rattle.shared_plans.specs.GateRuns.{GateRun, IsWellFormed, value_count}
 use Rattle.shared_plans.specs.Outcomes.{OpensNone, Follows}
 use Rattle.shared_plans.proofs.KindedPlans.{kind-behind}

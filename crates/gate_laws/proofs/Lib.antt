@@ -15,3 +15,7 @@ pub mod Steps
 pub mod Walks
 pub mod Samples
 pub mod Verified
+pub use Rattle.shared_plans.proofs.GatesBehind
+pub use Rattle.shared_plans.proofs.GateRunLaws
+pub use Rattle.shared_plans.proofs.PlanRuns
+pub use Rattle.shared_plans.proofs.Models

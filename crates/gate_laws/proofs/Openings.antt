@@ -18,12 +18,12 @@ use Rattle.gates.specs.declared.gate.Gate.TheVariants.{Open}
 use Rattle.gates.specs.Clear.{Values, FitFrom, value}
 use Rattle.gates.specs.Counts.{size_of, made_by_all, words_of_all}
 use Rattle.gates.proofs.Sizes.{FitFrom-append}
-use Rattle.shared_gates.specs.Shares.{Kind, Known, kind_at}
-use Rattle.shared_gates.specs.Kinds.{AllKinded}
-use Rattle.shared_gates.specs.Model.{run_gates, sizes_made, miner_of}
-use Rattle.shared_gates.specs.Computed.{opened_values}
-use Rattle.shared_gates.proofs.Drawn.{drawn-counted}
-use Rattle.shared_gates.proofs.GatesBehind.{suits-then, gates-then}
+use Rattle.shared_plans.specs.Shares.{Kind, Known, kind_at}
+use Rattle.shared_plans.specs.Kinds.{AllKinded}
+use Rattle.shared_plans.specs.Model.{run_gates, sizes_made, miner_of}
+use Rattle.shared_plans.specs.Computed.{opened_values}
+use Rattle.shared_plans.proofs.Drawn.{drawn-counted}
+use Rattle.shared_plans.proofs.GatesBehind.{suits-then, gates-then}
 use Rattle.shared_plans.specs.GateRuns.{GateRun, IsWellFormed, dealt_sizes, value_count, value_sizes, then_gates, model_gates, words_drawn}
 use Rattle.shared_plans.proofs.KindedPlans.{shared-grown, kind-behind, kinded-append}
 use Rattle.shared_plans.proofs.GateLists.{all-kinded-still}

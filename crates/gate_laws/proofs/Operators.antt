@@ -1,7 +1,7 @@
 -- The gates of operators between private operands.
 use Rattle.std.proofs.Common.{◌≡◌, ℕ, ◌*◌, ◌<◌, ◌^◌, List, [], ◌∷◌, length, map, true, false, refl, sym, ap, ◌∙◌, subst, arith}
 use Rattle.std.specs.Prelude.{nat_eq, nat_lt, replicate}
-use Rattle.shared_gates.proofs.Models.{length-each_two}
+use Rattle.shared_plans.proofs.Models.{length-each_two}
 use Rattle.share_ring.specs.Rings.{add_ring, xor_ring}
 use Rattle.gates.specs.declared.ring_kind.RingKind.{RingKind}
 use Rattle.gates.specs.declared.ring_kind.RingKind.TheVariants.{Arithmetic, Boolean}

@@ -10,7 +10,7 @@ use Rattle.proto_core.specs.Lists.{at, AreWords}
 use Rattle.protocol_model.specs.Gates.{sizes_of}
 use Rattle.gates.specs.declared.ring_kind.RingKind.TheVariants.{Arithmetic}
 use Rattle.gates.specs.Clear.{Values}
-use Rattle.shared_gates.specs.Shares.{AreShares, Shared, sum_of, share_at, AllHeld}
+use Rattle.shared_plans.specs.Shares.{AreShares, Shared, sum_of, share_at, AllHeld}
 use Rattle.typed_tree.specs.declared.operators.BinaryOperator.TheVariants.{Words}
 use Rattle.typed_tree.specs.declared.operators.WordOperator.TheVariants as word
 use Rattle.typed_tree.specs.declared.operators.Operands.TheVariants.{Scalars}

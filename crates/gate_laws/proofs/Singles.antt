@@ -12,9 +12,9 @@ use Rattle.gates.specs.declared.gate.Gate.TheVariants as gates
 use Rattle.gates.specs.Clear.{Values, value, ring_of, each_two, first_word, bits_of, Makes, FitFrom}
 use Rattle.gates.specs.Counts.{Miner, size_of, made_by, words_of, words_of_conversion}
 use Rattle.gates.proofs.Sizes.{size_of-value}
-use Rattle.shared_gates.specs.Shares.{Kind, Shared, kind_at}
-use Rattle.shared_gates.specs.Kinds.{AllShared, Kinded}
-use Rattle.shared_gates.specs.Model.{PairOf, SizesSuit}
+use Rattle.shared_plans.specs.Shares.{Kind, Shared, kind_at}
+use Rattle.shared_plans.specs.Kinds.{AllShared, Kinded}
+use Rattle.shared_plans.specs.Model.{PairOf, SizesSuit}
 use Rattle.shared_plans.specs.GateRuns.{GateRun, IsWellFormed, dealt_sizes, value_count, value_sizes}
 use Rattle.shared_plans.specs.Outcomes.{OpensNone, Follows}
 use Rattle.shared_plans.proofs.KindedPlans.{shared-grown, shared-below, kind-behind}

@@ -8,7 +8,7 @@ use Rattle.sc_text.specs.declared.end.TrapKind.TheVariants as trap
 use Rattle.secrec_ast.specs.declared.expression.DataType.{DataType}
 use Rattle.secrec_ast.specs.declared.expression.DataType.TheVariants.{Uint64}
 use Rattle.secrec_ast.specs.declared.expression.DataType.TheVariants as datatype
-use Rattle.shared_gates.specs.Shares as shares
+use Rattle.shared_plans.specs.Shares as shares
 use Rattle.shared_plans.specs.GateRuns.{GateRun}
 use Rattle.language_model.specs.Effects.{World, Stage, Run, Effect, ◌>>=◌, carry, done, end}
 use Rattle.language_model.specs.Values.{Value, is_secret, plain, size, never_stored}

@@ -19,9 +19,9 @@ use Rattle.gates.specs.declared.gate.Gate.{Gate}
 use Rattle.gates.specs.Clear.{Values, FitFrom}
 use Rattle.gates.specs.Counts.{Miner}
 use Rattle.gates.proofs.Sizes.{FitFrom-append}
-use Rattle.shared_gates.specs.Shares.{Kind, Shared}
-use Rattle.shared_gates.specs.Model.{miner_of}
-use Rattle.shared_gates.specs.Computed.{opened_values}
+use Rattle.shared_plans.specs.Shares.{Kind, Shared}
+use Rattle.shared_plans.specs.Model.{miner_of}
+use Rattle.shared_plans.specs.Computed.{opened_values}
 use Rattle.shared_plans.proofs.PlanRuns.{longer-formed, words-then, made-then}
 use Rattle.gate_laws.specs.Facts.{IsProper, handed_values, Handed, and_handed, none_of, Fact, facts_of, run_at, Suits}
 use Rattle.gate_laws.specs.Dealt.{bound, drawn_by, Dealt}

@@ -5,8 +5,8 @@ use Rattle.sc_text.specs.declared.end.Ending.TheVariants as ending
 use Rattle.proto_core.specs.declared.party.Number.{Number}
 use Rattle.proto_core.specs.declared.party.Number.TheVariants.{One, Two, Three}
 use Rattle.proto_core.specs.Lists.{AreWords}
-use Rattle.shared_gates.specs.Shares.{Kind}
-use Rattle.shared_gates.specs.Model.{miner_of}
+use Rattle.shared_plans.specs.Shares.{Kind}
+use Rattle.shared_plans.specs.Model.{miner_of}
 use Rattle.language_model.specs.Effects.{World, Stage, RunStop, Ended, Run, words_each}
 use Rattle.language_model.specs.Reports.{beginning, reported, dealing, not_dealt}
 use Rattle.verified_code.specs.Steps.{Function}

@@ -7,7 +7,7 @@ use Rattle.proto_core.specs.declared.party.Number.{Number}
 use Rattle.proto_core.specs.Lists.{at}
 use Rattle.gates.specs.Clear.{Values}
 use Rattle.gates.specs.Counts.{Miner, Miner1, Miner2, Miner3}
-use Rattle.shared_gates.specs.Shares.{Kind}
+use Rattle.shared_plans.specs.Shares.{Kind}
 use Rattle.language_model.specs.Effects.{Words}
 
 -- what is dealt: the private inputs, in which ring each is shared, and each miner's shares of them

@@ -10,9 +10,9 @@ use Rattle.sc_text.specs.declared.event.Event.{Event}
 use Rattle.sc_text.specs.declared.event.Event.TheVariants.{Publish}
 use Rattle.gates.specs.Clear.{Values, value, FitFrom}
 use Rattle.gates.specs.Counts.{Miner}
-use Rattle.shared_gates.specs.Shares.{Kind, Shared, kind_at}
-use Rattle.shared_gates.specs.Model.{miner_of}
-use Rattle.shared_gates.specs.Computed.{opened_values}
+use Rattle.shared_plans.specs.Shares.{Kind, Shared, kind_at}
+use Rattle.shared_plans.specs.Model.{miner_of}
+use Rattle.shared_plans.specs.Computed.{opened_values}
 use Rattle.shared_plans.specs.GateRuns.{GateRun, IsWellFormed, value_count, words_drawn}
 use Rattle.language_model.specs.Effects.{World, Clear, Stage, Run, Effect}
 use Rattle.language_model.specs.Values.{Secrecy, Plain, Private, Value, ring_for, element_of}

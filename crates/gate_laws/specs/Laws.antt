@@ -5,9 +5,9 @@ use Rattle.proto_core.specs.declared.party.Number.{Number}
 use Rattle.proto_core.specs.Lists.{AreWords}
 use Rattle.protocol_model.specs.Gates.{sizes_of}
 use Rattle.gates.specs.Clear.{Values, FitFrom}
-use Rattle.shared_gates.specs.Shares.{Kind, AllHeld}
-use Rattle.shared_gates.specs.Model.{miner_of}
-use Rattle.shared_gates.specs.Computed.{opened_values}
+use Rattle.shared_plans.specs.Shares.{Kind, AllHeld}
+use Rattle.shared_plans.specs.Model.{miner_of}
+use Rattle.shared_plans.specs.Computed.{opened_values}
 use Rattle.shared_plans.specs.GateRuns.{GateRun, IsWellFormed, words_drawn}
 use Rattle.language_model.specs.Effects.{World, Clear, Stage}
 use Rattle.language_model.specs.Reports.{Report}

@@ -4,3 +4,6 @@ pub mod Rows
 pub mod Offers
 pub mod Machines
 pub mod Laws
+pub use Rattle.code_model.specs.Machine
+pub use Rattle.shared_plans.specs.Model
+pub use Rattle.shared_plans.specs.GateRuns

@@ -4,7 +4,7 @@ use Rattle.std.specs.List.{slice_get}
 use Rattle.secrec_ast.specs.declared.expression.DataType.{DataType}
 use Rattle.secrec_ast.specs.declared.expression.DataType.TheVariants.{Uint64}
 use Rattle.secrec_ast.specs.declared.expression.DataType.TheVariants as datatype
-use Rattle.shared_gates.specs.Shares as shares
+use Rattle.shared_plans.specs.Shares as shares
 use Rattle.shared_plans.specs.GateRuns.{GateRun}
 use Rattle.language_model.specs.Effects.{World, Stage, Run}
 use Rattle.language_model.specs.Values.{Value}

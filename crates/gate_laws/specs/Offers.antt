@@ -1,7 +1,7 @@
 -- What is dealt for the inputs of a run.
 use Rattle.std.specs.Prelude.{◌≡◌, ℕ, ◌<◌, ◌^◌, true, List, [], ◌∷◌, length}
 use Rattle.gates.specs.Clear.{value}
-use Rattle.shared_gates.specs.Shares.{Shared, kind_at}
+use Rattle.shared_plans.specs.Shares.{Shared, kind_at}
 use Rattle.language_model.specs.Effects.{GivenInput}
 use Rattle.language_model.specs.Values.{ring_for}
 use Rattle.language_model.specs.Evaluation.{behind}

@@ -5,3 +5,4 @@ pub mod WordTests
 pub mod Evaluated
 pub mod Held
 pub mod Vectors
+pub use Rattle.share_ring.specs.Rings

@@ -9,10 +9,10 @@ use Rattle.proto_core.specs.Protocol.{Joint, Protocol}
 use Rattle.proto_core.proofs.Beginnings.{append-none}
 use Rattle.gates.specs.Blocks.{block_sizes}
 use Rattle.gates.specs.Clear.{ring_of}
-use Rattle.blocked_protocol.specs.Blocked.{joined, no_elements, front, behind, blocks_messages, blocks_output, blocks_opened, Blockable}
-use Rattle.blocked_protocol.proofs.Blockables.{mul-blockable, open-blockable, reshare-blockable, conv-blockable, split-blockable}
-use Rattle.blocked_protocol.proofs.Fitting.{front-length, behind-length, itself}
-use Rattle.blocked_protocol.proofs.Sizes.{block_sizes-full, block_sizes-last}
+use Rattle.shared_gates.specs.Blocked.{joined, no_elements, front, behind, blocks_messages, blocks_output, blocks_opened, Blockable}
+use Rattle.shared_gates.proofs.Blockables.{mul-blockable, open-blockable, reshare-blockable, conv-blockable, split-blockable}
+use Rattle.shared_gates.proofs.Fitting.{front-length, behind-length, itself}
+use Rattle.shared_gates.proofs.Sizes.{block_sizes-full, block_sizes-last}
 use Rattle.joint_run.specs.declared.exchange.Exchange.{Exchange}
 use Rattle.joint_run.specs.declared.exchange.Exchange.TheVariants.{Product, Splitting, Conversion, Opening, Resharing}
 use Rattle.joint_run.specs.declared.transcript.Transcript.{Transcript}

@@ -12,9 +12,9 @@ use Rattle.split_share.specs.SplitStrand.{signed_sum}
 use Rattle.split_share.specs.Splitting.{split_protocol}
 use Rattle.gates.specs.Blocks.{block_sizes}
 use Rattle.gates.specs.Clear.{ring_of}
-use Rattle.blocked_protocol.specs.Blocked.{total, front, behind, blocks_output, blocked, sums, Blockable}
-use Rattle.blocked_protocol.proofs.Fitting.{sizes-joined, sizes-none}
-use Rattle.blocked_protocol.proofs.Sizes.{block_sizes-cut}
+use Rattle.shared_gates.specs.Blocked.{total, front, behind, blocks_output, blocked, sums, Blockable}
+use Rattle.shared_gates.proofs.Fitting.{sizes-joined, sizes-none}
+use Rattle.shared_gates.proofs.Sizes.{block_sizes-cut}
 use Rattle.joint_run.specs.declared.exchange.Exchange.{Exchange}
 use Rattle.joint_run.specs.declared.exchange.Exchange.TheVariants.{Product, Splitting, Conversion, Opening, Resharing}
 use Rattle.joint_run.specs.Exchanges.{protocol_of}

@@ -4,7 +4,7 @@ use Rattle.proto_core.specs.declared.party.Number.{Number}
 use Rattle.proto_core.specs.declared.link.Link.{Link}
 use Rattle.proto_core.specs.Strand.{Mail}
 use Rattle.proto_core.specs.Protocol.{Joint, Protocol}
-use Rattle.blocked_protocol.specs.Blocked.{joined, blocked}
+use Rattle.shared_gates.specs.Blocked.{joined, blocked}
 use Rattle.joint_run.specs.declared.transcript.Transcript.{Transcript}
 use Rattle.joint_run.specs.declared.outputs.Outputs.{Outputs}
 use Rattle.joint_run.specs.Three.{carried, share_of}

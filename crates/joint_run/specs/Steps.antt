@@ -9,7 +9,7 @@ use Rattle.gates.specs.declared.ring_kind.RingKind.TheVariants.{Arithmetic, Bool
 use Rattle.gates.specs.declared.gate.Gate.{Gate}
 use Rattle.gates.specs.declared.gate.Gate.TheVariants.{Mul, And, Split, Conv, Open, Result}
 use Rattle.gates.specs.Clear.{Values, value}
-use Rattle.blocked_protocol.specs.Blocked.{blocked}
+use Rattle.shared_gates.specs.Blocked.{blocked}
 use Rattle.shared_gates.specs.LocalGates.{local_share}
 use Rattle.joint_run.specs.declared.exchange.Exchange.TheVariants.{Product, Splitting, Conversion, Opening, Resharing}
 use Rattle.joint_run.specs.declared.exchanged.Exchanged.{Exchanged}

@@ -7,3 +7,4 @@ pub mod Reports
 pub mod Vectors
 pub mod Beginnings
 pub mod Tapes
+pub use Rattle.compare.specs.Plan

@@ -1,7 +1,7 @@
 -- What operators mean on words. A truth value is 1 or 0.
 use Rattle.std.specs.Prelude.{ℕ, ◌/◌, ◌%◌, Bool, true, false, not, ◌==◌, nat_lt, nat_le, nat_eq, List, replicate, bit_and, bit_or, bit_xor}
 use Rattle.std.specs.List.{list_any}
-use Rattle.share_ring.specs.Rings.{add_ring}
+use Rattle.gates.specs.Rings.{add_ring}
 use Rattle.gates.specs.Clear.{each_two, first_word}
 use Rattle.typed_tree.specs.declared.operators.WordOperator.{WordOperator}
 use Rattle.typed_tree.specs.declared.operators.WordOperator.TheVariants as word

@@ -15,9 +15,9 @@ use Rattle.proto_core.proofs.Beginnings.{append-none}
 use Rattle.proto_core.proofs.Nodes.{mail-none}
 use Rattle.protocol_model.specs.Network.{one_more, waits_for}
 use Rattle.protocol_model.proofs.NetCounts.{counts-delivered, lt_from}
-use Rattle.code_model.specs.Meaning.{fuel}
-use Rattle.code_places.specs.Places.{first_place}
-use Rattle.own_code.specs.OwnCode.{own_code}
+use Rattle.miner_core.specs.Meaning.{fuel}
+use Rattle.miner_core.specs.Places.{first_place}
+use Rattle.miner_core.specs.OwnCode.{own_code}
 use Rattle.miner_core.specs.Story.{Story, received, mail_in, strand_in, node, stands_at}
 use Rattle.counted_net.specs.declared.tally.Tally.{Tally}
 use Rattle.counted_net.specs.Cursors.{tally_on}

@@ -9,7 +9,7 @@ use Rattle.proto_core.specs.Standing.{Standing, AtItsEnd, Awaits, Refuses, stand
 use Rattle.proto_core.specs.declared.refused.BadMessage.{BadMessage}
 use Rattle.protocol_model.specs.Network.{waits_for}
 use Rattle.protocol_model.proofs.Completing.{not_waiting}
-use Rattle.own_code.specs.OwnCode.{Ended}
+use Rattle.miner_core.specs.OwnCode.{Ended}
 use Rattle.miner_core.specs.declared.answer.End.{End}
 use Rattle.miner_core.specs.declared.answer.Step.{Step}
 use Rattle.miner_core.specs.declared.answer.Step.TheVariants as step

@@ -8,9 +8,9 @@ use Rattle.proto_core.specs.Net.{nothing, run_of, posted, all_delivered}
 use Rattle.gates.specs.Clear.{Values}
 use Rattle.language_model.specs.Effects.{World}
 use Rattle.verified_code.specs.Steps.{Function}
-use Rattle.code_model.specs.Meaning.{fuel}
-use Rattle.code_places.specs.Places.{first_place}
-use Rattle.own_code.specs.OwnCode.{Ended, own_code}
+use Rattle.miner_core.specs.Meaning.{fuel}
+use Rattle.miner_core.specs.Places.{first_place}
+use Rattle.miner_core.specs.OwnCode.{Ended, own_code}
 
 -- what a miner was made with that is its own
 pub record Own : Type 0 where

@@ -6,7 +6,7 @@ ghost use Rattle.proto_core.specs.Script.{Move};
 ghost use Rattle.proto_core.specs.Strand.{Mail, Strand};
 ghost use Rattle.protocol_model.specs.Along.{MovesAlong};
 ghost use Rattle.protocol_model.specs.Network.{counts, made_order, total};
-ghost use Rattle.own_code.specs.OwnCode.{Ended};
+ghost use Rattle.miner_core.specs.OwnCode.{Ended};
 ghost use Rattle.link_schedule.specs.Net.{NetState, nodes_in, net_mail, net_posted, after};
 ghost use Rattle.link_schedule.specs.Orders.{IsMade};
 

@@ -9,3 +9,4 @@ pub mod Noting
 pub mod Short
 pub mod Bodies
 pub mod Ends
+pub use Rattle.code_model.proofs.Settled

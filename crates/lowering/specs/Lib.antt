@@ -1,2 +1,3 @@
 pub mod Narrow
 pub mod inner
+pub use Rattle.code_model.specs.Meaning

@@ -19,7 +19,7 @@ use Rattle.delivered_run.specs.Deliveries.{HasRunOf, delivered_of, net_of}
 use Rattle.delivered_run.specs.declared.running.DeliveredRun.{DeliveredRun}
 use Rattle.counted_net.specs.declared.delivery.DeliveryErr.{DeliveryErr}
 use Rattle.counted_net.specs.declared.delivery.DeliveryErr.TheVariants as refusal
-use Rattle.program_views.specs.Views.{view_of}
+use Rattle.viewed_run.specs.Views.{view_of}
 use Rattle.view_text.specs.View.{View}
 use Rattle.viewed_run.specs.Seen.{HasSeenRun, view_in}
 use Rattle.viewed_run.specs.declared.seen.SeenRun.{SeenRun}

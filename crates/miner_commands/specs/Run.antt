@@ -17,7 +17,7 @@ use Rattle.language_model.specs.Reports.{Report}
 use Rattle.program_run.specs.Reports.{eval_with}
 use Rattle.delivered_run.specs.Deliveries.{delivered_of, net_of, IsRefusedOf}
 use Rattle.counted_net.specs.declared.delivery.DeliveryErr.{DeliveryErr}
-use Rattle.program_views.specs.Views.{view_of}
+use Rattle.viewed_run.specs.Views.{view_of}
 use Rattle.view_text.specs.View.{View}
 use Rattle.command_frame.specs.declared.plan.Plan.{Plan}
 use Rattle.delivered_run.specs.declared.running.DeliveredRun.{DeliveredRun}

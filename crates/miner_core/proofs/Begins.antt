@@ -9,14 +9,14 @@ use Rattle.language_model.specs.Beginnings.{Begins}
 use Rattle.language_model.specs.Effects.{Stage, World}
 use Rattle.language_model.proofs.Onward.{begins_none}
 use Rattle.verified_code.specs.Steps.{Function}
-use Rattle.code_model.specs.Machine.{Machine}
+use Rattle.code_machine.specs.Machine.{Machine}
 use Rattle.value_steps.specs.Views.{stage_seen}
 use Rattle.value_steps.specs.declared.stage.Stage as reached
 use Rattle.code_machine.specs.Marks.{HasGained, again_at}
 use Rattle.code_machine.specs.Views.{machine_seen}
 use Rattle.code_machine.specs.declared.machine.Machine as running
 use Rattle.driven_nodes.specs.Steps.{Went, place_of, gained, last_of}
-use Rattle.code_places.specs.Places.{Place, place, step_told, next_step, told_by}
+use Rattle.code_turns.specs.Places.{Place, place, step_told, next_step, told_by}
 use Rattle.block_steps.specs.Outcomes.{mail_left}
 use Rattle.gate_node.specs.OwnGates.{then_gates}
 use Rattle.gate_node.specs.Nodes as node

@@ -17,14 +17,14 @@ use Rattle.driven_nodes.specs.Driven.{telling}
 use Rattle.driven_nodes.specs.Steps.{Running, Stopped, Short, last_of}
 use Rattle.code_turns.specs.declared.outcome.Turned.TheVariants as turned
 use Rattle.protocol_model.specs.Gates.{nth_value}
-use Rattle.code_places.specs.Places.{Place, place}
+use Rattle.code_turns.specs.Places.{Place, place}
 use Rattle.block_steps.specs.declared.links.Links.{Links}
 use Rattle.block_steps.specs.Outcomes.{outcome, outcome_of, mail_left}
 use Rattle.gate_node.specs.Nodes as node
 use Rattle.gate_node.specs.declared.engine.Engine as gates
 use Rattle.gate_node.proofs.Always.{then-all, then-assoc}
-use Rattle.named_values.specs.Besides.{with_gates}
-use Rattle.named_values.specs.Named.{AreAmong, MachineNames}
+use Rattle.code_machine.specs.Besides.{with_gates}
+use Rattle.own_code.specs.Named.{AreAmong, MachineNames}
 use Rattle.own_code.specs.EarlierGates.{end_without_gates, place_with_gates, without_gates}
 use Rattle.own_code.specs.LettingGo.{forget, without_values, IsHeld}
 use Rattle.own_code.specs.OwnCode.{Ended, Reached, Unfit, own_code}

@@ -7,3 +7,5 @@ pub mod Notices
 pub mod Stories
 pub mod Stops
 pub mod Staying
+pub use Rattle.gate_node.proofs.Always
+pub use Rattle.gate_node.proofs.OwnGates

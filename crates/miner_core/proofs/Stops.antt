@@ -6,7 +6,7 @@ use Rattle.proto_core.specs.Strand.{Strand, Ends, Acts, Waits, then_do}
 use Rattle.gates.specs.Clear.{Values}
 use Rattle.value_steps.specs.Views.{stage_seen}
 use Rattle.code_machine.specs.Views.{machine_seen}
-use Rattle.code_places.specs.Places.{Place, place, telling_stage}
+use Rattle.code_turns.specs.Places.{Place, place, telling_stage}
 use Rattle.driven_nodes.specs.Steps.{Stopped}
 use Rattle.block_steps.specs.declared.links.Links.{Links}
 use Rattle.block_steps.specs.Outcomes.{Outcome, StandsAt}
@@ -17,7 +17,7 @@ use Rattle.gate_node.specs.declared.stand.Stand.TheVariants.{Through, Waits as A
 use Rattle.miner_core.specs.declared.engine.At.{At}
 use Rattle.miner_core.specs.declared.engine.At.TheVariants as at
 use Rattle.miner_core.specs.declared.engine.Engine.{Engine}
-use Rattle.named_values.specs.Besides.{with_gates}
+use Rattle.code_machine.specs.Besides.{with_gates}
 use Rattle.own_code.specs.EarlierGates.{place_with_gates}
 use Rattle.own_code.specs.OwnCode.{Ended, Reached}
 use Rattle.miner_core.specs.Engines.{behind_node, ended_by, engine_left, forgetting, goes_on_at, IsOver, Rests}

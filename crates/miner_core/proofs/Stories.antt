@@ -10,12 +10,12 @@ use Rattle.proto_core.specs.Strand.{Shape, same_link, Mail, Strand, Ends, Acts, 
 use Rattle.proto_core.specs.Standing.{AtItsEnd, Awaits, Refuses, standing_with, before_mail, at_fault, fault_of}
 use Rattle.proto_core.specs.declared.refused.BadMessage.{BadMessage}
 use Rattle.language_model.specs.Reports.{beginning}
-use Rattle.code_model.specs.Machine.{start}
-use Rattle.code_model.specs.Meaning.{fuel}
+use Rattle.code_machine.specs.Machine.{start}
+use Rattle.code_machine.specs.Meaning.{fuel}
 use Rattle.value_steps.specs.Views.{stage_seen}
 use Rattle.code_machine.specs.Standing.{Stands}
 use Rattle.code_machine.specs.Views.{machine_seen}
-use Rattle.code_places.specs.Places.{Place, place}
+use Rattle.code_turns.specs.Places.{Place, place}
 use Rattle.proto_core.specs.Net.{mail_of, added}
 use Rattle.proto_core.proofs.Beginnings.{append-none}
 use Rattle.proto_core.proofs.Strands.{same-link_is, same-link_self, run-added, told-append}

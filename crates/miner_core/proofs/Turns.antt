@@ -9,12 +9,12 @@ use Rattle.proto_core.specs.Strand.{Notice, Mail, Strand, run, then_do, told_in}
 use Rattle.gates.specs.declared.gate.Gate.{Gate}
 use Rattle.gates.specs.Clear.{Values}
 use Rattle.language_model.specs.Effects.{Stage}
-use Rattle.code_model.specs.Machine.{Machine}
+use Rattle.code_machine.specs.Machine.{Machine}
 use Rattle.value_steps.specs.Views.{stage_seen}
 use Rattle.value_steps.specs.declared.stage.Stage as reached
 use Rattle.driven_nodes.specs.Driven.{telling}
 use Rattle.driven_nodes.specs.Steps.{Went, place_of, stand_of, gained, last_of}
-use Rattle.code_places.specs.Places.{Place, step_told, notices_between, next_step, told_by, where_made}
+use Rattle.code_turns.specs.Places.{Place, step_told, notices_between, next_step, told_by, where_made}
 use Rattle.block_steps.specs.declared.links.Links.{Links}
 use Rattle.block_steps.specs.Outcomes.{outcome, outcome_of, mail_left}
 use Rattle.gate_node.specs.OwnGates.{Halted, Whole, Stuck, own_gates, then_gates}

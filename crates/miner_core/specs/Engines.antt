@@ -10,7 +10,7 @@ use Rattle.code_machine.specs.Views.{machine_seen}
 use Rattle.value_steps.specs.Views.{stage_seen}
 use Rattle.driven_nodes.specs.Driven.{telling}
 use Rattle.driven_nodes.specs.Steps.{Stopped, Short, stand_of, last_of}
-use Rattle.code_places.specs.Places.{Place, place, step_told}
+use Rattle.code_turns.specs.Places.{Place, place, step_told}
 use Rattle.block_steps.specs.Outcomes.{Outcome, outcome_of, mail_left, Holds}
 use Rattle.gate_node.specs.OwnGates.{Halted, Whole, Stuck}
 use Rattle.gate_node.specs.Nodes as node

@@ -9,9 +9,9 @@ use Rattle.proto_core.specs.Standing.{Standing, AtItsEnd, Awaits, Refuses, stand
 use Rattle.gates.specs.Clear.{Values}
 use Rattle.language_model.specs.Effects.{World}
 use Rattle.verified_code.specs.Steps.{Function}
-use Rattle.code_model.specs.Meaning.{fuel}
+use Rattle.code_machine.specs.Meaning.{fuel}
 use Rattle.driven_nodes.specs.Steps.{Running, Stopped, Short}
-use Rattle.code_places.specs.Places.{Place, first_place}
+use Rattle.code_turns.specs.Places.{Place, first_place}
 use Rattle.block_steps.specs.Outcomes.{Outcome, outcome, mail_left}
 use Rattle.miner_core.specs.declared.answer.End.{End}
 use Rattle.miner_core.specs.declared.answer.End.TheVariants as end

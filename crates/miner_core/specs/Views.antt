@@ -7,7 +7,7 @@ use Rattle.verified_code.specs.Settled.{settled}
 use Rattle.verified_code.specs.Steps.{Function}
 use Rattle.value_steps.specs.Views.{given_seen, lengths_seen}
 use Rattle.value_steps.specs.declared.stage.Stage as reached
-use Rattle.code_places.specs.Places.{form_of, where_made}
+use Rattle.code_turns.specs.Places.{form_of, where_made}
 use Rattle.code_turns.specs.declared.speech.Speech.{Speech}
 use Rattle.code_turns.specs.declared.telling.Told.{Told}
 use Rattle.code_turns.specs.Views.{speech_seen}

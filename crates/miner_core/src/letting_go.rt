@@ -7,7 +7,7 @@ ghost use Rattle.bytecode.specs.Raw.{RawCode};
 ghost use Rattle.code_machine.specs.Named.{is_in, is_in_any};
 ghost use Rattle.code_machine.specs.Views.{machine_seen};
 ghost use Rattle.driven_nodes.specs.Steps.{last_of};
-ghost use Rattle.named_values.specs.Named.{AreAmong, MachineNames};
+ghost use Rattle.own_code.specs.Named.{AreAmong, MachineNames};
 ghost use Rattle.miner_core.specs.declared.engine.At.TheVariants.{Ready};
 ghost use Rattle.miner_core.specs.Engines.{engine_left, forgetting, measure, IsSound, IsThrough, KeepsLinks, LeadsOn};
 

@@ -1,7 +1,7 @@
 ghost use Rattle.std.specs.Prelude.{◌≡◌, ◌-◌, [], map, true, false, IfOk, Err};
 ghost use Rattle.proto_core.specs.Parties.{receiver_of};
 ghost use Rattle.proto_core.specs.Standing.{AtItsEnd};
-ghost use Rattle.gate_laws.specs.Dealt.{drawn_by};
+ghost use Rattle.code_turns.specs.Dealt.{drawn_by};
 ghost use Rattle.value_steps.specs.Views.{drawn_seen};
 ghost use Rattle.shared_gates.specs.Model.{miner_of};
 ghost use Rattle.miner_core.specs.Story.{sent_to_next, sent_to_previous, has_opened, has_told, stands_at, AtStop, IsAnswer, DeliverAnswers};

@@ -1,7 +1,7 @@
 // One step of the code, and the gates that it makes.
 ghost use Rattle.std.specs.Prelude.{◌≡◌, ◌≤◌, [], IfOk, drop, length};
 ghost use Rattle.code_machine.specs.Standing.{Stands};
-ghost use Rattle.code_places.specs.Places.{step_told};
+ghost use Rattle.code_turns.specs.Places.{step_told};
 ghost use Rattle.code_turns.specs.Views.{place_in, went_to};
 ghost use Rattle.miner_core.specs.Views.{task_world, task_code};
 

@@ -18,8 +18,8 @@ use Rattle.shared_gates.specs.Model.{AllSizesSuit}
 use Rattle.shared_gates.proofs.Models.{gates-sound}
 use Rattle.language_model.specs.Reports.{Report, Offered}
 use Rattle.verified_code.specs.Steps.{Function}
-use Rattle.code_model.specs.Meaning.{fuel}
-use Rattle.gate_laws.specs.Dealt.{Dealt}
+use Rattle.miner_core.specs.Meaning.{fuel}
+use Rattle.code_places.specs.Dealt.{Dealt}
 use Rattle.driven_nodes.specs.Alike.{Alike, AreAlike}
 use Rattle.driven_nodes.specs.Driven.{path, stop, Goes}
 use Rattle.driven_nodes.specs.Steps.{Stand, Stopped}
@@ -35,7 +35,7 @@ use Rattle.code_runs.specs.Runs.{next, start, miners, gates_to_run, messages, sh
 use Rattle.code_runs.specs.Laws.{MayRunShared}
 use Rattle.code_runs.proofs.Miners as driven
 use Rattle.code_runs.proofs.Notices.{retold}
-use Rattle.own_code.specs.OwnCode.{Ended, Reached}
+use Rattle.miner_core.specs.OwnCode.{Ended, Reached}
 use Rattle.miner_runs.specs.OwnRuns.{public_world, own_nodes, own_end, OwnRunAsReported}
 use Rattle.miner_runs.specs.Laws.{OwnMinersRunTheCode}
 use Rattle.miner_runs.proofs.Deeds.{DoAlike, like_third}

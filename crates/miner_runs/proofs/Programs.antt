@@ -1,16 +1,16 @@
 -- Three miners, each by its own shares and tape alone, run the code of an accepted program as its evaluation in the clear reports.
 use Rattle.std.proofs.Common.{ℕ, List, subst}
 use Rattle.language_model.specs.Reports.{Report, Offered}
-use Rattle.clear_eval.specs.Offers.{offered}
+use Rattle.program_run.specs.Offers.{offered}
 use Rattle.verified_code.specs.Steps.{Function}
 use Rattle.verified_code.specs.Settled.{settled}
-use Rattle.lowered_code.specs.RawCodes.{raw_code_of_program}
+use Rattle.program_run.specs.RawCodes.{raw_code_of_program}
 use Rattle.tape_file.specs.Tapes.{FourTapes}
 use Rattle.value_file.specs.declared.inputs.Entry.{Entry}
 use Rattle.typed_tree.specs.Programs.{TypedProgramTree}
 use Rattle.view_model.specs.TapeMaps.{miners_of}
-use Rattle.code_inputs.specs.Inputs.{dealt_of}
-use Rattle.code_inputs.specs.Laws.{IsAccepted}
+use Rattle.program_run.specs.Inputs.{dealt_of}
+use Rattle.program_run.specs.Laws.{IsAccepted}
 use Rattle.program_run.specs.Reports.{lengths_of}
 use Rattle.program_run.proofs.Shared.{may_run_shared, means_so}
 use Rattle.miner_runs.specs.OwnRuns.{OwnRunAsReported}

@@ -10,9 +10,9 @@ use Rattle.shared_gates.specs.Model.{sizes_made, AllSizesSuit, run_gates, sizes_
 use Rattle.shared_gates.proofs.Models.{gates-sound}
 use Rattle.shared_plans.proofs.RunLists.{values-sized}
 use Rattle.shared_plans.proofs.GateRunLaws.{model-sizes}
-use Rattle.gate_laws.specs.Dealt.{Dealt}
-use Rattle.gate_node.specs.OwnGates.{Whole, own_gates}
-use Rattle.gate_node.proofs.OwnGates.{its-part}
+use Rattle.code_places.specs.Dealt.{Dealt}
+use Rattle.miner_core.specs.OwnGates.{Whole, own_gates}
+use Rattle.miner_core.proofs.OwnGates.{its-part}
 
 -- ---- WHAT SUITS IN ONE SUITS PART BY PART
 

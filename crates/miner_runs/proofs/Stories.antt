@@ -13,13 +13,13 @@ use Rattle.gates.specs.Clear.{Values}
 use Rattle.language_model.specs.Effects.{World}
 use Rattle.language_model.specs.Reports.{Report, Offered}
 use Rattle.verified_code.specs.Steps.{Function}
-use Rattle.code_model.specs.Meaning.{fuel, mean}
-use Rattle.gate_laws.specs.Dealt.{Dealt}
+use Rattle.miner_core.specs.Meaning.{fuel, mean}
+use Rattle.code_places.specs.Dealt.{Dealt}
 use Rattle.code_places.specs.Places.{first_place}
 use Rattle.code_runs.specs.Runs.{messages}
 use Rattle.code_runs.proofs.Notices.{retold}
 use Rattle.miner_core.specs.declared.answer.End.TheVariants as end
-use Rattle.own_code.specs.OwnCode.{Ended, own_code}
+use Rattle.miner_core.specs.OwnCode.{Ended, own_code}
 use Rattle.miner_core.specs.Story.{Story, node, HasEnded}
 use Rattle.miner_runs.specs.OwnRuns.{public_world, own_nodes, own_end, OwnRunAsReported}
 use Rattle.miner_runs.specs.Stories.{DoesItsPart, HaveDoneWhereAccepted}

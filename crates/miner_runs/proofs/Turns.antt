@@ -16,15 +16,15 @@ use Rattle.shared_gates.specs.Model.{AllSizesSuit, sizes_after}
 use Rattle.shared_gates.proofs.GatesBehind.{sizes-then}
 use Rattle.language_model.specs.Effects.{World}
 use Rattle.verified_code.specs.Steps.{Function}
-use Rattle.gate_laws.specs.Dealt.{Dealt}
+use Rattle.code_places.specs.Dealt.{Dealt}
 use Rattle.driven_nodes.specs.Driven.{Turn, telling, shares_behind, tapes_behind, place_behind, LeadsTogether, driven, path, Goes}
 use Rattle.driven_nodes.specs.Steps.{Went, On, Over, Wants, Steps, Stand, Running, Stopped, place_of, stand_of, gained, last_of, turn_of, next_turn}
 use Rattle.driven_nodes.specs.Twins.{Course, gates_by, gates_of, ReadsBy, Reads, Follows, untold, told, TwinBy, Twins}
 use Rattle.driven_nodes.proofs.Gates.{messages_then}
 use Rattle.code_places.specs.Places.{Place, code_steps, run_dealt}
-use Rattle.gate_node.specs.OwnGates.{Whole, own_gates}
-use Rattle.gate_node.proofs.Always.{then-assoc}
-use Rattle.own_code.specs.OwnCode.{Ended, Reached, go_on, behind_gates, gates_between, own_code}
+use Rattle.miner_core.specs.OwnGates.{Whole, own_gates}
+use Rattle.miner_core.proofs.Always.{then-assoc}
+use Rattle.miner_core.specs.OwnCode.{Ended, Reached, go_on, behind_gates, gates_between, own_code}
 use Rattle.miner_runs.proofs.Deeds.{DoAlike, ended_alike, telling_alike, then_alike}
 use Rattle.miner_runs.proofs.Sizes.{suits_front, suits_back, run_sizes, own_part}
 

@@ -3,8 +3,8 @@ use Rattle.std.specs.Prelude.{ℕ, List}
 use Rattle.protocol_model.specs.Runs.{Tapes}
 use Rattle.language_model.specs.Reports.{Offered}
 use Rattle.verified_code.specs.Steps.{Function}
-use Rattle.code_model.specs.Meaning.{mean}
-use Rattle.gate_laws.specs.Dealt.{Dealt}
+use Rattle.miner_core.specs.Meaning.{mean}
+use Rattle.code_places.specs.Dealt.{Dealt}
 use Rattle.code_runs.specs.Laws.{MayRunShared}
 use Rattle.tape_file.specs.Tapes.{FourTapes}
 use Rattle.value_file.specs.declared.inputs.Entry.{Entry}

@@ -12,13 +12,13 @@ use Rattle.protocol_model.specs.Schedules.{AnyOrder}
 use Rattle.language_model.specs.Effects.{World, Answers}
 use Rattle.language_model.specs.Reports.{Report, Offered, world_of, public_part}
 use Rattle.verified_code.specs.Steps.{Function}
-use Rattle.code_model.specs.Meaning.{fuel}
-use Rattle.gate_laws.specs.Dealt.{Dealt}
+use Rattle.miner_core.specs.Meaning.{fuel}
+use Rattle.code_places.specs.Dealt.{Dealt}
 use Rattle.driven_nodes.specs.Steps.{Stopped}
 use Rattle.code_places.specs.Places.{Place, first_place}
 use Rattle.code_runs.specs.Telling.{Tells}
 use Rattle.code_runs.specs.Runs.{messages, shares, scripts, TurnsComeTo}
-use Rattle.own_code.specs.OwnCode.{Ended, Reached, own_code}
+use Rattle.miner_core.specs.OwnCode.{Ended, Reached, own_code}
 
 -- the world of one who has no private input, and is told what is opened
 abbrev pub public_world : Offered → World

@@ -11,8 +11,8 @@ use Rattle.protocol_model.specs.Runs.{Tapes}
 use Rattle.language_model.specs.Effects as effects
 use Rattle.language_model.specs.Reports.{Report, Offered}
 use Rattle.verified_code.specs.Steps.{Function}
-use Rattle.code_model.specs.Meaning.{mean}
-use Rattle.gate_laws.specs.Dealt.{Dealt}
+use Rattle.miner_core.specs.Meaning.{mean}
+use Rattle.code_places.specs.Dealt.{Dealt}
 use Rattle.code_runs.specs.Telling.{Tells}
 use Rattle.code_runs.specs.Laws.{MayRunShared}
 use Rattle.miner_core.specs.declared.answer.End.TheVariants as end

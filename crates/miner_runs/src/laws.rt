@@ -9,7 +9,7 @@ ghost use Rattle.value_file.specs.declared.inputs.Entry.{Entry};
 ghost use Rattle.language_model.specs.Reports.{Offered};
 ghost use Rattle.typed_tree.specs.Programs.{TypedProgramTree};
 ghost use Rattle.verified_code.specs.Steps.{Function};
-ghost use Rattle.gate_laws.specs.Dealt.{Dealt};
+ghost use Rattle.code_places.specs.Dealt.{Dealt};
 ghost use Rattle.miner_core.specs.Story.{Story};
 ghost use Rattle.miner_runs.specs.Laws.{OwnMinersRunTheCode};
 ghost use Rattle.miner_runs.specs.Stories.{DoesItsPart, HaveDoneWhereAccepted};

@@ -4,3 +4,5 @@ pub mod OpeningLaws
 pub mod Steps
 pub mod Parts
 pub mod Vectors
+pub use Rattle.reshare.specs.Resharing
+pub use Rattle.reshare.specs.ResharingLaws

@@ -11,7 +11,7 @@ use Rattle.gates.specs.Counts.{made_by_all}
 use Rattle.language_model.specs.Effects.{World, RunStop, Short, Run}
 use Rattle.language_model.specs.Effects as effect
 use Rattle.verified_code.specs.Steps.{Function}
-use Rattle.code_model.specs.Machine.{Machine, step}
+use Rattle.named_values.specs.Machine.{Machine, step}
 use Rattle.driven_nodes.specs.Driven.{telling}
 use Rattle.driven_nodes.specs.Steps.{Went, On, Over, Wants, place_of, stand_of, gained, last_of}
 use Rattle.code_places.specs.Places.{Place, telling_stage, stopped, went, next_step, step_told, notices_between, where_made, told_by}

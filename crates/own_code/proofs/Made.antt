@@ -8,7 +8,7 @@ use Rattle.proto_core.specs.Strand.{Shape, accepts, Mail, taken, Strand, Ends, A
 use Rattle.proto_core.specs.declared.link.Link.{Link}
 use Rattle.proto_core.proofs.Strands.{run-none, run-took, run-refused}
 use Rattle.protocol_model.specs.Gates.{Joined, nth_value, operand, sizes_of}
-use Rattle.blocked_protocol.specs.Blocked.{blocked}
+use Rattle.shared_gates.specs.Blocked.{blocked}
 use Rattle.gates.specs.declared.ring_kind.RingKind.TheVariants.{Arithmetic, Boolean}
 use Rattle.gates.specs.declared.gate.Gate.{Gate}
 use Rattle.gates.specs.declared.gate.Gate.TheVariants.{Mul, And, Split, Conv, Open, Result}

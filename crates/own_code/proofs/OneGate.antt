@@ -12,7 +12,7 @@ use Rattle.open_result.specs.Opening.{open_protocol}
 use Rattle.reshare.specs.Resharing.{reshare_protocol}
 use Rattle.share_convert.specs.Converting.{conv_protocol}
 use Rattle.split_share.specs.Splitting.{split_protocol}
-use Rattle.blocked_protocol.specs.Blocked.{blocked}
+use Rattle.shared_gates.specs.Blocked.{blocked}
 use Rattle.gates.specs.declared.gate.Gate.{Gate}
 use Rattle.gates.specs.declared.gate.Gate.TheVariants.{Input, Const, Add, Sub, MulPub, Mul, Xor, And, Not, Shl, Shr, Low, Cat, Part, Put, Rep, Spread}
 use Rattle.gates.specs.declared.gate.Gate.TheVariants.{Sum, Split, Conv, Open, Result}

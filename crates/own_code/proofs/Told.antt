@@ -11,10 +11,10 @@ use Rattle.gates.specs.declared.gate.Gate.TheVariants.{Const, Open}
 use Rattle.language_model.specs.Effects.{Words, World, Source, Clear, Answers, Stage, RunStop, Ended, Short, Run, Effect, ◌>>=◌, carry, done, charge}
 use Rattle.language_model.specs.Effects.{words_each, fits, drawn_yet, draw, gate, answer, emit, show}
 use Rattle.language_model.specs.Values.{Secrecy, Plain, Private, Value, plain, size, ring_for, elements_of}
-use Rattle.blind_evaluation.specs.Courses.{IsEnded}
+use Rattle.named_values.specs.Courses.{IsEnded}
 use Rattle.language_model.specs.Operations.{charged, no_traps, number_from, read_answer, revealed, opened_from, declassified}
 use Rattle.verified_code.specs.Steps.{Function}
-use Rattle.code_model.specs.Machine.{Machine, next, step}
+use Rattle.named_values.specs.Machine.{Machine, next, step}
 use Rattle.driven_nodes.specs.Steps.{Went, On, Over, Wants, place_of}
 use Rattle.code_places.specs.Places.{Place, telling_stage, stopped, went, next_step, step_told}
 use Rattle.code_places.specs.Laws.{stage_behind}

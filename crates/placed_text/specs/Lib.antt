@@ -1,1 +1,2 @@
 pub mod Laws
+pub use Rattle.writable_code.specs.Sources

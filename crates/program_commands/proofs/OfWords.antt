@@ -8,7 +8,7 @@ use Rattle.tape_file.specs.Tapes.{AreOfWords}
 use Rattle.tape_file.proofs.OfWords.{read_of_words as tapes_have_words, seeded_of_words}
 use Rattle.value_file.specs.Input.{read_of as inputs_read_of}
 use Rattle.input_share.proofs.OfWords.{read_of_words as inputs_are_read}
-use Rattle.code_inputs.specs.Inputs.{AreSound}
+use Rattle.program_run.specs.Inputs.{AreSound}
 use Rattle.program_commands.specs.Reading.{bad_input, bad_tape, inputs_at, read_or, tape_file_at, tapes_at}
 
 -- what a step gives, from what the next one makes of any answer

@@ -6,7 +6,7 @@ use Rattle.command_frame.specs.Answer.{Answer, Effect}
 use Rattle.command_words.specs.Ask.{CompileAsk}
 use Rattle.typed_tree.specs.Programs.{TypedProgramTree}
 use Rattle.bytecode.specs.Raw.{RawCode}
-use Rattle.lowered_code.specs.RawCodes.{raw_code_of_program}
+use Rattle.program_run.specs.RawCodes.{raw_code_of_program}
 use Rattle.reached_instances.specs.Instances.{Instance}
 use Rattle.reached_instances.specs.Reached.{IsReachedList}
 use Rattle.reached_instances.proofs.ReachedLists.{is_the_only_list}

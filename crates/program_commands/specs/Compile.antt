@@ -7,10 +7,10 @@ use Rattle.command_frame.specs.Answer.{Answer, Effect, ◌>>=◌}
 use Rattle.command_words.specs.Ask.{CompileAsk}
 use Rattle.bytecode.specs.Raw.{RawCode}
 use Rattle.bytecode.specs.Written.{written_code}
-use Rattle.code_model.specs.Meaning.{mean_in}
+use Rattle.program_run.specs.Meaning.{mean_in}
 use Rattle.language_model.specs.Effects.{World}
 use Rattle.language_model.specs.Reports.{evaluated}
-use Rattle.lowered_code.specs.RawCodes.{raw_code_of_program}
+use Rattle.program_run.specs.RawCodes.{raw_code_of_program}
 use Rattle.reached_instances.specs.Instances.{Instance}
 use Rattle.typed_tree.specs.Programs.{TypedProgramTree}
 use Rattle.verified_code.specs.Settled.{settled}

@@ -11,3 +11,5 @@ pub mod Programs
 pub mod Reading
 pub mod Schedules
 pub mod Vectors
+pub use Rattle.program_run.specs.Dealt
+pub use Rattle.program_run.specs.Reports

@@ -5,7 +5,7 @@ ghost use Rattle.domain_types.specs.Typing.{IsTypedProgram};
 ghost use Rattle.typed_tree.specs.Programs.{typed_program_tree};
 ghost use Rattle.typed_tree.specs.Sound.{IsSound};
 ghost use Rattle.well_typed.specs.Sources.{IsWellWritten};
-ghost use Rattle.writable_code.specs.Sources.{IsPlacedProgram};
+ghost use Rattle.placed_text.specs.Sources.{IsPlacedProgram};
 ghost use Rattle.program_run.specs.Accepted.{IsAccepted};
 ghost use Rattle.front_end.specs.Judgement.{Judged, IsJudged};
 ghost use Rattle.command_frame.specs.Reads.{OnlyRead, Gives, StopNames, StopsReading};

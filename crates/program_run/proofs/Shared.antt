@@ -14,19 +14,19 @@ use Rattle.value_file.specs.declared.inputs.Entry.{Entry}
 use Rattle.language_model.specs.Effects.{Clear}
 use Rattle.language_model.specs.Reports.{Offered, Report, world_of, dealing, eval}
 use Rattle.clear_eval.specs.Offers.{offered}
-use Rattle.shared_gates.specs.Model.{miner_of}
+use Rattle.code_runs.specs.Model.{miner_of}
 use Rattle.verified_code.specs.Settled.{settled}
 use Rattle.verified_code.specs.Steps.{Function}
-use Rattle.code_model.specs.Meaning.{mean}
+use Rattle.lowering.specs.Meaning.{mean}
 use Rattle.verified_code.proofs.Sound.{verified_is_sound}
-use Rattle.code_model.proofs.Settled.{sound_forward}
-use Rattle.well_typed.proofs.Reaching.{accepted_well_typed}
-use Rattle.lowered_code.specs.RawCodes.{raw_code_of_program}
-use Rattle.lowered_code.proofs.Limits.{within_small}
-use Rattle.lowered_code.proofs.RegistersOfPrograms.{small_numbered}
-use Rattle.lowered_code.proofs.Verified.{code_right, well_typed_verified, accepted_runs}
-use Rattle.gate_laws.specs.Dealt.{Dealt, drawn_by}
-use Rattle.view_model.specs.TapeMaps.{miners_of}
+use Rattle.lowering.proofs.Settled.{sound_forward}
+use Rattle.writable_code.proofs.Reaching.{accepted_well_typed}
+use Rattle.writable_code.specs.RawCodes.{raw_code_of_program}
+use Rattle.writable_code.proofs.Limits.{within_small}
+use Rattle.writable_code.proofs.RegistersOfPrograms.{small_numbered}
+use Rattle.writable_code.proofs.Verified.{code_right, well_typed_verified, accepted_runs}
+use Rattle.code_runs.specs.Dealt.{Dealt, drawn_by}
+use Rattle.code_inputs.specs.TapeMaps.{miners_of}
 use Rattle.code_inputs.specs.Inputs.{AreSound, Suffice, dealt_of}
 use Rattle.code_inputs.specs.Laws.{IsAccepted}
 use Rattle.code_inputs.proofs.Offering.{are_dealt}

@@ -2,7 +2,7 @@
 use Rattle.std.specs.Prelude.{◌≡◌, Some}
 use Rattle.secrec_ast.specs.Programs.{ProgramTree}
 use Rattle.domain_types.specs.Typing.{IsTypedProgram}
-use Rattle.well_typed.specs.Sources.{IsWellWritten}
+use Rattle.code_inputs.specs.Sources.{IsWellWritten}
 use Rattle.writable_code.specs.Sources.{IsPlacedProgram}
 use Rattle.typed_tree.specs.Programs.{TypedProgramTree}
 use Rattle.name_resolution.specs.Functions.{typed_of}

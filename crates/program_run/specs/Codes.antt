@@ -1,7 +1,7 @@
 -- The code of a program, and code that three miners may run.
 use Rattle.std.specs.Prelude.{◌≡◌, ℕ, List}
 use Rattle.bytecode.specs.Raw.{RawCode}
-use Rattle.lowered_code.specs.RawCodes.{raw_code_of_program}
+use Rattle.writable_code.specs.RawCodes.{raw_code_of_program}
 use Rattle.reached_instances.specs.Instances.{Instance}
 use Rattle.reached_instances.specs.Reached.{IsReachedList}
 use Rattle.typed_tree.specs.Programs.{TypedProgramTree}
@@ -9,9 +9,9 @@ use Rattle.language_model.specs.Reports.{Report}
 use Rattle.value_file.specs.declared.inputs.Entry.{Entry}
 use Rattle.tape_file.specs.Tapes.{FourTapes}
 use Rattle.verified_code.specs.Settled.{settled}
-use Rattle.code_model.specs.Meaning.{mean}
+use Rattle.lowering.specs.Meaning.{mean}
 use Rattle.clear_eval.specs.Offers.{offered}
-use Rattle.view_model.specs.TapeMaps.{miners_of}
+use Rattle.code_inputs.specs.TapeMaps.{miners_of}
 use Rattle.code_inputs.specs.Inputs.{dealt_of}
 use Rattle.code_runs.specs.Laws.{MayRunShared}
 use Rattle.program_run.specs.Reports.{lengths_of}

@@ -4,7 +4,7 @@ use Rattle.proto_core.specs.declared.party.Number.{Number}
 use Rattle.proto_core.specs.Lists.{AreWords}
 use Rattle.tape_file.specs.Tapes.{FourTapes}
 use Rattle.value_file.specs.declared.inputs.Entry.{Entry}
-use Rattle.view_model.specs.TapeMaps.{miners_of}
+use Rattle.code_inputs.specs.TapeMaps.{miners_of}
 use Rattle.code_inputs.specs.Inputs.{AreSound, Suffice}
 
 -- inputs of words, and tapes of words of which the dealer's suffices

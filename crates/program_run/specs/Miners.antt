@@ -7,8 +7,8 @@ use Rattle.reached_instances.specs.Instances.{Instance}
 use Rattle.reached_instances.specs.Reached.{IsReachedList}
 use Rattle.clear_eval.specs.Offers.{offered}
 use Rattle.verified_code.specs.Settled.{settled}
-use Rattle.lowered_code.specs.RawCodes.{raw_code_of_program}
-use Rattle.view_model.specs.TapeMaps.{miners_of}
+use Rattle.writable_code.specs.RawCodes.{raw_code_of_program}
+use Rattle.code_inputs.specs.TapeMaps.{miners_of}
 use Rattle.code_inputs.specs.Inputs.{dealt_of}
 use Rattle.code_runs.specs.Runs.{RunAsReported}
 use Rattle.program_run.specs.Accepted.{IsAccepted}

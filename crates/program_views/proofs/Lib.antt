@@ -8,3 +8,4 @@ pub mod Nets
 pub mod Twins
 pub mod Shares
 mod Samples
+pub use Rattle.code_inputs.proofs.Offering

@@ -14,7 +14,7 @@ use Rattle.typed_tree.specs.declared.operators.BoolOperator.TheVariants as truth
 use Rattle.typed_tree.specs.declared.operators.BinaryOperator.{BinaryOperator}
 use Rattle.typed_tree.specs.declared.operators.BinaryOperator.TheVariants.{Words, Bools}
 use Rattle.typed_tree.specs.Operators.{operands_of, cast_between}
-use Rattle.language_model.specs.Operations.{result_shape}
+use Rattle.code_model.specs.Operations.{result_shape}
 use Rattle.bytecode.specs.declared.kind.Kind.{Kind}
 use Rattle.verified_code.specs.Fitting.{same_truth, same_element, same_kind, kind_at, kind_or, is_there, operator_at}
 use Rattle.verified_code.specs.Fitting.{operator_exists, secrecy_fits, result_kind, binary_fits}

@@ -12,8 +12,8 @@ use Rattle.typed_tree.specs.Statements.{break_statement, continue_statement, ret
 use Rattle.typed_tree.specs.Statements.{fill_statement, input_statement, element_statement, publish_statement, evaluate_statement}
 use Rattle.typed_tree.specs.Statements as Statements'
 use Rattle.typed_tree.specs.Programs.{TypedFunctionTree, TypedProgramTree}
-use Rattle.sc_text.specs.Lists.{Among}
-use Rattle.sc_text.proofs.Lists.{among_parts}
+use Rattle.secrec_ast.specs.Lists.{Among}
+use Rattle.secrec_ast.proofs.Lists.{among_parts}
 use Rattle.reached_instances.specs.declared.instance.BoundDomain.{BoundDomain}
 use Rattle.reached_instances.specs.Domains.{bound_to, bound_below, Setting, domains}
 use Rattle.reached_instances.specs.Instances.{Instance}

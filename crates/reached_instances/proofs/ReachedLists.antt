@@ -6,8 +6,8 @@ use Rattle.std.proofs.lemmas.Bool.{cases_lt}
 use Rattle.std.proofs.lemmas.List.{take-append-drop, take-append-le, take_all}
 use Rattle.std.proofs.lemmas.List.Concat.{flat_map-append}
 use Rattle.std.proofs.lemmas.Option.{same_Some}
-use Rattle.sc_text.specs.Lists.{Among}
-use Rattle.sc_text.proofs.Lists.{among_left, among_right}
+use Rattle.secrec_ast.specs.Lists.{Among}
+use Rattle.secrec_ast.proofs.Lists.{among_left, among_right}
 use Rattle.typed_tree.specs.Programs.{TypedFunctionTree, TypedProgramTree}
 use Rattle.reached_instances.specs.Instances.{Instance, firsts, listing_all}
 use Rattle.reached_instances.specs.Calls.{called, called_by, main_of}

@@ -1,6 +1,6 @@
 -- What every list of reached instances is.
 use Rattle.std.specs.Prelude.{◌≡◌, List, [], ◌∷◌, ◌++◌}
-use Rattle.sc_text.specs.Lists.{Among}
+use Rattle.secrec_ast.specs.Lists.{Among}
 use Rattle.typed_tree.specs.Programs.{TypedProgramTree}
 use Rattle.reached_instances.specs.Instances.{Instance}
 use Rattle.reached_instances.specs.Calls.{main_of}

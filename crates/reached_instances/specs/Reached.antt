@@ -1,7 +1,7 @@
 -- The instances that a program reaches, in the order in which they are first called.
 use Rattle.std.specs.Prelude.{◌≡◌, List, ◌++◌, length, Some}
 use Rattle.std.specs.List.{slice_get, flat_map}
-use Rattle.sc_text.specs.Lists.{Among}
+use Rattle.secrec_ast.specs.Lists.{Among}
 use Rattle.typed_tree.specs.Programs.{TypedFunctionTree, TypedProgramTree}
 use Rattle.reached_instances.specs.Instances.{Instance, firsts}
 use Rattle.reached_instances.specs.Calls.{called_by, main_of}

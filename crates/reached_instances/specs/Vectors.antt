@@ -13,7 +13,7 @@ use Rattle.typed_tree.specs.declared.operators.Operands.TheVariants.{Scalars}
 use Rattle.typed_tree.specs.Tree.{TypedTree, word_node, slot_node, call_node, size_node, element_node, binary_node, declassify_node, typed_trees_of}
 use Rattle.typed_tree.specs.Statements.{TypedStatementTree, loop_statement, do_statement, fill_statement, evaluate_statement, typed_statements_of}
 use Rattle.typed_tree.specs.Programs.{TypedFunctionTree, TypedProgramTree}
-use Rattle.sc_text.specs.Lists.{Among}
+use Rattle.secrec_ast.specs.Lists.{Among}
 use Rattle.std.proofs.Common.{inl, inr, subst}
 use Rattle.reached_instances.specs.declared.instance.BoundDomain.{BoundDomain}
 use Rattle.reached_instances.specs.declared.instance.BoundDomain.TheVariants.{Public, Private}

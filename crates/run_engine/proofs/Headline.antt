@@ -17,7 +17,7 @@ use Rattle.language_model.specs.Tapes.{lacks_words}
 use Rattle.language_model.proofs.Budgets.{budgets_same}
 use Rattle.language_model.proofs.Kept.{cost_kept, words_kept}
 use Rattle.language_model.proofs.TapesDecide.{enough_words}
-use Rattle.program_run.specs.Reports.{eval_with, lengths_of}
+use Rattle.program_commands.specs.Reports.{eval_with, lengths_of}
 use Rattle.protocol_model.specs.Network.{Accepted}
 use Rattle.tape_file.specs.Tapes.{FourTapes}
 use Rattle.typed_tree.specs.Programs.{TypedProgramTree}

@@ -6,12 +6,12 @@ use Rattle.tape_file.specs.Tapes.{FourTapes}
 use Rattle.typed_tree.specs.Programs.{TypedProgramTree}
 use Rattle.value_file.specs.declared.inputs.Entry.{Entry}
 use Rattle.protocol_model.specs.Network.{Accepted, Delivery}
-use Rattle.program_run.specs.Dealt.{CanBeDealt}
-use Rattle.miner_runs.specs.Programs.{OwnRunsOnShares}
-use Rattle.miner_runs.proofs.Programs.{own_runs_where_accepted}
-use Rattle.delivered_run.specs.Premises.{HaveWords, IsMade}
-use Rattle.delivered_run.proofs.Taken.{made_deliveries_are_taken}
-use Rattle.code_inputs.specs.Inputs.{AreSound}
+use Rattle.program_commands.specs.Dealt.{CanBeDealt}
+use Rattle.miner_commands.specs.Programs.{OwnRunsOnShares}
+use Rattle.miner_commands.proofs.Programs.{own_runs_where_accepted}
+use Rattle.miner_commands.specs.Premises.{HaveWords, IsMade}
+use Rattle.miner_commands.proofs.Taken.{made_deliveries_are_taken}
+use Rattle.program_views.specs.Inputs.{AreSound}
 use Rattle.program_views.specs.Laws.{IsGivenTo}
 use Rattle.program_views.specs.Simulated.{ViewIsSimulated}
 use Rattle.program_views.specs.TapeMaps.{MapsCorrespond}
@@ -19,9 +19,9 @@ use Rattle.program_views.proofs.Corresponding.{tapes_corresponding}
 use Rattle.program_views.proofs.Simulated.{views_simulated}
 use Rattle.proto_core.specs.declared.party.Number.{Number}
 use Rattle.view_model.specs.TapeMaps.{AreTapes}
-use Rattle.code_views.specs.CodeViews.{SeesItsView}
-use Rattle.code_views.proofs.CodeViews.{code_views_are_views}
-use Rattle.viewed_run.proofs.Agreeing.{nets_agree}
+use Rattle.miner_commands.specs.CodeViews.{SeesItsView}
+use Rattle.miner_commands.proofs.CodeViews.{code_views_are_views}
+use Rattle.miner_commands.proofs.Agreeing.{nets_agree}
 use Rattle.run_engine.specs.Runs.{HoldsRun, net_for}
 use Rattle.program_commands.specs.Held.{HoldsTyped}
 use Rattle.run_engine.proofs.OfWords.{read_of_words}

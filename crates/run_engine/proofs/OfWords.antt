@@ -9,8 +9,8 @@ use Rattle.proto_core.specs.declared.party.Number.TheVariants.{One, Two, Three}
 use Rattle.proto_core.specs.Lists.{AreWords}
 use Rattle.tape_file.specs.Tapes.{AreOfWords, FourTapes, IsWord}
 use Rattle.value_file.specs.declared.inputs.Entry.{Entry}
-use Rattle.code_inputs.specs.Inputs.{AreSound}
-use Rattle.delivered_run.specs.Premises.{HaveWords}
+use Rattle.program_views.specs.Inputs.{AreSound}
+use Rattle.miner_commands.specs.Premises.{HaveWords}
 use Rattle.view_model.specs.TapeMaps.{miners_of}
 use Rattle.program_commands.specs.Reading.{inputs_at, tape_file_at, tapes_at}
 use Rattle.program_commands.proofs.OfWords.{inputs_sound, source_words}

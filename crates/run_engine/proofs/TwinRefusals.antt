@@ -13,8 +13,8 @@ use Rattle.typed_tree.specs.Programs.{TypedProgramTree}
 use Rattle.value_file.specs.declared.inputs.Entry.{Entry}
 use Rattle.value_file.specs.Input.{read_of as inputs_read_of}
 use Rattle.program_views.specs.Views.{lengths_of}
-use Rattle.tape_twin.specs.FirstDifference.{Difference, at_entry, at_word, difference}
-use Rattle.tape_twin.proofs.FirstDifferences.{alike_have_none, none_are_alike}
+use Rattle.tape_commands.specs.FirstDifference.{Difference, at_entry, at_word, difference}
+use Rattle.tape_commands.proofs.FirstDifferences.{alike_have_none, none_are_alike}
 use Rattle.program_commands.specs.Judging.{Finding, FoundAt, its_program}
 use Rattle.program_commands.specs.Programs.{program_at}
 use Rattle.program_commands.specs.Reading.{bad_input, bad_tape, inputs_at, tape_file_at}

@@ -7,14 +7,14 @@ use Rattle.tape_file.specs.Tapes.{FourTapes}
 use Rattle.typed_tree.specs.Programs.{TypedProgramTree}
 use Rattle.value_file.specs.declared.inputs.Entry.{Entry}
 use Rattle.value_file.specs.Public.{part_of}
-use Rattle.delivered_run.specs.Premises.{HaveWords}
+use Rattle.miner_commands.specs.Premises.{HaveWords}
 use Rattle.protocol_model.specs.Network.{Delivery}
 use Rattle.program_views.specs.Simulated.{ViewIsSimulated}
 use Rattle.program_views.specs.TapeMaps.{IsTwin, MapsCorrespond, twinned}
 use Rattle.program_views.proofs.Corresponding.{tapes_corresponding}
 use Rattle.program_views.proofs.Simulated.{views_simulated}
 use Rattle.program_views.proofs.Twins.{twins_see}
-use Rattle.view_simulator.proofs.Runs.{nets_simulated}
+use Rattle.simulate_command.proofs.Runs.{nets_simulated}
 use Rattle.run_engine.specs.MapPromises.{HoldsMap}
 use Rattle.run_engine.specs.SimulatePromises.{HoldsOfRun, IsOfRun, opened_and, tapes_mapped}
 use Rattle.run_engine.specs.TwinPromises.{AreTaken, HoldsTwin}

@@ -16,8 +16,8 @@ use Rattle.clear_eval.specs.Offers.{offered}
 use Rattle.language_model.specs.Effects.{Clear, RunStop, Ended, Short}
 use Rattle.language_model.specs.Reports.{Report, eval, world_of}
 use Rattle.language_model.specs.Tapes.{HasWords}
-use Rattle.program_run.specs.Reports.{eval_with, lengths_of}
-use Rattle.delivered_run.specs.Deliveries.{delivered_of, net_of}
+use Rattle.program_commands.specs.Reports.{eval_with, lengths_of}
+use Rattle.miner_commands.specs.Deliveries.{delivered_of, net_of}
 use Rattle.program_views.specs.Views.{view_of}
 use Rattle.view_text.specs.View.{View}
 use Rattle.tape_file.specs.Tapes.{FourTapes}

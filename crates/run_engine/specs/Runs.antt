@@ -4,7 +4,7 @@ use Rattle.outside.specs.Files.{Contents, file_at}
 use Rattle.command_frame.specs.declared.status.Status.{Status}
 use Rattle.command_frame.specs.declared.status.Status.TheVariants.{Input, Schedule, TapeFile}
 use Rattle.command_words.specs.Ask.{RunAsk, file, scheduled}
-use Rattle.delivered_run.specs.Deliveries.{net_of}
+use Rattle.miner_commands.specs.Deliveries.{net_of}
 use Rattle.protocol_model.specs.Network.{Accepted, Answer, Delivery, EmptyLink, Stalled}
 use Rattle.schedule_file.specs.Reading.{links_of}
 use Rattle.typed_tree.specs.Programs.{TypedProgramTree}

@@ -4,7 +4,7 @@ ghost use Rattle.outside.specs.Files.{Contents};
 ghost use Rattle.command_words.specs.Ask.{Source};
 ghost use Rattle.tape_file.specs.Tapes.{FourTapes};
 ghost use Rattle.value_file.specs.declared.inputs.Entry.{Entry};
-ghost use Rattle.delivered_run.specs.Premises.{HaveWords};
+ghost use Rattle.miner_commands.specs.Premises.{HaveWords};
 ghost use Rattle.program_commands.specs.Reading.{inputs_at, tapes_at};
 
 /// Law: inputs that a file holds, and tapes that a file holds or that are drawn from a seed, are of words below 2^64, and the inputs are

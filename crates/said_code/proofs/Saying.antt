@@ -24,10 +24,10 @@ use Rattle.typed_tree.specs.Programs.{TypedFunctionTree, TypedProgramTree}
 use Rattle.reached_instances.specs.declared.instance.BoundDomain.{BoundDomain}
 use Rattle.reached_instances.specs.Domains.{Setting, domains}
 use Rattle.reached_instances.specs.Instances.{Instance}
-use Rattle.language_model.specs.Words.{truth_word}
-use Rattle.language_model.specs.Evaluation.{StatementContext, place_in, gives_private, slot_is_private, slot_shape, bound_at, slots_of}
-use Rattle.language_model.specs.Evaluation.{next_is_private, behind_next}
-use Rattle.language_model.specs.Evaluation.{connective, either}
+use Rattle.code_model.specs.Words.{truth_word}
+use Rattle.code_model.specs.Evaluation.{StatementContext, place_in, gives_private, slot_is_private, slot_shape, bound_at, slots_of}
+use Rattle.code_model.specs.Evaluation.{next_is_private, behind_next}
+use Rattle.code_model.specs.Evaluation.{connective, either}
 use Rattle.verified_code.specs.Steps.{Step, Function, Literal, Move, Store, Binary, Not, Cast, Classify, Fill, At, Put, Size, Cat, Sum, Bits, Declassify}
 use Rattle.verified_code.specs.Steps.{Argument, Publish, Assert, Branch, Jump, Call, Return, ReturnNone}
 use Rattle.code_model.specs.Kinds.{width, kind_of}

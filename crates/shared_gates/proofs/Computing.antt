@@ -14,11 +14,11 @@ use Rattle.protocol_model.specs.Gates.{Joined, nth_value, sizes_of}
 use Rattle.protocol_model.specs.Gates as model
 use Rattle.protocol_model.specs.Runs.{Shares, Tapes, drawn, gate_joint, after, after_local, run_values, run_opened, left, Ready}
 use Rattle.protocol_model.proofs.Sizes.{block-fits, ready-next, ready-local, sizes-append}
-use Rattle.multiply.specs.Multiplying.{mul_protocol}
-use Rattle.open_result.specs.Opening.{open_protocol}
-use Rattle.reshare.specs.Resharing.{reshare_protocol}
-use Rattle.share_convert.specs.Converting.{conv_protocol}
-use Rattle.split_share.specs.Splitting.{split_protocol}
+use Rattle.blocked_protocol.specs.Multiplying.{mul_protocol}
+use Rattle.blocked_protocol.specs.Opening.{open_protocol}
+use Rattle.blocked_protocol.specs.Resharing.{reshare_protocol}
+use Rattle.blocked_protocol.specs.Converting.{conv_protocol}
+use Rattle.blocked_protocol.specs.Splitting.{split_protocol}
 use Rattle.gates.specs.Blocks.{block_sizes}
 use Rattle.gates.specs.declared.ring_kind.RingKind.{RingKind}
 use Rattle.gates.specs.declared.ring_kind.RingKind.TheVariants.{Arithmetic, Boolean}

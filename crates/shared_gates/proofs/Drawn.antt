@@ -5,8 +5,8 @@ use Rattle.proto_core.specs.declared.party.Number.TheVariants.{One, Two, Three}
 use Rattle.proto_core.specs.Lists.{AreWords}
 use Rattle.protocol_model.specs.Gates.{sizes_of, needed}
 use Rattle.protocol_model.specs.Runs.{Tapes, Ready}
-use Rattle.share_convert.specs.Converting.{conv_draws}
-use Rattle.split_share.specs.Splitting.{split_draws}
+use Rattle.blocked_protocol.specs.Converting.{conv_draws}
+use Rattle.blocked_protocol.specs.Splitting.{split_draws}
 use Rattle.gates.specs.declared.gate.Gate.{Gate}
 use Rattle.gates.specs.declared.gate.Gate.TheVariants.{Mul, And, Split, Conv, Open, Result}
 use Rattle.gates.specs.Clear.{Values}

@@ -12,9 +12,9 @@ use Rattle.proto_core.specs.Resharing.{sum_of_three}
 use Rattle.proto_core.proofs.Each.{each-is}
 use Rattle.proto_core.proofs.ResharingLaws.{at-sum_of_three, length-sum_of_three, AreWords-sum_of_three}
 use Rattle.protocol_model.specs.Gates.{nth_value}
-use Rattle.multiply.specs.Products.{times}
-use Rattle.share_convert.specs.Bits.{bit, xor_bits_of_three}
-use Rattle.split_share.specs.Splitting as splitting
+use Rattle.blocked_protocol.specs.Products.{times}
+use Rattle.blocked_protocol.specs.Bits.{bit, xor_bits_of_three}
+use Rattle.blocked_protocol.specs.Splitting as splitting
 use Rattle.gates.specs.Clear.{each_two, rejoined}
 use Rattle.gates.specs.Clear as clear
 use Rattle.gates.proofs.Columns.{Column-of, Column-map, Column-each_two}

@@ -9,3 +9,7 @@ pub mod GatesBehind
 pub mod Drawn
 pub mod OwnShares
 pub mod Silence
+pub use Rattle.blocked_protocol.proofs.BlockViews
+pub use Rattle.blocked_protocol.proofs.Fitting
+pub use Rattle.blocked_protocol.proofs.Blockables
+pub use Rattle.blocked_protocol.proofs.Sizes

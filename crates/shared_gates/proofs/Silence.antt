@@ -8,11 +8,11 @@ use Rattle.proto_core.specs.Protocol.{Protocol}
 use Rattle.proto_core.specs.Script.{IsSilent}
 use Rattle.protocol_model.specs.Gates.{AreSilent}
 use Rattle.protocol_model.proofs.Scripts.{silent_then}
-use Rattle.multiply.specs.Multiplying.{mul_protocol}
-use Rattle.open_result.specs.Opening.{open_protocol}
-use Rattle.reshare.specs.Resharing.{reshare_protocol}
-use Rattle.share_convert.specs.Converting.{conv_protocol}
-use Rattle.split_share.specs.Splitting.{split_protocol}
+use Rattle.blocked_protocol.specs.Multiplying.{mul_protocol}
+use Rattle.blocked_protocol.specs.Opening.{open_protocol}
+use Rattle.blocked_protocol.specs.Resharing.{reshare_protocol}
+use Rattle.blocked_protocol.specs.Converting.{conv_protocol}
+use Rattle.blocked_protocol.specs.Splitting.{split_protocol}
 use Rattle.gates.specs.Blocks.{block_sizes}
 use Rattle.gates.specs.Clear.{Values, ring_of}
 use Rattle.gates.specs.Counts.{size_of}

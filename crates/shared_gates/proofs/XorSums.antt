@@ -6,7 +6,7 @@ use Rattle.std.proofs.Math.Nat.{mod-eq_of_lt, div-le_self}
 use Rattle.std.proofs.lemmas.Nat.{mod_below, pow_pos, xor_lt, xor_mod, xor_shr, xor_block}
 use Rattle.std.proofs.lemmas.Nat.Bits.{same_from_bits_below, bit_at_xor, bit_at-lt, bit_at_not}
 use Rattle.share_ring.specs.Rings.{xor_ring}
-use Rattle.share_convert.specs.BitLaws.{bit-xor}
+use Rattle.blocked_protocol.specs.BitLaws.{bit-xor}
 use Rattle.shared_gates.specs.Shares.{sum_of}
 
 pub xor-word : (x y : ℕ) → x < 2 ^ 64 → y < 2 ^ 64 → xor_ring.add x y ≡ bit_xor x y

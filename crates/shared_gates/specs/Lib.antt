@@ -5,3 +5,5 @@ pub mod Model
 pub mod Computed
 pub mod Vectors
 pub mod OwnShares
+pub use Rattle.blocked_protocol.specs.Blocked
+pub use Rattle.blocked_protocol.specs.Products

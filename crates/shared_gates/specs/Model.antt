@@ -6,11 +6,11 @@ use Rattle.proto_core.specs.declared.party.Number.TheVariants.{One, Two, Three}
 use Rattle.proto_core.specs.Protocol.{Protocol}
 use Rattle.protocol_model.specs.Gates.{Joined, Local}
 use Rattle.protocol_model.specs.Gates as model
-use Rattle.multiply.specs.Multiplying.{mul_protocol}
-use Rattle.open_result.specs.Opening.{open_protocol}
-use Rattle.reshare.specs.Resharing.{reshare_protocol}
-use Rattle.share_convert.specs.Converting.{conv_protocol}
-use Rattle.split_share.specs.Splitting.{split_protocol}
+use Rattle.blocked_protocol.specs.Multiplying.{mul_protocol}
+use Rattle.blocked_protocol.specs.Opening.{open_protocol}
+use Rattle.blocked_protocol.specs.Resharing.{reshare_protocol}
+use Rattle.blocked_protocol.specs.Converting.{conv_protocol}
+use Rattle.blocked_protocol.specs.Splitting.{split_protocol}
 use Rattle.blocked_protocol.specs.Blocked.{blocked}
 use Rattle.gates.specs.declared.gate.Gate.{Gate}
 use Rattle.gates.specs.declared.gate.Gate.TheVariants.{Input, Const, Add, Sub, MulPub, Mul, Xor, And, Not, Shl, Shr, Low, Cat, Part, Put, Rep, Spread}

@@ -6,7 +6,7 @@ use Rattle.proto_core.specs.declared.party.Number.TheVariants.{One, Two, Three}
 use Rattle.proto_core.specs.Lists.{each, part, AreWords}
 use Rattle.proto_core.specs.Resharing.{reshared, sum_of_three}
 use Rattle.protocol_model.specs.Runs.{run_opened}
-use Rattle.multiply.specs.Products.{cross}
+use Rattle.blocked_protocol.specs.Products.{cross}
 use Rattle.gates.specs.declared.ring_kind.RingKind.TheVariants.{Arithmetic}
 use Rattle.gates.specs.declared.gate.Gate.{Gate}
 use Rattle.gates.specs.declared.gate.Gate.TheVariants.{Input, Const, Sub, Mul, Open}

@@ -5,3 +5,6 @@ pub mod RunLists
 pub mod GateRunLaws
 pub mod PlanRuns
 pub mod PlansOnShares
+pub use Rattle.shared_gates.proofs.Models
+pub use Rattle.shared_gates.proofs.Drawn
+pub use Rattle.shared_gates.proofs.GatesBehind

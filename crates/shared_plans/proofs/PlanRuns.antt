@@ -15,7 +15,7 @@ use Rattle.gates.specs.Clear.{Values, value, FitFrom}
 use Rattle.gates.specs.Counts.{Miner, size_of, made_by_all, words_of_all}
 use Rattle.gates.proofs.Sizes.{FitFrom-append, size_of-value}
 use Rattle.gates.proofs.Columns.{stands}
-use Rattle.blocked_protocol.proofs.BlockViews.{same_words}
+use Rattle.shared_gates.proofs.BlockViews.{same_words}
 use Rattle.shared_gates.specs.Shares.{AreShares, Kind, Shared, Holds, kind_at}
 use Rattle.shared_gates.specs.Kinds.{AllKinded}
 use Rattle.shared_gates.specs.Model.{sizes_made, run_gates, miner_of}

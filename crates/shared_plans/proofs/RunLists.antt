@@ -3,7 +3,7 @@ use Rattle.std.proofs.Common.{◌≡◌, ℕ, ◌+◌, List, [], ◌∷◌, ◌+
 use Rattle.proto_core.specs.declared.party.Number.{Number}
 use Rattle.proto_core.specs.Protocol.{Fits}
 use Rattle.proto_core.proofs.Beginnings.{append-none}
-use Rattle.blocked_protocol.proofs.Fitting.{no_words}
+use Rattle.shared_gates.proofs.Fitting.{no_words}
 use Rattle.protocol_model.specs.Gates.{Gate, Joined, Local, sizes_of, AreSound}
 use Rattle.protocol_model.specs.Runs.{Shares, Tapes, drawn, left, gate_joint, after, after_local, run_values, run_opened, Ready}
 use Rattle.protocol_model.proofs.Sizes.{sizes-append, sizes-blocks, block-fits, ready-next, ready-local}

@@ -9,7 +9,7 @@ use Rattle.proto_core.specs.Lists.{at, each, part, AreWords}
 use Rattle.proto_core.specs.Elementwise.{zeros, minus}
 use Rattle.proto_core.specs.Resharing.{reshared, sum_of_three}
 use Rattle.protocol_model.specs.Gates.{sizes_of}
-use Rattle.multiply.specs.Products.{cross}
+use Rattle.shared_gates.specs.Products.{cross}
 use Rattle.split_share.specs.SplitStrand.{signed_sum}
 use Rattle.gates.specs.declared.ring_kind.RingKind.TheVariants.{Arithmetic}
 use Rattle.gates.specs.declared.gate.Gate.TheVariants.{Input}

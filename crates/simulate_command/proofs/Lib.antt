@@ -1,1 +1,2 @@
 pub mod SimulatePlanned
+pub use Rattle.view_simulator.proofs.Runs

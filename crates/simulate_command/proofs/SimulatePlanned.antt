@@ -17,7 +17,7 @@ use Rattle.language_model.specs.Reports.{Report}
 use Rattle.blind_evaluation.specs.Courses.{IsEnded}
 use Rattle.view_model.specs.Seen.{Seen}
 use Rattle.view_text.specs.View.{View}
-use Rattle.program_views.specs.Views.{lengths_of, made_of, told_run, view_at}
+use Rattle.view_simulator.specs.Views.{lengths_of, made_of, told_run, view_at}
 use Rattle.view_simulator.specs.Simulating.{IsMadeView, IsSimulation}
 use Rattle.view_simulator.specs.declared.errors.SimulateErr.{SimulateErr}
 use Rattle.view_simulator.specs.declared.errors.SimulateErr.TheVariants as refusal

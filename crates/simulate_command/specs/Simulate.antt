@@ -14,7 +14,7 @@ use Rattle.typed_tree.specs.Programs.{TypedProgramTree}
 use Rattle.value_file.specs.declared.public.PublicEntry.{PublicEntry}
 use Rattle.tape_file.specs.Tapes.{FourTapes}
 use Rattle.language_model.specs.Effects.{Ended, Short, RunStop}
-use Rattle.program_views.specs.Views.{lengths_of, simulated, told_run}
+use Rattle.view_simulator.specs.Views.{lengths_of, simulated, told_run}
 use Rattle.view_text.specs.Text.{view_bytes}
 use Rattle.view_text.specs.View.{View}
 use Rattle.view_simulator.specs.Simulating.{net_told}

@@ -10,7 +10,7 @@ use Rattle.view_text.specs.Text.{Opened, lines_bytes}
 use Rattle.view_text.proofs.RunLines.{opened_line}
 use Rattle.view_text.proofs.StagesRead.{lines_append}
 use Rattle.view_reader.specs.Opened.{opened_bytes}
-use Rattle.program_views.specs.Views.{opening_then, openings}
+use Rattle.tape_twin.specs.Views.{opening_then, openings}
 
 -- one event more
 openings_more : (es : List Event) (e : Event) → openings (es ++ e ∷ []) ≡ openings es ++ opening_then e []

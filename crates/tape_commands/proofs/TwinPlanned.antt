@@ -9,8 +9,8 @@ use Rattle.typed_tree.specs.Programs.{TypedProgramTree}
 use Rattle.value_file.specs.declared.inputs.Entry.{Entry}
 use Rattle.tape_file.specs.Format.{tape_bytes}
 use Rattle.tape_file.specs.Tapes.{FourTapes}
-use Rattle.program_views.specs.TapeMaps.{AreAlike, twinned}
-use Rattle.program_views.specs.Views.{lengths_of}
+use Rattle.tape_twin.specs.TapeMaps.{AreAlike, twinned}
+use Rattle.tape_twin.specs.Views.{lengths_of}
 use Rattle.tape_twin.specs.Alike.{RefusesTwin}
 use Rattle.tape_twin.specs.FirstDifference.{at_entry, at_word, difference}
 use Rattle.tape_twin.specs.declared.twin_err.TwinErr.{TwinErr}

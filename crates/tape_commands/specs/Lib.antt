@@ -1,2 +1,3 @@
 pub mod Map
 pub mod Twin
+pub use Rattle.tape_twin.specs.FirstDifference

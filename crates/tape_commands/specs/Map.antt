@@ -11,8 +11,8 @@ use Rattle.value_file.specs.Public.{part_bytes, part_of}
 use Rattle.tape_file.specs.Format.{tape_bytes}
 use Rattle.tape_file.specs.Tapes.{FourTapes}
 use Rattle.view_reader.specs.Opened.{opened_bytes}
-use Rattle.program_views.specs.TapeMaps.{mapped}
-use Rattle.program_views.specs.Views.{lengths_of, openings, run_on}
+use Rattle.tape_twin.specs.TapeMaps.{mapped}
+use Rattle.tape_twin.specs.Views.{lengths_of, openings, run_on}
 use Rattle.tape_twin.specs.declared.mapped_run.MappedRun.{MappedRun}
 use Rattle.program_commands.specs.Judging.{Finding}
 use Rattle.program_commands.specs.Programs.{program_at}

@@ -13,8 +13,8 @@ use Rattle.typed_tree.specs.Programs.{TypedProgramTree}
 use Rattle.value_file.specs.declared.inputs.Entry.{Entry}
 use Rattle.tape_file.specs.Format.{tape_bytes}
 use Rattle.tape_file.specs.Tapes.{FourTapes}
-use Rattle.program_views.specs.TapeMaps.{twinned}
-use Rattle.program_views.specs.Views.{lengths_of}
+use Rattle.tape_twin.specs.TapeMaps.{twinned}
+use Rattle.tape_twin.specs.Views.{lengths_of}
 use Rattle.tape_twin.specs.FirstDifference.{Difference, at_entry, at_word, difference}
 use Rattle.tape_twin.specs.declared.twin_err.TwinErr.{TwinErr}
 use Rattle.tape_twin.specs.declared.twin_err.TwinErr.TheVariants as refusal

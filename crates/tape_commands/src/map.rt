@@ -3,7 +3,7 @@ ghost use Rattle.std.specs.Prelude.{◌≡◌, ◌∷◌, ◌++◌, [], true, If
 ghost use Rattle.command_frame.specs.Answer.{effect_of, writes_of};
 ghost use Rattle.command_frame.specs.Reads.{OnlyRead, Gives, KeepsTo, PlanNames, StopsReading};
 ghost use Rattle.command_words.specs.Views.{map_ask};
-ghost use Rattle.program_views.specs.Views.{openings};
+ghost use Rattle.tape_twin.specs.Views.{openings};
 ghost use Rattle.value_file.specs.Public.{part_bytes, part_of};
 ghost use Rattle.view_reader.specs.Opened.{opened_bytes};
 ghost use Rattle.program_commands.specs.Judging.{Finding, FoundAt, HasFinding, its_program, Tells};

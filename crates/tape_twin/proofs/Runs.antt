@@ -17,7 +17,7 @@ use Rattle.program_views.specs.Views.{lengths_of, run_on, told_run}
 use Rattle.program_views.specs.TapeMaps.{mapped_back, twinned, AreAlike}
 use Rattle.program_views.proofs.Blind.{takes_same_course, same_course_exactly}
 use Rattle.program_views.proofs.Simulated.{can_run, same_lengths}
-use Rattle.code_inputs.specs.Accepted.{IsAcceptedProgram}
+use Rattle.program_views.specs.Accepted.{IsAcceptedProgram}
 use Rattle.tape_twin.specs.Alike.{BeginsWith, OneBegins}
 
 pub gates-run :

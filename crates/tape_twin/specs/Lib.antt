@@ -1,4 +1,6 @@
-pub use Rattle.code_inputs.specs.Accepted
+pub use Rattle.program_views.specs.Accepted
 pub mod Alike
 pub mod Counting
 pub mod FirstDifference
+pub use Rattle.program_views.specs.Views
+pub use Rattle.program_views.specs.TapeMaps

@@ -4,7 +4,7 @@ ghost use Rattle.typed_tree.specs.Programs.{typed_program_tree};
 ghost use Rattle.typed_tree.specs.Sound.{IsSound};
 ghost use Rattle.value_file.specs.Input.{AreInputs};
 ghost use Rattle.program_views.specs.TapeMaps.{mapped, mapped_back};
-ghost use Rattle.code_inputs.specs.Accepted.{IsAcceptedProgram};
+ghost use Rattle.program_views.specs.Accepted.{IsAcceptedProgram};
 
 use crate::running::report_on;
 use proto_core::Number;

@@ -6,7 +6,7 @@ ghost use Rattle.value_file.specs.Input.{AreInputs};
 ghost use Rattle.clear_eval.specs.Reports.{report_seen};
 ghost use Rattle.view_model.specs.TapeMaps.{CanRun};
 ghost use Rattle.program_views.specs.Views.{lengths_of, run_on};
-ghost use Rattle.code_inputs.specs.Accepted.{IsAcceptedProgram};
+ghost use Rattle.program_views.specs.Accepted.{IsAcceptedProgram};
 
 use clear_eval::{Report, eval};
 use input_share::see_entries;

@@ -5,7 +5,7 @@ ghost use Rattle.typed_tree.specs.Sound.{IsSound};
 ghost use Rattle.value_file.specs.Input.{AreInputs};
 ghost use Rattle.program_views.specs.Views.{lengths_of};
 ghost use Rattle.program_views.specs.TapeMaps.{twinned, AreAlike};
-ghost use Rattle.code_inputs.specs.Accepted.{IsAcceptedProgram};
+ghost use Rattle.program_views.specs.Accepted.{IsAcceptedProgram};
 ghost use Rattle.tape_twin.specs.Alike.{RefusesTwin};
 
 use crate::alike::{first_difference, public_difference};

@@ -9,7 +9,7 @@ use Rattle.proto_core.specs.Strand.{Field, Words, Bits, Notice}
 use Rattle.gates.specs.Clear.{ring_of}
 use Rattle.shared_gates.specs.Shares.{AreShares}
 use Rattle.language_model.specs.Values.{ring_for}
-use Rattle.gate_laws.specs.Dealt.{InRange}
+use Rattle.code_runs.specs.Dealt.{InRange}
 use Rattle.code_runs.specs.Telling.{type_of, elements_told, Tells, nothing, opened, published, handed}
 use Rattle.told_events.specs.Telling.{added_up, all_added_up, told_together}
 use Rattle.told_events.specs.Laws.{ToldTogetherAreTheEvents}

@@ -1,7 +1,7 @@
 // Shares that are added up for the client.
 ghost use Rattle.std.specs.Prelude.{◌≡◌, IfOk};
 ghost use Rattle.told_events.specs.Telling.{added_up, all_added_up};
-ghost use Rattle.code_places.specs.Places.{field_of};
+ghost use Rattle.code_runs.specs.Places.{field_of};
 
 use secrec_ast::DataType;
 use std::alloc::{AllocError, Global};

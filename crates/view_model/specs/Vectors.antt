@@ -6,7 +6,7 @@ use Rattle.proto_core.specs.Lists.{each, part}
 use Rattle.proto_core.specs.Resharing.{reshared, sum_of_three}
 use Rattle.protocol_model.specs.Gates.{gates_script}
 use Rattle.protocol_model.specs.Network.{Default, Listed, Delivery, EmptyLink, order_of, net}
-use Rattle.multiply.specs.Products.{cross}
+use Rattle.shared_gates.specs.Products.{cross}
 use Rattle.gates.specs.declared.ring_kind.RingKind.TheVariants.{Arithmetic}
 use Rattle.gates.specs.declared.gate.Gate.{Gate}
 use Rattle.gates.specs.declared.gate.Gate.TheVariants.{Input, Add, Mul, Open}

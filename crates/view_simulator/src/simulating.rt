@@ -3,7 +3,7 @@ ghost use Rattle.typed_tree.specs.Programs.{typed_program_tree};
 ghost use Rattle.typed_tree.specs.Sound.{IsSound};
 ghost use Rattle.value_file.specs.PublicFile.{IsWritable};
 ghost use Rattle.counted_net.specs.Answers.{delivery_seen};
-ghost use Rattle.tape_twin.specs.Accepted.{IsAcceptedProgram};
+ghost use Rattle.code_inputs.specs.Accepted.{IsAcceptedProgram};
 ghost use Rattle.view_simulator.specs.Simulating.{IsSimulation};
 
 use crate::errors::SimulateErr;

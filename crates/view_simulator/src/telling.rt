@@ -7,7 +7,7 @@ ghost use Rattle.clear_eval.specs.Reports.{IsBlindAnswer};
 ghost use Rattle.gate_scripts.specs.Sizes.{SizesFit};
 ghost use Rattle.view_model.specs.Dealing.{hidden_sizes};
 ghost use Rattle.program_views.specs.Views.{lengths_of, told_run};
-ghost use Rattle.tape_twin.specs.Accepted.{IsAcceptedProgram};
+ghost use Rattle.code_inputs.specs.Accepted.{IsAcceptedProgram};
 ghost use Rattle.view_simulator.specs.Making.{CanBeMade};
 
 use crate::words::see_part;

@@ -28,16 +28,16 @@ use Rattle.gate_laws.specs.Dealt.{Dealt, drawn_by}
 use Rattle.view_text.specs.View.{InputShare, Received, View}
 use Rattle.view_model.specs.TapeMaps.{AreTapes, gates_dealt, miners_of, no_values}
 use Rattle.view_model.specs.Seen.{Seen, seen_by}
-use Rattle.code_inputs.specs.Inputs.{dealt_of}
-use Rattle.code_runs.specs.Runs.{messages, shares}
+use Rattle.program_views.specs.Inputs.{dealt_of}
+use Rattle.code_views.specs.Runs.{messages, shares}
 use Rattle.program_views.specs.Views.{input_shares, lengths_of, nothing_seen, openings, received, run_on, seen_of, view_at, view_of}
 use Rattle.program_views.specs.Laws.{IsGivenTo}
 use Rattle.program_views.proofs.Simulated.{drew_counted}
 use Rattle.code_views.specs.CodeViews.{shown_in}
 use Rattle.code_views.proofs.CodeViews.{shown_same}
-use Rattle.program_run.specs.Accepted.{IsAccepted}
-use Rattle.own_code.specs.OwnCode.{Ended as Stopping}
-use Rattle.miner_runs.specs.OwnRuns.{OwnRunAsReported}
+use Rattle.code_views.specs.Accepted.{IsAccepted}
+use Rattle.miner_core.specs.OwnCode.{Ended as Stopping}
+use Rattle.code_views.specs.OwnRuns.{OwnRunAsReported}
 use Rattle.link_schedule.specs.Net.{NetState, net_node, net_posted}
 use Rattle.delivered_run.specs.declared.running.NetRun.{NetRun}
 use Rattle.delivered_run.specs.Courses.{IsAtItsEnd, IsDealtRun, file_of}

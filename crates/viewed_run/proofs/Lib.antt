@@ -4,3 +4,4 @@ pub mod Sitting
 pub mod Ended
 pub mod Undealt
 pub mod Viewed
+pub use Rattle.code_views.proofs.CodeViews

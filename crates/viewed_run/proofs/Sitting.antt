@@ -11,8 +11,8 @@ use Rattle.protocol_model.specs.Arrivals.{arrivals}
 use Rattle.shared_gates.specs.Model.{miner_of}
 use Rattle.input_share.specs.ShareFile.{MinerFile}
 use Rattle.gate_laws.specs.Dealt.{drawn_by}
-use Rattle.code_places.specs.Places.{Place}
-use Rattle.own_code.specs.OwnCode.{Ended}
+use Rattle.miner_core.specs.Places.{Place}
+use Rattle.miner_core.specs.OwnCode.{Ended}
 use Rattle.miner_core.specs.Story.{node}
 use Rattle.view_text.specs.View.{InputShare, Received, View}
 use Rattle.program_views.specs.Views.{input_shares, received}

@@ -14,7 +14,7 @@ use Rattle.language_model.specs.Reports.{Report}
 use Rattle.view_text.specs.View.{View}
 use Rattle.view_model.specs.Seen.{Seen, seen_by}
 use Rattle.program_views.specs.Views.{lengths_of, nothing_seen, openings, run_on, seen_of, view_at, view_of}
-use Rattle.program_run.proofs.Told.{ended_so}
+use Rattle.delivered_run.proofs.Told.{ended_so}
 use Rattle.delivered_run.specs.declared.running.DeliveredRun.{DeliveredRun}
 use Rattle.delivered_run.specs.Courses.{IsUndealtRun}
 use Rattle.viewed_run.specs.Seats.{nothing_but}

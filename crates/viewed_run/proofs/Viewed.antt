@@ -10,7 +10,7 @@ use Rattle.value_file.specs.declared.inputs.Entry.{Entry}
 use Rattle.input_share.specs.declared.dealing.Dealt.{Dealt}
 use Rattle.view_model.specs.TapeMaps.{miners_of}
 use Rattle.program_views.specs.Views.{view_of}
-use Rattle.program_run.specs.Accepted.{IsAccepted}
+use Rattle.code_views.specs.Accepted.{IsAccepted}
 use Rattle.link_schedule.specs.Net.{NetState}
 use Rattle.delivered_run.specs.declared.course.Course.{Course}
 use Rattle.delivered_run.specs.declared.course.Course.TheVariants as course

@@ -12,8 +12,8 @@ use Rattle.shared_gates.specs.Model.{miner_of}
 use Rattle.input_share.specs.ShareFile.{MinerFile}
 use Rattle.gate_laws.specs.Dealt.{drawn_by}
 use Rattle.driven_nodes.specs.Steps.{Stopped}
-use Rattle.code_places.specs.Places.{Place}
-use Rattle.own_code.specs.OwnCode.{Ended, Reached}
+use Rattle.miner_core.specs.Places.{Place}
+use Rattle.miner_core.specs.OwnCode.{Ended, Reached}
 use Rattle.miner_core.specs.Story.{has_told, node}
 use Rattle.view_text.specs.View.{View}
 use Rattle.program_views.specs.Views.{input_shares, received}

@@ -1,7 +1,7 @@
 // What each miner saw, by where it stands in its net.
 ghost use Rattle.std.specs.Prelude.{◌≡◌, ◌-◌, false, Some, IfOk};
 ghost use Rattle.proto_core.specs.declared.party.Number.TheVariants.{One, Two, Three};
-ghost use Rattle.code_places.specs.Places.{Place};
+ghost use Rattle.miner_core.specs.Places.{Place};
 ghost use Rattle.miner_core.specs.Story.{node};
 ghost use Rattle.viewed_run.specs.Seats.{HasStopped, SeesFrom, Sits, StopsAt};
 

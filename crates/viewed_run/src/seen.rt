@@ -2,7 +2,7 @@
 ghost use Rattle.std.specs.Prelude.{◌≡◌, false, IfOk};
 ghost use Rattle.value_file.specs.Input.{AreInputs};
 ghost use Rattle.typed_tree.specs.Programs.{typed_program_tree};
-ghost use Rattle.program_run.specs.Accepted.{IsAccepted};
+ghost use Rattle.code_views.specs.Accepted.{IsAccepted};
 ghost use Rattle.delivered_run.specs.Deliveries.{delivery_seen};
 ghost use Rattle.viewed_run.specs.Seats.{AllHaveStopped, nothing_but};
 ghost use Rattle.viewed_run.specs.Seen.{HaveEnded, IsSeenRunOf, SeeIn, SeeOf};

@@ -24,11 +24,11 @@ use Rattle.bytecode.specs.Writable.{Fits, parameters_of, or_none, IsProper, IsWr
 use Rattle.verified_code.specs.Steps.{Step, Function, Literal, Move, Store, Binary, Not, Cast, Classify, Fill, At, Put, Size, Cat, Sum, Bits, Declassify}
 use Rattle.verified_code.specs.Steps.{Argument, Publish, Assert, Branch, Jump, Call, Return, ReturnNone}
 use Rattle.code_model.specs.Kinded.{HasKind, ResultFits, IsIn}
-use Rattle.raw_steps.specs.Instructions.{nowhere, operator_number, bit, register_or_nowhere, place_among, instruction, raw_function, step_names}
-use Rattle.raw_steps.specs.Instructions.{function_names, names_of, raw_code_of}
-use Rattle.raw_steps.specs.Right.{AreOf, IsRight, AreRight}
-use Rattle.raw_steps.proofs.Names.{name_found, named}
-use Rattle.raw_steps.proofs.Passing.{mapped, unmapped}
+use Rattle.lowered_code.specs.Instructions.{nowhere, operator_number, bit, register_or_nowhere, place_among, instruction, raw_function, step_names}
+use Rattle.lowered_code.specs.Instructions.{function_names, names_of, raw_code_of}
+use Rattle.lowered_code.specs.Right.{AreOf, IsRight, AreRight}
+use Rattle.lowered_code.proofs.Names.{name_found, named}
+use Rattle.lowered_code.proofs.Passing.{mapped, unmapped}
 use Rattle.said_code.specs.Says.{StepSays}
 use Rattle.said_code.specs.Laws.{is_word}
 use Rattle.writable_code.specs.Sources.{is_line}

@@ -22,10 +22,10 @@ use Rattle.typed_tree.specs.Statements as Statements'
 use Rattle.typed_tree.specs.Programs.{TypedFunctionTree}
 use Rattle.reached_instances.specs.declared.instance.BoundDomain.{BoundDomain}
 use Rattle.reached_instances.specs.Domains.{Setting, domains}
-use Rattle.language_model.specs.Words.{truth_word}
-use Rattle.language_model.specs.Evaluation.{StatementContext, place_in, gives_private, slot_is_private, slot_shape, bound_at, slots_of}
-use Rattle.language_model.specs.Evaluation.{next_is_private, behind_next}
-use Rattle.language_model.specs.Evaluation.{connective, either}
+use Rattle.code_model.specs.Words.{truth_word}
+use Rattle.code_model.specs.Evaluation.{StatementContext, place_in, gives_private, slot_is_private, slot_shape, bound_at, slots_of}
+use Rattle.code_model.specs.Evaluation.{next_is_private, behind_next}
+use Rattle.code_model.specs.Evaluation.{connective, either}
 use Rattle.verified_code.specs.Steps.{Step, Literal, Move, Store, Binary, Not, Cast, Classify, Fill, At, Put, Size, Cat, Sum, Bits, Declassify}
 use Rattle.verified_code.specs.Steps.{Argument, Publish, Assert, Branch, Jump, Call, Return, ReturnNone}
 use Rattle.code_model.specs.Kinds.{width, widths, kind_of}
@@ -34,7 +34,7 @@ use Rattle.code_model.specs.Expressions.{expression_code, arguments_code, argume
 use Rattle.code_model.specs.Statements.{shape_number, first_free, statement_width, statements_width, if_code, loop_code, do_code, behind_classifying}
 use Rattle.code_model.specs.Statements.{statement_code, statements_code}
 use Rattle.code_model.specs.Programs.{last_step, body_end, function_code}
-use Rattle.raw_steps.specs.Instructions.{step_names}
+use Rattle.lowered_code.specs.Instructions.{step_names}
 use Rattle.writable_code.proofs.Counts.{count, counts}
 
 abbrev pub names_in : List Step → ℕ

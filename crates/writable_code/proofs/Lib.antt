@@ -7,3 +7,7 @@ pub mod Fields
 pub mod Resolving
 pub mod Weights
 pub mod Programs
+pub use Rattle.lowered_code.proofs.Limits
+pub use Rattle.lowered_code.proofs.RegistersOfPrograms
+pub use Rattle.lowered_code.proofs.Verified
+pub use Rattle.said_code.proofs.Reaching

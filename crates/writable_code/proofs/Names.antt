@@ -8,7 +8,7 @@ use Rattle.std.proofs.lemmas.Bool.{and_parts}
 use Rattle.sc_text.specs.Name.{is_name, IsName}
 use Rattle.bytecode.specs.Writable.{is_new_name, AreNewNames}
 use Rattle.verified_code.specs.Steps.{Function}
-use Rattle.raw_steps.specs.Instructions.{function_names, naming, naming_all, names_of}
+use Rattle.lowered_code.specs.Instructions.{function_names, naming, naming_all, names_of}
 
 -- ---- LISTS
 

@@ -23,12 +23,12 @@ use Rattle.program_limits.specs.Limits.{size_in, sizes, templates, is_too_large,
 use Rattle.verified_code.specs.Steps.{Step, Function, Literal, Move, Store, Binary, Not, Cast, Classify, Fill, At, Put, Size, Cat, Sum, Bits, Declassify}
 use Rattle.verified_code.specs.Steps.{Argument, Publish, Assert, Branch, Jump, Call, Return, ReturnNone}
 use Rattle.code_model.specs.Programs.{numbers_in, code_of_found, instance_code, code_of}
-use Rattle.raw_steps.specs.Instructions.{function_names}
-use Rattle.raw_steps.proofs.Passing.{unmapped}
-use Rattle.well_typed.specs.Sources.{IsWellWritten}
-use Rattle.well_typed.proofs.Calling.{known_in}
-use Rattle.well_typed.proofs.Heads.{function_at}
-use Rattle.well_typed.proofs.Reaching.{accepted_well_typed, reached_checked}
+use Rattle.lowered_code.specs.Instructions.{function_names}
+use Rattle.lowered_code.proofs.Passing.{unmapped}
+use Rattle.said_code.specs.Sources.{IsWellWritten}
+use Rattle.said_code.proofs.Calling.{known_in}
+use Rattle.said_code.proofs.Heads.{function_at}
+use Rattle.said_code.proofs.Reaching.{accepted_well_typed, reached_checked}
 use Rattle.bytecode.specs.Writable.{IsWritable}
 use Rattle.lowered_code.specs.RawCodes.{raw_code_of_program}
 use Rattle.lowered_code.proofs.Limits.{within_small}

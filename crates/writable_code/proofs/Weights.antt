@@ -13,8 +13,8 @@ use Rattle.program_limits.specs.Limits.{size_in, sizes}
 use Rattle.code_model.specs.Expressions.{Numbers}
 use Rattle.code_model.specs.Statements.{statements_width}
 use Rattle.code_model.specs.Programs.{function_code, numbers_in, code_of_found, instance_code, code_of}
-use Rattle.raw_steps.specs.Instructions.{instruction, raw_function, names_of}
-use Rattle.well_typed.proofs.Calling.{known_in}
+use Rattle.lowered_code.specs.Instructions.{instruction, raw_function, names_of}
+use Rattle.said_code.proofs.Calling.{known_in}
 use Rattle.lowered_code.proofs.RegistersOfPrograms.{function_sized, written_at, own_registers, uncounted}
 use Rattle.writable_code.specs.Laws.{IsWithinWeight, AreWithinWeight, IsWithinWeightWhereTyped}
 use Rattle.writable_code.proofs.Counts.{counts}

@@ -13,9 +13,9 @@ use Rattle.bytecode.specs.Raw.{RawFunction}
 use Rattle.bytecode.specs.Writable.{IsWritable}
 use Rattle.verified_code.specs.Steps.{Step, Function}
 use Rattle.code_model.specs.Kinded.{IsIn}
-use Rattle.raw_steps.specs.Instructions.{function_names, raw_code_of}
-use Rattle.raw_steps.specs.Right.{AreRight}
-use Rattle.well_typed.specs.Sources.{IsWellWritten}
+use Rattle.lowered_code.specs.Instructions.{function_names, raw_code_of}
+use Rattle.lowered_code.specs.Right.{AreRight}
+use Rattle.said_code.specs.Sources.{IsWellWritten}
 use Rattle.lowered_code.specs.RawCodes.{raw_code_of_program}
 use Rattle.said_code.specs.Says.{StepSays}
 use Rattle.said_code.specs.Laws.{is_word}

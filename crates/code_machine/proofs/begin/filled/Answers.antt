@@ -6,7 +6,7 @@ use Rattle.std.proofs.lemmas.List.{length-append, length-map, map-append, get_or
 use Rattle.std.proofs.lemmas.Option.{slice_get_past, slice_get-get_or}
 use Rattle.std.proofs.Math.Seq.{get_or-append_seam}
 use Rattle.language_model.specs.Evaluation.{nothing}
-use Rattle.code_model.specs.Machine.{begun, filled_with}
+use Rattle.named_values.specs.Machine.{begun, filled_with}
 use Rattle.value_steps.specs.Views.{value_seen}
 use Rattle.code_machine.proofs.Frames.{filled-argument, filled-behind, registers-are}
 use Rattle.code_machine.proofs.begin.filled.Goals as goal

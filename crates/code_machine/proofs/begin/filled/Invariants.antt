@@ -1,7 +1,7 @@
 use Rattle.std.proofs.Common.{◌≡◌, ◌<◌, ℕ, length, get_or}
 use Rattle.std.specs.Prelude.{map}
 use Rattle.language_model.specs.Evaluation.{nothing}
-use Rattle.code_model.specs.Machine.{filled_with}
+use Rattle.named_values.specs.Machine.{filled_with}
 use Rattle.value_steps.specs.Views.{value_seen}
 use Rattle.code_machine.proofs.begin.filled.Given as goal
 

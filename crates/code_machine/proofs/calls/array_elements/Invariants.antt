@@ -1,7 +1,7 @@
 use Rattle.std.proofs.Common.{◌≡◌, ◌≤◌, ◌*◌, take}
 use Rattle.std.specs.Prelude.{map, sum}
 use Rattle.language_model.specs.Evaluation.{array_elements}
-use Rattle.code_model.specs.Machine.{values_at}
+use Rattle.named_values.specs.Machine.{values_at}
 use Rattle.code_machine.specs.Views.{registers_seen}
 use Rattle.code_machine.proofs.calls.array_elements.Given as goal
 

@@ -1,6 +1,6 @@
 use Rattle.std.proofs.Common.{◌≡◌, take}
 use Rattle.std.specs.Prelude.{map}
-use Rattle.code_model.specs.Machine.{values_at}
+use Rattle.named_values.specs.Machine.{values_at}
 use Rattle.value_steps.specs.Views.{value_seen}
 use Rattle.code_machine.specs.Views.{registers_seen}
 use Rattle.code_machine.proofs.calls.values_at.Given as goal

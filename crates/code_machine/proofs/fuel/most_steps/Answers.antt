@@ -1,6 +1,6 @@
 use Rattle.std.proofs.Common.{◌+◌, ◌*◌, sym, ◌∙◌, ap}
 use Rattle.verified_code.specs.Settled.{settled}
-use Rattle.code_model.specs.Meaning.{longest}
+use Rattle.named_values.specs.Meaning.{longest}
 use Rattle.code_machine.proofs.Worth.{worth_is}
 use Rattle.code_machine.proofs.fuel.most_steps.Goals as goal
 

@@ -1,7 +1,7 @@
 use Rattle.std.proofs.Common.{Some, sym, subst}
 use Rattle.verified_code.specs.InMemory.{step_in}
 use Rattle.verified_code.specs.Settled.{settled}
-use Rattle.code_model.specs.Machine.{step}
+use Rattle.named_values.specs.Machine.{step}
 use Rattle.value_steps.specs.Steps.{Does}
 use Rattle.value_steps.specs.Views.{stage_seen, world_seen}
 use Rattle.code_machine.specs.Changes.{changed}

@@ -4,7 +4,7 @@ use Rattle.language_model.specs.Effects.{carry, done}
 use Rattle.verified_code.specs.InMemory.{place_of}
 use Rattle.verified_code.specs.Settled.{settled}
 use Rattle.verified_code.specs.Steps as steps
-use Rattle.code_model.specs.Machine.{entering, step, values_at}
+use Rattle.named_values.specs.Machine.{entering, step, values_at}
 use Rattle.value_steps.specs.Steps.{itself}
 use Rattle.value_steps.specs.Views.{stage_seen}
 use Rattle.code_machine.specs.Changes.{changed}

@@ -1,6 +1,6 @@
 use Rattle.std.proofs.Common.{◌-◌, length, sym, ◌∙◌, ap}
 use Rattle.gates.specs.Clear.{value}
-use Rattle.shared_gates.proofs.Models.{nth_value-value}
+use Rattle.code_places.proofs.Models.{nth_value-value}
 use Rattle.code_turns.proofs.telling.last_words.Goals as goal
 
 pub returns : goal.returns

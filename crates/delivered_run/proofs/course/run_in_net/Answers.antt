@@ -5,7 +5,7 @@ use Rattle.input_share.specs.Dealing.{need_of}
 use Rattle.input_share.specs.Refusal.{Refuses}
 use Rattle.clear_eval.specs.Offers.{offered}
 use Rattle.view_model.specs.TapeMaps.{miners_of}
-use Rattle.code_inputs.specs.Inputs.{AreSound, Suffice, dealt_of}
+use Rattle.program_run.specs.Inputs.{AreSound, Suffice, dealt_of}
 use Rattle.typed_tree.specs.Programs.{typed_program_tree}
 use Rattle.program_run.specs.Reports.{lengths_of}
 use Rattle.program_run.proofs.Shared.{can_run_so, report_so}

@@ -1,8 +1,8 @@
 use Rattle.std.proofs.Common.{◌≡◌, Some, None, subst, sym, ◌∙◌, ap}
 use Rattle.typed_tree.specs.Programs.{typed_program_tree}
 use Rattle.verified_code.specs.Verified.{first_fault}
-use Rattle.lowered_code.specs.RawCodes.{raw_code_of_program}
-use Rattle.lowered_code.proofs.Verified.{accepted_runs}
+use Rattle.writable_code.specs.RawCodes.{raw_code_of_program}
+use Rattle.writable_code.proofs.Verified.{accepted_runs}
 use Rattle.lowering.specs.Narrow.{IsJustRefusal}
 use Rattle.writable_code.proofs.Programs.{accepted_writable}
 use Rattle.program_run.proofs.compiling.compile_program.Goals as goal

@@ -1,6 +1,6 @@
 use Rattle.std.proofs.Common.{◌≡◌, take}
 use Rattle.std.specs.Prelude.{string_bytes}
-use Rattle.program_views.specs.Views.{openings}
+use Rattle.tape_twin.specs.Views.{openings}
 use Rattle.view_reader.specs.Opened.{opened_bytes}
 use Rattle.tape_commands.proofs.map.opened_lines.Given as goal
 

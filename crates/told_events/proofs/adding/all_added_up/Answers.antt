@@ -1,5 +1,5 @@
 use Rattle.std.proofs.Common.{◌++◌, sym, ◌∙◌, ap, append-nil, arith}
-use Rattle.code_places.specs.Places.{field_of}
+use Rattle.code_runs.specs.Places.{field_of}
 use Rattle.told_events.proofs.Sums.{none_left}
 use Rattle.told_events.proofs.adding.all_added_up.Goals as goal
 

@@ -1,5 +1,5 @@
 use Rattle.std.proofs.Common.{◌≡◌, ◌++◌, drop}
-use Rattle.code_places.specs.Places.{field_of}
+use Rattle.code_runs.specs.Places.{field_of}
 use Rattle.told_events.specs.Telling.{all_added_up}
 use Rattle.told_events.proofs.adding.all_added_up.Given as goal
 

@@ -3,7 +3,7 @@ use Rattle.std.specs.Prelude.{IsTrue}
 use Rattle.std.specs.BTreeSet.{contains}
 use Rattle.std.specs.Ordering.{nat_cmp}
 use Rattle.value_steps.specs.Views.{stage_seen}
-use Rattle.named_values.specs.Besides.{with_gates}
+use Rattle.code_machine.specs.Besides.{with_gates}
 use Rattle.miner_core.specs.Engines.{place_at}
 use Rattle.miner_core.proofs.Forgetting.{is_held, let_go_left}
 use Rattle.miner_core.proofs.engine.Engine.let_go.Goals as goal

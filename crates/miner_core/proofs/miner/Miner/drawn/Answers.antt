@@ -1,5 +1,5 @@
 use Rattle.std.proofs.Common.{sym, ◌∙◌, ap}
-use Rattle.gate_laws.specs.Dealt.{drawn_by}
+use Rattle.code_turns.specs.Dealt.{drawn_by}
 use Rattle.shared_gates.specs.Model.{miner_of}
 use Rattle.value_steps.specs.Views.{drawn_seen}
 use Rattle.miner_core.specs.Story.{Story, node, story_of}
